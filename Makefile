@@ -29,7 +29,7 @@ FIRST_RUN = crates/mdlsim/out/first_run
 
 BENCH = crates/mdl_bench/out/mdl_bench
 
-.PHONY: help run try script test layout docs bench examples commands c fuzz growths wrong build view install dist dist-check dist-libraries \
+.PHONY: help run try script test layout docs bench examples commands c fuzz growths race wrong build view install dist dist-check dist-libraries \
     dist-libraries-check clean kit
 
 help:
@@ -44,6 +44,7 @@ help:
 	@echo 'make c                     builds programs of C, Rust and Python over the libraries for C, proved, and compares what they print'
 	@echo 'make fuzz [SECONDS=60]     gives random scripts, rows and noise to the programs that were built last, and checks each run'
 	@echo 'make growths               refuses each growth of some short lives in turn'
+	@echo 'make race                  lets threads race until a million waits are settled'
 	@echo 'make wrong [CRATE=NAME]    has the prover refuse the wrong bodies, of all crates or of one'
 	@echo 'make bench                 times scripts and calls'
 	@echo 'make view                  proves and builds mdlview'
@@ -72,7 +73,8 @@ script:
 
 # The gate checks that the files are laid out as they should be and that the docs agree with the tree, proves and tests everything from nothing, and has
 # the prover refuse the wrong bodies (except some of those that `make wrong` tries). Then it checks the answers to the examples, the programs' command
-# lines, random scripts, the programs of C, if there is gcc, and that refused growths lose nothing (every twenty-third; `make growths` refuses each).
+# lines, random scripts, the programs of C, and that refused growths lose nothing (every twenty-third; `make growths` refuses each). At the end it
+# says what this machine can't check, as without gcc. With GATE_STRICT=1 it fails then.
 test: layout docs
 	@sh make/gate.sh
 
@@ -106,8 +108,8 @@ commands: build view
 	@python3 commands/check.py $(PROGRAM)
 	@python3 commands/check_view.py $(VIEW)
 
-# Checks that the programs of examples/c, examples/rust and examples/python give their answers, with the proved libraries for C. Without gcc none of them
-# is tried, and without cargo the one of Rust isn't.
+# Checks that the programs of examples/c, examples/rust and examples/python give their answers, with the proved libraries for C. It says what it leaves
+# out, as all without gcc.
 c: kit
 	@sh make/c.sh
 
@@ -123,6 +125,10 @@ fuzz:
 # Refuses each allocation of some short sequences of calls in turn: they have to succeed all the same. Runs on threads have to report a refused one.
 growths: kit
 	@sh growths/check.sh
+
+# Lets threads race for locks until a million waits are settled, where the gate has 20,000.
+race: kit
+	@sh make/race.sh
 
 # Has the prover refuse the wrong bodies: all, or with CRATE=NAME those of one crate. It uses the libraries below the crate as they were built last.
 wrong: kit

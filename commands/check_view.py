@@ -12,26 +12,27 @@ import sys
 from xml.etree import ElementTree
 
 from devices import cases_of_mdlview, wrong_devices
+from view_json import wrong_json
 from view_rows import NO_ROWS_TOLD, wrong_rows
 from view_scripts import wrong_scripts
 
 PROGRAM = "crates/mdlview/out/mdlview"
 FOLDER = pathlib.Path(__file__).resolve().parent
 EXAMPLES = FOLDER.with_name("examples")
-SERVERS = FOLDER / "server_locks"
+SERVERS = FOLDER.with_name("tools") / "server_locks/answers"
 VIEW = FOLDER / "view"
 SIGNS = VIEW / "signs.replay"
 COMPLETIONS = sorted(FOLDER.glob("completions/*mdlview*"))
 VERSION = FOLDER.with_name("VERSION").read_text().strip()
 
 WAITS = "1 CREATE TABLE t x\n1 BEGIN\n1 SELECT t\n2 DROP TABLE t\n"
-WHY = """1 request waits. Ways out, the best first:
+WHY = """1 request waits. Ways out, the best first. Do one, and look again:
 1. End session 1
    1 wait ends at once
    session 1 holds SR of TABLE test.t
    session 2 gets X of TABLE test.t
 """
-USER_WHY = """1 request waits. Ways out, the best first:
+USER_WHY = """1 request waits. Ways out, the best first. Do one, and look again:
 1. End session 1
    1 wait ends at once
    session 1 holds X of USER a
@@ -46,19 +47,21 @@ SERVER = (
     + "TABLE\tshop\tOrders-2\tEXCLUSIVE\tTRANSACTION\tPENDING\t48300\n"
 )
 KILL = " takes the number that this returns:\n   SELECT PROCESSLIST_ID FROM performance_schema.threads WHERE THREAD_ID = "
-BETTER = 'Rows that have the numbers for KILL: mysql -B -e "$(mdlview query)" | mdlview\n'
-SERVER_WHY = f"""1 request waits. Ways out, the best first:
+THREADS = """The numbers below are of threads. KILL takes those of connections, which differ. To get both, run:
+   mysql -B -e "$(mdlview query)" | mdlview
+"""
+SERVER_WHY = f"""{THREADS}1 request waits. Ways out, the best first. Do one, and look again:
 1. End thread 48213. KILL{KILL}48213;
    1 wait ends at once
    thread 48213 holds SR of TABLE shop.Orders-2
    thread 48300 gets X of TABLE shop.Orders-2
-{BETTER}"""
+"""
 CONNECTIONS = (
     HEADER.replace("\n", "\tPROCESSLIST_ID\tUSER\tHOST\tCOMMAND\tTIME\n")
     + "TABLE\tshop\torders\tSHARED_READ\tTRANSACTION\tGRANTED\t33\t8\tapp\t10.0.0.7\tSleep\t412\n"
     + "TABLE\tshop\torders\tEXCLUSIVE\tTRANSACTION\tPENDING\t34\t9\tadmin\tlocalhost\tQuery\t400\n"
 )
-CONNECTIONS_WHY = """1 request waits. Ways out, the best first:
+CONNECTIONS_WHY = """1 request waits. Ways out, the best first. Do one, and look again:
 1. KILL 8;  -- app@10.0.0.7, Sleep 412 s
    1 wait ends at once
    connection 8 (thread 33) holds SR of TABLE shop.orders
@@ -347,7 +350,7 @@ def wrong_lines(program):
     """Returns what `why` prints for many readers of a table with long names, if a line has more than a hundred bytes, or readers aren't counted."""
     status, printed, reported = found = run(program, "why", READERS)
     lines = printed.splitlines()
-    counted = lines[-2:] == ["   and 37 more", BETTER.rstrip()] and f"{KILL.splitlines()[1]}18446744073709551615;" in lines
+    counted = printed.startswith(THREADS) and lines[-1] == "   and 37 more" and f"{KILL.splitlines()[1]}18446744073709551615;" in lines
     if status or reported or not counted or any(len(line) > 100 for line in lines) or not any(line.endswith("..") for line in lines):
         yield "why", found
     # No character of three bytes is cut.
@@ -373,8 +376,8 @@ def wrong_crowds(program):
     # Ten thousand readers, and as many changes behind all of them: no single act helps.
     rows = HEADER + table_rows("SHARED_READ", "GRANTED", range(1, 10_001)) + table_rows("EXCLUSIVE", "PENDING", range(10_001, 20_001))
     status, printed, reported = found = run(program, "why", rows)
-    ends = "10000 requests wait.\nthread 10001 goes on only after all 10000 of these:\n", f"{MORE_JOINT}: 9992\n{BETTER}"
-    if status or reported or not printed.startswith(ends[0]) or not printed.endswith(ends[1]):
+    start = f"{THREADS}10000 requests wait.\nSo that thread 10001 gets X of TABLE s.t,\ndo all 10000 of these:\n"
+    if status or reported or not printed.startswith(start) or not printed.endswith(f"{MORE_JOINT}: 9992\n"):
         yield "why, many readers and changes", tuple(str(it)[:1000] for it in found)
     # A reader, a change, and 19,998 readers behind it: the change's end lets all others read at once, and the reader's end lets all go on.
     rows = HEADER + table_rows("SHARED_READ", "GRANTED", [1]) + table_rows("EXCLUSIVE", "PENDING", [2])
@@ -383,6 +386,13 @@ def wrong_crowds(program):
     lines = ["19999 requests wait.", "   19999 waits end: 1 at once, 19998 when those have ended\n", "   19998 waits end, all at once\n"]
     if status or reported or any(line not in printed for line in lines):
         yield "why, many readers behind a change", tuple(str(it)[:1000] for it in found)
+    # Two hundred tables, each with a reader and a change: as many ways out, of which eight are described.
+    rows = HEADER + table_rows("SHARED_READ", "GRANTED", range(1, 201), "t{}")
+    rows += "".join(table_rows("EXCLUSIVE", "PENDING", [1000 + it], f"t{it}") for it in range(1, 201))
+    status, printed, reported = found = run(program, "why", rows)
+    lines = ["200 requests wait. Ways out, the best first:\n1. End thread ", "\n8. End thread ", "More ways, which are no better: 192\n"]
+    if status or reported or any(line not in printed for line in lines) or "\n9. " in printed:
+        yield "why, many ways", tuple(str(it)[:1000] for it in found)
 
 
 def wrong_servers(program):
@@ -459,6 +469,7 @@ def main(words):
         *wrong_words(program),
         *wrong_objects(program),
         *wrong_rows(program),
+        *wrong_json(program, sorted([*SERVERS.glob("*.rows"), *VIEW.glob("*.rows")])),
         *wrong_scripts(program),
         *wrong_lines(program),
         *wrong_crowds(program),

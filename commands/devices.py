@@ -11,8 +11,10 @@ import resource
 import signal
 import socket
 import subprocess
-import sys
 import tempfile
+
+# Says that something isn't tried.
+SKIPPED = pathlib.Path(__file__).resolve().parent.with_name("make") / "skipped.sh"
 
 FAULT = (3, b"fault: device\n")
 MEMORY = (3, b"fault: memory\n")
@@ -180,7 +182,7 @@ def fails_as_it_ought():
 def wrong_readers(program, cases):
     """An input that fails after any number of bytes is reported, and nothing is written."""
     if not fails_as_it_ought():
-        print("this machine has no reader that fails, so that isn't tried", file=sys.stderr)
+        subprocess.run(["sh", SKIPPED, f"{pathlib.Path(program).name} with a reader that fails", "no socket fails on this machine"], check=True)
         return
     for case in readers(cases):
         for count in range(0, len(case.given) + 1, 1 if case.by_lines else 7):
@@ -246,6 +248,7 @@ def noises(size, seed):
     yield "noise", noise
     yield "NULs", bytes(size)
     yield "noise behind rows", (ROWS + noise)[:size]
+    yield "noise behind JSON", (b'[{"OBJECT_TYPE": "TABLE"}, ' + noise)[:size]
     yield "noise behind a script", (SCRIPT + noise)[:size]
     yield "rows with NULs", (ROWS + b"TABLE\ts\tt\0\tSHARED_READ\n" * (size // 20))[:size]
     yield "tabs", b"\t" * size

@@ -22,7 +22,10 @@ UNREAD_HELP = """\
    Who holds those: the rows with their OBJECT_TYPE and OBJECT_NAME that are GRANTED. To see all rows:
       SELECT * FROM performance_schema.metadata_locks;
 """
-BETTER_ROWS = 'Rows that have the numbers for KILL: mysql -B -e "$(mdlview query)" | mdlview\n'
+THREADS_NOTE = """\
+The numbers below are of threads. KILL takes those of connections, which differ. To get both, run:
+   mysql -B -e "$(mdlview query)" | mdlview
+"""
 
 
 # ---- words
@@ -74,12 +77,12 @@ def in_a_line(text):
 
 
 def described(owner):
-    """Returns who an owner is and what it does: app@10.0.0.7, Query 3 s, in a transaction since 2026-11-29 03:12:44: SELECT 1"""
+    """Returns who an owner is and what it does: app@10.0.0.7, Query 3 s, in a transaction since 2026-11-29 03:12:44"""
     it = {column: in_a_line(text) for column, text in owner.items()}
     who = "@".join(part for part in (it["USER"], it["HOST"]) if part)
     does = " ".join(part for part in (it["COMMAND"], it["TIME"] and it["TIME"] + " s") if part)
     since = it["TRX_STARTED"] and "in a transaction since " + it["TRX_STARTED"]
-    return ": ".join(part for part in (", ".join(part for part in (who, does, since) if part), it["INFO"]) if part)
+    return ", ".join(part for part in (who, does, since) if part)
 
 
 # ---- objects of JSON
@@ -136,7 +139,16 @@ class Answers:
         """Returns the lines of the first tickets, and how many more there are."""
         return "".join(self.ticket_line(verb, it, rest) for it in tickets[:MOST]) + and_more(len(tickets) - MOST)
 
-    def act_lines(self, start, session, is_query):
+    def runs(self, indent, session):
+        """Returns what a session runs, if that is known."""
+        statement = self.rows.owner(session)["INFO"]
+        return cut(COLUMNS, f"{indent}runs: {in_a_line(statement)}") + "\n" if statement else ""
+
+    def act_lines(self, start, indent, session, is_query):
+        """Returns what to type to end a session or its statement, and what it runs."""
+        return self.typed_lines(start, indent, session, is_query) + self.runs(indent, session)
+
+    def typed_lines(self, start, indent, session, is_query):
         """Returns what to type to end a session or its statement."""
         owner, thread, kill = self.rows.owner(session), self.rows.thread(session), "KILL QUERY" if is_query else "KILL"
         if owner["PROCESSLIST_ID"]:
@@ -146,7 +158,7 @@ class Answers:
             return f"{start}Thread {thread} is the server's own: it has no connection, and KILL can't end it.\n"
         what = "the statement of thread" if is_query else "thread"
         return (f"{start}End {what} {thread}. {kill} takes the number that this returns:\n"
-                f"   SELECT PROCESSLIST_ID FROM performance_schema.threads WHERE THREAD_ID = {thread};\n")
+                f"{indent}SELECT PROCESSLIST_ID FROM performance_schema.threads WHERE THREAD_ID = {thread};\n")
 
     # ---- why
 
@@ -154,16 +166,25 @@ class Answers:
         """Returns what is printed of a way out."""
         later = len(way.in_turn) - len(way.at_once)
         when = f": {len(way.at_once)} at once, {later} when those have ended" if later else " at once" if len(way.at_once) == 1 else ", all at once"
-        return (self.act_lines(f"{place}. ", way.session, way.is_query) + f"   {counted(len(way.in_turn), 'wait ends', 'waits end')}{when}\n"
-                + self.ticket_lines("holds", self.jam.held(way.session)) + self.ticket_lines("gets", way.at_once))
+        granted = "".join(self.ticket_line("gets", it) + self.runs(6 * " ", it.session) for it in way.at_once[:MOST])
+        return (self.act_lines(f"{place}. ", "   ", way.session, way.is_query)
+                + f"   {counted(len(way.in_turn), 'wait ends', 'waits end')}{when}\n"
+                + self.held_lines(way.session) + granted + and_more(len(way.at_once) - MOST))
+
+    def held_lines(self, session):
+        """Returns the locks that a session holds and at which somebody waits, and how many it holds besides."""
+        wanted = [ticket for ticket in self.jam.held(session) if ticket.lock.waiting]
+        others = len(self.jam.held(session)) - len(wanted)
+        start = "and" if wanted else f"{self.session(session)} holds"
+        return self.ticket_lines("holds", wanted) + (f"   {start} {counted(others, 'lock', 'locks')} at which nobody waits\n" if others else "")
 
     def joint_text(self, asked):
         """Returns what is printed of a wait that needs several acts."""
         blockers = self.jam.blockers(asked)
-        all_words = "both of these:" if len(blockers) == 2 else f"all {len(blockers)} of these:"
-        acts = "".join(self.act_lines("   ", session, self.jam.is_query_enough(asked, session)) for session in blockers[:MOST])
-        return (f"{self.session(asked.session)} goes on only after {all_words}\n" + acts + and_more(len(blockers) - MOST)
-                + self.ticket_line("waits for", asked))
+        start = f"{'Or, so' if self.jam.ways else 'So'} that {self.session(asked.session)} gets {asked.mode} of "
+        acts = "".join(self.act_lines("   ", 6 * " ", session, self.jam.is_query_enough(asked, session)) for session in blockers[:MOST])
+        return (line_with(start, name_of(asked.lock.key), ",") + self.runs("   ", asked.session)
+                + f"do {'both' if len(blockers) == 2 else f'all {len(blockers)}'} of these:\n" + acts + and_more(len(blockers) - MOST))
 
     def stuck_text(self):
         """Returns what is printed of deadlocks."""
@@ -192,10 +213,9 @@ class Answers:
 
     def upgrade_lines(self):
         """Returns what is printed of the tickets that are taken for upgraded."""
-        lines = "".join(line_with(f"   {self.session(shown.session)} holds {shown.mode} of ", name_of(shown.lock.key),
-                                  f", and is taken to have {mode} by now")
+        lines = "".join(line_with(f"   {self.session(shown.session)} has {mode} of ", name_of(shown.lock.key), f" by now, not {shown.mode}")
                         for shown, mode in self.upgrades[:MOST])
-        head = "Rows show the mode that a lock had at first, and no upgrade:\n" if self.upgrades else ""
+        head = "Inferred, because rows show the mode that a lock was taken with, and no upgrade:\n" if self.upgrades else ""
         return head + lines + and_more(len(self.upgrades) - MOST)
 
     def why(self):
@@ -203,12 +223,13 @@ class Answers:
         jam, waits = self.jam, len(self.jam.all_waits) + self.rows.left_out_waits()
         head = counted(waits, "request waits", "requests wait") if waits else "No session waits"
         lacks = (jam.ways or jam.joint) and not self.rows.knows_connections()
-        return (head + (". Ways out, the best first:\n" if waits and jam.ways else ".\n")
+        return ((THREADS_NOTE if lacks else "") + head
+                + (". Ways out, the best first. Do one, and look again:\n" if waits and jam.ways else ".\n")
                 + "".join(self.way_text(place, way) for place, way in enumerate(jam.ways[:MOST], 1))
                 + more_line("More ways, which are no better", jam.ways)
                 + "".join(self.joint_text(it) for it in jam.joint[:MOST]) + more_line("More requests that go on only after several acts", jam.joint)
                 + self.stuck_text() + self.passing_line() + self.unexplained_text()
-                + (BETTER_ROWS if lacks else "") + self.left_out_line() + self.upgrade_lines())
+                + self.left_out_line() + self.upgrade_lines())
 
     def why_json(self):
         """Returns the answer to `why` as JSON."""

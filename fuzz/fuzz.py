@@ -19,6 +19,7 @@ import math
 import os
 import pathlib
 import random
+import subprocess
 import sys
 import time
 import typing
@@ -195,10 +196,20 @@ class Tally:
         return [it.decode().strip() for it in ANSWERS if it not in self.seen]
 
 
+def report_skipped(least, is_cached):
+    """Says which kinds of cases aren't tried with this program."""
+    skipped = scripts.TOP / "make/skipped.sh"
+    if least is None:
+        subprocess.run(["sh", skipped, "random scripts with little memory", "the program doesn't run with 32 MB"], check=True)
+    if not is_cached:
+        subprocess.run(["sh", skipped, "random scripts with small caches", "the program has no option for that"], check=True)
+
+
 def look_at(runner, seed, numbers, most_seconds):
     """Runs cases until the time is over. Keeps and reports those that are wrong."""
     until = time.monotonic() + most_seconds
     found, least, is_cached, matrices = scripts.seeds(), least_memory(runner), has_cache(runner), locks.matrices_of(runner.program)
+    report_skipped(least, is_cached)
     tally = Tally()
     for number in numbers:
         if time.monotonic() > until:

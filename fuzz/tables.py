@@ -1,6 +1,7 @@
 """Random rows of a server's metadata locks, and how clients print rows. Texts have a character for each byte. A value is empty if it is NULL."""
 
 import dataclasses
+import json
 
 from modes import KINDS, LATER, CLASHES, MODES, OF_MODE
 
@@ -84,7 +85,41 @@ def comma_field(value, null, dice):
     return value
 
 
-FORMS = {"batch": with_tabs, "vertical": with_stars, "boxes": with_boxes, "csv": with_commas}
+def with_objects(columns, rows, dice):
+    """Returns rows as JSON: in an array or one after another, each on a line or not. Behind the first row, keys of NULL may be missing, and keys are in
+    any order and case at times."""
+    objects = [{column: json_value(row[column], dice) for column in columns} for row in rows]
+    is_turned, has_nulls, is_ascii, is_list = (dice.random() < 0.5 for _ in range(4))
+    indent = dice.choice([None, None, 1, 4])
+    for it in objects[1:]:
+        keys = [key for key in it if has_nulls or it[key] is not None]
+        members = [(key.swapcase() if is_turned else key, it[key]) for key in (dice.sample(keys, len(keys)) if is_turned else keys)]
+        it.clear()
+        it.update(members)
+    if is_list:
+        text = json.dumps(objects, indent=indent, ensure_ascii=is_ascii)
+    else:
+        text = "".join(json.dumps(it, indent=indent, ensure_ascii=is_ascii) + dice.choice(["", "\n", "\r\n"]) for it in objects)
+    return text.encode().decode("latin-1")
+
+
+def json_value(value, dice):
+    """Returns what stands for a value in JSON: nothing for NULL, and a number for digits at times."""
+    if not value:
+        return dice.choice([None, None, ""])
+    is_number = value.isascii() and value.isdecimal() and value[0] != "0"
+    return int(value) if is_number and dice.random() < 0.7 else value.encode("latin-1").decode()
+
+
+def is_utf8(text):
+    """Whether the bytes of a text are UTF-8."""
+    try:
+        return bool(text.encode("latin-1").decode()) or not text
+    except UnicodeDecodeError:
+        return False
+
+
+FORMS = {"batch": with_tabs, "vertical": with_stars, "boxes": with_boxes, "csv": with_commas, "json": with_objects}
 
 
 # ---- rows by chance
@@ -104,10 +139,10 @@ class Rows:
 
     def __init__(self, dice):
         self.dice, self.rows = dice, []
-        self.form = dice.choices(list(FORMS), [7, 1, 1, 1])[0]
+        self.form = dice.choices(list(FORMS), [7, 1, 1, 1, 2])[0]
         self.has_durations = dice.random() < 0.8
         self.has_processes = dice.random() < 0.7
-        self.is_odd = dice.random() < 0.15 and self.form in ("batch", "csv")
+        self.is_odd = dice.random() < 0.15 and self.form in ("batch", "csv", "json")
         self.keys = [self.key() for _ in range(dice.choice([1, 1, 2, 3, 6]))]
         threads = dice.sample(range(1, 100000), dice.choice([2, 3, 5, 9, 14, 30, 44]))
         self.sessions = [self.session(thread) for thread in threads]
@@ -115,6 +150,7 @@ class Rows:
     def key(self):
         """Returns what a lock is of."""
         dice, names = self.dice, NAMES + (ODD_NAMES if self.is_odd else [])
+        names = [it for it in names if is_utf8(it) or self.form != "json"]
         kind = dice.choice([*dice.sample(DEFINITIONS, 2), dice.choice(SINGLE), "SCHEMA", "TABLESPACE", "USER LEVEL LOCK", "TABLE"])
         schema, thing = dice.choice(["shop", "shop", dice.choice(names)]), dice.choice(names)
         if kind in SINGLE:

@@ -18,6 +18,7 @@ import itertools
 import os
 import pathlib
 import random
+import re
 import subprocess
 import sys
 import time
@@ -40,7 +41,12 @@ KINDS = {
     "a way by KILL QUERY": lambda found, text: any(way.is_query for way in found.jam.ways),
     "more ways than are printed": lambda found, text: b"More ways" in text,
     "waits that end in turn": lambda found, text: b" when those have ended" in text,
-    "acts together": lambda found, text: bool(found.jam.joint),
+    "acts together, or another way": lambda found, text: b"\nOr, so that " in text,
+    "acts together alone": lambda found, text: b"\nSo that " in text,
+    "a statement of who is to be ended": lambda found, text: b"\n   runs: " in text,
+    "a statement that goes on": lambda found, text: b"\n      runs: " in text,
+    "locks at which nobody waits": lambda found, text: re.search(rb"\n   and \d+ locks? at which nobody waits\n", text),
+    "more locks with waits than are printed": lambda found, text: re.search(rb" holds [A-Z_]+ of .*\n   and \d+ more\n", text),
     "a deadlock": lambda found, text: bool(found.jam.stuck),
     "a wait behind one that is over": lambda found, text: found.jam.passing() > 0,
     "a wait that can't be explained": lambda found, text: bool(found.jam.unexplained),

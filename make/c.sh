@@ -1,12 +1,12 @@
 #!/bin/sh
 # Builds and proves the libraries for C, lays them out as `make install` does, and builds and runs the programs that use them: those of examples/c,
-# examples/rust and examples/python. It compares what they print with the answers beside them. Without gcc it only says that gcc is missing.
-# Without cargo it leaves out the program of Rust.
+# examples/rust and examples/python. It compares what they print with the answers beside them. What it has to leave out, for want of a compiler, it
+# says as make/skipped.sh does.
 # Usage: sh make/c.sh
 cd "$(dirname "$0")/.." || exit 1
 if ! command -v gcc > /dev/null; then
-    echo 'gcc is missing: the programs over the libraries for C were not tried'
-    exit 0
+    sh make/skipped.sh 'the programs over the libraries for C' 'gcc is missing'
+    exit
 fi
 sh make/needs.sh rt python3 diff || exit 1
 made=$(mktemp -d)
@@ -31,13 +31,17 @@ words_for_c() {
     if command -v pkg-config > /dev/null; then
         PKG_CONFIG_PATH=$made/lib/pkgconfig pkg-config --cflags --libs mdl mdl_text
     else
+        sh make/skipped.sh 'the files for pkg-config' 'pkg-config is missing'
         echo "-I$made/include -L$made/lib -lmdl_c -lmdl_text -lmdl_malloc"
     fi
 }
 
 # Checks that the headers are valid C++, too, if there is a compiler for that.
 read_as_cpp() {
-    command -v g++ > /dev/null || return 0
+    if ! command -v g++ > /dev/null; then
+        sh make/skipped.sh 'the headers for C as C++' 'g++ is missing'
+        return
+    fi
     printf '#include "mdl.h"\n#include "mdl_text.h"\n' | g++ -x c++ -Wall -Wextra -Werror -fsyntax-only -I "$made/include" -
 }
 
@@ -52,8 +56,8 @@ try_c() {
 
 try_rust() {
     if ! command -v cargo > /dev/null; then
-        echo 'cargo is missing: the program of examples/rust was not tried'
-        return 0
+        sh make/skipped.sh 'the program of examples/rust' 'cargo is missing'
+        return
     fi
     compare examples/rust/threads.answers env MDL_LIB="$made/lib" CARGO_TARGET_DIR="$made/cargo" \
         cargo run --offline --locked --quiet --release --manifest-path examples/rust/Cargo.toml --example threads
@@ -65,4 +69,4 @@ try_python() {
 }
 
 python3 make/archive.py && sh make/lay_out_c.sh "$made" && try_c && try_rust && try_python || exit 1
-echo 'each program over the libraries for C has its answers'
+echo 'each program that was tried over the libraries for C has its answers'

@@ -165,6 +165,11 @@ stale_calls() {
     python3 make/docs/memory.py < "$made/calls"
 }
 
+# The numbers, structures and functions of the headers for C are those of the definitions and the code.
+stale_headers() {
+    python3 make/docs/header.py
+}
+
 stale_figures() {
     figures > "$made/figures"
     awk '/^crate  *code / { on = 1 } /^```/ { on = 0 } on' docs/GATE.md | cmp -s - "$made/figures" \
@@ -196,6 +201,7 @@ stale() {
     stale_definitions
     stale_names
     stale_calls
+    stale_headers
     stale_figures
     stale_words
     stale_readme

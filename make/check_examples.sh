@@ -43,14 +43,19 @@ with_section() {
         { print }' "$1"
 }
 
+# A section, wherever its lines are broken.
+words() {
+    sed 's|^//! \{0,1\}||' | tr -s ' \n' ' '
+}
+
 look_at() {
     file=$(file_of "$1")
     if [ -z "$file" ]; then
         echo "crates/mdl_examples/src, crates/*_trials/src/examples, crates/*_example/src: there is no example of $1"
         return
     fi
-    section "crates/$1/src/lib.rt" > "$made/shown"
-    awk -f make/docs/example.awk "$file" | cmp -s - "$made/shown" \
+    section "crates/$1/src/lib.rt" | words > "$made/shown"
+    awk -f make/docs/example.awk "$file" | words | cmp -s - "$made/shown" \
         || echo "crates/$1/src/lib.rt: the example isn't that of $file: sh make/check_examples.sh update"
 }
 

@@ -1,32 +1,64 @@
 #!/bin/sh
-# Prints each place where the version differs from the file VERSION, one line for each, or that there is none. The newest version of CHANGELOG.md and
-# the manual pages must also have the same date.
+# Prints each place where the version differs from the file VERSION, one line for each, or that there is none.
+# The tree of a release has its version: the newest one of CHANGELOG.md, which has its date, as the manual pages do. A tree after it, whose CHANGELOG.md
+# has a section [Unreleased], has a later version that ends with -dev. So to release, name that section by the version and the date, take the -dev away
+# in all places, and tag what passes the gate. The next change begins a section [Unreleased], and gives VERSION the next version with -dev.
 # Usage: sh make/check_version.sh
 cd "$(dirname "$0")/.." || exit 1
 version=$(cat VERSION)
 stale=$(mktemp)
 trap 'rm -f "$stale"' EXIT
 
-# The newest version of the change log, as VERSION DATE. `Unreleased` has neither.
+# The newest release of the change log, as VERSION DATE.
 newest=$(sed -n 's/^## \[\([0-9.]*\)\] - \([0-9-]*\)$/\1 \2/p' CHANGELOG.md | head -n 1)
+released=${newest% *}
 
 # Reports a file that has no line with these words: FILE WORDS
 has() {
     grep -q -F -e "$2" "$1" || printf '%s: there is no line with %s\n' "$1" "$2"
 }
 
+# Whether a version is later than another one: VERSION VERSION
+is_later() {
+    [ "$1" != "$2" ] && [ "$(printf '%s\n%s\n' "$1" "$2" | sort -t . -k 1,1n -k 2,2n -k 3,3n | tail -n 1)" = "$1" ]
+}
+
+# The version is that of the newest release, or, if something is unreleased, a later one with -dev.
+wrong_version() {
+    printf '%s\n' "$version" | grep -q -x '[0-9]*\.[0-9]*\.[0-9]*\(-dev\)\{0,1\}' || echo "VERSION: $version is no version"
+    if ! grep -q -x -F '## [Unreleased]' CHANGELOG.md; then
+        [ "$released" = "$version" ] || echo "CHANGELOG.md: the newest version is $released, nothing is unreleased, and VERSION has $version"
+    elif [ "${version%-dev}" = "$version" ]; then
+        echo "VERSION: $version is the version of a release, and CHANGELOG.md has a section [Unreleased]: it has to end with -dev"
+    elif ! is_later "${version%-dev}" "$released"; then
+        echo "VERSION: $version isn't later than $released, which is released"
+    fi
+}
+
+# A manual page has the version, and its date: that of the release, or, after it, any later one: PROGRAM
+wrong_page() {
+    name=$(echo "$1" | tr 'a-z' 'A-Z')
+    date=$(sed -n "s/^\.TH $name 1 \([0-9]*-[0-9]*-[0-9]*\) \"$1 $version\" \"User Commands\"\$/\1/p" "docs/$1.1")
+    if [ -z "$date" ]; then
+        echo "docs/$1.1: there is no line with .TH $name 1 DATE \"$1 $version\""
+    elif [ "${version%-dev}" = "$version" ] && [ "$date" != "${newest#* }" ]; then
+        echo "docs/$1.1: its date is $date, and CHANGELOG.md has ${newest#* }"
+    elif [ "$(printf '%s\n%s\n' "$date" "${newest#* }" | sort | head -n 1)" != "${newest#* }" ]; then
+        echo "docs/$1.1: its date is $date, before ${newest#* }, when $released was released"
+    fi
+    has "docs/$1.1" "This page describes $1 $version."
+}
+
 {
-    printf '%s\n' "$version" | grep -q -x '[0-9]*\.[0-9]*\.[0-9]*' || echo "VERSION: $version is no version"
-    [ "${newest% *}" = "$version" ] || echo "CHANGELOG.md: the newest version is ${newest% *}, and VERSION has $version"
-    has docs/mdlsim.1 ".TH MDLSIM 1 ${newest#* } \"mdlsim $version\""
-    has docs/mdlsim.1 "This page describes mdlsim $version."
-    has docs/mdlview.1 ".TH MDLVIEW 1 ${newest#* } \"mdlview $version\""
-    has docs/mdlview.1 "This page describes mdlview $version."
-    has examples/rust/Cargo.toml "version = \"$version\""
-    has crates/mdlsim/src/program.rt "b\"mdlsim $version\\n\""
-    has crates/mdlsim/specs/CommandLine.antt "codes \"mdlsim $version\""
-    has crates/mdlview/src/program.rt "b\"mdlview $version\\n\""
-    has crates/mdlview/specs/CommandLine.antt "codes \"mdlview $version\""
+    wrong_version
+    for program in mdlsim mdlview; do
+        wrong_page "$program"
+        has "crates/$program/src/program.rt" "b\"$program $version\\n\""
+        has "crates/$program/specs/CommandLine.antt" "codes \"$program $version\""
+    done
+    for file in Cargo.toml Cargo.lock; do
+        has "examples/rust/$file" "version = \"$version\""
+    done
 } > "$stale"
 if [ -s "$stale" ]; then
     cat "$stale" >&2

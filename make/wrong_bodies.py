@@ -8,18 +8,26 @@ A wrong body is a file wrong_bodies/CRATE/NAME.edit of such lines:
     new: if name.len() > 65 {              what is put in its place
 
 It may have more pairs of `old` and `new`, and more files. The line `tried: among all` leaves it out of the gate, because another body shows as much.
+A wrong body has to be refused by a goal. If the function's proof only misses a name that the body removed, that says little about the contract: then a
+line `by a name: REASON` has to say why the body is wrong by the contract all the same, and why it can't keep the names.
+
+A function whose proof is written by hand may be refused only because that proof doesn't fit another text. So its right body is tried in another form,
+with the proof as it is: `let same = { BODY }; same`, or, if its files have lines `same: TEXT` after pairs of `old` and `new`, with these in place of the
+old texts. That has to be proved, or a line of wrong_bodies/without_control has to name the function and say why not. The refusals of its wrong bodies
+are then counted apart. (A wrong body that adds a branch or a call has more goals than such a form, so that its refusal says less, too.)
+
 A function is proved with the contracts of the functions that it calls, whatever their bodies are. So all wrong bodies of a crate are put in place
 together, in a copy, and one check covers the functions that they name. Only bodies that change the same text, or the same function, take turns. The
 bodies of the functions that have no wrong one are left out of the copy, since they would only be proved again. That a function calls one that is
-refused, or that was left out, doesn't count: it has to fail by itself. If its proof only misses a name that the body removed, that says little about
-the contract, and is reported.
+refused, or that was left out, doesn't count: it has to fail by itself.
 
 The check uses the libraries that the crate depends on as `rt ci`, or `rt check` in a crate's folder, built them last.
 
 Usage, at the top of the repository:
-    python3 make/wrong_bodies.py                    all
+    python3 make/wrong_bodies.py                    all, and the right bodies in another form
     python3 make/wrong_bodies.py CRATE [NAME ..]    those of a crate, or some of them
-    python3 make/wrong_bodies.py --gate [CRATE]     all but those that are tried only among all
+    python3 make/wrong_bodies.py --gate [CRATE]     all but those that are tried only among all, and no right bodies
+    python3 make/wrong_bodies.py --same [CRATE]     no wrong ones, but the right bodies in another form
     python3 make/wrong_bodies.py --right [CRATE]    no wrong ones, but the right bodies in the same copies: prints which would be refused
     python3 make/wrong_bodies.py --fit              tries none: prints which of them don't fit the files that they change
 """
@@ -27,6 +35,7 @@ Usage, at the top of the repository:
 import collections
 import concurrent.futures
 import dataclasses
+import functools
 import os
 import pathlib
 import re
@@ -36,6 +45,9 @@ import sys
 import tempfile
 
 BODIES = pathlib.Path("wrong_bodies")
+
+# The functions whose right bodies aren't proved in another form, a line for each: the function, `: `, and why.
+WITHOUT_CONTROL = BODIES / "without_control"
 CRATES = pathlib.Path("crates")
 
 # The kit's folder, found by its command.
@@ -45,8 +57,8 @@ KIT = pathlib.Path(shutil.which("rt") or "rt").resolve().parent.parent
 LOST_NAME = re.compile(r"has no field|is not in scope|has no `|was not admitted")
 
 # The first line of a function, of a type's `impl`, and of a type.
-FUNCTION = re.compile(r"( {4})?(?:pub(?:\([a-z]+\))? )?(?:const )?fn (\w+)")
-OWNER = re.compile(r"impl(?:<[^{]*?>)? (\w+)(?:<[^{]*>)? \{")
+FUNCTION = re.compile(r"( {4})?(?:pub(?:\([a-z]+\))? )?(?:const )?(extern \"C\" )?fn (\w+)")
+OWNER = re.compile(r"impl(?:<[^{]*?>)? (?:(\w+)(?:<[^{]*?>)? for )?(\w+)(?:<[^{]*>)? \{")
 TYPE = re.compile(r"^(?:pub(?:\([a-z]+\))? )?(?:struct|enum) (\w+)", re.MULTILINE)
 
 # Replaces the proof of a function that is left out. It is refused at once, and the functions that call it are checked to their end.
@@ -56,8 +68,8 @@ pub {name}_spec : {{M : Type 1}} → statement M
 {name}_spec = nowhere
 """
 
-# The outcomes of a wrong body, or of a right one.
-REFUSED, BY_A_NAME, MISSED, PASSED = "refused", "refused for a name alone", "not as it should be", "passed"
+# The outcomes of a wrong body, or of a right one. (A function without control has only proofs that don't fit another form.)
+REFUSED, BY_A_NAME, UNSURE, MISSED, PASSED = "refused", "refused for a name alone", "refused without control", "not as it should be", "passed"
 
 
 class Unfit(Exception):
@@ -66,17 +78,20 @@ class Unfit(Exception):
 
 @dataclasses.dataclass
 class WrongBody:
-    """A wrong body: its name, the function that has to be refused, which texts replace which, and whether it is tried only when all are."""
+    """A wrong body: its name, the function that has to be refused, which texts replace which, which texts mean the same as the replaced ones, whether
+    it is tried only when all are, and why it may be refused for a name alone."""
 
     name: str
     refused: str
     changes: list
+    same: list
     is_for_all: bool
+    by_a_name: str | None
 
-    def spans_in(self, folder):
-        """Returns which parts of which files of a crate's folder it replaces, and by what: lists of (start, end, text)."""
+    def spans_in(self, folder, changes=None):
+        """Returns which parts of which files of a crate's folder it replaces, or these changes do, and by what: lists of (start, end, text)."""
         spans = collections.defaultdict(list)
-        for path, old, new in self.changes:
+        for path, old, new in changes or self.changes:
             text = (folder / path).read_text()
             if text.count(old) != 1:
                 raise Unfit(f"{self.name}: this text stands in {path} {text.count(old)} times, not once: {old}")
@@ -87,7 +102,7 @@ class WrongBody:
 
 def read_body(file):
     """Reads a wrong body."""
-    refused, path, old, changes, is_for_all = None, None, None, [], False
+    refused, path, old, changes, same, is_for_all, by_a_name = None, None, None, [], [], False, None
     for line in file.read_text().splitlines():
         word, _, rest = line.partition(":")
         rest = rest.removeprefix(" ")
@@ -95,6 +110,8 @@ def read_body(file):
             refused = rest
         elif line == "tried: among all":
             is_for_all = True
+        elif word == "by a name" and rest:
+            by_a_name = rest
         elif word == "file":
             path = rest
         elif word == "old":
@@ -102,11 +119,13 @@ def read_body(file):
         elif word == "new" and path and old:
             changes.append((path, old, rest))
             old = None
+        elif word == "same" and changes and not old:
+            same.append((*changes[-1][:2], rest))
         else:
             raise Unfit(f"{file}: there is no place for this line: {line}")
     if not changes:
         raise Unfit(f"{file}: it changes nothing")
-    return WrongBody(file.stem, refused, changes, is_for_all)
+    return WrongBody(file.stem, refused, changes, same, is_for_all, by_a_name)
 
 
 @dataclasses.dataclass
@@ -151,11 +170,20 @@ def rounds_of(bodies, folder):
     return rounds
 
 
+def proofs_of(function):
+    """Returns the folders that the proof of a function may be in, if it is written by hand. That of one that calls itself is in a folder with a `+`."""
+    *folders, name = function.split("::")[1:]
+    return tuple("/".join(["proofs", *folders, mark + name, ""]) for mark in ("", "+"))
+
+
+def has_proof_by_hand(function):
+    """Whether a function has a proof that is written by hand."""
+    return any((CRATES / function.split("::")[0] / folder).is_dir() for folder in proofs_of(function))
+
+
 def told_of(function, said):
     """Returns what these lines of a check say of a function: its verdict, and the errors in its proof."""
-    *folders, name = function.split("::")[1:]
-    # (the proof of a function that calls itself is in a folder with a `+`)
-    proofs = tuple("/".join(["proofs", *folders, mark + name, ""]) for mark in ("", "+"))
+    proofs = proofs_of(function)
     verdict = [it for it in said if it.startswith(f"fn {function}: ")]
     return verdict, [it for it in messages_of(said) if it.removeprefix("./").startswith(proofs) and ": error: " in it]
 
@@ -203,43 +231,52 @@ def command_for(crate):
     return words
 
 
-def emptied(lines, module, types, but):
-    """Returns the lines of a file with the bodies of its functions emptied, except those in `but`, and the paths of the emptied ones."""
-    written, paths, owner, lines = [], [], None, iter(lines)
-    for line in lines:
-        written.append(line)
+def functions_in(lines, module, types):
+    """Returns the functions of a file that have a body of some lines: the path of each, whether it can be left out, and where its body begins and ends."""
+    owner, is_of_trait, at = None, False, 0
+    while at < len(lines):
+        line = lines[at]
         if line and not line.startswith(" "):
             opened = OWNER.match(line)
-            owner = opened and types.get(opened[1])
+            owner, is_of_trait = opened and owner_of(opened, module, types), bool(opened and opened[1])
         found = FUNCTION.match(line)
-        if not found or (found[1] and not owner):
-            continue
-        path = [*(owner if found[1] else module), found[2]]
-        if "::".join(path) in but or line.endswith("}"):
-            continue
-        indent = found[1] or ""
-        while not line.startswith(indent + "{") and not (line.endswith("{") and line.startswith((indent + ")", found[0]))):
-            line = next(lines)
-            written.append(line)
-        if line.endswith("}"):
-            continue
-        while line != indent + "}":
-            line = next(lines)
-        written += [indent + "    loop {}", line]
-        paths.append(path)
-    return written, paths
+        if found and (owner or not found[1]) and not line.endswith("}"):
+            indent = found[1] or ""
+            while not lines[at].startswith(indent + "{") and not (lines[at].endswith("{") and lines[at].startswith((indent + ")", found[0]))):
+                at += 1
+            if not lines[at].endswith("}"):
+                end = lines.index(indent + "}", at)
+                is_bound = found[2] or (found[1] and is_of_trait)
+                yield [*(owner if found[1] else module), found[3]], not is_bound, at + 1, end
+                at = end
+        at += 1
 
 
-def leave_out(folder, but):
-    """Empties the functions in a crate's folder, except those in `but` and those of traits, and leaves out their proofs."""
+def owner_of(opened, module, types):
+    """Returns the path by which the functions of an `impl` begin: of a type, or of a type and a trait that it has."""
+    trait, name = opened.groups()
+    return [*module, name + trait] if trait else types.get(name)
+
+
+def sources_of(folder):
+    """Returns the files of a crate's code with their modules, and its types with the paths of their modules."""
     source = folder / "src"
     modules = {
         file: [folder.name, *(part for part in file.relative_to(source).with_suffix("").parts if part not in ("lib", "main"))]
         for file in source.rglob("*.rt")
     }
-    types = {name: [*module, name] for file, module in modules.items() for name in TYPE.findall(file.read_text())}
+    return modules, {name: [*module, name] for file, module in modules.items() for name in TYPE.findall(file.read_text())}
+
+
+def leave_out(folder, but):
+    """Empties the functions in a crate's folder, except those in `but` and those of traits and for C, and leaves out their proofs."""
+    modules, types = sources_of(folder)
     for file, module in modules.items():
-        lines, paths = emptied(file.read_text().splitlines(), module, types, but)
+        lines, paths = file.read_text().splitlines(), []
+        for path, is_free, start, end in reversed(list(functions_in(lines, module, types))):
+            if is_free and "::".join(path) not in but:
+                lines[start:end] = [lines[end].removesuffix("}") + "    loop {}"]
+                paths.append(path)
         file.write_text("\n".join(lines) + "\n")
         for _, *path in paths:
             place = folder.joinpath("proofs", *path)
@@ -249,29 +286,33 @@ def leave_out(folder, but):
             (place / "Proof.antt").write_text(NO_PROOF.format(crate=folder.name, path=".".join(path), name=path[-1]))
 
 
-def check(command, tried, folder, are_right):
-    """Checks a crate in a folder with the bodies of a round, or the right ones, in place, and returns the lines that the check prints."""
+def check(command, folder, functions, change):
+    """Checks functions of a crate in a folder, after a change there, and returns the lines that the check prints."""
     shutil.rmtree(folder, ignore_errors=True)
     for part in ("src", "specs", "proofs"):
         if (CRATES / folder.name / part).is_dir():
             shutil.copytree(CRATES / folder.name / part, folder / part)
-    if not are_right:
-        tried.put_into(folder)
-    refused = [body.refused for body in tried.bodies]
-    leave_out(folder, refused)
-    asked = [word for name in refused for word in ("--only", name)]
+    change(folder)
+    leave_out(folder, functions)
+    asked = [word for name in functions for word in ("--only", name)]
     ran = subprocess.run([*command, *asked], cwd=folder, stdout=subprocess.PIPE, stderr=subprocess.STDOUT, text=True)
     return ran.stdout.splitlines()
 
 
 def outcome_of(crate, body, said):
-    """Returns the outcome of a wrong body by the lines of a check, and reports the body if it isn't refused."""
+    """Returns the outcome of a wrong body by the lines of a check, and reports the body if it isn't refused as it should be."""
     refused, for_more = is_refused(body.refused, said)
-    if refused:
-        return REFUSED if for_more else BY_A_NAME
     verdict, errors = told_of(body.refused, said)
+    if not refused:
+        wrong = f"NOT REFUSED: {body.refused} has to fail by itself"
+    elif not for_more and not body.by_a_name:
+        wrong = f"refused for a name alone, and it doesn't say why: its proof misses a name that {body.refused} had"
+    elif for_more and body.by_a_name:
+        wrong = "refused for more than a name: its line `by a name` is stale"
+    else:
+        return BY_A_NAME if body.by_a_name else UNSURE if body.refused in without_control() else REFUSED
     told = "\n    ".join(verdict + errors or said[-3:])
-    print(f"{crate}/{body.name}: NOT REFUSED: {body.refused} has to fail by itself\n    {told}", flush=True)
+    print(f"{crate}/{body.name}: {wrong}\n    {told}", flush=True)
     return MISSED
 
 
@@ -285,19 +326,86 @@ def right_outcome_of(crate, body, said):
     return MISSED
 
 
+# ---- right bodies in another form
+
+
+@functools.cache
+def without_control():
+    """Returns the functions whose right bodies aren't proved in another form, with the reasons."""
+    return dict(line.split(": ", 1) for line in WITHOUT_CONTROL.read_text().splitlines())
+
+
+def controls_of(bodies):
+    """Returns the functions that have a proof by hand and one of these bodies, each with the body whose lines `same` give its other form, or None."""
+    functions = {body.refused: None for body in bodies if has_proof_by_hand(body.refused)}
+    functions.update({body.refused: body for body in reversed(bodies) if body.same and body.refused in functions})
+    return functions
+
+
+def put_same(folder, functions):
+    """Gives functions in a crate's folder another form that means the same."""
+    for body in functions.values():
+        if body:
+            Round([body], body.spans_in(folder, body.same)).put_into(folder)
+    modules, types = sources_of(folder)
+    left = {it for it in functions if not functions[it]}
+    for file, module in modules.items():
+        lines = file.read_text().splitlines()
+        for path, _, start, end in reversed(list(functions_in(lines, module, types))):
+            if "::".join(path) in left:
+                lines[start:end] = ["let same = {", *lines[start:end], "};", "same"]
+                left.remove("::".join(path))
+        file.write_text("\n".join(lines) + "\n")
+    if left:
+        raise Unfit(f"{' and '.join(sorted(left))}: a file of wrong bodies has to give the other form, by lines `same: ..`")
+
+
+def control_outcome_of(function, said):
+    """Returns the outcome of a right body in another form by the lines of a check, and reports it if it isn't as without_control says."""
+    verdict, errors = told_of(function, said)
+    failed, is_known = is_refused(function, said)[0], function in without_control()
+    passed = bool(verdict) and not failed
+    if passed and not is_known:
+        return PASSED
+    if failed and is_known:
+        return UNSURE
+    told = "\n    ".join(verdict + errors or said[-3:])
+    wrong = f"is proved in another form, too: its line of {WITHOUT_CONTROL} is stale" if passed else "isn't proved in another form that means the same"
+    print(f"{function} {wrong}\n    {told}", flush=True)
+    return MISSED
+
+
+def try_controls(crate, bodies):
+    """Tries the right bodies of a crate in another form, and returns how many don't have the right outcome."""
+    functions = controls_of(bodies)
+    if not functions:
+        return 0
+    with tempfile.TemporaryDirectory(prefix="wrong-bodies-") as place:
+        said = check(command_for(crate), pathlib.Path(place, crate), list(functions), lambda folder: put_same(folder, functions))
+    outcomes = collections.Counter(control_outcome_of(it, said) for it in functions)
+    told = f"{outcomes[PASSED]} of {len(functions)} functions with proofs by hand are proved in another form, too"
+    print(f"{crate}: {told}{', as the others are known not to be' if outcomes[UNSURE] else ''}", flush=True)
+    return outcomes[MISSED]
+
+
+# ---- all
+
+
 def try_crate(crate, bodies, are_right):
     """Tries the wrong bodies of a crate, or the right ones, in a copy of it, and returns how many don't have the right outcome."""
-    outcomes = collections.Counter()
+    outcomes, unsure = collections.Counter(), []
     with tempfile.TemporaryDirectory(prefix="wrong-bodies-") as place:
         command = command_for(crate)
         for tried in rounds_of(bodies, CRATES / crate):
-            said = check(command, tried, pathlib.Path(place, crate), are_right)
-            if are_right:
-                outcomes.update(right_outcome_of(crate, body, said) for body in tried.bodies)
-            else:
-                outcomes.update(outcome_of(crate, body, said) for body in tried.bodies)
+            functions = [body.refused for body in tried.bodies]
+            said = check(command, pathlib.Path(place, crate), functions, (lambda folder: None) if are_right else tried.put_into)
+            for body in tried.bodies:
+                outcome = (right_outcome_of if are_right else outcome_of)(crate, body, said)
+                outcomes[outcome] += 1
+                unsure += [body.name] if outcome == UNSURE else []
     told = f"{len(bodies) - outcomes[MISSED]} of {len(bodies)}"
-    few = f", {outcomes[BY_A_NAME]} of them only for a name that a proof misses" if outcomes[BY_A_NAME] else ""
+    few = f", {outcomes[BY_A_NAME]} of them for a name alone, and say why" if outcomes[BY_A_NAME] else ""
+    few += f", {len(unsure)} maybe only since the proof by hand doesn't fit: {' '.join(sorted(unsure))}" if unsure else ""
     print(f"{crate}: {told} right bodies pass" if are_right else f"{crate}: {told} wrong bodies are refused{few}", flush=True)
     return outcomes[MISSED]
 
@@ -308,12 +416,12 @@ def size_of(crate):
     return sum(file.stat().st_size for file in files)
 
 
-def try_all(found, are_right):
-    """Tries these wrong bodies, or the right ones, the largest crates first, one for each processor, and returns how many don't have the right outcome."""
+def try_all(found, trials):
+    """Makes trials with the bodies of each crate, the largest crates first, one for each processor, and returns how many don't have the right outcome."""
     crates = sorted(found, key=size_of, reverse=True)
     lanes = int(os.environ.get("RT_JOBS") or len(os.sched_getaffinity(0)))
     with concurrent.futures.ThreadPoolExecutor(lanes) as pool:
-        return sum(pool.map(lambda crate: try_crate(crate, found[crate], are_right), crates))
+        return sum(pool.map(lambda crate: sum(it(crate, found[crate]) for it in trials), crates))
 
 
 def bodies_of(words):
@@ -331,12 +439,28 @@ def bodies_of(words):
 
 
 def fit_all():
-    """Checks that each wrong body fits, and each edit that `rt ci` tries."""
+    """Checks that each wrong body fits, and each edit that `rt ci` tries, and that the functions without control have a wrong body and a proof."""
+    named = set()
     for crate, bodies in bodies_of([]).items():
+        named |= controls_of(bodies).keys()
         for body in bodies:
             body.spans_in(CRATES / crate)
+            if body.same:
+                body.spans_in(CRATES / crate, body.same)
+    if lost := without_control().keys() - named:
+        raise Unfit(f"{WITHOUT_CONTROL}: no wrong body, or no proof by hand, is of {' or '.join(sorted(lost))}")
     for file in CRATES.glob("*/must-fail/*.edit"):
         read_body(file).spans_in(file.parent.parent)
+
+
+def trials_of(words):
+    """Returns the trials that the words name, each a function of a crate and its bodies."""
+    if "--right" in words:
+        return [functools.partial(try_crate, are_right=True)]
+    if "--same" in words:
+        return [try_controls]
+    wrong = functools.partial(try_crate, are_right=False)
+    return [wrong] if "--gate" in words or len(words) > 1 else [wrong, try_controls]
 
 
 def main(words):
@@ -345,10 +469,10 @@ def main(words):
         if words == ["--fit"]:
             fit_all()
             return 0
-        found = bodies_of([word for word in words if word not in ("--gate", "--right")])
+        found = bodies_of([word for word in words if not word.startswith("--")])
         if "--gate" in words:
             found = {crate: [body for body in bodies if not body.is_for_all] for crate, bodies in found.items()}
-        return 1 if try_all(found, "--right" in words) else 0
+        return 1 if try_all(found, trials_of(words)) else 0
     except Unfit as error:
         print(error, file=sys.stderr)
         return 1

@@ -1,5 +1,6 @@
-/* A program that brings the three functions of the heap itself. It refuses each allocation of a short life of three sessions in turn: the call
-   that is refused for that is made again, and nothing is lost. */
+/* A program that brings the three functions of the heap itself. It refuses each allocation of two short lives in turn, of three sessions whose
+   direct calls it makes, and of two with contexts: the call that is refused for that is made again, and nothing is lost. In the end each block is
+   freed: those of a context as soon as it ends, and those of a manager when it is closed. */
 #include "mdl.h"
 
 #include <stdio.h>
@@ -7,6 +8,7 @@
 #include <string.h>
 
 #define NAME(text) (const uint8_t *)(text), strlen(text)
+#define TABLE(name) MDL_TABLE, NAME("shop"), NAME(name)
 
 struct tried {
     bool ok;
@@ -17,6 +19,7 @@ static unsigned allocations; /* that were asked for */
 static unsigned refused;     /* the number of the one that is refused, or 0 */
 static unsigned told;        /* calls that were refused for want of memory */
 static unsigned wrong;       /* calls that ended otherwise than they ought to */
+static unsigned left;        /* contexts that ended, and whose blocks weren't freed then */
 static long blocks;          /* that aren't freed */
 static char nothing;         /* a pointer that isn't null, where there is no block */
 
@@ -63,7 +66,7 @@ void rattle_dealloc(void *p)
         wrong += code != (wanted);      \
     } while (0)
 
-static void live(void)
+static void call_directly(void)
 {
     struct mdl_space space = MDL_SPACE_INIT;
     struct mdl_ticket tickets[4] = {{0}};
@@ -91,17 +94,98 @@ static void live(void)
     EXPECT(MDL_DONE, mdl_close(&space));
 }
 
-int main(void)
+/* The same for a call of a session that has a context: if memory ran out, the context keeps what it kept, and has no wait. */
+#define EXPECT_KEPT(who, wanted, call)                                                                          \
+    do {                                                                                                        \
+        struct mdl_mark before = {0}, after = {0};                                                              \
+        wrong += mdl_savepoint(&space, who, &before) != MDL_DONE;                                               \
+        uint32_t code = (call);                                                                                 \
+        if (code == MDL_NO_MEMORY) {                                                                            \
+            told += 1;                                                                                          \
+            wrong += mdl_savepoint(&space, who, &after) != MDL_DONE || memcmp(&before, &after, sizeof before);  \
+            wrong += mdl_poll(&space, who) != MDL_NO_WAIT;                                                      \
+            code = (call);                                                                                      \
+        }                                                                                                       \
+        wrong += code != (wanted);                                                                              \
+    } while (0)
+
+/* The wait for a stronger mode is over. If memory ran out for it, the ticket is upgraded without a wait. */
+static uint32_t raise_ticket(struct mdl_space *space, uint16_t who, uint64_t ticket, uint8_t mode)
 {
+    uint64_t number = 0;
+    uint32_t code = mdl_resume(space, who, &number);
+    if (code != MDL_NO_MEMORY)
+        return code;
+    told += 1;
+    return mdl_context_upgrade(space, who, ticket, mode, &number);
+}
+
+/* A context begins and ends between other calls: it leaves no block. */
+static void come_and_go(struct mdl_space *space, uint16_t who)
+{
+    uint64_t ticket = 0;
+    long before = blocks;
+    EXPECT(MDL_DONE, mdl_context_begin(space, who));
+    EXPECT(MDL_DONE, mdl_acquire(space, who, TABLE("orders"), MDL_SR, MDL_TRANSACTION, &ticket));
+    EXPECT(MDL_DONE, mdl_context_end(space, who));
+    left += blocks != before;
+}
+
+static void call_in_contexts(void)
+{
+    struct mdl_space space = MDL_SPACE_INIT;
+    struct mdl_mark mark = {0, 0};
+    uint64_t writer = 0, ticket = 0;
+    EXPECT(MDL_DONE, mdl_open(&space, 16, 2));
+    EXPECT(MDL_DONE, mdl_context_begin(&space, 1));
+    EXPECT(MDL_DONE, mdl_context_begin(&space, 2));
+    EXPECT_KEPT(1, MDL_DONE, mdl_acquire(&space, 1, TABLE("orders"), MDL_SU, MDL_TRANSACTION, &writer));
+    EXPECT_KEPT(1, MDL_DONE, mdl_savepoint(&space, 1, &mark));
+    EXPECT_KEPT(1, MDL_DONE, mdl_acquire(&space, 1, TABLE("items"), MDL_SW, MDL_TRANSACTION, &ticket));
+    EXPECT_KEPT(1, MDL_DONE, mdl_acquire(&space, 1, TABLE("items"), MDL_SW, MDL_STATEMENT, &ticket));
+    EXPECT_KEPT(2, MDL_DONE, mdl_acquire(&space, 2, TABLE("orders"), MDL_SR, MDL_TRANSACTION, &ticket));
+    /* The first session waits for a stronger mode. So the second one, which waits for it, is the victim of a deadlock. */
+    EXPECT_KEPT(1, MDL_WAITING, mdl_context_upgrade(&space, 1, writer, MDL_X, &ticket));
+    EXPECT_KEPT(2, MDL_WAITING, mdl_acquire(&space, 2, TABLE("items"), MDL_X, MDL_TRANSACTION, &ticket));
+    EXPECT_KEPT(2, MDL_VICTIM, mdl_resume(&space, 2, &ticket));
+    EXPECT_KEPT(2, MDL_DONE, mdl_end_transaction(&space, 2));
+    EXPECT_KEPT(1, MDL_DONE, raise_ticket(&space, 1, writer, MDL_X));
+    EXPECT_KEPT(1, MDL_DONE, mdl_rollback_to(&space, 1, mark));
+    EXPECT_KEPT(1, MDL_DONE, mdl_end_statement(&space, 1));
+    EXPECT_KEPT(2, MDL_WAITING, mdl_acquire(&space, 2, TABLE("orders"), MDL_SR, MDL_EXPLICIT, &ticket));
+    EXPECT_KEPT(2, MDL_TIMEOUT, mdl_give_up(&space, 2, &ticket));
+    EXPECT_KEPT(2, MDL_WAITING, mdl_acquire(&space, 2, TABLE("orders"), MDL_SR, MDL_EXPLICIT, &ticket));
+    EXPECT_KEPT(1, MDL_DONE, mdl_context_downgrade(&space, 1, writer, MDL_SU));
+    EXPECT_KEPT(2, MDL_DONE, mdl_resume(&space, 2, &ticket));
+    EXPECT_KEPT(1, MDL_WAITING, mdl_context_upgrade(&space, 1, writer, MDL_X, &ticket));
+    /* Both contexts end with a ticket, and the first one with a wait. */
+    EXPECT(MDL_DONE, mdl_context_end(&space, 1));
+    EXPECT(MDL_DONE, mdl_context_end(&space, 2));
+    come_and_go(&space, 1);
+    EXPECT(MDL_DONE, mdl_close(&space));
+}
+
+/* Leads a life, and then once more for each allocation that it takes, which is refused then. */
+static void refuse_each(const char *what, void (*live)(void))
+{
+    refused = 0;
+    allocations = 0;
     live();
-    unsigned whole = allocations;
-    printf("it takes memory: %s\n", whole > 0 ? "yes" : "no");
+    unsigned whole = allocations, before = told;
     for (refused = 1; refused <= whole; refused += 1) {
         allocations = 0;
         live();
     }
-    printf("each refused allocation was told: %s\n", told == whole ? "yes" : "no");
+    printf("%s take memory: %s\n", what, whole > 0 ? "yes" : "no");
+    printf("each refused allocation was told: %s\n", told - before == whole ? "yes" : "no");
+}
+
+int main(void)
+{
+    refuse_each("direct calls", call_directly);
+    refuse_each("contexts", call_in_contexts);
     printf("calls that ended otherwise: %u\n", wrong);
+    printf("contexts that left blocks: %u\n", left);
     printf("blocks that weren't freed: %ld\n", blocks);
     return 0;
 }

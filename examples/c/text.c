@@ -1,5 +1,5 @@
-/* Scripts, bytes in and bytes out: one of statements, from a file, scripts of one lock, and some that are refused. Run it at the top of the repository,
-   or name a script of statements. */
+/* Scripts, bytes in and bytes out: one of statements, from a file, scripts of one lock, some that are refused, and long ones. Run it at the top of the
+   repository, or name a script of statements. */
 #include "mdl_text.h"
 
 #include <stdio.h>
@@ -9,6 +9,7 @@
 #define BYTES(text) (const uint8_t *)(text), strlen(text)
 
 static uint8_t script[65536];
+static char long_line[4098]; /* with the 0 that ends it */
 
 /* Plays a script of statements in as much room as its answers take. */
 static int play(const char *name)
@@ -44,6 +45,47 @@ static void drive(const char *what, uint8_t kind, const char *text)
     fwrite(room, 1, length, stdout);
 }
 
+/* Refuses a script of statements. */
+static void refuse(const char *what, const char *text)
+{
+    size_t length = 0;
+    uint64_t line = 0;
+    uint32_t code = mdl_text_replay(BYTES(text), script, sizeof script, &length, &line);
+    printf("%s: %u, line %u\n", what, code, (unsigned)line);
+}
+
+/* Writes a text as often as it takes to have so many bytes, and returns how many bytes that are. */
+static size_t repeat(const char *text, size_t least, char *to)
+{
+    size_t length = 0;
+    for (; length < least; length += strlen(text))
+        memcpy(to + length, text, strlen(text));
+    return length;
+}
+
+/* Plays a script that has at least so many bytes. */
+static void play_long(size_t least)
+{
+    size_t room = 4 * least + 100, taken = 0, wanted = 0;
+    uint64_t refused = 0;
+    char *text = malloc(room), *answers = malloc(room), *found = malloc(room);
+    if (text == NULL || answers == NULL || found == NULL)
+        return;
+    size_t length = repeat("1 SELECT t\n", least, text);
+    for (unsigned line = 1; line <= length / strlen("1 SELECT t\n"); line += 1)
+        wanted += (size_t)sprintf(answers + wanted, "%u 1 ERR 1146\n", line);
+    uint32_t code = mdl_text_replay((const uint8_t *)text, length, (uint8_t *)found, room, &taken, &refused);
+    printf("%zu bytes of statements: %u, %s\n", length, code, taken == wanted && memcmp(found, answers, wanted) == 0 ? "answered" : "not answered");
+    length = repeat("1 X\n1 RELEASE\n", least, text);
+    wanted = length / strlen("1 X\n1 RELEASE\n") * strlen("1 GRANTED X\n1 RELEASED X\n");
+    repeat("1 GRANTED X\n1 RELEASED X\n", wanted, answers);
+    code = mdl_text_lock(MDL_TEXT_OBJECT, (const uint8_t *)text, length, (uint8_t *)found, room, &taken, &refused);
+    printf("%zu bytes of commands: %u, %s\n", length, code, taken == wanted && memcmp(found, answers, wanted) == 0 ? "answered" : "not answered");
+    free(text);
+    free(answers);
+    free(found);
+}
+
 int main(int count, char **words)
 {
     if (!play(count > 1 ? words[1] : "examples/alter_stops_a_table.replay"))
@@ -53,5 +95,12 @@ int main(int count, char **words)
     drive("there is no session 65", MDL_TEXT_OBJECT, "1 SR\n65 X\n");
     drive("a schema has no SR", MDL_TEXT_SCOPED, "1 SR\n");
     drive("there is no third kind", 2, "");
+    refuse("no table", "1 BEGIN\n1 SELECT\n");
+    refuse("no name", "1 SELECT T\n");
+    refuse("a byte that isn't ASCII", "1 SELECT t\n\n# \xc3\xa9\n");
+    repeat("#", 4097, long_line);
+    refuse("a line of 4097 bytes", long_line);
+    play_long(4097);
+    play_long(1 << 20);
     return 0;
 }

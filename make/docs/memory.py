@@ -5,6 +5,9 @@ such case; or, for a call of `LockSpace`, no cause of a refusal is that; or the 
 the row names a law about what the call does. Each public call whose text says `It takes no memory.` has to have such a row. For a session's call, a row
 for the call of `LockSpace` will do. (The pages of the inner crates say for all their calls at once which take memory.)
 
+The calls of `FRUGAL` below take no memory by the rules of the lock table, whatever their texts and the page say: each has to have such a row. Those of
+`FRUGAL_IN_PART` take none in one case, and the page has to say so. Of the crates in `FRUGAL_CRATES` only some calls may take memory.
+
 Usage, at the top of the repository: python3 make/docs/memory.py < CALLS    (the public calls, a line each: CRATE FILE CALL)
 """
 
@@ -18,6 +21,27 @@ CAUSES = pathlib.Path("crates/mdl_calls/specs/Causes.antt")
 HEAD = "| call | memory |"
 INNER_CRATES = {"mdl_steps", "mdl_visits"}
 
+# What takes no memory. Whoever holds a lock can give it back, also if memory has run out: by a release, a downgrade, a step back to a savepoint, or the
+# end of a statement or transaction. What a later grant needs was taken when its wait began. So a wait can end, be settled, and be asked for, and a
+# session can open and close. Looking at a word of the shared table, or at what a cache has, needs nothing either.
+FRUGAL = """
+    Book::admit Book::cancel Book::remove Book::set_mode Book::can_grant Book::next_grantable Book::needs
+    victim DefCache::look
+    LockSpace::release LockSpace::downgrade LockSpace::end_wait LockSpace::poll_wait LockSpace::settle_timeout LockSpace::kill LockSpace::wait_of
+    Session::open Session::close Session::release_fast Session::reschedule Session::version
+    Context::savepoint Context::release Context::release_name Context::rollback_to Context::end_statement Context::end_transaction
+""".split()
+
+# What takes none in one case, and the words by which the page says so.
+FRUGAL_IN_PART = {
+    "LockSpace::change_definition": "but dropping a definition takes none",
+    "Context::give_up": "may, if the wait was for an upgrade and is granted already",
+    "Session::try_fast": "After `reserve_tickets` they take no memory.",
+}
+
+# The crates whose calls take none, with those of their calls that do: they make a key, which has names.
+FRUGAL_CRATES = {"mdl_key": {"Key::schema", "Key::table", "Key::user_lock"}, "mdl_word": set()}
+
 # The sentence in the text of a call that says that it takes no memory.
 SAYS_NONE = re.compile(r"\b(?:It|This) takes no memory\.")
 
@@ -25,7 +49,7 @@ SAYS_NONE = re.compile(r"\b(?:It|This) takes no memory\.")
 ERROR = re.compile(r"-> Result<[^;{]*?, (\w+)(?:<\w+>)?>(?:\s|$)")
 
 # A clause, and the beginning of one that says exactly when a call is refused, and why.
-CLAUSE = re.compile(r"ensures (\w+) \{ (.*?) \}$", re.MULTILINE)
+CLAUSE = re.compile(r"ensures (?:(\w+) )?\{ (.*?) \}$", re.MULTILINE)
 DECIDES = re.compile(r"RefusesJust |result ≡ |IfErr result \(λ (\w+)\. \(\1 ≡ \w+\)")
 
 
@@ -103,8 +127,12 @@ def with_faults(clause, defined):
 
 def is_ruled_out_by_clause(call, carried_by, defined):
     """Whether a clause that the row names decides all refusals, and none of them says that memory ran out."""
-    named = [clause for name, clause in CLAUSE.findall(call.head) if f"`{name}`" in carried_by]
-    return any(DECIDES.match(it) and "OutOfMemory" not in with_faults(it, defined) for it in named)
+    return any(f"`{name}`" in carried_by and rules_out(clause, defined) for name, clause in CLAUSE.findall(call.head))
+
+
+def rules_out(clause, defined):
+    """Whether a clause decides all refusals, and none of them says that memory ran out."""
+    return DECIDES.match(clause) and "OutOfMemory" not in with_faults(clause, defined)
 
 
 def is_ruled_out_by_law(call, carried_by, defined):
@@ -132,12 +160,33 @@ def wrong_row(name, carried_by, call, defined, known):
     return "by its contract it may be refused for want of memory, or its row doesn't name the clause or the law by which it may not"
 
 
+def wrong_by_the_rules(public, calls, said, known, defined):
+    """Returns each call that takes no memory by the rules, of which the page or the contract says something else, with that."""
+    page = PAGE.read_text()
+    for name in FRUGAL:
+        if name not in calls:
+            yield name, "by the rules it takes no memory, and there is no such public call"
+        elif said.get(name) != "none":
+            yield name, f"by the rules it takes no memory, and the table says: {said.get(name, 'nothing')}"
+    for name, words in FRUGAL_IN_PART.items():
+        if words not in said.get(name, page):
+            yield name, f"by the rules it takes no memory in one case, and the page doesn't say: {words}"
+    for crate, _, name in public:
+        error = ERROR.search(calls[name].head)
+        if crate in FRUGAL_CRATES and name not in FRUGAL_CRATES[crate] and error and may_be_for_memory(error[1], known):
+            if not any(rules_out(clause, defined) for _, clause in CLAUSE.findall(calls[name].head)):
+                yield name, "by the rules it takes no memory, and by its contract it may be refused for want of it"
+
+
 def main():
     """Checks the table, and prints what is wrong."""
     public = [it.split() for it in sys.stdin]
     calls = {name: call_of(file, name.rpartition("::")[2]) for _, file, name in public}
     frugal = {name: carried_by for name, memory, carried_by in rows() if memory == "none"}
+    said = {name: memory for name, memory, _ in rows()}
     defined, known = definitions(), errors()
+    for name, wrong in wrong_by_the_rules(public, calls, said, known, defined):
+        print(f"{PAGE}, table of memory, {name}: {wrong}")
     for name, carried_by in frugal.items():
         wrong = wrong_row(name, carried_by, calls.get(name), defined, known)
         if wrong:

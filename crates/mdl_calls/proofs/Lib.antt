@@ -1,4 +1,5 @@
 pub mod CacheLemmas
+pub mod CachedRuns
 pub mod FaithfulLemmas
 pub mod MappedLists
 pub mod OwnLemmas

@@ -92,3 +92,8 @@ takes_memory (Kill _ _) = false
 takes_memory (Unpin _ _) = false
 takes_memory (Change_definition _ _ change) = change_takes_memory change
 takes_memory _ = true
+
+-- whether a call reads with its session's cache
+abbrev pub reads_with_cache : Call → Bool
+reads_with_cache (Read_kept _ _) = true
+reads_with_cache _ = false

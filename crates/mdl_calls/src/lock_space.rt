@@ -4,6 +4,7 @@ ghost use Rattle.std.specs.Option.{IfSome};
 ghost use Rattle.mdl_key.specs.Words.{KeyName, same_mode};
 ghost use Rattle.mdl_key.specs.declared.mode.Mode.{Mode};
 ghost use Rattle.mdl_key.specs.declared.mode.Mode.TheVariants.{X};
+ghost use Rattle.mdl_defs.specs.Caches.{CacheView};
 ghost use Rattle.mdl_defs.specs.declared.change.Change.{Change};
 ghost use Rattle.mdl_defs.specs.declared.definition.Definition.{Definition};
 ghost use Rattle.mdl_defs.specs.declared.standing.Standing.{Standing};
@@ -66,6 +67,9 @@ pub trait LockSpace {
 
     // A call with this answer takes the first space to the second.
     ghost joins: { Self → Call → Answer → Self → Type 0 };
+
+    // A session's read under a ticket, with this answer, takes the first cache to the second, and the first space to the second.
+    ghost uses_cache: { Self → ℕ → ℕ → Answer → CacheView → CacheView → Self → Type 0 };
 
     /// Returns the place of a key, which keeps that place. A new key takes the next free one.
     fn resolve(&mut self, who: u16, key: &Key) -> Result<Place, SpaceError>
@@ -180,6 +184,7 @@ pub trait LockSpace {
         requires speaks { speaks_for self.old who }
         requires met { AreMet (has_met self.old who) cache.old.kept }
         ensures joined { joins self.old (Read_kept who id) (read result) self.new }
+        ensures used { uses_cache self.old who id (read result) cache.old cache.new self.new }
         ensures met { AreMet (has_met self.new who) cache.new.kept }
         ensures capacity { cache.new.capacity ≡ cache.old.capacity };
 

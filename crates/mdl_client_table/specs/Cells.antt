@@ -3,15 +3,17 @@
 use Rattle.std.specs.Prelude.{ℕ, Bool, true, false, not, ◌&&◌, ◌||◌, ◌==◌, List, [], ◌∷◌, ◌++◌, length, map, fold, if◌then◌else◌}
 use Rattle.std.specs.List.{slice_split}
 use Rattle.mdl_client_table.specs.declared.form.Form.{Form}
-use Rattle.mdl_client_table.specs.declared.form.Form.TheVariants.{Boxes, Commas, Tabs, Vertical}
+use Rattle.mdl_client_table.specs.declared.form.Form.TheVariants.{Boxes}
 use Rattle.mdl_client_table.specs.Boxes.{begins_box_row, begins_cell, between_bars, box_value, ends_box_row, ends_cell}
 use Rattle.mdl_client_table.specs.Commas.{comma_value, is_quote_open}
+use Rattle.mdl_client_table.specs.Json.{JsonText}
 use Rattle.mdl_client_table.specs.Tables.{RowText, TableText, changed_last, continued_table, first_field, no_table, with_fields, with_row}
 
--- a table while it is read: whether its last row goes on in the next line
+-- a table while it is read: whether its last row goes on in the next line, and what was read of JSON
 pub record ReadingText : Type 0 where
   pub table : TableText
   pub is_open : Bool
+  pub json : JsonText
 
 -- ---- lines to rows, each of which has its text as its one field
 
@@ -28,8 +30,8 @@ goes_on _ was line = is_quote_open was line
 -- a table with one more line. Lines that neither continue a row nor begin one aren't of the table
 abbrev pub with_raw_line : Form → ℕ → List ℕ → ReadingText → ReadingText
 with_raw_line form number line reading =
-    if reading.is_open then record { table = continued_table line reading.table; is_open = goes_on form true line }
-    else (if begins_row_of form line then record { table = with_row number (line ∷ []) reading.table; is_open = goes_on form false line } else reading)
+    if reading.is_open then record reading { table = continued_table line reading.table; is_open = goes_on form true line }
+    else (if begins_row_of form line then record reading { table = with_row number (line ∷ []) reading.table; is_open = goes_on form false line } else reading)
 
 -- ---- parts to cells
 

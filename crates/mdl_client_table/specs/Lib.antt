@@ -3,6 +3,8 @@ pub mod Cells
 pub mod Commas
 pub mod Escapes
 pub mod Forms
+pub mod Json
+pub mod Objects
 pub mod Tables
 pub mod Tabs
 pub mod Vertical

@@ -1,6 +1,8 @@
 //! Fields of rows.
-ghost use Rattle.std.specs.Prelude.{◌≡◌, ◌++◌, ◌∷◌, IfOk, OnOk};
+ghost use Rattle.std.specs.Prelude.{◌≡◌, ◌++◌, ◌∷◌, IfOk, OnOk, map, position};
+ghost use Rattle.std.specs.List.{list_any};
 ghost use Rattle.mdl_client_table.specs.Boxes.{trimmed};
+ghost use Rattle.mdl_client_table.specs.Objects.{is_same_key, value_under};
 ghost use Rattle.mdl_client_table.specs.Tables.{value_of};
 
 use crate::pieces::trimmed;
@@ -70,4 +72,49 @@ impl Field {
         self.bytes.extend_from_slice(bytes)?;
         Ok(())
     }
+}
+
+/// Whether a key is among these.
+pub(crate) fn has_key(keys: &[Field], key: &[u8]) -> bool
+    ensures { result ≡ list_any (is_same_key key.now) keys.now }
+{
+    keys.iter()
+        .any(|other| other.as_slice().eq_ignore_ascii_case(key))
+}
+
+/// Returns the values under these names, of the values of keys.
+pub(crate) fn values_under(
+    alloc: Global,
+    keys: &[Field],
+    values: &[Field],
+    names: &[Field],
+) -> Result<Vec<Field>, AllocError>
+    ensures { IfOk result (λ fields. fields.items ≡ map (value_under keys.now values.now) names.now) }
+{
+    let mut fields = Vec::with_capacity(alloc, names.len())?;
+    for name in names {
+        fields.push(Field::copied(alloc, value_under(keys, values, name.as_slice()))?)?;
+    }
+    Ok(fields)
+}
+
+// Returns the value under a key.
+fn value_under<'a>(keys: &[Field], values: &'a [Field], key: &[u8]) -> &'a [u8]
+    ensures { result.now ≡ value_under keys.now values.now key.now }
+{
+    match place_of(keys, key) {
+        Some(place) => match values.get(place) {
+            Some(value) => value.as_slice(),
+            None => &[],
+        },
+        None => &[],
+    }
+}
+
+// Returns the index of a key.
+fn place_of(keys: &[Field], key: &[u8]) -> Option<usize>
+    ensures { result ≡ position (is_same_key key.now) keys.now }
+{
+    keys.iter()
+        .position(|other| other.as_slice().eq_ignore_ascii_case(key))
 }

@@ -1,7 +1,7 @@
 //! Tables, as a client of a MySQL server prints them.
 //!
-//! [`read_table`] reads what `mysql` prints with `-B`, `-t` or `-E`, or CSV, and returns a [`Table`]: the names of the columns, and the [`Row`]s, each
-//! with the number of its line. The [`Form`] is that which the text begins with.
+//! [`read_table`] reads what `mysql` prints with `-B`, `-t` or `-E`, or CSV, or JSON, and returns a [`Table`]: the names of the columns, and the [`Row`]s,
+//! each with the number of its line. The [`Form`] is that which the text begins with. Only text in JSON may be refused, with a [`TableError`].
 //!
 //! # Example
 //!
@@ -28,8 +28,12 @@ mod commas;
 mod escapes;
 mod field;
 mod form;
+mod json_cell;
+mod json_error;
+mod json_reading;
 mod laws;
 mod lines;
+mod objects;
 mod pieces;
 mod row;
 mod table;
@@ -37,6 +41,7 @@ mod vertical;
 
 pub use field::Field;
 pub use form::Form;
+pub use json_error::{JsonError, JsonFault, TableError};
 pub use laws::names_come_back;
 pub use lines::read_table;
 pub use row::Row;

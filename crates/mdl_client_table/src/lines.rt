@@ -1,13 +1,15 @@
 //! Reading of a text.
-ghost use Rattle.std.specs.Prelude.{◌≡◌, ◌∷◌, [], IfOk, OnOk};
+ghost use Rattle.std.specs.Prelude.{◌≡◌, ◌∷◌, [], Ok, IfOk, IfErr, OnOk};
 ghost use Rattle.mdl_lines.specs.Words.{lines_of};
 ghost use Rattle.mdl_client_table.specs.Cells.{begins_row_of, goes_on, split_rows, with_raw_line};
-ghost use Rattle.mdl_client_table.specs.Forms.{nothing_read, table_from, table_in, table_of, with_line, with_lines, without_mark};
+ghost use Rattle.mdl_client_table.specs.Forms.{IsTableFault, json_table, nothing_read, table_from, table_in, table_of, with_line, with_lines, without_mark};
 
 use crate::cells::fields_in;
 use crate::commas::is_quote_open;
 use crate::field::Field;
 use crate::form::Form;
+use crate::json_error::TableError;
+use crate::json_reading::Json;
 use crate::row::Row;
 use crate::table::Table;
 use mdl_lines::strip_carriage_return;
@@ -19,6 +21,7 @@ use std::marker::Model;
 struct Reading {
     table: Table,
     is_open: bool,
+    json: Json,
 }
 
 impl Model for Reading {
@@ -26,12 +29,13 @@ impl Model for Reading {
 
     ghost Value = { ReadingText };
 
-    ghost view = { λ reading. record { table = reading.table; is_open = reading.is_open } };
+    ghost view = { λ reading. record { table = reading.table; is_open = reading.is_open; json = reading.json } };
 }
 
-/// Reads a printed table. Any text is one; a text without a header has no rows.
-pub fn read_table(alloc: Global, text: &[u8]) -> Result<Table, AllocError>
-    ensures { IfOk result (λ table. table ≡ table_of text.now) }
+/// Reads a printed table. Any text is one, unless it is in JSON; a text without a header has no rows.
+pub fn read_table(alloc: Global, text: &[u8]) -> Result<Table, TableError>
+    ensures read { IfOk result (λ table. table_of text.now ≡ Ok table) }
+    ensures refused { IfErr result (IsTableFault (table_of text.now)) }
 {
     let text = without_mark(text);
     read_form(alloc, Form::of(text), text)
@@ -48,11 +52,12 @@ fn without_mark(text: &[u8]) -> &[u8]
 }
 
 // Reads a table of this form.
-fn read_form(alloc: Global, form: Form, text: &[u8]) -> Result<Table, AllocError>
-    ensures { IfOk result (λ table. table ≡ table_in form text.now) }
+fn read_form(alloc: Global, form: Form, text: &[u8]) -> Result<Table, TableError>
+    ensures read { IfOk result (λ table. table_in form text.now ≡ Ok table) }
+    ensures refused { IfErr result (IsTableFault (table_in form text.now)) }
 {
     let reading = read_lines(alloc, form, text)?;
-    table_from(alloc, form, reading.table)
+    table_from(alloc, form, reading)
 }
 
 // Reads the lines of a table of this form.
@@ -62,6 +67,7 @@ fn read_lines(alloc: Global, form: Form, text: &[u8]) -> Result<Reading, AllocEr
     let mut reading = Reading {
         table: Table::new(alloc),
         is_open: false,
+        json: Json::new(alloc),
     };
     let mut number = 0;
     for line in text.split(|byte| *byte == b'\n') {
@@ -72,12 +78,17 @@ fn read_lines(alloc: Global, form: Form, text: &[u8]) -> Result<Reading, AllocEr
 }
 
 // Returns the table of what was read.
-fn table_from(alloc: Global, form: Form, table: Table) -> Result<Table, AllocError>
-    ensures { IfOk result (λ all. all ≡ table_from form table) }
+fn table_from(alloc: Global, form: Form, reading: Reading) -> Result<Table, TableError>
+    ensures read { IfOk result (λ table. table_from form reading ≡ Ok table) }
+    ensures refused { IfErr result (IsTableFault (table_from form reading)) }
 {
     match form {
-        Form::Tabs | Form::Vertical => Ok(table),
-        Form::Boxes | Form::Commas => split_rows(alloc, form, table.rows()),
+        Form::Tabs | Form::Vertical => Ok(reading.table),
+        Form::Boxes | Form::Commas => Ok(split_rows(alloc, form, reading.table.rows())?),
+        Form::Json => match reading.json.finish() {
+            Ok(table) => Ok(table),
+            Err(fault) => Err(TableError::Json(fault)),
+        },
     }
 }
 
@@ -108,6 +119,7 @@ impl Reading {
             Form::Tabs => self.table.add_tab_line(alloc, number, line),
             Form::Vertical => self.table.add_vertical_line(alloc, number, line),
             Form::Boxes | Form::Commas => self.add_raw_line(alloc, form, number, line),
+            Form::Json => self.json.add_line(alloc, number, line),
         }
     }
 

@@ -1,10 +1,11 @@
 //! Tables, line by line.
 ghost use Rattle.std.specs.Prelude.{◌≡◌, OnOk};
+ghost use Rattle.mdl_client_table.specs.Objects.{with_object};
 ghost use Rattle.mdl_client_table.specs.Tables.{changed_last, continued_row, continued_table, no_table, with_fields, with_row};
 ghost use Rattle.mdl_client_table.specs.Tabs.{with_tab_line};
 ghost use Rattle.mdl_client_table.specs.Vertical.{last_count, with_value, with_value_line, with_vertical_line};
 
-use crate::field::Field;
+use crate::field::{Field, values_under};
 use crate::pieces::tab_fields;
 use crate::row::Row;
 use crate::vertical::{begins_row, is_field_line, label_of};
@@ -84,6 +85,24 @@ impl Table {
     {
         self.rows.push(Row::new(number, fields))?;
         Ok(())
+    }
+
+    /// Adds a row, whose object has these keys and values.
+    pub(crate) fn add_object(
+        &mut self,
+        alloc: Global,
+        line: u64,
+        keys: Vec<Field>,
+        values: Vec<Field>,
+    ) -> Result<(), AllocError>
+        ensures { OnOk result (self.new ≡ with_object line keys.items values.items self.old) }
+    {
+        if self.rows.is_empty() {
+            self.names = keys;
+            return self.add_row(line, values);
+        }
+        let fields = values_under(alloc, &keys, &values, &self.names)?;
+        self.add_row(line, fields)
     }
 
     /// Adds a line of a vertical table.

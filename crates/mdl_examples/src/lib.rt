@@ -33,3 +33,5 @@ mod syntax;
 mod system;
 #[cfg(test)]
 mod word;
+#[cfg(test)]
+mod words;

@@ -3,15 +3,19 @@
 //! Each life is a sequence of public calls. If a call runs out of memory, the life checks that nothing has changed, and makes the call again. So
 //! it passes even if any one of its allocations is refused. The number on the command line selects that one: the program makes this number of
 //! allocations before the lives. So the allocation that is refused by its number in the whole run comes by as much earlier in the lives.
+//! After the lives the program makes more allocations, until one is refused. It prints where the refused one was, and so how many the lives make.
 #![tactic(auto)]
 
 mod acts;
 mod alike;
 mod contexts;
+mod core_pair;
+mod outcomes;
 mod passes;
 mod scenes;
 mod scripts;
 mod server_rows;
+mod session_pair;
 mod sessions;
 mod statements;
 
@@ -19,11 +23,15 @@ use std::alloc::Global;
 use std::process::ExitCode;
 use std::sync::Wait;
 
+// How many allocations the program makes at most after the lives.
+const MOST_AFTER: usize = 20_000;
+
 fn main(rt: HostRuntime) -> ExitCode {
-    spend(rt.alloc(), lead_of(&rt));
+    let before = spend(rt.alloc(), lead_of(&rt));
     match first_wrong(&rt, rt.alloc()) {
         None => {
             let _ = println!(rt; "all went well");
+            show_refused(&rt, before, spend(rt.alloc(), MOST_AFTER));
             ExitCode::SUCCESS
         }
         Some(life) => {
@@ -31,6 +39,15 @@ fn main(rt: HostRuntime) -> ExitCode {
             ExitCode::FAILURE
         }
     }
+}
+
+// Prints whether the refused allocation was before the lives or after them, and which one there.
+fn show_refused(rt: &HostRuntime, before: Option<usize>, after: Option<usize>) {
+    let _ = match (before, after) {
+        (Some(at), _) => println!(rt; "refused before the lives: {at}"),
+        (None, Some(at)) => println!(rt; "refused after the lives: {at}"),
+        (None, None) => println!(rt; "not refused before or after the lives"),
+    };
 }
 
 // Returns the number on the command line, or 0 if there is none.
@@ -45,12 +62,15 @@ fn lead_of(rt: &HostRuntime) -> usize {
     lead
 }
 
-// Makes `count` allocations, one of which may be refused.
-fn spend(alloc: Global, count: usize) {
-    for _ in 0..count {
+// Makes up to `count` allocations, until one is refused. Returns which one that is, counted from 1.
+fn spend(alloc: Global, count: usize) -> Option<usize> {
+    for made in 0..count {
         let mut bytes = Vec::new(alloc);
-        let _ = bytes.push(0u8);
+        if bytes.push(0u8).is_err() {
+            return Some(made.saturating_add(1));
+        }
     }
+    None
 }
 
 // Returns the first life that goes wrong.
@@ -66,6 +86,6 @@ fn first_wrong<R: Wait>(rt: &R, alloc: Global) -> Option<&'static str> {
     }
     match scripts::first_wrong(alloc) {
         Some(script) => Some(script),
-        None => scenes::first_wrong(alloc),
+        None => scenes::first_wrong(rt, alloc),
     }
 }

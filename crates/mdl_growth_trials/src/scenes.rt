@@ -1,6 +1,8 @@
 //! Scenes of statements: transactions, changes of tables and of schemas, locked tables, the global read lock, and user-level locks.
-use crate::statements::{Outcome, Row, Scene, goes_well};
+use crate::outcomes::Outcome;
+use crate::statements::{Row, Scene, goes_well};
 use std::alloc::Global;
+use std::sync::Wait;
 
 // Transactions with savepoints, of which one is waited for, and tables that are dropped and renamed.
 const TRANSACTIONS: &[Row<'static>] = &[
@@ -191,9 +193,9 @@ const SCENES: &[(&str, Scene<'static>)] = &[
 ];
 
 /// Returns the first scene that goes wrong.
-pub(crate) fn first_wrong(alloc: Global) -> Option<&'static str> {
+pub(crate) fn first_wrong<R: Wait>(rt: &R, alloc: Global) -> Option<&'static str> {
     for (name, scene) in SCENES {
-        if !goes_well(alloc, *scene) {
+        if !goes_well(rt, alloc, *scene) {
             return Some(*name);
         }
     }

@@ -1,5 +1,5 @@
 -- How a script is cut into lines, and a line into words. The script language is this project's own.
-use Rattle.std.specs.Prelude.{ℕ, Bool, not, ◌||◌, ◌==◌, nat_eq, List, [], ◌∷◌, map, filter, length, Option, Some, None}
+use Rattle.std.specs.Prelude.{ℕ, ◌-◌, Bool, not, ◌||◌, ◌==◌, nat_eq, List, [], ◌∷◌, map, filter, get_or, length, Option, Some, None}
 use Rattle.std.specs.List.{slice_split}
 use Rattle.std.specs.Str.Lines.{strip_carriage_return}
 use lib.Pointwise.{pointwise}
@@ -8,6 +8,13 @@ use lib.Pointwise.{pointwise}
 -- last line feed is a line too, which says nothing if it is empty
 abbrev pub lines_of : List ℕ → List (List ℕ)
 lines_of text = map strip_carriage_return (slice_split (λ byte. byte == 10) text)
+
+-- the line of this number, counted from 1, of these lines, and of a text. It is empty if there is none
+abbrev pub line_in : List (List ℕ) → ℕ → List ℕ
+line_in lines number = get_or lines (number - 1) []
+
+abbrev pub line_at : List ℕ → ℕ → List ℕ
+line_at text number = line_in (lines_of text) number
 
 -- whether a byte is a space or a tab
 abbrev pub is_blank : ℕ → Bool

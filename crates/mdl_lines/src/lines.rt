@@ -1,16 +1,34 @@
 //! What a line of a script contains.
-ghost use Rattle.std.specs.Prelude.{◌≡◌, ℕ, List, [], ◌∷◌, MatchOption};
+ghost use Rattle.std.specs.Prelude.{◌≡◌, ℕ, List, [], ◌∷◌, IfOk, MatchOption, map};
 ghost use Rattle.std.specs.Option.{option_map};
 ghost use Rattle.std.specs.Str.Lines.{strip_carriage_return};
-ghost use Rattle.mdl_lines.specs.Lines.{is_blank, words_of, only};
+ghost use Rattle.mdl_lines.specs.Lines.{is_blank, line_in, lines_of, words_of, only};
 ghost use Rattle.mdl_lines.specs.ScriptLines.{is_comment};
 ghost use Rattle.mdl_lines.specs.Sessions.{session_of};
 
 use crate::fault::LineError;
 use mdl_key::MOST_SESSIONS;
+use std::alloc::{AllocError, Global};
 
 // The longest line, in bytes.
 const LONGEST_LINE: usize = 4096;
+
+/// Cuts a text at its line feeds. A carriage return at the end of a line is not part of it.
+pub fn lines_of(alloc: Global, text: &[u8]) -> Result<Vec<&[u8]>, AllocError>
+    ensures { IfOk result (λ lines. map (λ line. line.now) lines.items ≡ lines_of text.now) }
+{
+    text.split(|byte| *byte == b'\n')
+        .map(|line| strip_carriage_return(line))
+        .collect(alloc)
+}
+
+/// Returns the line of this number, counted from 1, or an empty line if there is none.
+pub fn line_at<'t>(lines: &[&'t [u8]], number: u64) -> &'t [u8]
+    ensures { result.now ≡ line_in (map (λ line. line.now) lines.now) number }
+{
+    let place = number.saturating_sub(1) as usize;
+    lines.get(place).copied().unwrap_or(&[])
+}
 
 /// Returns a line without the carriage return at its end.
 pub fn strip_carriage_return(line: &[u8]) -> &[u8]

@@ -1,13 +1,16 @@
 -- The columns that are read of `performance_schema.metadata_locks` and of the tables that it is joined with, after MySQL 5.7:
 -- storage/perfschema/table_md_locks.cc, table_threads.cc, and `trx_started` of information_schema.INNODB_TRX. That the first six are needed, and
 -- that the others have a second name, is this project's own choice.
-use Rattle.std.specs.Prelude.{ℕ, Bool, ◌||◌, List, length, codes, Option, Result, Ok, Err, position, ok_or, unwrap_or, slice_get, []}
+use Rattle.std.specs.Prelude.{ℕ, Bool, ◌||◌, ◌&&◌, List, length, codes, if◌then◌else◌, Option, None, Some, Result, Ok, Err, position, ok_or, unwrap_or, slice_get, []}
+use Rattle.std.specs.List.{list_any}
 use Rattle.std.specs.Option.{option_map_or}
 use Rattle.std.specs.Str.{str_eq_ignore_ascii_case}
 use Rattle.mdl_client_table.specs.Words.{RowText, trimmed}
 use Rattle.mdl_lock_rows.specs.declared.column.Column.{Column}
 use Rattle.mdl_lock_rows.specs.declared.column.Column.TheVariants.{ObjectType, ObjectSchema, ObjectName, LockType, LockDuration, LockStatus, OwnerThreadId, ProcesslistId, User, Host, Command, Time, Info, TrxStarted}
 use Rattle.mdl_lock_rows.specs.declared.columns.Columns.{Columns}
+use Rattle.mdl_lock_rows.specs.declared.other_table.OtherTable.{OtherTable}
+use Rattle.mdl_lock_rows.specs.declared.other_table.OtherTable.TheVariants.{InnodbTrx, Processlist, SchemaTableLockWaits}
 
 -- a column's name
 abbrev pub column_name : Column → List ℕ
@@ -46,6 +49,21 @@ place_of names column = position (is_name_of column) names
 -- the index of a column that is needed
 abbrev pub needed : List (List ℕ) → Column → Result ℕ Column
 needed names column = ok_or (place_of names column) column
+
+-- whether a name of the header is this one. Neither the case of letters counts nor blanks at the ends
+abbrev pub is_called : List ℕ → List ℕ → Bool
+is_called name other = str_eq_ignore_ascii_case (trimmed other) name
+
+-- whether a header has a name
+abbrev pub has_name : List (List ℕ) → List ℕ → Bool
+has_name names name = list_any (is_called name) names
+
+-- the table with these columns that may be taken for that of the metadata locks: by what no other table of the server has, or few have together
+abbrev pub other_table : List (List ℕ) → Option OtherTable
+other_table names =
+    if has_name names (codes "waiting_thread_id") then Some SchemaTableLockWaits
+    else (if has_name names (codes "trx_state") then Some InnodbTrx
+    else (if has_name names (codes "Id") && has_name names (codes "Command") then Some Processlist else None))
 
 -- the result of a second step after a first one that may be refused
 abbrev pub and_then : {A B E : Type 0} → Result A E → (A → Result B E) → Result B E

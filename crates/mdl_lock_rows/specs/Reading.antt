@@ -1,18 +1,22 @@
 -- What the rows of a text say.
 use Rattle.std.specs.Prelude.{◌≡◌, ℕ, ◌==◌, List, [], ◌∷◌, length, Option, Some, None, Result, Ok, Err, ⊤, filter_map, if◌then◌else◌}
+use Rattle.mdl_client_table.specs.declared.json_error.JsonFault.{JsonFault}
+use Rattle.mdl_client_table.specs.declared.json_error.TableError.{TableError}
+use Rattle.mdl_client_table.specs.declared.json_error.TableError.TheVariants as fault
 use Rattle.mdl_client_table.specs.Words.{RowText, TableText, table_of}
 use Rattle.mdl_lock_rows.specs.declared.column.Column.{Column}
 use Rattle.mdl_lock_rows.specs.declared.columns.Columns.{Columns}
 use Rattle.mdl_lock_rows.specs.declared.no_row.NoRow.{NoRow}
 use Rattle.mdl_lock_rows.specs.declared.no_row.NoRow.TheVariants as none
+use Rattle.mdl_lock_rows.specs.declared.other_table.OtherTable.{OtherTable}
 use Rattle.mdl_lock_rows.specs.declared.row.Line.{Line}
 use Rattle.mdl_lock_rows.specs.declared.row.Line.TheVariants.{Kept, LeftOut}
 use Rattle.mdl_lock_rows.specs.declared.row.OtherRow.{OtherRow}
 use Rattle.mdl_lock_rows.specs.declared.row.Row.{Row}
 use Rattle.mdl_lock_rows.specs.declared.row_error.LockRowsError.{LockRowsError}
-use Rattle.mdl_lock_rows.specs.declared.row_error.LockRowsError.TheVariants.{NoColumn, NoRows, OutOfMemory, Refused}
+use Rattle.mdl_lock_rows.specs.declared.row_error.LockRowsError.TheVariants.{Json, NoColumn, NoRows, NotLocks, OutOfMemory, Refused}
 use Rattle.mdl_lock_rows.specs.declared.row_error.RowError.{RowError}
-use Rattle.mdl_lock_rows.specs.Columns.{columns_of}
+use Rattle.mdl_lock_rows.specs.Columns.{columns_of, other_table}
 use Rattle.mdl_lock_rows.specs.Lines.{row_says}
 
 -- a row, if it is kept
@@ -48,18 +52,35 @@ rows_say columns (row ∷ rows) = said_before row.line (row_says columns row) (r
 abbrev pub some_say : Columns → List RowText → Result (List Line) LockRowsError
 some_say columns rows = if length rows == 0 then Err NoRows else rows_say columns rows
 
--- what rows below this header say
-abbrev pub said_below : Result Columns Column → List RowText → Result (List Line) LockRowsError
-said_below (Err column) rows = Err (NoColumn column)
-said_below (Ok columns) rows = some_say columns rows
+-- why a table of these columns is refused, which lacks a needed one
+abbrev pub lacking : List (List ℕ) → Column → LockRowsError
+lacking names column = by (other_table names) where
+  by : Option OtherTable → LockRowsError
+  by None = NoColumn column
+  by (Some table) = NotLocks table
+
+-- what rows below a header with these names say
+abbrev pub said_below : List (List ℕ) → Result Columns Column → List RowText → Result (List Line) LockRowsError
+said_below names (Err column) rows = Err (lacking names column)
+said_below names (Ok columns) rows = some_say columns rows
 
 -- what the rows of a table say. A table without a header has no rows
 abbrev pub table_says : TableText → Result (List Line) LockRowsError
-table_says table = if length table.names == 0 then Err NoRows else said_below (columns_of table.names) table.rows
+table_says table = if length table.names == 0 then Err NoRows else said_below table.names (columns_of table.names) table.rows
+
+-- the refusal of a text that isn't read as a table
+abbrev pub refusal_of : TableError → LockRowsError
+refusal_of (fault.Json at) = Json at
+refusal_of fault.OutOfMemory = OutOfMemory
+
+-- what the rows of a table say that was read, or why it wasn't
+abbrev pub said_by : Result TableText JsonFault → Result (List Line) LockRowsError
+said_by (Ok table) = table_says table
+said_by (Err at) = Err (refusal_of (fault.Json at))
 
 -- what the rows of a text say, or why it is refused
 abbrev pub lines_read : List ℕ → Result (List Line) LockRowsError
-lines_read text = table_says (table_of text)
+lines_read text = said_by (table_of text)
 
 -- what is made of the rows of a text, unless it is refused
 abbrev pub made_of : {A : Type 0} → (List Line → A) → Result (List Line) LockRowsError → Result A LockRowsError
@@ -77,4 +98,6 @@ abbrev pub IsRefusalOf : {A : Type 0} → Result A LockRowsError → LockRowsErr
 IsRefusalOf said OutOfMemory = ⊤
 IsRefusalOf said NoRows = said ≡ Err NoRows
 IsRefusalOf said (NoColumn column) = said ≡ Err (NoColumn column)
+IsRefusalOf said (NotLocks table) = said ≡ Err (NotLocks table)
+IsRefusalOf said (Json at) = said ≡ Err (Json at)
 IsRefusalOf said (Refused number error) = said ≡ Err (Refused number error)

@@ -1,6 +1,6 @@
 //! The rows of a server's metadata locks, read from what its client prints.
 //!
-//! [`read_lock_rows`] reads the rows of `performance_schema.metadata_locks`, as `mysql` prints them with `-B`, `-t` or `-E`, and returns
+//! [`read_lock_rows`] reads the rows of `performance_schema.metadata_locks`, as clients print them, and returns
 //! [`LockRows`]: a [`Lock`](mdl_view::Lock) with its tickets for each locked key ([`LockKey`]), the threads that hold locks or wait for them
 //! ([`Owner`]), and which rows are [`LeftOut`]. It refuses a text with a [`LockRowsError`].
 //!
@@ -64,6 +64,7 @@ mod locks;
 mod no_row;
 mod numbering;
 mod object_type;
+mod other_table;
 mod owner;
 mod read_rows;
 mod row;
@@ -76,6 +77,7 @@ pub use laws::no_row_is_lost;
 pub use lock_key::LockKey;
 pub use lock_rows::{LockRows, read_lock_rows};
 pub use object_type::ObjectType;
+pub use other_table::OtherTable;
 pub use owner::Owner;
 pub use row_class::{LeftOut, RowClass};
 pub use row_error::{LockRowsError, RowError};

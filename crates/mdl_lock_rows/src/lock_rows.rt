@@ -30,7 +30,7 @@ pub struct LockRows {
 }
 
 /// Reads the rows of `performance_schema.metadata_locks`, alone or joined with what `mdlview query` names, as a client prints them: with tabs, in
-/// boxes or a line for each field. The columns are in any order. A row is left out and counted if its OBJECT_TYPE isn't that of an
+/// boxes, a line for each field, CSV or JSON. The columns are in any order. A row is left out and counted if its OBJECT_TYPE isn't that of an
 /// [`ObjectType`](crate::ObjectType), or its LOCK_TYPE is no mode that the object type's locks use. The rows don't show in which order threads
 /// began to wait. The order of the rows is taken for it.
 pub fn read_lock_rows(alloc: Global, text: &[u8]) -> Result<LockRows, LockRowsError>

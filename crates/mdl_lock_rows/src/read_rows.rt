@@ -1,14 +1,16 @@
 //! Reading of a table.
 ghost use Rattle.std.specs.Prelude.{◌≡◌, ◌++◌, ◌∷◌, [], List, Ok, IfOk, IfErr, OnOk};
-ghost use Rattle.mdl_lock_rows.specs.Reading.{IsRefusalOf, lines_read, others_in, rows_in, rows_say, some_say, table_says};
+ghost use Rattle.mdl_lock_rows.specs.Reading.{IsRefusalOf, lacking, lines_read, others_in, rows_in, rows_say, some_say, table_says};
 ghost use Rattle.mdl_lock_rows.specs.declared.row.Line.{Line};
 
+use crate::column::Column;
 use crate::columns::{Columns, columns_of};
 use crate::lines::row_says;
 use crate::no_row::NoRow;
+use crate::other_table::other_table;
 use crate::row::{Line, OtherRow, Row};
 use crate::row_error::LockRowsError;
-use mdl_client_table::{Row as TextRow, Table, read_table};
+use mdl_client_table::{Field, Row as TextRow, Table, read_table};
 use std::alloc::{AllocError, Global};
 
 /// The rows of a text, and those that are left out.
@@ -39,7 +41,17 @@ fn read_found(alloc: Global, table: &Table) -> Result<Found, LockRowsError>
     }
     match columns_of(table.names()) {
         Ok(columns) => read_some(alloc, &columns, table.rows()),
-        Err(column) => Err(LockRowsError::NoColumn(column)),
+        Err(column) => Err(lacking(table.names(), column)),
+    }
+}
+
+// Why a table of these columns is refused, which lacks a needed one.
+fn lacking(names: &[Field], column: Column) -> LockRowsError
+    ensures { result ≡ lacking names.now column }
+{
+    match other_table(names) {
+        Some(table) => LockRowsError::NotLocks(table),
+        None => LockRowsError::NoColumn(column),
     }
 }
 

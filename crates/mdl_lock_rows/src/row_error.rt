@@ -2,6 +2,8 @@
 ghost use Rattle.std.specs.Prelude.{◌≡◌};
 
 use crate::column::Column;
+use crate::other_table::OtherTable;
+use mdl_client_table::{JsonFault, TableError};
 use std::alloc::AllocError;
 use thiserror::Error;
 
@@ -37,6 +39,12 @@ pub enum LockRowsError {
     /// The header lacks this column.
     #[error("no column {0}. Give what this prints: mysql -B -e \"$(mdlview query)\"")]
     NoColumn(Column),
+    /// The columns are those of another table.
+    #[error("{0}. Give what this prints: mysql -B -e \"$(mdlview query)\"")]
+    NotLocks(OtherTable),
+    /// The rows are in JSON, and have this fault.
+    #[error("{0}")]
+    Json(JsonFault),
     /// The row whose first line has this number, counted from 1, is refused.
     #[error("line {0}, {1}")]
     Refused(u64, RowError),
@@ -55,12 +63,15 @@ impl From<AllocError> for LockRowsError {
     }
 }
 
-impl From<Column> for LockRowsError {
-    ghost use Rattle.mdl_lock_rows.specs.declared.row_error.LockRowsError.TheVariants.{NoColumn};
+impl From<TableError> for LockRowsError {
+    ghost use Rattle.mdl_lock_rows.specs.Reading.{refusal_of};
 
-    ghost from_gives = { λ column error. error ≡ NoColumn column };
+    ghost from_gives = { λ error refusal. refusal ≡ refusal_of error };
 
-    fn from(column: Column) -> LockRowsError {
-        LockRowsError::NoColumn(column)
+    fn from(error: TableError) -> LockRowsError {
+        match error {
+            TableError::Json(fault) => LockRowsError::Json(fault),
+            TableError::OutOfMemory => LockRowsError::OutOfMemory,
+        }
     }
 }

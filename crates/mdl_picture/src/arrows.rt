@@ -10,8 +10,8 @@ use crate::rows::{BOX_HEIGHT, Row, row_foot, row_top};
 use crate::shapes::{push_line, push_titled};
 use crate::sums::sum;
 use crate::svg::{Tag, push_end};
-use crate::text::{push, push_number};
 use crate::tracks::push_session;
+use mdl_lines::{push, push_number};
 use std::alloc::{AllocError, Global};
 
 /// An arrow.

@@ -13,8 +13,8 @@ use crate::rows::{BOX_HEIGHT, Row, row_top};
 use crate::shapes::{push_rect, push_titled};
 use crate::sums::sum;
 use crate::svg::{Attribute, Tag, push_end, push_start};
-use crate::text::push;
 use crate::waits::push_statement;
+use mdl_lines::push;
 use std::alloc::{AllocError, Global};
 
 // The distance from line to line.

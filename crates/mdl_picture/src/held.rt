@@ -12,8 +12,8 @@ use crate::rows::{BOX_HEIGHT, Row, TRACK_HEIGHT, row_top};
 use crate::shapes::{push_rect, push_titled, push_words};
 use crate::sums::{product, sum};
 use crate::svg::{Tag, push_end};
-use crate::text::{push, push_number};
 use crate::tracks::push_session;
+use mdl_lines::{push, push_number};
 use std::alloc::{AllocError, Global};
 
 // The width of a byte in a bar, and the width that is left free.

@@ -2,7 +2,7 @@
 ghost use Rattle.std.specs.Prelude.{◌≡◌, ◌++◌, flat_map, IfOk, OnOk};
 ghost use Rattle.mdl_picture.specs.Kinds.{day_rule, day_style, kind_name, night_rule, night_style, rule, style};
 
-use crate::text::push;
+use mdl_lines::push;
 use std::alloc::{AllocError, Global};
 
 /// What a shape shows, which decides its style.

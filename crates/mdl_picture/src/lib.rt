@@ -51,7 +51,6 @@ mod rows;
 mod shapes;
 mod sums;
 mod svg;
-mod text;
 mod tracks;
 mod waits;
 

@@ -4,7 +4,7 @@ ghost use Rattle.std.specs.Fmt.{decimal};
 ghost use Rattle.mdl_picture.specs.Svg.{attribute_name, attribute_text, attribute_value, end_tag, escaped, escaped_byte, shape_text, start_tag, tag_name};
 
 use crate::kind::{Kind, kind_name};
-use crate::text::{push, push_number};
+use mdl_lines::{push, push_number};
 use std::alloc::AllocError;
 
 /// The tag of an element.

@@ -10,7 +10,7 @@ use crate::rows::{Row, row_height, row_top};
 use crate::shapes::{push_line, push_rect, push_titled, push_words};
 use crate::sums::sum;
 use crate::svg::{Tag, push_end};
-use crate::text::{push, push_number};
+use mdl_lines::{push, push_number};
 use std::alloc::{AllocError, Global};
 
 /// The distance of the baseline of words from the top of their row.

@@ -10,8 +10,8 @@ use crate::rows::{Row, row_top};
 use crate::shapes::{push_rect, push_titled, push_words};
 use crate::sums::sum;
 use crate::svg::{Tag, push_end};
-use crate::text::{push, push_number};
 use crate::tracks::LABEL_BASE;
+use mdl_lines::{push, push_number};
 use std::alloc::{AllocError, Global};
 
 // The distance of a bar from the top of its row, and its height.

@@ -1,14 +1,13 @@
 //! What becomes of the lines of a script, as text.
 ghost use Rattle.std.specs.Prelude.{◌≡◌, ◌++◌, ◌∷◌, [], OnOk, flat_map, codes};
-ghost use Rattle.std.specs.Fmt.{decimal};
 ghost use Rattle.std.specs.List.{join_by};
 ghost use Rattle.std.specs.String.{string_bytes};
 ghost use Rattle.mdl_script.specs.RunTexts.{answer_line, answers_text};
 ghost use Rattle.mdl_script.specs.Texts.{columns_text, end_line, error_text, heading, news_text, number_text, reply_text, table_text, tables_text, told_line, told_text, wait_text};
 
-use itoa::Buffer;
 use mdl_defs::Column;
 use mdl_key::{Key, Mode};
+use mdl_lines::push_digits;
 use mdl_stmt::{Reply, TableShown};
 use std::alloc::AllocError;
 
@@ -107,22 +106,14 @@ fn push_answer(out: &mut String, line: u64, who: u16, reply: &Reply) -> Result<(
     out.push('\n')
 }
 
-// Appends the numbers of a line and of its session, each with a space after it.
+// Appends the numbers of a line and of its session, each with a space after it. Most of the text is numbers, and a formatter takes longer for them.
 fn push_heading(out: &mut String, line: u64, who: u16) -> Result<(), AllocError>
     ensures { OnOk result (string_bytes out.new ≡ string_bytes out.old ++ heading line who) }
 {
-    push_number(out, line)?;
+    push_digits(out, line)?;
     out.push(' ')?;
-    push_number(out, u64::from(who))?;
+    push_digits(out, u64::from(who))?;
     out.push(' ')
-}
-
-// Appends a number. Most of the text is numbers, and a formatter takes longer for them.
-fn push_number(out: &mut String, number: u64) -> Result<(), AllocError>
-    ensures { OnOk result (string_bytes out.new ≡ string_bytes out.old ++ decimal number) }
-{
-    let mut digits = Buffer::new();
-    out.push_str(digits.format(number))
 }
 
 // Appends a wait that has begun.
@@ -190,7 +181,7 @@ fn push_table(out: &mut String, table: &TableShown) -> Result<(), AllocError>
     out.push('.')?;
     out.push_str(table.key.table_name())?;
     out.push('@')?;
-    push_number(out, table.version)?;
+    push_digits(out, table.version)?;
     push_columns(out, table.columns.as_slice())
 }
 

@@ -73,7 +73,7 @@ module _ {s : SessionView} (is : IsMember s) (id : ℕ) (mode : Mode) where
       fast-cloned gains = (clone-joins gains.first gains.quiet.done, clone-shows gains.quiet (inl gains.met) gains.room)
 
       -- there was no room
-      clone-full : {at : ℕ} {b : SessionView} {why : SpaceError} → DoesQuietly at [] s b × KeepsRoom 0 s.room b.room → LacksRoomForWish t.place mode why s b
+      clone-full : {at : ℕ} {b : SessionView} {why : SpaceError} → DoesQuietly at [] s b × KeepsRoom 0 s.room b.room → LacksRoomForWish (MeetsFull t.place) t.place mode why s b
           → Joins (space_of s) (Clone_ticket s.me.0.number id mode) (Refused why) (space_of b) × Shows (Clone_ticket s.me.0.number id mode) (Refused why) s b
       clone-full {b = b} still lacks = (
         clone-refused (done-nothing still.0.done) (wish-lack t.place mode s b lacks),

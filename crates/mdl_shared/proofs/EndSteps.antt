@@ -1,28 +1,30 @@
 -- A session reads the word of its wait, and ends the wait where it is settled.
-use Rattle.std.proofs.Common.{◌≡◌, ℕ, true, is_some, [], ◌++◌, Option, Some, None, inr, refl, sym, ap, subst, ◌∙◌}
+use Rattle.std.proofs.Common.{◌≡◌, ℕ, true, is_some, List, [], ◌∷◌, ◌++◌, Option, Some, None, inr, refl, sym, ap, subst, ◌∙◌, append-nil}
 use Rattle.atomic_table.specs.Seated.{TableId}
 use Rattle.mdl_calls.specs.declared.answers.Settled.{Settled}
 use Rattle.mdl_calls.specs.declared.answers.Settled.TheVariants as settled_as
 use Rattle.mdl_calls.specs.declared.space_error.SpaceError.TheVariants.{Unsettled}
 use Rattle.mdl_calls.specs.Words.{Granted, Is_settled, Lost, Poll_wait, Refused, End_wait, is_answer_of}
 use Rattle.mdl_steps.specs.declared.deed.Deed.TheVariants.{Gain}
-use Rattle.mdl_steps.specs.declared.step_kind.StepKind.TheVariants.{ReadWait}
+use Rattle.mdl_steps.specs.declared.step_kind.StepKind.TheVariants.{EndWait, ReadWait}
 use Rattle.mdl_steps.specs.declared.view.Ask.{Ask}
+use Rattle.mdl_steps.specs.declared.view.Met.{Met}
 use Rattle.mdl_steps.specs.Deeds.{owned}
+use Rattle.mdl_steps.specs.Layout.{wait_word}
 use Rattle.mdl_steps.specs.Plays.{Mine}
 use Rattle.mdl_steps.specs.SeatStates.{AtItsTable, SeatState}
 use Rattle.mdl_steps.specs.WaitPlays.{TellsOwn, ended_granted, taken_over}
-use Rattle.mdl_steps.specs.WaitStates.{wait_state}
+use Rattle.mdl_steps.specs.WaitStates.{granted_state, wait_in, wait_state}
 use Rattle.mdl_session_laws.specs.SessionJoins.{Joins}
 use Rattle.mdl_visits.specs.Grantings.{HasRescheduled}
-use Rattle.mdl_visits.specs.Polls.{state_of}
+use Rattle.mdl_visits.specs.Polls.{EndsWait, state_of}
 use Rattle.mdl_visits.specs.Visits.{Does}
 use Rattle.mdl_visits.specs.WaitEndings.{EndsLost, idle, without_wait}
 use Rattle.mdl_visits.proofs.Rescheduling.{rescheduled_after}
-use Rattle.mdl_visits.proofs.Steps.{does_then, step_before}
+use Rattle.mdl_visits.proofs.Steps.{does_then, goes_by, step_after}
 use Rattle.mdl_shared.specs.Members.{IsMember}
 use Rattle.mdl_shared.specs.SessionViews.{SessionView, lists_seen, session_at, settled_of, space_of}
-use Rattle.mdl_shared.specs.Showings.{MeetsOwnWait, Shows}
+use Rattle.mdl_shared.specs.Showings.{EndsOwnWait, Shows, ShowsStep}
 use Rattle.mdl_shared.specs.TicketLists.{KeepsRoom, Room}
 use Rattle.mdl_shared.specs.Waitings.{wait_fault}
 use Rattle.mdl_shared.proofs.EndCalls.{HasEnded, lost-joins, unsettled-joins, won-joins}
@@ -79,15 +81,21 @@ module _ {s mid : SessionView} (is : IsMember s) (a : Ask) (asks : s.me.0.asks �
     did : (s′ : SessionView) → Does [] mid.me s′.me → Does [] s.me s′.me
     did s′ ends = does_then [] [] s.me mid.me s′.me polled.1.did ends
 
-    met : (s′ : SessionView) → Does [] mid.me s′.me → MeetsOwnWait (state_of one) (lists_seen s.me.0) s s′
-    met s′ ends = let e = polled.1.met in (e.0, step_before s.me mid.me s′.me (ends.0, ends.1) e.0 e.1, e.2)
+    -- the step that ends it comes after the one that read it
+    met : (s′ : SessionView) → ShowsStep mid s′ (EndsWait mid.table.slots mid.me.0.number mid.me.0.waits (state_of one)) → EndsOwnWait (state_of one) (lists_seen s.me.0) s s′
+    met s′ shown =
+        let read = polled.1.met in (
+          shown.0,
+          step_after s.me mid.me s′.me (goes_by s.me mid.me read.0 read.1) shown.0 shown.1,
+          subst (λ (x : SessionView). EndsWait x.table.slots x.me.0.number x.me.0.waits (state_of one) shown.0) now shown.2,
+        )
 
     -- ---- it was lost
 
-    pub lost-end : {s′ : SessionView} → Does [] mid.me s′.me → is_answer_of (End_wait s.me.0.number) (Lost one) ≡ true → HasEnded s.me.0.slow s s′
+    pub lost-end : {s′ : SessionView} → Does [] mid.me s′.me → ShowsStep mid s′ (EndsWait mid.table.slots mid.me.0.number mid.me.0.waits (state_of one)) → is_answer_of (End_wait s.me.0.number) (Lost one) ≡ true → HasEnded s.me.0.slow s s′
         → HasRescheduled mid.table a.place (without_wait mid.me) s′.me → KeepsRoom 0 s.room s′.room
         → Joins (space_of s) (End_wait s.me.0.number) (Lost one) (space_of s′) × Shows (End_wait s.me.0.number) (Lost one) s s′
-    lost-end {s′} ends fits ended rescheduled keeps =
+    lost-end {s′} ends shows fits ended rescheduled keeps =
         let shown = polled.1 in (
           lost-joins is a asks one fits agreed ended,
           record {
@@ -99,7 +107,7 @@ module _ {s mid : SessionView} (is : IsMember s) (a : Ask) (asks : s.me.0.asks �
             told = tt;
             steps = tt;
             met = (
-              met s′ ends,
+              met s′ shows,
               (
                 a,
                 asks,
@@ -114,9 +122,9 @@ module _ {s mid : SessionView} (is : IsMember s) (a : Ask) (asks : s.me.0.asks �
 
     -- ---- it was granted
 
-    pub won-end : one ≡ settled_as.Granted → {s′ : SessionView} → Does [] mid.me s′.me → (ended : HasEnded (owned a.place (Gain a.number a.mode) s.me.0.slow) s s′) → ended.settles ≡ s.me.0.settles
+    pub won-end : one ≡ settled_as.Granted → {s′ : SessionView} → Does [] mid.me s′.me → ShowsStep mid s′ (EndsWait mid.table.slots mid.me.0.number mid.me.0.waits granted_state) → (ended : HasEnded (owned a.place (Gain a.number a.mode) s.me.0.slow) s s′) → ended.settles ≡ s.me.0.settles
         → KeepsRoom 1 s.room s′.room → Joins (space_of s) (End_wait s.me.0.number) (Granted a.number) (space_of s′) × Shows (End_wait s.me.0.number) (Granted a.number) s s′
-    won-end granted {s′} ends ended settles keeps = (
+    won-end granted {s′} ends shows ended settles keeps = (
       won-joins is a asks (λ how knows. sym granted ∙ agreed how knows) ended,
       record {
         table = ap (λ (x : SessionView). x.table) ended.now;
@@ -126,12 +134,23 @@ module _ {s mid : SessionView} (is : IsMember s) (a : Ask) (asks : s.me.0.asks �
         settled = ap (λ (x : SessionView). x.me.0.settles) ended.now ∙ settles;
         told = tt;
         steps = tt;
-        met = subst (λ (how : Settled). MeetsOwnWait (state_of how) (lists_seen s.me.0) s s′) granted (met s′ ends);
+        met = subst (λ (how : Settled). EndsOwnWait (state_of how) (lists_seen s.me.0) s s′) granted
+            (met s′ (subst (λ (how : Settled). ShowsStep mid s′ (EndsWait mid.table.slots mid.me.0.number mid.me.0.waits (state_of how))) (sym granted) shows));
         room = keeps;
       },
     )
 
 -- ---- the steps that end it
+
+-- a granted wait ends by one
+pub shows-granted : (mid seat′ : SeatState) (sessions : ℕ) (room room′ : Room) → seat′ ≡ record mid { me = ended_granted mid.table.slots mid.me }
+    → ShowsStep (session_at mid sessions room) (session_at seat′ sessions room′) (EndsWait mid.table.slots mid.me.0.number mid.me.0.waits granted_state)
+shows-granted mid seat′ sessions room room′ made =
+    let e : Met = record { kind = EndWait; deeds = []; word = wait_word mid.table.slots mid.me.0.number; found = wait_in mid.me.0.waits granted_state; held = mid.me.0.latches; directory = mid.me.0.directory } in (
+      e,
+      ([], [], ap (λ (x : SeatState). x.me.0.log) made ∙ ap (λ (log : List Met). log ++ e ∷ []) (sym (append-nil mid.me.0.log))),
+      record { kind = refl; wait = record { word = refl; found = refl } },
+    )
 
 module _ {seat mid seat′ : SeatState} (sessions session found : ℕ) {room : Room}
     (now : session_at mid sessions room ≡ word-step ReadWait session found found seat.me.0.settles (session_at seat sessions room)) where

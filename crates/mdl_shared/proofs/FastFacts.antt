@@ -1,5 +1,6 @@
 -- What a session with fast tickets, or one that asks for one, gives the steps of its fast path.
-use Rattle.std.proofs.Common.{◌≡◌, ◌≢◌, ℕ, ◌<◌, ◌==◌, Bool, true, List, [], ◌∷◌, filter, map, length, is_some, Option, Some, None, refl, sym, ap, subst, ◌∙◌, arith}
+use Rattle.std.proofs.Common.{◌≡◌, ◌≢◌, ℕ, ◌<◌, ◌==◌, Bool, true, false, List, [], ◌∷◌, filter, map, length, is_some, Option, Some, None, refl, sym, ap, subst, ◌∙◌, arith}
+use Rattle.std.specs.Prelude.{nat_le}
 use Rattle.std.specs.Option.{option_and_then, unwrap_or}
 use Rattle.std.proofs.lemmas.Bool.{and_parts, eq-eqb, eqb-true, lt-leb}
 use Rattle.mdl_key.specs.declared.mode.Mode.{Mode}
@@ -7,6 +8,7 @@ use Rattle.mdl_key.specs.declared.namespace.Kind.{Kind}
 use Rattle.mdl_key.specs.Words.{is_mode_of}
 use Rattle.mdl_word.specs.Words.{increment_of}
 use Rattle.mdl_book.specs.Tickets.{ticket_of}
+use Rattle.mdl_steps.specs.declared.view.Ask.{Ask}
 use Rattle.mdl_steps.specs.declared.view.Known.{Known}
 use Rattle.mdl_steps.specs.declared.view.Own.{Own}
 use Rattle.mdl_steps.specs.Cells.{own_at, ticket_by}
@@ -42,6 +44,11 @@ kind-counted place mode known one counted = by (kind_known place known) refl cou
 -- a wish for it has no fault where the session waits for nothing and has numbers left
 no-fault : (kind : Kind) (mode : Mode) (next : ℕ) → is_mode_of kind mode ≡ true → next < most_numbers → wish_fault (Some kind) None mode next ≡ None
 no-fault kind mode next fits some = rw fits (rw (lt-leb most_numbers next some) refl)
+
+-- nor has one for a mode that the word counts
+pub counted-clear : (kind : Kind) (mode : Mode) (asks : Option Ask) (next one : ℕ) → is_some asks ≡ false → increment_of kind mode ≡ Some one → nat_le most_numbers next ≡ false
+    → wish_fault (Some kind) asks mode next ≡ None
+counted-clear kind mode asks next one idle counts left = rw idle (rw (counted_mode kind mode one counts).1 (rw left refl))
 
 -- ---- a fast ticket is asked for
 

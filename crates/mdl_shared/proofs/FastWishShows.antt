@@ -1,5 +1,5 @@
 -- What wishes tell and show that were tried on the fast path first.
-use Rattle.std.proofs.Common.{◌≡◌, ◌⊎◌, inl, inr, ℕ, [], ◌∷◌, ◌++◌, None, Result, Ok, Err, refl, sym, ap, subst, ◌∙◌}
+use Rattle.std.proofs.Common.{◌≡◌, ◌⊎◌, inl, inr, ℕ, true, [], ◌∷◌, ◌++◌, None, Result, Ok, Err, refl, sym, ap, subst, ◌∙◌}
 use Rattle.std.specs.Prelude.{IfErr, IfOk, OnErr}
 use Rattle.mdl_key.specs.declared.mode.Mode.{Mode}
 use Rattle.mdl_calls.specs.declared.answers.Attempt.{Attempt}
@@ -7,14 +7,15 @@ use Rattle.mdl_calls.specs.declared.answers.Attempt.TheVariants as attempt
 use Rattle.mdl_calls.specs.declared.answers.Begun.{Begun}
 use Rattle.mdl_calls.specs.declared.answers.Begun.TheVariants as begin
 use Rattle.mdl_calls.specs.declared.space_error.SpaceError.{SpaceError}
-use Rattle.mdl_calls.specs.declared.space_error.SpaceError.TheVariants.{Full, OutOfMemory}
+use Rattle.mdl_calls.specs.declared.space_error.SpaceError.TheVariants.{OutOfMemory}
+use Rattle.mdl_calls.specs.declared.space_error.SpaceError.TheVariants as fault
 use Rattle.mdl_calls.specs.Words.{Begin_wait, Granted, Refused, Try_now, Waits, attempted, begun}
 use Rattle.mdl_steps.specs.declared.deed.Deed.TheVariants.{Gain}
 use Rattle.mdl_steps.specs.declared.view.Met.{Met}
 use Rattle.mdl_steps.specs.Plays.{Mine}
 use Rattle.mdl_session_laws.specs.SessionJoins.{Joins}
 use Rattle.mdl_session_laws.specs.SessionSpaces.{Space}
-use Rattle.mdl_visits.specs.Visits.{AreStepsOf, MeetsBlocked, MeetsFull, MeetsGrantable}
+use Rattle.mdl_visits.specs.Visits.{AreStepsOf, MeetsBlocked, MeetsFull, MeetsFullWish, MeetsGrantable}
 use Rattle.mdl_visits.specs.WaitOpenings.{MeetsOpening, awaiting}
 use Rattle.mdl_visits.proofs.Steps.{does_then}
 use Rattle.mdl_shared.specs.DeedsDone.{DoesQuietly}
@@ -34,43 +35,44 @@ use Rattle.mdl_shared.proofs.WishShows.{shows}
 -- ---- why it is refused
 
 -- as a lock space tells it
-cause-told : {X : Type 0} {why : SpaceError} → (why ≡ OutOfMemory) ⊎ ((why ≡ Full) × X) → (why ≡ OutOfMemory) ⊎ (why ≡ Full)
+cause-told : {X : Type 0} {why : SpaceError} → (why ≡ OutOfMemory) ⊎ ((why ≡ fault.Full) × X) → (why ≡ OutOfMemory) ⊎ (why ≡ fault.Full)
 cause-told (inl memory) = inl memory
 cause-told (inr full) = inr full.0
 
 -- there was no room for the fast tickets that the session had
-pub lack-cause : (a b : SessionView) {why : SpaceError} → LacksRoomForFast why a b → (why ≡ OutOfMemory) ⊎ (why ≡ Full)
+pub lack-cause : (a b : SessionView) {why : SpaceError} → LacksRoomForFast why a b → (why ≡ OutOfMemory) ⊎ (why ≡ fault.Full)
 lack-cause a b lacks = cause-told lacks.1
 
-module _ (place : ℕ) (mode : Mode) (a b : SessionView) {why : SpaceError} where
+module _ {Full : Met → Type 0} (place : ℕ) (mode : Mode) (a b : SessionView) {why : SpaceError} where
   -- there was none for a wish
-  pub wish-lack : LacksRoomForWish place mode why a b → (why ≡ OutOfMemory) ⊎ (why ≡ Full)
+  pub wish-lack : LacksRoomForWish Full place mode why a b → (why ≡ OutOfMemory) ⊎ (why ≡ fault.Full)
   wish-lack (inl memory) = inl memory.0
   wish-lack (inr full) = inr full.0
 
   -- there was none for the fast tickets that it had, as a wish's answer tells it
-  pub full-fast : ((why ≡ OutOfMemory) × LacksMemory place mode a b) ⊎ ((why ≡ Full) × IsClosed place mode a b × FullForFast a b)
-      → LacksRoomForWish place mode why a b
+  pub full-fast : ((why ≡ OutOfMemory) × LacksMemory place mode a b) ⊎ ((why ≡ fault.Full) × IsClosed place mode a b × FullForFast a b)
+      → LacksRoomForWish Full place mode why a b
   full-fast (inl memory) = inl memory
   full-fast (inr full) = inr (full.0, inr (full.1, full.2))
 
   -- there was none for one ticket more
   pub full-one : {at : ℕ} {c : SessionView} → BecomesSlow a b → IsClosed place mode a b → DoesQuietly at [] b c
-      → (why ≡ OutOfMemory) ⊎ ((why ≡ Full) × ShowsStep b c (MeetsFull place)) → LacksRoomForWish place mode why a c
+      → (why ≡ OutOfMemory) ⊎ ((why ≡ fault.Full) × ShowsStep b c Full) → LacksRoomForWish Full place mode why a c
   full-one {c = c} slow closed quiet (inl memory) = inl (memory, inr (closed-then place mode a b c (quiet-steps quiet) closed))
   full-one slow closed quiet (inr full) = inr (full.0, inl (by-latch slow place mode closed full.1))
 
 module _ {a : SessionView} (is : IsMember a) (place : ℕ) (mode : Mode) (clear : wish_fault (kind_known place a.me.0.known) a.me.0.asks mode a.me.0.next ≡ None) where
   -- ---- refused
 
-  pub try-full : {at : ℕ} {b : SessionView} {why : SpaceError} → DoesQuietly at [] a b × KeepsRoom 0 a.room b.room → LacksRoomForWish place mode why a b
+  pub try-full : {at : ℕ} {b : SessionView} {why : SpaceError} → DoesQuietly at [] a b × KeepsRoom 0 a.room b.room
+      → LacksRoomForWish (MeetsFullWish place a.me.0.number mode true) place mode why a b
       → Joins (space_of a) (Try_now a.me.0.number place mode) (Refused why) (space_of b) × Shows (Try_now a.me.0.number place mode) (Refused why) a b
   try-full {b = b} still lacks = (
     try-refused is place mode clear (done-nothing still.0.done) (wish-lack place mode a b lacks),
     quiet-shows still.0 refl clear (λ s. s) (λ t. t) tt (inr lacks) still.1,
   )
 
-  pub begin-full : {at : ℕ} {b : SessionView} {why : SpaceError} → DoesQuietly at [] a b × KeepsRoom 0 a.room b.room → LacksRoomForWish place mode why a b
+  pub begin-full : {at : ℕ} {b : SessionView} {why : SpaceError} → DoesQuietly at [] a b × KeepsRoom 0 a.room b.room → LacksRoomForWish (MeetsFull place) place mode why a b
       → Joins (space_of a) (Begin_wait a.me.0.number place mode) (Refused why) (space_of b) × Shows (Begin_wait a.me.0.number place mode) (Refused why) a b
   begin-full {b = b} still lacks = (
     begin-refused is place mode clear (done-nothing still.0.done) (wish-lack place mode a b lacks),
@@ -105,7 +107,7 @@ module _ {a : SessionView} (is : IsMember a) (place : ℕ) (mode : Mode) (clear 
 
     pub tried-slow : (result : Result Attempt SpaceError) → IfOk result (λ answer. HasTried place mode answer b c)
         → OnErr result (DoesQuietly place [] b c × KeepsRoom 0 b.room c.room)
-        → IfErr result (λ why. (why ≡ OutOfMemory) ⊎ ((why ≡ Full) × ShowsStep b c (MeetsFull place)))
+        → IfErr result (λ why. (why ≡ OutOfMemory) ⊎ ((why ≡ fault.Full) × ShowsStep b c (MeetsFullWish place b.me.0.number mode true)))
         → Joins (space_of a) (Try_now a.me.0.number place mode) (attempted result) (space_of c)
         × Shows (Try_now a.me.0.number place mode) (attempted result) a c
     tried-slow (Ok (attempt.Granted id)) tried still causes =
@@ -118,7 +120,8 @@ module _ {a : SessionView} (is : IsMember a) (place : ℕ) (mode : Mode) (clear 
           quiet-shows quiet refl clear (λ s. s) (λ t. t) tt (by-latch slow place mode closed met) (keeps-before 0 a.room b.room c.room slow.room tried.room),
         )
     tried-slow (Err why) tried still causes =
-        try-full (quiet-then slow.quiet still.0, keeps-before 0 a.room b.room c.room slow.room still.1) (full-one place mode a b slow closed still.0 causes)
+        let met = subst (λ (n : ℕ). (why ≡ OutOfMemory) ⊎ ((why ≡ fault.Full) × ShowsStep b c (MeetsFullWish place n mode true))) (number-slow slow) causes in
+        try-full (quiet-then slow.quiet still.0, keeps-before 0 a.room b.room c.room slow.room still.1) (full-one place mode a b slow closed still.0 met)
 
     -- it waits
     waits-joins : {number : ℕ} → BeginsToWait place mode number b c → Joins (space_of a) (Begin_wait a.me.0.number place mode) (Waits number) (space_of c)
@@ -143,7 +146,7 @@ module _ {a : SessionView} (is : IsMember a) (place : ℕ) (mode : Mode) (clear 
 
     pub begun-slow : (result : Result Begun SpaceError) → IfOk result (λ answer. HasBegun place mode answer b c)
         → OnErr result (DoesQuietly place [] b c × KeepsRoom 0 b.room c.room)
-        → IfErr result (λ why. (why ≡ OutOfMemory) ⊎ ((why ≡ Full) × ShowsStep b c (MeetsFull place)))
+        → IfErr result (λ why. (why ≡ OutOfMemory) ⊎ ((why ≡ fault.Full) × ShowsStep b c (MeetsFull place)))
         → Joins (space_of a) (Begin_wait a.me.0.number place mode) (begun result) (space_of c)
         × Shows (Begin_wait a.me.0.number place mode) (begun result) a c
     begun-slow (Ok (begin.Granted id)) asked still causes =

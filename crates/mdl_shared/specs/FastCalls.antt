@@ -1,7 +1,7 @@
 -- The results of the session's calls that try for a fast ticket and release one. They aren't calls of a lock space.
-use Rattle.std.specs.Prelude.{◌≡◌, ◌⊎◌, ℕ, ◌<◌, ◌≤◌, Bool, true, [], ◌∷◌, length, Option, Some, None, is_some, if◌then◌else◌}
+use Rattle.std.specs.Prelude.{◌≡◌, ◌⊎◌, ℕ, ◌<◌, ◌≤◌, Bool, true, not, nat_le, [], ◌∷◌, length, Option, Some, None, is_some, if◌then◌else◌}
 use Rattle.mdl_calls.specs.declared.space_error.SpaceError.{SpaceError}
-use Rattle.mdl_calls.specs.declared.space_error.SpaceError.TheVariants.{BadMode, OutOfMemory}
+use Rattle.mdl_calls.specs.declared.space_error.SpaceError.TheVariants.{AlreadyWaiting, BadMode, CounterFull, NoPlace, OutOfMemory}
 use Rattle.mdl_calls.specs.Words.{Done, Release, Try_now}
 use Rattle.mdl_calls.specs.Words as calls
 use Rattle.mdl_key.specs.declared.mode.Mode.{Mode}
@@ -15,16 +15,18 @@ use Rattle.mdl_visits.specs.Numbers.{numbered}
 use Rattle.mdl_shared.specs.declared.try_fast.Fast.{Fast}
 use Rattle.mdl_shared.specs.declared.try_fast.Fast.TheVariants.{Granted, Obtruded, Contended, Limit}
 use Rattle.mdl_shared.specs.DeedsDone.{DoesQuietly}
-use Rattle.mdl_shared.specs.Members.{increment_at, kind_known, wish_fault}
+use Rattle.mdl_shared.specs.Members.{increment_at, kind_known, most_numbers}
 use Rattle.mdl_shared.specs.SessionViews.{Lists, SessionView, StaysSame, lists_seen, space_of}
 use Rattle.mdl_shared.specs.Showings.{KeepsLists}
 use Rattle.mdl_shared.specs.TicketLists.{HasRoom, KeepsRoom}
 
--- why a fast ticket isn't even tried for: for a reason of `wish_fault`, or because the word of the place doesn't count the mode
+-- why a fast ticket isn't even tried for, the least cause first: the session knows no key of the place, it waits, the word of the place doesn't count the
+-- mode, or it has no number left
 abbrev pub fast_fault : ℕ → Mode → Lists → Option SpaceError
 fast_fault place mode l =
-    if is_some (wish_fault (kind_known place l.known) l.asks mode l.next) then wish_fault (kind_known place l.known) l.asks mode l.next
-    else (if is_some (increment_at place mode l.known) then None else Some BadMode)
+    if not (is_some (kind_known place l.known)) then Some NoPlace
+    else (if is_some l.asks then Some AlreadyWaiting
+    else (if not (is_some (increment_at place mode l.known)) then Some BadMode else (if nat_le most_numbers l.next then Some CounterFull else None)))
 
 -- the session has fewer fast tickets at a place than it may have
 abbrev pub HasFewerFast : ℕ → SessionView → Type 0

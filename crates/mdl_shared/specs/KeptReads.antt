@@ -4,7 +4,7 @@ use Rattle.std.specs.Prelude.{◌≡◌, ◌⊎◌, ℕ, List, Some, None, Match
 use Rattle.mdl_defs.specs.declared.definition.Definition.{Definition}
 use Rattle.mdl_defs.specs.declared.standing.Standing.{Standing}
 use Rattle.mdl_defs.specs.Caches.{CacheView, Kept, kept_first, kept_of, looked_at}
-use Rattle.mdl_calls.specs.Words.{Read_kept, Reads}
+use Rattle.mdl_calls.specs.Words.{Answer, Read_kept, Reads, Refused}
 use Rattle.mdl_session_laws.specs.SessionJoins.{Joins}
 use Rattle.mdl_shared.specs.declared.cached.Cached.{Cached}
 use Rattle.mdl_shared.specs.declared.cached.Cached.TheVariants.{Hit, Stale}
@@ -51,3 +51,9 @@ LeavesKept id a b before after =
     ⊎ OfTicket id (lists_seen a.me.0) (λ t. (version : ℕ) × (d : Definition) × (kept_of t.place version before.kept ≡ Some d)
     × FindsVersion t.place (kept_standing version d) a b
     × (after ≡ record { kept = looked_at t.place version before.kept; capacity = before.capacity }))
+
+-- what a read with a cache, with this answer, does to the cache. Nothing is said of what is no answer to a read
+abbrev pub UsesKept : ℕ → Answer → SessionView → SessionView → CacheView → CacheView → Type 0
+UsesKept id (Reads version definition) a b before after = ReadsKept id (record { version = version; definition = definition }) a b before after
+UsesKept id (Refused why) a b before after = LeavesKept id a b before after
+UsesKept id _ a b before after = Unit {0}

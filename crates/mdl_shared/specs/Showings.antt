@@ -39,12 +39,12 @@ use Rattle.mdl_visits.specs.Leavings.{MeetsOwn, MeetsStanding}
 use Rattle.mdl_visits.specs.Lookups.{TookDirectory, IsAnswer}
 use Rattle.mdl_visits.specs.Materialisings.{MeetsFullFor}
 use Rattle.mdl_visits.specs.Numbers.{numbered}
-use Rattle.mdl_visits.specs.Polls.{MeetsNumber, MeetsOther, MeetsWait, Settles, SettlesNothing, state_of}
+use Rattle.mdl_visits.specs.Polls.{EndsWait, MeetsNumber, MeetsOther, MeetsWait, Settles, SettlesNothing, state_of}
 use Rattle.mdl_visits.specs.Readings.{ReadsThere, WasHeld}
 use Rattle.mdl_visits.specs.Redefinitions.{IsRefusedAs, Redefines, exclusive_fault}
 use Rattle.mdl_visits.specs.Searches.{Searched}
 use Rattle.mdl_visits.specs.Tables.{AreTables, HasAsked}
-use Rattle.mdl_visits.specs.Visits.{AreStepsOf, Does, IsStepOf, MeetsBlocked, MeetsFull, MakesMoreSteps, MeetsGrantable, StaysOn, StaysQuiet, Visits}
+use Rattle.mdl_visits.specs.Visits.{AreStepsOf, Does, IsStepOf, MeetsBlocked, MeetsFull, MeetsFullWish, MakesMoreSteps, MeetsGrantable, StaysOn, StaysQuiet, Visits}
 use Rattle.mdl_visits.specs.WaitEndings.{without_wait}
 use Rattle.mdl_visits.specs.WaitOpenings.{MeetsOpening}
 use Rattle.mdl_shared.specs.Doings.{merge_deeds, upgrade_deeds}
@@ -150,6 +150,10 @@ SearchesFor found a b =
 abbrev pub MeetsOwnWait : ℕ → Lists → SessionView → SessionView → Type 0
 MeetsOwnWait state l a b = ShowsStep a b (MeetsWait a.table.slots a.me.0.number l.waits state)
 
+-- a step ended the session's own wait, which was in this state
+abbrev pub EndsOwnWait : ℕ → Lists → SessionView → SessionView → Type 0
+EndsOwnWait state l a b = ShowsStep a b (EndsWait a.table.slots a.me.0.number l.waits state)
+
 -- a step met a place's book without room for all fast tickets that the session had there: they were to become slow, and stayed fast
 abbrev pub FullForFast : SessionView → SessionView → Type 0
 FullForFast a b =
@@ -161,18 +165,18 @@ abbrev pub LacksRoomForFast : SpaceError → SessionView → SessionView → Typ
 LacksRoomForFast why a b = (a.me.0.fast ≢ []) × ((why ≡ cause.OutOfMemory) ⊎ ((why ≡ cause.Full) × FullForFast a b))
 
 -- the fast path was closed to a request for a mode at a place, and a step met a full book: one without room for the session's fast tickets, or, once those
--- were slow, the book of the place without room for one more ticket
-abbrev pub FullForWish : ℕ → Mode → SessionView → SessionView → Type 0
-FullForWish place mode a b = ByLatch place mode a (λ mid. ShowsStep mid b (MeetsFull place)) ⊎ (IsClosed place mode a b × FullForFast a b)
+-- were slow, the book of the place without room for one more ticket (`Full`)
+abbrev pub FullForWish : (Met → Type 0) → ℕ → Mode → SessionView → SessionView → Type 0
+FullForWish Full place mode a b = ByLatch place mode a (λ mid. ShowsStep mid b Full) ⊎ (IsClosed place mode a b × FullForFast a b)
 
 -- a request for a mode at a place may need memory: the session's list had no room for a ticket there, or the fast path was closed to the request
 abbrev pub LacksMemory : ℕ → Mode → SessionView → SessionView → Type 0
 LacksMemory place mode a b = (HasRoom place a.room → ⊥) ⊎ IsClosed place mode a b
 
 -- why there was no room for a request: memory ran out, or a step met a book that was full
-abbrev pub LacksRoomForWish : ℕ → Mode → SpaceError → SessionView → SessionView → Type 0
-LacksRoomForWish place mode why a b =
-    ((why ≡ cause.OutOfMemory) × LacksMemory place mode a b) ⊎ ((why ≡ cause.Full) × FullForWish place mode a b)
+abbrev pub LacksRoomForWish : (Met → Type 0) → ℕ → Mode → SpaceError → SessionView → SessionView → Type 0
+LacksRoomForWish Full place mode why a b =
+    ((why ≡ cause.OutOfMemory) × LacksMemory place mode a b) ⊎ ((why ≡ cause.Full) × FullForWish Full place mode a b)
 
 -- the version of a place was read by one step without its latch, and nothing else was done. The session notes it under each ticket that it has there. The
 -- definition of this version counts as read, and agrees with all that the session knew of the place
@@ -289,13 +293,13 @@ MeetsSo (Resolve who key) (Refused why) l a b =
 MeetsSo (Try_now who place mode) (Granted id) l a b = IsGranted place mode (Gain id mode) a b
 MeetsSo (Try_now who place mode) Would_wait l a b = ByLatch place mode a (λ mid. ShowsStep mid b (MeetsBlocked place a.me.0.number mode))
 MeetsSo (Try_now who place mode) (Refused why) l a b =
-    (own_fault (Try_now who place mode) l ≡ Some why) ⊎ LacksRoomForWish place mode why a b
+    (own_fault (Try_now who place mode) l ≡ Some why) ⊎ LacksRoomForWish (MeetsFullWish place a.me.0.number mode true) place mode why a b
 MeetsSo (Begin_wait who place mode) (Granted id) l a b = IsGranted place mode (Gain id mode) a b
 MeetsSo (Begin_wait who place mode) (Waits number) l a b =
     ByLatch place mode a (λ mid. (e f : Met) × AreStepsOf mid.me b.me e f × MeetsBlocked place a.me.0.number mode e
     × MeetsOpening a.table.slots place a.me.0.number l.waits l.next mode f)
 MeetsSo (Begin_wait who place mode) (Refused why) l a b =
-    (own_fault (Begin_wait who place mode) l ≡ Some why) ⊎ LacksRoomForWish place mode why a b
+    (own_fault (Begin_wait who place mode) l ≡ Some why) ⊎ LacksRoomForWish (MeetsFull place) place mode why a b
 MeetsSo (Search who) No_cycle l a b = (l.asks ≡ None → MakesNoStep a b) × (is_some l.asks ≡ true → SearchesFor found.NoCycle a b)
 MeetsSo (Search who) (Victim_is victim) l a b = (is_some l.asks ≡ true) × SearchesFor (found.Victim victim) a b
 MeetsSo (Search who) (Refused why) l a b = (is_some l.asks ≡ true) × LooksAtKeys a b
@@ -305,9 +309,9 @@ MeetsSo (Poll_wait who) (Refused why) l a b = own_fault (Poll_wait who) l ≡ So
 MeetsSo (Settle_timeout who) (Timed_out ByThisCall) l a b = MeetsOwnWait unsettled_state l a b
 MeetsSo (Settle_timeout who) (Timed_out (Already how)) l a b = MeetsOwnWait (state_of how) l a b
 MeetsSo (Settle_timeout who) (Refused why) l a b = own_fault (Settle_timeout who) l ≡ Some why
-MeetsSo (End_wait who) (Granted id) l a b = MeetsOwnWait granted_state l a b
+MeetsSo (End_wait who) (Granted id) l a b = EndsOwnWait granted_state l a b
 MeetsSo (End_wait who) (Lost how) l a b =
-    MeetsOwnWait (state_of how) l a b
+    EndsOwnWait (state_of how) l a b
     × ((ask : Ask) × (l.asks ≡ Some ask) × HasRescheduled a.table ask.place (without_wait a.me) b.me)
 MeetsSo (End_wait who) (Refused why) l a b = (own_fault (End_wait who) l ≡ Some why) ⊎ ((why ≡ cause.Unsettled) × MeetsOwnWait unsettled_state l a b)
 MeetsSo (Wait_of target) (Has_wait number) l a b =
@@ -324,7 +328,7 @@ MeetsSo (Release who id) (Refused why) l a b = own_fault (Release who id) l ≡ 
 MeetsSo (Clone_ticket who id mode) (Granted new) l a b =
     OfTicket id l (λ t. IsCloned t.place mode id (Gain new mode) a b)
 MeetsSo (Clone_ticket who id mode) (Refused why) l a b =
-    (own_fault (Clone_ticket who id mode) l ≡ Some why) ⊎ OfTicket id l (λ t. LacksRoomForWish t.place mode why a b)
+    (own_fault (Clone_ticket who id mode) l ≡ Some why) ⊎ OfTicket id l (λ t. LacksRoomForWish (MeetsFull t.place) t.place mode why a b)
 MeetsSo (Upgrade_now who id mode) Upgraded l a b =
     OfTicket id l (λ t. (covers t.mode mode ≡ true → MakesNoStep a b)
     × (covers t.mode mode ≡ false → FromUnfast a (λ mid. ShowsStep mid b (MeetsGrantable t.place a.me.0.number mode (Alter id mode)))))

@@ -5,6 +5,7 @@ ghost use Rattle.mdl_session_laws.proofs.CallLaws.{session-allowed, session-keep
 ghost use Rattle.mdl_session_laws.proofs.KeyLaws.{session-resolves, session-remembers, session-one_key, session-one_place, session-tells_key, session-held_places, session-wait_place, session-tells_tables, session-resolved_pinned, session-pins_stay, session-pinned_known, session-held_pinned, session-wait_pinned, session-no_new_debts, session-unpins_none, session-unpins_in_use, session-unpins};
 ghost use Rattle.mdl_session_laws.proofs.WaitLaws.{session-tells, session-waits_settled, session-settled_once, session-stays, session-agrees, session-victims, session-counts, session-kills, session-kills_or_settled};
 ghost use Rattle.mdl_session_laws.proofs.ReadLaws.{session-meets, session-met_stays, session-reads, session-redefines, session-redefines_so, session-reads_one, session-stands, session-reads_fit, session-sees, session-seen_stays, session-seen_below};
+ghost use Rattle.mdl_shared.specs.KeptReads.{UsesKept};
 ghost use Rattle.mdl_shared.specs.SessionViews.{space_of};
 ghost use Rattle.mdl_shared.specs.Showings.{Shows};
 
@@ -42,6 +43,9 @@ impl<R: Wait> LockSpace for Session<R> {
 
     // What the session has before a call is joined to what it has after it, and the call's steps show what they met and did.
     ghost joins = { λ s call answer t. Joins (space_of s) call answer (space_of t) × Shows call answer s t };
+
+    // A read takes the definition from the cache if that keeps the one of the version found.
+    ghost uses_cache = { λ s _ id answer before after t. UsesKept id answer s t before after };
 
     fn resolve(&mut self, _who: u16, key: &Key) -> Result<Place, SpaceError> {
         Session::resolve(self, key)

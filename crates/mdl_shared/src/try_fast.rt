@@ -10,6 +10,7 @@ ghost use Rattle.mdl_shared.specs.SessionViews.{lists_seen, space_of};
 
 use crate::Session;
 use crate::fast_path::NotFast;
+use crate::holdings::MOST_NUMBERS;
 use crate::member::Member;
 use mdl_calls::{Place, SpaceError, TicketId};
 use mdl_key::Mode;
@@ -59,10 +60,22 @@ impl Member {
     fn fast_wished(&self, place: usize, mode: Mode) -> Result<u64, SpaceError>
         ensures { MatchResult result
             (λ one. (increment_at place mode self.now.known.known ≡ Some one)
-            × (wish_fault (kind_known place self.now.known.known) self.now.asks mode self.now.next ≡ None))
+            × (wish_fault (kind_known place self.now.known.known) self.now.asks mode self.now.next ≡ None)
+            × (fast_fault place mode (lists_seen self.now.seat.me.0) ≡ None))
             (λ why. fast_fault place mode (lists_seen self.now.seat.me.0) ≡ Some why) }
     {
-        let kind = self.kind_wished(place, mode)?;
-        Word::increment(kind, mode).ok_or(SpaceError::BadMode)
+        let Some(kind) = self.known.kind_at(place) else {
+            return Err(SpaceError::NoPlace);
+        };
+        if self.asks.is_some() {
+            return Err(SpaceError::AlreadyWaiting);
+        }
+        let Some(one) = Word::increment(kind, mode) else {
+            return Err(SpaceError::BadMode);
+        };
+        if self.next > MOST_NUMBERS {
+            return Err(SpaceError::CounterFull);
+        }
+        Ok(one)
     }
 }

@@ -1,5 +1,5 @@
-//! Sessions that make random calls of every kind for some seconds, over the locks of some tables, wait with short patience, look for deadlocks
-//! and kill each other's waits. Meanwhile another session checks all books each tenth of a second.
+//! Sessions that make random calls of every kind, over the locks of some tables, wait with short patience, look for deadlocks and kill each
+//! other's waits, for some seconds and until enough waits were settled. Meanwhile another session checks all books each tenth of a second.
 use crate::acts::{Act, Edit, Lock, Reply, make};
 use crate::chance::Chance;
 use crate::clashes::{are_lawful, are_of};
@@ -9,17 +9,19 @@ use mdl_key::Mode;
 use mdl_shared::{Audited, Session};
 use std::alloc::Global;
 use std::sync::Wait;
-use std::sync::atomic::{AtomicBool, Ordering};
+use std::sync::atomic::{AtomicBool, AtomicU64, Ordering};
 use std::thread;
 use std::time::{Clock, Duration, Instant};
 
-// How many milliseconds the sessions make calls, and how many pass between two audits of the session that watches.
-const SPAN: u64 = 3_000;
+// How many milliseconds the sessions make calls at least and at most, and how many pass between two audits of the session that watches.
+const LEAST_SPAN: u64 = 3_000;
+
+const MOST_SPAN: u64 = 40_000;
 
 const PAUSE: u64 = 100;
 
 // How many calls a session makes at most, and how many of them pass until it reads the clock, and until it checks all books.
-const CALLS: u32 = 10_000_000;
+const CALLS: u32 = 1_000_000_000;
 
 const UNTIMED: u32 = 100;
 
@@ -27,20 +29,29 @@ const UNWATCHED: u32 = 5_000;
 
 const MOST_HELD: usize = 4;
 
-// How many turns a session waits at most, and how many it holds the lock in X at most.
+// How many turns a session waits at most, in a game with many waits and in another one, and how many it holds the lock in X at most.
+const SHORT_PATIENCE: usize = 12;
+
 const PATIENCE: usize = 120;
 
 const TURNS: usize = 12;
 
+// From how many draws the calls without a ticket are chosen, in a game with many waits and in another one. Seven of them may wait.
+const FEW_DRAWS: usize = 12;
+
+const DRAWS: usize = 40;
+
 // How often a session tries for a fast ticket that it keeps.
 const KEPT: u32 = 40;
 
-/// A session's random numbers, the number of tables, how often it changed each and the last version that it saw of each, and how waits ended.
-#[derive(Clone, Copy)]
+/// A session's random numbers, the number of tables, how many waits have to be settled, how often it changed each table and the last version that
+/// it saw of each, and how waits ended.
+#[derive(Drop)]
 pub(crate) struct Player {
     alloc: Global,
     chance: Chance,
     tables: u16,
+    wanted: u64,
     pub(crate) tally: Tally,
     changes: [u64; 8],
     seen: [u64; 8],
@@ -48,12 +59,13 @@ pub(crate) struct Player {
 
 impl Player {
     /// Returns the player of the session of a number.
-    pub(crate) fn new(alloc: Global, number: u16, tables: u16) -> Player {
+    pub(crate) fn new(alloc: Global, number: u16, tables: u16, wanted: u64) -> Player {
         Player {
             alloc,
             chance: Chance::new(number),
             tables,
-            tally: Tally::NOTHING,
+            wanted,
+            tally: Tally::new(alloc),
             changes: [0; 8],
             seen: [0; 8],
         }
@@ -62,6 +74,11 @@ impl Player {
     /// Returns how often it changed a table. Tables are counted from 0 here.
     pub(crate) fn changes(&self, table: usize) -> u64 {
         self.changes.get(table).copied().unwrap_or(0)
+    }
+
+    // Returns one number if many waits are wanted, and else the other.
+    fn choose(&self, with_waits: usize, without: usize) -> usize {
+        if self.wanted > 0 { with_waits } else { without }
     }
 
     // Returns the place of a random table.
@@ -119,7 +136,8 @@ fn make_call<R: Wait>(session: &mut Session<R>, player: &mut Player, taken: &Ato
 // Requests a lock, reads a place's key, lists the tables, or kills a wait.
 fn ask<R: Wait>(session: &mut Session<R>, player: &mut Player, taken: &AtomicBool) -> bool {
     let place = player.draw();
-    let act = match player.chance.below(40) {
+    let draws = player.choose(FEW_DRAWS, DRAWS);
+    let act = match player.chance.below(draws) {
         0 => Act::Names(place, Lock::Numbered(place)),
         1 => Act::Tables,
         2 => return kill(session, player),
@@ -145,10 +163,9 @@ fn kill<R: Wait>(session: &mut Session<R>, player: &mut Player) -> bool {
     };
     match make(player.alloc, session, Act::Kill(target, wait)) {
         Reply::Is(true) => player.tally.kill(target, wait),
-        Reply::Is(false) => {}
-        _ => return false,
+        Reply::Is(false) => true,
+        _ => false,
     }
-    true
 }
 
 // Looks for a deadlock.
@@ -209,7 +226,7 @@ fn wait_for<R: Wait>(
     player: &mut Player,
     wait: u64,
 ) -> Option<Option<TicketId>> {
-    if !player.tally.begin(wait) {
+    if !player.tally.is_next(wait) {
         return None;
     }
     let looked = look_on(session, player)?;
@@ -221,8 +238,7 @@ fn wait_for<R: Wait>(
         return None;
     };
     let how = settlement(ended);
-    player.tally.end(how, wait);
-    if settled != Reply::Settled(how) {
+    if !player.tally.end(how) || settled != Reply::Settled(how) {
         return None;
     }
     match ended {
@@ -243,7 +259,8 @@ fn settlement(ended: Ended) -> Settled {
 
 // Polls the wait for some turns. Returns how it is settled, or that it is pending, or `None` if something goes wrong.
 fn look_on<R: Wait>(session: &mut Session<R>, player: &mut Player) -> Option<Reply> {
-    for _ in 0..player.chance.below(PATIENCE) {
+    let patience = player.choose(SHORT_PATIENCE, PATIENCE);
+    for _ in 0..player.chance.below(patience) {
         let looked = make(player.alloc, session, Act::Poll);
         if looked != Reply::Pending {
             return Some(looked);
@@ -258,8 +275,7 @@ fn look_on<R: Wait>(session: &mut Session<R>, player: &mut Player) -> Option<Rep
 // Settles the wait as a timeout if it isn't settled yet, and lets the other threads run then. Returns how it is settled.
 fn settle<R: Wait>(session: &mut Session<R>, player: &mut Player, wait: u64) -> Reply {
     match make(player.alloc, session, Act::TimeOut) {
-        Reply::Done => {
-            player.tally.lose_patience(wait);
+        Reply::Done if player.tally.lose_patience(wait) => {
             thread::yield_now();
             Reply::Settled(Settled::Timeout)
         }
@@ -366,12 +382,25 @@ fn keep_some<R: Wait>(session: &mut Session<R>, player: &mut Player) -> bool {
     true
 }
 
-// Whether there is time for more calls.
-fn is_in_time<R: Clock>(rt: &R, start: Instant) -> bool {
+// Whether a game that began then goes on, with so many waits settled.
+fn goes_on<R: Clock>(rt: &R, player: &Player, start: Instant, settled: u64) -> bool {
+    let span = if settled < player.wanted {
+        MOST_SPAN
+    } else {
+        LEAST_SPAN
+    };
     match start.elapsed(rt) {
-        Ok(elapsed) => elapsed < Duration::from_millis(SPAN),
+        Ok(elapsed) => elapsed < Duration::from_millis(span),
         Err(_) => false,
     }
+}
+
+// Adds the waits that a session had since it had `counted`, and returns how many all sessions had.
+fn add_waits(player: &Player, counted: u64, settled: &AtomicU64) -> u64 {
+    let more = player.tally.waits().saturating_sub(counted);
+    settled
+        .fetch_add(more, Ordering::SeqCst)
+        .saturating_add(more)
 }
 
 // Makes all calls of a player.
@@ -380,17 +409,25 @@ fn make_calls<R: Wait + Clock>(
     session: &mut Session<&R>,
     player: &mut Player,
     taken: &AtomicBool,
+    settled: &AtomicU64,
 ) -> bool {
     let Ok(start) = Instant::now(rt) else {
         return false;
     };
-    let mut well = true;
+    let (mut well, mut counted) = (true, 0);
     for call in 0..CALLS {
-        if !well || call % UNTIMED == 0 && !is_in_time(rt, start) {
-            break;
+        if call % UNTIMED == 0 {
+            let all = add_waits(player, counted, settled);
+            counted = player.tally.waits();
+            if !goes_on(rt, player, start, all) {
+                break;
+            }
         }
         well = make_call(session, player, taken)
             && (call % UNWATCHED != 0 || audit(player.alloc, session));
+        if !well {
+            break;
+        }
     }
     well
 }
@@ -401,19 +438,31 @@ pub(crate) fn play<R: Wait + Clock>(
     session: &mut Session<&R>,
     player: &mut Player,
     taken: &AtomicBool,
+    settled: &AtomicU64,
 ) -> bool {
     look_all_up(player.alloc, session, player.tables)
-        && make_calls(rt, session, player, taken)
+        && make_calls(rt, session, player, taken, settled)
         && leave(player.alloc, session)
         && keep_some(session, player)
 }
 
-/// Checks all books from time to time.
-pub(crate) fn watch<R: Wait + Clock>(rt: &R, session: &mut Session<&R>, player: &Player) -> bool {
-    for _ in 0..SPAN / PAUSE {
+/// Checks all books from time to time, until the game is over.
+pub(crate) fn watch<R: Wait + Clock>(
+    rt: &R,
+    session: &mut Session<&R>,
+    player: &Player,
+    settled: &AtomicU64,
+) -> bool {
+    let Ok(start) = Instant::now(rt) else {
+        return false;
+    };
+    for _ in 0..CALLS {
         thread::sleep(rt, Duration::from_millis(PAUSE));
         if !audit(player.alloc, session) {
             return false;
+        }
+        if !goes_on(rt, player, start, settled.load(Ordering::SeqCst)) {
+            break;
         }
     }
     true

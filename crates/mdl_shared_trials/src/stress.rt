@@ -1,6 +1,6 @@
 //! Sessions make calls on threads of their own, while one more audits the books: eight sessions over eight tables, and sixteen that race for
 //! one. In the end each has some fast tickets, and the words of the locks count just these. Each wait was settled once, as the session that
-//! settled it recorded. Each table's version is the number of its changes.
+//! settled it recorded, and many were, some in each way. Each table's version is the number of its changes.
 ghost use Rattle.std.specs.Prelude.{◌≡◌, ◌+◌, ◌<◌, length};
 ghost use Rattle.mdl_shared.specs.Passes.{ArePasses, pass_table, table_of};
 
@@ -8,24 +8,26 @@ use crate::acts::{Act, Reply, make};
 use crate::fast_counts::are_counted;
 use crate::players::{Player, leave, look_all_up, play, was_answered, watch};
 use crate::sessions::closed;
-use crate::tally::Waits;
-use mdl_calls::{Held, Place};
+use mdl_calls::{Held, Place, Settled};
 use mdl_key::Mode;
 use mdl_shared::{Audited, Manager, Pass, Session};
 use mdl_word::Word;
 use std::alloc::{AllocError, Global};
 use std::process::Abort;
 use std::sync::Wait;
-use std::sync::atomic::AtomicBool;
+use std::sync::atomic::{AtomicBool, AtomicU64};
 use std::thread;
 use std::thread::Threads;
 use std::time::Clock;
 
-// A game: the number of tables, and the number of sessions that play. The next session audits meanwhile, and two more check in the end that all
-// went well.
-type Game = (u16, u16);
+// How many waits have to be settled in the race for one table. `make race` has a million in their place.
+const SETTLED: u64 = 20_000;
 
-const GAMES: &[Game] = &[(8, 8), (1, 16)];
+// A game: the number of tables, the number of sessions that play, and how many waits have to be settled, some in each way. If that is 0, any number
+// will do. The next session audits meanwhile, and two more check in the end that all went well.
+type Game = (u16, u16, u64);
+
+const GAMES: &[Game] = &[(8, 8, 0), (1, 16, SETTLED)];
 
 // A session with its player, and whether all has gone well.
 struct Part<R> {
@@ -36,10 +38,11 @@ struct Part<R> {
 
 impl<R> Part<R> {
     // Opens the session of a pass. It has done nothing yet.
-    fn open(rt: R, alloc: Global, manager: &Manager, pass: Pass, tables: u16) -> Part<R>
+    fn open(rt: R, alloc: Global, manager: &Manager, pass: Pass, game: Game) -> Part<R>
         requires { pass_table pass ≡ table_of manager.now }
     {
-        let player = Player::new(alloc, pass.number(), tables);
+        let (tables, _, wanted) = game;
+        let player = Player::new(alloc, pass.number(), tables, wanted);
         let session = Session::open(rt, manager, pass);
         Part {
             session,
@@ -50,12 +53,18 @@ impl<R> Part<R> {
 }
 
 // Plays, watches or does nothing, by the session's number.
-fn act<R: Wait + Clock>(rt: &R, part: &mut Part<&R>, players: u16, taken: &AtomicBool) {
+fn act<R: Wait + Clock>(
+    rt: &R,
+    part: &mut Part<&R>,
+    players: u16,
+    taken: &AtomicBool,
+    settled: &AtomicU64,
+) {
     let number = part.session.number();
     if number <= players {
-        part.well = play(rt, &mut part.session, &mut part.player, taken);
+        part.well = play(rt, &mut part.session, &mut part.player, taken, settled);
     } else if number - players == 1 {
-        part.well = watch(rt, &mut part.session, &part.player);
+        part.well = watch(rt, &mut part.session, &part.player, settled);
     }
 }
 
@@ -76,24 +85,24 @@ fn open_all<'a, R>(
     alloc: Global,
     manager: &Manager,
     mut passes: Vec<Pass>,
-    tables: u16,
+    game: Game,
 ) -> Result<Vec<Part<&'a R>>, AllocError>
     requires theirs { ArePasses (table_of manager.now) passes.items }
 {
     let mut parts = Vec::with_capacity(alloc, passes.len())?;
     while !passes.is_empty() {
         let pass = take_last(manager, &mut passes);
-        parts.push_reserved(Part::open(rt, alloc, manager, pass, tables));
+        parts.push_reserved(Part::open(rt, alloc, manager, pass, game));
     }
     Ok(parts)
 }
 
 // The same for a new space.
 fn open_game<R: AllocGlobal>(rt: &R, game: Game) -> Option<Vec<Part<&R>>> {
-    let (tables, players) = game;
+    let (tables, players, _) = game;
     let alloc = rt.alloc();
     let (manager, passes) = Manager::new(alloc, tables, players.saturating_add(3)).ok()?;
-    let parts = open_all(rt, alloc, &manager, passes, tables).ok();
+    let parts = open_all(rt, alloc, &manager, passes, game).ok();
     drop(manager);
     parts
 }
@@ -102,9 +111,10 @@ fn close_all<R: Drop>(rt: &impl Abort, mut parts: Vec<Part<R>>) {
     while let Some(part) = parts.pop() {
         let Part {
             session,
-            player: _,
+            player,
             well: _,
         } = part;
+        drop(player);
         closed(rt, session);
     }
     parts.destroy_empty();
@@ -120,26 +130,66 @@ fn changes<R>(parts: &[Part<R>], table: usize) -> u64 {
 }
 
 // Whether each wait of a session was settled once, as one of all sessions recorded.
-fn is_settled<R>(parts: &[Part<R>], part: &Part<R>) -> bool {
-    let (mut killed, mut victims) = (Waits::NONE, 0u64);
+fn is_settled<R>(alloc: Global, parts: &[Part<R>], part: &Part<R>) -> bool {
+    let mut killed = Vec::new(alloc);
+    let (mut told, mut victims) = (true, 0u64);
     let session = part.session.number();
     for settler in parts {
-        settler
-            .player
-            .tally
-            .tell(session, &mut killed, &mut victims);
+        let tally = &settler.player.tally;
+        told = tally.tell_kills(session, &mut killed) && told;
+        victims = victims.saturating_add(tally.victims(session));
     }
-    part.player.tally.agrees(killed, victims)
+    told && killed.sort().is_ok() && part.player.tally.agrees(&killed, victims)
 }
 
-// Whether that holds for each session, nothing went wrong, and some waited.
-fn are_settled<R>(parts: &[Part<R>]) -> bool {
-    let (mut well, mut waits) = (true, 0u64);
-    for part in parts {
-        well = well && part.well && is_settled(parts, part);
-        waits = waits.saturating_add(part.player.tally.waits());
+// How many waits ended in each way.
+#[derive(Clone, Copy)]
+struct Ends {
+    granted: u64,
+    victims: u64,
+    timeouts: u64,
+    killed: u64,
+}
+
+impl Ends {
+    // Whether there are so many, some in each way.
+    fn are(self, wanted: u64) -> bool {
+        let all = self
+            .granted
+            .saturating_add(self.victims)
+            .saturating_add(self.timeouts)
+            .saturating_add(self.killed);
+        let some = self.granted > 0 && self.victims > 0 && self.timeouts > 0 && self.killed > 0;
+        wanted == 0 || some && all >= wanted
     }
-    well && waits > 0
+}
+
+// Returns how many waits of all sessions ended in this way.
+fn count<R>(parts: &[Part<R>], how: Settled) -> u64 {
+    let mut count = 0u64;
+    for part in parts {
+        count = count.saturating_add(part.player.tally.count(how));
+    }
+    count
+}
+
+// The same for each way.
+fn count_ends<R>(parts: &[Part<R>]) -> Ends {
+    Ends {
+        granted: count(parts, Settled::Granted),
+        victims: count(parts, Settled::Victim),
+        timeouts: count(parts, Settled::Timeout),
+        killed: count(parts, Settled::Killed),
+    }
+}
+
+// Whether each session's waits were settled once, and nothing went wrong.
+fn are_settled<R>(alloc: Global, parts: &[Part<R>]) -> bool {
+    let mut well = true;
+    for part in parts {
+        well = well && part.well && is_settled(alloc, parts, part);
+    }
+    well
 }
 
 // Adds the tickets of all parts. Whether there was memory.
@@ -240,7 +290,7 @@ fn is_well<R: Wait>(
     let words = add_held(parts, &mut held) && are_words_right(alloc, asker, reader, &held, tables);
     drop(held);
     let left = leave_all(alloc, parts);
-    words && left && are_settled(parts) && have_left(reader, parts, tables)
+    words && left && are_settled(alloc, parts) && have_left(reader, parts, tables)
 }
 
 // The same for the sessions of a game, the last two of which come first and did nothing.
@@ -260,37 +310,46 @@ fn went_well<R: Wait>(alloc: Global, parts: &mut [Part<R>], tables: u16) -> bool
 // Plays all parts, each on a thread of its own.
 fn play_all<R: Threads + Wait + Clock + Sync>(rt: &R, parts: &mut [Part<&R>], players: u16) {
     let taken = AtomicBool::new(false);
+    let settled = AtomicU64::new(0);
     let threads = parts.len().max(1);
     thread::for_each_mut(
         rt,
         parts,
         threads,
         &|_, part| {
-            act(rt, part, players, &taken);
+            act(rt, part, players, &taken, &settled);
         },
     );
 }
 
-// Whether there is memory for a game, and all goes well in it.
-fn goes_well<R: Threads + Wait + Clock + Abort + AllocGlobal + Sync>(rt: &R, game: Game) -> bool {
-    let Some(mut parts) = open_game(rt, game) else {
-        return false;
-    };
-    let (tables, players) = game;
+// Returns how the waits of a game end, if there is memory for it and all goes well in it.
+fn ends_of<R: Threads + Wait + Clock + Abort + AllocGlobal + Sync>(
+    rt: &R,
+    game: Game,
+) -> Option<Ends> {
+    let mut parts = open_game(rt, game)?;
+    let (tables, players, _) = game;
     play_all(rt, &mut parts, players);
     let well = went_well(rt.alloc(), &mut parts, tables);
+    let ends = count_ends(&parts);
     close_all(rt, parts);
-    well
+    if well { Some(ends) } else { None }
 }
 
 #[test]
 fn threads_make_all_calls_beside_audits(rt: HostRuntime) {
     for game in GAMES {
+        let (tables, players, wanted) = *game;
+        let Some(ends) = ends_of(&rt, *game) else {
+            panic!(rt; "{tables} tables, {players} players: it went wrong");
+        };
         assert!(rt;
-            goes_well(&rt, *game),
-            "{} tables, {} players",
-            game.0,
-            game.1
+            ends.are(wanted),
+            "{tables} tables, {players} players: {} granted, {} victims, {} timeouts, {} killed",
+            ends.granted,
+            ends.victims,
+            ends.timeouts,
+            ends.killed
         );
     }
 }

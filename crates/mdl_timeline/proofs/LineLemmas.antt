@@ -1,27 +1,11 @@
 -- Lines of a text, and what happens at them.
-use Rattle.std.proofs.Common.{◌≡◌, ◌∙◌, ◌<◌, ◌+◌, ◌-◌, ◌==◌, ℕ, zero, suc, List, [], ◌∷◌, ◌++◌, drop, get_or, length, map, ap, sym, refl, append_assoc}
-use Rattle.std.specs.Prelude.{slice_get, unwrap_or}
-use Rattle.std.specs.List.{slice_split}
-use Rattle.std.specs.Str.Lines.{strip_carriage_return}
+use Rattle.std.proofs.Common.{◌≡◌, ◌∙◌, ◌<◌, ◌+◌, ℕ, List, [], ◌∷◌, ◌++◌, drop, get_or, length, ap, sym, append_assoc}
 use Rattle.std.proofs.lemmas.List.{drop_more}
 use Rattle.mdl_picture.specs.Moments.{MomentView}
 use Rattle.mdl_script.specs.Worlds.{World, line_played}
 use Rattle.mdl_syntax.specs.declared.script.Line.{Line}
 use Rattle.mdl_timeline.specs.Moments.{moment_of, moments_in}
-use Rattle.mdl_timeline.specs.Statements.{piece_at, statement_at, statement_of}
-
--- the carriage return goes from each line, or from the one that is looked up
-stripped : (pieces : List (List ℕ)) (i : ℕ)
-    → strip_carriage_return (unwrap_or (slice_get pieces i) []) ≡ unwrap_or (slice_get (map strip_carriage_return pieces) i) []
-stripped [] i = refl
-stripped (piece ∷ pieces) zero = refl
-stripped (piece ∷ pieces) (suc i) = stripped pieces i
-
--- the statement of a line, by what stands between line feeds
-pub statement-piece : (text : List ℕ) (pieces : List (List ℕ)) (number : ℕ) → pieces ≡ slice_split (λ byte. byte == 10) text
-    → statement_of (piece_at pieces number) ≡ statement_at text number
-statement-piece text pieces number same =
-    ap (λ ps. statement_of (piece_at ps number)) same ∙ ap statement_of (stripped (slice_split (λ byte. byte == 10) text) (number - 1))
+use Rattle.mdl_timeline.specs.Statements.{statement_at}
 
 -- one line is played, and then the rest follows
 pub one-moment : (text : List ℕ) (lines : List Line) (i : ℕ) (line d : Line) (world after : World) (statement : List ℕ) (moment : MomentView)

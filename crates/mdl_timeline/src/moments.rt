@@ -6,7 +6,8 @@ ghost use Rattle.mdl_script.specs.Worlds.{asked, first_settled, line_played, mos
 ghost use Rattle.mdl_timeline.specs.Moments.{events_of, moment_of, moments_of, turns_after};
 
 use crate::events::push_events;
-use crate::statements::{pieces_of, statement_at};
+use crate::statements::statement_at;
+use mdl_lines::lines_of;
 use mdl_picture::{Event, Moment};
 use mdl_script::{Line, MOST_TURNS, Play};
 use std::alloc::{AllocError, Global};
@@ -20,11 +21,11 @@ pub(crate) fn moments_of(
     requires { All (λ line. IsScriptSession line.session) lines.now }
     ensures { IfOk result (λ moments. moments.items ≡ moments_of text.now lines.now) }
 {
-    let pieces = pieces_of(alloc, text)?;
+    let text_lines = lines_of(alloc, text)?;
     let mut play = Play::new(alloc)?;
     let mut moments = Vec::new(alloc);
     for line in lines {
-        let statement = statement_at(alloc, &pieces, line.number)?;
+        let statement = statement_at(alloc, &text_lines, line.number)?;
         moments.push(play_line(alloc, &mut play, line, &statement)?)?;
     }
     Ok(moments)

@@ -1,37 +1,20 @@
 //! The words of statements, as the text of a script has them.
-ghost use Rattle.std.specs.Prelude.{◌≡◌, ◌++◌, ◌-◌, ◌==◌, [], IfOk, OnOk, codes, drop, flat_map, map, slice_get, unwrap_or};
-ghost use Rattle.std.specs.List.{slice_split};
-ghost use Rattle.std.specs.Str.Lines.{strip_carriage_return};
-ghost use Rattle.mdl_lines.specs.Words.{words_of};
-ghost use Rattle.mdl_timeline.specs.Statements.{joined, piece_at, statement_of};
+ghost use Rattle.std.specs.Prelude.{◌≡◌, ◌++◌, IfOk, OnOk, codes, drop, flat_map, map};
+ghost use Rattle.mdl_lines.specs.Words.{line_in, words_of};
+ghost use Rattle.mdl_timeline.specs.Statements.{joined, statement_of};
 
-use mdl_lines::{is_blank, strip_carriage_return};
+use mdl_lines::{is_blank, line_at};
 use std::alloc::{AllocError, Global};
 
-/// Returns the text of a script, cut at its line feeds.
-pub(crate) fn pieces_of(alloc: Global, text: &[u8]) -> Result<Vec<&[u8]>, AllocError>
-    ensures { IfOk result (λ pieces. map (λ piece. piece.now) pieces.items ≡ slice_split (λ byte. byte == 10) text.now) }
-{
-    text.split(|byte| *byte == b'\n').collect(alloc)
-}
-
-/// Returns the statement of the line of this number.
+/// Returns the statement of the line of this number, counted from 1.
 pub(crate) fn statement_at(
     alloc: Global,
-    pieces: &[&[u8]],
+    lines: &[&[u8]],
     number: u64,
 ) -> Result<Vec<u8>, AllocError>
-    ensures { IfOk result (λ statement. statement.items ≡ statement_of (piece_at (map (λ piece. piece.now) pieces.now) number)) }
+    ensures { IfOk result (λ statement. statement.items ≡ statement_of (line_in (map (λ line. line.now) lines.now) number)) }
 {
-    statement_of(alloc, piece_at(pieces, number))
-}
-
-// The line of this number, counted from 1.
-fn piece_at<'t>(pieces: &[&'t [u8]], number: u64) -> &'t [u8]
-    ensures { result.now ≡ piece_at (map (λ piece. piece.now) pieces.now) number }
-{
-    let place = number.saturating_sub(1) as usize;
-    strip_carriage_return(pieces.get(place).copied().unwrap_or(&[]))
+    statement_of(alloc, line_at(lines, number))
 }
 
 // The statement of a line: its words after that of its session, separated by single blanks.

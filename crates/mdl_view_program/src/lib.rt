@@ -21,7 +21,7 @@
 //! assert!(rt; end.is_ok());
 //! assert_eq!(rt;
 //!     output.as_slice(),
-//!     b"1 request waits. Ways out, the best first:
+//!     b"1 request waits. Ways out, the best first. Do one, and look again:
 //! 1. End session 1
 //!    1 wait ends at once
 //!    session 1 holds SR of TABLE test.t

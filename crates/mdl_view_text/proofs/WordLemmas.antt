@@ -6,11 +6,6 @@ use Rattle.std.proofs.lemmas.List.Elements.{filter-append}
 use Rattle.mdl_lines.specs.Words.{is_blank}
 use Rattle.mdl_view_text.specs.Explanations.{word_start}
 
--- a piece, or another one where it isn't there
-pub now-unwrap_or : (found : Option (Bor (List ℕ))) (other : Bor (List ℕ)) → (unwrap_or found other).now ≡ unwrap_or (option_map (λ piece. piece.now) found) other.now
-now-unwrap_or (Some piece) other = refl
-now-unwrap_or None other = refl
-
 -- behind a blank a word begins
 starts : (line : List ℕ) (place : ℕ) → is_blank (get_or line place 32) ≡ true → suc place ≡ word_start line (suc place)
 unfolding word_start

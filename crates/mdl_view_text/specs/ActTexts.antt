@@ -9,7 +9,7 @@ use Rattle.mdl_view.specs.declared.act.Act.TheVariants.{Kill, KillQuery}
 use Rattle.mdl_view.specs.Acts.{target_of}
 use Rattle.mdl_view_text.specs.Layouts.{line_with}
 use Rattle.mdl_view_text.specs.Names.{NamesView, knows_connections, numbered, owner_of}
-use Rattle.mdl_view_text.specs.Owners.{description}
+use Rattle.mdl_view_text.specs.Owners.{description, runs}
 
 -- the statement's words
 abbrev pub act_words : Act → List ℕ
@@ -35,8 +35,10 @@ abbrev pub number_line : List ℕ → Act → ℕ → List ℕ
 number_line start act thread =
     start ++ numbered (end_words act) thread (codes ". ") ++ act_words act ++ codes " takes the number that this returns:\n"
 
-abbrev pub query_line : ℕ → List ℕ
-query_line thread = numbered (codes "   SELECT PROCESSLIST_ID FROM performance_schema.threads WHERE THREAD_ID = ") thread (codes ";\n")
+-- the lines below the first one are indented
+abbrev pub query_line : List ℕ → ℕ → List ℕ
+query_line indent thread =
+    indent ++ numbered (codes "SELECT PROCESSLIST_ID FROM performance_schema.threads WHERE THREAD_ID = ") thread (codes ";\n")
 
 -- a thread without a connection, where other threads have one
 abbrev pub background_line : List ℕ → ℕ → List ℕ
@@ -44,9 +46,9 @@ background_line start thread =
     start ++ numbered (codes "Thread ") thread (codes " is the server's own: it has no connection, and KILL can't end it.\n")
 
 -- a thread whose connection isn't known
-abbrev pub thread_lines : Bool → List ℕ → Act → ℕ → List ℕ
-thread_lines true start act thread = background_line start thread
-thread_lines false start act thread = number_line start act thread ++ query_line thread
+abbrev pub thread_lines : Bool → List ℕ → List ℕ → Act → ℕ → List ℕ
+thread_lines true start indent act thread = background_line start thread
+thread_lines false start indent act thread = number_line start act thread ++ query_line indent thread
 
 -- a session of a script
 abbrev pub script_words : Act → List ℕ
@@ -57,13 +59,17 @@ abbrev pub script_line : List ℕ → Act → List ℕ
 script_line start act = start ++ script_words act ++ decimal (target_of act) ++ 10 ∷ []
 
 -- what to type, behind what the line starts with
-abbrev pub owner_lines : Bool → List ℕ → Act → OwnerView → Option ℕ → List ℕ
-owner_lines known start act owner (Some connection) = statement_line start act connection owner
-owner_lines known start act owner None = thread_lines known start act owner.thread
+abbrev pub owner_lines : Bool → List ℕ → List ℕ → Act → OwnerView → Option ℕ → List ℕ
+owner_lines known start indent act owner (Some connection) = statement_line start act connection owner
+owner_lines known start indent act owner None = thread_lines known start indent act owner.thread
 
-abbrev pub act_lines_by : NamesView → List ℕ → Act → Option OwnerView → List ℕ
-act_lines_by names start act (Some owner) = owner_lines (knows_connections names) start act owner owner.connection
-act_lines_by names start act None = script_line start act
+abbrev pub typed_lines_by : NamesView → List ℕ → List ℕ → Act → Option OwnerView → List ℕ
+typed_lines_by names start indent act (Some owner) = owner_lines (knows_connections names) start indent act owner owner.connection
+typed_lines_by names start indent act None = script_line start act
 
-abbrev pub act_lines : NamesView → List ℕ → Act → List ℕ
-act_lines names start act = act_lines_by names start act (owner_of names (target_of act))
+abbrev pub typed_lines : NamesView → List ℕ → List ℕ → Act → List ℕ
+typed_lines names start indent act = typed_lines_by names start indent act (owner_of names (target_of act))
+
+-- what to type, and what the session runs
+abbrev pub act_lines : NamesView → List ℕ → List ℕ → Act → List ℕ
+act_lines names start indent act = typed_lines names start indent act ++ runs names indent (target_of act)

@@ -1,11 +1,10 @@
 -- Which word of a script is refused, and why. The script language is this project's own.
-use Rattle.std.specs.Prelude.{ℕ, zero, suc, ◌-◌, Bool, not, ◌&&◌, ◌||◌, ◌==◌, List, [], ◌∷◌, ◌++◌, Option, Some, None, codes, drop, filter, get_or, is_ok, length, slice_get, take, unwrap_or, if◌then◌else◌}
-use Rattle.std.specs.List.{list_all, list_any, range_with_len, slice_split}
-use Rattle.std.specs.Str.Lines.{strip_carriage_return}
+use Rattle.std.specs.Prelude.{ℕ, zero, suc, ◌-◌, Bool, not, ◌&&◌, ◌||◌, ◌==◌, List, [], ◌∷◌, ◌++◌, Option, Some, None, codes, drop, filter, get_or, is_ok, length, take, if◌then◌else◌}
+use Rattle.std.specs.List.{list_all, list_any, range_with_len}
 use Rattle.mdl_key.specs.Keys.{is_name_byte}
 use Rattle.mdl_lines.specs.declared.fault.LineError.{LineError}
 use Rattle.mdl_lines.specs.declared.fault.LineError.TheVariants.{BadSession, BadName, LongLine, NotAscii}
-use Rattle.mdl_lines.specs.Words.{is_blank}
+use Rattle.mdl_lines.specs.Words.{is_blank, line_at}
 use Rattle.mdl_syntax.specs.Scripts.{parsed}
 use Rattle.mdl_view_text.specs.declared.refused_words.WordPlace.{WordPlace}
 use Rattle.mdl_view_text.specs.Refusals.{refused_line, refused_word}
@@ -85,10 +84,6 @@ abbrev pub line_explained : ℕ → LineError → List ℕ → List ℕ
 line_explained number LongLine line = refused_line number (codes "it has more than 4096 bytes")
 line_explained number NotAscii line = refused_line number (codes "it has a byte that is not ASCII")
 line_explained number error line = word_explained number error line (first_bad_word line 1 (word_ends line))
-
--- the line of this number
-abbrev pub line_at : List ℕ → ℕ → List ℕ
-line_at text number = strip_carriage_return (unwrap_or (slice_get (slice_split (λ byte. byte == 10) text) (number - 1)) [])
 
 -- the text for the line of this number of a script, refused with this error
 abbrev pub explanation : List ℕ → ℕ → LineError → List ℕ

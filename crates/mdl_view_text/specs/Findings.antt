@@ -1,6 +1,6 @@
 -- What the answer to `why` says, before it is put into words: the ways out, the waits that no single way ends, those in deadlocks, and those that
 -- the tickets don't explain.
-use Rattle.std.specs.Prelude.{◌≡◌, ℕ, Bool, true, false, not, ◌&&◌, ◌==◌, ◌+◌, ◌-◌, List, [], ◌∷◌, ◌++◌, get_or, if◌then◌else◌, length, map, take}
+use Rattle.std.specs.Prelude.{◌≡◌, ℕ, Bool, true, false, not, ◌&&◌, ◌==◌, ◌+◌, ◌-◌, List, [], ◌∷◌, ◌++◌, filter, get_or, if◌then◌else◌, length, map, take}
 use Rattle.std.specs.List.{All, list_any}
 use Rattle.mdl_view.specs.declared.act.Act.{Act}
 use Rattle.mdl_view.specs.declared.act.Act.TheVariants.{Kill, KillQuery}
@@ -28,9 +28,19 @@ abbrev pub waits_among : List LockView → ℕ
 waits_among [] = 0
 waits_among (lock ∷ locks) = length lock.waiting + waits_among locks
 
--- what follows from a way: the session holds these tickets; these waits are granted at once, and these end in turn
+-- the lock with this index. Each index that is used has one
+abbrev pub lock_at : List LockView → ℕ → LockView
+lock_at locks place = get_or locks place (empty_lock kind.Object)
+
+-- whether somebody waits at the lock of a ticket
+abbrev pub is_wanted : List LockView → AtLock → Bool
+is_wanted locks at = not (length (lock_at locks at.lock).waiting == 0)
+
+-- what follows from a way: the session holds these tickets, and at the locks of these of them somebody waits; these waits are granted at once, and
+-- these end in turn
 pub record Follows (locks : List LockView) (found : WayFound) : Type 0 where
   pub held : found.held.items ≡ held_by (target_of found.way.act) locks
+  pub wanted : found.wanted.items ≡ filter (is_wanted locks) (held_by (target_of found.way.act) locks)
   pub granted : found.at_once.items ≡ at_once found.way.act locks
   pub ended : Sessions
   pub end_after : EndAfter found.way.act locks ended
@@ -52,10 +62,6 @@ outlasts lock ask session held = (held.session == session) && holds_against lock
 -- the act by which a session no longer blocks a request: that which costs it less
 abbrev pub act_against : LockView → Ticket → ℕ → Act
 act_against lock ask session = if list_any (outlasts lock ask session) lock.granted then Kill session else KillQuery session
-
--- the lock with this index. Each index that is used has one
-abbrev pub lock_at : List LockView → ℕ → LockView
-lock_at locks place = get_or locks place (empty_lock kind.Object)
 
 -- what a wait needs: each of these acts, and so many in all
 pub record Needs (locks : List LockView) (wait : BlockedWait) : Type 0 where

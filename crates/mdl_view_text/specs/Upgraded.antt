@@ -7,12 +7,12 @@ use Rattle.mdl_view_text.specs.Layouts.{line_with}
 use Rattle.mdl_view_text.specs.Names.{NamesView, lock_name, session_text}
 use Rattle.mdl_view_text.specs.Why.{and_more, mode_of, most_lines}
 
--- the line for a lock: who holds it, in which mode by its row, and in which mode it is taken to be held by now
+-- the line for a lock: who holds it, in which mode it is taken to be held by now, and the mode in its row
 abbrev pub upgrade_start : NamesView → Upgrade → List ℕ
-upgrade_start names upgrade = codes "   " ++ session_text names upgrade.ticket.session ++ codes " holds " ++ mode_of upgrade.ticket.mode
+upgrade_start names upgrade = codes "   " ++ session_text names upgrade.ticket.session ++ codes " has " ++ mode_of upgrade.now
 
 abbrev pub upgrade_end : Upgrade → List ℕ
-upgrade_end upgrade = codes ", and is taken to have " ++ lock_mode_name upgrade.now ++ codes " by now"
+upgrade_end upgrade = codes " by now, not " ++ lock_mode_name upgrade.ticket.mode
 
 abbrev pub upgrade_line : NamesView → Upgrade → List ℕ
 upgrade_line names upgrade = line_with (upgrade_start names upgrade) (lock_name names upgrade.lock) (upgrade_end upgrade)
@@ -20,7 +20,7 @@ upgrade_line names upgrade = line_with (upgrade_start names upgrade) (lock_name 
 -- all of them, under an answer
 abbrev pub upgrades_head : ℕ → List ℕ
 upgrades_head zero = []
-upgrades_head (suc count) = codes "Rows show the mode that a lock had at first, and no upgrade:" ++ 10 ∷ []
+upgrades_head (suc count) = codes "Inferred, because rows show the mode that a lock was taken with, and no upgrade:" ++ 10 ∷ []
 
 abbrev pub upgrades_text : NamesView → List Upgrade → List ℕ
 upgrades_text names upgrades =

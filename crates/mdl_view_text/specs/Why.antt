@@ -16,6 +16,7 @@ use Rattle.mdl_view_text.specs.ActTexts.{act_lines}
 use Rattle.mdl_view_text.specs.Layouts.{line_with}
 use Rattle.mdl_view_text.specs.LeftOuts.{left_out_line, unexplained_count, unexplained_words, waiting_among}
 use Rattle.mdl_view_text.specs.Names.{NamesView, knows_connections, lock_name, numbered, printed, session_text}
+use Rattle.mdl_view_text.specs.Owners.{runs}
 
 -- ---- how many wait
 
@@ -24,7 +25,7 @@ wait_words count = if count == 1 then codes "1 request waits" else decimal count
 
 abbrev pub ways_head : List WayFound → List ℕ
 ways_head [] = codes "." ++ 10 ∷ []
-ways_head (way ∷ ways) = codes ". Ways out, the best first:" ++ 10 ∷ []
+ways_head (way ∷ ways) = codes ". Ways out, the best first. Do one, and look again:" ++ 10 ∷ []
 
 -- the first line. It says that no session waits only if no row does
 abbrev pub head_line : ℕ → List WayFound → List ℕ
@@ -55,6 +56,39 @@ and_more more = if more == 0 then [] else numbered (codes "   and ") more (codes
 abbrev pub ticket_lines : NamesView → List ℕ → List ℕ → List AtLock → List ℕ
 ticket_lines names verb rest ats = flat_map (ticket_line names verb rest) (take most_lines ats) ++ and_more (length ats - most_lines)
 
+-- what lines below a line of a ticket start with
+abbrev pub deeper : List ℕ
+deeper = codes "      "
+
+-- the line of a request that is granted, and what its session runs then
+abbrev pub granted_line : NamesView → AtLock → List ℕ
+granted_line names at = ticket_line names (codes " gets ") [] at ++ runs names deeper at.ticket.session
+
+abbrev pub granted_lines : NamesView → List AtLock → List ℕ
+granted_lines names ats = flat_map (granted_line names) (take most_lines ats) ++ and_more (length ats - most_lines)
+
+-- ---- what a session holds
+
+-- what the line for other locks starts with: the session, unless a line before has it
+abbrev pub others_start : NamesView → ℕ → ℕ → List ℕ
+others_start names session listed = if listed == 0 then codes "   " ++ session_text names session ++ codes " holds " else codes "   and "
+
+-- so many locks
+abbrev pub locks_words : ℕ → List ℕ
+locks_words count = if count == 1 then codes "1 lock" else decimal count ++ codes " locks"
+
+-- how many locks of a session nobody waits at, behind a list of others
+abbrev pub others_line : NamesView → ℕ → ℕ → ℕ → List ℕ
+others_line names session listed others =
+    if others == 0 then []
+    else others_start names session listed ++ locks_words others ++ codes " at which nobody waits" ++ 10 ∷ []
+
+-- the locks at which somebody waits, and how many others there are
+abbrev pub held_text : NamesView → WayFound → List ℕ
+held_text names found =
+    ticket_lines names (codes " holds ") [] found.wanted.items
+    ++ others_line names (target_of found.way.act) (length found.wanted.items) (length found.held.items - length found.wanted.items)
+
 -- ---- ways out
 
 -- so many waits end
@@ -80,12 +114,11 @@ number_start place = numbered [] (place + 1) (codes ". ")
 
 -- a way: what to type, what follows, what the session holds, and who gets what at once
 abbrev pub way_head : NamesView → ℕ → Way → List ℕ
-way_head names place way = act_lines names (number_start place) way.act ++ effect_line way
+way_head names place way = act_lines names (number_start place) (codes "   ") way.act ++ effect_line way
 
 abbrev pub way_text : NamesView → ℕ → WayFound → List ℕ
 way_text names place found =
-    way_head names place found.way ++ ticket_lines names (codes " holds ") [] found.held.items
-    ++ ticket_lines names (codes " gets ") [] found.at_once.items
+    way_head names place found.way ++ held_text names found ++ granted_lines names found.at_once.items
 
 -- ways, the first of which has this index
 abbrev pub ways_from : NamesView → ℕ → List WayFound → List ℕ
@@ -98,18 +131,32 @@ more_ways_line more = if more == 0 then [] else numbered (codes "More ways, whic
 
 -- ---- waits that no single act ends
 
+-- who gets what, in place of one of these ways
+abbrev pub so_that : List WayFound → List ℕ
+so_that [] = codes "So that "
+so_that (way ∷ ways) = codes "Or, so that "
+
+abbrev pub joint_start : NamesView → List WayFound → AtLock → List ℕ
+joint_start names ways at = so_that ways ++ session_text names at.ticket.session ++ codes " gets " ++ mode_of at.ticket.mode
+
+abbrev pub joint_line : NamesView → List WayFound → AtLock → List ℕ
+joint_line names ways at = line_with (joint_start names ways at) (lock_name names at.lock) (codes ",")
+
+-- and what it runs then
+abbrev pub joint_head : NamesView → List WayFound → AtLock → List ℕ
+joint_head names ways at = joint_line names ways at ++ runs names (codes "   ") at.ticket.session
+
 -- each of so many acts is needed
 abbrev pub all_words : ℕ → List ℕ
-all_words count = if count == 2 then codes " goes on only after both of these:" else numbered (codes " goes on only after all ") count (codes " of these:")
+all_words count = if count == 2 then codes "do both of these:\n" else numbered (codes "do all ") count (codes " of these:\n")
 
-abbrev pub joint_line : NamesView → BlockedWait → List ℕ
-joint_line names wait = session_text names wait.at.ticket.session ++ all_words wait.blockers ++ 10 ∷ []
+abbrev pub acts_text : NamesView → BlockedWait → List ℕ
+acts_text names wait =
+    all_words wait.blockers ++ flat_map (act_lines names (codes "   ") deeper) wait.acts.items ++ and_more (wait.blockers - length wait.acts.items)
 
 -- a wait, and what to type for it
-abbrev pub joint_text : NamesView → BlockedWait → List ℕ
-joint_text names wait =
-    joint_line names wait ++ flat_map (act_lines names (codes "   ")) wait.acts.items ++ and_more (wait.blockers - length wait.acts.items)
-    ++ ticket_line names (codes " waits for ") [] wait.at
+abbrev pub joint_text : NamesView → List WayFound → BlockedWait → List ℕ
+joint_text names ways wait = joint_head names ways wait.at ++ acts_text names wait
 
 abbrev pub more_joint_line : ℕ → List ℕ
 more_joint_line more = if more == 0 then [] else numbered (codes "More requests that go on only after several acts: ") more (10 ∷ [])
@@ -193,25 +240,31 @@ all_waits found left_out = found.waits + waiting_among left_out
 abbrev pub passing : Findings → ℕ
 passing found = found.waits - found.blocked - length found.unexplained.items
 
--- where rows have no numbers of connections: what prints rows that do
+-- where rows have no numbers of connections, and something is to be ended: that KILL takes others, and what prints an answer with both
 abbrev pub lacks_connections : NamesView → Bool
 lacks_connections names = not (length names.owners == 0) && not (knows_connections names)
 
-abbrev pub better_rows : NamesView → Bool → List ℕ
-better_rows names has_acts =
+abbrev pub threads_note : NamesView → Bool → List ℕ
+threads_note names has_acts =
     if has_acts && lacks_connections names
-    then codes "Rows that have the numbers for KILL: mysql -B -e \"$(mdlview query)\" | mdlview" ++ 10 ∷ []
+    then codes "The numbers below are of threads. KILL takes those of connections, which differ. To get both, run:" ++ 10 ∷ []
+    ++ codes "   mysql -B -e \"$(mdlview query)\" | mdlview" ++ 10 ∷ []
     else []
+
+-- the first lines
+abbrev pub start_text : NamesView → Findings → List LeftOut → List ℕ
+start_text names found left_out =
+    threads_note names (not (length found.ways.items == 0) || not (length found.joint.items == 0))
+    ++ head_line (all_waits found left_out) found.ways.items
 
 abbrev pub ways_text : NamesView → Findings → List ℕ
 ways_text names found =
-    ways_from names 0 found.ways.items ++ more_ways_line found.more_ways ++ flat_map (joint_text names) found.joint.items ++ more_joint_line found.more_joint
+    ways_from names 0 found.ways.items ++ more_ways_line found.more_ways ++ flat_map (joint_text names found.ways.items) found.joint.items ++ more_joint_line found.more_joint
 
 abbrev pub other_text : NamesView → Findings → List LeftOut → List ℕ
 other_text names found left_out =
     stuck_text names found.stuck.items found.stuck_count ++ passing_line (passing found) ++ unexplained_text names found.unexplained.items left_out
-    ++ better_rows names (not (length found.ways.items == 0) || not (length found.joint.items == 0))
 
 abbrev pub why_text : NamesView → Findings → List LeftOut → List ℕ
 why_text names found left_out =
-    head_line (all_waits found left_out) found.ways.items ++ ways_text names found ++ other_text names found left_out ++ left_out_line left_out
+    start_text names found left_out ++ ways_text names found ++ other_text names found left_out ++ left_out_line left_out

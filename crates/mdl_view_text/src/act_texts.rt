@@ -1,29 +1,48 @@
 //! What to type to end a session or its statement.
 ghost use Rattle.std.specs.Prelude.{◌≡◌, ◌++◌, IfOk, OnOk};
-ghost use Rattle.mdl_view_text.specs.ActTexts.{act_lines, act_words, background_line, comment, end_words, number_line, owner_lines, query_line, script_line, script_words, statement, statement_line, thread_lines};
+ghost use Rattle.mdl_view_text.specs.ActTexts.{act_lines, act_words, background_line, comment, end_words, number_line, owner_lines, query_line, script_line, script_words, statement, statement_line, thread_lines, typed_lines};
 
 use crate::findings::target_of;
 use crate::layout::push_line_with;
 use crate::names::{Names, knows_connections};
-use crate::owners::description;
-use crate::text::{push, push_number, push_numbered};
+use crate::owners::{description, push_runs};
+use crate::text::push_numbered;
+use mdl_lines::{push, push_number};
 use mdl_lock_rows::Owner;
 use mdl_view::Act;
 use std::alloc::{AllocError, Global};
 
 /// Appends the line that says what to type: `KILL 8;  -- app@10.0.0.7, Sleep 412 s`. If the number of the connection isn't known, the query
-/// that returns it is printed in its place. `start` is what the line starts with.
+/// that returns it is printed in its place. Below is what the session runs, if that is known. `start` is what the first line starts with, and
+/// `indent` what the others do.
 pub(crate) fn push_act(
     out: &mut Vec<u8>,
     alloc: Global,
     names: &Names,
     start: &[u8],
+    indent: &[u8],
     act: Act,
 ) -> Result<(), AllocError>
-    ensures { OnOk result (out.new.items ≡ out.old.items ++ act_lines names.now start.now act) }
+    ensures { OnOk result (out.new.items ≡ out.old.items ++ act_lines names.now start.now indent.now act) }
 {
+    push_typed(out, alloc, names, start, indent, act)?;
+    push_runs(out, alloc, names, indent, target_of(act))
+}
+
+// Appends what to type.
+fn push_typed(
+    out: &mut Vec<u8>,
+    alloc: Global,
+    names: &Names,
+    start: &[u8],
+    indent: &[u8],
+    act: Act,
+) -> Result<(), AllocError>
+    ensures { OnOk result (out.new.items ≡ out.old.items ++ typed_lines names.now start.now indent.now act) }
+{
+    let is_known = knows_connections(names);
     match names.owner(target_of(act)) {
-        Some(owner) => push_owner_act(out, alloc, knows_connections(names), start, act, owner),
+        Some(owner) => push_owner_act(out, alloc, is_known, start, indent, act, owner),
         None => push_script_act(out, start, act),
     }
 }
@@ -34,14 +53,15 @@ fn push_owner_act(
     alloc: Global,
     is_known: bool,
     start: &[u8],
+    indent: &[u8],
     act: Act,
     owner: &Owner,
 ) -> Result<(), AllocError>
-    ensures { OnOk result (out.new.items ≡ out.old.items ++ owner_lines is_known start.now act owner.now owner.now.connection) }
+    ensures { OnOk result (out.new.items ≡ out.old.items ++ owner_lines is_known start.now indent.now act owner.now owner.now.connection) }
 {
     match owner.connection() {
         Some(connection) => push_statement_line(out, alloc, start, act, connection, owner),
-        None => push_thread_act(out, is_known, start, act, owner.thread()),
+        None => push_thread_act(out, is_known, start, indent, act, owner.thread()),
     }
 }
 
@@ -103,16 +123,17 @@ fn push_thread_act(
     out: &mut Vec<u8>,
     is_known: bool,
     start: &[u8],
+    indent: &[u8],
     act: Act,
     thread: u64,
 ) -> Result<(), AllocError>
-    ensures { OnOk result (out.new.items ≡ out.old.items ++ thread_lines is_known start.now act thread) }
+    ensures { OnOk result (out.new.items ≡ out.old.items ++ thread_lines is_known start.now indent.now act thread) }
 {
     if is_known {
         return push_background(out, start, thread);
     }
     push_number_line(out, start, act, thread)?;
-    push_query(out, thread)
+    push_query(out, indent, thread)
 }
 
 // Appends that a thread has no connection.
@@ -154,12 +175,13 @@ fn end_words(act: Act) -> &'static [u8]
 }
 
 // Appends the query that returns the number of a thread's connection.
-fn push_query(out: &mut Vec<u8>, thread: u64) -> Result<(), AllocError>
-    ensures { OnOk result (out.new.items ≡ out.old.items ++ query_line thread) }
+fn push_query(out: &mut Vec<u8>, indent: &[u8], thread: u64) -> Result<(), AllocError>
+    ensures { OnOk result (out.new.items ≡ out.old.items ++ query_line indent.now thread) }
 {
+    push(out, indent)?;
     push_numbered(
         out,
-        b"   SELECT PROCESSLIST_ID FROM performance_schema.threads WHERE THREAD_ID = ",
+        b"SELECT PROCESSLIST_ID FROM performance_schema.threads WHERE THREAD_ID = ",
         thread,
         b";\n",
     )

@@ -1,9 +1,9 @@
 //! What the answer to `why` says, before it is put into words.
-ghost use Rattle.std.specs.Prelude.{◌≡◌, ◌+◌, ◌-◌, length, map, take, IfOk};
+ghost use Rattle.std.specs.Prelude.{◌≡◌, ◌+◌, ◌-◌, filter, length, map, take, IfOk};
 ghost use Rattle.std.specs.List.{All, list_any};
 ghost use Rattle.mdl_view.specs.Acts.{target_of};
 ghost use Rattle.mdl_view.specs.Ways.{blockers_of};
-ghost use Rattle.mdl_view_text.specs.Findings.{AreFindings, Follows, Needs, act_against, most_found, outlasts, wait_of, waits_among, way_of};
+ghost use Rattle.mdl_view_text.specs.Findings.{AreFindings, Follows, Needs, act_against, is_wanted, most_found, outlasts, wait_of, waits_among, way_of};
 
 use mdl_view::{
     Act, AtLock, Lock, LockKind, Ticket, Way, at_once, blocked_waits, blockers, held_by, in_turn,
@@ -21,6 +21,8 @@ pub struct WayFound {
     pub way: Way,
     /// What its session holds.
     pub held: Vec<AtLock>,
+    /// Those of it at whose locks somebody waits.
+    pub wanted: Vec<AtLock>,
     /// The waits that are granted at once.
     pub at_once: Vec<AtLock>,
     /// The waits that end in turn.
@@ -122,13 +124,37 @@ fn follow(alloc: Global, locks: &[Lock], way: Way) -> Result<WayFound, AllocErro
     ensures same { IfOk result (λ found. found.way ≡ way) }
     ensures follows { IfOk result (λ found. Follows locks.now found) }
 {
-    let session = target_of(way.act);
+    let held = held_by(alloc, locks, target_of(way.act))?;
     Ok(WayFound {
         way,
-        held: held_by(alloc, locks, session)?,
+        wanted: wanted(alloc, locks, &held)?,
+        held,
         at_once: at_once(alloc, locks, way.act)?,
         in_turn: in_turn(alloc, locks, way.act)?,
     })
+}
+
+// Those of these tickets at whose locks somebody waits.
+fn wanted(alloc: Global, locks: &[Lock], held: &[AtLock]) -> Result<Vec<AtLock>, AllocError>
+    ensures { IfOk result (λ found. found.items ≡ filter (is_wanted locks.now) held.now) }
+{
+    let mut found = Vec::new(alloc);
+    for at in held {
+        if is_wanted(locks, *at) {
+            found.push(*at)?;
+        }
+    }
+    Ok(found)
+}
+
+// Whether somebody waits at the lock of a ticket.
+fn is_wanted(locks: &[Lock], at: AtLock) -> bool
+    ensures { result ≡ is_wanted locks.now at }
+{
+    match locks.get(at.lock) {
+        Some(lock) => !lock.waiting().is_empty(),
+        None => false,
+    }
 }
 
 /// Returns the session that an act is about.

@@ -3,7 +3,8 @@ ghost use Rattle.std.specs.Prelude.{◌≡◌, ◌++◌, flat_map, OnOk, IfOk};
 ghost use Rattle.mdl_view_text.specs.Graph.{arrow, graph_text, label, node, quoted, quoted_byte};
 
 use crate::names::Names;
-use crate::text::{push, push_reason, push_session};
+use crate::text::{push_reason, push_session};
+use mdl_lines::push;
 use mdl_view::Blocking;
 use std::alloc::{AllocError, Global};
 

@@ -9,7 +9,7 @@ use crate::json_text::{
 };
 use crate::layout::push_mark;
 use crate::names::Names;
-use crate::text::push;
+use mdl_lines::push;
 use mdl_lock_rows::LeftOut;
 use mdl_view::{AtLock, Blocking, Lock, Reason, Ticket};
 use std::alloc::{AllocError, Global};

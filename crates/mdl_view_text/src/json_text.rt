@@ -7,7 +7,7 @@ ghost use Rattle.mdl_view_text.specs.Layouts.{listed};
 
 use crate::layout::push_mark;
 use crate::names::{Names, hex_digit};
-use crate::text::{push, push_number};
+use mdl_lines::{push, push_number};
 use mdl_lock_rows::{LeftOut, Owner};
 use mdl_view::{AtLock, LockMode, Ticket};
 use std::alloc::AllocError;

@@ -11,8 +11,8 @@ use crate::json_text::{
 };
 use crate::layout::push_mark;
 use crate::names::Names;
-use crate::text::push;
 use crate::why::all_waits;
+use mdl_lines::push;
 use mdl_lock_rows::LeftOut;
 use mdl_view::Act;
 use std::alloc::{AllocError, Global};

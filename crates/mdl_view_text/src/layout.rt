@@ -2,7 +2,7 @@
 ghost use Rattle.std.specs.Prelude.{◌≡◌, ◌≤◌, ◌-◌, ◌++◌, length, get_or, OnOk};
 ghost use Rattle.mdl_view_text.specs.Layouts.{LinesFit, begin_of_character, cut, goes_on, line_of, line_with, mark_before, most_columns};
 
-use crate::text::push;
+use mdl_lines::push;
 use std::alloc::{AllocError, Global};
 
 // The greatest number of bytes of a line.

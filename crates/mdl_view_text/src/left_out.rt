@@ -6,7 +6,7 @@ ghost use Rattle.mdl_view_text.specs.Layouts.{listed};
 
 use crate::layout::{push_line, push_mark};
 use crate::names::push_name;
-use crate::text::{push, push_number};
+use mdl_lines::{push, push_number};
 use mdl_lock_rows::LeftOut;
 use mdl_view::AtLock;
 use std::alloc::{AllocError, Global};

@@ -25,7 +25,7 @@
 //! let text = why_text(alloc, &names, &find(alloc, &found.locks)?, &found.left_out)?;
 //! assert_eq!(rt;
 //!     text.as_slice(),
-//!     b"1 request waits. Ways out, the best first:
+//!     b"1 request waits. Ways out, the best first. Do one, and look again:
 //! 1. KILL 8;  -- app@web3, Sleep 412 s
 //!    1 wait ends at once
 //!    connection 8 (thread 48) holds SR of TABLE shop.orders

@@ -3,9 +3,9 @@ ghost use Rattle.std.specs.Prelude.{◌≡◌, ◌<◌, ◌/◌, ◌%◌, ◌++�
 ghost use Rattle.std.specs.Option.{option_map};
 ghost use Rattle.mdl_view_text.specs.Names.{book_text, has_connection, hex_digit, key_text, knows_connections, lock_name, named_text, object_text, owner_of, printed, printed_byte, shown_byte, space_text};
 
-use crate::text::push;
 use mdl_book::Book;
 use mdl_key::{Key, Namespace};
+use mdl_lines::push;
 use mdl_lock_rows::{ObjectType, Owner};
 use std::alloc::{AllocError, Global};
 use std::marker::Model;

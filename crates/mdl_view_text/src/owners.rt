@@ -1,22 +1,57 @@
-//! What is printed of a server's session besides its numbers.
+//! What is printed of a server's session besides its numbers, and its statement.
 ghost use Rattle.std.specs.Prelude.{◌≡◌, ◌++◌, [], codes, IfOk, OnOk};
-ghost use Rattle.mdl_view_text.specs.Owners.{account, activity, description, if_any, in_a_line, line_byte, transaction, with_part};
+ghost use Rattle.mdl_view_text.specs.Owners.{account, activity, description, if_any, in_a_line, line_byte, runs, runs_line, transaction, with_part};
 
-use crate::names::push_shown;
-use crate::text::push;
+use crate::layout::push_line;
+use crate::names::{Names, push_shown};
+use mdl_lines::push;
 use mdl_lock_rows::Owner;
 use std::alloc::{AllocError, Global};
 
-/// Returns all that rows say of a session: `app@10.0.0.7, Query 3 s, in a transaction since 2026-11-29 03:12:44: SELECT 1`. Parts that they
-/// don't say are left out.
+/// Returns all that rows say of a session but its statement: `app@10.0.0.7, Query 3 s, in a transaction since 2026-11-29 03:12:44`. Parts that
+/// they don't say are left out.
 pub(crate) fn description(alloc: Global, owner: &Owner) -> Result<Vec<u8>, AllocError>
     ensures { IfOk result (λ words. words.items ≡ description owner.now) }
 {
     let mut words = account(alloc, owner)?;
     push_part(&mut words, b", ", &activity(alloc, owner)?)?;
     push_part(&mut words, b", ", &transaction(alloc, owner)?)?;
-    push_part(&mut words, b": ", &in_a_line(alloc, owner.info())?)?;
     Ok(words)
+}
+
+/// Appends what a session runs, in a line of its own, if that is known: `runs: SELECT 1`.
+pub(crate) fn push_runs(
+    out: &mut Vec<u8>,
+    alloc: Global,
+    names: &Names,
+    indent: &[u8],
+    session: usize,
+) -> Result<(), AllocError>
+    ensures { OnOk result (out.new.items ≡ out.old.items ++ runs names.now indent.now session) }
+{
+    match names.owner(session) {
+        Some(owner) => push_runs_line(out, alloc, indent, owner.info()),
+        None => Ok(()),
+    }
+}
+
+// Appends a statement in a line of its own, unless it is empty.
+fn push_runs_line(
+    out: &mut Vec<u8>,
+    alloc: Global,
+    indent: &[u8],
+    statement: &[u8],
+) -> Result<(), AllocError>
+    ensures { OnOk result (out.new.items ≡ out.old.items ++ runs_line indent.now statement.now) }
+{
+    if statement.is_empty() {
+        return Ok(());
+    }
+    let mut line = Vec::new(alloc);
+    push(&mut line, indent)?;
+    push(&mut line, b"runs: ")?;
+    push_in_a_line(&mut line, statement)?;
+    push_line(out, &line)
 }
 
 // Who it is.

@@ -5,7 +5,7 @@ ghost use Rattle.mdl_view_text.specs.Refusals.{refused_line, refused_word};
 
 use crate::json_text::push_string;
 use crate::layout::{push_line, push_line_with};
-use crate::text::{push, push_number};
+use mdl_lines::{push, push_number};
 use std::alloc::{AllocError, Global};
 
 /// Returns a line that says that a word of a script is refused, and why: `line 3, word 3: "Orders" is no name`. Lines and words are counted

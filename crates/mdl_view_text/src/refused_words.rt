@@ -1,10 +1,10 @@
 //! Which word of a script is refused, and why.
-ghost use Rattle.std.specs.Prelude.{◌≡◌, ◌∷◌, ◌++◌, ◌==◌, [], filter, get_or, slice_get, take, unwrap_or, IfOk, OnOk};
-ghost use Rattle.std.specs.List.{list_all, list_any, slice_split};
-ghost use Rattle.mdl_view_text.specs.Explanations.{bad_word_explained, ends_word, explanation, first_bad_word, goes_on_with, is_of_names, is_script, last_end, line_at, line_explained, may_go_on, missing_word_explained, reason_of, word_before, word_ends, word_explained, word_start};
+ghost use Rattle.std.specs.Prelude.{◌≡◌, ◌∷◌, ◌++◌, [], filter, get_or, take, IfOk, OnOk};
+ghost use Rattle.std.specs.List.{list_all, list_any};
+ghost use Rattle.mdl_view_text.specs.Explanations.{bad_word_explained, ends_word, explanation, first_bad_word, goes_on_with, is_of_names, is_script, last_end, line_explained, may_go_on, missing_word_explained, reason_of, word_before, word_ends, word_explained, word_start};
 
 use crate::refusal::{refused_line, refused_word};
-use mdl_lines::{Fault, LineError, is_blank, strip_carriage_return};
+use mdl_lines::{Fault, LineError, is_blank, line_at, lines_of};
 use mdl_syntax::parse;
 use std::alloc::{AllocError, Global};
 
@@ -57,21 +57,8 @@ pub fn explanation(
 ) -> Result<Vec<u8>, AllocError>
     ensures { IfOk result (λ told. told.items ≡ explanation text.now number error) }
 {
-    line_explained(alloc, number, error, line_at(text, number))
-}
-
-// The line of this number.
-fn line_at(text: &[u8], number: u64) -> &[u8]
-    ensures { result.now ≡ line_at text.now number }
-{
-    strip_carriage_return(piece_at(text, number.saturating_sub(1) as usize))
-}
-
-// The piece of a text at this index, counted from 0, when the text is cut at its line feeds.
-fn piece_at(text: &[u8], place: usize) -> &[u8]
-    ensures { result.now ≡ unwrap_or (slice_get (slice_split (λ byte. byte == 10) text.now) place) [] }
-{
-    text.split(|byte| *byte == b'\n').nth(place).unwrap_or(&[])
+    let lines = lines_of(alloc, text)?;
+    line_explained(alloc, number, error, line_at(&lines, number))
 }
 
 // Why this line is refused.

@@ -3,7 +3,8 @@ ghost use Rattle.std.specs.Prelude.{◌≡◌, ◌++◌, flat_map, OnOk, IfOk};
 ghost use Rattle.mdl_view_text.specs.Rows.{locks_text, rows_of_lock, ticket_row, wait_row, waiter_columns, waits_text};
 
 use crate::names::Names;
-use crate::text::{push, push_column, push_mode_column, push_reason, push_session_column};
+use crate::text::{push_column, push_mode_column, push_reason, push_session_column};
+use mdl_lines::push;
 use mdl_view::{Blocking, Lock, Ticket};
 use std::alloc::{AllocError, Global};
 

@@ -6,24 +6,9 @@ ghost use Rattle.mdl_view_text.specs.Names.{numbered, session_text, thread_text}
 ghost use Rattle.mdl_view_text.specs.Rows.{column, reason_text};
 
 use crate::names::Names;
-use itoa::Buffer;
+use mdl_lines::{push, push_number};
 use mdl_view::{LockMode, Reason};
 use std::alloc::AllocError;
-
-/// Appends bytes.
-pub(crate) fn push(out: &mut Vec<u8>, bytes: &[u8]) -> Result<(), AllocError>
-    ensures { OnOk result (out.new.items ≡ out.old.items ++ bytes.now) }
-{
-    out.extend_from_slice(bytes)
-}
-
-/// Appends a number in decimal digits.
-pub(crate) fn push_number(out: &mut Vec<u8>, number: u64) -> Result<(), AllocError>
-    ensures { OnOk result (out.new.items ≡ out.old.items ++ decimal number) }
-{
-    let mut digits = Buffer::new();
-    push(out, digits.format(number).as_bytes())
-}
 
 /// Appends a number with what comes before it and after it.
 pub(crate) fn push_numbered(

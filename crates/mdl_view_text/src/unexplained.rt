@@ -1,12 +1,12 @@
-//! What `why` says of waits that can't be explained, and of rows that lack the numbers of connections.
+//! What `why` says of waits that can't be explained, and of rows that number threads alone.
 ghost use Rattle.std.specs.Prelude.{◌≡◌, ◌++◌, ◌∷◌, [], ◌==◌, flat_map, OnOk, IfOk};
-ghost use Rattle.mdl_view_text.specs.Why.{better_rows, holder_help, lacks_connections, unexplained_body, unexplained_text, unread_help, unread_line, unread_name, unread_rest, unread_words};
+ghost use Rattle.mdl_view_text.specs.Why.{holder_help, lacks_connections, threads_note, unexplained_body, unexplained_text, unread_help, unread_line, unread_name, unread_rest, unread_words};
 
 use crate::layout::push_line_with;
 use crate::left_out::{push_unexplained_words, unexplained_count, waiting_among};
 use crate::names::{Names, knows_connections, push_name};
-use crate::text::{push, push_number};
 use crate::why::push_tickets;
+use mdl_lines::{push, push_number};
 use mdl_lock_rows::LeftOut;
 use mdl_view::AtLock;
 use std::alloc::{AllocError, Global};
@@ -142,18 +142,21 @@ fn push_unread_help(out: &mut Vec<u8>, waiting: u64) -> Result<(), AllocError>
     )
 }
 
-/// Appends what prints rows that have the numbers of connections, if these don't and there is something to end.
-pub(crate) fn push_better_rows(
+/// Appends that `KILL` takes other numbers than these rows have, and what prints an answer with both, if that is so and there is something to
+/// end.
+pub(crate) fn push_threads_note(
     out: &mut Vec<u8>,
     names: &Names,
     has_acts: bool,
 ) -> Result<(), AllocError>
-    ensures { OnOk result (out.new.items ≡ out.old.items ++ better_rows names.now has_acts) }
+    ensures { OnOk result (out.new.items ≡ out.old.items ++ threads_note names.now has_acts) }
 {
     if has_acts && lacks_connections(names) {
         return push(
             out,
-            b"Rows that have the numbers for KILL: mysql -B -e \"$(mdlview query)\" | mdlview\n",
+            b"The numbers below are of threads. KILL takes those of connections, which differ. To get both, run:
+   mysql -B -e \"$(mdlview query)\" | mdlview
+",
         );
     }
     Ok(())

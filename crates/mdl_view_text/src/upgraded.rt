@@ -5,8 +5,9 @@ ghost use Rattle.mdl_view_text.specs.Why.{most_lines};
 
 use crate::layout::push_line_with;
 use crate::names::Names;
-use crate::text::{push, push_mode, push_numbered, push_session};
+use crate::text::{push_mode, push_numbered, push_session};
 use crate::why::{MOST_LINES, push_and_more, push_mode_of};
+use mdl_lines::push;
 use mdl_view::Upgrade;
 use std::alloc::{AllocError, Global};
 
@@ -49,7 +50,7 @@ fn push_head(out: &mut Vec<u8>, count: usize) -> Result<(), AllocError>
     }
     push(
         out,
-        b"Rows show the mode that a lock had at first, and no upgrade:\n",
+        b"Inferred, because rows show the mode that a lock was taken with, and no upgrade:\n",
     )
 }
 
@@ -100,15 +101,14 @@ fn push_start(out: &mut Vec<u8>, names: &Names, upgrade: Upgrade) -> Result<(), 
 {
     push(out, b"   ")?;
     push_session(out, names, upgrade.ticket.session)?;
-    push(out, b" holds ")?;
-    push_mode_of(out, upgrade.ticket.mode)
+    push(out, b" has ")?;
+    push_mode_of(out, upgrade.now)
 }
 
 // Appends what comes after it.
 fn push_end(out: &mut Vec<u8>, upgrade: Upgrade) -> Result<(), AllocError>
     ensures { OnOk result (out.new.items ≡ out.old.items ++ upgrade_end upgrade) }
 {
-    push(out, b", and is taken to have ")?;
-    push_mode(out, upgrade.now)?;
-    push(out, b" by now")
+    push(out, b" by now, not ")?;
+    push_mode(out, upgrade.ticket.mode)
 }

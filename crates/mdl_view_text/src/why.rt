@@ -1,15 +1,17 @@
 //! The answer to `why`: how many requests wait, what to type so that they go on, and which of them these rows don't explain.
 ghost use Rattle.std.specs.Prelude.{◌≡◌, ◌++◌, ◌-◌, ◌+◌, ◌∷◌, [], codes, flat_map, length, take, OnOk, IfOk};
 ghost use Rattle.mdl_view_text.specs.ActTexts.{act_lines};
-ghost use Rattle.mdl_view_text.specs.Why.{all_at_once, all_waits, all_words, and_more, effect_line, ends_words, first_blocker, head_line, joint_line, joint_text, mode_of, more_joint_line, more_ways_line, most_lines, number_start, other_text, passing, passing_line, stuck_head, stuck_line, stuck_text, stuck_words, ticket_line, ticket_lines, ticket_start, wait_words, way_head, way_text, ways_from, ways_head, ways_text, when_words, why_text};
+ghost use Rattle.mdl_view_text.specs.Why.{acts_text, all_at_once, all_waits, all_words, and_more, deeper, effect_line, ends_words, first_blocker, granted_line, granted_lines, head_line, held_text, joint_head, joint_line, joint_start, joint_text, locks_words, mode_of, more_joint_line, more_ways_line, most_lines, number_start, other_text, others_line, others_start, passing, passing_line, so_that, start_text, stuck_head, stuck_line, stuck_text, stuck_words, ticket_line, ticket_lines, ticket_start, wait_words, way_head, way_text, ways_from, ways_head, ways_text, when_words, why_text};
 
 use crate::act_texts::push_act;
 use crate::findings::{BlockedWait, Findings, WayFound, target_of};
 use crate::layout::push_line_with;
 use crate::left_out::{push_left_out, waiting_among};
 use crate::names::Names;
-use crate::text::{push, push_mode, push_number, push_numbered, push_session};
-use crate::unexplained::{push_better_rows, push_unexplained};
+use crate::owners::push_runs;
+use crate::text::{push_mode, push_numbered, push_session};
+use crate::unexplained::{push_threads_note, push_unexplained};
+use mdl_lines::{push, push_number};
 use mdl_lock_rows::LeftOut;
 use mdl_view::{Act, AtLock, LockMode, Way};
 use std::alloc::{AllocError, Global};
@@ -17,10 +19,13 @@ use std::alloc::{AllocError, Global};
 // The greatest number of lines of a kind that are printed.
 pub(crate) const MOST_LINES: usize = 8;
 
-/// Returns the answer to `why`: how many requests wait; for each way out what to type, how many waits end by it, what its session holds and
-/// who is granted what at once; the waits that go on only after several acts; those in deadlocks; and those that can't be explained, with what
-/// to do about them. Only if no row waits it says so. Of a kind at most eight lines are printed, and then one that says how many more there
-/// are. Names are cut if a line would have more than 100 bytes.
+// What lines below a line of a ticket start with.
+const DEEPER: &[u8] = b"      ";
+
+/// Returns the answer to `why`: how many requests wait; for each way out what to type, how many waits end by it, what its session holds where
+/// somebody waits, and who is granted what at once; the waits that go on only after several acts; those in deadlocks; and those that can't be
+/// explained, with what to do about them. Only if no row waits it says so. Of a kind at most eight lines are printed, and then one that says how
+/// many more there are. Names and statements are cut if a line would have more than 100 bytes.
 pub fn why_text(
     alloc: Global,
     names: &Names,
@@ -30,7 +35,7 @@ pub fn why_text(
     ensures { IfOk result (λ text. text.items ≡ why_text names.now found.now left_out.now) }
 {
     let mut out = Vec::new(alloc);
-    push_head(&mut out, all_waits(found, left_out)?, &found.ways)?;
+    push_start(&mut out, names, found, left_out)?;
     push_ways(&mut out, alloc, names, found)?;
     push_others(&mut out, alloc, names, found, left_out)?;
     push_left_out(&mut out, alloc, left_out)?;
@@ -48,7 +53,24 @@ pub(crate) fn all_waits(found: &Findings, left_out: &[LeftOut]) -> Result<u64, A
     }
 }
 
-// Appends the first line.
+// Appends the first lines.
+fn push_start(
+    out: &mut Vec<u8>,
+    names: &Names,
+    found: &Findings,
+    left_out: &[LeftOut],
+) -> Result<(), AllocError>
+    ensures { OnOk result (out.new.items ≡ out.old.items ++ start_text names.now found.now left_out.now) }
+{
+    push_threads_note(
+        out,
+        names,
+        !found.ways.is_empty() || !found.joint.is_empty(),
+    )?;
+    push_head(out, all_waits(found, left_out)?, &found.ways)
+}
+
+// Appends how many requests wait, and whether there are ways out.
 fn push_head(out: &mut Vec<u8>, count: u64, ways: &[WayFound]) -> Result<(), AllocError>
     ensures { OnOk result (out.new.items ≡ out.old.items ++ head_line count ways.now) }
 {
@@ -70,14 +92,14 @@ fn push_wait_words(out: &mut Vec<u8>, count: u64) -> Result<(), AllocError>
     push(out, b" requests wait")
 }
 
-// The rest of the first line.
+// The rest of that line.
 fn ways_head(ways: &[WayFound]) -> &'static [u8]
     ensures { result.now ≡ ways_head ways.now }
 {
     if ways.is_empty() {
         b".\n"
     } else {
-        b". Ways out, the best first:\n"
+        b". Ways out, the best first. Do one, and look again:\n"
     }
 }
 
@@ -92,7 +114,7 @@ fn push_ways(
 {
     push_each_way(out, alloc, names, &found.ways)?;
     push_more_ways(out, found.more_ways)?;
-    push_each_joint(out, alloc, names, &found.joint)?;
+    push_each_joint(out, alloc, names, &found.ways, &found.joint)?;
     push_more_joint(out, found.more_joint)
 }
 
@@ -122,8 +144,8 @@ fn push_way(
     ensures { OnOk result (out.new.items ≡ out.old.items ++ way_text names.now place found.now) }
 {
     push_way_head(out, alloc, names, place, found.way)?;
-    push_tickets(out, alloc, names, b" holds ", b"", &found.held)?;
-    push_tickets(out, alloc, names, b" gets ", b"", &found.at_once)
+    push_held(out, alloc, names, found)?;
+    push_granted(out, alloc, names, &found.at_once)
 }
 
 // Appends what to type, and how many waits end by it.
@@ -137,7 +159,7 @@ fn push_way_head(
     ensures { OnOk result (out.new.items ≡ out.old.items ++ way_head names.now place way) }
 {
     let start = number_start(alloc, place)?;
-    push_act(out, alloc, names, &start, way.act)?;
+    push_act(out, alloc, names, &start, b"   ", way.act)?;
     push_effect(out, way)
 }
 
@@ -205,6 +227,95 @@ fn push_more_ways(out: &mut Vec<u8>, more: usize) -> Result<(), AllocError>
         return Ok(());
     }
     push_numbered(out, b"More ways, which are no better: ", more as u64, b"\n")
+}
+
+// Appends what the session of a way holds: the locks at which somebody waits, and how many others there are.
+fn push_held(
+    out: &mut Vec<u8>,
+    alloc: Global,
+    names: &Names,
+    found: &WayFound,
+) -> Result<(), AllocError>
+    ensures { OnOk result (out.new.items ≡ out.old.items ++ held_text names.now found.now) }
+{
+    let listed = found.wanted.len();
+    let others = found.held.len().saturating_sub(listed);
+    push_tickets(out, alloc, names, b" holds ", b"", &found.wanted)?;
+    push_others_held(out, names, target_of(found.way.act), listed, others)
+}
+
+// Appends how many locks a session holds at which nobody waits, behind a list of others.
+fn push_others_held(
+    out: &mut Vec<u8>,
+    names: &Names,
+    session: usize,
+    listed: usize,
+    others: usize,
+) -> Result<(), AllocError>
+    ensures { OnOk result (out.new.items ≡ out.old.items ++ others_line names.now session listed others) }
+{
+    if others == 0 {
+        return Ok(());
+    }
+    push_others_start(out, names, session, listed)?;
+    push_locks_words(out, others)?;
+    push(out, b" at which nobody waits\n")
+}
+
+// Appends what that line starts with: the session, unless a line before has it.
+fn push_others_start(
+    out: &mut Vec<u8>,
+    names: &Names,
+    session: usize,
+    listed: usize,
+) -> Result<(), AllocError>
+    ensures { OnOk result (out.new.items ≡ out.old.items ++ others_start names.now session listed) }
+{
+    if listed > 0 {
+        return push(out, b"   and ");
+    }
+    push(out, b"   ")?;
+    push_session(out, names, session)?;
+    push(out, b" holds ")
+}
+
+// Appends so many locks.
+fn push_locks_words(out: &mut Vec<u8>, count: usize) -> Result<(), AllocError>
+    ensures { OnOk result (out.new.items ≡ out.old.items ++ locks_words count) }
+{
+    if count == 1 {
+        return push(out, b"1 lock");
+    }
+    push_numbered(out, b"", count as u64, b" locks")
+}
+
+// Appends the first eight requests that are granted, each with what its session runs then, and how many more there are.
+fn push_granted(
+    out: &mut Vec<u8>,
+    alloc: Global,
+    names: &Names,
+    ats: &[AtLock],
+) -> Result<(), AllocError>
+    ensures { OnOk result (out.new.items ≡ out.old.items ++ granted_lines names.now ats.now) }
+{
+    push_each_granted(out, alloc, names, first_lines(ats))?;
+    push_and_more(out, ats.len().saturating_sub(MOST_LINES))
+}
+
+// Appends each of these requests, with what its session runs.
+fn push_each_granted(
+    out: &mut Vec<u8>,
+    alloc: Global,
+    names: &Names,
+    ats: &[AtLock],
+) -> Result<(), AllocError>
+    ensures { OnOk result (out.new.items ≡ out.old.items ++ flat_map (granted_line names.now) ats.now) }
+{
+    for at in ats {
+        push_ticket(out, alloc, names, b" gets ", b"", *at)?;
+        push_runs(out, alloc, names, DEEPER, at.ticket.session)?;
+    }
+    Ok(())
 }
 
 /// Appends a line for each of the first eight tickets, and how many more there are: the session, what it does, its mode, the lock, and the rest
@@ -304,38 +415,85 @@ fn push_each_joint(
     out: &mut Vec<u8>,
     alloc: Global,
     names: &Names,
+    ways: &[WayFound],
     waits: &[BlockedWait],
 ) -> Result<(), AllocError>
-    ensures { OnOk result (out.new.items ≡ out.old.items ++ flat_map (joint_text names.now) waits.now) }
+    ensures { OnOk result (out.new.items ≡ out.old.items ++ flat_map (joint_text names.now ways.now) waits.now) }
 {
     for wait in waits {
-        push_joint(out, alloc, names, wait)?;
+        push_joint_head(out, alloc, names, ways, wait.at)?;
+        push_acts_text(out, alloc, names, wait)?;
     }
     Ok(())
 }
 
-// Appends a wait that several acts are needed for, and what to type for it.
-fn push_joint(
+// Appends who gets what, in place of one of these ways, and what it runs then.
+fn push_joint_head(
+    out: &mut Vec<u8>,
+    alloc: Global,
+    names: &Names,
+    ways: &[WayFound],
+    at: AtLock,
+) -> Result<(), AllocError>
+    ensures { OnOk result (out.new.items ≡ out.old.items ++ joint_head names.now ways.now at) }
+{
+    push_joint_line(out, alloc, names, ways, at)?;
+    push_runs(out, alloc, names, b"   ", at.ticket.session)
+}
+
+// Appends who gets what.
+fn push_joint_line(
+    out: &mut Vec<u8>,
+    alloc: Global,
+    names: &Names,
+    ways: &[WayFound],
+    at: AtLock,
+) -> Result<(), AllocError>
+    ensures { OnOk result (out.new.items ≡ out.old.items ++ joint_line names.now ways.now at) }
+{
+    let mut start = Vec::new(alloc);
+    push_joint_start(&mut start, names, ways, at)?;
+    push_line_with(out, alloc, &start, names.lock(at.lock), b",")
+}
+
+// Appends the beginning of that line, before the lock's name.
+fn push_joint_start(
+    out: &mut Vec<u8>,
+    names: &Names,
+    ways: &[WayFound],
+    at: AtLock,
+) -> Result<(), AllocError>
+    ensures { OnOk result (out.new.items ≡ out.old.items ++ joint_start names.now ways.now at) }
+{
+    push(out, so_that(ways))?;
+    push_session(out, names, at.ticket.session)?;
+    push(out, b" gets ")?;
+    push_mode_of(out, at.ticket.mode)
+}
+
+// What it starts with: whether there is another way.
+fn so_that(ways: &[WayFound]) -> &'static [u8]
+    ensures { result.now ≡ so_that ways.now }
+{
+    if ways.is_empty() {
+        b"So that "
+    } else {
+        b"Or, so that "
+    }
+}
+
+// Appends what to type for a wait that several acts are needed for.
+fn push_acts_text(
     out: &mut Vec<u8>,
     alloc: Global,
     names: &Names,
     wait: &BlockedWait,
 ) -> Result<(), AllocError>
-    ensures { OnOk result (out.new.items ≡ out.old.items ++ joint_text names.now wait.now) }
+    ensures { OnOk result (out.new.items ≡ out.old.items ++ acts_text names.now wait.now) }
 {
-    push_joint_line(out, names, wait)?;
-    push_acts(out, alloc, names, &wait.acts)?;
-    push_and_more(out, wait.blockers.saturating_sub(wait.acts.len()))?;
-    push_ticket(out, alloc, names, b" waits for ", b"", wait.at)
-}
-
-// Appends which session goes on, and after how many acts.
-fn push_joint_line(out: &mut Vec<u8>, names: &Names, wait: &BlockedWait) -> Result<(), AllocError>
-    ensures { OnOk result (out.new.items ≡ out.old.items ++ joint_line names.now wait.now) }
-{
-    push_session(out, names, wait.at.ticket.session)?;
     push_all_words(out, wait.blockers)?;
-    push(out, b"\n")
+    push_acts(out, alloc, names, &wait.acts)?;
+    push_and_more(out, wait.blockers.saturating_sub(wait.acts.len()))
 }
 
 // Appends that each of so many acts is needed.
@@ -343,14 +501,9 @@ fn push_all_words(out: &mut Vec<u8>, count: usize) -> Result<(), AllocError>
     ensures { OnOk result (out.new.items ≡ out.old.items ++ all_words count) }
 {
     if count == 2 {
-        return push(out, b" goes on only after both of these:");
+        return push(out, b"do both of these:\n");
     }
-    push_numbered(
-        out,
-        b" goes on only after all ",
-        count as u64,
-        b" of these:",
-    )
+    push_numbered(out, b"do all ", count as u64, b" of these:\n")
 }
 
 // Appends what to type for each of these acts.
@@ -360,10 +513,10 @@ fn push_acts(
     names: &Names,
     acts: &[Act],
 ) -> Result<(), AllocError>
-    ensures { OnOk result (out.new.items ≡ out.old.items ++ flat_map (act_lines names.now (codes "   ")) acts.now) }
+    ensures { OnOk result (out.new.items ≡ out.old.items ++ flat_map (act_lines names.now (codes "   ") deeper) acts.now) }
 {
     for act in acts {
-        push_act(out, alloc, names, b"   ", *act)?;
+        push_act(out, alloc, names, b"   ", DEEPER, *act)?;
     }
     Ok(())
 }
@@ -395,12 +548,7 @@ fn push_others(
 {
     push_stuck(out, alloc, names, &found.stuck, found.stuck_count)?;
     push_passing(out, passing(found))?;
-    push_unexplained(out, alloc, names, &found.unexplained, left_out)?;
-    push_better_rows(
-        out,
-        names,
-        !found.ways.is_empty() || !found.joint.is_empty(),
-    )
+    push_unexplained(out, alloc, names, &found.unexplained, left_out)
 }
 
 // How many waits are only behind others that are over.

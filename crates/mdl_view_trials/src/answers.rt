@@ -35,11 +35,12 @@ const JAMS: &[Jam] = &[
 FUNCTION\tshop\tf\tEXCLUSIVE\tPENDING\t17\t9\tDROP FUNCTION f
 ",
         explained: Explained::Fully,
-        answer: b"1 request waits. Ways out, the best first:
+        answer: b"1 request waits. Ways out, the best first. Do one, and look again:
 1. KILL 8;
    1 wait ends at once
    connection 8 (thread 16) holds S of FUNCTION shop.f
    connection 9 (thread 17) gets X of FUNCTION shop.f
+      runs: DROP FUNCTION f
 ",
     },
     // Ending one of the two readers alone doesn't help the change.
@@ -52,10 +53,12 @@ TABLE\tshop\torders\tEXCLUSIVE\tPENDING\t18\t10\tTRUNCATE orders
 ",
         explained: Explained::Fully,
         answer: b"1 request waits.
-connection 10 (thread 18) goes on only after both of these:
+So that connection 10 (thread 18) gets X of TABLE shop.orders,
+   runs: TRUNCATE orders
+do both of these:
    KILL 8;
-   KILL 9;  -- SELECT SLEEP(100)
-   connection 10 (thread 18) waits for X of TABLE shop.orders
+   KILL 9;
+      runs: SELECT SLEEP(100)
 ",
     },
     Jam {
@@ -65,13 +68,14 @@ connection 10 (thread 18) goes on only after both of these:
 TABLE\tshop\torders\tEXCLUSIVE\tPENDING\t18
 ",
         explained: Explained::Fully,
-        answer: b"1 request waits. Ways out, the best first:
+        answer: b"The numbers below are of threads. KILL takes those of connections, which differ. To get both, run:
+   mysql -B -e \"$(mdlview query)\" | mdlview
+1 request waits. Ways out, the best first. Do one, and look again:
 1. End thread 16. KILL takes the number that this returns:
    SELECT PROCESSLIST_ID FROM performance_schema.threads WHERE THREAD_ID = 16;
    1 wait ends at once
    thread 16 holds SR of TABLE shop.orders
    thread 18 gets X of TABLE shop.orders
-Rows that have the numbers for KILL: mysql -B -e \"$(mdlview query)\" | mdlview
 ",
     },
     Jam {
@@ -81,7 +85,7 @@ Rows that have the numbers for KILL: mysql -B -e \"$(mdlview query)\" | mdlview
 TABLE\tshop\torders\tEXCLUSIVE\tPENDING\t18\t10\tNULL
 ",
         explained: Explained::Fully,
-        answer: b"1 request waits. Ways out, the best first:
+        answer: b"1 request waits. Ways out, the best first. Do one, and look again:
 1. Thread 16 is the server's own: it has no connection, and KILL can't end it.
    1 wait ends at once
    thread 16 holds SR of TABLE shop.orders

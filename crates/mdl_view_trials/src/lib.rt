@@ -13,6 +13,8 @@ mod answers;
 #[cfg(test)]
 mod by_hand;
 #[cfg(test)]
+mod client_json;
+#[cfg(test)]
 mod examples;
 #[cfg(test)]
 mod held;

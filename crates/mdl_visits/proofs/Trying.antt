@@ -29,7 +29,7 @@ use Rattle.mdl_steps.specs.Seats.{Holds, MayPut, written}
 use Rattle.mdl_steps.proofs.Hands.{holds_written}
 use Rattle.mdl_steps.proofs.Views.{by_bool}
 use Rattle.mdl_visits.specs.Leavings.{DidUnder, HasTicket, HasWorked}
-use Rattle.mdl_visits.specs.Visits.{Enters, HasEntered, HasStep, IsInside, KnowsKind, Visits, WasBlocked, WasGranted, WasRefused}
+use Rattle.mdl_visits.specs.Visits.{Enters, HasEntered, HasStep, IsInside, KnowsKind, MeetsFullWish, Visits, WasBlocked, WasGranted, WasRefused, WasRefusedWish}
 use Rattle.mdl_visits.proofs.Altering.{altered_exactly, just_done, none_clashes}
 use Rattle.mdl_visits.proofs.Arriving.{met_full}
 use Rattle.mdl_visits.proofs.Leaving.{own_found}
@@ -136,14 +136,40 @@ module _ {place q word : ℕ} {mode : Mode} {can : Bool} {s c : SeatState} (has 
     once = record { once = entered.fresh.once; single = entered.fresh.single };
   }
 
-  -- and did so, though there was no room
+  -- and did so, though there was no room, as the step that read the word shows
   pub refused : (cause : BookError) (w n : SeatState) → w ≡ c → (cause ≡ fault.OutOfMemory) ⊎ ((cause ≡ fault.Full) × (65535 ≤ ticket_count book))
-      → ((b : SeatState) → AtItsTable b w (IsInside q) → AtItsTable b n (Visits q [])) → HasStep w n (DidUnder q [] w) → WasRefused place cause s n
+      → ((b : SeatState) → AtItsTable b w (IsInside q) → AtItsTable b n (Visits q [])) → HasStep w n (DidUnder q [] w) → WasRefusedWish place mode can cause s n
   refused cause w n same why visited step =
-      let inside = subst (λ (x : SeatState). IsInside q s.me x.me) (sym same) entered_inside in (
-        subst (λ (p : ℕ). AtItsTable s n (Visits p [])) has.at (visited s (table_of same ∙ has.entered.0, inside)),
-        met_full place s q w n has.at inside entered_latch (ap (λ (x : SeatState). held_at q x.me.0.latches) same ∙ entered_holds.recorded) [] step cause why,
-      )
+      let inside = subst (λ (x : SeatState). IsInside q s.me x.me) (sym same) entered_inside in
+      (subst (λ (p : ℕ). AtItsTable s n (Visits p [])) has.at (visited s (table_of same ∙ has.entered.0, inside)), by why)
+    where
+      by : (cause ≡ fault.OutOfMemory) ⊎ ((cause ≡ fault.Full) × (65535 ≤ ticket_count book))
+          → (cause ≡ fault.OutOfMemory) ⊎ ((cause ≡ fault.Full) × HasStep s n (MeetsFullWish place s.me.0.number mode can))
+      by (inl memory) = inl memory
+      by (inr full) =
+          let later = subst (λ (x : SeatState). HasStep x n (DidUnder q [] x)) same step in
+          let read : Met = record { kind = ReadWord; deeds = []; word = lock_word place; found = word; held = c.me.0.latches; directory = c.me.0.directory } in
+          let after : List Met = later.1.0 ++ later.0 ∷ later.1.1 in
+          inr (
+            full.0,
+            (
+              read,
+              (
+                entered.read.0,
+                after,
+                later.1.2 ∙ append_assoc c.me.0.log later.1.0 (later.0 ∷ later.1.1) ∙ ap (λ (log : List Met). log ++ after) entered.read.1
+                    ∙ append_assoc (s.me.0.log ++ entered.read.0) (read ∷ []) after,
+              ),
+              record { kind = refl; word = refl; latch = entered_latch; held = entered.holds.recorded; full = full.1; grantable = entered.told },
+            ),
+          )
+
+-- the book was full, whatever was wished for
+pub as_refused : {place : ℕ} {mode : Mode} {can : Bool} {cause : BookError} {s n : SeatState} → WasRefusedWish place mode can cause s n → WasRefused place cause s n
+as_refused (visit, inl memory) = (visit, inl memory)
+as_refused (visit, inr full) =
+    let met = full.1.2 in
+    (visit, inr (full.0, (full.1.0, full.1.1, record { word = met.word; latch = met.latch; held = met.held; full = met.full })))
 
 -- whether the wish can be granted is known
 pub as_told : {place q word : ℕ} {mode : Mode} {can known : Bool} {s c : SeatState} → can ≡ known → HasEntered place q word mode can s c → HasEntered place q word mode known s c

@@ -3,6 +3,7 @@ use Rattle.std.proofs.Common.{◌≡◌, ℕ, ◌+◌, ◌<◌, ◌==◌, map, c
 use Rattle.std.specs.Prelude.{Option, OnErr, OnOk}
 use Rattle.std.specs.Option.{ok_or}
 use Rattle.std.proofs.lemmas.Bool.{ltb-true, lt-ltb}
+use Rattle.atomic_table.specs.Seated.{TableId}
 use Rattle.mdl_book.specs.declared.book_error.BookError.{BookError}
 use Rattle.mdl_book.specs.declared.book_error.BookError.TheVariants.{NotHere}
 use Rattle.mdl_book.specs.declared.book_view.BookView.{BookView}
@@ -29,7 +30,8 @@ use Rattle.mdl_steps.proofs.Views.{by_bool}
 use Rattle.mdl_visits.specs.WaitEndings.{idle, without_wait}
 use Rattle.mdl_visits.specs.Grantings.{StandsOnce}
 use Rattle.mdl_visits.specs.Leavings.{HasWorked}
-use Rattle.mdl_visits.specs.Visits.{Arrives, CameTo, StaysThere}
+use Rattle.mdl_visits.specs.Polls.{EndsWait}
+use Rattle.mdl_visits.specs.Visits.{Arrives, CameTo, IsStepOf, StaysThere}
 use Rattle.mdl_visits.proofs.Losing.{any_before, no_longer}
 use Rattle.mdl_visits.proofs.Seats.{mine, place_there, table_of}
 use Rattle.mdl_visits.proofs.Steps.{each_append, none_then}
@@ -133,6 +135,24 @@ module _ (ask : Ask) {s : SeatState} {q : ℕ} {c : SeatState} (a : Arrives ask.
             flagged = still_flagged c.me.0.number ask.number a.latch.book a.latch.slow a.latch.obtrusive ((λ e. a.fresh.exact.0 ∙ e), λ e. a.fresh.exact.1 ∙ e);
             once = stands_less c.me.0.number ask.number a.latch.book.waiting (record { once = a.fresh.once; single = a.fresh.single });
           }
+
+      -- the step that ended the wait is among those made so far
+      pub shows_end : (e : Met) × IsStepOf s.me v.me e × EndsWait s.table.slots s.me.0.number s.me.0.waits state e
+      shows_end =
+          let met : Met = record { kind = EndWait; deeds = []; word = wait_word w.table.slots w.me.0.number; found = wait_in w.me.0.waits state; held = w.me.0.latches; directory = w.me.0.directory } in
+          let slots : w.table.slots ≡ s.table.slots = ap (λ (t : TableId). t.slots) (table_of is ∙ a.came.0) in
+          let who : w.me.0.number ≡ s.me.0.number = ap (λ (x : SeatState). x.me.0.number) is ∙ ap (λ (x : Mine). x.0.number) a.came.1.now in (
+            met,
+            (
+              a.came.2.0,
+              [],
+              ap (λ (x : SeatState). x.me.0.log) ended ∙ ap (λ (x : SeatState). x.me.0.log ++ met ∷ []) is ∙ ap (λ (log : List Met). log ++ met ∷ []) a.came.2.1,
+            ),
+            record {
+              kind = refl;
+              wait = record { word = (λ i. wait_word (slots i) (who i)); found = ap (λ (n : ℕ). wait_in n state) waits_there };
+            },
+          )
 
       -- it is as if a session without the wait had come
       pub came_ended : elsewhere q v.me ≡ elsewhere q w.me → CameTo q (record s { me = without_wait s.me }) v

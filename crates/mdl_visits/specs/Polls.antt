@@ -2,6 +2,7 @@
 use Rattle.std.specs.Prelude.{◌≡◌, ◌≢◌, ℕ, ◌==◌, [], ◌∷◌, ◌++◌, Option, Some, None, if◌then◌else◌}
 use Rattle.mdl_calls.specs.declared.answers.Settled.{Settled}
 use Rattle.mdl_calls.specs.declared.answers.Settled.TheVariants.{Granted, Victim, Timeout, Killed}
+use Rattle.mdl_steps.specs.declared.step_kind.StepKind.TheVariants.{EndWait}
 use Rattle.mdl_steps.specs.declared.view.Met.{Met}
 use Rattle.mdl_steps.specs.declared.wait_word.Loss.TheVariants as loss
 use Rattle.mdl_steps.specs.Layout.{wait_word}
@@ -19,6 +20,11 @@ state_of Killed = lost_state loss.Killed
 pub record MeetsWait (slots session number state : ℕ) (e : Met) : Type 0 where
   pub word : e.word ≡ wait_word slots session
   pub found : e.found ≡ wait_in number state
+
+-- the step by which a session ended its last wait, which had this number and was in this state
+pub record EndsWait (slots session number state : ℕ) (e : Met) : Type 0 where
+  pub kind : e.kind ≡ EndWait
+  pub wait : MeetsWait slots session number state e
 
 -- the number of a session's wait, if it has one, by the wait's word
 abbrev pub number_in : ℕ → Option ℕ

@@ -237,6 +237,16 @@ pub record MeetsFull (place : ℕ) (e : Met) : Type 0 where
   pub held : held_at place e.held ≡ Some latch
   pub full : 65535 ≤ ticket_count latch.book
 
+-- a step that read the lock's word under the latch, whose record shows that the book has no room for one more ticket, and whether the session's request
+-- for a mode could be granted (`can`)
+pub record MeetsFullWish (place who : ℕ) (mode : Mode) (can : Bool) (e : Met) : Type 0 where
+  pub kind : e.kind ≡ ReadWord
+  pub word : e.word ≡ lock_word place
+  pub latch : LatchRecord
+  pub held : held_at place e.held ≡ Some latch
+  pub full : 65535 ≤ ticket_count latch.book
+  pub grantable : can_be_granted (lock_kind latch.book) latch.book.granted latch.book.waiting e.found who mode ≡ can
+
 -- the session visited a place and did this deed there, and a step shows that its request could be granted
 abbrev pub WasGranted : ℕ → Mode → Deed → SeatState → SeatState → Type 0
 WasGranted place mode deed s s′ = AtItsTable s s′ (Visits place (deed ∷ [])) × HasStep s s′ (MeetsGrantable place s.me.0.number mode deed)
@@ -253,11 +263,17 @@ LacksRoom place cause s s′ = (cause ≡ fault.OutOfMemory) ⊎ ((cause ≡ fau
 abbrev pub WasRefused : ℕ → BookError → SeatState → SeatState → Type 0
 WasRefused place cause s s′ = AtItsTable s s′ (Visits place []) × LacksRoom place cause s s′
 
+-- the same of a request that could be granted, or couldn't
+abbrev pub WasRefusedWish : ℕ → Mode → Bool → BookError → SeatState → SeatState → Type 0
+WasRefusedWish place mode can cause s s′ =
+    AtItsTable s s′ (Visits place [])
+    × ((cause ≡ fault.OutOfMemory) ⊎ ((cause ≡ fault.Full) × HasStep s s′ (MeetsFullWish place s.me.0.number mode can)))
+
 -- the result of a request with which a session entered a place: this holds (`Comes`), by its seat before that, or nothing changed for lack of room
 abbrev pub EndsWish : {T : Type 0} → ℕ → ℕ → Mode → Bool → Result T BookError → (ℕ → SeatState → Type 0) → SeatState → SeatState → Type 0
 EndsWish q word mode can result Comes s s′ =
     (place : ℕ) (before : SeatState) → HasEntered place q word mode can before s
-    → MatchResult result (λ _. Comes place before) (λ cause. WasRefused place cause before s′)
+    → MatchResult result (λ _. Comes place before) (λ cause. WasRefusedWish place mode can cause before s′)
 
 -- at the step the session's request wasn't grantable: whichever fast tickets of other sessions the word counted, by the book it clashed with a granted
 -- ticket or had to wait behind a waiting one

@@ -1,43 +1,40 @@
 -- Which words the command of `mdlsim` takes, by clap's account of a parse.
-use Rattle.std.proofs.Common.{◌≡◌, ◌∙◌, ◌⊎◌, ◌||◌, ◌&&◌, inl, inr, ap, refl, sym, subst, ap₂, codes, true, false, Bool, ℕ, List, [], ◌∷◌, ◌++◌, Option, Some, None, option_map, is_some, drop, if◌then◌else◌}
-use Rattle.std.specs.Prelude.{fold}
+use Rattle.std.proofs.Common.{◌≡◌, ◌∙◌, ◌⊎◌, ◌&&◌, inl, inr, ap, refl, sym, subst, ap₂, true, false, true≢false, Bool, ℕ, List, [], ◌∷◌, ◌++◌, Option, Some, is_some, drop, codes, append-nil}
 use Rattle.std.specs.List.{list_all}
 use Rattle.std.specs.Str.{bytes_eq}
-use Rattle.std.proofs.lemmas.List.{append-nil}
-use Rattle.std.proofs.lemmas.Slice.Eq.{bytes_eq-Decides}
-use Rattle.clap.specs.Kinds.{or_else}
-use Rattle.clap.specs.Walk.{Names, Text, Walk, finished, idle, nothing_held, rows_after, subcommand_or_other, walk, walked}
-use Rattle.clap.specs.Simple.{App, built, entered, subcommand_of}
+use Rattle.clap.specs.Walk.{Names, Text, Walk, finished, nothing_held, rows_after, walked}
+use Rattle.clap.specs.Simple.{App, Shape, built, entered, subcommand_of}
 use Rattle.clap.specs.Takes.{default_passes, entered_passes, is_valid, level_passes, settle_passes, takes, walk_passes}
-use Rattle.clap.specs.Faults.{defaults_fault, built_fault, entered_fault, fault_of, is_simple_and_free, other_fault, step_fault, turn_fault, walk_fault}
+use Rattle.clap.specs.Faults.{built_fault, defaults_fault, fault_of, is_simple_and_free, turn_fault, walk_fault}
 use Rattle.mdl_key.specs.declared.namespace.Kind.TheVariants.{Scoped, Object}
 use Rattle.mdl_program.specs.declared.program.Run.{Run}
 use Rattle.mdl_program.specs.declared.program.Run.TheVariants.{Lock, Matrix, Replay, Threads}
+use Rattle.mdl_words.proofs.Levels.{IsEnd, start}
+use Rattle.mdl_words.proofs.OptionWords.{level}
+use Rattle.mdl_words.proofs.ShortOptions.{dash, neither, refuses}
+use Rattle.mdl_words.proofs.Subcommands.{below, first_turn, name_met, plain_names, stopped_at, top_passes, walk_is}
 use Rattle.mdlsim.specs.CommandLine.{AreWordsOf, AskForThreads, Asks, mdlsim}
 use Rattle.clap.proofs.OnLiterals.{clap_on_literals}
-use Rattle.clap.proofs.WalkLemmas.{walk_stopped}
-use Rattle.mdlsim.proofs.LevelWords.{IsEnd, dash, neither, plain_asks, refuses, start, top, turn_by}
-use Rattle.mdlsim.proofs.OptionWords.{flags, run, run_asks, run_level}
+use Rattle.mdlsim.proofs.Options.{lock, matrix, replay, run, run_options}
 use Rattle.mdlsim.proofs.OptionsFound.{options_found}
-use Rattle.mdlsim.proofs.ScopedWords.{lock, lock_asks, lock_level, scoped}
+use Rattle.mdlsim.proofs.OptionsGiven.{lock_asks, plain_asks, run_asks, scoped}
 
-abbrev pub matrix : Text
-matrix = codes "matrix"
+abbrev pub top : Shape
+top = (built mdlsim).top
 
-abbrev pub replay : Text
-replay = codes "replay"
+abbrev all_names : List Text
+all_names = lock ∷ matrix ∷ replay ∷ run ∷ codes "help" ∷ []
 
-abbrev names : Names
-names = (lock, []) ∷ (matrix, []) ∷ (replay, []) ∷ (run, []) ∷ (codes "help", []) ∷ []
+abbrev pub names : Names
+names = plain_names all_names
 
--- the walk that met `run`, with the words behind it
-abbrev stopped_at : List Text → Walk
-stopped_at words = record start { stopped = Some (run, words) }
+-- a subcommand stops the walk
+abbrev Stops : Text → Type 0
+Stops name = ◌≡◌ {A = Walk} (walked top.rules names start name) (stopped_at name [])
 
-top_passes : (words seen : List Text) → walk_passes top names (stopped_at seen) words ≡ true
-unfolding walk_passes walked
-top_passes [] seen = refl
-top_passes (x ∷ xs) seen = top_passes xs (seen ++ x ∷ [])
+run_stops : Stops run
+unfolding walked
+run_stops = refl
 
 -- the words of a run on threads, and what closes them
 pub threads_words : (words : List Text) (p c : ℕ) → Asks words (Threads p c)
@@ -48,63 +45,33 @@ threads_words words p c (inr (front, closes, (options, is, asks))) = (options, d
 -- ---- what is taken
 
 -- words behind `run` are taken where their level takes them
-run_taken : (rest : List Text) → level_passes run_level [] nothing_held rest false ≡ true → takes mdlsim (lock ∷ run ∷ rest) ≡ true
+run_taken : (rest : List Text) → level_passes (level run_options run) [] nothing_held rest false ≡ true → takes mdlsim (codes "mdlsim" ∷ run ∷ rest) ≡ true
 unfolding walk_passes walked
 run_taken rest passes =
     ap₂ (λ b (w : Walk). entered_passes (built mdlsim) w.stopped && ((b && (settle_passes top.rules false w.held && (list_all default_passes top.rules
     && is_valid top (finished top.rules w.held) (is_some (entered (built mdlsim) w.stopped)))))))
-    (top_passes rest []) (sym (walk_stopped top.rules names start run [] rest))
+    (top_passes (codes "mdlsim") names run rest []) (walk_is (built mdlsim) run run_stops rest)
     ∙ ap (λ b. b && true) passes
 
-taken_from : (words : List Text) (run : Run) → Asks words run → takes mdlsim (lock ∷ words) ≡ true
+taken_from : (words : List Text) (run : Run) → Asks words run → takes mdlsim (codes "mdlsim" ∷ words) ≡ true
 unfolding clap_on_literals
-taken_from words (Lock Object) (inl e) = ap (λ rest. takes mdlsim (lock ∷ rest)) e
-taken_from words (Lock Object) (inr (front, is, e)) = ap (λ rest. takes mdlsim (lock ∷ rest)) (is ∙ ap (λ xs. xs ++ dash ∷ []) e)
-taken_from words (Lock Scoped) (inl e) = ap (λ rest. takes mdlsim (lock ∷ rest)) e
-taken_from words (Lock Scoped) (inr (front, is, e)) = ap (λ rest. takes mdlsim (lock ∷ rest)) (is ∙ ap (λ xs. xs ++ dash ∷ []) e)
-taken_from words Matrix (inl e) = ap (λ rest. takes mdlsim (lock ∷ rest)) e
-taken_from words Matrix (inr (front, is, e)) = ap (λ rest. takes mdlsim (lock ∷ rest)) (is ∙ ap (λ xs. xs ++ dash ∷ []) e)
-taken_from words Replay (inl e) = ap (λ rest. takes mdlsim (lock ∷ rest)) e
-taken_from words Replay (inr (front, is, e)) = ap (λ rest. takes mdlsim (lock ∷ rest)) (is ∙ ap (λ xs. xs ++ dash ∷ []) e)
+taken_from words (Lock Object) (inl e) = ap (λ rest. takes mdlsim (codes "mdlsim" ∷ rest)) e
+taken_from words (Lock Object) (inr (front, is, e)) = ap (λ rest. takes mdlsim (codes "mdlsim" ∷ rest)) (is ∙ ap (λ xs. xs ++ dash ∷ []) e)
+taken_from words (Lock Scoped) (inl e) = ap (λ rest. takes mdlsim (codes "mdlsim" ∷ rest)) e
+taken_from words (Lock Scoped) (inr (front, is, e)) = ap (λ rest. takes mdlsim (codes "mdlsim" ∷ rest)) (is ∙ ap (λ xs. xs ++ dash ∷ []) e)
+taken_from words Matrix (inl e) = ap (λ rest. takes mdlsim (codes "mdlsim" ∷ rest)) e
+taken_from words Matrix (inr (front, is, e)) = ap (λ rest. takes mdlsim (codes "mdlsim" ∷ rest)) (is ∙ ap (λ xs. xs ++ dash ∷ []) e)
+taken_from words Replay (inl e) = ap (λ rest. takes mdlsim (codes "mdlsim" ∷ rest)) e
+taken_from words Replay (inr (front, is, e)) = ap (λ rest. takes mdlsim (codes "mdlsim" ∷ rest)) (is ∙ ap (λ xs. xs ++ dash ∷ []) e)
 taken_from words (Threads p c) asked =
     let (options, end, asks, ends, is) = threads_words words p c asked in
-    ap (λ rest. takes mdlsim (lock ∷ rest)) is ∙ run_taken (options ++ end) (options_found p c options end asks ends).0
+    ap (λ rest. takes mdlsim (codes "mdlsim" ∷ rest)) is ∙ run_taken (options ++ end) (options_found p c options end asks ends).0
 
 -- what is found of `run`
-pub run_entered : (rest : List Text) → subcommand_of mdlsim (codes "mdlsim" ∷ run ∷ rest) ≡ Some (run, rows_after flags [] rest)
-unfolding walked
-run_entered rest = ap (λ (w : Walk). entered (built mdlsim) w.stopped) (sym (walk_stopped top.rules names start run [] rest))
+pub run_entered : (rest : List Text) → subcommand_of mdlsim (codes "mdlsim" ∷ run ∷ rest) ≡ Some (run, rows_after run_options.rules [] rest)
+run_entered rest = ap (λ (w : Walk). entered (built mdlsim) w.stopped) (walk_is (built mdlsim) run run_stops rest)
 
 -- ---- what is refused
-
--- ---- the words of the program
-
--- the subcommand that a first word names, by whether it is `lock`, `matrix`, `replay`, `run` or `help`
-abbrev met : Bool → Bool → Bool → Bool → Bool → Option Text
-met l m r t h = option_map (λ (s : Text × List Text). s.0)
-    (if l || false then Some (lock, []) else (if m || false then Some (matrix, []) else (if r || false then Some (replay, [])
-    else (if t || false then Some (run, []) else (if h || false then Some (codes "help", []) else None)))))
-
-top_by : (l m r t h : Bool) (w : Text)
-    → or_else (other_fault top (met l m r t h) w nothing_held)
-    (step_fault top 1 (subcommand_or_other top.rules (met l m r t h) idle 1 w nothing_held).0 (subcommand_or_other top.rules (met l m r t h) idle 1 w nothing_held).1) ≡ []
-    → (l ≡ true) ⊎ ((m ≡ true) ⊎ ((r ≡ true) ⊎ ((t ≡ true) ⊎ (bytes_eq w dash ≡ true))))
-top_by true m r t h w e = inl refl
-top_by false true r t h w e = inr (inl refl)
-top_by false false true t h w e = inr (inr (inl refl))
-top_by false false false true h w e = inr (inr (inr (inl refl)))
-top_by false false false false true w e = absurd (refuses _ _ e)
-top_by false false false false false w e = inr (inr (inr (inr (turn_by top (λ h bad. refuses _ _ bad) (bytes_eq w dash) w e))))
-
--- a first word that is not refused
-top_turn : (w : Text) → turn_fault top names start w ≡ [] → (lock ≡ w) ⊎ ((matrix ≡ w) ⊎ ((replay ≡ w) ⊎ ((run ≡ w) ⊎ (w ≡ dash))))
-top_turn w e = elim (top_by (bytes_eq lock w) (bytes_eq matrix w) (bytes_eq replay w) (bytes_eq run w) (bytes_eq (codes "help") w) w e) [
-  | inl l ↦ inl ((bytes_eq-Decides lock w).0 l)
-  | inr (inl m) ↦ inr (inl ((bytes_eq-Decides matrix w).0 m))
-  | inr (inr (inl r)) ↦ inr (inr (inl ((bytes_eq-Decides replay w).0 r)))
-  | inr (inr (inr (inl t))) ↦ inr (inr (inr (inl ((bytes_eq-Decides run w).0 t))))
-  | inr (inr (inr (inr d))) ↦ inr (inr (inr (inr ((bytes_eq-Decides w dash).0 d))))
-]
 
 -- `--` comes too early: no subcommand follows
 dash_first : (rest : List Text) → built_fault (built mdlsim) nothing_held (dash ∷ rest) ≡ [] → ⊥
@@ -112,21 +79,10 @@ unfolding walk_fault walked defaults_fault
 dash_first [] e = refuses _ _ e
 dash_first (x ∷ xs) e = refuses _ _ e
 
--- what follows a subcommand is for it
-below : (name : Text) (rest : List Text) → ◌≡◌ {A = Walk} (walked top.rules names start name) (record start { stopped = Some (name, []) })
-    → built_fault (built mdlsim) nothing_held (name ∷ rest) ≡ [] → entered_fault (built mdlsim) (Some (name, rest)) ≡ []
-below name rest stops e =
-    let stop = (walk top.rules names nothing_held (name ∷ rest)).stopped in
-    let parts = neither (entered_fault (built mdlsim) stop) _ (neither (walk_fault top names start (name ∷ rest)) _ e).1 in
-    let is : Some (name, rest) ≡ stop = ap (λ (w : Walk). w.stopped) (walk_stopped top.rules names start name [] rest)
-    ∙ ap (λ w. (fold (walked top.rules names) w rest).stopped) (sym stops) in
-    ap (entered_fault (built mdlsim)) is ∙ parts.0
-
 lock_first : (rest : List Text) → built_fault (built mdlsim) nothing_held (lock ∷ rest) ≡ [] → (run : Run) × Asks (lock ∷ rest) run
 unfolding walked
 lock_first rest e =
-    let free = below lock rest refl e in
-    elim (lock_asks rest (neither (walk_fault lock_level [] start rest) _ free).0) [
+    elim (lock_asks rest (below (built mdlsim) lock refl rest e)) [
       | inl (inl none) ↦ (Lock Object, inl (ap (λ xs. lock ∷ xs) none))
       | inl (inr end) ↦ (Lock Object, inr (lock ∷ [], ap (λ xs. lock ∷ xs) end, refl))
       | inr (more, is, inl none) ↦ (Lock Scoped, inl (ap (λ xs. lock ∷ xs) is ∙ ap (λ xs. lock ∷ scoped ∷ xs) none))
@@ -140,36 +96,44 @@ plain_first run name rest is (inr end) = (run, inr (name ∷ [], ap (λ xs. name
 
 matrix_first : (rest : List Text) → built_fault (built mdlsim) nothing_held (matrix ∷ rest) ≡ [] → (run : Run) × Asks (matrix ∷ rest) run
 unfolding walked
-matrix_first rest e = plain_first Matrix matrix rest refl (plain_asks matrix rest (below matrix rest refl e))
+matrix_first rest e = plain_first Matrix matrix rest refl (plain_asks matrix rest (below (built mdlsim) matrix refl rest e))
 
 replay_first : (rest : List Text) → built_fault (built mdlsim) nothing_held (replay ∷ rest) ≡ [] → (run : Run) × Asks (replay ∷ rest) run
 unfolding walked
-replay_first rest e = plain_first Replay replay rest refl (plain_asks replay rest (below replay rest refl e))
+replay_first rest e = plain_first Replay replay rest refl (plain_asks replay rest (below (built mdlsim) replay refl rest e))
 
 run_first : (rest : List Text) → built_fault (built mdlsim) nothing_held (run ∷ rest) ≡ [] → (run : Run) × Asks (codes "run" ∷ rest) run
 unfolding walked
 run_first rest e =
-    let (p, c, asks) = run_asks rest (below run rest refl e) in
+    let (p, c, asks) = run_asks rest (below (built mdlsim) run refl rest e) in
     elim asks [
       | inl asked ↦ (Threads p c, inl (rest, refl, asked))
       | inr closed ↦ (Threads p c, inr (run ∷ closed.0, ap (λ xs. run ∷ xs) closed.1, (closed.0, refl, closed.2)))
     ]
+
+-- a first word that names a subcommand
+named_first : (w met : Text) (rest : List Text) → met ≡ w → bytes_eq met (codes "help") ≡ false → (w ≡ lock) ⊎ ((w ≡ matrix) ⊎ ((w ≡ replay) ⊎ ((w ≡ run) ⊎ ((w ≡ codes "help") ⊎ ⊥))))
+    → built_fault (built mdlsim) nothing_held (w ∷ rest) ≡ [] → (run : Run) × Asks (w ∷ rest) run
+named_first w met rest same other within e = elim within [
+  | inl is ↦ subst (λ x. (run : Run) × Asks (x ∷ rest) run) (sym is) (lock_first rest (free lock is))
+  | inr (inl is) ↦ subst (λ x. (run : Run) × Asks (x ∷ rest) run) (sym is) (matrix_first rest (free matrix is))
+  | inr (inr (inl is)) ↦ subst (λ x. (run : Run) × Asks (x ∷ rest) run) (sym is) (replay_first rest (free replay is))
+  | inr (inr (inr (inl is))) ↦ subst (λ x. (run : Run) × Asks (x ∷ rest) run) (sym is) (run_first rest (free run is))
+  | inr (inr (inr (inr (inl is)))) ↦ absurd (true≢false (sym (ap (λ x. bytes_eq x (codes "help")) (same ∙ is)) ∙ other))
+  | inr (inr (inr (inr (inr never)))) ↦ absurd never
+]
+  where
+    free : (name : Text) → w ≡ name → built_fault (built mdlsim) nothing_held (name ∷ rest) ≡ []
+    free name is = subst (λ x. built_fault (built mdlsim) nothing_held (x ∷ rest) ≡ []) is e
 
 asks_from : (words : List Text) → built_fault (built mdlsim) nothing_held words ≡ [] → (run : Run) × Asks words run
 unfolding walk_fault defaults_fault
 asks_from [] e = absurd (refuses _ _ e)
 asks_from (w ∷ rest) e =
     let walks = neither (walk_fault top names start (w ∷ rest)) _ e in
-    elim (top_turn w (neither (turn_fault top names start w) _ walks.0).0) [
-      | inl is ↦ subst (λ x. (run : Run) × Asks (x ∷ rest) run) is
-          (lock_first rest (subst (λ x. built_fault (built mdlsim) nothing_held (x ∷ rest) ≡ []) (sym is) e))
-      | inr (inl is) ↦ subst (λ x. (run : Run) × Asks (x ∷ rest) run) is
-          (matrix_first rest (subst (λ x. built_fault (built mdlsim) nothing_held (x ∷ rest) ≡ []) (sym is) e))
-      | inr (inr (inl is)) ↦ subst (λ x. (run : Run) × Asks (x ∷ rest) run) is
-          (replay_first rest (subst (λ x. built_fault (built mdlsim) nothing_held (x ∷ rest) ≡ []) (sym is) e))
-      | inr (inr (inr (inl is))) ↦ subst (λ x. (run : Run) × Asks (x ∷ rest) run) is
-          (run_first rest (subst (λ x. built_fault (built mdlsim) nothing_held (x ∷ rest) ≡ []) (sym is) e))
-      | inr (inr (inr (inr is))) ↦ absurd (dash_first rest (subst (λ x. built_fault (built mdlsim) nothing_held (x ∷ rest) ≡ []) is e))
+    elim (first_turn (codes "mdlsim") names w (neither (turn_fault top names start w) _ walks.0).0) [
+      | inl (met, is, other) ↦ let (same, within) = name_met all_names w met is in named_first w met rest same other within e
+      | inr is ↦ absurd (dash_first rest (subst (λ x. built_fault (built mdlsim) nothing_held (x ∷ rest) ≡ []) is e))
     ]
 
 -- ---- what `command` cites, of a command with the shape of `mdlsim`

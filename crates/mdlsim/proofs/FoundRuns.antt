@@ -1,15 +1,13 @@
 -- What a parse finds in the words of a run.
 use Rattle.std.proofs.Common.{◌≡◌, ◌∙◌, ◌⊎◌, inl, inr, ap, refl, sym, codes, ℕ, List, [], ◌∷◌, ◌++◌, Option, Some, None, option_map, drop, if◌then◌else◌}
-use Rattle.std.specs.Prelude.{Box, option_and_then, unwrap_or}
-use Rattle.std.specs.Box.{box_value}
+use Rattle.std.specs.Prelude.{option_and_then, unwrap_or}
 use Rattle.std.specs.Str.{bytes_eq}
 use Rattle.clap.specs.Lexer.{without_minus}
 use Rattle.clap.specs.Walk.{Row, Text, one_of, rows_of}
 use Rattle.clap.specs.Simple.{App, HasMatchesOf, is_simple, subcommand_of, subcommand_rows}
 use Rattle.clap.specs.Matches.{found_of, one_text, subcommand_name_of}
 use Rattle.clap.specs.declared.parser.matches.ArgMatches.{ArgMatches}
-use Rattle.clap.specs.declared.parser.matches.ArgMatches.TheViews.{out-ArgMatches, out-SubCommand}
-use Rattle.clap.specs.declared.parser.matches.SubCommand.{SubCommand}
+use Rattle.clap.specs.declared.parser.matches.ArgMatches.TheViews.{out-ArgMatches}
 use Rattle.mdl_key.specs.declared.namespace.Kind.{Kind}
 use Rattle.mdl_key.specs.declared.namespace.Kind.TheVariants.{Scoped, Object}
 use Rattle.mdl_program.specs.declared.program.Run.{Run}
@@ -17,22 +15,17 @@ use Rattle.mdl_program.specs.declared.program.Run.TheVariants.{Lock, Matrix, Rep
 use Rattle.mdlsim.specs.CommandLine.{Asks, Finds, HasNumber, NumberOption, WritesNumber, cache_option, mdlsim, patience_option}
 use Rattle.clap.proofs.OnLiterals.{clap_on_literals}
 use Rattle.clap.proofs.WalkLemmas.{one_text-rows}
-use Rattle.mdlsim.proofs.CommandWords.{matrix, replay, run_entered, threads_words}
-use Rattle.mdlsim.proofs.LevelWords.{dash}
-use Rattle.mdlsim.proofs.OptionWords.{run as run_name}
+use Rattle.mdl_words.proofs.ShortOptions.{dash}
+use Rattle.mdl_words.proofs.Subcommands.{name_kept}
+use Rattle.mdlsim.proofs.CommandWords.{run_entered, threads_words}
+use Rattle.mdlsim.proofs.Options.{lock, matrix, replay, run as run_name}
 use Rattle.mdlsim.proofs.OptionsFound.{options_found}
-use Rattle.mdlsim.proofs.ScopedWords.{lock}
 
 -- of a command with the shape of `mdlsim`
 pub finds : (a : App) (words : List Text) (run : Run) (m : ArgMatches) → a ≡ mdlsim → Asks (drop 1 words) run → HasMatchesOf a words m → Finds run m
 finds a words run m is asked has = (drop 1 words, asked, (has (ap is_simple is)).1 ∙ ap (λ b. subcommand_of b words) is)
 
 -- ---- what says which run it is
-
-module _ {Z : Type 0} where
-  name_kept : (o : Option (Box SubCommand Z)) → option_map (λ b. (out-SubCommand (box_value b)).name.now) o ≡ option_map (λ (p : Text × List Row). p.0) (subcommand_rows o)
-  name_kept None = refl
-  name_kept (Some b) = refl
 
 -- the subcommand of a run
 abbrev subcommand_of_run : Run → Text

@@ -1,7 +1,5 @@
 pub mod CommandWords
 pub mod FoundRuns
-pub mod LevelWords
-pub mod LongOptions
-pub mod OptionWords
+pub mod Options
 pub mod OptionsFound
-pub mod ScopedWords
+pub mod OptionsGiven

@@ -1,18 +1,18 @@
 -- What the words of a command line ask for.
-use Rattle.std.specs.Prelude.{◌≡◌, ◌⊎◌, ◌++◌, ℕ, pos, List, [], ◌∷◌, Some, codes, true, false}
-use Rattle.std.specs.Str.Parse.{signed_digits_value, starts_with_minus}
+use Rattle.std.specs.Prelude.{◌≡◌, ◌⊎◌, ◌++◌, ℕ, pos, List, [], ◌∷◌, Some, codes, true}
+use Rattle.std.specs.Str.Parse.{signed_digits_value}
 use Rattle.clap.specs.Lexer.{without_minus}
 use Rattle.clap.specs.Matches.{found_of, one_text}
 use Rattle.clap.specs.Values.{IsSignedIn}
 use Rattle.clap.specs.Walk.{Rule}
-use Rattle.clap.specs.Simple.{App, new_app, new_rule, new_shape, on_top, subcommand_of, subcommand_rows_of, with_rule, with_subcommand}
-use Rattle.clap.specs.declared.builder.action.ArgAction.TheVariants.{Set, SetTrue}
+use Rattle.clap.specs.Simple.{App, new_app, new_shape, on_top, subcommand_of, subcommand_rows_of, with_rule, with_subcommand}
 use Rattle.clap.specs.declared.builder.value_parser.ValueParser.TheVariants.{Signed}
 use Rattle.clap.specs.declared.parser.matches.ArgMatches.{ArgMatches}
 use Rattle.mdl_defs.specs.Caches.{most_kept}
 use Rattle.mdl_key.specs.declared.namespace.Kind.TheVariants.{Scoped, Object}
 use Rattle.mdl_program.specs.declared.program.Run.{Run}
 use Rattle.mdl_program.specs.declared.program.Run.TheVariants.{Lock, Matrix, Replay, Threads}
+use Rattle.mdl_words.specs.Words.{GiveText, flag_rule, value_rule}
 
 -- an option of `run` with a number: its name, the least number and the most, and the text of the number if none is given
 pub record NumberOption : Type 0 where
@@ -35,14 +35,9 @@ module _ (option : NumberOption) where
   abbrev pub WritesNumber : List ℕ → ℕ → Type 0
   WritesNumber text number = IsSignedIn (pos option.least) (pos option.most) text × (signed_digits_value 10 text ≡ pos number)
 
-  -- the words that give the option this text: in the same word, after a `=`, or in the next word, if it doesn't begin with `-`
-  abbrev pub GiveText : List ℕ → List (List ℕ) → Type 0
-  GiveText text words = (words ≡ (codes "--" ++ option.name ++ codes "=" ++ text) ∷ [])
-      ⊎ ((words ≡ (codes "--" ++ option.name) ∷ text ∷ []) × (starts_with_minus text ≡ false))
-
   -- the words that ask for this number: they give its text, or there are none, and its text is the default
   abbrev pub AskForNumber : ℕ → List (List ℕ) → Type 0
-  AskForNumber number words = (text : List ℕ) × WritesNumber text number × (GiveText text words ⊎ ((words ≡ []) × (text ≡ option.default)))
+  AskForNumber number words = (text : List ℕ) × WritesNumber text number × (GiveText option.name text words ⊎ ((words ≡ []) × (text ≡ option.default)))
 
 -- the words after `run` that ask for this patience and this cache, in either order
 abbrev pub AskForThreads : ℕ → ℕ → List (List ℕ) → Type 0
@@ -68,24 +63,18 @@ AskForVersion words = words ≡ codes "--version" ∷ []
 
 -- the line that is printed for the version
 abbrev pub version_line : List ℕ
-version_line = codes "mdlsim 0.5.0" ++ 10 ∷ []
+version_line = codes "mdlsim 0.6.0-dev" ++ 10 ∷ []
 
 -- what a parse reads of the flag `--scoped`, and of `lock`, which has it
 abbrev pub scoped_flag : Rule
-scoped_flag = record (new_rule (codes "scoped")) { long = Some (codes "scoped"); action = Some SetTrue }
+scoped_flag = flag_rule (codes "scoped")
 
 abbrev pub lock_subcommand : App
 lock_subcommand = with_rule (new_app (codes "lock")) scoped_flag
 
 -- what a parse reads of an option with a number, and of `run`, which has two
 abbrev pub number_rule : NumberOption → Rule
-number_rule option = record (new_rule option.name) {
-  long = Some option.name;
-  action = Some Set;
-  value_names = 1;
-  parser = Some (Signed (pos option.least) (pos option.most));
-  defaults = option.default ∷ [];
-}
+number_rule option = value_rule option.name (Some (Signed (pos option.least) (pos option.most))) (option.default ∷ [])
 
 abbrev pub run_subcommand : App
 run_subcommand = with_rule (with_rule (new_app (codes "run")) (number_rule patience_option)) (number_rule cache_option)

@@ -9,6 +9,7 @@ use clap::error::ErrorKind;
 use clap::{Arg, ArgAction, ArgMatches, Command, Error, value_parser};
 use mdl_key::Kind;
 pub use mdl_program::Run;
+use mdl_words::is_only_word;
 use std::alloc::{AllocError, Global};
 use std::convert::AsStr;
 
@@ -26,10 +27,7 @@ pub fn command<S: AsStr>(alloc: Global, words: &[S]) -> Result<Run, Error>
 pub fn asks_for_version<S: AsStr>(words: &[S]) -> bool
     ensures { IsTrue result ↔ AskForVersion (drop 1 (map S.text words.now)) }
 {
-    match words {
-        [_, word] => word.as_str() == "--version",
-        _ => false,
-    }
+    is_only_word(words, "--version")
 }
 
 // Returns the run that was found in words that ask for one.

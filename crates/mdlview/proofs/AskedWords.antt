@@ -1,27 +1,27 @@
 -- What words ask for, by what a parse finds in them.
 use Rattle.std.proofs.Common.{◌≡◌, ◌∙◌, ◌⊎◌, inl, inr, ap, ap₂, refl, sym, subst, true, false, Bool, ℕ, List, [], ◌∷◌, ◌++◌, Option, Some, None, option_map, Result, Ok, Err, IsErrAnd, MatchResult, drop}
-use Rattle.std.specs.Prelude.{Box, fold, unwrap_or}
-use Rattle.std.specs.Box.{box_value}
+use Rattle.std.specs.Prelude.{fold, unwrap_or}
 use Rattle.std.proofs.lemmas.List.{append_assoc}
 use Rattle.std.specs.Str.Parse.{digits_value, without_leading_plus}
 use Rattle.clap.specs.Matches.{found_of, subcommand_name_of}
 use Rattle.clap.specs.Simple.{built, subcommand_of, subcommand_rows, subcommand_rows_of}
-use Rattle.clap.specs.Takes.{level_passes}
-use Rattle.clap.specs.Walk.{Row, Text, nothing_held, rows_after, rows_of, stop_after, with_default}
+use Rattle.clap.specs.Walk.{Row, Text, rows_after, rows_of, stop_after, with_default}
 use Rattle.clap.specs.declared.parser.matches.ArgMatches.{ArgMatches}
-use Rattle.clap.specs.declared.parser.matches.ArgMatches.TheViews.{out-ArgMatches, out-SubCommand}
-use Rattle.clap.specs.declared.parser.matches.SubCommand.{SubCommand}
-use Rattle.mdlview.specs.CommandLine.{AskBy, CloseOptions, GiveOption, GiveOptions, Given, HasOptions, HasServer, NameSubcommand, asked_by, begins_with_option, is_option, mdlview, no_options, server_name, subcommand_name}
+use Rattle.clap.specs.declared.parser.matches.ArgMatches.TheViews.{out-ArgMatches}
+use Rattle.mdl_words.specs.Words.{CloseOptions}
+use Rattle.mdl_words.proofs.OptionWords.{AreUsed}
+use Rattle.mdl_words.proofs.Subcommands.{name_kept}
+use Rattle.mdlview.specs.CommandLine.{AskBy, GiveOption, GiveOptions, Given, HasOptions, HasServer, NameSubcommand, asked_by, begins_with_option, is_option, mdlview, no_options, server_name, subcommand_name}
 use Rattle.mdlview.specs.CommandLine.Given.{Script as script_given, Json as json_given, At as line_given, ServerOf}
 use Rattle.mdlview.specs.declared.asked.Asked.{Asked}
 use Rattle.mdlview.specs.declared.asked.Options.{Options}
 use Rattle.mdlview.specs.declared.asked.Subcommand.{Subcommand}
 use Rattle.mdlview.specs.declared.asked.Subcommand.TheVariants.{Why, Locks, Waits, Graph, Timeline, Query}
 use Rattle.mdlview.proofs.FoundOptions.{finds, server_found}
-use Rattle.mdlview.proofs.OptionWords.{AreUsed, flags, level}
+use Rattle.mdlview.proofs.Options.{options, rules}
 use Rattle.mdlview.proofs.OptionsGiven.{Fits, LineReads, Raw, options_given}
 use Rattle.mdlview.proofs.OptionsTaken.{options_taken}
-use Rattle.mdlview.proofs.Subcommands.{subcommand_is, top, names as top_names}
+use Rattle.mdlview.proofs.Subcommands.{AreTaken, subcommand_is, top, names as top_names}
 
 -- the number of a line's text
 number_of : (at : Option Text) → Fits at → (line : Option ℕ) × LineReads at line
@@ -35,11 +35,11 @@ abbrev pub AsksByFound : Subcommand → ArgMatches → Asked → Type 0
 AsksByFound named m asked = (options : Options) × HasServer m options × ((found : Options) → HasOptions m found → options ≡ found) × (asked_by named options ≡ Some asked)
 
 -- words that are not refused ask for it
-pub asks_by : (named : Subcommand) (words : List Text) (m : ArgMatches) (asked : Asked) → AreUsed words → rows_of (found_of m) ≡ rows_after flags [] words
+pub asks_by : (named : Subcommand) (words : List Text) (m : ArgMatches) (asked : Asked) → AreUsed options words → rows_of (found_of m) ≡ rows_after rules [] words
     → AsksByFound named m asked → AskBy named words asked
 asks_by named words m asked (uses, front, end, after, is, are, ends, finds_after) rows (options, server, only, by) =
     let (raw, shows, fits, give) = options_given uses front after are in
-    let all = rows ∙ ap (λ rows. fold with_default rows flags) finds_after in
+    let all = rows ∙ ap (λ rows. fold with_default rows rules) finds_after in
     let (line, reads_line) = number_of raw.at fits in
     let says : Options = record { is_script = raw.script; is_json = raw.json; last = line; server = options.server } in
     let named_server = sym (server_found m after raw all shows) ∙ server in
@@ -49,12 +49,12 @@ asks_by named words m asked (uses, front, end, after, is, are, ends, finds_after
 
 -- words that ask for it are taken, and the options are found
 pub taken_by : (named : Subcommand) (words : List Text) (asked : Asked) → AskBy named words asked
-    → (level_passes (level []) [] nothing_held words false ≡ true)
-    × ((m : ArgMatches) → rows_of (found_of m) ≡ rows_after flags [] words → (options : Options) × HasOptions m options × (asked_by named options ≡ Some asked))
+    → AreTaken words
+    × ((m : ArgMatches) → rows_of (found_of m) ≡ rows_after rules [] words → (options : Options) × HasOptions m options × (asked_by named options ≡ Some asked))
 taken_by named words asked (given, options, front, end, is, gives, ends, by) =
     let (passes, (rows, (raw, shows, reads), founds)) = options_taken given front end options gives ends in (
-      subst (λ ws. level_passes (level []) [] nothing_held ws false ≡ true) (sym is) passes,
-      λ m all. (options, finds m rows raw options (all ∙ ap (rows_after flags []) is ∙ founds) shows reads, by),
+      subst AreTaken (sym is) passes,
+      λ m all. (options, finds m rows raw options (all ∙ ap (rows_after rules []) is ∙ founds) shows reads, by),
     )
 
 -- ---- whether words begin with an option
@@ -113,13 +113,8 @@ passed_on (Err y) e P Q is q = subst Q (sym is) q
 pub answered : {T E : Type 0} (r : Result T E) (x : T) (Q : E → Type 0) → r ≡ Ok x → MatchResult r (λ found. found ≡ x) Q
 answered r x Q is = subst (λ r. MatchResult r (λ found. found ≡ x) Q) (sym is) refl
 
-module _ {Z : Type 0} where
-  name_kept : (o : Option (Box SubCommand Z)) → option_map (λ b. (out-SubCommand (box_value b)).name.now) o ≡ option_map (λ (p : Text × List Row). p.0) (subcommand_rows o)
-  name_kept None = refl
-  name_kept (Some b) = refl
-
 module _ (named : Subcommand) (rest words : List Text) (m : ArgMatches) where
-  entered_is : drop 1 words ≡ subcommand_name named ∷ rest → subcommand_rows_of m ≡ subcommand_of mdlview words → subcommand_rows_of m ≡ Some (subcommand_name named, rows_after flags [] rest)
+  entered_is : drop 1 words ≡ subcommand_name named ∷ rest → subcommand_rows_of m ≡ subcommand_of mdlview words → subcommand_rows_of m ≡ Some (subcommand_name named, rows_after rules [] rest)
   entered_is is entered = entered ∙ ap (λ xs. Rattle.clap.specs.Simple.entered (built mdlview) (stop_after top.rules top_names xs)) is ∙ subcommand_is named rest
 
   -- the name that was found, and what was found of its options
@@ -128,6 +123,6 @@ module _ (named : Subcommand) (rest words : List Text) (m : ArgMatches) where
       ap (λ o. unwrap_or o name) (found ∙ name_kept (out-ArgMatches m).subcommand ∙ ap (option_map (λ (p : Text × List Row). p.0)) (entered_is is entered))
 
   pub rows_found : (options : ArgMatches) → drop 1 words ≡ subcommand_name named ∷ rest → subcommand_rows_of m ≡ subcommand_of mdlview words
-      → Some (rows_of (found_of options)) ≡ option_map (λ (p : Text × List Row). p.1) (subcommand_rows (out-ArgMatches m).subcommand) → rows_of (found_of options) ≡ rows_after flags [] rest
+      → Some (rows_of (found_of options)) ≡ option_map (λ (p : Text × List Row). p.1) (subcommand_rows (out-ArgMatches m).subcommand) → rows_of (found_of options) ≡ rows_after rules [] rest
   rows_found options is entered found =
       ap (λ o. unwrap_or o (rows_of (found_of options))) (found ∙ ap (option_map (λ (p : Text × List Row). p.1)) (entered_is is entered))

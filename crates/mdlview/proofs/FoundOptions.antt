@@ -11,7 +11,7 @@ use Rattle.clap.proofs.WalkLemmas.{first_value-rows, one_text-rows}
 use Rattle.mdlview.specs.CommandLine.{HasLine, HasOptions, flag_word, server_name}
 use Rattle.mdlview.specs.declared.asked.Options.{Options}
 use Rattle.mdlview.proofs.FoundRows.{Has, at_fresh, first_read, has_kept, has_new, one_read}
-use Rattle.mdlview.proofs.OptionWords.{flags}
+use Rattle.mdlview.proofs.Options.{rules}
 use Rattle.mdlview.proofs.OptionsGiven.{LineReads, Raw, Reads, Shows, flag_text}
 
 -- a flag that wasn't given gets its default
@@ -38,7 +38,7 @@ unchanged : (b : Bool) (rows : List Row) → (if b then rows else rows) ≡ rows
 unchanged true rows = refl
 unchanged false rows = refl
 
-finished_rows : (rows : List Row) → fold with_default rows flags ≡ defaulted (codes "json") (defaulted (codes "script") rows)
+finished_rows : (rows : List Row) → fold with_default rows rules ≡ defaulted (codes "json") (defaulted (codes "script") rows)
 finished_rows rows =
     let first = defaulted (codes "script") rows in
     let second = defaulted (codes "json") first in
@@ -73,7 +73,7 @@ module _ (rows : List Row) (raw : Raw) (shows : Shows rows raw) where
       (other_defaulted (codes "script") (codes "server") rows raw.server refl shows.3)
 
 -- what a getter reads of an option that has this at the end
-one_found : (m : ArgMatches) (rows : List Row) (id : Text) (o : Option Text) → rows_of (found_of m) ≡ fold with_default rows flags → Has id (last_rows rows) o
+one_found : (m : ArgMatches) (rows : List Row) (id : Text) (o : Option Text) → rows_of (found_of m) ≡ fold with_default rows rules → Has id (last_rows rows) o
     → one_text (found_of m) id ≡ o
 one_found m rows id o is has = one_text-rows (found_of m) id ∙ ap (one_of id) (is ∙ finished_rows rows) ∙ one_read id (last_rows rows) o has
 
@@ -82,14 +82,14 @@ line_found found None line is none = subst (HasLine found) (sym none) is
 line_found found (Some t) line is (n, same, writes) = subst (HasLine found) (sym same) (t, is, writes)
 
 -- the server's name that was found
-pub server_found : (m : ArgMatches) (rows : List Row) (raw : Raw) → rows_of (found_of m) ≡ fold with_default rows flags → Shows rows raw
+pub server_found : (m : ArgMatches) (rows : List Row) (raw : Raw) → rows_of (found_of m) ≡ fold with_default rows rules → Shows rows raw
     → first_value (found_of m) (codes "server") ≡ raw.server
 server_found m rows raw is shows =
     first_value-rows (found_of m) (codes "server") ∙ ap (first_of (codes "server")) (is ∙ finished_rows rows)
     ∙ first_read (codes "server") (last_rows rows) raw.server (server_last rows raw shows)
 
 -- the options that the rows show are found
-pub finds : (m : ArgMatches) (rows : List Row) (raw : Raw) (options : Options) → rows_of (found_of m) ≡ fold with_default rows flags → Shows rows raw → Reads raw options
+pub finds : (m : ArgMatches) (rows : List Row) (raw : Raw) (options : Options) → rows_of (found_of m) ≡ fold with_default rows rules → Shows rows raw → Reads raw options
     → HasOptions m options
 finds m rows raw options is shows reads = (
   one_found m rows (codes "script") (Some (flag_word raw.script)) is (script_last rows raw shows) ∙ ap (λ b. Some (flag_word b)) (sym reads.0),

@@ -1,10 +1,8 @@
 mod AskedWords
 mod FoundOptions
 mod FoundRows
-mod LongOptions
-mod OptionWords
+mod Options
 mod OptionsGiven
 mod OptionsTaken
 pub mod RunEnds
-mod ShortOptions
 mod Subcommands

@@ -13,17 +13,18 @@ use Rattle.clap.specs.declared.builder.value_parser.ValueParser.TheVariants.{Uns
 use Rattle.clap.specs.declared.error.kind.ErrorKind.TheVariants as kind
 use Rattle.clap.specs.declared.parser.matches.ValueSource.TheVariants.{CommandLine}
 use Rattle.clap.proofs.ValueTestLemmas.{accepts-Accepts}
-use Rattle.mdlview.specs.CommandLine.{Adds, GiveOption, GiveOptions, GiveText, Given, WritesLine, last_line, no_options, server_name}
+use Rattle.mdl_words.specs.Words.{GiveText}
+use Rattle.mdl_words.proofs.OptionWords.{AreUses, Spells, Use, fault_used, rows_used}
+use Rattle.mdl_words.proofs.ShortOptions.{refuses}
+use Rattle.mdlview.specs.CommandLine.{Adds, GiveOption, GiveOptions, Given, WritesLine, last_line, no_options, server_name}
 use Rattle.mdlview.specs.CommandLine.Given.{Script as script_given, Json as json_given, At as line_given, ServerOf}
 use Rattle.mdlview.specs.declared.asked.Options.{Options}
 use Rattle.mdlview.specs.declared.asked.Server.{Server}
 use Rattle.mdlview.specs.declared.asked.Server.TheVariants.{MySql, MariaDb}
 use Rattle.mdlview.proofs.FoundRows.{Has, at_fresh, has_kept, has_new}
-use Rattle.mdlview.proofs.OptionWords.{AreUses, Flag, Spells, Use, Valued, fault_used, rows_used, value_id}
-use Rattle.mdlview.proofs.OptionWords.Flag.{Script, Json}
-use Rattle.mdlview.proofs.OptionWords.Valued.{At, ServerName}
-use Rattle.mdlview.proofs.OptionWords.Use.{Flagged, Takes}
-use Rattle.mdlview.proofs.ShortOptions.{neither, refuses}
+use Rattle.mdlview.proofs.Options.{Flag, Valued, options}
+use Rattle.mdlview.proofs.Options.Flag.{Script, Json}
+use Rattle.mdlview.proofs.Options.Valued.{At, ServerName}
 
 -- ---- options by their texts
 
@@ -55,11 +56,11 @@ pub nothing_shown : Shows [] nothing_given
 nothing_shown = (refl, refl, refl, refl)
 
 -- one more use, of what wasn't given before
-abbrev pub AddsUse : Use → Raw → Raw → Type 0
-AddsUse (Flagged Script) old new = (old.script ≡ false) × (new ≡ record old { script = true })
-AddsUse (Flagged Json) old new = (old.json ≡ false) × (new ≡ record old { json = true })
-AddsUse (Takes At t) old new = (old.at ≡ None) × (new ≡ record old { at = Some t }) × IsUnsignedIn 1 last_line t
-AddsUse (Takes ServerName t) old new = (old.server ≡ None) × (new ≡ record old { server = Some t })
+abbrev pub AddsUse : Use options → Raw → Raw → Type 0
+AddsUse (inl Script) old new = (old.script ≡ false) × (new ≡ record old { script = true })
+AddsUse (inl Json) old new = (old.json ≡ false) × (new ≡ record old { json = true })
+AddsUse (inr (At, t)) old new = (old.at ≡ None) × (new ≡ record old { at = Some t }) × IsUnsignedIn 1 last_line t
+AddsUse (inr (ServerName, t)) old new = (old.server ≡ None) × (new ≡ record old { server = Some t })
 
 -- ---- what a use leaves in the rows
 
@@ -81,7 +82,7 @@ no_flag false e = refl
 
 -- a row that is added, with what the others show
 module _ (rows : List Row) (raw : Raw) (shows : Shows rows raw) where
-  pub script_shown : raw.script ≡ false → Shows (rows_used (Flagged Script) rows) (record raw { script = true })
+  pub script_shown : raw.script ≡ false → Shows (rows_used options (inl Script) rows) (record raw { script = true })
   script_shown none =
       let fresh : has_row (codes "script") rows ≡ false = subst (λ b. Has (codes "script") rows (flag_text b)) none shows.0 in
       subst (λ rows. Shows rows (record raw { script = true })) (sym (used_fresh (codes "script") AsWritten (codes "true" ∷ []) rows fresh)) (
@@ -91,7 +92,7 @@ module _ (rows : List Row) (raw : Raw) (shows : Shows rows raw) where
         has_kept (codes "server") rows _ _ refl shows.3,
       )
 
-  pub json_shown : raw.json ≡ false → Shows (rows_used (Flagged Json) rows) (record raw { json = true })
+  pub json_shown : raw.json ≡ false → Shows (rows_used options (inl Json) rows) (record raw { json = true })
   json_shown none =
       let fresh : has_row (codes "json") rows ≡ false = subst (λ b. Has (codes "json") rows (flag_text b)) none shows.1 in
       subst (λ rows. Shows rows (record raw { json = true })) (sym (used_fresh (codes "json") AsWritten (codes "true" ∷ []) rows fresh)) (
@@ -101,7 +102,7 @@ module _ (rows : List Row) (raw : Raw) (shows : Shows rows raw) where
         has_kept (codes "server") rows _ _ refl shows.3,
       )
 
-  pub at_shown : (t : Text) → raw.at ≡ None → Shows (rows_used (Takes At t) rows) (record raw { at = Some t })
+  pub at_shown : (t : Text) → raw.at ≡ None → Shows (rows_used options (inr (At, t)) rows) (record raw { at = Some t })
   at_shown t none =
       let fresh : has_row (codes "at") rows ≡ false = subst (Has (codes "at") rows) none shows.2 in
       subst (λ rows. Shows rows (record raw { at = Some t })) (sym (used_fresh (codes "at") AsWritten (t ∷ []) rows fresh)) (
@@ -111,7 +112,7 @@ module _ (rows : List Row) (raw : Raw) (shows : Shows rows raw) where
         has_kept (codes "server") rows _ _ refl shows.3,
       )
 
-  pub server_shown : (t : Text) → raw.server ≡ None → Shows (rows_used (Takes ServerName t) rows) (record raw { server = Some t })
+  pub server_shown : (t : Text) → raw.server ≡ None → Shows (rows_used options (inr (ServerName, t)) rows) (record raw { server = Some t })
   server_shown t none =
       let fresh : has_row (codes "server") rows ≡ false = subst (Has (codes "server") rows) none shows.3 in
       subst (λ rows. Shows rows (record raw { server = Some t })) (sym (used_fresh (codes "server") AsWritten (t ∷ []) rows fresh)) (
@@ -134,38 +135,38 @@ line_accepted t e = accepts-Accepts false (Unsigned 1 last_line) t (go (accepts 
     go true e = refl
     go false e = absurd (refuses _ _ e)
 
-use_shown : (u : Use) (rows : List Row) (raw : Raw) → Shows rows raw → fault_used u rows ≡ [] → (now : Raw) × AddsUse u raw now × Shows (rows_used u rows) now
-use_shown (Flagged Script) rows raw shows e =
+use_shown : (u : Use options) (rows : List Row) (raw : Raw) → Shows rows raw → fault_used options u rows ≡ [] → (now : Raw) × AddsUse u raw now × Shows (rows_used options u rows) now
+use_shown (inl Script) rows raw shows e =
     let none = no_flag raw.script (absent (codes "script") rows _ shows.0 (once (has_row (codes "script") rows) _ e).0) in
     (record raw { script = true }, (none, refl), script_shown rows raw shows none)
-use_shown (Flagged Json) rows raw shows e =
+use_shown (inl Json) rows raw shows e =
     let none = no_flag raw.json (absent (codes "json") rows _ shows.1 (once (has_row (codes "json") rows) _ e).0) in
     (record raw { json = true }, (none, refl), json_shown rows raw shows none)
-use_shown (Takes At t) rows raw shows e =
+use_shown (inr (At, t)) rows raw shows e =
     let free = once (has_row (codes "at") rows) _ e in
     let none = absent (codes "at") rows _ shows.2 free.0 in
     (record raw { at = Some t }, (none, refl, line_accepted t free.1), at_shown rows raw shows t none)
-use_shown (Takes ServerName t) rows raw shows e =
+use_shown (inr (ServerName, t)) rows raw shows e =
     let none = absent (codes "server") rows _ shows.3 (once (has_row (codes "server") rows) _ e).0 in
     (record raw { server = Some t }, (none, refl), server_shown rows raw shows t none)
 
 -- the words are those of these uses in turn, and give this
-abbrev GiveUses : List Use → List Text → Raw → Raw → Type 0
+abbrev GiveUses : List (Use options) → List Text → Raw → Raw → Type 0
 GiveUses [] words old new = (words ≡ []) × (new ≡ old)
-GiveUses (u ∷ more) words old new = (first rest : List Text) × (now : Raw) × (words ≡ first ++ rest) × Spells u first × AddsUse u old now × GiveUses more rest now new
+GiveUses (u ∷ more) words old new = (first rest : List Text) × (now : Raw) × (words ≡ first ++ rest) × Spells options u first × AddsUse u old now × GiveUses more rest now new
 
-use_fits : (u : Use) (old new : Raw) → AddsUse u old new → Fits old.at → Fits new.at
-use_fits (Flagged Script) old new (none, is) fits = subst (λ (r : Raw). Fits r.at) (sym is) fits
-use_fits (Flagged Json) old new (none, is) fits = subst (λ (r : Raw). Fits r.at) (sym is) fits
-use_fits (Takes At t) old new (none, is, now) fits = subst (λ (r : Raw). Fits r.at) (sym is) now
-use_fits (Takes ServerName t) old new (none, is) fits = subst (λ (r : Raw). Fits r.at) (sym is) fits
+use_fits : (u : Use options) (old new : Raw) → AddsUse u old new → Fits old.at → Fits new.at
+use_fits (inl Script) old new (none, is) fits = subst (λ (r : Raw). Fits r.at) (sym is) fits
+use_fits (inl Json) old new (none, is) fits = subst (λ (r : Raw). Fits r.at) (sym is) fits
+use_fits (inr (At, t)) old new (none, is, now) fits = subst (λ (r : Raw). Fits r.at) (sym is) now
+use_fits (inr (ServerName, t)) old new (none, is) fits = subst (λ (r : Raw). Fits r.at) (sym is) fits
 
-uses_shown : (uses : List Use) (words : List Text) (rows after : List Row) (raw : Raw) → AreUses uses words rows after → Shows rows raw → Fits raw.at
+uses_shown : (uses : List (Use options)) (words : List Text) (rows after : List Row) (raw : Raw) → AreUses options uses words rows after → Shows rows raw → Fits raw.at
     → (new : Raw) × GiveUses uses words raw new × Shows after new × Fits new.at
 uses_shown [] words rows after raw are shows fits = (raw, (are.0, refl), subst (λ rows. Shows rows raw) (sym are.1) shows, fits)
 uses_shown (u ∷ more) words rows after raw (first, rest, is, spells, free, are) shows fits =
     let (now, adds, shown) = use_shown u rows raw shows free in
-    let (new, gives, all, fit) = uses_shown more rest (rows_used u rows) after now are shown (use_fits u raw now adds fits) in
+    let (new, gives, all, fit) = uses_shown more rest (rows_used options u rows) after now are shown (use_fits u raw now adds fits) in
     (new, (first, rest, now, is, spells, adds, gives), all, fit)
 
 -- ---- options that say the same
@@ -203,25 +204,25 @@ no_server None e = refl
 no_server (Some s) e = absurd (cc)
 
 -- the use's option, from what the options say behind it
-abbrev Gave : Use → List Text → Raw → Options → Type 0
+abbrev Gave : Use options → List Text → Raw → Options → Type 0
 Gave u words old after = (before : Options) × Reads old before × (one : Given) × GiveOption one words × Adds one before after
 
-gave : (u : Use) (words : List Text) (old now : Raw) (after : Options) → Spells u words → AddsUse u old now → Reads now after → Gave u words old after
-gave (Flagged Script) words old now after spells (none, is) reads = (
+gave : (u : Use options) (words : List Text) (old now : Raw) (after : Options) → Spells options u words → AddsUse u old now → Reads now after → Gave u words old after
+gave (inl Script) words old now after spells (none, is) reads = (
   record after { is_script = false },
   (sym none, reads.1 ∙ ap (λ (r : Raw). r.json) is, subst (λ (r : Raw). LineReads r.at after.last) is reads.2, sym (ap (λ (r : Raw). r.server) is) ∙ reads.3),
   script_given,
   spells,
   (refl, ap (λ b. record after { is_script = b }) (reads.0 ∙ ap (λ (r : Raw). r.script) is)),
 )
-gave (Flagged Json) words old now after spells (none, is) reads = (
+gave (inl Json) words old now after spells (none, is) reads = (
   record after { is_json = false },
   (reads.0 ∙ ap (λ (r : Raw). r.script) is, sym none, subst (λ (r : Raw). LineReads r.at after.last) is reads.2, sym (ap (λ (r : Raw). r.server) is) ∙ reads.3),
   json_given,
   spells,
   (refl, ap (λ b. record after { is_json = b }) (reads.1 ∙ ap (λ (r : Raw). r.json) is)),
 )
-gave (Takes At t) words old now after spells (none, is, fits) reads =
+gave (inr (At, t)) words old now after spells (none, is, fits) reads =
     let (n, line, writes) = subst (λ (r : Raw). LineReads r.at after.last) is reads.2 in (
       record after { last = None },
       (reads.0 ∙ ap (λ (r : Raw). r.script) is, reads.1 ∙ ap (λ (r : Raw). r.json) is, subst (λ o. LineReads o None) (sym none) refl, sym (ap (λ (r : Raw). r.server) is) ∙ reads.3),
@@ -230,19 +231,19 @@ gave (Takes At t) words old now after spells (none, is, fits) reads =
       (refl, ap (λ o. record after { last = o }) line),
     )
   where
-    given_text : Spells (Takes At t) words → GiveText (codes "at") t words
+    given_text : Spells options (inr (At, t)) words → GiveText (codes "at") t words
     given_text (inl one) = inl one
-    given_text (inr two) = inr (two, no_minus t fits)
-gave (Takes ServerName t) words old now after spells (none, is) reads = go after.server refl
+    given_text (inr (two, bare)) = inr (two, no_minus t fits)
+gave (inr (ServerName, t)) words old now after spells (none, is) reads = go after.server refl
   where
     named : (s : Server) → Some t ≡ Some (server_name s) → t ≡ server_name s
     named s e = ap (λ o. Rattle.std.specs.Prelude.unwrap_or o t) e
 
-    given_text : (s : Server) → t ≡ server_name s → Spells (Takes ServerName t) words → GiveText (codes "server") (server_name s) words
+    given_text : (s : Server) → t ≡ server_name s → Spells options (inr (ServerName, t)) words → GiveText (codes "server") (server_name s) words
     given_text s same (inl one) = inl (one ∙ ap (λ t. (codes "--" ++ codes "server" ++ codes "=" ++ t) ∷ []) same)
-    given_text s same (inr two) = inr (two ∙ ap (λ t. (codes "--" ++ codes "server") ∷ t ∷ []) same, server_no_minus s)
+    given_text s same (inr (two, bare)) = inr (two ∙ ap (λ t. (codes "--" ++ codes "server") ∷ t ∷ []) same, server_no_minus s)
 
-    go : (o : Option Server) → after.server ≡ o → Gave (Takes ServerName t) words old after
+    go : (o : Option Server) → after.server ≡ o → Gave (inr (ServerName, t)) words old after
     go None e = absurd (bad (sym (ap (λ (r : Raw). r.server) is) ∙ reads.3 ∙ ap (option_map server_name) e))
       where
         bad : Some t ≡ None → ⊥
@@ -256,7 +257,7 @@ gave (Takes ServerName t) words old now after spells (none, is) reads = go after
           (refl, ap (λ o. record after { server = o }) e),
         )
 
-all_gave : (uses : List Use) (words : List Text) (old new : Raw) (after : Options) → GiveUses uses words old new → Reads new after
+all_gave : (uses : List (Use options)) (words : List Text) (old new : Raw) (after : Options) → GiveUses uses words old new → Reads new after
     → (before : Options) × Reads old before × (all : List Given) × GiveOptions all words before after
 all_gave [] words old new after (none, same) reads = (after, subst (λ r. Reads r after) same reads, [], (none, refl))
 all_gave (u ∷ more) words old new after (first, rest, now, is, spells, adds, gives) reads =
@@ -270,7 +271,7 @@ starts_bare before (script, json, line, server) =
     ∙ ap₂ (λ l v. record no_options { last = l; server = v }) line (no_server before.server server)
 
 -- the words of uses give the options that say what is found
-pub options_given : (uses : List Use) (words : List Text) (rows : List Row) → AreUses uses words [] rows
+pub options_given : (uses : List (Use options)) (words : List Text) (rows : List Row) → AreUses options uses words [] rows
     → (raw : Raw) × Shows rows raw × Fits raw.at × ((options : Options) → Reads raw options → (all : List Given) × GiveOptions all words no_options options)
 options_given uses words rows are =
     let (raw, gives, shows, fits) = uses_shown uses words [] rows nothing_given are nothing_shown tt in (

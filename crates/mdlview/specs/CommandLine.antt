@@ -1,18 +1,17 @@
 -- What the words of a command line ask for.
 use Rattle.std.specs.Prelude.{◌≡◌, ◌⊎◌, ◌++◌, ◌==◌, ◌&&◌, not, ℕ, Bool, true, false, List, [], ◌∷◌, Option, Some, None, codes, unwrap_or, is_some, option_map, if◌then◌else◌}
-use Rattle.std.specs.Str.Parse.{digits_value, starts_with_minus, without_leading_plus}
+use Rattle.std.specs.Str.Parse.{digits_value, without_leading_plus}
 use Rattle.clap.specs.Matches.{first_value, found_of, one_text}
 use Rattle.clap.specs.Values.{IsUnsignedIn}
 use Rattle.clap.specs.Walk.{Rule}
-use Rattle.clap.specs.Simple.{App, Shape, new_app, new_rule, on_top, with_rule, with_subcommand}
-use Rattle.clap.specs.declared.builder.action.ArgAction.TheVariants.{Set, SetTrue}
-use Rattle.clap.specs.declared.builder.value_parser.ValueParser.{ValueParser}
+use Rattle.clap.specs.Simple.{App, Shape, new_app, on_top, with_rule, with_subcommand}
 use Rattle.clap.specs.declared.builder.value_parser.ValueParser.TheVariants.{Unsigned}
 use Rattle.clap.specs.declared.parser.matches.ArgMatches.{ArgMatches}
 use Rattle.mdl_view_program.specs.declared.question.Form.{Form}
 use Rattle.mdl_view_program.specs.declared.question.Form.TheVariants as form
 use Rattle.mdl_view_program.specs.declared.question.Question.{Question}
 use Rattle.mdl_view_program.specs.declared.question.Question.TheVariants as question
+use Rattle.mdl_words.specs.Words.{CloseOptions, GiveText, flag_rule, value_rule}
 use Rattle.mdlview.specs.declared.asked.Asked.{Asked}
 use Rattle.mdlview.specs.declared.asked.Asked.TheVariants.{OfRows, OfScript, Query}
 use Rattle.mdlview.specs.declared.asked.Look.TheVariants as look
@@ -78,11 +77,6 @@ pub data Given : Type 0 where
   At : ℕ → Given
   ServerOf : Server → Given
 
--- the words that give the option of this name this text: in the same word, after a `=`, or in the next word, if it doesn't begin with `-`
-abbrev pub GiveText : List ℕ → List ℕ → List (List ℕ) → Type 0
-GiveText name text words = (words ≡ (codes "--" ++ name ++ codes "=" ++ text) ∷ [])
-    ⊎ ((words ≡ (codes "--" ++ name) ∷ text ∷ []) × (starts_with_minus text ≡ false))
-
 -- the text writes the number of a line, from 1 to the last, in decimal digits, perhaps after a `+`
 abbrev pub WritesLine : List ℕ → ℕ → Type 0
 WritesLine text line = IsUnsignedIn 1 last_line text × (digits_value 10 (without_leading_plus text) ≡ line)
@@ -128,10 +122,6 @@ abbrev pub NameSubcommand : Subcommand → List (List ℕ) → Type 0
 NameSubcommand subcommand.Why words = (words ≡ []) ⊎ (words ≡ codes "why" ∷ [])
 NameSubcommand named words = words ≡ subcommand_name named ∷ []
 
--- nothing, or `--`, which says only that the options end
-abbrev pub CloseOptions : List (List ℕ) → Type 0
-CloseOptions words = (words ≡ []) ⊎ (words ≡ codes "--" ∷ [])
-
 -- the words behind a subcommand's name ask for this: options that it takes, each given once, in any order
 abbrev pub AskBy : Subcommand → List (List ℕ) → Asked → Type 0
 AskBy named words asked = (given : List Given) × (options : Options) × (front end : List (List ℕ)) × (words ≡ front ++ end)
@@ -147,28 +137,22 @@ AskForVersion words = words ≡ codes "--version" ∷ []
 
 -- the line that is printed for the version
 abbrev pub version_line : List ℕ
-version_line = codes "mdlview 0.5.0" ++ 10 ∷ []
+version_line = codes "mdlview 0.6.0-dev" ++ 10 ∷ []
 
 -- ---- what a parse reads
 
--- an option without a value, and one with a value
-abbrev pub flag_rule : List ℕ → Rule
-flag_rule name = record (new_rule name) { long = Some name; action = Some SetTrue }
-
-abbrev pub value_rule : List ℕ → Option ValueParser → Rule
-value_rule name parser = record (new_rule name) { long = Some name; action = Some Set; value_names = 1; parser = parser }
-
+-- the options
 abbrev pub script_rule : Rule
 script_rule = flag_rule (codes "script")
 
 abbrev pub at_rule : Rule
-at_rule = value_rule (codes "at") (Some (Unsigned 1 last_line))
+at_rule = value_rule (codes "at") (Some (Unsigned 1 last_line)) []
 
 abbrev pub json_rule : Rule
 json_rule = flag_rule (codes "json")
 
 abbrev pub server_rule : Rule
-server_rule = value_rule (codes "server") None
+server_rule = value_rule (codes "server") None []
 
 -- a command with all options
 abbrev pub with_options : App → App

@@ -14,7 +14,7 @@ locks_query =
     ++ line_of (codes "  m.LOCK_TYPE, m.LOCK_DURATION, m.LOCK_STATUS, m.OWNER_THREAD_ID,")
     ++ line_of (codes "  t.PROCESSLIST_ID, t.PROCESSLIST_USER AS USER,")
     ++ line_of (codes "  t.PROCESSLIST_HOST AS HOST, t.PROCESSLIST_COMMAND AS COMMAND,")
-    ++ line_of (codes "  t.PROCESSLIST_TIME AS TIME, LEFT(t.PROCESSLIST_INFO, 64) AS INFO,")
+    ++ line_of (codes "  t.PROCESSLIST_TIME AS TIME, LEFT(t.PROCESSLIST_INFO, 100) AS INFO,")
     ++ line_of (codes "  x.TRX_STARTED")
     ++ line_of (codes "FROM performance_schema.metadata_locks m")
     ++ line_of (codes "LEFT JOIN performance_schema.threads t")

@@ -20,12 +20,13 @@ use mdl_lines::{Fault, LineError, read_all, report, write_all};
 use mdl_lock_rows::LockRowsError;
 use mdl_view_program::{Explained, Question, RowsFault, draw_script, view_rows, view_script};
 use mdl_view_text::explanation;
+use mdl_words::is_only_word;
 use std::alloc::{AllocError, Global};
 use std::convert::AsStr;
 use std::io::{Read, Write};
 
 // What `--version` prints.
-const VERSION_LINE: &[u8] = b"mdlview 0.5.0\n";
+const VERSION_LINE: &[u8] = b"mdlview 0.6.0-dev\n";
 
 // The exit status if a line of the input is refused.
 const REFUSED: u8 = 1;
@@ -67,10 +68,7 @@ pub fn run_words<S: AsStr, R: Read, W: Write, E: Write>(
 fn asks_for_version<S: AsStr>(words: &[S]) -> bool
     ensures { IsTrue result ↔ AskForVersion (drop 1 (map S.text words.now)) }
 {
-    match words {
-        [_, word] => word.as_str() == "--version",
-        _ => false,
-    }
+    is_only_word(words, "--version")
 }
 
 // Whether one of the words calls for help.

@@ -2,6 +2,7 @@
 use Rattle.mdl_session_laws.specs.SessionJoins.{Joins}
 use Rattle.mdl_session_laws.specs.SessionSpaces.{SpeaksFor, own_of, numbers_of, Knows, IsSettledAs, HasMet, HasRead, HasSeen, Pins, Owes}
 use Rattle.mdl_calls.specs.declared.lock_space.LockSpace.{Ghosts}
+use Rattle.mdl_shared.specs.KeptReads.{UsesKept}
 use Rattle.mdl_shared.specs.SessionViews.{SessionView, space_of}
 use Rattle.mdl_shared.specs.Showings.{Shows}
 
@@ -19,4 +20,5 @@ session_space = record {
   pins = λ s. Pins (space_of s);
   owes = λ s. Owes (space_of s);
   joins = λ s call answer t. Joins (space_of s) call answer (space_of t) × Shows call answer s t;
+  uses_cache = λ s who id answer before after t. UsesKept id answer s t before after;
 }

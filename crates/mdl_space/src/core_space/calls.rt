@@ -1,6 +1,6 @@
 //! The space of one thread as a lock space: each call has just one outcome, except that memory may run out.
 ghost use Rattle.mdl_core.specs.CoreJoins.{SpeaksFor, own_at, numbers_at, Knows, IsSettledAs, HasRead, HasSeen, Pins, Joins};
-ghost use Rattle.std.proofs.Common.{refl};
+ghost use Rattle.std.proofs.Common.{refl, ◌≡◌};
 ghost use Rattle.mdl_core.proofs.CallLaws.{core-allowed, core-keeps, core-changes, core-others, core-draws, core-others_draw, core-rising, core-fits, core-explains, core-lists, core-resolves, core-tells_key, core-tells_tables, core-remembers};
 ghost use Rattle.mdl_core.proofs.CallLaws.{core-waits_settled, core-settled_once, core-tells, core-stays, core-agrees, core-victims, core-counts, core-kills, core-kills_or_settled, core-upgrades};
 ghost use Rattle.mdl_core.proofs.KnownPlaces.{core-one_key, core-one_place, core-held_places, core-wait_place};
@@ -37,6 +37,9 @@ impl LockSpace for CoreSpace {
     ghost owes = { λ _ _ _. ⊥ };
 
     ghost joins = { Joins };
+
+    // A read leaves the cache unchanged.
+    ghost uses_cache = { λ _ _ _ _ before after _. after ≡ before };
 
     fn resolve(&mut self, _who: u16, key: &Key) -> Result<Place, SpaceError> {
         self.place_key(key)
@@ -94,8 +97,8 @@ impl LockSpace for CoreSpace {
         self.downgrade_held(who, id, mode)
     }
 
-    fn read_definition(&mut self, who: u16, id: TicketId) -> Result<Standing, SpaceError> {
-        self.read_held(who, id)
+    fn read_definition(&mut self, who: u16, ticket: TicketId) -> Result<Standing, SpaceError> {
+        self.read_held(who, ticket)
     }
 
     fn read_kept(

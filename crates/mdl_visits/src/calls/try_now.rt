@@ -1,8 +1,8 @@
 //! Grants a request for a lock at once, or not at all.
-ghost use Rattle.std.specs.Prelude.{◌≡◌, Ok, IfErr};
+ghost use Rattle.std.specs.Prelude.{◌≡◌, true, Ok, IfErr};
 ghost use Rattle.mdl_steps.specs.declared.deed.Deed.TheVariants.{Gain};
 ghost use Rattle.mdl_visits.specs.declared.calls.try_now.Tried.TheVariants.{Granted, Blocked};
-ghost use Rattle.mdl_visits.specs.Visits.{HasWish, MayVisit, WasBlocked, WasGranted, WasRefused};
+ghost use Rattle.mdl_visits.specs.Visits.{HasWish, MayVisit, WasBlocked, WasGranted, WasRefusedWish};
 
 use crate::enter_and_leave::{enter, gain, lower_flags_and_put};
 use mdl_book::BookError;
@@ -35,7 +35,7 @@ pub fn try_now<R: Wait>(
     requires number { number ≡ seat.old.me.0.next }
     ensures granted { result ≡ Ok Granted → WasGranted place mode (Gain number mode) seat.old seat.new }
     ensures blocked { result ≡ Ok Blocked → WasBlocked place mode seat.old seat.new }
-    ensures refused { IfErr result (λ cause. WasRefused place cause seat.old seat.new) }
+    ensures refused { IfErr result (λ cause. WasRefusedWish place mode true cause seat.old seat.new) }
 {
     let (latch, word, can) = enter(rt, seat, place, mode, is_obtrusive(kind, mode));
     if !can {

@@ -5,4 +5,4 @@ use Rattle.mdl_view_text.specs.Why.{joint_text}
 use Rattle.mdl_view_text.proofs.why.push_each_joint.Given as goal
 
 abbrev pub invariant-loop-wait : goal.invariant-loop-wait
-invariant-loop-wait l = l.out.items ≡ l.fn.out.items ++ flat_map (joint_text l.names) (take l.wait-index l.waits)
+invariant-loop-wait l = l.out.items ≡ l.fn.out.items ++ flat_map (joint_text l.names l.ways) (take l.wait-index l.waits)

@@ -1,24 +1,11 @@
 -- What clap reads of the program, from the calls that make it.
-use Rattle.std.proofs.Common.{◌≡◌, ◌∙◌, ap, ap₂, codes, not, refl, true, false, Bool}
+use Rattle.std.proofs.Common.{◌≡◌, ◌∙◌, ap, ap₂, codes, refl, true}
 use Rattle.std.proofs.lemmas.Result.{IfOk-weaker}
 use Rattle.clap.specs.Simple.{app_of_fields, on_top}
 use Rattle.clap.specs.Words.{App, Shape, app_of, new_app, with_subcommand}
-use Rattle.clap.specs.declared.builder.command.Command.{Command}
-use Rattle.clap.specs.declared.builder.command.Command.TheViews.{out-Command}
-use Rattle.clap.proofs.WalkLemmas.{both}
+use Rattle.mdl_words.proofs.Subcommands.{no_globals}
 use Rattle.mdlview.specs.CommandLine.{with_options}
 use Rattle.mdlview.proofs.command_line.program.Goals as goal
-
--- a command whose shape is plain has no global argument
-no_globals : (c : Command) (a : App) → app_of c ≡ a → a.top.is_plain ≡ true → (out-Command c).has_globals ≡ false
-no_globals c a is plain =
-    let fields = ap (λ (b : App). b.top.is_plain) is ∙ plain in
-    let global = (both _ _ (both _ _ (both _ _ fields).1).1).0 in
-    go (out-Command c).has_globals global
-  where
-    go : (b : Bool) → not b ≡ true → b ≡ false
-    go true e = cc
-    go false e = refl
 
 -- a command that wants a subcommand
 abbrev requires_one : App → App

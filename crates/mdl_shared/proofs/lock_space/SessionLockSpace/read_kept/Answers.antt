@@ -1,7 +1,22 @@
 -- A read of the session that speaks for its own number is one for that number.
+use Rattle.std.proofs.Common.{ℕ, Ok, Err, Result}
+use Rattle.mdl_defs.specs.declared.standing.Standing.{Standing}
+use Rattle.mdl_calls.specs.declared.space_error.SpaceError.{SpaceError}
+use Rattle.mdl_calls.specs.Words.{read as read_as}
+use Rattle.std.specs.Prelude.{IfOk, OnErr}
+use Rattle.mdl_defs.specs.Caches.{CacheView}
+use Rattle.mdl_shared.specs.KeptReads.{LeavesKept, ReadsKept, UsesKept}
+use Rattle.mdl_shared.specs.SessionViews.{SessionView}
 use Rattle.mdl_shared.proofs.lock_space.SessionLockSpace.read_kept.Goals as goal
+
+-- what it does to the cache, by its answer
+used : (id : ℕ) (result : Result Standing SpaceError) (a b : SessionView) (before after : CacheView) → IfOk result (λ standing. ReadsKept id standing a b before after)
+    → OnErr result (LeavesKept id a b before after) → UsesKept id (read_as result) a b before after
+used id (Ok standing) a b before after kept left = kept
+used id (Err why) a b before after kept left = left
 
 pub returns : goal.returns
 returns g c =
     let did = c.read_kept.ensures in
-    rw c.requires.speaks.0 (record { joined = (did.joined, did.shown); met = did.met; capacity = did.capacity })
+    let uses = used c.args.id c.read_kept.result c.args.self.now c.read_kept.new.self c.args.cache.now c.read_kept.new.cache did.kept did.left in
+    rw c.requires.speaks.0 (record { joined = (did.joined, did.shown); used = uses; met = did.met; capacity = did.capacity })

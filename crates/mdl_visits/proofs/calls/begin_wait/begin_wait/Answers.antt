@@ -1,15 +1,16 @@
 -- What came of the wish at the place is told of the seat as it was before.
-use Rattle.mdl_visits.proofs.Trying.{as_told}
+use Rattle.mdl_visits.proofs.Trying.{as_refused, as_told}
 use Rattle.mdl_visits.proofs.calls.begin_wait.begin_wait.Goals as goal
 
 pub returns-in-Err-clause-refused : goal.returns-in-Err-clause-refused
-returns-in-Err-clause-refused g c = c.in-Err.ensures.done c.args.place c.args.seat.now (as_told c.if-can.true c.enter-can.ensures.entered)
+returns-in-Err-clause-refused g c = as_refused (c.in-Err.ensures.done c.args.place c.args.seat.now (as_told c.if-can.true c.enter-can.ensures.entered))
 
 pub returns-then-can-clause-granted : goal.returns-then-can-clause-granted
 returns-then-can-clause-granted g c = λ _. c.in_default.ensures.done c.args.place c.args.seat.now (as_told c.if-can.true c.enter-can.ensures.entered)
 
 pub returns-in-Err-enqueue-clause-refused : goal.returns-in-Err-enqueue-clause-refused
-returns-in-Err-enqueue-clause-refused g c = c.in-Err-enqueue.ensures.done c.enter-can.result.1.0 c.args.place c.args.seat.now (as_told c.if-can.false c.enter-can.ensures.entered)
+returns-in-Err-enqueue-clause-refused g c =
+    as_refused (c.in-Err-enqueue.ensures.done c.enter-can.result.1.0 c.args.place c.args.seat.now (as_told c.if-can.false c.enter-can.ensures.entered))
 
 pub returns-clause-waiting : goal.returns-clause-waiting
 returns-clause-waiting g c = λ _. c.in_default-enqueue.ensures.done c.enter-can.result.1.0 c.args.place c.args.seat.now (as_told c.if-can.false c.enter-can.ensures.entered)

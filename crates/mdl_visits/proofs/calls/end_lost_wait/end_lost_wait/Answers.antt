@@ -3,7 +3,8 @@ use Rattle.std.proofs.Common.{ℕ, sym, ◌∙◌, subst}
 use Rattle.mdl_steps.specs.SeatStates.{AtItsTable}
 use Rattle.mdl_visits.specs.WaitEndings.{EndsLost, without_wait}
 use Rattle.mdl_visits.proofs.Seats.{place_there, table_of}
-use Rattle.mdl_visits.proofs.WaitEndings.{asks_there, came_ended, has_ended, holds_less, may_cancel, told_there, waits_there, withdrawn}
+use Rattle.mdl_visits.proofs.Steps.{goes_by, step_before}
+use Rattle.mdl_visits.proofs.WaitEndings.{asks_there, came_ended, has_ended, holds_less, may_cancel, shows_end, told_there, waits_there, withdrawn}
 use Rattle.mdl_visits.proofs.calls.end_lost_wait.end_lost_wait.Goals as goal
 
 pub end_lost-requires : goal.end_lost-requires
@@ -47,4 +48,11 @@ returns g c =
     let ended = c.end_lost.ensures.made ask r.lost.0 asks (told_there ask a w is r.lost.0 r.lost.1) in
     let n = c.lower_flags_and_reschedule.new.seat in
     let there = came_ended ask a w is r.lost.0 c.end_lost.new.self ended c.end_lost.ensures.apart in
-    record { ended = subst (λ (p : ℕ). AtItsTable s n (EndsLost s.table p)) a.at (c.lower_flags_and_reschedule.ensures.rescheduled (record s { me = without_wait s.me }) there) }
+    let v = c.end_lost.new.self in
+    let last = c.lower_flags_and_reschedule.ensures.step in
+    record {
+      ended = subst (λ (p : ℕ). AtItsTable s n (EndsLost s.table p)) a.at (c.lower_flags_and_reschedule.ensures.rescheduled (record s { me = without_wait s.me }) there);
+      met = λ state told.
+          let shown = shows_end ask a w is state v (c.end_lost.ensures.made ask state asks (told_there ask a w is state told)) in
+          (shown.0, step_before s.me v.me n.me (goes_by v.me n.me last.0 last.1) shown.0 shown.1, shown.2);
+    }
