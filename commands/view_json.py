@@ -52,9 +52,14 @@ def turned(objects):
         yield dict(members[place % len(members) :] + members[: place % len(members)])
 
 
+def number_of(value):
+    """Returns a number in place of a text of digits that don't begin with 0, and any other value as it is."""
+    return int(value) if isinstance(value, str) and value.isdecimal() and value[0] != "0" else value
+
+
 def numbered(objects):
     """Returns objects with numbers in place of texts of digits."""
-    return [{key: int(value) if value and value.isdecimal() and value != "0" and value[0] != "0" else value for key, value in it.items()} for it in objects]
+    return [{key: number_of(value) for key, value in it.items()} for it in objects]
 
 
 def forms_of(objects):
