@@ -390,7 +390,7 @@ def wrong_crowds(program):
     rows = HEADER + table_rows("SHARED_READ", "GRANTED", range(1, 201), "t{}")
     rows += "".join(table_rows("EXCLUSIVE", "PENDING", [1000 + it], f"t{it}") for it in range(1, 201))
     status, printed, reported = found = run(program, "why", rows)
-    lines = ["200 requests wait. Ways out, the best first:\n1. End thread ", "\n8. End thread ", "More ways, which are no better: 192\n"]
+    lines = ["200 requests wait. Ways out, the best first. Do one, and look again:\n1. End thread ", "\n8. End thread ", "More ways, which are no better: 192\n"]
     if status or reported or any(line not in printed for line in lines) or "\n9. " in printed:
         yield "why, many ways", tuple(str(it)[:1000] for it in found)
 
