@@ -68,6 +68,9 @@ pub {name}_spec : {{M : Type 1}} → statement M
 {name}_spec = nowhere
 """
 
+# Whether a body that is refused for a name alone, and doesn't say why, is a failure. The gate only counts it.
+NAMES_FAIL = "--gate" not in sys.argv
+
 # The outcomes of a wrong body, or of a right one. (A function without control has only proofs that don't fit another form.)
 REFUSED, BY_A_NAME, UNSURE, MISSED, PASSED = "refused", "refused for a name alone", "refused without control", "not as it should be", "passed"
 
@@ -305,12 +308,12 @@ def outcome_of(crate, body, said):
     verdict, errors = told_of(body.refused, said)
     if not refused:
         wrong = f"NOT REFUSED: {body.refused} has to fail by itself"
-    elif not for_more and not body.by_a_name:
+    elif not for_more and not body.by_a_name and NAMES_FAIL:
         wrong = f"refused for a name alone, and it doesn't say why: its proof misses a name that {body.refused} had"
     elif for_more and body.by_a_name:
         wrong = "refused for more than a name: its line `by a name` is stale"
     else:
-        return BY_A_NAME if body.by_a_name else UNSURE if body.refused in without_control() else REFUSED
+        return BY_A_NAME if not for_more else UNSURE if body.refused in without_control() else REFUSED
     told = "\n    ".join(verdict + errors or said[-3:])
     print(f"{crate}/{body.name}: {wrong}\n    {told}", flush=True)
     return MISSED
@@ -404,7 +407,7 @@ def try_crate(crate, bodies, are_right):
                 outcomes[outcome] += 1
                 unsure += [body.name] if outcome == UNSURE else []
     told = f"{len(bodies) - outcomes[MISSED]} of {len(bodies)}"
-    few = f", {outcomes[BY_A_NAME]} of them for a name alone, and say why" if outcomes[BY_A_NAME] else ""
+    few = f", {outcomes[BY_A_NAME]} of them for a name alone" if outcomes[BY_A_NAME] else ""
     few += f", {len(unsure)} maybe only since the proof by hand doesn't fit: {' '.join(sorted(unsure))}" if unsure else ""
     print(f"{crate}: {told} right bodies pass" if are_right else f"{crate}: {told} wrong bodies are refused{few}", flush=True)
     return outcomes[MISSED]
