@@ -72,6 +72,13 @@ impl DefCache {
         self.map.get(&(place, version))
     }
 
+    /// Returns the definition that is kept of this version of this place, if there is one, and leaves the order as it is.
+    pub fn peek(&self, place: u16, version: u64) -> Option<&Definition>
+        ensures { option_copied result ≡ kept_of place version self.now.kept }
+    {
+        self.map.peek(&(place, version))
+    }
+
     /// Returns how many definitions are kept.
     pub fn len(&self) -> usize
         ensures len { result ≡ length self.now.kept }

@@ -221,10 +221,13 @@ module _ (m : Member) (id : ℕ) (t : Own) (its : numbered id (tickets_seen m.se
   seat-joins = kept-joins (space_of (view_of m)) (space_of after) m.seat.me.0.number id version (Some d)
       (hit-joins {s′ = after} (member m) id t its kept met version d hit newest one now same keeps)
 
-  -- and each definition that the cache keeps was met still, after the look
+  -- and each definition that the cache keeps was met still
+  pub seat-still : AreMet (HasMet (space_of after) seat′.me.0.number) kept
+  seat-still = met-after (member m) (space_of after) (Read_kept m.seat.me.0.number id) (Reads version (Some d)) kept seat-joins met
+
+  -- also after a look
   pub seat-met : AreMet (HasMet (space_of after) seat′.me.0.number) (looked_at t.place version kept)
-  seat-met = met-looked (HasMet (space_of after) seat′.me.0.number) t.place version kept
-      (met-after (member m) (space_of after) (Read_kept m.seat.me.0.number id) (Reads version (Some d)) kept seat-joins met)
+  seat-met = met-looked (HasMet (space_of after) seat′.me.0.number) t.place version kept seat-still
 
 -- where none is kept of the version that a session's seat found
 module _ (m : Member) (id : ℕ) (t : Own) (its : numbered id (tickets_seen m.seat.me.0) ≡ Some t) (kept : List Kept)

@@ -43,17 +43,8 @@ ReadsKept id standing a b before after =
     (λ d. (standing ≡ kept_standing version d) × FindsVersion t.place standing a b
     × (after ≡ record { kept = looked_at t.place version before.kept; capacity = before.capacity })))
 
--- what a refused read with a cache leaves in it: the cache is unchanged, or memory ran out for a copy of the definition that it keeps of the version that
--- a step found, and that definition comes first
-abbrev pub LeavesKept : ℕ → SessionView → SessionView → CacheView → CacheView → Type 0
-LeavesKept id a b before after =
-    (after ≡ before)
-    ⊎ OfTicket id (lists_seen a.me.0) (λ t. (version : ℕ) × (d : Definition) × (kept_of t.place version before.kept ≡ Some d)
-    × FindsVersion t.place (kept_standing version d) a b
-    × (after ≡ record { kept = looked_at t.place version before.kept; capacity = before.capacity }))
-
--- what a read with a cache, with this answer, does to the cache. Nothing is said of what is no answer to a read
+-- what a read with a cache, with this answer, does to the cache. One that is refused leaves it unchanged. Nothing is said of what is no answer to a read
 abbrev pub UsesKept : ℕ → Answer → SessionView → SessionView → CacheView → CacheView → Type 0
 UsesKept id (Reads version definition) a b before after = ReadsKept id (record { version = version; definition = definition }) a b before after
-UsesKept id (Refused why) a b before after = LeavesKept id a b before after
+UsesKept id (Refused why) a b before after = after ≡ before
 UsesKept id _ a b before after = Unit {0}

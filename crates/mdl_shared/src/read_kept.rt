@@ -3,7 +3,7 @@ ghost use Rattle.std.specs.Prelude.{◌≡◌, ◌<◌, IfOk, OnErr};
 ghost use Rattle.mdl_calls.specs.Words.{AreMet, Read_kept, read};
 ghost use Rattle.mdl_session_laws.specs.SessionJoins.{Joins};
 ghost use Rattle.mdl_session_laws.specs.SessionSpaces.{HasMet};
-ghost use Rattle.mdl_shared.specs.KeptReads.{LeavesKept, MayKeep, ReadsKept};
+ghost use Rattle.mdl_shared.specs.KeptReads.{MayKeep, ReadsKept};
 ghost use Rattle.mdl_shared.specs.SessionViews.{space_of};
 ghost use Rattle.mdl_shared.specs.Showings.{Shows};
 
@@ -15,8 +15,8 @@ use std::sync::Wait;
 impl<R: Wait> Session<R> {
     /// Like [`Session::read_definition`], but reads a definition without the latch if the cache keeps the one of the key's version. What is
     /// read under the latch is kept in the cache, if there is a definition and memory for it. Each definition in the cache has to be one that
-    /// this session read in this space. If memory runs out for a copy of what the cache keeps, the version is noted under the ticket
-    /// nevertheless, and the definition comes first in the cache.
+    /// this session read in this space. If memory runs out for a copy of what the cache keeps, the cache is left as it was, and the version is
+    /// noted under the ticket nevertheless.
     pub fn read_kept(&mut self, id: TicketId, cache: &mut DefCache) -> Result<Standing, SpaceError>
         requires met { AreMet (HasMet (space_of self.old) self.old.me.0.number) cache.old.kept }
         ensures joined { Joins (space_of self.old) (Read_kept self.old.me.0.number id) (read result) (space_of self.new) }
@@ -24,18 +24,20 @@ impl<R: Wait> Session<R> {
         ensures met { AreMet (HasMet (space_of self.new) self.new.me.0.number) cache.new.kept }
         ensures capacity { cache.new.capacity ≡ cache.old.capacity }
         ensures kept { IfOk result (λ standing. ReadsKept id standing self.old self.new cache.old cache.new) }
-        ensures left { OnErr result (LeavesKept id self.old self.new cache.old cache.new) }
+        ensures left { OnErr result (cache.new ≡ cache.old) }
     {
         let Some(held) = self.member.tickets.get(id) else {
             return Err(SpaceError::NotHeld);
         };
         let member = &mut self.member;
         let version = member.seat.read_version_kept(held.place, cache);
-        if let Some(definition) = cache.look(held.place as u16, version) {
+        let place = held.place as u16;
+        if let Some(definition) = cache.peek(place, version) {
             member.tickets.note_all(held.place, version);
             let Ok(definition) = definition.clone() else {
                 return Err(SpaceError::OutOfMemory);
             };
+            let _first = cache.look(place, version);
             return Ok(Standing {
                 version,
                 definition: Some(definition),

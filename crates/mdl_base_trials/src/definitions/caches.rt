@@ -1,13 +1,14 @@
 //! Caches of definitions, step by step.
 use super::{What, X, X_Y, Y, definition, standing};
-use mdl_defs::{CacheError, DefCache};
+use mdl_defs::{CacheError, DefCache, Definition};
 use std::alloc::Global;
 
-// A call of a cache: to keep a definition, or to look for one, with what is found.
+// A call of a cache: to keep a definition, or to look or peek for one, with what is found.
 #[derive(Clone, Copy)]
 enum Call {
     Keep(u16, u64, What),
     Look(u16, u64, Option<What>),
+    Peek(u16, u64, Option<What>),
 }
 
 // A call, and how many definitions are kept afterwards.
@@ -47,6 +48,18 @@ const OF_TWO_PLACES: &[Step] = &[
     (Call::Look(3, 1, Some(X_Y)), 2),
 ];
 
+// A peek leaves the order, so that the definition kept first is dropped.
+const OF_TWO_PEEKED_AT: &[Step] = &[
+    (Call::Keep(1, 1, X), 1),
+    (Call::Keep(2, 1, Y), 2),
+    (Call::Peek(1, 1, Some(X)), 2),
+    (Call::Peek(1, 2, None), 2),
+    (Call::Keep(3, 1, X_Y), 2),
+    (Call::Peek(1, 1, None), 2),
+    (Call::Peek(2, 1, Some(Y)), 2),
+    (Call::Peek(3, 1, Some(X_Y)), 2),
+];
+
 // The next version of a place replaces the one before.
 const OF_ONE_PLACE: &[Step] = &[
     (Call::Keep(1, 1, X), 1),
@@ -64,16 +77,10 @@ const OF_ONE: &[Step] = &[
     (Call::Look(256, u64::MAX, Some(X_Y)), 1),
 ];
 
-// Whether exactly this is found.
-fn finds(
-    alloc: Global,
-    cache: &mut DefCache,
-    place: u16,
-    version: u64,
-    want: Option<What>,
-) -> bool {
+// Whether exactly this was found.
+fn is_found(alloc: Global, found: Option<&Definition>, want: Option<What>) -> bool {
     let wanted = standing(alloc, want);
-    match cache.look(place, version) {
+    match found {
         Some(found) => wanted.as_ref() == Some(found),
         None => want.is_none(),
     }
@@ -91,7 +98,8 @@ fn keeps(alloc: Global, cache: &mut DefCache, place: u16, version: u64, what: Wh
 fn goes_so(alloc: Global, cache: &mut DefCache, (call, kept): Step) -> bool {
     let is_so = match call {
         Call::Keep(place, version, what) => keeps(alloc, cache, place, version, what),
-        Call::Look(place, version, want) => finds(alloc, cache, place, version, want),
+        Call::Look(place, version, want) => is_found(alloc, cache.look(place, version), want),
+        Call::Peek(place, version, want) => is_found(alloc, cache.peek(place, version), want),
     };
     is_so && cache.len() == kept
 }
@@ -113,6 +121,7 @@ fn first_wrong(alloc: Global, capacity: u16, steps: &[Step]) -> Option<usize> {
 const CACHES: &[(&str, u16, &[Step])] = &[
     ("of two", 2, OF_TWO),
     ("of two places", 2, OF_TWO_PLACES),
+    ("of two peeked at", 2, OF_TWO_PEEKED_AT),
     ("of one", 1, OF_ONE),
     ("of one place", 1, OF_ONE_PLACE),
 ];

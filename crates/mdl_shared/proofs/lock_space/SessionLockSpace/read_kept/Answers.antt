@@ -1,17 +1,17 @@
 -- A read of the session that speaks for its own number is one for that number.
-use Rattle.std.proofs.Common.{ℕ, Ok, Err, Result}
+use Rattle.std.proofs.Common.{◌≡◌, ℕ, Ok, Err, Result}
 use Rattle.mdl_defs.specs.declared.standing.Standing.{Standing}
 use Rattle.mdl_calls.specs.declared.space_error.SpaceError.{SpaceError}
 use Rattle.mdl_calls.specs.Words.{read as read_as}
 use Rattle.std.specs.Prelude.{IfOk, OnErr}
 use Rattle.mdl_defs.specs.Caches.{CacheView}
-use Rattle.mdl_shared.specs.KeptReads.{LeavesKept, ReadsKept, UsesKept}
+use Rattle.mdl_shared.specs.KeptReads.{ReadsKept, UsesKept}
 use Rattle.mdl_shared.specs.SessionViews.{SessionView}
 use Rattle.mdl_shared.proofs.lock_space.SessionLockSpace.read_kept.Goals as goal
 
 -- what it does to the cache, by its answer
 used : (id : ℕ) (result : Result Standing SpaceError) (a b : SessionView) (before after : CacheView) → IfOk result (λ standing. ReadsKept id standing a b before after)
-    → OnErr result (LeavesKept id a b before after) → UsesKept id (read_as result) a b before after
+    → OnErr result (after ≡ before) → UsesKept id (read_as result) a b before after
 used id (Ok standing) a b before after kept left = kept
 used id (Err why) a b before after kept left = left
 

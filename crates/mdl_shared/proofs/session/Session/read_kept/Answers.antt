@@ -1,5 +1,5 @@
 -- Where the cache keeps a definition of the version that a step found, that is what stands; else what stands is read under the latch.
-use Rattle.std.proofs.Common.{rules, Err, false, inl, inr, is_some, arith, option_copied, refl, subst, sym, ap, ◌∙◌, ◌≡◌}
+use Rattle.std.proofs.Common.{rules, Err, false, is_some, arith, option_copied, refl, subst, sym, ap, ◌∙◌, ◌≡◌}
 use Rattle.mdl_calls.specs.declared.space_error.SpaceError.TheVariants.{NotHeld}
 use Rattle.mdl_defs.specs.Caches.{CacheView}
 use Rattle.mdl_calls.specs.Words.{AreMet, Read_definition, Read_kept, Refused, read as read_as}
@@ -7,8 +7,8 @@ use Rattle.mdl_session_laws.specs.SessionSpaces.{HasMet}
 use Rattle.mdl_shared.specs.Passes.{view_of}
 use Rattle.mdl_shared.specs.Showings.{Shows}
 use Rattle.mdl_shared.specs.SessionViews.{SessionView, space_of, tickets_seen}
-use Rattle.mdl_shared.specs.KeptReads.{MayKeep, kept_standing}
-use Rattle.mdl_shared.proofs.KeptCalls.{after, between, full-joins, full-shows, hit-shows, kept-still, looked-same, met-read, miss-full_shows, miss-latch, miss-shows, miss-why, missed-met, seat-finds, seat-joins, seat-met, seat-reads}
+use Rattle.mdl_shared.specs.KeptReads.{kept_standing}
+use Rattle.mdl_shared.proofs.KeptCalls.{after, between, full-joins, full-shows, hit-shows, kept-still, met-read, miss-full_shows, miss-latch, miss-shows, miss-why, missed-met, seat-finds, seat-joins, seat-met, seat-reads, seat-still}
 use Rattle.mdl_shared.proofs.MemberFacts.{place-within, speaks, ticket-known}
 use Rattle.mdl_shared.proofs.Members.{held-seen, room-kept}
 use Rattle.mdl_shared.proofs.Members.{kept as kept-sound}
@@ -35,8 +35,8 @@ read_version_kept-version-requires g c =
     let its = held-seen m c.args.id c.get.result c.get.ensures.found ∙ c.in-Some.is in
     record { place = place-within (member m) t.place (ticket-known (member m) c.args.id t its) }
 
-pub overflow_cast-held : goal.overflow_cast-held
-overflow_cast-held g c =
+pub overflow_cast-place : goal.overflow_cast-place
+overflow_cast-place g c =
     let m = c.self.inside.member in
     let t = c.in-Some.held in
     let its = held-seen m c.args.id c.get.result c.get.ensures.found ∙ c.in-Some.is in
@@ -61,8 +61,8 @@ invariant_of-member g c =
     let read = c.read_version_kept-version in
     let kept = c.args.cache.now.kept in
     let met = subst (λ (s : SessionView). AreMet (HasMet (space_of s) s.me.0.number) kept) (sym c.self.view_is) c.requires.met in
-    let d = c.in-Some-look.definition.now in
-    let hit = sym c.look.ensures.found ∙ ap option_copied c.in-Some-look.is in
+    let d = c.in-Some-peek.definition.now in
+    let hit = sym c.peek.ensures ∙ ap option_copied c.in-Some-peek.is in
     let made = read.ensures.noted d hit in
     let room = c.note_all.new.self.room in
     let keeps = c.note_all.ensures.room in
@@ -73,11 +73,11 @@ invariant_of-member g c =
       room = λ ask asks. room-kept m.tickets c.note_all.new.self keeps (m.room ask asks);
     }
 
-pub invariant_of-member-in_default-look : goal.invariant_of-member-in_default-look
-invariant_of-member-in_default-look g c =
+pub invariant_of-member-in_default-peek : goal.invariant_of-member-in_default-peek
+invariant_of-member-in_default-peek g c =
     let m = c.self.inside.member in
     let read = c.read_version_kept-version in
-    let made = read.ensures.missed (sym c.look.ensures.found ∙ ap option_copied c.in_default-look.is) in
+    let made = read.ensures.missed (sym c.peek.ensures ∙ ap option_copied c.in_default-peek.is) in
     let done = version-done m.seat read.new.self m.sessions c.in-Some.held.place read.result made in
     record {
       lawful = ∣ still-member done (member m) ∣₁;
@@ -93,8 +93,8 @@ returns-in_default-clone-clause-joined g c =
     let read = c.read_version_kept-version in
     let kept = c.args.cache.now.kept in
     let met = subst (λ (s : SessionView). AreMet (HasMet (space_of s) s.me.0.number) kept) (sym c.self.view_is) c.requires.met in
-    let d = c.in-Some-look.definition.now in
-    let hit = sym c.look.ensures.found ∙ ap option_copied c.in-Some-look.is in
+    let d = c.in-Some-peek.definition.now in
+    let hit = sym c.peek.ensures ∙ ap option_copied c.in-Some-peek.is in
     let made = read.ensures.noted d hit in
     let room = c.note_all.new.self.room in
     let keeps = c.note_all.ensures.room in
@@ -108,8 +108,8 @@ returns-in_default-clone-clause-shown g c =
     let read = c.read_version_kept-version in
     let kept = c.args.cache.now.kept in
     let met = subst (λ (s : SessionView). AreMet (HasMet (space_of s) s.me.0.number) kept) (sym c.self.view_is) c.requires.met in
-    let d = c.in-Some-look.definition.now in
-    let hit = sym c.look.ensures.found ∙ ap option_copied c.in-Some-look.is in
+    let d = c.in-Some-peek.definition.now in
+    let hit = sym c.peek.ensures ∙ ap option_copied c.in-Some-peek.is in
     let made = read.ensures.noted d hit in
     let room = c.note_all.new.self.room in
     let keeps = c.note_all.ensures.room in
@@ -123,87 +123,75 @@ returns-in_default-clone-clause-met g c =
     let read = c.read_version_kept-version in
     let kept = c.args.cache.now.kept in
     let met = subst (λ (s : SessionView). AreMet (HasMet (space_of s) s.me.0.number) kept) (sym c.self.view_is) c.requires.met in
-    let d = c.in-Some-look.definition.now in
-    let hit = sym c.look.ensures.found ∙ ap option_copied c.in-Some-look.is in
+    let d = c.in-Some-peek.definition.now in
+    let hit = sym c.peek.ensures ∙ ap option_copied c.in-Some-peek.is in
     let made = read.ensures.noted d hit in
     let room = c.note_all.new.self.room in
     let keeps = c.note_all.ensures.room in
-    subst (λ (x : CacheView). AreMet (HasMet (space_of (after m c.args.id t its kept met read.new.self read.result d hit read.ensures.newest read.ensures.one made room keeps)) m.seat.me.0.number) x.kept) (sym c.look.follows.holds-at-none) (seat-met m c.args.id t its kept met read.new.self read.result d hit read.ensures.newest read.ensures.one made room keeps)
+    seat-still m c.args.id t its kept met read.new.self read.result d hit read.ensures.newest read.ensures.one made room keeps
 
 pub returns-in_default-clone-clause-left : goal.returns-in_default-clone-clause-left
-returns-in_default-clone-clause-left g c =
-    let m = c.self.inside.member in
-    let t = c.in-Some.held in
-    let its = held-seen m c.args.id c.get.result c.get.ensures.found ∙ c.in-Some.is in
-    let read = c.read_version_kept-version in
-    let kept = c.args.cache.now.kept in
-    let met = subst (λ (s : SessionView). AreMet (HasMet (space_of s) s.me.0.number) kept) (sym c.self.view_is) c.requires.met in
-    let d = c.in-Some-look.definition.now in
-    let hit = sym c.look.ensures.found ∙ ap option_copied c.in-Some-look.is in
-    let made = read.ensures.noted d hit in
-    let room = c.note_all.new.self.room in
-    let keeps = c.note_all.ensures.room in
-    rw (← c.self.view_is) (inr (t, its, (read.result, d, hit, seat-finds m c.args.id t its kept met read.new.self read.result d hit read.ensures.newest read.ensures.one made room keeps, c.look.follows.holds-at-none)))
+returns-in_default-clone-clause-left g c = refl
 
-pub returns-in-Some-look-clause-joined : goal.returns-in-Some-look-clause-joined
-returns-in-Some-look-clause-joined g c =
+pub returns-in-Some-peek-clause-joined : goal.returns-in-Some-peek-clause-joined
+returns-in-Some-peek-clause-joined g c =
     let m = c.self.inside.member in
     let t = c.in-Some.held in
     let its = held-seen m c.args.id c.get.result c.get.ensures.found ∙ c.in-Some.is in
     let read = c.read_version_kept-version in
     let kept = c.args.cache.now.kept in
     let met = subst (λ (s : SessionView). AreMet (HasMet (space_of s) s.me.0.number) kept) (sym c.self.view_is) c.requires.met in
-    let d = c.in-Some-look.definition.now in
-    let hit = sym c.look.ensures.found ∙ ap option_copied c.in-Some-look.is in
+    let d = c.in-Some-peek.definition.now in
+    let hit = sym c.peek.ensures ∙ ap option_copied c.in-Some-peek.is in
     let made = read.ensures.noted d hit in
     let room = c.note_all.new.self.room in
     let keeps = c.note_all.ensures.room in
     rw (← c.self.view_is, c.in-Ok.ensures.cases) (seat-joins m c.args.id t its kept met read.new.self read.result d hit read.ensures.newest read.ensures.one made room keeps)
 
-pub returns-in-Some-look-clause-shown : goal.returns-in-Some-look-clause-shown
-returns-in-Some-look-clause-shown g c =
+pub returns-in-Some-peek-clause-shown : goal.returns-in-Some-peek-clause-shown
+returns-in-Some-peek-clause-shown g c =
     let m = c.self.inside.member in
     let t = c.in-Some.held in
     let its = held-seen m c.args.id c.get.result c.get.ensures.found ∙ c.in-Some.is in
     let read = c.read_version_kept-version in
     let kept = c.args.cache.now.kept in
     let met = subst (λ (s : SessionView). AreMet (HasMet (space_of s) s.me.0.number) kept) (sym c.self.view_is) c.requires.met in
-    let d = c.in-Some-look.definition.now in
-    let hit = sym c.look.ensures.found ∙ ap option_copied c.in-Some-look.is in
+    let d = c.in-Some-peek.definition.now in
+    let hit = sym c.peek.ensures ∙ ap option_copied c.in-Some-peek.is in
     let made = read.ensures.noted d hit in
     let room = c.note_all.new.self.room in
     let keeps = c.note_all.ensures.room in
     rw (← c.self.view_is, c.in-Ok.ensures.cases) (hit-shows (view_of m) c.args.id t its (kept_standing read.result d) (seat-finds m c.args.id t its kept met read.new.self read.result d hit read.ensures.newest read.ensures.one made room keeps))
 
-pub returns-in-Some-look-clause-met : goal.returns-in-Some-look-clause-met
-returns-in-Some-look-clause-met g c =
+pub returns-in-Some-peek-clause-met : goal.returns-in-Some-peek-clause-met
+returns-in-Some-peek-clause-met g c =
     let m = c.self.inside.member in
     let t = c.in-Some.held in
     let its = held-seen m c.args.id c.get.result c.get.ensures.found ∙ c.in-Some.is in
     let read = c.read_version_kept-version in
     let kept = c.args.cache.now.kept in
     let met = subst (λ (s : SessionView). AreMet (HasMet (space_of s) s.me.0.number) kept) (sym c.self.view_is) c.requires.met in
-    let d = c.in-Some-look.definition.now in
-    let hit = sym c.look.ensures.found ∙ ap option_copied c.in-Some-look.is in
+    let d = c.in-Some-peek.definition.now in
+    let hit = sym c.peek.ensures ∙ ap option_copied c.in-Some-peek.is in
     let made = read.ensures.noted d hit in
     let room = c.note_all.new.self.room in
     let keeps = c.note_all.ensures.room in
-    subst (λ (x : CacheView). AreMet (HasMet (space_of (after m c.args.id t its kept met read.new.self read.result d hit read.ensures.newest read.ensures.one made room keeps)) m.seat.me.0.number) x.kept) (sym c.look.follows.holds-at-none) (seat-met m c.args.id t its kept met read.new.self read.result d hit read.ensures.newest read.ensures.one made room keeps)
+    subst (λ (x : CacheView). AreMet (HasMet (space_of (after m c.args.id t its kept met read.new.self read.result d hit read.ensures.newest read.ensures.one made room keeps)) m.seat.me.0.number) x.kept) (sym c.look-first.follows.holds-at-none) (seat-met m c.args.id t its kept met read.new.self read.result d hit read.ensures.newest read.ensures.one made room keeps)
 
-pub returns-in-Some-look-clause-kept : goal.returns-in-Some-look-clause-kept
-returns-in-Some-look-clause-kept g c =
+pub returns-in-Some-peek-clause-kept : goal.returns-in-Some-peek-clause-kept
+returns-in-Some-peek-clause-kept g c =
     let m = c.self.inside.member in
     let t = c.in-Some.held in
     let its = held-seen m c.args.id c.get.result c.get.ensures.found ∙ c.in-Some.is in
     let read = c.read_version_kept-version in
     let kept = c.args.cache.now.kept in
     let met = subst (λ (s : SessionView). AreMet (HasMet (space_of s) s.me.0.number) kept) (sym c.self.view_is) c.requires.met in
-    let d = c.in-Some-look.definition.now in
-    let hit = sym c.look.ensures.found ∙ ap option_copied c.in-Some-look.is in
+    let d = c.in-Some-peek.definition.now in
+    let hit = sym c.peek.ensures ∙ ap option_copied c.in-Some-peek.is in
     let made = read.ensures.noted d hit in
     let room = c.note_all.new.self.room in
     let keeps = c.note_all.ensures.room in
-    rw (← c.self.view_is, c.in-Ok.ensures.cases) (t, its, (read.result, rw hit (refl, seat-finds m c.args.id t its kept met read.new.self read.result d hit read.ensures.newest read.ensures.one made room keeps, c.look.follows.holds-at-none)))
+    rw (← c.self.view_is, c.in-Ok.ensures.cases) (t, its, (read.result, rw hit (refl, seat-finds m c.args.id t its kept met read.new.self read.result d hit read.ensures.newest read.ensures.one made room keeps, c.look-first.follows.holds-at-none)))
 
 pub returns-in_err-standing-clause-shown : goal.returns-in_err-standing-clause-shown
 returns-in_err-standing-clause-shown g c =
@@ -213,7 +201,7 @@ returns-in_err-standing-clause-shown g c =
     let read = c.read_version_kept-version in
     let kept = c.args.cache.now.kept in
     let met = subst (λ (s : SessionView). AreMet (HasMet (space_of s) s.me.0.number) kept) (sym c.self.view_is) c.requires.met in
-    let none = sym c.look.ensures.found ∙ ap option_copied c.in_default-look.is in
+    let none = sym c.peek.ensures ∙ ap option_copied c.in_default-peek.is in
     let made = read.ensures.missed none in
     let s′ = c.read_definition.new.self in
     let mid = between m c.args.id t its kept met read.new.self read.result none read.ensures.newest made in
@@ -226,16 +214,8 @@ returns-in_err-standing-clause-shown g c =
 
 pub returns-in_err-standing-clause-left : goal.returns-in_err-standing-clause-left
 returns-in_err-standing-clause-left g c =
-    let m = c.self.inside.member in
-    let t = c.in-Some.held in
-    let its = held-seen m c.args.id c.get.result c.get.ensures.found ∙ c.in-Some.is in
-    let read = c.read_version_kept-version in
-    let kept = c.args.cache.now.kept in
-    let met = subst (λ (s : SessionView). AreMet (HasMet (space_of s) s.me.0.number) kept) (sym c.self.view_is) c.requires.met in
-    let none = sym c.look.ensures.found ∙ ap option_copied c.in_default-look.is in
-    let made = read.ensures.missed none in
     let refused_so : c.from_residual.result ≡ Err c.in_err-standing.field-0.0 = search rules in
-    rw refused_so (inl (looked-same m c.args.id t its kept met read.new.self read.result none read.ensures.newest made c.args.cache.now c.look.follows.lender-at-none refl c.look.follows.holds-at-none))
+    rw refused_so refl
 
 pub returns-in_err-standing-clause-met : goal.returns-in_err-standing-clause-met
 returns-in_err-standing-clause-met g c =
@@ -245,12 +225,10 @@ returns-in_err-standing-clause-met g c =
     let read = c.read_version_kept-version in
     let kept = c.args.cache.now.kept in
     let met = subst (λ (s : SessionView). AreMet (HasMet (space_of s) s.me.0.number) kept) (sym c.self.view_is) c.requires.met in
-    let none = sym c.look.ensures.found ∙ ap option_copied c.in_default-look.is in
+    let none = sym c.peek.ensures ∙ ap option_copied c.in_default-peek.is in
     let made = read.ensures.missed none in
     let s′ = c.read_definition.new.self in
-    let same = looked-same m c.args.id t its kept met read.new.self read.result none read.ensures.newest made c.args.cache.now c.look.follows.lender-at-none refl c.look.follows.holds-at-none in
-    subst (λ (x : CacheView). AreMet (HasMet (space_of s′) s′.me.0.number) x.kept) (sym same)
-    (missed-met m c.args.id t its kept met read.new.self read.result none read.ensures.newest made s′ (read_as c.read_definition.result) c.read_definition.ensures.joined)
+    missed-met m c.args.id t its kept met read.new.self read.result none read.ensures.newest made s′ (read_as c.read_definition.result) c.read_definition.ensures.joined
 
 pub returns-clause-shown : goal.returns-clause-shown
 returns-clause-shown g c =
@@ -260,7 +238,7 @@ returns-clause-shown g c =
     let read = c.read_version_kept-version in
     let kept = c.args.cache.now.kept in
     let met = subst (λ (s : SessionView). AreMet (HasMet (space_of s) s.me.0.number) kept) (sym c.self.view_is) c.requires.met in
-    let none = sym c.look.ensures.found ∙ ap option_copied c.in_default-look.is in
+    let none = sym c.peek.ensures ∙ ap option_copied c.in_default-peek.is in
     let made = read.ensures.missed none in
     let s′ = c.read_definition.new.self in
     rw (← c.self.view_is)
@@ -274,17 +252,16 @@ returns-clause-met g c =
     let read = c.read_version_kept-version in
     let kept = c.args.cache.now.kept in
     let met = subst (λ (s : SessionView). AreMet (HasMet (space_of s) s.me.0.number) kept) (sym c.self.view_is) c.requires.met in
-    let none = sym c.look.ensures.found ∙ ap option_copied c.in_default-look.is in
+    let none = sym c.peek.ensures ∙ ap option_copied c.in_default-peek.is in
     let made = read.ensures.missed none in
     let s′ = c.read_definition.new.self in
     let mid = between m c.args.id t its kept met read.new.self read.result none read.ensures.newest made in
     let reads = seat-reads m c.args.id t its kept met read.new.self read.result none read.ensures.newest made in
     let standing = c.in_ok-standing.standing in
-    let same = looked-same m c.args.id t its kept met read.new.self read.result none read.ensures.newest made c.args.cache.now c.look.follows.lender-at-none refl c.look.follows.holds-at-none in
     let latch = miss-latch (view_of m) c.args.id t its mid s′ reads standing c.in_ok-standing.ensures.shown in
     let has = HasMet (space_of s′) s′.me.0.number in
-    kept-still has t.place standing c.look.follows.lender-at-none c.keep.new.cache c.keep.ensures.kept
-    (subst (λ (x : CacheView). AreMet has x.kept) (sym same) (missed-met m c.args.id t its kept met read.new.self read.result none read.ensures.newest made s′ (read_as c.read_definition.result) c.read_definition.ensures.joined))
+    kept-still has t.place standing c.args.cache.now c.keep.new.cache c.keep.ensures.kept
+    (missed-met m c.args.id t its kept met read.new.self read.result none read.ensures.newest made s′ (read_as c.read_definition.result) c.read_definition.ensures.joined)
     (met-read mid s′ t.place standing latch.1)
 
 pub returns-clause-kept : goal.returns-clause-kept
@@ -295,12 +272,11 @@ returns-clause-kept g c =
     let read = c.read_version_kept-version in
     let kept = c.args.cache.now.kept in
     let met = subst (λ (s : SessionView). AreMet (HasMet (space_of s) s.me.0.number) kept) (sym c.self.view_is) c.requires.met in
-    let none = sym c.look.ensures.found ∙ ap option_copied c.in_default-look.is in
+    let none = sym c.peek.ensures ∙ ap option_copied c.in_default-peek.is in
     let made = read.ensures.missed none in
     let s′ = c.read_definition.new.self in
     let mid = between m c.args.id t its kept met read.new.self read.result none read.ensures.newest made in
     let reads = seat-reads m c.args.id t its kept met read.new.self read.result none read.ensures.newest made in
     let standing = c.in_ok-standing.standing in
-    let same = looked-same m c.args.id t its kept met read.new.self read.result none read.ensures.newest made c.args.cache.now c.look.follows.lender-at-none refl c.look.follows.holds-at-none in
     let latch = miss-latch (view_of m) c.args.id t its mid s′ reads standing c.in_ok-standing.ensures.shown in
-    rw (← c.self.view_is) (t, its, (read.result, rw none (mid, reads, latch, subst (λ (x : CacheView). MayKeep t.place standing x c.keep.new.cache) same c.keep.ensures.kept)))
+    rw (← c.self.view_is) (t, its, (read.result, rw none (mid, reads, latch, c.keep.ensures.kept)))
