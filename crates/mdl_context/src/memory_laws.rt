@@ -24,7 +24,8 @@ pub fn endings_take_no_memory()
     ensures { EndingsTakeNoMemory }
 {}
 
-/// All calls of a context are made for its session, and are calls that the space of one thread has.
+/// All calls of a context are made for its session, are calls that the space of one thread has, and don't read with the
+/// session's cache.
 pub fn contexts_call_for_their_session()
     ensures { ContextsCallForTheirSession }
 {}

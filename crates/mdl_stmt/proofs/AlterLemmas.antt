@@ -3,7 +3,8 @@ use Rattle.std.proofs.Common.{◌≡◌, ◌⊎◌, Bool, true, false, Option, S
 use Rattle.std.specs.Prelude.{find, is_some}
 use Rattle.mdl_key.specs.Keys.{KeyName, key_eq}
 use Rattle.mdl_defs.specs.declared.def_error.DefError.{DefError}
-use Rattle.mdl_calls.specs.Words.{Answer, Call, Runs}
+use Rattle.mdl_calls.specs.Words.{Runs}
+use Rattle.mdl_calls.specs.declared.lock_space.LockSpace.{Ghosts}
 use Rattle.mdl_syntax.specs.declared.statement.Alteration.{Alteration}
 use Rattle.mdl_context.specs.declared.request.Mark.{Mark}
 use Rattle.mdl_rows.specs.declared.ending.Ending.{Ending}
@@ -13,6 +14,7 @@ use Rattle.mdl_rows.specs.declared.state.Locked.{Locked}
 use Rattle.mdl_rows.specs.declared.reply.Reply.{Reply}
 use Rattle.mdl_rows.specs.declared.reply.Reply.TheVariants as reply
 use Rattle.mdl_rows.specs.Endings.{closing}
+use Rattle.mdl_stmt.specs.Attendance.{cached}
 use Rattle.mdl_stmt.specs.Gets.{Comes, at_rest}
 use Rattle.mdl_rows.specs.Playing.{play}
 use Rattle.mdl_rows.specs.Rows.{Row, check, look, room, ◌>>=◌, ◌>>◌}
@@ -52,15 +54,15 @@ checks fault last rest = (room >> (unless_fault fault >> check last VersionLimit
 abbrev pub IsRefusal : Option DefError → Ending → Type 0
 IsRefusal fault ending = (ending ≡ Starves) ⊎ ((one : DefError) × (fault ≡ Some one) × (ending ≡ Answers (reply.Error (fault_number one))))
 
-pub refused-change : {S : Type 0} (joins : S → Call → Answer → S → Type 0) (a : S) (x : PlayerView) (fault : Option DefError) (last : Bool) (rest : Unit {0} → Row Reply) (ending : Ending) →
-    IsRefusal fault ending → Comes joins a x (play (checks fault last rest)) a x (closing ending)
-refused-change joins a x fault last rest ending (inl starves) = record {
-  so = λ mark pause c run. inl (subst (λ (e : Ending). Runs joins a (closing e mark (at_rest x)) pause c) starves run);
+pub refused-change : {S : Type 0} (members : Ghosts S) (a : S) (x : PlayerView) (fault : Option DefError) (last : Bool) (rest : Unit {0} → Row Reply) (ending : Ending) →
+    IsRefusal fault ending → Comes members a x (play (checks fault last rest)) a x (closing ending)
+refused-change members a x fault last rest ending (inl starves) = record {
+  so = λ mark pause c run. inl (subst (λ (e : Ending). Runs (cached members) (a, x.cache) (closing e mark (at_rest x)) pause c) starves run);
 }
-refused-change joins a x fault last rest ending (inr (one, is, fails)) = record {
+refused-change members a x fault last rest ending (inr (one, is, fails)) = record {
   so = λ mark pause c run.
-      inr (subst (λ (f : Option DefError). Runs joins a (play ((unless_fault f >> check last VersionLimit) >>= rest) mark (at_rest x)) pause c) (sym is)
-      (subst (λ (e : Ending). Runs joins a (closing e mark (at_rest x)) pause c) fails run));
+      inr (subst (λ (f : Option DefError). Runs (cached members) (a, x.cache) (play ((unless_fault f >> check last VersionLimit) >>= rest) mark (at_rest x)) pause c) (sym is)
+      (subst (λ (e : Ending). Runs (cached members) (a, x.cache) (closing e mark (at_rest x)) pause c) fails run));
 }
 
 -- what comes of a change that can be made: only its number of versions is left to look at

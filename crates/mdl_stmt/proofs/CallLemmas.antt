@@ -1,26 +1,29 @@
 -- Single calls of a lock space: what a context attends to after them, and what they come to.
-use Rattle.std.specs.Prelude.{List, [], ◌∷◌, ◌++◌, MatchResult}
+use Rattle.std.specs.Prelude.{Bool, List, [], ◌∷◌, ◌++◌, MatchResult}
+use Rattle.mdl_defs.specs.Caches.{CacheView}
+use Rattle.mdl_defs.specs.declared.change.Change.{Change}
 use Rattle.mdl_defs.specs.declared.definition.Definition.{Definition}
 use Rattle.mdl_defs.specs.declared.standing.Standing.{Standing}
 use Rattle.mdl_rows.specs.declared.ending.Ending.TheVariants.{Answers, Starves}
 use Rattle.mdl_rows.specs.declared.error_number.ErrorNumber.TheVariants.{NoSuchTable}
 use Rattle.mdl_rows.specs.declared.reply.Reply.TheVariants as reply
 use Rattle.mdl_rows.specs.declared.reply.TableShown.{TableShown}
-use Rattle.mdl_rows.specs.Endings.{closing}
+use Rattle.mdl_rows.specs.Endings.{closing, ending_of_refusal}
 use Rattle.mdl_rows.specs.Statements.{columns_of, definition_under, exists, has_definition, show}
 use Rattle.mdl_stmt.proofs.RowLemmas.{bind-assoc}
 use Rattle.mdl_stmt.proofs.RunLemmas.{comes-then}
 use Rattle.std.proofs.Common.{◌≡◌, ◌≢◌, ℕ, refl, Some, None, Result, Ok, Err, ap, sym, subst, inl, inr}
 use Rattle.mdl_key.specs.Keys.{KeyName}
 use Rattle.mdl_key.specs.declared.mode.Mode.{Mode}
-use Rattle.mdl_calls.specs.Words.{AreMet, Answer, Done, Call, Unpin, caller, Runs}
+use Rattle.mdl_calls.specs.declared.space_error.SpaceError.{SpaceError}
+use Rattle.mdl_calls.specs.Words.{AreMet, Answer, Done, Call, Unpin, caller, Runs, Change_definition, Changed, Has_killed, Has_wait, Key_is, Key_of, Kill, Read_kept, Reads, Refused, Tables, Tables_of, Wait_of}
 use Rattle.mdl_calls.proofs.CacheLemmas.{still-met}
 use Rattle.mdl_calls.specs.declared.lock_space.LockSpace.{Ghosts}
 use Rattle.mdl_context.specs.Contexts.{ContextView, Attends}
 use Rattle.mdl_context.proofs.AttendLemmas.{attends-same}
 use Rattle.mdl_rows.specs.declared.ending.Ending.{Ending}
 use Rattle.mdl_rows.specs.declared.reply.Reply.{Reply}
-use Rattle.mdl_stmt.specs.Attendance.{GoesOn}
+use Rattle.mdl_stmt.specs.Attendance.{GoesOn, cached}
 use Rattle.mdl_stmt.specs.Gets.{Comes, Waits, IsStep, at_rest}
 use Rattle.mdl_rows.specs.Playing.{play}
 use Rattle.mdl_rows.specs.Rows.{Row, Act, Give, room, ◌>>=◌, ◌>>◌}
@@ -69,52 +72,109 @@ module _ {S : Type 0} (members : Ghosts S)
 
 -- ---- rows that are the same
 
-pub comes-row : {S : Type 0} {joins : S → Call → Answer → S → Type 0} {a : S} {x : PlayerView} (here other : Row Reply) → here ≡ other → Comes joins a x (play here) a x (play other)
-comes-row {S} {joins} {a} {x} here other same = record { so = λ mark pause c run. subst (λ (r : Row Reply). Runs joins a (play r mark (at_rest x)) pause c) (sym same) run }
+pub comes-row : {S : Type 0} {members : Ghosts S} {a : S} {x : PlayerView} (here other : Row Reply) → here ≡ other → Comes members a x (play here) a x (play other)
+comes-row {S} {members} {a} {x} here other same = record { so = λ mark pause c run. subst (λ (r : Row Reply). Runs (cached members) (a, x.cache) (play r mark (at_rest x)) pause c) (sym same) run }
 
 -- memory was there
-pub room-found : {S : Type 0} {joins : S → Call → Answer → S → Type 0} {a : S} {x : PlayerView} (rest : Row Reply) → Comes joins a x (play (row.Room rest)) a x (play rest)
+pub room-found : {S : Type 0} {members : Ghosts S} {a : S} {x : PlayerView} (rest : Row Reply) → Comes members a x (play (row.Room rest)) a x (play rest)
 room-found rest = record { so = λ mark pause c run. inr run }
 
 -- a step after it
-pub room-step : {S : Type 0} (joins : S → Call → Answer → S → Type 0) (act : Act) (a b : S) (x y : PlayerView) (result : Result (Unit {0}) Ending) →
-    IsStep joins act a x result b y → IsStep joins (room >> act) a x result b y
-room-step joins act a b x y (Ok t) made = λ rest. record { so = λ mark pause c run. inr ((made rest).so mark pause c run) }
-room-step joins act a b x y (Err ending) made = λ rest. record { so = λ mark pause c run. inr ((made rest).so mark pause c run) }
+pub room-step : {S : Type 0} (members : Ghosts S) (act : Act) (a b : S) (x y : PlayerView) (result : Result (Unit {0}) Ending) →
+    IsStep members act a x result b y → IsStep members (room >> act) a x result b y
+room-step members act a b x y (Ok t) made = λ rest. record { so = λ mark pause c run. inr ((made rest).so mark pause c run) }
+room-step members act a b x y (Err ending) made = λ rest. record { so = λ mark pause c run. inr ((made rest).so mark pause c run) }
 
 -- a table is shown
-pub show-step : {S : Type 0} (joins : S → Call → Answer → S → Type 0) (shown : List TableShown) (table : KeyName) (ticket : ℕ) (a b : S) (x y : PlayerView) (standing : Standing) (result : Result (List TableShown) Ending) →
-    IsStep joins (exists ticket) a x (Ok standing) b y →
+pub show-step : {S : Type 0} (members : Ghosts S) (shown : List TableShown) (table : KeyName) (ticket : ℕ) (a b : S) (x y : PlayerView) (standing : Standing) (result : Result (List TableShown) Ending) →
+    IsStep members (exists ticket) a x (Ok standing) b y →
     MatchResult result (λ more. more ≡ shown ++ record { key = table; version = standing.version; columns = columns_of standing.definition } ∷ []) (λ ending. ending ≡ Starves) →
-    IsStep joins (show shown table ticket) a x result b y
-show-step joins shown table ticket a b x y standing (Ok more) first e = λ rest.
+    IsStep members (show shown table ticket) a x result b y
+show-step members shown table ticket a b x y standing (Ok more) first e = λ rest.
     let behind : Standing → Row (List TableShown) = λ s. room >> Give (shown ++ record { key = table; version = s.version; columns = columns_of s.definition } ∷ []) in
     comes-then (comes-row (show shown table ticket >>= rest) (exists ticket >>= (λ s. behind s >>= rest)) (bind-assoc (exists ticket) behind rest))
-    (comes-then (first (λ s. behind s >>= rest)) (record { so = λ mark pause c run. inr (subst (λ (m : List TableShown). Runs joins b (play (rest m) mark (at_rest y)) pause c) e run) }))
-show-step joins shown table ticket a b x y standing (Err ending) first e = λ rest.
+    (comes-then (first (λ s. behind s >>= rest)) (record { so = λ mark pause c run. inr (subst (λ (m : List TableShown). Runs (cached members) (b, y.cache) (play (rest m) mark (at_rest y)) pause c) e run) }))
+show-step members shown table ticket a b x y standing (Err ending) first e = λ rest.
     let behind : Standing → Row (List TableShown) = λ s. room >> Give (shown ++ record { key = table; version = s.version; columns = columns_of s.definition } ∷ []) in
     comes-then (comes-row (show shown table ticket >>= rest) (exists ticket >>= (λ s. behind s >>= rest)) (bind-assoc (exists ticket) behind rest))
-    (comes-then (first (λ s. behind s >>= rest)) (record { so = λ mark pause c run. inl (subst (λ (m : Ending). Runs joins b (closing m mark (at_rest y)) pause c) e run) }))
+    (comes-then (first (λ s. behind s >>= rest)) (record { so = λ mark pause c run. inl (subst (λ (m : Ending). Runs (cached members) (b, y.cache) (closing m mark (at_rest y)) pause c) e run) }))
 
 -- it isn't there
-pub show-ends : {S : Type 0} (joins : S → Call → Answer → S → Type 0) (shown : List TableShown) (table : KeyName) (ticket : ℕ) (a b : S) (x y : PlayerView) (ending : Ending) →
-    IsStep joins (exists ticket) a x (Err ending) b y → IsStep joins (show shown table ticket) a x (Err ending) b y
-show-ends joins shown table ticket a b x y ending first = λ rest.
+pub show-ends : {S : Type 0} (members : Ghosts S) (shown : List TableShown) (table : KeyName) (ticket : ℕ) (a b : S) (x y : PlayerView) (ending : Ending) →
+    IsStep members (exists ticket) a x (Err ending) b y → IsStep members (show shown table ticket) a x (Err ending) b y
+show-ends members shown table ticket a b x y ending first = λ rest.
     let behind : Standing → Row (List TableShown) = λ s. room >> Give (shown ++ record { key = table; version = s.version; columns = columns_of s.definition } ∷ []) in
     comes-then (comes-row (show shown table ticket >>= rest) (exists ticket >>= (λ s. behind s >>= rest)) (bind-assoc (exists ticket) behind rest)) (first (λ s. behind s >>= rest))
 
 -- a definition is there, or the table is missing
-pub found-step : {S : Type 0} (joins : S → Call → Answer → S → Type 0) (ticket : ℕ) (a b : S) (x y : PlayerView) (standing : Standing) (result : Result Definition Ending) →
-    IsStep joins (row.read ticket) a x (Ok standing) b y →
+pub found-step : {S : Type 0} (members : Ghosts S) (ticket : ℕ) (a b : S) (x y : PlayerView) (standing : Standing) (result : Result Definition Ending) →
+    IsStep members (row.read ticket) a x (Ok standing) b y →
     MatchResult result (λ it. standing.definition ≡ Some it) (λ ending. (standing.definition ≡ None) × (ending ≡ Answers (reply.Error NoSuchTable))) →
-    IsStep joins (definition_under ticket) a x result b y
-found-step joins ticket a b x y standing (Ok it) first e = λ rest.
+    IsStep members (definition_under ticket) a x result b y
+found-step members ticket a b x y standing (Ok it) first e = λ rest.
     comes-then (first (λ s. has_definition s.definition >>= rest)) (comes-row _ _ (ap (λ d. has_definition d >>= rest) e))
-found-step joins ticket a b x y standing (Err ending) first (e, f) = λ rest.
-    subst (λ (n : Ending). Comes joins a x (play (definition_under ticket >>= rest)) b y (closing n)) (sym f)
+found-step members ticket a b x y standing (Err ending) first (e, f) = λ rest.
+    subst (λ (n : Ending). Comes members a x (play (definition_under ticket >>= rest)) b y (closing n)) (sym f)
     (comes-then (first (λ s. has_definition s.definition >>= rest)) (comes-row _ _ (ap (λ d. has_definition d >>= rest) e)))
 
 -- a wait after memory was there
-pub room-waits : {S : Type 0} {joins : S → Call → Answer → S → Type 0} {a b : S} {x y : PlayerView} {key : KeyName} {mode : Mode} {then_rest : ℕ → Row Reply} (rest : Row Reply) →
-    Waits joins a x (play rest) key mode then_rest b y → Waits joins a x (play (row.Room rest)) key mode then_rest b y
+pub room-waits : {S : Type 0} {members : Ghosts S} {a b : S} {x y : PlayerView} {key : KeyName} {mode : Mode} {then_rest : ℕ → Row Reply} (rest : Row Reply) →
+    Waits members a x (play rest) key mode then_rest b y → Waits members a x (play (row.Room rest)) key mode then_rest b y
 room-waits rest waits = record { so = λ mark. inr (waits.so mark) }
+
+-- ---- single calls
+
+module _ {S : Type 0} (members : Ghosts S) where
+  -- a definition is read with the cache
+  pub read-had : (id : ℕ) (before : PlayerView) (cache : CacheView) (standing : Standing) (a b : S) →
+      members.joins a (Read_kept before.context.who id) (Reads standing.version standing.definition) b →
+      members.uses_cache a before.context.who id (Reads standing.version standing.definition) before.cache cache b →
+      IsStep members (row.read id) a before (Ok standing) b (record before { cache = cache })
+  read-had id before cache standing a b joined used rest = record {
+    so = λ mark pause c run. (Reads standing.version standing.definition, (b, cache), (joined, used), run);
+  }
+
+  pub read-refused : (id : ℕ) (before : PlayerView) (cache : CacheView) (refusal : SpaceError) (a b : S) →
+      members.joins a (Read_kept before.context.who id) (Refused refusal) b →
+      members.uses_cache a before.context.who id (Refused refusal) before.cache cache b →
+      IsStep members (row.read id) a before (Err (ending_of_refusal refusal)) b (record before { cache = cache })
+  read-refused id before cache refusal a b joined used rest = record {
+    so = λ mark pause c run. (Refused refusal, (b, cache), (joined, used), run);
+  }
+
+  -- one is changed
+  pub changed-had : (id : ℕ) (change : Change) (before : PlayerView) (version : ℕ) (a b : S) →
+      members.joins a (Change_definition before.context.who id change) (Changed version) b → IsStep members (row.redefine id change) a before (Ok tt) b before
+  changed-had id change before version a b joined rest = record { so = λ mark pause c run. (Changed version, (b, before.cache), (joined, refl), run) }
+
+  pub changed-refused : (id : ℕ) (change : Change) (before : PlayerView) (refusal : SpaceError) (a b : S) →
+      members.joins a (Change_definition before.context.who id change) (Refused refusal) b → IsStep members (row.redefine id change) a before (Err (ending_of_refusal refusal)) b before
+  changed-refused id change before refusal a b joined rest = record { so = λ mark pause c run. (Refused refusal, (b, before.cache), (joined, refl), run) }
+
+  -- tables are told
+  pub tables-had : (schema places : List ℕ) (before : PlayerView) (a b : S) →
+      members.joins a (Tables_of before.context.who schema) (Tables places) b → IsStep members (row.tables_within schema) a before (Ok places) b before
+  tables-had schema places before a b joined rest = record { so = λ mark pause c run. (Tables places, (b, before.cache), (joined, refl), run) }
+
+  pub tables-refused : (schema : List ℕ) (before : PlayerView) (refusal : SpaceError) (a b : S) →
+      members.joins a (Tables_of before.context.who schema) (Refused refusal) b → IsStep members (row.tables_within schema) a before (Err (ending_of_refusal refusal)) b before
+  tables-refused schema before refusal a b joined rest = record { so = λ mark pause c run. (Refused refusal, (b, before.cache), (joined, refl), run) }
+
+  -- a key is told
+  pub key-had : (place : ℕ) (key : KeyName) (before : PlayerView) (a b : S) →
+      members.joins a (Key_of before.context.who place) (Key_is key) b → IsStep members (row.key_of place) a before (Ok key) b before
+  key-had place key before a b joined rest = record { so = λ mark pause c run. (Key_is key, (b, before.cache), (joined, refl), run) }
+
+  pub key-refused : (place : ℕ) (before : PlayerView) (refusal : SpaceError) (a b : S) →
+      members.joins a (Key_of before.context.who place) (Refused refusal) b → IsStep members (row.key_of place) a before (Err (ending_of_refusal refusal)) b before
+  key-refused place before refusal a b joined rest = record { so = λ mark pause c run. (Refused refusal, (b, before.cache), (joined, refl), run) }
+
+  -- a wait is killed, or there is none
+  pub killed : (target number : ℕ) (before : PlayerView) (told : Bool) (a b c : S) → members.joins a (Wait_of target) (Has_wait (Some number)) b →
+      members.joins b (Kill target number) (Has_killed told) c → IsStep members (row.kill target) a before (Ok tt) c before
+  killed target number before told a b c first second rest = record {
+    so = λ mark pause s run. (Has_wait (Some number), (b, before.cache), (first, refl), (Has_killed told, (c, before.cache), (second, refl), run));
+  }
+
+  pub none-killed : (target : ℕ) (before : PlayerView) (a b : S) → members.joins a (Wait_of target) (Has_wait None) b → IsStep members (row.kill target) a before (Ok tt) b before
+  none-killed target before a b joined rest = record { so = λ mark pause c run. (Has_wait None, (b, before.cache), (joined, refl), run) }

@@ -1,5 +1,6 @@
 -- How a statement ends, and how what a runner kept of it leads on.
 use Rattle.std.proofs.Common.{◌≡◌, ℕ, Option, Some, None, IsSome, IfSome, Result, Ok, Err, refl, sym, ap, subst}
+use Rattle.mdl_calls.specs.declared.lock_space.LockSpace.{Ghosts}
 use Rattle.mdl_calls.specs.Words.{Answer, Call, Give, Runs}
 use Rattle.mdl_calls.proofs.RunLemmas.{runs_bind}
 use Rattle.mdl_defs.specs.Caches.{CacheView}
@@ -9,16 +10,19 @@ use Rattle.mdl_context.specs.declared.request.Resume.{Resume}
 use Rattle.mdl_context.specs.declared.request.Resume.TheVariants as resume
 use Rattle.mdl_calls.specs.declared.answers.Settled.{Settled}
 use Rattle.mdl_context.specs.Contexts.{ContextView, waits_for_user_lock}
-use Rattle.mdl_context.specs.Releases.{giving_up}
+use Rattle.mdl_context.specs.Releases.{giving_up, releasing}
 use Rattle.mdl_context.specs.Waits.{resuming}
 use Rattle.mdl_rows.specs.declared.ending.Ending.{Ending}
 use Rattle.mdl_stmt.specs.declared.runner.Work.{Work}
-use Rattle.mdl_rows.specs.Endings.{Pause, Waits_on, closing, ended, ending_of_error, ending_of_loss, gone_at, letting_go, state_after}
+use Rattle.mdl_rows.specs.Endings.{Pause, Waits_on, closing, ended, ending_of_error, ending_of_loss, gone_at, letting_go, state_after, without_half}
 use Rattle.mdl_rows.specs.Playing.{going_on, play, resumed}
 use Rattle.mdl_stmt.specs.Players.{PlayerView, RunnerView}
 use Rattle.mdl_stmt.specs.Stages.{left_of, rest_of, session_of}
-use Rattle.mdl_rows.specs.States.{State}
-use Rattle.mdl_stmt.specs.Gets.{at_rest}
+use Rattle.mdl_rows.specs.Sessions.{Session}
+use Rattle.mdl_rows.specs.States.{State, half_lock, without_read_lock}
+use Rattle.mdl_stmt.specs.Attendance.{cached}
+use Rattle.mdl_stmt.specs.Gets.{IsWithoutHalf, at_rest}
+use Rattle.mdl_stmt.proofs.CachedLemmas.{gives_up, releases}
 
 module _ {S : Type 0} (joins : S → Call → Answer → S → Type 0) where
   -- its tickets go, and what is left is how it ended
@@ -68,3 +72,23 @@ module _ {S : Type 0} (joins : S → Call → Answer → S → Type 0) where
   ends-refused runner after error ending pause a b c some is run next = goes-on runner.context after runner.state runner.cache runner.work (Err error) pause a b c some run
       (λ work same. subst (λ (e : Ending). Runs joins b (closing e work.mark (record { context = after; state = runner.state; left = None })) pause c) is
       (subst (λ (w : Option Work). IfSome w (λ work. Runs joins b (closing ending work.mark (record { context = after; state = runner.state; left = None })) pause c)) same next))
+
+module _ {S : Type 0} (members : Ghosts S) where
+  -- the tickets of a statement go, and the cache stays
+  pub closes-so : (ending : Ending) (mark : Mark) (before after : PlayerView) (a b : S) → after.state ≡ before.state → after.cache ≡ before.cache →
+      Runs members.joins a (giving_up (gone_at ending before.state.is_open mark before.context.kept) before.context) (Ok tt, after.context) b →
+      Runs (cached members) (a, before.cache) (letting_go ending mark (at_rest before)) (ended ending (record { context = after.context; state = state_after ending after.state; left = None })) (b, after.cache)
+  closes-so ending mark before after a b same kept run =
+      let end : Session = record { context = after.context; state = state_after ending after.state; left = None } in
+      subst (λ (cache : CacheView). Runs (cached members) (a, before.cache) (letting_go ending mark (at_rest before)) (ended ending end) (b, cache)) (sym kept)
+      (closes (cached members) ending mark before after (a, before.cache) (b, before.cache) same
+      (gives_up members (gone_at ending before.state.is_open mark before.context.kept) before.context before.cache _ a b run))
+
+  -- the GLOBAL lock of half a global read lock goes first
+  pub half-dropped : (ending : Ending) (global : ℕ) (before : PlayerView) (result : Result (Unit {0}) ContextError) (context : ContextView) (a b : S) →
+      half_lock (state_after ending before.state) ≡ Some global → Runs members.joins a (releasing global before.context) (result, context) b →
+      IsWithoutHalf members ending a before b (record before { context = context; state = without_read_lock before.state })
+  half-dropped ending global before result context a b found run = λ mark pause c later.
+      subst (λ (half : Option ℕ). Runs (cached members) (a, before.cache) (without_half half ending mark (at_rest before)) pause c) (sym found)
+      (runs_bind (cached members) (releasing global before.context) (λ outcome. letting_go ending mark (record { context = outcome.1; state = without_read_lock before.state; left = None }))
+      (a, before.cache) (b, before.cache) c _ pause (releases members global before.context before.cache _ a b run) later)

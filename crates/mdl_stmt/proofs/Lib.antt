@@ -1,5 +1,6 @@
 pub mod AlterLemmas
 pub mod AttendanceLemmas
+pub mod CachedLemmas
 pub mod CallLemmas
 pub mod DropLemmas
 pub mod EndLemmas
@@ -11,6 +12,7 @@ pub mod LockTableLemmas
 pub mod OrderLemmas
 pub mod RowLemmas
 pub mod RunLemmas
+pub mod RunnerLemmas
 pub mod SavepointLemmas
 pub mod ToldKeyLemmas
 pub mod UnlockLemmas

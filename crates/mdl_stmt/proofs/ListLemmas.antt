@@ -4,7 +4,7 @@ use Rattle.std.proofs.Math.Seq.{drop-cons}
 use Rattle.mdl_key.specs.Keys.{KeyName}
 use Rattle.mdl_key.specs.declared.mode.Mode.TheVariants.{SR}
 use Rattle.mdl_key.specs.declared.mode.Duration.TheVariants as for
-use Rattle.mdl_calls.specs.Words.{Answer, Call}
+use Rattle.mdl_calls.specs.declared.lock_space.LockSpace.{Ghosts}
 use Rattle.mdl_context.specs.Wishes.{Wish}
 use Rattle.mdl_rows.specs.declared.ending.Ending.{Ending}
 use Rattle.mdl_stmt.specs.declared.got.Got.TheVariants as got
@@ -34,56 +34,56 @@ none-left [] (suc i) past = refl
 none-left (x ∷ xs) zero past = absurd (omega (arith, past))
 none-left (x ∷ xs) (suc i) past = none-left xs i (omega (arith, past))
 
-module _ {S : Type 0} (joins : S → Call → Answer → S → Type 0) (shown : List TableShown) (table : KeyName) (tables rest : List KeyName) (same : tables ≡ table ∷ rest) where
+module _ {S : Type 0} (members : Ghosts S) (shown : List TableShown) (table : KeyName) (tables rest : List KeyName) (same : tables ≡ table ∷ rest) where
   abbrev pub read_wish : Wish
   read_wish = record { key = table; mode = SR; duration = for.Transaction }
 
   -- the next table is locked and shown
   pub show-had : (a b c : S) (x y z : PlayerView) (ticket : ℕ) (more : List TableShown) →
-      IsGot joins read_wish a x (got.Had ticket) b y → IsStep joins (show shown table ticket) b y (Ok more) c z →
-      Comes joins a x (play (show_all lock_to_read shown tables)) c z (play (show_all lock_to_read more rest))
+      IsGot members read_wish a x (got.Had ticket) b y → IsStep members (show shown table ticket) b y (Ok more) c z →
+      Comes members a x (play (show_all lock_to_read shown tables)) c z (play (show_all lock_to_read more rest))
   show-had a b c x y z ticket more first second =
       comes-then (comes-row (show_all lock_to_read shown tables) (show_all lock_to_read shown (table ∷ rest)) (ap (show_all lock_to_read shown) same))
       (comes-then (first (show_next shown (table ∷ rest))) (second (λ m. show_all lock_to_read m rest)))
 
   pub show-missed : (a b c : S) (x y z : PlayerView) (ticket : ℕ) (ending : Ending) →
-      IsGot joins read_wish a x (got.Had ticket) b y → IsStep joins (show shown table ticket) b y (Err ending) c z →
-      Comes joins a x (play (show_all lock_to_read shown tables)) c z (closing ending)
+      IsGot members read_wish a x (got.Had ticket) b y → IsStep members (show shown table ticket) b y (Err ending) c z →
+      Comes members a x (play (show_all lock_to_read shown tables)) c z (closing ending)
   show-missed a b c x y z ticket ending first second =
       comes-then (comes-row (show_all lock_to_read shown tables) (show_all lock_to_read shown (table ∷ rest)) (ap (show_all lock_to_read shown) same))
       (comes-then (first (show_next shown (table ∷ rest))) (second (λ m. show_all lock_to_read m rest)))
 
-  pub show-ended : (a b : S) (x y : PlayerView) (ending : Ending) → IsGot joins read_wish a x (got.Ends ending) b y →
-      Comes joins a x (play (show_all lock_to_read shown tables)) b y (closing ending)
+  pub show-ended : (a b : S) (x y : PlayerView) (ending : Ending) → IsGot members read_wish a x (got.Ends ending) b y →
+      Comes members a x (play (show_all lock_to_read shown tables)) b y (closing ending)
   show-ended a b x y ending first =
       comes-then (comes-row (show_all lock_to_read shown tables) (show_all lock_to_read shown (table ∷ rest)) (ap (show_all lock_to_read shown) same))
       (first (show_next shown (table ∷ rest)))
 
-  pub show-waits : (a b : S) (x y : PlayerView) (key : KeyName) → IsGot joins read_wish a x (got.Waits key) b y →
-      Waits joins a x (play (show_all lock_to_read shown tables)) key SR (show_next shown tables) b y
+  pub show-waits : (a b : S) (x y : PlayerView) (key : KeyName) → IsGot members read_wish a x (got.Waits key) b y →
+      Waits members a x (play (show_all lock_to_read shown tables)) key SR (show_next shown tables) b y
   show-waits a b x y key first =
-      subst (λ (ts : List KeyName). Waits joins a x (play (show_all lock_to_read shown ts)) key SR (show_next shown ts) b y) (sym same) (first (show_next shown (table ∷ rest)))
+      subst (λ (ts : List KeyName). Waits members a x (play (show_all lock_to_read shown ts)) key SR (show_next shown ts) b y) (sym same) (first (show_next shown (table ∷ rest)))
 
   -- the table whose lock is had is shown
-  pub next-shown : (a b : S) (x y : PlayerView) (ticket : ℕ) (more : List TableShown) → IsStep joins (show shown table ticket) a x (Ok more) b y →
-      Comes joins a x (play (show_next shown tables ticket)) b y (play (show_all lock_to_read more rest))
+  pub next-shown : (a b : S) (x y : PlayerView) (ticket : ℕ) (more : List TableShown) → IsStep members (show shown table ticket) a x (Ok more) b y →
+      Comes members a x (play (show_next shown tables ticket)) b y (play (show_all lock_to_read more rest))
   next-shown a b x y ticket more first =
       comes-then (comes-row (show_next shown tables ticket) (show_next shown (table ∷ rest) ticket) (ap (λ (ts : List KeyName). show_next shown ts ticket) same)) (first (λ m. show_all lock_to_read m rest))
 
-  pub next-missed : (a b : S) (x y : PlayerView) (ticket : ℕ) (ending : Ending) → IsStep joins (show shown table ticket) a x (Err ending) b y →
-      Comes joins a x (play (show_next shown tables ticket)) b y (closing ending)
+  pub next-missed : (a b : S) (x y : PlayerView) (ticket : ℕ) (ending : Ending) → IsStep members (show shown table ticket) a x (Err ending) b y →
+      Comes members a x (play (show_next shown tables ticket)) b y (closing ending)
   next-missed a b x y ticket ending first =
       comes-then (comes-row (show_next shown tables ticket) (show_next shown (table ∷ rest) ticket) (ap (λ (ts : List KeyName). show_next shown ts ticket) same)) (first (λ m. show_all lock_to_read m rest))
 
 -- the same for the first of some tickets
-module _ {S : Type 0} (joins : S → Call → Answer → S → Type 0) (act : ℕ → Act) (ticket : ℕ) (tickets others : List ℕ) (same : tickets ≡ ticket ∷ others) (rest : Unit {0} → Row Reply) where
+module _ {S : Type 0} (members : Ghosts S) (act : ℕ → Act) (ticket : ℕ) (tickets others : List ℕ) (same : tickets ≡ ticket ∷ others) (rest : Unit {0} → Row Reply) where
   pub each-row : for_each act tickets >>= rest ≡ act ticket >>= (λ _. for_each act others >>= rest)
   each-row = ap (λ (ts : List ℕ). for_each act ts >>= rest) same ∙ bind-assoc (act ticket) (λ _. for_each act others) rest
 
-  pub each-done : (a b : S) (x y : PlayerView) {u : Unit {0}} → IsStep joins (act ticket) a x (Ok u) b y →
-      Comes joins a x (play (for_each act tickets >>= rest)) b y (play (for_each act others >>= rest))
+  pub each-done : (a b : S) (x y : PlayerView) {u : Unit {0}} → IsStep members (act ticket) a x (Ok u) b y →
+      Comes members a x (play (for_each act tickets >>= rest)) b y (play (for_each act others >>= rest))
   each-done a b x y first = comes-then (comes-row (for_each act tickets >>= rest) (act ticket >>= (λ _. for_each act others >>= rest)) each-row) (first (λ _. for_each act others >>= rest))
 
-  pub each-failed : (a b : S) (x y : PlayerView) (ending : Ending) → IsStep joins (act ticket) a x (Err ending) b y →
-      Comes joins a x (play (for_each act tickets >>= rest)) b y (closing ending)
+  pub each-failed : (a b : S) (x y : PlayerView) (ending : Ending) → IsStep members (act ticket) a x (Err ending) b y →
+      Comes members a x (play (for_each act tickets >>= rest)) b y (closing ending)
   each-failed a b x y ending first = comes-then (comes-row (for_each act tickets >>= rest) (act ticket >>= (λ _. for_each act others >>= rest)) each-row) (first (λ _. for_each act others >>= rest))

@@ -11,7 +11,7 @@ use Rattle.mdl_key.specs.declared.mode.Duration.{Duration}
 use Rattle.mdl_key.specs.declared.namespace.Namespace.{Namespace}
 use Rattle.mdl_key.specs.declared.namespace.Namespace.TheVariants as of
 use Rattle.mdl_key.specs.Keys.{KeyName}
-use Rattle.mdl_calls.specs.Words.{Answer, Call}
+use Rattle.mdl_calls.specs.declared.lock_space.LockSpace.{Ghosts}
 use Rattle.mdl_context.specs.Wishes.{Wish}
 use Rattle.mdl_rows.specs.declared.ending.Ending.{Ending}
 use Rattle.mdl_stmt.specs.declared.got.Got.TheVariants.{Had}
@@ -92,34 +92,34 @@ lock-over wish locks rest e =
     ap (λ (keys : List KeyName). acquire_all (map wish keys) >>= (λ more. rest (locks.tickets ++ more))) (drop_of_length-le locks.keys (slice-past locks.keys (length locks.tickets) e))
     ∙ ap rest (append-nil locks.tickets)
 
-module _ {S : Type 0} (joins : S → Call → Answer → S → Type 0) (wish : KeyName → Wish) (first : LockList) (a : S) (x : PlayerView) where
+module _ {S : Type 0} (members : Ghosts S) (wish : KeyName → Wish) (first : LockList) (a : S) (x : PlayerView) where
   -- some were had
   abbrev pub HadSo : LockList → S → PlayerView → Type 0
-  HadSo locks b y = (rest : List ℕ → Row Reply) → Comes joins a x (play (lock_rest_by wish first rest)) b y (play (lock_rest_by wish locks rest))
+  HadSo locks b y = (rest : List ℕ → Row Reply) → Comes members a x (play (lock_rest_by wish first rest)) b y (play (lock_rest_by wish locks rest))
 
   -- the next one is asked for
   pub list-next : (locks : LockList) (key : KeyName) (b : S) (y : PlayerView) → slice_get locks.keys (length locks.tickets) ≡ Some key → HadSo locks b y → (rest : List ℕ → Row Reply) →
-      Comes joins a x (play (lock_rest_by wish first rest)) b y (play (Acquire (wish key) (λ ticket. lock_rest_by wish (with_ticket ticket locks) rest)))
+      Comes members a x (play (lock_rest_by wish first rest)) b y (play (Acquire (wish key) (λ ticket. lock_rest_by wish (with_ticket ticket locks) rest)))
   list-next locks key b y e so rest = comes-then (so rest) (comes-row _ _ (lock-next wish locks key rest e))
 
   -- it is had
   pub list-had : (locks all : LockList) (key : KeyName) (made_by : Wish) (ticket : ℕ) (b c : S) (y z : PlayerView) → slice_get locks.keys (length locks.tickets) ≡ Some key → made_by ≡ wish key →
-      all ≡ with_ticket ticket locks → HadSo locks b y → IsGot joins made_by b y (Had ticket) c z → HadSo all c z
+      all ≡ with_ticket ticket locks → HadSo locks b y → IsGot members made_by b y (Had ticket) c z → HadSo all c z
   list-had locks all key made_by ticket b c y z e same more so made = subst (λ l. HadSo l c z) (sym more)
-      (λ rest. comes-then (list-next locks key b y e so rest) (subst (λ w. IsGot joins w b y (Had ticket) c z) same made (λ ticket. lock_rest_by wish (with_ticket ticket locks) rest)))
+      (λ rest. comes-then (list-next locks key b y e so rest) (subst (λ w. IsGot members w b y (Had ticket) c z) same made (λ ticket. lock_rest_by wish (with_ticket ticket locks) rest)))
 
   -- it is waited for
   pub list-waits : (locks : LockList) (key told : KeyName) (made_by : Wish) (b c : S) (y z : PlayerView) → slice_get locks.keys (length locks.tickets) ≡ Some key → made_by ≡ wish key →
-      HadSo locks b y → IsGot joins made_by b y (got.Waits told) c z → IsListedBy joins wish first a x (listed.Waits told made_by.mode locks) c z
-  list-waits locks key told made_by b c y z e same so made = subst (λ (w : Wish). IsListedBy joins wish first a x (listed.Waits told w.mode locks) c z) (sym same)
-      (λ rest. comes-waits (list-next locks key b y e so rest) (subst (λ w. IsGot joins w b y (got.Waits told) c z) same made (λ ticket. lock_rest_by wish (with_ticket ticket locks) rest)))
+      HadSo locks b y → IsGot members made_by b y (got.Waits told) c z → IsListedBy members wish first a x (listed.Waits told made_by.mode locks) c z
+  list-waits locks key told made_by b c y z e same so made = subst (λ (w : Wish). IsListedBy members wish first a x (listed.Waits told w.mode locks) c z) (sym same)
+      (λ rest. comes-waits (list-next locks key b y e so rest) (subst (λ w. IsGot members w b y (got.Waits told) c z) same made (λ ticket. lock_rest_by wish (with_ticket ticket locks) rest)))
 
   -- it ends the statement
   pub list-ends : (locks : LockList) (key : KeyName) (made_by : Wish) (ending : Ending) (b c : S) (y z : PlayerView) → slice_get locks.keys (length locks.tickets) ≡ Some key → made_by ≡ wish key →
-      HadSo locks b y → IsGot joins made_by b y (got.Ends ending) c z → IsListedBy joins wish first a x (listed.Ends ending) c z
+      HadSo locks b y → IsGot members made_by b y (got.Ends ending) c z → IsListedBy members wish first a x (listed.Ends ending) c z
   list-ends locks key made_by ending b c y z e same so made = λ rest.
-      comes-then (list-next locks key b y e so rest) (subst (λ w. IsGot joins w b y (got.Ends ending) c z) same made (λ ticket. lock_rest_by wish (with_ticket ticket locks) rest))
+      comes-then (list-next locks key b y e so rest) (subst (λ w. IsGot members w b y (got.Ends ending) c z) same made (λ ticket. lock_rest_by wish (with_ticket ticket locks) rest))
 
   -- all are had
-  pub list-over : (locks : LockList) (b : S) (y : PlayerView) → slice_get locks.keys (length locks.tickets) ≡ None → HadSo locks b y → IsListedBy joins wish first a x (listed.Had locks) b y
+  pub list-over : (locks : LockList) (b : S) (y : PlayerView) → slice_get locks.keys (length locks.tickets) ≡ None → HadSo locks b y → IsListedBy members wish first a x (listed.Had locks) b y
   list-over locks b y e so = λ rest. comes-then (so rest) (comes-row _ _ (lock-over wish locks rest e))

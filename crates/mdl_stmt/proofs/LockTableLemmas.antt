@@ -3,7 +3,7 @@ use Rattle.std.proofs.Common.{◌≡◌, ℕ, Bool, true, false, ◌&&◌, not, 
 use Rattle.std.specs.Prelude.{is_some, IsOk, OnOk}
 use Rattle.mdl_key.specs.declared.mode.Duration.TheVariants.{Explicit}
 use Rattle.mdl_key.specs.Refusals.{RefusesJust}
-use Rattle.mdl_calls.specs.Words.{Answer, Call}
+use Rattle.mdl_calls.specs.declared.lock_space.LockSpace.{Ghosts}
 use Rattle.mdl_context.specs.declared.context_error.ContextError.{ContextError}
 use Rattle.mdl_context.specs.declared.context_error.ContextError.TheVariants.{Waiting}
 use Rattle.mdl_context.specs.declared.kept.Wanted.{Wanted}
@@ -36,14 +36,14 @@ first-so x rest false has e mark = refl
 abbrev pub all_explicit : ContextView → ContextView
 all_explicit context = record context { kept = map (kept_for Explicit) context.kept }
 
-module _ {S : Type 0} {joins : S → Call → Answer → S → Type 0} {a : S} {x : PlayerView} where
+module _ {S : Type 0} {members : Ghosts S} {a : S} {x : PlayerView} where
   -- there was no memory
-  pub room-missed : (rest : Row Reply) → Comes joins a x (play (row.Room rest)) a x (closing Starves)
+  pub room-missed : (rest : Row Reply) → Comes members a x (play (row.Room rest)) a x (closing Starves)
   room-missed rest = record { so = λ mark pause c run. inl run }
 
   -- tables are kept locked
   pub kept-so : (locked : List Locked) (scopes : List ℕ) →
-      Comes joins a x (play (row.Room (row.Keep (row.Set (locking locked scopes) (Give reply.Ok))))) a
+      Comes members a x (play (row.Room (row.Keep (row.Set (locking locked scopes) (Give reply.Ok))))) a
       (record x { context = all_explicit x.context; state = locking locked scopes x.state }) (closing (Answers reply.Ok))
   kept-so locked scopes = record { so = λ mark pause c run. inr run }
 

@@ -1,7 +1,7 @@
 -- What a session's calls require of its context and of its cache of definitions, and what they preserve.
 use Rattle.std.specs.Prelude.{◌≡◌, ℕ, ◌≤◌, None}
 use Rattle.mdl_defs.specs.Caches.{CacheView, most_kept}
-use Rattle.mdl_calls.specs.Words.{AreMet}
+use Rattle.mdl_calls.specs.Words.{AreMet, Answer, Call, with_cache}
 use Rattle.mdl_calls.specs.declared.lock_space.LockSpace.{Ghosts}
 use Rattle.mdl_context.specs.Contexts.{Attends, ContextView, LeavesOthers}
 use Rattle.mdl_stmt.specs.Players.{PlayerView}
@@ -9,6 +9,10 @@ use Rattle.mdl_stmt.specs.Players.{PlayerView}
 -- a valid capacity of a cache of definitions
 abbrev pub IsCapacity : ℕ → Type 0
 IsCapacity capacity = (1 ≤ capacity) × (capacity ≤ most_kept)
+
+-- a call of a session takes the space and the session's cache to those after it
+abbrev pub cached : {S : Type 0} → Ghosts S → S × CacheView → Call → Answer → S × CacheView → Type 0
+cached members = with_cache members.joins members.uses_cache
 
 -- a context attends to its space, and a cache keeps only definitions that its session met there
 pub record AttendsWith {S : Type 0} (members : Ghosts S) (space : S) (context : ContextView) (cache : CacheView) : Type 0 where

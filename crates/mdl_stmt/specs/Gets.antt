@@ -1,16 +1,20 @@
 -- What the code returns about a lock that it requested, a row that it played, and a statement's progress. A clause relates the work
--- done so far to the whole row: each run of what is left makes a run of the row from its start.
+-- done so far to the whole row: each run of what is left makes a run of the row from its start. Runs are over the space and the
+-- session's cache.
 use Rattle.std.specs.Prelude.{◌≡◌, ℕ, List, None, Result, Ok, Err, Vec}
 use Rattle.mdl_key.specs.declared.mode.Mode.{Mode}
 use Rattle.mdl_key.specs.declared.mode.Mode.TheVariants.{IX}
 use Rattle.mdl_key.specs.Keys.{KeyName}
-use Rattle.mdl_calls.specs.Words.{Answer, Call, Program, Runs}
+use Rattle.mdl_defs.specs.Caches.{CacheView}
+use Rattle.mdl_calls.specs.declared.lock_space.LockSpace.{Ghosts}
+use Rattle.mdl_calls.specs.Words.{Program, Runs}
 use Rattle.mdl_calls.specs.Words as call
 use Rattle.mdl_context.specs.declared.request.Mark.{Mark}
 use Rattle.mdl_context.specs.Waits.{giving_up_wait}
 use Rattle.mdl_context.specs.Wishes.{Wish}
 use Rattle.mdl_rows.specs.declared.ending.Ending.{Ending}
 use Rattle.mdl_rows.specs.declared.ending.Ending.TheVariants.{Starves}
+use Rattle.mdl_stmt.specs.Attendance.{cached}
 use Rattle.mdl_stmt.specs.declared.got.Got.{Got}
 use Rattle.mdl_stmt.specs.declared.got.Got.TheVariants.{Had}
 use Rattle.mdl_stmt.specs.declared.got.Got.TheVariants as got
@@ -50,17 +54,17 @@ at_rest player = record { context = player.context; state = player.state; left =
 
 -- a session's work from an earlier state reduces to its work from a later one: each run from the later state gives a run from the
 -- earlier one, with the same result
-pub record Comes {S : Type 0} (joins : S → Call → Answer → S → Type 0) (a : S) (before : PlayerView) (here : Mark → Session → Program Pause) (b : S) (after : PlayerView) (there : Mark → Session → Program Pause) : Type 0 where
-  pub so : (mark : Mark) (pause : Pause) (c : S) → Runs joins b (there mark (at_rest after)) pause c → Runs joins a (here mark (at_rest before)) pause c
+pub record Comes {S : Type 0} (members : Ghosts S) (a : S) (before : PlayerView) (here : Mark → Session → Program Pause) (b : S) (after : PlayerView) (there : Mark → Session → Program Pause) : Type 0 where
+  pub so : (mark : Mark) (pause : Pause) (c : S × CacheView) → Runs (cached members) (b, after.cache) (there mark (at_rest after)) pause c → Runs (cached members) (a, before.cache) (here mark (at_rest before)) pause c
 
 -- a session's work runs until it begins to wait for this lock, and this rest is left once the lock is granted
-pub record Waits {S : Type 0} (joins : S → Call → Answer → S → Type 0) (a : S) (before : PlayerView) (here : Mark → Session → Program Pause) (key : KeyName) (mode : Mode) (rest : ℕ → Row Reply) (b : S) (after : PlayerView) : Type 0 where
-  pub so : (mark : Mark) → Runs joins a (here mark (at_rest before)) (Begins_to_wait key mode (with_left (at_rest after) (record { rest = rest; mark = mark }))) b
+pub record Waits {S : Type 0} (members : Ghosts S) (a : S) (before : PlayerView) (here : Mark → Session → Program Pause) (key : KeyName) (mode : Mode) (rest : ℕ → Row Reply) (b : S) (after : PlayerView) : Type 0 where
+  pub so : (mark : Mark) → Runs (cached members) (a, before.cache) (here mark (at_rest before)) (Begins_to_wait key mode (with_left (at_rest after) (record { rest = rest; mark = mark }))) (b, after.cache)
 
 -- one step of a row was made: it succeeded, or the statement is to end
-abbrev pub IsStep : {S A : Type 0} → (S → Call → Answer → S → Type 0) → Row A → S → PlayerView → Result A Ending → S → PlayerView → Type 0
-IsStep {S} {A} joins act a before (Ok x) b after = (rest : A → Row Reply) → Comes joins a before (play (act >>= rest)) b after (play (rest x))
-IsStep {S} {A} joins act a before (Err ending) b after = (rest : A → Row Reply) → Comes joins a before (play (act >>= rest)) b after (closing ending)
+abbrev pub IsStep : {S A : Type 0} → Ghosts S → Row A → S → PlayerView → Result A Ending → S → PlayerView → Type 0
+IsStep {S} {A} members act a before (Ok x) b after = (rest : A → Row Reply) → Comes members a before (play (act >>= rest)) b after (play (rest x))
+IsStep {S} {A} members act a before (Err ending) b after = (rest : A → Row Reply) → Comes members a before (play (act >>= rest)) b after (closing ending)
 
 -- the result of a step that returns a list
 abbrev pub items_told : {A Z : Type 0} → Result (Vec A Z) Ending → Result (List A) Ending
@@ -68,21 +72,21 @@ items_told (Ok list) = Ok list.items
 items_told (Err ending) = Err ending
 
 -- the result of a request: the lock is held, or waited for, or the statement is to end
-abbrev pub IsGot : {S : Type 0} → (S → Call → Answer → S → Type 0) → Wish → S → PlayerView → Got ℕ → S → PlayerView → Type 0
-IsGot joins wish a before (Had id) b after = (rest : ℕ → Row Reply) → Comes joins a before (play (Acquire wish rest)) b after (play (rest id))
-IsGot joins wish a before (got.Waits key) b after = (rest : ℕ → Row Reply) → Waits joins a before (play (Acquire wish rest)) key wish.mode rest b after
-IsGot joins wish a before (got.Ends ending) b after = (rest : ℕ → Row Reply) → Comes joins a before (play (Acquire wish rest)) b after (closing ending)
+abbrev pub IsGot : {S : Type 0} → Ghosts S → Wish → S → PlayerView → Got ℕ → S → PlayerView → Type 0
+IsGot members wish a before (Had id) b after = (rest : ℕ → Row Reply) → Comes members a before (play (Acquire wish rest)) b after (play (rest id))
+IsGot members wish a before (got.Waits key) b after = (rest : ℕ → Row Reply) → Waits members a before (play (Acquire wish rest)) key wish.mode rest b after
+IsGot members wish a before (got.Ends ending) b after = (rest : ℕ → Row Reply) → Comes members a before (play (Acquire wish rest)) b after (closing ending)
 
 -- the result of an upgrade of a ticket: it is done, or waited for, or the statement is to end
-abbrev pub IsRaised : {S : Type 0} → (S → Call → Answer → S → Type 0) → ℕ → KeyName → Mode → S → PlayerView → Got ℕ → S → PlayerView → Type 0
-IsRaised joins id key mode a before (Had new) b after = (rest : ℕ → Row Reply) → Comes joins a before (play (Upgrade id key mode rest)) b after (play (rest new))
-IsRaised joins id key mode a before (got.Waits told) b after = (rest : ℕ → Row Reply) → Waits joins a before (play (Upgrade id key mode rest)) told mode rest b after
-IsRaised joins id key mode a before (got.Ends ending) b after = (rest : ℕ → Row Reply) → Comes joins a before (play (Upgrade id key mode rest)) b after (closing ending)
+abbrev pub IsRaised : {S : Type 0} → Ghosts S → ℕ → KeyName → Mode → S → PlayerView → Got ℕ → S → PlayerView → Type 0
+IsRaised members id key mode a before (Had new) b after = (rest : ℕ → Row Reply) → Comes members a before (play (Upgrade id key mode rest)) b after (play (rest new))
+IsRaised members id key mode a before (got.Waits told) b after = (rest : ℕ → Row Reply) → Waits members a before (play (Upgrade id key mode rest)) told mode rest b after
+IsRaised members id key mode a before (got.Ends ending) b after = (rest : ℕ → Row Reply) → Comes members a before (play (Upgrade id key mode rest)) b after (closing ending)
 
 -- a row was played to its end, or until it waits
-abbrev pub IsPlayed : {S : Type 0} → (S → Call → Answer → S → Type 0) → Row Reply → S → PlayerView → Played → S → PlayerView → Type 0
-IsPlayed joins row a before (played.Ends ending) b after = Comes joins a before (play row) b after (closing ending)
-IsPlayed joins row a before (played.Waits key mode stage) b after = Waits joins a before (play row) key mode (rest_of stage) b after
+abbrev pub IsPlayed : {S : Type 0} → Ghosts S → Row Reply → S → PlayerView → Played → S → PlayerView → Type 0
+IsPlayed members row a before (played.Ends ending) b after = Comes members a before (play row) b after (closing ending)
+IsPlayed members row a before (played.Waits key mode stage) b after = Waits members a before (play row) key mode (rest_of stage) b after
 
 -- the session has no wait after a request, unless it began to wait
 abbrev pub IdleUnlessGot : {A : Type 0} → Got A → PlayerView → Type 0
@@ -95,40 +99,40 @@ IdleUnlessPlayed (played.Ends ending) player = player.context.wait ≡ None
 IdleUnlessPlayed (played.Waits key mode stage) player = Unit {0}
 
 -- a wait that can't be reported was given up, and the statement is to end because memory ran out
-pub record IsDropped {S : Type 0} (joins : S → Call → Answer → S → Type 0) (a : S) (before : PlayerView) (b : S) (after : PlayerView) : Type 0 where
-  pub so : (mark : Mark) (pause : Pause) (c : S) → Runs joins b (closing Starves mark (at_rest after)) pause c
-      → Runs joins a (call.◌>>=◌ (giving_up_wait before.context) (untold mark (at_rest before))) pause c
+pub record IsDropped {S : Type 0} (members : Ghosts S) (a : S) (before : PlayerView) (b : S) (after : PlayerView) : Type 0 where
+  pub so : (mark : Mark) (pause : Pause) (c : S × CacheView) → Runs (cached members) (b, after.cache) (closing Starves mark (at_rest after)) pause c
+      → Runs (cached members) (a, before.cache) (call.◌>>=◌ (giving_up_wait before.context) (untold mark (at_rest before))) pause c
 
 -- the GLOBAL lock of an unfinished global read lock was released, if there was one, and the other tickets are still to be released
-abbrev pub IsWithoutHalf : {S : Type 0} → (S → Call → Answer → S → Type 0) → Ending → S → PlayerView → S → PlayerView → Type 0
-IsWithoutHalf {S} joins ending a before b after =
-    (mark : Mark) (pause : Pause) (c : S) → Runs joins b (letting_go ending mark (at_rest after)) pause c → Runs joins a (closing ending mark (at_rest before)) pause c
+abbrev pub IsWithoutHalf : {S : Type 0} → Ghosts S → Ending → S → PlayerView → S → PlayerView → Type 0
+IsWithoutHalf {S} members ending a before b after =
+    (mark : Mark) (pause : Pause) (c : S × CacheView) → Runs (cached members) (b, after.cache) (letting_go ending mark (at_rest after)) pause c → Runs (cached members) (a, before.cache) (closing ending mark (at_rest before)) pause c
 
 -- a wait has begun, and is to be reported: it is, or memory ran out and it was given up
-abbrev pub IsTold : {S : Type 0} → (S → Call → Answer → S → Type 0) → KeyName → S → PlayerView → Got ℕ → S → PlayerView → Type 0
-IsTold {S} joins key a before (Had id) b after = ⊥
-IsTold {S} joins key a before (got.Waits other) b after = (other ≡ key) × (a ≡ b) × (after ≡ before)
-IsTold {S} joins key a before (got.Ends ending) b after = (ending ≡ Starves) × IsDropped joins a before b after
+abbrev pub IsTold : {S : Type 0} → Ghosts S → KeyName → S → PlayerView → Got ℕ → S → PlayerView → Type 0
+IsTold {S} members key a before (Had id) b after = ⊥
+IsTold {S} members key a before (got.Waits other) b after = (other ≡ key) × (a ≡ b) × (after ≡ before)
+IsTold {S} members key a before (got.Ends ending) b after = (ending ≡ Starves) × IsDropped members a before b after
 
 -- a transaction was to be committed: it is, or its COMMIT lock is waited for, or the statement is to end
-abbrev pub IsCommitted : {S : Type 0} → (S → Call → Answer → S → Type 0) → Act → S → PlayerView → Got (Unit {0}) → S → PlayerView → Type 0
-IsCommitted joins act a before (Had _) b after = (rest : Row Reply) → Comes joins a before (play (act >> rest)) b after (play rest)
-IsCommitted joins act a before (got.Waits key) b after =
-    (rest : Row Reply) → Waits joins a before (play (act >> rest)) key IX (λ lock. end_under lock >> rest) b after
-IsCommitted joins act a before (got.Ends ending) b after = (rest : Row Reply) → Comes joins a before (play (act >> rest)) b after (closing ending)
+abbrev pub IsCommitted : {S : Type 0} → Ghosts S → Act → S → PlayerView → Got (Unit {0}) → S → PlayerView → Type 0
+IsCommitted members act a before (Had _) b after = (rest : Row Reply) → Comes members a before (play (act >> rest)) b after (play rest)
+IsCommitted members act a before (got.Waits key) b after =
+    (rest : Row Reply) → Waits members a before (play (act >> rest)) key IX (λ lock. end_under lock >> rest) b after
+IsCommitted members act a before (got.Ends ending) b after = (rest : Row Reply) → Comes members a before (play (act >> rest)) b after (closing ending)
 
 -- the locks of a list were requested, each by this wish (request): all are held, or one is waited for, or the statement is to end
-abbrev pub IsListedBy : {S : Type 0} → (S → Call → Answer → S → Type 0) → (KeyName → Wish) → LockList → S → PlayerView → Listed → S → PlayerView → Type 0
-IsListedBy joins wish locks a before (listed.Had all) b after =
-    (rest : List ℕ → Row Reply) → Comes joins a before (play (lock_rest_by wish locks rest)) b after (play (rest all.tickets))
-IsListedBy joins wish locks a before (listed.Waits key mode had) b after =
-    (rest : List ℕ → Row Reply) → Waits joins a before (play (lock_rest_by wish locks rest)) key mode (λ ticket. lock_rest_by wish (with_ticket ticket had) rest) b after
-IsListedBy joins wish locks a before (listed.Ends ending) b after =
-    (rest : List ℕ → Row Reply) → Comes joins a before (play (lock_rest_by wish locks rest)) b after (closing ending)
+abbrev pub IsListedBy : {S : Type 0} → Ghosts S → (KeyName → Wish) → LockList → S → PlayerView → Listed → S → PlayerView → Type 0
+IsListedBy members wish locks a before (listed.Had all) b after =
+    (rest : List ℕ → Row Reply) → Comes members a before (play (lock_rest_by wish locks rest)) b after (play (rest all.tickets))
+IsListedBy members wish locks a before (listed.Waits key mode had) b after =
+    (rest : List ℕ → Row Reply) → Waits members a before (play (lock_rest_by wish locks rest)) key mode (λ ticket. lock_rest_by wish (with_ticket ticket had) rest) b after
+IsListedBy members wish locks a before (listed.Ends ending) b after =
+    (rest : List ℕ → Row Reply) → Comes members a before (play (lock_rest_by wish locks rest)) b after (closing ending)
 
 -- the same, for the locks of DDL
-abbrev pub IsListed : {S : Type 0} → (S → Call → Answer → S → Type 0) → LockList → S → PlayerView → Listed → S → PlayerView → Type 0
-IsListed joins = IsListedBy joins ddl_lock
+abbrev pub IsListed : {S : Type 0} → Ghosts S → LockList → S → PlayerView → Listed → S → PlayerView → Type 0
+IsListed members = IsListedBy members ddl_lock
 
 -- the keys of the list are unchanged
 abbrev pub KeepsKeys : LockList → Listed → Type 0
@@ -143,8 +147,8 @@ IdleUnlessListed (listed.Waits key mode had) player = Unit {0}
 IdleUnlessListed (listed.Ends ending) player = player.context.wait ≡ None
 
 -- a row was played up to its end or a wait, and then the statement was ended, or what is left of it was copied
-abbrev pub IsSettled : {S : Type 0} → (S → Call → Answer → S → Type 0) → Played → Mark → S → PlayerView → Turn → S → PlayerView → Type 0
-IsSettled joins (played.Ends ending) mark a before turn b after =
-    (turn.work ≡ None) × Runs joins a (closing ending mark (at_rest before)) (ran turn.progress (at_rest after)) b
-IsSettled joins (played.Waits key mode stage) mark a before turn b after =
-    Runs joins a (keeping (Begins_to_wait key mode (with_left (at_rest before) (record { rest = rest_of stage; mark = mark })))) (ran turn.progress (session_with after turn.work)) b
+abbrev pub IsSettled : {S : Type 0} → Ghosts S → Played → Mark → S → PlayerView → Turn → S → PlayerView → Type 0
+IsSettled members (played.Ends ending) mark a before turn b after =
+    (turn.work ≡ None) × Runs (cached members) (a, before.cache) (closing ending mark (at_rest before)) (ran turn.progress (at_rest after)) (b, after.cache)
+IsSettled members (played.Waits key mode stage) mark a before turn b after =
+    Runs (cached members) (a, before.cache) (keeping (Begins_to_wait key mode (with_left (at_rest before) (record { rest = rest_of stage; mark = mark })))) (ran turn.progress (session_with after turn.work)) (b, after.cache)

@@ -33,7 +33,7 @@ impl<S: LockSpace> Player<S> {
         statement: &'s Statement,
     ) -> Played<'s>
         requires ready { IsReady S.LockSpace space.old self.old }
-        ensures run { IsPlayed S.joins (alter_first table.now (after_commit statement.now)) space.old self.old result space.new self.new }
+        ensures run { IsPlayed S.LockSpace (alter_first table.now (after_commit statement.now)) space.old self.old result space.new self.new }
         ensures goes_on { GoesOn S.LockSpace space.old self.old space.new self.new }
         ensures idle { IdleUnlessPlayed result self.new }
     {
@@ -49,7 +49,7 @@ impl<S: LockSpace> Player<S> {
     /// Alters a table, once no transaction is open.
     pub(crate) fn alter<'s>(&mut self, space: &mut S, alteration: &'s Alteration) -> Played<'s>
         requires ready { IsReady S.LockSpace space.old self.old }
-        ensures run { IsPlayed S.joins (alter_after_commit alteration.now) space.old self.old result space.new self.new }
+        ensures run { IsPlayed S.LockSpace (alter_after_commit alteration.now) space.old self.old result space.new self.new }
         ensures goes_on { GoesOn S.LockSpace space.old self.old space.new self.new }
         ensures idle { IdleUnlessPlayed result self.new }
     {
@@ -77,7 +77,7 @@ impl<S: LockSpace> Player<S> {
         alteration: &'s Alteration,
     ) -> Played<'s>
         requires ready { IsReady S.LockSpace space.old self.old }
-        ensures run { IsPlayed S.joins (lock_schema_and_alter alteration.now) space.old self.old result space.new self.new }
+        ensures run { IsPlayed S.LockSpace (lock_schema_and_alter alteration.now) space.old self.old result space.new self.new }
         ensures goes_on { GoesOn S.LockSpace space.old self.old space.new self.new }
         ensures idle { IdleUnlessPlayed result self.new }
     {
@@ -107,7 +107,7 @@ impl<S: LockSpace> Player<S> {
         alteration: &'s Alteration,
     ) -> Played<'s>
         requires ready { IsReady S.LockSpace space.old self.old }
-        ensures run { IsPlayed S.joins (alter_in_schema alteration.now) space.old self.old result space.new self.new }
+        ensures run { IsPlayed S.LockSpace (alter_in_schema alteration.now) space.old self.old result space.new self.new }
         ensures goes_on { GoesOn S.LockSpace space.old self.old space.new self.new }
         ensures idle { IdleUnlessPlayed result self.new }
     {
@@ -120,7 +120,7 @@ impl<S: LockSpace> Player<S> {
     /// Locks a table against other changes, and alters it.
     fn alter_unlocked<'s>(&mut self, space: &mut S, alteration: &'s Alteration) -> Played<'s>
         requires ready { IsReady S.LockSpace space.old self.old }
-        ensures run { IsPlayed S.joins (alter_unlocked alteration.now) space.old self.old result space.new self.new }
+        ensures run { IsPlayed S.LockSpace (alter_unlocked alteration.now) space.old self.old result space.new self.new }
         ensures goes_on { GoesOn S.LockSpace space.old self.old space.new self.new }
         ensures idle { IdleUnlessPlayed result self.new }
     {
@@ -148,7 +148,7 @@ impl<S: LockSpace> Player<S> {
         ticket: TicketId,
     ) -> Played<'s>
         requires ready { IsReady S.LockSpace space.old self.old }
-        ensures run { IsPlayed S.joins (alter_under alteration.now ticket) space.old self.old result space.new self.new }
+        ensures run { IsPlayed S.LockSpace (alter_under alteration.now ticket) space.old self.old result space.new self.new }
         ensures goes_on { GoesOn S.LockSpace space.old self.old space.new self.new }
         ensures idle { IdleUnlessPlayed result self.new }
     {
@@ -170,7 +170,7 @@ impl<S: LockSpace> Player<S> {
         ticket: TicketId,
     ) -> Played<'s>
         requires ready { IsReady S.LockSpace space.old self.old }
-        ensures run { IsPlayed S.joins (alter_by_copy alteration.now ticket) space.old self.old result space.new self.new }
+        ensures run { IsPlayed S.LockSpace (alter_by_copy alteration.now ticket) space.old self.old result space.new self.new }
         ensures goes_on { GoesOn S.LockSpace space.old self.old space.new self.new }
         ensures idle { IdleUnlessPlayed result self.new }
     {
@@ -194,7 +194,7 @@ impl<S: LockSpace> Player<S> {
         ticket: TicketId,
     ) -> Played<'s>
         requires ready { IsReady S.LockSpace space.old self.old }
-        ensures run { IsPlayed S.joins (alter_in_place alteration.now ticket) space.old self.old result space.new self.new }
+        ensures run { IsPlayed S.LockSpace (alter_in_place alteration.now ticket) space.old self.old result space.new self.new }
         ensures goes_on { GoesOn S.LockSpace space.old self.old space.new self.new }
         ensures idle { IdleUnlessPlayed result self.new }
     {
@@ -217,7 +217,7 @@ impl<S: LockSpace> Player<S> {
         ticket: TicketId,
     ) -> Played<'s>
         requires ready { IsReady S.LockSpace space.old self.old }
-        ensures run { IsPlayed S.joins (reopen_and_change alteration.now ticket) space.old self.old result space.new self.new }
+        ensures run { IsPlayed S.LockSpace (reopen_and_change alteration.now ticket) space.old self.old result space.new self.new }
         ensures goes_on { GoesOn S.LockSpace space.old self.old space.new self.new }
         ensures idle { IdleUnlessPlayed result self.new }
     {
@@ -233,7 +233,7 @@ impl<S: LockSpace> Player<S> {
         ticket: TicketId,
     ) -> Played<'s>
         requires ready { IsReady S.LockSpace space.old self.old }
-        ensures run { IsPlayed S.joins (raise_and_change alteration.now ticket) space.old self.old result space.new self.new }
+        ensures run { IsPlayed S.LockSpace (raise_and_change alteration.now ticket) space.old self.old result space.new self.new }
         ensures goes_on { GoesOn S.LockSpace space.old self.old space.new self.new }
         ensures idle { IdleUnlessPlayed result self.new }
     {
@@ -256,7 +256,7 @@ impl<S: LockSpace> Player<S> {
         ticket: TicketId,
     ) -> Played<'s>
         requires ready { IsReady S.LockSpace space.old self.old }
-        ensures run { IsPlayed S.joins (change_table alteration.now ticket) space.old self.old result space.new self.new }
+        ensures run { IsPlayed S.LockSpace (change_table alteration.now ticket) space.old self.old result space.new self.new }
         ensures goes_on { GoesOn S.LockSpace space.old self.old space.new self.new }
         ensures idle { IdleUnlessPlayed result self.new }
     {
@@ -274,7 +274,7 @@ impl<S: LockSpace> Player<S> {
         ticket: TicketId,
     ) -> Result<(), Ending>
         requires ready { IsReady S.LockSpace space.old self.old }
-        ensures run { IsStep S.joins (check_change change.now ticket) space.old self.old result space.new self.new }
+        ensures run { IsStep S.LockSpace (check_change change.now ticket) space.old self.old result space.new self.new }
         ensures goes_on { GoesOn S.LockSpace space.old self.old space.new self.new }
         ensures idle { self.new.context.wait ≡ None }
     {
@@ -300,7 +300,7 @@ impl<S: LockSpace> Player<S> {
         ticket: TicketId,
     ) -> Played<'s>
         requires ready { IsReady S.LockSpace space.old self.old }
-        ensures run { IsPlayed S.joins (rest_of_altering alteration.now at ticket) space.old self.old result space.new self.new }
+        ensures run { IsPlayed S.LockSpace (rest_of_altering alteration.now at ticket) space.old self.old result space.new self.new }
         ensures goes_on { GoesOn S.LockSpace space.old self.old space.new self.new }
         ensures idle { IdleUnlessPlayed result self.new }
     {

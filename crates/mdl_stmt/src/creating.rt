@@ -32,7 +32,7 @@ impl<S: LockSpace> Player<S> {
         columns: &'s Columns,
     ) -> Played<'s>
         requires ready { IsReady S.LockSpace space.old self.old }
-        ensures run { IsPlayed S.joins (create_after_commit table.now columns.now) space.old self.old result space.new self.new }
+        ensures run { IsPlayed S.LockSpace (create_after_commit table.now columns.now) space.old self.old result space.new self.new }
         ensures goes_on { GoesOn S.LockSpace space.old self.old space.new self.new }
         ensures idle { IdleUnlessPlayed result self.new }
     {
@@ -61,7 +61,7 @@ impl<S: LockSpace> Player<S> {
         columns: &'s Columns,
     ) -> Played<'s>
         requires ready { IsReady S.LockSpace space.old self.old }
-        ensures run { IsPlayed S.joins (lock_schema_and_create table.now columns.now) space.old self.old result space.new self.new }
+        ensures run { IsPlayed S.LockSpace (lock_schema_and_create table.now columns.now) space.old self.old result space.new self.new }
         ensures goes_on { GoesOn S.LockSpace space.old self.old space.new self.new }
         ensures idle { IdleUnlessPlayed result self.new }
     {
@@ -93,7 +93,7 @@ impl<S: LockSpace> Player<S> {
         schema: TicketId,
     ) -> Played<'s>
         requires ready { IsReady S.LockSpace space.old self.old }
-        ensures run { IsPlayed S.joins (lock_and_create table.now columns.now schema) space.old self.old result space.new self.new }
+        ensures run { IsPlayed S.LockSpace (lock_and_create table.now columns.now schema) space.old self.old result space.new self.new }
         ensures goes_on { GoesOn S.LockSpace space.old self.old space.new self.new }
         ensures idle { IdleUnlessPlayed result self.new }
     {
@@ -122,7 +122,7 @@ impl<S: LockSpace> Player<S> {
         ticket: TicketId,
     ) -> Played<'s>
         requires ready { IsReady S.LockSpace space.old self.old }
-        ensures run { IsPlayed S.joins (create_under columns.now schema ticket) space.old self.old result space.new self.new }
+        ensures run { IsPlayed S.LockSpace (create_under columns.now schema ticket) space.old self.old result space.new self.new }
         ensures goes_on { GoesOn S.LockSpace space.old self.old space.new self.new }
         ensures idle { IdleUnlessPlayed result self.new }
     {
@@ -141,7 +141,7 @@ impl<S: LockSpace> Player<S> {
     /// Checks that a schema exists.
     pub(crate) fn check_schema(&mut self, space: &mut S, schema: TicketId) -> Result<(), Ending>
         requires ready { IsReady S.LockSpace space.old self.old }
-        ensures run { IsStep S.joins (check_schema schema) space.old self.old result space.new self.new }
+        ensures run { IsStep S.LockSpace (check_schema schema) space.old self.old result space.new self.new }
         ensures goes_on { GoesOn S.LockSpace space.old self.old space.new self.new }
         ensures idle { self.new.context.wait ≡ None }
     {
@@ -164,7 +164,7 @@ impl<S: LockSpace> Player<S> {
         ticket: TicketId,
     ) -> Result<(), Ending>
         requires ready { IsReady S.LockSpace space.old self.old }
-        ensures run { IsStep S.joins (check_new columns.now ticket) space.old self.old result space.new self.new }
+        ensures run { IsStep S.LockSpace (check_new columns.now ticket) space.old self.old result space.new self.new }
         ensures goes_on { GoesOn S.LockSpace space.old self.old space.new self.new }
         ensures idle { self.new.context.wait ≡ None }
     {
@@ -192,7 +192,7 @@ impl<S: LockSpace> Player<S> {
         ticket: TicketId,
     ) -> Result<(), Ending>
         requires ready { IsReady S.LockSpace space.old self.old }
-        ensures run { IsStep S.joins (make_table columns.now ticket) space.old self.old result space.new self.new }
+        ensures run { IsStep S.LockSpace (make_table columns.now ticket) space.old self.old result space.new self.new }
         ensures goes_on { GoesOn S.LockSpace space.old self.old space.new self.new }
         ensures idle { self.new.context.wait ≡ None }
     {
@@ -213,7 +213,7 @@ impl<S: LockSpace> Player<S> {
         ticket: TicketId,
     ) -> Played<'s>
         requires ready { IsReady S.LockSpace space.old self.old }
-        ensures run { IsPlayed S.joins (rest_of_creating at.entry ticket) space.old self.old result space.new self.new }
+        ensures run { IsPlayed S.LockSpace (rest_of_creating at.entry ticket) space.old self.old result space.new self.new }
         ensures goes_on { GoesOn S.LockSpace space.old self.old space.new self.new }
         ensures idle { IdleUnlessPlayed result self.new }
     {

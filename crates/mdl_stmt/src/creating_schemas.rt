@@ -22,7 +22,7 @@ impl<S: LockSpace> Player<S> {
     /// Creates a schema, once no transaction is open.
     pub(crate) fn create_schema<'s>(&mut self, space: &mut S, name: &'s Name) -> Played<'s>
         requires ready { IsReady S.LockSpace space.old self.old }
-        ensures run { IsPlayed S.joins (create_schema_after_commit name.now) space.old self.old result space.new self.new }
+        ensures run { IsPlayed S.LockSpace (create_schema_after_commit name.now) space.old self.old result space.new self.new }
         ensures goes_on { GoesOn S.LockSpace space.old self.old space.new self.new }
         ensures idle { IdleUnlessPlayed result self.new }
     {
@@ -46,7 +46,7 @@ impl<S: LockSpace> Player<S> {
     /// Locks a schema under the GLOBAL lock, and creates it.
     pub(crate) fn lock_and_create_schema<'s>(&mut self, space: &mut S, name: &'s Name) -> Played<'s>
         requires ready { IsReady S.LockSpace space.old self.old }
-        ensures run { IsPlayed S.joins (lock_and_create_schema name.now) space.old self.old result space.new self.new }
+        ensures run { IsPlayed S.LockSpace (lock_and_create_schema name.now) space.old self.old result space.new self.new }
         ensures goes_on { GoesOn S.LockSpace space.old self.old space.new self.new }
         ensures idle { IdleUnlessPlayed result self.new }
     {
@@ -72,7 +72,7 @@ impl<S: LockSpace> Player<S> {
     /// Creates a schema under its lock.
     pub(crate) fn create_schema_under<'s>(&mut self, space: &mut S, ticket: TicketId) -> Played<'s>
         requires ready { IsReady S.LockSpace space.old self.old }
-        ensures run { IsPlayed S.joins (create_schema_under ticket) space.old self.old result space.new self.new }
+        ensures run { IsPlayed S.LockSpace (create_schema_under ticket) space.old self.old result space.new self.new }
         ensures goes_on { GoesOn S.LockSpace space.old self.old space.new self.new }
         ensures idle { IdleUnlessPlayed result self.new }
     {
@@ -88,7 +88,7 @@ impl<S: LockSpace> Player<S> {
     /// Checks that a schema can be created.
     fn check_new_schema(&mut self, space: &mut S, ticket: TicketId) -> Result<(), Ending>
         requires ready { IsReady S.LockSpace space.old self.old }
-        ensures run { IsStep S.joins (check_new_schema ticket) space.old self.old result space.new self.new }
+        ensures run { IsStep S.LockSpace (check_new_schema ticket) space.old self.old result space.new self.new }
         ensures goes_on { GoesOn S.LockSpace space.old self.old space.new self.new }
         ensures idle { self.new.context.wait ≡ None }
     {
@@ -113,7 +113,7 @@ impl<S: LockSpace> Player<S> {
         ticket: TicketId,
     ) -> Played<'s>
         requires ready { IsReady S.LockSpace space.old self.old }
-        ensures run { IsPlayed S.joins (rest_of_creating_schema at.entry ticket) space.old self.old result space.new self.new }
+        ensures run { IsPlayed S.LockSpace (rest_of_creating_schema at.entry ticket) space.old self.old result space.new self.new }
         ensures goes_on { GoesOn S.LockSpace space.old self.old space.new self.new }
         ensures idle { IdleUnlessPlayed result self.new }
     {

@@ -24,7 +24,7 @@ impl<S: LockSpace> Player<S> {
     /// Drops tables, once no transaction is open.
     pub(crate) fn drop_tables<'s>(&mut self, space: &mut S, tables: &'s Tables) -> Played<'s>
         requires ready { IsReady S.LockSpace space.old self.old }
-        ensures run { IsPlayed S.joins (drop_after_commit tables.now) space.old self.old result space.new self.new }
+        ensures run { IsPlayed S.LockSpace (drop_after_commit tables.now) space.old self.old result space.new self.new }
         ensures goes_on { GoesOn S.LockSpace space.old self.old space.new self.new }
         ensures idle { IdleUnlessPlayed result self.new }
     {
@@ -42,7 +42,7 @@ impl<S: LockSpace> Player<S> {
         locks: LockList,
     ) -> Played<'s>
         requires ready { IsReady S.LockSpace space.old self.old }
-        ensures run { IsPlayed S.joins (lock_rest locks (λ scopes. lock_and_drop tables.now)) space.old self.old result space.new self.new }
+        ensures run { IsPlayed S.LockSpace (lock_rest locks (λ scopes. lock_and_drop tables.now)) space.old self.old result space.new self.new }
         ensures goes_on { GoesOn S.LockSpace space.old self.old space.new self.new }
         ensures idle { IdleUnlessPlayed result self.new }
     {
@@ -58,7 +58,7 @@ impl<S: LockSpace> Player<S> {
     /// Locks tables under the locks of their schemas, and drops them.
     pub(crate) fn lock_and_drop<'s>(&mut self, space: &mut S, tables: &'s Tables) -> Played<'s>
         requires ready { IsReady S.LockSpace space.old self.old }
-        ensures run { IsPlayed S.joins (lock_and_drop tables.now) space.old self.old result space.new self.new }
+        ensures run { IsPlayed S.LockSpace (lock_and_drop tables.now) space.old self.old result space.new self.new }
         ensures goes_on { GoesOn S.LockSpace space.old self.old space.new self.new }
         ensures idle { IdleUnlessPlayed result self.new }
     {
@@ -71,7 +71,7 @@ impl<S: LockSpace> Player<S> {
     /// Gets the remaining locks of tables, and drops the tables.
     pub(crate) fn lock_tables<'s>(&mut self, space: &mut S, locks: LockList) -> Played<'s>
         requires ready { IsReady S.LockSpace space.old self.old }
-        ensures run { IsPlayed S.joins (lock_rest locks drop_under) space.old self.old result space.new self.new }
+        ensures run { IsPlayed S.LockSpace (lock_rest locks drop_under) space.old self.old result space.new self.new }
         ensures goes_on { GoesOn S.LockSpace space.old self.old space.new self.new }
         ensures idle { IdleUnlessPlayed result self.new }
     {
@@ -89,7 +89,7 @@ impl<S: LockSpace> Player<S> {
     /// Drops tables under their locks: all, or none if one doesn't exist or can't be changed once more.
     fn drop_under<'s>(&mut self, space: &mut S, tickets: &[TicketId]) -> Played<'s>
         requires ready { IsReady S.LockSpace space.old self.old }
-        ensures run { IsPlayed S.joins (drop_under tickets.now) space.old self.old result space.new self.new }
+        ensures run { IsPlayed S.LockSpace (drop_under tickets.now) space.old self.old result space.new self.new }
         ensures goes_on { GoesOn S.LockSpace space.old self.old space.new self.new }
         ensures idle { IdleUnlessPlayed result self.new }
     {
@@ -108,7 +108,7 @@ impl<S: LockSpace> Player<S> {
     /// Checks that all these tables exist.
     pub(crate) fn all_stand(&mut self, space: &mut S, tickets: &[TicketId]) -> Result<(), Ending>
         requires ready { IsReady S.LockSpace space.old self.old }
-        ensures run { IsStep S.joins (for_each stands tickets.now) space.old self.old result space.new self.new }
+        ensures run { IsStep S.LockSpace (for_each stands tickets.now) space.old self.old result space.new self.new }
         ensures goes_on { GoesOn S.LockSpace space.old self.old space.new self.new }
         ensures idle { self.new.context.wait ≡ None }
     {
@@ -123,7 +123,7 @@ impl<S: LockSpace> Player<S> {
     /// Checks that a table exists.
     fn stands(&mut self, space: &mut S, ticket: TicketId) -> Result<(), Ending>
         requires ready { IsReady S.LockSpace space.old self.old }
-        ensures run { IsStep S.joins (stands ticket) space.old self.old result space.new self.new }
+        ensures run { IsStep S.LockSpace (stands ticket) space.old self.old result space.new self.new }
         ensures goes_on { GoesOn S.LockSpace space.old self.old space.new self.new }
         ensures idle { self.new.context.wait ≡ None }
     {
@@ -140,7 +140,7 @@ impl<S: LockSpace> Player<S> {
         tickets: &[TicketId],
     ) -> Result<(), Ending>
         requires ready { IsReady S.LockSpace space.old self.old }
-        ensures run { IsStep S.joins (for_each can_change tickets.now) space.old self.old result space.new self.new }
+        ensures run { IsStep S.LockSpace (for_each can_change tickets.now) space.old self.old result space.new self.new }
         ensures goes_on { GoesOn S.LockSpace space.old self.old space.new self.new }
         ensures idle { self.new.context.wait ≡ None }
     {
@@ -155,7 +155,7 @@ impl<S: LockSpace> Player<S> {
     /// Checks that a table can be changed once more, before the limit of versions.
     pub(crate) fn can_change(&mut self, space: &mut S, ticket: TicketId) -> Result<(), Ending>
         requires ready { IsReady S.LockSpace space.old self.old }
-        ensures run { IsStep S.joins (can_change ticket) space.old self.old result space.new self.new }
+        ensures run { IsStep S.LockSpace (can_change ticket) space.old self.old result space.new self.new }
         ensures goes_on { GoesOn S.LockSpace space.old self.old space.new self.new }
         ensures idle { self.new.context.wait ≡ None }
     {
@@ -173,7 +173,7 @@ impl<S: LockSpace> Player<S> {
     /// Removes the definitions of all these tables.
     pub(crate) fn drop_all(&mut self, space: &mut S, tickets: &[TicketId]) -> Result<(), Ending>
         requires ready { IsReady S.LockSpace space.old self.old }
-        ensures run { IsStep S.joins (for_each (λ ticket. redefine ticket change.Drop) tickets.now) space.old self.old result space.new self.new }
+        ensures run { IsStep S.LockSpace (for_each (λ ticket. redefine ticket change.Drop) tickets.now) space.old self.old result space.new self.new }
         ensures goes_on { GoesOn S.LockSpace space.old self.old space.new self.new }
         ensures idle { self.new.context.wait ≡ None }
     {
@@ -193,7 +193,7 @@ impl<S: LockSpace> Player<S> {
         ticket: TicketId,
     ) -> Played<'s>
         requires ready { IsReady S.LockSpace space.old self.old }
-        ensures run { IsPlayed S.joins (rest_of_dropping at.entry ticket) space.old self.old result space.new self.new }
+        ensures run { IsPlayed S.LockSpace (rest_of_dropping at.entry ticket) space.old self.old result space.new self.new }
         ensures goes_on { GoesOn S.LockSpace space.old self.old space.new self.new }
         ensures idle { IdleUnlessPlayed result self.new }
     {

@@ -21,7 +21,7 @@ impl<S: LockSpace> Player<S> {
     /// Drops a schema, once no transaction is open.
     pub(crate) fn drop_schema<'s>(&mut self, space: &mut S, name: &'s Name) -> Played<'s>
         requires ready { IsReady S.LockSpace space.old self.old }
-        ensures run { IsPlayed S.joins (drop_schema_after_commit name.now) space.old self.old result space.new self.new }
+        ensures run { IsPlayed S.LockSpace (drop_schema_after_commit name.now) space.old self.old result space.new self.new }
         ensures goes_on { GoesOn S.LockSpace space.old self.old space.new self.new }
         ensures idle { IdleUnlessPlayed result self.new }
     {
@@ -45,7 +45,7 @@ impl<S: LockSpace> Player<S> {
     /// Locks a schema under the GLOBAL lock, and drops it.
     pub(crate) fn lock_and_drop_schema<'s>(&mut self, space: &mut S, name: &'s Name) -> Played<'s>
         requires ready { IsReady S.LockSpace space.old self.old }
-        ensures run { IsPlayed S.joins (lock_and_drop_schema name.now) space.old self.old result space.new self.new }
+        ensures run { IsPlayed S.LockSpace (lock_and_drop_schema name.now) space.old self.old result space.new self.new }
         ensures goes_on { GoesOn S.LockSpace space.old self.old space.new self.new }
         ensures idle { IdleUnlessPlayed result self.new }
     {
@@ -76,7 +76,7 @@ impl<S: LockSpace> Player<S> {
         schema: TicketId,
     ) -> Played<'s>
         requires ready { IsReady S.LockSpace space.old self.old }
-        ensures run { IsPlayed S.joins (drop_schema_under name.now schema) space.old self.old result space.new self.new }
+        ensures run { IsPlayed S.LockSpace (drop_schema_under name.now schema) space.old self.old result space.new self.new }
         ensures goes_on { GoesOn S.LockSpace space.old self.old space.new self.new }
         ensures idle { IdleUnlessPlayed result self.new }
     {
@@ -96,7 +96,7 @@ impl<S: LockSpace> Player<S> {
     /// The tables of a schema that have a definition, in key order.
     fn tables_in(&mut self, space: &mut S, name: &Name) -> Result<Vec<Key>, Ending>
         requires ready { IsReady S.LockSpace space.old self.old }
-        ensures run { IsStep S.joins (tables_in name.now) space.old self.old (items_told result) space.new self.new }
+        ensures run { IsStep S.LockSpace (tables_in name.now) space.old self.old (items_told result) space.new self.new }
         ensures goes_on { GoesOn S.LockSpace space.old self.old space.new self.new }
         ensures idle { self.new.context.wait ≡ None }
     {
@@ -109,7 +109,7 @@ impl<S: LockSpace> Player<S> {
     /// The keys of places, in their order.
     fn keys_of(&mut self, space: &mut S, places: &[Place]) -> Result<Vec<Key>, Ending>
         requires ready { IsReady S.LockSpace space.old self.old }
-        ensures run { IsStep S.joins (keys_of [] places.now) space.old self.old (items_told result) space.new self.new }
+        ensures run { IsStep S.LockSpace (keys_of [] places.now) space.old self.old (items_told result) space.new self.new }
         ensures goes_on { GoesOn S.LockSpace space.old self.old space.new self.new }
         ensures idle { self.new.context.wait ≡ None }
     {
@@ -134,7 +134,7 @@ impl<S: LockSpace> Player<S> {
         locks: LockList,
     ) -> Played<'s>
         requires ready { IsReady S.LockSpace space.old self.old }
-        ensures run { IsPlayed S.joins (lock_rest locks (drop_with schema)) space.old self.old result space.new self.new }
+        ensures run { IsPlayed S.LockSpace (lock_rest locks (drop_with schema)) space.old self.old result space.new self.new }
         ensures goes_on { GoesOn S.LockSpace space.old self.old space.new self.new }
         ensures idle { IdleUnlessPlayed result self.new }
     {
@@ -154,7 +154,7 @@ impl<S: LockSpace> Player<S> {
     /// Drops a schema's tables and then the schema, under all their locks.
     fn drop_with<'s>(&mut self, space: &mut S, schema: TicketId, tables: &[TicketId]) -> Played<'s>
         requires ready { IsReady S.LockSpace space.old self.old }
-        ensures run { IsPlayed S.joins (drop_with schema tables.now) space.old self.old result space.new self.new }
+        ensures run { IsPlayed S.LockSpace (drop_with schema tables.now) space.old self.old result space.new self.new }
         ensures goes_on { GoesOn S.LockSpace space.old self.old space.new self.new }
         ensures idle { IdleUnlessPlayed result self.new }
     {
@@ -181,7 +181,7 @@ impl<S: LockSpace> Player<S> {
         ticket: TicketId,
     ) -> Played<'s>
         requires ready { IsReady S.LockSpace space.old self.old }
-        ensures run { IsPlayed S.joins (rest_of_dropping_schema at.entry ticket) space.old self.old result space.new self.new }
+        ensures run { IsPlayed S.LockSpace (rest_of_dropping_schema at.entry ticket) space.old self.old result space.new self.new }
         ensures goes_on { GoesOn S.LockSpace space.old self.old space.new self.new }
         ensures idle { IdleUnlessPlayed result self.new }
     {

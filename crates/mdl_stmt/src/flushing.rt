@@ -24,7 +24,7 @@ impl<S: LockSpace> Player<S> {
     /// first.
     pub(crate) fn flush<'s>(&mut self, space: &mut S, statement: &'s Statement) -> Played<'s>
         requires ready { IsReady S.LockSpace space.old self.old }
-        ensures run { IsPlayed S.joins (flush_first (after_commit statement.now)) space.old self.old result space.new self.new }
+        ensures run { IsPlayed S.LockSpace (flush_first (after_commit statement.now)) space.old self.old result space.new self.new }
         ensures goes_on { GoesOn S.LockSpace space.old self.old space.new self.new }
         ensures idle { IdleUnlessPlayed result self.new }
     {
@@ -37,7 +37,7 @@ impl<S: LockSpace> Player<S> {
     /// Gets the global read lock, once no transaction is open, unless the session has it.
     pub(crate) fn flush_after_commit<'s>(&mut self, space: &mut S) -> Played<'s>
         requires ready { IsReady S.LockSpace space.old self.old }
-        ensures run { IsPlayed S.joins flush_after_commit space.old self.old result space.new self.new }
+        ensures run { IsPlayed S.LockSpace flush_after_commit space.old self.old result space.new self.new }
         ensures goes_on { GoesOn S.LockSpace space.old self.old space.new self.new }
         ensures idle { IdleUnlessPlayed result self.new }
     {
@@ -50,7 +50,7 @@ impl<S: LockSpace> Player<S> {
     /// Gets the GLOBAL lock in mode S, and then the COMMIT lock.
     fn get_read_lock<'s>(&mut self, space: &mut S) -> Played<'s>
         requires ready { IsReady S.LockSpace space.old self.old }
-        ensures run { IsPlayed S.joins get_read_lock space.old self.old result space.new self.new }
+        ensures run { IsPlayed S.LockSpace get_read_lock space.old self.old result space.new self.new }
         ensures goes_on { GoesOn S.LockSpace space.old self.old space.new self.new }
         ensures idle { IdleUnlessPlayed result self.new }
     {
@@ -70,7 +70,7 @@ impl<S: LockSpace> Player<S> {
     /// Gets the COMMIT lock in mode S too, under the GLOBAL lock.
     pub(crate) fn lock_commits<'s>(&mut self, space: &mut S, global: TicketId) -> Played<'s>
         requires ready { IsReady S.LockSpace space.old self.old }
-        ensures run { IsPlayed S.joins (lock_commits global) space.old self.old result space.new self.new }
+        ensures run { IsPlayed S.LockSpace (lock_commits global) space.old self.old result space.new self.new }
         ensures goes_on { GoesOn S.LockSpace space.old self.old space.new self.new }
         ensures idle { IdleUnlessPlayed result self.new }
     {
@@ -91,7 +91,7 @@ impl<S: LockSpace> Player<S> {
     /// Notes that the session has the global read lock, with this ticket of the COMMIT lock.
     pub(crate) fn read_lock_under(&mut self, space: &mut S, commit: TicketId) -> Ending
         requires ready { IsReady S.LockSpace space.old self.old }
-        ensures run { IsPlayed S.joins (read_lock_under commit) space.old self.old (played.Ends result) space.new self.new }
+        ensures run { IsPlayed S.LockSpace (read_lock_under commit) space.old self.old (played.Ends result) space.new self.new }
         ensures goes_on { GoesOn S.LockSpace space.old self.old space.new self.new }
         ensures idle { self.new.context.wait ≡ None }
     {
@@ -102,7 +102,7 @@ impl<S: LockSpace> Player<S> {
     /// Releases the GLOBAL lock if it is half of a global read lock, because the statement ends before it got the COMMIT lock.
     pub(crate) fn drop_half(&mut self, space: &mut S, ending: &Ending)
         requires ready { IsReady S.LockSpace space.old self.old }
-        ensures run { IsWithoutHalf S.joins ending.now space.old self.old space.new self.new }
+        ensures run { IsWithoutHalf S.LockSpace ending.now space.old self.old space.new self.new }
         ensures goes_on { GoesOn S.LockSpace space.old self.old space.new self.new }
         ensures idle { self.new.context.wait ≡ None }
     {
@@ -134,7 +134,7 @@ impl<S: LockSpace> Player<S> {
         ticket: TicketId,
     ) -> Played<'s>
         requires ready { IsReady S.LockSpace space.old self.old }
-        ensures run { IsPlayed S.joins (rest_of_flushing at ticket) space.old self.old result space.new self.new }
+        ensures run { IsPlayed S.LockSpace (rest_of_flushing at ticket) space.old self.old result space.new self.new }
         ensures goes_on { GoesOn S.LockSpace space.old self.old space.new self.new }
         ensures idle { IdleUnlessPlayed result self.new }
     {

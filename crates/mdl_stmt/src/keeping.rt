@@ -1,7 +1,7 @@
 //! Statements of an `OwnedRunner`, of which only a copy of what is left is kept while they wait.
 ghost use Rattle.std.specs.Prelude.{◌≡◌, None, Some};
 ghost use Rattle.mdl_calls.specs.Words.{Runs};
-ghost use Rattle.mdl_stmt.specs.Attendance.{AttendsWith, GoesOn, IsReady};
+ghost use Rattle.mdl_stmt.specs.Attendance.{AttendsWith, GoesOn, IsReady, cached};
 ghost use Rattle.mdl_rows.specs.Endings.{Begins_to_wait};
 ghost use Rattle.mdl_stmt.specs.declared.got.Played.TheVariants.{Ends};
 ghost use Rattle.mdl_stmt.specs.Gets.{at_rest, ran, IdleUnlessPlayed};
@@ -34,7 +34,7 @@ impl<S: LockSpace> Player<S> {
     /// Starts a statement.
     pub(crate) fn start_kept(&mut self, space: &mut S, statement: &Statement) -> Turn
         requires ready { IsReady S.LockSpace space.old self.old }
-        ensures run { Runs S.joins space.old (starting_kept statement.now (at_rest self.old)) (ran result.progress (session_with self.new result.work)) space.new }
+        ensures run { Runs (cached S.LockSpace) (space.old, self.old.cache) (starting_kept statement.now (at_rest self.old)) (ran result.progress (session_with self.new result.work)) (space.new, self.new.cache) }
         ensures goes_on { GoesOn S.LockSpace space.old self.old space.new self.new }
         ensures idle { result.work ≡ None → self.new.context.wait ≡ None }
     {
@@ -46,7 +46,7 @@ impl<S: LockSpace> Player<S> {
     /// Continues a waiting statement.
     pub(crate) fn go_on_kept(&mut self, space: &mut S, work: KeptWork) -> Turn
         requires attends { AttendsWith S.LockSpace space.old self.old.context self.old.cache }
-        ensures run { Runs S.joins space.old (going_on_kept (session_with self.old (Some work))) (ran result.progress (session_with self.new result.work)) space.new }
+        ensures run { Runs (cached S.LockSpace) (space.old, self.old.cache) (going_on_kept (session_with self.old (Some work))) (ran result.progress (session_with self.new result.work)) (space.new, self.new.cache) }
         ensures goes_on { GoesOn S.LockSpace space.old self.old space.new self.new }
         ensures idle { result.work ≡ None → self.new.context.wait ≡ None }
     {
@@ -66,7 +66,7 @@ impl<S: LockSpace> Player<S> {
     // prover follows.
     fn end_kept(&mut self, space: &mut S, ending: Ending, work: KeptWork) -> Turn
         requires ready { IsReady S.LockSpace space.old self.old }
-        ensures run { IsSettled S.joins (Ends ending) work.mark space.old self.old result space.new self.new }
+        ensures run { IsSettled S.LockSpace (Ends ending) work.mark space.old self.old result space.new self.new }
         ensures goes_on { GoesOn S.LockSpace space.old self.old space.new self.new }
         ensures idle { self.new.context.wait ≡ None }
     {
@@ -78,7 +78,7 @@ impl<S: LockSpace> Player<S> {
     // Ends a statement.
     fn end_turn(&mut self, space: &mut S, ending: Ending, mark: Mark) -> Turn
         requires ready { IsReady S.LockSpace space.old self.old }
-        ensures run { IsSettled S.joins (Ends ending) mark space.old self.old result space.new self.new }
+        ensures run { IsSettled S.LockSpace (Ends ending) mark space.old self.old result space.new self.new }
         ensures goes_on { GoesOn S.LockSpace space.old self.old space.new self.new }
         ensures idle { self.new.context.wait ≡ None }
     {
@@ -91,7 +91,7 @@ impl<S: LockSpace> Player<S> {
     // Continues a statement whose wait was granted.
     fn proceed_kept(&mut self, space: &mut S, work: KeptWork, ticket: TicketId) -> Turn
         requires ready { IsReady S.LockSpace space.old self.old }
-        ensures run { Runs S.joins space.old (play_kept (rest_of_kept work.stage ticket) work.mark (at_rest self.old)) (ran result.progress (session_with self.new result.work)) space.new }
+        ensures run { Runs (cached S.LockSpace) (space.old, self.old.cache) (play_kept (rest_of_kept work.stage ticket) work.mark (at_rest self.old)) (ran result.progress (session_with self.new result.work)) (space.new, self.new.cache) }
         ensures goes_on { GoesOn S.LockSpace space.old self.old space.new self.new }
         ensures idle { result.work ≡ None → self.new.context.wait ≡ None }
     {
@@ -144,7 +144,7 @@ impl<S: LockSpace> Player<S> {
         mark: Mark,
     ) -> Turn
         requires ready { IsReady S.LockSpace space.old self.old }
-        ensures run { Runs S.joins space.old (play_kept (rest_of_kept_dropping at ticket) mark (at_rest self.old)) (ran result.progress (session_with self.new result.work)) space.new }
+        ensures run { Runs (cached S.LockSpace) (space.old, self.old.cache) (play_kept (rest_of_kept_dropping at ticket) mark (at_rest self.old)) (ran result.progress (session_with self.new result.work)) (space.new, self.new.cache) }
         ensures goes_on { GoesOn S.LockSpace space.old self.old space.new self.new }
         ensures idle { result.work ≡ None → self.new.context.wait ≡ None }
     {
@@ -168,7 +168,7 @@ impl<S: LockSpace> Player<S> {
         mark: Mark,
     ) -> Turn
         requires ready { IsReady S.LockSpace space.old self.old }
-        ensures run { Runs S.joins space.old (play_kept (rest_of_kept_dropping_schema at ticket) mark (at_rest self.old)) (ran result.progress (session_with self.new result.work)) space.new }
+        ensures run { Runs (cached S.LockSpace) (space.old, self.old.cache) (play_kept (rest_of_kept_dropping_schema at ticket) mark (at_rest self.old)) (ran result.progress (session_with self.new result.work)) (space.new, self.new.cache) }
         ensures goes_on { GoesOn S.LockSpace space.old self.old space.new self.new }
         ensures idle { result.work ≡ None → self.new.context.wait ≡ None }
     {
@@ -191,7 +191,7 @@ impl<S: LockSpace> Player<S> {
     // Continues a statement at a stage.
     fn proceed_at(&mut self, space: &mut S, stage: Stage<'_>, ticket: TicketId, mark: Mark) -> Turn
         requires ready { IsReady S.LockSpace space.old self.old }
-        ensures run { Runs S.joins space.old (play_kept (rest_of stage.entry ticket) mark (at_rest self.old)) (ran result.progress (session_with self.new result.work)) space.new }
+        ensures run { Runs (cached S.LockSpace) (space.old, self.old.cache) (play_kept (rest_of stage.entry ticket) mark (at_rest self.old)) (ran result.progress (session_with self.new result.work)) (space.new, self.new.cache) }
         ensures goes_on { GoesOn S.LockSpace space.old self.old space.new self.new }
         ensures idle { result.work ≡ None → self.new.context.wait ≡ None }
     {
@@ -203,7 +203,7 @@ impl<S: LockSpace> Player<S> {
     pub(crate) fn settle(&mut self, space: &mut S, played: Played<'_>, mark: Mark) -> Turn
         requires attends { AttendsWith S.LockSpace space.old self.old.context self.old.cache }
         requires idle { IdleUnlessPlayed played self.old }
-        ensures run { IsSettled S.joins played.entry mark space.old self.old result space.new self.new }
+        ensures run { IsSettled S.LockSpace played.entry mark space.old self.old result space.new self.new }
         ensures goes_on { GoesOn S.LockSpace space.old self.old space.new self.new }
         ensures idle { result.work ≡ None → self.new.context.wait ≡ None }
     {
@@ -223,8 +223,8 @@ impl<S: LockSpace> Player<S> {
         mark: Mark,
     ) -> Turn
         requires attends { AttendsWith S.LockSpace space.old self.old.context self.old.cache }
-        ensures run { Runs S.joins space.old (keeping (Begins_to_wait key mode (with_left (at_rest self.old) (record { rest = rest_of stage.entry; mark = mark }))))
-            (ran result.progress (session_with self.new result.work)) space.new }
+        ensures run { Runs (cached S.LockSpace) (space.old, self.old.cache) (keeping (Begins_to_wait key mode (with_left (at_rest self.old) (record { rest = rest_of stage.entry; mark = mark }))))
+            (ran result.progress (session_with self.new result.work)) (space.new, self.new.cache) }
         ensures goes_on { GoesOn S.LockSpace space.old self.old space.new self.new }
         ensures idle { result.work ≡ None → self.new.context.wait ≡ None }
     {

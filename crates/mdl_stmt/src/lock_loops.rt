@@ -17,7 +17,7 @@ impl<S: LockSpace> Player<S> {
     /// Gets the remaining locks of a list, for a change of definitions.
     pub(crate) fn lock_all(&mut self, space: &mut S, locks: LockList) -> Listed
         requires ready { IsReady S.LockSpace space.old self.old }
-        ensures run { IsListed S.joins locks space.old self.old result space.new self.new }
+        ensures run { IsListed S.LockSpace locks space.old self.old result space.new self.new }
         ensures goes_on { GoesOn S.LockSpace space.old self.old space.new self.new }
         ensures idle { IdleUnlessListed result self.new }
         ensures keys { KeepsKeys locks result }
@@ -33,7 +33,7 @@ impl<S: LockSpace> Player<S> {
         locks: LockList,
     ) -> Listed
         requires ready { IsReady S.LockSpace space.old self.old }
-        ensures run { IsListedBy S.joins (wish_by locking.entry) locks space.old self.old result space.new self.new }
+        ensures run { IsListedBy S.LockSpace (wish_by locking.entry) locks space.old self.old result space.new self.new }
         ensures goes_on { GoesOn S.LockSpace space.old self.old space.new self.new }
         ensures idle { IdleUnlessListed result self.new }
         ensures keys { KeepsKeys locks result }

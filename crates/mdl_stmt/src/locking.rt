@@ -27,7 +27,7 @@ impl<S: LockSpace> Player<S> {
         tables: &TableLocks,
     ) -> Played<'s>
         requires ready { IsReady S.LockSpace space.old self.old }
-        ensures run { IsPlayed S.joins (lock_first tables.now (after_commit statement.now)) space.old self.old result space.new self.new }
+        ensures run { IsPlayed S.LockSpace (lock_first tables.now (after_commit statement.now)) space.old self.old result space.new self.new }
         ensures goes_on { GoesOn S.LockSpace space.old self.old space.new self.new }
         ensures idle { IdleUnlessPlayed result self.new }
     {
@@ -47,7 +47,7 @@ impl<S: LockSpace> Player<S> {
     /// Releases tables that were locked before, and locks these, once no transaction is open.
     pub(crate) fn lock_these<'s>(&mut self, space: &mut S, tables: &'s TableLocks) -> Played<'s>
         requires ready { IsReady S.LockSpace space.old self.old }
-        ensures run { IsPlayed S.joins (lock_tables_after_commit tables.now) space.old self.old result space.new self.new }
+        ensures run { IsPlayed S.LockSpace (lock_tables_after_commit tables.now) space.old self.old result space.new self.new }
         ensures goes_on { GoesOn S.LockSpace space.old self.old space.new self.new }
         ensures idle { IdleUnlessPlayed result self.new }
     {
@@ -66,7 +66,7 @@ impl<S: LockSpace> Player<S> {
         locks: LockList,
     ) -> Played<'s>
         requires ready { IsReady S.LockSpace space.old self.old }
-        ensures run { IsPlayed S.joins (lock_rest locks (lock_named tables.now)) space.old self.old result space.new self.new }
+        ensures run { IsPlayed S.LockSpace (lock_rest locks (lock_named tables.now)) space.old self.old result space.new self.new }
         ensures goes_on { GoesOn S.LockSpace space.old self.old space.new self.new }
         ensures idle { IdleUnlessPlayed result self.new }
     {
@@ -87,7 +87,7 @@ impl<S: LockSpace> Player<S> {
         scopes: Vec<TicketId>,
     ) -> Played<'s>
         requires ready { IsReady S.LockSpace space.old self.old }
-        ensures run { IsPlayed S.joins (lock_named tables.now scopes.items) space.old self.old result space.new self.new }
+        ensures run { IsPlayed S.LockSpace (lock_named tables.now scopes.items) space.old self.old result space.new self.new }
         ensures goes_on { GoesOn S.LockSpace space.old self.old space.new self.new }
         ensures idle { IdleUnlessPlayed result self.new }
     {
@@ -106,7 +106,7 @@ impl<S: LockSpace> Player<S> {
         locks: LockList,
     ) -> Played<'s>
         requires ready { IsReady S.LockSpace space.old self.old }
-        ensures run { IsPlayed S.joins (lock_rest_by (table_lock tables.now) locks (keep_locked tables.now locks.keys scopes.items)) space.old self.old result space.new self.new }
+        ensures run { IsPlayed S.LockSpace (lock_rest_by (table_lock tables.now) locks (keep_locked tables.now locks.keys scopes.items)) space.old self.old result space.new self.new }
         ensures goes_on { GoesOn S.LockSpace space.old self.old space.new self.new }
         ensures idle { IdleUnlessPlayed result self.new }
     {
@@ -132,7 +132,7 @@ impl<S: LockSpace> Player<S> {
         locks: LockList,
     ) -> Ending
         requires ready { IsReady S.LockSpace space.old self.old }
-        ensures run { IsPlayed S.joins (keep_locked tables.now locks.keys scopes.items locks.tickets) space.old self.old (played.Ends result) space.new self.new }
+        ensures run { IsPlayed S.LockSpace (keep_locked tables.now locks.keys scopes.items locks.tickets) space.old self.old (played.Ends result) space.new self.new }
         ensures goes_on { GoesOn S.LockSpace space.old self.old space.new self.new }
         ensures idle { self.new.context.wait ≡ None }
     {
@@ -159,7 +159,7 @@ impl<S: LockSpace> Player<S> {
         ticket: TicketId,
     ) -> Played<'s>
         requires ready { IsReady S.LockSpace space.old self.old }
-        ensures run { IsPlayed S.joins (rest_of_locking tables.now at ticket) space.old self.old result space.new self.new }
+        ensures run { IsPlayed S.LockSpace (rest_of_locking tables.now at ticket) space.old self.old result space.new self.new }
         ensures goes_on { GoesOn S.LockSpace space.old self.old space.new self.new }
         ensures idle { IdleUnlessPlayed result self.new }
     {

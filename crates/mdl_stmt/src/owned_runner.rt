@@ -2,7 +2,7 @@
 ghost use Rattle.std.specs.Prelude.{◌≡◌, None, IfOk, IsSome, is_some, []};
 ghost use Rattle.mdl_calls.specs.Words.{Runs};
 ghost use Rattle.mdl_context.specs.Contexts.{Attends, LeavesOthers};
-ghost use Rattle.mdl_stmt.specs.Attendance.{AttendsWith, IsCapacity};
+ghost use Rattle.mdl_stmt.specs.Attendance.{AttendsWith, IsCapacity, cached};
 ghost use Rattle.mdl_stmt.specs.Gets.{ran};
 ghost use Rattle.mdl_rows.specs.Keepings.{going_on_kept, starting_kept};
 ghost use Rattle.mdl_stmt.specs.KeptStages.{session_kept};
@@ -66,6 +66,7 @@ impl<S: LockSpace> OwnedRunner<S> {
         requires attends { AttendsWith S.LockSpace space.old self.old.context self.old.cache }
         requires idle { self.old.work ≡ None }
         ensures run { Runs S.joins space.old (starting_kept statement.now (session_kept self.old)) (ran result (session_kept self.new)) space.new }
+        ensures reads { Runs (cached S.LockSpace) (space.old, self.old.cache) (starting_kept statement.now (session_kept self.old)) (ran result (session_kept self.new)) (space.new, self.new.cache) }
         ensures attends { AttendsWith S.LockSpace space.new self.new.context self.new.cache }
         ensures others { LeavesOthers S.LockSpace self.old.context.who space.old space.new }
         ensures who { self.new.context.who ≡ self.old.context.who }
@@ -83,6 +84,7 @@ impl<S: LockSpace> OwnedRunner<S> {
         requires attends { AttendsWith S.LockSpace space.old self.old.context self.old.cache }
         requires waits { IsSome self.old.work }
         ensures run { Runs S.joins space.old (going_on_kept (session_kept self.old)) (ran result (session_kept self.new)) space.new }
+        ensures reads { Runs (cached S.LockSpace) (space.old, self.old.cache) (going_on_kept (session_kept self.old)) (ran result (session_kept self.new)) (space.new, self.new.cache) }
         ensures attends { AttendsWith S.LockSpace space.new self.new.context self.new.cache }
         ensures others { LeavesOthers S.LockSpace self.old.context.who space.old space.new }
         ensures who { self.new.context.who ≡ self.old.context.who }

@@ -1,7 +1,7 @@
 //! How statements are performed, continued and ended.
 ghost use Rattle.std.specs.Prelude.{◌≡◌, None, Ok};
 ghost use Rattle.mdl_calls.specs.Words.{Runs};
-ghost use Rattle.mdl_stmt.specs.Attendance.{GoesOn, IsReady};
+ghost use Rattle.mdl_stmt.specs.Attendance.{GoesOn, IsReady, cached};
 ghost use Rattle.mdl_context.specs.Releases.{giving_up};
 ghost use Rattle.mdl_rows.specs.Endings.{closing, gone_at};
 ghost use Rattle.mdl_stmt.specs.Gets.{at_rest, ran, IsPlayed, IdleUnlessPlayed};
@@ -22,7 +22,7 @@ impl<S: LockSpace> Player<S> {
     /// Performs a statement, up to its end or to a wait.
     pub(crate) fn perform<'s>(&mut self, space: &mut S, statement: &'s Statement) -> Played<'s>
         requires ready { IsReady S.LockSpace space.old self.old }
-        ensures run { IsPlayed S.joins (row_of statement.now) space.old self.old result space.new self.new }
+        ensures run { IsPlayed S.LockSpace (row_of statement.now) space.old self.old result space.new self.new }
         ensures goes_on { GoesOn S.LockSpace space.old self.old space.new self.new }
         ensures idle { IdleUnlessPlayed result self.new }
     {
@@ -62,7 +62,7 @@ impl<S: LockSpace> Player<S> {
     // tables, and commits an open transaction first.
     fn define<'s>(&mut self, space: &mut S, statement: &'s Statement) -> Played<'s>
         requires ready { IsReady S.LockSpace space.old self.old }
-        ensures run { IsPlayed S.joins (ddl_first (after_commit statement.now)) space.old self.old result space.new self.new }
+        ensures run { IsPlayed S.LockSpace (ddl_first (after_commit statement.now)) space.old self.old result space.new self.new }
         ensures goes_on { GoesOn S.LockSpace space.old self.old space.new self.new }
         ensures idle { IdleUnlessPlayed result self.new }
     {
@@ -83,7 +83,7 @@ impl<S: LockSpace> Player<S> {
         ticket: TicketId,
     ) -> Played<'s>
         requires ready { IsReady S.LockSpace space.old self.old }
-        ensures run { IsPlayed S.joins (rest_of stage.entry ticket) space.old self.old result space.new self.new }
+        ensures run { IsPlayed S.LockSpace (rest_of stage.entry ticket) space.old self.old result space.new self.new }
         ensures goes_on { GoesOn S.LockSpace space.old self.old space.new self.new }
         ensures idle { IdleUnlessPlayed result self.new }
     {
@@ -114,7 +114,7 @@ impl<S: LockSpace> Player<S> {
         mark: Mark,
     ) -> Result<Progress, OutOfMemory>
         requires ready { IsReady S.LockSpace space.old self.old }
-        ensures run { Runs S.joins space.old (closing ending mark (at_rest self.old)) (ran result (at_rest self.new)) space.new }
+        ensures run { Runs (cached S.LockSpace) (space.old, self.old.cache) (closing ending mark (at_rest self.old)) (ran result (at_rest self.new)) (space.new, self.new.cache) }
         ensures goes_on { GoesOn S.LockSpace space.old self.old space.new self.new }
         ensures idle { self.new.context.wait ≡ None }
     {
@@ -140,6 +140,7 @@ impl<S: LockSpace> Player<S> {
         ensures goes_on { GoesOn S.LockSpace space.old self.old space.new self.new }
         ensures idle { self.new.context.wait ≡ None }
         ensures state { self.new.state ≡ self.old.state }
+        ensures cache { self.new.cache ≡ self.old.cache }
     {
         match ending {
             Ending::Answers(_) if self.is_open => self.context.finish_statement(space),

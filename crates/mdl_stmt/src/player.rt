@@ -64,7 +64,7 @@ impl<S: LockSpace> Player<S> {
     /// Gets a lock, or begins to wait for it.
     pub(crate) fn get(&mut self, space: &mut S, request: Request<'_>) -> Got<TicketId>
         requires ready { IsReady S.LockSpace space.old self.old }
-        ensures run { IsGot S.joins (wish_of request.entry) space.old self.old result space.new self.new }
+        ensures run { IsGot S.LockSpace (wish_of request.entry) space.old self.old result space.new self.new }
         ensures goes_on { GoesOn S.LockSpace space.old self.old space.new self.new }
         ensures idle { IdleUnlessGot result self.new }
     {
@@ -82,7 +82,7 @@ impl<S: LockSpace> Player<S> {
         request: Request<'_>,
     ) -> Result<Option<TicketId>, Ending>
         requires ready { IsReady S.LockSpace space.old self.old }
-        ensures run { IsStep S.joins (Try_acquire (wish_of request.entry) Give) space.old self.old result space.new self.new }
+        ensures run { IsStep S.LockSpace (Try_acquire (wish_of request.entry) Give) space.old self.old result space.new self.new }
         ensures goes_on { GoesOn S.LockSpace space.old self.old space.new self.new }
         ensures idle { self.new.context.wait ≡ None }
     {
@@ -102,7 +102,7 @@ impl<S: LockSpace> Player<S> {
         mode: Mode,
     ) -> Got<TicketId>
         requires ready { IsReady S.LockSpace space.old self.old }
-        ensures run { IsRaised S.joins ticket key.now mode space.old self.old result space.new self.new }
+        ensures run { IsRaised S.LockSpace ticket key.now mode space.old self.old result space.new self.new }
         ensures goes_on { GoesOn S.LockSpace space.old self.old space.new self.new }
         ensures idle { IdleUnlessGot result self.new }
     {
@@ -116,7 +116,7 @@ impl<S: LockSpace> Player<S> {
     /// Downgrades a ticket to a weaker mode.
     pub(crate) fn lower(&mut self, space: &mut S, ticket: TicketId, mode: Mode)
         requires ready { IsReady S.LockSpace space.old self.old }
-        ensures run { IsStep S.joins (downgrade ticket mode) space.old self.old (Ok tt) space.new self.new }
+        ensures run { IsStep S.LockSpace (downgrade ticket mode) space.old self.old (Ok tt) space.new self.new }
         ensures goes_on { GoesOn S.LockSpace space.old self.old space.new self.new }
         ensures idle { self.new.context.wait ≡ None }
     {
@@ -126,7 +126,7 @@ impl<S: LockSpace> Player<S> {
     /// Returns that a wait has begun, or gives up the wait if memory runs out for a copy of the key.
     pub(crate) fn tell_wait(&mut self, space: &mut S, key: &Key) -> Got<TicketId>
         requires attends { AttendsWith S.LockSpace space.old self.old.context self.old.cache }
-        ensures run { IsTold S.joins key.now space.old self.old result space.new self.new }
+        ensures run { IsTold S.LockSpace key.now space.old self.old result space.new self.new }
         ensures goes_on { GoesOn S.LockSpace space.old self.old space.new self.new }
         ensures idle { IdleUnlessGot result self.new }
     {
@@ -142,7 +142,7 @@ impl<S: LockSpace> Player<S> {
     /// Gives up a wait that can't be reported or kept. A ticket that it had gained is released.
     pub(crate) fn drop_wait(&mut self, space: &mut S)
         requires attends { AttendsWith S.LockSpace space.old self.old.context self.old.cache }
-        ensures run { IsDropped S.joins space.old self.old space.new self.new }
+        ensures run { IsDropped S.LockSpace space.old self.old space.new self.new }
         ensures goes_on { GoesOn S.LockSpace space.old self.old space.new self.new }
         ensures idle { self.new.context.wait ≡ None }
     {

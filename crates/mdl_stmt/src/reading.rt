@@ -26,7 +26,7 @@ impl<S: LockSpace> Player<S> {
     /// The version and definition of a ticket's key. They may come from the cache.
     pub(crate) fn read(&mut self, space: &mut S, ticket: TicketId) -> Result<Standing, Ending>
         requires ready { IsReady S.LockSpace space.old self.old }
-        ensures run { IsStep S.joins (read ticket) space.old self.old result space.new self.new }
+        ensures run { IsStep S.LockSpace (read ticket) space.old self.old result space.new self.new }
         ensures goes_on { GoesOn S.LockSpace space.old self.old space.new self.new }
         ensures idle { self.new.context.wait ≡ None }
     {
@@ -44,7 +44,7 @@ impl<S: LockSpace> Player<S> {
         change: &Change,
     ) -> Result<(), Ending>
         requires ready { IsReady S.LockSpace space.old self.old }
-        ensures run { IsStep S.joins (redefine ticket change.now) space.old self.old result space.new self.new }
+        ensures run { IsStep S.LockSpace (redefine ticket change.now) space.old self.old result space.new self.new }
         ensures goes_on { GoesOn S.LockSpace space.old self.old space.new self.new }
         ensures idle { self.new.context.wait ≡ None }
     {
@@ -57,7 +57,7 @@ impl<S: LockSpace> Player<S> {
     /// The places of a schema's tables that have a definition, in key order.
     pub(crate) fn tables_of(&mut self, space: &mut S, schema: &str) -> Result<Vec<Place>, Ending>
         requires ready { IsReady S.LockSpace space.old self.old }
-        ensures run { IsStep S.joins (tables_within schema.now) space.old self.old (items_told result) space.new self.new }
+        ensures run { IsStep S.LockSpace (tables_within schema.now) space.old self.old (items_told result) space.new self.new }
         ensures goes_on { GoesOn S.LockSpace space.old self.old space.new self.new }
         ensures idle { self.new.context.wait ≡ None }
     {
@@ -70,7 +70,7 @@ impl<S: LockSpace> Player<S> {
     /// The key of a place.
     pub(crate) fn key_of(&mut self, space: &mut S, place: Place) -> Result<Key, Ending>
         requires ready { IsReady S.LockSpace space.old self.old }
-        ensures run { IsStep S.joins (key_of place) space.old self.old result space.new self.new }
+        ensures run { IsStep S.LockSpace (key_of place) space.old self.old result space.new self.new }
         ensures goes_on { GoesOn S.LockSpace space.old self.old space.new self.new }
         ensures idle { self.new.context.wait ≡ None }
     {
@@ -83,7 +83,7 @@ impl<S: LockSpace> Player<S> {
     /// Kills the wait of a session, if it has one.
     pub(crate) fn kill(&mut self, space: &mut S, target: u16)
         requires ready { IsReady S.LockSpace space.old self.old }
-        ensures run { IsStep S.joins (kill target) space.old self.old (Ok tt) space.new self.new }
+        ensures run { IsStep S.LockSpace (kill target) space.old self.old (Ok tt) space.new self.new }
         ensures goes_on { GoesOn S.LockSpace space.old self.old space.new self.new }
         ensures idle { self.new.context.wait ≡ None }
     {
@@ -95,7 +95,7 @@ impl<S: LockSpace> Player<S> {
     /// The version and definition of a table, by its ticket. Fails if there is no such table.
     pub(crate) fn exists(&mut self, space: &mut S, ticket: TicketId) -> Result<Standing, Ending>
         requires ready { IsReady S.LockSpace space.old self.old }
-        ensures run { IsStep S.joins (exists ticket) space.old self.old result space.new self.new }
+        ensures run { IsStep S.LockSpace (exists ticket) space.old self.old result space.new self.new }
         ensures goes_on { GoesOn S.LockSpace space.old self.old space.new self.new }
         ensures idle { self.new.context.wait ≡ None }
     {
@@ -118,7 +118,7 @@ impl<S: LockSpace> Player<S> {
         ticket: TicketId,
     ) -> Result<TablesShown, Ending>
         requires ready { IsReady S.LockSpace space.old self.old }
-        ensures run { IsStep S.joins (show shown table.now ticket) space.old self.old result space.new self.new }
+        ensures run { IsStep S.LockSpace (show shown table.now ticket) space.old self.old result space.new self.new }
         ensures goes_on { GoesOn S.LockSpace space.old self.old space.new self.new }
         ensures idle { self.new.context.wait ≡ None }
     {

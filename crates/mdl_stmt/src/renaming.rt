@@ -27,7 +27,7 @@ impl<S: LockSpace> Player<S> {
     /// Renames a table, once no transaction is open.
     pub(crate) fn rename<'s>(&mut self, space: &mut S, from: &'s Key, to: &'s Key) -> Played<'s>
         requires ready { IsReady S.LockSpace space.old self.old }
-        ensures run { IsPlayed S.joins (rename_after_commit from.now to.now) space.old self.old result space.new self.new }
+        ensures run { IsPlayed S.LockSpace (rename_after_commit from.now to.now) space.old self.old result space.new self.new }
         ensures goes_on { GoesOn S.LockSpace space.old self.old space.new self.new }
         ensures idle { IdleUnlessPlayed result self.new }
     {
@@ -49,7 +49,7 @@ impl<S: LockSpace> Player<S> {
         locks: LockList,
     ) -> Played<'s>
         requires ready { IsReady S.LockSpace space.old self.old }
-        ensures run { IsPlayed S.joins (rename_scopes from.now to.now locks locks.keys) space.old self.old result space.new self.new }
+        ensures run { IsPlayed S.LockSpace (rename_scopes from.now to.now locks locks.keys) space.old self.old result space.new self.new }
         ensures goes_on { GoesOn S.LockSpace space.old self.old space.new self.new }
         ensures idle { IdleUnlessPlayed result self.new }
     {
@@ -72,7 +72,7 @@ impl<S: LockSpace> Player<S> {
         scopes: &LockList,
     ) -> Played<'s>
         requires ready { IsReady S.LockSpace space.old self.old }
-        ensures run { IsPlayed S.joins (lock_and_rename from.now to.now (ticket_of (schema_of to.now) scopes.now.keys scopes.now.tickets)) space.old self.old result space.new self.new }
+        ensures run { IsPlayed S.LockSpace (lock_and_rename from.now to.now (ticket_of (schema_of to.now) scopes.now.keys scopes.now.tickets)) space.old self.old result space.new self.new }
         ensures goes_on { GoesOn S.LockSpace space.old self.old space.new self.new }
         ensures idle { IdleUnlessPlayed result self.new }
     {
@@ -99,7 +99,7 @@ impl<S: LockSpace> Player<S> {
         locks: LockList,
     ) -> Played<'s>
         requires ready { IsReady S.LockSpace space.old self.old }
-        ensures run { IsPlayed S.joins (rename_names from.now to.now schema locks locks.keys) space.old self.old result space.new self.new }
+        ensures run { IsPlayed S.LockSpace (rename_names from.now to.now schema locks locks.keys) space.old self.old result space.new self.new }
         ensures goes_on { GoesOn S.LockSpace space.old self.old space.new self.new }
         ensures idle { IdleUnlessPlayed result self.new }
     {
@@ -124,7 +124,7 @@ impl<S: LockSpace> Player<S> {
         to: TicketId,
     ) -> Played<'s>
         requires ready { IsReady S.LockSpace space.old self.old }
-        ensures run { IsPlayed S.joins (rename_under schema from to) space.old self.old result space.new self.new }
+        ensures run { IsPlayed S.LockSpace (rename_under schema from to) space.old self.old result space.new self.new }
         ensures goes_on { GoesOn S.LockSpace space.old self.old space.new self.new }
         ensures idle { IdleUnlessPlayed result self.new }
     {
@@ -144,7 +144,7 @@ impl<S: LockSpace> Player<S> {
     /// Checks that there is no table of a name.
     fn is_free(&mut self, space: &mut S, ticket: TicketId) -> Result<(), Ending>
         requires ready { IsReady S.LockSpace space.old self.old }
-        ensures run { IsStep S.joins (is_free ticket) space.old self.old result space.new self.new }
+        ensures run { IsStep S.LockSpace (is_free ticket) space.old self.old result space.new self.new }
         ensures goes_on { GoesOn S.LockSpace space.old self.old space.new self.new }
         ensures idle { self.new.context.wait ≡ None }
     {
@@ -162,7 +162,7 @@ impl<S: LockSpace> Player<S> {
     /// The definition of a table. Fails if there is no such table.
     fn definition_under(&mut self, space: &mut S, ticket: TicketId) -> Result<Definition, Ending>
         requires ready { IsReady S.LockSpace space.old self.old }
-        ensures run { IsStep S.joins (definition_under ticket) space.old self.old result space.new self.new }
+        ensures run { IsStep S.LockSpace (definition_under ticket) space.old self.old result space.new self.new }
         ensures goes_on { GoesOn S.LockSpace space.old self.old space.new self.new }
         ensures idle { self.new.context.wait ≡ None }
     {
@@ -181,7 +181,7 @@ impl<S: LockSpace> Player<S> {
         to: TicketId,
     ) -> Played<'s>
         requires ready { IsReady S.LockSpace space.old self.old }
-        ensures run { IsPlayed S.joins (move_definition definition from to) space.old self.old result space.new self.new }
+        ensures run { IsPlayed S.LockSpace (move_definition definition from to) space.old self.old result space.new self.new }
         ensures goes_on { GoesOn S.LockSpace space.old self.old space.new self.new }
         ensures idle { IdleUnlessPlayed result self.new }
     {
@@ -207,7 +207,7 @@ impl<S: LockSpace> Player<S> {
         ticket: TicketId,
     ) -> Played<'s>
         requires ready { IsReady S.LockSpace space.old self.old }
-        ensures run { IsPlayed S.joins (rest_of_renaming from.now to.now at ticket) space.old self.old result space.new self.new }
+        ensures run { IsPlayed S.LockSpace (rest_of_renaming from.now to.now at ticket) space.old self.old result space.new self.new }
         ensures goes_on { GoesOn S.LockSpace space.old self.old space.new self.new }
         ensures idle { IdleUnlessPlayed result self.new }
     {

@@ -21,7 +21,7 @@ impl<S: LockSpace> Player<S> {
     /// Reads tables, each under its lock.
     pub(crate) fn select<'s>(&mut self, space: &mut S, tables: &'s [Key]) -> Played<'s>
         requires ready { IsReady S.LockSpace space.old self.old }
-        ensures run { IsPlayed S.joins (select tables.now) space.old self.old result space.new self.new }
+        ensures run { IsPlayed S.LockSpace (select tables.now) space.old self.old result space.new self.new }
         ensures goes_on { GoesOn S.LockSpace space.old self.old space.new self.new }
         ensures idle { IdleUnlessPlayed result self.new }
     {
@@ -35,7 +35,7 @@ impl<S: LockSpace> Player<S> {
     /// Shows tables that are locked already.
     fn show_locked(&mut self, space: &mut S, tables: &[Key]) -> Ending
         requires ready { IsReady S.LockSpace space.old self.old }
-        ensures run { IsPlayed S.joins (show_all lock_held [] tables.now) space.old self.old (played.Ends result) space.new self.new }
+        ensures run { IsPlayed S.LockSpace (show_all lock_held [] tables.now) space.old self.old (played.Ends result) space.new self.new }
         ensures goes_on { GoesOn S.LockSpace space.old self.old space.new self.new }
         ensures idle { self.new.context.wait ≡ None }
     {
@@ -57,7 +57,7 @@ impl<S: LockSpace> Player<S> {
         table: &Key,
     ) -> Result<TablesShown, Ending>
         requires ready { IsReady S.LockSpace space.old self.old }
-        ensures run { IsStep S.joins (show_held shown table.now) space.old self.old result space.new self.new }
+        ensures run { IsStep S.LockSpace (show_held shown table.now) space.old self.old result space.new self.new }
         ensures goes_on { GoesOn S.LockSpace space.old self.old space.new self.new }
         ensures idle { self.new.context.wait ≡ None }
     {
@@ -77,7 +77,7 @@ impl<S: LockSpace> Player<S> {
         from: usize,
     ) -> Played<'s>
         requires ready { IsReady S.LockSpace space.old self.old }
-        ensures run { IsPlayed S.joins (show_all lock_to_read shown (drop from tables.now)) space.old self.old result space.new self.new }
+        ensures run { IsPlayed S.LockSpace (show_all lock_to_read shown (drop from tables.now)) space.old self.old result space.new self.new }
         ensures goes_on { GoesOn S.LockSpace space.old self.old space.new self.new }
         ensures idle { IdleUnlessPlayed result self.new }
     {
@@ -114,7 +114,7 @@ impl<S: LockSpace> Player<S> {
         ticket: TicketId,
     ) -> Played<'s>
         requires ready { IsReady S.LockSpace space.old self.old }
-        ensures run { IsPlayed S.joins (show_next shown (drop at tables.now) ticket) space.old self.old result space.new self.new }
+        ensures run { IsPlayed S.LockSpace (show_next shown (drop at tables.now) ticket) space.old self.old result space.new self.new }
         ensures goes_on { GoesOn S.LockSpace space.old self.old space.new self.new }
         ensures idle { IdleUnlessPlayed result self.new }
     {
@@ -135,7 +135,7 @@ impl<S: LockSpace> Player<S> {
         priority: Priority,
     ) -> Played<'s>
         requires ready { IsReady S.LockSpace space.old self.old }
-        ensures run { IsPlayed S.joins (write table.now priority) space.old self.old result space.new self.new }
+        ensures run { IsPlayed S.LockSpace (write table.now priority) space.old self.old result space.new self.new }
         ensures goes_on { GoesOn S.LockSpace space.old self.old space.new self.new }
         ensures idle { IdleUnlessPlayed result self.new }
     {
@@ -151,7 +151,7 @@ impl<S: LockSpace> Player<S> {
     /// Writes to a table that is locked already.
     fn write_locked<'s>(&mut self, space: &mut S, table: &Key) -> Played<'s>
         requires ready { IsReady S.LockSpace space.old self.old }
-        ensures run { IsPlayed S.joins (write_locked table.now) space.old self.old result space.new self.new }
+        ensures run { IsPlayed S.LockSpace (write_locked table.now) space.old self.old result space.new self.new }
         ensures goes_on { GoesOn S.LockSpace space.old self.old space.new self.new }
         ensures idle { IdleUnlessPlayed result self.new }
     {
@@ -167,7 +167,7 @@ impl<S: LockSpace> Player<S> {
     /// Gets the GLOBAL lock, and writes to a table.
     fn lock_writes<'s>(&mut self, space: &mut S, table: &'s Key, priority: Priority) -> Played<'s>
         requires ready { IsReady S.LockSpace space.old self.old }
-        ensures run { IsPlayed S.joins (lock_writes table.now priority) space.old self.old result space.new self.new }
+        ensures run { IsPlayed S.LockSpace (lock_writes table.now priority) space.old self.old result space.new self.new }
         ensures goes_on { GoesOn S.LockSpace space.old self.old space.new self.new }
         ensures idle { IdleUnlessPlayed result self.new }
     {
@@ -196,7 +196,7 @@ impl<S: LockSpace> Player<S> {
         priority: Priority,
     ) -> Played<'s>
         requires ready { IsReady S.LockSpace space.old self.old }
-        ensures run { IsPlayed S.joins (lock_and_write table.now priority) space.old self.old result space.new self.new }
+        ensures run { IsPlayed S.LockSpace (lock_and_write table.now priority) space.old self.old result space.new self.new }
         ensures goes_on { GoesOn S.LockSpace space.old self.old space.new self.new }
         ensures idle { IdleUnlessPlayed result self.new }
     {
@@ -216,7 +216,7 @@ impl<S: LockSpace> Player<S> {
     /// Writes to a table under its lock.
     pub(crate) fn write_under<'s>(&mut self, space: &mut S, ticket: TicketId) -> Played<'s>
         requires ready { IsReady S.LockSpace space.old self.old }
-        ensures run { IsPlayed S.joins (write_under ticket) space.old self.old result space.new self.new }
+        ensures run { IsPlayed S.LockSpace (write_under ticket) space.old self.old result space.new self.new }
         ensures goes_on { GoesOn S.LockSpace space.old self.old space.new self.new }
         ensures idle { IdleUnlessPlayed result self.new }
     {
@@ -229,7 +229,7 @@ impl<S: LockSpace> Player<S> {
     /// Notes that the transaction wrote, or commits a write that is a transaction of its own.
     fn wrote<'s>(&mut self, space: &mut S) -> Played<'s>
         requires ready { IsReady S.LockSpace space.old self.old }
-        ensures run { IsPlayed S.joins wrote space.old self.old result space.new self.new }
+        ensures run { IsPlayed S.LockSpace wrote space.old self.old result space.new self.new }
         ensures goes_on { GoesOn S.LockSpace space.old self.old space.new self.new }
         ensures idle { IdleUnlessPlayed result self.new }
     {
@@ -252,7 +252,7 @@ impl<S: LockSpace> Player<S> {
         ticket: TicketId,
     ) -> Played<'s>
         requires ready { IsReady S.LockSpace space.old self.old }
-        ensures run { IsPlayed S.joins (rest_of_writing at.entry ticket) space.old self.old result space.new self.new }
+        ensures run { IsPlayed S.LockSpace (rest_of_writing at.entry ticket) space.old self.old result space.new self.new }
         ensures goes_on { GoesOn S.LockSpace space.old self.old space.new self.new }
         ensures idle { IdleUnlessPlayed result self.new }
     {

@@ -2,7 +2,7 @@
 ghost use Rattle.std.specs.Prelude.{◌≡◌, None, IfOk, IsSome, IfSome, is_some, []};
 ghost use Rattle.mdl_calls.specs.Words.{Runs};
 ghost use Rattle.mdl_context.specs.Contexts.{Attends, LeavesOthers};
-ghost use Rattle.mdl_stmt.specs.Attendance.{AttendsWith, GoesOn, IsCapacity, IsReady};
+ghost use Rattle.mdl_stmt.specs.Attendance.{AttendsWith, GoesOn, IsCapacity, IsReady, cached};
 ghost use Rattle.mdl_rows.specs.Endings.{closing};
 ghost use Rattle.mdl_stmt.specs.Gets.{ran};
 ghost use Rattle.mdl_rows.specs.Leavings.{leaving};
@@ -76,6 +76,7 @@ impl<'s, S: LockSpace> Runner<'s, S> {
         requires attends { AttendsWith S.LockSpace space.old self.old.context self.old.cache }
         requires idle { self.old.work ≡ None }
         ensures run { Runs S.joins space.old (starting statement.now (session_of self.old)) (ran result (session_of self.new)) space.new }
+        ensures reads { Runs (cached S.LockSpace) (space.old, self.old.cache) (starting statement.now (session_of self.old)) (ran result (session_of self.new)) (space.new, self.new.cache) }
         ensures attends { AttendsWith S.LockSpace space.new self.new.context self.new.cache }
         ensures others { LeavesOthers S.LockSpace self.old.context.who space.old space.new }
         ensures who { self.new.context.who ≡ self.old.context.who }
@@ -96,6 +97,7 @@ impl<'s, S: LockSpace> Runner<'s, S> {
         requires attends { AttendsWith S.LockSpace space.old self.old.context self.old.cache }
         requires waits { IsSome self.old.work }
         ensures run { Runs S.joins space.old (going_on (session_of self.old)) (ran result (session_of self.new)) space.new }
+        ensures reads { Runs (cached S.LockSpace) (space.old, self.old.cache) (going_on (session_of self.old)) (ran result (session_of self.new)) (space.new, self.new.cache) }
         ensures attends { AttendsWith S.LockSpace space.new self.new.context self.new.cache }
         ensures others { LeavesOthers S.LockSpace self.old.context.who space.old space.new }
         ensures who { self.new.context.who ≡ self.old.context.who }
@@ -131,7 +133,7 @@ impl<'s, S: LockSpace> Runner<'s, S> {
     fn end_with(&mut self, space: &mut S, ending: Ending) -> Result<Progress, OutOfMemory>
         requires ready { IsReady S.LockSpace space.old (player_in self.old) }
         requires waited { IsSome self.old.work }
-        ensures run { IfSome self.old.work (λ work. Runs S.joins space.old (closing ending work.mark (session_of self.old)) (ran result (session_of self.new)) space.new) }
+        ensures run { IfSome self.old.work (λ work. Runs (cached S.LockSpace) (space.old, self.old.cache) (closing ending work.mark (session_of self.old)) (ran result (session_of self.new)) (space.new, self.new.cache)) }
         ensures goes_on { GoesOn S.LockSpace space.old (player_in self.old) space.new (player_in self.new) }
     {
         let work = self.work.take().unwrap();
@@ -142,7 +144,7 @@ impl<'s, S: LockSpace> Runner<'s, S> {
     fn go_on_with(&mut self, space: &mut S, ticket: TicketId) -> Result<Progress, OutOfMemory>
         requires ready { IsReady S.LockSpace space.old (player_in self.old) }
         requires waited { IsSome self.old.work }
-        ensures run { IfSome self.old.work (λ work. Runs S.joins space.old (play (rest_of work.stage ticket) work.mark (session_of (record self.old { work = None }))) (ran result (session_of self.new)) space.new) }
+        ensures run { IfSome self.old.work (λ work. Runs (cached S.LockSpace) (space.old, self.old.cache) (play (rest_of work.stage ticket) work.mark (session_of (record self.old { work = None }))) (ran result (session_of self.new)) (space.new, self.new.cache)) }
         ensures goes_on { GoesOn S.LockSpace space.old (player_in self.old) space.new (player_in self.new) }
     {
         let Work { stage, mark } = self.work.take().unwrap();

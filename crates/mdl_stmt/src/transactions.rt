@@ -19,7 +19,7 @@ impl<S: LockSpace> Player<S> {
     /// Ends the transaction: releases its tickets, and those of the statement.
     pub(crate) fn end_transaction(&mut self, space: &mut S)
         requires ready { IsReady S.LockSpace space.old self.old }
-        ensures run { IsStep S.joins end_transaction space.old self.old (Ok tt) space.new self.new }
+        ensures run { IsStep S.LockSpace end_transaction space.old self.old (Ok tt) space.new self.new }
         ensures goes_on { GoesOn S.LockSpace space.old self.old space.new self.new }
         ensures idle { self.new.context.wait ≡ None }
     {
@@ -32,7 +32,7 @@ impl<S: LockSpace> Player<S> {
     /// Ends the transaction under the COMMIT lock, and then releases that lock.
     pub(crate) fn end_under(&mut self, space: &mut S, lock: TicketId)
         requires ready { IsReady S.LockSpace space.old self.old }
-        ensures run { IsStep S.joins (end_under lock) space.old self.old (Ok tt) space.new self.new }
+        ensures run { IsStep S.LockSpace (end_under lock) space.old self.old (Ok tt) space.new self.new }
         ensures goes_on { GoesOn S.LockSpace space.old self.old space.new self.new }
         ensures idle { self.new.context.wait ≡ None }
     {
@@ -43,7 +43,7 @@ impl<S: LockSpace> Player<S> {
     /// Commits a transaction that wrote.
     pub(crate) fn commit_writes(&mut self, space: &mut S) -> Got<()>
         requires ready { IsReady S.LockSpace space.old self.old }
-        ensures run { IsCommitted S.joins commit_writes space.old self.old result space.new self.new }
+        ensures run { IsCommitted S.LockSpace commit_writes space.old self.old result space.new self.new }
         ensures goes_on { GoesOn S.LockSpace space.old self.old space.new self.new }
         ensures idle { IdleUnlessGot result self.new }
     {
@@ -66,7 +66,7 @@ impl<S: LockSpace> Player<S> {
     /// Commits an open transaction.
     fn commit(&mut self, space: &mut S) -> Got<()>
         requires ready { IsReady S.LockSpace space.old self.old }
-        ensures run { IsCommitted S.joins commit space.old self.old result space.new self.new }
+        ensures run { IsCommitted S.LockSpace commit space.old self.old result space.new self.new }
         ensures goes_on { GoesOn S.LockSpace space.old self.old space.new self.new }
         ensures idle { IdleUnlessGot result self.new }
     {
@@ -83,7 +83,7 @@ impl<S: LockSpace> Player<S> {
     /// Commits an open transaction, and then performs the rest of the statement.
     pub(crate) fn commit_first<'s>(&mut self, space: &mut S, statement: &'s Statement) -> Played<'s>
         requires ready { IsReady S.LockSpace space.old self.old }
-        ensures run { IsPlayed S.joins (commit_first (after_commit statement.now)) space.old self.old result space.new self.new }
+        ensures run { IsPlayed S.LockSpace (commit_first (after_commit statement.now)) space.old self.old result space.new self.new }
         ensures goes_on { GoesOn S.LockSpace space.old self.old space.new self.new }
         ensures idle { IdleUnlessPlayed result self.new }
     {
@@ -97,7 +97,7 @@ impl<S: LockSpace> Player<S> {
     /// Performs the rest of a statement once an open transaction is committed.
     pub(crate) fn after_commit<'s>(&mut self, space: &mut S, statement: &'s Statement) -> Played<'s>
         requires ready { IsReady S.LockSpace space.old self.old }
-        ensures run { IsPlayed S.joins (after_commit statement.now) space.old self.old result space.new self.new }
+        ensures run { IsPlayed S.LockSpace (after_commit statement.now) space.old self.old result space.new self.new }
         ensures goes_on { GoesOn S.LockSpace space.old self.old space.new self.new }
         ensures idle { IdleUnlessPlayed result self.new }
     {
@@ -118,7 +118,7 @@ impl<S: LockSpace> Player<S> {
     /// Opens a transaction, and releases locked tables.
     fn begin(&mut self, space: &mut S) -> Ending
         requires ready { IsReady S.LockSpace space.old self.old }
-        ensures run { IsPlayed S.joins begin_after_commit space.old self.old (played.Ends result) space.new self.new }
+        ensures run { IsPlayed S.LockSpace begin_after_commit space.old self.old (played.Ends result) space.new self.new }
         ensures goes_on { GoesOn S.LockSpace space.old self.old space.new self.new }
         ensures idle { self.new.context.wait ≡ None }
     {
@@ -130,7 +130,7 @@ impl<S: LockSpace> Player<S> {
     /// Rolls back an open transaction.
     pub(crate) fn rollback(&mut self, space: &mut S)
         requires ready { IsReady S.LockSpace space.old self.old }
-        ensures run { IsStep S.joins rollback space.old self.old (Ok tt) space.new self.new }
+        ensures run { IsStep S.LockSpace rollback space.old self.old (Ok tt) space.new self.new }
         ensures goes_on { GoesOn S.LockSpace space.old self.old space.new self.new }
         ensures idle { self.new.context.wait ≡ None }
     {
@@ -142,7 +142,7 @@ impl<S: LockSpace> Player<S> {
     /// Saves the session's current mark under a name, if a transaction is open.
     pub(crate) fn save(&mut self, space: &mut S, name: &Name) -> Ending
         requires ready { IsReady S.LockSpace space.old self.old }
-        ensures run { IsPlayed S.joins (save name.now) space.old self.old (played.Ends result) space.new self.new }
+        ensures run { IsPlayed S.LockSpace (save name.now) space.old self.old (played.Ends result) space.new self.new }
         ensures goes_on { GoesOn S.LockSpace space.old self.old space.new self.new }
         ensures idle { self.new.context.wait ≡ None }
     {
@@ -159,7 +159,7 @@ impl<S: LockSpace> Player<S> {
     /// Goes back to the savepoint of a name.
     pub(crate) fn rollback_to(&mut self, space: &mut S, name: &Name) -> Ending
         requires ready { IsReady S.LockSpace space.old self.old }
-        ensures run { IsPlayed S.joins (rollback_to name.now) space.old self.old (played.Ends result) space.new self.new }
+        ensures run { IsPlayed S.LockSpace (rollback_to name.now) space.old self.old (played.Ends result) space.new self.new }
         ensures goes_on { GoesOn S.LockSpace space.old self.old space.new self.new }
         ensures idle { self.new.context.wait ≡ None }
     {

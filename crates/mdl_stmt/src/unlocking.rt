@@ -17,7 +17,7 @@ impl<S: LockSpace> Player<S> {
     /// Releases locked tables, with their scopes.
     pub(crate) fn unlock_tables(&mut self, space: &mut S)
         requires ready { IsReady S.LockSpace space.old self.old }
-        ensures run { IsStep S.joins unlock_tables space.old self.old (Ok tt) space.new self.new }
+        ensures run { IsStep S.LockSpace unlock_tables space.old self.old (Ok tt) space.new self.new }
         ensures goes_on { GoesOn S.LockSpace space.old self.old space.new self.new }
         ensures idle { self.new.context.wait ≡ None }
         ensures unlocked { (self.new.state.locked ≡ []) × (self.new.state.scopes ≡ []) }
@@ -30,7 +30,7 @@ impl<S: LockSpace> Player<S> {
     /// Releases locked tables, and the global read lock.
     pub(crate) fn unlock(&mut self, space: &mut S) -> Ending
         requires ready { IsReady S.LockSpace space.old self.old }
-        ensures run { IsPlayed S.joins unlock space.old self.old (played.Ends result) space.new self.new }
+        ensures run { IsPlayed S.LockSpace unlock space.old self.old (played.Ends result) space.new self.new }
         ensures goes_on { GoesOn S.LockSpace space.old self.old space.new self.new }
         ensures idle { self.new.context.wait ≡ None }
     {
@@ -42,7 +42,7 @@ impl<S: LockSpace> Player<S> {
     /// Releases the global read lock.
     fn give_up_read_lock(&mut self, space: &mut S)
         requires ready { IsReady S.LockSpace space.old self.old }
-        ensures run { IsStep S.joins give_up_read_lock space.old self.old (Ok tt) space.new self.new }
+        ensures run { IsStep S.LockSpace give_up_read_lock space.old self.old (Ok tt) space.new self.new }
         ensures goes_on { GoesOn S.LockSpace space.old self.old space.new self.new }
         ensures idle { self.new.context.wait ≡ None }
     {
@@ -54,7 +54,7 @@ impl<S: LockSpace> Player<S> {
     /// Releases the tickets of a global read lock.
     fn release_read_lock(&mut self, space: &mut S, lock: Option<ReadLock>)
         requires ready { IsReady S.LockSpace space.old self.old }
-        ensures run { IsStep S.joins (release_read_lock lock) space.old self.old (Ok tt) space.new self.new }
+        ensures run { IsStep S.LockSpace (release_read_lock lock) space.old self.old (Ok tt) space.new self.new }
         ensures goes_on { GoesOn S.LockSpace space.old self.old space.new self.new }
         ensures idle { self.new.context.wait ≡ None }
     {
@@ -67,7 +67,7 @@ impl<S: LockSpace> Player<S> {
     /// Releases the ticket of the COMMIT lock, if there is one.
     fn release_commits(&mut self, space: &mut S, commit: Option<TicketId>)
         requires ready { IsReady S.LockSpace space.old self.old }
-        ensures run { IsStep S.joins (release_commits commit) space.old self.old (Ok tt) space.new self.new }
+        ensures run { IsStep S.LockSpace (release_commits commit) space.old self.old (Ok tt) space.new self.new }
         ensures goes_on { GoesOn S.LockSpace space.old self.old space.new self.new }
         ensures idle { self.new.context.wait ≡ None }
     {
@@ -79,7 +79,7 @@ impl<S: LockSpace> Player<S> {
     /// Releases a ticket.
     pub(crate) fn release(&mut self, space: &mut S, ticket: TicketId)
         requires ready { IsReady S.LockSpace space.old self.old }
-        ensures run { IsStep S.joins (release ticket) space.old self.old (Ok tt) space.new self.new }
+        ensures run { IsStep S.LockSpace (release ticket) space.old self.old (Ok tt) space.new self.new }
         ensures goes_on { GoesOn S.LockSpace space.old self.old space.new self.new }
         ensures idle { self.new.context.wait ≡ None }
     {
@@ -90,7 +90,7 @@ impl<S: LockSpace> Player<S> {
 // Releases the tickets of locked tables, one after the other.
 fn release_tables<S: LockSpace>(context: &mut Context<S>, space: &mut S, tables: &[Locked])
     requires ready { IsIdle S.LockSpace space.old context.old }
-    ensures run { (player : PlayerView) → IsStep S.joins (for_each release (map (λ table. table.ticket) tables.now)) space.old (record player { context = context.old }) (Ok tt) space.new (record player { context = context.new }) }
+    ensures run { (player : PlayerView) → IsStep S.LockSpace (for_each release (map (λ table. table.ticket) tables.now)) space.old (record player { context = context.old }) (Ok tt) space.new (record player { context = context.new }) }
     ensures goes_on { ContextGoesOn S.LockSpace space.old context.old space.new context.new }
     ensures idle { context.new.wait ≡ None }
 {
@@ -102,7 +102,7 @@ fn release_tables<S: LockSpace>(context: &mut Context<S>, space: &mut S, tables:
 // Releases tickets, one after the other.
 fn release_each<S: LockSpace>(context: &mut Context<S>, space: &mut S, tickets: &[TicketId])
     requires ready { IsIdle S.LockSpace space.old context.old }
-    ensures run { (player : PlayerView) → IsStep S.joins (for_each release tickets.now) space.old (record player { context = context.old }) (Ok tt) space.new (record player { context = context.new }) }
+    ensures run { (player : PlayerView) → IsStep S.LockSpace (for_each release tickets.now) space.old (record player { context = context.old }) (Ok tt) space.new (record player { context = context.new }) }
     ensures goes_on { ContextGoesOn S.LockSpace space.old context.old space.new context.new }
     ensures idle { context.new.wait ≡ None }
 {

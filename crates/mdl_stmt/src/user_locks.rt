@@ -19,7 +19,7 @@ impl<S: LockSpace> Player<S> {
     /// Locks a name for the session, until the session releases it.
     pub(crate) fn get_lock<'s>(&mut self, space: &mut S, name: &Name) -> Played<'s>
         requires ready { IsReady S.LockSpace space.old self.old }
-        ensures run { IsPlayed S.joins (get_lock name.now) space.old self.old result space.new self.new }
+        ensures run { IsPlayed S.LockSpace (get_lock name.now) space.old self.old result space.new self.new }
         ensures goes_on { GoesOn S.LockSpace space.old self.old space.new self.new }
         ensures idle { IdleUnlessPlayed result self.new }
     {
@@ -41,7 +41,7 @@ impl<S: LockSpace> Player<S> {
     /// Releases the session's last ticket of a name. If it has none, finds out whether another session holds the name.
     pub(crate) fn release_lock(&mut self, space: &mut S, name: &Name) -> Ending
         requires ready { IsReady S.LockSpace space.old self.old }
-        ensures run { IsPlayed S.joins (release_lock name.now) space.old self.old (played.Ends result) space.new self.new }
+        ensures run { IsPlayed S.LockSpace (release_lock name.now) space.old self.old (played.Ends result) space.new self.new }
         ensures goes_on { GoesOn S.LockSpace space.old self.old space.new self.new }
         ensures idle { self.new.context.wait ≡ None }
     {
@@ -61,7 +61,7 @@ impl<S: LockSpace> Player<S> {
     /// releases it at once.
     fn look_for_holder(&mut self, space: &mut S, lock: &Key) -> Ending
         requires ready { IsReady S.LockSpace space.old self.old }
-        ensures run { IsPlayed S.joins (give_back lock.now None) space.old self.old (played.Ends result) space.new self.new }
+        ensures run { IsPlayed S.LockSpace (give_back lock.now None) space.old self.old (played.Ends result) space.new self.new }
         ensures goes_on { GoesOn S.LockSpace space.old self.old space.new self.new }
         ensures idle { self.new.context.wait ≡ None }
     {

@@ -8,6 +8,7 @@ use Rattle.mdl_key.specs.Keys.{KeyName}
 use Rattle.mdl_defs.specs.Caches.{CacheView}
 use Rattle.mdl_calls.specs.Words.{Answer, Call, Done, Unpin, Pending, Poll_wait, Settle_timeout, caller, own_after, Program, Give, Runs, ◌>>◌}
 use Rattle.mdl_calls.proofs.CacheLemmas.{still-met}
+use Rattle.mdl_calls.proofs.CachedRuns.{ReadsNone}
 use Rattle.mdl_calls.proofs.RunLemmas.{runs_bind}
 use Rattle.mdl_calls.specs.declared.lock_space.LockSpace.{Ghosts}
 use Rattle.mdl_context.specs.Contexts.{ContextView, Attends, KeepsMet}
@@ -22,7 +23,7 @@ use Rattle.mdl_stmt.specs.Attendance.{AttendsWith}
 use Rattle.mdl_stmt.specs.Gets.{paused}
 use Rattle.mdl_rows.specs.Leavings.{leaving}
 use Rattle.mdl_rows.specs.Sessions.{Session}
-use Rattle.mdl_work.specs.Paces.{worked_as}
+use Rattle.mdl_work.specs.Paces.{answers_in, worked_as}
 use Rattle.mdl_work.specs.Works.{Worked, behind, finishing, going_further, lines_of, making, noted, starved, waiting_out, while_pending, working, working_off}
 
 -- ---- waits
@@ -37,6 +38,16 @@ pub for_waiting_out : (who polls : ℕ) → IsFor who (waiting_out who polls)
 unfolding waiting_out
 for_waiting_out who zero = (refl, λ answer. tt)
 for_waiting_out who (suc polls) = (refl, for_looked who (waiting_out who polls) (for_waiting_out who polls))
+
+-- and none of them reads with the cache
+unread_looked : (more : Program (Unit {0})) → ReadsNone more → (answer : Answer) → ReadsNone (while_pending more answer)
+unread_looked more made Pending = made
+unread_looked more made answer = tt
+
+pub unread_waiting_out : (who polls : ℕ) → ReadsNone (waiting_out who polls)
+unfolding waiting_out
+unread_waiting_out who zero = (refl, λ answer. tt)
+unread_waiting_out who (suc polls) = (refl, unread_looked (waiting_out who polls) (unread_waiting_out who polls))
 
 module _ {S : Type 0} (joins : S → Call → Answer → S → Type 0) where
   -- the wait isn't settled: it is looked at again
@@ -241,14 +252,17 @@ numbers-on line left rest reply answers whole same so =
 -- there was memory for the cache, lines were worked off, and then all was given up
 pub worked-off : {S E Z : Type 0} (joins : S → Call → Answer → S → Type 0) (patience : ℕ) (lines : List Line) (before after : Session) (result : Result (Vec (ℕ × Reply) Z) E) (a mid b : S) →
     Runs joins a (working patience lines before) (worked_as result after) mid → Runs joins mid (leaving after) tt b →
-    IfOk result (λ answers. Runs joins a (working_off patience lines before) (Some answers.items) b) × OnErr result (Runs joins a (working_off patience lines before) None b)
-worked-off joins patience lines before after (Ok answers) a mid b run left = (
-  inr (runs_bind joins (working patience lines before) (λ (worked : Worked). leaving worked.session >> Give worked.answers) a mid b (record { answers = Some answers.items; session = after }) (Some answers.items) run
-      (runs_bind joins (leaving after) (λ _. Give (Some answers.items)) mid b b tt (Some answers.items) left (refl, refl))),
-  tt,
-)
-worked-off joins patience lines before after (Err error) a mid b run left = (
-  tt,
-  inr (runs_bind joins (working patience lines before) (λ (worked : Worked). leaving worked.session >> Give worked.answers) a mid b (starved after) None run
-      (runs_bind joins (leaving after) (λ _. Give None) mid b b tt None left (refl, refl))),
-)
+    Runs joins a (working_off patience lines before) (answers_in result) b
+worked-off joins patience lines before after (Ok answers) a mid b run left =
+    inr (runs_bind joins (working patience lines before) (λ (worked : Worked). leaving worked.session >> Give worked.answers) a mid b (record { answers = Some answers.items; session = after }) (Some answers.items) run
+    (runs_bind joins (leaving after) (λ _. Give (Some answers.items)) mid b b tt (Some answers.items) left (refl, refl)))
+worked-off joins patience lines before after (Err error) a mid b run left =
+    inr (runs_bind joins (working patience lines before) (λ (worked : Worked). leaving worked.session >> Give worked.answers) a mid b (starved after) None run
+    (runs_bind joins (leaving after) (λ _. Give None) mid b b tt None left (refl, refl)))
+
+-- what was answered, or that memory ran out, as a run over spaces alone
+pub answers-told : {S E Z : Type 0} (joins : S → Call → Answer → S → Type 0) (program : Program (Option (List (ℕ × Reply)))) (result : Result (Vec (ℕ × Reply) Z) E) (a b : S) →
+    Runs joins a program (answers_in result) b →
+    IfOk result (λ answers. Runs joins a program (Some answers.items) b) × OnErr result (Runs joins a program None b)
+answers-told joins program (Ok answers) a b run = (run, tt)
+answers-told joins program (Err error) a b run = (tt, run)

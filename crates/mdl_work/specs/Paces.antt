@@ -1,5 +1,5 @@
 -- How the code's results represent the end of a statement, and of lines.
-use Rattle.std.specs.Prelude.{◌≡◌, ℕ, Some, None, IsSome, Result, Ok, Err, Vec}
+use Rattle.std.specs.Prelude.{◌≡◌, ℕ, List, Option, Some, None, IsSome, Result, Ok, Err, Vec}
 use Rattle.mdl_rows.specs.declared.reply.Reply.{Reply}
 use Rattle.mdl_rows.specs.Endings.{Pause, Ends, Begins_to_wait, Waits_on, Faults}
 use Rattle.mdl_rows.specs.Sessions.{Session}
@@ -14,6 +14,11 @@ came_to (Err _) session = Faults session
 abbrev pub worked_as : {E Z : Type 0} → Result (Vec (ℕ × Reply) Z) E → Session → Worked
 worked_as (Ok answers) session = record { answers = Some answers.items; session = session }
 worked_as (Err _) session = starved session
+
+-- the answers to lines, unless memory ran out
+abbrev pub answers_in : {E Z : Type 0} → Result (Vec (ℕ × Reply) Z) E → Option (List (ℕ × Reply))
+answers_in (Ok answers) = Some answers.items
+answers_in (Err _) = None
 
 -- something is left of a statement exactly if it waits, unless memory ran out
 abbrev pub LeftWhileWaiting : Pause → Type 0

@@ -4,7 +4,8 @@
 use Rattle.std.specs.Prelude.{ℕ, zero, suc, ◌+◌, ◌==◌, List, [], ◌∷◌, filter, Option, Some, None}
 use Rattle.std.specs.Option.{option_map}
 use Rattle.mdl_key.specs.Words.{most_places}
-use Rattle.mdl_calls.specs.Words.{Answer, Pending, Poll_wait, Settle_timeout, Program, Give, Ask, Grow, ◌>>=◌, ◌>>◌}
+use Rattle.mdl_defs.specs.Caches.{CacheView}
+use Rattle.mdl_calls.specs.Words.{Answer, Call, Pending, Poll_wait, Settle_timeout, Program, Give, Ask, Grow, Runs, ◌>>=◌, ◌>>◌}
 use Rattle.mdl_syntax.specs.declared.script.Line.{Line}
 use Rattle.mdl_syntax.specs.declared.statement.Statement.{Statement}
 use Rattle.mdl_rows.specs.declared.reply.Reply.{Reply}
@@ -97,3 +98,7 @@ working patience (line ∷ lines) session = making patience line.statement sessi
 abbrev pub working_off : ℕ → List Line → Session → Program (Option (List (ℕ × Reply)))
 working_off patience lines session =
     Grow (Give None) (working patience lines session >>= (λ worked. leaving worked.session >> Give worked.answers))
+
+-- by such calls with its cache, which is empty at first and has this capacity, a session runs a program from one space to the other
+abbrev pub RunsFromEmpty : {S A : Type 0} → (S × CacheView → Call → Answer → S × CacheView → Type 0) → ℕ → S → Program A → A → S → Type 0
+RunsFromEmpty calls capacity a program reply b = (cache : CacheView) × Runs calls (a, record { kept = []; capacity = capacity }) program reply (b, cache)

@@ -2,7 +2,7 @@
 ghost use Rattle.std.specs.Prelude.{◌≡◌, [], map, None, IsSome, IfOk, OnOk};
 ghost use Rattle.mdl_calls.specs.Words.{Runs};
 ghost use Rattle.mdl_context.specs.Contexts.{Attends, LeavesOthers};
-ghost use Rattle.mdl_stmt.specs.Attendance.{AttendsWith, IsCapacity};
+ghost use Rattle.mdl_stmt.specs.Attendance.{AttendsWith, IsCapacity, cached};
 ghost use Rattle.mdl_stmt.specs.Gets.{paused, ran};
 ghost use Rattle.mdl_rows.specs.Leavings.{leaving};
 ghost use Rattle.mdl_stmt.specs.Stages.{session_of};
@@ -62,7 +62,7 @@ impl<'s, S: LockSpace> Worker<'s, S> {
         requires attends { AttendsWith S.LockSpace space.old self.old.runner.context self.old.runner.cache }
         requires who { self.old.runner.context.who ≡ self.old.who }
         requires idle { self.old.runner.work ≡ None }
-        ensures run { Runs S.joins space.old (working self.old.patience (lines_of self.old.who lines.now) (session_of self.old.runner)) (worked_as result (session_of self.new.runner)) space.new }
+        ensures run { Runs (cached S.LockSpace) (space.old, self.old.runner.cache) (working self.old.patience (lines_of self.old.who lines.now) (session_of self.old.runner)) (worked_as result (session_of self.new.runner)) (space.new, self.new.runner.cache) }
         ensures lines { IfOk result (λ answers. map (λ answer. answer.0) answers.items ≡ map (λ line. line.number) (lines_of self.old.who lines.now)) }
         ensures attends { AttendsWith S.LockSpace space.new self.new.runner.context self.new.runner.cache }
         ensures others { LeavesOthers S.LockSpace self.old.who space.old space.new }
@@ -96,8 +96,8 @@ impl<'s, S: LockSpace> Worker<'s, S> {
         requires attends { AttendsWith S.LockSpace space.old self.old.runner.context self.old.runner.cache }
         requires who { self.old.runner.context.who ≡ self.old.who }
         requires idle { self.old.runner.work ≡ None }
-        ensures run { Runs S.joins space.old (making self.old.patience statement.now (session_of self.old.runner))
-            (came_to result (session_of self.new.runner)) space.new }
+        ensures run { Runs (cached S.LockSpace) (space.old, self.old.runner.cache) (making self.old.patience statement.now (session_of self.old.runner))
+            (came_to result (session_of self.new.runner)) (space.new, self.new.runner.cache) }
         ensures attends { AttendsWith S.LockSpace space.new self.new.runner.context self.new.runner.cache }
         ensures others { LeavesOthers S.LockSpace self.old.who space.old space.new }
         ensures who { self.new.runner.context.who ≡ self.old.who }
@@ -114,8 +114,8 @@ impl<'s, S: LockSpace> Worker<'s, S> {
         requires attends { AttendsWith S.LockSpace space.old self.old.runner.context self.old.runner.cache }
         requires who { self.old.runner.context.who ≡ self.old.who }
         requires left { LeftWhileWaiting (paused progress (session_of self.old.runner)) }
-        ensures run { Runs S.joins space.old (finishing self.old.patience most_waits (paused progress (session_of self.old.runner)))
-            (came_to result (session_of self.new.runner)) space.new }
+        ensures run { Runs (cached S.LockSpace) (space.old, self.old.runner.cache) (finishing self.old.patience most_waits (paused progress (session_of self.old.runner)))
+            (came_to result (session_of self.new.runner)) (space.new, self.new.runner.cache) }
         ensures attends { AttendsWith S.LockSpace space.new self.new.runner.context self.new.runner.cache }
         ensures others { LeavesOthers S.LockSpace self.old.who space.old space.new }
         ensures who { self.new.runner.context.who ≡ self.old.who }
@@ -141,7 +141,7 @@ impl<'s, S: LockSpace> Worker<'s, S> {
         requires attends { AttendsWith S.LockSpace space.old self.old.runner.context self.old.runner.cache }
         requires who { self.old.runner.context.who ≡ self.old.who }
         requires waits { IsSome self.old.runner.work }
-        ensures run { Runs S.joins space.old (going_further self.old.patience (session_of self.old.runner)) (ran result (session_of self.new.runner)) space.new }
+        ensures run { Runs (cached S.LockSpace) (space.old, self.old.runner.cache) (going_further self.old.patience (session_of self.old.runner)) (ran result (session_of self.new.runner)) (space.new, self.new.runner.cache) }
         ensures attends { AttendsWith S.LockSpace space.new self.new.runner.context self.new.runner.cache }
         ensures others { LeavesOthers S.LockSpace self.old.who space.old space.new }
         ensures who { self.new.runner.context.who ≡ self.old.who }

@@ -2,8 +2,9 @@
 ghost use Rattle.std.specs.Prelude.{◌≡◌, [], map, None, Some, IfOk, OnErr};
 ghost use Rattle.mdl_calls.specs.Words.{Runs};
 ghost use Rattle.mdl_context.specs.Contexts.{LeavesOthers};
-ghost use Rattle.mdl_stmt.specs.Attendance.{IsCapacity};
-ghost use Rattle.mdl_work.specs.Works.{lines_of, newcomer, working_off};
+ghost use Rattle.mdl_stmt.specs.Attendance.{IsCapacity, cached};
+ghost use Rattle.mdl_work.specs.Paces.{answers_in};
+ghost use Rattle.mdl_work.specs.Works.{RunsFromEmpty, lines_of, newcomer, working_off};
 
 use crate::Gate;
 use crate::worker::Worker;
@@ -36,6 +37,7 @@ pub fn work<S: LockSpace, G: Gate>(
     requires nothing { S.own space.old who ≡ record { held = []; wait = None } }
     ensures answered { IfOk result (λ answers. Runs S.joins space.old (working_off patience (lines_of who script.now) (newcomer who)) (Some answers.items) space.new) }
     ensures starved { OnErr result (Runs S.joins space.old (working_off patience (lines_of who script.now) (newcomer who)) None space.new) }
+    ensures reads { RunsFromEmpty (cached S.LockSpace) cache space.old (working_off patience (lines_of who script.now) (newcomer who)) (answers_in result) space.new }
     ensures lines { IfOk result (λ answers. map (λ answer. answer.0) answers.items ≡ map (λ line. line.number) (lines_of who script.now)) }
     ensures nothing { S.own space.new who ≡ record { held = []; wait = None } }
     ensures speaks { S.speaks_for space.new who }
@@ -59,6 +61,7 @@ pub fn work_lines<S: LockSpace, G: Gate>(
     requires nothing { S.own space.old who ≡ record { held = []; wait = None } }
     ensures answered { IfOk result (λ answers. Runs S.joins space.old (working_off patience (lines_of who lines.now) (newcomer who)) (Some answers.items) space.new) }
     ensures starved { OnErr result (Runs S.joins space.old (working_off patience (lines_of who lines.now) (newcomer who)) None space.new) }
+    ensures reads { RunsFromEmpty (cached S.LockSpace) cache space.old (working_off patience (lines_of who lines.now) (newcomer who)) (answers_in result) space.new }
     ensures lines { IfOk result (λ answers. map (λ answer. answer.0) answers.items ≡ map (λ line. line.number) (lines_of who lines.now)) }
     ensures nothing { S.own space.new who ≡ record { held = []; wait = None } }
     ensures speaks { S.speaks_for space.new who }

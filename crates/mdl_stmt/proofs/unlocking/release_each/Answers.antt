@@ -14,12 +14,12 @@ loop-ticket-preserved g c = record {
   idle = search rules;
   goes_on = context-then c.loop-ticket.invariant.goes_on (record { who = c.release-released.ensures.who; others = c.release-released.ensures.others; attends = c.release-released.ensures.attends });
   run = λ player.
-      each-done g.S.LockSpace.joins release c.args.tickets.now c.args.space.now (seat player c.args.context.now) c.loop-ticket.ticket-index _ c.loop-ticket.space c.release-released.new.space (seat player c.loop-ticket.context) (seat player c.release-released.new.self)
+      each-done g.S.LockSpace release c.args.tickets.now c.args.space.now (seat player c.args.context.now) c.loop-ticket.ticket-index _ c.loop-ticket.space c.release-released.new.space (seat player c.loop-ticket.context) (seat player c.release-released.new.self)
       (drop-cons c.args.tickets.now c.loop-ticket.ticket-index 0 c.loop-ticket-test.true) (c.loop-ticket.invariant.run player)
-      (λ rest. released g.S.LockSpace.joins _ (seat player c.loop-ticket.context) c.release-released.result c.release-released.new.self (rest tt) _ _ c.release-released.ensures.run);
+      (λ rest. released g.S.LockSpace _ (seat player c.loop-ticket.context) c.release-released.result c.release-released.new.self (rest tt) _ _ c.release-released.ensures.run);
 }
 
 pub returns-clause-run : goal.returns-clause-run
 returns-clause-run g c = λ player.
-    each-over g.S.LockSpace.joins release c.args.tickets.now c.args.space.now (seat player c.args.context.now) c.loop-ticket.ticket-index c.loop-ticket.space (seat player c.loop-ticket.context)
+    each-over g.S.LockSpace release c.args.tickets.now c.args.space.now (seat player c.args.context.now) c.loop-ticket.ticket-index c.loop-ticket.space (seat player c.loop-ticket.context)
     (drop_of_length-le c.args.tickets.now c.loop-ticket-test.false) (c.loop-ticket.invariant.run player)

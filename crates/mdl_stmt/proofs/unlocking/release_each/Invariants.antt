@@ -13,5 +13,5 @@ abbrev pub invariant-loop-ticket : goal.invariant-loop-ticket
 invariant-loop-ticket g l = record {
   idle : l.context.wait ≡ None;
   goes_on : ContextGoesOn g.S.LockSpace l.fn.space l.fn.context l.space l.context;
-  run : (player : PlayerView) (rest : Unit {0} → Row Reply) → Comes g.S.LockSpace.joins l.fn.space (seat player l.fn.context) (play (for_each release l.tickets >>= rest)) l.space (seat player l.context) (play (for_each release (drop l.ticket-index l.tickets) >>= rest));
+  run : (player : PlayerView) (rest : Unit {0} → Row Reply) → Comes g.S.LockSpace l.fn.space (seat player l.fn.context) (play (for_each release l.tickets >>= rest)) l.space (seat player l.context) (play (for_each release (drop l.ticket-index l.tickets) >>= rest));
 }

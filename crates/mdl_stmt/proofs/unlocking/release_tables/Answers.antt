@@ -15,12 +15,12 @@ loop-table-preserved g c = record {
   idle = search rules;
   goes_on = context-then c.loop-table.invariant.goes_on (record { who = c.release-released.ensures.who; others = c.release-released.ensures.others; attends = c.release-released.ensures.attends });
   run = λ player.
-      each-done g.S.LockSpace.joins release (tickets_of c.args.tables.now) c.args.space.now (seat player c.args.context.now) c.loop-table.table-index _ c.loop-table.space c.release-released.new.space (seat player c.loop-table.context) (seat player c.release-released.new.self)
+      each-done g.S.LockSpace release (tickets_of c.args.tables.now) c.args.space.now (seat player c.args.context.now) c.loop-table.table-index _ c.loop-table.space c.release-released.new.space (seat player c.loop-table.context) (seat player c.release-released.new.self)
       (ticket-at c.args.tables.now c.loop-table.table-index c.table-item.result c.loop-table-test.true c.table-item.is) (c.loop-table.invariant.run player)
-      (λ rest. released g.S.LockSpace.joins _ (seat player c.loop-table.context) c.release-released.result c.release-released.new.self (rest tt) _ _ c.release-released.ensures.run);
+      (λ rest. released g.S.LockSpace _ (seat player c.loop-table.context) c.release-released.result c.release-released.new.self (rest tt) _ _ c.release-released.ensures.run);
 }
 
 pub returns-clause-run : goal.returns-clause-run
 returns-clause-run g c = λ player.
-    each-over g.S.LockSpace.joins release (tickets_of c.args.tables.now) c.args.space.now (seat player c.args.context.now) c.loop-table.table-index c.loop-table.space (seat player c.loop-table.context)
+    each-over g.S.LockSpace release (tickets_of c.args.tables.now) c.args.space.now (seat player c.args.context.now) c.loop-table.table-index c.loop-table.space (seat player c.loop-table.context)
     (drop-map (λ (t : Locked). t.ticket) c.loop-table.table-index c.args.tables.now ∙ ap tickets_of (drop_of_length-le c.args.tables.now c.loop-table-test.false)) (c.loop-table.invariant.run player)

@@ -13,5 +13,5 @@ abbrev pub invariant-loop-table : goal.invariant-loop-table
 invariant-loop-table g l = record {
   idle : l.context.wait ≡ None;
   goes_on : ContextGoesOn g.S.LockSpace l.fn.space l.fn.context l.space l.context;
-  run : (player : PlayerView) (rest : Unit {0} → Row Reply) → Comes g.S.LockSpace.joins l.fn.space (seat player l.fn.context) (play (for_each release (tickets_of l.tables) >>= rest)) l.space (seat player l.context) (play (for_each release (drop l.table-index (tickets_of l.tables)) >>= rest));
+  run : (player : PlayerView) (rest : Unit {0} → Row Reply) → Comes g.S.LockSpace l.fn.space (seat player l.fn.context) (play (for_each release (tickets_of l.tables) >>= rest)) l.space (seat player l.context) (play (for_each release (drop l.table-index (tickets_of l.tables)) >>= rest));
 }

@@ -1,17 +1,40 @@
 -- The lines are worked off, and then all is given up.
-use Rattle.mdl_work.specs.Works.{lines_of, newcomer}
+use Rattle.std.proofs.Common.{◌≡◌, [], Err, inl, refl, rules}
+use Rattle.mdl_rows.specs.Leavings.{leaving}
+use Rattle.mdl_stmt.specs.Attendance.{cached}
 use Rattle.mdl_stmt.specs.Stages.{session_of}
-use Rattle.mdl_work.proofs.WorkLemmas.{worked-off}
+use Rattle.mdl_stmt.proofs.CachedLemmas.{none_leaving}
+use Rattle.mdl_calls.proofs.CachedRuns.{run-cached, run-plain}
+use Rattle.mdl_work.specs.Works.{lines_of, newcomer, working_off}
+use Rattle.mdl_work.proofs.WorkLemmas.{answers-told, worked-off}
 use Rattle.mdl_work.proofs.working.work_lines.Goals as goal
+
+pub returns-in_err-worker-clause-reads : goal.returns-in_err-worker-clause-reads
+returns-in_err-worker-clause-reads g c =
+    let refused : c.from_residual.result ≡ Err _ = search rules in
+    rw refused (record { kept = []; capacity = c.args.cache }, inl (refl, refl))
+
+pub returns-clause-reads : goal.returns-clause-reads
+returns-clause-reads g c =
+    let new = c.in_ok-worker.ensures in
+    let members = g.S.LockSpace in
+    let after = c.answer_lines-answers.new.self.runner in
+    let run = rw (new.session, new.who, new.patience, new.cache) at c.answer_lines-answers.ensures.run in
+    let left = run-cached members.joins members.uses_cache (leaving (session_of after)) after.cache _ _ tt (none_leaving (session_of after)) c.leave.ensures.run in
+    (after.cache, worked-off (cached members) c.args.patience (lines_of c.args.who c.args.lines.now) (newcomer c.args.who) (session_of after) c.answer_lines-answers.result _ _ _ run left)
 
 pub returns-clause-answered : goal.returns-clause-answered
 returns-clause-answered g c =
-    let new = c.in_ok-worker.ensures in
-    let run = rw (new.session, new.who, new.patience) at c.answer_lines-answers.ensures.run in
-    (worked-off g.S.LockSpace.joins c.args.patience (lines_of c.args.who c.args.lines.now) (newcomer c.args.who) (session_of c.answer_lines-answers.new.self.runner) c.answer_lines-answers.result _ _ _ run c.leave.ensures.run).0
+    let members = g.S.LockSpace in
+    let program = working_off c.args.patience (lines_of c.args.who c.args.lines.now) (newcomer c.args.who) in
+    let whole = returns-clause-reads g c in
+    (answers-told members.joins program c.answer_lines-answers.result c.args.space.now c.leave.new.space
+    (run-plain members.joins members.uses_cache program (c.args.space.now, record { kept = []; capacity = c.args.cache }) (c.leave.new.space, whole.0) _ whole.1)).0
 
 pub returns-clause-starved : goal.returns-clause-starved
 returns-clause-starved g c =
-    let new = c.in_ok-worker.ensures in
-    let run = rw (new.session, new.who, new.patience) at c.answer_lines-answers.ensures.run in
-    (worked-off g.S.LockSpace.joins c.args.patience (lines_of c.args.who c.args.lines.now) (newcomer c.args.who) (session_of c.answer_lines-answers.new.self.runner) c.answer_lines-answers.result _ _ _ run c.leave.ensures.run).1
+    let members = g.S.LockSpace in
+    let program = working_off c.args.patience (lines_of c.args.who c.args.lines.now) (newcomer c.args.who) in
+    let whole = returns-clause-reads g c in
+    (answers-told members.joins program c.answer_lines-answers.result c.args.space.now c.leave.new.space
+    (run-plain members.joins members.uses_cache program (c.args.space.now, record { kept = []; capacity = c.args.cache }) (c.leave.new.space, whole.0) _ whole.1)).1

@@ -12,5 +12,5 @@ abbrev pub invariant-loop-ticket : goal.invariant-loop-ticket
 invariant-loop-ticket g l = record {
   idle : l.self.context.wait ≡ None;
   goes_on : GoesOn g.S.LockSpace l.fn.space l.fn.self l.space l.self;
-  run : (rest : Unit {0} → Row Reply) → Comes g.S.LockSpace.joins l.fn.space l.fn.self (play (for_each can_change l.tickets >>= rest)) l.space l.self (play (for_each can_change (drop l.ticket-index l.tickets) >>= rest));
+  run : (rest : Unit {0} → Row Reply) → Comes g.S.LockSpace l.fn.space l.fn.self (play (for_each can_change l.tickets >>= rest)) l.space l.self (play (for_each can_change (drop l.ticket-index l.tickets) >>= rest));
 }

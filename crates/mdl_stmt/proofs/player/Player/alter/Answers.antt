@@ -10,14 +10,14 @@ use Rattle.mdl_stmt.proofs.player.Player.alter.Goals as goal
 
 pub returns-in-Had-clause-run : goal.returns-in-Had-clause-run
 returns-in-Had-clause-run g c =
-    let got : IsGot g.S.LockSpace.joins (record { key = global_key; mode = IX; duration = Statement }) c.args.space.now c.args.self.now c.get.result c.get.new.space c.get.new.self =
-    subst (λ (k : KeyName). IsGot g.S.LockSpace.joins (record { key = k; mode = IX; duration = Statement }) c.args.space.now c.args.self.now c.get.result c.get.new.space c.get.new.self) c.global-writes.ensures c.get.ensures.run in
+    let got : IsGot g.S.LockSpace (record { key = global_key; mode = IX; duration = Statement }) c.args.space.now c.args.self.now c.get.result c.get.new.space c.get.new.self =
+    subst (λ (k : KeyName). IsGot g.S.LockSpace (record { key = k; mode = IX; duration = Statement }) c.args.space.now c.args.self.now c.get.result c.get.new.space c.get.new.self) c.global-writes.ensures c.get.ensures.run in
     let rest = lock_schema_and_alter c.args.alteration.now in
     comes-played c.lock_schema_and_alter.new.space c.lock_schema_and_alter.new.self (alter_after_commit c.args.alteration.now) rest c.lock_schema_and_alter.result
     ((rw c.in-Had.is at got) (λ _. rest)) c.lock_schema_and_alter.ensures.run
 
 pub returns-in-Waits-clause-run : goal.returns-in-Waits-clause-run
 returns-in-Waits-clause-run g c =
-    let got : IsGot g.S.LockSpace.joins (record { key = global_key; mode = IX; duration = Statement }) c.args.space.now c.args.self.now c.get.result c.get.new.space c.get.new.self =
-    subst (λ (k : KeyName). IsGot g.S.LockSpace.joins (record { key = k; mode = IX; duration = Statement }) c.args.space.now c.args.self.now c.get.result c.get.new.space c.get.new.self) c.global-writes.ensures c.get.ensures.run in
+    let got : IsGot g.S.LockSpace (record { key = global_key; mode = IX; duration = Statement }) c.args.space.now c.args.self.now c.get.result c.get.new.space c.get.new.self =
+    subst (λ (k : KeyName). IsGot g.S.LockSpace (record { key = k; mode = IX; duration = Statement }) c.args.space.now c.args.self.now c.get.result c.get.new.space c.get.new.self) c.global-writes.ensures c.get.ensures.run in
     (rw c.in-Waits.is at got) (λ _. lock_schema_and_alter c.args.alteration.now)

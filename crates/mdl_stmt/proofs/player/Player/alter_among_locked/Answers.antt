@@ -18,5 +18,5 @@ returns-clause-run g c =
     let found = sym (ap (λ (p : PlayerView). find (λ (l : Locked). key_eq table l.key) p.state.locked) c.self.view_is) ∙ sym (rw c.in-Some.is at c.find.ensures) in
     comes-played c.commit_first.new.space c.commit_first.new.self (alter_among_locked table after) rest c.commit_first.result
     (comes-as (play (alter_among_locked table after)) (play rest) (among-so c.args.self.now table c.in-Some.locked.now after found c.if-not-locked.false)
-    (comes-same g.S.LockSpace.joins c.args.space.now c.args.self.now (play rest)))
+    (comes-same g.S.LockSpace c.args.space.now c.args.self.now (play rest)))
     c.commit_first.ensures.run

@@ -18,7 +18,7 @@ returns-then-has_locked-clause-run g c =
     let free = sym (ap (λ (p : PlayerView). is_some p.state.read_lock) c.self.view_is) ∙ sym c.has_read_lock.ensures ∙ c.if-has_read_lock.false in
     comes-played c.alter_among_locked.new.space c.alter_among_locked.new.self (alter_first table after) rest c.alter_among_locked.result
     (comes-as (play (alter_first table after)) (play rest) (first-so c.args.self.now table after true free some)
-    (comes-same g.S.LockSpace.joins c.args.space.now c.args.self.now (play rest))) c.alter_among_locked.ensures.run
+    (comes-same g.S.LockSpace c.args.space.now c.args.self.now (play rest))) c.alter_among_locked.ensures.run
 
 pub returns-clause-run : goal.returns-clause-run
 returns-clause-run g c =
@@ -29,4 +29,4 @@ returns-clause-run g c =
     let free = sym (ap (λ (p : PlayerView). is_some p.state.read_lock) c.self.view_is) ∙ sym c.has_read_lock.ensures ∙ c.if-has_read_lock.false in
     comes-played c.commit_first.new.space c.commit_first.new.self (alter_first table after) rest c.commit_first.result
     (comes-as (play (alter_first table after)) (play rest) (first-so c.args.self.now table after false free none)
-    (comes-same g.S.LockSpace.joins c.args.space.now c.args.self.now (play rest))) c.commit_first.ensures.run
+    (comes-same g.S.LockSpace c.args.space.now c.args.self.now (play rest))) c.commit_first.ensures.run

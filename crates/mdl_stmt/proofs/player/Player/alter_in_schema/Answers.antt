@@ -14,7 +14,7 @@ returns-then-has_locked-clause-run g c =
     let some = sym (ap (λ (p : PlayerView). has_locked p.state.locked) c.self.view_is) ∙ sym c.has_locked.ensures ∙ c.if-has_locked.true in
     comes-played c.alter_locked.new.space c.alter_locked.new.self (alter_in_schema c.args.alteration.now) rest c.alter_locked.result
     (comes-as (play (alter_in_schema c.args.alteration.now)) (play rest) (in_schema-so c.args.self.now c.args.alteration.now true some)
-    (comes-same g.S.LockSpace.joins c.args.space.now c.args.self.now (play rest))) c.alter_locked.ensures.run
+    (comes-same g.S.LockSpace c.args.space.now c.args.self.now (play rest))) c.alter_locked.ensures.run
 
 pub returns-clause-run : goal.returns-clause-run
 returns-clause-run g c =
@@ -22,4 +22,4 @@ returns-clause-run g c =
     let none = sym (ap (λ (p : PlayerView). has_locked p.state.locked) c.self.view_is) ∙ sym c.has_locked.ensures ∙ c.if-has_locked.false in
     comes-played c.alter_unlocked.new.space c.alter_unlocked.new.self (alter_in_schema c.args.alteration.now) rest c.alter_unlocked.result
     (comes-as (play (alter_in_schema c.args.alteration.now)) (play rest) (in_schema-so c.args.self.now c.args.alteration.now false none)
-    (comes-same g.S.LockSpace.joins c.args.space.now c.args.self.now (play rest))) c.alter_unlocked.ensures.run
+    (comes-same g.S.LockSpace c.args.space.now c.args.self.now (play rest))) c.alter_unlocked.ensures.run

@@ -17,7 +17,7 @@ returns-in-Copy-clause-run g c =
     let rest = alter_by alteration.algorithm alteration c.args.ticket in
     comes-played c.alter_by_copy.new.space c.alter_by_copy.new.self (alter_under alteration c.args.ticket) rest c.alter_by_copy.result
     ((rw c.in_default.is at c.check_change.ensures.run) (λ _. rest))
-    (subst (λ (how : Algorithm). IsPlayed g.S.LockSpace.joins (alter_by how alteration c.args.ticket) c.check_change.new.space c.check_change.new.self c.alter_by_copy.result c.alter_by_copy.new.space c.alter_by_copy.new.self)
+    (subst (λ (how : Algorithm). IsPlayed g.S.LockSpace (alter_by how alteration c.args.ticket) c.check_change.new.space c.check_change.new.self c.alter_by_copy.result c.alter_by_copy.new.space c.alter_by_copy.new.self)
     (sym c.in-Copy.is) c.alter_by_copy.ensures.run)
 
 pub returns-in-Inplace-clause-run : goal.returns-in-Inplace-clause-run
@@ -26,5 +26,5 @@ returns-in-Inplace-clause-run g c =
     let rest = alter_by alteration.algorithm alteration c.args.ticket in
     comes-played c.alter_in_place.new.space c.alter_in_place.new.self (alter_under alteration c.args.ticket) rest c.alter_in_place.result
     ((rw c.in_default.is at c.check_change.ensures.run) (λ _. rest))
-    (subst (λ (how : Algorithm). IsPlayed g.S.LockSpace.joins (alter_by how alteration c.args.ticket) c.check_change.new.space c.check_change.new.self c.alter_in_place.result c.alter_in_place.new.space c.alter_in_place.new.self)
+    (subst (λ (how : Algorithm). IsPlayed g.S.LockSpace (alter_by how alteration c.args.ticket) c.check_change.new.space c.check_change.new.self c.alter_in_place.result c.alter_in_place.new.space c.alter_in_place.new.self)
     (sym c.in-Inplace.is) c.alter_in_place.ensures.run)

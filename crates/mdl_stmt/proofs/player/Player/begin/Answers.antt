@@ -20,7 +20,7 @@ returns-clause-run g c =
     let none = ap (λ (p : PlayerView). p.state.locked) c.self.view_is ∙ c.unlock_tables.ensures.unlocked.0 in
     let no_scope = ap (λ (p : PlayerView). p.state.scopes) c.self.view_is ∙ c.unlock_tables.ensures.unlocked.1 in
     comes-then (c.unlock_tables.ensures.run (λ _. set opened >> Give reply.Ok))
-    (subst (λ (p : PlayerView). Comes g.S.LockSpace.joins c.unlock_tables.new.space p (play (set opened >> Give reply.Ok)) c.unlock_tables.new.space (after explicit.locked explicit.scopes) (closing (Answers reply.Ok))) c.self.view_is
-    (subst (λ (l : List Locked). Comes g.S.LockSpace.joins c.unlock_tables.new.space (player_of c.self.inside.cache explicit c.self.inside.context c.self.inside.is_open c.self.inside.has_written c.self.inside.savepoints) (play (set opened >> Give reply.Ok)) c.unlock_tables.new.space (after l explicit.scopes) (closing (Answers reply.Ok))) (sym none)
-    (subst (λ (s : List ℕ). Comes g.S.LockSpace.joins c.unlock_tables.new.space (player_of c.self.inside.cache explicit c.self.inside.context c.self.inside.is_open c.self.inside.has_written c.self.inside.savepoints) (play (set opened >> Give reply.Ok)) c.unlock_tables.new.space (after [] s) (closing (Answers reply.Ok))) (sym no_scope)
+    (subst (λ (p : PlayerView). Comes g.S.LockSpace c.unlock_tables.new.space p (play (set opened >> Give reply.Ok)) c.unlock_tables.new.space (after explicit.locked explicit.scopes) (closing (Answers reply.Ok))) c.self.view_is
+    (subst (λ (l : List Locked). Comes g.S.LockSpace c.unlock_tables.new.space (player_of c.self.inside.cache explicit c.self.inside.context c.self.inside.is_open c.self.inside.has_written c.self.inside.savepoints) (play (set opened >> Give reply.Ok)) c.unlock_tables.new.space (after l explicit.scopes) (closing (Answers reply.Ok))) (sym none)
+    (subst (λ (s : List ℕ). Comes g.S.LockSpace c.unlock_tables.new.space (player_of c.self.inside.cache explicit c.self.inside.context c.self.inside.is_open c.self.inside.has_written c.self.inside.savepoints) (play (set opened >> Give reply.Ok)) c.unlock_tables.new.space (after [] s) (closing (Answers reply.Ok))) (sym no_scope)
     (record { so = λ mark pause s run. run }))))

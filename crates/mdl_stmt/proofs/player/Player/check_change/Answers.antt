@@ -19,7 +19,7 @@ pub returns-in-Err-can_become-clause-run : goal.returns-in-Err-can_become-clause
 returns-in-Err-can_become-clause-run g c = λ rest.
     let fault = change_fault c.in-Ok.standing.definition c.args.change.now in
     comes-then ((rw c.in-Ok.is at c.read.ensures.run) (λ (s : Standing). checks (change_fault s.definition c.args.change.now) (has_version_left s) rest))
-    (refused-change g.S.LockSpace.joins c.read.new.space c.read.new.self fault (has_version_left c.in-Ok.standing) rest c.in-Err-can_become.ending (rw c.in-Err-can_become.is at c.can_become.ensures))
+    (refused-change g.S.LockSpace c.read.new.space c.read.new.self fault (has_version_left c.in-Ok.standing) rest c.in-Err-can_become.ending (rw c.in-Err-can_become.is at c.can_become.ensures))
 
 pub returns-then-standing-ge-MOST_VERSIONS-clause-run : goal.returns-then-standing-ge-MOST_VERSIONS-clause-run
 returns-then-standing-ge-MOST_VERSIONS-clause-run g c = λ rest.

@@ -7,7 +7,7 @@ use Rattle.mdl_stmt.proofs.player.Player.definition_under.Goals as goal
 
 pub returns-in-Ok-clause-run : goal.returns-in-Ok-clause-run
 returns-in-Ok-clause-run g c =
-    found-step g.S.LockSpace.joins c.args.ticket c.args.space.now c.read.new.space c.args.self.now c.read.new.self c.in-Ok.standing c.found.result
+    found-step g.S.LockSpace c.args.ticket c.args.space.now c.read.new.space c.args.self.now c.read.new.self c.in-Ok.standing c.found.result
     (rw c.in-Ok.is at c.read.ensures.run) c.found.ensures
 
 pub returns-in-Err-clause-run : goal.returns-in-Err-clause-run

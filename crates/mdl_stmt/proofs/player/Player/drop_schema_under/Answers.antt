@@ -37,5 +37,5 @@ returns-in-Ok-new-clause-run g c =
     comes-played c.lock_within.new.space c.lock_within.new.self (drop_schema_under c.args.name.now c.args.schema) row c.lock_within.result
     (comes-then ((rw c.in_default.is at c.check_schema.ensures.run) (λ _. tables_in c.args.name.now >>= locked c.args.schema))
     (comes-then ((rw c.in-Ok.is at c.tables_in.ensures.run) (locked c.args.schema)) (room-found row)))
-    (subst (λ (l : LockList). IsPlayed g.S.LockSpace.joins (lock_rest l (drop_with c.args.schema)) c.tables_in.new.space c.tables_in.new.self c.lock_within.result c.lock_within.new.space c.lock_within.new.self)
+    (subst (λ (l : LockList). IsPlayed g.S.LockSpace (lock_rest l (drop_with c.args.schema)) c.tables_in.new.space c.tables_in.new.self c.lock_within.result c.lock_within.new.space c.lock_within.new.self)
     c.in-Ok-new.ensures c.lock_within.ensures.run)

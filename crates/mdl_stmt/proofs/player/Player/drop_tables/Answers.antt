@@ -17,5 +17,5 @@ returns-in-Ok-clause-run g c =
     let locks : LockList = record { keys = global_key ∷ in_key_order (map schema_of c.args.tables.now); tickets = [] } in
     let row : Row Reply = lock_rest locks (λ scopes. lock_and_drop c.args.tables.now) in
     comes-played c.lock_scopes.new.space c.lock_scopes.new.self (Room row) row c.lock_scopes.result (room-found row)
-    (subst (λ (l : LockList). IsPlayed g.S.LockSpace.joins (lock_rest l (λ scopes. lock_and_drop c.args.tables.now)) c.args.space.now c.args.self.now c.lock_scopes.result c.lock_scopes.new.space c.lock_scopes.new.self)
+    (subst (λ (l : LockList). IsPlayed g.S.LockSpace (lock_rest l (λ scopes. lock_and_drop c.args.tables.now)) c.args.space.now c.args.self.now c.lock_scopes.result c.lock_scopes.new.space c.lock_scopes.new.self)
     (c.in-Ok.ensures ∙ ap (λ (t : List KeyName). record { keys = global_key ∷ in_key_order (map schema_of t); tickets = [] }) c.as_slice.ensures) c.lock_scopes.ensures.run)

@@ -12,6 +12,6 @@ pub returns-clause-run : goal.returns-clause-run
 returns-clause-run g c =
     let before : PlayerView = player_of c.self.inside.cache c.self.inside.explicit c.self.inside.context c.self.inside.is_open c.self.inside.has_written c.self.inside.savepoints in
     let after : List Savepoint → PlayerView = player_of c.self.inside.cache c.self.inside.explicit c.finish_transaction.new.self false false in
-    subst (λ (p : PlayerView). IsStep g.S.LockSpace.joins end_transaction c.args.space.now p (Ok tt) c.finish_transaction.new.space (after c.clear.new.self)) c.self.view_is
-    (subst (λ (savepoints : List Savepoint). IsStep g.S.LockSpace.joins end_transaction c.args.space.now before (Ok tt) c.finish_transaction.new.space (after savepoints)) (sym c.clear.ensures)
-    (λ rest. closed-then g.S.LockSpace.joins before c.finish_transaction.new.self (rest tt) _ _ c.finish_transaction.ensures.run))
+    subst (λ (p : PlayerView). IsStep g.S.LockSpace end_transaction c.args.space.now p (Ok tt) c.finish_transaction.new.space (after c.clear.new.self)) c.self.view_is
+    (subst (λ (savepoints : List Savepoint). IsStep g.S.LockSpace end_transaction c.args.space.now before (Ok tt) c.finish_transaction.new.space (after savepoints)) (sym c.clear.ensures)
+    (λ rest. closed-then g.S.LockSpace before c.finish_transaction.new.self (rest tt) _ _ c.finish_transaction.ensures.run))

@@ -13,5 +13,5 @@ returns-clause-run g c = λ rest.
     let after : PlayerView = player_of c.self.inside.cache c.self.inside.explicit c.release-released.new.self c.self.inside.is_open c.self.inside.has_written c.self.inside.savepoints in
     comes-then
     (c.end_transaction.ensures.run (λ _. row.Release c.args.lock (rest tt)))
-    (subst (λ (p : PlayerView). Comes g.S.LockSpace.joins c.end_transaction.new.space p (play (row.Release c.args.lock (rest tt))) c.release-released.new.space after (play (rest tt))) c.self.view_is
-    (released g.S.LockSpace.joins c.args.lock middle c.release-released.result c.release-released.new.self (rest tt) _ _ c.release-released.ensures.run))
+    (subst (λ (p : PlayerView). Comes g.S.LockSpace c.end_transaction.new.space p (play (row.Release c.args.lock (rest tt))) c.release-released.new.space after (play (rest tt))) c.self.view_is
+    (released g.S.LockSpace c.args.lock middle c.release-released.result c.release-released.new.self (rest tt) _ _ c.release-released.ensures.run))

@@ -26,6 +26,6 @@ returns-clause-run g c = λ rest.
     (λ mark. sym (ap (λ (l : Option ReadLock). play ((release_read_lock l >> set without_read_lock) >>= rest) mark (at_rest x)) found
     ∙ ap (λ (r : Row Reply). play r mark (at_rest x)) (bind-assoc (release_read_lock lock) (λ _. set without_read_lock) rest)))
     (c.release_read_lock.ensures.run (λ _. set without_read_lock >>= rest)))
-    (subst (λ (p : PlayerView). Comes g.S.LockSpace.joins c.release_read_lock.new.space p (play (set without_read_lock >>= rest)) c.release_read_lock.new.space (after c.clear_read_lock.new.self) (play (rest tt))) c.self-2.view_is
-    (subst (λ (e : ExplicitLocks). Comes g.S.LockSpace.joins c.release_read_lock.new.space (after inside.explicit) (play (set without_read_lock >>= rest)) c.release_read_lock.new.space (after e) (play (rest tt))) (sym c.clear_read_lock.ensures)
+    (subst (λ (p : PlayerView). Comes g.S.LockSpace c.release_read_lock.new.space p (play (set without_read_lock >>= rest)) c.release_read_lock.new.space (after c.clear_read_lock.new.self) (play (rest tt))) c.self-2.view_is
+    (subst (λ (e : ExplicitLocks). Comes g.S.LockSpace c.release_read_lock.new.space (after inside.explicit) (play (set without_read_lock >>= rest)) c.release_read_lock.new.space (after e) (play (rest tt))) (sym c.clear_read_lock.ensures)
     (record { so = λ mark pause s run. run })))

@@ -7,10 +7,10 @@ use Rattle.mdl_stmt.proofs.player.Player.go_on_creating.Goals as goal
 
 pub returns-in-Global-clause-run : goal.returns-in-Global-clause-run
 returns-in-Global-clause-run g c =
-    subst (λ (at : Creating). IsPlayed g.S.LockSpace.joins (rest_of_creating at c.args.ticket) c.args.space.now c.args.self.now c.lock_schema_and_create.result c.lock_schema_and_create.new.space c.lock_schema_and_create.new.self) (sym c.in-Global.is)
+    subst (λ (at : Creating). IsPlayed g.S.LockSpace (rest_of_creating at c.args.ticket) c.args.space.now c.args.self.now c.lock_schema_and_create.result c.lock_schema_and_create.new.space c.lock_schema_and_create.new.self) (sym c.in-Global.is)
     c.lock_schema_and_create.ensures.run
 
 pub returns-in-Schema-clause-run : goal.returns-in-Schema-clause-run
 returns-in-Schema-clause-run g c =
-    subst (λ (at : Creating). IsPlayed g.S.LockSpace.joins (rest_of_creating at c.args.ticket) c.args.space.now c.args.self.now c.lock_and_create.result c.lock_and_create.new.space c.lock_and_create.new.self) (sym c.in-Schema.is)
+    subst (λ (at : Creating). IsPlayed g.S.LockSpace (rest_of_creating at c.args.ticket) c.args.space.now c.args.self.now c.lock_and_create.result c.lock_and_create.new.space c.lock_and_create.new.self) (sym c.in-Schema.is)
     c.lock_and_create.ensures.run

@@ -12,5 +12,5 @@ use Rattle.mdl_stmt.proofs.player.Player.go_on_writing.Goals as goal
 
 pub returns-in-Commit-clause-run : goal.returns-in-Commit-clause-run
 returns-in-Commit-clause-run g c =
-    subst (λ (s : Writing). Comes g.S.LockSpace.joins c.args.space.now c.args.self.now (play (rest_of_writing s c.args.ticket)) c.end_under.new.space c.end_under.new.self (closing (Answers reply.Ok))) (sym c.in-Commit.is)
+    subst (λ (s : Writing). Comes g.S.LockSpace c.args.space.now c.args.self.now (play (rest_of_writing s c.args.ticket)) c.end_under.new.space c.end_under.new.self (closing (Answers reply.Ok))) (sym c.in-Commit.is)
     (c.end_under.ensures.run (λ _. Give reply.Ok))

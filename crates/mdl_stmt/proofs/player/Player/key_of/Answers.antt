@@ -1,8 +1,18 @@
--- The session has what it had.
+-- The key is told, or that is refused. The session has what it had.
 use Rattle.std.proofs.Common.{◌∙◌, ap, ◌≡◌, ℕ, Some}
-use Rattle.mdl_stmt.specs.Players.{PlayerView}
-use Rattle.mdl_stmt.proofs.CallLemmas.{goes_on-call}
+use Rattle.mdl_stmt.specs.Players.{PlayerView, player_of}
+use Rattle.mdl_stmt.proofs.CallLemmas.{goes_on-call, key-had, key-refused}
 use Rattle.mdl_stmt.proofs.player.Player.key_of.Goals as goal
+use Rattle.mdl_stmt.proofs.player.Player.key_of.Goals.{in-Ok, in-Err}
+
+pub returns-clause-run : goal.returns-clause-run
+returns-clause-run g c =
+    let before : PlayerView = player_of c.self.inside.cache c.self.inside.explicit c.self.inside.context c.self.inside.is_open c.self.inside.has_written c.self.inside.savepoints in
+    let joined = rw c.who.ensures at c.key_of.ensures in
+    rw (← c.self.view_is) (elim c.match-key_of.branch [
+      | in-Ok w ↦ rw w.result-is (key-had g.S.LockSpace c.args.place w.in-Ok.key before _ _ (rw w.in-Ok.is at joined))
+      | in-Err w ↦ rw w.result-is (rw w.ending_of_refusal.ensures (key-refused g.S.LockSpace c.args.place before w.in-Err.refusal _ _ (rw w.in-Err.is at joined)))
+    ])
 
 pub returns-clause-goes_on : goal.returns-clause-goes_on
 returns-clause-goes_on g c =

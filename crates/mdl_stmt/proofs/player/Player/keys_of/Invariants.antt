@@ -13,5 +13,5 @@ abbrev pub invariant-loop-place : goal.invariant-loop-place
 invariant-loop-place g l = record {
   idle : l.self.context.wait ≡ None;
   goes_on : GoesOn g.S.LockSpace l.fn.space l.fn.self l.space l.self;
-  run : (rest : List KeyName → Row Reply) → Comes g.S.LockSpace.joins l.fn.space l.fn.self (play (keys_of [] l.places >>= rest)) l.space l.self (play (keys_of l.keys.items (drop l.place-index l.places) >>= rest));
+  run : (rest : List KeyName → Row Reply) → Comes g.S.LockSpace l.fn.space l.fn.self (play (keys_of [] l.places >>= rest)) l.space l.self (play (keys_of l.keys.items (drop l.place-index l.places) >>= rest));
 }

@@ -16,5 +16,5 @@ returns-in-Ok-clause-run g c =
     let locks : LockList = record { keys = in_key_order c.args.tables.now; tickets = [] } in
     comes-played c.lock_tables.new.space c.lock_tables.new.self (Room (lock_rest locks drop_under)) (lock_rest locks drop_under) c.lock_tables.result
     (room-found (lock_rest locks drop_under))
-    (subst (λ (l : LockList). IsPlayed g.S.LockSpace.joins (lock_rest l drop_under) c.args.space.now c.args.self.now c.lock_tables.result c.lock_tables.new.space c.lock_tables.new.self)
+    (subst (λ (l : LockList). IsPlayed g.S.LockSpace (lock_rest l drop_under) c.args.space.now c.args.self.now c.lock_tables.result c.lock_tables.new.space c.lock_tables.new.self)
     (c.in-Ok.ensures ∙ ap (λ (t : List KeyName). record { keys = in_key_order t; tickets = [] }) c.as_slice.ensures) c.lock_tables.ensures.run)

@@ -20,6 +20,6 @@ returns-in-Ok-in_key_order-clause-run g c =
     let row : ℕ → LockList → Row Reply = λ n l. rename_names c.args.from.now c.args.to.now n l l.keys in
     let is : c.ticket_of-schema.result ≡ schema = c.ticket_of-schema.ensures ∙ ap (λ (key : KeyName). ticket_of key c.args.scopes.now.keys c.args.scopes.now.tickets) c.in-Ok.ensures.made in
     comes-played c.lock_names.new.space c.lock_names.new.self (Room (row schema locks)) (row schema locks) c.lock_names.result (room-found (row schema locks))
-    (subst (λ (n : ℕ). IsPlayed g.S.LockSpace.joins (row n locks) c.args.space.now c.args.self.now c.lock_names.result c.lock_names.new.space c.lock_names.new.self) is
-    (subst (λ (l : LockList). IsPlayed g.S.LockSpace.joins (row c.ticket_of-schema.result l) c.args.space.now c.args.self.now c.lock_names.result c.lock_names.new.space c.lock_names.new.self)
+    (subst (λ (n : ℕ). IsPlayed g.S.LockSpace (row n locks) c.args.space.now c.args.self.now c.lock_names.result c.lock_names.new.space c.lock_names.new.self) is
+    (subst (λ (l : LockList). IsPlayed g.S.LockSpace (row c.ticket_of-schema.result l) c.args.space.now c.args.self.now c.lock_names.result c.lock_names.new.space c.lock_names.new.self)
     (c.in-Ok-in_key_order.ensures ∙ ap (λ (t : List KeyName). record { keys = in_key_order t; tickets = [] }) c.in-Ok-both.ensures) c.lock_names.ensures.run))

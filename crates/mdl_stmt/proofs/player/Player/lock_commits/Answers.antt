@@ -19,12 +19,12 @@ returns-in-Had-clause-run g c =
     let inside = c.self.inside in
     let after : ExplicitLocks → PlayerView = λ explicit. player_of inside.cache explicit inside.context inside.is_open inside.has_written inside.savepoints in
     let wish : KeyName → Wish = λ k. record { key = k; mode = S; duration = Explicit } in
-    let got : IsGot g.S.LockSpace.joins (wish commit_key) c.args.space.now (after c.lock_writes.new.self) c.get.result c.get.new.space c.get.new.self =
-    subst (λ (k : KeyName). IsGot g.S.LockSpace.joins (wish k) c.args.space.now (after c.lock_writes.new.self) c.get.result c.get.new.space c.get.new.self) c.commit-commits.ensures c.get.ensures.run in
+    let got : IsGot g.S.LockSpace (wish commit_key) c.args.space.now (after c.lock_writes.new.self) c.get.result c.get.new.space c.get.new.self =
+    subst (λ (k : KeyName). IsGot g.S.LockSpace (wish k) c.args.space.now (after c.lock_writes.new.self) c.get.result c.get.new.space c.get.new.self) c.commit-commits.ensures c.get.ensures.run in
     let rest : Row Reply = Acquire (wish commit_key) read_lock_under in
-    let first : Comes g.S.LockSpace.joins c.args.space.now c.args.self.now (play (lock_commits c.args.global)) c.args.space.now (after c.lock_writes.new.self) (play rest) =
-    subst (λ (p : PlayerView). Comes g.S.LockSpace.joins c.args.space.now p (play (lock_commits c.args.global)) c.args.space.now (after c.lock_writes.new.self) (play rest)) c.self.view_is
-    (subst (λ (e : ExplicitLocks). Comes g.S.LockSpace.joins c.args.space.now (after inside.explicit) (play (lock_commits c.args.global)) c.args.space.now (after e) (play rest)) (sym c.lock_writes.ensures)
+    let first : Comes g.S.LockSpace c.args.space.now c.args.self.now (play (lock_commits c.args.global)) c.args.space.now (after c.lock_writes.new.self) (play rest) =
+    subst (λ (p : PlayerView). Comes g.S.LockSpace c.args.space.now p (play (lock_commits c.args.global)) c.args.space.now (after c.lock_writes.new.self) (play rest)) c.self.view_is
+    (subst (λ (e : ExplicitLocks). Comes g.S.LockSpace c.args.space.now (after inside.explicit) (play (lock_commits c.args.global)) c.args.space.now (after e) (play rest)) (sym c.lock_writes.ensures)
     (record { so = λ mark pause s run. run })) in
     comes-then first (comes-then ((rw c.in-Had.is at got) read_lock_under) c.read_lock_under.ensures.run)
 
@@ -33,12 +33,12 @@ returns-in-Waits-clause-run g c =
     let inside = c.self.inside in
     let after : ExplicitLocks → PlayerView = λ explicit. player_of inside.cache explicit inside.context inside.is_open inside.has_written inside.savepoints in
     let wish : KeyName → Wish = λ k. record { key = k; mode = S; duration = Explicit } in
-    let got : IsGot g.S.LockSpace.joins (wish commit_key) c.args.space.now (after c.lock_writes.new.self) c.get.result c.get.new.space c.get.new.self =
-    subst (λ (k : KeyName). IsGot g.S.LockSpace.joins (wish k) c.args.space.now (after c.lock_writes.new.self) c.get.result c.get.new.space c.get.new.self) c.commit-commits.ensures c.get.ensures.run in
+    let got : IsGot g.S.LockSpace (wish commit_key) c.args.space.now (after c.lock_writes.new.self) c.get.result c.get.new.space c.get.new.self =
+    subst (λ (k : KeyName). IsGot g.S.LockSpace (wish k) c.args.space.now (after c.lock_writes.new.self) c.get.result c.get.new.space c.get.new.self) c.commit-commits.ensures c.get.ensures.run in
     let rest : Row Reply = Acquire (wish commit_key) read_lock_under in
-    let first : Comes g.S.LockSpace.joins c.args.space.now c.args.self.now (play (lock_commits c.args.global)) c.args.space.now (after c.lock_writes.new.self) (play rest) =
-    subst (λ (p : PlayerView). Comes g.S.LockSpace.joins c.args.space.now p (play (lock_commits c.args.global)) c.args.space.now (after c.lock_writes.new.self) (play rest)) c.self.view_is
-    (subst (λ (e : ExplicitLocks). Comes g.S.LockSpace.joins c.args.space.now (after inside.explicit) (play (lock_commits c.args.global)) c.args.space.now (after e) (play rest)) (sym c.lock_writes.ensures)
+    let first : Comes g.S.LockSpace c.args.space.now c.args.self.now (play (lock_commits c.args.global)) c.args.space.now (after c.lock_writes.new.self) (play rest) =
+    subst (λ (p : PlayerView). Comes g.S.LockSpace c.args.space.now p (play (lock_commits c.args.global)) c.args.space.now (after c.lock_writes.new.self) (play rest)) c.self.view_is
+    (subst (λ (e : ExplicitLocks). Comes g.S.LockSpace c.args.space.now (after inside.explicit) (play (lock_commits c.args.global)) c.args.space.now (after e) (play rest)) (sym c.lock_writes.ensures)
     (record { so = λ mark pause s run. run })) in
     comes-waits first ((rw c.in-Waits.is at got) read_lock_under)
 
@@ -47,11 +47,11 @@ returns-clause-run g c =
     let inside = c.self.inside in
     let after : ExplicitLocks → PlayerView = λ explicit. player_of inside.cache explicit inside.context inside.is_open inside.has_written inside.savepoints in
     let wish : KeyName → Wish = λ k. record { key = k; mode = S; duration = Explicit } in
-    let got : IsGot g.S.LockSpace.joins (wish commit_key) c.args.space.now (after c.lock_writes.new.self) c.get.result c.get.new.space c.get.new.self =
-    subst (λ (k : KeyName). IsGot g.S.LockSpace.joins (wish k) c.args.space.now (after c.lock_writes.new.self) c.get.result c.get.new.space c.get.new.self) c.commit-commits.ensures c.get.ensures.run in
+    let got : IsGot g.S.LockSpace (wish commit_key) c.args.space.now (after c.lock_writes.new.self) c.get.result c.get.new.space c.get.new.self =
+    subst (λ (k : KeyName). IsGot g.S.LockSpace (wish k) c.args.space.now (after c.lock_writes.new.self) c.get.result c.get.new.space c.get.new.self) c.commit-commits.ensures c.get.ensures.run in
     let rest : Row Reply = Acquire (wish commit_key) read_lock_under in
-    let first : Comes g.S.LockSpace.joins c.args.space.now c.args.self.now (play (lock_commits c.args.global)) c.args.space.now (after c.lock_writes.new.self) (play rest) =
-    subst (λ (p : PlayerView). Comes g.S.LockSpace.joins c.args.space.now p (play (lock_commits c.args.global)) c.args.space.now (after c.lock_writes.new.self) (play rest)) c.self.view_is
-    (subst (λ (e : ExplicitLocks). Comes g.S.LockSpace.joins c.args.space.now (after inside.explicit) (play (lock_commits c.args.global)) c.args.space.now (after e) (play rest)) (sym c.lock_writes.ensures)
+    let first : Comes g.S.LockSpace c.args.space.now c.args.self.now (play (lock_commits c.args.global)) c.args.space.now (after c.lock_writes.new.self) (play rest) =
+    subst (λ (p : PlayerView). Comes g.S.LockSpace c.args.space.now p (play (lock_commits c.args.global)) c.args.space.now (after c.lock_writes.new.self) (play rest)) c.self.view_is
+    (subst (λ (e : ExplicitLocks). Comes g.S.LockSpace c.args.space.now (after inside.explicit) (play (lock_commits c.args.global)) c.args.space.now (after e) (play rest)) (sym c.lock_writes.ensures)
     (record { so = λ mark pause s run. run })) in
     comes-then first ((rw c.in-Ends.is at got) read_lock_under)

@@ -13,7 +13,7 @@ invariant-loop-key g l = record {
   idle : l.self.context.wait ≡ None;
   goes_on : GoesOn g.S.LockSpace l.fn.space l.fn.self l.space l.self;
   keys : l.locks.keys ≡ l.fn.locks.keys;
-  run : (rest : List ℕ → Row Reply) → Comes g.S.LockSpace.joins l.fn.space l.fn.self (play (lock_rest_by (wish_by l.fn.locking) l.fn.locks rest)) l.space l.self (play (lock_rest_by (wish_by l.fn.locking) l.locks rest));
+  run : (rest : List ℕ → Row Reply) → Comes g.S.LockSpace l.fn.space l.fn.self (play (lock_rest_by (wish_by l.fn.locking) l.fn.locks rest)) l.space l.self (play (lock_rest_by (wish_by l.fn.locking) l.locks rest));
 }
 
 abbrev pub decreases-loop-key : goal.decreases-loop-key

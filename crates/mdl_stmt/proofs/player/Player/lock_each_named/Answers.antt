@@ -15,12 +15,12 @@ use Rattle.mdl_stmt.proofs.player.Player.lock_each_named.Goals as goal
 pub returns-in-Had-clause-run : goal.returns-in-Had-clause-run
 returns-in-Had-clause-run g c =
     comes-then ((rw c.in-Had.is at c.lock_each.ensures.run) (keep_locked c.args.tables.now c.args.locks.keys c.args.scopes.items))
-    (subst (λ (keys : List KeyName). IsPlayed g.S.LockSpace.joins (keep_locked c.args.tables.now keys c.args.scopes.items c.in-Had.locks.tickets) c.lock_each.new.space c.lock_each.new.self (played.Ends c.keep_locked.result) c.keep_locked.new.space c.keep_locked.new.self)
+    (subst (λ (keys : List KeyName). IsPlayed g.S.LockSpace (keep_locked c.args.tables.now keys c.args.scopes.items c.in-Had.locks.tickets) c.lock_each.new.space c.lock_each.new.self (played.Ends c.keep_locked.result) c.keep_locked.new.space c.keep_locked.new.self)
     (rw c.in-Had.is at c.lock_each.ensures.keys) c.keep_locked.ensures.run)
 
 pub returns-in-Waits-clause-run : goal.returns-in-Waits-clause-run
 returns-in-Waits-clause-run g c =
     let rest : List KeyName → List ℕ → Row Reply = λ keys. keep_locked c.args.tables.now keys c.args.scopes.items in
-    subst (λ (keys : List KeyName). Waits g.S.LockSpace.joins c.args.space.now c.args.self.now (play (lock_rest_by (table_lock c.args.tables.now) c.args.locks (rest c.args.locks.keys))) c.in-Waits.key c.in-Waits.mode
+    subst (λ (keys : List KeyName). Waits g.S.LockSpace c.args.space.now c.args.self.now (play (lock_rest_by (table_lock c.args.tables.now) c.args.locks (rest c.args.locks.keys))) c.in-Waits.key c.in-Waits.mode
     (λ ticket. lock_rest_by (table_lock c.args.tables.now) (with_ticket ticket c.in-Waits.locks) (rest keys)) c.lock_each.new.space c.lock_each.new.self)
     (sym (rw c.in-Waits.is at c.lock_each.ensures.keys)) ((rw c.in-Waits.is at c.lock_each.ensures.run) (rest c.args.locks.keys))

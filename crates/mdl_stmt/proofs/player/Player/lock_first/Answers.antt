@@ -18,11 +18,11 @@ pub returns-then-locks_out-clause-run : goal.returns-then-locks_out-clause-run
 returns-then-locks_out-clause-run g c =
     let rest = commit_first (after_commit c.args.statement.now) in
     let out = sym c.locks_out.ensures ∙ c.if-locks_out.true in
-    subst (λ (e : Ending). Comes g.S.LockSpace.joins c.args.space.now c.args.self.now (play (lock_first c.args.tables.now (after_commit c.args.statement.now))) c.args.space.now c.args.self.now (closing e)) (sym c.failing.ensures)
+    subst (λ (e : Ending). Comes g.S.LockSpace c.args.space.now c.args.self.now (play (lock_first c.args.tables.now (after_commit c.args.statement.now))) c.args.space.now c.args.self.now (closing e)) (sym c.failing.ensures)
     (comes-as {x = c.args.self.now} (play (lock_first c.args.tables.now (after_commit c.args.statement.now))) (closing (Answers (reply.Error ConflictingReadLock)))
     (λ mark. ap (λ (t : Bool). play (check (not t) ConflictingReadLock >> rest) mark (at_rest c.args.self.now)) (sym out)
     ∙ first-so c.args.self.now rest (writes_any c.args.tables.now) (is_some c.args.self.now.state.read_lock) refl mark)
-    (comes-same g.S.LockSpace.joins c.args.space.now c.args.self.now (closing (Answers (reply.Error ConflictingReadLock)))))
+    (comes-same g.S.LockSpace c.args.space.now c.args.self.now (closing (Answers (reply.Error ConflictingReadLock)))))
 
 pub returns-clause-run : goal.returns-clause-run
 returns-clause-run g c =
@@ -32,5 +32,5 @@ returns-clause-run g c =
     (comes-as (play (lock_first c.args.tables.now (after_commit c.args.statement.now))) (play rest)
     (λ mark. ap (λ (t : Bool). play (check (not t) ConflictingReadLock >> rest) mark (at_rest c.args.self.now)) (sym free)
     ∙ first-so c.args.self.now rest (writes_any c.args.tables.now) (is_some c.args.self.now.state.read_lock) refl mark)
-    (comes-same g.S.LockSpace.joins c.args.space.now c.args.self.now (play rest)))
+    (comes-same g.S.LockSpace c.args.space.now c.args.self.now (play rest)))
     c.commit_first.ensures.run

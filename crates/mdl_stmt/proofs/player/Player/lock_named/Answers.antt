@@ -18,5 +18,5 @@ returns-in-Ok-clause-run g c =
     let locks : LockList = record { keys = in_key_order (tables_of c.args.tables.now); tickets = [] } in
     let row : LockList → Row Reply = λ l. lock_rest_by (table_lock c.args.tables.now) l (keep_locked c.args.tables.now l.keys c.args.scopes.items) in
     comes-played c.lock_each_named.new.space c.lock_each_named.new.self (Room (row locks)) (row locks) c.lock_each_named.result (room-found (row locks))
-    (subst (λ (l : LockList). IsPlayed g.S.LockSpace.joins (row l) c.args.space.now c.args.self.now c.lock_each_named.result c.lock_each_named.new.space c.lock_each_named.new.self)
+    (subst (λ (l : LockList). IsPlayed g.S.LockSpace (row l) c.args.space.now c.args.self.now c.lock_each_named.result c.lock_each_named.new.space c.lock_each_named.new.self)
     (c.in-Ok.ensures ∙ ap (λ (t : List TableLock). record { keys = in_key_order (tables_of t); tickets = [] }) c.as_slice.ensures) c.lock_each_named.ensures.run)

@@ -21,12 +21,12 @@ returns-in-Had-clause-run g c =
     let to : c.ticket_of-in-Had.result ≡ ticket_of c.args.to.now c.args.locks.keys tickets = c.ticket_of-in-Had.ensures ∙ ap (λ (keys : List KeyName). ticket_of c.args.to.now keys tickets) same in
     comes-played c.rename_under.new.space c.rename_under.new.self (rename_names c.args.from.now c.args.to.now c.args.schema c.args.locks c.args.locks.keys) (rest tickets) c.rename_under.result
     ((rw c.in-Had.is at c.lock_all.ensures.run) rest)
-    (subst (λ (row : Row Reply). IsPlayed g.S.LockSpace.joins row c.lock_all.new.space c.lock_all.new.self c.rename_under.result c.rename_under.new.space c.rename_under.new.self)
+    (subst (λ (row : Row Reply). IsPlayed g.S.LockSpace row c.lock_all.new.space c.lock_all.new.self c.rename_under.result c.rename_under.new.space c.rename_under.new.self)
     (ap (λ (n : ℕ). rename_under c.args.schema n c.ticket_of-in-Had.result) from ∙ ap (rename_under c.args.schema (ticket_of c.args.from.now c.args.locks.keys tickets)) to) c.rename_under.ensures.run)
 
 pub returns-in-Waits-clause-run : goal.returns-in-Waits-clause-run
 returns-in-Waits-clause-run g c =
     let rest : List KeyName → List ℕ → Row Reply = λ keys tickets. rename_under c.args.schema (ticket_of c.args.from.now keys tickets) (ticket_of c.args.to.now keys tickets) in
-    subst (λ (keys : List KeyName). Waits g.S.LockSpace.joins c.args.space.now c.args.self.now (play (rename_names c.args.from.now c.args.to.now c.args.schema c.args.locks c.args.locks.keys)) c.in-Waits.key c.in-Waits.mode
+    subst (λ (keys : List KeyName). Waits g.S.LockSpace c.args.space.now c.args.self.now (play (rename_names c.args.from.now c.args.to.now c.args.schema c.args.locks c.args.locks.keys)) c.in-Waits.key c.in-Waits.mode
     (λ ticket. rename_names c.args.from.now c.args.to.now c.args.schema (with_ticket ticket c.in-Waits.locks) keys) c.lock_all.new.space c.lock_all.new.self)
     (sym (rw c.in-Waits.is at c.lock_all.ensures.keys)) ((rw c.in-Waits.is at c.lock_all.ensures.run) (rest c.args.locks.keys))

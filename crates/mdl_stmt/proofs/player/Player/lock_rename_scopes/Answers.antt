@@ -19,12 +19,12 @@ returns-in-Had-clause-run g c =
     let same : c.in-Had.scopes.keys ≡ c.args.locks.keys = rw c.in-Had.is at c.lock_all.ensures.keys in
     comes-played c.lock_and_rename.new.space c.lock_and_rename.new.self (rename_scopes c.args.from.now c.args.to.now c.args.locks c.args.locks.keys) (rest c.args.locks.keys tickets) c.lock_and_rename.result
     ((rw c.in-Had.is at c.lock_all.ensures.run) (rest c.args.locks.keys))
-    (subst (λ (keys : List KeyName). IsPlayed g.S.LockSpace.joins (rest keys tickets) c.lock_all.new.space c.lock_all.new.self c.lock_and_rename.result c.lock_and_rename.new.space c.lock_and_rename.new.self)
+    (subst (λ (keys : List KeyName). IsPlayed g.S.LockSpace (rest keys tickets) c.lock_all.new.space c.lock_all.new.self c.lock_and_rename.result c.lock_and_rename.new.space c.lock_and_rename.new.self)
     same c.lock_and_rename.ensures.run)
 
 pub returns-in-Waits-clause-run : goal.returns-in-Waits-clause-run
 returns-in-Waits-clause-run g c =
     let rest : List KeyName → List ℕ → Row Reply = λ keys tickets. lock_and_rename c.args.from.now c.args.to.now (ticket_of (schema_of c.args.to.now) keys tickets) in
-    subst (λ (keys : List KeyName). Waits g.S.LockSpace.joins c.args.space.now c.args.self.now (play (rename_scopes c.args.from.now c.args.to.now c.args.locks c.args.locks.keys)) c.in-Waits.key c.in-Waits.mode
+    subst (λ (keys : List KeyName). Waits g.S.LockSpace c.args.space.now c.args.self.now (play (rename_scopes c.args.from.now c.args.to.now c.args.locks c.args.locks.keys)) c.in-Waits.key c.in-Waits.mode
     (λ ticket. rename_scopes c.args.from.now c.args.to.now (with_ticket ticket c.in-Waits.locks) keys) c.lock_all.new.space c.lock_all.new.self)
     (sym (rw c.in-Waits.is at c.lock_all.ensures.keys)) ((rw c.in-Waits.is at c.lock_all.ensures.run) (rest c.args.locks.keys))

@@ -15,8 +15,8 @@ pub returns-in-Had-clause-run : goal.returns-in-Had-clause-run
 returns-in-Had-clause-run g c =
     let wish : KeyName → Wish = λ k. record { key = k; mode = IX; duration = Transaction } in
     let table = c.args.alteration.now.table in
-    let got : IsGot g.S.LockSpace.joins (wish (schema_of table)) c.args.space.now c.args.self.now c.get.result c.get.new.space c.get.new.self =
-    subst (λ (k : KeyName). IsGot g.S.LockSpace.joins (wish k) c.args.space.now c.args.self.now c.get.result c.get.new.space c.get.new.self) c.in-Ok.ensures.made c.get.ensures.run in
+    let got : IsGot g.S.LockSpace (wish (schema_of table)) c.args.space.now c.args.self.now c.get.result c.get.new.space c.get.new.self =
+    subst (λ (k : KeyName). IsGot g.S.LockSpace (wish k) c.args.space.now c.args.self.now c.get.result c.get.new.space c.get.new.self) c.in-Ok.ensures.made c.get.ensures.run in
     let rest = alter_in_schema c.args.alteration.now in
     comes-played c.alter_in_schema.new.space c.alter_in_schema.new.self (lock_schema_and_alter c.args.alteration.now) rest c.alter_in_schema.result
     (comes-then (room-found (Acquire (wish (schema_of table)) (λ _. rest))) ((rw c.in-Had.is at got) (λ _. rest))) c.alter_in_schema.ensures.run
@@ -25,8 +25,8 @@ pub returns-in-Waits-clause-run : goal.returns-in-Waits-clause-run
 returns-in-Waits-clause-run g c =
     let wish : KeyName → Wish = λ k. record { key = k; mode = IX; duration = Transaction } in
     let table = c.args.alteration.now.table in
-    let got : IsGot g.S.LockSpace.joins (wish (schema_of table)) c.args.space.now c.args.self.now c.get.result c.get.new.space c.get.new.self =
-    subst (λ (k : KeyName). IsGot g.S.LockSpace.joins (wish k) c.args.space.now c.args.self.now c.get.result c.get.new.space c.get.new.self) c.in-Ok.ensures.made c.get.ensures.run in
+    let got : IsGot g.S.LockSpace (wish (schema_of table)) c.args.space.now c.args.self.now c.get.result c.get.new.space c.get.new.self =
+    subst (λ (k : KeyName). IsGot g.S.LockSpace (wish k) c.args.space.now c.args.self.now c.get.result c.get.new.space c.get.new.self) c.in-Ok.ensures.made c.get.ensures.run in
     let rest = alter_in_schema c.args.alteration.now in
     room-waits (Acquire (wish (schema_of table)) (λ _. rest)) ((rw c.in-Waits.is at got) (λ _. rest))
 
@@ -34,7 +34,7 @@ pub returns-clause-run : goal.returns-clause-run
 returns-clause-run g c =
     let wish : KeyName → Wish = λ k. record { key = k; mode = IX; duration = Transaction } in
     let table = c.args.alteration.now.table in
-    let got : IsGot g.S.LockSpace.joins (wish (schema_of table)) c.args.space.now c.args.self.now c.get.result c.get.new.space c.get.new.self =
-    subst (λ (k : KeyName). IsGot g.S.LockSpace.joins (wish k) c.args.space.now c.args.self.now c.get.result c.get.new.space c.get.new.self) c.in-Ok.ensures.made c.get.ensures.run in
+    let got : IsGot g.S.LockSpace (wish (schema_of table)) c.args.space.now c.args.self.now c.get.result c.get.new.space c.get.new.self =
+    subst (λ (k : KeyName). IsGot g.S.LockSpace (wish k) c.args.space.now c.args.self.now c.get.result c.get.new.space c.get.new.self) c.in-Ok.ensures.made c.get.ensures.run in
     let rest = alter_in_schema c.args.alteration.now in
     comes-then (room-found (Acquire (wish (schema_of table)) (λ _. rest))) ((rw c.in-Ends.is at got) (λ _. rest))

@@ -14,8 +14,8 @@ use Rattle.mdl_stmt.proofs.player.Player.lock_schema_and_create.Goals as goal
 pub returns-in-Had-clause-run : goal.returns-in-Had-clause-run
 returns-in-Had-clause-run g c =
     let wish : KeyName → Wish = λ k. record { key = k; mode = IX; duration = Transaction } in
-    let got : IsGot g.S.LockSpace.joins (wish (schema_of c.args.table.now)) c.args.space.now c.args.self.now c.get.result c.get.new.space c.get.new.self =
-    subst (λ (k : KeyName). IsGot g.S.LockSpace.joins (wish k) c.args.space.now c.args.self.now c.get.result c.get.new.space c.get.new.self) c.in-Ok.ensures.made c.get.ensures.run in
+    let got : IsGot g.S.LockSpace (wish (schema_of c.args.table.now)) c.args.space.now c.args.self.now c.get.result c.get.new.space c.get.new.self =
+    subst (λ (k : KeyName). IsGot g.S.LockSpace (wish k) c.args.space.now c.args.self.now c.get.result c.get.new.space c.get.new.self) c.in-Ok.ensures.made c.get.ensures.run in
     let rest = lock_and_create c.args.table.now c.args.columns.now in
     comes-played c.lock_and_create.new.space c.lock_and_create.new.self (lock_schema_and_create c.args.table.now c.args.columns.now) (rest c.in-Had.over) c.lock_and_create.result
     (comes-then (room-found (Acquire (wish (schema_of c.args.table.now)) rest)) ((rw c.in-Had.is at got) rest)) c.lock_and_create.ensures.run
@@ -23,15 +23,15 @@ returns-in-Had-clause-run g c =
 pub returns-in-Waits-clause-run : goal.returns-in-Waits-clause-run
 returns-in-Waits-clause-run g c =
     let wish : KeyName → Wish = λ k. record { key = k; mode = IX; duration = Transaction } in
-    let got : IsGot g.S.LockSpace.joins (wish (schema_of c.args.table.now)) c.args.space.now c.args.self.now c.get.result c.get.new.space c.get.new.self =
-    subst (λ (k : KeyName). IsGot g.S.LockSpace.joins (wish k) c.args.space.now c.args.self.now c.get.result c.get.new.space c.get.new.self) c.in-Ok.ensures.made c.get.ensures.run in
+    let got : IsGot g.S.LockSpace (wish (schema_of c.args.table.now)) c.args.space.now c.args.self.now c.get.result c.get.new.space c.get.new.self =
+    subst (λ (k : KeyName). IsGot g.S.LockSpace (wish k) c.args.space.now c.args.self.now c.get.result c.get.new.space c.get.new.self) c.in-Ok.ensures.made c.get.ensures.run in
     let rest = lock_and_create c.args.table.now c.args.columns.now in
     room-waits (Acquire (wish (schema_of c.args.table.now)) rest) ((rw c.in-Waits.is at got) rest)
 
 pub returns-clause-run : goal.returns-clause-run
 returns-clause-run g c =
     let wish : KeyName → Wish = λ k. record { key = k; mode = IX; duration = Transaction } in
-    let got : IsGot g.S.LockSpace.joins (wish (schema_of c.args.table.now)) c.args.space.now c.args.self.now c.get.result c.get.new.space c.get.new.self =
-    subst (λ (k : KeyName). IsGot g.S.LockSpace.joins (wish k) c.args.space.now c.args.self.now c.get.result c.get.new.space c.get.new.self) c.in-Ok.ensures.made c.get.ensures.run in
+    let got : IsGot g.S.LockSpace (wish (schema_of c.args.table.now)) c.args.space.now c.args.self.now c.get.result c.get.new.space c.get.new.self =
+    subst (λ (k : KeyName). IsGot g.S.LockSpace (wish k) c.args.space.now c.args.self.now c.get.result c.get.new.space c.get.new.self) c.in-Ok.ensures.made c.get.ensures.run in
     let rest = lock_and_create c.args.table.now c.args.columns.now in
     comes-then (room-found (Acquire (wish (schema_of c.args.table.now)) rest)) ((rw c.in-Ends.is at got) rest)

@@ -18,7 +18,7 @@ returns-in-Ok-clause-run g c =
     let row : LockList → Row Reply = λ l. lock_rest l (lock_named c.args.tables.now) in
     comes-played c.lock_around.new.space c.lock_around.new.self (lock_tables_after_commit c.args.tables.now) (row locks) c.lock_around.result
     (comes-then (c.unlock_tables.ensures.run (λ _. Room (row locks))) (room-found (row locks)))
-    (subst (λ (l : LockList). IsPlayed g.S.LockSpace.joins (row l) c.unlock_tables.new.space c.unlock_tables.new.self c.lock_around.result c.lock_around.new.space c.lock_around.new.self)
+    (subst (λ (l : LockList). IsPlayed g.S.LockSpace (row l) c.unlock_tables.new.space c.unlock_tables.new.self c.lock_around.result c.lock_around.new.space c.lock_around.new.self)
     (c.in-Ok.ensures ∙ ap (λ (t : List TableLock). record { keys = scopes_around (written_tables t); tickets = [] }) c.as_slice.ensures) c.lock_around.ensures.run)
 
 pub returns-in-Err-clause-run : goal.returns-in-Err-clause-run

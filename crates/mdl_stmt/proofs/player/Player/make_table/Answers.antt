@@ -9,6 +9,6 @@ use Rattle.mdl_stmt.proofs.player.Player.make_table.Goals as goal
 
 pub returns-in-Ok-clause-run : goal.returns-in-Ok-clause-run
 returns-in-Ok-clause-run g c =
-    room-step g.S.LockSpace.joins (redefine c.args.ticket (Create (Table c.args.columns.now))) c.args.space.now c.redefine.new.space c.args.self.now c.redefine.new.self c.redefine.result
-    (subst (λ (columns : List (List ℕ)). IsStep g.S.LockSpace.joins (redefine c.args.ticket (Create (Table columns))) c.args.space.now c.args.self.now c.redefine.result c.redefine.new.space c.redefine.new.self)
+    room-step g.S.LockSpace (redefine c.args.ticket (Create (Table c.args.columns.now))) c.args.space.now c.redefine.new.space c.args.self.now c.redefine.new.self c.redefine.result
+    (subst (λ (columns : List (List ℕ)). IsStep g.S.LockSpace (redefine c.args.ticket (Create (Table columns))) c.args.space.now c.args.self.now c.redefine.result c.redefine.new.space c.redefine.new.self)
     c.in-Ok.ensures.cases c.redefine.ensures.run)

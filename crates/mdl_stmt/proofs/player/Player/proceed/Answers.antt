@@ -11,5 +11,5 @@ use Rattle.mdl_stmt.proofs.player.Player.proceed.Goals as goal
 pub returns-in-Commit-clause-run : goal.returns-in-Commit-clause-run
 returns-in-Commit-clause-run g c =
     let rest = after_commit c.in-Commit.statement.now in
-    subst (λ (s : Stage). IsPlayed g.S.LockSpace.joins (rest_of s c.args.ticket) c.args.space.now c.args.self.now c.after_commit.result c.after_commit.new.space c.after_commit.new.self) (sym c.in-Commit.is)
+    subst (λ (s : Stage). IsPlayed g.S.LockSpace (rest_of s c.args.ticket) c.args.space.now c.args.self.now c.after_commit.result c.after_commit.new.space c.after_commit.new.self) (sym c.in-Commit.is)
     (comes-played c.after_commit.new.space c.after_commit.new.self (end_under c.args.ticket >> rest) rest c.after_commit.result (c.end_under.ensures.run (λ _. rest)) c.after_commit.ensures.run)

@@ -1,10 +1,21 @@
--- The session has what it had, and its cache keeps what it met.
+-- A definition is read with the cache, or missed. The session has what it had, and its cache keeps what it met.
 use Rattle.std.proofs.Common.{◌∙◌, ap, ◌≡◌, ℕ, Some, subst}
 use Rattle.mdl_calls.specs.Words.{AreMet}
 use Rattle.mdl_stmt.specs.Players.{PlayerView, player_of}
 use Rattle.mdl_stmt.proofs.AttendanceLemmas.{goes_on-cached}
-use Rattle.mdl_stmt.proofs.CallLemmas.{goes_on-call}
+use Rattle.mdl_stmt.proofs.CallLemmas.{goes_on-call, read-had, read-refused}
 use Rattle.mdl_stmt.proofs.player.Player.read.Goals as goal
+use Rattle.mdl_stmt.proofs.player.Player.read.Goals.{in-Ok, in-Err}
+
+pub returns-clause-run : goal.returns-clause-run
+returns-clause-run g c =
+    let before : PlayerView = player_of c.self.inside.cache c.self.inside.explicit c.self.inside.context c.self.inside.is_open c.self.inside.has_written c.self.inside.savepoints in
+    let joined = rw c.who.ensures at c.read_kept.ensures.joined in
+    let used = rw c.who.ensures at c.read_kept.ensures.used in
+    rw (← c.self.view_is) (elim c.match-read_kept.branch [
+      | in-Ok w ↦ rw w.result-is (read-had g.S.LockSpace c.args.ticket before c.read_kept.new.cache w.in-Ok.standing _ _ (rw w.in-Ok.is at joined) (rw w.in-Ok.is at used))
+      | in-Err w ↦ rw w.result-is (rw w.ending_of_refusal.ensures (read-refused g.S.LockSpace c.args.ticket before c.read_kept.new.cache w.in-Err.refusal _ _ (rw w.in-Err.is at joined) (rw w.in-Err.is at used)))
+    ])
 
 pub returns-clause-goes_on : goal.returns-clause-goes_on
 returns-clause-goes_on g c =

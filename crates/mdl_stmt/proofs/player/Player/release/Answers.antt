@@ -10,5 +10,5 @@ pub returns-clause-run : goal.returns-clause-run
 returns-clause-run g c =
     let before : PlayerView = player_of c.self.inside.cache c.self.inside.explicit c.self.inside.context c.self.inside.is_open c.self.inside.has_written c.self.inside.savepoints in
     let after : PlayerView = player_of c.self.inside.cache c.self.inside.explicit c.release-released.new.self c.self.inside.is_open c.self.inside.has_written c.self.inside.savepoints in
-    subst (λ (p : PlayerView). IsStep g.S.LockSpace.joins (release c.args.ticket) c.args.space.now p (Ok tt) c.release-released.new.space after) c.self.view_is
-    (λ rest. released g.S.LockSpace.joins c.args.ticket before c.release-released.result c.release-released.new.self (rest tt) _ _ c.release-released.ensures.run)
+    subst (λ (p : PlayerView). IsStep g.S.LockSpace (release c.args.ticket) c.args.space.now p (Ok tt) c.release-released.new.space after) c.self.view_is
+    (λ rest. released g.S.LockSpace c.args.ticket before c.release-released.result c.release-released.new.self (rest tt) _ _ c.release-released.ensures.run)

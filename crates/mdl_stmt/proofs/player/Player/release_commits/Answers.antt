@@ -6,4 +6,4 @@ use Rattle.mdl_stmt.proofs.player.Player.release_commits.Goals as goal
 
 pub returns-in-Some-clause-run : goal.returns-in-Some-clause-run
 returns-in-Some-clause-run g c =
-    subst (λ (o : Option ℕ). IsStep g.S.LockSpace.joins (release_commits o) c.args.space.now c.args.self.now (Ok tt) c.release.new.space c.release.new.self) (sym c.in-Some.is) c.release.ensures.run
+    subst (λ (o : Option ℕ). IsStep g.S.LockSpace (release_commits o) c.args.space.now c.args.self.now (Ok tt) c.release.new.space c.release.new.self) (sym c.in-Some.is) c.release.ensures.run

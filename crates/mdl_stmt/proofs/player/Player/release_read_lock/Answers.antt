@@ -12,6 +12,6 @@ use Rattle.mdl_stmt.proofs.player.Player.release_read_lock.Goals as goal
 pub returns-in-Some-clause-run : goal.returns-in-Some-clause-run
 returns-in-Some-clause-run g c =
     let lock = c.in-Some.lock in
-    subst (λ (o : Option ReadLock). IsStep g.S.LockSpace.joins (release_read_lock o) c.args.space.now c.args.self.now (Ok tt) c.release.new.space c.release.new.self) (sym c.in-Some.is)
+    subst (λ (o : Option ReadLock). IsStep g.S.LockSpace (release_read_lock o) c.args.space.now c.args.self.now (Ok tt) c.release.new.space c.release.new.self) (sym c.in-Some.is)
     (λ rest. comes-then (comes-row _ _ (bind-assoc (release_commits lock.commit) (λ _. release lock.global) rest))
     (comes-then (c.release_commits.ensures.run (λ _. release lock.global >>= rest)) (c.release.ensures.run rest)))

@@ -17,5 +17,5 @@ returns-in-Ok-scopes_of-clause-run g c =
     let locks : LockList = record { keys = both_scopes c.args.from.now c.args.to.now; tickets = [] } in
     let row : LockList → Row Reply = λ l. rename_scopes c.args.from.now c.args.to.now l l.keys in
     comes-played c.lock_rename_scopes.new.space c.lock_rename_scopes.new.self (Room (row locks)) (row locks) c.lock_rename_scopes.result (room-found (row locks))
-    (subst (λ (l : LockList). IsPlayed g.S.LockSpace.joins (row l) c.args.space.now c.args.self.now c.lock_rename_scopes.result c.lock_rename_scopes.new.space c.lock_rename_scopes.new.self)
+    (subst (λ (l : LockList). IsPlayed g.S.LockSpace (row l) c.args.space.now c.args.self.now c.lock_rename_scopes.result c.lock_rename_scopes.new.space c.lock_rename_scopes.new.self)
     (c.in-Ok-scopes_of.ensures ∙ ap (λ (t : List KeyName). record { keys = global_key ∷ in_key_order (map schema_of t); tickets = [] }) c.in-Ok.ensures) c.lock_rename_scopes.ensures.run)

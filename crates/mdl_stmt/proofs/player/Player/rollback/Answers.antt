@@ -9,5 +9,5 @@ use Rattle.mdl_stmt.proofs.player.Player.rollback.Goals as goal
 
 pub returns-then-self-clause-run : goal.returns-then-self-clause-run
 returns-then-self-clause-run g c = λ rest.
-    comes-as (play (rollback >>= rest)) (play (end_transaction >>= rest)) (rolled-so g.S.LockSpace.joins c.args.self.now true (rest tt) (sym (ap (λ (p : PlayerView). p.state.is_open) c.self.view_is) ∙ c.if-self.true))
+    comes-as (play (rollback >>= rest)) (play (end_transaction >>= rest)) (rolled-so g.S.LockSpace c.args.self.now true (rest tt) (sym (ap (λ (p : PlayerView). p.state.is_open) c.self.view_is) ∙ c.if-self.true))
     (c.end_transaction.ensures.run rest)

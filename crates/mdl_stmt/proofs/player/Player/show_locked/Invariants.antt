@@ -8,7 +8,7 @@ use Rattle.mdl_stmt.proofs.player.Player.show_locked.Given as goal
 
 abbrev pub invariant-loop-table : goal.invariant-loop-table
 invariant-loop-table g l = record {
-  run : Comes g.S.LockSpace.joins l.fn.space l.fn.self (play (show_all lock_held [] l.tables)) l.space l.self (play (show_all lock_held l.shown (drop l.table-index l.tables)));
+  run : Comes g.S.LockSpace l.fn.space l.fn.self (play (show_all lock_held [] l.tables)) l.space l.self (play (show_all lock_held l.shown (drop l.table-index l.tables)));
   goes_on : GoesOn g.S.LockSpace l.fn.space l.fn.self l.space l.self;
   idle : l.self.context.wait ≡ None;
 }

@@ -17,5 +17,5 @@ returns-clause-run g c =
     comes-played c.lock_writes.new.space c.lock_writes.new.self (write c.args.table.now c.args.priority) rest c.lock_writes.result
     (comes-as (play (write c.args.table.now c.args.priority)) (play rest)
     (λ mark. read_lock-so c.args.self.now rest false free mark ∙ write-so c.args.self.now c.args.table.now c.args.priority false none mark)
-    (comes-same g.S.LockSpace.joins c.args.space.now c.args.self.now (play rest)))
+    (comes-same g.S.LockSpace c.args.space.now c.args.self.now (play rest)))
     c.lock_writes.ensures.run

@@ -3,6 +3,7 @@ use Rattle.std.proofs.Common.{◌≡◌, Err, rules}
 use Rattle.mdl_calls.proofs.FaithfulLemmas.{each_reply}
 use Rattle.mdl_calls.proofs.RunLemmas.{runs_bind}
 use Rattle.mdl_rows.specs.Endings.{Faults}
+use Rattle.mdl_stmt.specs.Attendance.{cached}
 use Rattle.mdl_stmt.specs.Gets.{paused}
 use Rattle.mdl_rows.specs.Playing.{starting}
 use Rattle.mdl_stmt.specs.Stages.{session_of}
@@ -14,12 +15,12 @@ use Rattle.mdl_work.proofs.worker.Worker.answer.Goals as goal
 
 pub returns-in_err-progress-clause-run : goal.returns-in_err-progress-clause-run
 returns-in_err-progress-clause-run g c =
-    let joins = g.S.LockSpace.joins in
+    let joins = cached g.S.LockSpace in
     let self = c.args.self.now in
     let after = session_of c.start.new.self in
     let refused : c.from_residual.result ≡ Err c.in_err-progress.field-0.0 = search rules in
     rw refused (runs_bind joins (starting c.args.statement.now (session_of self.runner)) (finishing self.patience most_waits) _ _ _ (Faults after) (Faults after)
-    c.in_err-progress.ensures.run (stays-starved joins self.patience most_waits after _))
+    c.in_err-progress.ensures.reads (stays-starved joins self.patience most_waits after _))
 
 pub finish-requires-clause-left : goal.finish-requires-clause-left
 finish-requires-clause-left g c =
@@ -30,5 +31,5 @@ finish-requires-clause-left g c =
 pub returns-clause-run : goal.returns-clause-run
 returns-clause-run g c =
     let self = c.args.self.now in
-    runs_bind g.S.LockSpace.joins (starting c.args.statement.now (session_of self.runner)) (finishing self.patience most_waits) _ _ _
-    (paused c.in_ok-progress.progress (session_of c.start.new.self)) _ c.in_ok-progress.ensures.run c.finish.ensures.run
+    runs_bind (cached g.S.LockSpace) (starting c.args.statement.now (session_of self.runner)) (finishing self.patience most_waits) _ _ _
+    (paused c.in_ok-progress.progress (session_of c.start.new.self)) _ c.in_ok-progress.ensures.reads c.finish.ensures.run

@@ -6,6 +6,7 @@ use Rattle.mdl_context.specs.Contexts.{LeavesOthers}
 use Rattle.mdl_context.proofs.OthersLemmas.{both-leave}
 use Rattle.mdl_syntax.specs.declared.script.Line.{Line}
 use Rattle.mdl_rows.specs.Endings.{Ends, Faults}
+use Rattle.mdl_stmt.specs.Attendance.{cached}
 use Rattle.mdl_stmt.specs.Stages.{session_of}
 use Rattle.mdl_work.specs.Works.{lines_of, making}
 use Rattle.mdl_work.proofs.WorkLemmas.{follows-all, follows-answered, follows-starved, follows-unkept, next-other, next-own, numbers-on}
@@ -14,7 +15,7 @@ use Rattle.mdl_work.proofs.worker.Worker.answer_lines.Goals.{then-line-self+in_o
 
 pub returns-in_err-reply-clause-run : goal.returns-in_err-reply-clause-run
 returns-in_err-reply-clause-run g c =
-    let joins = g.S.LockSpace.joins in
+    let joins = cached g.S.LockSpace in
     let kept = c.loop-line.invariant in
     let self = c.args.self.now in
     let line = c.line-item.result in
@@ -22,12 +23,12 @@ returns-in_err-reply-clause-run g c =
     let after = session_of c.answer-reply.new.self.runner in
     let next = next-own self.who c.args.lines.now c.loop-line.line-index line line c.loop-line-test.true c.line-item.is (c.if-line-self.true ∙ kept.same) in
     let refused : c.from_residual.result ≡ Err _ = search rules in
-    let made = subst (λ (n : ℕ). Runs joins c.loop-line.space (making n line.statement before) (Faults after) c.answer-reply.new.space) kept.patience c.in_err-reply.ensures.run in
+    let made = subst (λ (n : ℕ). Runs joins (c.loop-line.space, c.loop-line.self.runner.cache) (making n line.statement before) (Faults after) (c.answer-reply.new.space, c.answer-reply.new.self.runner.cache)) kept.patience c.in_err-reply.ensures.run in
     rw refused (follows-starved joins self.patience line _ _ before after c.loop-line.answers.items _ _ _ _ next kept.run made)
 
 pub returns-in_err-push-clause-run : goal.returns-in_err-push-clause-run
 returns-in_err-push-clause-run g c =
-    let joins = g.S.LockSpace.joins in
+    let joins = cached g.S.LockSpace in
     let kept = c.loop-line.invariant in
     let self = c.args.self.now in
     let line = c.line-item.result in
@@ -36,13 +37,13 @@ returns-in_err-push-clause-run g c =
     let after = session_of c.answer-reply.new.self.runner in
     let next = next-own self.who c.args.lines.now c.loop-line.line-index line line c.loop-line-test.true c.line-item.is (c.if-line-self.true ∙ kept.same) in
     let refused : c.from_residual-in_err-push.result ≡ Err _ = search rules in
-    let made = subst (λ (n : ℕ). Runs joins c.loop-line.space (making n line.statement before) (Ends reply after) c.answer-reply.new.space) kept.patience c.in_ok-reply.ensures.run in
+    let made = subst (λ (n : ℕ). Runs joins (c.loop-line.space, c.loop-line.self.runner.cache) (making n line.statement before) (Ends reply after) (c.answer-reply.new.space, c.answer-reply.new.self.runner.cache)) kept.patience c.in_ok-reply.ensures.run in
     rw refused (follows-unkept joins self.patience line _ _ before after reply c.loop-line.answers.items _ _ _ _ next kept.run made)
 
 pub loop-line-preserved : goal.loop-line-preserved
 loop-line-preserved g c =
     let lock = g.S.LockSpace in
-    let joins = g.S.LockSpace.joins in
+    let joins = cached g.S.LockSpace in
     let kept = c.loop-line.invariant in
     let self = c.args.self.now in
     let lines = c.args.lines.now in
@@ -54,7 +55,7 @@ loop-line-preserved g c =
           let reply = w.in_ok-reply.field-0 in
           let after = session_of w.answer-reply.new.self.runner in
           let next = next-own self.who lines c.loop-line.line-index line line c.loop-line-test.true c.line-item.is (w.if-line-self.true ∙ kept.same) in
-          let made = subst (λ (n : ℕ). Runs joins c.loop-line.space (making n line.statement before) (Ends reply after) w.answer-reply.new.space) kept.patience w.in_ok-reply.ensures.run in
+          let made = subst (λ (n : ℕ). Runs joins (c.loop-line.space, c.loop-line.self.runner.cache) (making n line.statement before) (Ends reply after) (w.answer-reply.new.space, w.answer-reply.new.self.runner.cache)) kept.patience w.in_ok-reply.ensures.run in
           rw (w.self-is, w.space-is, w.answers-is, w.in_ok-push.ensures.items) (record {
             attends = w.answer-reply.ensures.attends;
             others = both-leave lock self.who _ _ _ kept.others
@@ -86,5 +87,5 @@ returns-clause-run g c =
     let lines = c.args.lines.now in
     let over : c.loop-line.line-index ≡ length lines = omega (arith, c.loop-line-test.false) in
     let none = ap (λ (i : ℕ). lines_of self.who (drop i lines)) over ∙ ap (λ (left : List Line). lines_of self.who left) (drop-length lines) in
-    follows-all g.S.LockSpace.joins self.patience (lines_of self.who (drop c.loop-line.line-index lines)) (session_of c.loop-line.self.runner) c.loop-line.answers.items _ _ _
+    follows-all (cached g.S.LockSpace) self.patience (lines_of self.who (drop c.loop-line.line-index lines)) (session_of c.loop-line.self.runner) c.loop-line.answers.items _ _ _
     none c.loop-line.invariant.run

@@ -1,9 +1,10 @@
 -- To bring a statement to its end from here, with the waits that are left, is to bring it there from the start.
 use Rattle.std.proofs.Common.{◌≡◌, ◌-◌}
+use Rattle.mdl_defs.specs.Caches.{CacheView}
 use Rattle.mdl_calls.specs.Words.{Runs}
 use Rattle.mdl_context.specs.Contexts.{LeavesOthers}
 use Rattle.mdl_rows.specs.Endings.{Pause}
-use Rattle.mdl_stmt.specs.Attendance.{AttendsWith}
+use Rattle.mdl_stmt.specs.Attendance.{AttendsWith, cached}
 use Rattle.mdl_stmt.specs.Gets.{paused}
 use Rattle.mdl_stmt.specs.Stages.{session_of}
 use Rattle.mdl_work.specs.Paces.{LeftWhileWaiting}
@@ -18,7 +19,7 @@ invariant-loop-wait g l = record {
   left : LeftWhileWaiting (paused l.progress (session_of l.self.runner));
   same : l.self.who ≡ l.fn.self.who;
   patience : l.self.patience ≡ l.fn.self.patience;
-  run : (end : Pause) (b : g.row.S.Denot)
-      → Runs g.S.LockSpace.joins l.space (finishing l.fn.self.patience (most_waits - l._wait) (paused l.progress (session_of l.self.runner))) end b
-      → Runs g.S.LockSpace.joins l.fn.space (finishing l.fn.self.patience most_waits (paused l.fn.progress (session_of l.fn.self.runner))) end b;
+  run : (end : Pause) (b : g.row.S.Denot × CacheView)
+      → Runs (cached g.S.LockSpace) (l.space, l.self.runner.cache) (finishing l.fn.self.patience (most_waits - l._wait) (paused l.progress (session_of l.self.runner))) end b
+      → Runs (cached g.S.LockSpace) (l.fn.space, l.fn.self.runner.cache) (finishing l.fn.self.patience most_waits (paused l.fn.progress (session_of l.fn.self.runner))) end b;
 }
