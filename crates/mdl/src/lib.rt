@@ -91,7 +91,7 @@ pub use mdl_key as key;
 pub use mdl_key::{Duration, Key, Kind, Mode, Namespace, conflicts_granted, conflicts_waiting};
 pub use mdl_lines as lines;
 pub use mdl_script as script;
-pub use mdl_script::{DEFAULT_CACHE, replay, run_on, run_threads};
+pub use mdl_script::{DEFAULT_CACHE, Ran, replay, run_on, run_threads};
 pub use mdl_shared as shared;
 pub use mdl_shared::{Manager, Pass, Session};
 pub use mdl_space as space;

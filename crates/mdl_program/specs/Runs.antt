@@ -8,6 +8,7 @@ use Rattle.mdl_lines.specs.Words.{LeavesWritten, MayEnd, fault_status}
 use Rattle.mdl_lock.specs.MatrixText.{matrix_text}
 use Rattle.mdl_lock.specs.Output.{lock_output_of}
 use Rattle.mdl_lock.specs.Scripts as commands
+use Rattle.mdl_script.specs.Answers.{options_of}
 use Rattle.mdl_script.specs.Output as played
 use Rattle.mdl_stmt.specs.Attendance.{IsCapacity}
 use Rattle.mdl_syntax.specs.Scripts as statements
@@ -49,7 +50,7 @@ Writes (Err fault) old new output = LeavesWritten fault old new output
 
 -- what a run that ends so may leave written: its output, or part of it. On threads it is a text of what the sessions can have done
 abbrev pub Leaves : Run → Option (List ℕ) → Result (Unit {0}) Fault → Option (List ℕ) → Option (List ℕ) → Type 0
-Leaves (Threads patience cache) input end old new = IfSome input (λ script. ThreadsLeave patience (statements.parsed script) end old new)
+Leaves (Threads patience cache) input end old new = IfSome input (λ script. ThreadsLeave (options_of patience cache) (statements.parsed script) end old new)
 Leaves (Lock kind) input end old new = IfSome (output_of (Lock kind) input) (Writes end old new)
 Leaves Matrix input end old new = IfSome (output_of Matrix input) (Writes end old new)
 Leaves Replay input end old new = IfSome (output_of Replay input) (Writes end old new)

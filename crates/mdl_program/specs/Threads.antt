@@ -6,17 +6,18 @@ use Rattle.mdl_lines.specs.declared.fault.Fault.TheVariants.{Refused, Memory, Re
 use Rattle.mdl_lines.specs.declared.fault.LineError.{LineError}
 use Rattle.mdl_lines.specs.Words.{AppendsPart}
 use Rattle.mdl_syntax.specs.declared.script.Line.{Line}
+use Rattle.mdl_script.specs.Answers.{Options}
 use Rattle.mdl_script.specs.Runs.{IsRunOf}
 
--- a text that may be written for a script that says this, played with this patience: the text of a run of its lines
-abbrev pub IsTold : ℕ → Result (List Line) (ℕ × LineError) → List ℕ → Type 0
-IsTold patience (Ok lines) text = IsRunOf patience lines text
-IsTold patience (Err refusal) text = ⊥
+-- a text that may be written for a script that says this, played with these options: the text of a run of its lines
+abbrev pub IsTold : Options → Result (List Line) (ℕ × LineError) → List ℕ → Type 0
+IsTold options (Ok lines) text = IsRunOf options lines text
+IsTold options (Err refusal) text = ⊥
 
 -- what a run that ends so leaves written: the text of a run after success, a part of one if writing failed, otherwise nothing
-abbrev pub ThreadsLeave : ℕ → Result (List Line) (ℕ × LineError) → Result (Unit {0}) Fault → Option (List ℕ) → Option (List ℕ) → Type 0
-ThreadsLeave patience said (Ok done) old new = (text : List ℕ) × IsTold patience said text × Appends old new text
-ThreadsLeave patience said (Err Write) old new = (text : List ℕ) × IsTold patience said text × AppendsPart old new text
-ThreadsLeave patience said (Err (Refused line error)) old new = Keeps old new
-ThreadsLeave patience said (Err Memory) old new = Keeps old new
-ThreadsLeave patience said (Err Read) old new = Keeps old new
+abbrev pub ThreadsLeave : Options → Result (List Line) (ℕ × LineError) → Result (Unit {0}) Fault → Option (List ℕ) → Option (List ℕ) → Type 0
+ThreadsLeave options said (Ok done) old new = (text : List ℕ) × IsTold options said text × Appends old new text
+ThreadsLeave options said (Err Write) old new = (text : List ℕ) × IsTold options said text × AppendsPart old new text
+ThreadsLeave options said (Err (Refused line error)) old new = Keeps old new
+ThreadsLeave options said (Err Memory) old new = Keeps old new
+ThreadsLeave options said (Err Read) old new = Keeps old new

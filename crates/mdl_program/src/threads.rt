@@ -4,6 +4,7 @@ ghost use Rattle.std.specs.String.{string_bytes};
 ghost use Rattle.mdl_lines.specs.Words.{IsFaultOf, MayEnd};
 ghost use Rattle.mdl_stmt.specs.Attendance.{IsCapacity};
 ghost use Rattle.mdl_syntax.specs.Scripts.{parsed};
+ghost use Rattle.mdl_script.specs.Answers.{options_of};
 ghost use Rattle.mdl_program.specs.Threads.{IsTold, ThreadsLeave};
 
 use mdl_lines::{Fault, read_all, write_all};
@@ -27,7 +28,7 @@ pub(crate) fn play_on_threads<T: Threads + Wait + Sync, R: Read, W: Write>(
 ) -> Result<(), Fault>
     requires { IsCapacity cache }
     ensures ends { IfSome (R.remaining input.old) (λ bytes. MayEnd (parsed bytes) result) }
-    ensures leaves { IfSome (R.remaining input.old) (λ bytes. ThreadsLeave patience (parsed bytes) result (W.contents output.old) (W.contents output.new)) }
+    ensures leaves { IfSome (R.remaining input.old) (λ bytes. ThreadsLeave (options_of patience cache) (parsed bytes) result (W.contents output.old) (W.contents output.new)) }
 {
     let text = read_all(alloc, input)?;
     let told = tell(rt, alloc, patience, cache, text)?;
@@ -43,7 +44,7 @@ fn tell<T: Threads + Wait + Sync>(
     text: Vec<u8>,
 ) -> Result<String, Fault>
     requires { IsCapacity cache }
-    ensures told { IfOk result (λ told. IsTold patience (parsed text.items) (string_bytes told)) }
+    ensures told { IfOk result (λ told. IsTold (options_of patience cache) (parsed text.items) (string_bytes told)) }
     ensures accepted { OnOk result (IsOk (parsed text.items)) }
     ensures fault { IfErr result (IsFaultOf (parsed text.items)) }
 {

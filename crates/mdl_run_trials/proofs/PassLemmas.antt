@@ -1,6 +1,6 @@
 -- The sessions that a script names, and their passes.
-use Rattle.std.proofs.Common.{◌≡◌, sym, subst, ℕ, List, [], ◌∷◌, Bool, true, false, true≢false, ◌&&◌, ◌||◌, All, refl}
-use Rattle.std.specs.Prelude.{◌==◌}
+use Rattle.std.proofs.Common.{◌≡◌, sym, subst, ℕ, List, [], ◌∷◌, Bool, true, false, true≢false, ◌&&◌, ◌||◌, ◌≤◌, All, Some, arith, length, refl}
+use Rattle.std.specs.Prelude.{◌==◌, slice_get}
 use Rattle.std.specs.List.{list_all, range_with_len}
 use Rattle.std.proofs.lemmas.Bool.Decides.{Decides-eqb}
 use Rattle.std.proofs.lemmas.List.Elements.{All-weaker, filter_passes}
@@ -31,3 +31,8 @@ pub named_there : (passes : List Pass) (lines : List Line) → list_all (λ (lin
 unfolding named_sessions
 named_there passes lines all =
     All-weaker (λ who. is_named lines who ≡ true) (λ who. has_pass passes who ≡ true) (λ who. one-there passes lines who all) _ (filter_passes (is_named lines) (range_with_len 1 64))
+
+-- where there is a first pass, there is one
+pub first_there : (passes : List Pass) (first : Pass) → slice_get passes 0 ≡ Some first → 1 ≤ length passes
+first_there [] first is = absurd (cc)
+first_there (p ∷ ps) first is = omega arith

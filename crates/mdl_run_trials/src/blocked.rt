@@ -6,7 +6,7 @@ use crate::playing::{lines, played_on};
 use mdl_calls::{Attempt, Place, TicketId};
 use mdl_defs::{Column, Definition, Standing};
 use mdl_key::{Key, MOST_PLACES, MOST_SESSIONS, Mode};
-use mdl_script::{DEFAULT_CACHE, OpenGate};
+use mdl_script::{DEFAULT_CACHE, OpenGate, Ran};
 use mdl_shared::{HoldsTickets, Manager, Pass, Session};
 use std::alloc::Global;
 use std::mem::drop;
@@ -80,7 +80,7 @@ fn played_beside<R: Threads + Wait + Sync>(
     passes: Vec<Pass>,
     script: &str,
     own: &mut Session<&R>,
-) -> (Result<String, Fail>, bool)
+) -> (Result<Ran, Fail>, bool)
     requires some { 1 ≤ length passes.items }
     requires theirs { All (λ pass. pass_table pass ≡ table_of manager.now) passes.items }
 {
@@ -88,7 +88,7 @@ fn played_beside<R: Threads + Wait + Sync>(
         drop(passes);
         return (Err(Fail::from("the table is not free")), false);
     };
-    let text = played_on(
+    let ran = played_on(
         rt,
         alloc,
         manager,
@@ -99,7 +99,7 @@ fn played_beside<R: Threads + Wait + Sync>(
         &OpenGate,
     );
     let sees_new = sees_new(own, alloc, "u");
-    (text, own.release(id).is_ok() && sees_new)
+    (ran, own.release(id).is_ok() && sees_new)
 }
 
 /// Closes a session, which must have no ticket and no wait.
@@ -120,9 +120,9 @@ fn a_table_that_is_not_free_is_missed(rt: HostRuntime) -> Result<(), Fail> {
         return Err(Fail::from("there is no session"));
     };
     let mut own = Session::open(&rt, &manager, last);
-    let (text, sees_new) = played_beside(&rt, alloc, &manager, passes, script.as_str(), &mut own);
+    let (ran, sees_new) = played_beside(&rt, alloc, &manager, passes, script.as_str(), &mut own);
     close(&rt, own);
-    let text = text?;
+    let Ran { text, passes: _ } = ran?;
     assert!(rt; text == wanted, "{text}");
     assert!(rt; sees_new);
     Ok(())

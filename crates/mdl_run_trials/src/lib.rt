@@ -10,13 +10,15 @@
 //! the other has locked until its patience ends; `gates` are called at each statement.
 //!
 //! On threads, `rows` are scripts of one session with their texts; two sessions have a gate that brings them together (`meetings`) or lets their
-//! lines through in order (`turns`), by `flags`. In `versions` all sessions read tables that one of them changes, and in `blocked` a session outside
-//! the script keeps a table locked throughout.
+//! lines through in order (`turns`), by `flags`. In `versions` all sessions read tables that one of them changes, in `blocked` a session outside the
+//! script keeps a table locked throughout, and in `again` the sessions of one script play a second one.
 //!
 //! In `used_up` statements run out of versions, places or tickets. `outcomes` are the results of statements. `examples` are those of five crates.
 //! Other scripts, long ones, and random scripts are played by the program itself: `commands/check.py` and `fuzz/fuzz.py`.
 #![tactic(auto)]
 
+#[cfg(test)]
+mod again;
 #[cfg(test)]
 mod blocked;
 #[cfg(test)]

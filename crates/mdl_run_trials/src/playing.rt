@@ -1,11 +1,11 @@
 //! Plays scripts on threads, from text to text.
-ghost use Rattle.std.specs.Prelude.{◌≡◌, ◌≤◌, All, length};
+ghost use Rattle.std.specs.Prelude.{◌≡◌, ◌≤◌, All, IfOk, length};
 ghost use Rattle.std.specs.List.{list_all};
 ghost use Rattle.mdl_shared.specs.Passes.{table_of, pass_table};
 ghost use Rattle.mdl_stmt.specs.Attendance.{IsCapacity};
 ghost use Rattle.mdl_script.specs.Turns.{has_pass};
 
-use mdl_script::{DEFAULT_CACHE, Gate, run_on, run_threads};
+use mdl_script::{DEFAULT_CACHE, Gate, Ran, run_on, run_threads};
 use mdl_shared::{Manager, Pass};
 use mdl_syntax::{Script, parse};
 use std::alloc::{AllocError, Global};
@@ -67,7 +67,7 @@ fn are_there(passes: &[Pass], script: &Script) -> bool
         .all(|line| has_pass(passes, line.session))
 }
 
-/// Returns the text of a run of a script over an existing lock table, with these of its passes.
+/// Plays a script over an existing lock table, with these of its passes. Returns the text, and the passes that come back.
 pub(crate) fn played_on<R: Threads + Wait + Sync, G: Gate + Sync>(
     rt: &R,
     alloc: Global,
@@ -77,10 +77,12 @@ pub(crate) fn played_on<R: Threads + Wait + Sync, G: Gate + Sync>(
     patience: u32,
     cache: u16,
     gate: &G,
-) -> Result<String, Fail>
+) -> Result<Ran, Fail>
     requires capacity { IsCapacity cache }
     requires some { 1 ≤ length passes.items }
     requires theirs { All (λ pass. pass_table pass ≡ table_of manager.now) passes.items }
+    ensures some { IfOk result (λ ran. 1 ≤ length ran.passes.items) }
+    ensures theirs { IfOk result (λ ran. All (λ pass. pass_table pass ≡ table_of manager.now) ran.passes.items) }
 {
     let script = parse(alloc, script.as_bytes())?;
     if !are_there(&passes, &script) {

@@ -2,7 +2,7 @@
 use crate::blocked::close;
 use crate::playing::played_on;
 use mdl_key::MOST_PLACES;
-use mdl_script::OpenGate;
+use mdl_script::{OpenGate, Ran};
 use mdl_shared::{Audited, Manager, Session};
 use std::alloc::{AllocError, Global};
 use std::mem::drop;
@@ -166,7 +166,8 @@ fn played_alone<R: Threads + Wait + Sync + Abort>(
     let mut watcher = Session::open(rt, &manager, last);
     let are_free = finds_all_free(&mut watcher);
     close(rt, watcher);
-    Ok((played?, are_free))
+    let Ran { text, passes: _ } = played?;
+    Ok((text, are_free))
 }
 
 // Each read is of the other table, so the cache, which keeps one definition, has just dropped the one that is needed.

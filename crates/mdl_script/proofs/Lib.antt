@@ -1,3 +1,4 @@
+pub mod BackLemmas
 pub mod FirstLemmas
 pub mod PlayLemmas
 pub mod ListLemmas

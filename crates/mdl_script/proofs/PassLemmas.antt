@@ -48,24 +48,6 @@ pub first-is : (passes : List Pass) (first : Pass) → 1 ≤ length passes → f
 first-is [] first some is = absurd (omega arith)
 first-is (p ∷ ps) first some is = ap Some (sym is)
 
--- the first of some things, as it is got, is what stands at place 0
-got_from : {X : Type 0} → X → Option X → X
-got_from d None = d
-got_from d (Some x) = x
-
-first-got : {X : Type 0} (xs : List X) (first : X) → slice_get xs 0 ≡ Some first → slice_index_or xs 0 first ≡ first
-unfolding got_from
-first-got [] first is = refl
-first-got (x ∷ xs) first is = ap (got_from x) is
-
-first-some : {X : Type 0} (xs : List X) (first : X) → slice_get xs 0 ≡ Some first → 0 < length xs
-first-some [] first is = absurd (cc)
-first-some (x ∷ xs) first is = omega arith
-
--- the first pass of a new space is that of session 1
-pub first-new : (table : TableId) (passes : List Pass) (first : Pass) → ArePasses table passes → slice_get passes 0 ≡ Some first → IsPass table 1 first
-first-new table passes first are is = subst (IsPass table 1) (first-got passes first is) (are 0 first (first-some passes first is))
-
 -- once the first is taken, it is one of the space's, and so are the others; each session but its own has its pass still
 pub first-taken : (table : TableId) (lines : List Line) (passes others : List Pass) (first : Pass) → IsPermutation passes (first ∷ others)
     → All (λ (pass : Pass). pass_table pass ≡ table) passes → All (λ who. has_pass passes who ≡ true) (named_sessions lines)

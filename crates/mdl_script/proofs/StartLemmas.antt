@@ -2,15 +2,18 @@
 use Rattle.std.proofs.Common.{◌≡◌, ◌∙◌, ◌≢◌, ◌≤◌, ◌<◌, ◌+◌, ◌-◌, ap, map, sym, subst, refl, ℕ, zero, suc, List, ◌++◌, [], ◌∷◌, Bool, true, false, All, filter, cond, arith, inl, inr}
 use Rattle.std.specs.List.{range_with_len}
 use Rattle.std.proofs.lemmas.Bool.Decides.{eqb_tells}
-use Rattle.std.proofs.lemmas.List.{append-nil, map-append}
+use Rattle.std.proofs.lemmas.List.{append-nil, append_assoc, flat_map_more, map-append}
 use Rattle.std.proofs.lemmas.List.Elements.{All-append, All-cons, All-head, All-nil, All-tail, filter-append}
+use Rattle.std.specs.List.Sorted.{IsPermutation}
+use Rattle.std.proofs.lemmas.List.Sorted.{IsPermutation-append_right, IsPermutation-refl, IsPermutation-trans}
 use Rattle.mdl_syntax.specs.declared.script.Line.{Line}
 use Rattle.atomic_table.specs.Seated.{TableId}
 use Rattle.mdl_shared.specs.declared.pass.Pass.{Pass}
 use Rattle.mdl_shared.specs.Passes.{pass_table}
 use Rattle.mdl_script.specs.declared.turns.Turn.{Turn}
+use Rattle.mdl_script.specs.Answers.{Options}
 use Rattle.mdl_script.specs.RunTexts.{is_named, named_sessions}
-use Rattle.mdl_script.specs.Turns.{IsTurn, has_pass}
+use Rattle.mdl_script.specs.Turns.{IsTurn, has_pass, pass_sent, passes_sent}
 
 -- ---- numbers in order
 
@@ -53,58 +56,71 @@ each_named P lines who all is least most = all-passing P (is_named lines) 1 64 w
 -- ---- turns
 
 -- the turns of the sessions below one are started, and the passes of all others are left
-pub record AreStarted (patience : ℕ) (lines : List Line) (mine : ℕ) (table : TableId) (all : List Pass) (who : ℕ) (turns : List Turn) (passes : List Pass) : Type 0 where
+pub record AreStarted (options : Options) (lines : List Line) (mine : ℕ) (table : TableId) (all : List Pass) (who : ℕ) (turns : List Turn) (passes : List Pass) : Type 0 where
   pub sessions : map (λ (turn : Turn). turn.who) turns ≡ filter (is_named lines) (range_with_len 1 (who - 1))
-  pub are_turns : All (IsTurn table patience lines mine) turns
+  pub are_turns : All (IsTurn options lines mine) turns
+  pub sent : IsPermutation all (passes_sent turns ++ passes)
   pub theirs : All (λ (pass : Pass). pass_table pass ≡ table) passes
   pub left : (other : ℕ) → who ≤ other → has_pass passes other ≡ has_pass all other
 
 -- none is, at first
-pub started_none : (patience : ℕ) (lines : List Line) (mine : ℕ) (table : TableId) (all : List Pass) → All (λ (pass : Pass). pass_table pass ≡ table) all →
-    AreStarted patience lines mine table all 1 [] all
-started_none patience lines mine table all are = record { sessions = refl; are_turns = All-nil _; theirs = are; left = λ other above. refl }
+pub started_none : (options : Options) (lines : List Line) (mine : ℕ) (table : TableId) (all : List Pass) → All (λ (pass : Pass). pass_table pass ≡ table) all →
+    AreStarted options lines mine table all 1 [] all
+started_none options lines mine table all are = record { sessions = refl; are_turns = All-nil _; sent = IsPermutation-refl all; theirs = are; left = λ other above. refl }
+
+-- the passes that turns got, with that of one turn more
+more_sent : (all : List Pass) (turns : List Turn) (passes left : List Pass) (turn : Turn) → IsPermutation all (passes_sent turns ++ passes) →
+    IsPermutation passes (pass_sent turn ++ left) → IsPermutation all (passes_sent (turns ++ turn ∷ []) ++ left)
+more_sent all turns passes left turn were is =
+    let now = IsPermutation-trans all (passes_sent turns ++ passes) (passes_sent turns ++ (pass_sent turn ++ left)) were
+    (IsPermutation-append_right (passes_sent turns) passes (pass_sent turn ++ left) is) in
+    let same : passes_sent turns ++ (pass_sent turn ++ left) ≡ passes_sent (turns ++ turn ∷ []) ++ left =
+    sym (append_assoc (passes_sent turns) (pass_sent turn) left) ∙ ap (λ xs. xs ++ left) (flat_map_more pass_sent [] turns turn) in
+    subst (IsPermutation all) same now
 
 -- one more is
-pub started_more : (patience : ℕ) (lines : List Line) (mine : ℕ) (table : TableId) (all : List Pass) (who : ℕ) (turns : List Turn) (passes left : List Pass) (turn : Turn) →
-    AreStarted patience lines mine table all who turns passes → 1 ≤ who → is_named lines who ≡ true →
-    turn.who ≡ who → IsTurn table patience lines mine turn → All (λ (pass : Pass). pass_table pass ≡ table) left →
+pub started_more : (options : Options) (lines : List Line) (mine : ℕ) (table : TableId) (all : List Pass) (who : ℕ) (turns : List Turn) (passes left : List Pass) (turn : Turn) →
+    AreStarted options lines mine table all who turns passes → 1 ≤ who → is_named lines who ≡ true →
+    turn.who ≡ who → IsTurn options lines mine turn → IsPermutation passes (pass_sent turn ++ left) → All (λ (pass : Pass). pass_table pass ≡ table) left →
     ((other : ℕ) → other ≢ who → has_pass left other ≡ has_pass passes other) →
-    AreStarted patience lines mine table all (who + 1) (turns ++ turn ∷ []) left
-started_more patience lines mine table all who turns passes left turn was least named here is are others = record {
+    AreStarted options lines mine table all (who + 1) (turns ++ turn ∷ []) left
+started_more options lines mine table all who turns passes left turn was least named here is sent are others = record {
   sessions =
       map-append (λ (t : Turn). t.who) turns (turn ∷ []) ∙ (ap (λ n. map (λ (t : Turn). t.who) turns ++ n ∷ []) here
       ∙ (ap (λ xs. xs ++ who ∷ []) was.sessions
       ∙ (ap (λ xs. filter (is_named lines) (range_with_len 1 (who - 1)) ++ xs) (sym (one-kept (is_named lines) who named))
       ∙ (sym (filter-append (is_named lines) (range_with_len 1 (who - 1)) (who ∷ [])) ∙ ap (filter (is_named lines)) (ranges-so who least)))));
-  are_turns = All-append (IsTurn table patience lines mine) turns (turn ∷ []) was.are_turns (All-cons (IsTurn table patience lines mine) turn [] is (All-nil _));
+  are_turns = All-append (IsTurn options lines mine) turns (turn ∷ []) was.are_turns (All-cons (IsTurn options lines mine) turn [] is (All-nil _));
+  sent = more_sent all turns passes left turn was.sent sent;
   theirs = are;
   left = λ other above. others other (λ same. absurd (omega (arith, same, above))) ∙ was.left other (omega (arith, above));
 }
 
 -- one that isn't named has no turn
-pub started_past : (patience : ℕ) (lines : List Line) (mine : ℕ) (table : TableId) (all : List Pass) (who : ℕ) (turns : List Turn) (passes : List Pass) →
-    AreStarted patience lines mine table all who turns passes → 1 ≤ who → is_named lines who ≡ false →
-    AreStarted patience lines mine table all (who + 1) turns passes
-started_past patience lines mine table all who turns passes was least unnamed = record {
+pub started_past : (options : Options) (lines : List Line) (mine : ℕ) (table : TableId) (all : List Pass) (who : ℕ) (turns : List Turn) (passes : List Pass) →
+    AreStarted options lines mine table all who turns passes → 1 ≤ who → is_named lines who ≡ false →
+    AreStarted options lines mine table all (who + 1) turns passes
+started_past options lines mine table all who turns passes was least unnamed = record {
   sessions =
       was.sessions ∙ (sym (append-nil _)
       ∙ (ap (λ xs. filter (is_named lines) (range_with_len 1 (who - 1)) ++ xs) (sym (one-left (is_named lines) who unnamed))
       ∙ (sym (filter-append (is_named lines) (range_with_len 1 (who - 1)) (who ∷ [])) ∙ ap (filter (is_named lines)) (ranges-so who least))));
   are_turns = was.are_turns;
+  sent = was.sent;
   theirs = was.theirs;
   left = λ other above. was.left other (omega (arith, above));
 }
 
 -- all are, in the end
-pub started_all : (patience : ℕ) (lines : List Line) (mine : ℕ) (table : TableId) (all : List Pass) (who : ℕ) (turns : List Turn) (passes : List Pass) →
-    AreStarted patience lines mine table all who turns passes → 65 ≤ who → who ≤ 65 → map (λ (turn : Turn). turn.who) turns ≡ named_sessions lines
+pub started_all : (options : Options) (lines : List Line) (mine : ℕ) (table : TableId) (all : List Pass) (who : ℕ) (turns : List Turn) (passes : List Pass) →
+    AreStarted options lines mine table all who turns passes → 65 ≤ who → who ≤ 65 → map (λ (turn : Turn). turn.who) turns ≡ named_sessions lines
 unfolding named_sessions
-started_all patience lines mine table all who turns passes was least most =
+started_all options lines mine table all who turns passes was least most =
     let count : who - 1 ≡ 64 = omega (arith, least, most) in was.sessions ∙ ap (λ n. filter (is_named lines) (range_with_len 1 n)) count
 
 -- the same of what is the same
-pub started_as : (patience : ℕ) (lines : List Line) (mine : ℕ) (table : TableId) (all : List Pass) (who : ℕ) (turns later : List Turn) (passes left : List Pass) →
-    AreStarted patience lines mine table all who turns passes → later ≡ turns → left ≡ passes → AreStarted patience lines mine table all who later left
-started_as patience lines mine table all who turns later passes left was same alike =
-    subst (λ xs. AreStarted patience lines mine table all who xs left) (sym same)
-    (subst (λ xs. AreStarted patience lines mine table all who turns xs) (sym alike) was)
+pub started_as : (options : Options) (lines : List Line) (mine : ℕ) (table : TableId) (all : List Pass) (who : ℕ) (turns later : List Turn) (passes left : List Pass) →
+    AreStarted options lines mine table all who turns passes → later ≡ turns → left ≡ passes → AreStarted options lines mine table all who later left
+started_as options lines mine table all who turns later passes left was same alike =
+    subst (λ xs. AreStarted options lines mine table all who xs left) (sym same)
+    (subst (λ xs. AreStarted options lines mine table all who turns xs) (sym alike) was)

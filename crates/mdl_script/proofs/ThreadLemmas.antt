@@ -1,37 +1,64 @@
 -- What a session of the shared table did, by what it has of the table.
-use Rattle.std.proofs.Common.{◌≡◌, ◌∙◌, inl, inr, ap, refl, sym, ℕ, List, map, Vec, Some, Result, Ok, Err, IfOk}
+use Rattle.std.proofs.Common.{◌≡◌, ◌∙◌, inl, inr, ap, sym, subst, ℕ, List, [], map, Vec, Some, Result, Ok, Err, IfOk}
+use Rattle.mdl_defs.specs.Caches.{CacheView}
 use Rattle.mdl_calls.specs.Words.{Program, Give, Ask, Grow, Runs}
 use Rattle.mdl_session_laws.specs.SessionSpaces.{SpeaksFor}
 use Rattle.mdl_rows.specs.declared.reply.Reply.{Reply}
 use Rattle.mdl_syntax.specs.declared.script.Line.{Line}
+use Rattle.mdl_shared.specs.declared.pass.Pass.{Pass}
+use Rattle.mdl_shared.specs.Passes.{pass_number, pass_table, pass_view}
 use Rattle.mdl_shared.specs.SessionViews.{SessionView, space_of}
-use Rattle.mdl_work.specs.Works.{lines_of, newcomer, working_off}
-use Rattle.mdl_script.specs.Answers.{AreAnswers, JoinsSteps, WorksOff, nothing}
+use Rattle.mdl_work.specs.Paces.{answers_in}
+use Rattle.mdl_work.specs.Works.{RunsFromEmpty, lines_of, newcomer, working_off}
+use Rattle.mdl_script.specs.Answers.{AreAnswers, CachedSteps, Options, WorksOff, nothing}
 
 -- a session stays at its table
-table-stays : {A : Type 0} (program : Program A) (a b : SessionView) (reply : A) → Runs JoinsSteps a program reply b → b.table ≡ a.table
-table-stays (Give x) a b reply (same, here) = ap (λ (s : SessionView). s.table) (sym here)
-table-stays (Ask call next) a b reply (answer, mid, step, run) = table-stays (next answer) mid b reply run ∙ step.1.table
+table-stays : {A : Type 0} (program : Program A) (a b : SessionView × CacheView) (reply : A) → Runs CachedSteps a program reply b → b.0.table ≡ a.0.table
+table-stays (Give x) a b reply (same, here) = ap (λ (s : SessionView × CacheView). s.0.table) (sym here)
+table-stays (Ask call next) a b reply (answer, mid, step, run) = table-stays (next answer) mid b reply run ∙ step.0.1.table
 table-stays (Grow refused found) a b reply (inl run) = table-stays refused a b reply run
 table-stays (Grow refused found) a b reply (inr run) = table-stays found a b reply run
 
-pub works-there : (patience : ℕ) (lines : List Line) (who : ℕ) (a : SessionView) (answers : List (ℕ × Reply)) (b : SessionView) → WorksOff patience lines who a answers b → b.table ≡ a.table
-works-there patience lines who a answers b run = table-stays (working_off patience (lines_of who lines) (newcomer who)) a b (Some answers) run
+-- what a session did with its lines, whether memory ran out or not
+abbrev Ends : {Z E : Type 0} → Options → List Line → ℕ → SessionView → Result (Vec (ℕ × Reply) Z) E → SessionView → Type 0
+Ends options lines who a result b = RunsFromEmpty CachedSteps options.capacity a (working_off options.patience (lines_of who lines) (newcomer who)) (answers_in result) b
 
--- a session that had nothing, and worked its lines off until it had nothing again, can have answered so
-pub answers-are : {Z E : Type 0} (patience : ℕ) (lines : List Line) (who : ℕ) (a b : SessionView) (result : Result (Vec (ℕ × Reply) Z) E) →
-    SpeaksFor (space_of a) who → (space_of a).own ≡ nothing → (space_of b).own ≡ nothing →
-    IfOk result (λ answers. WorksOff patience lines who a answers.items b) →
+pub works-there : (options : Options) (lines : List Line) (who : ℕ) (a : SessionView) (answers : List (ℕ × Reply)) (b : SessionView) → WorksOff options lines who a answers b → b.table ≡ a.table
+works-there options lines who a answers b run =
+    table-stays (working_off options.patience (lines_of who lines) (newcomer who)) (a, record { kept = []; capacity = options.capacity }) (b, run.0) (Some answers) run.1
+
+-- a session that had nothing, and worked its lines off until it had nothing again, answered so
+pub answers-are : {Z E : Type 0} (options : Options) (lines : List Line) (who : ℕ) (a b : SessionView) (result : Result (Vec (ℕ × Reply) Z) E) →
+    SpeaksFor (space_of a) who → (space_of a).own ≡ nothing → (space_of b).own ≡ nothing → Ends options lines who a result b →
     IfOk result (λ answers. map (λ (answer : ℕ × Reply). answer.0) answers.items ≡ map (λ (line : Line). line.number) (lines_of who lines)) →
-    IfOk result (λ answers. AreAnswers a.table patience lines who answers.items)
-answers-are patience lines who a b (Ok answers) speaks had has run numbers = record {
-  before = a;
-  after = b;
-  there = refl;
-  speaks = speaks;
-  had_nothing = had;
-  run = run;
-  has_nothing = has;
-  numbers = numbers;
-}
-answers-are patience lines who a b (Err why) speaks had has run numbers = tt
+    IfOk result (λ answers. AreAnswers options lines who a answers.items b)
+answers-are options lines who a b (Ok answers) speaks had has run numbers =
+    record { speaks = speaks; had_nothing = had; run = run; has_nothing = has; numbers = numbers }
+answers-are options lines who a b (Err why) speaks had has run numbers = tt
+
+-- ---- from pass to pass
+
+-- the session of a pass that was opened, and closed again, has the number that it had
+pub closed-number : (who : ℕ) (opened closed : Pass) (a b : SessionView) → a ≡ pass_view opened → pass_view closed ≡ b →
+    who ≡ a.me.0.number → SpeaksFor (space_of b) who → pass_number closed ≡ pass_number opened
+closed-number who opened closed a b begun ended is speaks =
+    ap (λ (s : SessionView). s.me.0.number) ended ∙ (sym speaks.0 ∙ (is ∙ ap (λ (s : SessionView). s.me.0.number) begun))
+
+-- and the table
+pub closed-there : {Z E : Type 0} (options : Options) (lines : List Line) (who : ℕ) (opened closed : Pass) (a b : SessionView) (result : Result (Vec (ℕ × Reply) Z) E) →
+    a ≡ pass_view opened → pass_view closed ≡ b → Ends options lines who a result b → pass_table closed ≡ pass_table opened
+closed-there options lines who opened closed a b result begun ended run =
+    let stays = table-stays (working_off options.patience (lines_of who lines) (newcomer who)) (a, record { kept = []; capacity = options.capacity }) (b, run.0)
+    (answers_in result) run.1 in
+    ap (λ (s : SessionView). s.table) ended ∙ (stays ∙ ap (λ (s : SessionView). s.table) begun)
+
+-- between the two it gave its answers
+pub closed-answers : {Z E : Type 0} (options : Options) (lines : List Line) (who : ℕ) (opened closed : Pass) (a b : SessionView) (result : Result (Vec (ℕ × Reply) Z) E) →
+    a ≡ pass_view opened → pass_view closed ≡ b → who ≡ a.me.0.number →
+    IfOk result (λ answers. AreAnswers options lines who a answers.items b) →
+    IfOk result (λ answers. AreAnswers options lines (pass_number opened) (pass_view opened) answers.items (pass_view closed))
+closed-answers options lines who opened closed a b result begun ended is are =
+    let number : who ≡ pass_number opened = is ∙ ap (λ (s : SessionView). s.me.0.number) begun in
+    subst (λ n. IfOk result (λ answers. AreAnswers options lines n (pass_view opened) answers.items (pass_view closed))) number
+    (subst (λ s. IfOk result (λ answers. AreAnswers options lines who s answers.items (pass_view closed))) begun
+    (subst (λ s. IfOk result (λ answers. AreAnswers options lines who a answers.items s)) (sym ended) are))

@@ -1,14 +1,18 @@
 -- The answers that the sessions of a script can have given, each over a lock table that threads share.
-use Rattle.std.specs.Prelude.{◌≡◌, ℕ, List, [], map, Some, None}
+use Rattle.std.specs.Prelude.{◌≡◌, ◌≢◌, ◌⊎◌, ℕ, List, [], Contains, map, Some, None}
 use Rattle.atomic_table.specs.Seated.{TableId}
-use Rattle.mdl_calls.specs.Words.{Answer, Call, Own, Runs}
+use Rattle.mdl_defs.specs.Caches.{CacheView}
+use Rattle.mdl_calls.specs.Words.{Answer, Call, Own, with_cache}
 use Rattle.mdl_session_laws.specs.SessionJoins.{Joins}
 use Rattle.mdl_session_laws.specs.SessionSpaces.{SpeaksFor, own_of}
 use Rattle.mdl_rows.specs.declared.reply.Reply.{Reply}
 use Rattle.mdl_syntax.specs.declared.script.Line.{Line}
+use Rattle.mdl_shared.specs.declared.pass.Pass.{Pass}
+use Rattle.mdl_shared.specs.KeptReads.{UsesKept}
+use Rattle.mdl_shared.specs.Passes.{pass_number, pass_view}
 use Rattle.mdl_shared.specs.SessionViews.{SessionView, space_of}
 use Rattle.mdl_shared.specs.Showings.{Shows}
-use Rattle.mdl_work.specs.Works.{lines_of, newcomer, working_off}
+use Rattle.mdl_work.specs.Works.{RunsFromEmpty, lines_of, newcomer, working_off}
 
 -- no ticket and no wait
 abbrev pub nothing : Own
@@ -24,23 +28,44 @@ pub record IsIdleAt (table : TableId) (who : ℕ) (session : SessionView) : Type
 abbrev pub JoinsSteps : SessionView → Call → Answer → SessionView → Type 0
 JoinsSteps s call answer t = Joins (space_of s) call answer (space_of t) × Shows call answer s t
 
--- by such calls, from one state to another, a session has executed its own of these lines with this patience, with these answers
-abbrev pub WorksOff : ℕ → List Line → ℕ → SessionView → List (ℕ × Reply) → SessionView → Type 0
-WorksOff patience lines who s answers t = Runs JoinsSteps s (working_off patience (lines_of who lines) (newcomer who)) (Some answers) t
+-- the options of a run: how often a session looks at a wait before it times out, and how many definitions its cache keeps
+pub record Options : Type 0 where
+  pub patience : ℕ
+  pub capacity : ℕ
 
--- answers that a session of this table can have given to its lines of a script: it executed them with this patience, from a state in which it had nothing
--- to a state in which it had nothing again, and each line has its answer, in order
-pub record AreAnswers (table : TableId) (patience : ℕ) (lines : List Line) (who : ℕ) (answers : List (ℕ × Reply)) : Type 0 where
-  pub before : SessionView
-  pub after : SessionView
-  pub there : before.table ≡ table
+abbrev pub options_of : ℕ → ℕ → Options
+options_of patience capacity = record { patience = patience; capacity = capacity }
+
+-- a call takes a session and its cache to those after it
+abbrev pub CachedSteps : SessionView × CacheView → Call → Answer → SessionView × CacheView → Type 0
+CachedSteps = with_cache JoinsSteps (λ s _ id answer before after t. UsesKept id answer s t before after)
+
+-- by such calls, from one state to another, a session has executed its own of these lines with these options, with these answers. Its cache was empty at
+-- first
+abbrev pub WorksOff : Options → List Line → ℕ → SessionView → List (ℕ × Reply) → SessionView → Type 0
+WorksOff options lines who s answers t =
+    RunsFromEmpty CachedSteps options.capacity s (working_off options.patience (lines_of who lines) (newcomer who)) (Some answers) t
+
+-- from one state to another a session executed its lines of a script with these options, and gave these answers. In both it had nothing, and each line
+-- has its answer, in order
+pub record AreAnswers (options : Options) (lines : List Line) (who : ℕ) (before : SessionView) (answers : List (ℕ × Reply)) (after : SessionView) : Type 0 where
   pub speaks : SpeaksFor (space_of before) who
   pub had_nothing : own_of (space_of before) who ≡ nothing
-  pub run : WorksOff patience lines who before answers after
+  pub run : WorksOff options lines who before answers after
   pub has_nothing : own_of (space_of after) who ≡ nothing
   pub numbers : map (λ (answer : ℕ × Reply). answer.0) answers ≡ map (λ (line : Line). line.number) (lines_of who lines)
 
--- a session with answers that it can have given. If it is session `mine`, they are `own`
-abbrev pub IsTranscript : TableId → ℕ → List Line → ℕ → List (ℕ × Reply) → ℕ × List (ℕ × Reply) → Type 0
-IsTranscript table patience lines mine own transcript =
-    AreAnswers table patience lines transcript.0 transcript.1 × (transcript.0 ≡ mine → transcript.1 ≡ own)
+-- a session gave these answers between the state of a pass that was given (`opened`) and that of a pass that came back (`closed`)
+pub record IsFromPass (options : Options) (lines : List Line) (given back : List Pass) (who : ℕ) (answers : List (ℕ × Reply)) : Type 0 where
+  pub opened : Pass
+  pub was_given : Contains given opened
+  pub number : pass_number opened ≡ who
+  pub closed : Pass
+  pub came_back : Contains back closed
+  pub answered : AreAnswers options lines who (pass_view opened) answers (pass_view closed)
+
+-- a session with its answers: the asker, session `mine`, with its own, or another one with those that it gave from pass to pass
+abbrev pub IsTranscript : Options → List Line → List Pass → List Pass → ℕ → List (ℕ × Reply) → ℕ × List (ℕ × Reply) → Type 0
+IsTranscript options lines given back mine own transcript =
+    ((transcript.0 ≡ mine) × (transcript.1 ≡ own))
+    ⊎ ((transcript.0 ≢ mine) × IsFromPass options lines given back transcript.0 transcript.1)

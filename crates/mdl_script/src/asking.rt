@@ -1,13 +1,13 @@
 //! The asker, the session that runs in the caller's thread: it creates the first schema, executes its own lines, and audits all books at the
 //! end.
-ghost use Rattle.std.specs.Prelude.{◌≡◌, ℕ, List, [], ◌∷◌, IfOk, OnOk};
+ghost use Rattle.std.specs.Prelude.{◌≡◌, IfOk, OnOk};
 ghost use Rattle.mdl_session_laws.specs.SessionSpaces.{SpeaksFor};
-ghost use Rattle.mdl_rows.specs.declared.reply.Reply.{Reply};
 ghost use Rattle.mdl_stmt.specs.Attendance.{IsCapacity};
 ghost use Rattle.mdl_shared.specs.SessionViews.{space_of};
-ghost use Rattle.mdl_script.specs.Answers.{AreAnswers, WorksOff, nothing};
+ghost use Rattle.mdl_shared.specs.Showings.{KeepsLists};
+ghost use Rattle.mdl_script.specs.Answers.{AreAnswers, nothing, options_of};
 ghost use Rattle.mdl_script.specs.Books.{AreOfOneAudit};
-ghost use Rattle.mdl_script.specs.Runs.{first_line};
+ghost use Rattle.mdl_script.specs.Runs.{HasMadeFirst, MakesFirst};
 
 use crate::run::Run;
 use crate::turns::Transcript;
@@ -31,7 +31,8 @@ pub(crate) fn make_first_schema<R: Wait, G>(
     requires nothing { (space_of asker.old).own ≡ nothing }
     ensures nothing { (space_of asker.new).own ≡ nothing }
     ensures speaks { SpeaksFor (space_of asker.new) who }
-    ensures first { OnOk result ((answers : List (ℕ × Reply)) × WorksOff run.now.patience (first_line who ∷ []) who asker.old answers asker.new) }
+    ensures first { OnOk result (MakesFirst (options_of run.now.patience run.now.cache) who asker.old asker.new) }
+    ensures made { OnOk result (HasMadeFirst (options_of run.now.patience run.now.cache) who asker.new) }
 {
     let Ok(name) = Name::new(run.alloc, FIRST_SCHEMA) else {
         return Err(AllocError);
@@ -63,9 +64,9 @@ pub(crate) fn take_turn<R: Wait, G: Gate>(
     requires speaks { SpeaksFor (space_of asker.old) who }
     requires nothing { (space_of asker.old).own ≡ nothing }
     ensures nothing { (space_of asker.new).own ≡ nothing }
+    ensures speaks { SpeaksFor (space_of asker.new) who }
     ensures who { IfOk result (λ own. own.who ≡ who) }
-    ensures worked { IfOk result (λ own. WorksOff run.now.patience run.now.script.now who asker.old own.answers.items asker.new) }
-    ensures answered { IfOk result (λ own. AreAnswers asker.old.table run.now.patience run.now.script.now who own.answers.items) }
+    ensures answered { IfOk result (λ own. AreAnswers (options_of run.now.patience run.now.cache) run.now.script.now who asker.old own.answers.items asker.new) }
 {
     let answers = work(
         run.alloc,
@@ -83,6 +84,7 @@ pub(crate) fn take_turn<R: Wait, G: Gate>(
 pub(crate) fn books<R: Wait>(asker: &mut Session<&R>) -> Result<Vec<Audited>, AllocError>
     requires nothing { (space_of asker.old).own ≡ nothing }
     ensures nothing { (space_of asker.new).own ≡ nothing }
+    ensures same { KeepsLists asker.old asker.new }
     ensures audited { IfOk result (λ books. AreOfOneAudit books.items asker.old asker.new) }
 {
     match asker.audit() {

@@ -36,5 +36,5 @@ pub use mdl_syntax::{Line, Script, Statement, parse};
 pub use mdl_work::{Gate, OpenGate, work};
 pub use play::{DEFAULT_CACHE, MOST_TURNS, Play};
 pub use replaying::{lines_until, replay, space_after};
-pub use running::{run_on, run_threads};
+pub use running::{Ran, run_on, run_threads};
 pub use told::{News, Told, push_end, push_news, push_told};

@@ -1,9 +1,10 @@
 //! A session on a thread, from its pass to the end.
-ghost use Rattle.std.specs.Prelude.{◌≡◌, IfOk};
-ghost use Rattle.mdl_shared.specs.Passes.{pass_number, pass_table, table_of};
+ghost use Rattle.std.specs.Prelude.{◌≡◌};
+ghost use Rattle.mdl_shared.specs.Passes.{pass_table, pass_view, table_of};
 ghost use Rattle.mdl_shared.specs.SessionViews.{space_of};
 ghost use Rattle.mdl_stmt.specs.Attendance.{IsCapacity};
-ghost use Rattle.mdl_script.specs.Answers.{AreAnswers, nothing};
+ghost use Rattle.mdl_script.specs.Answers.{nothing, options_of};
+ghost use Rattle.mdl_script.specs.Turns.{CameBack};
 
 use mdl_shared::{Manager, Pass, Session};
 use mdl_stmt::Reply;
@@ -11,6 +12,13 @@ use mdl_syntax::Script;
 use mdl_work::{Gate, work};
 use std::alloc::{AllocError, Global};
 use std::sync::Wait;
+
+/// What comes back of a pass: a pass of the same session, and the answers to its lines, or that memory ran out.
+#[derive(Drop)]
+pub(crate) struct Answered {
+    pub(crate) pass: Pass,
+    pub(crate) answers: Result<Vec<(u64, Reply)>, AllocError>,
+}
 
 /// Opens the session of a pass, executes its lines, and closes it.
 pub(crate) fn work_pass<R: Wait, G: Gate>(
@@ -22,24 +30,25 @@ pub(crate) fn work_pass<R: Wait, G: Gate>(
     patience: u32,
     cache: u16,
     gate: &G,
-) -> Result<Vec<(u64, Reply)>, AllocError>
+) -> Answered
     requires theirs { pass_table pass ≡ table_of manager.now }
     requires capacity { IsCapacity cache }
-    ensures { IfOk result (λ answers. AreAnswers (table_of manager.now) patience script.now (pass_number pass) answers.items) }
+    ensures { CameBack (options_of patience cache) script.now pass result }
 {
     let mut session = Session::open(rt, manager, pass);
     let who = session.number();
     let answers = work(alloc, &mut session, who, script, patience, cache, gate);
-    close(session);
-    answers
+    let pass = close(session);
+    Answered { pass, answers }
 }
 
-/// Closes a session that has no ticket and no wait.
-pub(crate) fn close<R: Drop>(session: Session<R>)
+/// Closes a session that has no ticket and no wait, and returns its pass.
+pub(crate) fn close<R: Drop>(session: Session<R>) -> Pass
     requires { (space_of session).own ≡ nothing }
+    ensures { pass_view result ≡ session }
 {
     match session.close() {
-        Ok(_pass) => {}
+        Ok(pass) => pass,
         Err(_open) => unreachable!(),
     }
 }

@@ -1,40 +1,39 @@
 //! The turns of a run: the sessions that a script names, in rising order, each with the thread on which it runs.
-ghost use Rattle.std.specs.Prelude.{◌≡◌, ◌≢◌, [], ◌∷◌, ◌==◌, ℕ, Some, true, All, IfOk, OnOk, map, position, slice_get, ◌≤◌, length};
+ghost use Rattle.std.specs.Prelude.{◌≡◌, ◌≢◌, [], ◌∷◌, ◌++◌, ◌==◌, ℕ, Some, true, All, IfOk, OnOk, map, position, slice_get, ◌≤◌, length};
 ghost use Rattle.std.specs.List.Sorted.{IsPermutation};
 ghost use Rattle.std.specs.String.{string_bytes};
 ghost use Rattle.mdl_shared.specs.Passes.{pass_number, pass_table, table_of};
 ghost use Rattle.mdl_stmt.specs.Attendance.{IsCapacity};
-ghost use Rattle.mdl_script.specs.Answers.{AreAnswers, IsTranscript};
+ghost use Rattle.mdl_script.specs.Answers.{options_of};
 ghost use Rattle.mdl_script.specs.RunTexts.{named_sessions};
-ghost use Rattle.mdl_script.specs.Turns.{GainsAnswers, IsAbout, IsTurn, has_pass};
+ghost use Rattle.mdl_script.specs.Runs.{HasMadeFirst};
+ghost use Rattle.mdl_script.specs.Turns.{CameBack, GainsAnswers, IsAbout, IsTurn, has_pass, pass_sent, passes_sent};
 
-use crate::on_thread::work_pass;
+use crate::on_thread::{Answered, work_pass};
 use crate::run::{Run, is_named};
 use crate::told::push_answers;
 use mdl_key::MOST_SESSIONS;
-use mdl_shared::{Manager, Pass};
+use mdl_shared::{Pass, Session};
 use mdl_stmt::Reply;
 use mdl_syntax::Script;
 use mdl_work::Gate;
 use std::alloc::AllocError;
+use std::snapshot::Snapshot;
 use std::sync::Wait;
 use std::thread::{Promise, PromisedHandle, Scope, Threads};
 
-/// The answers to a session's lines, or that memory ran out.
-pub(crate) type Answered = Result<Vec<(u64, Reply)>, AllocError>;
-
-/// What a session's thread promises: unless memory ran out, its result is answers that session `who` of the table can have given to its lines of
-/// the script.
-#[derive(Clone, Copy)]
+/// What a session's thread promises: it gives back the pass that it got, and answers that the session gave to its lines of the script between
+/// the two, unless memory ran out.
+#[derive(Drop)]
 pub(crate) struct AnswersOf<'s> {
-    pub(crate) who: u16,
-    pub(crate) manager: &'s Manager,
+    pub(crate) pass: Snapshot<Pass>,
     pub(crate) script: &'s Script,
     pub(crate) patience: u32,
+    pub(crate) cache: u16,
 }
 
 impl<'s> Promise<Answered> for AnswersOf<'s> {
-    ghost kept_by = { λ p r. IfOk r (λ answers. AreAnswers (table_of p.manager.now) p.patience p.script.now p.who answers.items) };
+    ghost kept_by = { λ p r. CameBack (options_of p.patience p.cache) p.script.now p.pass.value r };
 }
 
 /// A session, with its thread. There is none if it runs in the thread that started the others.
@@ -80,16 +79,17 @@ fn start_thread<'s, E, R: Threads + Wait + Sync, G: Gate + Sync>(
 ) -> Result<PromisedHandle<Answered, AnswersOf<'s>>, AllocError>
     requires theirs { pass_table pass ≡ table_of run.now.manager.now }
     requires capacity { IsCapacity run.now.cache }
-    ensures { IfOk result (λ thread. IsAbout (table_of run.now.manager.now) run.now.patience run.now.script.now (pass_number pass) thread.promise) }
+    ensures pass { IfOk result (λ thread. thread.promise.pass.value ≡ pass) }
+    ensures about { IfOk result (λ thread. IsAbout (options_of run.now.patience run.now.cache) run.now.script.now thread.promise) }
 {
     // The closure gets each of these by itself. Of a struct that has them under a lifetime, the proof knows nothing.
     let (rt, gate, manager, script) = (run.rt, run.gate, run.manager, run.script);
     let (alloc, patience, cache) = (run.alloc, run.patience, run.cache);
     let promise = AnswersOf {
-        who: pass.number(),
-        manager,
+        pass: Snapshot::of(&pass),
         script,
         patience,
+        cache,
     };
     let thread = scope.spawn_with(promise, move || {
         work_pass(rt, alloc, manager, pass, script, patience, cache, gate)
@@ -109,7 +109,8 @@ fn start_turn<'s, E, R: Threads + Wait + Sync, G: Gate + Sync>(
     requires capacity { IsCapacity run.now.cache }
     requires there { who ≢ mine → has_pass passes.old.items who ≡ true }
     ensures who { IfOk result (λ turn. turn.who ≡ who) }
-    ensures turn { IfOk result (λ turn. IsTurn (table_of run.now.manager.now) run.now.patience run.now.script.now mine turn) }
+    ensures turn { IfOk result (λ turn. IsTurn (options_of run.now.patience run.now.cache) run.now.script.now mine turn) }
+    ensures sent { IfOk result (λ turn. IsPermutation passes.old.items (pass_sent turn ++ passes.new.items)) }
     ensures theirs { All (λ pass. pass_table pass ≡ table_of run.now.manager.now) passes.new.items }
     ensures others { (other : ℕ) → other ≢ who → has_pass passes.new.items other ≡ has_pass passes.old.items other }
 {
@@ -124,23 +125,27 @@ fn start_turn<'s, E, R: Threads + Wait + Sync, G: Gate + Sync>(
     })
 }
 
-/// Starts the turns of all sessions that the script names.
+/// Starts the turns of all sessions that the script names, except that `mine` runs in this thread. The asker has made the first schema.
 pub(crate) fn start_all<'s, E, R: Threads + Wait + Sync, G: Gate + Sync>(
     scope: &Scope<'s, E>,
     run: &Run<'s, R, G>,
-    mut passes: Vec<Pass>,
+    passes: &mut Vec<Pass>,
     mine: u16,
+    asker: &Session<&R>,
 ) -> Result<Vec<Turn<'s>>, AllocError>
-    requires theirs { All (λ pass. pass_table pass ≡ table_of run.now.manager.now) passes.items }
+    requires theirs { All (λ pass. pass_table pass ≡ table_of run.now.manager.now) passes.old.items }
     requires capacity { IsCapacity run.now.cache }
-    requires there { All (λ who. who ≢ mine → has_pass passes.items who ≡ true) (named_sessions run.now.script.now) }
+    requires there { All (λ who. who ≢ mine → has_pass passes.old.items who ≡ true) (named_sessions run.now.script.now) }
+    requires made { HasMadeFirst (options_of run.now.patience run.now.cache) mine asker.now }
     ensures sessions { IfOk result (λ turns. map (λ turn. turn.who) turns.items ≡ named_sessions run.now.script.now) }
-    ensures turns { IfOk result (λ turns. All (IsTurn (table_of run.now.manager.now) run.now.patience run.now.script.now mine) turns.items) }
+    ensures turns { IfOk result (λ turns. All (IsTurn (options_of run.now.patience run.now.cache) run.now.script.now mine) turns.items) }
+    ensures sent { IfOk result (λ turns. IsPermutation passes.old.items (passes_sent turns.items ++ passes.new.items)) }
 {
+    let _asker = asker;
     let mut turns = Vec::new(run.alloc);
     for who in 1..MOST_SESSIONS + 1 {
         if is_named(run.script, who) {
-            turns.push(start_turn(scope, run, &mut passes, mine, who)?)?;
+            turns.push(start_turn(scope, run, passes, mine, who)?)?;
         }
     }
     Ok(turns)
@@ -153,40 +158,42 @@ pub(crate) struct Transcript {
     pub(crate) answers: Vec<(u64, Reply)>,
 }
 
-/// Waits for the end of a turn, and appends its session's answers. `own` has the answers of the session that runs in this thread.
+/// Waits for the end of a turn, appends its session's answers to a text, and adds the pass that comes back to the passes. `own` has the answers
+/// of the session that runs in this thread.
 fn push_turn<R: Threads, G>(
     out: &mut String,
+    passes: &mut Vec<Pass>,
     run: &Run<R, G>,
     turn: Turn<'_>,
     own: &Transcript,
 ) -> Result<(), AllocError>
-    requires turn { IsTurn (table_of run.now.manager.now) run.now.patience run.now.script.now own.now.who turn }
-    requires own { AreAnswers (table_of run.now.manager.now) run.now.patience run.now.script.now own.now.who own.now.answers.items }
-    ensures { OnOk result (GainsAnswers (IsTranscript (table_of run.now.manager.now) run.now.patience run.now.script.now own.now.who own.now.answers.items) (turn.entry.who ∷ []) (string_bytes out.old) (string_bytes out.new)) }
+    requires { IsTurn (options_of run.now.patience run.now.cache) run.now.script.now own.now.who turn }
+    ensures { OnOk result (GainsAnswers (options_of run.now.patience run.now.cache) run.now.script.now own.now.who own.now.answers.items (turn.entry ∷ []) (string_bytes out.old) (string_bytes out.new) passes.old.items passes.new.items) }
 {
     let Turn { who, thread } = turn;
     match thread {
         Some(thread) => {
-            let answers = thread.join(run.rt)?;
-            push_answers(out, who, &answers)
+            let Answered { pass, answers } = thread.join(run.rt);
+            passes.push(pass)?;
+            push_answers(out, who, &answers?)
         }
         None => push_answers(out, who, &own.answers),
     }
 }
 
-/// Appends the answers of all turns, in order, each after its turn has ended.
+/// Does so with all turns, in order.
 pub(crate) fn push_turns<R: Threads, G>(
     out: &mut String,
+    passes: &mut Vec<Pass>,
     run: &Run<R, G>,
     turns: Vec<Turn<'_>>,
     own: &Transcript,
 ) -> Result<(), AllocError>
-    requires turns { All (IsTurn (table_of run.now.manager.now) run.now.patience run.now.script.now own.now.who) turns.items }
-    requires own { AreAnswers (table_of run.now.manager.now) run.now.patience run.now.script.now own.now.who own.now.answers.items }
-    ensures { OnOk result (GainsAnswers (IsTranscript (table_of run.now.manager.now) run.now.patience run.now.script.now own.now.who own.now.answers.items) (map (λ turn. turn.who) turns.entry.items) (string_bytes out.old) (string_bytes out.new)) }
+    requires { All (IsTurn (options_of run.now.patience run.now.cache) run.now.script.now own.now.who) turns.items }
+    ensures { OnOk result (GainsAnswers (options_of run.now.patience run.now.cache) run.now.script.now own.now.who own.now.answers.items turns.entry.items (string_bytes out.old) (string_bytes out.new) passes.old.items passes.new.items) }
 {
     for turn in turns {
-        push_turn(out, run, turn, own)?;
+        push_turn(out, passes, run, turn, own)?;
     }
     Ok(())
 }

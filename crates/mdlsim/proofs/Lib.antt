@@ -3,3 +3,4 @@ pub mod FoundRuns
 pub mod Options
 pub mod OptionsFound
 pub mod OptionsGiven
+pub mod WordEnds

@@ -1,11 +1,14 @@
 //! What the program does: over the words of its command line, and the streams that it is given.
-ghost use Rattle.std.specs.Prelude.{◌≡◌, ◌⊎◌, drop, map, Result, IsOk, IsOkUnless};
+ghost use Rattle.std.specs.Prelude.{◌≡◌, ◌↔◌, drop, false, map, Result, IfErr, IsOk, IsOkUnless, IsTrue, OnOk};
 ghost use Rattle.std.specs.Io.KnownBytes.{Keeps};
-ghost use Rattle.mdl_program.specs.declared.program.Run.{Run};
-ghost use Rattle.mdl_program.specs.Runs.{EndsAs, Writes, end_status};
-ghost use Rattle.mdlsim.specs.CommandLine.{AskForVersion, Asks, version_line};
+ghost use Rattle.clap.specs.Words.{kind_of};
+ghost use Rattle.mdl_program.specs.Runs.{Writes, end_status};
+ghost use Rattle.mdlsim.specs.CommandLine.{AskForVersion, version_line};
+ghost use Rattle.mdlsim.specs.Ends.{EndsByWords};
 
-use crate::command_line::{asks_for_version, command};
+use crate::command_line::{Run, asks_for_version, command};
+use clap::Error;
+use clap::error::ErrorKind;
 use mdl_lines::{Fault, report, write_all};
 use mdl_program::run_asked;
 use std::alloc::Global;
@@ -18,7 +21,7 @@ use std::thread::Threads;
 const VERSION_LINE: &[u8] = b"mdlsim 0.6.0-dev\n";
 
 /// Does what the words of a command line ask for, and returns the exit status: 2 if they ask neither for a run nor for the
-/// version.
+/// version, and 3 if memory runs out while they are read.
 pub fn run_words<T: Threads + Wait + Sync, S: AsStr, R: Read, W: Write, E: Write>(
     rt: &T,
     alloc: Global,
@@ -32,20 +35,29 @@ pub fn run_words<T: Threads + Wait + Sync, S: AsStr, R: Read, W: Write, E: Write
         × IsOkUnless end Fault.Write × Writes end (W.contents output.old) (W.contents output.new) version_line
         × (result ≡ end_status end)
         × (IsOk end → Keeps (E.contents errors.old) (E.contents errors.new)) }
-    // Other words. With status 2 nothing was written. Otherwise they ask for a run, and the status is that of an end that it may
-    // have.
     ensures others { (AskForVersion (drop 1 (map S.text words.entry.now)) → ⊥)
-        → ((result ≡ 2) × Keeps (W.contents output.old) (W.contents output.new))
-        ⊎ ((run : Run) × (end : Result (Unit {0}) Fault) × Asks (drop 1 (map S.text words.entry.now)) run
-        × EndsAs run (R.remaining input.old) (W.contents output.old) (W.contents output.new) end
-        × (result ≡ end_status end)
-        × (IsOk end → Keeps (E.contents errors.old) (E.contents errors.new))) }
+        → EndsByWords (drop 1 (map S.text words.entry.now)) result (R.remaining input.old) (W.contents output.old) (W.contents output.new)
+        (E.contents errors.old) (E.contents errors.new) }
 {
     if asks_for_version(words) {
         return print_version(output, errors);
     }
     let asked = command(alloc, words);
+    if lacks_memory(&asked) {
+        return report(&Fault::Memory, errors);
+    }
     run_asked(rt, alloc, &asked, input, output, errors)
+}
+
+// Whether memory ran out while words were read.
+fn lacks_memory(asked: &Result<Run, Error>) -> bool
+    ensures read { OnOk asked.now (result ≡ false) }
+    ensures refused { IfErr asked.now (λ refusal. IsTrue result ↔ (kind_of refusal ≡ ErrorKind.OutOfMemory)) }
+{
+    match asked {
+        Ok(_) => false,
+        Err(refusal) => refusal.kind() == ErrorKind::OutOfMemory,
+    }
 }
 
 // Prints the version, and returns the status. A write that fails is reported on the stream of errors.

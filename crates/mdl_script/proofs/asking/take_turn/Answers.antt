@@ -1,9 +1,10 @@
--- What the session had of the shared table before its lines, it hadn't more behind them.
+-- The session had nothing before its lines, and has nothing behind them.
 use Rattle.std.proofs.Common.{Ok}
+use Rattle.mdl_script.specs.Answers.{options_of}
 use Rattle.mdl_script.proofs.ThreadLemmas.{answers-are}
 use Rattle.mdl_script.proofs.asking.take_turn.Goals as goal
 
 pub returns-clause-answered : goal.returns-clause-answered
 returns-clause-answered g c =
-    answers-are {E = Unit {0}} c.args.run.now.patience c.args.run.now.script.now c.args.who c.args.asker.now c.work.new.space
-    (Ok c.in_ok-answers.answers) c.requires.speaks c.requires.nothing c.in_ok-answers.ensures.nothing c.in_ok-answers.ensures.answered c.in_ok-answers.ensures.lines
+    answers-are {E = Unit {0}} (options_of c.args.run.now.patience c.args.run.now.cache) c.args.run.now.script.now c.args.who c.args.asker.now c.work.new.space
+    (Ok c.in_ok-answers.answers) c.requires.speaks c.requires.nothing c.in_ok-answers.ensures.nothing c.in_ok-answers.ensures.reads c.in_ok-answers.ensures.lines

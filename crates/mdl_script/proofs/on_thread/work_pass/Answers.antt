@@ -1,19 +1,18 @@
--- The session that was opened has nothing, and its number and its table are those of the pass.
-use Rattle.std.proofs.Common.{◌≡◌, ◌∙◌, IfOk, ap, subst}
-use Rattle.mdl_shared.specs.Passes.{pass_number, table_of}
-use Rattle.mdl_shared.specs.SessionViews.{SessionView}
-use Rattle.mdl_script.specs.Answers.{AreAnswers}
-use Rattle.mdl_script.proofs.ThreadLemmas.{answers-are}
+-- The session that was opened has nothing, and its pass comes back.
+use Rattle.mdl_script.specs.Answers.{options_of}
+use Rattle.mdl_script.proofs.ThreadLemmas.{answers-are, closed-answers, closed-number, closed-there}
 use Rattle.mdl_script.proofs.on_thread.work_pass.Goals as goal
 
 pub returns : goal.returns
 returns g c =
-    let patience = c.args.patience in let lines = c.args.script.now in
-    let session = c.open-session.result in
-    let are = answers-are patience lines c.number-who.result session c.work-answers.new.space c.work-answers.result
-    c.number-who.ensures.speaks c.open-session.ensures.nothing c.work-answers.ensures.nothing c.work-answers.ensures.answered c.work-answers.ensures.lines in
-    let opened = c.open-session.ensures.opened in
-    let same : c.number-who.result ≡ pass_number c.args.pass = c.number-who.ensures.number ∙ ap (λ (s : SessionView). s.me.0.number) opened in
-    let there : session.table ≡ table_of c.args.manager.now = ap (λ (s : SessionView). s.table) opened ∙ c.requires.theirs in
-    subst (λ table. IfOk c.work-answers.result (λ answers. AreAnswers table patience lines (pass_number c.args.pass) answers.items)) there
-    (subst (λ who. IfOk c.work-answers.result (λ answers. AreAnswers session.table patience lines who answers.items)) same are)
+    let options = options_of c.args.patience c.args.cache in let lines = c.args.script.now in let who = c.number-who.result in
+    let a = c.open-session.result in let b = c.work-answers.new.space in
+    let opened = c.args.pass in let closed = c.close-pass.result in
+    let begun = c.open-session.ensures.opened in let ended = c.close-pass.ensures in
+    let are = answers-are options lines who a b c.work-answers.result
+    c.number-who.ensures.speaks c.open-session.ensures.nothing c.work-answers.ensures.nothing c.work-answers.ensures.reads c.work-answers.ensures.lines in
+    record {
+      number = closed-number who opened closed a b begun ended c.number-who.ensures.number c.work-answers.ensures.speaks;
+      there = closed-there options lines who opened closed a b c.work-answers.result begun ended c.work-answers.ensures.reads;
+      answered = closed-answers options lines who opened closed a b c.work-answers.result begun ended c.number-who.ensures.number are;
+    }

@@ -1,8 +1,6 @@
--- A new space has a pass for each session, and the first is that of session 1.
-use Rattle.std.specs.String.{string_bytes}
+-- A new space has a pass for each session.
 use Rattle.mdl_shared.specs.Passes.{table_of}
 use Rattle.mdl_script.proofs.PassLemmas.{all-there}
-use Rattle.mdl_script.proofs.TextLemmas.{run-new}
 use Rattle.mdl_script.proofs.running.run_threads.Goals as goal
 
 pub run_on-requires-clause-there : goal.run_on-requires-clause-there
@@ -11,5 +9,13 @@ run_on-requires-clause-there g c κs within =
 
 pub returns : goal.returns
 returns g c =
-    let made = c.in-Ok.ensures.made in
-    run-new string_bytes c.args.patience c.args.script.now (table_of c.in-Ok.manager) c.in-Ok.passes.items c.run_on.result made.0 made.1 made.3 c.run_on.ensures
+    let made = c.in-Ok.ensures.made in record {
+      table = table_of c.in-Ok.manager;
+      slots = made.0;
+      words = made.1;
+      given = c.in-Ok.passes.items;
+      all = made.2;
+      new = made.3;
+      back = c.in_ok-ran.ran.passes.items;
+      run = c.in_ok-ran.ensures.ran;
+    }

@@ -1,19 +1,28 @@
 -- The text gains what the session answered, by its thread's promise or as its own.
-use Rattle.std.proofs.Common.{refl, subst, sym}
+use Rattle.std.proofs.Common.{IfOk, ap, subst}
 use Rattle.std.proofs.lemmas.Option.{MatchOption-at_none, MatchOption-at_some}
-use Rattle.mdl_shared.specs.Passes.{table_of}
-use Rattle.mdl_script.specs.Answers.{AreAnswers}
-use Rattle.mdl_script.proofs.TurnLemmas.{kept_about, pushed_one}
+use Rattle.mdl_shared.specs.Passes.{pass_number, pass_view}
+use Rattle.mdl_script.specs.Answers.{AreAnswers, options_of}
+use Rattle.mdl_script.specs.Turns.{sent_to}
+use Rattle.mdl_script.proofs.TurnLemmas.{pushed_one, pushed_own}
 use Rattle.mdl_script.proofs.turns.push_turn.Goals as goal
 
 pub returns-in_ok-answers-in-Some : goal.returns-in_ok-answers-in-Some
 returns-in_ok-answers-in-Some g c =
-    let about = MatchOption-at_some _ _ c.in-Some.thread c.in-Some.is c.requires.turn in
-    let are = kept_about _ _ _ _ c.in-Some.thread.promise _ about.1 c.in_ok-answers-in-Some.ensures in
-    pushed_one _ _ _ c.deref.result.now _ _ c.push_answers.result (are, λ same. absurd (about.0 same)) c.deref.ensures.value c.push_answers.ensures
+    let options = options_of c.args.run.now.patience c.args.run.now.cache in let lines = c.args.run.now.script.now in
+    let promise = c.in-Some.thread.promise in let opened = promise.pass.value in let closed = c.join-pass.result.pass in
+    let answers = c.in_ok-answers-in-Some.field-0.items in
+    let about = MatchOption-at_some _ _ c.in-Some.thread c.in-Some.is c.requires in
+    let kept = subst (λ r. IfOk r (λ told. AreAnswers (options_of promise.patience promise.cache) promise.script.now (pass_number opened) (pass_view opened) told.items (pass_view closed)))
+    c.in_ok-answers-in-Some.was c.join-pass.ensures.answered in
+    let are = subst (λ n. AreAnswers n lines (pass_number opened) (pass_view opened) answers (pass_view closed)) about.2.1
+    (subst (λ xs. AreAnswers (options_of promise.patience promise.cache) xs (pass_number opened) (pass_view opened) answers (pass_view closed)) about.2.0 kept) in
+    pushed_one options lines c.args.own.now.who c.args.own.now.answers.items answers c.deref.result.now c.args.turn opened closed _ _ _ _ c.push_answers.result
+    (ap sent_to c.in-Some.is) about.0 about.1 c.join-pass.ensures.number c.join-pass.ensures.there are
+    c.in_ok-push-in-Some.ensures.items c.deref.ensures.value c.push_answers.ensures
 
 pub returns-in-None : goal.returns-in-None
 returns-in-None g c =
-    let mine = MatchOption-at_none _ _ c.in-None.is c.requires.turn in
-    let are = subst (λ who. AreAnswers (table_of c.args.run.now.manager.now) c.args.run.now.patience c.args.run.now.script.now who c.args.own.now.answers.items) (sym mine) c.requires.own in
-    pushed_one _ _ _ c.deref-in-None.result.now _ _ c.push_answers-in-None.result (are, λ same. refl) c.deref-in-None.ensures.value c.push_answers-in-None.ensures
+    let mine = MatchOption-at_none _ _ c.in-None.is c.requires in
+    pushed_own (options_of c.args.run.now.patience c.args.run.now.cache) c.args.run.now.script.now c.args.own.now.who c.args.own.now.answers.items c.deref-in-None.result.now c.args.turn _ _ _
+    c.push_answers-in-None.result c.in-None.is mine c.deref-in-None.ensures.value c.push_answers-in-None.ensures

@@ -14,7 +14,7 @@ start_turn-requires-clause-theirs g c κs within = c.loop-who.invariant.theirs
 
 pub start_turn-requires-clause-there : goal.start_turn-requires-clause-there
 start_turn-requires-clause-there g c κs within differs =
-    let all = c.args.passes.items in let who = c.loop-who.who in
+    let all = c.args.passes.now.items in let who = c.loop-who.who in
     c.loop-who.invariant.left who (omega arith)
     ∙ each_named (λ other. other ≢ c.args.mine → has_pass all other ≡ true) c.args.run.now.script.now who c.requires.there
     (sym c.is_named.ensures ∙ c.if-is_named.true) c.loop-who.auto.who c.loop-who-test.true differs
@@ -25,7 +25,7 @@ loop-who-preserved g c = elim c.if-is_named.branch [
       let turn = w.in_ok-start_turn.ensures in
       started_as _ _ _ _ _ _ _ _ _ _
       (started_more _ _ _ _ _ c.loop-who.who c.loop-who.turns.items c.loop-who.passes.items w.start_turn.new.passes.items w.in_ok-start_turn.field-0
-      c.loop-who.invariant c.loop-who.auto.who (sym c.is_named.ensures ∙ w.if-is_named.true) turn.who turn.turn turn.theirs turn.others)
+      c.loop-who.invariant c.loop-who.auto.who (sym c.is_named.ensures ∙ w.if-is_named.true) turn.who turn.turn turn.sent turn.theirs turn.others)
       (ap vec_items w.turns-is ∙ w.in_ok-push.ensures.items) (ap vec_items w.passes-is)
   | else-is_named w ↦
       started_as _ _ _ _ _ _ _ _ _ _
@@ -40,3 +40,6 @@ returns-clause-sessions g c =
 
 pub returns-clause-turns : goal.returns-clause-turns
 returns-clause-turns g c = c.loop-who.invariant.are_turns
+
+pub returns-clause-sent : goal.returns-clause-sent
+returns-clause-sent g c = c.loop-who.invariant.sent
