@@ -1,0 +1,9 @@
+mod Bytes
+mod Strings
+mod Utf8
+mod Lexemes
+mod Spelling
+mod Objects
+mod Pieces
+mod Rows
+mod Answers

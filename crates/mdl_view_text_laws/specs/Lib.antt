@@ -1,0 +1,4 @@
+pub mod JsonTexts
+pub mod Sizes
+pub mod AnswerValues
+pub mod JsonLaws
