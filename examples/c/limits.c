@@ -83,6 +83,8 @@ static void name_keys(void)
     }
     EXPECT(MDL_EMPTY_NAME, mdl_table(&space, 1, text, 1, text, 0, &place));
     EXPECT(MDL_EMPTY_NAME, mdl_schema(&space, 1, text, 0, &place));
+    EXPECT(MDL_EMPTY_NAME, mdl_table(&space, 1, text, 0, (const uint8_t *)"-", 1, &place));
+    EXPECT(MDL_BAD_BYTE, mdl_table(&space, 1, text, 0, (const uint8_t *)"\xff", 1, &place));
     EXPECT(MDL_LONG_NAME, mdl_table(&space, 1, text, LONGEST + 1, text, 1, &place));
     EXPECT(MDL_LONG_NAME, mdl_table(&space, 1, text, 1, text, LONGEST + 1, &place));
     EXPECT(MDL_LONG_NAME, mdl_schema(&space, 1, text, LONGEST + 1, &place));

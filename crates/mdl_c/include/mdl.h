@@ -105,7 +105,7 @@ enum mdl_code {
     MDL_NO_MODE = 21,        /* there is no mode of this number */
     MDL_EMPTY_NAME = 22,     /* a name has 1 to 64 bytes of a-z 0-9 _ */
     MDL_LONG_NAME = 23,
-    MDL_BAD_BYTE = 24,
+    MDL_BAD_BYTE = 24,       /* before all else if a name isn't UTF-8: otherwise the schema's faults come before the table's */
     MDL_HAS_CONTEXT = 25,    /* a context keeps the session's tickets */
     MDL_NO_CONTEXT = 26,     /* none does */
     MDL_SESSION_IN_USE = 27, /* the session holds a ticket or has a wait */

@@ -20,10 +20,10 @@ abbrev error_or : (T : Type 0) → KeyError → Result T KeyError → KeyError
 error_or T other (Ok _) = other
 error_or T other (Err why) = why
 
-pub name-code : (T : Type 0) (are_text : Type 0) (fault : Option KeyError) (why : KeyError) → Refuses {T = T} fault OutOfMemory (Err why)
+pub name-code : (T : Type 0) (are_text : Type 0) (fault : Option KeyError) (why : KeyError) → are_text → Refuses {T = T} fault OutOfMemory (Err why)
     → IsNameCode are_text fault (name_code why)
-name-code T are_text None why refused = inr (inr (ap name_code refused))
-name-code T are_text (Some fault) why refused = inr (inl (why, ap Some (sym (ap (error_or T why) refused)), refl))
+name-code T are_text None why text refused = inr (text, ap name_code refused)
+name-code T are_text (Some fault) why text refused = inr (text, ap name_code (ap (error_or T why) refused))
 
 -- ---- what is done with a key, or with the code of why there is none
 

@@ -8,10 +8,14 @@ use Rattle.mdl_key.specs.Keys.{KeyName, commit_key, global_key, name_fault, sche
 use Rattle.mdl_c.specs.Codes.{bad_byte, name_code, no_memory}
 use Rattle.mdl_c.specs.ContextCodes.{no_namespace}
 
--- a code of why no key is made of names: one of them isn't UTF-8, they aren't valid names, or memory ran out
+-- a code of why no key is made of names that are UTF-8: the fault of the names, or, if they have none, that memory ran out
+abbrev pub IsKeyCode : Option KeyError → ℕ → Type 0
+IsKeyCode None code = code ≡ no_memory
+IsKeyCode (Some why) code = code ≡ name_code why
+
+-- a code of why no key is made of names: one of them isn't UTF-8, or else what `IsKeyCode` says
 abbrev pub IsNameCode : Type 0 → Option KeyError → ℕ → Type 0
-IsNameCode are_text fault code =
-    ((are_text → ⊥) × (code ≡ bad_byte)) ⊎ ((why : KeyError) × (fault ≡ Some why) × (code ≡ name_code why)) ⊎ (code ≡ no_memory)
+IsNameCode are_text fault code = ((are_text → ⊥) × (code ≡ bad_byte)) ⊎ (are_text × IsKeyCode fault code)
 
 -- a key is made of names and `Done` holds, or none is made and `Refused` holds of the code
 abbrev pub Named : Type 0 → Option KeyError → Type 0 → (ℕ → Type 0) → Type 0

@@ -93,8 +93,9 @@ impl Space {
         Some(handle.into_parts().into_box())
     }
 
-    /// Puts a manager in.
+    /// Puts a manager in, where there is none: one that is there would never be freed.
     pub fn put(&mut self, manager: Box<Manager, Global>)
+        requires empty { self.old.handle.manager ≡ None }
         ensures { self.new.handle.manager ≡ Some manager.value }
     {
         *self = Space {

@@ -12,4 +12,5 @@ returns-in-Err c =
     subst (λ schema. IsNameCode text (table_fault schema c.args.table.now) c.name_code.result) c.in-Ok.ensures.cases.0
     (subst (λ table. IsNameCode text (table_fault c.in-Ok.schema.now table) c.name_code.result) c.in-Ok-from_utf8.ensures.cases.0
     (subst (λ code. IsNameCode text (table_fault c.in-Ok.schema.now c.in-Ok-from_utf8.table.now) code) (sym c.name_code.ensures)
-    (name-code KeyName text (table_fault c.in-Ok.schema.now c.in-Ok-from_utf8.table.now) c.in-Err.why c.in-Err.ensures.refused)))
+    (name-code KeyName text (table_fault c.in-Ok.schema.now c.in-Ok-from_utf8.table.now) c.in-Err.why
+    (c.in-Ok.ensures.cases.1, c.in-Ok-from_utf8.ensures.cases.1) c.in-Err.ensures.refused)))
