@@ -1,1 +1,2 @@
+pub mod FastRuns
 pub mod MetAfter

@@ -1,1 +1,2 @@
 pub mod contexts
+pub mod steps

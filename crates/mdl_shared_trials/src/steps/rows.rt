@@ -130,3 +130,13 @@ fn a_fast_ticket_needs_no_latch(rt: HostRuntime) -> Result<(), Fail> {
     assert!(rt; free == Some(true));
     Ok(())
 }
+
+// Three fast tickets of a session that become slow are counted by the word before that, and are in its place's book after it.
+#[test]
+fn three_fast_tickets_become_slow(rt: HostRuntime) -> Result<(), Fail> {
+    let Visitors { one, .. } = come(&rt)?;
+    let words = one.makes_slow(&rt, [Mode::S, Mode::S, Mode::SR]);
+    let wanted = (Word(0x0000_0000_0010_0002), Word(0x1000_0000_0000_0000));
+    assert!(rt; words == Some(wanted));
+    Ok(())
+}

@@ -1,19 +1,21 @@
 //! A session that visits the place of one key, and reads the words there and those of waits.
-ghost use Rattle.std.specs.Prelude.{◌≡◌, ℕ, ◌+◌, ◌<◌, ◌^◌, None, Some, true};
+ghost use Rattle.std.specs.Prelude.{◌≡◌, ℕ, ◌+◌, ◌<◌, ◌^◌, [], ◌∷◌, ◌++◌, length, None, Some, IfSome, true};
 ghost use Rattle.std.specs.Arc.{arc_value};
 ghost use Rattle.std.specs.Option.{option_to_list};
 ghost use Rattle.mdl_key.specs.Words.{is_mode_of};
+ghost use Rattle.mdl_steps.specs.FastPlays.{fast_own};
 ghost use Rattle.mdl_steps.specs.Seats.{IsPlace, IsSized};
 ghost use Rattle.mdl_steps.specs.WaitStates.{IsLost, granted_state};
 ghost use Rattle.mdl_visits.specs.Idle.{IsIdle};
 ghost use Rattle.mdl_shared.specs.Members.{kind_known};
+ghost use Rattle.mdl_shared_trials.specs.steps.Fast.{HasFastAlone};
 
 use crate::steps::rows::{Answer, Deed};
 use mdl_key::{Key, Kind, Mode};
 use mdl_steps::{Ask, Loss, Maker, Own, OwnedTable, TableSeat, WaitWord};
 use mdl_visits::{
-    FastTried, Queued, Tried, begin_wait, end_lost_wait, release, release_fast, reschedule,
-    resolve, try_fast, try_now,
+    FastTried, Queued, Tried, begin_wait, end_lost_wait, materialise, release, release_fast,
+    reschedule, resolve, try_fast, try_now,
 };
 use mdl_word::Word;
 use std::alloc::Global;
@@ -303,5 +305,59 @@ impl Visitor {
         let free = other.release_fast() == Answer::Owes(false);
         seat.put_latch(latch, &[]);
         Some(granted && free)
+    }
+
+    /// Gains three fast tickets in these modes and makes them slow. Returns the words of the lock before and after that, or `None` if it doesn't
+    /// come so far.
+    pub(crate) fn makes_slow<R: Wait>(self, rt: &R, modes: [Mode; 3]) -> Option<(Word, Word)> {
+        if self.asks.is_some() || self.slow.is_some() || self.fast.is_some() {
+            return None;
+        }
+        let Visitor {
+            mut seat,
+            place,
+            kind,
+            next,
+            ..
+        } = self;
+        if next > MOST_NUMBERS {
+            return None;
+        }
+        let [first, second, third] = modes;
+        let one = gain(&mut seat, place, kind, next, &[], first)?;
+        let two = gain(&mut seat, place, kind, next, &[first], second)?;
+        let three = gain(&mut seat, place, kind, next, &[first, second], third)?;
+        let before = seat.read_word_unlatched(place);
+        if materialise(rt, &mut seat, place, kind, &[one, two, three]).is_err() {
+            return None;
+        }
+        Some((before, seat.read_word_unlatched(place)))
+    }
+}
+
+// Gains one more fast ticket, beside those in the modes `beside`, whose numbers begin with `next`.
+fn gain(
+    seat: &mut TableSeat,
+    place: usize,
+    kind: Kind,
+    next: u64,
+    beside: &[Mode],
+    mode: Mode,
+) -> Option<Own>
+    requires alone { HasFastAlone place kind next beside.now seat.old }
+    requires few { length beside.now < 3 }
+    requires rest { next < 2 ^ 60 }
+    ensures gained { IfSome result (λ ticket. (ticket ≡ fast_own (next + length beside.now) place mode None)
+        × HasFastAlone place kind next (beside.now ++ mode ∷ []) seat.new) }
+{
+    let one = Word::increment(kind, mode)?;
+    match try_fast(seat, place, mode, None, one) {
+        FastTried::Granted => Some(Own {
+            number: next + beside.len() as u64,
+            place,
+            mode,
+            noted: None,
+        }),
+        FastTried::Obtruded(_) | FastTried::Contended(_) => None,
     }
 }

@@ -1,0 +1,2 @@
+-- The definitions of the tests of steps.
+pub mod Fast
