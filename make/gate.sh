@@ -1,7 +1,7 @@
 #!/bin/sh
 # The gate: proves everything from nothing and runs all tests, tries the wrong bodies with the proved libraries, checks the proved programs' answers to
 # the examples and their command lines, plays 8,000 random scripts, draws 2,000, compares the answers
-# to 2,000 rows of locks, refuses every twenty-third growth, and runs the programs of C.
+# to 2,000 rows of locks, refuses every twenty-third growth, looks for memory that isn't freed, and runs the programs of C.
 # At the end it prints how much processor time that took, and which checks this machine can't make. With GATE_STRICT=1 it fails if there are any.
 # Usage: sh make/gate.sh, at the top of the repository.
 spent=$(mktemp)
@@ -16,7 +16,7 @@ export RT_JOBS
 
 rt ci && python3 make/wrong_bodies.py --gate && MDLSIM=$PWD/crates/mdlsim/out/mdlsim sh examples/check.sh && python3 commands/check.py \
     && python3 fuzz/fuzz.py --scripts 8000 --seed 1 && python3 commands/check_view.py && python3 fuzz/views.py --scripts 2000 --seed 1 \
-    && python3 fuzz/timelines.py --scripts 2000 --seed 1 && sh growths/check.sh 23 && sh make/c.sh
+    && python3 fuzz/timelines.py --scripts 2000 --seed 1 && sh growths/check.sh 23 && sh growths/leaks.sh && sh make/c.sh
 status=$?
 # (the second line has the children's time: of the user, and of the system)
 times > "$spent"
