@@ -13,7 +13,7 @@ use Rattle.mdl_session_laws.specs.SessionJoins.{Joins}
 use Rattle.mdl_session_laws.specs.SessionSpaces.{Knows}
 use Rattle.mdl_visits.specs.Leavings.{MeetsOwn}
 use Rattle.mdl_visits.specs.Numbers.{numbered}
-use Rattle.mdl_visits.specs.Visits.{MeetsFull}
+use Rattle.mdl_visits.specs.Visits.{MeetsFull, VisitsOnce}
 use Rattle.mdl_visits.proofs.Numbers.{has_number}
 use Rattle.mdl_shared.specs.DeedsDone.{DoesQuietly}
 use Rattle.mdl_shared.specs.FastWishes.{BecomesSlow, GainsFast}
@@ -21,7 +21,7 @@ use Rattle.mdl_shared.specs.Members.{IsMember}
 use Rattle.mdl_shared.specs.Modes.{clone_fault}
 use Rattle.mdl_shared.specs.OwnLists.{told_of}
 use Rattle.mdl_shared.specs.SessionViews.{SessionView, space_of, tickets_seen}
-use Rattle.mdl_shared.specs.Showings.{FullForFast, IsClosed, IsCloned, LacksMemory, LacksRoomForWish, MeetsTicket, Shows, ShowsStep}
+use Rattle.mdl_shared.specs.Showings.{FullForFast, IsClosed, IsCloned, LacksMemory, LacksRoomForWish, MeetsTicket, Shows, ShowsStep, SlowsAll, StopsSlowing}
 use Rattle.mdl_shared.specs.TicketLists.{KeepsRoom}
 use Rattle.mdl_shared.proofs.FastWishing.{by-latch, number-slow}
 use Rattle.mdl_shared.proofs.FastWishShows.{full-fast, full-one, wish-lack}
@@ -73,20 +73,20 @@ module _ {s : SessionView} (is : IsMember s) (id : ℕ) (mode : Mode) where
       fast-cloned gains = (clone-joins gains.first gains.quiet.done, clone-shows gains.quiet (inl gains.met) gains.room)
 
       -- there was no room
-      clone-full : {at : ℕ} {b : SessionView} {why : SpaceError} → DoesQuietly at [] s b × KeepsRoom 0 s.room b.room → LacksRoomForWish (MeetsFull t.place) t.place mode why s b
+      clone-full : {at : ℕ} {b : SessionView} {why : SpaceError} → DoesQuietly at [] s b × KeepsRoom 0 s.room b.room → LacksRoomForWish (MeetsFull t.place) t.place mode false why s b
           → Joins (space_of s) (Clone_ticket s.me.0.number id mode) (Refused why) (space_of b) × Shows (Clone_ticket s.me.0.number id mode) (Refused why) s b
       clone-full {b = b} still lacks = (
-        clone-refused (done-nothing still.0.done) (wish-lack t.place mode s b lacks),
+        clone-refused (done-nothing still.0.done) (wish-lack t.place mode false s b lacks),
         quiet-shows still.0 refl clear (λ e. e) (λ e. e) tt (inr (t, its, lacks)) still.1,
       )
 
       pub full-cloned : {b : SessionView} {why : SpaceError} → DoesQuietly 0 [] s b × KeepsRoom 0 s.room b.room
-          → ((why ≡ OutOfMemory) × LacksMemory t.place mode s b) ⊎ ((why ≡ Full) × IsClosed t.place mode s b × FullForFast s b)
+          → ((why ≡ OutOfMemory) × LacksMemory t.place mode StopsSlowing s b) ⊎ ((why ≡ Full) × IsClosed t.place mode StopsSlowing s b × FullForFast s b)
           → Joins (space_of s) (Clone_ticket s.me.0.number id mode) (Refused why) (space_of b) × Shows (Clone_ticket s.me.0.number id mode) (Refused why) s b
-      full-cloned {b} still causes = clone-full still (full-fast t.place mode s b causes)
+      full-cloned {b} still causes = clone-full still (full-fast t.place mode false s b causes)
 
       -- by the latch of the place, once all fast tickets are slow ones
-      module _ {b c : SessionView} (slow : BecomesSlow s b) (closed : IsClosed t.place mode s b) where
+      module _ {b c : SessionView} (slow : BecomesSlow s b) (closed : IsClosed t.place mode SlowsAll s b) (once : VisitsOnce t.place b.me c.me) where
         pub cloned-slow : (next : ℕ) → next ≡ s.me.0.next → (result : Result ℕ SpaceError)
             → IfOk result (λ new. (new ≡ next) × DoesQuietly t.place (Gain new mode ∷ []) b c × MeetsTicket t.number (Gain new mode ∷ []) b c t
             × KeepsRoom 1 b.room c.room)
@@ -99,7 +99,7 @@ module _ {s : SessionView} (is : IsMember s) (id : ℕ) (mode : Mode) where
             let met = made.2 in
             let own = subst₂ (λ (who n : ℕ). MeetsOwn t.place who n met.0) (number-slow slow) (has_number id t (tickets_seen s.me.0) its) met.2.0 in (
               clone-joins (made.0 ∙ first) quiet.done,
-              clone-shows quiet (inr (by-latch slow t.place mode closed (met.0, met.1, (own, met.2.1)))) (keeps-before 1 s.room b.room c.room slow.room made.3),
+              clone-shows quiet (inr (by-latch slow t.place mode false c closed once (met.0, met.1, (own, met.2.1)))) (keeps-before 1 s.room b.room c.room slow.room made.3),
             )
         cloned-slow next first (Err why) made still causes =
-            clone-full (quiet-then slow.quiet still.0, keeps-before 0 s.room b.room c.room slow.room still.1) (full-one t.place mode s b slow closed still.0 causes)
+            clone-full (quiet-then slow.quiet still.0, keeps-before 0 s.room b.room c.room slow.room still.1) (full-one t.place mode false s b c slow closed once causes)

@@ -55,16 +55,18 @@ granted-so settled_as.Killed e = cc
 
 -- ---- what the session has then
 
--- a session that has ended its wait, with these slow tickets, and this room for more, after these steps, which settled these waits
-abbrev pub after-end : List Own → List Settlement → List Met → Room → SessionView → SessionView
-after-end slow settles log room s = record s { me = (record s.me.0 { slow = slow; asks = None; told = None; settles = settles; log = log }, s.me.1); room = room }
+-- a session that has ended its wait, with these slow tickets, and this room for more, after these steps, which settled these waits, and these debts
+abbrev pub after-end : List Own → List ℕ → List Settlement → List Met → Room → SessionView → SessionView
+after-end slow owes settles log room s =
+    record s { me = (record s.me.0 { slow = slow; asks = None; told = None; owes = owes; settles = settles; log = log }, s.me.1); room = room }
 
 -- nothing else changed
 pub record HasEnded (slow : List Own) (s s′ : SessionView) : Type 0 where
+  pub owes : List ℕ
   pub settles : List Settlement
   pub log : List Met
   pub room : Room
-  pub now : s′ ≡ after-end slow settles log room s
+  pub now : s′ ≡ after-end slow owes settles log room s
 
 -- without a wait there is nothing to end
 pub idle-joins : {s : SessionView} → IsMember s → s.me.0.asks ≡ None → Joins (space_of s) (End_wait s.me.0.number) (Refused NoWait) (space_of s)
@@ -138,7 +140,7 @@ module _ {s s′ : SessionView} (is : IsMember s) where
           agreed = λ state how met knows. let e : Some settled_as.Granted ≡ state = cc in sym e ∙ ap Some (agreed how knows);
           told = λ how told. cc;
           settled = refl;
-          reads = nothing-read s (after-end (owned a.place (Gain a.number a.mode) s.me.0.slow) ends.settles ends.log ends.room s) refl
+          reads = nothing-read s (after-end (owned a.place (Gain a.number a.mode) s.me.0.slow) ends.owes ends.settles ends.log ends.room s) refl
               (λ at. subst (AllNoted at (noted_under at (tickets_seen s.me.0))) (sym (gains is a asks)) (one-note_done s is at a.place (Gain a.number a.mode)));
           truly = tt;
         })
@@ -162,6 +164,6 @@ module _ {s s′ : SessionView} (is : IsMember s) where
       agreed = λ state how met knows. let e : Some one ≡ state = cc in sym e ∙ ap Some (agreed how knows);
       told = λ how told. cc;
       settled = refl;
-      reads = nothing-read s (after-end s.me.0.slow ends.settles ends.log ends.room s) refl (λ at. one-note s is at);
+      reads = nothing-read s (after-end s.me.0.slow ends.owes ends.settles ends.log ends.room s) refl (λ at. one-note s is at);
       truly = tt;
     })

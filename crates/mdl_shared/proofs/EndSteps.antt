@@ -1,5 +1,5 @@
 -- A session reads the word of its wait, and ends the wait where it is settled.
-use Rattle.std.proofs.Common.{◌≡◌, ℕ, true, is_some, List, [], ◌∷◌, ◌++◌, Option, Some, None, inr, refl, sym, ap, subst, ◌∙◌, append-nil}
+use Rattle.std.proofs.Common.{◌≡◌, ℕ, true, is_some, [], ◌∷◌, ◌++◌, Option, Some, None, inr, refl, sym, ap, subst, ◌∙◌}
 use Rattle.atomic_table.specs.Seated.{TableId}
 use Rattle.mdl_calls.specs.declared.answers.Settled.{Settled}
 use Rattle.mdl_calls.specs.declared.answers.Settled.TheVariants as settled_as
@@ -16,21 +16,21 @@ use Rattle.mdl_steps.specs.SeatStates.{AtItsTable, SeatState}
 use Rattle.mdl_steps.specs.WaitPlays.{TellsOwn, ended_granted, taken_over}
 use Rattle.mdl_steps.specs.WaitStates.{granted_state, wait_in, wait_state}
 use Rattle.mdl_session_laws.specs.SessionJoins.{Joins}
-use Rattle.mdl_visits.specs.Grantings.{HasRescheduled}
+use Rattle.mdl_visits.specs.Grantings.{HasRescheduled, all_but}
 use Rattle.mdl_visits.specs.Polls.{EndsWait, state_of}
-use Rattle.mdl_visits.specs.Visits.{Does}
+use Rattle.mdl_visits.specs.Visits.{Does, VisitsOnce}
 use Rattle.mdl_visits.specs.WaitEndings.{EndsLost, idle, without_wait}
 use Rattle.mdl_visits.proofs.Rescheduling.{rescheduled_after}
 use Rattle.mdl_visits.proofs.Steps.{does_then, goes_by, step_after}
 use Rattle.mdl_shared.specs.Members.{IsMember}
 use Rattle.mdl_shared.specs.SessionViews.{SessionView, lists_seen, session_at, settled_of, space_of}
-use Rattle.mdl_shared.specs.Showings.{EndsOwnWait, Shows, ShowsStep}
+use Rattle.mdl_shared.specs.Showings.{EndsByOneStep, EndsOwnWait, LooksThen, Shows, ShowsStep}
 use Rattle.mdl_shared.specs.TicketLists.{KeepsRoom, Room}
 use Rattle.mdl_shared.specs.Waitings.{wait_fault}
 use Rattle.mdl_shared.proofs.EndCalls.{HasEnded, lost-joins, unsettled-joins, won-joins}
 use Rattle.mdl_shared.proofs.Faults.{if-clear}
 use Rattle.mdl_shared.proofs.Members.{done-nothing}
-use Rattle.mdl_shared.proofs.PollCalls.{poll-pending, poll-settled, polls, settled-is, settled-more}
+use Rattle.mdl_shared.proofs.PollCalls.{in-state, poll-pending, poll-settled, polls, settled-is, settled-more, unsettled}
 use Rattle.mdl_shared.proofs.WaitSteps.{told-own, word-step}
 
 module _ {s mid : SessionView} (is : IsMember s) (a : Ask) (asks : s.me.0.asks ≡ Some a) (session found : ℕ) (mine : session ≡ s.me.0.number)
@@ -40,6 +40,21 @@ module _ {s mid : SessionView} (is : IsMember s) (a : Ask) (asks : s.me.0.asks �
 
   clear : wait_fault s.me.0.asks ≡ None
   clear = ap wait_fault asks
+
+  -- the first step met the wait in this state
+  looks : (state : ℕ) → found ≡ wait_in s.me.0.waits state → (fact : Mine → Type 0) → fact mid.me → LooksThen state (lists_seen s.me.0) s fact
+  looks state its fact so =
+      let look : Met = record { kind = ReadWait; deeds = []; word = wait_word s.table.slots session; found = found; held = s.me.0.latches; directory = s.me.0.directory } in (
+        mid.me,
+        look,
+        ap (λ (x : SessionView). x.me.0.log) now,
+        ap (λ (x : SessionView). x.me.0.directory) now,
+        record { word = ap (wait_word s.table.slots) mine; found = its },
+        so,
+      )
+
+  there : (one : Settled) → settled_of (wait_state found) ≡ Some one → found ≡ wait_in s.me.0.waits (state_of one)
+  there one some = in-state is waiting session found mine own (state_of one) (settled-is (wait_state found) one some)
 
   -- ---- it is not settled
 
@@ -58,7 +73,7 @@ module _ {s mid : SessionView} (is : IsMember s) (a : Ask) (asks : s.me.0.asks �
           settled = shown.settled;
           told = tt;
           steps = tt;
-          met = inr (refl, shown.met);
+          met = inr (refl, looks 1 (unsettled is waiting session found mine own none) (λ (m : Mine). mid.me ≡ m) refl);
           room = shown.room;
         },
       )
@@ -93,9 +108,9 @@ module _ {s mid : SessionView} (is : IsMember s) (a : Ask) (asks : s.me.0.asks �
     -- ---- it was lost
 
     pub lost-end : {s′ : SessionView} → Does [] mid.me s′.me → ShowsStep mid s′ (EndsWait mid.table.slots mid.me.0.number mid.me.0.waits (state_of one)) → is_answer_of (End_wait s.me.0.number) (Lost one) ≡ true → HasEnded s.me.0.slow s s′
-        → HasRescheduled mid.table a.place (without_wait mid.me) s′.me → KeepsRoom 0 s.room s′.room
+        → HasRescheduled mid.table a.place (without_wait mid.me) s′.me → VisitsOnce a.place mid.me s′.me → KeepsRoom 0 s.room s′.room
         → Joins (space_of s) (End_wait s.me.0.number) (Lost one) (space_of s′) × Shows (End_wait s.me.0.number) (Lost one) s s′
-    lost-end {s′} ends shows fits ended rescheduled keeps =
+    lost-end {s′} ends shows fits ended rescheduled once keeps =
         let shown = polled.1 in (
           lost-joins is a asks one fits agreed ended,
           record {
@@ -111,9 +126,10 @@ module _ {s mid : SessionView} (is : IsMember s) (a : Ask) (asks : s.me.0.asks �
               (
                 a,
                 asks,
-                rescheduled_after s.table a.place (without_wait s.me) (without_wait mid.me) s′.me shown.steps shown.settled refl
+                rescheduled_after s.table a.place (without_wait s.me) (without_wait mid.me) s′.me (shown.steps.0, shown.steps.1, shown.steps.2) shown.settled refl
                     (ap (λ (x : SessionView). x.me.0.number) now) refl
                     (subst (λ (id : TableId). HasRescheduled id a.place (without_wait mid.me) s′.me) shown.table rescheduled),
+                looks (state_of one) (there one some) (λ (m : Mine). VisitsOnce a.place m s′.me) once,
               ),
             );
             room = keeps;
@@ -122,9 +138,10 @@ module _ {s mid : SessionView} (is : IsMember s) (a : Ask) (asks : s.me.0.asks �
 
     -- ---- it was granted
 
-    pub won-end : one ≡ settled_as.Granted → {s′ : SessionView} → Does [] mid.me s′.me → ShowsStep mid s′ (EndsWait mid.table.slots mid.me.0.number mid.me.0.waits granted_state) → (ended : HasEnded (owned a.place (Gain a.number a.mode) s.me.0.slow) s s′) → ended.settles ≡ s.me.0.settles
+    pub won-end : one ≡ settled_as.Granted → {s′ : SessionView} → Does [] mid.me s′.me
+        → (e : Met) × (s′.me.0.log ≡ mid.me.0.log ++ e ∷ []) × EndsWait mid.table.slots mid.me.0.number mid.me.0.waits granted_state e → (ended : HasEnded (owned a.place (Gain a.number a.mode) s.me.0.slow) s s′) → ended.settles ≡ s.me.0.settles
         → KeepsRoom 1 s.room s′.room → Joins (space_of s) (End_wait s.me.0.number) (Granted a.number) (space_of s′) × Shows (End_wait s.me.0.number) (Granted a.number) s s′
-    won-end granted {s′} ends shows ended settles keeps = (
+    won-end granted {s′} ends last ended settles keeps = (
       won-joins is a asks (λ how knows. sym granted ∙ agreed how knows) ended,
       record {
         table = ap (λ (x : SessionView). x.table) ended.now;
@@ -134,8 +151,8 @@ module _ {s mid : SessionView} (is : IsMember s) (a : Ask) (asks : s.me.0.asks �
         settled = ap (λ (x : SessionView). x.me.0.settles) ended.now ∙ settles;
         told = tt;
         steps = tt;
-        met = subst (λ (how : Settled). EndsOwnWait (state_of how) (lists_seen s.me.0) s s′) granted
-            (met s′ (subst (λ (how : Settled). ShowsStep mid s′ (EndsWait mid.table.slots mid.me.0.number mid.me.0.waits (state_of how))) (sym granted) shows));
+        met = looks granted_state (there one some ∙ ap (λ (how : Settled). wait_in s.me.0.waits (state_of how)) granted) (EndsByOneStep granted_state (lists_seen s.me.0) s s′)
+            (last.0, last.1, subst (λ (x : SessionView). EndsWait x.table.slots x.me.0.number x.me.0.waits granted_state last.0) now last.2);
         room = keeps;
       },
     )
@@ -143,29 +160,27 @@ module _ {s mid : SessionView} (is : IsMember s) (a : Ask) (asks : s.me.0.asks �
 -- ---- the steps that end it
 
 -- a granted wait ends by one
-pub shows-granted : (mid seat′ : SeatState) (sessions : ℕ) (room room′ : Room) → seat′ ≡ record mid { me = ended_granted mid.table.slots mid.me }
-    → ShowsStep (session_at mid sessions room) (session_at seat′ sessions room′) (EndsWait mid.table.slots mid.me.0.number mid.me.0.waits granted_state)
-shows-granted mid seat′ sessions room room′ made =
-    let e : Met = record { kind = EndWait; deeds = []; word = wait_word mid.table.slots mid.me.0.number; found = wait_in mid.me.0.waits granted_state; held = mid.me.0.latches; directory = mid.me.0.directory } in (
-      e,
-      ([], [], ap (λ (x : SeatState). x.me.0.log) made ∙ ap (λ (log : List Met). log ++ e ∷ []) (sym (append-nil mid.me.0.log))),
-      record { kind = refl; wait = record { word = refl; found = refl } },
-    )
+pub ends-granted : (mid seat′ : SeatState) → seat′ ≡ record mid { me = ended_granted mid.table.slots mid.me }
+    → (e : Met) × (seat′.me.0.log ≡ mid.me.0.log ++ e ∷ []) × EndsWait mid.table.slots mid.me.0.number mid.me.0.waits granted_state e
+ends-granted mid seat′ made =
+    let e : Met = record { kind = EndWait; deeds = []; word = wait_word mid.table.slots mid.me.0.number; found = wait_in mid.me.0.waits granted_state; held = mid.me.0.latches; directory = mid.me.0.directory } in
+    (e, ap (λ (x : SeatState). x.me.0.log) made, record { kind = refl; wait = record { word = refl; found = refl } })
 
 module _ {seat mid seat′ : SeatState} (sessions session found : ℕ) {room : Room}
     (now : session_at mid sessions room ≡ word-step ReadWait session found found seat.me.0.settles (session_at seat sessions room)) where
   -- as lost
   pub ended-lost : {room′ : Room} {place : ℕ} → AtItsTable mid seat′ (EndsLost mid.table place)
       → HasEnded seat.me.0.slow (session_at seat sessions room) (session_at seat′ sessions room′)
-  ended-lost {room′} ends =
+  ended-lost {room′} {place} ends =
       let went = ends.1 in
       let table : seat′.table ≡ seat.table = ends.0 ∙ ap (λ (x : SessionView). x.table) now in
       let told : went.told ≡ None = sym (ap (λ (m : Mine). m.0.told) went.now) ∙ went.way.unasked refl in
-      let me : seat′.me ≡ (record seat.me.0 { asks = None; told = None; settles = went.settles; log = mid.me.0.log ++ went.made }, seat.me.1) =
+      let me : seat′.me ≡ (record seat.me.0 { asks = None; told = None; owes = all_but place seat.me.0.owes; settles = went.settles; log = mid.me.0.log ++ went.made }, seat.me.1) =
       went.now
-      ∙ ap (λ (x : SessionView). (record (idle x.me.0) { told = went.told; settles = went.settles; log = mid.me.0.log ++ went.made }, x.me.1)) now
-      ∙ ap (λ (o : Option ℕ). (record (idle seat.me.0) { told = o; settles = went.settles; log = mid.me.0.log ++ went.made }, seat.me.1)) told in
+      ∙ ap (λ (x : SessionView). (record (idle x.me.0) { told = went.told; owes = all_but place x.me.0.owes; settles = went.settles; log = mid.me.0.log ++ went.made }, x.me.1)) now
+      ∙ ap (λ (o : Option ℕ). (record (idle seat.me.0) { told = o; owes = all_but place seat.me.0.owes; settles = went.settles; log = mid.me.0.log ++ went.made }, seat.me.1)) told in
       record {
+        owes = all_but place seat.me.0.owes;
         settles = went.settles;
         log = mid.me.0.log ++ went.made;
         room = room′;
@@ -178,6 +193,7 @@ module _ {seat mid seat′ : SeatState} (sessions session found : ℕ) {room : R
   ended-won {room′} a asks made =
       let log = (ended_granted mid.table.slots mid.me).0.log in (
         record {
+          owes = seat.me.0.owes;
           settles = seat.me.0.settles;
           log = log;
           room = room′;

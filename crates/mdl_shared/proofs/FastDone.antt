@@ -1,7 +1,8 @@
 -- What a session has once a fast ticket of its is granted, or released, or once those of a place are slow ones.
-use Rattle.std.proofs.Common.{◌≡◌, ℕ, ◌+◌, ◌==◌, Bool, not, List, [], ◌∷◌, ◌++◌, filter, is_some, Option, Some, None, refl, sym, ap, ◌∙◌}
-use Rattle.std.proofs.lemmas.Bool.{eqb-true}
+use Rattle.std.proofs.Common.{◌≡◌, ℕ, ◌+◌, ◌==◌, Bool, not, List, [], ◌∷◌, ◌++◌, filter, is_some, Option, Some, None, inl, inr, refl, sym, ap, ◌∙◌}
+use Rattle.std.proofs.lemmas.Bool.{cases_eq, eqb-true}
 use Rattle.mdl_key.specs.declared.mode.Mode.{Mode}
+use Rattle.mdl_word.specs.Words.{slow_flag}
 use Rattle.mdl_steps.specs.declared.deed.Deed.{Deed}
 use Rattle.mdl_steps.specs.declared.deed.Deed.TheVariants.{Gain, Lose}
 use Rattle.mdl_steps.specs.declared.view.Ask.{Ask}
@@ -9,12 +10,13 @@ use Rattle.mdl_steps.specs.declared.view.Known.{Known}
 use Rattle.mdl_steps.specs.declared.view.Own.{Own}
 use Rattle.mdl_steps.specs.Cells.{note_at, own_at}
 use Rattle.mdl_steps.specs.Deeds.{is_own}
-use Rattle.mdl_steps.specs.FastPlays.{but_at, but_own, fast_own, first_note, noted_at}
+use Rattle.mdl_steps.specs.FastPlays.{but_at, but_own, fast_own, first_note, noted_at, owing}
 use Rattle.mdl_steps.specs.Interleavings.{interleaved}
 use Rattle.mdl_steps.specs.Lists.{Each}
 use Rattle.mdl_steps.specs.Plays.{Mine}
 use Rattle.mdl_steps.specs.SeatStates.{AtItsTable, SeatState}
 use Rattle.mdl_steps.proofs.Interleaving.{each-uninterleaved}
+use Rattle.mdl_steps.proofs.Paid.{owes_else}
 use Rattle.mdl_steps.proofs.Views.{by_bool}
 use Rattle.mdl_visits.specs.FastTries.{GrantsFast, ReleasesFast}
 use Rattle.mdl_visits.specs.Materialisings.{Materialises}
@@ -90,6 +92,8 @@ module _ (seat seat′ : SeatState) (sessions : ℕ) {room : Room} (is : IsMembe
           slow = v.slow;
           fast = v.fast ++ t ∷ [];
           told = v.told;
+          owes = v.owes;
+          searches = v.searches;
           settles = v.settles;
           log = _;
           room = room′;
@@ -100,6 +104,7 @@ module _ (seat seat′ : SeatState) (sessions : ℕ) {room : Room} (is : IsMembe
             plain = λ all. counted-last v.known v.fast t all (ap is_some counted);
           };
           stays = λ state told. told;
+          owed = λ p owed. inl owed;
           unasked = λ none. refl;
         };
         did = (granted.1.made, ap (λ (m : Mine). m.0.log) now, granted.1.did);
@@ -117,6 +122,8 @@ module _ (seat seat′ : SeatState) (sessions : ℕ) {room : Room} (is : IsMembe
           slow = v.slow;
           fast = but_own place number v.fast;
           told = v.told;
+          owes = owing place released.1.step.found v.owes;
+          searches = v.searches;
           settles = v.settles;
           log = _;
           room = room′;
@@ -124,6 +131,10 @@ module _ (seat seat′ : SeatState) (sessions : ℕ) {room : Room} (is : IsMembe
           tickets = released-fast place number v.slow v.fast (rising is) (numbers-apart number t v.slow v.fast (rising is) its);
           fasts = fewer-fast v.known v.asks v.fast (λ u. not (is_own place number u));
           stays = λ state told. told;
+          owed = λ p owed. elim (cases_eq p place) [
+            | inl here ↦ inr (here, λ none. absurd (cc))
+            | inr there ↦ inl (sym (owes_else (slow_flag released.1.step.found) place p v.owes there) ∙ owed)
+          ];
           unasked = λ none. refl;
         };
         did = (released.1.step ∷ [], ap (λ (m : Mine). m.0.log) now, ap (λ (ds : List Deed). ds ++ []) released.1.did);
@@ -140,6 +151,8 @@ module _ (seat seat′ : SeatState) (sessions : ℕ) {room : Room} (is : IsMembe
           slow = interleaved v.slow (own_at place v.fast);
           fast = but_at place v.fast;
           told = v.told;
+          owes = v.owes;
+          searches = v.searches;
           settles = v.settles;
           log = _;
           room = room′;
@@ -147,6 +160,7 @@ module _ (seat seat′ : SeatState) (sessions : ℕ) {room : Room} (is : IsMembe
           tickets = made-slow place v.slow v.fast (rising is);
           fasts = fewer-fast v.known v.asks v.fast (λ u. not (u.place == place));
           stays = λ state told. told;
+          owed = λ p owed. inl owed;
           unasked = λ none. refl;
         };
         did = (moved.1.made, ap (λ (m : Mine). m.0.log) now, moved.1.did);

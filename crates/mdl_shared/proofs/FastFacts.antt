@@ -11,7 +11,8 @@ use Rattle.mdl_book.specs.Tickets.{ticket_of}
 use Rattle.mdl_steps.specs.declared.view.Ask.{Ask}
 use Rattle.mdl_steps.specs.declared.view.Known.{Known}
 use Rattle.mdl_steps.specs.declared.view.Own.{Own}
-use Rattle.mdl_steps.specs.Cells.{own_at, ticket_by}
+use Rattle.mdl_steps.specs.declared.view.LatchRecord.{LatchRecord}
+use Rattle.mdl_steps.specs.Cells.{held_at, own_at, ticket_by}
 use Rattle.mdl_steps.specs.Deeds.{is_own}
 use Rattle.mdl_steps.specs.FastPlays.{IsCounted, MayReleaseFast, moved}
 use Rattle.mdl_steps.specs.Lists.{Once}
@@ -128,10 +129,16 @@ only-own number t (f ∷ fs) differ its =
     (λ here. rw (here, miss) (only-own number t fs differ.1 (rw miss at its)))
     (λ there. rw there (only-own number t fs differ.1 (rw miss at its))))
 
+-- without a latch there is no record of one
+unheld : (place : ℕ) (latches : List LatchRecord) → length latches ≡ 0 → held_at place latches ≡ None
+unheld place [] none = refl
+unheld place (h ∷ hs) none = absurd (omega arith)
+
 -- a fast ticket may be released
 pub may-release : (m : Member) (t : Own) (one : ℕ) → numbered t.number m.tickets.fast ≡ Some t → increment_at t.place t.mode m.known.known ≡ Some one
     → MayReleaseFast t.place t.number one m.seat.me
 may-release m t one held counts = record {
+  apart = unheld t.place m.seat.me.0.latches (member m).idle.0;
   ticket = t;
   only = only-own t.number t m.seat.me.0.fast (differ (member m)) (ap (λ (l : Lists). numbered t.number l.fast) (sym m.lists) ∙ held);
   counted_so = counted_so m.seat.me.0 t.place t.mode one (ap (λ (l : Lists). increment_at t.place t.mode l.known) (sym m.lists) ∙ counts);
@@ -203,3 +210,10 @@ may-make-slow m place kind knows =
 -- the kind of their place is known
 pub kind-of-fast : (m : Member) (place : ℕ) → 0 < length (own_at place m.tickets.fast) → is_some (kind_known place m.known.known) ≡ true
 kind-of-fast m place some = kind-fast m.known.known place m.tickets.fast some (ap (λ (l : Lists). are_counted l.known l.fast) m.lists ∙ (member m).plain)
+
+-- those of a place in its own list are those of its view
+pub some-seen : (m : Member) (place : ℕ) → 0 < length (own_at place m.tickets.fast) → own_at place m.seat.me.0.fast ≢ []
+some-seen m place some none =
+    let same = ap (λ (l : Lists). length (own_at place l.fast)) m.lists in
+    let empty = ap (λ (ts : List Own). length ts) none in
+    omega (arith, some, same, empty)

@@ -1,5 +1,5 @@
 -- What wishes tell and show that were tried on the fast path first.
-use Rattle.std.proofs.Common.{◌≡◌, ◌⊎◌, inl, inr, ℕ, true, [], ◌∷◌, ◌++◌, None, Result, Ok, Err, refl, sym, ap, subst, ◌∙◌}
+use Rattle.std.proofs.Common.{◌≡◌, ◌⊎◌, inl, inr, ℕ, Bool, true, [], ◌∷◌, ◌++◌, None, Result, Ok, Err, refl, sym, ap, subst, ◌∙◌}
 use Rattle.std.specs.Prelude.{IfErr, IfOk, OnErr}
 use Rattle.mdl_key.specs.declared.mode.Mode.{Mode}
 use Rattle.mdl_calls.specs.declared.answers.Attempt.{Attempt}
@@ -15,18 +15,18 @@ use Rattle.mdl_steps.specs.declared.view.Met.{Met}
 use Rattle.mdl_steps.specs.Plays.{Mine}
 use Rattle.mdl_session_laws.specs.SessionJoins.{Joins}
 use Rattle.mdl_session_laws.specs.SessionSpaces.{Space}
-use Rattle.mdl_visits.specs.Visits.{AreStepsOf, MeetsBlocked, MeetsFull, MeetsFullWish, MeetsGrantable}
+use Rattle.mdl_visits.specs.Visits.{AreStepsOf, IsVisit, MeetsBlocked, MeetsFull, MeetsFullWish, MeetsGrantable}
 use Rattle.mdl_visits.specs.WaitOpenings.{MeetsOpening, awaiting}
 use Rattle.mdl_visits.proofs.Steps.{does_then}
 use Rattle.mdl_shared.specs.DeedsDone.{DoesQuietly}
 use Rattle.mdl_shared.specs.FastWishes.{BecomesSlow, BeginsToWait, GainsFast, GainsSlow, HasBegun, HasTried}
-use Rattle.mdl_shared.specs.Members.{IsMember, kind_known, wish_fault}
+use Rattle.mdl_shared.specs.Members.{IsMember, kind_known, obtrudes_at, wish_fault}
 use Rattle.mdl_shared.specs.SessionViews.{SessionView, space_of}
-use Rattle.mdl_shared.specs.Showings.{FullForFast, IsClosed, IsGranted, LacksMemory, LacksRoomForFast, LacksRoomForWish, Shows, ShowsStep}
+use Rattle.mdl_shared.specs.Showings.{FullForFast, IsClosed, IsGranted, LacksMemory, LacksRoomForFast, LacksRoomForWish, Shows, ShowsStep, SlowsAll, StopsOrVisits, StopsSlowing}
 use Rattle.mdl_shared.specs.TicketLists.{KeepsRoom}
-use Rattle.mdl_shared.proofs.FastWishing.{by-latch, closed-then, next-slow, number-slow, same-space}
+use Rattle.mdl_shared.proofs.FastWishing.{by-latch, closed-more, next-slow, number-slow, same-space}
 use Rattle.mdl_shared.proofs.Members.{done-nothing}
-use Rattle.mdl_shared.proofs.QuietDeeds.{quiet-shows, quiet-steps, quiet-then}
+use Rattle.mdl_shared.proofs.QuietDeeds.{quiet-shows, quiet-then}
 use Rattle.mdl_shared.proofs.Rooms.{keeps-before}
 use Rattle.mdl_shared.proofs.WaitSteps.{still-member}
 use Rattle.mdl_shared.proofs.WishCalls.{begin-granted, begin-refused, begun-joins, try-blocked, try-granted, try-refused, untold-wish}
@@ -43,39 +43,43 @@ cause-told (inr full) = inr full.0
 pub lack-cause : (a b : SessionView) {why : SpaceError} → LacksRoomForFast why a b → (why ≡ OutOfMemory) ⊎ (why ≡ fault.Full)
 lack-cause a b lacks = cause-told lacks.1
 
-module _ {Full : Met → Type 0} (place : ℕ) (mode : Mode) (a b : SessionView) {why : SpaceError} where
+memory-more : (place : ℕ) (mode : Mode) (may : Bool) (a b : SessionView) → LacksMemory place mode StopsSlowing a b → LacksMemory place mode (StopsOrVisits place may) a b
+memory-more place mode may a b (inl none) = inl none
+memory-more place mode may a b (inr closed) = inr (closed-more place mode StopsSlowing (StopsOrVisits place may) a b b (λ tried stops. inl stops) closed)
+
+module _ {Full : Met → Type 0} (place : ℕ) (mode : Mode) (may : Bool) (a b : SessionView) {why : SpaceError} where
   -- there was none for a wish
-  pub wish-lack : LacksRoomForWish Full place mode why a b → (why ≡ OutOfMemory) ⊎ (why ≡ fault.Full)
+  pub wish-lack : LacksRoomForWish Full place mode may why a b → (why ≡ OutOfMemory) ⊎ (why ≡ fault.Full)
   wish-lack (inl memory) = inl memory.0
   wish-lack (inr full) = inr full.0
 
   -- there was none for the fast tickets that it had, as a wish's answer tells it
-  pub full-fast : ((why ≡ OutOfMemory) × LacksMemory place mode a b) ⊎ ((why ≡ fault.Full) × IsClosed place mode a b × FullForFast a b)
-      → LacksRoomForWish Full place mode why a b
-  full-fast (inl memory) = inl memory
+  pub full-fast : ((why ≡ OutOfMemory) × LacksMemory place mode StopsSlowing a b) ⊎ ((why ≡ fault.Full) × IsClosed place mode StopsSlowing a b × FullForFast a b)
+      → LacksRoomForWish Full place mode may why a b
+  full-fast (inl memory) = inl (memory.0, memory-more place mode may a b memory.1)
   full-fast (inr full) = inr (full.0, inr (full.1, full.2))
 
   -- there was none for one ticket more
-  pub full-one : {at : ℕ} {c : SessionView} → BecomesSlow a b → IsClosed place mode a b → DoesQuietly at [] b c
-      → (why ≡ OutOfMemory) ⊎ ((why ≡ fault.Full) × ShowsStep b c Full) → LacksRoomForWish Full place mode why a c
-  full-one {c = c} slow closed quiet (inl memory) = inl (memory, inr (closed-then place mode a b c (quiet-steps quiet) closed))
-  full-one slow closed quiet (inr full) = inr (full.0, inl (by-latch slow place mode closed full.1))
+  pub full-one : (c : SessionView) → BecomesSlow a b → IsClosed place mode SlowsAll a b → IsVisit place may b.me c.me
+      → (why ≡ OutOfMemory) ⊎ ((why ≡ fault.Full) × ShowsStep b c Full) → LacksRoomForWish Full place mode may why a c
+  full-one c slow closed once (inl memory) = inl (memory, inr (closed-more place mode SlowsAll (StopsOrVisits place may) a b c (λ tried turn. inr (b.me, turn, once)) closed))
+  full-one c slow closed once (inr full) = inr (full.0, inl (by-latch slow place mode may c closed once full.1))
 
 module _ {a : SessionView} (is : IsMember a) (place : ℕ) (mode : Mode) (clear : wish_fault (kind_known place a.me.0.known) a.me.0.asks mode a.me.0.next ≡ None) where
   -- ---- refused
 
   pub try-full : {at : ℕ} {b : SessionView} {why : SpaceError} → DoesQuietly at [] a b × KeepsRoom 0 a.room b.room
-      → LacksRoomForWish (MeetsFullWish place a.me.0.number mode true) place mode why a b
+      → LacksRoomForWish (MeetsFullWish place a.me.0.number mode true) place mode (obtrudes_at place mode a.me.0.known) why a b
       → Joins (space_of a) (Try_now a.me.0.number place mode) (Refused why) (space_of b) × Shows (Try_now a.me.0.number place mode) (Refused why) a b
   try-full {b = b} still lacks = (
-    try-refused is place mode clear (done-nothing still.0.done) (wish-lack place mode a b lacks),
+    try-refused is place mode clear (done-nothing still.0.done) (wish-lack place mode (obtrudes_at place mode a.me.0.known) a b lacks),
     quiet-shows still.0 refl clear (λ s. s) (λ t. t) tt (inr lacks) still.1,
   )
 
-  pub begin-full : {at : ℕ} {b : SessionView} {why : SpaceError} → DoesQuietly at [] a b × KeepsRoom 0 a.room b.room → LacksRoomForWish (MeetsFull place) place mode why a b
+  pub begin-full : {at : ℕ} {b : SessionView} {why : SpaceError} → DoesQuietly at [] a b × KeepsRoom 0 a.room b.room → LacksRoomForWish (MeetsFull place) place mode (obtrudes_at place mode a.me.0.known) why a b
       → Joins (space_of a) (Begin_wait a.me.0.number place mode) (Refused why) (space_of b) × Shows (Begin_wait a.me.0.number place mode) (Refused why) a b
   begin-full {b = b} still lacks = (
-    begin-refused is place mode clear (done-nothing still.0.done) (wish-lack place mode a b lacks),
+    begin-refused is place mode clear (done-nothing still.0.done) (wish-lack place mode (obtrudes_at place mode a.me.0.known) a b lacks),
     quiet-shows still.0 refl clear (λ s. s) (λ t. t) tt (inr lacks) still.1,
   )
 
@@ -100,10 +104,11 @@ module _ {a : SessionView} (is : IsMember a) (place : ℕ) (mode : Mode) (clear 
 
   -- ---- by the latch of the place, once all fast tickets are slow ones
 
-  module _ {b c : SessionView} (slow : BecomesSlow a b) (closed : IsClosed place mode a b) where
+  module _ {b c : SessionView} (slow : BecomesSlow a b) (closed : IsClosed place mode SlowsAll a b)
+      (once : IsVisit place (obtrudes_at place mode a.me.0.known) b.me c.me) where
     granted-since : {id : ℕ} → GainsSlow place mode id b c → IsGranted place mode (Gain id mode) a c
     granted-since {id} gains =
-        inr (by-latch slow place mode closed (subst (λ (n : ℕ). ShowsStep b c (MeetsGrantable place n mode (Gain id mode))) (number-slow slow) gains.met))
+        inr (by-latch slow place mode (obtrudes_at place mode a.me.0.known) c closed once (subst (λ (n : ℕ). ShowsStep b c (MeetsGrantable place n mode (Gain id mode))) (number-slow slow) gains.met))
 
     pub tried-slow : (result : Result Attempt SpaceError) → IfOk result (λ answer. HasTried place mode answer b c)
         → OnErr result (DoesQuietly place [] b c × KeepsRoom 0 b.room c.room)
@@ -117,11 +122,11 @@ module _ {a : SessionView} (is : IsMember a) (place : ℕ) (mode : Mode) (clear 
         let quiet = quiet-then slow.quiet tried.quiet in
         let met = subst (λ (n : ℕ). ShowsStep b c (MeetsBlocked place n mode)) (number-slow slow) tried.met in (
           try-blocked is place mode clear (done-nothing quiet.done),
-          quiet-shows quiet refl clear (λ s. s) (λ t. t) tt (by-latch slow place mode closed met) (keeps-before 0 a.room b.room c.room slow.room tried.room),
+          quiet-shows quiet refl clear (λ s. s) (λ t. t) tt (by-latch slow place mode (obtrudes_at place mode a.me.0.known) c closed once met) (keeps-before 0 a.room b.room c.room slow.room tried.room),
         )
     tried-slow (Err why) tried still causes =
         let met = subst (λ (n : ℕ). (why ≡ OutOfMemory) ⊎ ((why ≡ fault.Full) × ShowsStep b c (MeetsFullWish place n mode true))) (number-slow slow) causes in
-        try-full (quiet-then slow.quiet still.0, keeps-before 0 a.room b.room c.room slow.room still.1) (full-one place mode a b slow closed still.0 met)
+        try-full (quiet-then slow.quiet still.0, keeps-before 0 a.room b.room c.room slow.room still.1) (full-one place mode (obtrudes_at place mode a.me.0.known) a b c slow closed once met)
 
     -- it waits
     waits-joins : {number : ℕ} → BeginsToWait place mode number b c → Joins (space_of a) (Begin_wait a.me.0.number place mode) (Waits number) (space_of c)
@@ -141,7 +146,7 @@ module _ {a : SessionView} (is : IsMember a) (place : ℕ) (mode : Mode) (clear 
         × MeetsOpening x.table.slots place x.me.0.number x.me.0.waits x.me.0.next mode f) slow.quiet.done.now begins.met in
         shows (begins.table ∙ ap (λ (x : SessionView). x.table) slow.quiet.done.now) (begins.sessions ∙ ap (λ (x : SessionView). x.sessions) slow.quiet.done.now) clear
         (does_then [] [] a.me b.me c.me slow.quiet.did (opens.made, log, opens.did)) (ap (λ (m : Mine). m.0.settles) opens.now ∙ slow.quiet.settled)
-        (ap (λ (m : Mine). m.0.told) opens.now ∙ sym (untold-wish is place mode clear)) tt (by-latch slow place mode closed met)
+        (ap (λ (m : Mine). m.0.told) opens.now ∙ sym (untold-wish is place mode clear)) tt (by-latch slow place mode (obtrudes_at place mode a.me.0.known) c closed once met)
         (keeps-before 0 a.room b.room c.room slow.room begins.room)
 
     pub begun-slow : (result : Result Begun SpaceError) → IfOk result (λ answer. HasBegun place mode answer b c)
@@ -154,4 +159,4 @@ module _ {a : SessionView} (is : IsMember a) (place : ℕ) (mode : Mode) (clear 
         (keeps-before 1 a.room b.room c.room slow.room asked.room)
     begun-slow (Ok (begin.Waiting number)) asked still causes = (waits-joins asked, waits-shows asked)
     begun-slow (Err why) asked still causes =
-        begin-full (quiet-then slow.quiet still.0, keeps-before 0 a.room b.room c.room slow.room still.1) (full-one place mode a b slow closed still.0 causes)
+        begin-full (quiet-then slow.quiet still.0, keeps-before 0 a.room b.room c.room slow.room still.1) (full-one place mode (obtrudes_at place mode a.me.0.known) a b c slow closed once causes)

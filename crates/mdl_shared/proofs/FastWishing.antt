@@ -1,5 +1,5 @@
 -- Calls whose session goes by the latch of a place once its fast tickets have become slow ones: what is so of the whole call by what is so of a part.
-use Rattle.std.proofs.Common.{◌≡◌, ◌⊎◌, inl, inr, ℕ, ◌<◌, List, [], map, Option, length, sym, ap, subst, ◌∙◌}
+use Rattle.std.proofs.Common.{◌≡◌, ◌⊎◌, inl, inr, ℕ, ◌<◌, Bool, List, [], map, Option, length, sym, ap, subst, ◌∙◌}
 use Rattle.std.specs.Prelude.{filter_map}
 use Rattle.mdl_key.specs.declared.mode.Mode.{Mode}
 use Rattle.mdl_calls.specs.declared.space_error.SpaceError.{SpaceError}
@@ -8,15 +8,16 @@ use Rattle.mdl_steps.specs.declared.deed.Deed.{Deed}
 use Rattle.mdl_steps.specs.declared.view.Own.{Own}
 use Rattle.mdl_steps.specs.Cells.{own_at}
 use Rattle.mdl_steps.specs.Lists.{Each}
+use Rattle.mdl_steps.specs.Plays.{Mine}
 use Rattle.mdl_session_laws.specs.SessionSpaces.{Space}
 use Rattle.mdl_visits.specs.Materialisings.{MeetsFullFor}
-use Rattle.mdl_visits.specs.Visits.{MakesMoreSteps}
-use Rattle.mdl_visits.proofs.Steps.{each_map, goes_on}
+use Rattle.mdl_visits.specs.Visits.{IsVisit, MakesMoreSteps}
+use Rattle.mdl_visits.proofs.Steps.{each_map}
 use Rattle.mdl_shared.specs.declared.member.Member.{Member}
 use Rattle.mdl_shared.specs.DeedsDone.{DoesQuietly}
 use Rattle.mdl_shared.specs.FastWishes.{BecomesSlow}
 use Rattle.mdl_shared.specs.SessionViews.{Lists, SessionView, note_of, settled_told, space_of}
-use Rattle.mdl_shared.specs.Showings.{AllMadeSlow, ByLatch, FromUnfast, FullForFast, IsClosed, LacksMemory, LacksRoomForFast, MakesSlow, ShowsStep}
+use Rattle.mdl_shared.specs.Showings.{AllMadeSlow, ByLatch, ByVisit, FindsClosed, FromUnfast, FullForFast, IsClosed, LacksMemory, LacksRoomForFast, MakesSlow, ShowsStep, SlowsAll, StopsSlowing}
 use Rattle.mdl_shared.specs.TicketLists.{Room}
 use Rattle.mdl_shared.proofs.QuietDeeds.{quiet-steps, shows-later}
 use Rattle.mdl_shared.proofs.SameSpace.{numbers_by, own_by, reading_of}
@@ -49,6 +50,8 @@ quiet-room a room quiet =
         slow = done.slow;
         fast = done.fast;
         told = done.told;
+        owes = done.owes;
+        searches = done.searches;
         settles = done.settles;
         log = done.log;
         room = done.room;
@@ -56,6 +59,7 @@ quiet-room a room quiet =
         tickets = done.tickets;
         fasts = done.fasts;
         stays = done.stays;
+        owed = done.owed;
         unasked = done.unasked;
       };
       did = quiet.did;
@@ -65,11 +69,10 @@ quiet-room a room quiet =
 
 -- ---- the fast path was closed
 
--- steps only grow, so it was at the whole call where it was at a part
-pub closed-then : (place : ℕ) (mode : Mode) (a b c : SessionView) → MakesMoreSteps b.me c.me → IsClosed place mode a b → IsClosed place mode a c
-closed-then place mode a b c more (inl uncounted) = inl uncounted
-closed-then place mode a b c more (inr (inl many)) = inr (inl many)
-closed-then place mode a b c more (inr (inr vain)) = inr (inr (vain.0, vain.1, vain.2, goes_on vain.1 b.me c.me vain.3 more))
+-- and so it was whatever else is said of what followed
+pub closed-more : (place : ℕ) (mode : Mode) (Then More : Mine → Mine → Type 0) (a b c : SessionView) → ((tried : Mine) → Then tried b.me → More tried c.me)
+    → IsClosed place mode Then a b → IsClosed place mode More a c
+closed-more place mode Then More a b c so closed = (closed.0, closed.1, so closed.0 closed.2)
 
 -- ---- from a moment on at which the session has no fast ticket
 
@@ -86,8 +89,14 @@ module _ {a b : SessionView} (slow : BecomesSlow a b) where
   from-slow is = (b, quiet-steps slow.quiet, slow.made, is)
 
   -- and so by the latch, if the fast path was closed
-  pub by-latch : (place : ℕ) (mode : Mode) {fact : SessionView → Type 0} → IsClosed place mode a b → fact b → ByLatch place mode a fact
-  by-latch place mode closed is = from-slow (closed, is)
+  pub by-latch : (place : ℕ) (mode : Mode) (may : Bool) (c : SessionView) {fact : SessionView → Type 0} → IsClosed place mode SlowsAll a b → IsVisit place may b.me c.me
+      → fact b → ByLatch place mode may a c fact
+  by-latch place mode may c closed once is = from-slow (closed, once, is)
+
+  -- or by one visit, after which nothing else was done
+  pub by-visit : (place : ℕ) (may : Bool) (c : SessionView) {fact : SessionView → Type 0} → SlowsAll a.me b.me → IsVisit place may b.me c.me → fact b
+      → ByVisit place may a c fact
+  by-visit place may c turn once is = from-slow (turn, once, is)
 
 -- ---- after steps that left the fast tickets as they were
 
@@ -110,13 +119,14 @@ full-later a b c more same full =
 
 -- and the fast path was closed before
 pub lacks-later : (place : ℕ) (mode : Mode) (a b c : SessionView) {why : SpaceError} → MakesMoreSteps a.me b.me → b.me.0.fast ≡ a.me.0.fast
-    → MakesMoreSteps b.me c.me → IsClosed place mode a b → LacksRoomForFast why b c
-    → ((why ≡ OutOfMemory) × LacksMemory place mode a c) ⊎ ((why ≡ Full) × IsClosed place mode a c × FullForFast a c)
-lacks-later place mode a b c {why} first same more closed lacks = by lacks.1
+    → FindsClosed place mode a b.me → StopsSlowing b.me c.me → LacksRoomForFast why b c
+    → ((why ≡ OutOfMemory) × LacksMemory place mode StopsSlowing a c) ⊎ ((why ≡ Full) × IsClosed place mode StopsSlowing a c × FullForFast a c)
+lacks-later place mode a b c {why} first same closed stops lacks = by lacks.1
   where
-    by : (why ≡ OutOfMemory) ⊎ ((why ≡ Full) × FullForFast b c) → ((why ≡ OutOfMemory) × LacksMemory place mode a c) ⊎ ((why ≡ Full) × IsClosed place mode a c × FullForFast a c)
-    by (inl memory) = inl (memory, inr (closed-then place mode a b c more closed))
-    by (inr full) = inr (full.0, closed-then place mode a b c more closed, full-later a b c first same full.1)
+    by : (why ≡ OutOfMemory) ⊎ ((why ≡ Full) × FullForFast b c)
+        → ((why ≡ OutOfMemory) × LacksMemory place mode StopsSlowing a c) ⊎ ((why ≡ Full) × IsClosed place mode StopsSlowing a c × FullForFast a c)
+    by (inl memory) = inl (memory, inr (b.me, closed, stops))
+    by (inr full) = inr (full.0, (b.me, closed, stops), full-later a b c first same full.1)
 
 -- they are as they were where its own list of them is
 pub fast-still : (m m′ : Member) → m′.tickets.fast ≡ m.tickets.fast → m′.seat.me.0.fast ≡ m.seat.me.0.fast

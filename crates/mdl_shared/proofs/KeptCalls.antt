@@ -18,14 +18,13 @@ use Rattle.mdl_session_laws.specs.SessionJoins.{Joins, ReadsThere as Read_so}
 use Rattle.mdl_session_laws.specs.SessionSpaces.{HasMet, Space}
 use Rattle.mdl_session_laws.proofs.ReadLaws.{session-met_stays}
 use Rattle.mdl_visits.specs.Numbers.{numbered}
-use Rattle.mdl_visits.specs.Visits.{Visits}
 use Rattle.mdl_visits.proofs.Steps.{does_then, quiet_on}
 use Rattle.mdl_shared.specs.declared.member.Member.{Member}
 use Rattle.mdl_shared.specs.KeptReads.{MayKeep, kept_standing}
 use Rattle.mdl_shared.specs.Members.{IsMember, holding_fault}
 use Rattle.mdl_shared.specs.Passes.{view_of}
 use Rattle.mdl_shared.specs.SessionViews.{Lists, SessionView, lists_seen, session_at, space_of, tickets_of, tickets_seen}
-use Rattle.mdl_shared.specs.Showings.{FindsVersion, MissesVersion, OfTicket, ReadsByLatch, Shows}
+use Rattle.mdl_shared.specs.Showings.{FindsVersion, MissesVersion, OfTicket, ReadsByLatch, Shows, VisitsInVain}
 use Rattle.mdl_shared.specs.TicketLists.{KeepsRoom, Room}
 use Rattle.mdl_shared.proofs.CacheEntries.{kept-met, met-first, met-looked, none-looked}
 use Rattle.mdl_shared.proofs.Faults.{if-clear}
@@ -140,15 +139,15 @@ module _ (s : SessionView) (id : ℕ) (t : Own) (its : numbered id (tickets_seen
 
     -- or memory runs out
     pub miss-why : (why : SpaceError) → Shows (Read_definition mid.me.0.number id) (Refused why) mid s′
-        → (why ≡ OutOfMemory) × Visits t.place [] mid.me s′.me
+        → (why ≡ OutOfMemory) × VisitsInVain t.place mid s′
     miss-why why shows = by shows.met
       where
-        by : (holding_fault id (tickets_seen mid.me.0) ≡ Some why) ⊎ ((why ≡ OutOfMemory) × OfTicket id (lists_seen mid.me.0) (λ u. Visits u.place [] mid.me s′.me))
-            → (why ≡ OutOfMemory) × Visits t.place [] mid.me s′.me
+        by : (holding_fault id (tickets_seen mid.me.0) ≡ Some why) ⊎ ((why ≡ OutOfMemory) × OfTicket id (lists_seen mid.me.0) (λ u. VisitsInVain u.place mid s′))
+            → (why ≡ OutOfMemory) × VisitsInVain t.place mid s′
         by (inl fault) =
             let none : ◌≡◌ {A = Option SpaceError} None (Some why) = sym clear ∙ ap (λ (l : Lists). holding_fault id (tickets_of l)) (sym (read-lists reads)) ∙ fault in
             cc
-        by (inr met) = (met.0, subst (λ (u : Own). Visits u.place [] mid.me s′.me) (sym (miss-ticket met.1.0 met.1.1)) met.1.2)
+        by (inr met) = (met.0, subst (λ (u : Own). VisitsInVain u.place mid s′) (sym (miss-ticket met.1.0 met.1.1)) met.1.2)
 
     pub miss-full_joins : Joins (space_of mid) (Read_definition mid.me.0.number id) (Refused OutOfMemory) (space_of s′)
         → Joins (space_of s) (Read_kept s.me.0.number id) (Refused OutOfMemory) (space_of s′)
@@ -156,7 +155,7 @@ module _ (s : SessionView) (id : ℕ) (t : Own) (its : numbered id (tickets_seen
         unkept-joins (space_of s) (space_of s′) s.me.0.number id
         (subst (λ (a : Space). Joins a (Read_definition a.number id) (Refused OutOfMemory) (space_of s′)) (read-space reads) joins)
 
-    pub miss-full_shows : Visits t.place [] mid.me s′.me → Shows (Read_definition mid.me.0.number id) (Refused OutOfMemory) mid s′
+    pub miss-full_shows : VisitsInVain t.place mid s′ → Shows (Read_definition mid.me.0.number id) (Refused OutOfMemory) mid s′
         → Shows (Read_kept s.me.0.number id) (Refused OutOfMemory) s s′
     miss-full_shows visits shows = record {
       table = shows.table ∙ read-table reads;

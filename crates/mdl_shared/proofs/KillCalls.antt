@@ -23,11 +23,11 @@ use Rattle.mdl_visits.specs.Polls.{MeetsOther, MeetsWait, number_in}
 use Rattle.mdl_visits.proofs.Steps.{goes_staying, step_after}
 use Rattle.mdl_shared.specs.Members.{IsMember}
 use Rattle.mdl_shared.specs.SessionViews.{SessionView, settled_told, space_of}
-use Rattle.mdl_shared.specs.Showings.{ShowsStep, Shows}
+use Rattle.mdl_shared.specs.Showings.{ShowsStep, Shows, StaysFor}
 use Rattle.mdl_shared.proofs.PollCalls.{settled-some}
 use Rattle.mdl_shared.proofs.Members.{done-nothing}
 use Rattle.mdl_shared.proofs.SameSpace.{joins-still, same-stays, told-settled, wait_by}
-use Rattle.mdl_shared.proofs.WaitSteps.{Watches, met-word, shows, session-there, told-own, watches, watches-then, word-step}
+use Rattle.mdl_shared.proofs.WaitSteps.{Watches, met-word, shows, session-there, stays-more, stays-once, stays-twice, told-own, watches, watches-then, word-step}
 
 -- ---- the waits of any session
 
@@ -76,7 +76,7 @@ number-met {s} {s′} target found within own now =
       did,
       joins-still s s′ (Wait_of target) (Has_wait (number_in found)) (done-nothing did.done) tt refl refl refl refl tt tt refl (λ state how is. cc) (λ how is. cc) refl (λ r. r)
           (λ mine. own-number s found (own mine)),
-      shows did tt did.did (ap (λ (x : SessionView). x.me.0.settles) now) tt did.stayed
+      shows did tt did.did (ap (λ (x : SessionView). x.me.0.settles) now) tt (stays-once ReadWait target found found s.me.0.settles s s′ now refl refl)
           (((λ beyond. absurd (false≢true (sym beyond ∙ within))), (λ w. (met.0, met.1, record { word = met.2.word_is; told = ap number_in (sym met.2.found) })))),
     )
 
@@ -100,23 +100,23 @@ closed-settled kind s s′ target number found mine sound now other its = by s.m
 
 module _ {s s′ : SessionView} (target number : ℕ) (within : is_within s.sessions target ≡ true) (did : Watches s s′) where
   -- whoever met another word settled nothing
-  pub kill-missed : s′.me.0.settles ≡ s.me.0.settles → ShowsStep s s′ (MeetsOther s.table.slots target (wait_in number 1))
+  pub kill-missed : StaysFor 2 s.me s′.me → s′.me.0.settles ≡ s.me.0.settles → ShowsStep s s′ (MeetsOther s.table.slots target (wait_in number 1))
       → (target ≡ s.me.0.number → wait_number (space_of s).own ≡ Some number → is_some (space_of s′).settled ≡ true)
       → Joins (space_of s) (Kill target number) (Has_killed false) (space_of s′) × Shows (Kill target number) (Has_killed false) s s′
-  kill-missed settles met known = (
+  kill-missed few settles met known = (
     joins-still s s′ (Kill target number) (Has_killed false) (done-nothing did.done) tt refl refl refl refl tt tt refl (λ state how is. cc) (λ how is. cc) refl (λ r. r) known,
-    shows did tt did.did (settles) tt did.stayed
+    shows did tt did.did (settles) tt few
         (((λ beyond. absurd (false≢true (sym beyond ∙ within))), (λ w. met))),
   )
 
-  pub kill-settled : s′.me.0.settles ≡ s.me.0.settles ++ record { session = target; wait = number; state = 5 } ∷ []
+  pub kill-settled : StaysFor 2 s.me s′.me → s′.me.0.settles ≡ s.me.0.settles ++ record { session = target; wait = number; state = 5 } ∷ []
       → ShowsStep s s′ (MeetsWait s.table.slots target number 1)
       → (target ≡ s.me.0.number → (wait_number (space_of s).own ≡ Some number) × (s′.me.0.told ≡ Some 5))
       → Joins (space_of s) (Kill target number) (Has_killed true) (space_of s′) × Shows (Kill target number) (Has_killed true) s s′
-  kill-settled settles met known = (
+  kill-settled few settles met known = (
     joins-still s s′ (Kill target number) (Has_killed true) (done-nothing did.done) tt refl refl refl refl tt tt refl (λ state how is. cc) (λ how is. cc) refl (λ r. r)
         (λ mine. let h = known mine in (h.0, told-settled s′.me.0.told Killed h.1)),
-    shows did tt did.did (settles) tt did.stayed
+    shows did tt did.did (settles) tt few
         ((within, met)),
   )
 
@@ -127,7 +127,8 @@ pub kill-closed : {s s′ : SessionView} (target number found : ℕ) → is_with
 kill-closed {s} {s′} target number found within own now other =
     let did = watches ReadWait target found found s.me.0.settles s s′ now own (inl refl) refl refl in
     let met = met-word ReadWait target found found s.me.0.settles s s′ now in
-    let told = kill-missed target number within did (ap (λ (x : SessionView). x.me.0.settles) now)
+    let few = stays-more s.me s′.me (stays-once ReadWait target found found s.me.0.settles s s′ now refl refl) in
+    let told = kill-missed target number within did few (ap (λ (x : SessionView). x.me.0.settles) now)
     (met.0, met.1, record { word_is = met.2.word_is; differs = λ same. other (sym met.2.found ∙ same) })
     (λ mine its. closed-settled ReadWait s s′ target number found mine (own mine) now other its) in (did, told.0, told.1)
 
@@ -139,6 +140,9 @@ module _ (s t s′ : SessionView) (target number first found : ℕ) (within : is
     (miss : found ≢ wait_in number 1 → s′ ≡ word-step MissWait target found found t.me.0.settles t) where
   reads : Watches s t
   reads = watches ReadWait target first first s.me.0.settles s t now own (inl refl) refl refl
+
+  looked : StaysFor 1 s.me t.me
+  looked = stays-once ReadWait target first first s.me.0.settles s t now refl refl
 
   same-number : t.me.0.number ≡ s.me.0.number
   same-number = ap (λ (x : SessionView). x.me.0.number) now
@@ -162,7 +166,8 @@ module _ (s t s′ : SessionView) (target number first found : ℕ) (within : is
       let settles = watches SettleWait target (wait_in number 1) (wait_in number 5) all t s′ made (subst (λ (w : ℕ). TellsOwn t.table.slots target w t.me.0) is_found later) (inr odd) refl refl in
       let met = met-word SettleWait target (wait_in number 1) (wait_in number 5) all t s′ made in
       let did = watches-then s t s′ reads settles in
-      let told = kill-settled target number within did
+      let few = stays-twice s.me t.me s′.me looked (stays-once SettleWait target (wait_in number 1) (wait_in number 5) all t s′ made refl refl) in
+      let told = kill-settled target number within did few
       (ap (λ (x : SessionView). x.me.0.settles) made ∙ ap (λ (l : List Settlement). l ++ record { session = target; wait = number; state = 5 } ∷ []) same-settles)
       (met.0, step_after s.me t.me s′.me (goes_staying s.me t.me reads.stayed) met.0 met.1, record { word = met.2.word_is ∙ ap (λ (id : TableId). wait_word id.slots target) same-table; found = met.2.found })
       (λ mine.
@@ -177,7 +182,8 @@ module _ (s t s′ : SessionView) (target number first found : ℕ) (within : is
       let misses = watches MissWait target found found t.me.0.settles t s′ made later (inl refl) refl refl in
       let met = met-word MissWait target found found t.me.0.settles t s′ made in
       let did = watches-then s t s′ reads misses in
-      let told = kill-missed target number within did (ap (λ (x : SessionView). x.me.0.settles) made ∙ same-settles) (
+      let few = stays-twice s.me t.me s′.me looked (stays-once MissWait target found found t.me.0.settles t s′ made refl refl) in
+      let told = kill-missed target number within did few (ap (λ (x : SessionView). x.me.0.settles) made ∙ same-settles) (
         met.0,
         step_after s.me t.me s′.me (goes_staying s.me t.me reads.stayed) met.0 met.1,
         record { word_is = met.2.word_is ∙ ap (λ (id : TableId). wait_word id.slots target) same-table; differs = λ same. other (sym met.2.found ∙ same) },

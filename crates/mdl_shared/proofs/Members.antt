@@ -1,6 +1,7 @@
 -- What is always so of a session between two calls is so after each call.
-pub use Rattle.mdl_shared.specs.DeedsDone.{HasDone, StaysFast}
-use Rattle.std.proofs.Common.{◌≡◌, ◌⊎◌, inl, inr, ℕ, ◌+◌, ◌≤◌, ◌<◌, true, List, [], ◌∷◌, Option, Some, None, refl, sym, ap, subst, ◌∙◌, arith}
+pub use Rattle.mdl_shared.specs.DeedsDone.{HasDone, IsOwed, StaysFast}
+use Rattle.std.proofs.Common.{◌≡◌, ◌⊎◌, inl, inr, ℕ, ◌+◌, ◌≤◌, ◌<◌, ◌==◌, ◌||◌, Bool, true, false, List, [], ◌∷◌, Option, Some, None, refl, sym, ap, subst, ◌∙◌, arith}
+use Rattle.std.specs.List.{list_any}
 use Rattle.atomic_table.specs.Seated.{TableId}
 use Rattle.mdl_calls.specs.declared.space_error.SpaceError.{SpaceError}
 use Rattle.mdl_calls.specs.Words.{Answer, Call}
@@ -14,10 +15,11 @@ use Rattle.mdl_steps.specs.Interleavings.{interleaved}
 use Rattle.mdl_steps.specs.Layout.{word_count}
 use Rattle.mdl_steps.specs.Plays.{Mine}
 use Rattle.mdl_steps.specs.SeatStates.{AtItsTable, SeatState}
+use Rattle.mdl_steps.proofs.Views.{by_bool}
 use Rattle.mdl_session_laws.specs.SessionJoins.{Joins}
 use Rattle.mdl_session_laws.specs.SessionSpaces.{IsSound}
 use Rattle.mdl_session_laws.proofs.KeptSound.{keeps-sound}
-use Rattle.mdl_visits.specs.Grantings.{StaysTold, VisitsAndReschedules}
+use Rattle.mdl_visits.specs.Grantings.{StaysTold, VisitsAndReschedules, all_but}
 use Rattle.mdl_visits.specs.Idle.{IsIdle}
 use Rattle.mdl_visits.specs.Visits.{Visits}
 use Rattle.mdl_visits.specs.Numbers.{is_no_number, numbered}
@@ -101,6 +103,8 @@ visited {place} {ds} seat seat′ sessions {room} {room′} same visits = record
   slow = all_owned place ds seat.me.0.slow;
   fast = seat.me.0.fast;
   told = seat.me.0.told;
+  owes = seat.me.0.owes;
+  searches = seat.me.0.searches;
   settles = seat.me.0.settles;
   log = _;
   room = room′;
@@ -108,8 +112,24 @@ visited {place} {ds} seat seat′ sessions {room} {room′} same visits = record
   tickets = same;
   fasts = same-fast seat.me.0.known seat.me.0.asks seat.me.0.fast;
   stays = λ state told. told;
+  owed = λ p owed. inl owed;
   unasked = λ none. refl;
 }
+
+-- once a place was rescheduled, nothing is owed that wasn't before
+owed-still : (p place : ℕ) (owes : List ℕ) → IsOwed p (all_but place owes) → IsOwed p owes
+owed-still p place [] owed = owed
+owed-still p place (q ∷ qs) owed = by_bool (q == place)
+    (λ here. or-later (q == p) (list_any (λ n. n == p) qs) (owed-still p place qs (rw here at owed)))
+    (λ away. or-either (q == p) (list_any (λ n. n == p) (all_but place qs)) (list_any (λ n. n == p) qs) (rw away at owed) (owed-still p place qs))
+  where
+    or-later : (a b : Bool) → b ≡ true → (a || b) ≡ true
+    or-later true b e = refl
+    or-later false b e = e
+
+    or-either : (a b c : Bool) → (a || b) ≡ true → (b ≡ true → c ≡ true) → (a || c) ≡ true
+    or-either true b c e more = refl
+    or-either false b c e more = more e
 
 pub rescheduled : {place : ℕ} {ds : List Deed} (seat seat′ : SeatState) (sessions : ℕ) {room room′ : Room} → DoesSlow place ds seat.me.0 → AtItsTable seat seat′ (VisitsAndReschedules seat.table place ds)
     → HasDone place ds (session_at seat sessions room) (session_at seat′ sessions room′)
@@ -119,6 +139,8 @@ rescheduled {place} {ds} seat seat′ sessions {room} {room′} same visits =
       slow = all_owned place ds seat.me.0.slow;
       fast = seat.me.0.fast;
       told = visits.1.told;
+      owes = all_but place seat.me.0.owes;
+      searches = seat.me.0.searches;
       settles = visits.1.settles;
       log = _;
       room = room′;
@@ -126,6 +148,7 @@ rescheduled {place} {ds} seat seat′ sessions {room} {room′} same visits =
       tickets = same;
       fasts = same-fast seat.me.0.known seat.me.0.asks seat.me.0.fast;
       stays = subst (λ (o : Option ℕ). StaysTold seat.me.0.told o) told visits.1.way.stays;
+      owed = λ p owed. inl (owed-still p place seat.me.0.owes owed);
       unasked = λ none. sym told ∙ visits.1.way.unasked none;
     }
 
@@ -200,12 +223,14 @@ done-then {at} {place} {ds} {a} {b} {c} first later =
       slow = later.slow;
       fast = later.fast;
       told = later.told;
+      owes = later.owes;
+      searches = later.searches;
       settles = later.settles;
       log = later.log;
       room = later.room;
       now = later.now ∙ ap (λ (x : SessionView). record x {
         me = (
-          record x.me.0 { slow = later.slow; fast = later.fast; next = all_next ds x.me.0.next; told = later.told; settles = later.settles; log = later.log },
+          record x.me.0 { slow = later.slow; fast = later.fast; next = all_next ds x.me.0.next; told = later.told; owes = later.owes; searches = later.searches; settles = later.settles; log = later.log },
           x.me.1,
         );
         room = later.room;
@@ -213,6 +238,13 @@ done-then {at} {place} {ds} {a} {b} {c} first later =
       tickets = later.tickets ∙ ap (all_owned place ds) (done-tickets first);
       fasts = fast-then (subst (λ (x : SessionView). StaysFast x.me.0.known x.me.0.asks x.me.0.fast later.fast) b-is later.fasts);
       stays = λ state told. later.stays state (ap (λ (x : SessionView). x.me.0.told) b-is ∙ first.stays state told);
+      owed = λ p owed. elim (later.owed p owed) [
+        | inl before ↦ elim (first.owed p (subst (λ (x : SessionView). IsOwed p x.me.0.owes) b-is before)) [
+          | inl once ↦ inl once
+          | inr never ↦ absurd (never.1 refl)
+        ]
+        | inr here ↦ inr here
+      ];
       unasked = λ none.
           let told : b.me.0.told ≡ first.told = ap (λ (x : SessionView). x.me.0.told) b-is in
           later.unasked (ap (λ (x : SessionView). x.me.0.asks) b-is ∙ none) ∙ told ∙ first.unasked none;

@@ -24,7 +24,7 @@ use Rattle.mdl_shared.proofs.Faults.{if-clear}
 use Rattle.mdl_shared.proofs.MemberFacts.{speaks}
 use Rattle.mdl_shared.proofs.Members.{done-nothing}
 use Rattle.mdl_shared.proofs.SameSpace.{joins-still, refused, same-stays, settled-told, told-settled, waits-asks}
-use Rattle.mdl_shared.proofs.WaitSteps.{Watches, met-word, shows, told-own, watches, word-step}
+use Rattle.mdl_shared.proofs.WaitSteps.{Watches, met-word, shows, stays-once, told-own, watches, word-step}
 
 -- ---- how a wait is settled, by the state of its word
 
@@ -83,10 +83,10 @@ module _ {s : SessionView} (is : IsMember s) (waiting : is_some s.me.0.asks ≡ 
       by (Some a) asks some = (ok.asks a asks).0
 
   -- its word has the number of its last wait
-  in-state : (state : ℕ) → wait_state found ≡ state → found ≡ wait_in s.me.0.waits state
+  pub in-state : (state : ℕ) → wait_state found ≡ state → found ≡ wait_in s.me.0.waits state
   in-state state its = let last = ok.number in omega (arith, last, its)
 
-  unsettled : settled_of (wait_state found) ≡ None → found ≡ wait_in s.me.0.waits 1
+  pub unsettled : settled_of (wait_state found) ≡ None → found ≡ wait_in s.me.0.waits 1
   unsettled e = in-state 1 (unsettled-is (wait_state found) e busy ok.state)
 
   -- what the session knew of it is so
@@ -110,7 +110,7 @@ module _ {s : SessionView} (is : IsMember s) (waiting : is_some s.me.0.asks ≡ 
       joins-still s s′ (Poll_wait s.me.0.number) Pending (done-nothing polls.done) (speaks is) refl refl refl refl
           (waits-asks s.me.0.asks s.me.0.waits ∙ waiting) tt refl
           (λ state how met knows. let e : None ≡ state = cc in sym e ∙ agreed None none how knows) (λ how told. cc) refl (λ r. r) tt,
-      shows polls (if-clear _ (wait_fault s.me.0.asks) (clear-wait s.me.0.asks waiting)) polls.did (ap (λ (x : SessionView). x.me.0.settles) now) tt polls.stayed
+      shows polls (if-clear _ (wait_fault s.me.0.asks) (clear-wait s.me.0.asks waiting)) polls.did (ap (λ (x : SessionView). x.me.0.settles) now) tt (stays-once ReadWait session found found s.me.0.settles s s′ now refl refl)
           (polls-own 1 (unsettled-is (wait_state found) none busy ok.state)),
     )
 
@@ -123,7 +123,7 @@ module _ {s : SessionView} (is : IsMember s) (waiting : is_some s.me.0.asks ≡ 
               (waits-asks s.me.0.asks s.me.0.waits ∙ waiting) tt refl
               (λ state how met knows. let e : Some one ≡ state = cc in sym e ∙ agreed (Some one) some how knows)
               (λ how tells. let e : one ≡ how = cc in told-settled s′.me.0.told how (told ∙ ap (λ (x : Settled). Some (state_of x)) e)) refl (λ r. r) tt,
-          shows polls (if-clear _ (wait_fault s.me.0.asks) (clear-wait s.me.0.asks waiting)) polls.did (ap (λ (x : SessionView). x.me.0.settles) now) tt polls.stayed
+          shows polls (if-clear _ (wait_fault s.me.0.asks) (clear-wait s.me.0.asks waiting)) polls.did (ap (λ (x : SessionView). x.me.0.settles) now) tt (stays-once ReadWait session found found s.me.0.settles s s′ now refl refl)
               (polls-own (state_of one) its),
         )
 
@@ -150,7 +150,8 @@ module _ {s : SessionView} (is : IsMember s) (waiting : is_some s.me.0.asks ≡ 
               (λ state how met knows. let e : None ≡ state = cc in sym e ∙ agreed None none how knows)
               (λ how tells. let e : Timeout ≡ how = cc in told-settled s′.me.0.told how (told ∙ ap (λ (x : Settled). Some (state_of x)) e)) refl (λ r. r) tt,
           shows did (if-clear _ (wait_fault s.me.0.asks) (clear-wait s.me.0.asks waiting)) did.did (ap (λ (x : SessionView). x.me.0.settles) now ∙ ap (λ (n : ℕ). s.me.0.settles ++ record { session = n; wait = wait; state = 4 } ∷ []) mine
-              ∙ ap (λ (w : ℕ). s.me.0.settles ++ record { session = s.me.0.number; wait = w; state = 4 } ∷ []) last) tt did.stayed
+              ∙ ap (λ (w : ℕ). s.me.0.settles ++ record { session = s.me.0.number; wait = w; state = 4 } ∷ []) last) tt
+              (stays-once SettleWait session (wait_in wait 1) (wait_in wait 4) all s s′ now refl refl)
               ((met.0, met.1, record { word = met.2.word_is ∙ ap (wait_word s.table.slots) mine; found = met.2.found ∙ ap (λ (w : ℕ). wait_in w 1) last })),
         )
 
@@ -168,7 +169,8 @@ module _ {s : SessionView} (is : IsMember s) (waiting : is_some s.me.0.asks ≡ 
               (waits-asks s.me.0.asks s.me.0.waits ∙ waiting) tt refl
               (λ state how met knows. let e : Some one ≡ state = cc in sym e ∙ agreed (Some one) some how knows)
               (λ how tells. let e : one ≡ how = cc in told-settled s′.me.0.told how (told ∙ ap (λ (x : Settled). Some (state_of x)) e)) refl (λ r. r) tt,
-          shows did (if-clear _ (wait_fault s.me.0.asks) (clear-wait s.me.0.asks waiting)) did.did (ap (λ (x : SessionView). x.me.0.settles) now) tt did.stayed
+          shows did (if-clear _ (wait_fault s.me.0.asks) (clear-wait s.me.0.asks waiting)) did.did (ap (λ (x : SessionView). x.me.0.settles) now) tt
+              (stays-once MissWait session found found s.me.0.settles s s′ now refl refl)
               ((met.0, met.1, record { word = met.2.word_is ∙ ap (wait_word s.table.slots) mine; found = met.2.found ∙ in-state (state_of one) its })),
         )
 

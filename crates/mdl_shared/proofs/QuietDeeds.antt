@@ -1,5 +1,5 @@
 -- What a session did by steps that left all waits alone: one part after another, and what a call shows by all of them.
-use Rattle.std.proofs.Common.{◌≡◌, ℕ, List, [], None, refl, sym, ap, subst, ◌∙◌, append-nil}
+use Rattle.std.proofs.Common.{◌≡◌, ℕ, List, [], None, inl, refl, sym, ap, subst, ◌∙◌, append-nil}
 use Rattle.mdl_calls.specs.Words.{Answer, Call}
 use Rattle.mdl_steps.specs.declared.deed.Deed.{Deed}
 use Rattle.mdl_steps.specs.declared.view.Met.{Met}
@@ -48,6 +48,8 @@ quiet-none s = record {
     slow = s.me.0.slow;
     fast = s.me.0.fast;
     told = s.me.0.told;
+    owes = s.me.0.owes;
+    searches = s.me.0.searches;
     settles = s.me.0.settles;
     log = s.me.0.log;
     room = s.room;
@@ -55,6 +57,7 @@ quiet-none s = record {
     tickets = refl;
     fasts = same-fast s.me.0.known s.me.0.asks s.me.0.fast;
     stays = λ state told. told;
+    owed = λ p owed. inl owed;
     unasked = λ none. refl;
   };
   did = ([], sym (append-nil s.me.0.log), refl);
@@ -70,6 +73,8 @@ quiet-made seat seat′ sessions {room} {room′} made = record {
     slow = seat.me.0.slow;
     fast = seat.me.0.fast;
     told = seat.me.0.told;
+    owes = seat.me.0.owes;
+    searches = seat.me.0.searches;
     settles = seat.me.0.settles;
     log = _;
     room = room′;
@@ -77,6 +82,7 @@ quiet-made seat seat′ sessions {room} {room′} made = record {
     tickets = refl;
     fasts = same-fast seat.me.0.known seat.me.0.asks seat.me.0.fast;
     stays = λ state told. told;
+    owed = λ p owed. inl owed;
     unasked = λ none. refl;
   };
   did = (made.1.0, ap (λ (m : Mine). m.0.log) made.1.1, made.1.2);

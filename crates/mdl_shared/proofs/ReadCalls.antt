@@ -28,7 +28,7 @@ use Rattle.mdl_visits.specs.Leavings.{Learns, MeetsStanding}
 use Rattle.mdl_visits.specs.Numbers.{numbered}
 use Rattle.mdl_visits.specs.Readings.{WasHeld}
 use Rattle.mdl_visits.specs.Redefinitions.{IsNamed, IsRefusedFor, Redefines, exclusive_fault}
-use Rattle.mdl_visits.specs.Visits.{Does, StaysQuiet, Visits}
+use Rattle.mdl_visits.specs.Visits.{Does, StaysQuiet, Visits, VisitsOnce}
 use Rattle.mdl_visits.proofs.Doing.{does_visits}
 use Rattle.mdl_shared.specs.declared.member.Member.{Member}
 use Rattle.mdl_shared.specs.Members.{IsMember, holding_fault}
@@ -163,8 +163,8 @@ module _ {s : SessionView} (is : IsMember s) (id : ℕ) (t : Own) (its : numbere
 
   pub read-shows : {s′ : SessionView} (standing : Standing) → HasNoted t.place standing s s′ → Follows t.place standing s.me → Does [] s.me s′.me → StaysQuiet s.me s′.me
       → ShowsStep s s′ (λ e. MeetsStanding t.place s.me.0.number standing e × (numbered id s.me.0.slow ≡ Some t → WasHeld t.place s.me.0.number id e))
-      → KeepsRoom 0 s.room s′.room → Shows (Read_definition s.me.0.number id) (Reads standing.version standing.definition) s s′
-  read-shows {s′} standing noted follows did quiet met keeps = record {
+      → VisitsOnce t.place s.me s′.me → KeepsRoom 0 s.room s′.room → Shows (Read_definition s.me.0.number id) (Reads standing.version standing.definition) s s′
+  read-shows {s′} standing noted follows did quiet met once keeps = record {
     table = ap (λ (x : SessionView). x.table) noted.now;
     sessions = ap (λ (x : SessionView). x.sessions) noted.now;
     refused = if-clear _ (holding_fault id (tickets_seen s.me.0)) (ap (λ (o : Option Own). if is_some o then None else Some NotHeld) its);
@@ -172,7 +172,7 @@ module _ {s : SessionView} (is : IsMember s) (id : ℕ) (t : Own) (its : numbere
     settled = ap (λ (x : SessionView). x.me.0.settles) noted.now;
     told = ap (λ (x : SessionView). x.me.0.told) noted.now;
     steps = quiet;
-    met = (t, its, (follows, ap (λ (x : SessionView). x.me.0.reads) noted.now, met));
+    met = (t, its, (follows, ap (λ (x : SessionView). x.me.0.reads) noted.now, met, once));
     room = keeps;
   }
 
@@ -180,8 +180,8 @@ module _ {s : SessionView} (is : IsMember s) (id : ℕ) (t : Own) (its : numbere
   unread-joins {s′} stays = refused s s′ (Read_definition s.me.0.number id) OutOfMemory stays (speaks is) refl refl tt (λ state how met. cc) tt
 
   pub unread-shows : {s′ : SessionView} → s′.table ≡ s.table → s′.sessions ≡ s.sessions → Visits t.place [] s.me s′.me → StaysQuiet s.me s′.me
-      → KeepsRoom 0 s.room s′.room → Shows (Read_definition s.me.0.number id) (Refused OutOfMemory) s s′
-  unread-shows table sessions visit quiet keeps = record {
+      → VisitsOnce t.place s.me s′.me → KeepsRoom 0 s.room s′.room → Shows (Read_definition s.me.0.number id) (Refused OutOfMemory) s s′
+  unread-shows table sessions visit quiet once keeps = record {
     table = table;
     sessions = sessions;
     refused = if-clear _ (holding_fault id (tickets_seen s.me.0)) (ap (λ (o : Option Own). if is_some o then None else Some NotHeld) its);
@@ -189,7 +189,7 @@ module _ {s : SessionView} (is : IsMember s) (id : ℕ) (t : Own) (its : numbere
     settled = ap (λ (m : Mine). m.0.settles) visit.now;
     told = ap (λ (m : Mine). m.0.told) visit.now;
     steps = quiet;
-    met = inr (refl, (t, its, visit));
+    met = inr (refl, (t, its, (visit, once)));
     room = keeps;
   }
 
@@ -278,8 +278,8 @@ module _ {s : SessionView} (is : IsMember s) (id : ℕ) (t : Own) (its : numbere
         refused s s′ (Change_definition s.me.0.number id change) (cause_of w) stays (speaks is) refl refl told.0 (λ state how met. cc) told.1
 
     pub unchanged-shows : s′.table ≡ s.table → s′.sessions ≡ s.sessions → Visits t.place [] s.me s′.me → (w : ChangeError) → IsRefusedFor t.place s.me.0.number change w s.me s′.me
-        → KeepsRoom 0 s.room s′.room → Shows (Change_definition s.me.0.number id change) (Refused (cause_of w)) s s′
-    unchanged-shows table sessions visit w why keeps = record {
+        → VisitsOnce t.place s.me s′.me → KeepsRoom 0 s.room s′.room → Shows (Change_definition s.me.0.number id change) (Refused (cause_of w)) s s′
+    unchanged-shows table sessions visit w why once keeps = record {
       table = table;
       sessions = sessions;
       refused = if-clear _ (exclusive_fault (numbered id (tickets_seen s.me.0))) (ap exclusive_fault its ∙ ap (λ (b : Bool). if b then None else Some NotExclusive) exclusive);
@@ -287,6 +287,6 @@ module _ {s : SessionView} (is : IsMember s) (id : ℕ) (t : Own) (its : numbere
       settled = ap (λ (m : Mine). m.0.settles) visit.now;
       told = ap (λ (m : Mine). m.0.told) visit.now;
       steps = tt;
-      met = inr (t, its, (w, refl, why));
+      met = inr (t, its, ((w, refl, why), once));
       room = keeps;
     }

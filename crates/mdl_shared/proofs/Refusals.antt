@@ -1,21 +1,21 @@
 -- A call that is refused for what the session has of its own, before any step.
-use Rattle.std.proofs.Common.{◌≡◌, List, [], Some, IfSome, Option, inl, refl, sym, subst, append-nil}
+use Rattle.std.proofs.Common.{◌≡◌, ℕ, arith, List, [], Some, IfSome, Option, inl, refl, sym, subst, append-nil}
 use Rattle.mdl_calls.specs.declared.space_error.SpaceError.{SpaceError}
 use Rattle.mdl_calls.specs.Words.{Refused, Call, Resolve, Try_now, Begin_wait, Search, Poll_wait, Settle_timeout, End_wait, Wait_of, Kill, Release, Clone_ticket, Upgrade_now, Merge, Downgrade, Read_definition, Read_kept, Change_definition, Tables_of, Key_of}
 use Rattle.mdl_steps.specs.declared.deed.Deed.{Deed}
 use Rattle.mdl_steps.specs.declared.view.Own.{Own}
 use Rattle.mdl_steps.specs.Plays.{Mine}
-use Rattle.mdl_visits.specs.Visits.{Does, StaysOn}
+use Rattle.mdl_visits.specs.Visits.{Does}
 use Rattle.mdl_shared.specs.SessionViews.{Lists, SessionView, lists_seen, tickets_seen}
-use Rattle.mdl_shared.specs.Showings.{KeepsTold, MakesNoStep, MeetsSo, SettlesSo, Shows, StepsSo, done_by, own_fault}
+use Rattle.mdl_shared.specs.Showings.{KeepsTold, MakesNoStep, MeetsSo, SettlesSo, Shows, StaysFor, StepsSo, done_by, own_fault}
 use Rattle.mdl_shared.proofs.Rooms.{keeps-same}
 
 -- without a step nothing is done, and the session stays
 pub does-nothing : (m : Mine) → Does [] m m
 does-nothing m = ([], sym (append-nil m.0.log), refl)
 
-stays-on : (m : Mine) → StaysOn m m
-stays-on m = ([], sym (append-nil m.0.log), tt)
+stays-for : (most : ℕ) (m : Mine) → StaysFor most m m
+stays-for most m = ([], sym (append-nil m.0.log), tt, omega arith)
 
 -- a refusal does no deed, and settles no wait
 done-refused : (call : Call) (why : SpaceError) (tickets : List Own) → done_by call (Refused why) tickets ≡ []
@@ -38,10 +38,10 @@ told-same (Downgrade who id mode) s = tt
 told-same _ s = refl
 
 steps-none : (call : Call) (s : SessionView) → StepsSo call s s
-steps-none (Poll_wait who) s = stays-on s.me
-steps-none (Settle_timeout who) s = stays-on s.me
-steps-none (Wait_of target) s = stays-on s.me
-steps-none (Kill target number) s = stays-on s.me
+steps-none (Poll_wait who) s = stays-for 1 s.me
+steps-none (Settle_timeout who) s = stays-for 1 s.me
+steps-none (Wait_of target) s = stays-for 1 s.me
+steps-none (Kill target number) s = stays-for 2 s.me
 steps-none (Read_definition who id) s = ([], sym (append-nil s.me.0.log), tt)
 steps-none (Read_kept who id) s = ([], sym (append-nil s.me.0.log), tt)
 steps-none _ s = tt

@@ -9,7 +9,7 @@ use Rattle.mdl_session_laws.specs.SessionJoins.{Joins}
 use Rattle.mdl_visits.specs.Grantings.{VisitsAndReschedules}
 use Rattle.mdl_visits.specs.Leavings.{DoesToOwn}
 use Rattle.mdl_visits.specs.Numbers.{numbered}
-use Rattle.mdl_visits.specs.Visits.{Does}
+use Rattle.mdl_visits.specs.Visits.{Does, VisitsOnce}
 use Rattle.mdl_visits.proofs.Doing.{does_reschedule}
 use Rattle.mdl_visits.proofs.Numbers.{has_number}
 use Rattle.mdl_shared.specs.DeedsDone.{HasDone}
@@ -42,14 +42,14 @@ release-shows {a} {b} id t its done did met keeps = record {
 -- a slow one, by a visit of its place
 pub released-slow : (seat seat′ : SeatState) (sessions id : ℕ) {room room′ : Room} (t : Own) → IsMember (session_at seat sessions room) → numbered id (tickets_seen seat.me.0) ≡ Some t
     → numbered id seat.me.0.slow ≡ Some t → numbered id seat.me.0.fast ≡ None → AtItsTable seat seat′ (VisitsAndReschedules seat.table t.place (Lose id ∷ []))
-    → DoesToOwn t.place id (Lose id ∷ []) seat seat′ → KeepsRoom 0 room room′
+    → DoesToOwn t.place id (Lose id ∷ []) seat seat′ → VisitsOnce t.place seat.me seat′.me → KeepsRoom 0 room room′
     → Joins (space_of (session_at seat sessions room)) (Release seat.me.0.number id) Done (space_of (session_at seat′ sessions room′))
     × Shows (Release seat.me.0.number id) Done (session_at seat sessions room) (session_at seat′ sessions room′)
-released-slow seat seat′ sessions id {room} {room′} t is its slow none visit step keeps =
+released-slow seat seat′ sessions id {room} {room′} t is its slow none visit step once keeps =
     let done = rescheduled seat seat′ sessions {room = room} {room′ = room′} (loses-slow is t.place id t slow) visit in (
       release-joins is id t its done,
       release-shows id t its done (does_reschedule seat.me seat′.me seat.table t.place (Lose id ∷ []) visit.1) (
-        (λ its_slow. ((step.0, step.1, (step.2, step.3)), visit.1.way)),
+        (λ its_slow. ((step.0, step.1, (step.2, step.3)), (visit.1.way, once))),
         (λ its_fast. let never : ◌≡◌ {A = Option Own} None (Some t) = sym none ∙ its_fast in absurd (cc)),
       ) keeps,
     )

@@ -1,5 +1,5 @@
 -- Upgrades and merges, before which the fast tickets of their session become slow ones.
-use Rattle.std.proofs.Common.{◌≡◌, inr, ℕ, false, List, [], ◌∷◌, Some, None, Ok, if◌then◌else◌, refl, sym, ap, subst, subst₂, ◌∙◌}
+use Rattle.std.proofs.Common.{◌≡◌, inr, ℕ, true, false, List, [], ◌∷◌, Some, None, Ok, if◌then◌else◌, refl, sym, ap, subst, subst₂, ◌∙◌}
 use mathlib.Core.Path.{subst₃}
 use Rattle.mdl_key.specs.declared.mode.Mode.{Mode}
 use Rattle.mdl_system.specs.Strength.{covers}
@@ -15,7 +15,7 @@ use Rattle.mdl_session_laws.specs.SessionJoins.{Joins}
 use Rattle.mdl_session_laws.specs.SessionSpaces.{Knows}
 use Rattle.mdl_visits.specs.Leavings.{MeetsOwn}
 use Rattle.mdl_visits.specs.Numbers.{numbered}
-use Rattle.mdl_visits.specs.Visits.{IsStepOf, MeetsBlocked, MeetsGrantable}
+use Rattle.mdl_visits.specs.Visits.{IsStepOf, IsVisit, MeetsBlocked, MeetsGrantable, VisitsOnce}
 use Rattle.mdl_visits.proofs.Numbers.{has_number}
 use Rattle.mdl_shared.specs.declared.member.Member.{Member}
 use Rattle.mdl_shared.specs.DeedsDone.{DoesQuietly, HasDone}
@@ -25,10 +25,10 @@ use Rattle.mdl_shared.specs.Members.{IsMember}
 use Rattle.mdl_shared.specs.Modes.{merge_fault}
 use Rattle.mdl_shared.specs.Passes.{view_of}
 use Rattle.mdl_shared.specs.SessionViews.{SessionView, space_of, tickets_seen}
-use Rattle.mdl_shared.specs.Showings.{AllMadeSlow, LacksRoomForFast, Shows, ShowsStep}
+use Rattle.mdl_shared.specs.Showings.{AllMadeSlow, LacksRoomForFast, Shows, ShowsStep, SlowsAll, StopsSlowing}
 use Rattle.mdl_shared.specs.TicketLists.{KeepsRoom}
 use Rattle.mdl_shared.specs.Upgrades.{upgrade_fault}
-use Rattle.mdl_shared.proofs.FastWishing.{from-slow, number-slow}
+use Rattle.mdl_shared.proofs.FastWishing.{by-visit, number-slow}
 use Rattle.mdl_shared.proofs.FastWishShows.{lack-cause}
 use Rattle.mdl_shared.proofs.MemberFacts.{speaks}
 use Rattle.mdl_shared.proofs.Members.{done-nothing}
@@ -60,20 +60,21 @@ slow-then m m′ done none id t found =
 module _ {a : SessionView} (is : IsMember a) (id : ℕ) (t : Own) (its : numbered id (tickets_seen a.me.0) ≡ Some t) (mode : Mode)
     (clear : upgrade_fault mode a.me.0.known a.me.0.asks (numbered id (tickets_seen a.me.0)) ≡ None) where
   -- there was no room for the fast tickets
-  pub upgrade-refused : {b : SessionView} {why : SpaceError} → covers t.mode mode ≡ false → DoesQuietly 0 [] a b → LacksRoomForFast why a b → KeepsRoom 0 a.room b.room
+  pub upgrade-refused : {b : SessionView} {why : SpaceError} → covers t.mode mode ≡ false → DoesQuietly 0 [] a b → LacksRoomForFast why a b → StopsSlowing a.me b.me → KeepsRoom 0 a.room b.room
       → Joins (space_of a) (Upgrade_now a.me.0.number id mode) (Refused why) (space_of b) × Shows (Upgrade_now a.me.0.number id mode) (Refused why) a b
-  upgrade-refused {b} {why} short quiet lacks keeps = (
+  upgrade-refused {b} {why} short quiet lacks stops keeps = (
     refused a b (Upgrade_now a.me.0.number id mode) why (done-nothing quiet.done) (speaks is) refl refl
         (by-cause (λ w. IsCause (Knows (space_of a) a.me.0.number) (Upgrade_now a.me.0.number id mode) w (space_of a).own) why tt
         (may-rise is id t its mode clear) (lack-cause a b lacks))
         (λ state how is. cc) tt,
-    quiet-shows quiet refl clear (λ e. e) (λ e. e) tt (inr ((t, its, short), lacks)) keeps,
+    quiet-shows quiet refl clear (λ e. e) (λ e. e) tt (inr ((t, its, short), lacks, stops)) keeps,
   )
 
   deeds : (answer : Upgrade) → covers t.mode mode ≡ false → rise_deeds id mode answer ≡ upgrade_deeds id mode (Ok answer) (numbered id (tickets_seen a.me.0))
   deeds answer short = sym (ap (upgrade_deeds id mode (Ok answer)) its ∙ ap (λ b. if b then [] else rise_deeds id mode answer) short)
 
-  module _ (short : covers t.mode mode ≡ false) {b c : SessionView} (slow : BecomesSlow a b) (keeps : KeepsRoom 0 b.room c.room) where
+  module _ (short : covers t.mode mode ≡ false) {b c : SessionView} (slow : BecomesSlow a b) (turn : SlowsAll a.me b.me) (once : IsVisit t.place true b.me c.me)
+      (keeps : KeepsRoom 0 b.room c.room) where
     -- it has the mode
     upgraded-slow : DoesQuietly t.place (Alter t.number mode ∷ []) b c × ShowsStep b c (MeetsGrantable t.place b.me.0.number mode (Alter t.number mode))
         → Joins (space_of a) (Upgrade_now a.me.0.number id mode) Upgraded (space_of c) × Shows (Upgrade_now a.me.0.number id mode) Upgraded a c
@@ -84,7 +85,7 @@ module _ {a : SessionView} (is : IsMember a) (id : ℕ) (t : Own) (its : numbere
         let by = subst (λ (who : ℕ). ShowsStep b c (MeetsGrantable t.place who mode (Alter id mode))) (number-slow slow) met in (
           upgrade-joins is id t its mode clear short quiet.done,
           quiet-shows quiet (deeds upgrade.Upgraded short) clear (λ e. e) (λ e. e) tt
-              (t, its, ((λ has. let no = sym has ∙ short in cc), (λ less. from-slow slow by))) (keeps-before 0 a.room b.room c.room slow.room keeps),
+              (t, its, ((λ has. let no = sym has ∙ short in cc), (λ less. by-visit slow t.place true c turn once by))) (keeps-before 0 a.room b.room c.room slow.room keeps),
         )
 
     -- it would have to wait
@@ -94,7 +95,7 @@ module _ {a : SessionView} (is : IsMember a) (id : ℕ) (t : Own) (its : numbere
         let quiet = quiet-then slow.quiet went.0 in
         let by = subst (λ (who : ℕ). ShowsStep b c (MeetsBlocked t.place who mode)) (number-slow slow) went.1 in (
           blocked-joins is id t its mode clear short quiet.done,
-          quiet-shows quiet (deeds upgrade.WouldWait short) clear (λ e. e) (λ e. e) tt (t, its, (short, from-slow slow by)) (keeps-before 0 a.room b.room c.room slow.room keeps),
+          quiet-shows quiet (deeds upgrade.WouldWait short) clear (λ e. e) (λ e. e) tt (t, its, (short, by-visit slow t.place true c turn once by)) (keeps-before 0 a.room b.room c.room slow.room keeps),
         )
 
     -- either
@@ -116,22 +117,23 @@ module _ {a : SessionView} (is : IsMember a) (old new : ℕ) (kept gone : Own) (
   free = sym (λ i. merge_fault (its i) (other i) a.me.0.asks) ∙ clear
 
   -- there was no room for the fast tickets
-  pub merge-refused : {b : SessionView} {why : SpaceError} → DoesQuietly 0 [] a b → LacksRoomForFast why a b → KeepsRoom 0 a.room b.room
+  pub merge-refused : {b : SessionView} {why : SpaceError} → DoesQuietly 0 [] a b → LacksRoomForFast why a b → StopsSlowing a.me b.me → KeepsRoom 0 a.room b.room
       → Joins (space_of a) (Merge a.me.0.number old new) (Refused why) (space_of b) × Shows (Merge a.me.0.number old new) (Refused why) a b
-  merge-refused {b} {why} quiet lacks keeps = (
+  merge-refused {b} {why} quiet lacks stops keeps = (
     refused a b (Merge a.me.0.number old new) why (done-nothing quiet.done) (speaks is) refl refl
         (by-cause (λ w. IsCause (Knows (space_of a) a.me.0.number) (Merge a.me.0.number old new) w (space_of a).own) why tt
         (merge-clear a old new kept gone its other free) (lack-cause a b lacks))
         (λ state how is. cc) tt,
-    quiet-shows quiet refl clear (λ e. e) (λ e. e) tt (inr lacks) keeps,
+    quiet-shows quiet refl clear (λ e. e) (λ e. e) tt (inr (lacks, stops)) keeps,
   )
 
   -- the tickets are one
-  pub merged-slow : {b c : SessionView} → BecomesSlow a b → KeepsRoom 0 b.room c.room → DoesQuietly kept.place (Alter kept.number gone.mode ∷ Lose gone.number ∷ []) b c
+  pub merged-slow : {b c : SessionView} → BecomesSlow a b → SlowsAll a.me b.me → VisitsOnce kept.place b.me c.me → KeepsRoom 0 b.room c.room
+      → DoesQuietly kept.place (Alter kept.number gone.mode ∷ Lose gone.number ∷ []) b c
       → ((e : Met) × IsStepOf b.me c.me e × MeetsOwn kept.place b.me.0.number kept.number e × MeetsOwn kept.place b.me.0.number gone.number e
       × (e.deeds ≡ Alter kept.number gone.mode ∷ Lose gone.number ∷ []))
       → Joins (space_of a) (Merge a.me.0.number old new) Done (space_of c) × Shows (Merge a.me.0.number old new) Done a c
-  merged-slow {b} {c} slow keeps went step =
+  merged-slow {b} {c} slow turn once keeps went step =
       let one = has_number old kept (tickets_seen a.me.0) its in
       let two = has_number new gone (tickets_seen a.me.0) other in
       let quiet = quiet-then slow.quiet (subst₂ (λ (n p : ℕ). DoesQuietly kept.place (Alter n gone.mode ∷ Lose p ∷ []) b c) one two went) in
@@ -139,5 +141,5 @@ module _ {a : SessionView} (is : IsMember a) (old new : ℕ) (kept gone : Own) (
       (number-slow slow) one two (step.2, step.3, step.4) in (
         merge-joins is old kept its new gone other free quiet.done,
         quiet-shows quiet (sym (ap (merge_deeds old new (Ok tt)) other)) clear (λ e. e) (λ e. e) tt
-            (kept, its, (gone, other, from-slow slow (step.0, step.1, met))) (keeps-before 0 a.room b.room c.room slow.room keeps),
+            (kept, its, (gone, other, by-visit slow kept.place false c turn once (step.0, step.1, met))) (keeps-before 0 a.room b.room c.room slow.room keeps),
       )

@@ -8,12 +8,14 @@ use Rattle.mdl_steps.specs.declared.view.Own.{Own}
 use Rattle.mdl_steps.specs.Cells.{own_at}
 use Rattle.mdl_steps.specs.FastPlays.{but_at}
 use Rattle.mdl_steps.specs.Lists.{Each}
+use Rattle.mdl_steps.specs.Plays.{Mine}
 use Rattle.mdl_steps.proofs.Views.{by_bool}
 use Rattle.mdl_visits.specs.Materialisings.{MeetsFullFor}
-use Rattle.mdl_visits.specs.Visits.{MakesMoreSteps}
+use Rattle.mdl_visits.specs.Visits.{MakesMoreSteps, VisitsOnce}
 use Rattle.mdl_shared.specs.FastDeeds.{AreSameOrSlow, AreSlowBefore}
-use Rattle.mdl_shared.specs.SessionViews.{SessionView}
-use Rattle.mdl_shared.specs.Showings.{AllMadeSlow, FullForFast, LacksRoomForFast, MakesSlow, ShowsStep}
+use Rattle.mdl_shared.specs.declared.member.Member.{Member}
+use Rattle.mdl_shared.specs.SessionViews.{Lists, SessionView}
+use Rattle.mdl_shared.specs.Showings.{AllMadeSlow, FullForFast, IsNextFast, LacksRoomForFast, MakesSlow, ShowsStep, SlowsInTurn, StopsSlowing}
 use Rattle.mdl_shared.proofs.QuietDeeds.{shows-first, shows-later}
 
 -- ---- the tickets of one place, without those of another
@@ -163,6 +165,28 @@ before-more a b c place so some first fast =
 -- where all stay
 pub before-still : (a b c : SessionView) → AreSlowBefore a b → c.me.0.fast ≡ b.me.0.fast → AreSlowBefore a c
 before-still a b c so fast = (so.0, λ q. (λ before. ap (own_at q) fast ∙ (so.1 q).0 before, λ after. ap (own_at q) fast ∙ (so.1 q).1 after))
+
+-- ---- one visit after another
+
+-- one more
+pub turn-more : (places : List ℕ) (place : ℕ) (fast left : List Own) (a b c : Mine) → SlowsInTurn places fast left a b → IsNextFast place left → VisitsOnce place b c
+    → SlowsInTurn (places ++ place ∷ []) fast (but_at place left) a c
+turn-more [] place fast left a b c turn next once =
+    (subst (IsNextFast place) turn.0 next, c, subst (λ (m : Mine). VisitsOnce place m c) turn.1 once, (ap (but_at place) turn.0, refl))
+turn-more (p ∷ ps) place fast left a b c (first, mid, visit, later) next once =
+    (first, mid, visit, turn-more ps place (but_at p fast) left mid b c later next once)
+
+-- or one that was in vain
+pub stops-more : (places : List ℕ) (left : List Own) (a b c : Mine) → SlowsInTurn places a.0.fast left a b → (place : ℕ) → IsNextFast place left
+    → (c ≡ b) ⊎ VisitsOnce place b c → StopsSlowing a c
+stops-more places left a b c turn place next (inl same) = (places, left, b, turn, inl same)
+stops-more places left a b c turn place next (inr once) = (places, left, b, turn, inr (place, next, once))
+
+-- the least place by its own list is that by its view
+pub next-seen : (m : Member) (place : ℕ) → 0 < length (own_at place m.tickets.fast) → ((q : ℕ) → q < place → own_at q m.tickets.fast ≡ [])
+    → IsNextFast place m.seat.me.0.fast
+next-seen m place some first =
+    subst (IsNextFast place) (ap (λ (l : Lists). l.fast) m.lists) (some, first)
 
 -- ---- at first
 

@@ -18,7 +18,7 @@ use Rattle.mdl_session_laws.specs.SessionJoins.{Joins, ReadsNothing}
 use Rattle.mdl_visits.specs.Grantings.{VisitsAndReschedules}
 use Rattle.mdl_visits.specs.Leavings.{MeetsOwn}
 use Rattle.mdl_visits.specs.Numbers.{numbered}
-use Rattle.mdl_visits.specs.Visits.{Does, IsStepOf}
+use Rattle.mdl_visits.specs.Visits.{Does, IsStepOf, VisitsOnce}
 use Rattle.mdl_visits.proofs.Doing.{does_reschedule}
 use Rattle.mdl_shared.specs.Doings.{rise_deeds, upgrade_deeds}
 use Rattle.mdl_shared.specs.Members.{IsMember}
@@ -163,9 +163,10 @@ pub downgraded : (seat seat′ : SeatState) (sessions id : ℕ) {room room′ : 
     → numbered t.number seat.me.0.slow ≡ Some t → downgrade_fault (numbered id (tickets_seen seat.me.0)) mode seat.me.0.known ≡ None
     → AtItsTable seat seat′ (VisitsAndReschedules seat.table t.place (Alter t.number mode ∷ []))
     → ((e : Met) × IsStepOf seat.me seat′.me e × MeetsOwn t.place seat.me.0.number t.number e × (e.deeds ≡ Alter t.number mode ∷ []))
-    → KeepsRoom 0 room room′ → Joins (space_of (session_at seat sessions room)) (Downgrade seat.me.0.number id mode) Done (space_of (session_at seat′ sessions room′))
+    → VisitsOnce t.place seat.me seat′.me → KeepsRoom 0 room room′
+    → Joins (space_of (session_at seat sessions room)) (Downgrade seat.me.0.number id mode) Done (space_of (session_at seat′ sessions room′))
     × Shows (Downgrade seat.me.0.number id mode) Done (session_at seat sessions room) (session_at seat′ sessions room′)
-downgraded seat seat′ sessions id {room} {room′} mode t is held slow clear visit step keeps =
+downgraded seat seat′ sessions id {room} {room′} mode t is held slow clear visit step once keeps =
     let free = ap (λ o. downgrade_fault o mode seat.me.0.known) (held.own ∙ sym held.its) ∙ clear in
     subst (λ (n : ℕ). Joins (space_of (session_at seat sessions room)) (Downgrade seat.me.0.number n mode) Done (space_of (session_at seat′ sessions room′))
     × Shows (Downgrade seat.me.0.number n mode) Done (session_at seat sessions room) (session_at seat′ sessions room′)) held.number (
@@ -178,7 +179,7 @@ downgraded seat seat′ sessions id {room} {room′} mode t is held slow clear v
         settled = tt;
         told = tt;
         steps = tt;
-        met = ((t, held.own, (step.0, step.1, (step.2, step.3))), (t, held.own, visit.1.way));
+        met = ((t, held.own, (step.0, step.1, (step.2, step.3))), (t, held.own, (visit.1.way, once)));
         room = keeps;
       },
     )

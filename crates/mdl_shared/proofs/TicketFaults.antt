@@ -5,6 +5,7 @@ use Rattle.mdl_key.specs.declared.mode.Mode.{Mode}
 use Rattle.mdl_key.specs.declared.namespace.Kind.{Kind}
 use Rattle.mdl_key.specs.Words.{is_mode_of, is_obtrusive, kind_of}
 use Rattle.mdl_system.specs.Strength.{covers, may_downgrade, may_upgrade}
+use Rattle.mdl_system.proofs.StrengthLemmas.{upgrade-raises}
 use Rattle.mdl_calls.specs.declared.space_error.SpaceError.{SpaceError}
 use Rattle.mdl_calls.specs.declared.space_error.SpaceError.TheVariants.{AlreadyWaiting, BadMode, NotHeld, NotUpgradable}
 use Rattle.mdl_calls.specs.Words.{Downgrade, Upgrade_now, Merge, IsCause, Knowledge, MayDowngrade, MayNotDowngrade, MayUpgrade, MayNotUpgrade, Mergeable, OfHeld, Own as Mine, holds, is_waiting, may_merge as may_merge_told}
@@ -40,7 +41,18 @@ two-clear false waits one other e = cc
 rises : (kind : Kind) (held mode : Mode) → may_upgrade held mode ≡ true → is_obtrusive kind mode ≡ true
 rises kind held mode may = search rules
 
--- that of a ticket is to one of its lock's kind, unless its mode covers the other one
+-- that of a ticket is to a mode that covers the ticket's own, unless its mode covers the other one
+pub upgrade-covers : (mode : Mode) (known : List Known) (asks : Option Ask) (t : Own) → upgrade_fault mode known asks (Some t) ≡ None → covers t.mode mode ≡ false → covers mode t.mode ≡ true
+upgrade-covers mode known asks t e short =
+    (upgrade-raises t.mode mode (may (kind_known t.place known) (two-clear (can_have mode t (kind_known t.place known)) (is_some asks) NotUpgradable AlreadyWaiting e).0)).0
+  where
+    may : (k : Option Kind) → can_have mode t k ≡ true → may_upgrade t.mode mode ≡ true
+    may None can = cc
+    may (Some kind) can =
+        let parts = and_parts (covers t.mode mode || may_upgrade t.mode mode) (is_mode_of kind mode) can in
+        ap (λ b. b || may_upgrade t.mode mode) (sym short) ∙ parts.0
+
+-- and to one of its lock's kind
 pub upgrade-kind : (mode : Mode) (known : List Known) (asks : Option Ask) (o : Option Own) (t : Own) → o ≡ Some t → upgrade_fault mode known asks o ≡ None
     → covers t.mode mode ≡ false → (kind : Kind) × (kind_known t.place known ≡ Some kind) × (is_mode_of kind mode ≡ true) × (is_obtrusive kind mode ≡ true) × (asks ≡ None)
 upgrade-kind mode known asks o t its e short =

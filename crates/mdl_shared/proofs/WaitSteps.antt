@@ -1,5 +1,5 @@
 -- What becomes of a session that does no deed: it only looks, or it reads the word of a wait, or settles the wait.
-use Rattle.std.proofs.Common.{◌≡◌, ◌⊎◌, ℕ, ◌<◌, ◌≤◌, ◌==◌, ◌&&◌, Bool, true, false, is_some, List, [], ◌∷◌, ◌++◌, Option, Some, None, IfSome, inl, inr, refl, sym, ap, subst, ◌∙◌, append_assoc, append-nil, arith}
+use Rattle.std.proofs.Common.{◌≡◌, ◌⊎◌, ℕ, ◌<◌, ◌≤◌, ◌==◌, ◌&&◌, Bool, true, false, is_some, List, [], ◌∷◌, ◌++◌, length, Option, Some, None, IfSome, inl, inr, refl, sym, ap, subst, ◌∙◌, append_assoc, append-nil, length-append, arith}
 use Rattle.std.specs.Prelude.{nat_lt}
 use Rattle.std.proofs.lemmas.Bool.{and_parts, eq-eqb, eqb-true, false≢true, lt-ltb, ltb-true}
 use Rattle.mdl_calls.specs.Words.{Answer, Call, No_cycle, Refused, Search}
@@ -7,7 +7,7 @@ use Rattle.mdl_steps.specs.declared.step_kind.StepKind.{StepKind}
 use Rattle.mdl_steps.specs.declared.view.Met.{Met}
 use Rattle.mdl_steps.specs.declared.view.Settlement.{Settlement}
 use Rattle.mdl_steps.specs.Layout.{wait_word}
-use Rattle.mdl_steps.specs.Plays.{logged}
+use Rattle.mdl_steps.specs.Plays.{Mine, logged}
 use Rattle.mdl_steps.specs.SeatStates.{SeatState}
 use Rattle.mdl_steps.specs.WaitPlays.{TellsOwn, meeting}
 use Rattle.mdl_steps.specs.WaitSeats.{IsSession}
@@ -15,35 +15,45 @@ use Rattle.mdl_steps.specs.WaitStates.{IsSettled, wait_state}
 use Rattle.mdl_steps.proofs.Views.{by_bool}
 use Rattle.mdl_visits.specs.Grantings.{StaysTold}
 use Rattle.mdl_visits.specs.Polls.{MeetsWord}
+use Rattle.mdl_visits.specs.Searches.{but_searching}
 use Rattle.mdl_visits.specs.Visits.{Does, IsStepOf, StaysOn, StaysThere, gives_back, raises_flags}
 use Rattle.mdl_visits.proofs.Steps.{does_then, each_append}
 use Rattle.mdl_shared.specs.declared.member.Member.{Member}
 use Rattle.mdl_shared.specs.Members.{IsMember}
 use Rattle.mdl_shared.specs.SessionViews.{Lists, SessionView, lists_seen, session_at, tickets_seen}
-use Rattle.mdl_shared.specs.Showings.{KeepsTold, MakesNoStep, MeetsSo, SettlesSo, Shows, StepsSo, done_by, gained_by, own_fault}
+use Rattle.mdl_shared.specs.Showings.{KeepsTold, MakesNoStep, MeetsSo, SettlesSo, Shows, StaysFor, StepsSo, done_by, gained_by, own_fault}
 use Rattle.mdl_shared.specs.TicketLists.{KeepsRoom, Room}
 use Rattle.mdl_shared.proofs.MemberFacts.{speaks}
 use Rattle.mdl_shared.proofs.Members.{HasDone, done-nothing, done-order, done-then, kept, same-fast}
 use Rattle.mdl_shared.proofs.Rooms.{keeps-before, keeps-equal, keeps-more}
 use Rattle.mdl_shared.proofs.SameSpace.{joins-still}
 
+-- visits without a deed, after which the session may have no search left to make
+pub quietly-searched : {seat seat′ : SeatState} {log : List Met} {told : Option ℕ} {settles : List Settlement} (sessions : ℕ) {room room′ : Room} → seat′.table ≡ seat.table
+    → (but_searching seat seat′).me ≡ (record seat.me.0 { told = told; settles = settles; log = log }, seat.me.1) → StaysTold seat.me.0.told told
+    → (seat.me.0.asks ≡ None → told ≡ seat.me.0.told) → HasDone 0 [] (session_at seat sessions room) (session_at seat′ sessions room′)
+quietly-searched {seat = seat} {seat′ = seat′} {log = log} {told = told} {settles = settles} sessions {room′ = room′} table me stays unasked = record {
+  slow = seat.me.0.slow;
+  fast = seat.me.0.fast;
+  told = told;
+  owes = seat.me.0.owes;
+  searches = seat′.me.0.searches;
+  settles = settles;
+  log = log;
+  room = room′;
+  now = λ i. record { table = table i; sessions = sessions; me = (record (me i).0 { searches = seat′.me.0.searches }, (me i).1); room = room′ };
+  tickets = refl;
+  fasts = same-fast seat.me.0.known seat.me.0.asks seat.me.0.fast;
+  stays = stays;
+  owed = λ p owed. inl owed;
+  unasked = unasked;
+}
+
 -- a visit without a deed
 pub quietly : {seat seat′ : SeatState} {log : List Met} {told : Option ℕ} {settles : List Settlement} (sessions : ℕ) {room room′ : Room} → seat′.table ≡ seat.table
     → seat′.me ≡ (record seat.me.0 { told = told; settles = settles; log = log }, seat.me.1) → StaysTold seat.me.0.told told
     → (seat.me.0.asks ≡ None → told ≡ seat.me.0.told) → HasDone 0 [] (session_at seat sessions room) (session_at seat′ sessions room′)
-quietly {seat = seat} {log = log} {told = told} {settles = settles} sessions {room′ = room′} table me stays unasked = record {
-  slow = seat.me.0.slow;
-  fast = seat.me.0.fast;
-  told = told;
-  settles = settles;
-  log = log;
-  room = room′;
-  now = λ i. record { table = table i; sessions = sessions; me = me i; room = room′ };
-  tickets = refl;
-  fasts = same-fast seat.me.0.known seat.me.0.asks seat.me.0.fast;
-  stays = stays;
-  unasked = unasked;
-}
+quietly {seat = seat} {seat′ = seat′} sessions table me = quietly-searched {seat = seat} {seat′ = seat′} sessions table (λ i. (record (me i).0 { searches = seat.me.0.searches }, (me i).1))
 
 -- of a session that waits what is told of no wait is so
 pub asked : {P : Type 0} (s : SessionView) → is_some s.me.0.asks ≡ true → s.me.0.asks ≡ None → P
@@ -102,6 +112,19 @@ watches-then a b c first later = record {
   keeps = keeps-before 0 a.room b.room c.room first.keeps later.keeps;
 }
 
+-- one step is at most two, and so is one after another
+pub stays-more : (m m′ : Mine) → StaysFor 1 m m′ → StaysFor 2 m m′
+stays-more m m′ (made, log, stay, few) = (made, log, stay, omega (arith, few))
+
+pub stays-twice : (a b c : Mine) → StaysFor 1 a b → StaysFor 1 b c → StaysFor 2 a c
+stays-twice a b c (made, log, stay, few) (more, longer, still, fewer) =
+    let all = length-append made more in (
+      made ++ more,
+      longer ∙ ap (λ (log : List Met). log ++ more) log ∙ append_assoc a.0.log made more,
+      each_append StaysThere made more stay still,
+      omega (arith, all, few, fewer),
+    )
+
 -- ---- a step on the word of a session's wait, which was found so and left so
 
 -- what the session knows then, with these waits settled
@@ -118,6 +141,13 @@ module _ (kind : StepKind) (session found left : ℕ) (settles : List Settlement
         ([], [], ap (λ (x : SessionView). x.me.0.log) now ∙ ap (λ (log : List Met). log ++ e ∷ []) (sym (append-nil s.me.0.log))),
         record { word_is = refl; found = refl },
       )
+
+  -- and it was the only one
+  pub stays-once : gives_back kind ≡ false → raises_flags kind ≡ false → StaysFor 1 s.me s′.me
+  stays-once keeps quiet =
+      let e : Met = record { kind = kind; deeds = []; word = wait_word s.table.slots session; found = found; held = s.me.0.latches; directory = s.me.0.directory } in
+      let one : length (e ∷ []) ≤ 1 = omega arith in
+      (e ∷ [], ap (λ (x : SessionView). x.me.0.log) now, ((keeps, quiet), tt), one)
 
   -- where it is the session's own and settled, the session knows that
   pub told-own : session ≡ s.me.0.number → IsSettled (wait_state left) → s′.me.0.told ≡ Some (wait_state left)
@@ -161,6 +191,8 @@ module _ (kind : StepKind) (session found left : ℕ) (settles : List Settlement
             slow = s.me.0.slow;
             fast = s.me.0.fast;
             told = (meeting session left s.me.0).told;
+            owes = s.me.0.owes;
+            searches = s.me.0.searches;
             settles = settles;
             log = s.me.0.log ++ e ∷ [];
             room = s.room;
@@ -168,6 +200,7 @@ module _ (kind : StepKind) (session found left : ℕ) (settles : List Settlement
             tickets = refl;
             fasts = same-fast s.me.0.known s.me.0.asks s.me.0.fast;
             stays = keeps-told;
+            owed = λ p owed. inl owed;
             unasked = keeps-none;
           };
           lists = ap (λ (x : SessionView). lists_seen x.me.0) now;

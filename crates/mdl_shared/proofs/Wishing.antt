@@ -1,18 +1,21 @@
 -- What a session that may wish for a mode at a place gives the visit, by its own lists.
-use Rattle.std.proofs.Common.{List, None, Option, Some, [], ap, sym, true, ℕ, ◌+◌, ◌<◌, ◌∙◌, ◌∷◌, ◌≡◌}
+use Rattle.std.proofs.Common.{Bool, List, None, Option, Some, [], ap, false, subst, sym, true, ℕ, ◌+◌, ◌<◌, ◌∙◌, ◌∷◌, ◌≡◌}
 use Rattle.mdl_key.specs.declared.mode.Mode.{Mode}
 use Rattle.mdl_key.specs.declared.namespace.Kind.{Kind}
+use Rattle.mdl_key.specs.Words.{is_obtrusive}
+use Rattle.std.specs.Option.{option_map_or}
 use Rattle.mdl_calls.specs.Words.{Try_now}
 use Rattle.mdl_steps.specs.declared.deed.Deed.TheVariants.{Gain}
 use Rattle.mdl_steps.specs.declared.view.Ask.{Ask}
 use Rattle.mdl_steps.specs.declared.view.Own.{Own}
 use Rattle.mdl_steps.specs.Cells.{own_at}
 use Rattle.mdl_steps.specs.Interleavings.{interleaved}
+use Rattle.mdl_steps.specs.Plays.{Mine}
 use Rattle.mdl_steps.specs.SeatStates.{AtItsTable, SeatState}
-use Rattle.mdl_visits.specs.Visits.{HasWish, MayVisit, Visits}
+use Rattle.mdl_visits.specs.Visits.{HasWish, IsVisit, MayVisit, Visits}
 use Rattle.mdl_visits.specs.WaitOpenings.{awaiting}
 use Rattle.mdl_shared.specs.declared.member.Member.{Member}
-use Rattle.mdl_shared.specs.Members.{kind_known, most_numbers, wish_fault}
+use Rattle.mdl_shared.specs.Members.{kind_known, most_numbers, obtrudes_at, wish_fault}
 use Rattle.mdl_shared.specs.Passes.{view_of}
 use Rattle.mdl_shared.specs.SessionViews.{Lists, SessionView, lists_seen, session_at, tickets_of}
 use Rattle.mdl_shared.specs.TicketLists.{Room}
@@ -47,6 +50,14 @@ may-wish m place kind mode wished =
       };
       below = passed.3;
     }
+
+-- the visit raised OBTRUSIVE only if the mode is obtrusive there, by the keys that the session knew before
+pub visit-seen : (m : Member) (place : ℕ) (mode : Mode) {kind : Kind} {a b : Mine} → kind_known place m.known.known ≡ Some kind → IsVisit place (is_obtrusive kind mode) a b
+    → IsVisit place (obtrudes_at place mode m.seat.me.0.known) a b
+visit-seen m place mode {kind} {a} {b} known visit =
+    let is : obtrudes_at place mode m.seat.me.0.known ≡ is_obtrusive kind mode =
+    ap (λ (l : Lists). obtrudes_at place mode l.known) (sym m.lists) ∙ ap (λ (o : Option Kind). option_map_or (λ (k : Kind). is_obtrusive k mode) o false) known in
+    subst (λ (may : Bool). IsVisit place may a b) (sym is) visit
 
 -- the numbers of its own list are below the next one
 pub below-seen : (m : Member) (slow fast : List Own) → (slow ≡ m.tickets.slow) × (fast ≡ m.tickets.fast) → are_below m.next (interleaved slow fast) ≡ true

@@ -1,5 +1,6 @@
 -- A session after deeds at a place, whether they were done to slow tickets or to fast ones, and whichever of its tickets became slow meanwhile.
-use Rattle.std.specs.Prelude.{◌≡◌, ℕ, true, List, [], Option, Some, None}
+use Rattle.std.specs.Prelude.{◌≡◌, ◌≢◌, ◌⊎◌, ◌==◌, ℕ, Bool, true, List, [], Option, Some, None}
+use Rattle.std.specs.List.{list_any}
 use Rattle.mdl_steps.specs.declared.deed.Deed.{Deed}
 use Rattle.mdl_steps.specs.declared.view.Ask.{Ask}
 use Rattle.mdl_steps.specs.declared.view.Met.{Met}
@@ -21,12 +22,19 @@ pub record StaysFast (known : List Known) (asks : Option Ask) (fast fast′ : Li
   pub unfast : (a : Ask) → asks ≡ Some a → fast ≡ [] → fast′ ≡ []
   pub plain : are_counted known fast ≡ true → are_counted known fast′ ≡ true
 
+-- the session owes a place a reschedule, by the list of places that it owes one
+abbrev pub IsOwed : ℕ → List ℕ → Type 0
+IsOwed place owes = list_any (λ p. p == place) owes ≡ true
+
 -- the session did these deeds at a place, to slow tickets or to fast ones, and made steps. It may have settled waits, and learnt the state of its own
--- wait. Nothing else changed, except perhaps which tickets are fast, and the room for more
+-- wait. It owes no more places a reschedule, except perhaps this one if it did a deed. Nothing else changed, except perhaps which tickets are fast, the
+-- room for more, and whether it has yet to search for a deadlock
 pub record HasDone (place : ℕ) (ds : List Deed) (s s′ : SessionView) : Type 0 where
   pub slow : List Own
   pub fast : List Own
   pub told : Option ℕ
+  pub owes : List ℕ
+  pub searches : Bool
   pub settles : List Settlement
   pub log : List Met
   pub room : Room
@@ -37,6 +45,8 @@ pub record HasDone (place : ℕ) (ds : List Deed) (s s′ : SessionView) : Type 
         fast = fast;
         next = all_next ds s.me.0.next;
         told = told;
+        owes = owes;
+        searches = searches;
         settles = settles;
         log = log;
       },
@@ -47,6 +57,7 @@ pub record HasDone (place : ℕ) (ds : List Deed) (s s′ : SessionView) : Type 
   pub tickets : interleaved slow fast ≡ all_owned place ds (tickets_seen s.me.0)
   pub fasts : StaysFast s.me.0.known s.me.0.asks s.me.0.fast fast
   pub stays : StaysTold s.me.0.told told
+  pub owed : (p : ℕ) → IsOwed p owes → IsOwed p s.me.0.owes ⊎ ((p ≡ place) × (ds ≢ []))
   pub unasked : s.me.0.asks ≡ None → told ≡ s.me.0.told
 
 -- the session did these deeds, its steps did just these, and it left all waits alone

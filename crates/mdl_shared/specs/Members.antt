@@ -1,11 +1,11 @@
 -- What a session keeps in its own lists between two calls.
 pub use Rattle.mdl_visits.specs.KnownLists.{are_apart, are_two, is_known_place, kind_known, place_known}
-use Rattle.std.specs.Prelude.{◌≡◌, ◌<◌, ◌≤◌, ℕ, ◌^◌, Bool, true, ◌&&◌, not, nat_le, nat_lt, List, [], All, Option, Some, None, filter, is_some, if◌then◌else◌}
+use Rattle.std.specs.Prelude.{◌≡◌, ◌<◌, ◌≤◌, ℕ, ◌^◌, Bool, true, false, ◌&&◌, not, nat_le, nat_lt, List, [], All, Option, Some, None, filter, is_some, if◌then◌else◌}
 use Rattle.std.specs.List.{list_all}
-use Rattle.std.specs.Option.{option_and_then}
+use Rattle.std.specs.Option.{option_and_then, option_map_or}
 use Rattle.mdl_key.specs.declared.mode.Mode.{Mode}
 use Rattle.mdl_key.specs.declared.namespace.Kind.{Kind}
-use Rattle.mdl_key.specs.Words.{is_mode_of}
+use Rattle.mdl_key.specs.Words.{is_mode_of, is_obtrusive}
 use Rattle.mdl_word.specs.Words.{increment_of}
 use Rattle.mdl_calls.specs.declared.space_error.SpaceError.{SpaceError}
 use Rattle.mdl_calls.specs.declared.space_error.SpaceError.TheVariants.{NoPlace, NotHeld, AlreadyWaiting, BadMode, CounterFull}
@@ -33,6 +33,10 @@ are_within slots known = list_all (λ k. nat_lt 0 k.place && nat_lt k.place slot
 -- what one fast ticket in a mode adds to the word of a place, if the session has looked up the key there and its word counts the mode
 abbrev pub increment_at : ℕ → Mode → List Known → Option ℕ
 increment_at place mode known = option_and_then (λ kind. increment_of kind mode) (kind_known place known)
+
+-- whether a mode is obtrusive at a place, if the session has looked up the key there
+abbrev pub obtrudes_at : ℕ → Mode → List Known → Bool
+obtrudes_at place mode known = option_map_or (λ kind. is_obtrusive kind mode) (kind_known place known) false
 
 -- whether each of these tickets is one that the word of its place counts
 abbrev pub are_counted : List Known → List Own → Bool

@@ -24,6 +24,7 @@ use Rattle.mdl_steps.specs.declared.view.Own.{Own}
 use Rattle.mdl_steps.specs.declared.view.Read.{Read}
 use Rattle.mdl_steps.specs.declared.wait_word.Loss.TheVariants as loss
 use Rattle.mdl_steps.specs.Cells.{own_at, reads_at}
+use Rattle.mdl_steps.specs.FastPlays.{but_at}
 use Rattle.mdl_steps.specs.Layout.{lock_word}
 use Rattle.mdl_steps.specs.Limits.{most_fast}
 use Rattle.mdl_steps.specs.Lists.{Each}
@@ -44,12 +45,12 @@ use Rattle.mdl_visits.specs.Readings.{ReadsThere, WasHeld}
 use Rattle.mdl_visits.specs.Redefinitions.{IsRefusedAs, Redefines, exclusive_fault}
 use Rattle.mdl_visits.specs.Searches.{Searched}
 use Rattle.mdl_visits.specs.Tables.{AreTables, HasAsked}
-use Rattle.mdl_visits.specs.Visits.{AreStepsOf, Does, IsStepOf, MeetsBlocked, MeetsFull, MeetsFullWish, MakesMoreSteps, MeetsGrantable, StaysOn, StaysQuiet, Visits}
+use Rattle.mdl_visits.specs.Visits.{AreStepsOf, Does, IsStepOf, MeetsBlocked, MeetsFull, MeetsFullWish, MakesMoreSteps, IsVisit, MeetsGrantable, StaysQuiet, StaysThere, Visits, VisitsOnce}
 use Rattle.mdl_visits.specs.WaitEndings.{without_wait}
 use Rattle.mdl_visits.specs.WaitOpenings.{MeetsOpening}
 use Rattle.mdl_shared.specs.Doings.{merge_deeds, upgrade_deeds}
 use Rattle.mdl_calls.specs.Limits.{is_within}
-use Rattle.mdl_shared.specs.Members.{AreLearnt, holding_fault, increment_at, kind_known, place_known, wish_fault}
+use Rattle.mdl_shared.specs.Members.{AreLearnt, holding_fault, increment_at, kind_known, obtrudes_at, place_known, wish_fault}
 use Rattle.mdl_shared.specs.Modes.{clone_fault, downgrade_fault, merge_fault}
 use Rattle.mdl_shared.specs.OwnLists.{naming_fault}
 use Rattle.mdl_shared.specs.SessionViews.{Lists, SessionView, lists_seen, tickets_of}
@@ -75,20 +76,24 @@ MakesNoStep a b = b.me ≡ a.me
 abbrev pub MeetsTicket : ℕ → List Deed → SessionView → SessionView → Own → Type 0
 MeetsTicket id ds a b t = ShowsStep a b (λ e. MeetsOwn t.place a.me.0.number id e × (e.deeds ≡ ds))
 
--- the waits at the ticket's place that could be granted were granted
+-- the session visited the ticket's place once and did nothing else, and the waits there that could be granted were granted
 abbrev pub Reschedules : SessionView → SessionView → Own → Type 0
-Reschedules a b t = HasRescheduled a.table t.place a.me b.me
+Reschedules a b t = HasRescheduled a.table t.place a.me b.me × VisitsOnce t.place a.me b.me
 
--- the slow ticket with this number was released under the latch, and the waits at its place that could be granted were granted
+-- the slow ticket with this number was released in one visit, and the waits at its place that could be granted were granted
 abbrev pub GivesUpSlow : ℕ → SessionView → SessionView → Own → Type 0
 GivesUpSlow id a b t = MeetsTicket id (Lose id ∷ []) a b t × Reschedules a b t
 
--- a fast ticket was released by one step on the word of its place. If that step found the flag SLOW up, the waits there that could be granted then were
--- granted. Otherwise nothing else was done
+-- a fast ticket was released by one step on the word of its place. If that step found the flag SLOW up, the place was visited once, and the waits there
+-- that could be granted then were granted. Otherwise nothing else was done
 abbrev pub GivesUpFast : ℕ → SessionView → SessionView → Own → Type 0
 GivesUpFast id a b t =
     (mid : Mine) × (owes : Bool) × ReleasesFast t.place id owes a.me mid
-    × (owes ≡ true → HasRescheduled a.table t.place mid b.me) × (owes ≡ false → b.me ≡ mid)
+    × (owes ≡ true → HasRescheduled a.table t.place mid b.me × VisitsOnce t.place mid b.me) × (owes ≡ false → b.me ≡ mid)
+
+-- the session visited a place once, and did nothing there
+abbrev pub VisitsInVain : ℕ → SessionView → SessionView → Type 0
+VisitsInVain place a b = Visits place [] a.me b.me × VisitsOnce place a.me b.me
 
 -- a step by which the session's fast tickets at a place became slow
 abbrev pub MakesSlow : ℕ → Met → Type 0
@@ -103,34 +108,66 @@ AllMadeSlow a b = Each (λ (t : Own). ShowsStep a b (MakesSlow t.place)) a.me.0.
 abbrev pub FromUnfast : SessionView → (SessionView → Type 0) → Type 0
 FromUnfast a fact = (mid : SessionView) × MakesMoreSteps a.me mid.me × AllMadeSlow a mid × fact mid
 
--- before anything else was done, the session tried for a fast ticket at a place and failed: it found the flag OBTRUSIVE up, or eight fast grants missed
-abbrev pub TriesInVain : ℕ → SessionView → SessionView → Type 0
-TriesInVain place a b =
-    (word : ℕ) × (mid : Mine) × (FindsObtrusive place word a.me mid ⊎ Misses place 8 word a.me mid) × MakesMoreSteps mid b.me
+-- a place is the least one at which there are some of these fast tickets
+abbrev pub IsNextFast : ℕ → List Own → Type 0
+IsNextFast place fast = (0 < length (own_at place fast)) × ((q : ℕ) → q < place → own_at q fast ≡ [])
+
+-- the session visited these places one after the other, each once, and made no other step. Each was the least one with a fast ticket of the session, which
+-- had these fast tickets at first (`fast`), and left none of those of the place. Others are left (`left`)
+abbrev pub SlowsInTurn : List ℕ → List Own → List Own → Mine → Mine → Type 0
+SlowsInTurn [] fast left m m′ = (left ≡ fast) × (m′ ≡ m)
+SlowsInTurn (place ∷ later) fast left m m′ =
+    IsNextFast place fast × (mid : Mine) × VisitsOnce place m mid × SlowsInTurn later (but_at place fast) left mid m′
+
+-- the session made all its fast tickets slow, by one visit to each of their places, in rising order, and made no other step
+abbrev pub SlowsAll : Mine → Mine → Type 0
+SlowsAll m m′ = (places : List ℕ) × SlowsInTurn places m.0.fast [] m m′
+
+-- the session made some of its fast tickets slow in this way, and there was no room for those of the next place: it visited that once, unless memory ran
+-- out before. It made no other step
+abbrev pub StopsSlowing : Mine → Mine → Type 0
+StopsSlowing m m′ =
+    (places : List ℕ) × (left : List Own) × (mid : Mine) × SlowsInTurn places m.0.fast left m mid
+    × ((m′ ≡ mid) ⊎ ((place : ℕ) × IsNextFast place left × VisitsOnce place mid m′))
+
+-- the session made all its fast tickets slow, visited a place once after that, and made no other step. It raised the flag OBTRUSIVE there only if it may
+-- (`may`). This holds of what it had between
+abbrev pub ByVisit : ℕ → Bool → SessionView → SessionView → (SessionView → Type 0) → Type 0
+ByVisit place may a b fact = FromUnfast a (λ mid. SlowsAll a.me mid.me × IsVisit place may mid.me b.me × fact mid)
+
+-- the session tried for a fast ticket at a place and failed: it found the flag OBTRUSIVE up, or eight fast grants missed. It made no other step
+abbrev pub TriesInVain : ℕ → Mine → Mine → Type 0
+TriesInVain place m m′ = (word : ℕ) × (FindsObtrusive place word m m′ ⊎ Misses place 8 word m m′)
 
 -- the fast path was closed to a request for a mode at a place: the lock's word doesn't count the mode, or the session has as many fast tickets there as it
--- may have, or it tried and failed
-abbrev pub IsClosed : ℕ → Mode → SessionView → SessionView → Type 0
-IsClosed place mode a b =
-    (increment_at place mode a.me.0.known ≡ None) ⊎ ((most_fast ≤ length (own_at place a.me.0.fast)) ⊎ TriesInVain place a b)
+-- may have, so it made no step; or it tried and failed, and made no other step
+abbrev pub FindsClosed : ℕ → Mode → SessionView → Mine → Type 0
+FindsClosed place mode a tried =
+    ((increment_at place mode a.me.0.known ≡ None) × (tried ≡ a.me))
+    ⊎ (((most_fast ≤ length (own_at place a.me.0.fast)) × (tried ≡ a.me)) ⊎ TriesInVain place a.me tried)
 
--- a request for a mode at a place was decided under the latch of the place: this holds from a moment of the call on by which the fast path was closed to
--- the request, and each fast ticket that the session had was made slow
-abbrev pub ByLatch : ℕ → Mode → SessionView → (SessionView → Type 0) → Type 0
-ByLatch place mode a fact = FromUnfast a (λ mid. IsClosed place mode a mid × fact mid)
+-- the fast path was closed to a request for a mode at a place, which the session found first. Then it did this
+abbrev pub IsClosed : ℕ → Mode → (Mine → Mine → Type 0) → SessionView → SessionView → Type 0
+IsClosed place mode Then a b = (tried : Mine) × FindsClosed place mode a tried × Then tried b.me
+
+-- a request for a mode at a place was decided in one visit to the place: this holds from a moment of the call on by which the fast path was closed to the
+-- request, and each fast ticket that the session had was made slow. Before that it made no other step. In the visit it raised the flag OBTRUSIVE only if it
+-- may (`may`)
+abbrev pub ByLatch : ℕ → Mode → Bool → SessionView → SessionView → (SessionView → Type 0) → Type 0
+ByLatch place mode may a b fact = FromUnfast a (λ mid. IsClosed place mode SlowsAll a mid × IsVisit place may mid.me b.me × fact mid)
 
 -- a request for a mode at a place was granted by this deed: by a fast grant, after which nothing else was done, or by the step that gave the latch back,
 -- by whose record it could be granted
 abbrev pub IsGranted : ℕ → Mode → Deed → SessionView → SessionView → Type 0
 IsGranted place mode deed a b =
     GrantsAtLast place deed a.me b.me
-    ⊎ ByLatch place mode a (λ mid. ShowsStep mid b (MeetsGrantable place a.me.0.number mode deed))
+    ⊎ ByLatch place mode (obtrudes_at place mode a.me.0.known) a b (λ mid. ShowsStep mid b (MeetsGrantable place a.me.0.number mode deed))
 
 -- a second ticket was granted by this deed, beside the one with this number: by a fast grant, or while that one was in the granted list
 abbrev pub IsCloned : ℕ → Mode → ℕ → Deed → SessionView → SessionView → Type 0
 IsCloned place mode id deed a b =
     GrantsAtLast place deed a.me b.me
-    ⊎ ByLatch place mode a (λ mid. ShowsStep mid b (λ e. MeetsOwn place a.me.0.number id e × (e.deeds ≡ deed ∷ [])))
+    ⊎ ByLatch place mode false a b (λ mid. ShowsStep mid b (λ e. MeetsOwn place a.me.0.number id e × (e.deeds ≡ deed ∷ [])))
 
 -- the directory was looked at once, and this is its answer for a key
 abbrev pub LooksUp : KeyName → Result ℕ ResolveError → SessionView → SessionView → Type 0
@@ -150,6 +187,17 @@ SearchesFor found a b =
 abbrev pub MeetsOwnWait : ℕ → Lists → SessionView → SessionView → Type 0
 MeetsOwnWait state l a b = ShowsStep a b (MeetsWait a.table.slots a.me.0.number l.waits state)
 
+-- the session's first step met its own wait in this state. This holds of what the session had just after that step
+abbrev pub LooksThen : ℕ → Lists → SessionView → (Mine → Type 0) → Type 0
+LooksThen state l a fact =
+    (mid : Mine) × (look : Met) × (mid.0.log ≡ a.me.0.log ++ look ∷ []) × (mid.0.directory ≡ a.me.0.directory)
+    × MeetsWait a.table.slots a.me.0.number l.waits state look × fact mid
+
+-- just one step more was made, and it ended the session's own wait, which was in this state
+abbrev pub EndsByOneStep : ℕ → Lists → SessionView → SessionView → Mine → Type 0
+EndsByOneStep state l a b mid =
+    (e : Met) × (b.me.0.log ≡ mid.0.log ++ e ∷ []) × EndsWait a.table.slots a.me.0.number l.waits state e
+
 -- a step ended the session's own wait, which was in this state
 abbrev pub EndsOwnWait : ℕ → Lists → SessionView → SessionView → Type 0
 EndsOwnWait state l a b = ShowsStep a b (EndsWait a.table.slots a.me.0.number l.waits state)
@@ -166,17 +214,23 @@ LacksRoomForFast why a b = (a.me.0.fast ≢ []) × ((why ≡ cause.OutOfMemory) 
 
 -- the fast path was closed to a request for a mode at a place, and a step met a full book: one without room for the session's fast tickets, or, once those
 -- were slow, the book of the place without room for one more ticket (`Full`)
-abbrev pub FullForWish : (Met → Type 0) → ℕ → Mode → SessionView → SessionView → Type 0
-FullForWish Full place mode a b = ByLatch place mode a (λ mid. ShowsStep mid b Full) ⊎ (IsClosed place mode a b × FullForFast a b)
+abbrev pub FullForWish : (Met → Type 0) → ℕ → Mode → Bool → SessionView → SessionView → Type 0
+FullForWish Full place mode may a b =
+    ByLatch place mode may a b (λ mid. ShowsStep mid b Full) ⊎ (IsClosed place mode StopsSlowing a b × FullForFast a b)
 
--- a request for a mode at a place may need memory: the session's list had no room for a ticket there, or the fast path was closed to the request
-abbrev pub LacksMemory : ℕ → Mode → SessionView → SessionView → Type 0
-LacksMemory place mode a b = (HasRoom place a.room → ⊥) ⊎ IsClosed place mode a b
+-- a request for a mode at a place may need memory: the session's list had no room for a ticket there, and no step was made, or the fast path was closed to
+-- the request, and then the session did this
+abbrev pub LacksMemory : ℕ → Mode → (Mine → Mine → Type 0) → SessionView → SessionView → Type 0
+LacksMemory place mode Then a b = ((HasRoom place a.room → ⊥) × MakesNoStep a b) ⊎ IsClosed place mode Then a b
+
+-- the session had no room for its fast tickets at a place, or it made all slow and visited a place once after that. It made no other step
+abbrev pub StopsOrVisits : ℕ → Bool → Mine → Mine → Type 0
+StopsOrVisits place may m m′ = StopsSlowing m m′ ⊎ ((mid : Mine) × SlowsAll m mid × IsVisit place may mid m′)
 
 -- why there was no room for a request: memory ran out, or a step met a book that was full
-abbrev pub LacksRoomForWish : (Met → Type 0) → ℕ → Mode → SpaceError → SessionView → SessionView → Type 0
-LacksRoomForWish Full place mode why a b =
-    ((why ≡ cause.OutOfMemory) × LacksMemory place mode a b) ⊎ ((why ≡ cause.Full) × FullForWish Full place mode a b)
+abbrev pub LacksRoomForWish : (Met → Type 0) → ℕ → Mode → Bool → SpaceError → SessionView → SessionView → Type 0
+LacksRoomForWish Full place mode may why a b =
+    ((why ≡ cause.OutOfMemory) × LacksMemory place mode (StopsOrVisits place may) a b) ⊎ ((why ≡ cause.Full) × FullForWish Full place mode may a b)
 
 -- the version of a place was read by one step without its latch, and nothing else was done. The session notes it under each ticket that it has there. The
 -- definition of this version counts as read, and agrees with all that the session knew of the place
@@ -202,13 +256,14 @@ pub record FindsVersion (place : ℕ) (standing : Standing) (a b : SessionView) 
   pub read : Contains a.me.0.reads (record { place = place; standing = standing })
   pub follows : Follows place standing a.me
 
--- the version and definition of the key of a ticket's place were read under the latch
+-- the version and definition of the key of a ticket's place were read in one visit
 abbrev pub ReadsByLatch : ℕ → Own → Standing → SessionView → SessionView → Type 0
 ReadsByLatch id t standing a b =
     Follows t.place standing a.me
     × ReadsThere t.place standing a.me b.me
     × ShowsStep a b (λ e. MeetsStanding t.place a.me.0.number standing e
     × (numbered id a.me.0.slow ≡ Some t → WasHeld t.place a.me.0.number id e))
+    × VisitsOnce t.place a.me b.me
 
 -- ---- by calls
 
@@ -242,13 +297,17 @@ KeepsTold (Release who id) a b = Unit {0}
 KeepsTold (Downgrade who id mode) a b = Unit {0}
 KeepsTold _ a b = b.me.0.told ≡ a.me.0.told
 
--- a call that reads or settles the word of a wait gives no latch back and raises no flag. A call that reads a definition raises no flag, and leaves the
--- directory alone
+-- the list of steps grew by at most so many steps (`most`), which gave no latch back and raised no flag
+abbrev pub StaysFor : ℕ → Mine → Mine → Type 0
+StaysFor most m m′ = (made : List Met) × (m′.0.log ≡ m.0.log ++ made) × Each StaysThere made × (length made ≤ most)
+
+-- a call that reads or settles the word of a wait gives no latch back and raises no flag. It makes one step at most, and a kill two. A call that reads a
+-- definition raises no flag, and leaves the directory alone
 abbrev pub StepsSo : Call → SessionView → SessionView → Type 0
-StepsSo (Poll_wait who) a b = StaysOn a.me b.me
-StepsSo (Settle_timeout who) a b = StaysOn a.me b.me
-StepsSo (Wait_of target) a b = StaysOn a.me b.me
-StepsSo (Kill target number) a b = StaysOn a.me b.me
+StepsSo (Poll_wait who) a b = StaysFor 1 a.me b.me
+StepsSo (Settle_timeout who) a b = StaysFor 1 a.me b.me
+StepsSo (Wait_of target) a b = StaysFor 1 a.me b.me
+StepsSo (Kill target number) a b = StaysFor 2 a.me b.me
 StepsSo (Read_definition who id) a b = StaysQuiet a.me b.me
 StepsSo (Read_kept who id) a b = StaysQuiet a.me b.me
 StepsSo _ a b = Unit {0}
@@ -291,15 +350,17 @@ MeetsSo (Resolve who key) (Refused why) l a b =
     (place_known key l.known ≡ None)
     × (((why ≡ cause.NoPlace) × LooksUp key (Err resolve_error.NoPlace) a b) ⊎ ((why ≡ cause.OutOfMemory) × (MakesNoStep a b ⊎ LooksAtKeys a b)))
 MeetsSo (Try_now who place mode) (Granted id) l a b = IsGranted place mode (Gain id mode) a b
-MeetsSo (Try_now who place mode) Would_wait l a b = ByLatch place mode a (λ mid. ShowsStep mid b (MeetsBlocked place a.me.0.number mode))
+MeetsSo (Try_now who place mode) Would_wait l a b =
+    ByLatch place mode (obtrudes_at place mode l.known) a b (λ mid. ShowsStep mid b (MeetsBlocked place a.me.0.number mode))
 MeetsSo (Try_now who place mode) (Refused why) l a b =
-    (own_fault (Try_now who place mode) l ≡ Some why) ⊎ LacksRoomForWish (MeetsFullWish place a.me.0.number mode true) place mode why a b
+    (own_fault (Try_now who place mode) l ≡ Some why)
+    ⊎ LacksRoomForWish (MeetsFullWish place a.me.0.number mode true) place mode (obtrudes_at place mode l.known) why a b
 MeetsSo (Begin_wait who place mode) (Granted id) l a b = IsGranted place mode (Gain id mode) a b
 MeetsSo (Begin_wait who place mode) (Waits number) l a b =
-    ByLatch place mode a (λ mid. (e f : Met) × AreStepsOf mid.me b.me e f × MeetsBlocked place a.me.0.number mode e
+    ByLatch place mode (obtrudes_at place mode l.known) a b (λ mid. (e f : Met) × AreStepsOf mid.me b.me e f × MeetsBlocked place a.me.0.number mode e
     × MeetsOpening a.table.slots place a.me.0.number l.waits l.next mode f)
 MeetsSo (Begin_wait who place mode) (Refused why) l a b =
-    (own_fault (Begin_wait who place mode) l ≡ Some why) ⊎ LacksRoomForWish (MeetsFull place) place mode why a b
+    (own_fault (Begin_wait who place mode) l ≡ Some why) ⊎ LacksRoomForWish (MeetsFull place) place mode (obtrudes_at place mode l.known) why a b
 MeetsSo (Search who) No_cycle l a b = (l.asks ≡ None → MakesNoStep a b) × (is_some l.asks ≡ true → SearchesFor found.NoCycle a b)
 MeetsSo (Search who) (Victim_is victim) l a b = (is_some l.asks ≡ true) × SearchesFor (found.Victim victim) a b
 MeetsSo (Search who) (Refused why) l a b = (is_some l.asks ≡ true) × LooksAtKeys a b
@@ -309,11 +370,12 @@ MeetsSo (Poll_wait who) (Refused why) l a b = own_fault (Poll_wait who) l ≡ So
 MeetsSo (Settle_timeout who) (Timed_out ByThisCall) l a b = MeetsOwnWait unsettled_state l a b
 MeetsSo (Settle_timeout who) (Timed_out (Already how)) l a b = MeetsOwnWait (state_of how) l a b
 MeetsSo (Settle_timeout who) (Refused why) l a b = own_fault (Settle_timeout who) l ≡ Some why
-MeetsSo (End_wait who) (Granted id) l a b = EndsOwnWait granted_state l a b
+MeetsSo (End_wait who) (Granted id) l a b = LooksThen granted_state l a (EndsByOneStep granted_state l a b)
 MeetsSo (End_wait who) (Lost how) l a b =
     EndsOwnWait (state_of how) l a b
-    × ((ask : Ask) × (l.asks ≡ Some ask) × HasRescheduled a.table ask.place (without_wait a.me) b.me)
-MeetsSo (End_wait who) (Refused why) l a b = (own_fault (End_wait who) l ≡ Some why) ⊎ ((why ≡ cause.Unsettled) × MeetsOwnWait unsettled_state l a b)
+    × ((ask : Ask) × (l.asks ≡ Some ask) × HasRescheduled a.table ask.place (without_wait a.me) b.me
+    × LooksThen (state_of how) l a (λ mid. VisitsOnce ask.place mid b.me))
+MeetsSo (End_wait who) (Refused why) l a b = (own_fault (End_wait who) l ≡ Some why) ⊎ ((why ≡ cause.Unsettled) × LooksThen unsettled_state l a (λ mid. b.me ≡ mid))
 MeetsSo (Wait_of target) (Has_wait number) l a b =
     (is_within a.sessions target ≡ false → (number ≡ None) × MakesNoStep a b)
     × (is_within a.sessions target ≡ true → ShowsStep a b (MeetsNumber a.table.slots target number))
@@ -328,41 +390,42 @@ MeetsSo (Release who id) (Refused why) l a b = own_fault (Release who id) l ≡ 
 MeetsSo (Clone_ticket who id mode) (Granted new) l a b =
     OfTicket id l (λ t. IsCloned t.place mode id (Gain new mode) a b)
 MeetsSo (Clone_ticket who id mode) (Refused why) l a b =
-    (own_fault (Clone_ticket who id mode) l ≡ Some why) ⊎ OfTicket id l (λ t. LacksRoomForWish (MeetsFull t.place) t.place mode why a b)
+    (own_fault (Clone_ticket who id mode) l ≡ Some why) ⊎ OfTicket id l (λ t. LacksRoomForWish (MeetsFull t.place) t.place mode false why a b)
 MeetsSo (Upgrade_now who id mode) Upgraded l a b =
     OfTicket id l (λ t. (covers t.mode mode ≡ true → MakesNoStep a b)
-    × (covers t.mode mode ≡ false → FromUnfast a (λ mid. ShowsStep mid b (MeetsGrantable t.place a.me.0.number mode (Alter id mode)))))
+    × (covers t.mode mode ≡ false → ByVisit t.place true a b (λ mid. ShowsStep mid b (MeetsGrantable t.place a.me.0.number mode (Alter id mode)))))
 MeetsSo (Upgrade_now who id mode) Would_wait l a b =
     OfTicket id l (λ t. (covers t.mode mode ≡ false)
-    × FromUnfast a (λ mid. ShowsStep mid b (MeetsBlocked t.place a.me.0.number mode)))
+    × ByVisit t.place true a b (λ mid. ShowsStep mid b (MeetsBlocked t.place a.me.0.number mode)))
 MeetsSo (Upgrade_now who id mode) (Refused why) l a b =
     (own_fault (Upgrade_now who id mode) l ≡ Some why)
-    ⊎ (OfTicket id l (λ t. covers t.mode mode ≡ false) × LacksRoomForFast why a b)
+    ⊎ (OfTicket id l (λ t. covers t.mode mode ≡ false) × LacksRoomForFast why a b × StopsSlowing a.me b.me)
 MeetsSo (Merge who old new) Done l a b =
-    OfTicket old l (λ kept. OfTicket new l (λ gone. FromUnfast a (λ mid. ShowsStep mid b (λ e.
+    OfTicket old l (λ kept. OfTicket new l (λ gone. ByVisit kept.place false a b (λ mid. ShowsStep mid b (λ e.
     MeetsOwn kept.place a.me.0.number old e × MeetsOwn kept.place a.me.0.number new e × (e.deeds ≡ Alter old gone.mode ∷ Lose new ∷ [])))))
-MeetsSo (Merge who old new) (Refused why) l a b = (own_fault (Merge who old new) l ≡ Some why) ⊎ LacksRoomForFast why a b
+MeetsSo (Merge who old new) (Refused why) l a b = (own_fault (Merge who old new) l ≡ Some why) ⊎ (LacksRoomForFast why a b × StopsSlowing a.me b.me)
 MeetsSo (Downgrade who id mode) Done l a b = OfTicket id l (MeetsTicket id (Alter id mode ∷ []) a b) × OfTicket id l (Reschedules a b)
 MeetsSo (Downgrade who id mode) (Refused why) l a b = own_fault (Downgrade who id mode) l ≡ Some why
 MeetsSo (Read_definition who id) (Reads version definition) l a b =
     OfTicket id l (λ t. Follows t.place (record { version = version; definition = definition }) a.me
     × ReadsThere t.place (record { version = version; definition = definition }) a.me b.me
     × ShowsStep a b (λ e. MeetsStanding t.place a.me.0.number (record { version = version; definition = definition }) e
-    × (numbered id l.slow ≡ Some t → WasHeld t.place a.me.0.number id e)))
+    × (numbered id l.slow ≡ Some t → WasHeld t.place a.me.0.number id e))
+    × VisitsOnce t.place a.me b.me)
 MeetsSo (Read_definition who id) (Refused why) l a b =
-    (own_fault (Read_definition who id) l ≡ Some why) ⊎ ((why ≡ cause.OutOfMemory) × OfTicket id l (λ t. Visits t.place [] a.me b.me))
+    (own_fault (Read_definition who id) l ≡ Some why) ⊎ ((why ≡ cause.OutOfMemory) × OfTicket id l (λ t. VisitsInVain t.place a b))
 MeetsSo (Read_kept who id) (Reads version definition) l a b =
     OfTicket id l (λ t. FindsVersion t.place (record { version = version; definition = definition }) a b
     ⊎ ((found : ℕ) × (mid : SessionView) × MissesVersion t.place found a mid × ReadsByLatch id t (record { version = version; definition = definition }) mid b))
 MeetsSo (Read_kept who id) (Refused why) l a b =
     (own_fault (Read_kept who id) l ≡ Some why)
     ⊎ ((why ≡ cause.OutOfMemory) × OfTicket id l (λ t. ((standing : Standing) × FindsVersion t.place standing a b)
-    ⊎ ((found : ℕ) × (mid : SessionView) × MissesVersion t.place found a mid × Visits t.place [] mid.me b.me)))
+    ⊎ ((found : ℕ) × (mid : SessionView) × MissesVersion t.place found a mid × VisitsInVain t.place mid b)))
 MeetsSo (Change_definition who id change) (Changed version) l a b =
-    OfTicket id l (λ t. (t.mode ≡ X) × Redefines t.place change version a.me b.me)
+    OfTicket id l (λ t. (t.mode ≡ X) × Redefines t.place change version a.me b.me × VisitsOnce t.place a.me b.me)
 MeetsSo (Change_definition who id change) (Refused why) l a b =
     (own_fault (Change_definition who id change) l ≡ Some why)
-    ⊎ OfTicket id l (λ t. IsRefusedAs t.place a.me.0.number change why a.me b.me)
+    ⊎ OfTicket id l (λ t. IsRefusedAs t.place a.me.0.number change why a.me b.me × VisitsOnce t.place a.me b.me)
 MeetsSo (Tables_of who schema) (Tables places) l a b =
     (k : Keys) × TookDirectory a.table.slots k k a.me b.me
     × ((tables : List Known) × AreTables schema k tables × HasAsked a.me.0.number tables places a.me b.me

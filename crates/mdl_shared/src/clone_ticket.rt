@@ -7,7 +7,7 @@ ghost use Rattle.mdl_session_laws.specs.SessionJoins.{Joins};
 ghost use Rattle.mdl_steps.specs.declared.deed.Deed.TheVariants.{Gain};
 ghost use Rattle.mdl_steps.specs.Interleavings.{interleaved};
 ghost use Rattle.mdl_visits.specs.Numbers.{numbered};
-ghost use Rattle.mdl_visits.specs.Visits.{MeetsFull};
+ghost use Rattle.mdl_visits.specs.Visits.{MeetsFull, VisitsOnce};
 ghost use Rattle.mdl_shared.specs.DeedsDone.{DoesQuietly};
 ghost use Rattle.mdl_shared.specs.Members.{kind_known};
 ghost use Rattle.mdl_shared.specs.Modes.{clone_fault};
@@ -84,6 +84,7 @@ impl Member {
             × MeetsTicket held.number (Gain new mode ∷ []) (view_of self.old) (view_of self.new) held
             × KeepsRoom 1 self.old.tickets.room self.new.tickets.room) }
         ensures unchanged { OnErr result (DoesQuietly held.place [] (view_of self.old) (view_of self.new) × KeepsRoom 0 self.old.tickets.room self.new.tickets.room) }
+        ensures once { VisitsOnce held.place self.old.seat.me self.new.seat.me }
         ensures refused { IfErr result (λ why. (why ≡ OutOfMemory) ⊎ ((why ≡ Full) × ShowsStep (view_of self.old) (view_of self.new) (MeetsFull held.place))) }
     {
         let number = self.next;

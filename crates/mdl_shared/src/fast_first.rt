@@ -7,7 +7,7 @@ ghost use Rattle.mdl_shared.specs.DeedsDone.{DoesQuietly};
 ghost use Rattle.mdl_shared.specs.FastWishes.{BecomesSlow, GainsFast};
 ghost use Rattle.mdl_shared.specs.Members.{kind_known, most_numbers};
 ghost use Rattle.mdl_shared.specs.Passes.{view_of};
-ghost use Rattle.mdl_shared.specs.Showings.{FullForFast, IsClosed, LacksMemory};
+ghost use Rattle.mdl_shared.specs.Showings.{FindsClosed, FullForFast, IsClosed, LacksMemory, SlowsAll, StopsSlowing};
 ghost use Rattle.mdl_shared.specs.TicketLists.{HasRoom, KeepsRoom};
 
 use crate::member::Member;
@@ -30,12 +30,12 @@ impl Member {
         requires known { kind_known place self.old.known.known ≡ Some kind }
         requires number { self.old.next < most_numbers }
         ensures granted { IfOk result (λ ticket. IfSome ticket (λ id. GainsFast place mode id (view_of self.old) (view_of self.new))) }
-        ensures slow { result ≡ Ok None → BecomesSlow (view_of self.old) (view_of self.new) × IsClosed place mode (view_of self.old) (view_of self.new)
+        ensures slow { result ≡ Ok None → BecomesSlow (view_of self.old) (view_of self.new) × IsClosed place mode SlowsAll (view_of self.old) (view_of self.new)
             × (self.new.tickets.fast ≡ [])
             × HasRoom place self.new.tickets.room }
         ensures unchanged { OnErr result (DoesQuietly 0 [] (view_of self.old) (view_of self.new) × KeepsRoom 0 self.old.tickets.room self.new.tickets.room) }
-        ensures refused { IfErr result (λ why. ((why ≡ OutOfMemory) × LacksMemory place mode (view_of self.old) (view_of self.new))
-            ⊎ ((why ≡ Full) × IsClosed place mode (view_of self.old) (view_of self.new) × FullForFast (view_of self.old) (view_of self.new))) }
+        ensures refused { IfErr result (λ why. ((why ≡ OutOfMemory) × LacksMemory place mode StopsSlowing (view_of self.old) (view_of self.new))
+            ⊎ ((why ≡ Full) × IsClosed place mode StopsSlowing (view_of self.old) (view_of self.new) × FullForFast (view_of self.old) (view_of self.new))) }
     {
         if self.tickets.reserve(place).is_err() {
             return Err(SpaceError::OutOfMemory);
@@ -55,7 +55,7 @@ impl Member {
         requires room { HasRoom place self.old.tickets.room }
         ensures granted { IfSome result (λ id. GainsFast place mode id (view_of self.old) (view_of self.new)) }
         ensures unchanged { IfNone result (DoesQuietly place [] (view_of self.old) (view_of self.new) × (self.new.tickets ≡ self.old.tickets)) }
-        ensures closed { IfNone result (IsClosed place mode (view_of self.old) (view_of self.new)) }
+        ensures closed { IfNone result (FindsClosed place mode (view_of self.old) self.new.seat.me) }
     {
         let one = Word::increment(kind, mode)?;
         self.gain_fast(place, mode, one).ok()

@@ -11,13 +11,13 @@ ghost use Rattle.mdl_steps.specs.FastPlays.{but_at};
 ghost use Rattle.mdl_steps.specs.Limits.{most_fast};
 ghost use Rattle.mdl_visits.specs.FastTries.{GrantsAtLast, ReleasesFast};
 ghost use Rattle.mdl_visits.specs.Numbers.{numbered};
-ghost use Rattle.mdl_visits.specs.Visits.{StaysOn};
+ghost use Rattle.mdl_visits.specs.Visits.{StaysOn, VisitsOnce};
 ghost use Rattle.mdl_shared.specs.declared.fast_path.NotFast.TheVariants.{Limit};
 ghost use Rattle.mdl_shared.specs.DeedsDone.{DoesQuietly};
 ghost use Rattle.mdl_shared.specs.FastDeeds.{AreSameOrSlow, AreSlowBefore, HasNoFast};
 ghost use Rattle.mdl_shared.specs.Members.{increment_at, most_numbers};
 ghost use Rattle.mdl_shared.specs.Passes.{view_of};
-ghost use Rattle.mdl_shared.specs.Showings.{AllMadeSlow, LacksRoomForFast, MakesSlow, ShowsStep};
+ghost use Rattle.mdl_shared.specs.Showings.{AllMadeSlow, LacksRoomForFast, MakesSlow, ShowsStep, SlowsAll, StopsSlowing};
 ghost use Rattle.mdl_shared.specs.TicketLists.{HasRoom, KeepsRoom};
 
 use crate::member::Member;
@@ -106,6 +106,8 @@ impl Member {
         requires idle { self.old.asks ≡ None }
         ensures done { DoesQuietly 0 [] (view_of self.old) (view_of self.new) }
         ensures slow { OnOk result ((self.new.tickets.fast ≡ []) × AllMadeSlow (view_of self.old) (view_of self.new)) }
+        ensures turn { OnOk result (SlowsAll self.old.seat.me self.new.seat.me) }
+        ensures stops { OnErr result (StopsSlowing self.old.seat.me self.new.seat.me) }
         ensures refused { IfErr result (λ why. LacksRoomForFast why (view_of self.old) (view_of self.new)) }
         ensures partly { OnErr result (AreSameOrSlow (view_of self.old) (view_of self.new)) }
         ensures order { OnErr result (AreSlowBefore (view_of self.old) (view_of self.new)) }
@@ -124,6 +126,8 @@ impl Member {
         requires some { 0 < length (own_at place self.old.tickets.fast) }
         ensures done { DoesQuietly 0 [] (view_of self.old) (view_of self.new) }
         ensures slow { OnOk result ((self.new.tickets.fast ≡ but_at place self.old.tickets.fast) × ShowsStep (view_of self.old) (view_of self.new) (MakesSlow place)) }
+        ensures once { OnOk result (VisitsOnce place self.old.seat.me self.new.seat.me) }
+        ensures stops { OnErr result ((self.new.seat.me ≡ self.old.seat.me) ⊎ VisitsOnce place self.old.seat.me self.new.seat.me) }
         ensures fast { OnErr result (self.new.tickets.fast ≡ self.old.tickets.fast) }
         ensures refused { IfErr result (λ why. LacksRoomForFast why (view_of self.old) (view_of self.new)) }
         ensures room { KeepsRoom 0 self.old.tickets.room self.new.tickets.room }

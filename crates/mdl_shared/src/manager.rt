@@ -64,7 +64,8 @@ impl Manager {
     ) -> Result<Vec<Pass>, AllocError>
         requires seated { maker.seat.table_id ≡ (arc_value table.now).shared.table_id }
         requires sized { IsSized (arc_value table.now).shared.table_id }
-        requires sessions { (sessions ≡ maker.most) × ((arc_value table.now).shared.table_id.words ≡ word_count (arc_value table.now).shared.table_id.slots sessions) }
+        requires sessions { (sessions ≡ maker.most) × ((arc_value table.now).shared.table_id.words ≡ word_count (arc_value table.now).shared.table_id.slots sessions)
+            × ((arc_value table.now).shared.key ≡ sessions) }
         requires narrow { (0 < (arc_value table.now).shared.table_id.slots) × ((arc_value table.now).shared.table_id.slots ≤ 65536) }
         requires first { maker.given ≡ 0 }
         ensures { IfOk result (λ passes. (length passes.items ≡ maker.most) × ArePasses (arc_value table.now).shared.table_id passes.items) }

@@ -5,7 +5,7 @@ ghost use Rattle.std.specs.Prelude.{◌≡◌, [], IfErr, OnErr, OnOk};
 ghost use Rattle.mdl_shared.specs.DeedsDone.{DoesQuietly};
 ghost use Rattle.mdl_shared.specs.FastDeeds.{AreSameOrSlow, AreSlowBefore};
 ghost use Rattle.mdl_shared.specs.SessionViews.{space_of};
-ghost use Rattle.mdl_shared.specs.Showings.{AllMadeSlow, LacksRoomForFast};
+ghost use Rattle.mdl_shared.specs.Showings.{AllMadeSlow, LacksRoomForFast, SlowsAll, StopsSlowing};
 ghost use Rattle.mdl_shared.specs.TicketLists.{KeepsRoom};
 
 use crate::Session;
@@ -21,6 +21,8 @@ impl<R: Wait> Session<R> {
         ensures same { space_of self.new ≡ space_of self.old }
         ensures quiet { DoesQuietly 0 [] self.old self.new }
         ensures slow { OnOk result ((self.new.me.0.fast ≡ []) × AllMadeSlow self.old self.new) }
+        ensures turn { OnOk result (SlowsAll self.old.me self.new.me) }
+        ensures stops { OnErr result (StopsSlowing self.old.me self.new.me) }
         ensures refused { IfErr result (λ why. LacksRoomForFast why self.old self.new) }
         ensures partly { OnErr result (AreSameOrSlow self.old self.new) }
         ensures order { OnErr result (AreSlowBefore self.old self.new) }

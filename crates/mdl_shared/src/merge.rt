@@ -7,6 +7,7 @@ ghost use Rattle.mdl_steps.specs.declared.deed.Deed.TheVariants.{Alter, Lose};
 ghost use Rattle.mdl_steps.specs.Interleavings.{interleaved};
 ghost use Rattle.mdl_visits.specs.Leavings.{MergesOwn};
 ghost use Rattle.mdl_visits.specs.Numbers.{numbered};
+ghost use Rattle.mdl_visits.specs.Visits.{VisitsOnce};
 ghost use Rattle.mdl_shared.specs.DeedsDone.{DoesQuietly};
 ghost use Rattle.mdl_shared.specs.Modes.{may_merge, merge_fault};
 ghost use Rattle.mdl_shared.specs.Passes.{view_of};
@@ -66,6 +67,7 @@ impl Member {
         requires unfast { self.old.tickets.fast ≡ [] }
         ensures merged { DoesQuietly kept.place (Alter kept.number gone.mode ∷ Lose gone.number ∷ []) (view_of self.old) (view_of self.new) }
         ensures met { MergesOwn kept gone self.old.seat self.new.seat }
+        ensures once { VisitsOnce kept.place self.old.seat.me self.new.seat.me }
         ensures room { KeepsRoom 0 self.old.tickets.room self.new.tickets.room }
     {
         merge(rt, &mut self.seat, kept, gone);

@@ -2,8 +2,9 @@
 ghost use Rattle.std.specs.Prelude.{◌≡◌, ◌⊎◌, true, [], None, Some, IfErr, IfOk, OnErr};
 ghost use Rattle.mdl_calls.specs.declared.space_error.SpaceError.TheVariants.{Full, OutOfMemory};
 ghost use Rattle.mdl_calls.specs.Words.{Try_now, attempted};
+ghost use Rattle.mdl_key.specs.Words.{is_obtrusive};
 ghost use Rattle.mdl_session_laws.specs.SessionJoins.{Joins};
-ghost use Rattle.mdl_visits.specs.Visits.{MeetsFullWish};
+ghost use Rattle.mdl_visits.specs.Visits.{IsVisit, MeetsFullWish};
 ghost use Rattle.mdl_shared.specs.DeedsDone.{DoesQuietly};
 ghost use Rattle.mdl_shared.specs.FastWishes.{HasTried};
 ghost use Rattle.mdl_shared.specs.Members.{kind_known, wish_fault};
@@ -51,6 +52,7 @@ impl Member {
         requires room { HasRoom place self.old.tickets.room }
         ensures tried { IfOk result (λ answer. HasTried place mode answer (view_of self.old) (view_of self.new)) }
         ensures unchanged { OnErr result (DoesQuietly place [] (view_of self.old) (view_of self.new) × KeepsRoom 0 self.old.tickets.room self.new.tickets.room) }
+        ensures once { IsVisit place (is_obtrusive kind mode) self.old.seat.me self.new.seat.me }
         ensures refused { IfErr result (λ why. (why ≡ OutOfMemory) ⊎ ((why ≡ Full) × ShowsStep (view_of self.old) (view_of self.new) (MeetsFullWish place self.old.seat.me.0.number mode true))) }
     {
         let number = self.next;

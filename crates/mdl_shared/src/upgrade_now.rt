@@ -1,5 +1,5 @@
 //! Gives a ticket a stronger mode, without waiting.
-ghost use Rattle.std.specs.Prelude.{◌≡◌, ◌∷◌, [], false, IfOk, None, Some};
+ghost use Rattle.std.specs.Prelude.{◌≡◌, ◌∷◌, [], false, true, IfOk, None, Some};
 ghost use Rattle.mdl_key.specs.Refusals.{RefusesJust};
 ghost use Rattle.mdl_system.specs.Strength.{covers};
 ghost use Rattle.mdl_calls.specs.declared.answers.Upgrade.TheVariants.{Upgraded, WouldWait};
@@ -8,7 +8,7 @@ ghost use Rattle.mdl_session_laws.specs.SessionJoins.{Joins};
 ghost use Rattle.mdl_steps.specs.declared.deed.Deed.TheVariants.{Alter};
 ghost use Rattle.mdl_steps.specs.Interleavings.{interleaved};
 ghost use Rattle.mdl_visits.specs.Numbers.{numbered};
-ghost use Rattle.mdl_visits.specs.Visits.{MeetsBlocked, MeetsGrantable};
+ghost use Rattle.mdl_visits.specs.Visits.{IsVisit, MeetsBlocked, MeetsGrantable};
 ghost use Rattle.mdl_shared.specs.DeedsDone.{DoesQuietly};
 ghost use Rattle.mdl_shared.specs.Members.{kind_known};
 ghost use Rattle.mdl_shared.specs.Passes.{view_of};
@@ -73,6 +73,7 @@ impl Member {
             × ShowsStep (view_of self.old) (view_of self.new) (MeetsGrantable held.place self.old.seat.me.0.number mode (Alter held.number mode)) }
         ensures blocked { result ≡ WouldWait → DoesQuietly held.place [] (view_of self.old) (view_of self.new)
             × ShowsStep (view_of self.old) (view_of self.new) (MeetsBlocked held.place self.old.seat.me.0.number mode) }
+        ensures once { IsVisit held.place true self.old.seat.me self.new.seat.me }
         ensures room { KeepsRoom 0 self.old.tickets.room self.new.tickets.room }
     {
         match upgrade_now(rt, &mut self.seat, held.place, held.number, mode) {

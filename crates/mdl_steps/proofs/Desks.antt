@@ -7,20 +7,22 @@ use Rattle.std.proofs.lemmas.List.{map-set}
 use mathlib.Core.Option.{some, none}
 use lib.ListN.{get_elem?}
 use prog.Atomic.{either}
-use Rattle.atomic_table.specs.Table.{Allows, step, Act, takes, gives, keeps, rest, put_back, stepped as moved_by}
+use Rattle.atomic_table.specs.Table.{Allows, step, takes, gives, keeps, put_back}
 use Rattle.atomic_table.proofs.Lists.{at_map, at_set, set_else, set_here, exchanged}
 use Rattle.mdl_key.specs.Words.{KeyName}
-use Rattle.mdl_steps.specs.declared.slot.Slot.{Slot}
 use Rattle.mdl_steps.specs.declared.slot.Slot.TheVariants as slot
 use Rattle.mdl_steps.specs.declared.view.Keys.{Keys}
 use Rattle.mdl_steps.specs.declared.view.Known.{Known}
 use Rattle.mdl_steps.specs.declared.view.View.{View}
 use Rattle.mdl_steps.specs.Cells.{Desk, Waiter, part_at, holder_at, desk_of, waiter_of, waits, cell}
+use Rattle.mdl_steps.specs.Histories.{ReachedFor}
 use Rattle.mdl_steps.specs.Layout.{latch_word, lock_word, version_word, enrol_word}
 use Rattle.mdl_steps.specs.Lists.{Each}
 use Rattle.mdl_steps.specs.Plays.{Mine, consulted, informed, missed_latch, takes_directory, puts_directory}
 use Rattle.mdl_steps.specs.Rule.{Rule, PlaceOk, DirectoryOk, Numbered, KnowsKeys, WaitsAgree, key_at}
 use Rattle.mdl_steps.specs.Seats.{HasDirectory, learnt}
+use Rattle.mdl_steps.specs.Turns.{Makes}
+use Rattle.mdl_steps.proofs.Histories.{Shows, goes_on}
 use Rattle.mdl_steps.proofs.Lift.{Table, Homes, after}
 use Rattle.mdl_steps.proofs.Views.{by_bool, map_kept, at_inside, at_unmap}
 
@@ -204,11 +206,11 @@ module _ (slots id : ℕ) (me : Mine) (some_number : 0 < me.0.number) where
 
   -- ---- the steps
 
-  pub takes_directory_allowed : Allows Rule slots id me (latch_word 0) (λ n. either (n == 0) me.0.number n) (takes_directory (step slots (latch_word 0) 0 me.0.number none) me)
+  pub takes_directory_allowed : (room : ℕ) → Allows (ReachedFor room) slots id me (latch_word 0) (λ n. either (n == 0) me.0.number n) (takes_directory (step slots (latch_word 0) 0 me.0.number none) me)
   unfolding missed
-  takes_directory_allowed s r size seat fits =
+  takes_directory_allowed = goes_on slots id (latch_word 0) 0 me.0.number me (λ n. either (n == 0) me.0.number n) (takes_directory (step slots (latch_word 0) 0 me.0.number none) me) (λ s r size seat fits.
       let found : ℕ = get_or s.words 0 0 in
-      exchanged found 0 me.0.number (λ n. (w : View) × (a : Act Slot) × Rattle.atomic_table.specs.Table.Valid s.homes me.1 a × Rule (moved_by s (latch_word 0) n id me.1 w a) × takes_directory (step slots (latch_word 0) 0 me.0.number none) me found (w, Rattle.atomic_table.specs.Table.carried_after me.1 a))
+      exchanged found 0 me.0.number (λ n. Shows s id me (step slots (latch_word 0) 0 me.0.number none) n (takes_directory (step slots (latch_word 0) 0 me.0.number none) me found))
       (λ free. (
         (consulted (all_keys s r size seat) me).0,
         takes 0 (slot.Directory (all_keys s r size seat)),
@@ -219,6 +221,8 @@ module _ (slots id : ℕ) (me : Mine) (some_number : 0 < me.0.number) where
           λ here.
               ((λ _. (all_keys s r size seat, record { distinct = r.distinct; fit = rw (sym size) r.fit; known = (r.views id me.0 seat).1 }, refl)), λ taken. absurd (taken free)),
         ),
+        (λ told. Makes.TakesDirectory refl told),
+        (some_number, (λ _. (refl, (slot.Directory (all_keys s r size seat), refl))), λ taken. absurd (taken free)),
       ))
       (λ taken. (
         missed s r size seat,
@@ -226,14 +230,18 @@ module _ (slots id : ℕ) (me : Mine) (some_number : 0 < me.0.number) where
         tt,
         missed_rule s r size seat,
         (refl, λ here. ((λ free. absurd (taken free)), λ _. refl)),
-      ))
+        (λ told. Makes.TakesDirectory refl told),
+        (some_number, (λ free. absurd (taken free)), λ _. (refl, refl)),
+      )))
 
   pub puts_directory_allowed : (k : Keys) (more : List Known) → HasDirectory k me → Each (λ (x : Known). (0 < x.place) × (key_at k.keys x.place ≡ Some x.key)) more
-      → Allows Rule slots id me (latch_word 0) (λ _. 0) (λ _. puts_directory more (step slots (latch_word 0) 0 0 none) me 0)
-  puts_directory_allowed k more has knows s r size seat fits = (
+      → (room : ℕ) → Allows (ReachedFor room) slots id me (latch_word 0) (λ _. 0) (λ _. puts_directory more (step slots (latch_word 0) 0 0 none) me 0)
+  puts_directory_allowed k more has knows = goes_on slots id (latch_word 0) 0 0 me (λ _. 0) (λ _. puts_directory more (step slots (latch_word 0) 0 0 none) me 0) (λ s r size seat fits. (
     (informed more me).0,
     gives,
     tt,
     subst (λ (homes : Homes). Rule (after s (latch_word 0) 0 id (informed more me).0 homes)) (sym (ap (put_back s.homes) has.carried)) (put_rule s r size seat k more has knows),
     (refl, λ here. refl),
-  )
+    (λ told. Makes.PutsDirectory more refl told),
+    ((k, has), (refl, refl)),
+  ))

@@ -14,10 +14,14 @@ use Rattle.mdl_steps.specs.declared.view.Met.{Met}
 use Rattle.mdl_steps.specs.declared.view.Spare.{Spare}
 use Rattle.mdl_steps.specs.declared.view.View.{View}
 use Rattle.mdl_steps.specs.Cells.{Part, Holder, Cell, Desk, Waiter, blank, numbers_for, no_numbers, cell, part_at, holder_at, desk_of, waiter_of, waits, pending, all_fast}
+use Rattle.mdl_steps.specs.Histories.{Reached, ReachedFor}
 use Rattle.mdl_steps.specs.Layout.{enrol_word, latch_word, lock_word, version_word}
 use Rattle.mdl_steps.specs.Plays.{Mine, enrols, logged}
 use Rattle.mdl_steps.specs.Rule.{Rule, PlaceOk, PartOk, Owned, WaitOk, WaitsAgree, Numbered, KnowsKeys, key_at}
+use Rattle.mdl_steps.specs.Turns.{Makes, Turn}
+use Rattle.mdl_steps.proofs.Histories.{goes_on, reached-rule}
 use Rattle.mdl_steps.proofs.Lift.{Table}
+use Rattle.mdl_steps.proofs.Opens.{blank_wait}
 use Rattle.mdl_steps.proofs.Views.{map_kept, at_unmap, at_inside}
 
 -- ---- lists
@@ -58,7 +62,19 @@ joined key c n ok fresh =
       free = ok.free;
       taken = λ taken. (let t = ok.taken taken in (t.0, t.1, t.2, at_longer c.holders (idle n ∷ []) t.0 t.1 t.3, t.4));
       held = λ j l there h is. elim (at_snoc c.holders (idle n) l j there) [
-        | inl old ↦ (let k = ok.held j l old h is in record { mine = k.mine; some_session = k.some_session; book_is = k.book_is; slow_is = k.slow_is; obtrusive_is = k.obtrusive_is; noted_counts = rw fast k.noted_counts })
+        | inl old ↦
+            let k = ok.held j l old h is in
+            record {
+              mine = k.mine;
+              some_session = k.some_session;
+              book_is = k.book_is;
+              slow_is = k.slow_is;
+              obtrusive_is = k.obtrusive_is;
+              noted_counts = rw fast k.noted_counts;
+              exact_counts = λ up.
+                  let w = k.exact_counts up in
+                  (w.0, w.1, λ word noted paid. rw fast (w.2 word noted (λ i x here else. paid i x (at_longer c.parts (nothing n ∷ []) i x here) else)));
+            }
         | inr new ↦ (let none : l.held ≡ None = ap (λ (x : Holder). x.held) (sym new) in absurd (cc))
       ];
       counted = rw fast ok.counted;
@@ -99,16 +115,6 @@ joined key c n ok fresh =
 
 numbered_blank : (number : ℕ) (spare : Spare) (log : List Met) → Numbered (record (blank number spare) { log = log })
 numbered_blank number spare log = record { fast = tt; slow = tt; unmixed = tt; asks = λ a e. absurd (cc); apart = λ a e. absurd (cc); unfast = λ a e. refl }
-
--- its wait word is idle
-pub blank_wait : (slots word number : ℕ) → word ≡ 0 → WaitOk slots word (record { number = number; waits = 0; asks = None; told = None })
-blank_wait slots word number idle = rw idle (record {
-  number = refl;
-  state = omega arith;
-  idle = λ _. refl;
-  asks = λ a none. absurd (cc);
-  told = λ state none. absurd (cc);
-})
 
 -- ---- a seat is split off, with the number that was drawn for it
 
@@ -170,8 +176,8 @@ module _ (most given : ℕ) (log : List Met) where
         } in
         subst (PlaceOk (key_at r.keys p)) (sym cell_is) (joined (key_at r.keys p) (cell s p) (given + 1) (r.places p first last) (unused p))
 
-  pub splits : Splits Rule 0 with_number left right
-  splits s r seat =
+  split_rule : Splits Rule 0 with_number left right
+  split_rule s r seat =
       let e = r.enrolled in
       let numbers : List ℕ = map (λ (v : View). v.number) s.views in
       let numbers_are = mapped (λ (v : View). v.number) s.views seat refl in
@@ -232,6 +238,13 @@ module _ (most given : ℕ) (log : List Met) where
         ];
         places = split_place s r seat;
       }
+
+  pub splits : (room : ℕ) → Splits (ReachedFor room) 0 with_number left right
+  splits room s before seat = (
+    Reached.Goes s (record { words = s.words; homes = s.homes; views = split_views s.views }) before.0 (split_rule s (reached-rule s before.0) seat)
+        (Turn.Splits with_number left right seat refl refl refl refl) (refl, refl),
+    before.1,
+  )
 
 -- ---- and before that, the number is drawn
 
@@ -319,8 +332,8 @@ module _ (slots most given : ℕ) (some_left : given < most) where
     one_more : (get_or s.words (enrol_word slots) 0 + 1) % 2 ^ 64 ≡ given + 1 + 1
     one_more = let found = found_is in let all = all_is in let limit = r.enrolled.limit in omega arith
 
-  pub draws : Allows Rule slots 0 (before, []) (enrol_word slots) (λ n. (n + 1) % 2 ^ 64) (enrols (step slots (enrol_word slots) 1 0 none) (before, []))
-  draws s r size seat fits = (
+  pub draws : (room : ℕ) → Allows (ReachedFor room) slots 0 (before, []) (enrol_word slots) (λ n. (n + 1) % 2 ^ 64) (enrols (step slots (enrol_word slots) 1 0 none) (before, []))
+  draws = goes_on slots 0 (enrol_word slots) 1 0 (before, []) (λ n. (n + 1) % 2 ^ 64) (enrols (step slots (enrol_word slots) 1 0 none) (before, [])) (λ s r size seat fits. (
     drawn_view,
     keeps,
     tt,
@@ -329,4 +342,6 @@ module _ (slots most given : ℕ) (some_left : given < most) where
       found_is s r size seat,
       ap (λ (n : ℕ). let m : Mine = (logged step_kind.Enrol [] (enrol_word slots) n [] (blank 0 (numbers_for most n given)), []) in m) (sym (found_is s r size seat)),
     ),
-  )
+    (λ told. Makes.DrawsNumber told),
+    (refl, refl),
+  ))

@@ -1,22 +1,22 @@
 -- Reading a word, a fast grant and a fast release keep the rule. None of them needs a latch.
-use Rattle.std.proofs.Common.{◌≡◌, ℕ, ◌+◌, ◌-◌, ◌%◌, ◌^◌, ◌<◌, ◌≤◌, ◌==◌, ◌||◌, Bool, true, false, not, cond, List, [], ◌∷◌, ◌++◌, map, set, length, get_or, Some, refl, sym, ap, ◌∙◌, subst, inl, inr, arith, rules}
+use Rattle.std.proofs.Common.{◌≡◌, ◌≢◌, ℕ, ◌+◌, ◌-◌, ◌%◌, ◌^◌, ◌<◌, ◌≤◌, ◌==◌, ◌||◌, Bool, true, false, not, cond, List, [], ◌∷◌, ◌++◌, map, set, length, get_or, Some, None, refl, sym, ap, ◌∙◌, subst, inl, inr, arith, rules}
 use Rattle.std.specs.Prelude.{Option, count_by}
-use Rattle.std.specs.List.{list_all, filter}
+use Rattle.std.specs.List.{list_all, list_any, filter}
 use Rattle.std.proofs.lemmas.Bool.{and_parts, and_from}
 use Rattle.std.proofs.lemmas.List.{length-append, length-set, map-append}
 use Rattle.std.proofs.lemmas.List.Folds.{list_all-append}
 use Rattle.std.proofs.lemmas.List.Sums.{AllPass-from_list_all, list_all-from_AllPass, length-filter, count_by-le-length}
-use mathlib.Core.Option.{some, none}
+use mathlib.Core.Option.{some, none, some-injective}
 use lib.ListN.{get_elem?}
 use prog.Atomic.{either}
-use Rattle.atomic_table.specs.Table.{Allows, step, Act, keeps, stepped as moved_by}
-use Rattle.atomic_table.proofs.Lists.{at_map, at_set, exchanged}
+use Rattle.atomic_table.specs.Table.{Allows, step, keeps}
+use Rattle.atomic_table.proofs.Lists.{at_map, at_set, exchanged, set_here}
 use Rattle.mdl_key.specs.declared.namespace.Kind.{Kind}
 use Rattle.mdl_key.specs.declared.mode.Mode.{Mode}
 use Rattle.mdl_key.specs.Matrices.{waits_behind}
 use Rattle.mdl_key.specs.Words.{KeyName, kind_of, is_mode_of, is_obtrusive}
-use Rattle.mdl_word.specs.Words.{bit, Encodes, increment_of, obtrusive_flag, one_in}
-use Rattle.mdl_word.proofs.WordLemmas.{obtrusive_of}
+use Rattle.mdl_word.specs.Words.{bit, Encodes, increment_of, obtrusive_flag, one_in, slow_flag}
+use Rattle.mdl_word.proofs.WordLemmas.{obtrusive_of, slow_of}
 use Rattle.mdl_book.specs.declared.book_view.BookView.{BookView}
 use Rattle.mdl_book.specs.declared.ticket.Ticket.{Ticket}
 use Rattle.mdl_book.specs.Books.{lock_kind, has_obtrusive}
@@ -25,34 +25,38 @@ use Rattle.mdl_book.specs.Granting.{goes_first, is_compatible, is_grantable, ove
 use Rattle.mdl_book.proofs.CountLemmas.{not_all-any}
 use Rattle.mdl_book.proofs.GrantingLemmas.{lawful_push, lawful_part}
 use Rattle.mdl_steps.specs.declared.deed.Deed.TheVariants.{Lose}
-use Rattle.mdl_steps.specs.declared.slot.Slot.{Slot}
 use Rattle.mdl_steps.specs.declared.step_kind.StepKind.{StepKind}
 use Rattle.mdl_steps.specs.declared.step_kind.StepKind.TheVariants as step_kind
+use Rattle.mdl_steps.specs.declared.view.LatchRecord.{LatchRecord}
 use Rattle.mdl_steps.specs.declared.view.Known.{Known}
 use Rattle.mdl_steps.specs.declared.view.Own.{Own}
 use Rattle.mdl_steps.specs.declared.view.View.{View}
-use Rattle.mdl_steps.specs.Cells.{Part, Cell, all_fast, cell, counted, own_at, part_at, ticket_by, waits}
+use Rattle.mdl_steps.specs.Cells.{Part, Cell, Holder, all_fast, cell, counted, holder_at, own_at, part_at, ticket_by, waits}
 use Rattle.mdl_steps.specs.Deeds.{is_own}
-use Rattle.mdl_steps.specs.FastPlays.{met_word_by, met_word, missed_fast, fast_own, granted_fast, released_fast, but_own, MayGrantFast, MayReleaseFast, reads_word_unlatched, grants_fast, releases_fast}
+use Rattle.mdl_steps.specs.FastPlays.{met_word_by, met_word, missed_fast, fast_own, granted_fast, owing, released_fast, but_own, MayGrantFast, MayReleaseFast, reads_word_unlatched, grants_fast, releases_fast}
+use Rattle.mdl_steps.specs.Histories.{ReachedFor}
 use Rattle.mdl_steps.specs.Layout.{lock_word}
 use Rattle.mdl_steps.specs.Lists.{Each}
 use Rattle.mdl_steps.specs.Plays.{Mine}
-use Rattle.mdl_steps.specs.Rule.{Rule, PlaceOk, BookOk, PartOk, Counted, Lawful, NoteAgrees, NotedCounts, Numbered, key_at}
+use Rattle.mdl_steps.specs.Rule.{Rule, PlaceOk, BookOk, ExactCounts, PartOk, Counted, Lawful, NoteAgrees, NotedCounts, Numbered, key_at}
+use Rattle.mdl_steps.specs.Turns.{Makes}
+use Rattle.mdl_steps.proofs.Histories.{Shows, goes_on}
 use Rattle.mdl_steps.proofs.Deeds.{unobtrusive_beside}
 use Rattle.mdl_steps.proofs.Desks.{each-append}
 use Rattle.mdl_steps.proofs.Unmixed.{unlike_below}
 use Rattle.mdl_steps.proofs.FastLists.{all_fast-all, counted_set, count-append, counts_small, counted_mode, increment_is, increment_small, one_counted, length_mapped}
-use Rattle.mdl_steps.proofs.Lift.{Table, after, on_word, holders_again, parts_again}
+use Rattle.mdl_steps.proofs.Lift.{Table, after, alone, on_word, holders_again, parts_again}
 use Rattle.mdl_steps.proofs.Owns.{each-first, own_else-push, owned_else}
-use Rattle.mdl_steps.proofs.Views.{by_bool, each_at}
+use Rattle.mdl_steps.proofs.Paid.{owes_else, owes_here}
+use Rattle.mdl_steps.proofs.Views.{at_inside, by_bool, each_at}
 use Rattle.mdl_steps.proofs.Waiting.{owned_set, waiting_kept}
 use Rattle.mdl_steps.proofs.WaitEnds.{own_at-push}
 
--- ---- the place, where the fast tickets of one session change, and the word with them
+-- ---- the place, where the fast tickets of one session change, and what it owes, and the word with them
 
-module _ (key : Option KeyName) (c : Cell) (ok : PlaceOk key c) (id : ℕ) (x : Part) (at : get_elem? c.parts id ≡ some x) (fast : List Own) where
+module _ (key : Option KeyName) (c : Cell) (ok : PlaceOk key c) (id : ℕ) (x : Part) (at : get_elem? c.parts id ≡ some x) (fast : List Own) (owes : Bool) where
   abbrev pub changed_part : Part
-  changed_part = record x { fast = fast }
+  changed_part = record x { fast = fast; owes = owes }
 
   abbrev pub parts_then : List Part
   parts_then = set c.parts id changed_part
@@ -80,14 +84,26 @@ module _ (key : Option KeyName) (c : Cell) (ok : PlaceOk key c) (id : ℕ) (x : 
   pub fast_cell : (k : KeyName) × (key ≡ Some k) → Lawful (lock_kind ok.book) (all_fast parts_then) ok.book.granted → length fast ≤ 1023 → Each (NoteAgrees ok.book) fast
       → (word : ℕ) → Counted (lock_kind ok.book) word (all_fast parts_then) ok.slow ok.obtrusive
       → ((noted : Option ℕ) → NotedCounts (lock_kind ok.book) (all_fast c.parts) ok.obtrusive noted → NotedCounts (lock_kind ok.book) (all_fast parts_then) ok.obtrusive noted)
+      → ((j : ℕ) (l : Holder) → get_elem? c.holders j ≡ some l → (h : LatchRecord) → l.held ≡ Some h → ExactCounts (lock_kind ok.book) c.parts ok.slow ok.obtrusive l.number h.noted h.exact
+      → ExactCounts (lock_kind ok.book) parts_then ok.slow ok.obtrusive l.number h.noted h.exact)
       → PlaceOk key (record c { word = word; parts = parts_then })
-  fast_cell some_key lawful few notes word counts covers = record {
+  fast_cell some_key lawful few notes word counts covers exactly = record {
     book = ok.book;
     slow = ok.slow;
     obtrusive = ok.obtrusive;
     free = ok.free;
     taken = ok.taken;
-    held = λ j l there h is. (let k = ok.held j l there h is in record { mine = k.mine; some_session = k.some_session; book_is = k.book_is; slow_is = k.slow_is; obtrusive_is = k.obtrusive_is; noted_counts = covers h.noted k.noted_counts });
+    held = λ j l there h is.
+        let k = ok.held j l there h is in
+        record {
+          mine = k.mine;
+          some_session = k.some_session;
+          book_is = k.book_is;
+          slow_is = k.slow_is;
+          obtrusive_is = k.obtrusive_is;
+          noted_counts = covers h.noted k.noted_counts;
+          exact_counts = exactly j l there h is k.exact_counts;
+        };
     counted = counts;
     flagged = ok.flagged;
     book_ok = book_then some_key lawful few notes;
@@ -227,6 +243,10 @@ module _ (key : Option KeyName) (c : Cell) (ok : PlaceOk key c) (id : ℕ) (x : 
   pub gained_covers : (noted : Option ℕ) → NotedCounts kind all ok.obtrusive noted → NotedCounts kind (all_fast then_parts) ok.obtrusive noted
   gained_covers noted counts = λ word is. (let up = (counts word is).0 in absurd (cc))
 
+  -- no word is exact while the flag OBTRUSIVE is down
+  pub gained_exact : (number : ℕ) (noted : Option ℕ) (exact : Bool) → ExactCounts kind c.parts ok.slow ok.obtrusive number noted exact → ExactCounts kind then_parts ok.slow ok.obtrusive number noted exact
+  gained_exact number noted exact was = λ is. (let up = (was is).1 in absurd (cc))
+
 -- ---- a fast ticket is given up
 
 -- what a test counts is what it counts of those that another passes and of the others
@@ -304,14 +324,14 @@ covers_fewer kind word more fewer passed counts covers = record {
   covered = λ class below. (let less = counts class in let most = covers.covered class below in omega arith);
 }
 
-module _ (key : Option KeyName) (c : Cell) (ok : PlaceOk key c) (id : ℕ) (x : Part) (at : get_elem? c.parts id ≡ some x) (fast : List Own)
+module _ (key : Option KeyName) (c : Cell) (ok : PlaceOk key c) (id : ℕ) (x : Part) (at : get_elem? c.parts id ≡ some x) (fast : List Own) (owes : Bool)
     (fewer : (test : Ticket → Bool) → list_all test (map (ticket_by x.number) x.fast) ≡ true → list_all test (map (ticket_by x.number) fast) ≡ true)
     (less : (test : Ticket → Bool) → count_by test (map (ticket_by x.number) fast) ≤ count_by test (map (ticket_by x.number) x.fast)) where
   abbrev all_then : List Ticket
-  all_then = all_fast (set c.parts id (record x { fast = fast }))
+  all_then = all_fast (set c.parts id (record x { fast = fast; owes = owes }))
 
   fast_passed : (test : Ticket → Bool) → list_all test (all_fast c.parts) ≡ true → list_all test all_then ≡ true
-  fast_passed test old = all_fast-all test c.parts id x (record x { fast = fast }) at (fewer test) old
+  fast_passed test old = all_fast-all test c.parts id x (record x { fast = fast; owes = owes }) at (fewer test) old
 
   both_passed : (test : Ticket → Bool) → list_all test (all_fast c.parts ++ ok.book.granted) ≡ true → list_all test (all_then ++ ok.book.granted) ≡ true
   both_passed test all =
@@ -327,7 +347,7 @@ module _ (key : Option KeyName) (c : Cell) (ok : PlaceOk key c) (id : ℕ) (x : 
 
   pub fewer_counted : (class : ℕ) → counted (lock_kind ok.book) class all_then ≤ counted (lock_kind ok.book) class (all_fast c.parts)
   fewer_counted class =
-      let swap = counted_set (is_of_class (lock_kind ok.book) class) c.parts id x (record x { fast = fast }) at in
+      let swap = counted_set (is_of_class (lock_kind ok.book) class) c.parts id x (record x { fast = fast; owes = owes }) at in
       let count = less (is_of_class (lock_kind ok.book) class) in
       omega arith
 
@@ -457,23 +477,32 @@ module _ (slots id place : ℕ) (me : Mine) (first : 0 < place) (last : place < 
             holder_else = λ q else. refl;
           }) refl (r.views id me.0 seat).1 (found + one)
           (rw (holders_again s place id me.0 w seat refl, own_at-push place own me.0.fast refl)
-          (fast_cell key c ok id mine there (own_at place me.0.fast ++ own ∷ []) (may.counted_so.1.key, key_is)
+          (fast_cell key c ok id mine there (own_at place me.0.fast ++ own ∷ []) mine.owes (may.counted_so.1.key, key_is)
           (gained_lawful key c ok id mine there own one one_is is_down few sessions)
           (gained_few key c ok id mine there own one one_is is_down few sessions)
           (each-append _ (own_at place me.0.fast) (own ∷ []) old.versions_agree.fast (agrees, tt))
           (found + one)
           (gained_counted key c ok id mine there own one one_is is_down few sessions)
-          (gained_covers key c ok id mine there own one one_is is_down few sessions)))
+          (gained_covers key c ok id mine there own one one_is is_down few sessions)
+          (λ j l at h is. gained_exact key c ok id mine there own one one_is is_down few sessions l.number h.noted h.exact)))
 
-  pub reads_unlatched_allowed : Allows Rule slots id me (lock_word place) (λ n. n) (reads_word_unlatched (step slots (lock_word place) 0 0 none) me)
-  reads_unlatched_allowed s r size seat fits =
-      ((met_word place (found s r size seat) me).0, keeps, tt, met_rule s r size seat step_kind.ReadWord, (refl, λ q here. (let same : place ≡ q = omega arith in λ i. met_word (same i) (found s r size seat) me)))
+  pub reads_unlatched_allowed : (room : ℕ) → Allows (ReachedFor room) slots id me (lock_word place) (λ n. n) (reads_word_unlatched (step slots (lock_word place) 0 0 none) me)
+  reads_unlatched_allowed = goes_on slots id (lock_word place) 0 0 me (λ n. n) (reads_word_unlatched (step slots (lock_word place) 0 0 none) me) (λ s r size seat fits. (
+    (met_word place (found s r size seat) me).0,
+    keeps,
+    tt,
+    met_rule s r size seat step_kind.ReadWord,
+    (refl, λ q here. (let same : place ≡ q = omega arith in λ i. met_word (same i) (found s r size seat) me)),
+    (λ told. Makes.ReadsWordUnlatched place refl told),
+    ((first, within s r size seat), (refl, refl)),
+  ))
 
-  pub grants_fast_allowed : (mode : Mode) (noted : Option ℕ) (one : ℕ) → MayGrantFast place mode noted one me → (word new : ℕ) → obtrusive_flag word ≡ false → (word < 2 ^ 62 → one < 2 ^ 62 → new ≡ word + one)
-      → Allows Rule slots id me (lock_word place) (λ n. either (n == word) new n) (grants_fast mode noted (step slots (lock_word place) word new none) me)
-  grants_fast_allowed mode noted one may word new down sum s r size seat fits =
+  pub grants_fast_allowed : 0 < me.0.number → (mode : Mode) (noted : Option ℕ) (one : ℕ) → MayGrantFast place mode noted one me
+      → (word new : ℕ) → obtrusive_flag word ≡ false → (word < 2 ^ 62 → one < 2 ^ 62 → new ≡ word + one)
+      → (room : ℕ) → Allows (ReachedFor room) slots id me (lock_word place) (λ n. either (n == word) new n) (grants_fast mode noted (step slots (lock_word place) word new none) me)
+  grants_fast_allowed some_number mode noted one may word new down sum = goes_on slots id (lock_word place) word new me (λ n. either (n == word) new n) (grants_fast mode noted (step slots (lock_word place) word new none) me) (λ s r size seat fits.
       let n : ℕ = get_or s.words (lock_word place) 0 in
-      exchanged n word new (λ x. (w : View) × (a : Act Slot) × Rattle.atomic_table.specs.Table.Valid s.homes me.1 a × Rule (moved_by s (lock_word place) x id me.1 w a) × grants_fast mode noted (step slots (lock_word place) word new none) me n (w, Rattle.atomic_table.specs.Table.carried_after me.1 a))
+      exchanged n word new (λ x. Shows s id me (step slots (lock_word place) word new none) x (grants_fast mode noted (step slots (lock_word place) word new none) me n))
       (λ hit.
       let small = encoded_small _ _ _ _ _ _ (ok s r size seat).counted in
       let new_is : n + one ≡ new = (let is = sum (rw (sym hit) small) (increment_small _ _ one may.counted_so.4) in omega arith) in (
@@ -487,6 +516,8 @@ module _ (slots id place : ℕ) (me : Mine) (first : 0 < place) (last : place < 
               let same : place ≡ q = omega arith in
               ((λ _. λ i. granted_fast (same i) mode noted n me), λ miss. absurd (miss hit)),
         ),
+        (λ told. Makes.GrantsFast place mode noted refl told),
+        ((first, within s r size seat), some_number, down, (one, may, (refl, (λ _. omega arith), λ miss. absurd (miss hit)))),
       ))
       (λ miss. (
         (missed_fast place n me).0,
@@ -494,7 +525,9 @@ module _ (slots id place : ℕ) (me : Mine) (first : 0 < place) (last : place < 
         tt,
         met_rule s r size seat step_kind.MissFast,
         (refl, λ q here. (let same : place ≡ q = omega arith in ((λ hit. absurd (miss hit)), λ _. λ i. missed_fast (same i) n me))),
-      ))
+        (λ told. Makes.GrantsFast place mode noted refl told),
+        ((first, within s r size seat), some_number, down, (one, may, (refl, (λ hit. absurd (miss hit)), λ _. refl))),
+      )))
 
 -- ---- a ticket is given up
 
@@ -511,6 +544,12 @@ module _ (slots id place : ℕ) (me : Mine) (first : 0 < place) (last : place < 
 
     abbrev left : List Own
     left = but_own place number (own_at place me.0.fast)
+
+    abbrev owed : Bool
+    owed = list_any (λ p. p == place) (owing place n me.0.owes)
+
+    abbrev then_ : Part
+    then_ = record was { fast = left; owes = owed }
 
     inside_homes : place < length s.homes
     inside_homes = rw size last
@@ -555,16 +594,16 @@ module _ (slots id place : ℕ) (me : Mine) (first : 0 < place) (last : place < 
     fewer_count : (test : Ticket → Bool) → count_by test (map (ticket_by was.number) left) ≤ count_by test (map (ticket_by was.number) was.fast)
     fewer_count test = let both = parted test in omega arith
 
-    one_less : (class : ℕ) → counted (lock_kind place_ok.book) class (all_fast c.parts) ≡ counted (lock_kind place_ok.book) class (all_fast (set c.parts id (record was { fast = left }))) + one_in class (lock_kind place_ok.book) may.ticket.mode
+    one_less : (class : ℕ) → counted (lock_kind place_ok.book) class (all_fast c.parts) ≡ counted (lock_kind place_ok.book) class (all_fast (set c.parts id then_)) + one_in class (lock_kind place_ok.book) may.ticket.mode
     unfolding place_ok
     one_less class =
         let test : Ticket → Bool = is_of_class (lock_kind place_ok.book) class in
-        let swap = counted_set test c.parts id was (record was { fast = left }) part_there in
+        let swap = counted_set test c.parts id was then_ part_there in
         let both = parted test in
         let counts = one_counted (lock_kind place_ok.book) class (ticket_by me.0.number may.ticket) in
         omega arith
 
-    left_counted : (one ≤ n) × Counted (lock_kind place_ok.book) (n - one) (all_fast (set c.parts id (record was { fast = left }))) place_ok.slow place_ok.obtrusive
+    left_counted : (one ≤ n) × Counted (lock_kind place_ok.book) (n - one) (all_fast (set c.parts id then_)) place_ok.slow place_ok.obtrusive
     unfolding place_ok
     left_counted =
         let is = increment_is (lock_kind place_ok.book) may.ticket.mode one counts_one in
@@ -591,9 +630,28 @@ module _ (slots id place : ℕ) (me : Mine) (first : 0 < place) (last : place < 
         let small = encoded_small _ _ _ _ _ _ place_ok.counted in
         omega arith
 
-    pub released_rule : Rule (after s (lock_word place) ((n + (2 ^ 64 - one)) % 2 ^ 64) id (released_fast place number n me).0 s.homes)
+    -- a word that another session has noted stays exact as long as this one doesn't owe the place a reschedule
+    exact_still : 0 < me.0.number → (j : ℕ) (l : Holder) → get_elem? c.holders j ≡ some l → (h : LatchRecord) → l.held ≡ Some h
+        → ExactCounts (lock_kind place_ok.book) c.parts place_ok.slow place_ok.obtrusive l.number h.noted h.exact
+        → ExactCounts (lock_kind place_ok.book) (set c.parts id then_) place_ok.slow place_ok.obtrusive l.number h.noted h.exact
+    unfolding place_ok
+    exact_still some_number j l at h is before exact =
+        let k = before exact in
+        let differs : me.0.number ≢ l.number = λ same.
+        let here : j ≡ id = alone s r place id me.0 seat some_number j l at (sym same) in
+        let mine : l ≡ holder_at place me.0 = some-injective l (holder_at place me.0) (sym at ∙ ap (λ (i : ℕ). get_elem? c.holders i) here ∙ at_map (holder_at place) s.views id me.0 seat) in
+        let none : l.held ≡ None = ap (λ (x : Holder). x.held) mine ∙ may.apart in
+        absurd (cc) in
+        let up : slow_flag n ≡ true = slow_of place_ok.counted ∙ k.0 in
+        let owes : owed ≡ true = owes_here (slow_flag n) place me.0.owes up in (
+          k.0,
+          k.1,
+          λ word noted paid. (let owes_not : owed ≡ false = paid id then_ (set_here c.parts id then_ (at_inside c.parts id was part_there)) differs in absurd (cc)),
+        )
+
+    pub released_rule : 0 < me.0.number → Rule (after s (lock_word place) ((n + (2 ^ 64 - one)) % 2 ^ 64) id (released_fast place number n me).0 s.homes)
     unfolding place_ok part_ok
-    released_rule =
+    released_rule some_number =
         let w : View = (released_fast place number n me).0 in
         let row = (r.views id me.0 seat).0 in
         let key : Option KeyName = key_at r.keys place in
@@ -615,17 +673,25 @@ module _ (slots id place : ℕ) (me : Mine) (first : 0 < place) (last : place < 
           };
           slots = refl;
           home_else = λ q else. refl;
-          part_else = λ q else. λ i. record (part_at (waits s) q me.0) { fast = owned_else place q (Lose number) me.0.fast else i };
+          part_else = λ q else. λ i. record (part_at (waits s) q me.0) { fast = owned_else place q (Lose number) me.0.fast else i; owes = owes_else (slow_flag n) place q me.0.owes else i };
           holder_else = λ q else. refl;
         }) refl (r.views id me.0 seat).1 (n - one)
         (rw (holders_again s place id me.0 w seat refl, but_here place number me.0.fast)
-        (fast_cell key c ok id was part_there left (may.counted_so.1.key, key_there)
-        (fewer_lawful key c ok id was part_there left fewer_pass fewer_count)
+        (fast_cell key c ok id was part_there left owed (may.counted_so.1.key, key_there)
+        (fewer_lawful key c ok id was part_there left owed fewer_pass fewer_count)
         (let less = length_fewer (λ t. not (is_own place number t)) (own_at place me.0.fast) in let few = part_ok.few in omega arith)
         (each_fewer (NoteAgrees ok.book) (λ t. not (is_own place number t)) (own_at place me.0.fast) part_ok.versions_agree.fast)
         (n - one) left_counted.1
-        (fewer_covers key c ok id was part_there left fewer_pass fewer_count))))
+        (fewer_covers key c ok id was part_there left owed fewer_pass fewer_count)
+        (exact_still some_number))))
 
-  pub releases_fast_allowed : Allows Rule slots id me (lock_word place) (λ x. (x + (2 ^ 64 - one)) % 2 ^ 64) (releases_fast number (step slots (lock_word place) one 0 none) me)
-  releases_fast_allowed s r size seat fits =
-      ((released_fast place number (n s r size seat) me).0, keeps, tt, released_rule s r size seat, (refl, λ q here. (let same : place ≡ q = omega arith in λ i. released_fast (same i) number (n s r size seat) me)))
+  pub releases_fast_allowed : 0 < me.0.number → (room : ℕ) → Allows (ReachedFor room) slots id me (lock_word place) (λ x. (x + (2 ^ 64 - one)) % 2 ^ 64) (releases_fast number (step slots (lock_word place) one 0 none) me)
+  releases_fast_allowed some_number = goes_on slots id (lock_word place) one 0 me (λ x. (x + (2 ^ 64 - one)) % 2 ^ 64) (releases_fast number (step slots (lock_word place) one 0 none) me) (λ s r size seat fits. (
+    (released_fast place number (n s r size seat) me).0,
+    keeps,
+    tt,
+    released_rule s r size seat some_number,
+    (refl, λ q here. (let same : place ≡ q = omega arith in λ i. released_fast (same i) number (n s r size seat) me)),
+    (λ told. Makes.ReleasesFast place number refl told),
+    ((first, inside_homes s r size seat), some_number, (one, may, (refl, refl))),
+  ))

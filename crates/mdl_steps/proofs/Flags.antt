@@ -13,15 +13,18 @@ use Rattle.mdl_word.specs.Words.{bit, flags_alone, counts_of}
 use Rattle.mdl_word.proofs.WordLemmas.{raises}
 use Rattle.mdl_book.specs.declared.ticket.Ticket.{Ticket}
 use Rattle.mdl_book.specs.Books.{lock_kind}
-use Rattle.mdl_book.specs.FastTickets.{CoversFastTickets, is_of_class}
+use Rattle.mdl_book.specs.FastTickets.{CountsFastTickets, CoversFastTickets, is_of_class}
 use Rattle.mdl_steps.specs.declared.step_kind.StepKind.{StepKind}
 use Rattle.mdl_steps.specs.declared.step_kind.StepKind.TheVariants as step_kind
 use Rattle.mdl_steps.specs.declared.view.LatchRecord.{LatchRecord}
 use Rattle.mdl_steps.specs.declared.view.View.{View}
 use Rattle.mdl_steps.specs.Cells.{Part, holder_at, held_at, cell, all_fast}
+use Rattle.mdl_steps.specs.Histories.{ReachedFor}
 use Rattle.mdl_steps.specs.Layout.{lock_word}
 use Rattle.mdl_steps.specs.Plays.{Mine, stepped, raised, noting, raises_flags, reads_word}
-use Rattle.mdl_steps.specs.Rule.{Rule, Counted, key_at}
+use Rattle.mdl_steps.specs.Rule.{Rule, Counted, ExactCounts, key_at}
+use Rattle.mdl_steps.specs.Turns.{HasPlace, IsWhole, Makes}
+use Rattle.mdl_steps.proofs.Histories.{goes_on}
 use Rattle.mdl_steps.proofs.Views.{by_bool, held_at-changed, held_at-unchanged}
 use Rattle.mdl_steps.proofs.Lift.{Table, after, on_word, parts_again, alone, seat_there}
 use Rattle.mdl_steps.proofs.Holder.{Under, under, holder_cell}
@@ -53,12 +56,13 @@ flags_same false false false false e = (refl, refl)
 
 -- ---- what the holder owes after the step
 
-raised_under : (key : Option KeyName) (word version : ℕ) (parts : List Part) (h : LatchRecord) (slow obtrusive : Bool)
-    → Under key word version parts h → Under key (bit_or word (flags_alone slow obtrusive)) version parts (raised slow obtrusive h)
-raised_under key word version parts h slow obtrusive u = record {
+raised_under : (key : Option KeyName) (number word version : ℕ) (parts : List Part) (h : LatchRecord) (slow obtrusive : Bool)
+    → Under key number word version parts h → Under key number (bit_or word (flags_alone slow obtrusive)) version parts (raised slow obtrusive h)
+raised_under key number word version parts h slow obtrusive u = record {
   counted = raises u.counted slow obtrusive;
   flagged = ((λ some. or_true slow h.slow (u.flagged.0 some)), λ some. or_true obtrusive h.obtrusive (u.flagged.1 some));
   noted = λ w e. let was = u.noted w e in (or_true obtrusive h.obtrusive was.0, was.1);
+  exact = λ e. let was = u.exact e in (or_true slow h.slow was.0, or_true obtrusive h.obtrusive was.1, was.2);
   book_ok = u.book_ok;
 }
 
@@ -77,9 +81,38 @@ covers_all kind word fast slow obtrusive unobtrusive e = record { unobtrusive = 
     by_class (suc (suc zero)) below = omega (arith, bit_small slow, bit_small obtrusive)
     by_class (suc (suc (suc class))) below = absurd (omega arith)
 
-noted_under : (key : Option KeyName) (word version : ℕ) (parts : List Part) (h : LatchRecord)
-    → Under key word version parts h → Under key word version parts (noting word h)
-noted_under key word version parts h u = record {
+-- they count them exactly
+counts_all : (kind : Kind) (word : ℕ) (fast : List Ticket) (slow obtrusive : Bool) → list_all (λ t. not (is_obtrusive kind t.mode)) fast ≡ true
+    → Counted kind word fast slow obtrusive → CountsFastTickets kind word fast
+counts_all kind word fast slow obtrusive unobtrusive e = record { unobtrusive = AllPass-from_list_all (λ t. not (is_obtrusive kind t.mode)) fast unobtrusive; counted = by_class }
+  where
+    by_class : (class : ℕ) → class < 3 → count_by (is_of_class kind class) fast ≡ slice_index (counts_of word) class
+    by_class zero below = omega (arith, bit_small slow, bit_small obtrusive)
+    by_class (suc zero) below = omega (arith, bit_small slow, bit_small obtrusive)
+    by_class (suc (suc zero)) below = omega (arith, bit_small slow, bit_small obtrusive)
+    by_class (suc (suc (suc class))) below = absurd (omega arith)
+
+-- a word that is read while both flags are up is exact
+exact_under : (key : Option KeyName) (number word version : ℕ) (parts : List Part) (h : LatchRecord) → Under key number word version parts h
+    → ExactCounts (lock_kind h.book) parts h.slow h.obtrusive number (noting word h).noted (noting word h).exact
+exact_under key number word version parts h u e = by_bool h.obtrusive
+    (λ up.
+    let slow : h.slow ≡ true = rw up at e in (
+      slow,
+      up,
+      λ w noted paid.
+          let is = rw up at noted in
+          let same : word ≡ w = cc in
+          subst (λ x. CountsFastTickets (lock_kind h.book) x (all_fast parts)) same (counts_all (lock_kind h.book) word (all_fast parts) h.slow h.obtrusive u.book_ok.lawful.unobtrusive u.counted),
+    ))
+    (λ down.
+    let exact : h.exact ≡ true = rw down at e in
+    let up = (u.exact exact).1 in
+    absurd (cc))
+
+noted_under : (key : Option KeyName) (number word version : ℕ) (parts : List Part) (h : LatchRecord)
+    → Under key number word version parts h → Under key number word version parts (noting word h)
+noted_under key number word version parts h u = record {
   counted = u.counted;
   flagged = u.flagged;
   noted = λ w e. by_bool h.obtrusive
@@ -88,6 +121,7 @@ noted_under key word version parts h u = record {
       let same : word ≡ w = cc in
       (up, subst (λ x. CoversFastTickets (lock_kind h.book) x (all_fast parts)) same (covers_all (lock_kind h.book) word (all_fast parts) h.slow h.obtrusive u.book_ok.lawful.unobtrusive u.counted)))
       (λ down. let is = rw down at e in u.noted w is);
+  exact = exact_under key number word version parts h u;
   book_ok = u.book_ok;
 }
 
@@ -95,7 +129,7 @@ noted_under key word version parts h u = record {
 
 module _ (slots id place : ℕ) (me : Mine) (some_number : 0 < me.0.number) (first : 0 < place) (last : place < slots) (h : LatchRecord) (holds : held_at place me.0.latches ≡ Some h)
     (kind : StepKind) (f : ℕ → ℕ) (g : ℕ → LatchRecord → LatchRecord) (stays : (n : ℕ) (x : LatchRecord) → (g n x).place ≡ x.place)
-    (owes : (key : Option KeyName) (word version : ℕ) (parts : List Part) → Under key word version parts h → Under key (f word) version parts (g word h)) where
+    (owes : (key : Option KeyName) (word version : ℕ) (parts : List Part) → Under key me.0.number word version parts h → Under key me.0.number (f word) version parts (g word h)) where
   module _ (s : Table) (r : Rule s) (size : length s.homes ≡ slots) (seat : get_elem? s.views id ≡ some me.0) where
     found : ℕ
     found = get_or s.words (lock_word place) 0
@@ -132,17 +166,24 @@ module _ (slots id place : ℕ) (me : Mine) (some_number : 0 < me.0.number) (fir
         (owes (key_at r.keys place) (get_or s.words (lock_word place) 0) (cell s place).version (cell s place).parts (under (key_at r.keys place) (cell s place) ok id (holder_at place me.0) there h holds))))
 
   -- a step on the word whose holder's record goes along with it
-  pub steps_under : (then : ℕ → Mine → Type 0) → ((n : ℕ) → then n (stepped kind place n (g n) me)) → Allows Rule slots id me (lock_word place) f then
+  pub steps_under : (a : ℕ) (then : ℕ → Mine → Type 0) → ((n : ℕ) → then n (stepped kind place n (g n) me))
+      → (makes : (n : ℕ) (m : Mine) → then n m → Makes (step slots (lock_word place) a 0 none) me n m)
+      → ((s : Table) (n : ℕ) (m : Mine) (told : then n m) → HasPlace s place → IsWhole s (f n) keeps (makes n m told))
+      → (room : ℕ) → Allows (ReachedFor room) slots id me (lock_word place) f then
   unfolding found view
-  steps_under then tells s r size seat fits = (view s r size seat, keeps, tt, stepped_rule s r size seat, tells (get_or s.words (lock_word place) 0))
+  steps_under a then tells makes whole = goes_on slots id (lock_word place) a 0 me f then (λ s r size seat fits.
+      let n : ℕ = get_or s.words (lock_word place) 0 in
+      let m : Mine = (view s r size seat, me.1) in
+      (view s r size seat, keeps, tt, stepped_rule s r size seat, tells n, makes n m, whole s n m (tells n) (first, rw size last)))
 
 module _ (slots id place : ℕ) (me : Mine) (some_number : 0 < me.0.number) (first : 0 < place) (last : place < slots) (h : LatchRecord) (holds : held_at place me.0.latches ≡ Some h) where
   -- flags are raised
   pub raises_allowed : (slow obtrusive : Bool) (mask : ℕ) → mask ≡ flags_alone slow obtrusive
-      → Allows Rule slots id me (lock_word place) (λ n. bit_or n mask) (raises_flags (step slots (lock_word place) mask 0 none) me)
+      → (room : ℕ) → Allows (ReachedFor room) slots id me (lock_word place) (λ n. bit_or n mask) (raises_flags (step slots (lock_word place) mask 0 none) me)
   raises_allowed slow obtrusive mask is =
       steps_under slots id place me some_number first last h holds (step_kind.RaiseFlags slow obtrusive) (λ n. bit_or n mask) (λ _. raised slow obtrusive) (λ n x. refl)
-      (λ key word version parts u. rw is (raised_under key word version parts h slow obtrusive u))
+      (λ key word version parts u. rw is (raised_under key me.0.number word version parts h slow obtrusive u))
+      mask
       (raises_flags (step slots (lock_word place) mask 0 none) me)
       (λ n. (
         refl,
@@ -151,11 +192,16 @@ module _ (slots id place : ℕ) (me : Mine) (some_number : 0 < me.0.number) (fir
             let flags = flags_same slow obtrusive a b (sym is ∙ number) in
             λ i. stepped (step_kind.RaiseFlags (flags.0 i) (flags.1 i)) (same i) n (raised (flags.0 i) (flags.1 i)) me,
       ))
+      (λ n m told. Makes.RaisesFlags place slow obtrusive refl is told)
+      (λ s n m told there. (there, (h, holds), refl))
 
   -- the word is read
-  pub reads_allowed : Allows Rule slots id me (lock_word place) (λ n. n) (reads_word (step slots (lock_word place) 0 0 none) me)
+  pub reads_allowed : (room : ℕ) → Allows (ReachedFor room) slots id me (lock_word place) (λ n. n) (reads_word (step slots (lock_word place) 0 0 none) me)
   reads_allowed =
       steps_under slots id place me some_number first last h holds step_kind.ReadWord (λ n. n) noting (λ n x. refl)
-      (λ key word version parts u. noted_under key word version parts h u)
+      (λ key word version parts u. noted_under key me.0.number word version parts h u)
+      0
       (reads_word (step slots (lock_word place) 0 0 none) me)
       (λ n. (refl, λ q here. let same : place ≡ q = omega arith in λ i. stepped step_kind.ReadWord (same i) n (noting n) me))
+      (λ n m told. Makes.ReadsWord place refl told)
+      (λ s n m told there. (there, (h, holds), (refl, refl)))

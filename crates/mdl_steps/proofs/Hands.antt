@@ -26,9 +26,9 @@ holds_stepped kind place found f h book m stays has = record {
 
 -- after flags were lowered: the record has the book in hand from then on
 pub holds_settled : (place : ℕ) (ds : List Deed) (found : ℕ) (slow obtrusive : Bool) (h : LatchRecord) (book : BookView) (m : Mine)
-    → Holds place h book m → Holds place (lowered book slow obtrusive h) book (flags_lowered place ds found book slow obtrusive m)
+    → Holds place h book m → Holds place (lowered ds book slow obtrusive h) book (flags_lowered place ds found book slow obtrusive m)
 holds_settled place ds found slow obtrusive h book m has = record {
-  recorded = held_at-changed place (lowered book slow obtrusive) (λ x. refl) m.0.latches h has.recorded;
+  recorded = held_at-changed place (lowered ds book slow obtrusive) (λ x. refl) m.0.latches h has.recorded;
   carried = has.carried;
 }
 
@@ -61,7 +61,7 @@ elsewhere-stepped kind place found f m stays = unmapped place f stays m.0.latche
 
 pub elsewhere-settled : (place : ℕ) (ds : List Deed) (found : ℕ) (slow obtrusive : Bool) (book : BookView) (m : Mine)
     → elsewhere place (flags_lowered place ds found book slow obtrusive m) ≡ elsewhere place m
-elsewhere-settled place ds found slow obtrusive book m = unmapped place (lowered book slow obtrusive) (λ x. refl) m.0.latches
+elsewhere-settled place ds found slow obtrusive book m = unmapped place (lowered ds book slow obtrusive) (λ x. refl) m.0.latches
 
 pub elsewhere-redefined : (place : ℕ) (standing : Standing) (m : Mine) → elsewhere place (redefined place standing m) ≡ elsewhere place m
 elsewhere-redefined place standing m = unmapped place (restood standing) (λ x. refl) m.0.latches

@@ -8,7 +8,7 @@ use Rattle.std.proofs.lemmas.List.Folds.{list_all-append}
 use mathlib.Core.Option.{some, none}
 use lib.ListN.{get_elem?}
 use prog.Atomic.{either}
-use Rattle.atomic_table.specs.Table.{State, Allows, step, Act, takes, keeps, stepped as moved_by}
+use Rattle.atomic_table.specs.Table.{Allows, step, takes, keeps}
 use Rattle.atomic_table.proofs.Lists.{at_map, set_else, exchanged}
 use Rattle.mdl_key.specs.declared.mode.Mode.{Mode}
 use Rattle.mdl_key.specs.declared.namespace.Kind.{Kind}
@@ -18,7 +18,6 @@ use Rattle.mdl_book.specs.Books.{lock_kind}
 use Rattle.mdl_book.specs.Granting.{is_compatible, is_lawful, stands_beside}
 use Rattle.mdl_book.specs.Tickets.{ticket_of, is_ticket}
 use Rattle.mdl_book.proofs.GrantingLemmas.{lawful_part}
-use Rattle.mdl_steps.specs.declared.slot.Slot.{Slot}
 use Rattle.mdl_steps.specs.declared.slot.Slot.TheVariants as slot
 use Rattle.mdl_steps.specs.declared.view.Ask.{Ask}
 use Rattle.mdl_steps.specs.declared.view.LatchRecord.{LatchRecord}
@@ -26,11 +25,14 @@ use Rattle.mdl_steps.specs.declared.view.Known.{Known}
 use Rattle.mdl_steps.specs.declared.view.Own.{Own}
 use Rattle.mdl_steps.specs.declared.view.View.{View}
 use Rattle.mdl_steps.specs.Cells.{Part, part_at, holder_at, desk_of, waiter_of, cell, waits, ticket_by, own_at, asking_at, due, pending, all_fast}
+use Rattle.mdl_steps.specs.Histories.{ReachedFor}
 use Rattle.mdl_steps.specs.Layout.{latch_word}
 use Rattle.mdl_steps.specs.Plays.{Mine, IsFresh, latched, missed_latch, takes_latch}
 use Rattle.mdl_steps.specs.Lists.{Each}
 use Rattle.mdl_steps.specs.Rule.{Rule, PlaceOk, Numbered, key_at}
+use Rattle.mdl_steps.specs.Turns.{Makes}
 use Rattle.mdl_steps.proofs.FastLists.{all_fast-own}
+use Rattle.mdl_steps.proofs.Histories.{Shows, goes_on}
 use Rattle.mdl_steps.proofs.Views.{by_bool, held_at-first, held_at-past, each_at, other}
 use Rattle.mdl_steps.proofs.Lift.{Table, Moved, after, on_latch, only_logged, parts_again, seat_there}
 use Rattle.mdl_steps.proofs.Holder.{taken_cell}
@@ -119,7 +121,7 @@ module _ (slots id place : ℕ) (me : Mine) (some_number : 0 < me.0.number) (fir
     ok = r.places place first within
 
     fresh : LatchRecord
-    fresh = record { place = place; book = ok.book; slow = ok.slow; obtrusive = ok.obtrusive; noted = None }
+    fresh = record { place = place; book = ok.book; slow = ok.slow; obtrusive = ok.obtrusive; noted = None; exact = false; freed = false }
 
     is_fresh : get_or s.words (latch_word place) 0 ≡ 0 → IsFresh place fresh me
     unfolding fresh ok
@@ -127,6 +129,8 @@ module _ (slots id place : ℕ) (me : Mine) (some_number : 0 < me.0.number) (fir
       here = refl;
       exact = (ok.free free).1;
       unnoted = refl;
+      inexact = refl;
+      unfreed = refl;
       lawful = lawful_granted (lock_kind ok.book) (all_fast (cell s place).parts) ok.book.granted ok.book_ok.lawful.compatible;
       modes = modes_granted (lock_kind ok.book) (all_fast (cell s place).parts) ok.book.granted ok.book_ok.lawful.modes;
       own = λ number unwaited.
@@ -200,7 +204,7 @@ module _ (slots id place : ℕ) (me : Mine) (some_number : 0 < me.0.number) (fir
         on_latch s r place id me.0 w (set s.homes place none) moved_taken refl (r.views id me.0 seat).1 me.0.number
         (rw (parts_again s place id me.0 w seat refl)
         (taken_cell (key_at r.keys place) (cell s place) ok id (holder_at place me.0) (at_map (holder_at place) s.views id me.0 seat) (seat_there s place id me.0 seat) (holder_at place w) free some_number refl
-        fresh refl refl refl refl (held_at-first place fresh me.0.latches refl) (get_elem? (set s.homes place none) place)))
+        fresh refl refl refl refl refl (held_at-first place fresh me.0.latches refl) (get_elem? (set s.homes place none) place)))
 
     missed : View
     missed = (missed_latch place (get_or s.words (latch_word place) 0) me).0
@@ -220,11 +224,11 @@ module _ (slots id place : ℕ) (me : Mine) (some_number : 0 < me.0.number) (fir
       holder_else = λ q else. refl;
     }) refl (r.views id me.0 seat).1 refl refl
 
-  pub takes_latch_allowed : Allows Rule slots id me (latch_word place) (λ n. either (n == 0) me.0.number n) (takes_latch (step slots (latch_word place) 0 me.0.number none) me)
+  pub takes_latch_allowed : (room : ℕ) → Allows (ReachedFor room) slots id me (latch_word place) (λ n. either (n == 0) me.0.number n) (takes_latch (step slots (latch_word place) 0 me.0.number none) me)
   unfolding fresh ok missed
-  takes_latch_allowed s r size seat fits =
+  takes_latch_allowed = goes_on slots id (latch_word place) 0 me.0.number me (λ n. either (n == 0) me.0.number n) (takes_latch (step slots (latch_word place) 0 me.0.number none) me) (λ s r size seat fits.
       let found : ℕ = get_or s.words (latch_word place) 0 in
-      exchanged found 0 me.0.number (λ n. (w : View) × (a : Act Slot) × Rattle.atomic_table.specs.Table.Valid s.homes me.1 a × Rule (moved_by s (latch_word place) n id me.1 w a) × takes_latch (step slots (latch_word place) 0 me.0.number none) me found (w, Rattle.atomic_table.specs.Table.carried_after me.1 a))
+      exchanged found 0 me.0.number (λ n. Shows s id me (step slots (latch_word place) 0 me.0.number none) n (takes_latch (step slots (latch_word place) 0 me.0.number none) me found))
       (λ free. (
         (latched place (fresh s r size seat) me).0,
         takes place (slot.Place (ok s r size seat).book),
@@ -237,6 +241,8 @@ module _ (slots id place : ℕ) (me : Mine) (some_number : 0 < me.0.number) (fir
               subst (λ (x : ℕ). (found ≡ 0 → (h : LatchRecord) × IsFresh x h me × (◌≡◌ {A = Mine} (latched place (fresh s r size seat) me) (latched x h me))) × (found ≢ 0 → ◌≡◌ {A = Mine} (latched place (fresh s r size seat) me) (missed_latch x found me))) same
               ((λ _. (fresh s r size seat, is_fresh s r size seat free, refl)), λ taken. absurd (taken free)),
         ),
+        (λ told. Makes.TakesLatch place refl told),
+        ((first, within s r size seat), (some_number, (λ _. (refl, (slot.Place (ok s r size seat).book, refl))), λ taken. absurd (taken free))),
       ))
       (λ taken. (
         missed s r size seat,
@@ -250,4 +256,6 @@ module _ (slots id place : ℕ) (me : Mine) (some_number : 0 < me.0.number) (fir
               subst (λ (x : ℕ). (found ≡ 0 → (h : LatchRecord) × IsFresh x h me × (◌≡◌ {A = Mine} (missed s r size seat, me.1) (latched x h me))) × (found ≢ 0 → ◌≡◌ {A = Mine} (missed s r size seat, me.1) (missed_latch x found me))) same
               ((λ free. absurd (taken free)), λ _. refl),
         ),
-      ))
+        (λ told. Makes.TakesLatch place refl told),
+        ((first, within s r size seat), (some_number, (λ free. absurd (taken free)), λ _. (refl, refl))),
+      )))

@@ -3,7 +3,9 @@ pub mod Seating
 pub mod Copying
 pub mod Waiting
 pub mod Lift
+pub mod Paid
 pub mod Holder
+pub mod Histories
 pub mod Latch
 pub mod Flags
 pub mod Tickets
@@ -33,6 +35,8 @@ pub mod Noting
 pub mod Versions
 pub mod VersionReads
 pub mod Reading
+pub mod Served
+pub mod Searching
 pub mod Hands
 pub mod Tells
 pub mod Desks

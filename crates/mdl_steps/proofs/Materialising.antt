@@ -23,11 +23,14 @@ use Rattle.mdl_steps.specs.declared.view.Own.{Own}
 use Rattle.mdl_steps.specs.declared.view.View.{View}
 use Rattle.mdl_steps.specs.Cells.{Asking, Part, Cell, all_fast, asking_at, cell, counted, due, holder_at, own_at, part_at, ticket_by, waits}
 use Rattle.mdl_steps.specs.FastPlays.{but_at, granting_all, moved, materialised, materialises, with_granted, MayMaterialise}
+use Rattle.mdl_steps.specs.Histories.{ReachedFor}
 use Rattle.mdl_steps.specs.Interleavings.{interleaved}
 use Rattle.mdl_steps.specs.Layout.{lock_word}
 use Rattle.mdl_steps.specs.Lists.{Each, Once}
 use Rattle.mdl_steps.specs.Plays.{Mine}
 use Rattle.mdl_steps.specs.Rule.{Rule, PlaceOk, BookOk, PartOk, Counted, NoteAgrees, key_at}
+use Rattle.mdl_steps.specs.Turns.{Makes}
+use Rattle.mdl_steps.proofs.Histories.{goes_on}
 use Rattle.mdl_steps.proofs.FastSteps.{covers_fewer, each_fewer, encoded_small}
 use Rattle.mdl_steps.proofs.FastLists.{all_fast-all, all_fast-own, counted_set}
 use Rattle.mdl_steps.proofs.Interleaving.{each-interleaved}
@@ -282,7 +285,7 @@ module _ (slots id place : ℕ) (me : Mine) (some_number : 0 < me.0.number) (fir
     unfolding ok
     mine = (ok.held id (holder_at place me.0) there h may.recorded).mine
 
-    u : Under (key_at r.keys place) (cell s place).word (cell s place).version (cell s place).parts h
+    u : Under (key_at r.keys place) me.0.number (cell s place).word (cell s place).version (cell s place).parts h
     unfolding ok
     u = under (key_at r.keys place) (cell s place) ok id (holder_at place me.0) there h may.recorded
 
@@ -329,7 +332,7 @@ module _ (slots id place : ℕ) (me : Mine) (some_number : 0 < me.0.number) (fir
         let small = encoded_small _ _ _ _ _ _ u.counted in
         omega arith
 
-    owed : Under key (found - weight) c.version parts′ h′
+    owed : Under key me.0.number (found - weight) c.version parts′ h′
     unfolding lighter
     owed = record {
       counted = lighter.1;
@@ -344,6 +347,7 @@ module _ (slots id place : ℕ) (me : Mine) (some_number : 0 < me.0.number) (fir
             (fast_then key c.version c.parts h.book (waits s) place id me.0 part_there alone_here key_is u.book_ok may.idle may.once apart)
             (λ class. (let count = counts class in omega arith)) old.1,
       ));
+      exact = λ exact. absurd (cc);
       book_ok = joined_ok key c.version c.parts h.book (waits s) place id me.0 part_there alone_here key_is u.book_ok may.idle may.once apart;
     }
 
@@ -381,6 +385,13 @@ module _ (slots id place : ℕ) (me : Mine) (some_number : 0 < me.0.number) (fir
         (held_at-changed place (with_granted (moved place me.0)) (λ x. refl) me.0.latches h may.recorded)
         key (found - weight) c.version parts′ owed)))
 
-  pub materialises_allowed : Allows Rule slots id me (lock_word place) (λ x. (x + (2 ^ 64 - weight)) % 2 ^ 64) (materialises (step slots (lock_word place) weight 0 none) me)
-  materialises_allowed s r size seat fits =
-      (w s r size seat, keeps, tt, materialised_rule s r size seat, (refl, λ q here. (let same : place ≡ q = omega arith in λ i. materialised (same i) (found s r size seat) me)))
+  pub materialises_allowed : (room : ℕ) → Allows (ReachedFor room) slots id me (lock_word place) (λ x. (x + (2 ^ 64 - weight)) % 2 ^ 64) (materialises (step slots (lock_word place) weight 0 none) me)
+  materialises_allowed = goes_on slots id (lock_word place) weight 0 me (λ x. (x + (2 ^ 64 - weight)) % 2 ^ 64) (materialises (step slots (lock_word place) weight 0 none) me) (λ s r size seat fits. (
+    w s r size seat,
+    keeps,
+    tt,
+    materialised_rule s r size seat,
+    (refl, λ q here. (let same : place ≡ q = omega arith in λ i. materialised (same i) (found s r size seat) me)),
+    (λ told. Makes.Materialises place weight h may refl told),
+    ((first, within s r size seat), (refl, refl)),
+  ))

@@ -1,5 +1,5 @@
 -- The place after all that have a key gets one: its latch is given back with the empty book of a new key.
-use Rattle.std.proofs.Common.{◌≡◌, ◌≢◌, ℕ, zero, suc, ◌+◌, ◌-◌, ◌<◌, List, [], ◌∷◌, ◌++◌, map, set, length, Some, None, refl, sym, ap, ◌∙◌, subst, inl, inr, arith, length-set, length-append, get_or-set_other, get_or-set_same}
+use Rattle.std.proofs.Common.{◌≡◌, ◌≢◌, ℕ, zero, suc, ◌+◌, ◌-◌, ◌<◌, false, List, [], ◌∷◌, ◌++◌, map, set, length, Some, None, refl, sym, ap, ◌∙◌, subst, inl, inr, arith, length-set, length-append, get_or-set_other, get_or-set_same}
 use Rattle.std.specs.Prelude.{slice_get}
 use mathlib.Core.Option.{some, none}
 use lib.ListN.{get_elem?}
@@ -18,11 +18,14 @@ use Rattle.mdl_steps.specs.declared.view.Keys.{Keys}
 use Rattle.mdl_steps.specs.declared.view.Known.{Known}
 use Rattle.mdl_steps.specs.declared.view.View.{View}
 use Rattle.mdl_steps.specs.Cells.{Part, Desk, holder_at, desk_of, cell, all_fast}
+use Rattle.mdl_steps.specs.Histories.{ReachedFor}
 use Rattle.mdl_steps.specs.Layout.{latch_word, lock_word, version_word}
 use Rattle.mdl_steps.specs.Lists.{Each, Distinct}
 use Rattle.mdl_steps.specs.Plays.{Mine, named, listing, puts_key}
 use Rattle.mdl_steps.specs.Rule.{Rule, BookOk, PartOk, SlowHeld, ReadsAgree, IsUnused, key_at}
 use Rattle.mdl_steps.specs.Seats.{MayName}
+use Rattle.mdl_steps.specs.Turns.{Makes}
+use Rattle.mdl_steps.proofs.Histories.{goes_on}
 use Rattle.mdl_steps.proofs.Views.{at_inside, held_at-dropped, held_at-undropped}
 use Rattle.mdl_steps.proofs.Lift.{Table, Homes, Keyed, after, lifted, alone, parts_again, seat_there}
 use Rattle.mdl_steps.proofs.Desks.{alone_desk}
@@ -177,18 +180,19 @@ module _ (slots id place : ℕ) (me : Mine) (some_number : 0 < me.0.number) (fir
           parts_again s place id me.0 put seat refl,
         )
         (put_cell (key_at r.keys place) (cell s place) ok id (holder_at place me.0) there (seat_there s place id me.0 seat) (holder_at place put)
-        h (record h { book = empty_book key; noted = None }) may.holds.recorded
+        h (record h { book = empty_book key; noted = None; exact = false }) may.holds.recorded
         (λ j l at same. alone s r place id me.0 seat some_number j l at (same ∙ sym mine.mine))
         (held_at-dropped place me.0.latches) (Some key) parts
         (record {
           counted = let counted = rw unused.1 at u.counted in rw unused.1 counted;
           flagged = ((λ e. may.exact.0 ∙ e), λ e. may.exact.1 ∙ e);
           noted = λ word noted. absurd (cc);
+          exact = λ exact. absurd (cc);
           book_ok = exchanged_book (cell s place).version parts h.book key unused.0 unused.1 (rw no_key at u.book_ok);
         }) may.exact))
 
-  pub puts_key_allowed : Allows Rule slots id me (latch_word place) (λ _. 0) (λ _. puts_key (step slots (latch_word place) 0 0 none) me 0)
-  puts_key_allowed s r size seat fits = (
+  pub puts_key_allowed : (room : ℕ) → Allows (ReachedFor room) slots id me (latch_word place) (λ _. 0) (λ _. puts_key (step slots (latch_word place) 0 0 none) me 0)
+  puts_key_allowed = goes_on slots id (latch_word place) 0 0 me (λ _. 0) (λ _. puts_key (step slots (latch_word place) 0 0 none) me 0) (λ s r size seat fits. (
     put,
     gives,
     tt,
@@ -200,4 +204,6 @@ module _ (slots id place : ℕ) (me : Mine) (some_number : 0 < me.0.number) (fir
           let book_is : empty_book key ≡ book = one_hand (sym may.holds.carried ∙ carried) in
           λ i. named (same i) (book_is i).key me,
     ),
-  )
+    (λ told. Makes.PutsKey place key k h may refl told),
+    ((first, within s r size seat), (refl, refl)),
+  ))

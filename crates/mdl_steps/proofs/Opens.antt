@@ -17,12 +17,21 @@ use Rattle.mdl_steps.specs.Cells.{Holder, Desk, Waiter, blank, numbers_for, cell
 use Rattle.mdl_steps.specs.Layout.{latch_word, lock_word, version_word}
 use Rattle.mdl_steps.specs.Openings.{IsOpening}
 use Rattle.mdl_steps.specs.Rule.{Rule, PlaceOk, PartOk, WaitOk}
-use Rattle.mdl_steps.proofs.Enrol.{blank_wait}
 
 -- a list of one has only its first
 only : {A : Type 0} → (a b : A) (j : ℕ) → get_elem? (a ∷ []) j ≡ some b → (j ≡ 0) × (a ≡ b)
 only a b zero e = (refl, some-injective a b e)
 only a b (suc j) e = absurd (some-ne-none b (sym e))
+
+-- the wait word of a session that has nothing is idle
+pub blank_wait : (slots word number : ℕ) → word ≡ 0 → WaitOk slots word (record { number = number; waits = 0; asks = None; told = None })
+blank_wait slots word number idle = rw idle (record {
+  number = refl;
+  state = omega arith;
+  idle = λ _. refl;
+  asks = λ a none. absurd (cc);
+  told = λ state none. absurd (cc);
+})
 
 module _ (sessions : ℕ) (words : List ℕ) (slots : List Slot) (open_ : IsOpening sessions words slots) where
   abbrev start : View

@@ -1,5 +1,5 @@
 -- The latch of a place is given back, and its flags are lowered, after deeds of the session.
-use Rattle.std.proofs.Common.{◌≡◌, ◌≢◌, ℕ, ◌<◌, ◌⊎◌, ◌&&◌, Bool, true, false, List, [], ◌∷◌, set, length, get_or, Some, refl, sym, ap, ◌∙◌, subst, inl, inr, arith, length-set, bit_and}
+use Rattle.std.proofs.Common.{◌≡◌, ◌≢◌, ℕ, ◌<◌, ◌⊎◌, ◌&&◌, Bool, true, false, List, [], ◌∷◌, set, length, get_or, Some, None, refl, sym, ap, ◌∙◌, subst, inl, inr, arith, length-set, bit_and}
 use mathlib.Core.Option.{some, none}
 use lib.ListN.{get_elem?}
 use Rattle.atomic_table.specs.Table.{Allows, step, keeps, gives, rest, put_back}
@@ -17,10 +17,14 @@ use Rattle.mdl_steps.specs.declared.view.Known.{Known}
 use Rattle.mdl_steps.specs.declared.view.Own.{Own}
 use Rattle.mdl_steps.specs.declared.view.View.{View}
 use Rattle.mdl_steps.specs.Cells.{Part, Holder, part_at, holder_at, held_at, own_at, cell, waits, all_fast}
-use Rattle.mdl_steps.specs.Deeds.{MayDo, MayAct, all_booked, all_done, all_owned, owned}
+use Rattle.mdl_steps.specs.Deeds.{FreesNothing, MayDo, MayAct, all_booked, all_done, all_owned, owned}
+use Rattle.mdl_steps.specs.Histories.{ReachedFor}
 use Rattle.mdl_steps.specs.Layout.{latch_word, lock_word}
 use Rattle.mdl_steps.specs.Plays.{Mine, unlatched, flags_lowered, lowered, puts_latch, lowers_flags}
 use Rattle.mdl_steps.specs.Rule.{Rule, PlaceOk, BookOk, Counted, Numbered, TellsLists, Flagged, NotedCounts, key_at}
+use Rattle.mdl_steps.specs.Seats.{HasDone}
+use Rattle.mdl_steps.specs.Turns.{Makes}
+use Rattle.mdl_steps.proofs.Histories.{goes_on}
 use Rattle.mdl_steps.proofs.Views.{by_bool, each_at, held_at-changed, held_at-unchanged, held_at-dropped, held_at-undropped}
 use Rattle.mdl_steps.proofs.Lift.{Table, Homes, after, on_latch, on_word, alone, alone_parts, seat_there}
 use Rattle.mdl_steps.proofs.Holder.{Under, under, put_cell, holder_cell}
@@ -94,7 +98,7 @@ module _ (slots id place : ℕ) (me : Mine) (some_number : 0 < me.0.number) (fir
       | inr nothing ↦ inr nothing
     ]
 
-    u : Under (key_at r.keys place) (cell s place).word (cell s place).version (cell s place).parts h
+    u : Under (key_at r.keys place) me.0.number (cell s place).word (cell s place).version (cell s place).parts h
     unfolding ok
     u = under (key_at r.keys place) (cell s place) ok id (holder_at place me.0) there h holds
 
@@ -106,15 +110,16 @@ module _ (slots id place : ℕ) (me : Mine) (some_number : 0 < me.0.number) (fir
         (at_map (part_at (waits s) place) s.views id me.0 seat) (alone_parts s r place id me.0 seat some_number) known (r.views id me.0 seat).0 u.noted (may_all me.0 h.book h.noted place ds may) u.book_ok
 
     -- what is owed with some record of the latch that has the book as it is now
-    owed : (word : ℕ) (h′ : LatchRecord) → h′.book ≡ book → Counted (lock_kind h.book) word (all_fast (cell s place).parts) h′.slow h′.obtrusive
+    owed : (word : ℕ) (h′ : LatchRecord) → h′.book ≡ book → h′.exact ≡ false → Counted (lock_kind h.book) word (all_fast (cell s place).parts) h′.slow h′.obtrusive
         → Flagged h′.book h′.slow h′.obtrusive → NotedCounts (lock_kind h.book) (all_fast (cell s place).parts) h′.obtrusive h′.noted
-        → Under (key_at r.keys place) word (cell s place).version parts h′
-    owed word h′ is counted flagged noted =
+        → Under (key_at r.keys place) me.0.number word (cell s place).version parts h′
+    owed word h′ is inexact counted flagged noted =
         let kind : lock_kind h′.book ≡ lock_kind h.book = ap lock_kind is ∙ all_booked_kind me.0.number ds h.book in
         record {
           counted = rw (kind, did.2) counted;
           flagged = flagged;
           noted = rw (kind, did.2) noted;
+          exact = λ exact. absurd (cc);
           book_ok = rw is did.0;
         }
 
@@ -125,7 +130,7 @@ module _ (slots id place : ℕ) (me : Mine) (some_number : 0 < me.0.number) (fir
 
     -- the record with which it is
     abbrev last_record : LatchRecord
-    last_record = record h { book = book }
+    last_record = record h { book = book; noted = None; exact = false }
 
     put_rule : TellsLists book h.slow h.obtrusive → Rule (after s (latch_word place) 0 id (unlatched place ds me).0 (set s.homes place (some (slot.Place book))))
     unfolding ok
@@ -148,7 +153,7 @@ module _ (slots id place : ℕ) (me : Mine) (some_number : 0 < me.0.number) (fir
         (rw (set_here s.homes place (some (slot.Place book)) within)
         (put_cell (key_at r.keys place) (cell s place) ok id (holder_at place me.0) there (seat_there s place id me.0 seat) (holder_at place w) h last_record holds by_itself
         (held_at-dropped place me.0.latches) (key_at r.keys place) parts
-        (owed (cell s place).word last_record refl u.counted (tells_flags book h.slow h.obtrusive exact) u.noted) exact))
+        (owed (cell s place).word last_record refl refl u.counted (tells_flags book h.slow h.obtrusive exact) (λ n is. absurd (cc))) exact))
 
     -- ---- flags are lowered
 
@@ -157,7 +162,7 @@ module _ (slots id place : ℕ) (me : Mine) (some_number : 0 < me.0.number) (fir
     unfolding ok
     lowered_rule slow obtrusive flagged =
         let w : View = (flags_lowered place ds (cell s place).word book slow obtrusive me).0 in
-        let h′ : LatchRecord = lowered book slow obtrusive h in
+        let h′ : LatchRecord = lowered ds book slow obtrusive h in
         let numbered = did.1 in
         let word : ℕ = bit_and (cell s place).word (all_but_flags slow obtrusive) in
         on_word s r place id me.0 w s.homes (record {
@@ -170,29 +175,34 @@ module _ (slots id place : ℕ) (me : Mine) (some_number : 0 < me.0.number) (fir
           slots = refl;
           home_else = λ q else. refl;
           part_else = λ q else. λ i. record (part_at (waits s) q me.0) { slow = all_owned_else place q ds me.0.slow else i };
-          holder_else = λ q else. λ i. record { number = me.0.number; held = held_at-unchanged place (lowered book slow obtrusive) (λ x. refl) q me.0.latches else i };
+          holder_else = λ q else. λ i. record { number = me.0.number; held = held_at-unchanged place (lowered ds book slow obtrusive) (λ x. refl) q me.0.latches else i };
         }) refl (r.views id me.0 seat).1 word
         (holder_cell (key_at r.keys place) (cell s place) ok id (holder_at place me.0) there (seat_there s place id me.0 seat) (holder_at place w) h h′ holds by_itself refl
-        (held_at-changed place (lowered book slow obtrusive) (λ x. refl) me.0.latches h holds)
+        (held_at-changed place (lowered ds book slow obtrusive) (λ x. refl) me.0.latches h holds)
         (key_at r.keys place) word (cell s place).version parts
-        (owed word h′ refl (lowers u.counted slow obtrusive) flagged (λ n e. by_bool (obtrusive && h.obtrusive)
+        (owed word h′ refl refl (lowers u.counted slow obtrusive) flagged (λ n e. by_bool (obtrusive && h.obtrusive)
         (λ up. let is = rw up at e in (up, (u.noted n is).1))
         (λ down. let is = rw down at e in absurd (cc)))))
 
   -- ---- the steps
 
-  pub puts_allowed : TellsLists book h.slow h.obtrusive → Allows Rule slots id me (latch_word place) (λ _. 0) (λ _. puts_latch ds (step slots (latch_word place) 0 0 none) me 0)
-  puts_allowed exact s r size seat fits = (
+  has_done : HasDone place ds h me
+  has_done = record { holds = record { recorded = holds; carried = hand }; act = act; may = may }
+
+  pub puts_allowed : TellsLists book h.slow h.obtrusive → FreesNothing me.0.number h.book ds → h.freed ≡ false → (room : ℕ) → Allows (ReachedFor room) slots id me (latch_word place) (λ _. 0) (λ _. puts_latch ds (step slots (latch_word place) 0 0 none) me 0)
+  puts_allowed exact keeps_out unfreed = goes_on slots id (latch_word place) 0 0 me (λ _. 0) (λ _. puts_latch ds (step slots (latch_word place) 0 0 none) me 0) (λ s r size seat fits. (
     (unlatched place ds me).0,
     gives,
     tt,
     subst (λ (homes : Homes). Rule (after s (latch_word place) 0 id (unlatched place ds me).0 homes)) (sym (ap (put_back s.homes) hand)) (put_rule s r size seat exact),
     (refl, λ q here. let same : place ≡ q = omega arith in λ i. unlatched (same i) ds me),
-  )
+    (λ told. Makes.PutsLatch place ds (h, has_done, exact, keeps_out, unfreed) refl told),
+    ((first, within s r size seat), (refl, refl)),
+  ))
 
   pub lowers_allowed : (slow obtrusive : Bool) (mask : ℕ) → mask ≡ all_but_flags slow obtrusive → Flagged book (slow && h.slow) (obtrusive && h.obtrusive)
-      → Allows Rule slots id me (lock_word place) (λ n. bit_and n mask) (lowers_flags ds (step slots (lock_word place) mask 0 none) me)
-  lowers_allowed slow obtrusive mask is flagged s r size seat fits =
+      → (room : ℕ) → Allows (ReachedFor room) slots id me (lock_word place) (λ n. bit_and n mask) (lowers_flags ds (step slots (lock_word place) mask 0 none) me)
+  lowers_allowed slow obtrusive mask is flagged = goes_on slots id (lock_word place) mask 0 me (λ n. bit_and n mask) (lowers_flags ds (step slots (lock_word place) mask 0 none) me) (λ s r size seat fits.
       let found : ℕ = get_or s.words (lock_word place) 0 in (
         (flags_lowered place ds found book slow obtrusive me).0,
         keeps,
@@ -206,4 +216,6 @@ module _ (slots id place : ℕ) (me : Mine) (some_number : 0 < me.0.number) (fir
               let book_is : book ≡ handed = one_hand (sym hand ∙ carried) in
               λ i. flags_lowered (same i) ds found (book_is i) (flags.0 i) (flags.1 i) me,
         ),
-      )
+        (λ told. Makes.LowersFlags place ds slow obtrusive (h, has_done, flagged) refl is told),
+        ((first, within s r size seat), refl),
+      ))

@@ -1,5 +1,5 @@
 -- The latch of a place is given back with nothing changed, and what stands there was read.
-use Rattle.std.proofs.Common.{◌≡◌, ℕ, ◌<◌, set, length, refl, sym, ap, ◌∙◌, subst, arith, length-set}
+use Rattle.std.proofs.Common.{◌≡◌, ℕ, ◌<◌, false, set, length, None, refl, sym, ap, ◌∙◌, subst, inr, arith, length-set}
 use mathlib.Core.Option.{some, none}
 use lib.ListN.{get_elem?}
 use Rattle.atomic_table.specs.Table.{Allows, step, gives, put_back}
@@ -8,10 +8,13 @@ use Rattle.mdl_steps.specs.declared.slot.Slot.TheVariants as slot
 use Rattle.mdl_steps.specs.declared.view.LatchRecord.{LatchRecord}
 use Rattle.mdl_steps.specs.declared.view.View.{View}
 use Rattle.mdl_steps.specs.Cells.{part_at, holder_at, cell, waits}
+use Rattle.mdl_steps.specs.Histories.{ReachedFor}
 use Rattle.mdl_steps.specs.Layout.{latch_word}
 use Rattle.mdl_steps.specs.Plays.{Mine, read_and_put, dropped, noting_version, puts_reading}
 use Rattle.mdl_steps.specs.Rule.{Rule, TellsLists, key_at}
 use Rattle.mdl_steps.specs.Seats.{Holds}
+use Rattle.mdl_steps.specs.Turns.{Makes}
+use Rattle.mdl_steps.proofs.Histories.{goes_on}
 use Rattle.mdl_steps.proofs.Views.{held_at-dropped, held_at-undropped}
 use Rattle.mdl_steps.proofs.Lift.{Table, Homes, after, on_latch, alone, seat_there}
 use Rattle.mdl_steps.proofs.Holder.{under, put_cell}
@@ -21,7 +24,7 @@ use Rattle.mdl_steps.proofs.Unmixed.{unmixed_notes}
 use Rattle.mdl_steps.proofs.Noting.{noted_part, noted_here, noted_away, noted_ok, fast_same}
 
 module _ (slots id place : ℕ) (me : Mine) (some_number : 0 < me.0.number) (first : 0 < place) (last : place < slots)
-    (h : LatchRecord) (has : Holds place h h.book me) (exact : TellsLists h.book h.slow h.obtrusive) where
+    (h : LatchRecord) (has : Holds place h h.book me) (exact : TellsLists h.book h.slow h.obtrusive) (unfreed : h.freed ≡ false) where
   abbrev put : View
   put = (read_and_put place h.book.standing me).0
 
@@ -60,20 +63,21 @@ module _ (slots id place : ℕ) (me : Mine) (some_number : 0 < me.0.number) (fir
           holder_else = λ q else. λ i. record { number = me.0.number; held = held_at-undropped place q me.0.latches else i };
         }) refl (r.views id me.0 seat).1 0
         (rw (set_here s.homes place (some (slot.Place h.book)) within, noted_here place h.book.standing (dropped place me.0) (waits s))
-        (put_cell key (cell s place) ok id (holder_at place me.0) there (seat_there s place id me.0 seat) (holder_at place put) h h has.recorded
+        (put_cell key (cell s place) ok id (holder_at place me.0) there (seat_there s place id me.0 seat) (holder_at place put) h (record h { noted = None; exact = false }) has.recorded
         (λ j l at same. alone s r place id me.0 seat some_number j l at (same ∙ sym mine.mine))
         (held_at-dropped place me.0.latches) key (set parts id (noted_part place h.book.standing own))
         (record {
           counted = rw fast u.counted;
           flagged = u.flagged;
-          noted = rw fast u.noted;
+          noted = λ word noted. absurd (cc);
+          exact = λ exact. absurd (cc);
           book_ok = rw u.book_ok.version_is
               (noted_ok key (cell s place).version parts h.book place id own part u.book_ok h.book.standing (λ none. (u.book_ok.named.vacant none).0.2) u.book_ok.stands
               (u.book_ok.each id own part).versions_agree.reads (λ j x else here. u.book_ok.each j x here));
         }) exact))
 
-  pub puts_reading_allowed : Allows Rule slots id me (latch_word place) (λ _. 0) (λ _. puts_reading (step slots (latch_word place) 0 0 none) me 0)
-  puts_reading_allowed s r size seat fits = (
+  pub puts_reading_allowed : (room : ℕ) → Allows (ReachedFor room) slots id me (latch_word place) (λ _. 0) (λ _. puts_reading (step slots (latch_word place) 0 0 none) me 0)
+  puts_reading_allowed = goes_on slots id (latch_word place) 0 0 me (λ _. 0) (λ _. puts_reading (step slots (latch_word place) 0 0 none) me 0) (λ s r size seat fits. (
     put,
     gives,
     tt,
@@ -85,4 +89,6 @@ module _ (slots id place : ℕ) (me : Mine) (some_number : 0 < me.0.number) (fir
           let book_is : h.book ≡ book = one_hand (sym has.carried ∙ carried) in
           λ i. read_and_put (same i) (book_is i).standing me,
     ),
-  )
+    (λ told. Makes.PutsReading place (h, record { holds = has; act = inr refl; may = tt }, exact, tt, unfreed) refl told),
+    ((first, rw size last), (refl, refl)),
+  ))

@@ -21,14 +21,18 @@ use Rattle.mdl_steps.specs.declared.view.Known.{Known}
 use Rattle.mdl_steps.specs.declared.view.Read.{Read}
 use Rattle.mdl_steps.specs.declared.view.View.{View}
 use Rattle.mdl_steps.specs.Cells.{Part, Cell, all_fast, cell, due, part_at, reads_at, waits}
+use Rattle.mdl_steps.specs.Histories.{ReachedFor}
 use Rattle.mdl_steps.specs.Layout.{version_word}
 use Rattle.mdl_steps.specs.Lists.{Each}
 use Rattle.mdl_steps.specs.Plays.{Mine, logged, noting_version}
-use Rattle.mdl_steps.specs.Rule.{Rule, PlaceOk, BookOk, PartOk, ReadAgrees, key_at}
+use Rattle.mdl_steps.specs.Rule.{Rule, PlaceOk, BookOk, IsPaidBut, PartOk, ReadAgrees, key_at}
 use Rattle.mdl_steps.specs.VersionPlays.{found_version, learnt_version, met_version, noted_version, noting_found, Follows, LearnsVersion, ReadNoneNewer, ReadOneStanding, finds_version, reads_version}
+use Rattle.mdl_steps.specs.Turns.{Makes}
+use Rattle.mdl_steps.proofs.Histories.{Shown, goes_on}
 use Rattle.mdl_steps.proofs.Lift.{Table, after, on_version, holders_again, parts_again}
 use Rattle.mdl_steps.proofs.Notes.{with_note, notes_else, notes_here, notes_shown, notes_length, notes_agree, numbered_notes, apart_notes}
 use Rattle.mdl_steps.proofs.Noting.{all_fast-noted, fast_same as fast_same_noted, noted_part, noted_here, noted_away, noted_ok}
+use Rattle.mdl_steps.proofs.Paid.{paid_before}
 use Rattle.mdl_steps.proofs.Unmixed.{unmixed_notes}
 use Rattle.mdl_steps.proofs.Views.{each_at}
 use Rattle.mdl_steps.proofs.Waiting.{owned_set, waiting_kept}
@@ -36,7 +40,8 @@ use Rattle.mdl_steps.proofs.Waiting.{owned_set, waiting_kept}
 -- ---- the place, where the part of one session changes
 
 module _ (key : Option KeyName) (c : Cell) (ok : PlaceOk key c) (id : ℕ) (x then : Part)
-    (fast_same : all_fast (set c.parts id then) ≡ all_fast c.parts) (book_then : BookOk key c.version (set c.parts id then) ok.book) where
+    (fast_same : all_fast (set c.parts id then) ≡ all_fast c.parts) (paid : (number : ℕ) → IsPaidBut number (set c.parts id then) → IsPaidBut number c.parts)
+    (book_then : BookOk key c.version (set c.parts id then) ok.book) where
   pub told_cell : PlaceOk key (record c { parts = set c.parts id then })
   told_cell = record {
     book = ok.book;
@@ -53,6 +58,7 @@ module _ (key : Option KeyName) (c : Cell) (ok : PlaceOk key c) (id : ℕ) (x th
           slow_is = was.slow_is;
           obtrusive_is = was.obtrusive_is;
           noted_counts = rw fast_same was.noted_counts;
+          exact_counts = λ up. let w = was.exact_counts up in (w.0, w.1, λ word noted now. rw fast_same (w.2 word noted (paid l.number now)));
         };
     counted = rw fast_same ok.counted;
     flagged = ok.flagged;
@@ -102,7 +108,7 @@ module _ (key : Option KeyName) (c : Cell) (ok : PlaceOk key c) (id : ℕ) (x : 
   }
 
   pub noted_cell : PlaceOk key (record c { parts = set c.parts id part_then })
-  noted_cell = told_cell key c ok id x part_then fast_same book_then
+  noted_cell = told_cell key c ok id x part_then fast_same (paid_before c.parts id x part_then at refl (λ e. e)) book_then
 
 -- and what is defined counts as read
 module _ (key : Option KeyName) (place : ℕ) (c : Cell) (ok : PlaceOk key c) (id : ℕ) (x : Part) (at : get_elem? c.parts id ≡ some x) where
@@ -119,7 +125,7 @@ module _ (key : Option KeyName) (place : ℕ) (c : Cell) (ok : PlaceOk key c) (i
       (ok.book_ok.each id x at).versions_agree.reads (λ j y else here. ok.book_ok.each j y here))
 
   pub learnt_cell : PlaceOk key (record c { parts = set c.parts id part_learnt })
-  learnt_cell = told_cell key c ok id x part_learnt same_fast book_learnt
+  learnt_cell = told_cell key c ok id x part_learnt same_fast (paid_before c.parts id x part_learnt at refl (λ e. e)) book_learnt
 
 -- ---- what was read there
 
@@ -252,8 +258,8 @@ module _ (slots id place : ℕ) (me : Mine) (first : 0 < place) (last : place < 
         let is = place_ok.book_ok.version_is in
         (agrees x x_there).1 (x_is ∙ is) ∙ sym ((agrees q q_there).1 (q_is ∙ is))
 
-  pub finds_version_allowed : (kept : List Kept) → Allows Rule slots id me (version_word place) (λ n. n) (finds_version kept (step slots (version_word place) 0 0 none) me)
-  finds_version_allowed kept s r size seat fits =
+  finds_version_shown : (kept : List Kept) → Shown slots id (version_word place) 0 0 me (λ n. n) (finds_version kept (step slots (version_word place) 0 0 none) me)
+  finds_version_shown kept s r size seat fits =
       let found = version_found s r size seat in (
         (found_version kept place found me).0,
         keeps,
@@ -266,6 +272,8 @@ module _ (slots id place : ℕ) (me : Mine) (first : 0 < place) (last : place < 
               subst (λ (p : ℕ). ((found_version kept place found me) ≡ found_version kept p found me) × ReadNoneNewer p found me × ReadOneStanding p found me) same
               (refl, none_newer s r size seat (reads_at place me.0.reads) (reads_agree s r size seat), one_standing s r size seat),
         ),
+        (λ told. Makes.FindsVersion place kept refl told),
+        ((first, within s r size seat), (refl, refl)),
       )
     where
       by_kept : (o : Option Definition) → Rule (after s (version_word place) (version_found s r size seat) id
@@ -278,8 +286,12 @@ module _ (slots id place : ℕ) (me : Mine) (first : 0 < place) (last : place < 
       same_number None = refl
       same_number (Some d) = refl
 
-  pub reads_version_allowed : Allows Rule slots id me (version_word place) (λ n. n) (reads_version (step slots (version_word place) 0 0 none) me)
-  reads_version_allowed s r size seat fits = (
+  pub finds_version_allowed : (kept : List Kept) → (room : ℕ) → Allows (ReachedFor room) slots id me (version_word place) (λ n. n) (finds_version kept (step slots (version_word place) 0 0 none) me)
+  finds_version_allowed kept =
+      goes_on slots id (version_word place) 0 0 me (λ n. n) (finds_version kept (step slots (version_word place) 0 0 none) me) (finds_version_shown kept)
+
+  pub reads_version_allowed : (room : ℕ) → Allows (ReachedFor room) slots id me (version_word place) (λ n. n) (reads_version (step slots (version_word place) 0 0 none) me)
+  reads_version_allowed = goes_on slots id (version_word place) 0 0 me (λ n. n) (reads_version (step slots (version_word place) 0 0 none) me) (λ s r size seat fits. (
     (learnt_version place (standing_found s r size seat) me).0,
     keeps,
     tt,
@@ -295,4 +307,6 @@ module _ (slots id place : ℕ) (me : Mine) (first : 0 < place) (last : place < 
             now = refl;
           }),
     ),
-  )
+    (λ told. Makes.ReadsVersion place refl told),
+    ((first, within s r size seat), (refl, refl)),
+  ))

@@ -17,16 +17,20 @@ use Rattle.mdl_book.specs.Books.{lock_kind, redefining}
 use Rattle.mdl_steps.specs.declared.view.LatchRecord.{LatchRecord}
 use Rattle.mdl_steps.specs.declared.view.View.{View}
 use Rattle.mdl_steps.specs.Cells.{Part, part_at, holder_at, cell, waits}
+use Rattle.mdl_steps.specs.Histories.{ReachedFor}
 use Rattle.mdl_steps.specs.Layout.{version_word}
 use Rattle.mdl_steps.specs.Plays.{Mine, redefined, restood, changed, noting_version, writes_version}
 use Rattle.mdl_steps.specs.Rule.{Rule, BookOk, PartOk, key_at}
 use Rattle.mdl_steps.specs.Seats.{HasRedefined}
+use Rattle.mdl_steps.specs.Turns.{Makes}
+use Rattle.mdl_steps.proofs.Histories.{goes_on}
 use Rattle.mdl_steps.proofs.Views.{held_at-changed, held_at-unchanged}
 use Rattle.mdl_steps.proofs.Lift.{Table, after, on_version, alone, alone_parts, seat_there}
 use Rattle.mdl_steps.proofs.Holder.{under, holder_cell}
 use Rattle.mdl_steps.proofs.Put.{one_hand}
 use Rattle.mdl_steps.proofs.Notes.{numbered_notes, apart_notes, reads_older}
 use Rattle.mdl_steps.proofs.Unmixed.{unmixed_notes}
+use Rattle.mdl_steps.proofs.Paid.{exact_again}
 use Rattle.mdl_steps.proofs.Noting.{noted_part, noted_here, noted_away, noted_ok, fast_same}
 use Rattle.mdl_steps.proofs.Exclusive.{others_fast, others_slow}
 
@@ -105,6 +109,7 @@ module _ (slots id place : ℕ) (me : Mine) (some_number : 0 < me.0.number) (fir
           counted = rw fast u.counted;
           flagged = u.flagged;
           noted = rw fast u.noted;
+          exact = exact_again parts id own (noted_part place standing own) part refl (λ e. e) fast (lock_kind h.book) h.slow h.obtrusive me.0.number h.noted h.exact u.exact;
           book_ok = noted_ok key (cell s place).version parts h.book place id own part u.book_ok standing
               (λ none. let empty = ap length (u.book_ok.named.vacant none).0.0 in let some = ticket.1.1 in absurd (omega arith))
               (changes-keep_standing h.book.key.namespace h.book.standing change u.book_ok.stands has.allowed)
@@ -112,8 +117,8 @@ module _ (slots id place : ℕ) (me : Mine) (some_number : 0 < me.0.number) (fir
               (other_part key (cell s place).version parts h.book id me.0.number standing by_itself u.book_ok newer ticket.0 ticket.1 ticket.2 ticket.3);
         })))
 
-  pub writes_allowed : Allows Rule slots id me (version_word place) (λ _. standing.version) (λ _. writes_version (step slots (version_word place) standing.version 0 none) me standing.version)
-  writes_allowed s r size seat fits = (
+  pub writes_allowed : (room : ℕ) → Allows (ReachedFor room) slots id me (version_word place) (λ _. standing.version) (λ _. writes_version (step slots (version_word place) standing.version 0 none) me standing.version)
+  writes_allowed = goes_on slots id (version_word place) standing.version 0 me (λ _. standing.version) (λ _. writes_version (step slots (version_word place) standing.version 0 none) me standing.version) (λ s r size seat fits. (
     written,
     keeps,
     tt,
@@ -125,4 +130,6 @@ module _ (slots id place : ℕ) (me : Mine) (some_number : 0 < me.0.number) (fir
           let book_is : redefining change h.book ≡ book = one_hand (sym has.holds.carried ∙ carried) in
           λ i. redefined (same i) (book_is i).standing me,
     ),
-  )
+    (λ told. Makes.WritesVersion place (h, change, has) refl told),
+    ((first, rw size last), (refl, refl)),
+  ))

@@ -1,30 +1,34 @@
 -- A session opens a wait, and ends it: steps on its own wait's word.
-use Rattle.std.proofs.Common.{◌≡◌, ◌≢◌, ℕ, ◌+◌, ◌*◌, ◌/◌, ◌%◌, ◌<◌, ◌≤◌, ◌==◌, cond, List, [], ◌∷◌, ◌++◌, map, set, length, get_or, Some, None, refl, sym, ap, ◌∙◌, subst, arith}
+use Rattle.std.proofs.Common.{◌≡◌, ◌≢◌, ℕ, ◌+◌, ◌*◌, ◌/◌, ◌%◌, ◌<◌, ◌≤◌, ◌==◌, cond, List, [], ◌∷◌, ◌++◌, map, set, length, Some, None, refl, sym, ap, ◌∙◌, subst, arith}
 use Rattle.std.specs.Prelude.{Option}
 use mathlib.Core.Option.{some, none}
 use lib.ListN.{get_elem?}
-use Rattle.atomic_table.specs.Table.{Allows, step, Act, keeps, stepped as moved_by}
+use Rattle.atomic_table.specs.Table.{Allows, step, keeps}
 use Rattle.atomic_table.proofs.Lists.{at_map}
 use Rattle.mdl_key.specs.Words.{KeyName}
 use Rattle.mdl_key.specs.declared.mode.Mode.{Mode}
 use Rattle.mdl_book.specs.declared.ticket.Ticket.{Ticket}
+use Rattle.mdl_book.specs.Books.{lock_kind}
 use Rattle.mdl_steps.specs.declared.deed.Deed.TheVariants.{Gain}
-use Rattle.mdl_steps.specs.declared.slot.Slot.{Slot}
 use Rattle.mdl_steps.specs.declared.view.Ask.{Ask}
 use Rattle.mdl_steps.specs.declared.view.LatchRecord.{LatchRecord}
 use Rattle.mdl_steps.specs.declared.view.Known.{Known}
 use Rattle.mdl_steps.specs.declared.view.Own.{Own}
 use Rattle.mdl_steps.specs.declared.view.View.{View}
 use Rattle.mdl_steps.specs.Cells.{Part, asking_at, part_at, holder_at, held_at, note_at, own_at, waiter_of, waits, cell, all_fast}
+use Rattle.mdl_steps.specs.Histories.{ReachedFor}
 use Rattle.mdl_steps.specs.Layout.{wait_word}
 use Rattle.mdl_steps.specs.Lists.{Each}
 use Rattle.mdl_steps.specs.Plays.{Mine}
 use Rattle.mdl_steps.specs.Rule.{AreUnmixed, Rule, PlaceOk, NoteAgrees, WaitOk, key_at}
+use Rattle.mdl_steps.specs.Turns.{Makes}
 use Rattle.mdl_steps.specs.WaitPlays.{wait_in, asking, asked_ticket, opened, taken_over, ended_granted, ended_lost, with_waiting, with_cancelled, opens_wait, ends_granted, ends_lost}
 use Rattle.mdl_steps.specs.WaitSeats.{MayOpen, MayCancel}
+use Rattle.mdl_steps.proofs.Histories.{Shown, Shows, goes_on}
 use Rattle.mdl_steps.proofs.Desks.{each-append}
 use Rattle.mdl_steps.proofs.Holder.{Under, under, holder_cell}
 use Rattle.mdl_steps.proofs.Lift.{Table, after, alone, alone_parts, seat_there, holders_again}
+use Rattle.mdl_steps.proofs.Paid.{exact_again, paid_before}
 use Rattle.mdl_steps.proofs.Owns.{each-from_at, each-note, owned_else}
 use Rattle.mdl_steps.proofs.Views.{by_bool, each_at, held_at-changed, held_at-unchanged, other}
 use Rattle.mdl_steps.proofs.WaitBooks.{opened_ok, taken_ok, cancelled_ok, fast_kept}
@@ -92,13 +96,13 @@ module _ (s : Table) (r : Rule s) (id : ℕ) (me : Mine) (seat : get_elem? s.vie
       unfolding ok
       mine = (ok.held id (holder_at place me.0) there h recorded).mine
 
-      u : Under (key_at r.keys place) (cell s place).word (cell s place).version (cell s place).parts h
+      u : Under (key_at r.keys place) me.0.number (cell s place).word (cell s place).version (cell s place).parts h
       unfolding ok
       u = under (key_at r.keys place) (cell s place) ok id (holder_at place me.0) there h recorded
 
       -- the record is another, and so is the part
       recorded_cell : (w : View) (f : LatchRecord → LatchRecord) → ((x : LatchRecord) → (f x).place ≡ x.place) → w.number ≡ me.0.number → w.latches ≡ map (λ x. cond (x.place == place) (f x) x) me.0.latches
-          → (part : Part) → Under (key_at r.keys place) (cell s place).word (cell s place).version (set (cell s place).parts id part) (f h)
+          → (part : Part) → Under (key_at r.keys place) me.0.number (cell s place).word (cell s place).version (set (cell s place).parts id part) (f h)
           → PlaceOk (key_at r.keys place) (record (cell s place) { holders = set (cell s place).holders id (holder_at place w); parts = set (cell s place).parts id part })
       unfolding ok
       recorded_cell w f stays number latches part now =
@@ -173,11 +177,13 @@ module _ (s : Table) (r : Rule s) (id : ℕ) (me : Mine) (seat : get_elem? s.vie
         (own_parts s r session word id me.0 w seat refl some_number refl place ∙ ap (λ (x : Part). set (cell s place).parts id x) then_is)
         (own_waits s r session word id me.0 w seat refl some_number refl
         (subst (λ (n : ℕ). WaitOk (length s.homes) n (waiter_of w)) (sym (waits_here s r session word id me.0 w fits))
-        (opened_wait (length s.homes) me.0.waits (asking place mode me.0) me.0 first last)))
+        (opened_wait (length s.homes) me.0.waits (asking place mode me.0) me.0 first last some_number)))
         (recorded_cell place first last h may.recorded w (with_waiting ticket) (λ x. refl) refl refl then_ (record {
           counted = rw fast (u place first last h may.recorded).counted;
           flagged = may.flagged;
           noted = rw fast (u place first last h may.recorded).noted;
+          exact = exact_again (cell s place).parts id (was place first last) then_ (part_there place first last) refl (λ e. e) fast (lock_kind h.book) h.slow h.obtrusive me.0.number h.noted h.exact
+              (u place first last h may.recorded).exact;
           book_ok = opened_ok (key_at r.keys place) (cell s place).version (cell s place).parts h.book id (was place first last) (part_there place first last) (by_itself place first last)
               (u place first last h may.recorded).book_ok ticket was_idle refl may.mode_is some_key;
         }))
@@ -253,6 +259,7 @@ module _ (s : Table) (r : Rule s) (id : ℕ) (me : Mine) (seat : get_elem? s.vie
           (rw (holders_again s a.place id me.0 taken seat refl)
           (part_cell key (cell s a.place) there_ok (set (cell s a.place).parts id with_own)
           (fast_kept key (cell s a.place).version (cell s a.place).parts there_ok.book id (part_at (waits s) a.place me.0) there_part is_alone there_ok.book_ok with_own refl refl)
+          (paid_before (cell s a.place).parts id (part_at (waits s) a.place me.0) with_own there_part refl (λ e. e))
           (taken_ok key (cell s a.place).version (cell s a.place).parts there_ok.book id (part_at (waits s) a.place me.0) there_part is_alone there_ok.book_ok (wished session a) own asked refl agrees)))
 
     -- lost: the ticket is gone
@@ -306,40 +313,42 @@ module _ (s : Table) (r : Rule s) (id : ℕ) (me : Mine) (seat : get_elem? s.vie
             counted = rw fast under_h.counted;
             flagged = flagged_cancelled session cancelled_number h.book h.slow h.obtrusive under_h.flagged;
             noted = rw fast under_h.noted;
+            exact = exact_again (cell s place).parts id (part_at (waits s) place me.0) without_ask there_part refl (λ e. e) fast (lock_kind h.book) h.slow h.obtrusive me.0.number h.noted h.exact under_h.exact;
             book_ok = cancelled;
           }))
 
 -- ---- the steps
 
 -- what is shown of a table of so many slots, a word of which becomes this number
-abbrev Stores : ℕ → Mine → Table → ℕ → (ℕ → ℕ → Mine → Type 0) → ℕ → Type 0
-Stores id me s n then slots =
-    (w : View) × (a : Act Slot) × Rattle.atomic_table.specs.Table.Valid s.homes me.1 a
-    × Rule (moved_by s (wait_word slots me.0.number) n id me.1 w a)
-    × then slots (get_or s.words (wait_word slots me.0.number) 0) (w, Rattle.atomic_table.specs.Table.carried_after me.1 a)
+abbrev Stores : ℕ → Mine → Table → ℕ → (ℕ → Mine → Type 0) → ℕ → Type 0
+Stores id me s n then slots = Shows s id me (step slots (wait_word slots me.0.number) n 0 none) n (then slots)
 
 module _ (slots id : ℕ) (me : Mine) (some_number : 0 < me.0.number) where
   pub opens_allowed : (place : ℕ) (mode : Mode) → 0 < place → place < slots → (h : LatchRecord) → MayOpen place mode h me → (n : ℕ) → n ≡ wait_in (me.0.waits + 1) 1
-      → Allows Rule slots id me (wait_word slots me.0.number) (λ _. n) (λ _. opens_wait place mode (step slots (wait_word slots me.0.number) n 0 none) me n)
-  opens_allowed place mode first last h may n is s r size seat fits =
-      subst (Stores id me s n (λ k found. opens_wait place mode (step k (wait_word k me.0.number) n 0 none) me n)) size (
+      → (room : ℕ) → Allows (ReachedFor room) slots id me (wait_word slots me.0.number) (λ _. n) (λ _. opens_wait place mode (step slots (wait_word slots me.0.number) n 0 none) me n)
+  opens_allowed place mode first last h may n is = goes_on slots id (wait_word slots me.0.number) n 0 me (λ _. n) (λ _. opens_wait place mode (step slots (wait_word slots me.0.number) n 0 none) me n) (λ s r size seat fits.
+      subst (Stores id me s n (λ k. opens_wait place mode (step k (wait_word k me.0.number) n 0 none) me n)) size (
         (opened (length s.homes) place mode me).0,
         keeps,
         tt,
         subst (λ (m : ℕ). Rule (after s (wait_word (length s.homes) me.0.number) m id (opened (length s.homes) place mode me).0 s.homes)) (sym is)
             (opened_rule s r id me seat some_number place first (omega arith) mode h may),
         (refl, λ here first_is. refl),
-      )
+        (λ told. Makes.OpensWait place mode refl is told),
+        ((first, rw size last), (h, may), (is, refl), some_number),
+      ))
 
-  pub ends_granted_allowed : me.0.told ≡ Some 2 → (n : ℕ) → n ≡ 8 * me.0.waits
-      → Allows Rule slots id me (wait_word slots me.0.number) (λ _. n) (λ _. ends_granted (step slots (wait_word slots me.0.number) n 0 none) me n)
-  ends_granted_allowed told n is s r size seat fits =
-      subst (Stores id me s n (λ k found. ends_granted (step k (wait_word k me.0.number) n 0 none) me n)) size (
+  ends_granted_shown : me.0.told ≡ Some 2 → (n : ℕ) → n ≡ 8 * me.0.waits
+      → Shown slots id (wait_word slots me.0.number) n 0 me (λ _. n) (λ _. ends_granted (step slots (wait_word slots me.0.number) n 0 none) me n)
+  ends_granted_shown told n is s r size seat fits =
+      subst (Stores id me s n (λ k. ends_granted (step k (wait_word k me.0.number) n 0 none) me n)) size (
         (ended_granted (length s.homes) me).0,
         keeps,
         tt,
         subst (λ (m : ℕ). Rule (after s (wait_word (length s.homes) me.0.number) m id (ended_granted (length s.homes) me).0 s.homes)) (sym is) (by_ask me.0.asks refl),
         (refl, λ here. refl),
+        (λ known. Makes.EndsGranted refl known),
+        (some_number, told, (omega arith, refl)),
       )
     where
       by_ask : (asks : Option Ask) → me.0.asks ≡ asks → Rule (after s (wait_word (length s.homes) me.0.number) (8 * me.0.waits) id (ended_granted (length s.homes) me).0 s.homes)
@@ -348,11 +357,15 @@ module _ (slots id : ℕ) (me : Mine) (some_number : 0 < me.0.number) where
           subst (λ (o : Option Ask). Rule (after s (wait_word (length s.homes) me.0.number) (8 * me.0.waits) id (record (ended_granted (length s.homes) me).0 { slow = me.0.slow ++ taken_over o me.0.slow }) s.homes)) (sym e)
           (taken_rule s r id me seat some_number 2 told refl a e)
 
+  pub ends_granted_allowed : me.0.told ≡ Some 2 → (n : ℕ) → n ≡ 8 * me.0.waits
+      → (room : ℕ) → Allows (ReachedFor room) slots id me (wait_word slots me.0.number) (λ _. n) (λ _. ends_granted (step slots (wait_word slots me.0.number) n 0 none) me n)
+  ends_granted_allowed told n is =
+      goes_on slots id (wait_word slots me.0.number) n 0 me (λ _. n) (λ _. ends_granted (step slots (wait_word slots me.0.number) n 0 none) me n) (ends_granted_shown told n is)
+
   pub ends_lost_allowed : (place : ℕ) (h : LatchRecord) → MayCancel place h me → (n : ℕ) → n ≡ 8 * me.0.waits
-      → Allows Rule slots id me (wait_word slots me.0.number) (λ _. n) (λ _. ends_lost (step slots (wait_word slots me.0.number) n 0 none) me n)
-  ends_lost_allowed place h may n is s r size seat fits =
-      let w : View = (ended_lost (length s.homes) place may.ask.number may.state me).0 in
-      subst (Stores id me s n (λ k found. ends_lost (step k (wait_word k me.0.number) n 0 none) me n)) size (
+      → (room : ℕ) → Allows (ReachedFor room) slots id me (wait_word slots me.0.number) (λ _. n) (λ _. ends_lost (step slots (wait_word slots me.0.number) n 0 none) me n)
+  ends_lost_allowed place h may n is = goes_on slots id (wait_word slots me.0.number) n 0 me (λ _. n) (λ _. ends_lost (step slots (wait_word slots me.0.number) n 0 none) me n) (λ s r size seat fits.
+      subst (Stores id me s n (λ k. ends_lost (step k (wait_word k me.0.number) n 0 none) me n)) size (
         (ended_lost (length s.homes) place may.ask.number may.state me).0,
         keeps,
         tt,
@@ -368,4 +381,6 @@ module _ (slots id : ℕ) (me : Mine) (some_number : 0 < me.0.number) where
               let place_is : place ≡ a.place = sym may.here ∙ ap (λ (b : Ask). b.place) ask_is in
               λ i. ended_lost (length s.homes) (place_is i) (ask_is i).number (state_is i) me,
         ),
-      )
+        (λ known. Makes.EndsLost may.ask may.state may.asks may.told refl known),
+        (inside s r id me seat some_number may.state may.told may.ask may.asks, (h, subst (λ (q : ℕ). MayCancel q h me) (sym may.here) may), (omega arith, refl)),
+      ))

@@ -4,28 +4,31 @@ use Rattle.std.specs.Option.{option_to_list}
 use mathlib.Core.Option.{some, none}
 use lib.ListN.{get_elem?}
 use prog.Atomic.{either}
-use Rattle.atomic_table.specs.Table.{Allows, step, Act, keeps, stepped as moved_by}
+use Rattle.atomic_table.specs.Table.{Allows, step, keeps}
 use Rattle.atomic_table.proofs.Lists.{at_map, exchanged}
 use Rattle.mdl_book.specs.declared.ticket.Ticket.{Ticket}
 use Rattle.mdl_book.specs.Books.{lock_kind, admitting}
 use Rattle.mdl_book.specs.Granting.{is_compatible}
 use Rattle.mdl_book.specs.Tickets.{is_ticket, ticket_of}
-use Rattle.mdl_steps.specs.declared.slot.Slot.{Slot}
 use Rattle.mdl_steps.specs.declared.step_kind.StepKind.TheVariants as step_kind
 use Rattle.mdl_steps.specs.declared.view.Ask.{Ask}
 use Rattle.mdl_steps.specs.declared.view.LatchRecord.{LatchRecord}
 use Rattle.mdl_steps.specs.declared.view.Own.{Own}
 use Rattle.mdl_steps.specs.declared.view.View.{View}
 use Rattle.mdl_steps.specs.Cells.{Part, pending, asking_at, part_at, holder_at, own_at, ticket_by, waits, cell, all_fast}
+use Rattle.mdl_steps.specs.Histories.{ReachedFor}
 use Rattle.mdl_steps.specs.Layout.{wait_word}
 use Rattle.mdl_steps.specs.Lists.{Each}
 use Rattle.mdl_steps.specs.Plays.{Mine}
 use Rattle.mdl_steps.specs.Rule.{Rule, PlaceOk, BookOk, WaitOk, key_at}
+use Rattle.mdl_steps.specs.Turns.{Makes}
 use Rattle.mdl_steps.specs.WaitPlays.{wait_in, missed_wait, settled_granted, with_admitted, TellsOwn, settles_granted}
 use Rattle.mdl_steps.specs.WaitSeats.{MayGrant}
+use Rattle.mdl_steps.proofs.Histories.{Shows, goes_on}
 use Rattle.mdl_steps.proofs.Deeds.{may_join}
 use Rattle.mdl_steps.proofs.Holder.{Under, under, holder_cell}
 use Rattle.mdl_steps.proofs.Lift.{Table, after, alone, alone_parts, seat_there}
+use Rattle.mdl_steps.proofs.Paid.{exact_again}
 use Rattle.mdl_steps.proofs.Tickets.{is_passed, of_other_number}
 use Rattle.mdl_steps.proofs.Views.{by_bool, held_at-changed, held_at-unchanged}
 use Rattle.mdl_steps.proofs.WaitBooks.{granted_ok, fast_kept}
@@ -73,7 +76,7 @@ module _ (s : Table) (r : Rule s) (id session : ℕ) (me : Mine) (seat : get_ele
   unfolding ok
   mine = (ok.held id (holder_at place me.0) there h may.recorded).mine
 
-  u : Under (key_at r.keys place) (cell s place).word (cell s place).version (cell s place).parts h
+  u : Under (key_at r.keys place) me.0.number (cell s place).word (cell s place).version (cell s place).parts h
   unfolding ok
   u = under (key_at r.keys place) (cell s place) ok id (holder_at place me.0) there h may.recorded
 
@@ -143,6 +146,7 @@ module _ (s : Table) (r : Rule s) (id session : ℕ) (me : Mine) (seat : get_ele
           counted = rw fast u.counted;
           flagged = flagged_admitted session ticket h.book may.wish h.slow h.obtrusive may.waits u.flagged;
           noted = rw fast u.noted;
+          exact = exact_again (cell s place).parts t.at was then_ part_there refl (λ e. e) fast (lock_kind h.book) h.slow h.obtrusive me.0.number h.noted h.exact u.exact;
           book_ok = book_ok;
         })
 
@@ -169,13 +173,12 @@ module _ (s : Table) (r : Rule s) (id session : ℕ) (me : Mine) (seat : get_ele
   granted_rule = granted_there waiting.0 waiting.1
 
 pub settles_granted_allowed : (slots id session place ticket number : ℕ) (me : Mine) → 0 < me.0.number → 0 < session → 0 < place → place < slots → (h : LatchRecord) → MayGrant place session ticket h me
-    → Allows Rule slots id me (wait_word slots session) (λ n. either (n == wait_in number 1) (wait_in number 2) n) (settles_granted place ticket (step slots (wait_word slots session) (wait_in number 1) (wait_in number 2) none) me)
-settles_granted_allowed slots id session place ticket number me some_number some_session first last h may s r size seat fits =
-    subst (Steps id session me s (λ n. either (n == wait_in number 1) (wait_in number 2) n) (λ k found m. settles_granted place ticket (step k (wait_word k session) (wait_in number 1) (wait_in number 2) none) me found m)) size
+    → (room : ℕ) → Allows (ReachedFor room) slots id me (wait_word slots session) (λ n. either (n == wait_in number 1) (wait_in number 2) n) (settles_granted place ticket (step slots (wait_word slots session) (wait_in number 1) (wait_in number 2) none) me)
+settles_granted_allowed slots id session place ticket number me some_number some_session first last h may = goes_on slots id (wait_word slots session) (wait_in number 1) (wait_in number 2) me (λ n. either (n == wait_in number 1) (wait_in number 2) n) (settles_granted place ticket (step slots (wait_word slots session) (wait_in number 1) (wait_in number 2) none) me) (λ s r size seat fits.
+    subst (Steps id session me (wait_in number 1) (wait_in number 2) s (λ n. either (n == wait_in number 1) (wait_in number 2) n) (λ k found m. settles_granted place ticket (step k (wait_word k session) (wait_in number 1) (wait_in number 2) none) me found m)) size
     (exchanged (waits s session) (wait_in number 1) (wait_in number 2)
-    (λ n. (w : View) × (a : Act Slot) × Rattle.atomic_table.specs.Table.Valid s.homes me.1 a
-    × Rule (moved_by s (wait_word (length s.homes) session) n id me.1 w a)
-    × settles_granted place ticket (step (length s.homes) (wait_word (length s.homes) session) (wait_in number 1) (wait_in number 2) none) me (waits s session) (w, Rattle.atomic_table.specs.Table.carried_after me.1 a))
+    (λ n. Shows s id me (step (length s.homes) (wait_word (length s.homes) session) (wait_in number 1) (wait_in number 2) none) n
+    (settles_granted place ticket (step (length s.homes) (wait_word (length s.homes) session) (wait_in number 1) (wait_in number 2) none) me (waits s session)))
     (λ found. (
       (settled_granted (length s.homes) place session ticket number me).0,
       keeps,
@@ -191,6 +194,8 @@ settles_granted_allowed slots id session place ticket number me some_number some
               λ missed. absurd (missed (found ∙ is_first)),
             ),
       ),
+      (λ told. Makes.SettlesGranted place ticket session number refl refl told),
+      ((first, rw size last), some_session, (h, may), (refl, (λ _. refl), λ missed. absurd (missed found))),
     ))
     (λ missed. (
       (missed_wait (length s.homes) session (waits s session) me).0,
@@ -206,4 +211,6 @@ settles_granted_allowed slots id session place ticket number me some_number some
               λ _. λ i. missed_wait (length s.homes) (same i) (waits s session) me,
             ),
       ),
-    )))
+      (λ told. Makes.SettlesGranted place ticket session number refl refl told),
+      ((first, rw size last), some_session, (h, may), (refl, (λ found. absurd (missed found)), λ _. refl)),
+    ))))

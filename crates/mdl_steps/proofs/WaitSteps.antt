@@ -6,21 +6,26 @@ use Rattle.std.proofs.lemmas.List.{map-set}
 use mathlib.Core.Option.{some, none, some-injective, some-ne-none}
 use lib.ListN.{get_elem?}
 use prog.Atomic.{either}
-use Rattle.atomic_table.specs.Table.{Allows, step, Act, keeps, stepped as moved_by}
+use Rattle.atomic_table.specs.Table.{Allows, step, keeps}
 use Rattle.atomic_table.proofs.Lists.{at_map, at_set, set_here, set_else, exchanged}
 use Rattle.mdl_key.specs.Words.{KeyName}
 use Rattle.mdl_book.specs.declared.ticket.Ticket.{Ticket}
-use Rattle.mdl_steps.specs.declared.slot.Slot.{Slot}
 use Rattle.mdl_steps.specs.declared.step_kind.StepKind.{StepKind}
 use Rattle.mdl_steps.specs.declared.step_kind.StepKind.TheVariants as step_kind
 use Rattle.mdl_steps.specs.declared.view.Ask.{Ask}
 use Rattle.mdl_steps.specs.declared.view.View.{View}
+use Rattle.mdl_steps.specs.declared.wait_word.Loss.{Loss}
 use Rattle.mdl_steps.specs.Cells.{Part, Cell, Waiter, asking_at, part_at, holder_at, desk_of, waiter_of, waits, cell, all_fast}
+use Rattle.mdl_steps.specs.Histories.{ReachedFor}
 use Rattle.mdl_steps.specs.Layout.{wait_word}
 use Rattle.mdl_steps.specs.Plays.{Mine}
-use Rattle.mdl_steps.specs.Rule.{Rule, PlaceOk, BookOk, Numbered, WaitOk, WaitsAgree, KnowsKeys, key_at}
+use Rattle.mdl_steps.specs.Rule.{Rule, PlaceOk, BookOk, IsPaidBut, Numbered, WaitOk, WaitsAgree, KnowsKeys, key_at}
+use Rattle.mdl_steps.specs.Turns.{Makes}
 use Rattle.mdl_steps.specs.WaitPlays.{wait_in, meeting, met_wait_by, met_wait, missed_wait, settled_lost, TellsOwn, reads_wait, settles_lost}
+use Rattle.mdl_steps.specs.WaitStates.{lost_state}
+use Rattle.mdl_steps.proofs.Histories.{Shows, goes_on}
 use Rattle.mdl_steps.proofs.Lift.{Table, after, alone_parts, holders_again}
+use Rattle.mdl_steps.proofs.Paid.{paid_before}
 use Rattle.mdl_steps.proofs.Views.{map_kept, at_inside, at_unmap}
 use Rattle.mdl_steps.proofs.WaitBooks.{lost_ok, fast_kept}
 use Rattle.mdl_steps.proofs.WaitFrame.{on_wait, waits_else, waits_here, their_parts, their_parts_else, part_away}
@@ -67,15 +72,26 @@ none_before xs id x y at number n nobody j z there same = elim (cases_eq j id) [
 
 -- ---- a place at which only a part is another
 
-pub part_cell : (key : Option KeyName) (c : Cell) (ok : PlaceOk key c) (parts : List Part) → all_fast parts ≡ all_fast c.parts → BookOk key c.version parts ok.book
+pub part_cell : (key : Option KeyName) (c : Cell) (ok : PlaceOk key c) (parts : List Part) → all_fast parts ≡ all_fast c.parts → ((number : ℕ) → IsPaidBut number parts → IsPaidBut number c.parts)
+    → BookOk key c.version parts ok.book
     → PlaceOk key (record c { parts = parts })
-part_cell key c ok parts fast book_ok = record {
+part_cell key c ok parts fast paid book_ok = record {
   book = ok.book;
   slow = ok.slow;
   obtrusive = ok.obtrusive;
   free = ok.free;
   taken = ok.taken;
-  held = λ j l at h is. (let k = ok.held j l at h is in record { mine = k.mine; some_session = k.some_session; book_is = k.book_is; slow_is = k.slow_is; obtrusive_is = k.obtrusive_is; noted_counts = rw fast k.noted_counts });
+  held = λ j l at h is.
+      let k = ok.held j l at h is in
+      record {
+        mine = k.mine;
+        some_session = k.some_session;
+        book_is = k.book_is;
+        slow_is = k.slow_is;
+        obtrusive_is = k.obtrusive_is;
+        noted_counts = rw fast k.noted_counts;
+        exact_counts = λ up. let w = k.exact_counts up in (w.0, w.1, λ word noted now. rw fast (w.2 word noted (paid l.number now)));
+      };
   counted = rw fast ok.counted;
   flagged = ok.flagged;
   book_ok = book_ok;
@@ -286,6 +302,7 @@ module _ (s : Table) (r : Rule s) (id session : ℕ) (me : Mine) (seat : get_ele
         rw (holders_again s place id me.0 w seat refl)
         (part_cell key c ok (set c.parts t.at then_)
         (fast_kept key c.version c.parts ok.book t.at was there by_itself ok.book_ok then_ refl refl)
+        (paid_before c.parts t.at was then_ there refl (λ e. e))
         (lost_ok key c.version c.parts ok.book t.at was there by_itself ok.book_ok ticket state was_open (λ two. omega arith)))
 
     lost_there : Rule now
@@ -312,17 +329,16 @@ module _ (s : Table) (r : Rule s) (id session : ℕ) (me : Mine) (seat : get_ele
 
 -- ---- the steps
 
-module _ (id session : ℕ) (me : Mine) where
+module _ (id session : ℕ) (me : Mine) (a b : ℕ) where
   -- what is shown of a table of so many slots, whose word becomes this number
   abbrev pub Steps : Table → (ℕ → ℕ) → (ℕ → ℕ → Mine → Type 0) → ℕ → Type 0
   Steps s f then slots =
-      (w : View) × (a : Act Slot) × Rattle.atomic_table.specs.Table.Valid s.homes me.1 a
-      × Rule (moved_by s (wait_word slots session) (f (get_or s.words (wait_word slots session) 0)) id me.1 w a)
-      × then slots (get_or s.words (wait_word slots session) 0) (w, Rattle.atomic_table.specs.Table.carried_after me.1 a)
+      Shows s id me (step slots (wait_word slots session) a b none) (f (get_or s.words (wait_word slots session) 0)) (then slots (get_or s.words (wait_word slots session) 0))
 
-  pub reads_wait_allowed : (slots : ℕ) → Allows Rule slots id me (wait_word slots session) (λ n. n) (reads_wait (step slots (wait_word slots session) 0 0 none) me)
-  reads_wait_allowed slots s r size seat fits =
-      subst (Steps s (λ n. n) (λ k found m. reads_wait (step k (wait_word k session) 0 0 none) me found m)) size (
+module _ (id session : ℕ) (me : Mine) where
+  pub reads_wait_allowed : (slots : ℕ) → (room : ℕ) → Allows (ReachedFor room) slots id me (wait_word slots session) (λ n. n) (reads_wait (step slots (wait_word slots session) 0 0 none) me)
+  reads_wait_allowed slots = goes_on slots id (wait_word slots session) 0 0 me (λ n. n) (reads_wait (step slots (wait_word slots session) 0 0 none) me) (λ s r size seat fits.
+      subst (Steps id session me 0 0 s (λ n. n) (λ k found m. reads_wait (step k (wait_word k session) 0 0 none) me found m)) size (
         (met_wait (length s.homes) session (waits s session) me).0,
         keeps,
         tt,
@@ -335,16 +351,17 @@ module _ (id session : ℕ) (me : Mine) where
                 λ i. met_wait (length s.homes) (same i) (waits s session) me,
               ),
         ),
-      )
+        (λ told. Makes.ReadsWait session refl told),
+        (refl, refl),
+      ))
 
-  pub settles_lost_allowed : (slots number state : ℕ) → 0 < session → 2 < state → state ≤ 5
-      → Allows Rule slots id me (wait_word slots session) (λ n. either (n == wait_in number 1) (wait_in number state) n) (settles_lost (step slots (wait_word slots session) (wait_in number 1) (wait_in number state) none) me)
-  settles_lost_allowed slots number state some_number lost most s r size seat fits =
-      subst (Steps s (λ n. either (n == wait_in number 1) (wait_in number state) n) (λ k found m. settles_lost (step k (wait_word k session) (wait_in number 1) (wait_in number state) none) me found m)) size
+  pub settles_lost_allowed : (slots number state : ℕ) → 0 < session → (how : Loss) → state ≡ lost_state how → 2 < state → state ≤ 5
+      → (room : ℕ) → Allows (ReachedFor room) slots id me (wait_word slots session) (λ n. either (n == wait_in number 1) (wait_in number state) n) (settles_lost (step slots (wait_word slots session) (wait_in number 1) (wait_in number state) none) me)
+  settles_lost_allowed slots number state some_number how is lost most = goes_on slots id (wait_word slots session) (wait_in number 1) (wait_in number state) me (λ n. either (n == wait_in number 1) (wait_in number state) n) (settles_lost (step slots (wait_word slots session) (wait_in number 1) (wait_in number state) none) me) (λ s r size seat fits.
+      subst (Steps id session me (wait_in number 1) (wait_in number state) s (λ n. either (n == wait_in number 1) (wait_in number state) n) (λ k found m. settles_lost (step k (wait_word k session) (wait_in number 1) (wait_in number state) none) me found m)) size
       (exchanged (waits s session) (wait_in number 1) (wait_in number state)
-      (λ n. (w : View) × (a : Act Slot) × Rattle.atomic_table.specs.Table.Valid s.homes me.1 a
-      × Rule (moved_by s (wait_word (length s.homes) session) n id me.1 w a)
-      × settles_lost (step (length s.homes) (wait_word (length s.homes) session) (wait_in number 1) (wait_in number state) none) me (waits s session) (w, Rattle.atomic_table.specs.Table.carried_after me.1 a))
+      (λ n. Shows s id me (step (length s.homes) (wait_word (length s.homes) session) (wait_in number 1) (wait_in number state) none) n
+      (settles_lost (step (length s.homes) (wait_word (length s.homes) session) (wait_in number 1) (wait_in number state) none) me (waits s session)))
       (λ found. (
         (settled_lost (length s.homes) session number state me).0,
         keeps,
@@ -361,6 +378,8 @@ module _ (id session : ℕ) (me : Mine) where
                 λ missed. absurd (missed (found ∙ first)),
               ),
         ),
+        (λ told. Makes.SettlesLost session number state refl refl refl told),
+        (some_number, (how, is), (refl, (λ _. refl), λ missed. absurd (missed found))),
       ))
       (λ missed. (
         (missed_wait (length s.homes) session (waits s session) me).0,
@@ -376,4 +395,6 @@ module _ (id session : ℕ) (me : Mine) where
                 λ _. λ i. missed_wait (length s.homes) (same i) (waits s session) me,
               ),
         ),
-      )))
+        (λ told. Makes.SettlesLost session number state refl refl refl told),
+        (some_number, (how, is), (refl, (λ found. absurd (missed found)), λ _. refl)),
+      ))))

@@ -35,17 +35,17 @@ settled_ok slots number state x more most ok = record {
   number = (let was = ok.number in omega arith);
   state = omega arith;
   idle = λ none. (let was = ok.idle none in absurd (omega arith));
-  asks = λ a e. (let was = ok.asks a e in ((λ zero. omega arith), was.1, was.2));
+  asks = λ a e. (let was = ok.asks a e in ((λ zero. omega arith), was.1, was.2, was.3));
   told = λ known e. (let was = ok.told known e in let one = was.0 in let is = was.1 in absurd (omega arith));
 }
 
 -- a wait is opened
-pub opened_wait : (slots number : ℕ) (a : Ask) (v : View) → 0 < a.place → a.place < slots → WaitOk slots (wait_in (number + 1) 1) (record { number = v.number; waits = number + 1; asks = Some a; told = None })
-opened_wait slots number a v first last = record {
+pub opened_wait : (slots number : ℕ) (a : Ask) (v : View) → 0 < a.place → a.place < slots → 0 < v.number → WaitOk slots (wait_in (number + 1) 1) (record { number = v.number; waits = number + 1; asks = Some a; told = None })
+opened_wait slots number a v first last some_number = record {
   number = omega arith;
   state = omega arith;
   idle = λ none. absurd (cc);
-  asks = λ b e. (let same : a ≡ b = cc in ((λ zero. omega arith), subst (λ (x : Ask). 0 < x.place) same first, subst (λ (x : Ask). x.place < slots) same last));
+  asks = λ b e. (let same : a ≡ b = cc in ((λ zero. omega arith), subst (λ (x : Ask). 0 < x.place) same first, subst (λ (x : Ask). x.place < slots) same last, some_number));
   told = λ state none. absurd (cc);
 }
 

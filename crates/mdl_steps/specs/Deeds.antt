@@ -66,6 +66,19 @@ all_next (d ∷ ds) next = all_next ds (next_after d next)
 abbrev pub all_done : ℕ → List Deed → View → View
 all_done place ds v = record v { slow = all_owned place ds v.slow; next = all_next ds v.next }
 
+-- whether deeds may let a waiter in: one loss, or one change of a mode. After a merge, the ticket that is left is as strong as both were
+abbrev pub frees : List Deed → Bool
+frees (Lose number ∷ []) = true
+frees (Alter number mode ∷ []) = true
+frees _ = false
+
+-- deeds of a session that let no waiter in: none, a gain, a merge, or a change of a granted ticket to a mode that is at least as strong
+abbrev pub FreesNothing : ℕ → BookView → List Deed → Type 0
+FreesNothing session book (Lose number ∷ []) = ⊥
+FreesNothing session book (Alter number mode ∷ []) =
+    (t : Ticket) × (ticket_of session number book.granted ≡ Some t) × IsAtLeast (lock_kind book) mode t.mode
+FreesNothing session book _ = Unit {0}
+
 -- ---- when it may be done: a step does what is one event of the system of locks, or nothing
 
 -- a granted ticket of the session is at least as strong as a mode

@@ -1,7 +1,7 @@
 -- The steps of a lock word's fast path: what each changes in the view of its session, and when it may be made. A fast ticket is in no list:
 -- the lock's word counts it. After MySQL 5.7, sql/mdl.cc: the fast paths of `MDL_context::try_acquire_lock_impl` and
 -- `MDL_context::release_lock`, and `MDL_context::materialize_fast_path_locks`.
-use Rattle.std.specs.Prelude.{◌≡◌, ◌≢◌, ℕ, ◌+◌, ◌<◌, ◌==◌, not, true, false, List, [], ◌∷◌, ◌++◌, map, filter, find, length, is_some, Option, Some, None}
+use Rattle.std.specs.Prelude.{◌≡◌, ◌≢◌, ℕ, ◌+◌, ◌<◌, ◌==◌, not, true, false, if◌then◌else◌, List, [], ◌∷◌, ◌++◌, map, filter, find, length, is_some, Option, Some, None}
 use Rattle.std.specs.Option.{option_and_then}
 use lib.ListN.{get_elem?}
 use mathlib.Core.Option.{some}
@@ -9,7 +9,7 @@ use Rattle.atomic_table.specs.Table.{Step}
 use Rattle.mdl_key.specs.declared.mode.Mode.{Mode}
 use Rattle.mdl_key.specs.declared.namespace.Kind.{Kind}
 use Rattle.mdl_key.specs.Words.{kind_of}
-use Rattle.mdl_word.specs.Words.{encode, increment_of}
+use Rattle.mdl_word.specs.Words.{encode, increment_of, slow_flag}
 use Rattle.mdl_book.specs.declared.book_view.BookView.{BookView}
 use Rattle.mdl_book.specs.declared.ticket.Ticket.{Ticket}
 use Rattle.mdl_book.specs.Books.{lock_kind}
@@ -57,10 +57,14 @@ granted_fast place mode noted found m =
 abbrev pub but_own : ℕ → ℕ → List Own → List Own
 but_own place number tickets = filter (λ t. not (is_own place number t)) tickets
 
+-- the places that a session owes a reschedule after a fast release there found this word. If the flag SLOW was up, tickets may wait
+abbrev pub owing : ℕ → ℕ → List ℕ → List ℕ
+owing place found owes = if slow_flag found then place ∷ owes else owes
+
 -- a fast ticket was released
 abbrev pub released_fast : ℕ → ℕ → ℕ → Mine → Mine
 released_fast place number found m =
-    let v = record m.0 { fast = but_own place number m.0.fast } in
+    let v = record m.0 { fast = but_own place number m.0.fast; owes = owing place found m.0.owes } in
     (logged step.ReleaseFast (Lose number ∷ []) (lock_word place) found m.0.latches v, m.1)
 
 -- the fast tickets that a session has at a place, as they are listed in a book
@@ -71,9 +75,9 @@ moved place v = map (ticket_by v.number) (own_at place v.fast)
 abbrev pub granting_all : List Ticket → BookView → BookView
 granting_all tickets book = record book { granted = book.granted ++ tickets }
 
--- the record of a latch with these tickets at the end of its book's granted list
+-- the record of a latch with these tickets at the end of its book's granted list. A noted word still counts them
 abbrev pub with_granted : List Ticket → LatchRecord → LatchRecord
-with_granted tickets h = record h { book = granting_all tickets h.book }
+with_granted tickets h = record h { book = granting_all tickets h.book; exact = false }
 
 -- the tickets that aren't at this place
 abbrev pub but_at : ℕ → List Own → List Own
@@ -109,8 +113,10 @@ pub record MayGrantFast (place : ℕ) (mode : Mode) (noted : Option ℕ) (one : 
   pub few : length (own_at place m.0.fast) < most_fast
   pub noted_there : noted ≡ noted_at place m.0
 
--- a fast ticket may be released: it is the session's only one with this number at the place, and the word counts it by `one`
+-- a fast ticket may be released: the session doesn't hold the place's latch, the ticket is its only one with this number there, and the word counts
+-- it by `one`
 pub record MayReleaseFast (place number one : ℕ) (m : Mine) : Type 0 where
+  pub apart : held_at place m.0.latches ≡ None
   pub ticket : Own
   pub only : filter (is_own place number) m.0.fast ≡ ticket ∷ []
   pub counted_so : IsCounted m.0 place ticket.mode one

@@ -2,6 +2,7 @@ pub mod Cells
 pub mod Copies
 pub mod Deeds
 pub mod FastPlays
+pub mod Histories
 pub mod InHand
 pub mod Interleavings
 pub mod Layout
@@ -14,6 +15,9 @@ pub mod RuleLaws
 pub mod Schemas
 pub mod SeatStates
 pub mod Seats
+pub mod Servings
+pub mod Sights
+pub mod Turns
 pub mod VersionPlays
 pub mod WaitPlays
 pub mod WaitSeats

@@ -1,7 +1,7 @@
 -- What a session knows after each kind of step, given the step, the seat before it, and the value that the step found in its word. Each step is
 -- added to the session's list of steps: its kind, what the session did to its own tickets, its word, the value of the word before, and the
 -- records of the latches that the session held.
-use Rattle.std.specs.Prelude.{◌≡◌, ◌≢◌, ℕ, ◌+◌, ◌-◌, ◌<◌, ◌≤◌, ◌==◌, not, Bool, true, ◌&&◌, ◌||◌, List, [], ◌∷◌, ◌++◌, map, filter, length, Some, None, if◌then◌else◌}
+use Rattle.std.specs.Prelude.{◌≡◌, ◌≢◌, ℕ, ◌+◌, ◌-◌, ◌<◌, ◌≤◌, ◌==◌, not, Bool, true, false, ◌&&◌, ◌||◌, List, [], ◌∷◌, ◌++◌, map, filter, length, Some, None, if◌then◌else◌}
 use lib.ListN.{get_elem?}
 use mathlib.Core.Option.{some}
 use Rattle.atomic_table.specs.Table.{Me, Step, rest}
@@ -28,7 +28,7 @@ use Rattle.mdl_steps.specs.declared.view.Known.{Known}
 use Rattle.mdl_steps.specs.declared.view.Own.{Own}
 use Rattle.mdl_steps.specs.declared.view.View.{View}
 use Rattle.mdl_steps.specs.Cells.{own_at, reads_at, ticket_by}
-use Rattle.mdl_steps.specs.Deeds.{all_done, NotWaited}
+use Rattle.mdl_steps.specs.Deeds.{all_done, frees, NotWaited}
 use Rattle.mdl_steps.specs.Layout.{latch_word, lock_word, version_word}
 use Rattle.mdl_steps.specs.Limits.{most_fast}
 use Rattle.mdl_steps.specs.Lists.{Distinct, Each, Once}
@@ -48,7 +48,7 @@ logged kind ds word found held v =
 -- ---- the record of a latch
 
 -- a record of a latch as the session takes the latch:
--- * The flags are up exactly if the lists need them, and no word is noted.
+-- * The flags are up exactly if the lists need them, no word is noted, and nothing was freed.
 -- * Granted tickets of different sessions are compatible, and in modes of the lock's kind.
 -- * The session's tickets in the granted list are its slow tickets there, except one that it waits for.
 -- * The book is that of each key that the session knows to be here. If the session holds the directory's latch, it is that of the key that the
@@ -62,6 +62,8 @@ pub record IsFresh (place : ℕ) (h : LatchRecord) (m : Mine) : Type 0 where
   pub here : h.place ≡ place
   pub exact : TellsLists h.book h.slow h.obtrusive
   pub unnoted : h.noted ≡ None
+  pub inexact : h.exact ≡ false
+  pub unfreed : h.freed ≡ false
   pub lawful : is_lawful (lock_kind h.book) h.book.granted ≡ true
   pub modes : list_all (λ t. is_mode_of (lock_kind h.book) t.mode) h.book.granted ≡ true
   pub own : (number : ℕ) → NotWaited m.0 number →
@@ -87,14 +89,20 @@ pub record IsFresh (place : ℕ) (h : LatchRecord) (m : Mine) : Type 0 where
 abbrev pub raised : Bool → Bool → LatchRecord → LatchRecord
 raised slow obtrusive h = record h { slow = slow || h.slow; obtrusive = obtrusive || h.obtrusive }
 
--- the record with a word noted, if the flag OBTRUSIVE is up
+-- the record with a word noted, if the flag OBTRUSIVE is up. It counts exactly the fast tickets if the flag SLOW is up, too
 abbrev pub noting : ℕ → LatchRecord → LatchRecord
-noting word h = record h { noted = if h.obtrusive then Some word else h.noted }
+noting word h = record h { noted = if h.obtrusive then Some word else h.noted; exact = if h.obtrusive then h.slow else h.exact }
 
--- the record with this book, and with the flags lowered that aren't chosen. The noted word is dropped with the flag OBTRUSIVE
-abbrev pub lowered : BookView → Bool → Bool → LatchRecord → LatchRecord
-lowered book slow obtrusive h =
-    record h { book = book; slow = slow && h.slow; obtrusive = obtrusive && h.obtrusive; noted = if obtrusive && h.obtrusive then h.noted else None }
+-- the record after these deeds with this book, and with the flags lowered that aren't chosen. The noted word is dropped with the flag OBTRUSIVE
+abbrev pub lowered : List Deed → BookView → Bool → Bool → LatchRecord → LatchRecord
+lowered ds book slow obtrusive h = record h {
+  book = book;
+  slow = slow && h.slow;
+  obtrusive = obtrusive && h.obtrusive;
+  noted = if obtrusive && h.obtrusive then h.noted else None;
+  exact = false;
+  freed = h.freed || frees ds;
+}
 
 -- the record with this version and definition of the lock's key
 abbrev pub restood : Standing → LatchRecord → LatchRecord
@@ -129,6 +137,11 @@ latched place h m =
 abbrev pub unlatched : ℕ → List Deed → Mine → Mine
 unlatched place ds m = (logged step.PutLatch ds (latch_word place) m.0.number m.0.latches (dropped place (all_done place ds m.0)), rest m.1)
 
+-- the latch of a place was given back without deeds, and the session doesn't owe the place a reschedule any more
+abbrev pub served : ℕ → Mine → Mine
+served place m =
+    (logged step.PutLatch [] (latch_word place) m.0.number m.0.latches (record (dropped place m.0) { owes = filter (λ p. not (p == place)) m.0.owes }), rest m.1)
+
 -- the record of the latch of a place was changed by a step of this kind on the lock's word
 abbrev pub stepped : StepKind → ℕ → ℕ → (LatchRecord → LatchRecord) → Mine → Mine
 stepped kind place found f m =
@@ -138,7 +151,7 @@ stepped kind place found f m =
 -- flags of a place's word were lowered after some deeds, and the latch's record has this book
 abbrev pub flags_lowered : ℕ → List Deed → ℕ → BookView → Bool → Bool → Mine → Mine
 flags_lowered place ds found book slow obtrusive m =
-    let v = changed place (lowered book slow obtrusive) (all_done place ds m.0) in
+    let v = changed place (lowered ds book slow obtrusive) (all_done place ds m.0) in
     (logged (step.LowerFlags slow obtrusive) ds (lock_word place) found m.0.latches v, m.1)
 
 -- the definition of a place was changed. It counts as read by the session, which has noted its version under each ticket that it has there. The
@@ -163,6 +176,10 @@ read_and_put place standing m =
       reads = m.0.reads ++ record { place = place; standing = standing } ∷ [];
     } in
     (logged step.PutLatch [] (latch_word place) m.0.number m.0.latches known, rest m.1)
+
+-- the latch of a place was given back with nothing changed, and the session has no search for a deadlock left to make
+abbrev pub searched : ℕ → Mine → Mine
+searched place m = (logged step.PutLatch [] (latch_word place) m.0.number m.0.latches (record (dropped place m.0) { searches = false }), rest m.1)
 
 -- ---- the directory
 
@@ -218,12 +235,22 @@ abbrev pub puts_latch : List Deed → Step Slot → Mine → ℕ → Mine → Ty
 puts_latch ds st m found m′ =
     (m′.0.number ≡ m.0.number) × ((place : ℕ) → st.word ≡ latch_word place → m′ ≡ unlatched place ds m)
 
+-- the latch of a place is given back without deeds, after all that wait there were looked through
+abbrev pub puts_served : Step Slot → Mine → ℕ → Mine → Type 0
+puts_served st m found m′ =
+    (m′.0.number ≡ m.0.number) × ((place : ℕ) → st.word ≡ latch_word place → m′ ≡ served place m)
+
 -- the latch of a place is given back with nothing changed, and the definition of the book in hand counts as read
 abbrev pub puts_reading : Step Slot → Mine → ℕ → Mine → Type 0
 puts_reading st m found m′ =
     (m′.0.number ≡ m.0.number)
     × ((place : ℕ) (book : BookView) → st.word ≡ latch_word place → m.1 ≡ (place, slot.Place book) ∷ rest m.1 →
     m′ ≡ read_and_put place book.standing m)
+
+-- the latch of a place is given back with nothing changed, and the session has no search left to make
+abbrev pub puts_searched : Step Slot → Mine → ℕ → Mine → Type 0
+puts_searched st m found m′ =
+    (m′.0.number ≡ m.0.number) × ((place : ℕ) → st.word ≡ latch_word place → m′ ≡ searched place m)
 
 -- the latch of a place is given back with the book of a new key in hand, and the key has the place from then on
 abbrev pub puts_key : Step Slot → Mine → ℕ → Mine → Type 0

@@ -8,14 +8,15 @@
 -- * The tickets of a session in the granted list are its slow tickets, and the one of a granted wait that it hasn't ended (`slow_held`).
 -- * The version's word, the book, and what sessions read and noted agree (`version_is`, `versions_agree`).
 -- * The definition is valid for the key and its version (`stands`).
--- * A noted word counts at least the fast tickets (`noted_counts`).
+-- * A noted word counts at least the fast tickets (`noted_counts`). If it was read while both flags were up, it counts exactly these, unless another
+--   session owes the place a reschedule (`exact_counts`).
 -- * The waiting list has exactly the tickets of the waits that aren't granted (`waiting`).
 --
 -- It says of the whole table:
 -- * Different keys have different places (`distinct`), the directory has them (`directory_agrees`), and the book of a place is that of its key (`named`).
 -- * A session's wait word has the number of its last wait, and a state that is idle exactly if the session waits for nothing (`waits_agree`).
 -- * Sessions have different numbers (`enrolled`). A session's ticket numbers are below its next one, and what it knows of keys is true (`views`).
-use Rattle.std.specs.Prelude.{◌≡◌, ◌≢◌, ℕ, ◌+◌, ◌-◌, ◌<◌, ◌≤◌, Bool, true, not, List, [], ◌++◌, map, length, slice_index, slice_get, Option, Some, None}
+use Rattle.std.specs.Prelude.{◌≡◌, ◌≢◌, ℕ, ◌+◌, ◌-◌, ◌<◌, ◌≤◌, Bool, true, false, not, List, [], ◌++◌, map, length, slice_index, slice_get, Option, Some, None}
 use Rattle.std.specs.List.{list_all}
 use Rattle.std.specs.Option.{option_to_list}
 use mathlib.Core.Option.{Option as Maybe, some}
@@ -28,7 +29,7 @@ use Rattle.mdl_defs.specs.Standings.{nothing_yet, MayStand}
 use Rattle.mdl_book.specs.declared.book_view.BookView.{BookView}
 use Rattle.mdl_book.specs.declared.ticket.Ticket.{Ticket}
 use Rattle.mdl_book.specs.Books.{lock_kind, has_obtrusive, has_tickets}
-use Rattle.mdl_book.specs.FastTickets.{CoversFastTickets}
+use Rattle.mdl_book.specs.FastTickets.{CountsFastTickets, CoversFastTickets}
 use Rattle.mdl_book.specs.Granting.{is_lawful}
 use Rattle.mdl_book.specs.Tickets.{ticket_of}
 use Rattle.mdl_steps.specs.declared.slot.Slot.{Slot}
@@ -135,8 +136,17 @@ abbrev pub NotedCounts : Kind → List Ticket → Bool → Option ℕ → Type 0
 NotedCounts kind fast obtrusive noted =
     (word : ℕ) → noted ≡ Some word → (obtrusive ≡ true) × CoversFastTickets kind word fast
 
+-- no session but this one owes the place a reschedule
+abbrev pub IsPaidBut : ℕ → List Part → Type 0
+IsPaidBut number parts = (j : ℕ) (x : Part) → get_elem? parts j ≡ some x → x.number ≢ number → x.owes ≡ false
+
+-- if a session's noted word is exact, both flags are up, and it counts exactly the fast tickets if no other session owes the place a reschedule
+abbrev pub ExactCounts : Kind → List Part → Bool → Bool → ℕ → Option ℕ → Bool → Type 0
+ExactCounts kind parts slow obtrusive number noted exact =
+    exact ≡ true → (slow ≡ true) × (obtrusive ≡ true) × ((word : ℕ) → noted ≡ Some word → IsPaidBut number parts → CountsFastTickets kind word (all_fast parts))
+
 -- the record of a latch has the place's book and flags, the latch's word has the number of the record's session, and a noted
--- word counts at least the fast tickets
+-- word counts at least the fast tickets, or exactly these
 pub record HeldOk (latch : ℕ) (parts : List Part) (book : BookView) (slow obtrusive : Bool) (number : ℕ) (h : LatchRecord) : Type 0 where
   pub mine : number ≡ latch
   pub some_session : 0 < number
@@ -144,6 +154,7 @@ pub record HeldOk (latch : ℕ) (parts : List Part) (book : BookView) (slow obtr
   pub slow_is : h.slow ≡ slow
   pub obtrusive_is : h.obtrusive ≡ obtrusive
   pub noted_counts : NotedCounts (lock_kind book) (all_fast parts) obtrusive h.noted
+  pub exact_counts : ExactCounts (lock_kind book) parts slow obtrusive number h.noted h.exact
 
 -- the rule for one place. Its book is in its slot while the latch is free, otherwise in the record of the session that holds the latch
 pub record PlaceOk (key : Option KeyName) (c : Cell) : Type 0 where
@@ -175,12 +186,12 @@ pub record Enrolled (most drawn : ℕ) (numbers : List ℕ) (spares : List Spare
   pub room : length numbers ≡ first.given + 1
 
 -- a session's wait word has the number of its last wait, and a state, which is idle exactly if the session waits for nothing. A session that waits
--- does so at a place of the table. If it met the word settled, the word still has that state
+-- has a number, and does so at a place of the table. If it met the word settled, the word still has that state
 pub record WaitOk (slots word : ℕ) (x : Waiter) : Type 0 where
   pub number : wait_number word ≡ x.waits
   pub state : IsState (wait_state word)
   pub idle : x.asks ≡ None → wait_state word ≡ idle_state
-  pub asks : (a : Ask) → x.asks ≡ Some a → (wait_state word ≢ idle_state) × (0 < a.place) × (a.place < slots)
+  pub asks : (a : Ask) → x.asks ≡ Some a → (wait_state word ≢ idle_state) × (0 < a.place) × (a.place < slots) × (0 < x.number)
   pub told : (state : ℕ) → x.told ≡ Some state → IsSettled state × (wait_state word ≡ state)
 
 -- this holds for each session, and the wait word of a number that no session has yet is 0

@@ -1,9 +1,9 @@
 -- A session's seat at the table, as contracts see it.
-use Rattle.std.specs.Prelude.{◌≡◌, ℕ, ◌<◌, []}
+use Rattle.std.specs.Prelude.{◌≡◌, ℕ, ◌<◌, ◌≤◌, []}
 use Rattle.atomic_table.specs.Seated.{TableId}
 use Rattle.mdl_steps.specs.declared.step_kind.StepKind.TheVariants as step
 use Rattle.mdl_steps.specs.Cells.{blank, no_numbers}
-use Rattle.mdl_steps.specs.Layout.{enrol_word}
+use Rattle.mdl_steps.specs.Layout.{enrol_word, word_count}
 use Rattle.mdl_steps.specs.Plays.{Mine, logged}
 use Rattle.mdl_steps.specs.Seats.{IsSized}
 use Rattle.mdl_steps.specs.WaitSeats.{IsSession}
@@ -13,14 +13,15 @@ pub record SeatState : Type 0 where
   pub table : TableId
   pub me : Mine
 
--- what holds for each seat: it belongs to the table that it has, which has words for its slots, a directory, and the session's wait word. The
--- session's number is that of its view
-pub record IsSeat (table of : TableId) (number : ℕ) (me : Mine) : Type 0 where
+-- what holds for each seat: it belongs to the table that it has, which has words for its slots, a directory, the session's wait word, and
+-- words for this number of sessions. The session's number is that of its view
+pub record IsSeat (sessions : ℕ) (table of : TableId) (number : ℕ) (me : Mine) : Type 0 where
   pub same : of ≡ table
   pub sized : IsSized table
   pub some : 0 < table.slots
   pub numbered : me.0.number ≡ number
   pub session : IsSession table number
+  pub roomy : word_count table.slots sessions ≤ table.words
 
 -- the seat is still at its table, and what the session knows and has there changed according to `Changes`
 abbrev pub AtItsTable : SeatState → SeatState → (Mine → Mine → Type 0) → Type 0

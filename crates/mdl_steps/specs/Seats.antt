@@ -1,5 +1,5 @@
 -- What a caller of the steps knows of its seat, and what must hold for it to make a step.
-use Rattle.std.specs.Prelude.{◌≡◌, ℕ, ◌+◌, ◌*◌, ◌^◌, ◌<◌, ◌≤◌, ◌==◌, ◌&&◌, Bool, not, nat_lt, if◌then◌else◌, List, ◌∷◌, length, position, filter, Contains, Option, Some, None}
+use Rattle.std.specs.Prelude.{◌≡◌, ℕ, ◌+◌, ◌*◌, ◌^◌, ◌<◌, ◌≤◌, ◌==◌, ◌&&◌, Bool, false, not, nat_lt, if◌then◌else◌, List, ◌∷◌, length, position, filter, Contains, Option, Some, None}
 use Rattle.atomic_table.specs.Seated.{TableId}
 pub use Rattle.atomic_table.specs.Table.{rest}
 use Rattle.std.specs.Option.{option_map, option_to_list}
@@ -16,7 +16,7 @@ use Rattle.mdl_steps.specs.declared.view.LatchRecord.{LatchRecord}
 use Rattle.mdl_steps.specs.declared.view.Keys.{Keys}
 use Rattle.mdl_steps.specs.declared.view.Known.{Known}
 use Rattle.mdl_steps.specs.Cells.{held_at}
-use Rattle.mdl_steps.specs.Deeds.{MayAct, MayDo, NotWaited, all_booked}
+use Rattle.mdl_steps.specs.Deeds.{FreesNothing, MayAct, MayDo, NotWaited, all_booked}
 use Rattle.mdl_steps.specs.Lists.{Each}
 use Rattle.mdl_steps.specs.Plays.{Mine}
 use Rattle.mdl_steps.specs.Rule.{TellsLists, Flagged, key_at}
@@ -41,9 +41,12 @@ pub record HasDone (place : ℕ) (ds : List Deed) (h : LatchRecord) (m : Mine) :
   pub act : MayAct m.0 place ds
   pub may : MayDo m.0 h.book h.noted ds
 
--- the seat may give the latch back after these deeds: the flags are up exactly if the lists need them
+-- the seat may give the latch back after these deeds: neither they nor what was done under the latch before let a waiter in, and the flags are up exactly if
+-- the lists need them
 abbrev pub MayPut : ℕ → List Deed → Mine → Type 0
-MayPut place ds m = (h : LatchRecord) × HasDone place ds h m × TellsLists (all_booked m.0.number ds h.book) h.slow h.obtrusive
+MayPut place ds m =
+    (h : LatchRecord) × HasDone place ds h m × TellsLists (all_booked m.0.number ds h.book) h.slow h.obtrusive × FreesNothing m.0.number h.book ds
+    × (h.freed ≡ false)
 
 -- the seat may lower all flags except these, after these deeds: the lists need no flag that is lowered
 abbrev pub MayLower : ℕ → List Deed → Bool → Bool → Mine → Type 0
@@ -93,12 +96,13 @@ pub record IsNewKey (key : KeyName) (k : Keys) (m : Mine) : Type 0 where
   pub new : place_among key k.keys ≡ None
 
 -- the seat may give the latch of a place back, and the place to a new key: it is the place after all those that have keys, the empty book of the
--- key is in hand, and the flags are up exactly if that book needs them
+-- key is in hand, and the flags are up exactly if that book needs them. Nothing was freed under the latch
 pub record MayName (place : ℕ) (key : KeyName) (k : Keys) (h : LatchRecord) (m : Mine) : Type 0 where
   pub key_is : IsNewKey key k m
   pub next : place ≡ length k.keys + 1
   pub holds : Holds place h (empty_book key) m
   pub exact : TellsLists (empty_book key) h.slow h.obtrusive
+  pub unfreed : h.freed ≡ false
 
 -- the key of a place by the record of the directory, if there is one. Place 0 has no key
 abbrev pub recorded_key : Option Keys → ℕ → Option KeyName

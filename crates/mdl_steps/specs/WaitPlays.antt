@@ -50,9 +50,9 @@ with_waiting t h = record h { book = enqueueing t h.book }
 abbrev pub with_admitted : ℕ → ℕ → LatchRecord → LatchRecord
 with_admitted session number h = record h { book = admitting session number h.book }
 
--- the record with a session's waiting ticket removed from the book
+-- the record with a session's waiting ticket removed from the book, which may let others in
 abbrev pub with_cancelled : ℕ → ℕ → LatchRecord → LatchRecord
-with_cancelled session number h = record h { book = cancelling session number h.book }
+with_cancelled session number h = record h { book = cancelling session number h.book; freed = true }
 
 -- ---- the view
 

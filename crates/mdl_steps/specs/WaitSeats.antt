@@ -1,10 +1,11 @@
 -- What must hold for a caller to make a step on a wait word.
-use Rattle.std.specs.Prelude.{◌≡◌, ℕ, ◌<◌, true, [], Some, None}
+use Rattle.std.specs.Prelude.{◌≡◌, ℕ, ◌<◌, true, false, [], Some, None}
 use Rattle.atomic_table.specs.Seated.{TableId}
 use Rattle.mdl_key.specs.declared.mode.Mode.{Mode}
 use Rattle.mdl_key.specs.Words.{is_mode_of}
 use Rattle.mdl_book.specs.declared.ticket.Ticket.{Ticket}
 use Rattle.mdl_book.specs.Books.{enqueueing, lock_kind}
+use Rattle.mdl_book.specs.FastTickets.{can_be_granted}
 use Rattle.mdl_book.specs.Granting.{goes_first}
 use Rattle.mdl_book.specs.Tickets.{ticket_of}
 use Rattle.mdl_steps.specs.declared.view.Ask.{Ask}
@@ -22,7 +23,8 @@ abbrev pub IsSession : TableId → ℕ → Type 0
 IsSession id session = (0 < session) × (wait_word id.slots session < id.words)
 
 -- the seat holds the latch of the place and may open a wait for a mode there: the session waits for nothing, has no fast ticket at all, has looked up
--- the place's key, and the flags are up that the lists need with its ticket
+-- the place's key, and the flags are up that the lists need with its ticket. The wish can't be granted by the book and a word. If the flag OBTRUSIVE is
+-- up, that is the noted word, which counts exactly the fast tickets. Otherwise the mode is unobtrusive, and the word says nothing
 pub record MayOpen (place : ℕ) (mode : Mode) (h : LatchRecord) (m : Mine) : Type 0 where
   pub recorded : held_at place m.0.latches ≡ Some h
   pub idle : m.0.asks ≡ None
@@ -30,6 +32,9 @@ pub record MayOpen (place : ℕ) (mode : Mode) (h : LatchRecord) (m : Mine) : Ty
   pub known : KnowsPlace m.0 place
   pub mode_is : is_mode_of (lock_kind h.book) mode ≡ true
   pub flagged : Flagged (enqueueing (asked_ticket mode m.0) h.book) h.slow h.obtrusive
+  pub word : ℕ
+  pub read : h.obtrusive ≡ true → (h.noted ≡ Some word) × (h.exact ≡ true)
+  pub blocked : can_be_granted (lock_kind h.book) h.book.granted h.book.waiting word m.0.number mode ≡ false
 
 -- the seat holds the latch of the place, and the waiting ticket of a session there is compatible with all that other sessions hold, and is behind no
 -- other session's waiting ticket

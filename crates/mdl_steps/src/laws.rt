@@ -1,5 +1,11 @@
 //! What follows from the rule of the table. Each law is proved as the contract of a function that does nothing.
+ghost use Rattle.mdl_steps.specs.Histories.{ReachedTablesKeepTheRule};
 ghost use Rattle.mdl_steps.specs.RuleLaws.{FreeLocksAreAsTheirWordsTell, HeldLocksAreAsTheirRecordsTell, TakenLatchesAreHeld, NotedVersionsStand, ReadsAreOfWhatStands, WaitersAreAsTheirWordsTell, NobodyElseWaits};
+
+/// The rule holds of each table that is reached by whole steps, and sessions' calls make no other steps ([`Order`](crate::Order)).
+pub fn reached_tables_keep_the_rule()
+    ensures { ReachedTablesKeepTheRule }
+{}
 
 /// Whenever a lock's latch is free, its word counts exactly the fast tickets held, its two flags show whether its lists hold any
 /// ticket and an obtrusive one, and granted tickets of different sessions are compatible by the matrix. Like the rule, this holds between

@@ -62,8 +62,8 @@ pub use deed::Deed;
 pub use directory::LatchedDirectory;
 pub use laws::{
     free_locks_are_as_their_words_tell, held_locks_are_as_their_records_tell, nobody_else_waits,
-    noted_versions_stand, reads_are_of_what_stands, taken_latches_are_held,
-    waiters_are_as_their_words_tell,
+    noted_versions_stand, reached_tables_keep_the_rule, reads_are_of_what_stands,
+    taken_latches_are_held, waiters_are_as_their_words_tell,
 };
 pub use list_copies::ListCopies;
 pub use maker::{Maker, OwnedTable};

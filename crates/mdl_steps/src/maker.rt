@@ -42,7 +42,7 @@ impl Maker {
         requires places { places + 1 < 2 ^ 32 }
         requires sessions { sessions ≤ most_enrolled }
         ensures { IfOk result (λ made. (made.0.shared.table_id.words ≡ word_count (places + 1) sessions) × (made.0.shared.table_id.slots ≡ places + 1)
-            × (made.1.seat.table_id ≡ made.0.shared.table_id) × (made.1.most ≡ sessions) × (made.1.given ≡ 0)) }
+            × (made.0.shared.key ≡ sessions) × (made.1.seat.table_id ≡ made.0.shared.table_id) × (made.1.most ≡ sessions) × (made.1.given ≡ 0)) }
     {
         let slots = opening_slots(alloc, places)?;
         let words = opening_words(alloc, slots.len(), sessions)?;
@@ -58,7 +58,7 @@ impl Maker {
     ) -> Result<(OwnedTable, Maker), AllocError>
         requires { IsOpening sessions words.now slots.items }
         ensures { IfOk result (λ made. (made.0.shared.table_id.words ≡ length words.now) × (made.0.shared.table_id.slots ≡ length slots.items)
-            × (made.1.seat.table_id ≡ made.0.shared.table_id) × (made.1.most ≡ sessions) × (made.1.given ≡ 0)) }
+            × (made.0.shared.key ≡ sessions) × (made.1.seat.table_id ≡ made.0.shared.table_id) × (made.1.most ≡ sessions) × (made.1.given ≡ 0)) }
     {
         match Table::new(alloc, words, slots, &sessions) {
             Ok((table, seat)) => Ok((
@@ -77,6 +77,7 @@ impl Maker {
     pub fn enrol(&mut self, table: Arc<OwnedTable, Global>) -> Option<TableSeat>
         requires mine { self.old.seat.table_id ≡ (arc_value table).shared.table_id }
         requires sized { IsSized self.old.seat.table_id }
+        requires most { (arc_value table).shared.key ≡ self.old.most }
         ensures same { (self.new.seat.table_id ≡ self.old.seat.table_id) × (self.new.most ≡ self.old.most) }
         ensures enrolled { MatchOption result
             ((self.old.given ≡ self.old.most) × (self.new.given ≡ self.old.given))

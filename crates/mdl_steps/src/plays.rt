@@ -7,8 +7,8 @@ ghost use Rattle.mdl_steps.specs.declared.deed.Deed.{Deed};
 ghost use Rattle.mdl_steps.specs.declared.view.Known.{Known};
 ghost use Rattle.mdl_steps.specs.Cells.{blank, numbers_for, no_numbers};
 ghost use Rattle.mdl_steps.specs.FastPlays.{reads_word_unlatched, grants_fast, releases_fast, materialises};
-ghost use Rattle.mdl_steps.specs.Plays.{enrols, takes_latch, puts_latch, raises_flags, lowers_flags, reads_word, writes_version, takes_directory, puts_directory, puts_reading, puts_key};
-ghost use Rattle.mdl_steps.specs.Rule.{Rule};
+ghost use Rattle.mdl_steps.specs.Histories.{ReachedFor};
+ghost use Rattle.mdl_steps.specs.Plays.{enrols, lowers_flags, puts_directory, puts_key, puts_latch, puts_reading, puts_searched, puts_served, raises_flags, reads_word, takes_directory, takes_latch, writes_version};
 ghost use Rattle.mdl_steps.specs.VersionPlays.{finds_version, reads_version};
 ghost use Rattle.mdl_steps.specs.WaitPlays.{reads_wait, settles_lost, settles_granted, opens_wait, ends_granted, ends_lost};
 
@@ -16,11 +16,12 @@ use crate::{Slot, View};
 use atomic_table::{Play, Split, TableRule};
 use std::marker::{Brand, PhantomData};
 
-/// The rule of the table. Its parameter is the greatest number of sessions.
+/// The rule of the table: it was reached by whole steps, each of some kind, and after each of them the clauses of `specs/Rule` hold. Its
+/// parameter is the greatest number of sessions, for which the table has words.
 pub struct Order;
 
 impl TableRule<Slot, View, usize> for Order {
-    ghost holds = { λ _. Rule };
+    ghost holds = { ReachedFor };
 
     ghost first = { λ sessions. blank 0 (numbers_for sessions 0 0) };
 }
@@ -88,11 +89,25 @@ impl<J: Doing> Play<Slot, View> for PutLatch<J> {
     ghost then = { puts_latch J.deeds };
 }
 
+/// A latch is given back after the waiters at its place were looked through.
+pub(crate) struct PutServed;
+
+impl Play<Slot, View> for PutServed {
+    ghost then = { puts_served };
+}
+
 /// A latch is given back, and the definition counts as read.
 pub(crate) struct PutReading;
 
 impl Play<Slot, View> for PutReading {
     ghost then = { puts_reading };
+}
+
+/// A latch is given back, and the session has no search for a deadlock left to make.
+pub(crate) struct PutSearched;
+
+impl Play<Slot, View> for PutSearched {
+    ghost then = { puts_searched };
 }
 
 /// A latch is given back, and its place gets a new key.

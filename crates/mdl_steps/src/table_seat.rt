@@ -6,12 +6,15 @@ ghost use Rattle.mdl_steps.specs.declared.step_kind.StepKind.TheVariants as step
 ghost use Rattle.mdl_steps.specs.declared.view.LatchRecord.{LatchRecord};
 ghost use Rattle.mdl_steps.specs.Cells.{held_at};
 ghost use Rattle.mdl_steps.specs.Layout.{session_count, wait_word};
-ghost use Rattle.mdl_steps.specs.Plays.{IsFresh, latched, unlatched, missed_latch, stepped, flags_lowered, raised, noting, lowered, redefined, restood, read_and_put};
+ghost use Rattle.mdl_steps.specs.Plays.{IsFresh, latched, unlatched, missed_latch, stepped, flags_lowered, raised, noting, lowered, redefined, restood, read_and_put, searched, served};
 ghost use Rattle.mdl_steps.specs.Seats.{IsPlace, IsRising, Holds, MayPut, MayLower, MayWriteVersion, rest, elsewhere};
+ghost use Rattle.mdl_steps.specs.Servings.{MayServe};
+ghost use Rattle.mdl_steps.specs.Sights.{SeesNoDeadlock};
 
 use crate::layout::{latch_word, lock_word, session_count, version_word, wait_word};
 use crate::plays::{
-    Doing, LowerFlags, Order, PutLatch, PutReading, RaiseFlags, ReadWord, TakeLatch, WriteVersion,
+    Doing, LowerFlags, Order, PutLatch, PutReading, PutSearched, PutServed, RaiseFlags, ReadWord,
+    TakeLatch, WriteVersion,
 };
 use crate::{Deed, OwnedTable, Slot, View};
 use atomic_table::{Seat, Shared};
@@ -51,7 +54,7 @@ impl Model for TableSeat {
 
     ghost view = { λ s. record { table = (arc_value s.table).shared.table_id; me = s.seat.me } };
 
-    ghost invariant = { λ s. IsSeat (arc_value s.table).shared.table_id s.seat.table_id s.number s.seat.me };
+    ghost invariant = { λ s. IsSeat (arc_value s.table).shared.key (arc_value s.table).shared.table_id s.seat.table_id s.number s.seat.me };
 }
 
 /// The latch of a place, which a session holds. It has to be given back: it can't be dropped.
@@ -175,7 +178,7 @@ impl TableSeat {
         requires lowered { MayLower latch.now.place deeds.now slow obtrusive self.old.me }
         ensures made { (found : ℕ) × ((book : BookView) → self.old.me.1 ≡ (latch.now.place, slot.Place book) ∷ rest self.old.me.1
             → self.new ≡ record self.old { me = flags_lowered latch.now.place deeds.now found book slow obtrusive self.old.me }) }
-        ensures keeps { (h : LatchRecord) (book : BookView) → Holds latch.now.place h book self.old.me → Holds latch.now.place (lowered book slow obtrusive h) book self.new.me }
+        ensures keeps { (h : LatchRecord) (book : BookView) → Holds latch.now.place h book self.old.me → Holds latch.now.place (lowered deeds.now book slow obtrusive h) book self.new.me }
         ensures apart { elsewhere latch.now.place self.new.me ≡ elsewhere latch.now.place self.old.me }
     {
         self.lower_flags_after::<Brand>(latch, slow, obtrusive, deeds);
@@ -193,7 +196,7 @@ impl TableSeat {
         requires lowered { MayLower latch.now.place _deeds.now slow obtrusive self.old.me }
         ensures made { (found : ℕ) × ((book : BookView) → self.old.me.1 ≡ (latch.now.place, slot.Place book) ∷ rest self.old.me.1
             → self.new ≡ record self.old { me = flags_lowered latch.now.place _deeds.now found book slow obtrusive self.old.me }) }
-        ensures keeps { (h : LatchRecord) (book : BookView) → Holds latch.now.place h book self.old.me → Holds latch.now.place (lowered book slow obtrusive h) book self.new.me }
+        ensures keeps { (h : LatchRecord) (book : BookView) → Holds latch.now.place h book self.old.me → Holds latch.now.place (lowered _deeds.now book slow obtrusive h) book self.new.me }
         ensures apart { elsewhere latch.now.place self.new.me ≡ elsewhere latch.now.place self.old.me }
     {
         self.table.shared.fetch_and::<LowerFlags<J>>(
@@ -204,7 +207,7 @@ impl TableSeat {
     }
 
     /// Gives the latch back. `deeds` says what the session has done to its tickets in the book in hand, except deeds that
-    /// [`TableSeat::lower_flags`] got before. Exactly the flags that the book needs must be up.
+    /// [`TableSeat::lower_flags`] got before. Neither may let a waiter in. Exactly the flags that the book needs must be up.
     pub fn put_latch(&mut self, latch: Latched, deeds: &[Deed])
         requires place { IsPlace self.old.table latch.place }
         requires put { MayPut latch.place deeds.now self.old.me }
@@ -212,6 +215,19 @@ impl TableSeat {
     {
         let Latched { place } = latch;
         self.put_latch_after::<Brand>(place, deeds);
+    }
+
+    /// Gives the latch back, perhaps after something was freed. All waiters at the place were looked through: none of them can be granted
+    /// unless its wait is settled. If the session owed the place a reschedule, it doesn't any more.
+    pub fn put_latch_served(&mut self, latch: Latched)
+        requires place { IsPlace self.old.table latch.place }
+        requires put { MayServe self.old.table latch.place self.old.me }
+        ensures made { self.new ≡ record self.old { me = served latch.place self.old.me } }
+    {
+        let Latched { place } = latch;
+        self.table
+            .shared
+            .store::<PutServed>(&mut self.seat, latch_word(place), 0);
     }
 
     /// Gives the latch back with nothing changed. The definition in the book in hand counts as read, and its version is noted under each
@@ -226,6 +242,20 @@ impl TableSeat {
         self.table
             .shared
             .store::<PutReading>(&mut self.seat, latch_word(place), 0);
+    }
+
+    /// Gives the latch back with nothing changed, once the session sees that it is in no deadlock: it holds the latches of all places that
+    /// have a key, and met the words of waits under them. From then on it has no search left to make.
+    pub fn put_latch_searched(&mut self, latch: Latched)
+        requires place { IsPlace self.old.table latch.place }
+        requires put { MayPut latch.place [] self.old.me }
+        requires sees { SeesNoDeadlock self.old.table.slots self.old.me }
+        ensures made { self.new ≡ record self.old { me = searched latch.place self.old.me } }
+    {
+        let Latched { place } = latch;
+        self.table
+            .shared
+            .store::<PutSearched>(&mut self.seat, latch_word(place), 0);
     }
 
     fn put_latch_after<J: Doing>(&mut self, place: usize, _deeds: &[Deed])

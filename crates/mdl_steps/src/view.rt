@@ -43,6 +43,10 @@ pub struct LatchRecord {
     /// A word that was read while the flag `OBTRUSIVE` was up. No fast ticket is granted while the flag stays up, so the word counts at
     /// least the fast tickets that there are.
     pub noted: Option<u64>,
+    /// Whether the noted word counts exactly the fast tickets, unless another session owes the place a reschedule.
+    pub exact: bool,
+    /// Whether the session lost or weakened a ticket here, or ended a lost wait, since it took the latch.
+    pub freed: bool,
 }
 
 /// The record of the directory's latch: the keys of the places, from place 1 on.

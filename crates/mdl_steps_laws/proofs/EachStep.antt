@@ -27,7 +27,7 @@ use Rattle.mdl_steps.specs.Cells.{ticket_by, waiter_of, waits}
 use Rattle.mdl_steps.specs.Deeds.{MayAct, all_booked, is_own}
 use Rattle.mdl_steps.specs.FastPlays.{MayGrantFast, MayMaterialise, MayReleaseFast, granted_fast, materialised, met_word_by, released_fast}
 use Rattle.mdl_steps.specs.Layout.{enrol_word, latch_word, lock_word, version_word, wait_word}
-use Rattle.mdl_steps.specs.Plays.{Mine, consulted, informed, latched, named, read_and_put, redefined, flags_lowered, takes_directory, takes_latch, unlatched}
+use Rattle.mdl_steps.specs.Plays.{Mine, consulted, flags_lowered, informed, latched, named, read_and_put, redefined, searched, served, takes_directory, takes_latch, unlatched}
 use Rattle.mdl_steps.specs.Rule.{Rule}
 use Rattle.mdl_steps.specs.Seats.{MayLower, MayPut, MayWriteVersion}
 use Rattle.mdl_steps.specs.WaitPlays.{asked_ticket, ended_granted, ended_lost, met_wait_by, opened, settled_granted, settled_lost, wait_in}
@@ -50,7 +50,7 @@ use Rattle.mdl_steps_laws.proofs.FastEvents.{granting_fast_grants, only_passes, 
 use Rattle.mdl_steps_laws.proofs.FastRests.{materialising_rests, reading_unlatched_rests}
 use Rattle.mdl_steps_laws.proofs.Keeping.{own_parts}
 use Rattle.mdl_steps_laws.proofs.RestKeys.{consulting_rests, drawing_rests, informing_rests, naming_rests}
-use Rattle.mdl_steps_laws.proofs.RestKinds.{finding_version_rests, lowering_rests, missing_directory_rests, missing_rests, putting_reading_rests, putting_rests, raising_rests, reading_rests, reading_version_rests, taking_rests}
+use Rattle.mdl_steps_laws.proofs.RestKinds.{finding_version_rests, lowering_rests, missing_directory_rests, missing_rests, putting_reading_rests, putting_rests, putting_searched_rests, putting_served_rests, raising_rests, reading_rests, reading_version_rests, taking_rests}
 use Rattle.mdl_steps_laws.proofs.RestSplits.{splitting_rests}
 use Rattle.mdl_steps_laws.proofs.StepEvents.{lowering_brings, putting_brings, writing_brings}
 use Rattle.mdl_steps_laws.proofs.StepKeys.{granted_key, known_key, recorded_book, waiting_key}
@@ -366,6 +366,13 @@ module _ (s t : State Slot View) (r : Rule s) (r′ : Rule t) (id : ℕ) (m m′
       (informing_rests s r id m seat k whole.0.1.recorded more)
   brings (Makes.TakesLatch q at play) whole = takes_rests q whole.0 at play whole.1
   brings (Makes.PutsLatch q deeds may at play) whole = puts q deeds whole.0 may at (play.1 q at) whole.1
+  brings (Makes.PutsServed q table may at play) whole =
+      let h = may.latch in
+      let is = play.1 q at in
+      rests (after_giving s q (slot.Place h.book) id (served q m))
+      (becomes (latch_word q) 0 (set s.homes q (some (slot.Place h.book))) (served q m).0 at whole.3.0
+      (given q (slot.Place h.book) may.holds.carried whole.3.1) (ap (λ (x : Mine). x.0) is))
+      (putting_served_rests s r q whole.0 id m seat h may.holds.recorded)
   brings (Makes.PutsReading q may at play) whole =
       let h = may.0 in
       let is = play.1 q h.book at may.1.holds.carried in
@@ -373,6 +380,13 @@ module _ (s t : State Slot View) (r : Rule s) (r′ : Rule t) (id : ℕ) (m m′
       (becomes (latch_word q) 0 (set s.homes q (some (slot.Place h.book))) (read_and_put q h.book.standing m).0 at whole.1.0
       (given q (slot.Place h.book) may.1.holds.carried whole.1.1) (ap (λ (x : Mine). x.0) is))
       (putting_reading_rests s r q whole.0 id m seat h may.1.holds.recorded)
+  brings (Makes.PutsSearched q may sees at play) whole =
+      let h = may.0 in
+      let is = play.1 q at in
+      rests (after_giving s q (slot.Place h.book) id (searched q m))
+      (becomes (latch_word q) 0 (set s.homes q (some (slot.Place h.book))) (searched q m).0 at whole.1.0
+      (given q (slot.Place h.book) may.1.holds.carried whole.1.1) (ap (λ (x : Mine). x.0) is))
+      (putting_searched_rests s r q whole.0 id m seat h may.1.holds.recorded)
   brings (Makes.PutsKey q key k h may at play) whole =
       let is = play.1 q (empty_book key) at may.holds.carried in
       rests (after_giving s q (slot.Place (empty_book key)) id (named q key m))

@@ -153,9 +153,9 @@ module _ (n place number : ℕ) where
 -- all sessions' fast tickets, where one session has one less
 fast-loses : (parts : List Part) (id place number : ℕ) (x : Part) (ts : List Own) (t : Own) → get_elem? parts id ≡ some x → x.fast ≡ own_at place ts
     → ((j : ℕ) (z : Part) → get_elem? parts j ≡ some z → z.number ≡ x.number → j ≡ id) → filter (is_own place number) ts ≡ t ∷ []
-    → Loses (ticket_by x.number t) (all_fast parts) (all_fast (set parts id (record x { fast = own_at place (but_own place number ts) })))
-fast-loses [] id place number x ts t at fast alone only = absurd (some-ne-none x (sym at))
-fast-loses (z ∷ zs) zero place number x ts t at fast alone only =
+    → (owes : Bool) → Loses (ticket_by x.number t) (all_fast parts) (all_fast (set parts id (record x { fast = own_at place (but_own place number ts); owes = owes })))
+fast-loses [] id place number x ts t at fast alone only owes = absurd (some-ne-none x (sym at))
+fast-loses (z ∷ zs) zero place number x ts t at fast alone only owes =
     subst (λ (w : Part). Loses (ticket_by x.number t) (map (ticket_by w.number) w.fast ++ all_fast zs) (map (ticket_by x.number) (own_at place (but_own place number ts)) ++ all_fast zs)) (sym (some-injective z x at))
     (loses-front (ticket_by x.number t) (map (ticket_by x.number) x.fast) (map (ticket_by x.number) (own_at place (but_own place number ts))) (all_fast zs)
     (λ y among. others_apart zs (λ j u there same. (let e = alone (suc j) u there same in omega arith)) y among)
@@ -167,10 +167,10 @@ fast-loses (z ∷ zs) zero place number x ts t at fast alone only =
       | inl theirs ↦ λ e. (let from = Contains-map_from (ticket_by p.number) p.fast y theirs in apart zero p refl (ap (λ (u : Ticket). u.session) (sym from.2 ∙ e)))
       | inr later ↦ others_apart ps (λ j u there. apart (suc j) u there) y later
     ]
-fast-loses (z ∷ zs) (suc id) place number x ts t at fast alone only =
-    loses-behind (map (ticket_by z.number) z.fast) (all_fast zs) (all_fast (set zs id (record x { fast = own_at place (but_own place number ts) }))) (ticket_by x.number t)
+fast-loses (z ∷ zs) (suc id) place number x ts t at fast alone only owes =
+    loses-behind (map (ticket_by z.number) z.fast) (all_fast zs) (all_fast (set zs id (record x { fast = own_at place (but_own place number ts); owes = owes }))) (ticket_by x.number t)
     (λ y among e. (let from = Contains-map_from (ticket_by z.number) z.fast y among in let same = alone zero z refl (ap (λ (u : Ticket). u.session) (sym from.2 ∙ e)) in absurd (omega arith)))
-    (fast-loses zs id place number x ts t at fast (λ j u there same. (let e = alone (suc j) u there same in omega arith)) only)
+    (fast-loses zs id place number x ts t at fast (λ j u there same. (let e = alone (suc j) u there same in omega arith)) only owes)
 
 -- and the ticket is among them
 fast_there : (parts : List Part) (id place number : ℕ) (x : Part) (ts : List Own) (t : Own) → get_elem? parts id ≡ some x → x.fast ≡ own_at place ts → filter (is_own place number) ts ≡ t ∷ []
@@ -354,7 +354,7 @@ releasing_fast_releases s r keys keys_are i key at id me seat some_number number
     let last = inside s r keys keys_are i key at in
     let t : Ticket = ticket_by me.0.number may.ticket in
     let idle : me.0.asks ≡ None = asks_nothing me.0.asks (λ a e. (let no_fast = (r.views id me.0 seat).0.unfast a e in let nothing : [] ≡ may.ticket ∷ [] = ap (filter (is_own place number)) (sym no_fast) ∙ may.only in absurd (cc))) in
-    let r′ : Rule (after_word s place n id (released_fast place number (word_at s place) me)) = released_rule (length s.homes) id place me first last number one may s r refl seat in
+    let r′ : Rule (after_word s place n id (released_fast place number (word_at s place) me)) = released_rule (length s.homes) id place me first last number one may s r refl seat some_number in
     let away : (q : ℕ) → q ≢ place → own_at q w.fast ≡ own_at q me.0.fast = λ q else. owned_else place q (Lose number) me.0.fast else in
     let part_there = at_map (part_at (waits s) place) s.views id me.0 seat in
     let own_is : is_own place number may.ticket ≡ true = only_passes (is_own place number) me.0.fast may.ticket may.only in
@@ -374,7 +374,7 @@ releasing_fast_releases s r keys keys_are i key at id me seat some_number number
           ∙ not_slow in
           let is : is_ticket me.0.number number t ≡ true = and_from _ _ (eq-eqb me.0.number me.0.number refl) (eq-eqb may.ticket.number number named.1) in
           let apart : (y : Ticket) → Contains (told.0 key).book.granted y → y ≢ t = found-apart me.0.number number t is (told.0 key).book.granted not_granted in
-          let loses = fast-loses (cell s place).parts id place number (part_at (waits s) place me.0) me.0.fast may.ticket part_there refl (alone_parts s r place id me.0 seat some_number) may.only in
+          let loses = fast-loses (cell s place).parts id place number (part_at (waits s) place me.0) me.0.fast may.ticket part_there refl (alone_parts s r place id me.0 seat some_number) may.only (part_at (waits s) place w).owes in
           let fast_is = fast_then s r keys keys_are i key at id n me w seat refl refl (λ q else. refl) refl away place in
           let stays = book_then s r keys keys_are i key at id n me w seat refl refl (λ q else. refl) refl away place refl (told.0 key).book (told.1.book_is i key (in_locks s r keys keys_are i key at told.0 told.1)) in
           record {

@@ -62,7 +62,9 @@ module _ (s t : State Slot View) where
   is_a_step st m was m′ (Makes.PutsDirectory _ _ _) brought = nothing brought
   is_a_step st m was m′ (Makes.TakesLatch _ _ _) brought = nothing brought
   is_a_step st m was m′ (Makes.PutsLatch q deeds _ _ _) brought = by_deeds_at m.0.number q deeds brought
+  is_a_step st m was m′ (Makes.PutsServed _ _ _ _ _) brought = nothing brought
   is_a_step st m was m′ (Makes.PutsReading _ _ _ _) brought = nothing brought
+  is_a_step st m was m′ (Makes.PutsSearched _ _ _ _ _) brought = nothing brought
   is_a_step st m was m′ (Makes.PutsKey _ _ _ _ _ _ _) brought = nothing brought
   is_a_step st m was m′ (Makes.RaisesFlags _ _ _ _ _ _) brought = nothing brought
   is_a_step st m was m′ (Makes.LowersFlags q deeds _ _ _ _ _ _) brought = by_deeds_at m.0.number q deeds brought

@@ -96,7 +96,7 @@ drawing_rests s r id me me′ seat st found left play r′ =
 -- ---- a key gets a place
 
 -- what stands in a list that was made longer by one
-at_end : (keys : List KeyName) (key k : KeyName) (i : ℕ) → get_elem? (keys ++ key ∷ []) i ≡ some k → (get_elem? keys i ≡ some k) ⊎ ((i ≡ length keys) × (key ≡ k))
+pub at_end : (keys : List KeyName) (key k : KeyName) (i : ℕ) → get_elem? (keys ++ key ∷ []) i ≡ some k → (get_elem? keys i ≡ some k) ⊎ ((i ≡ length keys) × (key ≡ k))
 at_end [] key k zero e = inr (refl, some-injective key k e)
 at_end [] key k (suc i) e = absurd (some-ne-none k (sym e))
 at_end (x ∷ xs) key k zero e = inl e

@@ -16,14 +16,14 @@ use Rattle.mdl_steps.specs.declared.view.LatchRecord.{LatchRecord}
 use Rattle.mdl_steps.specs.declared.view.View.{View}
 use Rattle.mdl_steps.specs.Cells.{held_at, own_at, ticket_by}
 use Rattle.mdl_steps.specs.Layout.{latch_word, lock_word, version_word}
-use Rattle.mdl_steps.specs.Plays.{Mine, latched, lowered, noting, raised, read_and_put, flags_lowered, unlatched}
+use Rattle.mdl_steps.specs.Plays.{Mine, flags_lowered, latched, lowered, noting, raised, read_and_put, searched, served, unlatched}
 use Rattle.mdl_steps.specs.Rule.{Rule}
 use Rattle.mdl_steps.specs.VersionPlays.{found_version, learnt_version, noting_found}
 use Rattle.mdl_steps.proofs.Views.{held_at-changed, held_at-dropped, held_at-first, held_at-past, held_at-unchanged, held_at-undropped}
 use Rattle.mdl_steps.proofs.WaitSteps.{set_found}
 use Rattle.mdl_steps_laws.specs.Headline.{HasPlace, IsFree}
 use Rattle.mdl_steps_laws.specs.Locks.{AreKeysOf, IsBookAt}
-use Rattle.mdl_steps_laws.specs.RestLaws.{FindingVersionRests, LoweringRests, MissingDirectoryRests, MissingRests, PuttingReadingRests, PuttingRests, IsRest, RaisingRests, ReadingRests, ReadingVersionRests, TakingRests, after_step}
+use Rattle.mdl_steps_laws.specs.RestLaws.{FindingVersionRests, IsRest, LoweringRests, MissingDirectoryRests, MissingRests, PuttingReadingRests, PuttingRests, PuttingSearchedRests, PuttingServedRests, RaisingRests, ReadingRests, ReadingVersionRests, TakingRests, after_step}
 use Rattle.mdl_steps_laws.proofs.RestSteps.{elsewhere_rests, one_book, place_rests}
 use Rattle.mdl_steps_laws.proofs.SeatSteps.{Leaves, noted_alike}
 
@@ -101,6 +101,17 @@ putting_rests s r place has id me seat h holds r′ =
           (given_here s place has id me.0 w seat h holds (held_at-dropped place me.0.latches)) r′,
     )
 
+pub putting_served_rests : PuttingServedRests
+putting_served_rests s r place has id me seat h holds r′ =
+    let w : View = (served place me).0 in
+    let home : Maybe Slot = some (slot.Place h.book) in
+    let leaves : Leaves place me.0 w = record { number = refl; fast = λ number q. refl; held_else = λ q else. held_at-undropped place q me.0.latches else } in (
+      r′,
+      place_rests s r place id me.0 w seat leaves refl (latch_word place) 0 (omega arith, omega arith) (set s.homes place home) (length-set s.homes place home)
+          (λ q else. set_else s.homes place q home else) has refl
+          (given_here s place has id me.0 w seat h holds (held_at-dropped place me.0.latches)) r′,
+    )
+
 pub putting_reading_rests : PuttingReadingRests
 putting_reading_rests s r place has id me seat h holds r′ =
     let w : View = (read_and_put place h.book.standing me).0 in
@@ -110,6 +121,17 @@ putting_reading_rests s r place has id me seat h holds r′ =
       fast = λ number q. noted_alike place h.book.standing.version number q me.0.fast;
       held_else = λ q else. held_at-undropped place q me.0.latches else;
     } in (
+      r′,
+      place_rests s r place id me.0 w seat leaves refl (latch_word place) 0 (omega arith, omega arith) (set s.homes place home) (length-set s.homes place home)
+          (λ q else. set_else s.homes place q home else) has refl
+          (given_here s place has id me.0 w seat h holds (held_at-dropped place me.0.latches)) r′,
+    )
+
+pub putting_searched_rests : PuttingSearchedRests
+putting_searched_rests s r place has id me seat h holds r′ =
+    let w : View = (searched place me).0 in
+    let home : Maybe Slot = some (slot.Place h.book) in
+    let leaves : Leaves place me.0 w = record { number = refl; fast = λ number q. refl; held_else = λ q else. held_at-undropped place q me.0.latches else } in (
       r′,
       place_rests s r place id me.0 w seat leaves refl (latch_word place) 0 (omega arith, omega arith) (set s.homes place home) (length-set s.homes place home)
           (λ q else. set_else s.homes place q home else) has refl
@@ -151,7 +173,7 @@ reading_rests s r place has id me me′ seat h holds st found at play =
 
 pub lowering_rests : LoweringRests
 lowering_rests s r place has id me seat h holds found left slow obtrusive =
-    record_rests s r place has id me (flags_lowered place [] found h.book slow obtrusive me) seat h holds (lowered h.book slow obtrusive) (λ x. refl) refl refl refl refl refl refl left
+    record_rests s r place has id me (flags_lowered place [] found h.book slow obtrusive me) seat h holds (lowered [] h.book slow obtrusive) (λ x. refl) refl refl refl refl refl refl left
 
 -- ---- a step that changes the list of steps, and nothing else
 

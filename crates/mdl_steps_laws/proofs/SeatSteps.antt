@@ -94,7 +94,7 @@ lowering_leaves : (place : ℕ) (ds : List Deed) (found : ℕ) (book : BookView)
 lowering_leaves place ds found book slow obtrusive me = record {
   number = refl;
   fast = λ number q. ap (λ (ts : List Own). map (ticket_by number) (own_at q ts)) (all_done_fast place ds me.0);
-  held_else = λ q else. held_at-unchanged place (lowered book slow obtrusive) (λ x. refl) q me.0.latches else;
+  held_else = λ q else. held_at-unchanged place (lowered ds book slow obtrusive) (λ x. refl) q me.0.latches else;
 }
 
 pub putting_does : PuttingDoes
@@ -151,8 +151,8 @@ lowering_does s r old new are i key at id me seat h holds ds found left slow obt
     let place : ℕ = suc i in
     let book : BookView = all_booked me.0.number ds h.book in
     recorded s r old new are i key at id me.0 (flags_lowered place ds found book slow obtrusive me).0 seat (lowering_leaves place ds found book slow obtrusive me) refl
-    (lock_word place) left (omega arith, omega arith) r′ (lowered book slow obtrusive h)
-    (held_at-changed place (lowered book slow obtrusive) (λ x. refl) me.0.latches h holds)
+    (lock_word place) left (omega arith, omega arith) r′ (lowered ds book slow obtrusive h)
+    (held_at-changed place (lowered ds book slow obtrusive) (λ x. refl) me.0.latches h holds)
     (ap (all_booked me.0.number ds) ((are.book_is i key at).taken id me.0 seat h holds) ∙ sym (ap (λ (l : Lock). l.book) done.0))
     (ap (λ (l : Lock). l.fast) done.0) done.1
 

@@ -168,12 +168,14 @@ module _ (s : State Slot View) (r : Rule s) (place : ℕ) (has : HasPlace s plac
   ]
   made_keeps st found was m′ (Makes.PutsLatch q deeds may at play) spares =
       by_deeds m′ _ (play.1 q at) q deeds may.0 may.1.may (λ gives. spares (inl gives)) refl refl refl
+  made_keeps st found was m′ (Makes.PutsServed q table may at play) spares = same m′ _ (play.1 q at) refl refl refl
   made_keeps st found was m′ (Makes.PutsReading q may at play) spares =
       let h = may.0 in
       via m′ _ (play.1 q h.book at may.1.holds.carried) (record {
         tickets = notes q h.book.standing.version (λ here. recorded_version h (subst (λ (p : ℕ). held_at p m.0.latches ≡ Some h) here may.1.holds.recorded));
         reads = λ x among. Contains-append_left m.0.reads (record { place = q; standing = h.book.standing } ∷ []) x among;
       })
+  made_keeps st found was m′ (Makes.PutsSearched q may sees at play) spares = same m′ _ (play.1 q at) refl refl refl
   made_keeps st found was m′ (Makes.PutsKey q key k h may at play) spares = same m′ _ (play.1 q (empty_book key) at may.holds.carried) refl refl refl
   made_keeps st found was m′ (Makes.RaisesFlags q slow obtrusive at mask play) spares = same m′ _ (play.1 q slow obtrusive at mask) refl refl refl
   made_keeps st found was m′ (Makes.LowersFlags q deeds slow obtrusive may at mask play) spares =

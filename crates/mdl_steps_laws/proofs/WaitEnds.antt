@@ -1,5 +1,5 @@
 -- To end a wait is to end a granted one or a lost one.
-use Rattle.std.proofs.Common.{◌≡◌, ℕ, suc, ◌*◌, inl, inr, ◌∷◌, ◌++◌, length, map, Some, None, refl, sym, ap, ◌∙◌, subst, arith}
+use Rattle.std.proofs.Common.{◌≡◌, ℕ, suc, ◌*◌, true, inl, inr, ◌∷◌, ◌++◌, length, map, Some, None, refl, sym, ap, ◌∙◌, subst, arith}
 use Rattle.std.specs.Prelude.{Contains, Option}
 use mathlib.Core.Option.{some}
 use lib.ListN.{get_elem?}
@@ -127,8 +127,8 @@ ending_leaves s r keys keys_are i key at id me seat h may =
             let now : waits s′ session ≡ n = waits_here s r session n id me.0 w (number_fits s r id me.0 seat) in
             let apart = not_waiting s′ told′.0 y told′.2 told′.3 session (λ st e. (code_waits st).0 (let is = e in let word = now in omega arith)) in
             let found = asked_waits s r told.0 told.1 i key (in_locks s r keys keys_are i key at told.0 told.1) id me.0 seat may.ask may.asks may.here (λ two. omega arith) in
-            let turns = lock_turns s r keys keys_are i key at id me.0 seat h may.recorded (cancelling session may.ask.number) session n w stays refl r′ x y told told′ in
-            let same = lock_stays s r keys keys_are i key at id me.0 seat h may.recorded (cancelling session may.ask.number) session n w stays refl r′ x y told told′ in
+            let turns = lock_turns s r keys keys_are i key at id me.0 seat h may.recorded (cancelling session may.ask.number) (λ _. true) session n w stays refl r′ x y told told′ in
+            let same = lock_stays s r keys keys_are i key at id me.0 seat h may.recorded (cancelling session may.ask.number) (λ _. true) session n w stays refl r′ x y told told′ in
             record {
               settled = λ e. (let one : code_of (state_by may.state) ≡ 1 = ap code_of e in omega arith);
               leaves =
@@ -143,10 +143,10 @@ ending_leaves s r keys keys_are i key at id me seat h may =
               elsewhere = λ k away. waiting_same s r session n id me.0 w seat stays x y told told′ k (same k away)
                   (λ u among. apart k u (subst (λ (l : Lock). Contains l.book.waiting u) (sym (same k away)) among));
               granted = same_members told.0 told′.0 x y told.2 told′.2
-                  (locks_keep s r keys keys_are i key at id me.0 seat h may.recorded (cancelling session may.ask.number) session n w stays refl r′ x y told told′ granted_of refl);
+                  (locks_keep s r keys keys_are i key at id me.0 seat h may.recorded (cancelling session may.ask.number) (λ _. true) session n w stays refl r′ x y told told′ granted_of refl);
               unended = unended_same s r session n id me.0 w seat stays (λ else. absurd (else refl)) (λ two. omega arith) (λ two. omega arith) x y told.3 told′.3;
               definitions = same_definitions told.0 told′.0 x y told.2 told′.2
-                  (locks_keep s r keys keys_are i key at id me.0 seat h may.recorded (cancelling session may.ask.number) session n w stays refl r′ x y told told′ (λ l. l.book.standing) refl);
+                  (locks_keep s r keys keys_are i key at id me.0 seat h may.recorded (cancelling session may.ask.number) (λ _. true) session n w stays refl r′ x y told told′ (λ l. l.book.standing) refl);
             },
       ),
     )

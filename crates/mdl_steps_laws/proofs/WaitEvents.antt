@@ -1,5 +1,5 @@
 -- What the steps on the words of waits have in common, as events of the system that the table tells.
-use Rattle.std.proofs.Common.{◌≡◌, ◌≢◌, ℕ, suc, ◌<◌, ◌≤◌, ◌==◌, cond, inl, inr, List, length, map, Some, refl, sym, ap, ◌∙◌, subst, arith}
+use Rattle.std.proofs.Common.{◌≡◌, ◌≢◌, ℕ, suc, ◌<◌, ◌≤◌, ◌==◌, Bool, cond, inl, inr, List, length, map, Some, refl, sym, ap, ◌∙◌, subst, arith}
 use Rattle.std.specs.Prelude.{Contains}
 use mathlib.Core.Option.{some, some-injective}
 use lib.ListN.{get_elem?}
@@ -84,23 +84,23 @@ module _ (s : State Slot View) (r : Rule s) (keys : List KeyName) (keys_are : Ar
     pub some_session : 0 < v.number
     some_session = ((r.places (suc i) (first_place s r i key in_rule) inside).held id (holder_at (suc i) v) (at_map (holder_at (suc i)) s.views id v seat) h holds).some_session
 
-    -- the session that holds its latch changes the book in its record so
-    module _ (change : BookView → BookView) (session n : ℕ) (w : View) (stays : Stays v w)
-        (latches : w.latches ≡ map (λ x. cond (x.place == suc i) (record x { book = change x.book }) x) v.latches)
+    -- the session that holds its latch changes the book in its record so, and whether that says that something was freed
+    module _ (change : BookView → BookView) (frees : Bool → Bool) (session n : ℕ) (w : View) (stays : Stays v w)
+        (latches : w.latches ≡ map (λ x. cond (x.place == suc i) (record x { book = change x.book; freed = frees x.freed }) x) v.latches)
         (r′ : Rule (after s r session n id v w seat stays)) (a b : System Definition) (told : IsTold s a) (told′ : IsTold (after s r session n id v w seat stays) b) where
       pub book_was : h.book ≡ (told.0 key).book
       book_was = (told.1.book_is i key (in_locks told.0 told.1)).taken id v seat h holds
 
       pub lock_turns : told′.0 key ≡ record { fast = (told.0 key).fast; book = change (told.0 key).book }
       lock_turns =
-          lock_here s r session n id v w seat stays r′ told.0 told′.0 told.1 told′.1 key i (in_locks told.0 told.1) (record h { book = change h.book })
-          (ap (held_at (suc i)) latches ∙ held_at-changed (suc i) (λ x. record x { book = change x.book }) (λ x. refl) v.latches h holds)
+          lock_here s r session n id v w seat stays r′ told.0 told′.0 told.1 told′.1 key i (in_locks told.0 told.1) (record h { book = change h.book; freed = frees h.freed })
+          (ap (held_at (suc i)) latches ∙ held_at-changed (suc i) (λ x. record x { book = change x.book; freed = frees x.freed }) (λ x. refl) v.latches h holds)
           ∙ ap (λ (b : BookView). record { fast = (told.0 key).fast; book = change b }) book_was
 
       pub lock_stays : (k : KeyName) → k ≢ key → told′.0 k ≡ told.0 k
       lock_stays k away =
           lock_else s r session n id v w seat stays r′ told.0 told′.0 told.1 told′.1 k (λ j there.
-          ap (held_at (suc j)) latches ∙ held_at-unchanged (suc i) (λ x. record x { book = change x.book }) (λ x. refl) (suc j) v.latches
+          ap (held_at (suc j)) latches ∙ held_at-unchanged (suc i) (λ x. record x { book = change x.book; freed = frees x.freed }) (λ x. refl) (suc j) v.latches
           (λ same. away (some-injective k key (sym there ∙ ap (get_elem? told.1.keys) (let e = same in omega arith) ∙ in_locks told.0 told.1))))
 
       -- what holds of the book before and after holds of all locks

@@ -50,9 +50,9 @@ granting_grants_waiters s r keys keys_are i key at id me seat session ticket num
           let now : waits s′ session ≡ n = waits_here s r session n id me.0 w (waiting_session s r session number found).1 in
           let apart = not_waiting s′ told′.0 y told′.2 told′.3 session (λ st e. (code_waits st).1 (let is = e in let word = now in omega arith)) in
           let here = in_locks s r keys keys_are i key at told.0 told.1 in
-          let was = book_was s r keys keys_are i key at id me.0 seat h may.recorded (admitting session ticket) session n w stays refl r′ x y told told′ in
-          let turns = lock_turns s r keys keys_are i key at id me.0 seat h may.recorded (admitting session ticket) session n w stays refl r′ x y told told′ in
-          let same = lock_stays s r keys keys_are i key at id me.0 seat h may.recorded (admitting session ticket) session n w stays refl r′ x y told told′ in
+          let was = book_was s r keys keys_are i key at id me.0 seat h may.recorded (admitting session ticket) (λ b. b) session n w stays refl r′ x y told told′ in
+          let turns = lock_turns s r keys keys_are i key at id me.0 seat h may.recorded (admitting session ticket) (λ b. b) session n w stays refl r′ x y told told′ in
+          let same = lock_stays s r keys keys_are i key at id me.0 seat h may.recorded (admitting session ticket) (λ b. b) session n w stays refl r′ x y told told′ in
           let found_wish : ticket_of session ticket (told.0 key).book.waiting ≡ Some may.wish = subst (λ (b : BookView). ticket_of session ticket b.waiting ≡ Some may.wish) was may.waits in
           let wish_is = is_passed session ticket may.wish (found-passes session ticket (told.0 key).book.waiting may.wish found_wish) in
           let asks = asks_for s r told.0 told.1 key may.wish (find-contains (is_ticket session ticket) (told.0 key).book.waiting may.wish found_wish) in
@@ -108,6 +108,6 @@ granting_grants_waiters s r keys keys_are i key at id me seat session ticket num
               ],
             );
             definitions = same_definitions told.0 told′.0 x y told.2 told′.2
-                (locks_keep s r keys keys_are i key at id me.0 seat h may.recorded (admitting session ticket) session n w stays refl r′ x y told told′ (λ l. l.book.standing) refl);
+                (locks_keep s r keys keys_are i key at id me.0 seat h may.recorded (admitting session ticket) (λ b. b) session n w stays refl r′ x y told told′ (λ l. l.book.standing) refl);
           },
     )

@@ -38,7 +38,7 @@ opening_begins s r keys keys_are i key at id me seat mode h may =
           let now : waits s′ session ≡ n = waits_here s r session n id me.0 w (number_fits s r id me.0 seat) in
           let no_code : (x : WaitState) → waits s session % 8 ≢ code_of x = λ x e. (code_waits x).0 (sym e ∙ idle) in
           let apart = not_waiting s told.0 a told.2 told.3 session no_code in
-          let turns = lock_turns s r keys keys_are i key at id me.0 seat h may.recorded (enqueueing t) session n w stays refl r′ a b told told′ in
+          let turns = lock_turns s r keys keys_are i key at id me.0 seat h may.recorded (enqueueing t) (λ b. b) session n w stays refl r′ a b told told′ in
           record {
             free = (
               (λ k waiter among same.
@@ -58,9 +58,9 @@ opening_begins s r keys keys_are i key at id me seat mode h may =
                 let last = waiter_is (waits s′) t (me.0.waits + 1) Unsettled now in
                 λ j. first j ++ last j ∷ []);
             elsewhere = λ k away. waiting_same s r session n id me.0 w seat stays a b told told′ k
-                (lock_stays s r keys keys_are i key at id me.0 seat h may.recorded (enqueueing t) session n w stays refl r′ a b told told′ k away) (apart k);
-            granted = same_members told.0 told′.0 a b told.2 told′.2 (locks_keep s r keys keys_are i key at id me.0 seat h may.recorded (enqueueing t) session n w stays refl r′ a b told told′ granted_of refl);
+                (lock_stays s r keys keys_are i key at id me.0 seat h may.recorded (enqueueing t) (λ b. b) session n w stays refl r′ a b told told′ k away) (apart k);
+            granted = same_members told.0 told′.0 a b told.2 told′.2 (locks_keep s r keys keys_are i key at id me.0 seat h may.recorded (enqueueing t) (λ b. b) session n w stays refl r′ a b told told′ granted_of refl);
             unended = unended_same s r session n id me.0 w seat stays (λ else. absurd (else refl)) (λ two. omega arith) (λ two. omega arith) a b told.3 told′.3;
-            definitions = same_definitions told.0 told′.0 a b told.2 told′.2 (locks_keep s r keys keys_are i key at id me.0 seat h may.recorded (enqueueing t) session n w stays refl r′ a b told told′ (λ l. l.book.standing) refl);
+            definitions = same_definitions told.0 told′.0 a b told.2 told′.2 (locks_keep s r keys keys_are i key at id me.0 seat h may.recorded (enqueueing t) (λ b. b) session n w stays refl r′ a b told told′ (λ l. l.book.standing) refl);
           },
     )

@@ -1,107 +1,31 @@
 -- Each step that a session may make is one event of the table's system, or leaves the system unchanged. Its kind decides which event it is. If the
 -- step is at a place, the event is one of the place's key.
-use Rattle.std.specs.Prelude.{◌≡◌, ◌≢◌, ◌⊎◌, ℕ, suc, ◌+◌, ◌-◌, ◌%◌, ◌^◌, ◌<◌, false, List, [], length, Some}
+use Rattle.std.specs.Prelude.{◌≡◌, ◌≢◌, ◌⊎◌, ℕ, suc, ◌+◌, List, [], Some}
 use mathlib.Core.Option.{some}
 use lib.ListN.{get_elem?}
-use Rattle.atomic_table.specs.Table.{Act, State, Step, Valid, carried_after, gives, keeps, takes}
+use Rattle.atomic_table.specs.Table.{State, Step}
 use Rattle.mdl_key.specs.Words.{KeyName}
-use Rattle.mdl_word.specs.Words.{obtrusive_flag}
 use Rattle.mdl_defs.specs.declared.definition.Definition.{Definition}
-use Rattle.mdl_defs.specs.Standings.{applied, standing_after}
+use Rattle.mdl_defs.specs.Standings.{applied}
 use Rattle.mdl_book.specs.declared.ticket.Ticket.{Ticket}
 use Rattle.mdl_steps.specs.declared.deed.Deed.{Deed}
 use Rattle.mdl_steps.specs.declared.slot.Slot.{Slot}
 use Rattle.mdl_steps.specs.declared.view.Ask.{Ask}
-use Rattle.mdl_steps.specs.declared.view.LatchRecord.{LatchRecord}
 use Rattle.mdl_steps.specs.declared.view.View.{View}
 use Rattle.mdl_steps.specs.declared.wait_word.Loss.{Loss}
-use Rattle.mdl_steps.specs.Cells.{held_at}
-use Rattle.mdl_steps.specs.FastPlays.{MayGrantFast, MayReleaseFast}
-use Rattle.mdl_steps.specs.Layout.{enrol_word}
 use Rattle.mdl_steps.specs.Plays.{Mine}
 use Rattle.mdl_steps.specs.Rule.{Rule}
-use Rattle.mdl_steps.specs.Seats.{MayInform}
 use Rattle.mdl_steps.specs.WaitPlays.{asked_ticket}
-use Rattle.mdl_steps.specs.WaitSeats.{MayCancel, MayGrant, MayOpen}
-use Rattle.mdl_steps.specs.WaitStates.{granted_state, idle_state, lost_state, unsettled_state, wait_in}
+use Rattle.mdl_steps.specs.WaitStates.{lost_state, unsettled_state, wait_in}
 use Rattle.mdl_system.specs.BookLaws.{of_lock}
 use Rattle.mdl_system.specs.Events.{BeginWait, ChangeDefinition, EndGrantedWait, EndLostWait, Grant, GrantWaiter, Release, SameSystem, SettleLost, Step as SystemStep}
 use Rattle.mdl_system.specs.Systems.{System, Unsettled, WaitState}
-use Rattle.mdl_steps_laws.specs.Headline.{HasPlace}
 use Rattle.mdl_steps_laws.specs.Locks.{AreKeysOf}
-use Rattle.mdl_steps_laws.specs.RestLaws.{first_after, split_off}
 use Rattle.mdl_steps_laws.specs.SessionSteps.{Makes, Turn}
 use Rattle.mdl_steps_laws.specs.StepEvents.{BringsDeeds, IsOf}
 use Rattle.mdl_steps_laws.specs.WaitLaws.{Brings, IsTold, Rests, lost_as}
 use Rattle.mdl_steps_laws.specs.WaitsTold.{code_of}
-
--- ---- a whole step: what it leaves in its word, which was `found`, what it does with slots, and what its session has to know besides
-
--- the word is unchanged, and no slot is moved
-abbrev pub Meets : ℕ → ℕ → Act Slot → Type 0
-Meets found left act = (left ≡ found) × (act ≡ keeps)
-
--- the step leaves `written` in the word, and no slot is moved
-abbrev pub Writes : ℕ → ℕ → Act Slot → Type 0
-Writes written left act = (left ≡ written) × (act ≡ keeps)
-
--- a free latch is taken, with its slot. A latch that isn't free is left unchanged
-abbrev pub Takes : ℕ → Mine → ℕ → ℕ → Act Slot → Type 0
-Takes place m found left act =
-    (0 < m.0.number) × (found ≡ 0 → (left ≡ m.0.number) × ((x : Slot) × (act ≡ takes place x))) × (found ≢ 0 → Meets found left act)
-
--- a latch is given back, with its slot
-abbrev pub Gives : ℕ → Act Slot → Type 0
-Gives left act = (left ≡ 0) × (act ≡ gives)
-
--- a word is exchanged if it is the expected one, otherwise it is unchanged. No slot is moved
-abbrev pub Swaps : ℕ → ℕ → ℕ → ℕ → Act Slot → Type 0
-Swaps expected new found left act = (act ≡ keeps) × (found ≡ expected → left ≡ new) × (found ≢ expected → left ≡ found)
-
--- the session has a record of the place's latch
-abbrev pub HasLatch : ℕ → Mine → Type 0
-HasLatch place m = (h : LatchRecord) × (held_at place m.0.latches ≡ Some h)
-
--- the step is whole: this holds for its kind
-abbrev pub IsWhole : State Slot View → ℕ → Act Slot → {st : Step Slot} {m : Mine} {found : ℕ} {m′ : Mine} → Makes st m found m′ → Type 0
-IsWhole s left act {st} (Makes.DrawsNumber _) = (st.word ≡ enrol_word st.slots) × (act ≡ keeps)
-IsWhole s left act {st} {m} {found} (Makes.TakesDirectory _ _) = Takes 0 m found left act
-IsWhole s left act {st} {m} (Makes.PutsDirectory _ _ _) = MayInform m × Gives left act
-IsWhole s left act {st} {m} {found} (Makes.TakesLatch place _ _) = HasPlace s place × Takes place m found left act
-IsWhole s left act (Makes.PutsLatch place _ _ _ _) = HasPlace s place × Gives left act
-IsWhole s left act (Makes.PutsReading place _ _ _) = HasPlace s place × Gives left act
-IsWhole s left act (Makes.PutsKey place _ _ _ _ _ _) = HasPlace s place × Gives left act
-IsWhole s left act {st} {m} (Makes.RaisesFlags place _ _ _ _ _) = HasPlace s place × HasLatch place m × (act ≡ keeps)
-IsWhole s left act (Makes.LowersFlags place _ _ _ _ _ _ _) = HasPlace s place × (act ≡ keeps)
-IsWhole s left act {st} {m} {found} (Makes.ReadsWord place _ _) = HasPlace s place × HasLatch place m × Meets found left act
-IsWhole s left act (Makes.WritesVersion place may _ _) = HasPlace s place × Writes (standing_after may.1 may.0.book.standing).version left act
-IsWhole s left act {st} {m} {found} (Makes.ReadsVersion place _ _) = HasPlace s place × Meets found left act
-IsWhole s left act {st} {m} {found} (Makes.FindsVersion place _ _ _) = HasPlace s place × Meets found left act
-IsWhole s left act {st} {m} (Makes.OpensWait place mode _ _ _) =
-    HasPlace s place × ((h : LatchRecord) × MayOpen place mode h m) × Writes (wait_in (m.0.waits + 1) unsettled_state) left act
-IsWhole s left act {st} {m} {found} (Makes.ReadsWait _ _ _) = Meets found left act
-IsWhole s left act {st} {m} {found} (Makes.SettlesLost session number state _ _ _ _) =
-    (0 < session) × ((how : Loss) × (state ≡ lost_state how)) × Swaps (wait_in number unsettled_state) (wait_in number state) found left act
-IsWhole s left act {st} {m} {found} (Makes.SettlesGranted place ticket session number _ _ _) =
-    HasPlace s place × (0 < session) × ((h : LatchRecord) × MayGrant place session ticket h m) × Swaps (wait_in number unsettled_state) (wait_in number granted_state) found left act
-IsWhole s left act {st} {m} (Makes.EndsGranted _ _) = (0 < m.0.number) × (m.0.told ≡ Some granted_state) × Writes (wait_in m.0.waits idle_state) left act
-IsWhole s left act {st} {m} (Makes.EndsLost a state _ _ _ _) =
-    HasPlace s a.place × ((h : LatchRecord) × MayCancel a.place h m) × Writes (wait_in m.0.waits idle_state) left act
-IsWhole s left act {st} {m} {found} (Makes.ReadsWordUnlatched place _ _) = HasPlace s place × Meets found left act
-IsWhole s left act {st} {m} {found} (Makes.GrantsFast place mode noted _ _) =
-    HasPlace s place × (0 < m.0.number) × (obtrusive_flag st.first ≡ false)
-    × ((one : ℕ) × MayGrantFast place mode noted one m × Swaps st.first (st.first + one) found left act)
-IsWhole s left act {st} {m} {found} (Makes.ReleasesFast place number _ _) =
-    HasPlace s place × (0 < m.0.number) × ((one : ℕ) × MayReleaseFast place number one m × Writes ((found + (2 ^ 64 - one)) % 2 ^ 64) left act)
-IsWhole s left act {st} {m} {found} (Makes.Materialises place weight _ _ _ _) =
-    HasPlace s place × Writes ((found + (2 ^ 64 - weight)) % 2 ^ 64) left act
-
--- the turn is whole: a step is whole, and what its seat has in hand afterwards shows which slot it took or gave back. A seat that is split off gets the
--- number that was drawn for it
-abbrev pub IsWholeTurn : {s t : State Slot View} → Turn s t → Type 0
-IsWholeTurn {s} (Turn.Steps id m m′ st left act _ made _) =
-    (st.slots ≡ length s.homes) × Valid s.homes m.1 act × (m′.1 ≡ carried_after m.1 act) × IsWhole s left act made
-IsWholeTurn (Turn.Splits v first more _ _ _ _ _) = (first ≡ first_after v) × (more ≡ split_off v)
+pub use Rattle.mdl_steps.specs.Turns.{Gives, HasLatch, IsWhole, IsWholeTurn, Meets, Swaps, Takes, Writes}
 
 -- ---- what it does in the system
 

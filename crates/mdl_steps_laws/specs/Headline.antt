@@ -4,7 +4,7 @@
 -- the definition itself.
 --
 -- The rule holds of the table between any two steps of all sessions, in every interleaving: each step has to keep it (`Order`).
-use Rattle.std.specs.Prelude.{◌≡◌, ℕ, ◌<◌, true, List, [], ◌∷◌, ◌++◌, length, slice_index, Some, Contains}
+use Rattle.std.specs.Prelude.{◌≡◌, ℕ, true, List, [], ◌∷◌, ◌++◌, slice_index, Some, Contains}
 use mathlib.Core.Option.{some}
 use lib.ListN.{get_elem?}
 use Rattle.atomic_table.specs.Table.{State, Step}
@@ -27,12 +27,9 @@ use Rattle.mdl_steps.specs.RuleLaws.{StandsTogether, fast_at}
 use Rattle.mdl_steps.specs.Seats.{MayPut}
 use Rattle.mdl_steps.specs.VersionPlays.{finds_version, reads_version}
 use Rattle.mdl_steps_laws.specs.SessionSteps.{Spares, Turn}
+pub use Rattle.mdl_steps.specs.Turns.{HasPlace}
 
 -- ---- locks
-
--- a place of the table that a lock can have: place 0 is the directory's
-abbrev pub HasPlace : State Slot View → ℕ → Type 0
-HasPlace s place = (0 < place) × (place < length s.homes)
 
 -- no session holds the latch of the place
 abbrev pub IsFree : State Slot View → ℕ → Type 0

@@ -1,4 +1,6 @@
+pub mod Cares
 pub mod EachStep
+pub mod Entries
 pub mod FastLaws
 pub mod Headline
 pub mod Locks
@@ -7,4 +9,5 @@ pub mod SessionSteps
 pub mod StepEvents
 pub mod TableLaws
 pub mod WaitLaws
+pub mod Waits
 pub mod WaitsTold

@@ -14,14 +14,15 @@ use Rattle.mdl_steps.specs.declared.view.LatchRecord.{LatchRecord}
 use Rattle.mdl_steps.specs.declared.view.Keys.{Keys}
 use Rattle.mdl_steps.specs.declared.view.Known.{Known}
 use Rattle.mdl_steps.specs.declared.view.View.{View}
-use Rattle.mdl_steps.specs.Cells.{blank, held_at, no_numbers}
+use Rattle.mdl_steps.specs.Cells.{held_at}
 use Rattle.mdl_steps.specs.Layout.{enrol_word, latch_word, lock_word, version_word}
-use Rattle.mdl_steps.specs.Plays.{IsFresh, Mine, consulted, enrols, informed, latched, named, raises_flags, read_and_put, reads_word, flags_lowered, takes_directory, takes_latch, unlatched}
+use Rattle.mdl_steps.specs.Plays.{IsFresh, Mine, consulted, enrols, flags_lowered, informed, latched, named, raises_flags, read_and_put, reads_word, searched, served, takes_directory, takes_latch, unlatched}
 use Rattle.mdl_steps.specs.Rule.{Rule}
 use Rattle.mdl_steps.specs.Seats.{MayName}
 use Rattle.mdl_steps.specs.VersionPlays.{finds_version, reads_version}
 use Rattle.mdl_steps_laws.specs.Headline.{HasPlace, IsFree}
 use Rattle.mdl_steps_laws.specs.WaitLaws.{Rests}
+pub use Rattle.mdl_steps.specs.Turns.{first_after, split_off}
 
 -- ---- tables after a step of a seat
 
@@ -56,14 +57,6 @@ abbrev pub DrawingRests : Type 0
 DrawingRests =
     (s : State Slot View) → Rule s → (id : ℕ) (me me′ : Mine) → get_elem? s.views id ≡ some me.0 →
     (st : Step Slot) (found left : ℕ) → enrols st me found me′ → IsRest s (after_step s (enrol_word (length s.homes)) left id me′)
-
--- the view of the first seat after a seat is split off from it
-abbrev pub first_after : View → View
-first_after v = record v { spare = record v.spare { given = v.spare.drawn }; log = [] }
-
--- the view of the new seat: it gets the number that was drawn, and the step that drew it
-abbrev pub split_off : View → View
-split_off v = record (blank v.spare.drawn no_numbers) { log = v.log }
 
 -- the table after a seat is split off from the first one
 abbrev pub after_split : State Slot View → View → State Slot View
@@ -116,11 +109,23 @@ PuttingRests =
     (s : State Slot View) → Rule s → (place : ℕ) → HasPlace s place → (id : ℕ) (me : Mine) → get_elem? s.views id ≡ some me.0 →
     (h : LatchRecord) → held_at place me.0.latches ≡ Some h → IsRest s (after_giving s place (slot.Place h.book) id (unlatched place [] me))
 
+-- giving the latch of a place back after the waiters there were looked through leaves the system unchanged
+abbrev pub PuttingServedRests : Type 0
+PuttingServedRests =
+    (s : State Slot View) → Rule s → (place : ℕ) → HasPlace s place → (id : ℕ) (me : Mine) → get_elem? s.views id ≡ some me.0 →
+    (h : LatchRecord) → held_at place me.0.latches ≡ Some h → IsRest s (after_giving s place (slot.Place h.book) id (served place me))
+
 -- giving the latch of a place back after reading the definition leaves the system unchanged
 abbrev pub PuttingReadingRests : Type 0
 PuttingReadingRests =
     (s : State Slot View) → Rule s → (place : ℕ) → HasPlace s place → (id : ℕ) (me : Mine) → get_elem? s.views id ≡ some me.0 →
     (h : LatchRecord) → held_at place me.0.latches ≡ Some h → IsRest s (after_giving s place (slot.Place h.book) id (read_and_put place h.book.standing me))
+
+-- giving the latch of a place back after a search that found no deadlock leaves the system unchanged
+abbrev pub PuttingSearchedRests : Type 0
+PuttingSearchedRests =
+    (s : State Slot View) → Rule s → (place : ℕ) → HasPlace s place → (id : ℕ) (me : Mine) → get_elem? s.views id ≡ some me.0 →
+    (h : LatchRecord) → held_at place me.0.latches ≡ Some h → IsRest s (after_giving s place (slot.Place h.book) id (searched place me))
 
 -- giving the latch of a place back with the empty book of a new key, which gets the place, leaves the system unchanged: the key's lock was empty
 -- before, too

@@ -1,6 +1,6 @@
 //! The steps that leave the table's system unchanged. Each law is proved as the contract of a function that does
 //! nothing.
-ghost use Rattle.mdl_steps_laws.specs.RestLaws.{DrawingRests, SplittingRests, ConsultingRests, MissingDirectoryRests, InformingRests, TakingRests, MissingRests, PuttingRests, PuttingReadingRests, NamingRests, RaisingRests, ReadingRests, LoweringRests, ReadingVersionRests, FindingVersionRests};
+ghost use Rattle.mdl_steps_laws.specs.RestLaws.{ConsultingRests, DrawingRests, FindingVersionRests, InformingRests, LoweringRests, MissingDirectoryRests, MissingRests, NamingRests, PuttingReadingRests, PuttingRests, PuttingSearchedRests, PuttingServedRests, RaisingRests, ReadingRests, ReadingVersionRests, SplittingRests, TakingRests};
 
 /// Drawing a number for one more session leaves the system unchanged.
 pub fn drawing_rests()
@@ -42,9 +42,19 @@ pub fn putting_rests()
     ensures { PuttingRests }
 {}
 
+/// Giving the latch of a place back after the waiters there were looked through leaves the system unchanged.
+pub fn putting_served_rests()
+    ensures { PuttingServedRests }
+{}
+
 /// Giving the latch of a place back after reading the definition leaves the system unchanged.
 pub fn putting_reading_rests()
     ensures { PuttingReadingRests }
+{}
+
+/// Giving the latch of a place back after a search that found no deadlock leaves the system unchanged.
+pub fn putting_searched_rests()
+    ensures { PuttingSearchedRests }
 {}
 
 /// Giving the latch of a place back with the book of a new key, which gets the place, leaves the system unchanged.

@@ -1,5 +1,5 @@
 -- A session that came to a place has its latch, and does its deeds there.
-use Rattle.std.proofs.Common.{◌≡◌, ℕ, true, List, [], Some, refl, sym, ap, ◌∙◌, subst, inl, inr}
+use Rattle.std.proofs.Common.{Bool, List, Some, [], ap, false, inl, inr, refl, subst, sym, true, ℕ, ◌||◌, ◌∙◌, ◌≡◌}
 use Rattle.std.specs.Prelude.{◌⊎◌, ◌≤◌, is_some}
 use Rattle.mdl_book.specs.declared.book_error.BookError.{BookError}
 use Rattle.mdl_book.specs.declared.book_error.BookError.TheVariants as fault
@@ -10,7 +10,7 @@ use Rattle.mdl_steps.specs.declared.deed.Deed.{Deed}
 use Rattle.mdl_steps.specs.declared.view.LatchRecord.{LatchRecord}
 use Rattle.mdl_steps.specs.declared.view.Met.{Met}
 use Rattle.mdl_steps.specs.Cells.{held_at}
-use Rattle.mdl_steps.specs.Deeds.{KnowsPlace, MayDo, NotWaited, all_booked}
+use Rattle.mdl_steps.specs.Deeds.{KnowsPlace, MayDo, NotWaited, all_booked, frees}
 use Rattle.mdl_steps.specs.Layout.{lock_word}
 use Rattle.mdl_steps.specs.Plays.{IsFresh, Mine}
 use Rattle.mdl_steps.specs.Rule.{Flagged}
@@ -18,21 +18,23 @@ use Rattle.mdl_steps.specs.SeatStates.{AtItsTable, SeatState}
 use Rattle.mdl_steps.specs.Seats.{Holds, IsPlace, written}
 use Rattle.mdl_steps.proofs.Hands.{holds_written}
 use Rattle.mdl_visits.specs.Leavings.{DidUnder, DoesToOwn, HasWorked, MeetsOwn}
-use Rattle.mdl_visits.specs.Visits.{Arrives, CameTo, HasStep, IsInside, IsStepOf, LacksRoom, MayVisit, StaysOn}
+use Rattle.mdl_visits.specs.Visits.{Arrives, CameTo, HasStep, IsInside, IsStepOf, LacksRoom, MayVisit, StaysOn, StaysWithin, VisitsOnce}
 use Rattle.mdl_visits.proofs.Leaving.{step_later}
 use Rattle.mdl_visits.proofs.Seats.{mine, place_there, table_of}
 use Rattle.mdl_visits.proofs.Visiting.{inside_written}
+use Rattle.mdl_visits.proofs.Within.{visit_after, within_same, within_then, within_written}
 
 -- by what the wait for the latch promises
 pub arrived : (place : ℕ) (s : SeatState) → MayVisit place s → (q : ℕ) (c : SeatState) → q ≡ place → (h : LatchRecord) → IsFresh place h s.me → Holds place h h.book c.me
-    → AtItsTable s c (IsInside place) → StaysOn s.me c.me → Arrives place s q c
-arrived place s may q c at h fresh holds inside stays = record {
+    → AtItsTable s c (IsInside place) → StaysOn s.me c.me → StaysWithin false s.me c.me → Arrives place s q c
+arrived place s may q c at h fresh holds inside stays within = record {
   at = at;
   is_place = place_there q inside.0 (subst (IsPlace s.table) (sym at) may.is_place);
   latch = h;
   fresh = fresh;
   holds = subst (λ (p : ℕ). Holds p h h.book c.me) (sym at) holds;
   came = (inside.0, subst (λ (p : ℕ). IsInside p s.me c.me) (sym at) inside.1, stays);
+  within = within;
 }
 
 -- the step on the word that did its deeds met the record of the latch
@@ -68,13 +70,26 @@ module _ {place : ℕ} {s : SeatState} {q : ℕ} {c : SeatState} (a : Arrives pl
     subst (λ (x : SeatState). StaysOn s.me x.me) (sym is) a.came.2,
   )
 
+  -- and it went on there, and left
+  pub went_on : (w n : SeatState) → StaysWithin false c.me w.me → VisitsOnce q w.me n.me → VisitsOnce place s.me n.me
+  went_on w n more visit =
+      subst (λ (p : ℕ). VisitsOnce p s.me n.me) a.at
+      (visit_after false s.me w.me n.me (within_then false s.me c.me w.me a.within more) q visit)
+
+  pub went_written : (book : BookView) (w n : SeatState) → w ≡ record c { me = written q book c.me } → VisitsOnce q w.me n.me → VisitsOnce place s.me n.me
+  went_written book w n is visit = went_on w n (within_written false c.me w.me q book (mine is)) visit
+
+  pub went_same : (w n : SeatState) → w ≡ c → VisitsOnce q w.me n.me → VisitsOnce place s.me n.me
+  went_same w n is visit =
+      went_on w n (within_same false c.me w.me (ap (λ (x : SeatState). x.me.0.log) is) (ap (λ (x : SeatState). x.me.0.directory) is)) visit
+
   -- what it may do and has written it has done
   pub has_worked : (ds : List Deed) (w : SeatState) → KnowsPlace s.me.0 place → MayDo c.me.0 a.latch.book a.latch.noted ds
       → Flagged (all_booked c.me.0.number ds a.latch.book) a.latch.slow a.latch.obtrusive
-      → w ≡ record c { me = written q (all_booked c.me.0.number ds a.latch.book) c.me } → HasWorked q ds w
+      → w ≡ record c { me = written q (all_booked c.me.0.number ds a.latch.book) c.me } → HasWorked q ds (frees ds) w
   has_worked ds w known may flagged is =
       let here = subst (λ (x : Mine). KnowsPlace x.0 place) (sym a.came.1.now) known in
-      subst (HasWorked q ds) (sym is) (record {
+      subst (HasWorked q ds (frees ds)) (sym is) (record {
         is_place = a.is_place;
         latch = a.latch;
         done = record {
@@ -84,16 +99,18 @@ module _ {place : ℕ} {s : SeatState} {q : ℕ} {c : SeatState} (a : Arrives pl
         };
         flagged = flagged;
         once = record { once = a.fresh.once; single = a.fresh.single };
+        freed_is = ap (λ (b : Bool). b || frees ds) a.fresh.unfreed;
       })
 
   -- or it has done nothing
-  pub has_rested : HasWorked q [] c
+  pub has_rested : HasWorked q [] false c
   has_rested = record {
     is_place = a.is_place;
     latch = a.latch;
     done = record { holds = a.holds; act = inr refl; may = tt };
     flagged = ((λ e. a.fresh.exact.0 ∙ e), λ e. a.fresh.exact.1 ∙ e);
     once = record { once = a.fresh.once; single = a.fresh.single };
+    freed_is = ap (λ (b : Bool). b || false) a.fresh.unfreed;
   }
 
   -- and so the session's ticket

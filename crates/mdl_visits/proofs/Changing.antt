@@ -31,12 +31,14 @@ use Rattle.mdl_steps.proofs.Views.{by_bool, held_at-first, held_at-changed}
 use Rattle.mdl_visits.specs.Leavings.{Learns, knowing}
 use Rattle.mdl_visits.specs.Numbers.{numbered, is_ask_apart}
 use Rattle.mdl_visits.specs.Redefinitions.{HasExclusiveAt, IsNamed, IsRefusedFor, MeetsFault, Redefines, redefined_and_put}
-use Rattle.mdl_visits.specs.Visits.{AreStepsOf, IsInside, and_made, TakesLatch}
+use Rattle.mdl_visits.specs.Visits.{Arrives, AreStepsOf, IsInside, and_made, TakesLatch, VisitsOnce}
+use Rattle.mdl_visits.proofs.Arriving.{went_on}
 use Rattle.mdl_visits.proofs.Gathering.{as_reads, gives_back, holds_there, no_steps}
 use Rattle.mdl_visits.proofs.Numbers.{has_number, not_waited}
 use Rattle.mdl_visits.proofs.Reading.{follows}
 use Rattle.mdl_visits.proofs.Seats.{mine, table_of}
 use Rattle.mdl_visits.proofs.Steps.{none_then}
+use Rattle.mdl_visits.proofs.Within.{plain, visit_put, within_one, within_then, within_written}
 
 -- ---- the session's ticket
 
@@ -114,6 +116,21 @@ refusal change (Some fault) why told drop = inl (ap Some (sym (same told)))
 
 -- ---- the whole call
 
+-- the definition was changed in hand, its version written and the latch given back
+pub went_changed : {place : ℕ} {s : SeatState} {q : ℕ} {c : SeatState} (a : Arrives place s q c) (book : BookView) (standing : Standing) (w v n : SeatState)
+    → w ≡ record c { me = written q book c.me } → v ≡ record w { me = redefined q standing w.me } → n ≡ record v { me = unlatched q [] v.me } → VisitsOnce place s.me n.me
+went_changed {place} {s} {q} {c} a book standing w v n wrote published put =
+    let writes : Met = record {
+      kind = WriteVersion;
+      deeds = [];
+      word = version_word q;
+      found = standing.version - 1;
+      held = (redefined q standing w.me).0.latches;
+      directory = w.me.0.directory;
+    } in
+    let newer = within_one false w.me v.me writes (ap (λ (x : SeatState). x.me.0.log) published) (ap (λ (x : SeatState). x.me.0.directory) published) (refl, plain false, refl) in
+    went_on a v n (within_then false c.me w.me v.me (within_written false c.me w.me q book (mine wrote)) newer) (visit_put false v.me n.me q [] (mine put))
+
 module _ (place q : ℕ) (change : Change) (a b w : SeatState) (at : q ≡ place) (taken : TakesLatch place a.me b.me) where
   abbrev book : BookView
   book = taken.0.book
@@ -139,6 +156,8 @@ module _ (place q : ℕ) (change : Change) (a b w : SeatState) (at : q ≡ place
       restood after taken.0,
       record { holds = keeps taken.0 (redefining change book) has_redefined.holds; act = inr refl; may = tt },
       taken.1.exact,
+      tt,
+      taken.1.unfreed,
     )
 
     -- its version was written, and the latch was given back

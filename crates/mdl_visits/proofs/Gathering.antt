@@ -117,6 +117,8 @@ module _ (place q : ℕ) (a b c : SeatState) (at : q ≡ place) (taken : TakesLa
       h,
       record { holds = record { recorded = subst (λ (m : Mine). held_at place m.0.latches ≡ Some h) came recorded; carried = refl }; act = inr refl; may = tt },
       taken.1.exact,
+      tt,
+      taken.1.unfreed,
     ))
 
     module _ (e : SeatState) (put : e ≡ record d { me = unlatched q [] d.me }) (rising : IsRising place a.me) where

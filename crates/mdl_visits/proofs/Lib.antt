@@ -6,6 +6,7 @@ pub mod Trying
 pub mod FastTrying
 pub mod Leaving
 pub mod Steps
+pub mod Within
 pub mod Doing
 pub mod Way
 pub mod Waiting
@@ -33,3 +34,4 @@ pub mod Outcomes
 pub mod Holding
 pub mod WaitEndings
 pub mod WaitOpenings
+pub mod Searching

@@ -96,7 +96,7 @@ module _ {place : ℕ} {s : SeatState} {q : ℕ} {c : SeatState} (a : Arrives pl
   lost w result refused wrote =
       taken_out (ticket_of c.me.0.number number a.latch.book.granted) NotHere result there (refused a.latch.book a.holds.carried) (wrote a.latch.book a.holds.carried)
 
-  pub has_lost : (w : SeatState) → KnowsPlace s.me.0 place → w ≡ record c { me = written q (booked c.me.0.number (Lose number) a.latch.book) c.me } → HasWorked q (Lose number ∷ []) w
+  pub has_lost : (w : SeatState) → KnowsPlace s.me.0 place → w ≡ record c { me = written q (booked c.me.0.number (Lose number) a.latch.book) c.me } → HasWorked q (Lose number ∷ []) true w
   has_lost w known is =
       let ticket = found_one (ticket_of c.me.0.number number a.latch.book.granted) there in
       has_worked a (Lose number ∷ []) w known (ticket.0, (ticket.1, unwaited_there a number unwaited))

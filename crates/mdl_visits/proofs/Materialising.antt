@@ -14,7 +14,6 @@ use Rattle.mdl_book.specs.declared.ticket.Ticket.{Ticket}
 use Rattle.mdl_book.specs.Books.{any_obtrusive, lock_kind, ticket_count}
 use Rattle.mdl_book.specs.Granting.{is_compatible}
 use Rattle.mdl_book.specs.Tickets.{ticket_of}
-use Rattle.mdl_steps.specs.declared.step_kind.StepKind.{StepKind}
 use Rattle.mdl_steps.specs.declared.step_kind.StepKind.TheVariants.{Materialise, PutLatch, RaiseFlags}
 use Rattle.mdl_steps.specs.declared.view.LatchRecord.{LatchRecord}
 use Rattle.mdl_steps.specs.declared.view.Met.{Met}
@@ -33,14 +32,15 @@ use Rattle.mdl_steps.proofs.FastLists.{length_mapped}
 use Rattle.mdl_steps.proofs.Hands.{elsewhere-stepped, holds_written}
 use Rattle.mdl_steps.proofs.Unmixed.{unmixed_apart}
 use Rattle.mdl_steps.proofs.Views.{by_bool}
-use Rattle.mdl_visits.specs.Leavings.{DidUnder, HasWorked, PutsBack}
-use Rattle.mdl_visits.specs.Materialisings.{AreUngranted, CanStand, LacksRoomFor, LeavesOpen, Materialises, VisitsOnce, WasMaterialised, all_slow, granting_own, raises_obtrusive, with_book}
-use Rattle.mdl_visits.specs.Visits.{Arrives, HasStep, IsInside, IsStepOf, KnowsKind, StaysThere, Visits, raises_flags}
-use Rattle.mdl_visits.proofs.Arriving.{met}
+use Rattle.mdl_visits.specs.Leavings.{DidUnder, HasWorked}
+use Rattle.mdl_visits.specs.Materialisings.{AreUngranted, CanStand, LacksRoomFor, Materialises, WasMaterialised, all_slow, granting_own, with_book}
+use Rattle.mdl_visits.specs.Visits.{Arrives, HasStep, IsInside, IsStepOf, KnowsKind, StaysWithin, Visits, VisitsOnce}
+use Rattle.mdl_visits.proofs.Arriving.{met, went_on}
 use Rattle.mdl_visits.proofs.Numbers.{idle_waits_not}
 use Rattle.mdl_visits.proofs.Seats.{mine, place_there, table_of}
-use Rattle.mdl_visits.proofs.Steps.{each_append, each_map, none_then}
+use Rattle.mdl_visits.proofs.Steps.{each_map, none_then}
 use Rattle.mdl_visits.proofs.Visiting.{inside_at, inside_stepped, inside_written}
+use Rattle.mdl_visits.proofs.Within.{plain, visit_put, within_one, within_then, within_written}
 
 -- ---- flags
 
@@ -153,45 +153,11 @@ module _ (place found : ℕ) (m m′ m″ m‴ : Mine) (inside : IsInside place 
 
 -- ---- one visit
 
--- steps were made between the two that gave no latch back and closed no fast path
-abbrev pub StaysOpen : Mine → Mine → Type 0
-StaysOpen m m′ = (made : List Met) × (m′.0.log ≡ m.0.log ++ made) × Each LeavesOpen made
-
--- who raises no flag closes none
-no_flag : (k : StepKind) → raises_flags k ≡ false → raises_obtrusive k ≡ false
-no_flag k none = (elim k as (λ k. raises_flags k ≡ false → raises_obtrusive k ≡ false) [
-  | RaiseFlags slow obtrusive ↦ λ raises. (let never : true ≡ false = raises in absurd (cc))
-  | _ ↦ λ raises. refl
-]) none
-
-open_each : (made : List Met) → Each StaysThere made → Each LeavesOpen made
-open_each made all = each_map StaysThere LeavesOpen (λ e so. (so.0, no_flag e.kind so.1)) made all
-
-module _ (a b c : Mine) where
-  open_one : StaysOpen a b → (e : Met) → c.0.log ≡ b.0.log ++ e ∷ [] → LeavesOpen e → StaysOpen a c
-  open_one more e log so = (
-    more.0 ++ e ∷ [],
-    log ∙ ap (λ (xs : List Met). xs ++ e ∷ []) more.1 ∙ append_assoc a.0.log more.0 (e ∷ []),
-    each_append LeavesOpen more.0 (e ∷ []) more.2 (so, tt),
-  )
-
-  visits_once : (place : ℕ) → StaysOpen a b → PutsBack place b c → VisitsOnce place a c
-  visits_once place more last =
-      let by = last.1 in (
-        last.0,
-        more.0 ++ by.0,
-        by.1 ∙ ap (λ (log : List Met). (log ++ by.0) ++ last.0 ∷ []) more.1 ∙ ap (λ (log : List Met). log ++ last.0 ∷ []) (append_assoc a.0.log more.0 by.0),
-        last.2,
-        last.3,
-        each_append LeavesOpen more.0 by.0 more.2 (open_each by.0 by.2),
-      )
-
 -- the session came to the place and raised the flag SLOW, and gave the latch back
 module _ {place : ℕ} {s : SeatState} {q : ℕ} {c : SeatState} (a : Arrives place s q c) (b : SeatState)
     (raises : (met : ℕ) × (b ≡ record c { me = stepped (RaiseFlags true false) q met (raised true false) c.me })) where
-  came : StaysOpen s.me b.me
-  came =
-      let first = a.came.2 in
+  rose : StaysWithin false c.me b.me
+  rose =
       let raise : Met = record {
         kind = RaiseFlags true false;
         deeds = [];
@@ -200,17 +166,15 @@ module _ {place : ℕ} {s : SeatState} {q : ℕ} {c : SeatState} (a : Arrives pl
         held = map (λ (h : LatchRecord). cond (h.place == q) (raised true false h) h) c.me.0.latches;
         directory = c.me.0.directory;
       } in
-      open_one s.me c.me b.me (first.0, first.1, open_each first.0 first.2) raise (ap (λ (x : SeatState). x.me.0.log) raises.1) (refl, refl)
+      within_one false c.me b.me raise (ap (λ (x : SeatState). x.me.0.log) raises.1) (ap (λ (x : SeatState). x.me.0.directory) raises.1) (refl, plain false, refl)
 
   -- with nothing done
-  pub refused_once : (w n : SeatState) → w ≡ b → PutsBack q w.me n.me → VisitsOnce place s.me n.me
-  refused_once w n same back =
-      subst (λ (p : ℕ). VisitsOnce p s.me n.me) a.at
-      (visits_once s.me w.me n.me q (subst (λ (x : SeatState). StaysOpen s.me x.me) (sym same) came) back)
+  pub refused_once : (w n : SeatState) → w ≡ b → VisitsOnce q w.me n.me → VisitsOnce place s.me n.me
+  refused_once w n same visit = went_on a w n (subst (λ (x : SeatState). StaysWithin false c.me x.me) (sym same) rose) visit
 
   -- or with its tickets made slow
   pub done_once : (book : BookView) (w d n : SeatState) → w ≡ with_book q book b → (met : ℕ) × (d ≡ record w { me = materialised q met w.me })
-      → n ≡ record d { me = unlatched q [] d.me } → VisitsOnce q s.me n.me
+      → n ≡ record d { me = unlatched q [] d.me } → VisitsOnce place s.me n.me
   done_once book w d n wrote makes puts =
       let materialises : Met = record {
         kind = Materialise;
@@ -220,11 +184,9 @@ module _ {place : ℕ} {s : SeatState} {q : ℕ} {c : SeatState} (a : Arrives pl
         held = map (λ (h : LatchRecord). cond (h.place == q) (with_granted (moved q w.me.0) h) h) w.me.0.latches;
         directory = w.me.0.directory;
       } in
-      let gives : Met = record { kind = PutLatch; deeds = []; word = latch_word q; found = d.me.0.number; held = d.me.0.latches; directory = d.me.0.directory } in
-      let there : StaysOpen s.me w.me = (came.0, ap (λ (x : SeatState). x.me.0.log) wrote ∙ came.1, came.2) in
-      let made = open_one s.me w.me d.me there materialises (ap (λ (x : SeatState). x.me.0.log) makes.1) (refl, refl) in
-      let last = ap (λ (x : SeatState). x.me.0.log) puts ∙ ap (λ (log : List Met). log ++ gives ∷ []) (sym (append-nil d.me.0.log)) in
-      visits_once s.me d.me n.me q made (gives, ([], last, tt), refl, refl)
+      let there = within_then false c.me b.me w.me rose (within_written false b.me w.me q book (mine wrote)) in
+      let made = within_one false w.me d.me materialises (ap (λ (x : SeatState). x.me.0.log) makes.1) (ap (λ (x : SeatState). x.me.0.directory) makes.1) (refl, plain false, refl) in
+      went_on a d n (within_then false c.me w.me d.me there made) (visit_put false d.me n.me q [] (mine puts))
 
 -- ---- of a session that came to the place, and raised the flag SLOW
 
@@ -290,13 +252,14 @@ module _ {place : ℕ} {s : SeatState} {q : ℕ} {fast : List Own} {b : SeatStat
   -- ---- if there is no room for them
 
   module _ {w : SeatState} (same : w ≡ b) where
-    pub rests : HasWorked q [] w
-    rests = subst (HasWorked q []) (sym same) (record {
+    pub rests : HasWorked q [] false w
+    rests = subst (HasWorked q [] false) (sym same) (record {
       is_place = r.is_place;
       latch = up;
       done = record { holds = r.holds; act = inr refl; may = tt };
       flagged = ((λ some. refl), λ some. r.fresh.exact.1 ∙ some);
       once = record { once = r.fresh.once; single = r.fresh.single };
+      freed_is = ap (λ (b : Bool). b || false) r.fresh.unfreed;
     })
 
     inside_still : AtItsTable s w (IsInside q)
@@ -372,9 +335,11 @@ module _ {place : ℕ} {s : SeatState} {q : ℕ} {fast : List Own} {b : SeatStat
             record { holds = holds_last; act = inr refl; may = tt },
             tells_more book r.found.slow r.found.obtrusive (moved q w.me.0) r.fresh.exact (omega arith)
                 (ap (any_obtrusive (lock_kind book)) all_moved ∙ plain),
+            tt,
+            r.fresh.unfreed,
           )
 
-      pub was_materialised : (n : SeatState) → n ≡ record d { me = unlatched q [] d.me } → own_at place s.me.0.fast ≢ [] → VisitsOnce q s.me n.me
+      pub was_materialised : (n : SeatState) → n ≡ record d { me = unlatched q [] d.me } → own_at place s.me.0.fast ≢ [] → VisitsOnce place s.me n.me
           → WasMaterialised place s n
       was_materialised n puts some once =
           let some_there = subst (λ (p : ℕ). own_at p s.me.0.fast ≢ []) (sym r.at) some in
@@ -382,7 +347,7 @@ module _ {place : ℕ} {s : SeatState} {q : ℕ} {fast : List Own} {b : SeatStat
             (
               table_of puts ∙ table_of makes.1 ∙ table_of wrote ∙ r.table,
               subst (λ (p : ℕ). Materialises p s.me n.me) r.at
-                  (slow_then q makes.0 s.me w.me d.me n.me inside_then (mine makes.1) (mine puts) some_there once),
+                  (slow_then q makes.0 s.me w.me d.me n.me inside_then (mine makes.1) (mine puts) some_there (subst (λ (p : ℕ). VisitsOnce p s.me n.me) (sym r.at) once)),
             ),
             λ _. (
               step.0,

@@ -13,10 +13,10 @@ use Rattle.mdl_steps.specs.declared.view.Met.{Met}
 use Rattle.mdl_steps.specs.declared.view.Settlement.{Settlement}
 use Rattle.mdl_steps.specs.Deeds.{all_booked, all_done}
 use Rattle.mdl_steps.specs.Layout.{latch_word, lock_word}
-use Rattle.mdl_steps.specs.Plays.{Mine, unlatched}
+use Rattle.mdl_steps.specs.Plays.{Mine, served}
 use Rattle.mdl_steps.specs.Seats.{Holds, elsewhere, rest}
 use Rattle.mdl_steps.proofs.Hands.{elsewhere-settled}
-use Rattle.mdl_visits.specs.Grantings.{ForgetsNobody, IsLowered, ReschedulesAndLeaves, HasRescheduled, Reschedules, VisitsAndReschedules}
+use Rattle.mdl_visits.specs.Grantings.{ForgetsNobody, IsLowered, ReschedulesAndLeaves, HasRescheduled, Reschedules, VisitsAndReschedules, all_but}
 use Rattle.mdl_visits.specs.Visits.{MakesMoreSteps, IsInside, IsStepOf, StaysOn}
 use Rattle.mdl_visits.proofs.Steps.{goes_none, goes_staying, leaves_after, none_then, step_after, step_before}
 use Rattle.mdl_visits.proofs.Way.{granted_within, looked_within, stays_of}
@@ -47,7 +47,7 @@ module _ (id : TableId) (place : ℕ) (a b c : Mine) (stays : StaysOn a b) where
 
 -- ---- nobody waits
 
-module _ (id : TableId) (place : ℕ) (h : LatchRecord) (m c : Mine) (has : Holds place h h.book m) (nobody : h.book.waiting ≡ []) (put : c ≡ unlatched place [] m) where
+module _ (id : TableId) (place : ℕ) (h : LatchRecord) (m c : Mine) (has : Holds place h h.book m) (nobody : h.book.waiting ≡ []) (put : c ≡ served place m) where
   abbrev puts : Met
   puts = record { kind = PutLatch; deeds = []; word = latch_word place; found = m.0.number; held = m.0.latches; directory = m.0.directory }
 
@@ -75,7 +75,7 @@ module _ (id : TableId) (place : ℕ) (h : LatchRecord) (m c : Mine) (has : Hold
 -- ---- somebody does: waits were granted, and the latch was given back
 
 module _ (id : TableId) (place : ℕ) (g : LatchRecord) (m b c : Mine) (way : Reschedules id place m m b) (has : Holds place g g.book b) (none : ForgetsNobody id place g m b)
-    (put : c ≡ unlatched place [] b) where
+    (put : c ≡ served place b) where
   abbrev frees : Met
   frees = record { kind = PutLatch; deeds = []; word = latch_word place; found = b.0.number; held = b.0.latches; directory = b.0.directory }
 
@@ -94,8 +94,8 @@ module _ (id : TableId) (place : ℕ) (g : LatchRecord) (m b c : Mine) (way : Re
     settles = m.0.settles ++ way.grants;
     made = way.made ++ last ∷ [];
     did = none_then way.made (last ∷ []) [] way.did refl;
-    now = put ∙ ap (unlatched place []) way.now
-        ∙ (λ i. (record m.0 { latches = way.others i; told = way.told; settles = m.0.settles ++ way.grants; log = append_assoc m.0.log way.made (last ∷ []) i }, rest m.1));
+    now = put ∙ ap (served place) way.now
+        ∙ (λ i. (record m.0 { latches = way.others i; told = way.told; settles = m.0.settles ++ way.grants; owes = all_but place m.0.owes; log = append_assoc m.0.log way.made (last ∷ []) i }, rest m.1));
     way = record {
       grants = way.grants;
       settles = ap (λ (x : Mine). x.0.settles) put ∙ ap (λ (x : Mine). x.0.settles) way.now;
@@ -133,12 +133,13 @@ module _ (id : TableId) (place : ℕ) (ds : List Deed) (m b c : Mine) (low : IsL
     settles = left.settles;
     made = lowers ∷ left.made;
     now = left.now
-        ∙ ap (λ (x : Mine). (record (all_done place [] x.0) { latches = elsewhere place x; told = left.told; settles = left.settles; log = x.0.log ++ left.made }, rest x.1)) low.4
+        ∙ ap (λ (x : Mine). (record (all_done place [] x.0) { latches = elsewhere place x; told = left.told; settles = left.settles; owes = all_but place x.0.owes; log = x.0.log ++ left.made }, rest x.1)) low.4
         ∙ (λ i. (
           record (all_done place ds m.0) {
             latches = elsewhere-settled place ds low.0 low.2 low.3 low.1 m i;
             told = left.told;
             settles = left.settles;
+            owes = all_but place m.0.owes;
             log = append_assoc m.0.log (lowers ∷ []) left.made i;
           },
           rest m.1,
@@ -169,8 +170,8 @@ visits_and_reschedules id place ds m a c inside stays left = record {
   settles = left.settles;
   made = inside.made ++ left.made;
   now = left.now
-      ∙ ap (λ (x : Mine). (record (all_done place ds x.0) { latches = elsewhere place x; told = left.told; settles = left.settles; log = x.0.log ++ left.made }, rest x.1)) inside.now
-      ∙ (λ i. (record (all_done place ds m.0) { latches = inside.others i; told = left.told; settles = left.settles; log = append_assoc m.0.log inside.made left.made i }, m.1));
+      ∙ ap (λ (x : Mine). (record (all_done place ds x.0) { latches = elsewhere place x; told = left.told; settles = left.settles; owes = all_but place x.0.owes; log = x.0.log ++ left.made }, rest x.1)) inside.now
+      ∙ (λ i. (record (all_done place ds m.0) { latches = inside.others i; told = left.told; settles = left.settles; owes = all_but place m.0.owes; log = append_assoc m.0.log inside.made left.made i }, m.1));
   did = none_then inside.made left.made ds inside.did left.did;
   way = rescheduled_after id place m a c stays (ap (λ (x : Mine). x.0.settles) inside.now) (ap (λ (x : Mine). x.0.told) inside.now)
       (ap (λ (x : Mine). x.0.number) inside.now) (ap (λ (x : Mine). x.0.asks) inside.now) left.way;

@@ -6,7 +6,7 @@ use Rattle.std.proofs.lemmas.List.Folds.{list_any-append}
 use Rattle.mdl_key.specs.declared.mode.Mode.{Mode}
 use Rattle.mdl_key.specs.declared.namespace.Kind.{Kind}
 use Rattle.mdl_key.specs.Refusals.{Refuses, RefusesJust}
-use Rattle.mdl_key.specs.Words.{KeyName, is_mode_of, is_obtrusive, kind_of}
+use Rattle.mdl_key.specs.Words.{IsAtLeast, KeyName, is_mode_of, is_obtrusive, kind_of}
 use Rattle.mdl_book.specs.declared.book_error.BookError.{BookError}
 use Rattle.mdl_book.specs.declared.book_error.BookError.TheVariants as fault
 use Rattle.mdl_book.specs.declared.book_view.BookView.{BookView}
@@ -16,27 +16,30 @@ use Rattle.mdl_book.specs.FastTickets.{can_be_granted, may_stand}
 use Rattle.mdl_book.specs.Tickets.{ticket_of}
 use Rattle.mdl_steps.specs.declared.deed.Deed.{Deed}
 use Rattle.mdl_steps.specs.declared.deed.Deed.TheVariants.{Gain, Alter}
-use Rattle.mdl_steps.specs.declared.step_kind.StepKind.TheVariants.{PutLatch, ReadWord}
+use Rattle.mdl_steps.specs.declared.step_kind.StepKind.TheVariants.{PutLatch, RaiseFlags, ReadWord}
 use Rattle.mdl_steps.specs.declared.view.LatchRecord.{LatchRecord}
 use Rattle.mdl_steps.specs.declared.view.Met.{Met}
-use Rattle.mdl_steps.specs.Cells.{held_at}
-use Rattle.mdl_steps.specs.Deeds.{KnowsPlace, MayBeGranted, MayDo, MayJoin, booked}
+use Rattle.mdl_steps.specs.Cells.{held_at, ticket_by}
+use Rattle.mdl_steps.specs.Deeds.{FreesNothing, KnowsPlace, MayBeGranted, MayDo, MayJoin, booked}
 use Rattle.mdl_steps.specs.Layout.{latch_word, lock_word}
-use Rattle.mdl_steps.specs.Plays.{Mine, noting, raised, unlatched}
+use Rattle.mdl_steps.specs.Plays.{IsFresh, Mine, changed, noting, raised, stepped, unlatched}
 use Rattle.mdl_steps.specs.Rule.{TellsLists}
 use Rattle.mdl_steps.specs.SeatStates.{AtItsTable, SeatState}
 use Rattle.mdl_steps.specs.Seats.{Holds, MayPut, written}
 use Rattle.mdl_steps.proofs.Hands.{holds_written}
 use Rattle.mdl_steps.proofs.Views.{by_bool}
+use Rattle.mdl_visits.specs.Coverings.{MayRise}
 use Rattle.mdl_visits.specs.Leavings.{DidUnder, HasTicket, HasWorked}
-use Rattle.mdl_visits.specs.Visits.{Enters, HasEntered, HasStep, IsInside, KnowsKind, MeetsFullWish, Visits, WasBlocked, WasGranted, WasRefused, WasRefusedWish}
+use Rattle.mdl_visits.specs.Visits.{Arrives, Enters, HasEntered, HasStep, IsInside, IsVisit, KnowsKind, MeetsFullWish, StaysWithin, Visits, VisitsOnce, WasBlocked, WasGranted, WasRefused, WasRefusedWish}
 use Rattle.mdl_visits.proofs.Altering.{altered_exactly, just_done, none_clashes}
 use Rattle.mdl_visits.proofs.Arriving.{met_full}
-use Rattle.mdl_visits.proofs.Leaving.{own_found}
+use Rattle.mdl_visits.proofs.Covered.{own_mode, own_there}
 use Rattle.mdl_visits.proofs.Losing.{found_one}
 use Rattle.mdl_visits.proofs.Numbers.{idle_waits_not}
 use Rattle.mdl_visits.proofs.Seats.{mine, table_of}
 use Rattle.mdl_visits.proofs.Visiting.{inside_written, visits_put}
+use Rattle.mdl_system.proofs.StrengthLemmas.{covers-at_least}
+use Rattle.mdl_visits.proofs.Within.{plain, visit_after, visit_any, visit_put, within_any, within_one, within_then, within_written}
 
 -- ---- flags
 
@@ -86,6 +89,25 @@ refusal T ticket word book cause stands refuses =
 
 -- ---- as the place was entered
 
+-- the steps by which it was entered raised OBTRUSIVE only if the wish is obtrusive
+pub entered_within : {place : ℕ} {s : SeatState} {q : ℕ} {c : SeatState} (a : Arrives place s q c) (obtrusive : Bool) (word : ℕ) {b : SeatState} {d e : Mine}
+    → (met : ℕ) × (b ≡ record c { me = stepped (RaiseFlags true obtrusive) q met (raised true obtrusive) c.me }) → d ≡ stepped ReadWord q word (noting word) b.me → e ≡ d
+    → StaysWithin obtrusive s.me e
+entered_within {place} {s} {q} {c} a obtrusive word {b} {d} {e} raise read same =
+    let raises : Met = record {
+      kind = RaiseFlags true obtrusive;
+      deeds = [];
+      word = lock_word q;
+      found = raise.0;
+      held = (changed q (raised true obtrusive) c.me.0).latches;
+      directory = c.me.0.directory;
+    } in
+    let reads : Met = record { kind = ReadWord; deeds = []; word = lock_word q; found = word; held = (changed q (noting word) b.me.0).latches; directory = b.me.0.directory } in
+    let up = within_one obtrusive c.me b.me raises (ap (λ (x : SeatState). x.me.0.log) raise.1) (ap (λ (x : SeatState). x.me.0.directory) raise.1) (refl, (λ is. is), refl) in
+    let on = within_one obtrusive b.me d reads (ap (λ (x : Mine). x.0.log) read) (ap (λ (x : Mine). x.0.directory) read) (refl, plain obtrusive, refl) in
+    subst (λ (x : Mine). StaysWithin obtrusive s.me x) (sym same)
+    (within_then obtrusive s.me b.me d (within_then obtrusive s.me c.me b.me (within_any obtrusive s.me c.me a.within) up) on)
+
 module _ {place q word : ℕ} {mode : Mode} {can : Bool} {s c : SeatState} (has : HasEntered place q word mode can s c) where
   abbrev entered : Enters place has.obtrusive word mode can s.me c.me
   entered = has.entered.1
@@ -126,14 +148,19 @@ module _ {place q word : ℕ} {mode : Mode} {can : Bool} {s c : SeatState} (has 
   pub told_here : can_be_granted (lock_kind book) book.granted book.waiting word c.me.0.number mode ≡ can
   told_here = subst (λ (who : ℕ). can_be_granted (lock_kind book) book.granted book.waiting word who mode ≡ can) me entered.told
 
+  -- it leaves, and the visit is over
+  pub visit_entered : (may : Bool) (n : SeatState) → StaysWithin may s.me c.me → VisitsOnce q c.me n.me → IsVisit place may s.me n.me
+  visit_entered may n within visit = subst (λ (p : ℕ). IsVisit p may s.me n.me) has.at (visit_after may s.me c.me n.me within q (visit_any may c.me n.me q visit))
+
   -- it may go with nothing done
-  pub rested : HasWorked q [] c
+  pub rested : HasWorked q [] false c
   rested = record {
     is_place = has.is_place;
     latch = entered_latch;
     done = record { holds = entered_holds; act = inr refl; may = tt };
     flagged = ((λ some. refl), λ some. or_right has.obtrusive entered.found.obtrusive (entered.fresh.exact.1 ∙ some));
     once = record { once = entered.fresh.once; single = entered.fresh.single };
+    freed_is = ap (λ (b : Bool). b || false) entered.fresh.unfreed;
   }
 
   -- and did so, though there was no room, as the step that read the word shows
@@ -198,6 +225,12 @@ module _ {place q word : ℕ} {mode : Mode} {s c : SeatState} (has : HasEntered 
 
 -- ---- where it can
 
+-- a deed was written, and the latch given back with it
+pub visit_written : (q : ℕ) (ds : List Deed) (book : BookView) (c w n : SeatState) → w ≡ record c { me = written q book c.me } → n ≡ record w { me = unlatched q ds w.me }
+    → VisitsOnce q c.me n.me
+visit_written q ds book c w n wrote puts =
+    visit_after false c.me w.me n.me (within_written false c.me w.me q book (mine wrote)) q (visit_put false w.me n.me q ds (mine puts))
+
 module _ {place q word : ℕ} {mode : Mode} {s c : SeatState} (has : HasEntered place q word mode true s c) where
   abbrev found : LatchRecord
   found = has.entered.1.found
@@ -220,8 +253,8 @@ module _ {place q word : ℕ} {mode : Mode} {s c : SeatState} (has : HasEntered 
 
   -- it has a deed written that it may do, and may give the latch back
   may_put : (d : Deed) (w : SeatState) → MayDo c.me.0 found.book latch.noted (d ∷ []) → TellsLists (booked c.me.0.number d found.book) true (has.obtrusive || found.obtrusive)
-      → w ≡ record c { me = written q (booked c.me.0.number d found.book) c.me } → MayPut q (d ∷ []) w.me
-  may_put d w may told wrote =
+      → FreesNothing c.me.0.number found.book (d ∷ []) → w ≡ record c { me = written q (booked c.me.0.number d found.book) c.me } → MayPut q (d ∷ []) w.me
+  may_put d w may told keeps_out wrote =
       subst (λ (x : SeatState). MayPut q (d ∷ []) x.me) (sym wrote) (
         latch,
         record {
@@ -230,6 +263,8 @@ module _ {place q word : ℕ} {mode : Mode} {s c : SeatState} (has : HasEntered 
           may = may;
         },
         told,
+        keeps_out,
+        has.entered.1.fresh.unfreed,
       )
 
   -- the deed is the ticket that it gains
@@ -239,6 +274,7 @@ module _ {place q word : ℕ} {mode : Mode} {s c : SeatState} (has : HasEntered 
       (next, inl granted_here)
       (granted_exactly (record { session = c.me.0.number; number = number; mode = mode }) found.book found.slow found.obtrusive has.obtrusive has.entered.1.fresh.exact
       (asks_here has))
+      tt
       wrote
 
   -- why the ticket wasn't written
@@ -249,14 +285,22 @@ module _ {place q word : ℕ} {mode : Mode} {s c : SeatState} (has : HasEntered 
       refusal T (record { session = c.me.0.number; number = number; mode = mode }) word found.book cause (and_parts _ _ (told_here has)).0 refuses
 
   -- or the other mode of a ticket that it has there, an obtrusive one
-  module _ (number : ℕ) (kind : Kind) (knows : KnowsKind s.me.0 place kind) (loud : is_obtrusive kind mode ≡ true) (held : HasTicket place number s.me.0.slow) where
+  module _ (number : ℕ) (kind : Kind) (knows : KnowsKind s.me.0 place kind) (loud : is_obtrusive kind mode ≡ true) (rise : MayRise place number mode s.me.0) where
     up : has.obtrusive ≡ true
     up = asks_here has ∙ ap (λ k. is_obtrusive k mode) (kind_known has kind knows) ∙ loud
 
+    its : ticket_of c.me.0.number number found.book.granted ≡ Some (ticket_by c.me.0.number rise.held)
+    its =
+        own_there c.me.0.number number rise.held found s.me (me has) (subst (λ (p : ℕ). IsFresh p found s.me) (sym rise.here) has.entered.1.fresh)
+        (idle_waits_not s.me.0 number has.wish.idle) rise.there
+
     stands : is_some (ticket_of c.me.0.number number found.book.granted) ≡ true
-    stands =
-        subst (λ (who : ℕ). is_some (ticket_of who number found.book.granted) ≡ true) (me has)
-        (ap is_some (has.entered.1.fresh.own number (idle_waits_not s.me.0 number has.wish.idle)) ∙ own_found s.me.0.number place number s.me.0.slow held)
+    stands = ap is_some its
+
+    -- the mode is at least as strong as the ticket's own
+    at_least : IsAtLeast (lock_kind found.book) mode rise.held.mode
+    at_least =
+        covers-at_least (lock_kind found.book) mode rise.held.mode (is_mode_here has) (own_mode place c.me.0.number number rise.held found s.me has.entered.1.fresh its) rise.stronger
 
     pub ready_altered : (w : SeatState) → w ≡ record c { me = written q (booked c.me.0.number (Alter number mode) found.book) c.me } → MayPut q (Alter number mode ∷ []) w.me
     ready_altered w wrote =
@@ -264,6 +308,7 @@ module _ {place q word : ℕ} {mode : Mode} {s c : SeatState} (has : HasEntered 
         may_put (Alter number mode) w
         (inl ((ticket.0, (ticket.1, idle_waits_not c.me.0 number granted_here.idle)), granted_here))
         (altered_exactly c.me.0.number number mode found.book has.obtrusive found.obtrusive up (sym (asks_here has) ∙ up) stands)
+        (ticket_by c.me.0.number rise.held, its, at_least)
         wrote
 
     -- which was written

@@ -1,5 +1,5 @@
 -- One ticket takes the mode of another, and this is taken out of the book in hand.
-use Rattle.std.proofs.Common.{◌≡◌, ◌≢◌, ℕ, true, List, [], ◌∷◌, Some, None, refl, sym, ap, ◌∙◌, subst}
+use Rattle.std.proofs.Common.{◌≡◌, ◌≢◌, ℕ, true, false, List, [], ◌∷◌, Some, None, refl, sym, ap, ◌∙◌, subst}
 use Rattle.std.specs.Prelude.{is_some, OnOk, Result}
 use Rattle.std.specs.Option.{ok_or}
 use Rattle.mdl_key.specs.declared.mode.Mode.{Mode}
@@ -72,7 +72,7 @@ module _ (kept gone : Own) {s : SeatState} {q : ℕ} {c : SeatState} (a : Arrive
 
   -- the first one's mode was covered by the second's
   pub has_united : (w : SeatState) → KnowsPlace s.me.0 kept.place → covers gone.mode kept.mode ≡ true
-      → w ≡ record c { me = written q (booked c.me.0.number (Lose gone.number) changed) c.me } → HasWorked q (Alter kept.number gone.mode ∷ Lose gone.number ∷ []) w
+      → w ≡ record c { me = written q (booked c.me.0.number (Lose gone.number) changed) c.me } → HasWorked q (Alter kept.number gone.mode ∷ Lose gone.number ∷ []) false w
   has_united w known strong is =
       let idle_there = ap (λ (x : Mine). x.0.asks) a.came.1.now ∙ idle in
       let kind = lock_kind a.latch.book in

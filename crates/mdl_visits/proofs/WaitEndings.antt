@@ -1,5 +1,5 @@
 -- A session ends its lost wait under the latch, and gives the latch back.
-use Rattle.std.proofs.Common.{◌≡◌, ℕ, ◌+◌, ◌<◌, ◌==◌, map, cond, Bool, List, [], ◌∷◌, ◌++◌, length, Some, None, Result, Ok, Err, refl, sym, ap, ◌∙◌, subst, inr, append_assoc, arith}
+use Rattle.std.proofs.Common.{◌≡◌, ℕ, ◌+◌, ◌<◌, ◌==◌, map, cond, Bool, true, List, [], ◌∷◌, ◌++◌, length, Some, None, Result, Ok, Err, refl, sym, ap, ◌∙◌, subst, inr, append_assoc, arith}
 use Rattle.std.specs.Prelude.{Option, OnErr, OnOk}
 use Rattle.std.specs.Option.{ok_or}
 use Rattle.std.proofs.lemmas.Bool.{ltb-true, lt-ltb}
@@ -125,7 +125,7 @@ module _ (ask : Ask) {s : SeatState} {q : ℕ} {c : SeatState} (a : Arrives ask.
 
     module _ (state : ℕ) (v : SeatState) (ended : v ≡ record w { me = ended_lost w.table.slots q ask.number state w.me }) where
       -- the latch may be given back
-      pub has_ended : Holds q (with_cancelled w.me.0.number ask.number a.latch) less v.me → HasWorked q [] v
+      pub has_ended : Holds q (with_cancelled w.me.0.number ask.number a.latch) less v.me → HasWorked q [] true v
       has_ended holds =
           let same : w.me.0.number ≡ c.me.0.number = ap (λ (x : SeatState). x.me.0.number) is in
           record {
@@ -134,6 +134,7 @@ module _ (ask : Ask) {s : SeatState} {q : ℕ} {c : SeatState} (a : Arrives ask.
             done = record { holds = subst (λ (n : ℕ). Holds q (with_cancelled n ask.number a.latch) less v.me) same holds; act = inr refl; may = tt };
             flagged = still_flagged c.me.0.number ask.number a.latch.book a.latch.slow a.latch.obtrusive ((λ e. a.fresh.exact.0 ∙ e), λ e. a.fresh.exact.1 ∙ e);
             once = stands_less c.me.0.number ask.number a.latch.book.waiting (record { once = a.fresh.once; single = a.fresh.single });
+            freed_is = refl;
           }
 
       -- the step that ended the wait is among those made so far

@@ -25,10 +25,11 @@ use Rattle.mdl_steps.specs.WaitStates.{idle_state, wait_in}
 use Rattle.mdl_steps.proofs.Hands.{holds_written, elsewhere-stepped}
 use Rattle.mdl_steps.proofs.Views.{held_at-changed}
 use Rattle.mdl_visits.specs.WaitOpenings.{BeginsWait, MeetsOpening, Opens, awaiting}
-use Rattle.mdl_visits.specs.Visits.{AreStepsOf, Enters, HasEntered, IsInside, MeetsBlocked}
+use Rattle.mdl_visits.specs.Visits.{AreStepsOf, Enters, HasEntered, IsInside, MeetsBlocked, VisitsOnce}
 use Rattle.mdl_visits.proofs.Seats.{mine, table_of}
 use Rattle.mdl_visits.proofs.Steps.{none_then}
-use Rattle.mdl_visits.proofs.Trying.{asks_here, entered_holds, entered_idle, entered_known, entered_latch, is_mode_here}
+use Rattle.mdl_visits.proofs.Trying.{asks_here, entered_holds, entered_idle, entered_known, entered_latch, is_mode_here, told_here}
+use Rattle.mdl_visits.proofs.Within.{plain, visit_after, visit_put, within_one, within_then, within_written}
 
 -- ---- flags
 
@@ -61,9 +62,10 @@ record MayQueue (place : ℕ) (mode : Mode) (h : LatchRecord) (m : Mine) : Type 
   pub holds : Holds place h h.book m
   pub may : MayOpen place mode h m
   pub exact : TellsLists (enqueueing (asked_ticket mode m.0) h.book) h.slow h.obtrusive
+  pub unfreed : h.freed ≡ false
 
 may_queue : {place q word : ℕ} {mode : Mode} {s c : SeatState} (has : HasEntered place q word mode false s c) → c.me.0.fast ≡ [] → MayQueue q mode (entered_latch has) c.me
-may_queue {mode = mode} {c = c} has unfast =
+may_queue {word = word} {mode = mode} {c = c} has unfast =
     let found = has.entered.1.found in
     let holds = entered_holds has in
     let exact = waits_exactly (asked_ticket mode c.me.0) found.book found.slow found.obtrusive has.obtrusive has.entered.1.fresh.exact (asks_here has) in
@@ -76,8 +78,12 @@ may_queue {mode = mode} {c = c} has unfast =
         known = entered_known has;
         mode_is = is_mode_here has;
         flagged = ((λ some. exact.0 ∙ some), λ some. exact.1 ∙ some);
+        word = word;
+        read = λ up. rw up (refl, refl);
+        blocked = told_here has;
       };
       exact = exact;
+      unfreed = has.entered.1.fresh.unfreed;
     }
 
 -- ---- the steps
@@ -89,7 +95,7 @@ module _ (place : ℕ) (mode : Mode) (h : LatchRecord) (m m₁ : Mine) (may : Ma
   may_open : MayOpen place mode h m₁
   may_open =
       let o = may.may in
-      subst (MayOpen place mode h) (sym wrote) (record { recorded = o.recorded; idle = o.idle; unfast = o.unfast; known = o.known; mode_is = o.mode_is; flagged = o.flagged })
+      subst (MayOpen place mode h) (sym wrote) (record { recorded = o.recorded; idle = o.idle; unfast = o.unfast; known = o.known; mode_is = o.mode_is; flagged = o.flagged; word = o.word; read = o.read; blocked = o.blocked })
 
   -- the latch may be given back
   may_put : (m₂ : Mine) → Holds place (with_waiting (asked_ticket mode m₁.0) h) (enqueueing (asked_ticket mode m.0) h.book) m₂ → MayPut place [] m₂
@@ -102,6 +108,8 @@ module _ (place : ℕ) (mode : Mode) (h : LatchRecord) (m m₁ : Mine) (may : Ma
           may = tt;
         },
         may.exact,
+        tt,
+        may.unfreed,
       )
 
 -- ---- the visit
@@ -172,6 +180,22 @@ module _ (slots place : ℕ) (mode : Mode) (m m′ m″ : Mine) (inside : IsInsi
       )
 
 -- ---- the call
+
+-- a ticket was written, the wait opened and the latch given back
+pub visit_opened : (q : ℕ) (mode : Mode) (book : BookView) (c w v n : SeatState) → w ≡ record c { me = written q book c.me }
+    → v ≡ record w { me = opened w.table.slots q mode w.me } → n ≡ record v { me = unlatched q [] v.me } → VisitsOnce q c.me n.me
+visit_opened q mode book c w v n wrote opens_wait puts =
+    let e : Met = record {
+      kind = OpenWait;
+      deeds = [];
+      word = wait_word w.table.slots w.me.0.number;
+      found = wait_in w.me.0.waits idle_state;
+      held = (opened w.table.slots q mode w.me).0.latches;
+      directory = w.me.0.directory;
+    } in
+    let opening = within_one false w.me v.me e (ap (λ (x : SeatState). x.me.0.log) opens_wait) (ap (λ (x : SeatState). x.me.0.directory) opens_wait) (refl, plain false, refl) in
+    visit_after false c.me v.me n.me (within_then false c.me w.me v.me (within_written false c.me w.me q book (mine wrote)) opening) q
+    (visit_put false v.me n.me q [] (mine puts))
 
 module _ {place q word : ℕ} {mode : Mode} {s c : SeatState} (has : HasEntered place q word mode false s c) (number : ℕ) (next : number ≡ c.me.0.next) (w : SeatState)
     (wrote : w ≡ record c { me = written q (enqueueing (record { session = c.me.0.number; number = number; mode = mode }) has.entered.1.found.book) c.me }) where

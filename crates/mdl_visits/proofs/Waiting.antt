@@ -12,7 +12,7 @@ use Rattle.mdl_key.specs.Words.{is_obtrusive}
 use Rattle.mdl_word.specs.Words.{blocks_by, counts_of}
 use Rattle.mdl_book.specs.declared.book_view.BookView.{BookView}
 use Rattle.mdl_book.specs.declared.ticket.Ticket.{Ticket}
-use Rattle.mdl_book.specs.Books.{lock_kind, any_obtrusive, admitting, is_ready, next_grantable}
+use Rattle.mdl_book.specs.Books.{lock_kind, any_obtrusive, admitting, has_obtrusive, has_tickets, is_ready, next_grantable}
 use Rattle.mdl_book.specs.FastTickets.{can_be_granted, may_stand}
 use Rattle.mdl_book.specs.Granting.{goes_first, is_compatible}
 use Rattle.mdl_book.specs.Tickets.{is_ticket, ticket_id, ticket_of, without}
@@ -28,9 +28,9 @@ use Rattle.mdl_steps.proofs.Tickets.{is_itself, is_passed, without-hit, without-
 use Rattle.mdl_steps.proofs.Views.{by_bool}
 use Rattle.mdl_visits.specs.Grantings.{IsOrderly, IsGrantableTicket, ahead_of}
 
--- waits may be granted by a record whose flags tell the lists and this word of the lock, which is noted while the flag OBTRUSIVE is up
+-- waits may be granted by a record whose flags tell the lists and this word of the lock, which is noted while the flag OBTRUSIVE is up, and counts exactly
 abbrev pub MayReschedule : ℕ → LatchRecord → Type 0
-MayReschedule word h = IsOrderly h × (h.obtrusive ≡ true → h.noted ≡ Some word)
+MayReschedule word h = IsOrderly h × (h.obtrusive ≡ true → h.noted ≡ Some word) × (h.obtrusive ≡ true → h.exact ≡ true)
 
 -- ---- one of the list is taken out
 
@@ -102,11 +102,22 @@ grants_on word session number h t found may = (
     tells_admitted session number h.book t h.slow h.obtrusive found may.0.1,
   ),
   may.1,
+  may.2,
 )
+
+-- lists that hold an obtrusive ticket hold one
+some_any : (p : Ticket → Bool) (ts : List Ticket) → list_any p ts ≡ true → 0 < length ts
+some_any p [] e = absurd (cc)
+some_any p (t ∷ ts) e = omega arith
+
+ticketed : (book : BookView) → has_obtrusive book ≡ true → has_tickets book ≡ true
+ticketed book e = lt-ltb 0 (length book.granted + length book.waiting) (by_bool (any_obtrusive (lock_kind book) book.granted)
+    (λ granted. let some = some_any (λ (t : Ticket). is_obtrusive (lock_kind book) t.mode) book.granted granted in omega arith)
+    (λ none. let some = some_any (λ (t : Ticket). is_obtrusive (lock_kind book) t.mode) book.waiting (sym (ap (λ (b : Bool). b || any_obtrusive (lock_kind book) book.waiting) none) ∙ e) in omega arith))
 
 -- once the word was read, waits may be granted by it
 pub grants_read : (word : ℕ) (h : LatchRecord) → IsOrderly h → MayReschedule word (noting word h)
-grants_read word h orderly = (orderly, λ up. rw up refl)
+grants_read word h orderly = (orderly, (λ up. rw up refl), λ up. rw up (orderly.1.0 ∙ ticketed h.book (sym orderly.1.1 ∙ up)))
 
 -- nobody else of its session waits
 none_of_session : (word session number : ℕ) (h : LatchRecord) (t : Ticket) → ticket_of session number h.book.waiting ≡ Some t → MayReschedule word h

@@ -10,6 +10,7 @@ use Rattle.mdl_steps.specs.declared.slot.Slot.TheVariants as slot
 use Rattle.mdl_steps.specs.declared.step_kind.StepKind.{StepKind}
 use Rattle.mdl_steps.specs.declared.step_kind.StepKind.TheVariants.{GrantWait, ReadWord}
 use Rattle.mdl_steps.specs.declared.view.LatchRecord.{LatchRecord}
+use Rattle.mdl_steps.specs.declared.view.Keys.{Keys}
 use Rattle.mdl_steps.specs.declared.view.Met.{Met}
 use Rattle.mdl_steps.specs.declared.view.Settlement.{Settlement}
 use Rattle.mdl_steps.specs.declared.view.View.{View}
@@ -21,8 +22,9 @@ use Rattle.mdl_steps.specs.WaitPlays.{wait_in, met_wait_by, meeting, settled_gra
 use Rattle.mdl_steps.proofs.Hands.{elsewhere-stepped}
 use Rattle.mdl_steps.proofs.Views.{by_bool, held_at-changed}
 use Rattle.mdl_visits.specs.Grantings.{AreGranted, ArePassedOver, HasJustMet, IsLookedThrough, IsGrantableTicket, Reschedules, MeetsGranted, OnlyMeets, StaysTold, WasSettled, ahead_of}
-use Rattle.mdl_visits.specs.Visits.{MakesMoreSteps, IsStepOf, IsStepAfter, StaysOn, StaysThere, deeds_of, gives_back, raises_flags}
-use Rattle.mdl_visits.proofs.Steps.{each_append, goes_none, goes_on, none_then, step_after}
+use Rattle.mdl_visits.specs.Visits.{MakesMoreSteps, IsStepOf, IsStepAfter, StaysHere, StaysOn, StaysThere, StaysWithin, deeds_of, gives_back, raises_flags}
+use Rattle.mdl_visits.proofs.Steps.{each_append, each_map, goes_none, goes_on, none_then, step_after}
+use Rattle.mdl_visits.proofs.Within.{within_here}
 
 -- ---- what is told of one's own wait
 
@@ -124,7 +126,7 @@ module _ (id : TableId) (place : ℕ) (start : Mine) where
   -- nobody is granted
   nobody_granted : (latches : List LatchRecord) (told : Option ℕ) (made : List Met) (book : BookView) (m m′ : Mine)
       → m′ ≡ (record m.0 { latches = latches; told = told; log = m.0.log ++ made }, (place, slot.Place book) ∷ rest m.1) → filter (λ h. not (h.place == place)) latches ≡ elsewhere place m
-      → StaysTold m.0.told told × (m.0.asks ≡ None → told ≡ m.0.told) → deeds_of made ≡ [] → Each StaysThere made → Reschedules id place start m m′
+      → StaysTold m.0.told told × (m.0.asks ≡ None → told ≡ m.0.told) → deeds_of made ≡ [] → Each (StaysHere m.0.directory) made → Reschedules id place start m m′
   nobody_granted latches told made book m m′ is others tells did kept = record {
     latches = latches;
     told = told;
@@ -156,7 +158,7 @@ module _ (id : TableId) (place : ℕ) (start : Mine) where
   rescheduled_met kind only session found book m m′ carried own is =
       nobody_granted m.0.latches (meeting session found m.0).told
       (record { kind = kind; deeds = []; word = wait_word id.slots session; found = found; held = m.0.latches; directory = m.0.directory } ∷ []) book m m′
-      (is ∙ (λ i. ((met_wait_by kind id.slots session found m).0, carried i))) refl (own_told id.slots session found found m.0 own (λ _. refl)) refl (only_stays kind only, tt)
+      (is ∙ (λ i. ((met_wait_by kind id.slots session found m).0, carried i))) refl (own_told id.slots session found found m.0 own (λ _. refl)) refl ((only_stays kind only, refl), tt)
 
   -- the lock's word was read
   pub rescheduled_read : (word : ℕ) (book : BookView) (m m′ : Mine) → m.1 ≡ (place, slot.Place book) ∷ rest m.1 → m′ ≡ stepped ReadWord place word (noting word) m → Reschedules id place start m m′
@@ -164,7 +166,7 @@ module _ (id : TableId) (place : ℕ) (start : Mine) where
       let latches = (changed place (noting word) m.0).latches in
       nobody_granted latches m.0.told (record { kind = ReadWord; deeds = []; word = lock_word place; found = word; held = latches; directory = m.0.directory } ∷ []) book m m′
       (is ∙ (λ i. ((stepped ReadWord place word (noting word) m).0, carried i))) (elsewhere-stepped ReadWord place word (noting word) m (λ x. refl))
-      ((λ state e. e), (λ none. refl)) refl ((refl, refl), tt)
+      ((λ state e. e), (λ none. refl)) refl (((refl, refl), refl), tt)
 
   module _ (session ticket number : ℕ) (h : LatchRecord) (book : BookView) (m m′ : Mine) (has : Holds place h book m) (ready : IsGrantableTicket session ticket h) (just : HasJustMet id.slots place session h m)
       (looked : IsLookedThrough id place h (ahead_of session ticket h.book.waiting) start m) (is : m′ ≡ settled_granted id.slots place session ticket number m) where
@@ -209,7 +211,7 @@ module _ (id : TableId) (place : ℕ) (start : Mine) where
         tt,
       );
       did = refl;
-      kept = ((refl, refl), tt);
+      kept = (((refl, refl), refl), tt);
     }
 
   -- ---- one after another
@@ -218,7 +220,14 @@ module _ (id : TableId) (place : ℕ) (start : Mine) where
   steps_of m m′ way = (way.made, ap (λ (x : Mine). x.0.log) way.now)
 
   pub stays_of : (m m′ : Mine) → Reschedules id place start m m′ → StaysOn m m′
-  stays_of m m′ way = (way.made, ap (λ (x : Mine). x.0.log) way.now, way.kept)
+  stays_of m m′ way = (
+    way.made,
+    ap (λ (x : Mine). x.0.log) way.now,
+    each_map (StaysHere m.0.directory) StaysThere (λ e so. so.0) way.made way.kept,
+  )
+
+  pub within_of : (m m′ : Mine) → Reschedules id place start m m′ → StaysWithin false m m′
+  within_of m m′ way = within_here false m m′ way.made (ap (λ (x : Mine). x.0.log) way.now) (ap (λ (x : Mine). x.0.directory) way.now) way.kept
 
   pub rescheduled_then : (a b c : Mine) → Reschedules id place start a b → Reschedules id place start b c → Reschedules id place start a c
   rescheduled_then a b c x y = record {
@@ -237,5 +246,6 @@ module _ (id : TableId) (place : ℕ) (start : Mine) where
         (granted_within id place start start a a b c (goes_none start) (goes_none a) (steps_of b c y) x.grants x.granted)
         (granted_within id place start start a b c c (goes_none start) (steps_of a b x) (goes_none c) y.grants y.granted);
     did = none_then x.made y.made [] x.did y.did;
-    kept = each_append StaysThere x.made y.made x.kept y.kept;
+    kept = each_append (StaysHere a.0.directory) x.made y.made x.kept
+        (subst (λ (d : Option Keys). Each (StaysHere d) y.made) (ap (λ (w : Mine). w.0.directory) x.now) y.kept);
   }

@@ -1,5 +1,5 @@
 -- A session has written into the book in hand what its own ticket covers, and may give the latch back.
-use Rattle.std.proofs.Common.{◌≡◌, ℕ, true, [], ◌∷◌, Some, None, Result, Err, ap, sym, ◌∙◌, inr}
+use Rattle.std.proofs.Common.{◌≡◌, ℕ, true, false, [], ◌∷◌, Some, None, Result, Err, ap, sym, ◌∙◌, inr}
 use Rattle.std.specs.Prelude.{◌⊎◌, ◌≤◌, is_some, OnOk}
 use Rattle.mdl_key.specs.declared.mode.Mode.{Mode}
 use Rattle.mdl_key.specs.Refusals.{Refuses, RefusesJust}
@@ -40,7 +40,7 @@ module _ (held : Own) {s : SeatState} {q : ℕ} {c : SeatState} (a : Arrives hel
     lowered_to w result refused wrote = altered c.me.0.number mode a.latch covered held.number result (ap is_some there) refused wrote
 
     pub has_altered : (w : SeatState) → may_downgrade held.mode mode ≡ true → w ≡ record c { me = written q (booked c.me.0.number (Alter held.number mode) a.latch.book) c.me }
-        → HasWorked q (Alter held.number mode ∷ []) w
+        → HasWorked q (Alter held.number mode ∷ []) true w
     has_altered w weaker is =
         has_worked a (Alter held.number mode ∷ []) w
         (fits.0, fits.1, fits.2, fits.3)
@@ -55,7 +55,7 @@ module _ (held : Own) {s : SeatState} {q : ℕ} {c : SeatState} (a : Arrives hel
 
     -- or a second one beside it
     pub has_gained : (number : ℕ) (w : SeatState) → s.me.0.asks ≡ None → number ≡ s.me.0.next
-        → w ≡ record c { me = written q (booked c.me.0.number (Gain number mode) a.latch.book) c.me } → HasWorked q (Gain number mode ∷ []) w
+        → w ≡ record c { me = written q (booked c.me.0.number (Gain number mode) a.latch.book) c.me } → HasWorked q (Gain number mode ∷ []) false w
     has_gained number w idle next is =
         has_worked a (Gain number mode ∷ []) w
         (fits.0, fits.1, fits.2, fits.3) (

@@ -96,12 +96,12 @@ only_reads_word slots session found a b own met =
 -- what was read stays so of a call that did something before and after
 pub all_within : (slots : ℕ) (latches : List LatchRecord) (a b c d : Mine) (words : List WaitRead) → MakesMoreSteps a b → MakesMoreSteps c d → All (WasRead slots latches b c) words → All (WasRead slots latches a d) words
 all_within slots latches a b c d words before after all =
-    All-weaker (WasRead slots latches b c) (WasRead slots latches a d) (λ r was. (was.0, step_within a b c d was.0 before was.1 after, was.2, was.3, was.4)) words all
+    All-weaker (WasRead slots latches b c) (WasRead slots latches a d) (λ r was. (was.0, step_within a b c d was.0 before was.1 after, was.2, was.3, was.4, was.5)) words all
 
 pub was_read : (slots : ℕ) (r : WaitRead) (m m′ : Mine) → m′ ≡ met_wait slots r.session r.word.0 m → WasRead slots m.0.latches m m′ r
 was_read slots r m m′ met =
     let e : Met = record { kind = ReadWait; deeds = []; word = wait_word slots r.session; found = r.word.0; held = m.0.latches; directory = m.0.directory } in
-    (e, ([], [], ap (λ (x : Mine). x.0.log) met ∙ ap (λ (log : List Met). log ++ e ∷ []) (sym (append-nil m.0.log))), refl, refl, refl)
+    (e, ([], [], ap (λ (x : Mine). x.0.log) met ∙ ap (λ (log : List Met). log ++ e ∷ []) (sym (append-nil m.0.log))), refl, refl, refl, refl)
 
 -- the words of the sessions up to so many
 pub record AreUpTo (last : ℕ) (words : List WaitRead) (s s′ : SeatState) : Type 0 where
@@ -135,5 +135,5 @@ one_read last words more r a b c are before after next known one pushed was =
           (subst (λ (n : ℕ). IsSession a.table n × (is_session n ≡ true)) (sym next) (known, one));
       read = All-push (Was a.me) words r
           (all_within a.table.slots a.me.0.latches a.me a.me b.me c.me words (goes_nowhere a.me) (goes_reading b.me c.me after.1) are.read)
-          (here.0, step_within a.me b.me c.me c.me here.0 (goes_reading a.me b.me before.1) here.1 (goes_nowhere c.me), here.2, here.3, here.4);
+          (here.0, step_within a.me b.me c.me c.me here.0 (goes_reading a.me b.me before.1) here.1 (goes_nowhere c.me), here.2, here.3, here.4, here.5);
     })

@@ -22,6 +22,13 @@ pub record MayClone (ticket : Own) (number : ℕ) (mode : Mode) (v : View) : Typ
   pub fits : FitsAt v ticket.place mode
   pub covered : covers ticket.mode mode ≡ true
 
+-- a ticket can get a stronger mode: it is a slow one of the session, with this number and at this place, and the mode covers its own
+pub record MayRise (place number : ℕ) (mode : Mode) (v : View) : Type 0 where
+  pub held : Own
+  pub there : numbered number v.slow ≡ Some held
+  pub here : held.place ≡ place
+  pub stronger : covers mode held.mode ≡ true
+
 -- a ticket can get the mode of another one, which is released: both are slow tickets of the session, they are two, at one place, and the mode of the one
 -- released covers that of the other
 pub record MayMerge (kept gone : Own) (v : View) : Type 0 where

@@ -8,7 +8,7 @@ use Rattle.mdl_steps.specs.declared.deed.Deed.TheVariants.{Gain, Lose}
 use Rattle.mdl_steps.specs.declared.step_kind.StepKind.TheVariants.{GrantFast, MissFast, ReadWord, ReleaseFast}
 use Rattle.mdl_steps.specs.declared.view.Met.{Met}
 use Rattle.mdl_steps.specs.declared.view.View.{View}
-use Rattle.mdl_steps.specs.FastPlays.{but_own, fast_own}
+use Rattle.mdl_steps.specs.FastPlays.{but_own, fast_own, owing}
 use Rattle.mdl_steps.specs.Layout.{lock_word}
 use Rattle.mdl_steps.specs.Plays.{Mine}
 use Rattle.mdl_steps.specs.SeatStates.{AtItsTable, SeatState}
@@ -83,11 +83,11 @@ WasGrantedFast place mode noted s s′ = AtItsTable s s′ (GrantsFast place mod
 
 -- ---- it is released
 
--- the session released its fast ticket with this number at a place by one step, and nothing else changed. Waits there may have become grantable (`owes`)
--- if the word that the step found had the flag SLOW up
+-- the session released its fast ticket with this number at a place by one step. Waits there may have become grantable (`owes`) if the word that the step
+-- found had the flag SLOW up: then the session owes the place a reschedule. Nothing else changed
 pub record ReleasesFast (place number : ℕ) (owes : Bool) (m m′ : Mine) : Type 0 where
   pub step : Met
-  pub now : m′ ≡ and_made (step ∷ []) (record m.0 { fast = but_own place number m.0.fast }, m.1)
+  pub now : m′ ≡ and_made (step ∷ []) (record m.0 { fast = but_own place number m.0.fast; owes = owing place step.found m.0.owes }, m.1)
   pub kind : step.kind ≡ ReleaseFast
   pub did : step.deeds ≡ Lose number ∷ []
   pub word : step.word ≡ lock_word place

@@ -23,57 +23,13 @@ use Rattle.mdl_steps.specs.Lists.{Each, Once}
 use Rattle.mdl_steps.specs.Plays.{Mine, flags_lowered}
 use Rattle.mdl_steps.specs.Rule.{Lawful, NotedCounts, TellsLists}
 use Rattle.mdl_steps.specs.Seats.{Holds, elsewhere, rest}
+pub use Rattle.mdl_steps.specs.Servings.{ArePassedOver, ForgetsNobody, IsLookedThrough, MeetsWaiter, OnlyMeets, WasSettled}
 use Rattle.mdl_steps.specs.WaitPlays.{wait_in, with_admitted}
 use Rattle.mdl_steps.specs.WaitStates.{granted_state, unsettled_state, wait_number}
 use Rattle.mdl_steps.specs.WaitSeats.{IsSession}
-use Rattle.mdl_visits.specs.Visits.{IsStepAfter, IsStepOf, LeavesBy, StaysThere, deeds_of}
+use Rattle.mdl_visits.specs.Visits.{IsStepAfter, IsStepOf, LeavesBy, StaysHere, deeds_of}
 
 -- ---- what a step met
-
--- a step that only met a wait's word, as it read it or by an exchange that failed
-abbrev pub OnlyMeets : StepKind → Type 0
-OnlyMeets kind = (kind ≡ ReadWait) ⊎ (kind ≡ MissWait)
-
--- a step that only met the word of a session's wait, while the session's ticket with this number waited by the record of the place's latch. That wait
--- can't end as long as the ticket waits, so all words that are met so are of the same wait
-pub record MeetsWaiter (slots place session number : ℕ) (e : Met) : Type 0 where
-  pub kind : OnlyMeets e.kind
-  pub word : e.word ≡ wait_word slots session
-  pub latch : LatchRecord
-  pub held : held_at place e.held ≡ Some latch
-  pub waits : is_some (ticket_of session number latch.book.waiting) ≡ true
-
--- two steps that met the word of a session's wait for a ticket, perhaps the same one: the first shows the number of the wait, and at the second the wait
--- isn't unsettled
-pub record WasSettled (slots place session number : ℕ) (m m′ : Mine) : Type 0 where
-  pub read : Met
-  pub read_then : IsStepOf m m′ read
-  pub of_wait : MeetsWaiter slots place session number read
-  pub met : Met
-  pub met_then : IsStepOf m m′ met
-  pub of_same : MeetsWaiter slots place session number met
-  pub settled : met.found ≢ wait_in (wait_number read.found) unsettled_state
-
--- these tickets, which wait by the record of a latch, are passed over: each one of a session of the table can't be granted with this word of the
--- lock, or a step met its wait settled
-abbrev pub ArePassedOver : TableId → ℕ → ℕ → LatchRecord → List Ticket → Mine → Mine → Type 0
-ArePassedOver id place word h tickets m m′ =
-    (t : Ticket) → Contains tickets t → IsSession id t.session → is_session t.session ≡ true →
-    WasSettled id.slots place t.session t.number m m′
-    ⊎ (can_be_granted (lock_kind h.book) h.book.granted h.book.waiting word t.session t.mode ≡ false)
-
--- a step read the lock's word, which was noted while the flag OBTRUSIVE was up, and with it these tickets are passed over
-pub record IsLookedThrough (id : TableId) (place : ℕ) (latch : LatchRecord) (tickets : List Ticket) (m m′ : Mine) : Type 0 where
-  pub read : Met
-  pub read_then : IsStepOf m m′ read
-  pub kind : read.kind ≡ ReadWord
-  pub of_lock : read.word ≡ lock_word place
-  pub noted : latch.obtrusive ≡ true → latch.noted ≡ Some read.found
-  pub passed : ArePassedOver id place read.found latch tickets m m′
-
--- no waiter is forgotten by the record of a latch: all that wait by it are passed over
-abbrev pub ForgetsNobody : TableId → ℕ → LatchRecord → Mine → Mine → Type 0
-ForgetsNobody id place latch m m′ = IsLookedThrough id place latch latch.book.waiting m m′
 
 -- the tickets that arrived before one, in a list in order of arrival
 abbrev pub ahead_of : ℕ → ℕ → List Ticket → List Ticket
@@ -147,8 +103,8 @@ AreGranted id place grants start m m′ =
     Each (λ g. (e : Met) × (a : Mine) × IsStepAfter m a m′ e × MeetsGranted id place start a g e) grants
 
 -- waits were granted under the latch of a place, which the session holds. Nothing else changed except the record of the latch, the book in hand, what the
--- session knows of its own wait, and its list of steps. These did no deeds, gave no latch back and raised no flag. The waits that were passed over were
--- met so from a start on
+-- session knows of its own wait, and its list of steps. These did no deeds, gave no latch back and raised no flag, and the session had the same record of
+-- the directory's latch, or none. The waits that were passed over were met so from a start on
 pub record Reschedules (id : TableId) (place : ℕ) (start m m′ : Mine) : Type 0 where
   pub latches : List LatchRecord
   pub told : Option ℕ
@@ -161,7 +117,7 @@ pub record Reschedules (id : TableId) (place : ℕ) (start m m′ : Mine) : Type
   pub unasked : m.0.asks ≡ None → told ≡ m.0.told
   pub granted : AreGranted id place grants start m m′
   pub did : deeds_of made ≡ []
-  pub kept : Each StaysThere made
+  pub kept : Each (StaysHere m.0.directory) made
 
 -- a ticket is granted or tried in its turn: from each start, if those that arrived before it were passed over since
 abbrev pub ReschedulesInTurn : TableId → ℕ → ℕ → ℕ → Mine → Mine → Type 0
@@ -192,23 +148,28 @@ pub record HasRescheduled (id : TableId) (place : ℕ) (m m′ : Mine) : Type 0 
   pub stays : StaysTold m.0.told m′.0.told
   pub unasked : m.0.asks ≡ None → m′.0.told ≡ m.0.told
 
--- the session gave back the latch of a place, and the slot that it took last, after these deeds and after waits were granted there. Nothing else changed,
--- and its steps did just these deeds
+-- the places that are owed a reschedule, without this one
+abbrev pub all_but : ℕ → List ℕ → List ℕ
+all_but place owes = filter (λ p. not (p == place)) owes
+
+-- the session gave back the latch of a place, and the slot that it took last, after these deeds and after waits were granted there. It owes the place no
+-- reschedule. Nothing else changed, and its steps did just these deeds
 pub record ReschedulesAndLeaves (id : TableId) (place : ℕ) (ds : List Deed) (m m′ : Mine) : Type 0 where
   pub told : Option ℕ
   pub settles : List Settlement
   pub made : List Met
-  pub now : m′ ≡ (record (all_done place ds m.0) { latches = elsewhere place m; told = told; settles = settles; log = m.0.log ++ made }, rest m.1)
+  pub now : m′
+      ≡ (record (all_done place ds m.0) { latches = elsewhere place m; told = told; owes = all_but place m.0.owes; settles = settles; log = m.0.log ++ made }, rest m.1)
   pub did : deeds_of made ≡ ds
   pub way : HasRescheduled id place m m′
 
--- the session visited a place, did these deeds there, and granted waits. It has the latches and the slots that it had, and nothing else changed. Its steps
--- did just these deeds
+-- the session visited a place, did these deeds there, and granted waits. It owes the place no reschedule, has the latches and the slots that it had, and
+-- nothing else changed. Its steps did just these deeds
 pub record VisitsAndReschedules (id : TableId) (place : ℕ) (ds : List Deed) (m m′ : Mine) : Type 0 where
   pub told : Option ℕ
   pub settles : List Settlement
   pub made : List Met
-  pub now : m′ ≡ (record (all_done place ds m.0) { told = told; settles = settles; log = m.0.log ++ made }, m.1)
+  pub now : m′ ≡ (record (all_done place ds m.0) { told = told; owes = all_but place m.0.owes; settles = settles; log = m.0.log ++ made }, m.1)
   pub did : deeds_of made ≡ ds
   pub way : HasRescheduled id place m m′
 

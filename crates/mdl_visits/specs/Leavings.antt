@@ -1,5 +1,5 @@
 -- How a session leaves a place whose latch it holds: it gives the latch back, with what it did there.
-use Rattle.std.specs.Prelude.{◌≡◌, ℕ, ◌∷◌, ◌++◌, List, [], Some, is_some, true}
+use Rattle.std.specs.Prelude.{◌≡◌, ℕ, ◌∷◌, ◌++◌, ◌||◌, Bool, List, [], Some, is_some, true}
 use lib.ListN.{get_elem?}
 use mathlib.Core.Option.{some}
 use Rattle.mdl_defs.specs.declared.standing.Standing.{Standing}
@@ -12,7 +12,7 @@ use Rattle.mdl_steps.specs.declared.view.Met.{Met}
 use Rattle.mdl_steps.specs.declared.view.Own.{Own}
 use Rattle.mdl_steps.specs.declared.view.View.{View}
 use Rattle.mdl_steps.specs.Cells.{held_at}
-use Rattle.mdl_steps.specs.Deeds.{all_booked, all_done}
+use Rattle.mdl_steps.specs.Deeds.{all_booked, all_done, frees}
 use Rattle.mdl_steps.specs.Layout.{latch_word, lock_word}
 use Rattle.mdl_steps.specs.Plays.{Mine, noting_version}
 use Rattle.mdl_steps.specs.Rule.{Flagged}
@@ -30,14 +30,19 @@ Leaves place ds m m′ = (made : List Met) × (m′ ≡ and_made made (record (a
 abbrev pub PutsBack : ℕ → Mine → Mine → Type 0
 PutsBack place m m′ = (e : Met) × LeavesBy m m′ e × (e.kind ≡ PutLatch) × (e.word ≡ latch_word place)
 
--- the session holds the latch of a place, and has done these deeds in its book. The flags that the tickets in it need are up, and each session waits there
--- at most once
-pub record HasWorked (place : ℕ) (ds : List Deed) (s : SeatState) : Type 0 where
+-- the session holds the latch of a place, and has done these deeds in its book. By them or before, it let a waiter in, or not (`freed`). The flags that the
+-- tickets in the book need are up, and each session waits there at most once
+pub record HasWorked (place : ℕ) (ds : List Deed) (freed : Bool) (s : SeatState) : Type 0 where
   pub is_place : IsPlace s.table place
   pub latch : LatchRecord
   pub done : HasDone place ds latch s.me
   pub flagged : Flagged (all_booked s.me.0.number ds latch.book) latch.slow latch.obtrusive
   pub once : StandsOnce latch.book.waiting
+  pub freed_is : (latch.freed || frees ds) ≡ freed
+
+-- the record of the latch of a place, after these deeds, tells that a waiter was let in if the record before or the deeds do
+abbrev pub IsFreedBy : ℕ → List Deed → SeatState → LatchRecord → Type 0
+IsFreedBy place ds s h = (before : LatchRecord) → held_at place s.me.0.latches ≡ Some before → h.freed ≡ (before.freed || frees ds)
 
 -- a step on the word of a place, which did these deeds, made while the session had the latches that it has here
 abbrev pub DidUnder : ℕ → List Deed → SeatState → Met → Type 0

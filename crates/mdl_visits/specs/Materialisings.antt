@@ -1,6 +1,6 @@
 -- How a session's fast tickets at a place become slow: they are granted in the book of the place, and the lock's word no longer counts them.
 -- After MySQL 5.7: `MDL_context::materialize_fast_path_locks` of sql/mdl.cc.
-use Rattle.std.specs.Prelude.{◌≡◌, ◌≢◌, ℕ, ◌+◌, ◌<◌, Bool, true, false, List, [], ◌∷◌, ◌++◌, map, Some, None, ◌⊎◌}
+use Rattle.std.specs.Prelude.{◌≡◌, ◌≢◌, ℕ, ◌+◌, ◌<◌, true, List, [], ◌∷◌, ◌++◌, map, Some, None, ◌⊎◌}
 use Rattle.mdl_book.specs.declared.book_error.BookError.{BookError}
 use Rattle.mdl_book.specs.declared.book_error.BookError.TheVariants as fault
 use Rattle.mdl_book.specs.declared.book_view.BookView.{BookView}
@@ -8,8 +8,7 @@ use Rattle.mdl_book.specs.declared.ticket.Ticket.{Ticket}
 use Rattle.mdl_book.specs.Books.{lock_kind, ticket_count}
 use Rattle.mdl_book.specs.Granting.{is_compatible}
 use Rattle.mdl_book.specs.Tickets.{ticket_of}
-use Rattle.mdl_steps.specs.declared.step_kind.StepKind.{StepKind}
-use Rattle.mdl_steps.specs.declared.step_kind.StepKind.TheVariants.{Materialise, PutLatch, RaiseFlags}
+use Rattle.mdl_steps.specs.declared.step_kind.StepKind.TheVariants.{Materialise}
 use Rattle.mdl_steps.specs.declared.view.LatchRecord.{LatchRecord}
 use Rattle.mdl_steps.specs.declared.view.Met.{Met}
 use Rattle.mdl_steps.specs.declared.view.Own.{Own}
@@ -17,28 +16,12 @@ use Rattle.mdl_steps.specs.declared.view.View.{View}
 use Rattle.mdl_steps.specs.Cells.{held_at, own_at, ticket_by}
 use Rattle.mdl_steps.specs.FastPlays.{but_at, granting_all, moved}
 use Rattle.mdl_steps.specs.Interleavings.{interleaved}
-use Rattle.mdl_steps.specs.Layout.{latch_word, lock_word}
+use Rattle.mdl_steps.specs.Layout.{lock_word}
 use Rattle.mdl_steps.specs.Lists.{Each}
 use Rattle.mdl_steps.specs.Plays.{Mine}
 use Rattle.mdl_steps.specs.SeatStates.{AtItsTable, SeatState}
 use Rattle.mdl_steps.specs.Seats.{written}
-use Rattle.mdl_visits.specs.Visits.{HasInHand, HasStep, Visits, and_made, deeds_of, gives_back}
-
--- ---- the visit
-
--- whether a step of this kind raised the flag OBTRUSIVE
-abbrev pub raises_obtrusive : StepKind → Bool
-raises_obtrusive (RaiseFlags slow obtrusive) = obtrusive
-raises_obtrusive _ = false
-
--- a step that gave no latch back and didn't close a fast path: it didn't raise the flag OBTRUSIVE
-abbrev pub LeavesOpen : Met → Type 0
-LeavesOpen e = (gives_back e.kind ≡ false) × (raises_obtrusive e.kind ≡ false)
-
--- the session visited a place once, and closed no fast path: the last step gave back the latch of the place, and none before gave one back
-abbrev pub VisitsOnce : ℕ → Mine → Mine → Type 0
-VisitsOnce place m m′ =
-    (e : Met) × (before : List Met) × (m′.0.log ≡ (m.0.log ++ before) ++ e ∷ []) × (e.kind ≡ PutLatch) × (e.word ≡ latch_word place) × Each LeavesOpen before
+use Rattle.mdl_visits.specs.Visits.{HasInHand, HasStep, Visits, VisitsOnce, and_made, deeds_of}
 
 -- ---- what the session has then
 

@@ -1,5 +1,5 @@
 -- A search for a deadlock: what a session meets and does while it has the latches of all places that have a key.
-use Rattle.std.specs.Prelude.{◌≡◌, ◌≢◌, ◌⊎◌, ℕ, zero, suc, ◌≤◌, ◌==◌, ◌&&◌, nat_lt, not, Bool, true, false, if◌then◌else◌, List, [], ◌∷◌, ◌++◌, length, map, find, All, Option, Some, None, IfSome, MatchOption, Result, IfOk, OnErr}
+use Rattle.std.specs.Prelude.{◌≡◌, ◌≢◌, ◌⊎◌, ℕ, zero, suc, ◌<◌, ◌≤◌, ◌==◌, ◌&&◌, nat_lt, not, Bool, true, false, if◌then◌else◌, List, [], ◌∷◌, ◌++◌, length, map, find, All, Contains, Option, Some, None, IfSome, MatchOption, Result, Ok, Err, IfOk, OnErr}
 use Rattle.std.specs.List.{list_any}
 use Rattle.atomic_table.specs.Seated.{TableId}
 use Rattle.mdl_book.specs.declared.book_view.BookView.{BookView}
@@ -8,16 +8,18 @@ use Rattle.mdl_calls.specs.declared.answers.Search.{Search}
 use Rattle.mdl_calls.specs.declared.answers.Search.TheVariants.{NoCycle, Victim}
 use Rattle.mdl_graph.specs.Graphs.{deadlock_in, victim_in}
 use Rattle.mdl_graph.specs.WaitsFor.{SessionTest}
-use Rattle.mdl_steps.specs.declared.step_kind.StepKind.TheVariants.{SettleWait}
+use Rattle.mdl_steps.specs.declared.step_kind.StepKind.TheVariants.{PutLatch, ReadWait, SettleWait}
 use Rattle.mdl_steps.specs.declared.view.LatchRecord.{LatchRecord}
 use Rattle.mdl_steps.specs.declared.view.Keys.{Keys}
 use Rattle.mdl_steps.specs.declared.view.Met.{Met}
 use Rattle.mdl_steps.specs.declared.view.Settlement.{Settlement}
 use Rattle.mdl_steps.specs.declared.wait_word.Loss.TheVariants as loss
 use Rattle.mdl_steps.specs.Copies.{Queues, queues_of}
-use Rattle.mdl_steps.specs.Layout.{wait_word}
-use Rattle.mdl_steps.specs.Plays.{Mine}
+use Rattle.mdl_steps.specs.Cells.{held_at}
+use Rattle.mdl_steps.specs.Layout.{latch_word, wait_word}
+use Rattle.mdl_steps.specs.Plays.{Mine, dropped, logged}
 use Rattle.mdl_steps.specs.SeatStates.{AtItsTable, SeatState}
+use Rattle.mdl_steps.specs.Seats.{rest}
 use Rattle.mdl_steps.specs.WaitSeats.{IsSession}
 use Rattle.mdl_steps.specs.WaitStates.{lost_state, unsettled_state, wait_state}
 use Rattle.mdl_visits.specs.declared.audited.Audited.{Audited}
@@ -45,9 +47,10 @@ pub record AreOfAll (id : TableId) (words : List WaitRead) : Type 0 where
   pub each : All (λ (r : WaitRead). IsSession id r.session × (is_session r.session ≡ true)) words
   pub every : (session : ℕ) → IsSession id session → is_session session ≡ true → session ≤ last
 
--- one of the steps between the two met this word, while the session had just these latches
+-- one of the steps between the two read this word, while the session had just these latches
 abbrev pub WasRead : ℕ → List LatchRecord → Mine → Mine → WaitRead → Type 0
-WasRead slots latches m m′ r = (e : Met) × IsStepOf m m′ e × (e.word ≡ wait_word slots r.session) × (e.found ≡ r.word.0) × (e.held ≡ latches)
+WasRead slots latches m m′ r =
+    (e : Met) × IsStepOf m m′ e × (e.kind ≡ ReadWait) × (e.word ≡ wait_word slots r.session) × (e.found ≡ r.word.0) × (e.held ≡ latches)
 
 -- a word of a session's wait that was met so was added to the end of a list
 abbrev pub AddsRead : ℕ → List WaitRead → List WaitRead → SeatState → SeatState → Type 0
@@ -167,6 +170,36 @@ OnlyReadsWaits s s′ = AtItsTable s s′ ReadsWaitsQuietly × SettlesNothing s.
 -- these are the words of all sessions' waits, as steps between the two met them, while the session had just the latches that it had at first
 abbrev pub AreRead : List WaitRead → SeatState → SeatState → Type 0
 AreRead words s s′ = AreOfAll s.table words × All (WasRead s.table.slots s.me.0.latches s.me s′.me) words
+
+-- ---- who has yet to search
+
+-- whether a search found no deadlock
+abbrev pub found_none : {E : Type 0} → Result Search E → Bool
+found_none (Ok NoCycle) = true
+found_none (Ok (Victim victim)) = false
+found_none (Err why) = false
+
+-- whether a session has yet to search after a search with this result, given whether it had before. `taken` says whether the search took the latch of a place
+abbrev pub searches_after : {E : Type 0} → Result Search E → Bool → Bool → Bool
+searches_after result taken searches = not (taken && found_none result) && searches
+
+-- a later seat, except that its session has yet to search exactly if it had before
+abbrev pub but_searching : SeatState → SeatState → SeatState
+but_searching s s′ = record s′ { me = (record s′.me.0 { searches = s.me.0.searches }, s′.me.1) }
+
+-- the latch of a place was given back with nothing changed, except that this says from then on whether the session has yet to search
+abbrev pub put_searching : ℕ → Bool → Mine → Mine
+put_searching place searches m =
+    (logged PutLatch [] (latch_word place) m.0.number m.0.latches (record (dropped place m.0) { searches = searches }), rest m.1)
+
+-- the session holds the directory's latch, and the latches of the places before one. These are the lists of the books by their records, at least of those
+-- by which a ticket waits
+pub record HasTaken (place last : ℕ) (lists : List Queues) (m : Mine) : Type 0 where
+  pub keys : Keys
+  pub directory : m.0.directory ≡ Some keys
+  pub count : last ≡ length keys.keys
+  pub all : (p : ℕ) → 0 < p → p < place → (h : LatchRecord) × (held_at p m.0.latches ≡ Some h)
+  pub copied : (h : LatchRecord) → Contains m.0.latches h → nat_lt 0 (length h.book.waiting) ≡ true → Contains lists (queues_of h.book)
 
 -- ---- what the parts of a search come to
 

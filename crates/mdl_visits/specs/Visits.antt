@@ -29,6 +29,7 @@ use Rattle.mdl_steps.specs.Plays.{Mine, IsDirectory, IsFresh, consulted, latched
 use Rattle.mdl_steps.specs.Rule.{Lawful, NotedCounts}
 use Rattle.mdl_steps.specs.SeatStates.{AtItsTable, SeatState}
 use Rattle.mdl_steps.specs.Seats.{Holds, IsPlace, IsRising, rest}
+pub use Rattle.mdl_steps.specs.Servings.{IsStepOf}
 
 -- ---- what a session knows
 
@@ -65,6 +66,11 @@ abbrev pub raises_flags : StepKind → Bool
 raises_flags (RaiseFlags slow obtrusive) = true
 raises_flags _ = false
 
+-- whether a step of this kind raised the flag OBTRUSIVE
+abbrev pub raises_obtrusive : StepKind → Bool
+raises_obtrusive (RaiseFlags slow obtrusive) = obtrusive
+raises_obtrusive _ = false
+
 -- a step that raised no flag, at which the session had this record of the directory's latch, or none
 abbrev pub IsQuiet : Option Keys → Met → Type 0
 IsQuiet directory e = (e.directory ≡ directory) × (raises_flags e.kind ≡ false)
@@ -82,6 +88,10 @@ MakesQuietSteps m m′ = (made : List Met) × (m′ ≡ and_made made m) × (dee
 abbrev pub StaysThere : Met → Type 0
 StaysThere e = (gives_back e.kind ≡ false) × (raises_flags e.kind ≡ false)
 
+-- likewise, and the session had this record of the directory's latch, or none
+abbrev pub StaysHere : Option Keys → Met → Type 0
+StaysHere directory e = StaysThere e × (e.directory ≡ directory)
+
 -- at each step that was made between the two the session had the same record of the directory's latch as before, or still none, and it raised no flag
 abbrev pub StaysQuiet : Mine → Mine → Type 0
 StaysQuiet m m′ = (made : List Met) × (m′.0.log ≡ m.0.log ++ made) × AllQuiet m.0.directory made
@@ -94,9 +104,14 @@ MakesMoreSteps m m′ = (made : List Met) × (m′.0.log ≡ m.0.log ++ made)
 abbrev pub StaysOn : Mine → Mine → Type 0
 StaysOn m m′ = (made : List Met) × (m′.0.log ≡ m.0.log ++ made) × Each StaysThere made
 
--- a step that was made between the two
-abbrev pub IsStepOf : Mine → Mine → Met → Type 0
-IsStepOf m m′ e = (before : List Met) × (after : List Met) × (m′.0.log ≡ (m.0.log ++ before) ++ e ∷ after)
+-- a step within a visit: it gave no latch back, and raised the flag OBTRUSIVE only if it may. The session had this record of the directory's latch, or none
+abbrev pub IsWithin : Bool → Option Keys → Met → Type 0
+IsWithin may directory e = (gives_back e.kind ≡ false) × (raises_obtrusive e.kind ≡ true → may ≡ true) × (e.directory ≡ directory)
+
+-- the list of steps grew by steps within a visit. The session has the same record of the directory's latch as before, or still none
+abbrev pub StaysWithin : Bool → Mine → Mine → Type 0
+StaysWithin may m m′ =
+    (made : List Met) × (m′.0.log ≡ m.0.log ++ made) × Each (IsWithin may m.0.directory) made × (m′.0.directory ≡ m.0.directory)
 
 -- a step that was made between the two, with a state (`a`) whose list of steps is the one just before it
 abbrev pub IsStepAfter : Mine → Mine → Mine → Met → Type 0
@@ -105,6 +120,22 @@ IsStepAfter m a m′ e = MakesMoreSteps m a × (after : List Met) × (m′.0.log
 -- the last step that was made between the two. The steps before it gave no latch back and raised no flag
 abbrev pub LeavesBy : Mine → Mine → Met → Type 0
 LeavesBy m m′ e = (before : List Met) × (m′.0.log ≡ (m.0.log ++ before) ++ e ∷ []) × Each StaysThere before
+
+-- the session visited a place once: the last step that was made gave back the latch of the place, and no step before gave one back or, unless it may, raised
+-- the flag OBTRUSIVE. At each step the session had the same record of the directory's latch as before, or still none. So it took no other latch in between
+-- that it gave back, and gave no key a place
+pub record IsVisit (place : ℕ) (may : Bool) (m m′ : Mine) : Type 0 where
+  pub last : Met
+  pub before : List Met
+  pub made : m′.0.log ≡ (m.0.log ++ before) ++ last ∷ []
+  pub within : Each (IsWithin may m.0.directory) before
+  pub kind : last.kind ≡ PutLatch
+  pub word : last.word ≡ latch_word place
+  pub alone : last.directory ≡ m.0.directory
+
+-- likewise, and it closed no fast path: it raised no flag OBTRUSIVE
+abbrev pub VisitsOnce : ℕ → Mine → Mine → Type 0
+VisitsOnce place m m′ = IsVisit place false m m′
 
 -- this holds of a step that was made between the two
 abbrev pub HasStep : SeatState → SeatState → (Met → Type 0) → Type 0
@@ -154,6 +185,7 @@ pub record Arrives (place : ℕ) (s : SeatState) (q : ℕ) (c : SeatState) : Typ
   pub fresh : IsFresh place latch s.me
   pub holds : Holds q latch latch.book c.me
   pub came : CameTo q s c
+  pub within : StaysWithin false s.me c.me
 
 -- the session holds the latch of a place, has the book of the latch's record in hand, and this holds of the record
 pub record HasLatched (place : ℕ) (s : SeatState) (IsSo : LatchRecord → Type 0) : Type 0 where

@@ -1,13 +1,13 @@
 //! Takes the latch of a place for a request (a wish), and gives it back. Before that, the flags of the lock's word that the lists don't
 //! need are lowered.
-ghost use Rattle.std.specs.Prelude.{◌≡◌, ℕ, true};
+ghost use Rattle.std.specs.Prelude.{◌≡◌, ℕ, Bool, true, false};
 ghost use Rattle.mdl_key.specs.declared.namespace.Kind.{Kind};
 ghost use Rattle.mdl_key.specs.Words.{is_obtrusive};
 ghost use Rattle.mdl_steps.specs.declared.deed.Deed.TheVariants.{Gain};
 ghost use Rattle.mdl_steps.specs.SeatStates.{AtItsTable, SeatState};
 ghost use Rattle.mdl_visits.specs.Grantings.{IsLowered, IsOrderly};
-ghost use Rattle.mdl_visits.specs.Leavings.{DidUnder, HasWorked, PutsBack};
-ghost use Rattle.mdl_visits.specs.Visits.{EndsWish, HasEntered, HasLatched, HasStep, HasWish, IsInside, MayVisit, Visits, WasGranted};
+ghost use Rattle.mdl_visits.specs.Leavings.{DidUnder, HasWorked, IsFreedBy, PutsBack};
+ghost use Rattle.mdl_visits.specs.Visits.{EndsWish, HasEntered, HasLatched, HasStep, HasWish, IsInside, MayVisit, StaysWithin, Visits, VisitsOnce, WasGranted};
 
 use crate::latches::await_latch;
 use mdl_book::BookError;
@@ -28,6 +28,7 @@ pub(crate) fn enter<R: Wait>(
     requires at { MayVisit place seat.old }
     requires wish { (kind : Kind) × HasWish place kind mode seat.old.me.0 × (obtrusive ≡ is_obtrusive kind mode) }
     ensures entered { HasEntered place result.0.place result.1.0 mode result.2 seat.old seat.new }
+    ensures within { StaysWithin obtrusive seat.old.me seat.new.me }
 {
     let latch = await_latch(rt, seat, place);
     seat.raise_flags(&latch, true, obtrusive);
@@ -48,6 +49,7 @@ pub(crate) fn gain(
     requires entered { (place : ℕ) × (s : SeatState) × HasEntered place latch.place word.0 mode true s seat.old }
     requires number { number ≡ seat.old.me.0.next }
     ensures done { EndsWish latch.place word.0 mode true result (λ place s. WasGranted place mode (Gain number mode) s seat.new) seat.old seat.new }
+    ensures once { VisitsOnce latch.place seat.old.me seat.new.me }
 {
     if let Err(cause) = seat.write_gain(&latch, number, mode, word) {
         lower_flags_and_put(seat, latch, &[]);
@@ -57,12 +59,13 @@ pub(crate) fn gain(
     Ok(())
 }
 
-/// Gives the latch back after some deeds, with just those flags up that the book in hand needs.
+/// Gives the latch back after some deeds, with just those flags up that the book in hand needs. No waiter was let in.
 pub(crate) fn lower_flags_and_put(seat: &mut TableSeat, latch: Latched, deeds: &[Deed])
-    requires worked { HasWorked latch.place deeds.now seat.old }
+    requires worked { HasWorked latch.place deeds.now false seat.old }
     ensures visited { (s : SeatState) → AtItsTable s seat.old (IsInside latch.place) → AtItsTable s seat.new (Visits latch.place deeds.now) }
     ensures step { HasStep seat.old seat.new (DidUnder latch.place deeds.now seat.old) }
     ensures back { PutsBack latch.place seat.old.me seat.new.me }
+    ensures once { VisitsOnce latch.place seat.old.me seat.new.me }
 {
     lower_flags(seat, &latch, deeds);
     seat.put_latch(latch, &[]);
@@ -70,9 +73,9 @@ pub(crate) fn lower_flags_and_put(seat: &mut TableSeat, latch: Latched, deeds: &
 
 /// Lowers the flags that the book in hand doesn't need, after some deeds.
 pub(crate) fn lower_flags(seat: &mut TableSeat, latch: &Latched, deeds: &[Deed])
-    requires worked { HasWorked latch.now.place deeds.now seat.old }
+    requires worked { (freed : Bool) × HasWorked latch.now.place deeds.now freed seat.old }
     ensures lowered { AtItsTable seat.old seat.new (IsLowered latch.now.place deeds.now) }
-    ensures orderly { HasLatched latch.now.place seat.new IsOrderly }
+    ensures orderly { HasLatched latch.now.place seat.new (λ h. IsOrderly h × IsFreedBy latch.now.place deeds.now seat.old h) }
 {
     let needs = seat.needs(latch);
     seat.lower_flags(latch, needs.slow, needs.obtrusive, deeds);

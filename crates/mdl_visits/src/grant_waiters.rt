@@ -1,5 +1,5 @@
 //! Grants the waits at a place, under its latch.
-ghost use Rattle.std.specs.Prelude.{◌≡◌};
+ghost use Rattle.std.specs.Prelude.{◌≡◌, true};
 ghost use Rattle.mdl_steps.specs.SeatStates.{AtItsTable};
 ghost use Rattle.mdl_steps.specs.WaitSeats.{IsSession};
 ghost use Rattle.mdl_steps.specs.WaitStates.{unsettled_state, wait_state};
@@ -13,7 +13,7 @@ use mdl_steps::{Latched, TableSeat, WaitWord};
 /// granted. A wait that is settled already isn't granted. It takes no memory. After `MDL_lock::reschedule_waiters`.
 pub(crate) fn grant_waiters(seat: &mut TableSeat, latch: &Latched)
     requires here { HasLatched latch.now.place seat.old IsOrderly }
-    ensures none { HasLatched latch.now.place seat.new (λ h. IsOrderly h × ForgetsNobody seat.old.table latch.now.place h seat.old.me seat.new.me) }
+    ensures none { HasLatched latch.now.place seat.new (λ h. IsOrderly h × ForgetsNobody seat.old.table latch.now.place h seat.old.me seat.new.me × (h.obtrusive ≡ true → h.exact ≡ true)) }
     ensures granted { AtItsTable seat.old seat.new (Reschedules seat.old.table latch.now.place seat.old.me) }
 {
     let word = seat.read_word(latch);

@@ -57,7 +57,9 @@ impl Visitor {
     ) -> Option<Visitor>
         requires seated { maker.old.seat.table_id ≡ (arc_value table.now).shared.table_id }
         requires sized { IsSized (arc_value table.now).shared.table_id }
+        requires most { (arc_value table.now).shared.key ≡ maker.old.most }
         ensures seated { maker.new.seat.table_id ≡ maker.old.seat.table_id }
+        ensures most { maker.new.most ≡ maker.old.most }
     {
         let mut seat = maker.enrol(Arc::try_clone(table).ok()?)?;
         let place = resolve(rt, &mut seat, alloc, key).ok()?;

@@ -1,10 +1,11 @@
 //! Grants a request for a lock at once, or begins to wait for it.
 ghost use Rattle.std.specs.Prelude.{◌≡◌, ℕ, ◌+◌, ◌^◌, ◌<◌, [], Ok, IfErr, false};
+ghost use Rattle.mdl_key.specs.Words.{is_obtrusive};
 ghost use Rattle.mdl_steps.specs.declared.deed.Deed.TheVariants.{Gain};
 ghost use Rattle.mdl_steps.specs.SeatStates.{SeatState};
 ghost use Rattle.mdl_visits.specs.declared.calls.begin_wait.Queued.TheVariants.{Granted, Waiting};
 ghost use Rattle.mdl_visits.specs.WaitOpenings.{BeginsWait, IsNewWait};
-ghost use Rattle.mdl_visits.specs.Visits.{EndsWish, HasEntered, HasWish, MayVisit, WasGranted, WasRefused};
+ghost use Rattle.mdl_visits.specs.Visits.{EndsWish, HasEntered, HasWish, IsVisit, MayVisit, VisitsOnce, WasGranted, WasRefused};
 
 use crate::enter_and_leave::{enter, gain, lower_flags_and_put};
 use mdl_book::BookError;
@@ -40,6 +41,7 @@ pub fn begin_wait<R: Wait>(
     requires wait { (wait ≡ seat.old.me.0.waits + 1) × (wait < 2 ^ 60) }
     ensures granted { result ≡ Ok Granted → WasGranted place mode (Gain number mode) seat.old seat.new }
     ensures waiting { result ≡ Ok Waiting → BeginsWait place mode number seat.old seat.new }
+    ensures once { IsVisit place (is_obtrusive kind mode) seat.old.me seat.new.me }
     ensures refused { IfErr result (λ cause. WasRefused place cause seat.old seat.new) }
 {
     let (latch, word, can) = enter(rt, seat, place, mode, is_obtrusive(kind, mode));
@@ -67,6 +69,7 @@ fn enqueue(
     requires entered { (place word : ℕ) × (s : SeatState) × HasEntered place latch.place word mode false s seat.old }
     requires new { IsNewWait number wait seat.old.me.0 }
     ensures done { (word : ℕ) → EndsWish latch.place word mode false result (λ place s. BeginsWait place mode number s seat.new) seat.old seat.new }
+    ensures once { VisitsOnce latch.place seat.old.me seat.new.me }
 {
     if let Err(cause) = seat.write_wish(&latch, number, mode) {
         lower_flags_and_put(seat, latch, &[]);

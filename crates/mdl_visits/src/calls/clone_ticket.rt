@@ -5,7 +5,7 @@ ghost use Rattle.mdl_steps.specs.declared.view.Met.{Met};
 ghost use Rattle.mdl_steps.specs.SeatStates.{AtItsTable};
 ghost use Rattle.mdl_visits.specs.Coverings.{MayClone};
 ghost use Rattle.mdl_visits.specs.Leavings.{MeetsOwn};
-ghost use Rattle.mdl_visits.specs.Visits.{IsStepOf, MayVisit, Visits, WasRefused};
+ghost use Rattle.mdl_visits.specs.Visits.{IsStepOf, MayVisit, Visits, VisitsOnce, WasRefused};
 
 use crate::enter_and_leave::lower_flags_and_put;
 use crate::latches::await_latch;
@@ -30,6 +30,7 @@ pub fn clone_ticket<R: Wait>(
     ensures cloned { OnOk result (AtItsTable seat.old seat.new (Visits held.place (Gain number mode ∷ []))) }
     ensures step { (e : Met) × IsStepOf seat.old.me seat.new.me e × MeetsOwn held.place seat.old.me.0.number held.number e
         × OnOk result (e.deeds ≡ Gain number mode ∷ []) }
+    ensures once { VisitsOnce held.place seat.old.me seat.new.me }
     ensures refused { IfErr result (λ cause. WasRefused held.place cause seat.old seat.new) }
 {
     let latch = await_latch(rt, seat, held.place);

@@ -7,7 +7,7 @@ ghost use Rattle.mdl_visits.specs.Coverings.{FitsAt};
 ghost use Rattle.mdl_visits.specs.Grantings.{VisitsAndReschedules};
 ghost use Rattle.mdl_visits.specs.Leavings.{DoesToOwn};
 ghost use Rattle.mdl_visits.specs.Numbers.{numbered};
-ghost use Rattle.mdl_visits.specs.Visits.{MayVisit};
+ghost use Rattle.mdl_visits.specs.Visits.{MayVisit, VisitsOnce};
 ghost use Rattle.mdl_system.specs.Strength.{may_downgrade};
 
 use crate::calls::reschedule::lower_flags_and_reschedule;
@@ -27,6 +27,7 @@ pub fn downgrade<R: Wait>(rt: &R, seat: &mut TableSeat, held: Own, mode: Mode)
     requires weaker { may_downgrade held.mode mode ≡ true }
     ensures downgraded { AtItsTable seat.old seat.new (VisitsAndReschedules seat.old.table held.place (Alter held.number mode ∷ [])) }
     ensures step { DoesToOwn held.place held.number (Alter held.number mode ∷ []) seat.old seat.new }
+    ensures once { VisitsOnce held.place seat.old.me seat.new.me }
 {
     let latch = await_latch(rt, seat, held.place);
     let _altered = seat.write_mode(&latch, held.number, mode, NO_FAST_TICKETS);

@@ -4,7 +4,7 @@ ghost use Rattle.mdl_steps.specs.SeatStates.{AtItsTable};
 ghost use Rattle.mdl_steps.specs.WaitStates.{IsLost};
 ghost use Rattle.mdl_visits.specs.WaitEndings.{EndsLost};
 ghost use Rattle.mdl_visits.specs.Polls.{EndsWait};
-ghost use Rattle.mdl_visits.specs.Visits.{HasStep, MayVisit};
+ghost use Rattle.mdl_visits.specs.Visits.{HasStep, MayVisit, VisitsOnce};
 
 use crate::calls::reschedule::lower_flags_and_reschedule;
 use crate::latches::await_latch;
@@ -19,6 +19,7 @@ pub fn end_lost_wait<R: Wait>(rt: &R, seat: &mut TableSeat, ask: Ask, wait: u64)
     requires lost { (state : ℕ) × (seat.old.me.0.told ≡ Some state) × IsLost state }
     requires wait { (wait ≡ seat.old.me.0.waits) × (wait < 2 ^ 60) }
     ensures ended { AtItsTable seat.old seat.new (EndsLost seat.old.table ask.place) }
+    ensures once { VisitsOnce ask.place seat.old.me seat.new.me }
     ensures met { (state : ℕ) → seat.old.me.0.told ≡ Some state
         → HasStep seat.old seat.new (EndsWait seat.old.table.slots seat.old.me.0.number seat.old.me.0.waits state) }
 {

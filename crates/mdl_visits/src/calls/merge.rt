@@ -5,7 +5,7 @@ ghost use Rattle.mdl_steps.specs.Deeds.{KnowsPlace};
 ghost use Rattle.mdl_steps.specs.SeatStates.{AtItsTable};
 ghost use Rattle.mdl_visits.specs.Coverings.{MayMerge};
 ghost use Rattle.mdl_visits.specs.Leavings.{MergesOwn};
-ghost use Rattle.mdl_visits.specs.Visits.{MayVisit, Visits};
+ghost use Rattle.mdl_visits.specs.Visits.{MayVisit, Visits, VisitsOnce};
 
 use crate::enter_and_leave::lower_flags_and_put;
 use crate::latches::await_latch;
@@ -22,6 +22,7 @@ pub fn merge<R: Wait>(rt: &R, seat: &mut TableSeat, kept: Own, gone: Own)
     requires may { MayMerge kept gone seat.old.me.0 }
     ensures merged { AtItsTable seat.old seat.new (Visits kept.place (Alter kept.number gone.mode ∷ Lose gone.number ∷ [])) }
     ensures step { MergesOwn kept gone seat.old seat.new }
+    ensures once { VisitsOnce kept.place seat.old.me seat.new.me }
 {
     let latch = await_latch(rt, seat, kept.place);
     let _altered = seat.write_mode(&latch, kept.number, gone.mode, NO_FAST_TICKETS);

@@ -3,7 +3,7 @@ ghost use Rattle.std.specs.Prelude.{◌≡◌, [], IfOk, OnErr};
 ghost use Rattle.mdl_steps.specs.SeatStates.{AtItsTable};
 ghost use Rattle.mdl_steps.specs.VersionPlays.{Follows};
 ghost use Rattle.mdl_visits.specs.Readings.{ReadsStanding};
-ghost use Rattle.mdl_visits.specs.Visits.{MayVisit, StaysQuiet, Visits};
+ghost use Rattle.mdl_visits.specs.Visits.{MayVisit, StaysQuiet, Visits, VisitsOnce};
 
 use crate::latches::await_latch;
 use mdl_defs::Standing;
@@ -22,6 +22,7 @@ pub fn read_definition<R: Wait>(
     ensures learnt { IfOk result (λ standing. ReadsStanding place standing seat.old seat.new) }
     ensures follows { IfOk result (λ standing. Follows place standing seat.old.me) }
     ensures unchanged { OnErr result (Visits place [] seat.old.me seat.new.me) }
+    ensures once { VisitsOnce place seat.old.me seat.new.me }
     ensures quiet { AtItsTable seat.old seat.new StaysQuiet }
 {
     let latch = await_latch(rt, seat, place);

@@ -5,7 +5,7 @@ ghost use Rattle.mdl_steps.specs.Deeds.{KnowsPlace, NotWaited};
 ghost use Rattle.mdl_steps.specs.SeatStates.{AtItsTable};
 ghost use Rattle.mdl_visits.specs.Grantings.{VisitsAndReschedules};
 ghost use Rattle.mdl_visits.specs.Leavings.{DoesToOwn, HasTicket};
-ghost use Rattle.mdl_visits.specs.Visits.{MayVisit};
+ghost use Rattle.mdl_visits.specs.Visits.{MayVisit, VisitsOnce};
 
 use crate::calls::reschedule::lower_flags_and_reschedule;
 use crate::latches::await_latch;
@@ -21,6 +21,7 @@ pub fn release<R: Wait>(rt: &R, seat: &mut TableSeat, place: usize, number: u64)
     requires held { HasTicket place number seat.old.me.0.slow }
     ensures released { AtItsTable seat.old seat.new (VisitsAndReschedules seat.old.table place (Lose number ∷ [])) }
     ensures step { DoesToOwn place number (Lose number ∷ []) seat.old seat.new }
+    ensures once { VisitsOnce place seat.old.me seat.new.me }
 {
     let latch = await_latch(rt, seat, place);
     let _gone = seat.write_loss(&latch, number);

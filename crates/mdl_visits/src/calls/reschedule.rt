@@ -1,9 +1,9 @@
 //! Grants the waits at a place that can be granted, before its latch is given back.
-ghost use Rattle.std.specs.Prelude.{[]};
+ghost use Rattle.std.specs.Prelude.{Bool, []};
 ghost use Rattle.mdl_steps.specs.SeatStates.{AtItsTable, SeatState};
 ghost use Rattle.mdl_visits.specs.Grantings.{IsOrderly, ReschedulesAndLeaves, VisitsAndReschedules};
 ghost use Rattle.mdl_visits.specs.Leavings.{DidUnder, HasWorked};
-ghost use Rattle.mdl_visits.specs.Visits.{CameTo, HasLatched, HasStep, MayVisit};
+ghost use Rattle.mdl_visits.specs.Visits.{CameTo, HasLatched, HasStep, MayVisit, VisitsOnce};
 
 use crate::enter_and_leave::lower_flags;
 use crate::grant_waiters::grant_waiters;
@@ -11,11 +11,12 @@ use crate::latches::await_latch;
 use mdl_steps::{Deed, Latched, TableSeat};
 use std::sync::Wait;
 
-/// Takes the latch of a place, grants the waits there that can be granted, and gives the latch back. It takes no memory. After
-/// `MDL_lock::reschedule_waiters`.
+/// Takes the latch of a place, grants the waits there that can be granted, and gives the latch back. The session doesn't owe the place a
+/// reschedule any more. It takes no memory. After `MDL_lock::reschedule_waiters`.
 pub fn reschedule<R: Wait>(rt: &R, seat: &mut TableSeat, place: usize)
     requires at { MayVisit place seat.old }
     ensures rescheduled { AtItsTable seat.old seat.new (VisitsAndReschedules seat.old.table place []) }
+    ensures once { VisitsOnce place seat.old.me seat.new.me }
 {
     let latch = await_latch(rt, seat, place);
     reschedule_and_put(seat, latch);
@@ -24,22 +25,24 @@ pub fn reschedule<R: Wait>(rt: &R, seat: &mut TableSeat, place: usize)
 /// Lowers the flags that the book in hand doesn't need, after some deeds, grants the waits there that can be granted then, and gives the
 /// latch back.
 pub(crate) fn lower_flags_and_reschedule(seat: &mut TableSeat, latch: Latched, deeds: &[Deed])
-    requires worked { HasWorked latch.place deeds.now seat.old }
+    requires worked { (freed : Bool) × HasWorked latch.place deeds.now freed seat.old }
     ensures rescheduled { (s : SeatState) → CameTo latch.place s seat.old
         → AtItsTable s seat.new (VisitsAndReschedules s.table latch.place deeds.now) }
     ensures step { HasStep seat.old seat.new (DidUnder latch.place deeds.now seat.old) }
+    ensures once { VisitsOnce latch.place seat.old.me seat.new.me }
 {
     lower_flags(seat, &latch, deeds);
     reschedule_and_put(seat, latch);
 }
 
-// Grants the waits at the latched place that can be granted, and gives the latch back.
+// Grants the waits at the latched place that can be granted, and gives the latch back, also after something was freed.
 fn reschedule_and_put(seat: &mut TableSeat, latch: Latched)
     requires here { HasLatched latch.place seat.old IsOrderly }
     ensures left { AtItsTable seat.old seat.new (ReschedulesAndLeaves seat.old.table latch.place []) }
+    ensures once { VisitsOnce latch.place seat.old.me seat.new.me }
 {
     if seat.has_waiters(&latch) {
         grant_waiters(seat, &latch);
     }
-    seat.put_latch(latch, &[]);
+    seat.put_latch_served(latch);
 }

@@ -1,13 +1,16 @@
 //! A search for a deadlock: the latches of all places that have a key are taken one after the other, and the books are searched once all
 //! are taken. Only the lists of locks with a waiting ticket are copied: at the others no session waits for another.
-ghost use Rattle.std.specs.Prelude.{◌≡◌, ◌≤◌, IfOk, OnErr, OnOk};
+ghost use Rattle.std.specs.Prelude.{◌≡◌, ℕ, ◌+◌, ◌≤◌, ◌&&◌, not, nat_lt, true, [], IfOk, OnErr, OnOk};
 ghost use Rattle.mdl_book.specs.declared.book_view.BookView.{BookView};
+ghost use Rattle.mdl_steps.specs.Deeds.{KnowsPlace};
 ghost use Rattle.mdl_steps.specs.SeatStates.{AtItsTable};
+ghost use Rattle.mdl_steps.specs.Seats.{IsPlace, MayPut};
+ghost use Rattle.mdl_steps.specs.Sights.{SeesNoDeadlock};
 ghost use Rattle.mdl_visits.specs.Audits.{MayTakeAll};
 ghost use Rattle.mdl_visits.specs.Idle.{IsIdle};
 ghost use Rattle.mdl_visits.specs.Lookups.{AsksDirectory};
 ghost use Rattle.mdl_visits.specs.Polls.{SettlesNothing};
-ghost use Rattle.mdl_visits.specs.Searches.{AddsQueues, EndsSearch, FindsFrom, KnowsVictim, ReadsWaits, Searched, if_waited};
+ghost use Rattle.mdl_visits.specs.Searches.{AddsQueues, EndsSearch, Finds, FindsFrom, HasTaken, KnowsVictim, ReadsWaits, Searched, but_searching, found_none, if_waited, put_searching, searches_after};
 ghost use Rattle.mdl_visits.specs.Visits.{HasInHand, OfBook};
 
 use crate::latches::{await_directory, await_latch};
@@ -19,6 +22,8 @@ use std::sync::Wait;
 
 /// Searches for a deadlock that the session waits in, and settles the wait of its victim. No key gets a place meanwhile, since the
 /// session holds the directory's latch, and no book changes once the session has all latches. After `MDL_context::find_deadlock`.
+///
+/// A session that has looked up a key has no search left to make afterwards, if it is in no deadlock.
 pub fn search_deadlock<R: Wait>(
     rt: &R,
     seat: &mut TableSeat,
@@ -26,10 +31,11 @@ pub fn search_deadlock<R: Wait>(
 ) -> Result<Search, AllocError>
     requires slots { seat.old.table.slots ≤ 65536 }
     requires idle { IsIdle seat.old.me }
-    ensures reads { AtItsTable seat.old seat.new ReadsWaits }
+    ensures reads { AtItsTable seat.old (but_searching seat.old seat.new) ReadsWaits }
     ensures searched { AsksDirectory seat.old seat.new (λ k. IfOk result (λ found. Searched seat.old.table seat.old.me.0.number k found seat.old.me seat.new.me)) }
     ensures own { IfOk result (λ found. KnowsVictim seat.old.me.0.number found seat.new.me) }
     ensures nothing { OnErr result (SettlesNothing seat.old.me seat.new.me) }
+    ensures ended { (place : ℕ) → KnowsPlace seat.old.me.0 place → seat.new.me.0.searches ≡ searches_after result true seat.old.me.0.searches }
 {
     let directory = await_directory(rt, seat);
     let last = seat.key_count(&directory);
@@ -50,7 +56,10 @@ fn search_from<R: Wait>(
     lists: &mut ListCopies,
 ) -> Result<Search, AllocError>
     requires through { MayTakeAll place last seat.old }
-    ensures { EndsSearch result (FindsFrom place last lists.old seat.old seat.new) seat.old seat.new }
+    requires taken { HasTaken place last lists.old seat.old.me }
+    ensures ends { EndsSearch result (FindsFrom place last lists.old seat.old (but_searching seat.old seat.new)) seat.old (but_searching seat.old seat.new) }
+    ensures here { place ≡ last + 1 → EndsSearch result (Finds lists.old seat.old seat.new) seat.old seat.new }
+    ensures ended { seat.new.me.0.searches ≡ searches_after result (nat_lt place (last + 1)) seat.old.me.0.searches }
 {
     if place > last {
         return settle_victim(rt, seat, alloc, lists);
@@ -61,8 +70,30 @@ fn search_from<R: Wait>(
         return Err(AllocError);
     }
     let outcome = search_from(rt, seat, alloc, place + 1, last, lists);
-    seat.put_latch(latch, &[]);
+    let none = finds_none(&outcome);
+    put_once_searched(seat, latch, place == last, none);
     outcome
+}
+
+// Whether no deadlock was found.
+fn finds_none(outcome: &Result<Search, AllocError>) -> bool
+    ensures { result ≡ found_none outcome.now }
+{
+    matches!(outcome, Ok(Search::NoCycle))
+}
+
+// Gives the latch of a place back. If all latches are still held, and no deadlock was found, the session has no search left to make.
+fn put_once_searched(seat: &mut TableSeat, latch: Latched, all_held: bool, none: bool)
+    requires place { IsPlace seat.old.table latch.place }
+    requires put { MayPut latch.place [] seat.old.me }
+    requires sees { all_held ≡ true → none ≡ true → SeesNoDeadlock seat.old.table.slots seat.old.me }
+    ensures made { seat.new ≡ record seat.old { me = put_searching latch.place (not (all_held && none) && seat.old.me.0.searches) seat.old.me } }
+{
+    if all_held && none {
+        seat.put_latch_searched(latch);
+    } else {
+        seat.put_latch(latch, &[]);
+    }
 }
 
 // Adds the lists of the book in hand to others, if it has a waiting ticket.

@@ -1,8 +1,9 @@
 //! Grants a request for a lock at once, or not at all.
 ghost use Rattle.std.specs.Prelude.{◌≡◌, true, Ok, IfErr};
+ghost use Rattle.mdl_key.specs.Words.{is_obtrusive};
 ghost use Rattle.mdl_steps.specs.declared.deed.Deed.TheVariants.{Gain};
 ghost use Rattle.mdl_visits.specs.declared.calls.try_now.Tried.TheVariants.{Granted, Blocked};
-ghost use Rattle.mdl_visits.specs.Visits.{HasWish, MayVisit, WasBlocked, WasGranted, WasRefusedWish};
+ghost use Rattle.mdl_visits.specs.Visits.{HasWish, IsVisit, MayVisit, WasBlocked, WasGranted, WasRefusedWish};
 
 use crate::enter_and_leave::{enter, gain, lower_flags_and_put};
 use mdl_book::BookError;
@@ -35,6 +36,7 @@ pub fn try_now<R: Wait>(
     requires number { number ≡ seat.old.me.0.next }
     ensures granted { result ≡ Ok Granted → WasGranted place mode (Gain number mode) seat.old seat.new }
     ensures blocked { result ≡ Ok Blocked → WasBlocked place mode seat.old seat.new }
+    ensures once { IsVisit place (is_obtrusive kind mode) seat.old.me seat.new.me }
     ensures refused { IfErr result (λ cause. WasRefusedWish place mode true cause seat.old seat.new) }
 {
     let (latch, word, can) = enter(rt, seat, place, mode, is_obtrusive(kind, mode));

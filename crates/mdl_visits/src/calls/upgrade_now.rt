@@ -4,8 +4,9 @@ ghost use Rattle.mdl_key.specs.declared.namespace.Kind.{Kind};
 ghost use Rattle.mdl_key.specs.Words.{is_obtrusive};
 ghost use Rattle.mdl_steps.specs.declared.deed.Deed.TheVariants.{Alter};
 ghost use Rattle.mdl_visits.specs.declared.calls.try_now.Tried.TheVariants.{Granted, Blocked};
+ghost use Rattle.mdl_visits.specs.Coverings.{MayRise};
+ghost use Rattle.mdl_visits.specs.Visits.{HasWish, IsVisit, MayVisit, WasBlocked, WasGranted};
 ghost use Rattle.mdl_visits.specs.Leavings.{HasTicket};
-ghost use Rattle.mdl_visits.specs.Visits.{HasWish, MayVisit, WasBlocked, WasGranted};
 
 use crate::calls::try_now::Tried;
 use crate::enter_and_leave::{enter, lower_flags_and_put};
@@ -13,7 +14,7 @@ use mdl_key::Mode;
 use mdl_steps::{Deed, TableSeat};
 use std::sync::Wait;
 
-/// Gives the ticket with this number at a place an obtrusive mode, if that clashes with no granted ticket of another session and needn't wait
+/// Gives the ticket with this number at a place an obtrusive mode that covers its own, if that clashes with no granted ticket of another session and needn't wait
 /// behind a waiting one. Otherwise nothing changes. The session has no wait, and a fast ticket of its own there counts as another
 /// session's. It takes no memory. After `MDL_context::upgrade_shared_lock`.
 pub fn upgrade_now<R: Wait>(
@@ -25,8 +26,9 @@ pub fn upgrade_now<R: Wait>(
 ) -> Tried
     requires at { MayVisit place seat.old }
     requires wish { (kind : Kind) × HasWish place kind mode seat.old.me.0 × (is_obtrusive kind mode ≡ true) }
-    requires held { HasTicket place number seat.old.me.0.slow }
+    requires held { MayRise place number mode seat.old.me.0 }
     ensures granted { result ≡ Granted → WasGranted place mode (Alter number mode) seat.old seat.new }
+    ensures once { IsVisit place true seat.old.me seat.new.me }
     ensures blocked { result ≡ Blocked → WasBlocked place mode seat.old seat.new }
 {
     let (latch, word, can) = enter(rt, seat, place, mode, true);

@@ -4,6 +4,7 @@ use Rattle.mdl_steps.specs.Plays.{IsFresh, Mine, raised}
 use Rattle.mdl_visits.specs.Visits.{Enters}
 use Rattle.mdl_visits.proofs.Seats.{mine, place_there, table_of}
 use Rattle.mdl_visits.proofs.Visiting.{enters}
+use Rattle.mdl_visits.proofs.Trying.{entered_within}
 use Rattle.mdl_visits.proofs.enter_and_leave.enter.Goals as goal
 
 pub read_word-word-requires-clause-held : goal.read_word-word-requires-clause-held
@@ -45,4 +46,5 @@ returns g c =
         asks = c.requires.wish.2;
         entered = (table ∙ a.came.0, subst (λ (p : ℕ). Enters p obtrusive word.result.0 mode can.result seat.me can.new.self.me) a.at came);
       };
+      within = entered_within a obtrusive word.result.0 raise (mine word.ensures.made) (mine can.ensures.same);
     }

@@ -1,7 +1,8 @@
 -- The flags that stay tell the lists exactly, since those that are up tell of each ticket.
-use Rattle.std.proofs.Common.{List, sym, ap, ◌∙◌, subst}
+use Rattle.std.proofs.Common.{◌≡◌, ◌||◌, List, Some, sym, ap, ◌∙◌, subst}
 use Rattle.mdl_book.specs.declared.ticket.Ticket.{Ticket}
-use Rattle.mdl_steps.specs.Deeds.{all_booked}
+use Rattle.mdl_steps.specs.declared.view.LatchRecord.{LatchRecord}
+use Rattle.mdl_steps.specs.Deeds.{all_booked, frees}
 use Rattle.mdl_steps.specs.Plays.{Mine, lowered, flags_lowered}
 use Rattle.mdl_steps.specs.Seats.{Holds}
 use Rattle.mdl_visits.specs.Grantings.{StandsOnce}
@@ -10,12 +11,15 @@ use Rattle.mdl_visits.proofs.Seats.{mine, place_there, table_of}
 use Rattle.mdl_visits.proofs.Rescheduling.{waiting_same}
 use Rattle.mdl_visits.proofs.enter_and_leave.lower_flags.Goals as goal
 
+same_record : (h before : LatchRecord) → Some h ≡ Some before → h ≡ before
+same_record h before e = cc
+
 pub returns : goal.returns
 returns c =
     let place = c.args.latch.now.place in
     let m : Mine = c.args.seat.now.me in
     let ds = c.args.deeds.now in
-    let worked = c.requires.worked in
+    let worked = c.requires.worked.1 in
     let h = worked.latch in
     let book = all_booked m.0.number ds h.book in
     let needs = c.needs-needs.result in
@@ -29,14 +33,17 @@ returns c =
       lowered = (table, (made.0, book, needs.slow, needs.obtrusive, mine low ∙ ap (λ (x : Mine). flags_lowered place ds made.0 book needs.slow needs.obtrusive x) (mine same)));
       orderly = record {
         is_place = place_there place table worked.is_place;
-        latch = lowered book needs.slow needs.obtrusive h;
+        latch = lowered ds book needs.slow needs.obtrusive h;
         holds = c.lower_flags.ensures.keeps h book has;
         is_so = (
-          subst (λ (ts : List Ticket). StandsOnce ts) (sym (waiting_same m.0.number ds h.book)) worked.once,
           (
-            needed needs.slow h.slow (λ e. worked.flagged.0 (sym told.1 ∙ e)) ∙ told.1,
-            needed needs.obtrusive h.obtrusive (λ e. worked.flagged.1 (sym told.0 ∙ e)) ∙ told.0,
+            subst (λ (ts : List Ticket). StandsOnce ts) (sym (waiting_same m.0.number ds h.book)) worked.once,
+            (
+              needed needs.slow h.slow (λ e. worked.flagged.0 (sym told.1 ∙ e)) ∙ told.1,
+              needed needs.obtrusive h.obtrusive (λ e. worked.flagged.1 (sym told.0 ∙ e)) ∙ told.0,
+            ),
           ),
+          λ before its. ap (λ (x : LatchRecord). x.freed || frees ds) (same_record h before (sym worked.done.holds.recorded ∙ its)),
         );
       };
     }

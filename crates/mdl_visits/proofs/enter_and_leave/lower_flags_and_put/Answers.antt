@@ -1,19 +1,29 @@
 -- The flags were lowered, and then the latch was put.
-use Rattle.std.proofs.Common.{[], refl, sym, ap, ◌∙◌, subst, inr}
+use Rattle.std.proofs.Common.{[], ap, false, inr, refl, subst, sym, ◌∙◌}
 use Rattle.mdl_steps.specs.declared.view.Met.{Met}
 use Rattle.mdl_steps.specs.Plays.{Mine, unlatched}
 use Rattle.mdl_visits.specs.Leavings.{DidUnder, Leaves, PutsBack}
 use Rattle.mdl_visits.specs.Visits.{IsStepOf}
 use Rattle.mdl_visits.proofs.Leaving.{first_step, leaves, puts_back, visits_left}
 use Rattle.mdl_visits.proofs.Seats.{mine, table_of}
+use Rattle.mdl_visits.proofs.Within.{visit_after, visit_put, within_lowered}
 use Rattle.mdl_visits.proofs.enter_and_leave.lower_flags_and_put.Goals as goal
+
+pub lower_flags-requires : goal.lower_flags-requires
+lower_flags-requires c = record { worked = (false, c.requires.worked) }
 
 pub put_latch-requires : goal.put_latch-requires
 put_latch-requires c =
     let here = c.lower_flags.ensures.orderly in
     record {
       place = here.is_place;
-      put = (here.latch, record { holds = here.holds; act = inr refl; may = tt }, here.is_so.1);
+      put = (
+        here.latch,
+        record { holds = here.holds; act = inr refl; may = tt },
+        here.is_so.0.1,
+        tt,
+        here.is_so.1 c.requires.worked.latch c.requires.worked.done.holds.recorded ∙ c.requires.worked.freed_is,
+      );
     }
 
 pub returns : goal.returns
@@ -31,5 +41,7 @@ returns c =
     record {
       visited = λ s came. (table_of put ∙ lowered.0 ∙ came.0, visits_left place s.me m n came.1 ds left);
       step = subst (λ (x : Mine). (e : Met) × IsStepOf m x e × DidUnder place ds seat e) (sym whole) (first_step place ds low.0 low.1 low.2 low.3 m);
+      once = visit_after false m c.lower_flags.new.seat.me n (within_lowered false m c.lower_flags.new.seat.me place ds low) place
+          (visit_put false c.lower_flags.new.seat.me n place [] (mine put));
       back = subst (λ (x : Mine). PutsBack place m x) (sym whole) (puts_back place ds low.0 low.1 low.2 low.3 m);
     }

@@ -102,7 +102,7 @@ returns c =
         is_place = place_there place (table_of same ∙ inv.table) c.requires.here.is_place;
         latch = h;
         holds = subst (λ (x : Mine). Holds place h h.book x) (sym {A = Mine} (mine same)) inv.held.1;
-        is_so = (inv.held.2.0, subst (ForgetsNobody id place h m) (sym {A = Mine} (mine same)) forgets);
+        is_so = (inv.held.2.0, subst (ForgetsNobody id place h m) (sym {A = Mine} (mine same)) forgets, inv.held.2.2);
       };
       granted = (table_of same ∙ inv.table, subst (Reschedules id place m m) (sym {A = Mine} (mine same)) inv.way);
     }

@@ -83,6 +83,7 @@ returns-in-Ok-Granted g c =
         room = c.push_reserved.ensures.room;
       };
       unchanged = tt;
+      once = c.begin_wait.ensures.once;
       refused = tt;
     }
 
@@ -113,5 +114,6 @@ returns g c =
         room = keeps-same m.tickets.room;
       };
       unchanged = tt;
+      once = c.begin_wait.ensures.once;
       refused = tt;
     }

@@ -1,15 +1,14 @@
 -- Without a try nothing happens. One that was in vain found the fast path closed.
-use Rattle.std.proofs.Common.{None, Result, Ok, Err, inl, inr, ℕ, refl, rules, subst, sym, ◌≡◌}
+use Rattle.std.proofs.Common.{None, Result, Ok, Err, inl, inr, ℕ, ap, refl, rules, subst, sym, ◌≡◌}
 use Rattle.std.specs.Prelude.{IfErr, IfNone, Option}
 use Rattle.std.specs.Result.{result_ok}
 use Rattle.mdl_key.specs.declared.mode.Mode.{Mode}
-use Rattle.mdl_visits.proofs.Steps.{goes_none}
 use Rattle.mdl_shared.specs.declared.fast_path.NotFast.{NotFast}
 use Rattle.mdl_shared.specs.declared.fast_path.NotFast.TheVariants.{Obtruded, Contended, Limit}
 use Rattle.mdl_shared.specs.FastDeeds.{HasNoFast}
 use Rattle.mdl_shared.specs.Passes.{view_of}
 use Rattle.mdl_shared.specs.SessionViews.{SessionView}
-use Rattle.mdl_shared.specs.Showings.{IsClosed}
+use Rattle.mdl_shared.specs.Showings.{FindsClosed}
 use Rattle.mdl_shared.proofs.QuietDeeds.{quiet-none}
 use Rattle.mdl_shared.proofs.member.Member.gain_unobtrusive.Goals as goal
 
@@ -20,15 +19,15 @@ returns-in_err-one-clause-unchanged c =
 
 -- why no fast ticket was granted
 closed-by : (place : ℕ) (mode : Mode) (a b : SessionView) (tried : Result ℕ NotFast) → IfErr tried (λ why. HasNoFast why place a b)
-    → IfNone (result_ok tried) (IsClosed place mode a b)
+    → IfNone (result_ok tried) (FindsClosed place mode a b.me)
 closed-by place mode a b (Ok id) none = tt
-closed-by place mode a b (Err (Obtruded word)) found = inr (inr (word.0, b.me, inl found, goes_none b.me))
-closed-by place mode a b (Err (Contended word)) missed = inr (inr (word.0, b.me, inr missed, goes_none b.me))
-closed-by place mode a b (Err Limit) many = inr (inl many.1)
+closed-by place mode a b (Err (Obtruded word)) found = inr (inr (word.0, inl found))
+closed-by place mode a b (Err (Contended word)) missed = inr (inr (word.0, inr missed))
+closed-by place mode a b (Err Limit) many = inr (inl (many.1, ap (λ (s : SessionView). s.me) many.0))
 
 pub returns-clause-closed : goal.returns-clause-closed
 returns-clause-closed c =
     let m = c.args.self.now in
     let tried = c.gain_fast in
-    subst (λ (o : Option ℕ). IfNone o (IsClosed c.args.place c.args.mode (view_of m) (view_of tried.new.self))) (sym c.ok.ensures.value)
+    subst (λ (o : Option ℕ). IfNone o (FindsClosed c.args.place c.args.mode (view_of m) tried.new.self.seat.me)) (sym c.ok.ensures.value)
     (closed-by c.args.place c.args.mode (view_of m) (view_of tried.new.self) tried.result tried.ensures.closed)

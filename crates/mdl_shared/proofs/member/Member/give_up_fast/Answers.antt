@@ -47,7 +47,7 @@ returns-then-lose_fast g c =
     record {
       lost = done-before lost.done later;
       did = does_then (Lose t.number ∷ []) [] m.seat.me mid.seat.me c.reschedule.new.seat.me lost.did (does_reschedule mid.seat.me c.reschedule.new.seat.me mid.seat.table t.place [] visit.1);
-      given_up = gives-up_after (view_of m) (view_of mid) t c.lose_fast.result c.lose_fast.ensures.released lost.done c.if-lose_fast.true visit;
+      given_up = gives-up_after (view_of m) (view_of mid) t c.lose_fast.result c.lose_fast.ensures.released lost.done c.if-lose_fast.true visit c.reschedule.ensures.once;
       room = keeps-freed m.tickets.room mid.tickets.room c.lose_fast.ensures.room.0 c.lose_fast.ensures.room.1;
     }
 

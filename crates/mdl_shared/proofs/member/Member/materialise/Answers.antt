@@ -1,19 +1,20 @@
 -- All places are done, or one has no room.
-use Rattle.std.proofs.Common.{rules, ◌≡◌, ◌<◌, ℕ, List, length, Err, sym, ap, subst, ◌∙◌}
+use Rattle.std.proofs.Common.{rules, ◌≡◌, ◌<◌, ℕ, List, [], ◌∷◌, ◌++◌, length, Err, refl, sym, ap, subst, ◌∙◌}
 use Rattle.mdl_steps.specs.declared.view.Own.{Own}
 use Rattle.mdl_steps.specs.Cells.{own_at}
 use Rattle.mdl_steps.specs.FastPlays.{but_at}
 use Rattle.mdl_shared.specs.Passes.{view_of}
 use Rattle.mdl_shared.specs.SessionViews.{Lists}
+use Rattle.mdl_shared.specs.Showings.{SlowsInTurn}
 use Rattle.mdl_shared.proofs.QuietDeeds.{quiet-none, quiet-steps, quiet-then, same-lists}
 use Rattle.mdl_shared.proofs.Rooms.{keeps-before, keeps-same}
-use Rattle.mdl_shared.proofs.SlowPlaces.{all-slow, before-more, before-still, fewer-left, lacks-after, none-before, same-at-first, slow-more, slow-still}
+use Rattle.mdl_shared.proofs.SlowPlaces.{all-slow, before-more, before-still, fewer-left, lacks-after, next-seen, none-before, same-at-first, slow-more, slow-still, stops-more, turn-more}
 use Rattle.mdl_shared.proofs.member.Member.materialise.Goals as goal
 
 pub loop-place-init : goal.loop-place-init
 loop-place-init g c =
     let s = view_of c.args.self.now in
-    record { idle = c.requires.idle; done = quiet-none s; slow = same-at-first s; order = none-before s; room = keeps-same c.args.self.now.tickets.room }
+    record { idle = c.requires.idle; done = quiet-none s; slow = same-at-first s; order = none-before s; turn = ([], (refl, refl)); room = keeps-same c.args.self.now.tickets.room }
 
 pub loop-place-smaller : goal.loop-place-smaller
 loop-place-smaller g c =
@@ -35,6 +36,13 @@ loop-place-preserved g c =
           fast made.1;
       order = before-more (view_of c.args.self.now) (view_of m) (view_of n) place c.loop-place.invariant.order
           (subst (λ (us : List Own). 0 < length (own_at place us)) (ap (λ (l : Lists). l.fast) m.lists) c.in-Some.ensures.0) (λ q before. ap (λ (l : Lists). own_at q l.fast) (sym m.lists) ∙ c.in-Some.ensures.1 q before) fast;
+      turn =
+          let turn = c.loop-place.invariant.turn in (
+            turn.0 ++ place ∷ [],
+            subst (λ (us : List Own). SlowsInTurn (turn.0 ++ place ∷ []) c.args.self.now.seat.me.0.fast us c.args.self.now.seat.me n.seat.me) (sym fast)
+                (turn-more turn.0 place c.args.self.now.seat.me.0.fast m.seat.me.0.fast c.args.self.now.seat.me m.seat.me n.seat.me turn.1
+                (next-seen m place c.in-Some.ensures.0 c.in-Some.ensures.1) c.in_ok-materialise_at.ensures.once),
+          );
       room = keeps-before 0 c.args.self.now.tickets.room m.tickets.room n.tickets.room c.loop-place.invariant.room c.materialise_at.ensures.room;
     }
 
@@ -56,6 +64,15 @@ returns-in_err-materialise_at-clause-partly g c =
     rw refused (slow-still (view_of c.args.self.now) (view_of m) (view_of n) (quiet-steps c.materialise_at.ensures.done) c.loop-place.invariant.slow
     (sym (ap (λ (l : Lists). l.fast) n.lists) ∙ c.in_err-materialise_at.ensures.fast ∙ ap (λ (l : Lists). l.fast) m.lists))
 
+pub returns-in_err-materialise_at-clause-stops : goal.returns-in_err-materialise_at-clause-stops
+returns-in_err-materialise_at-clause-stops g c =
+    let m = c.loop-place.self in
+    let n = c.materialise_at.new.self in
+    let turn = c.loop-place.invariant.turn in
+    let refused : c.from_residual.result ≡ Err c.in_err-materialise_at.field-0.0 = search rules in
+    rw refused (stops-more turn.0 m.seat.me.0.fast c.args.self.now.seat.me m.seat.me n.seat.me turn.1 c.in-Some.place
+    (next-seen m c.in-Some.place c.in-Some.ensures.0 c.in-Some.ensures.1) c.in_err-materialise_at.ensures.stops)
+
 pub returns-in_err-materialise_at-clause-order : goal.returns-in_err-materialise_at-clause-order
 returns-in_err-materialise_at-clause-order g c =
     let m = c.loop-place.self in
@@ -67,6 +84,13 @@ returns-in_err-materialise_at-clause-order g c =
 pub returns-in_err-materialise_at-clause-room : goal.returns-in_err-materialise_at-clause-room
 returns-in_err-materialise_at-clause-room g c =
     keeps-before 0 c.args.self.now.tickets.room c.loop-place.self.tickets.room c.materialise_at.new.self.tickets.room c.loop-place.invariant.room c.materialise_at.ensures.room
+
+pub returns-clause-turn : goal.returns-clause-turn
+returns-clause-turn g c =
+    let m = c.loop-place.self in
+    let turn = c.loop-place.invariant.turn in
+    let none = sym (ap (λ (l : Lists). l.fast) m.lists) ∙ c.in_default.ensures in
+    (turn.0, subst (λ (us : List Own). SlowsInTurn turn.0 c.args.self.now.seat.me.0.fast us c.args.self.now.seat.me m.seat.me) none turn.1)
 
 pub returns-clause-slow : goal.returns-clause-slow
 returns-clause-slow g c =

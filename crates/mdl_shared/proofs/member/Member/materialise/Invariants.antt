@@ -1,8 +1,9 @@
 -- Some places' fast tickets are slow ones so far.
-use Rattle.std.proofs.Common.{◌≡◌, None, [], length}
+use Rattle.std.proofs.Common.{◌≡◌, ℕ, List, None, [], length}
 use Rattle.mdl_shared.specs.DeedsDone.{DoesQuietly}
 use Rattle.mdl_shared.specs.FastDeeds.{AreSameOrSlow, AreSlowBefore}
 use Rattle.mdl_shared.specs.Passes.{view_of}
+use Rattle.mdl_shared.specs.Showings.{SlowsInTurn}
 use Rattle.mdl_shared.specs.TicketLists.{KeepsRoom}
 use Rattle.mdl_shared.proofs.member.Member.materialise.Given as goal
 
@@ -12,6 +13,7 @@ invariant-loop-place g l = record {
   done : DoesQuietly 0 [] (view_of l.fn.self) (view_of l.self);
   slow : AreSameOrSlow (view_of l.fn.self) (view_of l.self);
   order : AreSlowBefore (view_of l.fn.self) (view_of l.self);
+  turn : (places : List ℕ) × SlowsInTurn places l.fn.self.seat.me.0.fast l.self.seat.me.0.fast l.fn.self.seat.me l.self.seat.me;
   room : KeepsRoom 0 l.fn.self.tickets.room l.self.tickets.room;
 }
 

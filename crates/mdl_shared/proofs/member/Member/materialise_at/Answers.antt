@@ -1,9 +1,9 @@
 -- The fast tickets of the place are slow ones then, or stay as they were for want of room.
-use Rattle.std.proofs.Common.{is_some, sym, ap, ◌∙◌}
+use Rattle.std.proofs.Common.{is_some, inl, inr, refl, sym, ap, ◌∙◌}
 use Rattle.std.proofs.lemmas.Bool.{false≢true}
 use Rattle.mdl_shared.specs.Passes.{view_of}
 use Rattle.mdl_shared.proofs.FastDone.{fast-materialised, lists-materialised}
-use Rattle.mdl_shared.proofs.FastFacts.{kind-of-fast, may-make-slow}
+use Rattle.mdl_shared.proofs.FastFacts.{kind-of-fast, may-make-slow, some-seen}
 use Rattle.mdl_shared.proofs.Members.{room-kept}
 use Rattle.mdl_shared.proofs.Props.{member}
 use Rattle.mdl_shared.proofs.QuietDeeds.{lists-made, quiet-made, quiet-none, steps-visited}
@@ -19,6 +19,14 @@ pub returns-in_default-clause-slow : goal.returns-in_default-clause-slow
 returns-in_default-clause-slow g c =
     let some = kind-of-fast c.args.self.now c.args.place c.requires.some in
     absurd (false≢true (ap is_some (sym c.in_default.is ∙ c.kind_at.ensures) ∙ some))
+
+pub returns-in_default-clause-once : goal.returns-in_default-clause-once
+returns-in_default-clause-once g c =
+    let some = kind-of-fast c.args.self.now c.args.place c.requires.some in
+    absurd (false≢true (ap is_some (sym c.in_default.is ∙ c.kind_at.ensures) ∙ some))
+
+pub returns-in_default-list_fast-clause-stops : goal.returns-in_default-list_fast-clause-stops
+returns-in_default-list_fast-clause-stops g c = inl refl
 
 pub returns-in_default-list_fast-clause-done : goal.returns-in_default-list_fast-clause-done
 returns-in_default-list_fast-clause-done g c = quiet-none (view_of c.args.self.now)
@@ -45,7 +53,15 @@ invariant_of-self g c =
       room = m.room;
     }
 
+pub returns-in-Err-clause-stops : goal.returns-in-Err-clause-stops
+returns-in-Err-clause-stops g c = inr c.in-Err.ensures.refused.2
+
 -- ---- they are slow
+
+pub returns-clause-once : goal.returns-clause-once
+returns-clause-once g c =
+    let m = c.args.self.now in
+    c.in_default-materialise.ensures.materialised.0.1.once (some-seen m c.args.place c.requires.some)
 
 pub invariant_of-self-2 : goal.invariant_of-self-2
 invariant_of-self-2 g c =

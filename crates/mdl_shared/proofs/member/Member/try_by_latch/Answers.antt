@@ -53,6 +53,7 @@ returns-in-Ok-Blocked g c =
         room = keeps-same m.tickets.room;
       };
       unchanged = tt;
+      once = c.try_now.ensures.once;
       refused = tt;
     }
 
@@ -90,5 +91,6 @@ returns g c =
         room = c.push_reserved.ensures.room;
       };
       unchanged = tt;
+      once = c.try_now.ensures.once;
       refused = tt;
     }

@@ -4,7 +4,7 @@ use Rattle.mdl_shared.specs.Members.{kind_known}
 use Rattle.mdl_shared.specs.Passes.{view_of}
 use Rattle.mdl_shared.specs.SessionViews.{Lists}
 use Rattle.mdl_shared.specs.TicketLists.{KeepsRoom, TicketList}
-use Rattle.mdl_shared.proofs.FastWishing.{closed-then, fast-still, lacks-later, made-later, quiet-room}
+use Rattle.mdl_shared.proofs.FastWishing.{fast-still, lacks-later, made-later, quiet-room}
 use Rattle.mdl_shared.proofs.MemberFacts.{place-within}
 use Rattle.mdl_shared.proofs.Membership.{kind_place}
 use Rattle.mdl_shared.proofs.Members.{lists-done, member-room, room-kept}
@@ -48,8 +48,8 @@ returns-in_err-materialise g c =
       granted = tt;
       slow = λ is. cc;
       unchanged = (quiet-then quiet later, keeps-before 0 m.tickets.room c.reserve.new.self.room now.tickets.room c.reserve.ensures.kept room);
-      refused = lacks-later c.args.place c.args.mode (view_of m) (view_of tried) (view_of now) (quiet-steps quiet) same (quiet-steps later) c.in_default.ensures.closed
-          c.in_err-materialise.ensures.refused;
+      refused = lacks-later c.args.place c.args.mode (view_of m) (view_of tried) (view_of now) (quiet-steps quiet) same c.in_default.ensures.closed
+          c.in_err-materialise.ensures.stops c.in_err-materialise.ensures.refused;
     })
 
 pub returns-clause-slow : goal.returns-clause-slow
@@ -70,7 +70,7 @@ returns-clause-slow g c =
         made = made-later (view_of m) (view_of tried) (view_of now) (quiet-steps quiet) same slow.1;
         room = keeps-before 0 m.tickets.room c.reserve.new.self.room now.tickets.room c.reserve.ensures.kept room;
       },
-      closed-then c.args.place c.args.mode (view_of m) (view_of tried) (view_of now) (quiet-steps later) c.in_default.ensures.closed,
+      (tried.seat.me, c.in_default.ensures.closed, c.in_ok-materialise.ensures.turn),
       slow.0,
       room-kept c.reserve.new.self now.tickets room (search rules),
     )

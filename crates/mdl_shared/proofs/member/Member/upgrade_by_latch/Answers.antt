@@ -10,7 +10,7 @@ use Rattle.mdl_shared.proofs.Props.{member}
 use Rattle.mdl_shared.proofs.QuietDeeds.{quiet-visit}
 use Rattle.mdl_shared.proofs.SlowHeld.{slow-held}
 use Rattle.mdl_shared.proofs.TicketCalls.{upgrade-joins}
-use Rattle.mdl_shared.proofs.TicketFaults.{upgrade-kind}
+use Rattle.mdl_shared.proofs.TicketFaults.{upgrade-covers, upgrade-kind}
 use Rattle.mdl_shared.proofs.WaitSteps.{still-member}
 use Rattle.mdl_shared.proofs.member.Member.upgrade_by_latch.Goals as goal
 
@@ -18,7 +18,15 @@ pub upgrade_now-requires-clause-at : goal.upgrade_now-requires-clause-at
 upgrade_now-requires-clause-at g c = (slow-held c.args.self.now c.args.held c.requires.unfast c.requires.held).0.at
 
 pub upgrade_now-requires-clause-held : goal.upgrade_now-requires-clause-held
-upgrade_now-requires-clause-held g c = (slow-held c.args.self.now c.args.held c.requires.unfast c.requires.held).1.there
+upgrade_now-requires-clause-held g c =
+    let m = c.args.self.now in
+    let t = c.args.held in
+    record {
+      held = t;
+      there = (slow-held m t c.requires.unfast c.requires.held).1.slow;
+      here = refl;
+      stronger = upgrade-covers c.args.mode m.known.known m.asks t c.requires.clear c.requires.short;
+    }
 
 pub upgrade_now-requires-clause-wish : goal.upgrade_now-requires-clause-wish
 upgrade_now-requires-clause-wish g c =

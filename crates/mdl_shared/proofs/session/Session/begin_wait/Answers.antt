@@ -7,7 +7,7 @@ use Rattle.mdl_shared.proofs.Members.{fault-seen}
 use Rattle.mdl_shared.proofs.Props.{member}
 use Rattle.mdl_shared.proofs.Refusals.{own-shows}
 use Rattle.mdl_shared.proofs.WishCalls.{begin-unfit}
-use Rattle.mdl_shared.proofs.Wishing.{may-wish}
+use Rattle.mdl_shared.proofs.Wishing.{may-wish, visit-seen}
 use Rattle.mdl_shared.proofs.session.Session.begin_wait.Goals as goal
 
 pub returns-in_err-kind : goal.returns-in_err-kind
@@ -27,7 +27,7 @@ returns-in_err-number g c =
     let why = c.in_err-number.field-0.0 in
     let refused : c.from_residual-in_err-number.result ≡ Err why = search rules in
     let may = may-wish m c.args.place c.in_ok-kind.kind c.args.mode c.in_ok-kind.ensures in
-    let full = full-fast c.args.place c.args.mode (view_of m) (view_of c.try_fast_first.new.self) c.in_err-number.ensures.refused in
+    let full = full-fast c.args.place c.args.mode _ (view_of m) (view_of c.try_fast_first.new.self) c.in_err-number.ensures.refused in
     let both = begin-full (member m) c.args.place c.args.mode may.clear c.in_err-number.ensures.unchanged full in
     rw refused (rw (← c.self.view_is) (record { joined = both.0; shown = both.1 }))
 
@@ -44,5 +44,6 @@ returns g c =
     let may = may-wish m c.args.place c.in_ok-kind.kind c.args.mode c.in_ok-kind.ensures in
     let slow = c.try_fast_first.ensures.slow (c.in_ok-number.was ∙ ap Ok c.in_default.is) in
     let came = c.begin_by_latch.ensures in
-    let both = begun-slow (member m) c.args.place c.args.mode may.clear slow.0 slow.1 c.begin_by_latch.result came.begun came.unchanged came.refused in
+    let once = visit-seen m c.args.place c.args.mode c.in_ok-kind.ensures.0 came.once in
+    let both = begun-slow (member m) c.args.place c.args.mode may.clear slow.0 slow.1 once c.begin_by_latch.result came.begun came.unchanged came.refused in
     rw (← c.self.view_is) (record { joined = both.0; shown = both.1 })

@@ -63,7 +63,7 @@ returns-in-Err g c =
     let done = visited m.seat c.change_definition.new.seat m.sessions refl did.unchanged in
     rw (c.from.ensures, ← c.self.view_is) (record {
       joined = unchanged-joins is c.args.id t its s′ c.args.change.now exclusive (done-nothing done) c.in-Err.why did.refused;
-      shown = unchanged-shows is c.args.id t its s′ c.args.change.now exclusive did.unchanged.0 refl did.unchanged.1 c.in-Err.why did.refused (keeps-same m.tickets.room);
+      shown = unchanged-shows is c.args.id t its s′ c.args.change.now exclusive did.unchanged.0 refl did.unchanged.1 c.in-Err.why did.refused did.once (keeps-same m.tickets.room);
     })
 
 pub invariant_of-member-2 : goal.invariant_of-member-2

@@ -72,6 +72,6 @@ returns g c =
     let clear = fault-seen m (Clone_ticket m.seat.me.0.number c.args.id c.args.mode) None (just-done _ _ c.in_ok-held.ensures.just) in
     let slow = c.in_ok-number.ensures.slow (ap Ok c.in_default.is) in
     let next = (same-lists m n slow.0.quiet.done).next ∙ ap (λ (l : Lists). l.next) m.lists in
-    let both = cloned-slow (member m) c.args.id c.args.mode clear c.in_ok-held.held its slow.0 slow.1 n.next next c.clone_by_latch.result
+    let both = cloned-slow (member m) c.args.id c.args.mode clear c.in_ok-held.held its slow.0 slow.1 c.clone_by_latch.ensures.once n.next next c.clone_by_latch.result
     c.clone_by_latch.ensures.cloned c.clone_by_latch.ensures.unchanged c.clone_by_latch.ensures.refused in
     rw (← c.self.view_is) (record { joined = both.0; shown = both.1 })

@@ -75,7 +75,7 @@ invariant_of-member g c =
     let slow = slow-held m c.args.id c.args.mode t held clear in
     let done = rescheduled m.seat c.downgrade.new.seat m.sessions (alters-slow is t.place t.number c.args.mode t slow) visit in
     record {
-      lawful = ∣ kept is (done-order done is (inr refl)) (downgraded m.seat c.downgrade.new.seat m.sessions c.args.id {room′ = c.set_mode.new.self.room} c.args.mode t is held slow clear visit did.step c.set_mode.ensures.room).0 ∣₁;
+      lawful = ∣ kept is (done-order done is (inr refl)) (downgraded m.seat c.downgrade.new.seat m.sessions c.args.id {room′ = c.set_mode.new.self.room} c.args.mode t is held slow clear visit did.step did.once c.set_mode.ensures.room).0 ∣₁;
       lists = lists-done m t.place (Alter t.number c.args.mode ∷ []) (lists-rescheduled visit) c.set_mode.ensures.changed.0 c.set_mode.ensures.changed.1;
       room = λ ask asks. room-kept m.tickets c.set_mode.new.self c.set_mode.ensures.room (m.room ask asks);
     }
@@ -87,5 +87,5 @@ returns g c =
     let held = holds-ticket m c.args.id t c.in_ok-held.ensures.found in
     let clear = fault-seen m (Downgrade m.seat.me.0.number c.args.id c.args.mode) None (just-done _ _ c.in_ok-held.ensures.just) in
     let did = c.downgrade.ensures in
-    let both = downgraded m.seat c.downgrade.new.seat m.sessions c.args.id c.args.mode t (member m) held (slow-held m c.args.id c.args.mode t held clear) clear did.downgraded did.step c.set_mode.ensures.room in
+    let both = downgraded m.seat c.downgrade.new.seat m.sessions c.args.id c.args.mode t (member m) held (slow-held m c.args.id c.args.mode t held clear) clear did.downgraded did.step did.once c.set_mode.ensures.room in
     rw (← c.self.view_is) (record { joined = both.0; shown = both.1 })

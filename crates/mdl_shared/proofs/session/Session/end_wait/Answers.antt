@@ -12,7 +12,7 @@ use Rattle.mdl_shared.specs.SessionViews.{Lists, SessionView, lists_seen, sessio
 use Rattle.mdl_shared.specs.Waitings.{are_below}
 use Rattle.mdl_steps.specs.Cells.{own_at}
 use Rattle.mdl_shared.proofs.EndCalls.{asked-below, asks-nothing, granted-so, idle-joins, lost-order, lost-so, won-order}
-use Rattle.mdl_shared.proofs.EndSteps.{ended-lost, ended-won, lost-end, shows-granted, told-end, unsettled-end, won-end}
+use Rattle.mdl_shared.proofs.EndSteps.{ended-lost, ended-won, ends-granted, lost-end, told-end, unsettled-end, won-end}
 use Rattle.mdl_shared.proofs.MemberFacts.{awaited, may-visit}
 use Rattle.mdl_shared.proofs.Members.{kept}
 use Rattle.mdl_shared.proofs.Props.{member}
@@ -90,7 +90,7 @@ invariant_of-member-in-Some-lost_end g c =
     let ended = ended-lost m.sessions c.number-session.result c.read_wait.result.0 now ends in
     let so = lost-so m.seat.me.0.number one c.in-Some-lost_end.ended (sym c.lost_end.ensures ∙ c.in-Some-lost_end.is) in
     let h = lost-end is ask asks c.number-session.result c.read_wait.result.0 c.number-session.ensures c.read_wait.ensures.own now one some (ends.1.made, ap (λ (x : Mine). x.0.log) ends.1.now, ends.1.did)
-    (c.end_lost_wait.ensures.met (state_of one) (told-end is ask asks c.number-session.result c.read_wait.result.0 c.number-session.ensures c.read_wait.ensures.own now one some)) so.1 ended ends.1.way (keeps-same m.tickets.room) in
+    (c.end_lost_wait.ensures.met (state_of one) (told-end is ask asks c.number-session.result c.read_wait.result.0 c.number-session.ensures c.read_wait.ensures.own now one some)) so.1 ended ends.1.way c.end_lost_wait.ensures.once (keeps-same m.tickets.room) in
     record {
       lawful = ∣ kept is (lost-order is ask asks ended) h.0 ∣₁;
       lists = ap (λ (l : Lists). record l { asks = None }) m.lists ∙ sym (ap (λ (x : SessionView). lists_seen x.me.0) ended.now);
@@ -110,7 +110,7 @@ returns-in-Some-lost_end g c =
     let ended = ended-lost m.sessions c.number-session.result c.read_wait.result.0 now ends in
     let so = lost-so m.seat.me.0.number one c.in-Some-lost_end.ended (sym c.lost_end.ensures ∙ c.in-Some-lost_end.is) in
     let h = lost-end is ask asks c.number-session.result c.read_wait.result.0 c.number-session.ensures c.read_wait.ensures.own now one some (ends.1.made, ap (λ (x : Mine). x.0.log) ends.1.now, ends.1.did)
-    (c.end_lost_wait.ensures.met (state_of one) (told-end is ask asks c.number-session.result c.read_wait.result.0 c.number-session.ensures c.read_wait.ensures.own now one some)) so.1 ended ends.1.way (keeps-same m.tickets.room) in
+    (c.end_lost_wait.ensures.met (state_of one) (told-end is ask asks c.number-session.result c.read_wait.result.0 c.number-session.ensures c.read_wait.ensures.own now one some)) so.1 ended ends.1.way c.end_lost_wait.ensures.once (keeps-same m.tickets.room) in
     rw (← c.self.view_is, so.0) (record { joined = h.0; shown = h.1 })
 
 -- ---- it was granted
@@ -151,7 +151,7 @@ invariant_of-member-2 g c =
     let some = sym (ap settled_of c.state.ensures) ∙ sym c.settled_in.ensures ∙ c.in-Some-settled_in.is in
     let ended = ended-won m.sessions c.number-session.result c.read_wait.result.0 now ask asks c.end_granted.ensures.made in
     let h = won-end is ask asks c.number-session.result c.read_wait.result.0 c.number-session.ensures c.read_wait.ensures.own now one some (granted-so one (sym c.lost_end.ensures ∙ c.in_default-lost_end.is)) (_ ∷ [], ap (λ (x : SeatState). x.me.0.log) c.end_granted.ensures.made, refl)
-    (shows-granted c.read_wait.new.self c.end_granted.new.self m.sessions m.tickets.room c.push_reserved.new.self.room c.end_granted.ensures.made) ended.0 ended.1 c.push_reserved.ensures.room in
+    (ends-granted c.read_wait.new.self c.end_granted.new.self c.end_granted.ensures.made) ended.0 ended.1 c.push_reserved.ensures.room in
     record {
       lawful = ∣ kept is (won-order is ask asks ended.0) h.0 ∣₁;
       lists = (λ i. record { slow = c.push_reserved.ensures.gained i; fast = c.push_reserved.ensures.same i; known = m.known.known; next = m.next; asks = None; waits = m.waits })
@@ -171,5 +171,5 @@ returns g c =
     let some = sym (ap settled_of c.state.ensures) ∙ sym c.settled_in.ensures ∙ c.in-Some-settled_in.is in
     let ended = ended-won m.sessions c.number-session.result c.read_wait.result.0 now ask asks c.end_granted.ensures.made in
     let h = won-end is ask asks c.number-session.result c.read_wait.result.0 c.number-session.ensures c.read_wait.ensures.own now one some (granted-so one (sym c.lost_end.ensures ∙ c.in_default-lost_end.is)) (_ ∷ [], ap (λ (x : SeatState). x.me.0.log) c.end_granted.ensures.made, refl)
-    (shows-granted c.read_wait.new.self c.end_granted.new.self m.sessions m.tickets.room c.push_reserved.new.self.room c.end_granted.ensures.made) ended.0 ended.1 c.push_reserved.ensures.room in
+    (ends-granted c.read_wait.new.self c.end_granted.new.self c.end_granted.ensures.made) ended.0 ended.1 c.push_reserved.ensures.room in
     rw (← c.self.view_is) (record { joined = h.0; shown = h.1 })

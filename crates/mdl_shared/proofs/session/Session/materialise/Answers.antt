@@ -1,5 +1,5 @@
 -- Where the session waits it has no fast ticket, and nothing is done.
-use Rattle.std.proofs.Common.{sym, ◌∙◌}
+use Rattle.std.proofs.Common.{[], refl, sym, ◌∙◌}
 use Rattle.mdl_shared.specs.Passes.{view_of}
 use Rattle.mdl_shared.proofs.FastCalls.{made-none, waits-unfast}
 use Rattle.mdl_shared.proofs.QuietDeeds.{quiet-none}
@@ -13,6 +13,18 @@ returns-then-is_some-clause-slow g c =
     let m = c.self.inside.member in
     let none = waits-unfast m (sym c.is_some.ensures ∙ c.if-is_some.true) in
     rw (← c.self.view_is) (none, made-none (view_of m) none)
+
+pub returns-then-is_some-clause-turn : goal.returns-then-is_some-clause-turn
+returns-then-is_some-clause-turn g c =
+    let m = c.self.inside.member in
+    let none = waits-unfast m (sym c.is_some.ensures ∙ c.if-is_some.true) in
+    rw (← c.self.view_is) ([], (sym none, refl))
+
+pub returns-clause-turn : goal.returns-clause-turn
+returns-clause-turn g c = rw (← c.self.view_is) c.materialise.ensures.turn
+
+pub returns-clause-stops : goal.returns-clause-stops
+returns-clause-stops g c = rw (← c.self.view_is) c.materialise.ensures.stops
 
 pub returns-clause-refused : goal.returns-clause-refused
 returns-clause-refused g c = rw (← c.self.view_is) c.materialise.ensures.refused

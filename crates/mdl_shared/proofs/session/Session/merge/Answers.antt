@@ -33,7 +33,7 @@ returns-in_err-materialise g c =
     let other = held-seen m c.args.new (Some c.in_ok-kept.gone) (sym c.in_ok-kept.ensures.found.1) in
     let clear = fault-seen m (Merge m.seat.me.0.number c.args.old c.args.new) None (just-done _ _ c.in_ok-kept.ensures.just) in
     let both = merge-refused (member m) c.args.old c.args.new c.in_ok-kept.kept c.in_ok-kept.gone its other clear
-    c.materialise.ensures.done c.in_err-materialise.ensures.refused c.materialise.ensures.room in
+    c.materialise.ensures.done c.in_err-materialise.ensures.refused c.in_err-materialise.ensures.stops c.materialise.ensures.room in
     rw refused (rw (← c.self.view_is) (record { joined = both.0; shown = both.1 }))
 
 pub merge_by_latch-requires-clause-held : goal.merge_by_latch-requires-clause-held
@@ -52,6 +52,6 @@ returns g c =
     let other = held-seen m c.args.new (Some c.in_ok-kept.gone) (sym c.in_ok-kept.ensures.found.1) in
     let clear = fault-seen m (Merge m.seat.me.0.number c.args.old c.args.new) None (just-done _ _ c.in_ok-kept.ensures.just) in
     let slow = becomes-slow m c.materialise.new.self c.materialise.ensures.done c.in_ok-materialise.ensures.slow c.materialise.ensures.room in
-    let both = merged-slow (member m) c.args.old c.args.new c.in_ok-kept.kept c.in_ok-kept.gone its other clear slow c.merge_by_latch.ensures.room
+    let both = merged-slow (member m) c.args.old c.args.new c.in_ok-kept.kept c.in_ok-kept.gone its other clear slow c.in_ok-materialise.ensures.turn c.merge_by_latch.ensures.once c.merge_by_latch.ensures.room
     c.merge_by_latch.ensures.merged c.merge_by_latch.ensures.met in
     rw (← c.self.view_is) (record { joined = both.0; shown = both.1 })

@@ -59,7 +59,7 @@ returns-in_default-read_definition g c =
     let did = c.in_default-read_definition.ensures in
     rw (← c.self.view_is) (record {
       joined = unread-joins is c.args.id c.in-Some.held its (done-nothing (visited m.seat c.read_definition.new.seat m.sessions {room′ = m.tickets.room} refl (did.quiet.0, did.unchanged)));
-      shown = unread-shows is c.args.id c.in-Some.held its did.quiet.0 refl did.unchanged did.quiet.1 (keeps-same m.tickets.room);
+      shown = unread-shows is c.args.id c.in-Some.held its did.quiet.0 refl did.unchanged did.quiet.1 did.once (keeps-same m.tickets.room);
     })
 
 pub invariant_of-member-2 : goal.invariant_of-member-2
@@ -88,5 +88,5 @@ returns g c =
     rw (← c.self.view_is) (record {
       joined = read-joins is id t its c.in-Ok.standing noted did.follows;
       shown = read-shows is id t its c.in-Ok.standing noted did.follows (does_learns m.seat.me c.read_definition.new.seat.me t.place c.in-Ok.standing did.learnt.0) did.quiet.1
-          (step.0, step.1, (step.2, λ slow. step.3 id (slow-there is id t slow) (unwaited is id (ap is_some its)))) c.note_all.ensures.room;
+          (step.0, step.1, (step.2, λ slow. step.3 id (slow-there is id t slow) (unwaited is id (ap is_some its)))) did.once c.note_all.ensures.room;
     })

@@ -77,7 +77,7 @@ invariant_of-member g c =
     let slow = slow-else is id t none its in
     let visit = c.release.ensures.released in
     let done = rescheduled m.seat c.release.new.seat m.sessions {room′ = c.strike.new.self.room} (loses-slow is t.place id t slow) visit in
-    let both = released-slow m.seat c.release.new.seat m.sessions id {room′ = c.strike.new.self.room} t is its slow none visit c.release.ensures.step c.strike.ensures.room in record {
+    let both = released-slow m.seat c.release.new.seat m.sessions id {room′ = c.strike.new.self.room} t is its slow none visit c.release.ensures.step c.release.ensures.once c.strike.ensures.room in record {
       lawful = ∣ kept is (done-order done is (inr refl)) both.0 ∣₁;
       lists = lists-done m t.place (Lose id ∷ []) (lists-rescheduled visit) c.strike.ensures.struck.0 (fast-struck m t.place id (spared is id t slow) c.strike.ensures.struck.1);
       room = λ ask asks. room-kept m.tickets c.strike.new.self c.strike.ensures.room (m.room ask asks);
@@ -91,5 +91,5 @@ returns g c =
     let t = c.in-Some.held in
     let none = fast-seen m id None (sym (ap fast_found c.in-Some.is ∙ rw c.if-fast.false refl) ∙ c.find.ensures.fast) in
     let its = held-seen m id (Some t) (sym (ap (option_map (λ (f : Own × Bool). f.0)) c.in-Some.is) ∙ c.find.ensures.found) in
-    let both = released-slow m.seat c.release.new.seat m.sessions id {room′ = c.strike.new.self.room} t is its (slow-else is id t none its) none c.release.ensures.released c.release.ensures.step c.strike.ensures.room in
+    let both = released-slow m.seat c.release.new.seat m.sessions id {room′ = c.strike.new.self.room} t is its (slow-else is id t none its) none c.release.ensures.released c.release.ensures.step c.release.ensures.once c.strike.ensures.room in
     rw (← c.self.view_is) (record { joined = both.0; shown = both.1 })

@@ -9,7 +9,7 @@ use Rattle.mdl_shared.proofs.Members.{done-nothing}
 use Rattle.mdl_shared.proofs.Props.{member}
 use Rattle.mdl_shared.proofs.SameSpace.{same-stays}
 use Rattle.mdl_shared.proofs.SearchCalls.{search-joins}
-use Rattle.mdl_shared.proofs.WaitSteps.{asked, quietly, still-member, waits-seen}
+use Rattle.mdl_shared.proofs.WaitSteps.{asked, quietly-searched, still-member, waits-seen}
 use Rattle.mdl_shared.proofs.session.Session.search_deadlock.Goals as goal
 use Rattle.mdl_shared.proofs.session.Session.search_deadlock.Goals.{in-Ok, in-Err}
 
@@ -26,7 +26,7 @@ invariant_of-self-inside g c =
     let m = c.self.inside.member in
     let waiting = waits-seen m true (c.is_none.ensures ∙ ap not c.if-is_none.false) in
     let did = c.search_deadlock.ensures.reads in
-    let done = quietly m.sessions did.0 did.1.now did.1.stays (asked (view_of m) waiting) in
+    let done = quietly-searched m.sessions did.0 did.1.now did.1.stays (asked (view_of m) waiting) in
     (∣ still-member done (member m) ∣₁, (m.lists ∙ sym (ap (λ (x : Mine). lists_seen x.0) did.1.now), (m.room, tt)))
 
 pub returns-clause-joined : goal.returns-clause-joined
@@ -34,7 +34,7 @@ returns-clause-joined g c =
     let m = c.self.inside.member in
     let waiting = waits-seen m true (c.is_none.ensures ∙ ap not c.if-is_none.false) in
     let did = c.search_deadlock.ensures.reads in
-    let stays = done-nothing (quietly m.sessions {room′ = m.tickets.room} did.0 did.1.now did.1.stays (asked (view_of m) waiting)) in
+    let stays = done-nothing (quietly-searched m.sessions {room′ = m.tickets.room} did.0 did.1.now did.1.stays (asked (view_of m) waiting)) in
     rw (← c.self.view_is) (elim c.match-search_deadlock.branch [
       | in-Ok w ↦ rw w.result-is (search-joins (member m) stays (Ok w.in-Ok.found) w.in-Ok.ensures.own tt)
       | in-Err w ↦ rw w.result-is (search-joins (member m) stays (Err OutOfMemory) tt refl)

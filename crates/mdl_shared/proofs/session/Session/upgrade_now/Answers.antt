@@ -44,7 +44,7 @@ returns-in_err-materialise g c =
     let its = held-seen m c.args.id (Some c.in_ok-held.held) (sym c.in_ok-held.ensures.found) in
     let clear = fault-seen m (Upgrade_now m.seat.me.0.number c.args.id c.args.mode) None (just-done _ _ c.in_ok-held.ensures.just) in
     let both = upgrade-refused (member m) c.args.id c.in_ok-held.held its c.args.mode clear (sym c.covers.ensures ∙ c.if-covers.false)
-    c.materialise.ensures.done c.in_err-materialise.ensures.refused c.materialise.ensures.room in
+    c.materialise.ensures.done c.in_err-materialise.ensures.refused c.in_err-materialise.ensures.stops c.materialise.ensures.room in
     rw refused (rw (← c.self.view_is) (record { joined = both.0; shown = both.1 }))
 
 pub upgrade_by_latch-requires-clause-held : goal.upgrade_by_latch-requires-clause-held
@@ -58,6 +58,6 @@ returns g c =
     let its = held-seen m c.args.id (Some c.in_ok-held.held) (sym c.in_ok-held.ensures.found) in
     let clear = fault-seen m (Upgrade_now m.seat.me.0.number c.args.id c.args.mode) None (just-done _ _ c.in_ok-held.ensures.just) in
     let slow = becomes-slow m c.materialise.new.self c.materialise.ensures.done c.in_ok-materialise.ensures.slow c.materialise.ensures.room in
-    let both = tried-slow (member m) c.args.id c.in_ok-held.held its c.args.mode clear (sym c.covers.ensures ∙ c.if-covers.false) slow c.upgrade_by_latch.ensures.room c.upgrade_by_latch.result
+    let both = tried-slow (member m) c.args.id c.in_ok-held.held its c.args.mode clear (sym c.covers.ensures ∙ c.if-covers.false) slow c.in_ok-materialise.ensures.turn c.upgrade_by_latch.ensures.once c.upgrade_by_latch.ensures.room c.upgrade_by_latch.result
     c.upgrade_by_latch.ensures.upgraded c.upgrade_by_latch.ensures.blocked in
     rw (← c.self.view_is) (record { joined = both.0; shown = both.1 })

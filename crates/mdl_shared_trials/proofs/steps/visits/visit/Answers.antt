@@ -1,5 +1,5 @@
 -- Whoever took a latch has it in hand until it is given back, and then holds none.
-use Rattle.std.proofs.Common.{◌≡◌, ℕ, Bool, true, false, not, ◌&&◌, ◌==◌, List, refl, sym, ap, ◌∙◌, subst, inr}
+use Rattle.std.proofs.Common.{◌≡◌, ℕ, Bool, true, false, not, ◌&&◌, ◌||◌, ◌==◌, List, [], refl, sym, ap, ◌∙◌, subst, inr}
 use Rattle.std.specs.List.{filter}
 use Rattle.mdl_steps.specs.declared.view.LatchRecord.{LatchRecord}
 use Rattle.mdl_steps.specs.Plays.{Mine, raised, noting, lowered}
@@ -38,7 +38,7 @@ read_word-lowered-requires-clause-held c =
     let up = c.raise_flags.ensures.keeps h h.book same in
     let noted = c.read_word-raised.ensures.keeps (raised true true h) h.book up in
     let down = c.lower_flags.ensures.keeps (noting c.read_word-raised.result.0 (raised true true h)) h.book noted in
-    (lowered h.book c.needs-needs.result.slow c.needs-needs.result.obtrusive (noting c.read_word-raised.result.0 (raised true true h)), down.recorded)
+    (lowered [] h.book c.needs-needs.result.slow c.needs-needs.result.obtrusive (noting c.read_word-raised.result.0 (raised true true h)), down.recorded)
 
 pub put_latch-requires-clause-put : goal.put_latch-requires-clause-put
 put_latch-requires-clause-put c =
@@ -52,11 +52,13 @@ put_latch-requires-clause-put c =
     let up = c.raise_flags.ensures.keeps h h.book same in
     let noted = c.read_word-raised.ensures.keeps (raised true true h) h.book up in
     let down = c.lower_flags.ensures.keeps (noting c.read_word-raised.result.0 (raised true true h)) h.book noted in
-    let low = lowered h.book needs.slow needs.obtrusive (noting c.read_word-raised.result.0 (raised true true h)) in
+    let low = lowered [] h.book needs.slow needs.obtrusive (noting c.read_word-raised.result.0 (raised true true h)) in
     let last = c.read_word-lowered.ensures.keeps low h.book down in (
       noting c.read_word-lowered.result.0 low,
       record { holds = last; act = inr refl; may = tt },
       (and_true needs.slow ∙ told.1, and_true needs.obtrusive ∙ told.0),
+      tt,
+      ap (λ (b : Bool). b || false) taken.1.1.unfreed,
     )
 
 pub read_word-lowered-requires-clause-place : goal.read_word-lowered-requires-clause-place

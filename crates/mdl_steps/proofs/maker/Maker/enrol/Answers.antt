@@ -5,9 +5,9 @@ use Rattle.atomic_table.specs.Seated.{TableId}
 use Rattle.atomic_table.specs.Table.{Allows, Splits, step}
 use Rattle.mdl_steps.specs.declared.step_kind.StepKind.TheVariants as step_kind
 use Rattle.mdl_steps.specs.Cells.{blank, numbers_for, no_numbers}
+use Rattle.mdl_steps.specs.Histories.{ReachedFor}
 use Rattle.mdl_steps.specs.Layout.{enrol_word}
 use Rattle.mdl_steps.specs.Plays.{Mine, enrols, logged}
-use Rattle.mdl_steps.specs.Rule.{Rule}
 use Rattle.mdl_steps.proofs.Enrol.{splits, draws}
 use Rattle.mdl_steps.proofs.maker.Maker.enrol.Goals as goal
 
@@ -15,6 +15,7 @@ pub fetch_add-number-requires : goal.fetch_add-number-requires
 fetch_add-number-requires c =
     let maker = c.args.self.now in
     let table = c.deref-2.result.now.shared.table_id in
+    let most = c.deref-2.result.now.shared.key in
     let few = maker.few in
     let roomy = maker.roomy in
     let some_left : maker.given < maker.most = omega arith in
@@ -24,26 +25,26 @@ fetch_add-number-requires c =
     let word_here : word ≡ enrol_word maker.seat.table_id.slots = c.enrol_word-word.ensures ∙ ap enrol_word many in
     let word_is : word ≡ enrol_word table.slots = word_here ∙ ap (λ (t : TableId). enrol_word t.slots) mine in
     let inside : word < maker.seat.table_id.words = omega arith in
-    let at : ℕ → ℕ → Mine → Type 0 = λ id w m. Allows Rule table.slots id m w (λ n. (n + 1) % 2 ^ 64) (enrols (step table.slots w 1 0 none) m) in (
+    let at : ℕ → ℕ → Mine → Type 0 = λ id w m. Allows (ReachedFor most) table.slots id m w (λ n. (n + 1) % 2 ^ 64) (enrols (step table.slots w 1 0 none) m) in (
       mine,
       subst (λ (t : TableId). word < t.words) mine inside,
       subst (at maker.seat.id word) (sym maker.idle)
           (subst (λ (id : ℕ). at id word (blank 0 (numbers_for maker.most maker.given maker.given), [])) (sym maker.first)
-          (subst (λ (w : ℕ). at 0 w (blank 0 (numbers_for maker.most maker.given maker.given), [])) (sym word_is) (draws table.slots maker.most maker.given some_left))),
+          (subst (λ (w : ℕ). at 0 w (blank 0 (numbers_for maker.most maker.given maker.given), [])) (sym word_is) (draws table.slots maker.most maker.given some_left most))),
     )
 
 -- the seat, with a number drawn, may be split so
-abbrev MaySplit : ℕ → Mine → Type 0
-MaySplit id m =
-    Splits Rule id m.0 (record m.0 { spare = record m.0.spare { given = m.0.spare.drawn }; log = [] }) (record (blank m.0.spare.drawn no_numbers) { log = m.0.log })
+abbrev MaySplit : ℕ → ℕ → Mine → Type 0
+MaySplit room id m =
+    Splits (ReachedFor room) id m.0 (record m.0 { spare = record m.0.spare { given = m.0.spare.drawn }; log = [] }) (record (blank m.0.spare.drawn no_numbers) { log = m.0.log })
 
 abbrev having_drawn : ℕ → ℕ → ℕ → ℕ → Mine
 having_drawn most given word number = (logged step_kind.Enrol [] word number [] (blank 0 (numbers_for most number given)), [])
 
-may_split : (most given word number id : ℕ) (m : Mine) → id ≡ 0 → number ≡ given + 1 → m ≡ having_drawn most given word number → MaySplit id m
-may_split most given word number id m first next drawn =
-    subst (MaySplit id) (sym drawn) (subst (λ (n : ℕ). MaySplit id (having_drawn most given word n)) (sym next)
-    (subst (λ (i : ℕ). MaySplit i (having_drawn most given word (given + 1))) (sym first) (splits most given (having_drawn most given word (given + 1)).0.log)))
+may_split : (room most given word number id : ℕ) (m : Mine) → id ≡ 0 → number ≡ given + 1 → m ≡ having_drawn most given word number → MaySplit room id m
+may_split room most given word number id m first next drawn =
+    subst (MaySplit room id) (sym drawn) (subst (λ (n : ℕ). MaySplit room id (having_drawn most given word n)) (sym next)
+    (subst (λ (i : ℕ). MaySplit room i (having_drawn most given word (given + 1))) (sym first) (splits most given (having_drawn most given word (given + 1)).0.log room)))
 
 pub split_seat-seat-requires : goal.split_seat-seat-requires
 split_seat-seat-requires c =
@@ -57,5 +58,5 @@ split_seat-seat-requires c =
     let told = subst (λ (m : Mine). enrols (step c.deref-2.result.now.shared.table_id.slots c.enrol_word-word.result 1 0 none) m number seat.me) maker.idle made.2 in (
       made.0 ∙ mine,
       subst (λ (t : TableId). 0 < t.words) mine some,
-      may_split maker.most maker.given c.enrol_word-word.result number seat.id seat.me (made.1 ∙ maker.first) told.0 told.1,
+      may_split c.deref-3.result.now.shared.key maker.most maker.given c.enrol_word-word.result number seat.id seat.me (made.1 ∙ maker.first) told.0 told.1,
     )

@@ -2,8 +2,8 @@
 use Rattle.std.proofs.Common.{◌≡◌, ℕ, ◌+◌, ◌*◌, ◌<◌, Some, sym, ap, ◌∙◌, subst, arith}
 use mathlib.Core.Option.{none}
 use Rattle.atomic_table.specs.Table.{Allows, step}
+use Rattle.mdl_steps.specs.Histories.{ReachedFor}
 use Rattle.mdl_steps.specs.Plays.{Mine}
-use Rattle.mdl_steps.specs.Rule.{Rule}
 use Rattle.mdl_steps.specs.WaitPlays.{ends_granted}
 use Rattle.mdl_steps.specs.WaitStates.{granted_state}
 use Rattle.mdl_steps.proofs.Seating.{sits}
@@ -13,6 +13,7 @@ use Rattle.mdl_steps.proofs.table_seat.TableSeat.end_granted.Goals as goal
 pub store-requires : goal.store-requires
 store-requires c =
     let seat = c.self.inside.seat in
+    let most = c.deref.result.now.shared.key in
     let table = c.deref.result.now.shared.table_id in
     let slots = table.slots in
     let at = sits c.self.view_is c.self.invariant (ap (λ t. t.shared.table_id) c.deref.ensures) in
@@ -23,6 +24,6 @@ store-requires c =
     let word : c.wait_word.result ≡ 8 * slots + 8 + 8 * seat.me.0.number = (let numbered = c.self.invariant.numbered in let made = c.wait_word.ensures in omega arith) in (
       at.same,
       subst (λ (w : ℕ). w < table.words) (sym word) at.own.1,
-      subst (λ (i : ℕ). Allows Rule slots seat.id seat.me i (λ _. c.word_in-word.result) (λ _. ends_granted (step slots i c.word_in-word.result 0 none) seat.me c.word_in-word.result)) (sym word)
-          (ends_granted_allowed slots seat.id seat.me at.positive told c.word_in-word.result is),
+      subst (λ (i : ℕ). Allows (ReachedFor most) slots seat.id seat.me i (λ _. c.word_in-word.result) (λ _. ends_granted (step slots i c.word_in-word.result 0 none) seat.me c.word_in-word.result)) (sym word)
+          (ends_granted_allowed slots seat.id seat.me at.positive told c.word_in-word.result is most),
     )

@@ -4,8 +4,8 @@ use mathlib.Core.Option.{none}
 use Rattle.atomic_table.specs.Table.{Allows, step}
 use Rattle.mdl_steps.specs.declared.view.Ask.{Ask}
 use Rattle.mdl_steps.specs.declared.view.LatchRecord.{LatchRecord}
+use Rattle.mdl_steps.specs.Histories.{ReachedFor}
 use Rattle.mdl_steps.specs.Plays.{Mine}
-use Rattle.mdl_steps.specs.Rule.{Rule}
 use Rattle.mdl_steps.specs.Seats.{Holds, elsewhere}
 use Rattle.mdl_steps.specs.WaitPlays.{ends_lost, ended_lost, with_cancelled}
 use Rattle.mdl_steps.specs.WaitSeats.{MayCancel}
@@ -17,6 +17,7 @@ use Rattle.mdl_steps.proofs.table_seat.TableSeat.end_lost.Goals as goal
 pub store-requires : goal.store-requires
 store-requires c =
     let seat = c.self.inside.seat in
+    let most = c.deref.result.now.shared.key in
     let table = c.deref.result.now.shared.table_id in
     let slots = table.slots in
     let at = sits c.self.view_is c.self.invariant (ap (λ t. t.shared.table_id) c.deref.ensures) in
@@ -27,8 +28,8 @@ store-requires c =
     let word : c.wait_word.result ≡ 8 * slots + 8 + 8 * seat.me.0.number = (let numbered = c.self.invariant.numbered in let made = c.wait_word.ensures in omega arith) in (
       at.same,
       subst (λ (w : ℕ). w < table.words) (sym word) at.own.1,
-      subst (λ (i : ℕ). Allows Rule slots seat.id seat.me i (λ _. c.word_in-word.result) (λ _. ends_lost (step slots i c.word_in-word.result 0 none) seat.me c.word_in-word.result)) (sym word)
-          (ends_lost_allowed slots seat.id seat.me at.positive c.args.latch.now.place may.0 may.1 c.word_in-word.result is),
+      subst (λ (i : ℕ). Allows (ReachedFor most) slots seat.id seat.me i (λ _. c.word_in-word.result) (λ _. ends_lost (step slots i c.word_in-word.result 0 none) seat.me c.word_in-word.result)) (sym word)
+          (ends_lost_allowed slots seat.id seat.me at.positive c.args.latch.now.place may.0 may.1 c.word_in-word.result is most),
     )
 
 pub returns-clause-keeps : goal.returns-clause-keeps

@@ -7,8 +7,8 @@ use Rattle.atomic_table.specs.Seated.{TableId}
 use Rattle.atomic_table.specs.Table.{Allows, step}
 use Rattle.mdl_key.specs.declared.mode.Mode.{Mode}
 use Rattle.mdl_steps.specs.FastPlays.{grants_fast, MayGrantFast}
+use Rattle.mdl_steps.specs.Histories.{ReachedFor}
 use Rattle.mdl_steps.specs.Plays.{Mine}
-use Rattle.mdl_steps.specs.Rule.{Rule}
 use Rattle.mdl_steps.specs.Seats.{IsPlace}
 use Rattle.mdl_steps.proofs.FastSteps.{grants_fast_allowed}
 use Rattle.mdl_steps.proofs.Seating.{sits}
@@ -17,6 +17,7 @@ use Rattle.mdl_steps.proofs.table_seat.TableSeat.grant_fast_as.Goals as goal
 pub compare_exchange-requires : goal.compare_exchange-requires
 compare_exchange-requires g c =
     let seat = c.self.inside.seat in
+    let most = c.deref.result.now.shared.key in
     let table = c.deref.result.now.shared.table_id in
     let slots = table.slots in
     let place = c.args.place in
@@ -31,8 +32,8 @@ compare_exchange-requires g c =
     let inside : c.lock_word.result < table.words = omega arith in (
       at.same,
       inside,
-      subst (λ (i : ℕ). Allows Rule slots seat.id seat.me i (λ n. either (n == word) more n) (grants_fast g.J.GrantingFast.mode g.J.GrantingFast.noted (step slots i word more none) seat.me)) (sym index)
-          (subst (λ (m : Mode). Allows Rule slots seat.id seat.me (8 * place + 1) (λ n. either (n == word) more n) (grants_fast m g.J.GrantingFast.noted (step slots (8 * place + 1) word more none) seat.me)) picked.0
-          (subst (λ (o : Option ℕ). Allows Rule slots seat.id seat.me (8 * place + 1) (λ n. either (n == word) more n) (grants_fast c.args._mode o (step slots (8 * place + 1) word more none) seat.me)) picked.1
-          (grants_fast_allowed slots seat.id place seat.me here.0 here.1 c.args._mode c.args._noted c.args.one gained word more c.requires.down (λ small one_small. omega arith)))),
+      subst (λ (i : ℕ). Allows (ReachedFor most) slots seat.id seat.me i (λ n. either (n == word) more n) (grants_fast g.J.GrantingFast.mode g.J.GrantingFast.noted (step slots i word more none) seat.me)) (sym index)
+          (subst (λ (m : Mode). Allows (ReachedFor most) slots seat.id seat.me (8 * place + 1) (λ n. either (n == word) more n) (grants_fast m g.J.GrantingFast.noted (step slots (8 * place + 1) word more none) seat.me)) picked.0
+          (subst (λ (o : Option ℕ). Allows (ReachedFor most) slots seat.id seat.me (8 * place + 1) (λ n. either (n == word) more n) (grants_fast c.args._mode o (step slots (8 * place + 1) word more none) seat.me)) picked.1
+          (grants_fast_allowed slots seat.id place seat.me here.0 here.1 at.positive c.args._mode c.args._noted c.args.one gained word more c.requires.down (λ small one_small. omega arith) most))),
     )

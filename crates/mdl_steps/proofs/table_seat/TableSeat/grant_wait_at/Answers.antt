@@ -5,9 +5,9 @@ use prog.Atomic.{either}
 use Rattle.atomic_table.specs.Seated.{TableId}
 use Rattle.atomic_table.specs.Table.{Allows, step}
 use Rattle.mdl_steps.specs.declared.view.LatchRecord.{LatchRecord}
+use Rattle.mdl_steps.specs.Histories.{ReachedFor}
 use Rattle.mdl_steps.specs.Layout.{wait_word}
 use Rattle.mdl_steps.specs.Plays.{Mine}
-use Rattle.mdl_steps.specs.Rule.{Rule}
 use Rattle.mdl_steps.specs.Seats.{Holds, IsPlace, elsewhere}
 use Rattle.mdl_steps.specs.WaitPlays.{TellsOwn, settles_granted, settled_granted, missed_wait, with_admitted, wait_in}
 use Rattle.mdl_steps.specs.WaitSeats.{IsSession, MayGrant}
@@ -19,6 +19,7 @@ use Rattle.mdl_steps.proofs.table_seat.TableSeat.grant_wait_at.Goals as goal
 pub compare_exchange-requires : goal.compare_exchange-requires
 compare_exchange-requires g c =
     let seat = c.self.inside.seat in
+    let most = c.deref.result.now.shared.key in
     let table = c.deref.result.now.shared.table_id in
     let slots = table.slots in
     let at = sits c.self.view_is c.self.invariant (ap (λ t. t.shared.table_id) c.deref.ensures) in
@@ -32,17 +33,17 @@ compare_exchange-requires g c =
     let word : c.wait_word.result ≡ 8 * slots + 8 + 8 * c.args.session = c.wait_word.ensures ∙ ap (λ (n : ℕ). wait_word n c.args.session) count in (
       at.same,
       subst (λ (w : ℕ). w < table.words) (sym word) here.1,
-      subst (λ (i : ℕ). Allows Rule slots seat.id seat.me i (λ n. either (n == c.word_in-open.result) c.word_in-granted.result n)
+      subst (λ (i : ℕ). Allows (ReachedFor most) slots seat.id seat.me i (λ n. either (n == c.word_in-open.result) c.word_in-granted.result n)
           (settles_granted g.J.Granting.place g.J.Granting.ticket (step slots i c.word_in-open.result c.word_in-granted.result none) seat.me)) (sym word)
-          (subst (λ (e : ℕ). Allows Rule slots seat.id seat.me (8 * slots + 8 + 8 * c.args.session) (λ n. either (n == e) c.word_in-granted.result n)
+          (subst (λ (e : ℕ). Allows (ReachedFor most) slots seat.id seat.me (8 * slots + 8 + 8 * c.args.session) (λ n. either (n == e) c.word_in-granted.result n)
           (settles_granted g.J.Granting.place g.J.Granting.ticket (step slots (8 * slots + 8 + 8 * c.args.session) e c.word_in-granted.result none) seat.me)) (sym open_is)
-          (subst (λ (l : ℕ). Allows Rule slots seat.id seat.me (8 * slots + 8 + 8 * c.args.session) (λ n. either (n == 8 * c.args.wait + 1) l n)
+          (subst (λ (l : ℕ). Allows (ReachedFor most) slots seat.id seat.me (8 * slots + 8 + 8 * c.args.session) (λ n. either (n == 8 * c.args.wait + 1) l n)
           (settles_granted g.J.Granting.place g.J.Granting.ticket (step slots (8 * slots + 8 + 8 * c.args.session) (8 * c.args.wait + 1) l none) seat.me)) (sym granted_is)
-          (subst (λ (p : ℕ). Allows Rule slots seat.id seat.me (8 * slots + 8 + 8 * c.args.session) (λ n. either (n == 8 * c.args.wait + 1) (8 * c.args.wait + 2) n)
+          (subst (λ (p : ℕ). Allows (ReachedFor most) slots seat.id seat.me (8 * slots + 8 + 8 * c.args.session) (λ n. either (n == 8 * c.args.wait + 1) (8 * c.args.wait + 2) n)
           (settles_granted p g.J.Granting.ticket (step slots (8 * slots + 8 + 8 * c.args.session) (8 * c.args.wait + 1) (8 * c.args.wait + 2) none) seat.me)) picked.0
-          (subst (λ (t : ℕ). Allows Rule slots seat.id seat.me (8 * slots + 8 + 8 * c.args.session) (λ n. either (n == 8 * c.args.wait + 1) (8 * c.args.wait + 2) n)
+          (subst (λ (t : ℕ). Allows (ReachedFor most) slots seat.id seat.me (8 * slots + 8 + 8 * c.args.session) (λ n. either (n == 8 * c.args.wait + 1) (8 * c.args.wait + 2) n)
           (settles_granted c.args.latch.now.place t (step slots (8 * slots + 8 + 8 * c.args.session) (8 * c.args.wait + 1) (8 * c.args.wait + 2) none) seat.me)) picked.1
-          (settles_granted_allowed slots seat.id c.args.session c.args.latch.now.place c.args.ticket c.args.wait seat.me at.positive here.0 place.0 place.1 may.0 may.1))))),
+          (settles_granted_allowed slots seat.id c.args.session c.args.latch.now.place c.args.ticket c.args.wait seat.me at.positive here.0 place.0 place.1 may.0 may.1 most))))),
     )
 
 pub returns-clause-own : goal.returns-clause-own

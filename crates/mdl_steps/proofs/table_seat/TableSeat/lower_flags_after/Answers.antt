@@ -5,8 +5,8 @@ use Rattle.atomic_table.specs.Seated.{TableId}
 use Rattle.atomic_table.specs.Table.{Allows, step}
 use Rattle.mdl_steps.specs.declared.deed.Deed.{Deed}
 use Rattle.mdl_steps.specs.Deeds.{all_booked}
-use Rattle.mdl_steps.specs.Plays.{Mine, lowers_flags, lowered}
-use Rattle.mdl_steps.specs.Rule.{Rule}
+use Rattle.mdl_steps.specs.Histories.{ReachedFor}
+use Rattle.mdl_steps.specs.Plays.{Mine, flags_lowered, lowers_flags, lowered}
 use Rattle.mdl_steps.specs.Seats.{Holds, elsewhere, IsPlace, MayLower}
 use Rattle.mdl_steps.specs.SeatStates.{SeatState}
 use Rattle.mdl_steps.proofs.Put.{lowers_allowed}
@@ -17,6 +17,7 @@ use Rattle.mdl_steps.proofs.table_seat.TableSeat.lower_flags_after.Goals as goal
 pub fetch_and-requires : goal.fetch_and-requires
 fetch_and-requires g c =
     let seat = c.self.inside.seat in
+    let most = c.deref.result.now.shared.key in
     let slots = c.deref.result.now.shared.table_id.slots in
     let word_at = c.lock_word.ensures in
     let at = sits c.self.view_is c.self.invariant (ap (λ t. t.shared.table_id) c.deref.ensures) in
@@ -27,9 +28,9 @@ fetch_and-requires g c =
     let low = at.mine (MayLower c.args.latch.now.place c.args._deeds.now c.args.slow c.args.obtrusive) c.requires.lowered in (
       at.same,
       inside,
-      subst (λ (i : ℕ). Allows Rule slots seat.id seat.me i (λ n. bit_and n c.keeping.result) (lowers_flags g.J.Doing.deeds (step slots i c.keeping.result 0 none) seat.me)) (sym word_at)
-          (subst (λ (ds : List Deed). Allows Rule slots seat.id seat.me (8 * c.args.latch.now.place + 1) (λ n. bit_and n c.keeping.result) (lowers_flags ds (step slots (8 * c.args.latch.now.place + 1) c.keeping.result 0 none) seat.me)) c.requires.picked
-          (lowers_allowed slots seat.id c.args.latch.now.place seat.me some here.0 here.1 low.0 low.1.holds.recorded c.args._deeds.now low.1.act low.1.may low.1.holds.carried c.args.slow c.args.obtrusive c.keeping.result c.keeping.ensures low.2)),
+      subst (λ (i : ℕ). Allows (ReachedFor most) slots seat.id seat.me i (λ n. bit_and n c.keeping.result) (lowers_flags g.J.Doing.deeds (step slots i c.keeping.result 0 none) seat.me)) (sym word_at)
+          (subst (λ (ds : List Deed). Allows (ReachedFor most) slots seat.id seat.me (8 * c.args.latch.now.place + 1) (λ n. bit_and n c.keeping.result) (lowers_flags ds (step slots (8 * c.args.latch.now.place + 1) c.keeping.result 0 none) seat.me)) c.requires.picked
+          (lowers_allowed slots seat.id c.args.latch.now.place seat.me some here.0 here.1 low.0 low.1.holds.recorded c.args._deeds.now low.1.act low.1.may low.1.holds.carried c.args.slow c.args.obtrusive c.keeping.result c.keeping.ensures low.2 most)),
     )
 
 pub returns-clause-keeps : goal.returns-clause-keeps
@@ -40,7 +41,9 @@ returns-clause-keeps g c =
     let obtrusive = c.args.obtrusive in
     rw (← c.self.view_is) (λ h book has.
     let made = c.fetch_and.ensures.2.1 place slow obtrusive book c.lock_word.ensures c.keeping.ensures has.carried in
-    subst (λ (m : Mine). Holds place (lowered book slow obtrusive h) book m) (sym made) (holds_settled place g.J.Doing.deeds c.fetch_and.result slow obtrusive h book seat.me has))
+    subst (λ (m : Mine). Holds place (lowered c.args._deeds.now book slow obtrusive h) book m) (sym made)
+    (subst (λ (ds : List Deed). Holds place (lowered ds book slow obtrusive h) book (flags_lowered place g.J.Doing.deeds c.fetch_and.result book slow obtrusive seat.me)) (sym c.requires.picked)
+    (holds_settled place g.J.Doing.deeds c.fetch_and.result slow obtrusive h book seat.me has)))
 
 pub returns-clause-apart : goal.returns-clause-apart
 returns-clause-apart g c =

@@ -6,8 +6,8 @@ use Rattle.atomic_table.specs.Seated.{TableId}
 use Rattle.atomic_table.specs.Table.{Allows, step}
 use Rattle.mdl_steps.specs.declared.view.LatchRecord.{LatchRecord}
 use Rattle.mdl_steps.specs.FastPlays.{materialised, materialises, moved, with_granted, MayMaterialise}
+use Rattle.mdl_steps.specs.Histories.{ReachedFor}
 use Rattle.mdl_steps.specs.Plays.{Mine}
-use Rattle.mdl_steps.specs.Rule.{Rule}
 use Rattle.mdl_steps.specs.Seats.{Holds, IsPlace, elsewhere}
 use Rattle.mdl_steps.proofs.Materialising.{materialises_allowed}
 use Rattle.mdl_steps.proofs.Seating.{sits}
@@ -17,6 +17,7 @@ use Rattle.mdl_steps.proofs.table_seat.TableSeat.materialise.Goals as goal
 pub fetch_sub-requires : goal.fetch_sub-requires
 fetch_sub-requires c =
     let seat = c.self.inside.seat in
+    let most = c.deref.result.now.shared.key in
     let table = c.deref.result.now.shared.table_id in
     let slots = table.slots in
     let place = c.args.latch.now.place in
@@ -29,8 +30,8 @@ fetch_sub-requires c =
     let inside : c.lock_word.result < table.words = omega arith in (
       at.same,
       inside,
-      subst (λ (i : ℕ). Allows Rule slots seat.id seat.me i (λ n. (n + (2 ^ 64 - weight)) % 2 ^ 64) (materialises (step slots i weight 0 none) seat.me)) (sym index)
-          (materialises_allowed slots seat.id place seat.me at.positive here.0 here.1 weight made_slow.0 made_slow.1),
+      subst (λ (i : ℕ). Allows (ReachedFor most) slots seat.id seat.me i (λ n. (n + (2 ^ 64 - weight)) % 2 ^ 64) (materialises (step slots i weight 0 none) seat.me)) (sym index)
+          (materialises_allowed slots seat.id place seat.me at.positive here.0 here.1 weight made_slow.0 made_slow.1 most),
     )
 
 pub returns-clause-made : goal.returns-clause-made

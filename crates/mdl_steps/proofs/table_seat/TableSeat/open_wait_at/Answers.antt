@@ -5,8 +5,8 @@ use Rattle.atomic_table.specs.Seated.{TableId}
 use Rattle.atomic_table.specs.Table.{Allows, step}
 use Rattle.mdl_key.specs.declared.mode.Mode.{Mode}
 use Rattle.mdl_steps.specs.declared.view.LatchRecord.{LatchRecord}
+use Rattle.mdl_steps.specs.Histories.{ReachedFor}
 use Rattle.mdl_steps.specs.Plays.{Mine}
-use Rattle.mdl_steps.specs.Rule.{Rule}
 use Rattle.mdl_steps.specs.Seats.{Holds, IsPlace, elsewhere}
 use Rattle.mdl_steps.specs.WaitPlays.{opens_wait, opened, asked_ticket, with_waiting}
 use Rattle.mdl_steps.specs.WaitSeats.{MayOpen}
@@ -18,6 +18,7 @@ use Rattle.mdl_steps.proofs.table_seat.TableSeat.open_wait_at.Goals as goal
 pub store-requires : goal.store-requires
 store-requires g c =
     let seat = c.self.inside.seat in
+    let most = c.deref.result.now.shared.key in
     let table = c.deref.result.now.shared.table_id in
     let slots = table.slots in
     let at = sits c.self.view_is c.self.invariant (ap (λ t. t.shared.table_id) c.deref.ensures) in
@@ -30,12 +31,12 @@ store-requires g c =
     let word : c.wait_word.result ≡ 8 * slots + 8 + 8 * seat.me.0.number = (let numbered = c.self.invariant.numbered in let made = c.wait_word.ensures in omega arith) in (
       at.same,
       subst (λ (w : ℕ). w < table.words) (sym word) at.own.1,
-      subst (λ (i : ℕ). Allows Rule slots seat.id seat.me i (λ _. c.word_in-word.result) (λ _. opens_wait g.J.Wishing.place g.J.Wishing.mode (step slots i c.word_in-word.result 0 none) seat.me c.word_in-word.result)) (sym word)
-          (subst (λ (p : ℕ). Allows Rule slots seat.id seat.me (8 * slots + 8 + 8 * seat.me.0.number) (λ _. c.word_in-word.result)
+      subst (λ (i : ℕ). Allows (ReachedFor most) slots seat.id seat.me i (λ _. c.word_in-word.result) (λ _. opens_wait g.J.Wishing.place g.J.Wishing.mode (step slots i c.word_in-word.result 0 none) seat.me c.word_in-word.result)) (sym word)
+          (subst (λ (p : ℕ). Allows (ReachedFor most) slots seat.id seat.me (8 * slots + 8 + 8 * seat.me.0.number) (λ _. c.word_in-word.result)
           (λ _. opens_wait p g.J.Wishing.mode (step slots (8 * slots + 8 + 8 * seat.me.0.number) c.word_in-word.result 0 none) seat.me c.word_in-word.result)) picked.0
-          (subst (λ (m : Mode). Allows Rule slots seat.id seat.me (8 * slots + 8 + 8 * seat.me.0.number) (λ _. c.word_in-word.result)
+          (subst (λ (m : Mode). Allows (ReachedFor most) slots seat.id seat.me (8 * slots + 8 + 8 * seat.me.0.number) (λ _. c.word_in-word.result)
           (λ _. opens_wait c.args.latch.now.place m (step slots (8 * slots + 8 + 8 * seat.me.0.number) c.word_in-word.result 0 none) seat.me c.word_in-word.result)) picked.1
-          (opens_allowed slots seat.id seat.me at.positive c.args.latch.now.place c.args.mode place.0 place.1 may.0 may.1 c.word_in-word.result is))),
+          (opens_allowed slots seat.id seat.me at.positive c.args.latch.now.place c.args.mode place.0 place.1 may.0 may.1 c.word_in-word.result is most))),
     )
 
 pub returns-clause-keeps : goal.returns-clause-keeps

@@ -3,8 +3,8 @@ use Rattle.std.proofs.Common.{◌<◌, List, subst, arith, ap, ◌≡◌}
 use mathlib.Core.Option.{none}
 use Rattle.atomic_table.specs.Table.{Allows, step}
 use Rattle.mdl_steps.specs.declared.view.Known.{Known}
+use Rattle.mdl_steps.specs.Histories.{ReachedFor}
 use Rattle.mdl_steps.specs.Plays.{puts_directory, Mine}
-use Rattle.mdl_steps.specs.Rule.{Rule}
 use Rattle.mdl_steps.specs.Schemas.{unknown, StandThere}
 use Rattle.mdl_steps.specs.Seats.{HasDirectory}
 use Rattle.mdl_steps.specs.declared.view.Keys.{Keys}
@@ -16,6 +16,7 @@ use Rattle.mdl_steps.proofs.table_seat.TableSeat.put_directory_after.Goals as go
 pub store-requires : goal.store-requires
 store-requires g c =
     let seat = c.self.inside.seat in
+    let most = c.deref.result.now.shared.key in
     let slots = c.deref.result.now.shared.table_id.slots in
     let at = sits c.self.view_is c.self.invariant (ap (λ t. t.shared.table_id) c.deref.ensures) in
     let sized = at.sized in
@@ -27,6 +28,6 @@ store-requires g c =
     let known = c.args._known.now in (
       at.same,
       inside,
-      subst (λ (more : List Known). Allows Rule slots seat.id seat.me 0 (λ _. 0) (λ _. puts_directory more (step slots 0 0 0 none) seat.me 0)) picked
-          (puts_directory_allowed slots seat.id seat.me some put.0 (unknown seat.me.0.known known) put.1 (new_stand put.0 seat.me.0.known known put.2)),
+      subst (λ (more : List Known). Allows (ReachedFor most) slots seat.id seat.me 0 (λ _. 0) (λ _. puts_directory more (step slots 0 0 0 none) seat.me 0)) picked
+          (puts_directory_allowed slots seat.id seat.me some put.0 (unknown seat.me.0.known known) put.1 (new_stand put.0 seat.me.0.known known put.2) most),
     )

@@ -3,8 +3,8 @@ use Rattle.std.proofs.Common.{◌<◌, List, subst, arith, ap, ◌≡◌}
 use mathlib.Core.Option.{none}
 use Rattle.atomic_table.specs.Table.{Allows, step}
 use Rattle.mdl_steps.specs.declared.view.Known.{Known}
+use Rattle.mdl_steps.specs.Histories.{ReachedFor}
 use Rattle.mdl_steps.specs.Plays.{puts_directory, Mine}
-use Rattle.mdl_steps.specs.Rule.{Rule}
 use Rattle.mdl_steps.specs.Seats.{learnt, MayInform}
 use Rattle.mdl_steps.proofs.Desks.{learnt_known, puts_directory_allowed}
 use Rattle.mdl_steps.proofs.Seating.{sits}
@@ -13,6 +13,7 @@ use Rattle.mdl_steps.proofs.table_seat.TableSeat.put_directory_knowing.Goals as 
 pub store-requires : goal.store-requires
 store-requires g c =
     let seat = c.self.inside.seat in
+    let most = c.deref.result.now.shared.key in
     let slots = c.deref.result.now.shared.table_id.slots in
     let at = sits c.self.view_is c.self.invariant (ap (λ t. t.shared.table_id) c.deref.ensures) in
     let sized = at.sized in
@@ -23,6 +24,6 @@ store-requires g c =
     let picked = at.mine (λ (m : Mine). learnt m c.args._place ≡ g.J.Learning.learnt) c.requires.picked in (
       at.same,
       inside,
-      subst (λ (more : List Known). Allows Rule slots seat.id seat.me 0 (λ _. 0) (λ _. puts_directory more (step slots 0 0 0 none) seat.me 0)) picked
-          (puts_directory_allowed slots seat.id seat.me some put.0 (learnt seat.me c.args._place) put.1 (learnt_known put.0 seat.me c.args._place put.1.recorded)),
+      subst (λ (more : List Known). Allows (ReachedFor most) slots seat.id seat.me 0 (λ _. 0) (λ _. puts_directory more (step slots 0 0 0 none) seat.me 0)) picked
+          (puts_directory_allowed slots seat.id seat.me some put.0 (learnt seat.me c.args._place) put.1 (learnt_known put.0 seat.me c.args._place put.1.recorded) most),
     )

@@ -4,8 +4,8 @@ use mathlib.Core.Option.{none}
 use Rattle.atomic_table.specs.Seated.{TableId}
 use Rattle.atomic_table.specs.Table.{Allows, step}
 use Rattle.mdl_steps.specs.declared.deed.Deed.{Deed}
+use Rattle.mdl_steps.specs.Histories.{ReachedFor}
 use Rattle.mdl_steps.specs.Plays.{puts_latch}
-use Rattle.mdl_steps.specs.Rule.{Rule}
 use Rattle.mdl_steps.specs.Seats.{IsPlace, MayPut}
 use Rattle.mdl_steps.proofs.Put.{puts_allowed}
 use Rattle.mdl_steps.proofs.Seating.{sits}
@@ -14,6 +14,7 @@ use Rattle.mdl_steps.proofs.table_seat.TableSeat.put_latch_after.Goals as goal
 pub store-requires : goal.store-requires
 store-requires g c =
     let seat = c.self.inside.seat in
+    let most = c.deref.result.now.shared.key in
     let slots = c.deref.result.now.shared.table_id.slots in
     let word_at = c.latch_word.ensures in
     let at = sits c.self.view_is c.self.invariant (ap (λ t. t.shared.table_id) c.deref.ensures) in
@@ -24,7 +25,7 @@ store-requires g c =
     let put = at.mine (MayPut c.args.place c.args._deeds.now) c.requires.put in (
       at.same,
       inside,
-      subst (λ (i : ℕ). Allows Rule slots seat.id seat.me i (λ _. 0) (λ _. puts_latch g.J.Doing.deeds (step slots i 0 0 none) seat.me 0)) (sym word_at)
-          (subst (λ (ds : List Deed). Allows Rule slots seat.id seat.me (8 * c.args.place) (λ _. 0) (λ _. puts_latch ds (step slots (8 * c.args.place) 0 0 none) seat.me 0)) c.requires.picked
-          (puts_allowed slots seat.id c.args.place seat.me some here.0 here.1 put.0 put.1.holds.recorded c.args._deeds.now put.1.act put.1.may put.1.holds.carried put.2)),
+      subst (λ (i : ℕ). Allows (ReachedFor most) slots seat.id seat.me i (λ _. 0) (λ _. puts_latch g.J.Doing.deeds (step slots i 0 0 none) seat.me 0)) (sym word_at)
+          (subst (λ (ds : List Deed). Allows (ReachedFor most) slots seat.id seat.me (8 * c.args.place) (λ _. 0) (λ _. puts_latch ds (step slots (8 * c.args.place) 0 0 none) seat.me 0)) c.requires.picked
+          (puts_allowed slots seat.id c.args.place seat.me some here.0 here.1 put.0 put.1.holds.recorded c.args._deeds.now put.1.act put.1.may put.1.holds.carried put.2 put.3 put.4 most)),
     )

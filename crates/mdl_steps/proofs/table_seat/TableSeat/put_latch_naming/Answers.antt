@@ -3,8 +3,8 @@ use Rattle.std.proofs.Common.{ℕ, ◌<◌, sym, subst, arith, ap}
 use mathlib.Core.Option.{none}
 use Rattle.atomic_table.specs.Seated.{TableId}
 use Rattle.atomic_table.specs.Table.{Allows, step}
+use Rattle.mdl_steps.specs.Histories.{ReachedFor}
 use Rattle.mdl_steps.specs.Plays.{puts_key, Mine}
-use Rattle.mdl_steps.specs.Rule.{Rule}
 use Rattle.mdl_steps.specs.Seats.{IsPlace, MayName}
 use Rattle.mdl_steps.specs.declared.view.LatchRecord.{LatchRecord}
 use Rattle.mdl_steps.specs.declared.view.Keys.{Keys}
@@ -16,6 +16,7 @@ use Rattle.mdl_steps.proofs.table_seat.TableSeat.put_latch_naming.Goals as goal
 pub store-requires : goal.store-requires
 store-requires c =
     let seat = c.self.inside.seat in
+    let most = c.deref.result.now.shared.key in
     let slots = c.deref.result.now.shared.table_id.slots in
     let place = c.args.latch.place in
     let word_at = c.latch_word.ensures in
@@ -27,6 +28,6 @@ store-requires c =
     let put = at.mine (λ (m : Mine). (key : KeyName) × (k : Keys) × (h : LatchRecord) × MayName place key k h m) c.requires.put in (
       at.same,
       inside,
-      subst (λ (i : ℕ). Allows Rule slots seat.id seat.me i (λ _. 0) (λ _. puts_key (step slots i 0 0 none) seat.me 0)) (sym word_at)
-          (puts_key_allowed slots seat.id place seat.me some here.0 here.1 put.0 put.1 put.2 put.3),
+      subst (λ (i : ℕ). Allows (ReachedFor most) slots seat.id seat.me i (λ _. 0) (λ _. puts_key (step slots i 0 0 none) seat.me 0)) (sym word_at)
+          (puts_key_allowed slots seat.id place seat.me some here.0 here.1 put.0 put.1 put.2 put.3 most),
     )

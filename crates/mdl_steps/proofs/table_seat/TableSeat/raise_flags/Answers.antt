@@ -4,8 +4,8 @@ use mathlib.Core.Option.{none}
 use Rattle.atomic_table.specs.Seated.{TableId}
 use Rattle.atomic_table.specs.Table.{Allows, step}
 use Rattle.mdl_steps.specs.declared.step_kind.StepKind.TheVariants as step_kind
+use Rattle.mdl_steps.specs.Histories.{ReachedFor}
 use Rattle.mdl_steps.specs.Plays.{Mine, raises_flags, raised}
-use Rattle.mdl_steps.specs.Rule.{Rule}
 use Rattle.mdl_steps.specs.Seats.{Holds, elsewhere, IsPlace}
 use Rattle.mdl_steps.specs.declared.view.LatchRecord.{LatchRecord}
 use Rattle.mdl_steps.specs.Cells.{held_at}
@@ -17,6 +17,7 @@ use Rattle.mdl_steps.proofs.table_seat.TableSeat.raise_flags.Goals as goal
 pub fetch_or-requires : goal.fetch_or-requires
 fetch_or-requires c =
     let seat = c.self.inside.seat in
+    let most = c.deref.result.now.shared.key in
     let slots = c.deref.result.now.shared.table_id.slots in
     let word_at = c.lock_word.ensures in
     let at = sits c.self.view_is c.self.invariant (ap (λ t. t.shared.table_id) c.deref.ensures) in
@@ -27,8 +28,8 @@ fetch_or-requires c =
     let inside : c.lock_word.result < c.deref.result.now.shared.table_id.words = omega arith in (
       at.same,
       inside,
-      subst (λ (i : ℕ). Allows Rule slots seat.id seat.me i (λ n. bit_or n c.raising.result) (raises_flags (step slots i c.raising.result 0 none) seat.me)) (sym word_at)
-          (raises_allowed slots seat.id c.args.latch.now.place seat.me some here.0 here.1 held.0 held.1 c.args.slow c.args.obtrusive c.raising.result c.raising.ensures),
+      subst (λ (i : ℕ). Allows (ReachedFor most) slots seat.id seat.me i (λ n. bit_or n c.raising.result) (raises_flags (step slots i c.raising.result 0 none) seat.me)) (sym word_at)
+          (raises_allowed slots seat.id c.args.latch.now.place seat.me some here.0 here.1 held.0 held.1 c.args.slow c.args.obtrusive c.raising.result c.raising.ensures most),
     )
 
 pub returns-clause-keeps : goal.returns-clause-keeps

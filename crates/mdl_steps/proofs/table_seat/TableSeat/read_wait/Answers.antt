@@ -3,8 +3,8 @@ use Rattle.std.proofs.Common.{◌≡◌, ℕ, ◌+◌, ◌*◌, ◌<◌, sym, ap
 use mathlib.Core.Option.{none}
 use Rattle.atomic_table.specs.Seated.{TableId}
 use Rattle.atomic_table.specs.Table.{Allows, step}
+use Rattle.mdl_steps.specs.Histories.{ReachedFor}
 use Rattle.mdl_steps.specs.Layout.{wait_word}
-use Rattle.mdl_steps.specs.Rule.{Rule}
 use Rattle.mdl_steps.specs.WaitPlays.{TellsOwn, reads_wait}
 use Rattle.mdl_steps.specs.WaitSeats.{IsSession}
 use Rattle.mdl_steps.proofs.Seating.{sits}
@@ -14,6 +14,7 @@ use Rattle.mdl_steps.proofs.table_seat.TableSeat.read_wait.Goals as goal
 pub load-requires : goal.load-requires
 load-requires c =
     let seat = c.self.inside.seat in
+    let most = c.deref-2.result.now.shared.key in
     let table = c.deref-2.result.now.shared.table_id in
     let slots = table.slots in
     let at = sits c.self.view_is c.self.invariant (ap (λ t. t.shared.table_id) c.deref-2.ensures) in
@@ -22,8 +23,8 @@ load-requires c =
     let word : c.wait_word-index.result ≡ 8 * slots + 8 + 8 * c.args.session = c.wait_word-index.ensures ∙ ap (λ (n : ℕ). wait_word n c.args.session) count in (
       at.same,
       subst (λ (w : ℕ). w < table.words) (sym word) here.1,
-      subst (λ (i : ℕ). Allows Rule slots seat.id seat.me i (λ n. n) (reads_wait (step slots i 0 0 none) seat.me)) (sym word)
-          (reads_wait_allowed seat.id c.args.session seat.me slots),
+      subst (λ (i : ℕ). Allows (ReachedFor most) slots seat.id seat.me i (λ n. n) (reads_wait (step slots i 0 0 none) seat.me)) (sym word)
+          (reads_wait_allowed seat.id c.args.session seat.me slots most),
     )
 
 pub returns-clause-own : goal.returns-clause-own

@@ -6,8 +6,8 @@ use Rattle.atomic_table.specs.Table.{Allows, step}
 use Rattle.mdl_steps.specs.declared.step_kind.StepKind.TheVariants as step_kind
 use Rattle.mdl_steps.specs.declared.view.LatchRecord.{LatchRecord}
 use Rattle.mdl_steps.specs.Cells.{held_at}
+use Rattle.mdl_steps.specs.Histories.{ReachedFor}
 use Rattle.mdl_steps.specs.Plays.{Mine, reads_word, noting}
-use Rattle.mdl_steps.specs.Rule.{Rule}
 use Rattle.mdl_steps.specs.Seats.{Holds, IsPlace, elsewhere}
 use Rattle.mdl_steps.proofs.Flags.{reads_allowed}
 use Rattle.mdl_steps.proofs.Hands.{holds_stepped, elsewhere-stepped}
@@ -17,6 +17,7 @@ use Rattle.mdl_steps.proofs.table_seat.TableSeat.read_word.Goals as goal
 pub load-requires : goal.load-requires
 load-requires c =
     let seat = c.self.inside.seat in
+    let most = c.deref.result.now.shared.key in
     let table = c.deref.result.now.shared.table_id in
     let place = c.args.latch.now.place in
     let at = sits c.self.view_is c.self.invariant (ap (λ t. t.shared.table_id) c.deref.ensures) in
@@ -26,8 +27,8 @@ load-requires c =
     let inside : c.lock_word.result < table.words = omega arith in (
       at.same,
       inside,
-      subst (λ (i : ℕ). Allows Rule table.slots seat.id seat.me i (λ n. n) (reads_word (step table.slots i 0 0 none) seat.me)) (sym c.lock_word.ensures)
-          (reads_allowed table.slots seat.id place seat.me at.positive here.0 here.1 held.0 held.1),
+      subst (λ (i : ℕ). Allows (ReachedFor most) table.slots seat.id seat.me i (λ n. n) (reads_word (step table.slots i 0 0 none) seat.me)) (sym c.lock_word.ensures)
+          (reads_allowed table.slots seat.id place seat.me at.positive here.0 here.1 held.0 held.1 most),
     )
 
 pub returns-clause-keeps : goal.returns-clause-keeps

@@ -4,7 +4,7 @@ use mathlib.Core.Option.{none}
 use Rattle.atomic_table.specs.Seated.{TableId}
 use Rattle.atomic_table.specs.Table.{Allows, step}
 use Rattle.mdl_steps.specs.FastPlays.{reads_word_unlatched}
-use Rattle.mdl_steps.specs.Rule.{Rule}
+use Rattle.mdl_steps.specs.Histories.{ReachedFor}
 use Rattle.mdl_steps.specs.Seats.{IsPlace}
 use Rattle.mdl_steps.proofs.FastSteps.{reads_unlatched_allowed}
 use Rattle.mdl_steps.proofs.Seating.{sits}
@@ -13,6 +13,7 @@ use Rattle.mdl_steps.proofs.table_seat.TableSeat.read_word_unlatched.Goals as go
 pub load-requires : goal.load-requires
 load-requires c =
     let seat = c.self.inside.seat in
+    let most = c.deref.result.now.shared.key in
     let table = c.deref.result.now.shared.table_id in
     let at = sits c.self.view_is c.self.invariant (ap (λ t. t.shared.table_id) c.deref.ensures) in
     let here = at.here (λ (t : TableId). IsPlace t c.args.place) c.requires.place in
@@ -21,6 +22,6 @@ load-requires c =
     let inside : c.lock_word.result < table.words = omega arith in (
       at.same,
       inside,
-      subst (λ (i : ℕ). Allows Rule table.slots seat.id seat.me i (λ n. n) (reads_word_unlatched (step table.slots i 0 0 none) seat.me)) (sym word)
-          (reads_unlatched_allowed table.slots seat.id c.args.place seat.me here.0 here.1),
+      subst (λ (i : ℕ). Allows (ReachedFor most) table.slots seat.id seat.me i (λ n. n) (reads_word_unlatched (step table.slots i 0 0 none) seat.me)) (sym word)
+          (reads_unlatched_allowed table.slots seat.id c.args.place seat.me here.0 here.1 most),
     )

@@ -4,8 +4,8 @@ use mathlib.Core.Option.{none}
 use Rattle.atomic_table.specs.Seated.{TableId}
 use Rattle.atomic_table.specs.Table.{Allows, step}
 use Rattle.mdl_steps.specs.FastPlays.{releases_fast, MayReleaseFast}
+use Rattle.mdl_steps.specs.Histories.{ReachedFor}
 use Rattle.mdl_steps.specs.Plays.{Mine}
-use Rattle.mdl_steps.specs.Rule.{Rule}
 use Rattle.mdl_steps.specs.Seats.{IsPlace}
 use Rattle.mdl_steps.proofs.FastSteps.{releases_fast_allowed}
 use Rattle.mdl_steps.proofs.Seating.{sits}
@@ -14,6 +14,7 @@ use Rattle.mdl_steps.proofs.table_seat.TableSeat.release_fast_as.Goals as goal
 pub fetch_sub-requires : goal.fetch_sub-requires
 fetch_sub-requires g c =
     let seat = c.self.inside.seat in
+    let most = c.deref.result.now.shared.key in
     let table = c.deref.result.now.shared.table_id in
     let slots = table.slots in
     let place = c.args.place in
@@ -26,7 +27,7 @@ fetch_sub-requires g c =
     let inside : c.lock_word.result < table.words = omega arith in (
       at.same,
       inside,
-      subst (λ (i : ℕ). Allows Rule slots seat.id seat.me i (λ n. (n + (2 ^ 64 - one)) % 2 ^ 64) (releases_fast g.J.ReleasingFast.number (step slots i one 0 none) seat.me)) (sym index)
-          (subst (λ (m : ℕ). Allows Rule slots seat.id seat.me (8 * place + 1) (λ n. (n + (2 ^ 64 - one)) % 2 ^ 64) (releases_fast m (step slots (8 * place + 1) one 0 none) seat.me)) c.requires.picked
-          (releases_fast_allowed slots seat.id place seat.me here.0 here.1 c.args._number one lost)),
+      subst (λ (i : ℕ). Allows (ReachedFor most) slots seat.id seat.me i (λ n. (n + (2 ^ 64 - one)) % 2 ^ 64) (releases_fast g.J.ReleasingFast.number (step slots i one 0 none) seat.me)) (sym index)
+          (subst (λ (m : ℕ). Allows (ReachedFor most) slots seat.id seat.me (8 * place + 1) (λ n. (n + (2 ^ 64 - one)) % 2 ^ 64) (releases_fast m (step slots (8 * place + 1) one 0 none) seat.me)) c.requires.picked
+          (releases_fast_allowed slots seat.id place seat.me here.0 here.1 c.args._number one lost at.positive most)),
     )

@@ -1,13 +1,13 @@
 -- Any session may settle any unsettled wait as lost.
-use Rattle.std.proofs.Common.{◌≡◌, ℕ, ◌+◌, ◌*◌, ◌<◌, ◌≤◌, ◌==◌, sym, ap, ◌∙◌, subst, arith}
+use Rattle.std.proofs.Common.{◌≡◌, ℕ, ◌+◌, ◌*◌, ◌<◌, ◌≤◌, ◌==◌, refl, sym, ap, ◌∙◌, subst, arith}
 use mathlib.Core.Option.{none}
 use prog.Atomic.{either}
 use Rattle.atomic_table.specs.Seated.{TableId}
 use Rattle.atomic_table.specs.Table.{Allows, step}
 use Rattle.mdl_steps.specs.declared.wait_word.Loss.{Loss}
 use Rattle.mdl_steps.specs.declared.wait_word.Loss.TheVariants.{Victim, Timeout, Killed}
+use Rattle.mdl_steps.specs.Histories.{ReachedFor}
 use Rattle.mdl_steps.specs.Layout.{wait_word}
-use Rattle.mdl_steps.specs.Rule.{Rule}
 use Rattle.mdl_steps.specs.WaitPlays.{TellsOwn, settles_lost, wait_in}
 use Rattle.mdl_steps.specs.WaitSeats.{IsSession}
 use Rattle.mdl_steps.specs.WaitStates.{lost_state}
@@ -23,6 +23,7 @@ is_lost Killed = (omega arith, omega arith)
 pub compare_exchange-requires : goal.compare_exchange-requires
 compare_exchange-requires c =
     let seat = c.self.inside.seat in
+    let most = c.deref.result.now.shared.key in
     let table = c.deref.result.now.shared.table_id in
     let slots = table.slots in
     let at = sits c.self.view_is c.self.invariant (ap (λ t. t.shared.table_id) c.deref.ensures) in
@@ -35,10 +36,10 @@ compare_exchange-requires c =
     let word : c.wait_word.result ≡ 8 * slots + 8 + 8 * c.args.session = c.wait_word.ensures ∙ ap (λ (n : ℕ). wait_word n c.args.session) count in (
       at.same,
       subst (λ (w : ℕ). w < table.words) (sym word) here.1,
-      subst (λ (i : ℕ). Allows Rule slots seat.id seat.me i (λ n. either (n == c.word_in-open.result) c.word_in-lost.result n) (settles_lost (step slots i c.word_in-open.result c.word_in-lost.result none) seat.me)) (sym word)
-          (subst (λ (e : ℕ). Allows Rule slots seat.id seat.me (8 * slots + 8 + 8 * c.args.session) (λ n. either (n == e) c.word_in-lost.result n) (settles_lost (step slots (8 * slots + 8 + 8 * c.args.session) e c.word_in-lost.result none) seat.me)) (sym open_is)
-          (subst (λ (l : ℕ). Allows Rule slots seat.id seat.me (8 * slots + 8 + 8 * c.args.session) (λ n. either (n == 8 * c.args.wait + 1) l n) (settles_lost (step slots (8 * slots + 8 + 8 * c.args.session) (8 * c.args.wait + 1) l none) seat.me)) (sym lost_is)
-          (settles_lost_allowed seat.id c.args.session seat.me slots c.args.wait state here.0 lost.0 lost.1))),
+      subst (λ (i : ℕ). Allows (ReachedFor most) slots seat.id seat.me i (λ n. either (n == c.word_in-open.result) c.word_in-lost.result n) (settles_lost (step slots i c.word_in-open.result c.word_in-lost.result none) seat.me)) (sym word)
+          (subst (λ (e : ℕ). Allows (ReachedFor most) slots seat.id seat.me (8 * slots + 8 + 8 * c.args.session) (λ n. either (n == e) c.word_in-lost.result n) (settles_lost (step slots (8 * slots + 8 + 8 * c.args.session) e c.word_in-lost.result none) seat.me)) (sym open_is)
+          (subst (λ (l : ℕ). Allows (ReachedFor most) slots seat.id seat.me (8 * slots + 8 + 8 * c.args.session) (λ n. either (n == 8 * c.args.wait + 1) l n) (settles_lost (step slots (8 * slots + 8 + 8 * c.args.session) (8 * c.args.wait + 1) l none) seat.me)) (sym lost_is)
+          (settles_lost_allowed seat.id c.args.session seat.me slots c.args.wait state here.0 c.args.how refl lost.0 lost.1 most))),
     )
 
 pub returns-clause-own : goal.returns-clause-own

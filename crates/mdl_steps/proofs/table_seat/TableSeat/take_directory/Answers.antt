@@ -3,8 +3,8 @@ use Rattle.std.proofs.Common.{ℕ, ◌<◌, ◌==◌, refl, sym, subst, arith, a
 use mathlib.Core.Option.{none}
 use prog.Atomic.{either}
 use Rattle.atomic_table.specs.Table.{Allows, step}
+use Rattle.mdl_steps.specs.Histories.{ReachedFor}
 use Rattle.mdl_steps.specs.Plays.{IsDirectory, Mine, takes_directory}
-use Rattle.mdl_steps.specs.Rule.{Rule}
 use Rattle.mdl_steps.specs.Seats.{HasDirectory}
 use Rattle.mdl_steps.proofs.Desks.{takes_directory_allowed}
 use Rattle.mdl_steps.proofs.Seating.{sits, value_is}
@@ -13,6 +13,7 @@ use Rattle.mdl_steps.proofs.table_seat.TableSeat.take_directory.Goals as goal
 pub compare_exchange-found-requires : goal.compare_exchange-found-requires
 compare_exchange-found-requires c =
     let seat = c.self.inside.seat in
+    let most = c.deref.result.now.shared.key in
     let slots = c.deref.result.now.shared.table_id.slots in
     let at = sits c.self.view_is c.self.invariant (ap (λ t. t.shared.table_id) c.deref.ensures) in
     let sized = at.sized in
@@ -21,8 +22,8 @@ compare_exchange-found-requires c =
     let inside : 0 < c.deref.result.now.shared.table_id.words = omega arith in (
       at.same,
       inside,
-      subst (λ (k : ℕ). Allows Rule slots seat.id seat.me 0 (λ n. either (n == 0) k n) (takes_directory (step slots 0 0 k none) seat.me)) c.self.invariant.numbered
-          (takes_directory_allowed slots seat.id seat.me some),
+      subst (λ (k : ℕ). Allows (ReachedFor most) slots seat.id seat.me 0 (λ n. either (n == 0) k n) (takes_directory (step slots 0 0 k none) seat.me)) c.self.invariant.numbered
+          (takes_directory_allowed slots seat.id seat.me some most),
     )
 
 pub returns : goal.returns

@@ -4,8 +4,8 @@ use mathlib.Core.Option.{none}
 use prog.Atomic.{either}
 use Rattle.atomic_table.specs.Seated.{TableId}
 use Rattle.atomic_table.specs.Table.{Allows, step}
+use Rattle.mdl_steps.specs.Histories.{ReachedFor}
 use Rattle.mdl_steps.specs.Plays.{Mine, takes_latch}
-use Rattle.mdl_steps.specs.Rule.{Rule}
 use Rattle.mdl_steps.specs.Seats.{Holds, IsPlace, elsewhere}
 use Rattle.mdl_steps.proofs.Latch.{takes_latch_allowed}
 use Rattle.mdl_steps.proofs.Hands.{holds_taken, elsewhere-taken}
@@ -15,6 +15,7 @@ use Rattle.mdl_steps.proofs.table_seat.TableSeat.take_latch.Goals as goal
 pub compare_exchange-found-requires : goal.compare_exchange-found-requires
 compare_exchange-found-requires c =
     let seat = c.self.inside.seat in
+    let most = c.deref.result.now.shared.key in
     let table = c.deref.result.now.shared.table_id in
     let place = c.args.place in
     let at = sits c.self.view_is c.self.invariant (ap (λ t. t.shared.table_id) c.deref.ensures) in
@@ -24,9 +25,9 @@ compare_exchange-found-requires c =
     let inside : c.latch_word.result < table.words = omega arith in (
       at.same,
       inside,
-      subst (λ (i : ℕ). Allows Rule table.slots seat.id seat.me i (λ n. either (n == 0) number n) (takes_latch (step table.slots i 0 number none) seat.me)) (sym c.latch_word.ensures)
-          (subst (λ (k : ℕ). Allows Rule table.slots seat.id seat.me (8 * place) (λ n. either (n == 0) k n) (takes_latch (step table.slots (8 * place) 0 k none) seat.me)) c.self.invariant.numbered
-          (takes_latch_allowed table.slots seat.id place seat.me at.positive here.0 here.1)),
+      subst (λ (i : ℕ). Allows (ReachedFor most) table.slots seat.id seat.me i (λ n. either (n == 0) number n) (takes_latch (step table.slots i 0 number none) seat.me)) (sym c.latch_word.ensures)
+          (subst (λ (k : ℕ). Allows (ReachedFor most) table.slots seat.id seat.me (8 * place) (λ n. either (n == 0) k n) (takes_latch (step table.slots (8 * place) 0 k none) seat.me)) c.self.invariant.numbered
+          (takes_latch_allowed table.slots seat.id place seat.me at.positive here.0 here.1 most)),
     )
 
 pub returns-clause-taken : goal.returns-clause-taken

@@ -5,8 +5,8 @@ use Rattle.atomic_table.specs.Seated.{TableId}
 use Rattle.atomic_table.specs.Table.{Allows, step}
 use Rattle.mdl_defs.specs.Standings.{standing_after}
 use Rattle.mdl_book.specs.Books.{redefining}
+use Rattle.mdl_steps.specs.Histories.{ReachedFor}
 use Rattle.mdl_steps.specs.Plays.{Mine, writes_version, restood}
-use Rattle.mdl_steps.specs.Rule.{Rule}
 use Rattle.mdl_steps.specs.Seats.{Holds, IsPlace, MayWriteVersion, elsewhere}
 use Rattle.mdl_steps.specs.SeatStates.{SeatState}
 use Rattle.mdl_steps.proofs.Versions.{writes_allowed}
@@ -17,6 +17,7 @@ use Rattle.mdl_steps.proofs.table_seat.TableSeat.write_version.Goals as goal
 pub store-requires : goal.store-requires
 store-requires c =
     let seat = c.self.inside.seat in
+    let most = c.deref.result.now.shared.key in
     let slots = c.deref.result.now.shared.table_id.slots in
     let place = c.args.latch.now.place in
     let version = c.version-version.result in
@@ -31,9 +32,9 @@ store-requires c =
     let told : version ≡ was.0.book.standing.version + 1 = c.version-version.ensures.told (redefining was.1 was.0.book) was.2.holds.carried in (
       at.same,
       inside,
-      subst (λ (i : ℕ). Allows Rule slots seat.id seat.me i (λ _. version) (λ _. writes_version (step slots i version 0 none) seat.me version)) (sym word_at)
-          (subst (λ (n : ℕ). Allows Rule slots seat.id seat.me (8 * place + 2) (λ _. n) (λ _. writes_version (step slots (8 * place + 2) n 0 none) seat.me n)) (sym told)
-          (writes_allowed slots seat.id place seat.me at.positive here.0 here.1 may.0 may.1 may.2)),
+      subst (λ (i : ℕ). Allows (ReachedFor most) slots seat.id seat.me i (λ _. version) (λ _. writes_version (step slots i version 0 none) seat.me version)) (sym word_at)
+          (subst (λ (n : ℕ). Allows (ReachedFor most) slots seat.id seat.me (8 * place + 2) (λ _. n) (λ _. writes_version (step slots (8 * place + 2) n 0 none) seat.me n)) (sym told)
+          (writes_allowed slots seat.id place seat.me at.positive here.0 here.1 may.0 may.1 may.2 most)),
     )
 
 pub returns-clause-keeps : goal.returns-clause-keeps

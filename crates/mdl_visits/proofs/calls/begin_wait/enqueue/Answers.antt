@@ -1,10 +1,11 @@
 -- The ticket is written, the wait opened and the latch given back, or there was no room.
-use Rattle.std.proofs.Common.{◌+◌, [], sym, ap, subst, ◌∙◌}
+use Rattle.std.proofs.Common.{◌+◌, false, [], sym, ap, subst, ◌∙◌}
 use Rattle.mdl_steps.specs.SeatStates.{SeatState}
 use Rattle.mdl_visits.specs.Leavings.{HasWorked}
+use Rattle.mdl_visits.specs.Visits.{VisitsOnce}
 use Rattle.mdl_visits.proofs.Seats.{place_there, table_of}
 use Rattle.mdl_visits.proofs.Trying.{entered_holds, full, refused, rested}
-use Rattle.mdl_visits.proofs.WaitOpenings.{begins, wish_opens, wish_puts}
+use Rattle.mdl_visits.proofs.WaitOpenings.{begins, visit_opened, wish_opens, wish_puts}
 use Rattle.mdl_visits.proofs.calls.begin_wait.enqueue.Goals as goal
 
 pub write_wish-requires : goal.write_wish-requires
@@ -15,7 +16,7 @@ write_wish-requires c =
 pub lower_flags_and_put-requires : goal.lower_flags_and_put-requires
 lower_flags_and_put-requires c =
     let has = c.requires.entered in
-    record { worked = subst (HasWorked c.args.latch.place []) (sym c.in-Err.ensures.unchanged) (rested has.3) }
+    record { worked = subst (HasWorked c.args.latch.place [] false) (sym c.in-Err.ensures.unchanged) (rested has.3) }
 
 pub open_wait-requires : goal.open_wait-requires
 open_wait-requires c =
@@ -42,6 +43,7 @@ returns-in-Err c = record {
       refused has c.in-Err.cause c.write_wish.new.self _ c.in-Err.ensures.unchanged
       (full _ _ c.in-Err.cause (c.in-Err.ensures.refused has.entered.1.found.book (entered_holds has).carried))
       c.lower_flags_and_put.ensures.visited c.lower_flags_and_put.ensures.step;
+  once = subst (λ (x : SeatState). VisitsOnce c.args.latch.place x.me c.lower_flags_and_put.new.seat.me) c.in-Err.ensures.unchanged c.lower_flags_and_put.ensures.once;
 }
 
 pub returns : goal.returns
@@ -49,4 +51,8 @@ returns c = record {
   done = λ word place s has.
       begins has c.args.number c.requires.new.is_next c.write_wish.new.self (c.in_default.ensures.written has.entered.1.found.book (entered_holds has).carried)
       c.open_wait.new.self _ c.open_wait.ensures.made c.put_latch.ensures.made;
+  once =
+      let has = c.requires.entered in
+      visit_opened c.args.latch.place c.args.mode _ c.args.seat.now c.write_wish.new.self c.open_wait.new.self c.put_latch.new.self
+      (c.in_default.ensures.written has.3.entered.1.found.book (entered_holds has.3).carried) c.open_wait.ensures.made c.put_latch.ensures.made;
 }

@@ -1,11 +1,13 @@
 -- What was changed stood in the book that was met under the latch.
-use Rattle.std.proofs.Common.{refl, ◌∙◌}
+use Rattle.std.proofs.Common.{false, [], refl, ◌∙◌}
 use Rattle.mdl_defs.specs.Standings.{standing_fault}
 use Rattle.mdl_book.specs.Books.{redefining}
 use Rattle.mdl_steps.specs.SeatStates.{SeatState}
-use Rattle.mdl_visits.proofs.Changing.{changed, has_redefined, may_put_changed, no_fault, refused}
+use Rattle.mdl_visits.proofs.Arriving.{went_same}
+use Rattle.mdl_visits.proofs.Changing.{changed, has_redefined, may_put_changed, no_fault, refused, went_changed}
 use Rattle.mdl_visits.proofs.Gathering.{as_reads, back_steps, carried_there, no_steps}
-use Rattle.mdl_visits.proofs.Seats.{place_there, table_of}
+use Rattle.mdl_visits.proofs.Seats.{mine, place_there, table_of}
+use Rattle.mdl_visits.proofs.Within.{visit_put}
 use Rattle.mdl_visits.proofs.calls.change_definition.change_definition.Goals as goal
 
 pub write_change-requires : goal.write_change-requires
@@ -64,6 +66,29 @@ returns-in-Ok-clause-changed g c =
     let has = has_redefined place latch.result.place change a b wrote latch.ensures.place taken latch.ensures.inside.0 done.0 allowed c.requires.apart c.requires.held in
     changed place latch.result.place change a b wrote latch.ensures.place taken latch.ensures.inside.0 done.0 allowed c.requires.apart c.requires.held
     c.write_version.new.self c.put_latch.new.self (c.write_version.ensures.made (redefining change taken.0.book) has.holds.carried) c.put_latch.ensures.made latch.ensures.inside.1 c.in-Ok.version done.1
+
+pub returns-in-Ok-clause-once : goal.returns-in-Ok-clause-once
+returns-in-Ok-clause-once g c =
+    let place = c.args.place in
+    let change = c.args.change.now in
+    let a : SeatState = c.args.seat.now in
+    let latch = c.await_latch-latch in
+    let b : SeatState = latch.new.seat in
+    let wrote : SeatState = c.write_change.new.self in
+    let taken = latch.ensures.taken in
+    let carried = carried_there place latch.result.place a b b latch.ensures.place taken latch.ensures.inside.0 refl in
+    let done = c.in-Ok.ensures.written taken.0.book carried in
+    let allowed = no_fault (standing_fault taken.0.book.key.namespace change taken.0.book.standing) c.in-Ok.version (c.in-Ok.ensures.refused taken.0.book carried) in
+    let has = has_redefined place latch.result.place change a b wrote latch.ensures.place taken latch.ensures.inside.0 done.0 allowed c.requires.apart c.requires.held in
+    went_changed latch.ensures.arrives _ _ wrote c.write_version.new.self c.put_latch.new.self done.0
+    (c.write_version.ensures.made (redefining change taken.0.book) has.holds.carried) c.put_latch.ensures.made
+
+pub returns-in-Err-clause-once : goal.returns-in-Err-clause-once
+returns-in-Err-clause-once g c =
+    let latch = c.await_latch-latch in
+    let wrote : SeatState = c.write_change.new.self in
+    went_same latch.ensures.arrives wrote c.put_latch-in-Err.new.self c.in-Err.ensures.unchanged
+    (visit_put false wrote.me c.put_latch-in-Err.new.self.me latch.result.place [] (mine c.put_latch-in-Err.ensures.made))
 
 pub returns-in-Err-clause-unchanged : goal.returns-in-Err-clause-unchanged
 returns-in-Err-clause-unchanged g c =

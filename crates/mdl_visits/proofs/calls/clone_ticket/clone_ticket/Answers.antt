@@ -1,5 +1,5 @@
 -- The book that is met under the latch has the session's ticket, which covers the mode, so only want of room keeps the second one out.
-use Rattle.std.proofs.Common.{ℕ, [], ◌∷◌, ap, sym, subst, ◌∙◌}
+use Rattle.std.proofs.Common.{ℕ, false, [], ◌∷◌, ap, sym, subst, ◌∙◌}
 use Rattle.std.specs.Prelude.{is_some}
 use Rattle.mdl_steps.specs.declared.deed.Deed.TheVariants.{Gain}
 use Rattle.mdl_steps.specs.Cells.{held_at}
@@ -7,7 +7,7 @@ use Rattle.mdl_steps.specs.Deeds.{booked}
 use Rattle.mdl_steps.specs.SeatStates.{AtItsTable, SeatState}
 use Rattle.mdl_visits.specs.Leavings.{HasWorked}
 use Rattle.mdl_visits.specs.Visits.{CameTo, Visits}
-use Rattle.mdl_visits.proofs.Arriving.{came_written, has_rested, met_full, met_own}
+use Rattle.mdl_visits.proofs.Arriving.{came_written, has_rested, met_full, met_own, went_same, went_written}
 use Rattle.mdl_visits.proofs.Numbers.{idle_waits_not}
 use Rattle.mdl_visits.proofs.Weaker.{has_gained, no_room, there}
 use Rattle.mdl_visits.proofs.calls.clone_ticket.clone_ticket.Goals as goal
@@ -28,7 +28,7 @@ lower_flags_and_put-requires-in-Err g c =
     let latch = c.await_latch-latch in
     let q = latch.result.place in
     let a = latch.ensures.arrives in
-    record { worked = subst (HasWorked q []) (sym c.in-Err.ensures.unchanged) (has_rested a) }
+    record { worked = subst (HasWorked q [] false) (sym c.in-Err.ensures.unchanged) (has_rested a) }
 
 pub returns-in-Ok : goal.returns-in-Ok
 returns-in-Ok g c =
@@ -45,6 +45,7 @@ returns-in-Ok g c =
       cloned = subst (λ (p : ℕ). AtItsTable s n (Visits p (Gain c.args.number c.args.mode ∷ []))) a.at (c.lower_flags_and_put.ensures.visited s (came.0, came.1));
       step = met_own a held.number (Gain c.args.number c.args.mode ∷ []) w n (ap is_some (there held a (idle_waits_not s.me.0 held.number r.idle) r.may.held))
           came (ap (λ (x : SeatState). x.me.0.latches) out) c.lower_flags_and_put.ensures.step;
+      once = went_written a _ w n out c.lower_flags_and_put.ensures.once;
       refused = tt;
     }
 
@@ -66,6 +67,7 @@ returns-in-Err g c =
     record {
       cloned = tt;
       step = (met.0, met.1, met.2, tt);
+      once = went_same a w n same c.lower_flags_and_put-in-Err.ensures.once;
       refused = (
         subst (λ (p : ℕ). AtItsTable s n (Visits p [])) a.at (c.lower_flags_and_put-in-Err.ensures.visited s (came.0, came.1)),
         met_full held.place s q w n a.at came.1 a.latch (ap (held_at q) latches ∙ a.holds.recorded) [] c.lower_flags_and_put-in-Err.ensures.step c.in-Err.cause

@@ -1,11 +1,11 @@
 -- The book that is met under the latch has the session's ticket, which covers the mode, so the mode is written.
-use Rattle.std.proofs.Common.{ℕ, [], ◌∷◌, ap, subst}
+use Rattle.std.proofs.Common.{ℕ, true, [], ◌∷◌, ap, subst}
 use Rattle.std.specs.Prelude.{is_some}
 use Rattle.mdl_steps.specs.declared.deed.Deed.TheVariants.{Alter}
 use Rattle.mdl_steps.specs.Deeds.{booked}
 use Rattle.mdl_steps.specs.SeatStates.{AtItsTable, SeatState}
 use Rattle.mdl_visits.specs.Grantings.{VisitsAndReschedules}
-use Rattle.mdl_visits.proofs.Arriving.{came_written, met_own}
+use Rattle.mdl_visits.proofs.Arriving.{came_written, met_own, went_written}
 use Rattle.mdl_visits.proofs.Covered.{downgrade-covered}
 use Rattle.mdl_visits.proofs.Weaker.{has_altered, lowered_to, there}
 use Rattle.mdl_visits.proofs.calls.downgrade.downgrade.Goals as goal
@@ -19,7 +19,7 @@ lower_flags_and_reschedule-requires g c =
     let a = c.await_latch-latch.ensures.arrives in
     let strong = downgrade-covered held.mode mode r.weaker in
     let out = lowered_to held a r.unwaited r.held mode r.fits strong wrote.new.self wrote.result (wrote.ensures.refused a.latch.book a.holds.carried) (wrote.ensures.written a.latch.book a.holds.carried) in
-    record { worked = has_altered held a r.unwaited r.held mode r.fits strong wrote.new.self r.weaker out }
+    record { worked = (true, has_altered held a r.unwaited r.held mode r.fits strong wrote.new.self r.weaker out) }
 
 pub returns : goal.returns
 returns g c =
@@ -39,4 +39,5 @@ returns g c =
       downgraded = subst (λ (p : ℕ). AtItsTable s n (VisitsAndReschedules s.table p (Alter held.number mode ∷ []))) a.at (c.lower_flags_and_reschedule.ensures.rescheduled s came);
       step = met_own a held.number (Alter held.number mode ∷ []) wrote.new.self n (ap is_some (there held a r.unwaited r.held))
           came (ap (λ (x : SeatState). x.me.0.latches) out) c.lower_flags_and_reschedule.ensures.step;
+      once = went_written a _ wrote.new.self n out c.lower_flags_and_reschedule.ensures.once;
     }

@@ -1,10 +1,12 @@
 -- The ticket is taken out of the list, and flags that told the lists tell them still.
-use Rattle.std.proofs.Common.{ℕ, sym, ◌∙◌, subst}
-use Rattle.mdl_steps.specs.SeatStates.{AtItsTable}
+use Rattle.std.proofs.Common.{ap, false, refl, subst, sym, true, ℕ, ◌∙◌}
+use Rattle.mdl_steps.specs.SeatStates.{AtItsTable, SeatState}
 use Rattle.mdl_visits.specs.WaitEndings.{EndsLost, without_wait}
-use Rattle.mdl_visits.proofs.Seats.{place_there, table_of}
+use Rattle.mdl_visits.proofs.Arriving.{went_on}
+use Rattle.mdl_visits.proofs.Seats.{mine, place_there, table_of}
 use Rattle.mdl_visits.proofs.Steps.{goes_by, step_before}
 use Rattle.mdl_visits.proofs.WaitEndings.{asks_there, came_ended, has_ended, holds_less, may_cancel, shows_end, told_there, waits_there, withdrawn}
+use Rattle.mdl_visits.proofs.Within.{plain, within_one, within_then, within_written}
 use Rattle.mdl_visits.proofs.calls.end_lost_wait.end_lost_wait.Goals as goal
 
 pub end_lost-requires : goal.end_lost-requires
@@ -33,7 +35,7 @@ lower_flags_and_reschedule-requires g c =
     let is = withdrawn ask a w wrote.result wrote.ensures.refused wrote.ensures.written wrote.ensures.unchanged in
     let asks = asks_there ask a w is r.asks in
     let ended = c.end_lost.ensures.made ask r.lost.0 asks (told_there ask a w is r.lost.0 r.lost.1) in
-    record { worked = has_ended ask a w is r.lost.0 c.end_lost.new.self ended (c.end_lost.ensures.keeps ask a.latch _ asks (holds_less ask a w is)) }
+    record { worked = (true, has_ended ask a w is r.lost.0 c.end_lost.new.self ended (c.end_lost.ensures.keeps ask a.latch _ asks (holds_less ask a w is))) }
 
 pub returns : goal.returns
 returns g c =
@@ -52,6 +54,11 @@ returns g c =
     let last = c.lower_flags_and_reschedule.ensures.step in
     record {
       ended = subst (λ (p : ℕ). AtItsTable s n (EndsLost s.table p)) a.at (c.lower_flags_and_reschedule.ensures.rescheduled (record s { me = without_wait s.me }) there);
+      once =
+          let came : SeatState = c.await_latch-latch.new.seat in
+          let on = within_written false came.me w.me c.await_latch-latch.result.place _ (mine is) in
+          let ends = within_one false w.me v.me _ (ap (λ (x : SeatState). x.me.0.log) ended) (ap (λ (x : SeatState). x.me.0.directory) ended) (refl, plain false, refl) in
+          went_on a v n (within_then false came.me w.me v.me on ends) c.lower_flags_and_reschedule.ensures.once;
       met = λ state told.
           let shown = shows_end ask a w is state v (c.end_lost.ensures.made ask state asks (told_there ask a w is state told)) in
           (shown.0, step_before s.me v.me n.me (goes_by v.me n.me last.0 last.1) shown.0 shown.1, shown.2);

@@ -34,7 +34,7 @@ returns-in-Err-clause-refused g c =
     let some : 0 < length c.args.fast.now = grind (arith, nat_tests) in (
       nothing_done r refused.0 c.lower_flags_and_put.new.seat left.visited,
       lacks_room r refused.0 (length c.args.fast.now) c.in-Err.cause c.lower_flags_and_put.new.seat left.step refused.1,
-      refused_once arrives c.raise_flags.new.self raise.made c.write_gains.new.seat c.lower_flags_and_put.new.seat refused.0 left.back,
+      refused_once arrives c.raise_flags.new.self raise.made c.write_gains.new.seat c.lower_flags_and_put.new.seat refused.0 left.once,
       some,
     )
 

@@ -6,7 +6,7 @@ use Rattle.mdl_steps.specs.declared.deed.Deed.TheVariants.{Alter, Lose}
 use Rattle.mdl_steps.specs.Deeds.{booked}
 use Rattle.mdl_steps.specs.SeatStates.{AtItsTable, SeatState}
 use Rattle.mdl_visits.specs.Visits.{Visits}
-use Rattle.mdl_visits.proofs.Arriving.{came_written, meets_own, met_here}
+use Rattle.mdl_visits.proofs.Arriving.{came_written, meets_own, met_here, went_written}
 use Rattle.mdl_visits.proofs.Uniting.{carries_changed, changed, first, has_united, second, united}
 use Rattle.mdl_visits.proofs.calls.merge.merge.Goals as goal
 
@@ -57,4 +57,5 @@ returns g c =
     record {
       merged = subst (λ (p : ℕ). AtItsTable s n (Visits p ds)) a.at (c.lower_flags_and_put.ensures.visited s (there.0, there.1));
       step = (met.0, met.1, old, new, met.4);
+      once = went_written a _ w n out c.lower_flags_and_put.ensures.once;
     }

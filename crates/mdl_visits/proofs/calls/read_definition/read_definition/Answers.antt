@@ -1,12 +1,14 @@
 -- What was read stood in the book that was met under the latch.
-use Rattle.std.proofs.Common.{◌≡◌, ℕ, refl, sym, ap, ◌∙◌, subst}
+use Rattle.std.proofs.Common.{◌≡◌, ℕ, false, [], refl, sym, ap, ◌∙◌, subst}
 use Rattle.mdl_defs.specs.declared.standing.Standing.{Standing}
 use Rattle.mdl_steps.specs.Plays.{Mine, read_and_put}
 use Rattle.mdl_steps.specs.SeatStates.{SeatState}
 use Rattle.mdl_steps.specs.VersionPlays.{Follows}
+use Rattle.mdl_visits.proofs.Arriving.{went_same}
 use Rattle.mdl_visits.proofs.Gathering.{as_reads, back_steps, carried_there, may_put, no_steps}
 use Rattle.mdl_visits.proofs.Reading.{follows, learns, meets_standing, quiet_read}
 use Rattle.mdl_visits.proofs.Seats.{mine, table_of}
+use Rattle.mdl_visits.proofs.Within.{visit_by, visit_put}
 use Rattle.mdl_visits.proofs.calls.read_definition.read_definition.Goals as goal
 
 pub standing-requires : goal.standing-requires
@@ -50,6 +52,7 @@ returns-in-Ok g c =
       );
       follows = subst (λ (s : Standing). Follows place s a.me) (sym told) (follows taken.1);
       unchanged = tt;
+      once = went_same latch.ensures.arrives asked went same (visit_by false asked.me went.me latch.result.place _ (ap (λ (x : SeatState). x.me.0.log) put) refl refl refl);
       quiet = (table_of put ∙ table_of same ∙ latch.ensures.inside.0, quiet_read place c.in-Ok.standing a.me b.me went.me latch.ensures.inside.1 read h taken.3.0 taken.3.2 taken.3.1);
     }
 
@@ -63,5 +66,7 @@ returns-in-Err g c =
       learnt = tt;
       follows = tt;
       unchanged = record { made = steps.1.0; now = steps.1.1; did = steps.1.2 };
+      once = went_same latch.ensures.arrives asked c.put_latch.new.self c.standing.ensures.same
+          (visit_put false asked.me c.put_latch.new.self.me latch.result.place [] (mine c.put_latch.ensures.made));
       quiet = (steps.0, (steps.1.0, ap (λ (m : Mine). m.0.log) steps.1.1, steps.1.3));
     }

@@ -1,10 +1,10 @@
 -- The book that is met under the latch has the session's ticket, so it is taken out.
-use Rattle.std.proofs.Common.{ℕ, [], ◌∷◌, ap, subst}
+use Rattle.std.proofs.Common.{ℕ, true, [], ◌∷◌, ap, subst}
 use Rattle.mdl_steps.specs.declared.deed.Deed.TheVariants.{Lose}
 use Rattle.mdl_steps.specs.Deeds.{booked}
 use Rattle.mdl_steps.specs.SeatStates.{AtItsTable, SeatState}
 use Rattle.mdl_visits.specs.Grantings.{VisitsAndReschedules}
-use Rattle.mdl_visits.proofs.Arriving.{came_written, met_own}
+use Rattle.mdl_visits.proofs.Arriving.{came_written, met_own, went_written}
 use Rattle.mdl_visits.proofs.Losing.{has_lost, lost, there}
 use Rattle.mdl_visits.proofs.calls.release.release.Goals as goal
 
@@ -13,7 +13,7 @@ lower_flags_and_reschedule-requires g c =
     let number = c.args.number in
     let a = c.await_latch-latch.ensures.arrives in
     let out = lost a number c.requires.unwaited c.requires.held c.write_loss-gone.new.self c.write_loss-gone.result c.write_loss-gone.ensures.refused c.write_loss-gone.ensures.written in
-    record { worked = has_lost a number c.requires.unwaited c.requires.held c.write_loss-gone.new.self c.requires.known out }
+    record { worked = (true, has_lost a number c.requires.unwaited c.requires.held c.write_loss-gone.new.self c.requires.known out) }
 
 pub returns : goal.returns
 returns g c =
@@ -30,4 +30,5 @@ returns g c =
           (c.lower_flags_and_reschedule.ensures.rescheduled s came);
       step = met_own a number (Lose number ∷ []) w n (there a number c.requires.unwaited c.requires.held)
           came (ap (λ (x : SeatState). x.me.0.latches) out) c.lower_flags_and_reschedule.ensures.step;
+      once = went_written a _ w n out c.lower_flags_and_reschedule.ensures.once;
     }

@@ -1,10 +1,16 @@
 -- The flags are lowered with the deeds, and waits are granted with none.
-use Rattle.std.proofs.Common.{[], ◌∙◌, subst}
+use Rattle.std.proofs.Common.{false, [], ◌∙◌, subst}
 use Rattle.atomic_table.specs.Seated.{TableId}
 use Rattle.mdl_steps.specs.Plays.{Mine}
 use Rattle.mdl_visits.specs.Grantings.{ReschedulesAndLeaves}
 use Rattle.mdl_visits.proofs.Rescheduling.{leaves_lowered, step_lowered, visits_and_reschedules}
+use Rattle.mdl_visits.proofs.Within.{visit_after, within_lowered}
 use Rattle.mdl_visits.proofs.calls.reschedule.lower_flags_and_reschedule.Goals as goal
+
+pub reschedule_and_put-requires : goal.reschedule_and_put-requires
+reschedule_and_put-requires c =
+    let here = c.lower_flags.ensures.orderly in
+    record { here = record { is_place = here.is_place; latch = here.latch; holds = here.holds; is_so = here.is_so.0 } }
 
 pub returns : goal.returns
 returns c =
@@ -23,4 +29,5 @@ returns c =
             (subst (λ (t : TableId). ReschedulesAndLeaves t place ds m b) came.0 (leaves_lowered c.args.seat.now.table place ds m a b lowered.1 there)),
       );
       step = step_lowered c.args.seat.now.table place ds m a b lowered.1 there;
+      once = visit_after false m a b (within_lowered false m a place ds lowered.1) place c.reschedule_and_put.ensures.once;
     }

@@ -1,8 +1,9 @@
 -- The session came, granted waits and went.
-use Rattle.std.proofs.Common.{ℕ, [], ◌∙◌, subst}
+use Rattle.std.proofs.Common.{ℕ, [], refl, ◌∙◌, subst}
 use Rattle.atomic_table.specs.Seated.{TableId}
 use Rattle.mdl_steps.specs.Plays.{Mine}
 use Rattle.mdl_visits.specs.Grantings.{ReschedulesAndLeaves}
+use Rattle.mdl_visits.proofs.Arriving.{went_same}
 use Rattle.mdl_visits.proofs.Rescheduling.{visits_and_reschedules}
 use Rattle.mdl_visits.proofs.calls.reschedule.reschedule.Goals as goal
 
@@ -19,4 +20,5 @@ returns g c =
         left.0 ∙ latch.ensures.inside.0,
         visits_and_reschedules id c.args.place [] c.args.seat.now.me came went latch.ensures.inside.1 latch.ensures.stays (subst (λ (q : ℕ). ReschedulesAndLeaves id q [] came went) latch.ensures.place out),
       );
+      once = went_same latch.ensures.arrives latch.new.seat c.reschedule_and_put.new.seat refl c.reschedule_and_put.ensures.once;
     }

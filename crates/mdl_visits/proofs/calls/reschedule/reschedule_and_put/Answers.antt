@@ -1,11 +1,15 @@
 -- Nobody waits, or waits were granted.
-use Rattle.std.proofs.Common.{[], sym, ap, ◌∙◌, subst}
-use Rattle.mdl_steps.specs.Plays.{Mine, unlatched}
+use Rattle.std.proofs.Common.{[], ap, false, inl, inr, subst, sym, true, ◌∙◌, ◌≡◌}
+use Rattle.mdl_steps.specs.Plays.{Mine, served}
+use Rattle.atomic_table.specs.Seated.{TableId}
 use Rattle.mdl_steps.specs.SeatStates.{SeatState}
+use Rattle.mdl_steps.specs.Servings.{MayServe}
 use Rattle.mdl_visits.specs.Grantings.{ForgetsNobody, IsOrderly, Reschedules}
 use Rattle.mdl_visits.specs.Visits.{HasLatched}
-use Rattle.mdl_visits.proofs.Seats.{mine, table_of}
+use Rattle.mdl_visits.proofs.Seats.{mine, place_there, table_of}
 use Rattle.mdl_visits.proofs.Rescheduling.{leaves_none, leaves_rescheduled, nobody_waits}
+use Rattle.mdl_visits.proofs.Way.{within_of}
+use Rattle.mdl_visits.proofs.Within.{visit_after, visit_served}
 use Rattle.mdl_visits.proofs.calls.reschedule.reschedule_and_put.Goals as goal
 use Rattle.mdl_visits.proofs.calls.reschedule.reschedule_and_put.Goals.{then-has_waiters, else-has_waiters}
 
@@ -14,6 +18,42 @@ grant_waiters-requires c =
     let here = c.requires.here in
     record { here = subst (λ (x : SeatState). HasLatched c.args.latch.place x IsOrderly) (sym c.has_waiters.ensures.same) here }
 
+pub put_latch_served-requires : goal.put_latch_served-requires
+put_latch_served-requires c =
+    let place = c.args.latch.place in
+    let m : Mine = c.args.seat.now.me in
+    let here = c.requires.here in
+    let h = here.latch in
+    let same = c.has_waiters.ensures.same in
+    elim c.if-has_waiters.branch [
+      | then-has_waiters w ↦
+          let b : SeatState = w.grant_waiters.new.seat in
+          let none = w.grant_waiters.ensures.none in
+          let way = w.grant_waiters.ensures.granted in
+          let forgets = subst (λ (x : SeatState). ForgetsNobody x.table place none.latch x.me b.me) same none.is_so.1 in
+          let table = way.0 ∙ table_of same in
+          record {
+            place = place_there place (table_of w.seat-is ∙ table) here.is_place;
+            put = subst (λ (x : SeatState). MayServe x.table place x.me) (sym w.seat-is) (record {
+              latch = none.latch;
+              holds = none.holds;
+              exact = none.is_so.0.1;
+              start = m;
+              served = inr (subst (λ (t : TableId). ForgetsNobody t place none.latch m b.me) (sym table) forgets, none.is_so.2);
+            });
+          }
+      | else-has_waiters w ↦ record {
+        place = place_there place (table_of w.seat-is ∙ table_of same) here.is_place;
+        put = subst (λ (x : SeatState). MayServe x.table place x.me) (sym (w.seat-is ∙ same)) (record {
+          latch = h;
+          holds = here.holds;
+          exact = here.is_so.1;
+          start = m;
+          served = inl (nobody_waits h.book.waiting (sym (c.has_waiters.ensures.told h.book here.holds.carried) ∙ w.if-has_waiters.false));
+        });
+      }
+    ]
+
 pub returns : goal.returns
 returns c =
     let id = c.args.seat.now.table in
@@ -21,9 +61,9 @@ returns c =
     let m : Mine = c.args.seat.now.me in
     let here = c.requires.here in
     let h = here.latch in
-    let out : Mine = c.put_latch.new.self.me in
+    let out : Mine = c.put_latch_served.new.self.me in
     let same = c.has_waiters.ensures.same in
-    let put = c.put_latch.ensures.made in
+    let put = c.put_latch_served.ensures.made in
     record {
       left = elim c.if-has_waiters.branch [
         | then-has_waiters w ↦
@@ -33,12 +73,20 @@ returns c =
             let forgets = subst (λ (x : SeatState). ForgetsNobody x.table place none.latch x.me b) same none.is_so.1 in (
               table_of put ∙ table_of w.seat-is ∙ way.0 ∙ table_of same,
               leaves_rescheduled id place none.latch m b out (subst (λ (x : SeatState). Reschedules x.table place x.me x.me b) same way.1) none.holds forgets
-                  (mine put ∙ ap (λ (x : SeatState). unlatched place [] x.me) w.seat-is),
+                  (mine put ∙ ap (λ (x : SeatState). served place x.me) w.seat-is),
             )
         | else-has_waiters w ↦ (
           table_of put ∙ table_of w.seat-is ∙ table_of same,
           leaves_none id place h m out here.holds (nobody_waits h.book.waiting (sym (c.has_waiters.ensures.told h.book here.holds.carried) ∙ w.if-has_waiters.false))
-              (mine put ∙ ap (λ (x : SeatState). unlatched place [] x.me) (w.seat-is ∙ same)),
+              (mine put ∙ ap (λ (x : SeatState). served place x.me) (w.seat-is ∙ same)),
         )
+      ];
+      once = elim c.if-has_waiters.branch [
+        | then-has_waiters w ↦
+            let b : Mine = w.grant_waiters.new.seat.me in
+            let way = subst (λ (x : SeatState). Reschedules x.table place x.me x.me b) same w.grant_waiters.ensures.granted.1 in
+            visit_after false m b out (within_of id place m m b way) place
+            (visit_served false b out place (mine put ∙ ap (λ (x : SeatState). served place x.me) w.seat-is))
+        | else-has_waiters w ↦ visit_served false m out place (mine put ∙ ap (λ (x : SeatState). served place x.me) (w.seat-is ∙ same))
       ];
     }

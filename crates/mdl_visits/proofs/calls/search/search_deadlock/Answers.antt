@@ -1,17 +1,41 @@
 -- All of it happens while the directory's latch is held, by the keys that its record has.
-use Rattle.std.proofs.Common.{List, subst}
+use Rattle.std.proofs.Common.{true, List, refl, sym, ap, ◌∙◌, subst}
 use Rattle.std.specs.Prelude.{IfOk}
-use Rattle.std.proofs.lemmas.Result.{IfOk-weaker}
+use Rattle.std.proofs.lemmas.Result.{IfOk-weaker, on_err_weaker}
 use Rattle.mdl_steps.specs.Copies.{Queues}
 use Rattle.mdl_steps.specs.SeatStates.{SeatState}
-use Rattle.mdl_visits.specs.Searches.{FindsFrom}
-use Rattle.mdl_visits.proofs.Holding.{in_hand, reads_all, searched, took_directory}
+use Rattle.mdl_visits.specs.Searches.{FindsFrom, but_searching, searches_after}
+use Rattle.mdl_visits.proofs.Holding.{in_hand, may_inform, may_take_all, reads_all, searched, took_directory}
+use Rattle.mdl_visits.proofs.Outcomes.{knows_on}
+use Rattle.mdl_visits.proofs.Searching.{has_taken_none, informed_still, known_taken, may_inform_still, searched_still, took_still}
 use Rattle.mdl_visits.proofs.calls.search.search_deadlock.Goals as goal
+
+pub search_from-outcome-requires-clause-taken : goal.search_from-outcome-requires-clause-taken
+search_from-outcome-requires-clause-taken g c =
+    let a : SeatState = c.args.seat.now in
+    let b : SeatState = c.await_directory-directory.new.seat in
+    let counted : SeatState = c.key_count-last.new.self in
+    let taken = c.await_directory-directory.ensures.taken in
+    let same = c.key_count-last.ensures.same in
+    let count = c.key_count-last.ensures.told taken.1 (in_hand a b counted taken same c.requires.idle).carried in
+    has_taken_none c.key_count-last.result c.new-lists.result a b counted taken same c.requires.idle count
+
+pub put_directory-requires : goal.put_directory-requires
+put_directory-requires g c = record {
+  put = may_inform_still c.key_count-last.new.self c.search_from-outcome.new.seat
+      (may_inform c.args.seat.now c.await_directory-directory.new.seat c.key_count-last.new.self c.await_directory-directory.ensures.taken c.key_count-last.ensures.same c.requires.idle
+      _ c.search_from-outcome.ensures.ends.reads);
+}
 
 pub returns-clause-reads : goal.returns-clause-reads
 returns-clause-reads g c =
-    reads_all c.args.seat.now c.await_directory-directory.new.seat c.key_count-last.new.self c.await_directory-directory.ensures.taken c.key_count-last.ensures.same c.requires.idle
-    c.search_from-outcome.new.seat c.search_from-outcome.ensures.reads c.put_directory.new.self c.put_directory.ensures.made
+    let a : SeatState = c.args.seat.now in
+    let counted : SeatState = c.key_count-last.new.self in
+    let taken = c.await_directory-directory.ensures.taken in
+    let same = c.key_count-last.ensures.same in
+    reads_all a c.await_directory-directory.new.seat counted taken same c.requires.idle
+    _ c.search_from-outcome.ensures.ends.reads _
+    (informed_still a counted c.search_from-outcome.new.seat c.put_directory.new.self (sym (ap (λ (s : SeatState). s.me.0.searches) (same ∙ taken.3))) c.put_directory.ensures.made)
 
 pub returns-clause-searched : goal.returns-clause-searched
 returns-clause-searched g c =
@@ -22,11 +46,50 @@ returns-clause-searched g c =
     let went : SeatState = c.put_directory.new.self in
     let taken = c.await_directory-directory.ensures.taken in
     let same = c.key_count-last.ensures.same in
-    let reads = c.search_from-outcome.ensures.reads in
-    let put = c.put_directory.ensures.made in
+    let reads = c.search_from-outcome.ensures.ends.reads in
+    let put = informed_still a counted looked went (sym (ap (λ (s : SeatState). s.me.0.searches) (same ∙ taken.3))) c.put_directory.ensures.made in
     let count = c.key_count-last.ensures.told taken.1 (in_hand a b counted taken same c.requires.idle).carried in
-    let found = subst (λ (lists : List Queues). IfOk c.search_from-outcome.result (FindsFrom 1 c.key_count-last.result lists counted looked)) c.new-lists.ensures c.search_from-outcome.ensures.found in (
+    let found = subst (λ (lists : List Queues). IfOk c.search_from-outcome.result (FindsFrom 1 c.key_count-last.result lists counted (but_searching counted looked))) c.new-lists.ensures
+    c.search_from-outcome.ensures.ends.found in (
       taken.1,
-      took_directory a b counted taken same c.requires.idle looked reads went put,
-      IfOk-weaker c.search_from-outcome.result _ _ (λ f finds. (searched a b counted looked went taken same c.requires.idle reads put c.key_count-last.result count f finds).0) found,
+      took_still a went taken.1 (took_directory a b counted taken same c.requires.idle (but_searching counted looked) reads (but_searching a went) put),
+      IfOk-weaker c.search_from-outcome.result _ _ (λ f finds. searched_still a went a.me.0.number taken.1 f
+          (searched a b counted (but_searching counted looked) (but_searching a went) taken same c.requires.idle reads put c.key_count-last.result count f finds).0) found,
     )
+
+pub returns-clause-own : goal.returns-clause-own
+returns-clause-own g c =
+    let a : SeatState = c.args.seat.now in
+    let b : SeatState = c.await_directory-directory.new.seat in
+    let counted : SeatState = c.key_count-last.new.self in
+    let looked : SeatState = c.search_from-outcome.new.seat in
+    let went : SeatState = c.put_directory.new.self in
+    let taken = c.await_directory-directory.ensures.taken in
+    let same = c.key_count-last.ensures.same in
+    let put = informed_still a counted looked went (sym (ap (λ (s : SeatState). s.me.0.searches) (same ∙ taken.3))) c.put_directory.ensures.made in
+    let count = c.key_count-last.ensures.told taken.1 (in_hand a b counted taken same c.requires.idle).carried in
+    let found = subst (λ (lists : List Queues). IfOk c.search_from-outcome.result (FindsFrom 1 c.key_count-last.result lists counted (but_searching counted looked))) c.new-lists.ensures
+    c.search_from-outcome.ensures.ends.found in
+    IfOk-weaker c.search_from-outcome.result _ _ (λ f finds. knows_on a.me.0.number f (but_searching a went).me went.me refl
+    (searched a b counted (but_searching counted looked) (but_searching a went) taken same c.requires.idle c.search_from-outcome.ensures.ends.reads put c.key_count-last.result count f finds).1) found
+
+pub returns-clause-nothing : goal.returns-clause-nothing
+returns-clause-nothing g c =
+    let taken = c.await_directory-directory.ensures.taken in
+    on_err_weaker c.search_from-outcome.result
+    (λ kept. ap (λ (s : SeatState). s.me.0.settles) c.put_directory.ensures.made ∙ kept ∙ ap (λ (s : SeatState). s.me.0.settles) (c.key_count-last.ensures.same ∙ taken.3))
+    c.search_from-outcome.ensures.ends.nothing
+
+pub returns-clause-ended : goal.returns-clause-ended
+returns-clause-ended g c = λ place knows.
+    let a : SeatState = c.args.seat.now in
+    let b : SeatState = c.await_directory-directory.new.seat in
+    let counted : SeatState = c.key_count-last.new.self in
+    let taken = c.await_directory-directory.ensures.taken in
+    let same = c.key_count-last.ensures.same in
+    let result = c.search_from-outcome.result in
+    let count = c.key_count-last.ensures.told taken.1 (in_hand a b counted taken same c.requires.idle).carried in
+    ap (λ (s : SeatState). s.me.0.searches) c.put_directory.ensures.made
+    ∙ c.search_from-outcome.ensures.ended
+    ∙ known_taken result a b taken place knows c.key_count-last.result count counted.me.0.searches
+    ∙ ap (λ (s : SeatState). searches_after result true s.me.0.searches) (same ∙ taken.3)

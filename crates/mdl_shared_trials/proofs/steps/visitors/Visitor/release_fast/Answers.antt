@@ -5,7 +5,9 @@ use Rattle.std.specs.Option.{option_to_list}
 use Rattle.mdl_key.specs.declared.namespace.Kind.{Kind}
 use Rattle.mdl_word.specs.Words.{increment_of}
 use Rattle.mdl_steps.specs.declared.view.Own.{Own}
+use Rattle.mdl_steps.specs.Cells.{held_at}
 use Rattle.mdl_steps.specs.Deeds.{is_own}
+use Rattle.mdl_visits.proofs.Lookups.{no_latches}
 use Rattle.mdl_shared.proofs.Membership.{kind_there}
 use Rattle.mdl_shared_trials.proofs.steps.visitors.Visitor.release_fast.Goals as goal
 
@@ -20,6 +22,7 @@ release_fast-owes-requires-clause-lost c =
     let there = kind_there self.place self.kind self.seat.me.0.known self.known in
     let alone = self.fast_is ∙ ap option_to_list c.in-Some.is in
     record {
+      apart = ap (held_at self.place) (no_latches self.seat.me self.idle);
       ticket = t;
       only = ap (λ (ts : List Own). filter (is_own self.place t.number) ts) alone ∙ found_alone self.place t c.if-ticket-self.false;
       counted_so = (there.0, there.1, there.2, there.3, ap (λ (k : Kind). increment_of k t.mode) there.4 ∙ sym c.increment.ensures ∙ c.in-Some-increment.is);

@@ -1,0 +1,24 @@
+-- The tables that are reached by whole turns from an opening.
+use Rattle.std.specs.Prelude.{◌≡◌, ℕ, List, length}
+use Rattle.atomic_table.specs.Table.{State, opening}
+use Rattle.mdl_steps.specs.declared.slot.Slot.{Slot}
+use Rattle.mdl_steps.specs.declared.view.View.{View}
+use Rattle.mdl_steps.specs.Cells.{blank, numbers_for}
+use Rattle.mdl_steps.specs.Layout.{word_count}
+use Rattle.mdl_steps.specs.Openings.{IsOpening}
+use Rattle.mdl_steps.specs.Rule.{Rule}
+use Rattle.mdl_steps.specs.Turns.{IsWholeTurn, Turn}
+
+-- a table is reached by whole turns from an opening, and the rule holds after each of them
+pub data Reached : State Slot View → Type 0 where
+  Opens : (sessions : ℕ) (words : List ℕ) (slots : List Slot) → IsOpening sessions words slots →
+      Reached (opening words slots (blank 0 (numbers_for sessions 0 0)))
+  Goes : (s t : State Slot View) → Reached s → Rule t → (turn : Turn s t) → IsWholeTurn turn → Reached t
+
+-- such a table with words for this number of sessions
+abbrev pub ReachedFor : ℕ → State Slot View → Type 0
+ReachedFor sessions s = Reached s × (length s.words ≡ word_count (length s.homes) sessions)
+
+-- the rule holds of each table that is reached, so also at an opening
+abbrev pub ReachedTablesKeepTheRule : Type 0
+ReachedTablesKeepTheRule = (s : State Slot View) → Reached s → Rule s

@@ -1,0 +1,95 @@
+-- A wish that can't be granted by the record isn't grantable in the system.
+use Rattle.std.proofs.Common.{◌≡◌, ◌≢◌, ℕ, zero, suc, ◌<◌, true, false, inl, inr, List, [], ◌∷◌, ◌++◌, map, get_or, Some, refl, sym, ap, ◌∙◌, subst}
+use Rattle.std.specs.Prelude.{Contains}
+use Rattle.std.proofs.lemmas.Bool.{and_parts, and_from}
+use Rattle.std.proofs.lemmas.List.Elements.{Contains-append_cases, Contains-get_or}
+use mathlib.Core.Option.{some, some-injective}
+use lib.ListN.{get_elem?}
+use Rattle.atomic_table.specs.Table.{State}
+use Rattle.atomic_table.proofs.Lists.{at_map}
+use Rattle.mdl_key.specs.declared.mode.Mode.{Mode}
+use Rattle.mdl_key.specs.declared.namespace.Kind.{Kind}
+use Rattle.mdl_key.specs.Words.{KeyName, kind_of, is_obtrusive}
+use Rattle.mdl_book.specs.declared.book_view.BookView.{BookView}
+use Rattle.mdl_book.specs.declared.ticket.Ticket.{Ticket}
+use Rattle.mdl_book.specs.Books.{lock_kind}
+use Rattle.mdl_book.specs.FastTickets.{AreOfOthers, CountsFastTickets, can_be_granted}
+use Rattle.mdl_book.specs.Granting.{goes_first, is_compatible, is_grantable, stands_beside}
+use Rattle.mdl_book.proofs.FastLemmas.{can_be_granted-fast}
+use Rattle.mdl_defs.specs.declared.definition.Definition.{Definition}
+use Rattle.mdl_steps.specs.declared.slot.Slot.{Slot}
+use Rattle.mdl_steps.specs.declared.view.LatchRecord.{LatchRecord}
+use Rattle.mdl_steps.specs.declared.view.Own.{Own}
+use Rattle.mdl_steps.specs.declared.view.View.{View}
+use Rattle.mdl_steps.specs.Cells.{all_fast, held_at, own_at, part_at, ticket_by, waits}
+use Rattle.mdl_steps.specs.Plays.{Mine}
+use Rattle.mdl_steps.specs.Rule.{Rule}
+use Rattle.mdl_steps.specs.RuleLaws.{fast_at}
+use Rattle.mdl_steps.proofs.Views.{by_bool}
+use Rattle.mdl_steps_laws.specs.EachStep.{IsKeyAt}
+use Rattle.mdl_steps_laws.specs.Locks.{granted_of}
+use Rattle.mdl_steps_laws.specs.WaitLaws.{IsTold}
+use Rattle.mdl_steps_laws.proofs.TableLocks.{same_keys}
+use Rattle.mdl_system.specs.Systems.{System, Waiter, IsGrantable}
+use Rattle.mdl_system.proofs.BookLemmas.{grantable-by_lists}
+use Rattle.mdl_system.proofs.MemberLemmas.{Contains-none, Contains-map_from}
+use Rattle.mdl_steps_laws.proofs.Puttings.{unblocked}
+
+-- a fast ticket is that of some session
+owner : (f : ℕ → ℕ) (q : ℕ) (views : List View) (t : Ticket) → Contains (all_fast (map (part_at f q) views)) t
+    → (j : ℕ) × (v : View) × (get_elem? views j ≡ some v) × (v.number ≡ t.session) × (v.fast ≢ [])
+owner f q [] t among = absurd (Contains-none t among)
+owner f q (v ∷ vs) t among = elim (Contains-append_cases (map (ticket_by v.number) (own_at q v.fast)) (all_fast (map (part_at f q) vs)) t among) [
+  | inl mine ↦
+      let from = Contains-map_from (ticket_by v.number) (own_at q v.fast) t mine in
+      (zero, v, refl, ap (λ (u : Ticket). u.session) (sym from.2), λ none. Contains-none from.0 (subst (λ (ts : List Own). Contains (own_at q ts) from.0) none from.1))
+  | inr later ↦ let rest = owner f q vs t later in (suc rest.0, rest.1, rest.2, rest.3, rest.4)
+]
+
+granted_part : (k : Kind) (xs ys : List Ticket) (session : ℕ) (mode : Mode) → is_compatible k (xs ++ ys) session mode ≡ true → is_compatible k ys session mode ≡ true
+granted_part k [] ys session mode all = all
+granted_part k (x ∷ xs) ys session mode all = granted_part k xs ys session mode (and_parts (stands_beside k session mode x) (is_compatible k (xs ++ ys) session mode) all).1
+
+module _ (s : State Slot View) (r : Rule s) (place : ℕ) (key : KeyName) (is_key : IsKeyAt s place key) (id : ℕ) (m : Mine) (seat : get_elem? s.views id ≡ some m.0)
+    (some_number : 0 < m.0.number) (h : LatchRecord) (has : held_at place m.0.latches ≡ Some h) (unfast : m.0.fast ≡ [])
+    (word : ℕ) (counts : h.obtrusive ≡ true → CountsFastTickets (lock_kind h.book) word (fast_at s place)) (mode : Mode)
+    (plain : h.obtrusive ≡ false → is_obtrusive (lock_kind h.book) mode ≡ false) (blocked : can_be_granted (lock_kind h.book) h.book.granted h.book.waiting word m.0.number mode ≡ false)
+    (a : System Definition) (told : IsTold s a) (grantable : IsGrantable a m.0.number key mode) where
+  at : get_elem? told.1.keys is_key.2.0 ≡ some key
+  at = subst (λ (ks : List KeyName). get_elem? ks is_key.2.0 ≡ some key) (same_keys s r is_key.0 is_key.1 ∙ sym (same_keys s r told.1.keys told.1.keys_are)) is_key.2.2
+
+  book : h.book ≡ (told.0 key).book
+  book = (told.1.book_is is_key.2.0 key at).taken id m.0 seat h (subst (λ (p : ℕ). held_at p m.0.latches ≡ Some h) is_key.2.1 has)
+
+  fast : fast_at s place ≡ (told.0 key).fast
+  fast = ap (fast_at s) is_key.2.1 ∙ sym (told.1.fast_are is_key.2.0 key at)
+
+  kind : lock_kind h.book ≡ kind_of key.namespace
+  kind = ap lock_kind book ∙ ap (λ (k : KeyName). kind_of k.namespace) (told.2.keyed key)
+
+  by_lists : is_grantable (lock_kind h.book) (fast_at s place ++ h.book.granted) h.book.waiting m.0.number mode ≡ true
+  by_lists =
+      let g = (grantable-by_lists a (λ k. granted_of (told.0 k)) told.2.granted m.0.number key mode).0 grantable in
+      subst (λ (k : Kind). is_grantable k (fast_at s place ++ h.book.granted) h.book.waiting m.0.number mode ≡ true) (sym kind)
+      (subst (λ (ts : List Ticket). is_grantable (kind_of key.namespace) (fast_at s place ++ h.book.granted) ts m.0.number mode ≡ true) (told.2.waiting key ∙ ap (λ (b : BookView). b.waiting) (sym book))
+      (subst (λ (ts : List Ticket). is_grantable (kind_of key.namespace) ts (map (λ (x : Waiter). x.ticket) (a.waiting key)) m.0.number mode ≡ true)
+      (λ j. sym fast j ++ (sym book j).granted) g))
+
+  of_others : AreOfOthers m.0.number (fast_at s place)
+  of_others k d inside own =
+      let its = owner (waits s) place s.views (get_or (fast_at s place) k d) (Contains-get_or (fast_at s place) k d inside) in
+      let same : its.0 ≡ id = r.enrolled.apart its.0 id m.0.number
+      (at_map (λ (x : View). x.number) s.views its.0 its.1 its.2 ∙ ap (λ (n : ℕ). some n) (its.3 ∙ own))
+      (at_map (λ (x : View). x.number) s.views id m.0 seat) some_number in
+      let mine : its.1 ≡ m.0 = some-injective its.1 m.0 (sym (subst (λ (j : ℕ). get_elem? s.views j ≡ some its.1) same its.2) ∙ seat) in
+      its.4 (ap (λ (v : View). v.fast) mine ∙ unfast)
+
+  by_word : can_be_granted (lock_kind h.book) h.book.granted h.book.waiting word m.0.number mode ≡ true
+  by_word = by_bool h.obtrusive
+      (λ up. can_be_granted-fast (counts up) h.book.granted h.book.waiting m.0.number mode of_others ∙ by_lists)
+      (λ down.
+      let g = and_parts (is_compatible (lock_kind h.book) (fast_at s place ++ h.book.granted) m.0.number mode) (goes_first (lock_kind h.book) h.book.waiting m.0.number mode) by_lists in
+      and_from _ _ (and_from _ _ (granted_part (lock_kind h.book) (fast_at s place) h.book.granted m.0.number mode g.0) (unblocked (lock_kind h.book) word mode (plain down))) g.1)
+
+  pub for_cause : ⊥
+  for_cause = let grants = by_word in absurd (cc)

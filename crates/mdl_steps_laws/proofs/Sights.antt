@@ -1,0 +1,238 @@
+-- Who sees no deadlock under all latches is in none.
+use Rattle.std.proofs.Common.{◌≡◌, ◌≢◌, ℕ, suc, ◌+◌, ◌*◌, ◌%◌, ◌<◌, ◌==◌, ◌&&◌, ◌||◌, not, Bool, true, false, inl, inr, List, [], ◌∷◌, length, map, Some, refl, sym, ap, ◌∙◌, subst, arith, eq-eqb, ne_eqb}
+use Rattle.std.specs.Prelude.{Option, Contains, AllPairs}
+use Rattle.std.specs.List.{list_any}
+use Rattle.std.specs.Option.{is_some}
+use Rattle.std.proofs.lemmas.Bool.{and_parts, and_from, eqb-true}
+use Rattle.std.proofs.lemmas.List.Elements.{Contains-append_cases}
+use mathlib.Core.Option.{some, some-injective}
+use lib.ListN.{get_elem?}
+use Rattle.atomic_table.specs.Table.{State}
+use Rattle.atomic_table.proofs.Lists.{at_map}
+use Rattle.mdl_key.specs.declared.namespace.Kind.{Kind}
+use Rattle.mdl_key.specs.Words.{KeyName, kind_of, clashes, waits_behind}
+use Rattle.mdl_book.specs.declared.book_view.BookView.{BookView}
+use Rattle.mdl_book.specs.declared.ticket.Ticket.{Ticket}
+use Rattle.mdl_book.specs.Books.{lock_kind}
+use Rattle.mdl_book.specs.Tickets.{ticket_of}
+use Rattle.mdl_book.proofs.TicketLemmas.{find-contains}
+use Rattle.mdl_defs.specs.declared.definition.Definition.{Definition}
+use Rattle.mdl_graph.specs.Cycles.{IsCycleThrough, are_distinct, leads}
+use Rattle.mdl_graph.specs.WaitsFor.{holds_against, is_tied, is_unsettled, waits_ahead, waits_at, waits_for}
+use Rattle.mdl_steps.specs.declared.slot.Slot.{Slot}
+use Rattle.mdl_steps.specs.declared.view.LatchRecord.{LatchRecord}
+use Rattle.mdl_steps.specs.declared.view.View.{View}
+use Rattle.mdl_steps.specs.Cells.{desk_of, held_at, holder_at, waits}
+use Rattle.mdl_steps.specs.Plays.{Mine}
+use Rattle.mdl_steps.specs.Histories.{Reached}
+use Rattle.mdl_steps.specs.Rule.{Rule}
+use Rattle.mdl_steps.specs.Sights.{SeesNoDeadlock, settled_in}
+use Rattle.mdl_steps.proofs.Views.{at_inside, by_bool}
+use Rattle.mdl_steps.proofs.WaitTells.{asks_there}
+use Rattle.mdl_steps_laws.specs.Cares.{WhoSeesNoDeadlockIsInNone}
+use Rattle.mdl_steps_laws.specs.Locks.{Lock, granted_of}
+use Rattle.mdl_steps_laws.specs.WaitLaws.{IsTold}
+use Rattle.mdl_steps_laws.specs.WaitsTold.{code_of}
+use Rattle.mdl_steps_laws.proofs.Askers.{askers_are_sessions}
+use Rattle.mdl_steps_laws.proofs.FastRests.{waiters_have_no_fast_tickets}
+use Rattle.mdl_steps_laws.proofs.MetWaits.{met_waits_stay}
+use Rattle.mdl_steps_laws.proofs.TableLocks.{find_key, same_keys}
+use Rattle.mdl_steps_laws.proofs.WaitsTold.{found_in}
+use Rattle.mdl_steps_laws.proofs.Wells.{rule_of}
+use Rattle.mdl_system.specs.Deadlocks.{WaitsFor, Wishes, Leads, IsDeadlock}
+use Rattle.mdl_system.specs.BookLaws.{in_book}
+use Rattle.mdl_system.specs.Systems.{System, Waiter}
+use Rattle.mdl_system.proofs.MemberLemmas.{Contains-none, Contains-map, apart-first, apart-rest}
+use Rattle.mdl_system.proofs.OrderLemmas.{Contains-here, Contains-later, Contains-cons_cases}
+
+-- ---- lists
+
+any_from : {T : Type 0} (test : T → Bool) (xs : List T) (x : T) → Contains xs x → test x ≡ true → list_any test xs ≡ true
+any_from test [] x among passes = absurd (Contains-none x among)
+any_from test (y ∷ ys) x among passes = elim (Contains-cons_cases y ys x among) [
+  | inl later ↦ right (test y) (any_from test ys x later passes)
+  | inr here ↦ left (test y) (list_any test ys) (subst (λ z. test z ≡ true) here passes)
+]
+  where
+    left : (a b : Bool) → a ≡ true → (a || b) ≡ true
+    left true b e = refl
+    left false b e = absurd (cc)
+
+    right : (a : Bool) → list_any test ys ≡ true → (a || list_any test ys) ≡ true
+    right true e = refl
+    right false e = e
+
+by_head : {T : Type 0} (test : T → Bool) (y : T) (ys : List T) → (list_any test ys ≡ true → (x : T) × Contains ys x × (test x ≡ true)) → (b : Bool) → test y ≡ b
+    → (b || list_any test ys) ≡ true → (x : T) × Contains (y ∷ ys) x × (test x ≡ true)
+by_head test y ys later true e found = (y, Contains-here y ys, e)
+by_head test y ys later false e found = let h = later found in (h.0, Contains-later y ys h.0 h.1, h.2)
+
+any_found : {T : Type 0} (test : T → Bool) (xs : List T) → list_any test xs ≡ true → (x : T) × Contains xs x × (test x ≡ true)
+any_found test [] found = absurd (cc)
+any_found test (y ∷ ys) found = by_head test y ys (any_found test ys) (test y) refl found
+
+distinct_from : (sessions : List ℕ) → AllPairs (λ one other. one ≢ other) sessions → are_distinct sessions ≡ true
+distinct_from [] apart = refl
+distinct_from (x ∷ xs) apart =
+    and_from (not (list_any (λ other. x == other) xs)) (are_distinct xs) (none (list_any (λ other. x == other) xs) refl)
+    (distinct_from xs (apart-rest (λ (y : ℕ). y) x xs apart))
+  where
+    none : (b : Bool) → list_any (λ other. x == other) xs ≡ b → not b ≡ true
+    none true e = (let h = any_found (λ other. x == other) xs e in absurd (apart-first (λ (y : ℕ). y) x xs apart h.0 h.1 (eqb-true x h.0 h.2)))
+    none false e = refl
+
+-- ---- ties
+
+module _ (s : State Slot View) (reached : Reached s) (id : ℕ) (m : Mine) (seat : get_elem? s.views id ≡ some m.0) (sees : SeesNoDeadlock (length s.homes) m)
+    (a : System Definition) (told : IsTold s a) where
+  abbrev books : List BookView
+  books = map (λ (h : LatchRecord). h.book) m.0.latches
+
+  r : Rule s
+  r = rule_of s reached
+
+  keys_are : sees.keys.keys ≡ (rule_of s reached).keys
+  keys_are = ((rule_of s reached).directory_agrees.held id (desk_of m.0) (at_map desk_of s.views id m.0 seat) sees.keys sees.directory).2
+
+  -- the place of a key at which somebody waits, and its record
+  pub record Here (key : KeyName) : Type 0 where
+    pub i : ℕ
+    pub at : get_elem? told.1.keys i ≡ some key
+    pub inside : suc i < length s.homes
+    pub latch : LatchRecord
+    pub held : held_at (suc i) m.0.latches ≡ Some latch
+    pub book : latch.book ≡ (told.0 key).book
+
+  here : (key : KeyName) (w : Waiter) → Contains (a.waiting key) w → Here key
+  here key w among = elim (find_key told.1.keys key) [
+    | inl at ↦
+        let same : told.1.keys ≡ sees.keys.keys = same_keys s (rule_of s reached) told.1.keys told.1.keys_are ∙ sym keys_are in
+        let below : at.0 < length told.1.keys = at_inside told.1.keys at.0 key at.1 in
+        let many : length told.1.keys ≡ length sees.keys.keys = ap length same in
+        let fit : length (rule_of s reached).keys < length s.homes = (rule_of s reached).fit in
+        let count : length sees.keys.keys ≡ length (rule_of s reached).keys = ap length keys_are in
+        let h = sees.all (suc at.0) (omega arith) (omega arith) in
+        record {
+          i = at.0;
+          at = at.1;
+          inside = omega arith;
+          latch = h.0;
+          held = h.1;
+          book = (told.1.book_is at.0 key at.1).taken id m.0 seat h.0 h.1;
+        }
+    | inr none ↦ absurd (Contains-none w.ticket (subst (λ (l : Lock). Contains l.book.waiting w.ticket) (told.1.without_place key none)
+        (subst (λ (ts : List Ticket). Contains ts w.ticket) (told.2.waiting key) (Contains-map (λ (x : Waiter). x.ticket) (a.waiting key) w among))))
+  ]
+
+  waits_there : (key : KeyName) (w : Waiter) (p : Here key) → Contains (a.waiting key) w → Contains p.latch.book.waiting w.ticket
+  waits_there key w p among =
+      subst (λ (ts : List Ticket). Contains ts w.ticket) (told.2.waiting key ∙ ap (λ (b : BookView). b.waiting) (sym p.book)) (Contains-map (λ (x : Waiter). x.ticket) (a.waiting key) w among)
+
+  kind_is : (key : KeyName) (p : Here key) → lock_kind p.latch.book ≡ kind_of key.namespace
+  kind_is key p = ap lock_kind p.book ∙ ap (λ (k : KeyName). kind_of k.namespace) (told.2.keyed key)
+
+  among_books : (key : KeyName) (p : Here key) → Contains books p.latch.book
+  among_books key p = Contains-map (λ (h : LatchRecord). h.book) m.0.latches p.latch (find-contains (λ (h : LatchRecord). h.place == suc p.i) m.0.latches p.latch p.held)
+
+  -- an open wait isn't settled by the words
+  open_ : (key : KeyName) (w : Waiter) (session : ℕ) → Wishes a session key w → settled_in sees.words session ≡ false
+  open_ key w session (among, own, unsettled) = by_bool (settled_in sees.words session) (λ settled. absurd (never (here key w among) settled)) (λ still. still)
+    where
+      false_true : ◌≡◌ {A = Bool} false true → ⊥
+      false_true e = cc
+
+      one_view : (n : ℕ) → 0 < n → (j k : ℕ) (v u : View) → get_elem? s.views j ≡ some v → get_elem? s.views k ≡ some u → v.number ≡ n → u.number ≡ n → v ≡ u
+      one_view n some_n j k v u at at′ is is′ =
+          let same : j ≡ k = (rule_of s reached).enrolled.apart j k n (at_map (λ (x : View). x.number) s.views j v at ∙ ap (λ (i : ℕ). some i) is)
+          (at_map (λ (x : View). x.number) s.views k u at′ ∙ ap (λ (i : ℕ). some i) is′) some_n in
+          some-injective v u (sym (subst (λ (i : ℕ). get_elem? s.views i ≡ some v) same at) ∙ at′)
+
+      never : (q : Here key) → settled_in sees.words session ≡ true → ⊥
+      never q settled =
+          let found = any_found (λ (x : ℕ × ℕ). x.0 == session && not (x.1 % 8 == 1)) sees.words settled in
+          let parts = and_parts (found.0.0 == session) (not (found.0.1 % 8 == 1)) found.2 in
+          let session_is : found.0.0 ≡ session = eqb-true found.0.0 session parts.0 in
+          let met = sees.met found.0 found.1 in
+          let there : Contains q.latch.book.waiting w.ticket = waits_there key w q among in
+          let u = found_in q.latch.book.waiting w.ticket there in
+          let same_number : ticket_of session w.ticket.number q.latch.book.waiting ≡ Some u.0 = subst (λ (n : ℕ). ticket_of n w.ticket.number q.latch.book.waiting ≡ Some u.0) own u.1 in
+          let first : 0 < suc q.i = omega arith in
+          let book_is = (((rule_of s reached).places (suc q.i) first q.inside).held id (holder_at (suc q.i) m.0) (at_map (holder_at (suc q.i)) s.views id m.0 seat) q.latch q.held).book_is in
+          let asks = asks_there s (rule_of s reached) (suc q.i) first q.inside session w.ticket.number u.0 (ap (λ (b : BookView). ticket_of session w.ticket.number b.waiting) (sym book_is) ∙ same_number) in
+          let some_session : 0 < session = subst (λ (n : ℕ). 0 < n) asks.4 (askers_are_sessions s reached asks.0 asks.1 asks.2 asks.3 asks.5) in
+          let stays = met_waits_stay s reached id m.0 seat met.0 met.1 (suc q.i) session w.ticket.number (first, q.inside) some_session (record {
+            kind = met.2;
+            word = met.3 ∙ ap (λ (n : ℕ). 8 * length s.homes + 8 + 8 * n) session_is;
+            latch = q.latch;
+            held = ap (held_at (suc q.i)) met.5 ∙ q.held;
+            waits = ap (λ (o : Option Ticket). is_some o) same_number;
+          }) in
+          let same_view : stays.1 ≡ asks.1 = one_view session some_session stays.0 asks.0 stays.1 asks.1 stays.2 asks.3 stays.3 asks.4 in
+          let facts = stays.5 asks.2 (ap (λ (v : View). v.asks) same_view ∙ asks.5) asks.7 in
+          let not_open : met.0.found % 8 ≢ 1 = λ is. false_true (sym (ap (λ (n : ℕ). not (n == 1)) (ap (λ (n : ℕ). n % 8) (sym met.4) ∙ is)) ∙ parts.1) in
+          let word_is : waits s session ≡ 8 * w.wait + code_of w.state = ap (waits s) (sym own) ∙ told.3.waiting key w among in
+          let code : code_of w.state ≡ 1 = ap code_of unsettled in
+          facts.1 not_open (omega arith)
+
+  -- a tie into a session that has one on is one by the books: that session waits, so it has no fast ticket
+  tied : (x y z : ℕ) → WaitsFor a x y → WaitsFor a y z → waits_for (settled_in sees.words) books x y ≡ true
+  tied x y z (apart, (key, wish, own, against)) (_, (at, its, wish_of_y, _)) =
+      let p = here key wish own.0 in
+      let settled = settled_in sees.words in
+      let ticket : Ticket = wish.ticket in
+      let there = waits_there key wish p own.0 in
+      let not_self : not (ticket.session == y) ≡ true = ap not (ne_eqb ticket.session y (λ e. apart (sym own.1 ∙ e))) in
+      let way : (holds_against p.latch.book ticket.mode y || waits_ahead settled p.latch.book ticket.mode y) ≡ true = elim against [
+        | inl held ↦ left_or (holds_against p.latch.book ticket.mode y) (waits_ahead settled p.latch.book ticket.mode y) (
+            let among : Contains (granted_of (told.0 key)) (in_book held.0) = subst (λ (k : KeyName). Contains (granted_of (told.0 k)) (in_book held.0)) held.2 ((told.2.granted held.0).0 held.1) in
+            let listed : Contains p.latch.book.granted (in_book held.0) = elim (Contains-append_cases (told.0 key).fast (told.0 key).book.granted (in_book held.0) among) [
+              | inl fast ↦ absurd ((waiters_have_no_fast_tickets s (rule_of s reached) a told key (in_book held.0) fast).0 at its wish_of_y.0 (wish_of_y.1 ∙ sym held.3))
+              | inr slow ↦ subst (λ (b : BookView). Contains b.granted (in_book held.0)) (sym p.book) slow
+            ] in
+            any_from (λ (t : Ticket). t.session == y && clashes (lock_kind p.latch.book) ticket.mode t.mode) p.latch.book.granted (in_book held.0) listed
+            (and_from (held.0.session == y) (clashes (lock_kind p.latch.book) ticket.mode held.0.mode) (eq-eqb held.0.session y held.3) (ap (λ (k : Kind). clashes k ticket.mode held.0.mode) (kind_is key p) ∙ held.4)))
+        | inr ahead ↦ right_or (holds_against p.latch.book ticket.mode y) (waits_ahead settled p.latch.book ticket.mode y) (
+            and_from (is_unsettled settled y) _ (ap not (open_ key ahead.0 y ahead.1))
+            (any_from (λ (t : Ticket). t.session == y && waits_behind (lock_kind p.latch.book) ticket.mode t.mode) p.latch.book.waiting ahead.0.ticket (waits_there key ahead.0 p ahead.1.0)
+            (and_from (ahead.0.ticket.session == y) _ (eq-eqb ahead.0.ticket.session y ahead.1.1) (ap (λ (k : Kind). waits_behind k ticket.mode ahead.0.ticket.mode) (kind_is key p) ∙ ahead.2))))
+      ] in
+      any_from (λ (b : BookView). waits_at settled b x y) books p.latch.book (among_books key p)
+      (and_from (is_unsettled settled x) _ (ap not (open_ key wish x own))
+      (any_from (λ (t : Ticket). t.session == x && is_tied settled p.latch.book y t) p.latch.book.waiting ticket there
+      (and_from (ticket.session == x) _ (eq-eqb ticket.session x own.1) (and_from (not (ticket.session == y)) _ not_self way))))
+    where
+      left_or : (u v : Bool) → u ≡ true → (u || v) ≡ true
+      left_or true v e = refl
+      left_or false v e = absurd (cc)
+
+      right_or : (u v : Bool) → v ≡ true → (u || v) ≡ true
+      right_or true v e = refl
+      right_or false v e = e
+
+  -- ---- cycles
+
+  abbrev waiting : ℕ → ℕ → Bool
+  waiting = waits_for (settled_in sees.words) books
+
+  first_tie : (target session : ℕ) (rest : List ℕ) → Leads (WaitsFor a) target session rest → (next : ℕ) × WaitsFor a session next
+  first_tie target session [] tie = (target, tie)
+  first_tie target session (next ∷ rest) (tie, later) = (next, tie)
+
+  leads_told : (target on session : ℕ) (rest : List ℕ) → WaitsFor a target on → Leads (WaitsFor a) target session rest → leads waiting target session rest ≡ true
+  leads_told target on session [] goes tie = tied session target on tie goes
+  leads_told target on session (next ∷ rest) goes (tie, later) =
+      let further = first_tie target next rest later in
+      and_from (waiting session next) (leads waiting target next rest) (tied session next further.0 tie further.1) (leads_told target on next rest goes later)
+
+  pub in_none : (cycle : List ℕ) → IsDeadlock a m.0.number cycle → ⊥
+  in_none cycle (rest, same, distinct, leading) =
+      let from : ℕ = m.0.number in
+      let on = first_tie from from rest leading in
+      sees.none cycle (subst (λ (c : List ℕ). IsCycleThrough waiting from c) (sym same)
+      (and_from (from == from && are_distinct (from ∷ rest)) (leads waiting from from rest)
+      (and_from (from == from) (are_distinct (from ∷ rest)) (eq-eqb from from refl)
+      (distinct_from (from ∷ rest) (subst (λ (c : List ℕ). AllPairs (λ one other. one ≢ other) c) same distinct)))
+      (leads_told from on.0 from rest on.1 leading)))
+
+pub who_sees_no_deadlock_is_in_none : WhoSeesNoDeadlockIsInNone
+who_sees_no_deadlock_is_in_none s reached id m seat sees a told cycle is = in_none s reached id m seat sees a told cycle is

@@ -1,0 +1,341 @@
+-- A session that holds the latches of all places, and finds no deadlock by the books there, sees that it is in none.
+use Rattle.std.proofs.Common.{◌≡◌, ◌≢◌, ℕ, suc, ◌+◌, ◌-◌, ◌<◌, ◌≤◌, ◌==◌, ◌&&◌, ◌||◌, nat_lt, not, Bool, true, false, List, [], ◌∷◌, ◌++◌, length, map, Some, None, inl, inr, refl, sym, ap, ◌∙◌, subst, arith}
+use Rattle.std.specs.Prelude.{Contains, MatchOption, Result, Ok, Err, IfOk, if◌then◌else◌}
+use Rattle.std.specs.List.{list_any}
+use Rattle.std.proofs.lemmas.Bool.{and_from, and_parts, cases_eq, eqb-true, lt-ltb}
+use Rattle.std.proofs.lemmas.Bool.Decides.{nat_tests}
+use Rattle.std.proofs.lemmas.List.{map-append}
+use Rattle.std.proofs.lemmas.List.Elements.{All-contains, Contains-append_left, Contains-push}
+use Rattle.std.proofs.lemmas.List.Folds.{Any-from_list_any, list_any-from_Any}
+use Rattle.mdl_book.specs.declared.book_view.BookView.{BookView}
+use Rattle.mdl_book.specs.declared.ticket.Ticket.{Ticket}
+use Rattle.mdl_calls.specs.declared.answers.Search.{Search}
+use Rattle.mdl_calls.specs.declared.answers.Search.TheVariants.{NoCycle, Victim}
+use Rattle.mdl_graph.specs.Cycles.{IsCycleThrough, are_distinct, leads}
+use Rattle.mdl_graph.specs.GraphLaws.{IsChosen, IsFree}
+use Rattle.mdl_graph.specs.Graphs.{lock_of}
+use Rattle.mdl_graph.specs.WaitsFor.{SessionTest, is_tied, is_unsettled, waits_at, waits_for}
+use Rattle.mdl_graph.proofs.DeadlockLemmas.{deadlock_chosen}
+use Rattle.mdl_steps.specs.declared.view.Keys.{Keys}
+use Rattle.mdl_steps.specs.declared.view.Known.{Known}
+use Rattle.mdl_steps.specs.declared.view.LatchRecord.{LatchRecord}
+use Rattle.mdl_steps.specs.declared.view.Met.{Met}
+use Rattle.mdl_steps.specs.Cells.{held_at}
+use Rattle.mdl_steps.specs.Copies.{Queues, queues_of}
+use Rattle.mdl_steps.specs.Deeds.{KnowsPlace}
+use Rattle.mdl_steps.specs.Plays.{Mine, consulted, informed, latched}
+use Rattle.mdl_steps.specs.Rule.{key_at}
+use Rattle.mdl_steps.specs.SeatStates.{AtItsTable, SeatState}
+use Rattle.mdl_steps.specs.Seats.{learnt, MayInform, MayPut}
+use Rattle.mdl_steps.specs.Sights.{SeesNoDeadlock, WasMetNow, settled_in}
+use Rattle.mdl_steps.specs.Layout.{wait_word}
+use Rattle.mdl_steps.specs.WaitStates.{unsettled_state, wait_state}
+use Rattle.mdl_steps.proofs.Views.{by_bool, each_at, held_at-first, held_at-past}
+use Rattle.mdl_system.proofs.MemberLemmas.{Contains-map, Contains-map_from, Contains-none}
+use Rattle.mdl_system.proofs.OrderLemmas.{Contains-cons_cases, middle}
+use Rattle.mdl_visits.specs.declared.audited.Audited.{Audited}
+use Rattle.mdl_visits.specs.declared.waits_read.WaitRead.{WaitRead}
+use Rattle.mdl_visits.specs.Idle.{IsIdle}
+use Rattle.mdl_visits.specs.Lookups.{TookDirectory}
+use Rattle.mdl_visits.specs.Searches.{AddsQueues, AreQueuesOf, EndsSearch, Finds, FindsFrom, HasTaken, IsOutcome, Judges, ReadsWaitsQuietly, Searched, WasRead, books_of, but_searching, found_none, if_waited, put_searching, searches_after, settled_by}
+use Rattle.mdl_visits.specs.Visits.{TakesDirectory, TakesLatch, and_made}
+use Rattle.mdl_visits.proofs.Lookups.{no_latches, some_there}
+use Rattle.mdl_visits.proofs.Seats.{mine}
+
+-- ---- the seat, except for its search
+
+-- where words of waits were read alone, the session has yet to search exactly if it had before
+pub still : (a e : SeatState) → AtItsTable a e ReadsWaitsQuietly → but_searching a e ≡ e
+still a e reads = λ i. record e { me = (record e.me.0 { searches = ap (λ (m : Mine). m.0.searches) (sym reads.1.reads.now) i }, e.me.1) }
+
+pub ends_still : {E : Type 0} (result : Result Search E) (place last : ℕ) (lists : List Queues) (a e : SeatState) → AtItsTable a e ReadsWaitsQuietly
+    → EndsSearch result (FindsFrom place last lists a e) a e → EndsSearch result (FindsFrom place last lists a (but_searching a e)) a (but_searching a e)
+ends_still result place last lists a e reads ends = subst (λ (x : SeatState). EndsSearch result (FindsFrom place last lists a x) a x) (sym (still a e reads)) ends
+
+-- a latch may be given back, whether the session has yet to search or not
+pub may_put_still : (place : ℕ) (c d : SeatState) → MayPut place [] (but_searching c d).me → MayPut place [] d.me
+may_put_still place c d may = (
+  may.0,
+  record { holds = record { recorded = may.1.holds.recorded; carried = may.1.holds.carried }; act = may.1.act; may = may.1.may },
+  may.2,
+  may.3,
+  may.4,
+)
+
+pub may_inform_still : (c d : SeatState) → MayInform (but_searching c d).me → MayInform d.me
+may_inform_still c d may = (may.0, record { recorded = may.1.recorded; carried = may.1.carried })
+
+-- giving a latch back is as ever then
+pub put_still : (q : ℕ) (searches : Bool) (a c d e : SeatState) → a.me.0.searches ≡ c.me.0.searches → e ≡ record d { me = put_searching q searches d.me }
+    → but_searching a e ≡ record (but_searching c d) { me = put_searching q (but_searching c d).me.0.searches (but_searching c d).me }
+put_still q searches a c d e same put = ap (but_searching a) put ∙ (λ i. record d { me = put_searching q (same i) d.me })
+
+pub informed_still : (a c d e : SeatState) → a.me.0.searches ≡ c.me.0.searches → e ≡ record d { me = informed (learnt d.me 0) d.me }
+    → but_searching a e ≡ record (but_searching c d) { me = informed (learnt (but_searching c d).me 0) (but_searching c d).me }
+informed_still a c d e same put = ap (but_searching a) put
+    ∙ (λ i. record d { me = informed (learnt d.me 0) (record d.me.0 { searches = same i }, d.me.1) })
+
+-- what was found by steps of the session was found whether it has yet to search or not
+pub judges_still : (a e : SeatState) (who : ℕ) (latches : List LatchRecord) (audited : List Audited) (found : Search)
+    → Judges a.table who latches audited found a.me (but_searching a e).me → Judges a.table who latches audited found a.me e.me
+judges_still a e who latches audited found judges = record { words = judges.words; all = judges.all; read = judges.read; outcome = by_found found judges.outcome }
+  where
+    by_found : (f : Search) → IsOutcome a.table.slots who latches audited judges.words a.me (but_searching a e).me f → IsOutcome a.table.slots who latches audited judges.words a.me e.me f
+    by_found NoCycle none = none
+    by_found (Victim victim) one =
+        let it = one.1 in (one.0, record { wait = it.wait; settles = it.settles; moment = it.moment; step = it.step; kind = it.kind; met = it.met; held = it.held })
+
+pub searched_still : (a e : SeatState) (who : ℕ) (k : Keys) (found : Search)
+    → Searched a.table who k found a.me (but_searching a e).me → Searched a.table who k found a.me e.me
+searched_still a e who k found is = record {
+  audited = is.audited;
+  all = is.all;
+  keys = is.keys;
+  moment = is.moment;
+  step = is.step;
+  directory = is.directory;
+  recorded = is.recorded;
+  judges = judges_still a e who is.moment.held is.audited found is.judges;
+}
+
+pub took_still : (a e : SeatState) (k : Keys) → TookDirectory a.table.slots k k a.me (but_searching a e).me → TookDirectory a.table.slots k k a.me e.me
+took_still a e k took = record {
+  before = took.before;
+  within = took.within;
+  after = took.after;
+  recorded = took.recorded;
+  listed = took.listed;
+  none_before = took.none_before;
+  either_within = took.either_within;
+  none_after = took.none_after;
+}
+
+-- ---- whether it has yet to search
+
+pub none_taken : {E : Type 0} (result : Result Search E) (place last : ℕ) (searches : Bool) → last < place → searches ≡ searches_after result (nat_lt place (last + 1)) searches
+none_taken result place last searches behind =
+    let below : nat_lt place (last + 1) ≡ false = grind (arith, nat_tests) in
+    ap (λ (b : Bool). not (b && found_none result) && searches) (sym below)
+
+pub one_taken : {E : Type 0} (result : Result Search E) (place last : ℕ) (searches : Bool) → place ≤ last
+    → (not ((place == last) && found_none result) && searches_after result (nat_lt (place + 1) (last + 1)) searches) ≡ searches_after result (nat_lt place (last + 1)) searches
+one_taken result place last searches within =
+    let here : nat_lt place (last + 1) ≡ true = grind (arith, nat_tests) in
+    by_bool (place == last)
+    (λ e.
+    let is : place ≡ last = eqb-true place last e in
+    let next : nat_lt (place + 1) (last + 1) ≡ false = grind (arith, nat_tests) in
+    rw (e, next, here) refl)
+    (λ e.
+    let next : nat_lt (place + 1) (last + 1) ≡ true = grind (arith, nat_tests) in
+    rw (e, next, here) refl)
+
+-- ---- lists of books
+
+-- books that have these lists
+abbrev books_with : List Queues → List Audited
+books_with lists = map (λ (q : Queues). record { place = 0; book = lock_of q.0 q.1.0 q.1.1 }) lists
+
+have_lists : (lists : List Queues) → AreQueuesOf (books_with lists) lists
+have_lists [] = refl
+have_lists (q ∷ lists) = ap (λ (qs : List Queues). q ∷ qs) (have_lists lists)
+
+lists_added : (one : Audited) (lists more : List Queues) → AddsQueues (if_waited one) lists more → more ≡ lists ++ map (λ (a : Audited). queues_of a.book) (if_waited one)
+lists_added one lists more added =
+    sym (added (books_with lists) (have_lists lists)) ∙ map-append (λ (a : Audited). queues_of a.book) (books_with lists) (if_waited one)
+    ∙ ap (λ (qs : List Queues). qs ++ map (λ (a : Audited). queues_of a.book) (if_waited one)) (have_lists lists)
+
+-- ---- the latches that are held
+
+pub has_taken_none : (last : ℕ) (lists : List Queues) (a b c : SeatState) (taken : TakesDirectory a b) → c ≡ b → IsIdle a.me → last ≡ length taken.1.keys → HasTaken 1 last lists c.me
+has_taken_none last lists a b c taken same idle count =
+    subst (HasTaken 1 last lists) (sym (mine (same ∙ taken.3))) (record {
+      keys = taken.1;
+      directory = refl;
+      count = count;
+      all = λ p some below. absurd (omega arith);
+      copied = λ h among waits. absurd (Contains-none h (subst (λ (hs : List LatchRecord). Contains hs h) (no_latches a.me idle) among));
+    })
+
+module _ (place q last : ℕ) (lists more : List Queues) (a b c : SeatState) (taken : TakesLatch place a.me b.me) (same : c ≡ b) (held : HasTaken place last lists a.me)
+    (added : AddsQueues (if_waited (record { place = q; book = taken.0.book })) lists more) where
+  abbrev h : LatchRecord
+  h = taken.0
+
+  abbrev one : Audited
+  one = record { place = q; book = h.book }
+
+  waits_here : nat_lt 0 (length h.book.waiting) ≡ true → Contains more (queues_of h.book)
+  waits_here some =
+      let listed : map (λ (x : Audited). queues_of x.book) (if_waited one) ≡ queues_of h.book ∷ [] =
+      ap (λ (w : Bool). map (λ (x : Audited). queues_of x.book) (if w then one ∷ [] else [])) some in
+      subst (λ (qs : List Queues). Contains qs (queues_of h.book)) (sym (lists_added one lists more added ∙ ap (λ (qs : List Queues). lists ++ qs) listed))
+      (Contains-push lists (queues_of h.book))
+
+  waits_there : (g : LatchRecord) → Contains lists (queues_of g.book) → Contains more (queues_of g.book)
+  waits_there g there =
+      subst (λ (qs : List Queues). Contains qs (queues_of g.book)) (sym (lists_added one lists more added))
+      (Contains-append_left lists (map (λ (x : Audited). queues_of x.book) (if_waited one)) (queues_of g.book) there)
+
+  pub has_taken_more : HasTaken (place + 1) last more c.me
+  has_taken_more = subst (HasTaken (place + 1) last more) (sym (mine same ∙ taken.3.1)) (record {
+    keys = held.keys;
+    directory = held.directory;
+    count = held.count;
+    all = λ p some below. elim (cases_eq p place) [
+      | inl e ↦ (h, subst (λ (k : ℕ). held_at k (h ∷ a.me.0.latches) ≡ Some h) (sym e) (held_at-first place h a.me.0.latches taken.1.here))
+      | inr apart ↦ (let was = held.all p some (omega arith) in (was.0, held_at-past place p h a.me.0.latches taken.1.here apart ∙ was.1))
+    ];
+    copied = λ g among waits. elim (Contains-cons_cases h a.me.0.latches g among) [
+      | inl later ↦ waits_there g (held.copied g later waits)
+      | inr here ↦
+          subst (λ (x : LatchRecord). Contains more (queues_of x.book)) (sym here)
+          (waits_here (subst (λ (x : LatchRecord). nat_lt 0 (length x.book.waiting) ≡ true) here waits))
+    ];
+  })
+
+-- ---- ties and cycles
+
+any_found : {T : Type 0} (test : T → Bool) (xs : List T) → list_any test xs ≡ true → (x : T) × Contains xs x × (test x ≡ true)
+any_found test xs found = let at = Any-from_list_any test xs found in (at.1, (at.0, at.2, at.3), at.4)
+
+any_from : {T : Type 0} (test : T → Bool) (xs : List T) (x : T) → Contains xs x → test x ≡ true → list_any test xs ≡ true
+any_from test xs x among passes = list_any-from_Any test xs (among.0, x, among.1, among.2, passes)
+
+some_waits : (test : Ticket → Bool) (waiting : List Ticket) → list_any test waiting ≡ true → nat_lt 0 (length waiting) ≡ true
+some_waits test [] found = absurd (cc)
+some_waits test (t ∷ waiting) found = (let some : 0 < suc (length waiting) = omega arith in lt-ltb 0 (suc (length waiting)) some)
+
+leads_more : (few many : ℕ → ℕ → Bool) → ((x y : ℕ) → few x y ≡ true → many x y ≡ true) → (target session : ℕ) (rest : List ℕ)
+    → leads few target session rest ≡ true → leads many target session rest ≡ true
+leads_more few many more target session [] is = more session target is
+leads_more few many more target session (next ∷ rest) is =
+    let parts = and_parts (few session next) (leads few target next rest) is in
+    and_from (many session next) (leads many target next rest) (more session next parts.0) (leads_more few many more target next rest parts.1)
+
+cycle_more : (few many : ℕ → ℕ → Bool) → ((x y : ℕ) → few x y ≡ true → many x y ≡ true) → (from : ℕ) (cycle : List ℕ) → IsCycleThrough few from cycle → IsCycleThrough many from cycle
+cycle_more few many more from [] is = absurd (cc)
+cycle_more few many more from (first ∷ rest) is =
+    let begins = first == from && are_distinct (first ∷ rest) in
+    let parts = and_parts begins (leads few from first rest) is in
+    and_from begins (leads many from first rest) parts.0 (leads_more few many more from first rest parts.1)
+
+-- each tie by the records is one by the lists, since a ticket waits by the record
+module _ (settled : SessionTest) (lists : List Queues) (latches : List LatchRecord)
+    (copied : (h : LatchRecord) → Contains latches h → nat_lt 0 (length h.book.waiting) ≡ true → Contains lists (queues_of h.book)) where
+  tied_by_lists : (x y : ℕ) → waits_for settled (map (λ (h : LatchRecord). h.book) latches) x y ≡ true → waits_for settled (books_of (books_with lists)) x y ≡ true
+  tied_by_lists x y tie =
+      let at = any_found (λ (b : BookView). waits_at settled b x y) (map (λ (h : LatchRecord). h.book) latches) tie in
+      let from = Contains-map_from (λ (h : LatchRecord). h.book) latches at.0 at.1 in
+      let h : LatchRecord = from.0 in
+      let waits : waits_at settled h.book x y ≡ true = subst (λ (b : BookView). waits_at settled b x y ≡ true) from.2 at.2 in
+      let parts = and_parts (is_unsettled settled x) (list_any (λ (t : Ticket). t.session == x && is_tied settled h.book y t) h.book.waiting) waits in
+      let some = some_waits (λ (t : Ticket). t.session == x && is_tied settled h.book y t) h.book.waiting parts.1 in
+      let listed = copied h from.1 some in
+      let q : Queues = queues_of h.book in
+      let one : Audited = record { place = 0; book = lock_of q.0 q.1.0 q.1.1 } in
+      any_from (λ (b : BookView). waits_at settled b x y) (books_of (books_with lists)) one.book
+      (Contains-map (λ (a : Audited). a.book) (books_with lists) one (Contains-map (λ (p : Queues). record { place = 0; book = lock_of p.0 p.1.0 p.1.1 }) lists q listed)) waits
+
+-- ---- what the session sees
+
+-- a session's word, behind the session
+abbrev word_of : WaitRead → ℕ × ℕ
+word_of r = (r.session, r.word.0)
+
+settled_same : (words : List WaitRead) (session : ℕ) → settled_in (map word_of words) session ≡ settled_by words session
+settled_same [] session = refl
+settled_same (r ∷ words) session = ap (λ (b : Bool). (r.session == session && not (wait_state r.word.0 == unsettled_state)) || b) (settled_same words session)
+
+module _ (lists : List Queues) (last : ℕ) (c d : SeatState) (held : HasTaken (last + 1) last lists c.me) (reads : AtItsTable c d ReadsWaitsQuietly) (finds : Finds lists c d NoCycle) where
+  abbrev judged : Judges c.table c.me.0.number c.me.0.latches (books_with lists) NoCycle c.me d.me
+  judged = finds.0 (books_with lists) (have_lists lists)
+
+  same_latches : d.me.0.latches ≡ c.me.0.latches
+  same_latches = ap (λ (m : Mine). m.0.latches) reads.1.reads.now
+
+  was_met : (r : WaitRead) → Contains judged.words r → WasMetNow d.table.slots d.me (word_of r)
+  unfolding same_latches
+  was_met r among =
+      let was = All-contains (WasRead c.table.slots c.me.0.latches c.me d.me) judged.words r judged.read among in
+      let step = was.1 in (
+        was.0,
+        subst (λ (log : List Met). Contains log was.0) (sym step.2) (middle (c.me.0.log ++ step.0) step.1 was.0),
+        inl was.2,
+        was.3 ∙ ap (λ (k : ℕ). wait_word k r.session) (sym (ap (λ t. t.slots) reads.0)),
+        was.4,
+        was.5 ∙ sym same_latches,
+      )
+
+  free : IsFree (settled_by judged.words) (books_of (books_with lists)) c.me.0.number
+  free =
+      let settled = settled_by judged.words in
+      let books = books_of (books_with lists) in
+      let who = c.me.0.number in
+      subst (λ o. MatchOption o (IsFree settled books who) (IsChosen settled books who)) judged.outcome.0 (deadlock_chosen settled books who)
+
+  none : (cycle : List ℕ) → IsCycleThrough (waits_for (settled_in (map word_of judged.words)) (map (λ (h : LatchRecord). h.book) d.me.0.latches)) d.me.0.number cycle → ⊥
+  none cycle is =
+      let settled = settled_by judged.words in
+      let test : settled_in (map word_of judged.words) ≡ settled = λ i session. settled_same judged.words session i in
+      let by_records = subst (λ (t : SessionTest). IsCycleThrough (waits_for t (map (λ (h : LatchRecord). h.book) c.me.0.latches)) c.me.0.number cycle) test
+      (subst (λ (m : Mine). IsCycleThrough (waits_for (settled_in (map word_of judged.words)) (map (λ (h : LatchRecord). h.book) m.0.latches)) m.0.number cycle) reads.1.reads.now is) in
+      free cycle (cycle_more (waits_for settled (map (λ (h : LatchRecord). h.book) c.me.0.latches)) (waits_for settled (books_of (books_with lists)))
+      (tied_by_lists settled lists c.me.0.latches held.copied) c.me.0.number cycle by_records)
+
+  pub sees_none : SeesNoDeadlock d.table.slots d.me
+  sees_none = record {
+    keys = held.keys;
+    directory = ap (λ (m : Mine). m.0.directory) reads.1.reads.now ∙ held.directory;
+    all = λ p some within. (let count = held.count in let h = held.all p some (omega arith) in (h.0, ap (held_at p) same_latches ∙ h.1));
+    words = map word_of judged.words;
+    met = λ w among. (let from = Contains-map_from word_of judged.words w among in subst (WasMetNow d.table.slots d.me) (sym from.2) (was_met from.0 from.1));
+    none = none;
+  }
+
+-- ---- after a place
+
+pub none_found : {E : Type 0} (result : Result Search E) → found_none result ≡ true → result ≡ Ok NoCycle
+none_found (Ok NoCycle) is = refl
+none_found (Ok (Victim victim)) is = absurd (cc)
+none_found (Err why) is = absurd (cc)
+
+pub refused_still : (taken searches : Bool) → searches ≡ (not (taken && false) && searches)
+refused_still true searches = refl
+refused_still false searches = refl
+
+module _ (place q last : ℕ) (a b c d : SeatState) (at : q ≡ place) (taken : TakesLatch place a.me b.me) (table : b.table ≡ a.table) (same : c ≡ b) (lists more : List Queues)
+    (held : HasTaken place last lists a.me) (added : AddsQueues (if_waited (record { place = q; book = taken.0.book })) lists more) where
+  pub same_search : a.me.0.searches ≡ c.me.0.searches
+  same_search = sym (ap (λ (m : Mine). m.0.searches) (mine same ∙ taken.3.1))
+
+  -- once all latches are held, and no deadlock was found by the books
+  pub sees_none_here : {E : Type 0} (result : Result Search E) (clear : Bool) → clear ≡ found_none result → (place + 1 ≡ last + 1 → EndsSearch result (Finds more c d) c d)
+      → (place == last) ≡ true → clear ≡ true → SeesNoDeadlock d.table.slots d.me
+  sees_none_here result clear told here last_is clear_is =
+      let is : place ≡ last = eqb-true place last last_is in
+      let ends = here (omega arith) in
+      let finds : Finds more c d NoCycle = subst (λ r. IfOk r (Finds more c d)) (none_found result (sym told ∙ clear_is)) ends.found in
+      sees_none more last c d (subst (λ (k : ℕ). HasTaken (k + 1) last more c.me) is (has_taken_more place q last lists more a b c taken same held added)) ends.reads finds
+
+  pub ended_here : {E : Type 0} (result : Result Search E) (clear : Bool) (e : SeatState) → clear ≡ found_none result → place ≤ last
+      → e ≡ record d { me = put_searching q (not ((place == last) && clear) && d.me.0.searches) d.me }
+      → d.me.0.searches ≡ searches_after result (nat_lt (place + 1) (last + 1)) c.me.0.searches
+      → e.me.0.searches ≡ searches_after result (nat_lt place (last + 1)) a.me.0.searches
+  ended_here result clear e told within put inner =
+      ap (λ (s : SeatState). s.me.0.searches) put
+      ∙ (λ i. not ((place == last) && told i) && inner i)
+      ∙ one_taken result place last c.me.0.searches within
+      ∙ ap (λ (s : Bool). searches_after result (nat_lt place (last + 1)) s) (sym same_search)
+
+-- a session that knows a key takes a latch
+pub known_taken : {E : Type 0} (result : Result Search E) (a b : SeatState) (taken : TakesDirectory a b) (place : ℕ) → KnowsPlace a.me.0 place → (last : ℕ) → last ≡ length taken.1.keys
+    → (searches : Bool) → searches_after result (nat_lt 1 (last + 1)) searches ≡ searches_after result true searches
+known_taken result a b taken place knows last count searches =
+    let k : Keys = taken.1 in
+    let stands = each_at (λ (x : Known). (0 < x.place) × (key_at k.keys x.place ≡ Some x.key)) a.me.0.known taken.2.known knows.0 knows.1 knows.2 in
+    let some = stands.0 in
+    let inside = some_there k.keys (knows.1.place - 1) knows.1.key stands.1 in
+    let first : 0 < last = omega arith in
+    let here : nat_lt 1 (last + 1) ≡ true = grind (arith, nat_tests) in
+    ap (λ (w : Bool). not (w && found_none result) && searches) here
