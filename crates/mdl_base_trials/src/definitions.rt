@@ -3,6 +3,7 @@ mod caches;
 mod columns;
 mod standings;
 
+use crate::rows::none_is_wrong;
 use columns::{Names, columns};
 use mdl_defs::{Change, Column, DefError, Definition, apply};
 use std::alloc::Global;
@@ -222,6 +223,6 @@ const CHANGED: &[(&str, &[Row])] = &[
 fn changes_what_stands(rt: HostRuntime) {
     for (what, rows) in CHANGED {
         let wrong = first_wrong(rt.alloc(), rows);
-        assert!(rt; wrong.is_none(), "{what}: {wrong:?}");
+        none_is_wrong(&rt, what, wrong);
     }
 }

@@ -2,8 +2,9 @@
 //!
 //! Everything here is for tests. Each crate below has its tests in the module that is named for its subject: `keys` those of `mdl_key`, `words` of
 //! `mdl_word`, `definitions` of `mdl_defs`, `books` of `mdl_book`, `strength` of `mdl_system`, `deadlocks` of `mdl_graph`, and `syntax` of
-//! `mdl_syntax`; `texts` has the causes of their refusals, and those of `mdl_calls`, as they are printed. They use only what these crates make
-//! public, so that the crates themselves have no tests and are proved once. Cases are rows of tables, and a test is a loop over one.
+//! `mdl_syntax`; `texts` has the causes of their refusals, and those of `mdl_calls`, as they are printed. `examples` are those of ten crates. They use only
+//! what these crates make public, so that the crates themselves have no tests and are proved once. Cases are rows of tables, and a test is a loop
+//! over one (`rows` tells which row is wrong).
 #![tactic(auto)]
 
 #[cfg(test)]
@@ -13,7 +14,11 @@ mod deadlocks;
 #[cfg(test)]
 mod definitions;
 #[cfg(test)]
+mod examples;
+#[cfg(test)]
 mod keys;
+#[cfg(test)]
+mod rows;
 #[cfg(test)]
 mod strength;
 #[cfg(test)]

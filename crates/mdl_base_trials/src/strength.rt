@@ -1,4 +1,5 @@
 //! Strength between two modes of one kind.
+use crate::rows::is_right;
 use mdl_key::Mode;
 use mdl_system::{covers, may_downgrade, may_upgrade};
 
@@ -17,8 +18,8 @@ const STRONG: &[(Mode, Mode, bool)] = &[
 // the other.
 #[test]
 fn strength_is_that_of_a_common_kind(rt: HostRuntime) {
-    for (a, b, wanted) in STRONG {
-        assert!(rt; covers(*a, *b) == *wanted, "{a} beside {b}");
+    for (row, (a, b, wanted)) in STRONG.iter().enumerate() {
+        is_right(&rt, row, covers(*a, *b) == *wanted);
     }
 }
 
@@ -40,10 +41,8 @@ const BECOMES: &[(Mode, Mode, bool, bool)] = &[
 // SU, SNW and SNRW may be upgraded to each mode after them in this order, and to X. X may be downgraded to each of them, and SNW to SU.
 #[test]
 fn few_modes_become_others(rt: HostRuntime) {
-    for (held, mode, up, down) in BECOMES {
-        assert!(rt;
-            may_upgrade(*held, *mode) == *up && may_downgrade(*held, *mode) == *down,
-            "{held} to {mode}"
-        );
+    for (row, (held, mode, up, down)) in BECOMES.iter().enumerate() {
+        let right = may_upgrade(*held, *mode) == *up && may_downgrade(*held, *mode) == *down;
+        is_right(&rt, row, right);
     }
 }

@@ -1,4 +1,5 @@
 //! What is printed of values, and of the cause of each refusal.
+use crate::rows::none_is_wrong;
 use mdl_book::BookError;
 use mdl_calls::SpaceError;
 use mdl_defs::{CacheError, ChangeError, DefError};
@@ -14,14 +15,14 @@ pub(crate) fn is_printed<T: Display>(alloc: Global, value: &T, text: &str) -> bo
     }
 }
 
-// Whether each value is printed as its row says.
-fn are_printed<T: Display>(alloc: Global, rows: &[(T, &str)]) -> bool {
-    for (value, text) in rows {
+// Returns the index of the first row that doesn't say how its value is printed.
+fn first_wrong<T: Display>(alloc: Global, rows: &[(T, &str)]) -> Option<usize> {
+    for (row, (value, text)) in rows.iter().enumerate() {
         if !is_printed(alloc, value, text) {
-            return false;
+            return Some(row);
         }
     }
-    true
+    None
 }
 
 const KEYS: &[(KeyError, &str)] = &[
@@ -102,10 +103,10 @@ const SPACES: &[(SpaceError, &str)] = &[
 
 #[test]
 fn tells_each_cause(rt: HostRuntime) {
-    assert!(rt; are_printed(rt.alloc(), KEYS), "of keys");
-    assert!(rt; are_printed(rt.alloc(), DEFINITIONS), "of definitions");
-    assert!(rt; are_printed(rt.alloc(), CHANGES), "of changes");
-    assert!(rt; are_printed(rt.alloc(), CACHES), "of caches");
-    assert!(rt; are_printed(rt.alloc(), BOOKS), "of books");
-    assert!(rt; are_printed(rt.alloc(), SPACES), "of spaces");
+    none_is_wrong(&rt, "keys", first_wrong(rt.alloc(), KEYS));
+    none_is_wrong(&rt, "definitions", first_wrong(rt.alloc(), DEFINITIONS));
+    none_is_wrong(&rt, "changes", first_wrong(rt.alloc(), CHANGES));
+    none_is_wrong(&rt, "caches", first_wrong(rt.alloc(), CACHES));
+    none_is_wrong(&rt, "books", first_wrong(rt.alloc(), BOOKS));
+    none_is_wrong(&rt, "spaces", first_wrong(rt.alloc(), SPACES));
 }

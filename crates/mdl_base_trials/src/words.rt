@@ -1,4 +1,5 @@
 //! The packed word.
+use crate::rows::is_right;
 use mdl_key::{Kind, Mode};
 use mdl_word::Word;
 
@@ -25,12 +26,10 @@ const INCREMENTS: &[(Mode, Option<u64>, Option<u64>)] = &[
 
 #[test]
 fn increments(rt: HostRuntime) {
-    for (mode, scoped, object) in INCREMENTS {
-        assert!(rt;
-            Word::increment(Kind::Scoped, *mode) == *scoped
-                && Word::increment(Kind::Object, *mode) == *object,
-            "{mode}"
-        );
+    for (row, (mode, scoped, object)) in INCREMENTS.iter().enumerate() {
+        let right = Word::increment(Kind::Scoped, *mode) == *scoped
+            && Word::increment(Kind::Object, *mode) == *object;
+        is_right(&rt, row, right);
     }
 }
 
@@ -57,8 +56,8 @@ const FIELDS: &[(u64, [u32; 3], bool, bool)] = &[
 
 #[test]
 fn fields(rt: HostRuntime) {
-    for (word, counts, slow, obtrusive) in FIELDS {
-        assert!(rt; says(*word, *counts, *slow, *obtrusive), "{word}");
+    for (row, (word, counts, slow, obtrusive)) in FIELDS.iter().enumerate() {
+        is_right(&rt, row, says(*word, *counts, *slow, *obtrusive));
     }
 }
 
@@ -80,11 +79,8 @@ fn are_raised(slow: bool, obtrusive: bool, raising: u64, keeping: u64) -> bool {
 
 #[test]
 fn flags_at_once(rt: HostRuntime) {
-    for (slow, obtrusive, raising, keeping) in FLAGS {
-        assert!(rt;
-            are_raised(*slow, *obtrusive, *raising, *keeping),
-            "{slow}, {obtrusive}"
-        );
+    for (row, (slow, obtrusive, raising, keeping)) in FLAGS.iter().enumerate() {
+        is_right(&rt, row, are_raised(*slow, *obtrusive, *raising, *keeping));
     }
 }
 
@@ -105,10 +101,7 @@ const BLOCKED: &[(u64, Kind, Mode, bool)] = &[
 
 #[test]
 fn blocked_requests(rt: HostRuntime) {
-    for (word, kind, ask, blocks) in BLOCKED {
-        assert!(rt;
-            Word(*word).blocks(*kind, *ask) == *blocks,
-            "{ask} at {word}"
-        );
+    for (row, (word, kind, ask, blocks)) in BLOCKED.iter().enumerate() {
+        is_right(&rt, row, Word(*word).blocks(*kind, *ask) == *blocks);
     }
 }

@@ -1,6 +1,8 @@
 //! Examples of crates, which the heads of their `src/lib.rt` show, too.
 mod lock;
 mod program;
+mod rows;
 mod script;
 mod script_laws;
+mod stmt;
 mod work;

@@ -4,6 +4,7 @@
 //! after another (`room`): the ordinary `life` of locks, `refusals`, `deadlocks`, `definitions`, held tickets in other `modes`, and lack of `memory`.
 //! What takes more than rows is in `trials`: the `tables` of a schema, the `books` of all places, a lock that is `full`, and `limits`. `contexts` has
 //! such rows of contexts, which a `hall` plays: a space with the contexts of its sessions. `by_chance` compares contexts with a plain program.
+//! `examples` are those of three crates.
 #![tactic(auto)]
 
 #[cfg(test)]
@@ -18,6 +19,8 @@ mod contexts;
 mod deadlocks;
 #[cfg(test)]
 mod definitions;
+#[cfg(test)]
+mod examples;
 #[cfg(test)]
 mod full;
 #[cfg(test)]

@@ -1,11 +1,11 @@
 //! Small tables of locks, with everything that is found of them worked out by hand.
+use crate::rows::is_right;
 use mdl_key::Mode;
 use mdl_view::{
     Act, AtLock, BackupMode, Blocking, Lock, LockKind, LockMode, Reason, Ticket, at_once,
     blocked_waits, blockers, blockings, held_by, unexplained_waits,
 };
 use std::alloc::{AllocError, Global};
-use std::test::Fail;
 
 // A session with a mode. What a session holds in these tables isn't of its statement.
 type Of = (usize, LockMode);
@@ -245,19 +245,40 @@ fn ticket_of(of: &Of, number: u64, of_statement: bool) -> Ticket {
     }
 }
 
-// Returns the lock of a row.
-fn lock_of(alloc: Global, row: &Row) -> Result<Lock, AllocError> {
-    let mut lock = Lock::new(alloc, row.kind);
+// Adds the tickets of a row to a lock. Whether there was memory for them.
+fn fill(lock: &mut Lock, row: &Row) -> bool {
     for of in row.granted {
-        lock.add_granted(ticket_of(of, 1, false))?;
+        if lock.add_granted(ticket_of(of, 1, false)).is_err() {
+            return false;
+        }
     }
     for of in row.waiting {
-        lock.add_waiting(ticket_of(of, 2, true))?;
+        if lock.add_waiting(ticket_of(of, 2, true)).is_err() {
+            return false;
+        }
     }
     for of in row.settled {
-        lock.add_settled(ticket_of(of, 3, true))?;
+        if lock.add_settled(ticket_of(of, 3, true)).is_err() {
+            return false;
+        }
     }
-    Ok(lock)
+    true
+}
+
+// Adds the lock of a row. Whether there was memory for it.
+fn add_lock(alloc: Global, locks: &mut Vec<Lock>, row: &Row) -> bool {
+    let mut lock = Lock::new(alloc, row.kind);
+    let is_filled = fill(&mut lock, row);
+    locks.push(lock).is_ok() && is_filled
+}
+
+fn add_locks(alloc: Global, locks: &mut Vec<Lock>, rows: &[Row]) -> bool {
+    for row in rows {
+        if !add_lock(alloc, locks, row) {
+            return false;
+        }
+    }
+    true
 }
 
 // Whether these are the wanted pairs of a waiter and a session that blocks it, with their reasons.
@@ -288,67 +309,140 @@ fn are_blocked(found: &[AtLock], pairs: &[(usize, usize, Reason)]) -> bool {
         && pairs.iter().all(|pair| found.iter().any(|wait| wait.ticket.session == pair.0))
 }
 
-// Whether everything that a case says is found of its locks.
-fn is_all_found(alloc: Global, case: &Case, locks: &[Lock]) -> Result<bool, AllocError> {
-    let pairs = blockings(alloc, locks)?;
-    let blocked = blocked_waits(alloc, locks)?;
-    let unexplained = unexplained_waits(alloc, locks)?;
-    let got = at_once(alloc, locks, case.act)?;
-    let held = held_by(alloc, locks, case.act.target())?;
-    Ok(
-        are_pairs(&pairs, case.in_the_way)
-            && are_blocked(&blocked, case.in_the_way)
-            && are_of(&unexplained, case.unexplained)
-            && are_of(&got, case.gets)
-            && held.len() == case.holds,
-    )
+// Whether who blocks whom is found as a case says.
+fn are_blockings_found(alloc: Global, case: &Case, locks: &[Lock]) -> bool {
+    match blockings(alloc, locks) {
+        Ok(pairs) => are_pairs(&pairs, case.in_the_way),
+        Err(_) => false,
+    }
 }
 
-// The same, for locks made from the case.
-fn holds(alloc: Global, case: &Case) -> Result<bool, AllocError> {
-    let mut locks = Vec::new(alloc);
-    for row in case.locks {
-        locks.push(lock_of(alloc, row)?)?;
+// Whether the waits are found that somebody blocks.
+fn are_blocked_found(alloc: Global, case: &Case, locks: &[Lock]) -> bool {
+    match blocked_waits(alloc, locks) {
+        Ok(blocked) => are_blocked(&blocked, case.in_the_way),
+        Err(_) => false,
     }
-    is_all_found(alloc, case, &locks)
+}
+
+// Whether the waits are found that nothing explains.
+fn are_unexplained_found(alloc: Global, case: &Case, locks: &[Lock]) -> bool {
+    match unexplained_waits(alloc, locks) {
+        Ok(unexplained) => are_of(&unexplained, case.unexplained),
+        Err(_) => false,
+    }
+}
+
+// Whether it is found who gets a lock at once after the act.
+fn are_granted_found(alloc: Global, case: &Case, locks: &[Lock]) -> bool {
+    match at_once(alloc, locks, case.act) {
+        Ok(got) => are_of(&got, case.gets),
+        Err(_) => false,
+    }
+}
+
+// Whether it is found how many tickets the session of the act holds.
+fn are_held_found(alloc: Global, case: &Case, locks: &[Lock]) -> bool {
+    match held_by(alloc, locks, case.act.target()) {
+        Ok(held) => held.len() == case.holds,
+        Err(_) => false,
+    }
+}
+
+// Whether everything that a case says is found of its locks.
+fn holds(alloc: Global, case: &Case) -> bool {
+    let mut locks = Vec::new(alloc);
+    let right = add_locks(alloc, &mut locks, case.locks)
+        && are_blockings_found(alloc, case, &locks)
+        && are_blocked_found(alloc, case, &locks)
+        && are_unexplained_found(alloc, case, &locks)
+        && are_granted_found(alloc, case, &locks)
+        && are_held_found(alloc, case, &locks);
+    drop(locks);
+    right
 }
 
 #[test]
-fn tables_by_hand(rt: HostRuntime) -> Result<(), Fail> {
+fn tables_by_hand(rt: HostRuntime) {
     for case in CASES {
-        let holds = holds(rt.alloc(), case)?;
-        assert!(rt; holds, "{}", case.name);
+        is_right(&rt, case.name, holds(rt.alloc(), case));
     }
-    Ok(())
+}
+
+// Session 7 holds the lock in two modes, and session 6 waits for it before session 1.
+const TWICE: &Row = &Row {
+    kind: LockKind::Object,
+    granted: &[(7, SU), (5, SR), (7, X)],
+    waiting: &[(6, X), (1, SR)],
+    settled: &[],
+};
+
+// Whether exactly these sessions block a request of session 1 to read.
+fn are_blockers(alloc: Global, lock: &Lock, wanted: &[usize]) -> bool {
+    match blockers(alloc, lock, ticket_of(&(1, SR), 2, true)) {
+        Ok(found) => found.as_slice() == wanted,
+        Err(_) => false,
+    }
+}
+
+// The same for the lock of a row.
+fn are_blockers_at(alloc: Global, row: &Row, wanted: &[usize]) -> bool {
+    let mut lock = Lock::new(alloc, row.kind);
+    let right = fill(&mut lock, row) && are_blockers(alloc, &lock, wanted);
+    drop(lock);
+    right
 }
 
 // A session that blocks a request twice is named once, and one that holds the lock before one that waits for it.
 #[test]
-fn each_blocker_once(rt: HostRuntime) -> Result<(), Fail> {
-    let row = Row {
-        kind: LockKind::Object,
-        granted: &[(7, SU), (5, SR), (7, X)],
-        waiting: &[(6, X), (1, SR)],
-        settled: &[],
-    };
-    let lock = lock_of(rt.alloc(), &row)?;
-    let found = blockers(rt.alloc(), &lock, ticket_of(&(1, SR), 2, true))?;
-    assert_eq!(rt; found.as_slice(), [7, 6].as_slice());
-    Ok(())
+fn each_blocker_once(rt: HostRuntime) {
+    assert!(rt; are_blockers_at(rt.alloc(), TWICE, &[7, 6]));
+}
+
+// Adds tickets of 10,000 sessions that hold a lock, and of 10,000 that wait for it. Whether there was memory for them.
+fn fill_with_many(lock: &mut Lock) -> bool {
+    for session in 1..10_001 {
+        if lock
+            .add_granted(ticket_of(&(session, SR), 1, false))
+            .is_err()
+            || lock
+                .add_waiting(ticket_of(&(session + 10_000, X), 2, true))
+                .is_err()
+        {
+            return false;
+        }
+    }
+    true
+}
+
+// Adds such a lock.
+fn add_large(alloc: Global, locks: &mut Vec<Lock>) -> bool {
+    let mut lock = Lock::new(alloc, LockKind::Object);
+    let is_filled = fill_with_many(&mut lock);
+    locks.push(lock).is_ok() && is_filled
+}
+
+// Whether so many waits are found.
+fn are_so_many(found: Result<Vec<AtLock>, AllocError>, wanted: usize) -> bool {
+    match found {
+        Ok(found) => found.len() == wanted,
+        Err(_) => false,
+    }
+}
+
+// Whether all waits at such a lock are found to be blocked, none without an explanation, and none that goes on if one holder ends.
+fn are_many_blocked(alloc: Global) -> bool {
+    let mut locks = Vec::new(alloc);
+    let right = add_large(alloc, &mut locks)
+        && are_so_many(blocked_waits(alloc, &locks), 10_000)
+        && are_so_many(unexplained_waits(alloc, &locks), 0)
+        && are_so_many(at_once(alloc, &locks, Act::Kill(1)), 0);
+    drop(locks);
+    right
 }
 
 // 20,000 tickets at one lock: half hold it, and the others wait.
 #[test]
-fn many_tickets_at_one_lock(rt: HostRuntime) -> Result<(), Fail> {
-    let mut lock = Lock::new(rt.alloc(), LockKind::Object);
-    for session in 1..10_001 {
-        lock.add_granted(ticket_of(&(session, SR), 1, false))?;
-        lock.add_waiting(ticket_of(&(session + 10_000, X), 2, true))?;
-    }
-    let mut locks = Vec::new(rt.alloc());
-    locks.push(lock)?;
-    assert_eq!(rt; blocked_waits(rt.alloc(), &locks)?.len(), 10_000);
-    assert_eq!(rt; unexplained_waits(rt.alloc(), &locks)?.len(), 0);
-    assert_eq!(rt; at_once(rt.alloc(), &locks, Act::Kill(1))?.len(), 0);
-    Ok(())
+fn many_tickets_at_one_lock(rt: HostRuntime) {
+    assert!(rt; are_many_blocked(rt.alloc()));
 }

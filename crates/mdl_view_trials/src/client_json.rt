@@ -1,7 +1,6 @@
 //! Tables in JSON, as `mdl_client_table` reads them.
-use mdl_client_table::{JsonError, JsonFault, TableError, read_table};
+use mdl_client_table::{JsonError, JsonFault, Row, Table, TableError, read_table};
 use std::alloc::Global;
-use std::test::Fail;
 
 // The same rows in each form in which clients print JSON: keys in another order and another case, one that is missing, numbers, escapes, and the
 // text `NULL`.
@@ -56,58 +55,76 @@ fn is_refused(alloc: Global, text: &[u8]) -> bool {
     matches!(read_table(alloc, text), Err(TableError::Json(_)))
 }
 
-#[test]
-fn json_is_read(rt: HostRuntime) -> Result<(), Fail> {
-    let alloc = rt.alloc();
-    for text in FORMS {
-        let table = read_table(alloc, text)?;
-        assert_eq!(rt; table.names().len(), 3);
-        assert_eq!(rt; table.rows().len(), 2);
-        for name in table.names().iter().take(1) {
-            assert_eq!(rt; name.as_slice(), b"Id".as_slice());
-        }
-        for row in table.rows().iter().take(1) {
-            assert_eq!(rt; (row.line(), row.count()), (1, 3));
-            assert_eq!(rt; row.field(0), b"8".as_slice());
-            assert_eq!(rt; row.field(1), b"a\"\xc3\xa9\xf0\x9f\x98\x80\n".as_slice());
-            assert_eq!(rt; row.field(2), b"".as_slice());
-        }
-        for row in table.rows().iter().skip(1) {
-            assert!(rt; row.line() > 1);
-            assert_eq!(rt; row.count(), 3);
-            assert_eq!(rt; row.field(0), b"-1.5e3".as_slice());
-            assert_eq!(rt; row.field(1), b"".as_slice());
-            assert_eq!(rt; row.field(2), b"NULL".as_slice());
-        }
+// Whether a row is on this line and has these three fields.
+fn is_row(row: &Row, line: u64, fields: [&[u8]; 3]) -> bool {
+    let [id, user, info] = fields;
+    row.line() == line
+        && row.count() == 3
+        && row.field(0) == id
+        && row.field(1) == user
+        && row.field(2) == info
+}
+
+// Whether a table has the rows of the forms.
+fn is_read_so(table: &Table) -> bool {
+    match (table.names(), table.rows()) {
+        ([id, _, _], [one, two]) => id.as_slice() == b"Id".as_slice()
+            && is_row(one, 1, [b"8", b"a\"\xc3\xa9\xf0\x9f\x98\x80\n", b""])
+            && two.line() > 1
+            && is_row(two, two.line(), [b"-1.5e3", b"", b"NULL"]),
+        _ => false,
     }
-    Ok(())
+}
+
+// Whether these rows are read from a text.
+fn is_form(alloc: Global, text: &[u8]) -> bool {
+    match read_table(alloc, text) {
+        Ok(table) => is_read_so(&table),
+        Err(_) => false,
+    }
 }
 
 #[test]
-fn json_is_refused(rt: HostRuntime) -> Result<(), Fail> {
+fn json_is_read(rt: HostRuntime) {
+    for text in FORMS {
+        assert!(rt; is_form(rt.alloc(), text));
+    }
+}
+
+// Whether a text is refused for this.
+fn is_refused_for(alloc: Global, text: &[u8], fault: JsonFault) -> bool {
+    match read_table(alloc, text) {
+        Ok(_) => false,
+        Err(error) => error == TableError::Json(fault),
+    }
+}
+
+#[test]
+fn json_is_refused(rt: HostRuntime) {
     for (text, line, column, error) in REFUSED {
-        let wanted = JsonFault {
+        let fault = JsonFault {
             line: *line,
             column: *column,
             error: *error,
         };
-        let refused = read_table(rt.alloc(), text).err();
-        assert!(rt;
-            refused == Some(TableError::Json(wanted)),
-            "{line} {column}: {refused:?}"
-        );
+        let is_refused = is_refused_for(rt.alloc(), text, fault);
+        assert!(rt; is_refused, "{line} {column}");
     }
-    Ok(())
+}
+
+// Whether a text of two rows is read.
+fn has_two_rows(alloc: Global, text: &[u8]) -> bool {
+    match read_table(alloc, text) {
+        Ok(table) => table.rows().len() == 2,
+        Err(_) => false,
+    }
 }
 
 #[test]
-fn json_cut_anywhere_is_refused(rt: HostRuntime) -> Result<(), Fail> {
-    let alloc = rt.alloc();
+fn json_cut_anywhere_is_refused(rt: HostRuntime) {
     for end in 2..SHORT.len() {
-        let is_refused = is_refused(alloc, &SHORT[..end]);
+        let is_refused = is_refused(rt.alloc(), &SHORT[..end]);
         assert!(rt; is_refused, "{end}");
     }
-    let table = read_table(alloc, SHORT)?;
-    assert_eq!(rt; table.rows().len(), 2);
-    Ok(())
+    assert!(rt; has_two_rows(rt.alloc(), SHORT));
 }

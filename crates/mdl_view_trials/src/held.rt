@@ -1,27 +1,28 @@
 //! A picture of what is held: a reader, a change that waits for it, and its end. The places are worked out by hand.
-use mdl_picture::{Event, Fate, Held, Moment, picture};
-use std::alloc::{AllocError, Global};
-use std::test::Fail;
+use crate::moments::{EventRow, HeldRow, MomentRow, add_moments};
+use crate::rows::has_all;
+use mdl_picture::{Fate, Moment, picture};
+use std::alloc::Global;
 
 // The reader holds SR twice, and a lock on the whole server.
-const READER: [(u16, &str, &str); 3] = [
+const READER: &[HeldRow] = &[
     (1, "SR", "TABLE test.t"),
     (1, "IX", "GLOBAL"),
     (1, "SR", "TABLE test.t"),
 ];
 
 // Both sessions hold the table.
-const BOTH: [(u16, &str, &str); 3] = [
+const BOTH: &[HeldRow] = &[
     (1, "SR", "TABLE test.t"),
     (2, "IX", "GLOBAL"),
     (2, "SU", "TABLE test.t"),
 ];
 
 // The reader has ended.
-const CHANGE: [(u16, &str, &str); 1] = [(2, "SU", "TABLE test.t")];
+const CHANGE: &[HeldRow] = &[(2, "SU", "TABLE test.t")];
 
 // The bars: from the left side of a box to that of another, each below the boxes of its row.
-const BARS: [&str; 2] = [
+const BARS: &[&str] = &[
     "<g><title>session 1 holds SR of TABLE test.t from line 1 to line 3</title>\n\
      <rect class=\"held\" x=\"88\" y=\"94\" width=\"155\" height=\"12\"></rect>\n\
      <text class=\"mode\" x=\"91\" y=\"104\">SR TABLE test.t</text>\n</g>\n",
@@ -31,87 +32,85 @@ const BARS: [&str; 2] = [
 ];
 
 // The arrows: up to the foot of the reader's row, and down to that of a session that has no box.
-const ARROWS: [&str; 2] = [
+const ARROWS: &[&str] = &[
     "<g><title>session 2 waits for session 1 at line 2</title>\n\
      <line class=\"arrow\" x1=\"132\" y1=\"124\" x2=\"132\" y2=\"108\"></line>\n</g>\n",
     "<g><title>session 2 waits for session 3 at line 2</title>\n\
      <line class=\"arrow\" x1=\"138\" y1=\"188\" x2=\"138\" y2=\"220\"></line>\n</g>\n",
 ];
 
-// An event of a session, with its words, its answer, and what is held after it.
-fn event_of(
-    alloc: Global,
-    line: u64,
-    words: (u16, &str, &str),
-    fate: Fate,
-    held: &[(u16, &str, &str)],
-) -> Result<Event, AllocError> {
-    let (session, statement, answer) = words;
-    let mut locks = Vec::new(alloc);
-    for (session, mode, lock) in held {
-        locks.push(Held {
-            session: *session,
-            mode: Vec::from_slice(alloc, mode.as_bytes())?,
-            lock: Vec::from_slice(alloc, lock.as_bytes())?,
-        })?;
+const READS: EventRow = EventRow {
+    line: 1,
+    session: 1,
+    statement: b"SELECT t",
+    answer: b"OK",
+    fate: Fate::Ends,
+    in_the_way: &[],
+    held: READER,
+};
+
+const WAITS: EventRow = EventRow {
+    line: 2,
+    session: 2,
+    statement: b"ALTER TABLE t",
+    answer: b"WAIT",
+    fate: Fate::Waits,
+    in_the_way: &[1, 3],
+    held: BOTH,
+};
+
+const ENDS: EventRow = EventRow {
+    line: 3,
+    session: 1,
+    statement: b"COMMIT",
+    answer: b"OK",
+    fate: Fate::Ends,
+    in_the_way: &[],
+    held: CHANGE,
+};
+
+const GOES_ON: EventRow = EventRow {
+    line: 2,
+    session: 2,
+    statement: b"",
+    answer: b"OK",
+    fate: Fate::Ends,
+    in_the_way: &[],
+    held: &[],
+};
+
+const MOMENTS: &[MomentRow] = &[(1, 1, &[READS]), (2, 2, &[WAITS]), (3, 1, &[ENDS, GOES_ON])];
+
+// Whether a picture has two bars, besides the sign in the legend, and shows no intention lock.
+fn has_two_bars(drawn: &[u8]) -> bool {
+    match std::str::from_utf8(drawn) {
+        Ok(text) => text.matches("class=\"held\"").count() == 3 && !text.contains("holds IX"),
+        Err(_) => false,
     }
-    Ok(Event {
-        line,
-        session,
-        statement: Vec::from_slice(alloc, statement.as_bytes())?,
-        answer: Vec::from_slice(alloc, answer.as_bytes())?,
-        fate,
-        in_the_way: Vec::new(alloc),
-        held: locks,
-    })
 }
 
-// The picture.
-fn drawn(alloc: Global) -> Result<Vec<u8>, AllocError> {
-    let reads = event_of(alloc, 1, (1, "SELECT t", "OK"), Fate::Ends, &READER)?;
-    let mut waits = event_of(alloc, 2, (2, "ALTER TABLE t", "WAIT"), Fate::Waits, &BOTH)?;
-    waits.in_the_way.extend_from_slice(&[1, 3])?;
-    let ends = event_of(alloc, 3, (1, "COMMIT", "OK"), Fate::Ends, &CHANGE)?;
-    let goes_on = event_of(alloc, 2, (2, "", "OK"), Fate::Ends, &[])?;
-    let mut last = moment(alloc, 3, 1, ends)?;
-    last.events.push(goes_on)?;
+// Whether the picture of some moments has these parts and two bars.
+fn is_picture(alloc: Global, moments: &[Moment], parts: &[&str]) -> bool {
+    match picture(alloc, moments) {
+        Ok(drawn) => has_all(&drawn, parts) && has_two_bars(&drawn),
+        Err(_) => false,
+    }
+}
+
+// The same for the picture of all moments above.
+fn has_parts(alloc: Global, parts: &[&str]) -> bool {
     let mut moments = Vec::new(alloc);
-    moments.push(moment(alloc, 1, 1, reads)?)?;
-    moments.push(moment(alloc, 2, 2, waits)?)?;
-    moments.push(last)?;
-    picture(alloc, &moments)
-}
-
-// A line with its first event.
-fn moment(alloc: Global, line: u64, session: u16, event: Event) -> Result<Moment, AllocError> {
-    let mut events = Vec::new(alloc);
-    events.push(event)?;
-    Ok(Moment {
-        line,
-        session,
-        events,
-    })
+    let right = add_moments(alloc, &mut moments, MOMENTS) && is_picture(alloc, &moments, parts);
+    drop(moments);
+    right
 }
 
 #[test]
-fn what_is_held_has_bars(rt: HostRuntime) -> Result<(), Fail> {
-    let drawn = drawn(rt.alloc())?;
-    let text = std::str::from_utf8(&drawn).unwrap_or("");
-    for bar in BARS {
-        assert!(rt; text.contains(bar));
-    }
-    // Two bars and the sign in the legend, and no intention lock.
-    assert!(rt; text.matches("class=\"held\"").count() == 3);
-    assert!(rt; !text.contains("holds IX"));
-    Ok(())
+fn what_is_held_has_bars(rt: HostRuntime) {
+    assert!(rt; has_parts(rt.alloc(), BARS));
 }
 
 #[test]
-fn arrows_are_set_apart(rt: HostRuntime) -> Result<(), Fail> {
-    let drawn = drawn(rt.alloc())?;
-    let text = std::str::from_utf8(&drawn).unwrap_or("");
-    for arrow in ARROWS {
-        assert!(rt; text.contains(arrow));
-    }
-    Ok(())
+fn arrows_are_set_apart(rt: HostRuntime) {
+    assert!(rt; has_parts(rt.alloc(), ARROWS));
 }

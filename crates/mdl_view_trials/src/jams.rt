@@ -1,11 +1,11 @@
 //! Small jams, with the ways out of them worked out by hand.
+use crate::rows::is_right;
 use mdl_key::Mode;
 use mdl_view::{
     Act, AtLock, Lock, LockKind, LockMode, Ticket, Way, at_once, by_now, in_turn, joint_waits,
     stuck_waits, upgrades, ways,
 };
 use std::alloc::{AllocError, Global};
-use std::test::Fail;
 
 // A session with a mode.
 type Of = (usize, Mode);
@@ -145,6 +145,50 @@ const CASES: &[Case] = &[
         granted: &[2],
         ending: &[2],
     },
+    // If the reader ends, the change goes on, and then the others. If the change's statement ends, the others do. To end its session isn't better.
+    Case {
+        name: "an idle reader, a change that waits for it, and two readers behind the change",
+        locks: &[(
+            OBJECT,
+            &[(1, Mode::SR)],
+            &[(2, Mode::X), (3, Mode::SR), (4, Mode::SR)],
+        )],
+        ways: &[(Act::Kill(1), 1, 3), (Act::KillQuery(2), 2, 2)],
+        joint: &[],
+        stuck: &[],
+        act: Act::Kill(1),
+        granted: &[2],
+        ending: &[2, 3, 4],
+    },
+    Case {
+        name: "a change behind two holders, of whom either is not enough",
+        locks: &[(OBJECT, &[(1, Mode::SR), (2, Mode::SW)], &[(3, Mode::X)])],
+        ways: &[],
+        joint: &[3],
+        stuck: &[],
+        act: Act::Kill(1),
+        granted: &[],
+        ending: &[],
+    },
+    // To end session 2 lets both others go on at once, and to end session 1 lets session 3 go on only after session 2. To end the statement of
+    // session 2 lets session 3 go on, but session 1 still waits for what session 2 holds.
+    Case {
+        name: "each of two sessions holds what the other one waits for, and a third one waits behind them",
+        locks: &[
+            (OBJECT, &[(1, Mode::SW)], &[(2, Mode::X), (3, Mode::SR)]),
+            (OBJECT, &[(2, Mode::SW)], &[(1, Mode::X)]),
+        ],
+        ways: &[
+            (Act::Kill(2), 2, 2),
+            (Act::Kill(1), 1, 2),
+            (Act::KillQuery(2), 1, 1),
+        ],
+        joint: &[],
+        stuck: &[2, 3, 1],
+        act: Act::Kill(2),
+        granted: &[3, 1],
+        ending: &[3, 1],
+    },
     // Nobody who holds the table has a row.
     Case {
         name: "a change that nobody is seen to block, and a reader behind it",
@@ -168,16 +212,39 @@ fn ticket(session: usize, mode: Mode, of_statement: bool) -> Ticket {
     }
 }
 
-// Returns the lock of a row.
-fn lock_of(alloc: Global, row: &Row) -> Result<Lock, AllocError> {
+// Adds tickets to a lock: of those that hold it, and of those that wait for it. Whether there was memory for them.
+fn fill(lock: &mut Lock, (_, holders, waiters): Row) -> bool {
+    for (session, mode) in holders {
+        if lock.add_granted(ticket(*session, *mode, false)).is_err() {
+            return false;
+        }
+    }
+    add_waiters(lock, waiters)
+}
+
+fn add_waiters(lock: &mut Lock, waiters: &[Of]) -> bool {
+    for (session, mode) in waiters {
+        if lock.add_waiting(ticket(*session, *mode, true)).is_err() {
+            return false;
+        }
+    }
+    true
+}
+
+// Adds the lock of a row. Whether there was memory for it.
+fn add_lock(alloc: Global, locks: &mut Vec<Lock>, row: Row) -> bool {
     let mut lock = Lock::new(alloc, row.0);
-    for (session, mode) in row.1 {
-        lock.add_granted(ticket(*session, *mode, false))?;
+    let is_filled = fill(&mut lock, row);
+    locks.push(lock).is_ok() && is_filled
+}
+
+fn add_locks(alloc: Global, locks: &mut Vec<Lock>, rows: &[Row]) -> bool {
+    for row in rows {
+        if !add_lock(alloc, locks, *row) {
+            return false;
+        }
     }
-    for (session, mode) in row.2 {
-        lock.add_waiting(ticket(*session, *mode, true))?;
-    }
-    Ok(lock)
+    true
 }
 
 // Whether these are tickets of exactly these sessions, in order.
@@ -200,108 +267,135 @@ fn are_ways(found: &[Way], wanted: &[(Act, usize, usize)]) -> bool {
     found.len() == wanted.len()
 }
 
-// Whether the right blockers and ways out are found.
-fn are_ways_found(alloc: Global, case: &Case, locks: &[Lock]) -> Result<bool, AllocError> {
-    let found = ways(alloc, locks)?;
-    let joint = joint_waits(alloc, locks, &found)?;
-    Ok(are_ways(&found, case.ways) && are_of(&joint, case.joint))
+// Whether the right waits are found to go on only if several others end, besides these ways out.
+fn are_joint_found(alloc: Global, case: &Case, locks: &[Lock], found: &[Way]) -> bool {
+    match joint_waits(alloc, locks, found) {
+        Ok(joint) => are_of(&joint, case.joint),
+        Err(_) => false,
+    }
 }
 
-// Whether the right waits are found to be in a deadlock or behind one.
-fn are_stuck_found(alloc: Global, case: &Case, locks: &[Lock]) -> Result<bool, AllocError> {
-    let stuck = stuck_waits(alloc, locks)?;
-    Ok(are_of(&stuck, case.stuck))
+// Whether the right ways out are found.
+fn are_ways_found(alloc: Global, case: &Case, locks: &[Lock]) -> bool {
+    match ways(alloc, locks) {
+        Ok(found) => { are_ways(&found, case.ways) && are_joint_found(alloc, case, locks, &found) }
+        Err(_) => false,
+    }
 }
 
-// Whether the act of a case is followed by the right grants.
-fn is_act_found(alloc: Global, case: &Case, locks: &[Lock]) -> Result<bool, AllocError> {
-    let granted = at_once(alloc, locks, case.act)?;
-    let ending = in_turn(alloc, locks, case.act)?;
-    Ok(are_of(&granted, case.granted) && are_of(&ending, case.ending))
+// Whether these waits are found.
+fn is_found(found: Result<Vec<AtLock>, AllocError>, wanted: &[usize]) -> bool {
+    match found {
+        Ok(found) => are_of(&found, wanted),
+        Err(_) => false,
+    }
 }
 
 // Whether everything that a case says is found of its locks.
-fn holds(alloc: Global, case: &Case) -> Result<bool, AllocError> {
+fn holds(alloc: Global, case: &Case) -> bool {
     let mut locks = Vec::new(alloc);
-    for row in case.locks {
-        locks.push(lock_of(alloc, row)?)?;
-    }
-    Ok(
-        are_stuck_found(alloc, case, &locks)?
-            && are_ways_found(alloc, case, &locks)?
-            && is_act_found(alloc, case, &locks)?,
-    )
+    let right = add_locks(alloc, &mut locks, case.locks)
+        && is_found(stuck_waits(alloc, &locks), case.stuck)
+        && are_ways_found(alloc, case, &locks)
+        && is_found(at_once(alloc, &locks, case.act), case.granted)
+        && is_found(in_turn(alloc, &locks, case.act), case.ending);
+    drop(locks);
+    right
 }
 
 #[test]
-fn ways_out_by_hand(rt: HostRuntime) -> Result<(), Fail> {
+fn ways_out_by_hand(rt: HostRuntime) {
     for case in CASES {
-        let holds = holds(rt.alloc(), case)?;
-        assert!(rt; holds, "{}", case.name);
+        is_right(&rt, case.name, holds(rt.alloc(), case));
     }
-    Ok(())
 }
 
-// A table that a session holds in SNW, by its statement or not, and a writer that waits for it.
-fn held_by_a_change(alloc: Global, of_statement: bool) -> Result<Vec<Lock>, AllocError> {
+// Adds a table that session 1 holds in a mode, by its statement or not, and a request of session 2 that waits for it.
+fn add_held(
+    alloc: Global,
+    locks: &mut Vec<Lock>,
+    (held, asked): (Mode, Mode),
+    of_statement: bool,
+) -> bool {
     let mut lock = Lock::new(alloc, OBJECT);
-    lock.add_granted(ticket(1, Mode::SNW, of_statement))?;
-    lock.add_waiting(ticket(2, Mode::SW, true))?;
+    let is_filled = lock.add_granted(ticket(1, held, of_statement)).is_ok()
+        && lock.add_waiting(ticket(2, asked, true)).is_ok();
+    locks.push(lock).is_ok() && is_filled
+}
+
+// Whether this act is the only way out, and lets this number of waits go on.
+fn is_only_way(alloc: Global, locks: &[Lock], act: Act, waits: usize) -> bool {
+    match ways(alloc, locks) {
+        Ok(found) => are_ways(&found, &[(act, waits, waits)]),
+        Err(_) => false,
+    }
+}
+
+// Whether this act is the only way out at such a table.
+fn is_only_way_at(alloc: Global, modes: (Mode, Mode), of_statement: bool, act: Act) -> bool {
     let mut locks = Vec::new(alloc);
-    locks.push(lock)?;
-    Ok(locks)
+    let right = add_held(alloc, &mut locks, modes, of_statement)
+        && is_only_way(alloc, &locks, act, 1);
+    drop(locks);
+    right
 }
 
-// Whether this act is the only way out.
-fn is_only_way(alloc: Global, locks: &[Lock], act: Act) -> Result<bool, AllocError> {
-    let found = ways(alloc, locks)?;
-    Ok(are_ways(&found, &[(act, 1, 1)]))
+// The mode in which a table is held, and the mode that another session requests.
+const HELD: &[(Mode, Mode)] = &[(Mode::SNW, Mode::SW), (Mode::X, Mode::SR)];
+
+// What a statement holds goes with it, and what its transaction holds doesn't.
+#[test]
+fn tickets_of_a_statement_go_with_it(rt: HostRuntime) {
+    for modes in HELD {
+        let of_statement = is_only_way_at(rt.alloc(), *modes, true, Act::KillQuery(1));
+        let of_session = is_only_way_at(rt.alloc(), *modes, false, Act::Kill(1));
+        is_right(&rt, modes.0.as_str(), of_statement && of_session);
+    }
 }
 
-// Whether the only way out is to end the statement exactly if the ticket is the statement's.
-fn is_statement_enough(alloc: Global) -> Result<bool, AllocError> {
-    let of_statement = held_by_a_change(alloc, true)?;
-    let of_session = held_by_a_change(alloc, false)?;
-    Ok(
-        is_only_way(alloc, &of_statement, Act::KillQuery(1))?
-            && is_only_way(alloc, &of_session, Act::Kill(1))?,
-    )
+// Adds a table that a session holds in SU by its row, and requests that wait for it.
+fn add_changed(alloc: Global, locks: &mut Vec<Lock>, waiters: &[Of]) -> bool {
+    let mut lock = Lock::new(alloc, OBJECT);
+    let is_filled = lock.add_granted(ticket(1, Mode::SU, true)).is_ok()
+        && add_waiters(&mut lock, waiters);
+    locks.push(lock).is_ok() && is_filled
 }
+
+// Whether the session is taken to hold this mode by now.
+fn is_upgraded(alloc: Global, shown: &[Lock], now: Mode) -> bool {
+    match upgrades(alloc, shown) {
+        Ok(taken) => matches!(taken.as_slice(), [upgrade] if upgrade.now == LockMode::Mdl(now)),
+        Err(_) => false,
+    }
+}
+
+// Whether the end of its statement lets this number of waits go on, and is the only way out.
+fn is_way_by_now(alloc: Global, shown: &[Lock], waits: usize) -> bool {
+    match by_now(alloc, shown) {
+        Ok(held) => is_only_way(alloc, &held, Act::KillQuery(1), waits),
+        Err(_) => false,
+    }
+}
+
+// Whether both are so for these requests.
+fn is_taken_for(alloc: Global, waiters: &[Of], now: Mode) -> bool {
+    let mut shown = Vec::new(alloc);
+    let right = add_changed(alloc, &mut shown, waiters)
+        && is_upgraded(alloc, &shown, now)
+        && is_way_by_now(alloc, &shown, waiters.len());
+    drop(shown);
+    right
+}
+
+// Requests that wait, and the mode that the session is taken to hold.
+const UPGRADED: &[(&[Of], Mode)] = &[
+    (&[(2, Mode::SW), (3, Mode::SW)], Mode::SNW),
+    (&[(2, Mode::SW), (3, Mode::SR)], Mode::X),
+];
 
 #[test]
-fn tickets_of_a_statement_go_with_it(rt: HostRuntime) -> Result<(), Fail> {
-    assert!(rt; is_statement_enough(rt.alloc())?);
-    Ok(())
-}
-
-// A table that a session holds in SU by its row, and requests that wait for it in these modes.
-fn held_for_a_change(alloc: Global, modes: &[Mode]) -> Result<Vec<Lock>, AllocError> {
-    let mut lock = Lock::new(alloc, OBJECT);
-    lock.add_granted(ticket(1, Mode::SU, true))?;
-    for (place, mode) in modes.iter().enumerate() {
-        lock.add_waiting(ticket(place.saturating_add(2), *mode, true))?;
+fn a_change_that_has_been_upgraded(rt: HostRuntime) {
+    for (waiters, now) in UPGRADED {
+        is_right(&rt, now.as_str(), is_taken_for(rt.alloc(), waiters, *now));
     }
-    let mut locks = Vec::new(alloc);
-    locks.push(lock)?;
-    Ok(locks)
-}
-
-// Whether the session is taken to hold this mode by now, and its end lets all go on.
-fn is_taken_for(alloc: Global, modes: &[Mode], now: Mode) -> Result<bool, AllocError> {
-    let shown = held_for_a_change(alloc, modes)?;
-    let held = by_now(alloc, &shown)?;
-    let taken = upgrades(alloc, &shown)?;
-    let found = ways(alloc, &held)?;
-    Ok(
-        matches!(taken.as_slice(), [upgrade] if upgrade.now == LockMode::Mdl(now))
-            && are_ways(&found, &[(Act::KillQuery(1), modes.len(), modes.len())]),
-    )
-}
-
-#[test]
-fn a_change_that_has_been_upgraded(rt: HostRuntime) -> Result<(), Fail> {
-    let alloc = rt.alloc();
-    assert!(rt; is_taken_for(alloc, &[Mode::SW, Mode::SW], Mode::SNW)?);
-    assert!(rt; is_taken_for(alloc, &[Mode::SW, Mode::SR], Mode::X)?);
-    Ok(())
 }

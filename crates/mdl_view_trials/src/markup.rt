@@ -1,39 +1,45 @@
 //! A picture of a statement that no script can have, since it isn't made of names: it has characters of markup, and bytes that can't be printed.
-use mdl_picture::{Event, Fate, Moment, picture};
-use std::alloc::{AllocError, Global};
-use std::test::Fail;
+use crate::moments::{EventRow, MomentRow, add_moments};
+use crate::rows::has_all;
+use mdl_picture::{Fate, Moment, picture};
+use std::alloc::Global;
 
 // What the picture shows of the statement and of its answer.
-const TITLE: &str =
-    "<g><title>line 5, session 3: a&lt;b &amp; &quot;c&quot;&gt;d??: ERR 1213, victim</title>";
+const PARTS: &[&str] = &[
+    "<g><title>line 5, session 3: a&lt;b &amp; &quot;c&quot;&gt;d??: ERR 1213, victim</title>",
+    ">a&lt;b &amp; &quot;c&quot;&gt;d??</text>",
+];
 
-const WORDS: &str = ">a&lt;b &amp; &quot;c&quot;&gt;d??</text>";
+// The statement ends.
+const FAILS: EventRow = EventRow {
+    line: 5,
+    session: 3,
+    statement: b"a<b & \"c\">d\xff\n",
+    answer: b"ERR 1213, victim",
+    fate: Fate::Fails,
+    in_the_way: &[],
+    held: &[],
+};
 
-// Whether the picture of a statement that ends shows these texts.
-fn is_shown(alloc: Global, statement: &[u8]) -> Result<bool, AllocError> {
-    let mut events = Vec::new(alloc);
-    events.push(Event {
-        line: 5,
-        session: 3,
-        statement: Vec::from_slice(alloc, statement)?,
-        answer: Vec::from_slice(alloc, b"ERR 1213, victim")?,
-        fate: Fate::Fails,
-        in_the_way: Vec::new(alloc),
-        held: Vec::new(alloc),
-    })?;
+const MOMENTS: &[MomentRow] = &[(5, 3, &[FAILS])];
+
+// Whether the picture of some moments has these parts.
+fn is_picture(alloc: Global, moments: &[Moment], parts: &[&str]) -> bool {
+    match picture(alloc, moments) {
+        Ok(drawn) => has_all(&drawn, parts),
+        Err(_) => false,
+    }
+}
+
+// Whether the picture of the statement shows its words and its answer.
+fn is_shown(alloc: Global) -> bool {
     let mut moments = Vec::new(alloc);
-    moments.push(Moment {
-        line: 5,
-        session: 3,
-        events,
-    })?;
-    let text = picture(alloc, &moments)?;
-    let shown = std::str::from_utf8(&text).unwrap_or("");
-    Ok(shown.contains(TITLE) && shown.contains(WORDS))
+    let right = add_moments(alloc, &mut moments, MOMENTS) && is_picture(alloc, &moments, PARTS);
+    drop(moments);
+    right
 }
 
 #[test]
-fn nothing_in_a_statement_is_markup(rt: HostRuntime) -> Result<(), Fail> {
-    assert!(rt; is_shown(rt.alloc(), b"a<b & \"c\">d\xff\n")?);
-    Ok(())
+fn nothing_in_a_statement_is_markup(rt: HostRuntime) {
+    assert!(rt; is_shown(rt.alloc()));
 }

@@ -1,4 +1,5 @@
 //! Deadlocks of a few locks, and of many locks whose cycles are easy to see.
+use crate::rows::is_right;
 use mdl_book::{Book, Sessions, Ticket};
 use mdl_graph::{Cycle, Member, WaitGraph, victim};
 use mdl_key::{Key, Mode};
@@ -191,7 +192,7 @@ fn goes_so(alloc: Global, (tables, settled, found): Case) -> bool {
 #[test]
 fn finds_deadlocks_of_a_few(rt: HostRuntime) {
     for (number, case) in CASES.iter().enumerate() {
-        assert!(rt; goes_so(rt.alloc(), *case), "case {number}");
+        is_right(&rt, number, goes_so(rt.alloc(), *case));
     }
 }
 
@@ -243,7 +244,7 @@ fn finds_tied(alloc: Global, (ties, found): Tied) -> bool {
 #[test]
 fn finds_the_shortest_and_of_those_the_first(rt: HostRuntime) {
     for (number, tied) in TIED.iter().enumerate() {
-        assert!(rt; finds_tied(rt.alloc(), *tied), "case {number}");
+        is_right(&rt, number, finds_tied(rt.alloc(), *tied));
     }
 }
 

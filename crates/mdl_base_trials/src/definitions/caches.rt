@@ -1,5 +1,6 @@
 //! Caches of definitions, step by step.
 use super::{What, X, X_Y, Y, definition, standing};
+use crate::rows::{is_right, none_is_wrong};
 use mdl_defs::{CacheError, DefCache, Definition};
 use std::alloc::Global;
 
@@ -130,7 +131,7 @@ const CACHES: &[(&str, u16, &[Step])] = &[
 fn caches_keep_what_was_used_last(rt: HostRuntime) {
     for (what, capacity, steps) in CACHES {
         let wrong = first_wrong(rt.alloc(), *capacity, steps);
-        assert!(rt; wrong.is_none(), "{what}: {wrong:?}");
+        none_is_wrong(&rt, what, wrong);
     }
 }
 
@@ -161,7 +162,7 @@ const CAPACITIES: &[(u16, Option<CacheError>)] = &[
 
 #[test]
 fn caches_keep_1_to_4096(rt: HostRuntime) {
-    for (capacity, want) in CAPACITIES {
-        assert!(rt; refusal(rt.alloc(), *capacity) == *want, "{capacity}");
+    for (row, (capacity, want)) in CAPACITIES.iter().enumerate() {
+        is_right(&rt, row, refusal(rt.alloc(), *capacity) == *want);
     }
 }

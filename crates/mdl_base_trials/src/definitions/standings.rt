@@ -1,6 +1,7 @@
 //! The definition in a book, change by change.
 use super::{Act, What, X, X_Y, change, definition};
 use crate::keys::names::{Name, key_of};
+use crate::rows::{is_right, none_is_wrong};
 use mdl_book::Book;
 use mdl_defs::{ChangeError, DefError, Definition, Standing};
 use mdl_key::Namespace;
@@ -113,18 +114,22 @@ fn first_wrong(alloc: Global, name: Name, steps: &[Step]) -> Option<usize> {
 }
 
 // The name of a lock, and the calls of its book.
-const BOOKS: &[(Name, &[Step])] = &[
-    ((Namespace::Table, "test", "t"), UNDER_A_TABLE),
-    ((Namespace::Schema, "test", ""), UNDER_A_SCHEMA),
-    ((Namespace::Commit, "", ""), UNDER_OTHERS),
-    ((Namespace::UserLevelLock, "t", ""), UNDER_OTHERS),
+const BOOKS: &[(&str, Name, &[Step])] = &[
+    ("table", (Namespace::Table, "test", "t"), UNDER_A_TABLE),
+    ("schema", (Namespace::Schema, "test", ""), UNDER_A_SCHEMA),
+    ("commit", (Namespace::Commit, "", ""), UNDER_OTHERS),
+    (
+        "user-level lock",
+        (Namespace::UserLevelLock, "t", ""),
+        UNDER_OTHERS,
+    ),
 ];
 
 #[test]
 fn books_keep_what_stands(rt: HostRuntime) {
-    for (name, steps) in BOOKS {
+    for (what, name, steps) in BOOKS {
         let wrong = first_wrong(rt.alloc(), *name, steps);
-        assert!(rt; wrong.is_none(), "under {:?}: {wrong:?}", name.0);
+        none_is_wrong(&rt, what, wrong);
     }
 }
 
@@ -156,9 +161,6 @@ fn versions_have_an_end(rt: HostRuntime) {
     standing.definition = definition(rt.alloc(), X_Y);
     standing.version = 999_999;
     for (place, (act, want)) in LATE.iter().enumerate() {
-        assert!(rt;
-            answers(rt.alloc(), &mut standing, *act, *want),
-            "change {place}"
-        );
+        is_right(&rt, place, answers(rt.alloc(), &mut standing, *act, *want));
     }
 }

@@ -1,4 +1,5 @@
 //! The matrices as they are printed, and strength by them.
+use crate::rows::is_right;
 use mdl_key::{
     Kind, Mode, at_least, conflicts_granted, conflicts_waiting, granted_row, obtrusive_row,
     waiting_row,
@@ -109,8 +110,8 @@ fn have_row((kind, ask, granted, waiting): Row) -> bool {
 
 #[test]
 fn each_entry_is_as_in_the_table(rt: HostRuntime) {
-    for row in ROWS {
-        assert!(rt; have_row(*row), "{} of {:?}", row.1, row.0);
+    for (number, row) in ROWS.iter().enumerate() {
+        is_right(&rt, number, have_row(*row));
     }
 }
 
@@ -156,10 +157,8 @@ const STRENGTH: &[(Kind, Mode, Mode, bool, bool)] = &[
 
 #[test]
 fn compares_modes_by_strength(rt: HostRuntime) {
-    for (kind, a, b, first, second) in STRENGTH {
-        assert!(rt;
-            at_least(*kind, *a, *b) == *first && at_least(*kind, *b, *a) == *second,
-            "{a} and {b}"
-        );
+    for (row, (kind, a, b, first, second)) in STRENGTH.iter().enumerate() {
+        let right = at_least(*kind, *a, *b) == *first && at_least(*kind, *b, *a) == *second;
+        is_right(&rt, row, right);
     }
 }

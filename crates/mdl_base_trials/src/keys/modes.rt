@@ -1,4 +1,5 @@
 //! Modes: their names, and their properties for each kind.
+use crate::rows::is_right;
 use crate::texts::is_printed;
 use mdl_key::{Kind, Mode, ModeError, Namespace, is_obtrusive, weight};
 use std::alloc::Global;
@@ -52,11 +53,8 @@ fn is_told(alloc: Global, row: Row) -> bool {
 #[test]
 fn modes_are_as_told(rt: HostRuntime) {
     for (place, row) in ROWS.iter().enumerate() {
-        assert!(rt;
-            Mode::ALL.get(place) == Some(&row.0) && is_told(rt.alloc(), *row),
-            "{}",
-            row.1
-        );
+        let right = Mode::ALL.get(place) == Some(&row.0) && is_told(rt.alloc(), *row);
+        is_right(&rt, place, right);
     }
 }
 
@@ -65,7 +63,7 @@ const NO_MODES: &[&str] = &["sr", "IXX", "", "I", " X", "X ", "SWL", "XI"];
 
 #[test]
 fn other_texts_name_no_mode(rt: HostRuntime) {
-    for name in NO_MODES {
-        assert!(rt; name.parse::<Mode>() == Err(ModeError), "reading {name}");
+    for (row, name) in NO_MODES.iter().enumerate() {
+        is_right(&rt, row, name.parse::<Mode>() == Err(ModeError));
     }
 }

@@ -1,4 +1,5 @@
 //! Keys: how they are made, refused, compared and printed.
+use crate::rows::is_right;
 use crate::texts::is_printed;
 use mdl_defs::Column;
 use mdl_key::{Key, KeyError, Kind, Namespace, check_name};
@@ -70,8 +71,8 @@ const NAMED: &[(Name, Kind, &str)] = &[
 
 #[test]
 fn names_locks(rt: HostRuntime) {
-    for (name, kind, text) in NAMED {
-        assert!(rt; is_named(rt.alloc(), *name, *kind, text), "{text}");
+    for (row, (name, kind, text)) in NAMED.iter().enumerate() {
+        is_right(&rt, row, is_named(rt.alloc(), *name, *kind, text));
     }
 }
 
@@ -109,8 +110,8 @@ const REFUSED: &[(&str, Option<KeyError>)] = &[
 #[test]
 fn refuses_what_is_no_name(rt: HostRuntime) {
     assert!(rt; LONGEST.len() == 64);
-    for (name, want) in REFUSED {
-        assert!(rt; is_refused(rt.alloc(), name, *want), "{name}");
+    for (row, (name, want)) in REFUSED.iter().enumerate() {
+        is_right(&rt, row, is_refused(rt.alloc(), name, *want));
     }
 }
 
@@ -126,9 +127,9 @@ const TWICE_BAD: &[(&str, &str, KeyError)] = &[
 
 #[test]
 fn looks_at_the_schema_first(rt: HostRuntime) {
-    for (schema, table, want) in TWICE_BAD {
+    for (row, (schema, table, want)) in TWICE_BAD.iter().enumerate() {
         let found = refusal(rt.alloc(), (Namespace::Table, schema, table));
-        assert!(rt; found == Some(*want), "{schema} and {table}");
+        is_right(&rt, row, found == Some(*want));
     }
 }
 
@@ -164,11 +165,19 @@ fn are_ordered(alloc: Global, a: Name, b: Name, want: Ordering) -> bool {
     }
 }
 
+// Whether a name is ordered with each as its index says.
+fn is_in_place(alloc: Global, i: usize, a: Name) -> bool {
+    for (j, b) in RISING.iter().enumerate() {
+        if !are_ordered(alloc, a, *b, i.cmp(&j)) {
+            return false;
+        }
+    }
+    true
+}
+
 #[test]
 fn stands_in_order(rt: HostRuntime) {
     for (i, a) in RISING.iter().enumerate() {
-        for (j, b) in RISING.iter().enumerate() {
-            assert!(rt; are_ordered(rt.alloc(), *a, *b, i.cmp(&j)), "{i} and {j}");
-        }
+        is_right(&rt, i, is_in_place(rt.alloc(), i, *a));
     }
 }

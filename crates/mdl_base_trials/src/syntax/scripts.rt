@@ -1,6 +1,7 @@
 //! Scripts, and what the parser reads of them or why it refuses them.
 use super::written::is_read_so;
 use crate::keys::names::LONGEST;
+use crate::rows::{is_right, none_is_wrong};
 use mdl_key::Key;
 use mdl_syntax::{Name, Tables};
 use std::alloc::Global;
@@ -119,11 +120,8 @@ const READ: &[(&str, &str)] = &[
 
 #[test]
 fn scripts_are_read(rt: HostRuntime) {
-    for (script, want) in READ {
-        assert!(rt;
-            is_read_so(rt.alloc(), script.as_bytes(), want),
-            "{script:?}"
-        );
+    for (row, (script, want)) in READ.iter().enumerate() {
+        is_right(&rt, row, is_read_so(rt.alloc(), script.as_bytes(), want));
     }
 }
 
@@ -309,15 +307,20 @@ const REFUSED: &[(&str, &str)] = &[
     ("line 1: NotAscii", NO_ASCII),
 ];
 
+// Returns the index of the first line that isn't refused so.
+fn first_read(alloc: Global, lines: &str, refusal: &str) -> Option<usize> {
+    for (row, line) in lines.split('\n').enumerate() {
+        if !is_read_so(alloc, line.as_bytes(), refusal) {
+            return Some(row);
+        }
+    }
+    None
+}
+
 #[test]
 fn lines_are_refused(rt: HostRuntime) {
     for (refusal, lines) in REFUSED {
-        for line in lines.split('\n') {
-            assert!(rt;
-                is_read_so(rt.alloc(), line.as_bytes(), refusal),
-                "{line:?}"
-            );
-        }
+        none_is_wrong(&rt, refusal, first_read(rt.alloc(), lines, refusal));
     }
 }
 
@@ -381,7 +384,7 @@ fn is_long_read_so(alloc: Global, (parts, want): Long) -> bool {
 #[test]
 fn long_scripts_are_read(rt: HostRuntime) {
     for (number, long) in LONG.iter().enumerate() {
-        assert!(rt; is_long_read_so(rt.alloc(), *long), "script {number}");
+        is_right(&rt, number, is_long_read_so(rt.alloc(), *long));
     }
 }
 

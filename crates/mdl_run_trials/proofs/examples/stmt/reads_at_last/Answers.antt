@@ -3,8 +3,8 @@ use Rattle.std.proofs.Common.{ap, arith}
 use Rattle.mdl_core.specs.Words.{own_at}
 use Rattle.mdl_space.specs.CoreMembers.{core_space}
 use Rattle.mdl_stmt.proofs.AttendanceLemmas.{attends-empty}
-use Rattle.mdl_examples.proofs.SpaceLemmas.{attends-new}
-use Rattle.mdl_examples.proofs.stmt.reads_at_last.Goals as goal
+use Rattle.mdl_run_trials.proofs.used_up.RoomLemmas.{attends-new}
+use Rattle.mdl_run_trials.proofs.examples.stmt.reads_at_last.Goals as goal
 
 pub loop-line-init : goal.loop-line-init
 loop-line-init c =
