@@ -1,7 +1,7 @@
 #!/bin/sh
 # Prints which library crates show an example at the head of src/lib.rt that differs from the file of examples that names them, one line for each, or
-# that there is none. Such a file is in mdl_examples, in src/examples of a crate of trials, or in src of a program that is an example. Also prints
-# which code of docs/EMBEDDING.md isn't in the program that it is from, which `make c` builds and runs.
+# that there is none. Such a file is in src/examples of a crate of trials, or in src of a program that is an example. Also prints which code of
+# docs/EMBEDDING.md isn't in the program that it is from, which `make c` builds and runs.
 # Usage: sh make/check_examples.sh           checks the examples
 #        sh make/check_examples.sh update    puts the examples there
 cd "$(dirname "$0")/.." || exit 1
@@ -14,13 +14,13 @@ trap 'rm -rf "$made"' EXIT
 # The library crates that show an example: those with a src/lib.rt that are no tests. mdl_steps_laws, mdl_session_laws and mdl_view_text_laws have
 # nothing to call: their functions only state laws. mdl_c and mdl_text are called from C, as in examples/c.
 libraries() {
-    ls crates/*/src/lib.rt | cut -d/ -f2 | grep -v -x -e '.*trials' -e 'mdl_examples' -e 'mdl_steps_laws' -e 'mdl_session_laws' -e 'mdl_view_text_laws' \
+    ls crates/*/src/lib.rt | cut -d/ -f2 | grep -v -x -e '.*trials' -e 'mdl_steps_laws' -e 'mdl_session_laws' -e 'mdl_view_text_laws' \
         -e 'mdl_c' -e 'mdl_text'
 }
 
 # The file of examples that names a crate in its first line.
 file_of() {
-    grep -l -x "//! \`$1\`: .*" crates/mdl_examples/src/*.rt crates/*_trials/src/examples/*.rt crates/*_example/src/*.rt
+    grep -l -x "//! \`$1\`: .*" crates/*_trials/src/examples/*.rt crates/*_example/src/*.rt
 }
 
 # The section of the example in the comments at the head of a file. It is the last section there.
@@ -52,7 +52,7 @@ words() {
 look_at() {
     file=$(file_of "$1")
     if [ -z "$file" ]; then
-        echo "crates/mdl_examples/src, crates/*_trials/src/examples, crates/*_example/src: there is no example of $1"
+        echo "crates/*_trials/src/examples, crates/*_example/src: there is no example of $1"
         return
     fi
     section "crates/$1/src/lib.rt" | words > "$made/shown"

@@ -17,9 +17,10 @@ old texts. That has to be proved, or a line of wrong_bodies/without_control has 
 are then counted apart. (A wrong body that adds a branch or a call has more goals than such a form, so that its refusal says less, too.)
 
 A function is proved with the contracts of the functions that it calls, whatever their bodies are. So all wrong bodies of a crate are put in place
-together, in a copy, and one check covers the functions that they name. Only bodies that change the same text, or the same function, take turns. The
-bodies of the functions that have no wrong one are left out of the copy, since they would only be proved again. That a function calls one that is
-refused, or that was left out, doesn't count: it has to fail by itself.
+together, in a copy, and one check covers the functions that they name. If several change one function, the copy gets a twin of it for each of the
+others: the function once more, with its contract and proof, under another name. Only bodies that change the same text outside the function, or a
+function that can't have a twin, take turns. The bodies of the functions that have no wrong one are left out of the copy, since they would only be
+proved again. That a function calls one that is refused, or that was left out, doesn't count: it has to fail by itself.
 
 The check uses the libraries that the crate depends on as `rt ci`, or `rt check` in a crate's folder, built them last.
 
@@ -46,6 +47,8 @@ import tempfile
 
 BODIES = pathlib.Path("wrong_bodies")
 
+OPTIONS = {"--gate", "--same", "--right", "--fit"}
+
 # The functions whose right bodies aren't proved in another form, a line for each: the function, `: `, and why.
 WITHOUT_CONTROL = BODIES / "without_control"
 CRATES = pathlib.Path("crates")
@@ -68,9 +71,6 @@ pub {name}_spec : {{M : Type 1}} → statement M
 {name}_spec = nowhere
 """
 
-# Whether a body that is refused for a name alone, and doesn't say why, is a failure. The gate only counts it.
-NAMES_FAIL = "--gate" not in sys.argv
-
 # The outcomes of a wrong body, or of a right one. (A function without control has only proofs that don't fit another form.)
 REFUSED, BY_A_NAME, UNSURE, MISSED, PASSED = "refused", "refused for a name alone", "refused without control", "not as it should be", "passed"
 
@@ -82,7 +82,7 @@ class Unfit(Exception):
 @dataclasses.dataclass
 class WrongBody:
     """A wrong body: its name, the function that has to be refused, which texts replace which, which texts mean the same as the replaced ones, whether
-    it is tried only when all are, and why it may be refused for a name alone."""
+    it is tried only when all are, why it may be refused for a name alone, and the twin of the function that is to be refused instead."""
 
     name: str
     refused: str
@@ -90,6 +90,12 @@ class WrongBody:
     same: list
     is_for_all: bool
     by_a_name: str | None
+    twin: str | None = None
+
+    @property
+    def tried(self):
+        """The function that a check has to refuse."""
+        return self.twin or self.refused
 
     def spans_in(self, folder, changes=None):
         """Returns which parts of which files of a crate's folder it replaces, or these changes do, and by what: lists of (start, end, text)."""
@@ -131,12 +137,41 @@ def read_body(file):
     return WrongBody(file.stem, refused, changes, same, is_for_all, by_a_name)
 
 
+def replaced(text, spans):
+    """Returns a text with these parts replaced: (start, end, new text)."""
+    for start, end, new in sorted(spans, reverse=True):
+        text = text[:start] + new + text[end:]
+    return text
+
+
+@dataclasses.dataclass
+class Twin:
+    """A twin that a function gets: the function, the twin's name, the file, where it is inserted there, and its text with the right and the wrong body."""
+
+    function: str
+    name: str
+    path: str
+    at: int
+    right: str
+    wrong: str
+
+    def copy_proof(self, folder):
+        """Gives the twin the proof of the function, in a crate's folder."""
+        *place, name = self.function.split("::")[1:]
+        if (folder / "proofs" / "/".join([*place, name])).is_dir():
+            proof = shutil.copytree(folder / "proofs" / "/".join([*place, name]), folder / "proofs" / "/".join([*place, self.name]))
+            module = re.compile(rf"(Rattle\.\w+\.(?:proofs|specs\.contracts)\.{re.escape('.'.join([*place, name]))})\b")
+            for file in pathlib.Path(proof).rglob("*.antt"):
+                file.write_text(module.sub(lambda found: found[1].removesuffix(name) + self.name, file.read_text()))
+
+
 @dataclasses.dataclass
 class Round:
-    """Bodies that are in place at the same time, and which parts of which files they replace."""
+    """Bodies that are in place at the same time, which parts of which files they replace, and the twins of functions that have another body, too."""
 
     bodies: list
     spans: dict
+    twins: list
 
     def takes(self, body, spans):
         """Adds a body that replaces these parts, unless it clashes with another one, and returns whether it was added."""
@@ -153,13 +188,22 @@ class Round:
             self.spans.setdefault(path, []).extend(spans[path])
         return True
 
-    def put_into(self, folder):
-        """Puts all bodies into their places in a crate's folder."""
-        for path, spans in self.spans.items():
-            text = (folder / path).read_text()
-            for start, end, new in sorted(spans, reverse=True):
-                text = text[:start] + new + text[end:]
-            (folder / path).write_text(text)
+    def takes_twin(self, body, spans, folder):
+        """Adds a body as that of a twin of its function, if that can have one, and returns whether it was added."""
+        twin = twin_of(body, spans, folder, 1 + sum(it.function == body.refused for it in self.twins))
+        if twin:
+            self.twins.append(twin)
+            self.bodies.append(dataclasses.replace(body, twin=body.refused.removesuffix(body.refused.split("::")[-1]) + twin.name))
+        return twin is not None
+
+    def put_into(self, folder, are_right=False):
+        """Puts all bodies into their places in a crate's folder, or only the twins, with the right bodies."""
+        for path in {*self.spans, *(it.path for it in self.twins)}:
+            spans = [(it.at, it.at, it.right if are_right else it.wrong) for it in self.twins if it.path == path]
+            spans += [] if are_right else self.spans.get(path, [])
+            (folder / path).write_text(replaced((folder / path).read_text(), spans))
+        for it in self.twins:
+            it.copy_proof(folder)
 
 
 def rounds_of(bodies, folder):
@@ -167,10 +211,34 @@ def rounds_of(bodies, folder):
     rounds = []
     for body in bodies:
         spans = body.spans_in(folder)
-        if not any(it.takes(body, spans) for it in rounds):
-            rounds.append(Round([], {}))
+        if not any(it.takes(body, spans) or it.takes_twin(body, spans, folder) for it in rounds):
+            rounds.append(Round([], {}, []))
             rounds[-1].takes(body, spans)
     return rounds
+
+
+def twin_of(body, spans, folder, number):
+    """Returns a twin of the function that a body changes, which gets the body. There is none if the body replaces parts outside the function, or if the
+    function is of a trait, for C, or in a cycle of calls with a proof by hand."""
+    modules, types = sources_of(folder)
+    name = body.refused.split("::")[-1]
+    if len(spans) != 1 or (folder / proofs_of(body.refused)[1]).is_dir():
+        return None
+    path = next(iter(spans))
+    lines = (folder / path).read_text().splitlines(keepends=True)
+    bare = [line.removesuffix("\n") for line in lines]
+    for function, is_free, start, end in functions_in(bare, modules[folder / path], types):
+        if "::".join(function) == body.refused and is_free:
+            head = max(at for at in range(start) if FUNCTION.match(bare[at]))
+            while bare[head - 1].strip().startswith(("#[", "//")):
+                head -= 1
+            first, last = sum(map(len, lines[:head])), sum(map(len, lines[: end + 1]))
+            if all(first <= its_start and its_end <= last for its_start, its_end, _ in spans[path]):
+                text = "\n" + "".join(lines[head : end + 1])
+                inside = [(its_start - first + 1, its_end - first + 1, new) for its_start, its_end, new in spans[path]]
+                named = [re.sub(rf"\bfn {name}\b", f"fn {name}_twin_{number}", it, count=1) for it in (text, replaced(text, inside))]
+                return Twin(body.refused, f"{name}_twin_{number}", path, last, *named)
+    return None
 
 
 def proofs_of(function):
@@ -304,11 +372,11 @@ def check(command, folder, functions, change):
 
 def outcome_of(crate, body, said):
     """Returns the outcome of a wrong body by the lines of a check, and reports the body if it isn't refused as it should be."""
-    refused, for_more = is_refused(body.refused, said)
-    verdict, errors = told_of(body.refused, said)
+    refused, for_more = is_refused(body.tried, said)
+    verdict, errors = told_of(body.tried, said)
     if not refused:
-        wrong = f"NOT REFUSED: {body.refused} has to fail by itself"
-    elif not for_more and not body.by_a_name and NAMES_FAIL:
+        wrong = f"NOT REFUSED: {body.tried} has to fail by itself"
+    elif not for_more and not body.by_a_name:
         wrong = f"refused for a name alone, and it doesn't say why: its proof misses a name that {body.refused} had"
     elif for_more and body.by_a_name:
         wrong = "refused for more than a name: its line `by a name` is stale"
@@ -321,11 +389,11 @@ def outcome_of(crate, body, said):
 
 def right_outcome_of(crate, body, said):
     """Returns the outcome of the right body of a function that has a wrong one, by the lines of a check, and reports it if it is refused."""
-    verdict, errors = told_of(body.refused, said)
-    if verdict and not is_refused(body.refused, said)[0]:
+    verdict, errors = told_of(body.tried, said)
+    if verdict and not is_refused(body.tried, said)[0]:
         return PASSED
     told = "\n    ".join(verdict + errors or said[-3:])
-    print(f"{crate}/{body.name}: {body.refused} is refused as it is\n    {told}", flush=True)
+    print(f"{crate}/{body.name}: {body.tried} is refused as it is\n    {told}", flush=True)
     return MISSED
 
 
@@ -349,7 +417,7 @@ def put_same(folder, functions):
     """Gives functions in a crate's folder another form that means the same."""
     for body in functions.values():
         if body:
-            Round([body], body.spans_in(folder, body.same)).put_into(folder)
+            Round([body], body.spans_in(folder, body.same), []).put_into(folder)
     modules, types = sources_of(folder)
     left = {it for it in functions if not functions[it]}
     for file, module in modules.items():
@@ -400,8 +468,8 @@ def try_crate(crate, bodies, are_right):
     with tempfile.TemporaryDirectory(prefix="wrong-bodies-") as place:
         command = command_for(crate)
         for tried in rounds_of(bodies, CRATES / crate):
-            functions = [body.refused for body in tried.bodies]
-            said = check(command, pathlib.Path(place, crate), functions, (lambda folder: None) if are_right else tried.put_into)
+            functions = [body.tried for body in tried.bodies]
+            said = check(command, pathlib.Path(place, crate), functions, functools.partial(tried.put_into, are_right=are_right))
             for body in tried.bodies:
                 outcome = (right_outcome_of if are_right else outcome_of)(crate, body, said)
                 outcomes[outcome] += 1
@@ -468,6 +536,9 @@ def trials_of(words):
 
 def main(words):
     """Tries the wrong bodies that the words name, or checks that all fit, and returns the exit status."""
+    if unknown := {word for word in words if word.startswith("-")} - OPTIONS:
+        print(f"wrong_bodies.py: there is no option {' or '.join(sorted(unknown))}\n\n{__doc__[__doc__.index('Usage'):].strip()}", file=sys.stderr)
+        return 2
     try:
         if words == ["--fit"]:
             fit_all()
