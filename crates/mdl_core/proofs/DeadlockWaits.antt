@@ -21,20 +21,9 @@ use Rattle.mdl_core.specs.Ties.{IsTied}
 use Rattle.mdl_core.proofs.CoreGranted.{granted-place, granted-from_place}
 use Rattle.mdl_core.proofs.CoreReads.{within, of_within}
 use Rattle.mdl_core.proofs.CoreWaiting.{book-there, book-nowhere, place_told, IsWaitAt, wait-at, waiter-found, unsettled-found}
-use Rattle.mdl_system.proofs.MemberLemmas.{Contains-map}
-use Rattle.mdl_system.proofs.OrderLemmas.{Contains-here, Contains-later}
+use Rattle.mdl_system.proofs.MemberLemmas.{any-found, any-from, Contains-map}
 
--- ---- some member of a list
-
-pub any-found : {T : Type 0} (test : T → Bool) (xs : List T) → list_any test xs ≡ true → (x : T) × Contains xs x × (test x ≡ true)
-any-found test [] found = absurd (false≢true found)
-any-found test (x ∷ xs) found = elim (or_cases (test x) (list_any test xs) found) [
-  | inl here ↦ (x, Contains-here x xs, here)
-  | inr later ↦ let h = any-found test xs later in (h.0, Contains-later x xs h.0 h.1, h.2)
-]
-
-pub any-from : {T : Type 0} (test : T → Bool) (xs : List T) (x : T) → Contains xs x → test x ≡ true → list_any test xs ≡ true
-any-from test xs x among passes = list_any_at test xs among.0 x among.1 (ap test among.2 ∙ passes)
+-- ---- places
 
 any-at : {T : Type 0} (test : T → Bool) (xs : List T) (d : T) → list_any test xs ≡ true → (k : ℕ) × (k < length xs) × (test (slice_index_or xs k d) ≡ true)
 any-at test [] d found = absurd (false≢true found)

@@ -1,7 +1,6 @@
 -- Who sees no deadlock under all latches is in none.
 use Rattle.std.proofs.Common.{◌≡◌, ◌≢◌, ℕ, suc, ◌+◌, ◌*◌, ◌%◌, ◌<◌, ◌==◌, ◌&&◌, ◌||◌, not, Bool, true, false, inl, inr, List, [], ◌∷◌, length, map, Some, refl, sym, ap, ◌∙◌, subst, arith, eq-eqb, ne_eqb}
-use Rattle.std.specs.Prelude.{Option, Contains, AllPairs}
-use Rattle.std.specs.List.{list_any}
+use Rattle.std.specs.Prelude.{Option, Contains}
 use Rattle.std.specs.Option.{is_some}
 use Rattle.std.proofs.lemmas.Bool.{and_parts, and_from, eqb-true}
 use Rattle.std.proofs.lemmas.List.Elements.{Contains-append_cases}
@@ -17,7 +16,6 @@ use Rattle.mdl_book.specs.Books.{lock_kind}
 use Rattle.mdl_book.specs.Tickets.{ticket_of}
 use Rattle.mdl_book.proofs.TicketLemmas.{find-contains}
 use Rattle.mdl_defs.specs.declared.definition.Definition.{Definition}
-use Rattle.mdl_graph.specs.Cycles.{IsCycleThrough, are_distinct, leads}
 use Rattle.mdl_graph.specs.WaitsFor.{holds_against, is_tied, is_unsettled, waits_ahead, waits_at, waits_for}
 use Rattle.mdl_steps.specs.declared.slot.Slot.{Slot}
 use Rattle.mdl_steps.specs.declared.view.LatchRecord.{LatchRecord}
@@ -39,47 +37,11 @@ use Rattle.mdl_steps_laws.proofs.MetWaits.{met_waits_stay}
 use Rattle.mdl_steps_laws.proofs.TableLocks.{find_key, same_keys}
 use Rattle.mdl_steps_laws.proofs.WaitsTold.{found_in}
 use Rattle.mdl_steps_laws.proofs.Wells.{rule_of}
-use Rattle.mdl_system.specs.Deadlocks.{WaitsFor, Wishes, Leads, IsDeadlock}
+use Rattle.mdl_system.specs.Deadlocks.{WaitsFor, Wishes, IsDeadlock}
 use Rattle.mdl_system.specs.BookLaws.{in_book}
 use Rattle.mdl_system.specs.Systems.{System, Waiter}
-use Rattle.mdl_system.proofs.MemberLemmas.{Contains-none, Contains-map, apart-first, apart-rest}
-use Rattle.mdl_system.proofs.OrderLemmas.{Contains-here, Contains-later, Contains-cons_cases}
-
--- ---- lists
-
-any_from : {T : Type 0} (test : T → Bool) (xs : List T) (x : T) → Contains xs x → test x ≡ true → list_any test xs ≡ true
-any_from test [] x among passes = absurd (Contains-none x among)
-any_from test (y ∷ ys) x among passes = elim (Contains-cons_cases y ys x among) [
-  | inl later ↦ right (test y) (any_from test ys x later passes)
-  | inr here ↦ left (test y) (list_any test ys) (subst (λ z. test z ≡ true) here passes)
-]
-  where
-    left : (a b : Bool) → a ≡ true → (a || b) ≡ true
-    left true b e = refl
-    left false b e = absurd (cc)
-
-    right : (a : Bool) → list_any test ys ≡ true → (a || list_any test ys) ≡ true
-    right true e = refl
-    right false e = e
-
-by_head : {T : Type 0} (test : T → Bool) (y : T) (ys : List T) → (list_any test ys ≡ true → (x : T) × Contains ys x × (test x ≡ true)) → (b : Bool) → test y ≡ b
-    → (b || list_any test ys) ≡ true → (x : T) × Contains (y ∷ ys) x × (test x ≡ true)
-by_head test y ys later true e found = (y, Contains-here y ys, e)
-by_head test y ys later false e found = let h = later found in (h.0, Contains-later y ys h.0 h.1, h.2)
-
-any_found : {T : Type 0} (test : T → Bool) (xs : List T) → list_any test xs ≡ true → (x : T) × Contains xs x × (test x ≡ true)
-any_found test [] found = absurd (cc)
-any_found test (y ∷ ys) found = by_head test y ys (any_found test ys) (test y) refl found
-
-distinct_from : (sessions : List ℕ) → AllPairs (λ one other. one ≢ other) sessions → are_distinct sessions ≡ true
-distinct_from [] apart = refl
-distinct_from (x ∷ xs) apart =
-    and_from (not (list_any (λ other. x == other) xs)) (are_distinct xs) (none (list_any (λ other. x == other) xs) refl)
-    (distinct_from xs (apart-rest (λ (y : ℕ). y) x xs apart))
-  where
-    none : (b : Bool) → list_any (λ other. x == other) xs ≡ b → not b ≡ true
-    none true e = (let h = any_found (λ other. x == other) xs e in absurd (apart-first (λ (y : ℕ). y) x xs apart h.0 h.1 (eqb-true x h.0 h.2)))
-    none false e = refl
+use Rattle.mdl_system.proofs.CycleLemmas.{cycle-from}
+use Rattle.mdl_system.proofs.MemberLemmas.{any-found, any-from, Contains-none, Contains-map}
 
 -- ---- ties
 
@@ -149,7 +111,7 @@ module _ (s : State Slot View) (reached : Reached s) (id : ℕ) (m : Mine) (seat
 
       never : (q : Here key) → settled_in sees.words session ≡ true → ⊥
       never q settled =
-          let found = any_found (λ (x : ℕ × ℕ). x.0 == session && not (x.1 % 8 == 1)) sees.words settled in
+          let found = any-found (λ (x : ℕ × ℕ). x.0 == session && not (x.1 % 8 == 1)) sees.words settled in
           let parts = and_parts (found.0.0 == session) (not (found.0.1 % 8 == 1)) found.2 in
           let session_is : found.0.0 ≡ session = eqb-true found.0.0 session parts.0 in
           let met = sees.met found.0 found.1 in
@@ -189,16 +151,16 @@ module _ (s : State Slot View) (reached : Reached s) (id : ℕ) (m : Mine) (seat
               | inl fast ↦ absurd ((waiters_have_no_fast_tickets s (rule_of s reached) a told key (in_book held.0) fast).0 at its wish_of_y.0 (wish_of_y.1 ∙ sym held.3))
               | inr slow ↦ subst (λ (b : BookView). Contains b.granted (in_book held.0)) (sym p.book) slow
             ] in
-            any_from (λ (t : Ticket). t.session == y && clashes (lock_kind p.latch.book) ticket.mode t.mode) p.latch.book.granted (in_book held.0) listed
+            any-from (λ (t : Ticket). t.session == y && clashes (lock_kind p.latch.book) ticket.mode t.mode) p.latch.book.granted (in_book held.0) listed
             (and_from (held.0.session == y) (clashes (lock_kind p.latch.book) ticket.mode held.0.mode) (eq-eqb held.0.session y held.3) (ap (λ (k : Kind). clashes k ticket.mode held.0.mode) (kind_is key p) ∙ held.4)))
         | inr ahead ↦ right_or (holds_against p.latch.book ticket.mode y) (waits_ahead settled p.latch.book ticket.mode y) (
             and_from (is_unsettled settled y) _ (ap not (open_ key ahead.0 y ahead.1))
-            (any_from (λ (t : Ticket). t.session == y && waits_behind (lock_kind p.latch.book) ticket.mode t.mode) p.latch.book.waiting ahead.0.ticket (waits_there key ahead.0 p ahead.1.0)
+            (any-from (λ (t : Ticket). t.session == y && waits_behind (lock_kind p.latch.book) ticket.mode t.mode) p.latch.book.waiting ahead.0.ticket (waits_there key ahead.0 p ahead.1.0)
             (and_from (ahead.0.ticket.session == y) _ (eq-eqb ahead.0.ticket.session y ahead.1.1) (ap (λ (k : Kind). waits_behind k ticket.mode ahead.0.ticket.mode) (kind_is key p) ∙ ahead.2))))
       ] in
-      any_from (λ (b : BookView). waits_at settled b x y) books p.latch.book (among_books key p)
+      any-from (λ (b : BookView). waits_at settled b x y) books p.latch.book (among_books key p)
       (and_from (is_unsettled settled x) _ (ap not (open_ key wish x own))
-      (any_from (λ (t : Ticket). t.session == x && is_tied settled p.latch.book y t) p.latch.book.waiting ticket there
+      (any-from (λ (t : Ticket). t.session == x && is_tied settled p.latch.book y t) p.latch.book.waiting ticket there
       (and_from (ticket.session == x) _ (eq-eqb ticket.session x own.1) (and_from (not (ticket.session == y)) _ not_self way))))
     where
       left_or : (u v : Bool) → u ≡ true → (u || v) ≡ true
@@ -211,28 +173,8 @@ module _ (s : State Slot View) (reached : Reached s) (id : ℕ) (m : Mine) (seat
 
   -- ---- cycles
 
-  abbrev waiting : ℕ → ℕ → Bool
-  waiting = waits_for (settled_in sees.words) books
-
-  first_tie : (target session : ℕ) (rest : List ℕ) → Leads (WaitsFor a) target session rest → (next : ℕ) × WaitsFor a session next
-  first_tie target session [] tie = (target, tie)
-  first_tie target session (next ∷ rest) (tie, later) = (next, tie)
-
-  leads_told : (target on session : ℕ) (rest : List ℕ) → WaitsFor a target on → Leads (WaitsFor a) target session rest → leads waiting target session rest ≡ true
-  leads_told target on session [] goes tie = tied session target on tie goes
-  leads_told target on session (next ∷ rest) goes (tie, later) =
-      let further = first_tie target next rest later in
-      and_from (waiting session next) (leads waiting target next rest) (tied session next further.0 tie further.1) (leads_told target on next rest goes later)
-
   pub in_none : (cycle : List ℕ) → IsDeadlock a m.0.number cycle → ⊥
-  in_none cycle (rest, same, distinct, leading) =
-      let from : ℕ = m.0.number in
-      let on = first_tie from from rest leading in
-      sees.none cycle (subst (λ (c : List ℕ). IsCycleThrough waiting from c) (sym same)
-      (and_from (from == from && are_distinct (from ∷ rest)) (leads waiting from from rest)
-      (and_from (from == from) (are_distinct (from ∷ rest)) (eq-eqb from from refl)
-      (distinct_from (from ∷ rest) (subst (λ (c : List ℕ). AllPairs (λ one other. one ≢ other) c) same distinct)))
-      (leads_told from on.0 from rest on.1 leading)))
+  in_none cycle is = sees.none cycle (cycle-from (waits_for (settled_in sees.words) books) (WaitsFor a) tied m.0.number cycle is)
 
 pub who_sees_no_deadlock_is_in_none : WhoSeesNoDeadlockIsInNone
 who_sees_no_deadlock_is_in_none s reached id m seat sees a told cycle is = in_none s reached id m seat sees a told cycle is

@@ -2,6 +2,7 @@ pub mod ApartLemmas
 pub mod BlockingLemmas
 pub mod BookLemmas
 pub mod ConcernLemmas
+pub mod CycleLemmas
 pub mod DeadlockCauses
 pub mod DeadlockRounds
 pub mod Deciding

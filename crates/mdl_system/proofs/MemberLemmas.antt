@@ -1,8 +1,10 @@
 -- Members of mapped and joined lists, and of lists in which no two elements have one name.
 use Rattle.std.proofs.Common.{◌≡◌, ◌≢◌, ℕ, zero, suc, ◌<◌, Bool, true, false, cond, inl, inr, List, [], ◌∷◌, ◌++◌, length, map, Some, refl, sym, ap, subst, ◌∙◌, arith}
 use Rattle.std.specs.Prelude.{Contains, AllPairs, slice_index_or}
-use Rattle.std.specs.List.{flat_map, find}
+use Rattle.std.specs.List.{flat_map, find, list_any}
+use Rattle.std.proofs.lemmas.Bool.{or_cases, false≢true}
 use Rattle.std.proofs.lemmas.List.Elements.{Contains-append_left, Contains-append_right, Contains-append_cases}
+use Rattle.std.proofs.lemmas.List.Folds.{list_any_at}
 use Rattle.mdl_system.specs.Events.{Gains}
 use Rattle.mdl_system.proofs.OrderLemmas.{Contains-cons_cases, Contains-here, Contains-later}
 
@@ -37,6 +39,18 @@ Contains-flat_map_from f (x ∷ xs) d b among = elim (Contains-append_cases (f x
   | inl first ↦ (0, omega arith, first)
   | inr later ↦ let from = Contains-flat_map_from f xs d b later in let lt = from.1 in (suc from.0, omega arith, from.2)
 ]
+
+-- ---- some member that passes a test
+
+pub any-found : {T : Type 0} (test : T → Bool) (xs : List T) → list_any test xs ≡ true → (x : T) × Contains xs x × (test x ≡ true)
+any-found test [] found = absurd (false≢true found)
+any-found test (x ∷ xs) found = elim (or_cases (test x) (list_any test xs) found) [
+  | inl here ↦ (x, Contains-here x xs, here)
+  | inr later ↦ let h = any-found test xs later in (h.0, Contains-later x xs h.0 h.1, h.2)
+]
+
+pub any-from : {T : Type 0} (test : T → Bool) (xs : List T) (x : T) → Contains xs x → test x ≡ true → list_any test xs ≡ true
+any-from test xs x among passes = list_any_at test xs among.0 x among.1 (ap test among.2 ∙ passes)
 
 -- ---- one more at the end
 
