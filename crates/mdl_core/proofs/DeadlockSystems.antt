@@ -80,5 +80,5 @@ module _ (core : Core) (tied : IsTied core) where
       → IsChosenDeadlock (system_of core) who (sessions_of members) × IsVictimOf (system_of core) (sessions_of members) (victim_of members)
   some-found who members found =
       let h = some-of_books (has_settled core) core.books who (WaitsFor (system_of core)) (WaitsFor (system_of core)) (waits-found core tied) passes
-          (Weighs (system_of core)) weighs-once member-weighs members found in
+      (Weighs (system_of core)) weighs-once member-weighs members found in
       ((h.0, h.1), h.2)
