@@ -26,7 +26,6 @@ use Rattle.mdl_steps.specs.Cells.{desk_of, held_at, holder_at, waits}
 use Rattle.mdl_steps.specs.Layout.{wait_word}
 use Rattle.mdl_steps.specs.Plays.{Mine}
 use Rattle.mdl_steps.specs.Histories.{Reached}
-use Rattle.mdl_steps.specs.Rule.{Rule}
 use Rattle.mdl_steps.specs.Servings.{OnlyMeets}
 use Rattle.mdl_steps.specs.Sights.{SeesNoDeadlock, settled_in}
 use Rattle.mdl_steps.specs.WaitStates.{unsettled_state, wait_state}

@@ -1,6 +1,6 @@
 -- What the step that settles a wait shows of its session: the entry in the list has the records of the latches and of the directory's latch that the session
 -- had before the step, and the word as the table had it.
-use Rattle.std.proofs.Common.{◌≡◌, ℕ, inl, inr, List, [], ◌∷◌, ◌++◌, set, get_or, Some, None, refl, sym, ap, ◌∙◌, subst}
+use Rattle.std.proofs.Common.{◌≡◌, ℕ, inl, inr, [], ◌∷◌, ◌++◌, get_or, Some, None, refl, sym, ap, ◌∙◌, subst}
 use Rattle.std.specs.Prelude.{Option}
 use Rattle.std.specs.Option.{option_map_or}
 use mathlib.Core.Option.{some, some-injective}

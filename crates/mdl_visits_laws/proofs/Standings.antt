@@ -1,5 +1,5 @@
 -- Books under latches tell which sessions stand behind which, and with what weights.
-use Rattle.std.proofs.Common.{◌≡◌, ◌≢◌, ℕ, suc, ◌+◌, ◌-◌, ◌<◌, ◌≤◌, ◌==◌, ◌&&◌, ◌||◌, not, Bool, true, inl, inr, List, [], ◌∷◌, length, map, Some, None, refl, sym, ap, ◌∙◌, subst, arith}
+use Rattle.std.proofs.Common.{◌≡◌, ◌≢◌, ℕ, suc, ◌-◌, ◌<◌, ◌==◌, ◌&&◌, ◌||◌, not, Bool, true, inl, inr, List, [], ◌∷◌, Some, None, refl, sym, ap, ◌∙◌, subst, arith}
 use Rattle.std.specs.Prelude.{Contains, Option}
 use Rattle.std.specs.List.{list_any}
 use Rattle.std.proofs.lemmas.Bool.{and_parts, eq-eqb, eqb-true, or_cases}
@@ -23,16 +23,16 @@ use Rattle.mdl_steps.specs.declared.view.View.{View}
 use Rattle.mdl_steps.specs.Cells.{held_at, holder_at}
 use Rattle.mdl_steps.specs.Rule.{Rule, key_at}
 use Rattle.mdl_steps_laws.specs.Headline.{HasPlace}
-use Rattle.mdl_steps_laws.specs.Locks.{granted_of}
 use Rattle.mdl_steps_laws.specs.WaitLaws.{IsTold}
 use Rattle.mdl_steps_laws.proofs.TableLocks.{same_keys}
 use Rattle.mdl_steps_laws.proofs.WaitAsks.{at_from_get}
-use Rattle.mdl_system.specs.BookLaws.{in_book, of_lock}
-use Rattle.mdl_system.specs.Deadlocks.{AsksAhead, HoldsAgainst, Requests, StandsBehind, StandsWith}
+use Rattle.mdl_system.specs.BookLaws.{of_lock}
+use Rattle.mdl_system.specs.Deadlocks.{AsksAhead, HoldsAgainst, IsDeadlock, IsStandingDeadlock, IsStandingVictimOf, IsVictimOf, Leads, Requests, StandsBehind, StandsWith, WaitsFor}
 use Rattle.mdl_system.specs.NumberingLaws.{IsWellNumbered}
 use Rattle.mdl_system.specs.Systems.{System, Waiter}
 use Rattle.mdl_system.proofs.MemberLemmas.{AreApart, Contains-map_from, Contains-none, any-found, apart-first, apart-rest}
-use Rattle.mdl_system.proofs.OrderLemmas.{Contains-cons_cases}
+use Rattle.mdl_system.proofs.OrderLemmas.{Contains-cons_cases, Contains-here, Contains-later}
+use Rattle.mdl_visits_laws.specs.Victims.{AllWait}
 
 -- ---- a session has one request
 
@@ -55,6 +55,48 @@ one_weight a well session one other (key, w, stands, is) (key′, w′, stands�
     let same_key : key ≡ key′ = well.one_key key key′ w w′ stands.0 stands′.0 same_session in
     let same : w ≡ w′ = one_of (a.waiting key) (well.once key) w w′ stands.0 (subst (λ (k : KeyName). Contains (a.waiting k) w′) (sym same_key) stands′.0) same_session in
     is ∙ (λ i. weight_of (same_key i).namespace (same i).ticket.mode) ∙ sym is′
+
+-- ---- while all members wait
+
+module _ (a : System Definition) (cycle : List ℕ) (wait : AllWait a cycle) where
+  tie_open : (x y : ℕ) → Contains cycle x → Contains cycle y → StandsBehind a x y → WaitsFor a x y
+  tie_open x y of_x of_y (apart, (key, w, stands, blocks)) = (
+    apart,
+    (
+      key,
+      w,
+      (stands.0, stands.1, wait x of_x key w stands),
+      elim blocks [
+        | inl held ↦ inl held
+        | inr pending ↦ inr (pending.0, (pending.1.0, pending.1.1, wait y of_y key pending.0 pending.1), pending.2)
+      ],
+    ),
+  )
+
+  leads_open : (target session : ℕ) (rest : List ℕ) → Contains cycle target → Contains cycle session → ((x : ℕ) → Contains rest x → Contains cycle x)
+      → Leads (StandsBehind a) target session rest → Leads (WaitsFor a) target session rest
+  leads_open target session [] of_target of_session of_rest tie = tie_open session target of_session of_target tie
+  leads_open target session (next ∷ rest) of_target of_session of_rest (tie, later) =
+      let of_next = of_rest next (Contains-here next rest) in (
+        tie_open session next of_session of_next tie,
+        leads_open target next rest of_target of_next (λ x among. of_rest x (Contains-later next rest x among)) later,
+      )
+
+  pub deadlock_open : (who : ℕ) → IsStandingDeadlock a who cycle → IsDeadlock a who cycle
+  deadlock_open who (rest, same, distinct, leading) =
+      let of_cycle : (x : ℕ) → Contains (who ∷ rest) x → Contains cycle x = λ x among. subst (λ (c : List ℕ). Contains c x) (sym same) among in
+      let first = of_cycle who (Contains-here who rest) in
+      (rest, same, distinct, leads_open who who rest first first (λ x among. of_cycle x (Contains-later who rest x among)) leading)
+
+  pub victim_open : (victim : ℕ) → IsStandingVictimOf a cycle victim → IsVictimOf a cycle victim
+  victim_open victim (among, (weight, (key, w, stands, is), least)) = (
+    among,
+    (
+      weight,
+      (key, w, (stands.0, stands.1, wait victim among key w stands), is),
+      λ other heavier of_other weighs. least other heavier of_other (weighs.0, weighs.1, (weighs.2.0, weighs.2.1), weighs.3),
+    ),
+  )
 
 -- ---- books of latches
 

@@ -1,6 +1,6 @@
 -- The victim of a search falls in a standing deadlock.
-use Rattle.std.proofs.Common.{◌≡◌, ◌≢◌, ℕ, suc, ◌+◌, ◌*◌, ◌%◌, ◌<◌, ◌≤◌, ◌==◌, ◌&&◌, not, Bool, true, false, inl, inr, List, [], ◌∷◌, length, map, get_or, Some, None, refl, sym, ap, ◌∙◌, subst, arith}
-use Rattle.std.specs.Prelude.{All, Contains, IsTrue, Option}
+use Rattle.std.proofs.Common.{◌≡◌, ℕ, ◌+◌, ◌*◌, ◌%◌, ◌<◌, ◌≤◌, ◌==◌, ◌&&◌, not, Bool, true, false, inl, inr, List, [], ◌∷◌, length, get_or, Some, None, refl, sym, ap, ◌∙◌, subst, arith}
+use Rattle.std.specs.Prelude.{All, Contains, IsTrue, MatchOption, Option}
 use Rattle.std.specs.Option.{option_map}
 use Rattle.std.proofs.lemmas.Bool.{and_parts, eqb-true}
 use Rattle.std.proofs.lemmas.List.Elements.{All-contains}
@@ -12,10 +12,11 @@ use Rattle.mdl_book.specs.declared.book_view.BookView.{BookView}
 use Rattle.mdl_defs.specs.declared.definition.Definition.{Definition}
 use Rattle.mdl_graph.specs.declared.cycle.Member.{Member}
 use Rattle.mdl_graph.specs.Cycles.{is_chosen_before}
-use Rattle.mdl_graph.specs.GraphLaws.{sessions_of}
+use Rattle.mdl_graph.specs.GraphLaws.{IsWaiting, sessions_of}
 use Rattle.mdl_graph.specs.Graphs.{deadlock_in}
 use Rattle.mdl_graph.specs.Victims.{victim_of}
 use Rattle.mdl_graph.specs.WaitsFor.{waits_for}
+use Rattle.mdl_graph.proofs.DeadlockLemmas.{deadlock_waits}
 use Rattle.mdl_steps.specs.declared.slot.Slot.{Slot}
 use Rattle.mdl_steps.specs.declared.view.Keys.{Keys}
 use Rattle.mdl_steps.specs.declared.view.LatchRecord.{LatchRecord}
@@ -31,15 +32,15 @@ use Rattle.mdl_system.specs.Deadlocks.{IsCycle, IsDeadlock, IsStandingDeadlock, 
 use Rattle.mdl_system.specs.Systems.{Killed, System, TimedOut, Unsettled, Victim, Waiter, WaitState}
 use Rattle.mdl_system.proofs.CycleLemmas.{some-of_books}
 use Rattle.mdl_system.proofs.Deciding.{nat_told}
-use Rattle.mdl_system.proofs.MemberLemmas.{Contains-none, any-found}
+use Rattle.mdl_system.proofs.MemberLemmas.{Contains-map_from, Contains-none, any-found}
 use Rattle.mdl_system.proofs.OrderLemmas.{Contains-cons_cases, Contains-here, Contains-later}
 use Rattle.mdl_visits.specs.declared.audited.Audited.{Audited}
 use Rattle.mdl_visits.specs.declared.waits_read.WaitRead.{WaitRead}
 use Rattle.mdl_visits.specs.Audits.{AreRecorded}
 use Rattle.mdl_visits.specs.Searches.{books_of, settled_by}
-use Rattle.mdl_visits_laws.specs.Victims.{FallsInDeadlock, HasReadAll, VictimsFallInStandingDeadlocks, WasReadBefore, directory_of, settled_by_search, words_of}
+use Rattle.mdl_visits_laws.specs.Victims.{HasReadAll, VictimsFallInStandingDeadlocks, WasReadBefore, settling_of}
 use Rattle.mdl_visits_laws.proofs.Settlings.{settling_shows}
-use Rattle.mdl_visits_laws.proofs.Standings.{IsOfLatch, one_weight, stands_behind, stands_with}
+use Rattle.mdl_visits_laws.proofs.Standings.{IsOfLatch, deadlock_open, one_weight, stands_behind, stands_with, victim_open}
 
 -- ---- the books
 
@@ -126,6 +127,13 @@ module _ (s : State Slot View) (reached : Reached s) (seat : ℕ) (v : View) (th
   pub stands : IsStandingDeadlock a who (sessions_of members) × IsStandingVictimOf a (sessions_of members) (victim_of members)
   stands = let h = by_books (λ x y. ⊥) (λ x y z tie on. absurd tie) in (h.0, h.2)
 
+  pub met_open : (session : ℕ) → Contains (sessions_of members) session → settled_by words session ≡ false
+  met_open session among =
+      let waiting : All (IsWaiting (settled_by words) (books_of audited)) members =
+      subst (λ o. MatchOption o (Unit {0}) (All (IsWaiting (settled_by words) (books_of audited)))) found (deadlock_waits (settled_by words) (books_of audited) who) in
+      let from = Contains-map_from (λ (m : Member). m.session) members session among in
+      ap (settled_by words) from.2 ∙ (All-contains (IsWaiting (settled_by words) (books_of audited)) members from.0 waiting from.1).0
+
   pub chosen : HasReadAll slots k words v → (other : List ℕ) → IsDeadlock a who other → IsTrue (is_chosen_before (sessions_of members) other)
   chosen (directory, read) =
       let copied : (p : ℕ) → 0 < p → p ≤ length k.keys → IsAmong v.latches (books_of audited) p = λ p first last. place_recorded 1 v.latches audited recorded p (omega arith) (omega arith) in
@@ -144,28 +152,34 @@ module _ (s : State Slot View) (reached : Reached s) (seat : ℕ) (v : View) (th
 -- ---- the law
 
 pub victims_fall_in_standing_deadlocks : VictimsFallInStandingDeadlocks
-victims_fall_in_standing_deadlocks victim old new search s t reached size turn whole seat step a told =
-    let searched = search.2 in
-    let settles = settled_by_search search in
+victims_fall_in_standing_deadlocks victim old new found s t reached size turn whole seat step a told =
+    let searched = found.2 in
+    let settles = settling_of victim old new found in
     let shows = settling_shows s t turn whole seat step.old step.new step.before step.after settles.moment step.log settles.kind in
     let latches : step.old.latches ≡ searched.moment.held = sym shows.latches ∙ settles.held in
     let recorded = subst (λ (ls : List LatchRecord). AreRecorded 1 ls searched.audited) (sym latches) searched.recorded in
     let members = members_of victim (deadlock_in (settled_by searched.judges.words) (books_of searched.audited) old.me.0.number) searched.judges.outcome.0 in
-    let stand = stands s reached seat step.old step.before a told old.table.slots size search.0 search.1.recorded.fit searched.audited searched.all recorded
+    let stand = stands s reached seat step.old step.before a told old.table.slots size found.0 found.1.recorded.fit searched.audited searched.all recorded
     searched.judges.words old.me.0.number members.0 members.1 in
     let falls = subst (λ (n : ℕ). IsStandingVictimOf a (sessions_of members.0) n) members.2 stand.1 in
     let word : waits s victim ≡ 8 * settles.wait + 1 =
     ap (λ (n : ℕ). get_or s.words (wait_word n victim) 0) (sym size) ∙ ap (λ (n : ℕ). get_or s.words n 0) (sym settles.met.word) ∙ sym shows.found ∙ settles.met.found in
-    let waiting = victim_waits s reached seat step.old step.before a told old.table.slots size search.0 search.1.recorded.fit searched.audited searched.all recorded
+    let waiting = victim_waits s reached seat step.old step.before a told old.table.slots size found.0 found.1.recorded.fit searched.audited searched.all recorded
     searched.judges.words old.me.0.number members.0 members.1 victim settles.wait falls word in
     record {
       cycle = sessions_of members.0;
       standing = stand.0;
+      met_open = met_open s reached seat step.old step.before a told old.table.slots size found.0 found.1.recorded.fit found.2.audited found.2.all recorded
+          found.2.judges.words old.me.0.number members.0 members.1;
       falls = falls;
       key = waiting.0;
       wish = waiting.1;
       wishes = waiting.2;
       number_is = waiting.3;
-      chosen = chosen s reached seat step.old step.before a told old.table.slots size search.0 search.1.recorded.fit searched.audited searched.all recorded
+      all_wait = λ wait. (
+        deadlock_open a (sessions_of members.0) wait old.me.0.number stand.0,
+        victim_open a (sessions_of members.0) wait victim falls,
+      );
+      chosen = chosen s reached seat step.old step.before a told old.table.slots size found.0 found.1.recorded.fit searched.audited searched.all recorded
           searched.judges.words old.me.0.number members.0 members.1;
     }

@@ -3,8 +3,7 @@
 -- A search judges by the books of all places and by the words of all sessions' waits. While the session has the latches, the books can't change, so the
 -- requests and the granted tickets that it judges by stand. But any session may settle a wait at any time. So the waits of members that the search met
 -- unsettled may be lost by then, and what it found is a standing deadlock.
-use Rattle.std.specs.Prelude.{◌≡◌, ℕ, List, length, All, Contains, IsTrue, Some}
-use Rattle.atomic_table.specs.Seated.{TableId}
+use Rattle.std.specs.Prelude.{◌≡◌, ℕ, List, length, All, Contains, IsFalse, IsTrue, Some}
 use Rattle.atomic_table.specs.Table.{State}
 use Rattle.mdl_key.specs.Words.{KeyName}
 use Rattle.mdl_calls.specs.declared.answers.Search.TheVariants.{Victim}
@@ -17,16 +16,15 @@ use Rattle.mdl_steps.specs.declared.view.Met.{Met}
 use Rattle.mdl_steps.specs.declared.view.View.{View}
 use Rattle.mdl_steps.specs.Histories.{Reached}
 use Rattle.mdl_steps.specs.Layout.{wait_word}
-use Rattle.mdl_steps.specs.Plays.{Mine}
 use Rattle.mdl_steps.specs.SeatStates.{SeatState}
 use Rattle.mdl_steps.specs.Turns.{IsWholeTurn, Turn}
 use Rattle.mdl_steps_laws.specs.Entries.{MakesOneStep}
 use Rattle.mdl_steps_laws.specs.WaitLaws.{IsTold}
-use Rattle.mdl_system.specs.Deadlocks.{IsDeadlock, IsStandingDeadlock, IsStandingVictimOf, Wishes}
-use Rattle.mdl_system.specs.Systems.{System, Waiter}
+use Rattle.mdl_system.specs.Deadlocks.{IsDeadlock, IsStandingDeadlock, IsStandingVictimOf, IsVictimOf, Requests, Wishes}
+use Rattle.mdl_system.specs.Systems.{System, Unsettled, Waiter}
 use Rattle.mdl_visits.specs.declared.waits_read.WaitRead.{WaitRead}
 use Rattle.mdl_visits.specs.Lookups.{AsksDirectory}
-use Rattle.mdl_visits.specs.Searches.{Searched, SettlesVictim}
+use Rattle.mdl_visits.specs.Searches.{Searched, SettlesVictim, settled_by}
 
 -- ---- what a search did
 
@@ -34,18 +32,17 @@ use Rattle.mdl_visits.specs.Searches.{Searched, SettlesVictim}
 abbrev pub SettlesAVictim : ℕ → SeatState → SeatState → Type 0
 SettlesAVictim victim old new = AsksDirectory old new (λ k. Searched old.table old.me.0.number k (Victim victim) old.me new.me)
 
--- the keys of the directory, by the record of its latch
-abbrev pub directory_of : {victim : ℕ} {old new : SeatState} → SettlesAVictim victim old new → Keys
-directory_of search = search.0
+-- what such a search knows: the directory's keys, by the record of its latch, and the words of waits that it judged by
+abbrev pub keys_of : (victim : ℕ) (old new : SeatState) → SettlesAVictim victim old new → Keys
+keys_of victim old new found = found.0
 
--- the words of waits that the search judged by
-abbrev pub words_of : {victim : ℕ} {old new : SeatState} → SettlesAVictim victim old new → List WaitRead
-words_of search = search.2.judges.words
+abbrev pub words_of : (victim : ℕ) (old new : SeatState) → SettlesAVictim victim old new → List WaitRead
+words_of victim old new found = found.2.judges.words
 
--- how the victim's wait was settled
-abbrev pub settled_by_search : {victim : ℕ} {old new : SeatState} → (search : SettlesAVictim victim old new)
-    → SettlesVictim old.table.slots victim search.2.moment.held old.me new.me
-settled_by_search search = search.2.judges.outcome.1
+-- and how it settled the victim's wait
+abbrev pub settling_of : (victim : ℕ) (old new : SeatState) → (found : SettlesAVictim victim old new)
+    → SettlesVictim old.table.slots victim found.2.moment.held old.me new.me
+settling_of victim old new found = found.2.judges.outcome.1
 
 -- ---- the victim
 
@@ -58,19 +55,28 @@ WasReadBefore slots v r =
 abbrev pub HasReadAll : ℕ → Keys → List WaitRead → View → Type 0
 HasReadAll slots k words v = (v.directory ≡ Some k) × All (WasReadBefore slots v) words
 
+-- the waits of all these sessions are unsettled
+abbrev pub AllWait : System Definition → List ℕ → Type 0
+AllWait system sessions =
+    (session : ℕ) → Contains sessions session → (key : KeyName) (w : Waiter) → Requests system session key w → w.state ≡ Unsettled
+
 -- in this system the victim, whose wait has this number, is the right one in a standing deadlock through a session:
 -- * The deadlock's sessions, from that session on, are distinct. Each has a request that stands behind the next one's session (`standing`).
+-- * By the words that the search judged by, none of their waits was settled (`met_open`).
 -- * The victim is one of them. No request of another weighs less, and of those that weigh the same its number is the greatest (`falls`).
 -- * The victim's wait is unsettled (`wishes`).
+-- * If the others' waits are, too, this is a deadlock, and the victim is the one that it has in the space of one thread (`all_wait`).
 -- * No deadlock through the session is chosen before this one if the words were met in time (`chosen`).
-pub record FallsInDeadlock (system : System Definition) (who victim number : ℕ) (InTime : Type 0) : Type 0 where
+pub record FallsInDeadlock (system : System Definition) (who victim number : ℕ) (words : List WaitRead) (InTime : Type 0) : Type 0 where
   pub cycle : List ℕ
   pub standing : IsStandingDeadlock system who cycle
+  pub met_open : (session : ℕ) → Contains cycle session → IsFalse (settled_by words session)
   pub falls : IsStandingVictimOf system cycle victim
   pub key : KeyName
   pub wish : Waiter
   pub wishes : Wishes system victim key wish
   pub number_is : wish.wait ≡ number
+  pub all_wait : AllWait system cycle → IsDeadlock system who cycle × IsVictimOf system cycle victim
   pub chosen : InTime → (other : List ℕ) → IsDeadlock system who other → IsTrue (is_chosen_before cycle other)
 
 -- ---- the law
@@ -79,7 +85,8 @@ pub record FallsInDeadlock (system : System Definition) (who victim number : ℕ
 -- victim is the right one in the table's system before that step
 abbrev pub VictimsFallInStandingDeadlocks : Type 0
 VictimsFallInStandingDeadlocks =
-    (victim : ℕ) (old new : SeatState) → (search : SettlesAVictim victim old new) →
+    (victim : ℕ) (old new : SeatState) → (found : SettlesAVictim victim old new) →
     (s t : State Slot View) → Reached s → old.table.slots ≡ length s.homes → (turn : Turn s t) → IsWholeTurn turn →
-    (seat : ℕ) → (step : MakesOneStep s t seat (settled_by_search search).moment) → (a : System Definition) → IsTold s a →
-    FallsInDeadlock a old.me.0.number victim (settled_by_search search).wait (HasReadAll old.table.slots (directory_of search) (words_of search) step.old)
+    (seat : ℕ) → (step : MakesOneStep s t seat (settling_of victim old new found).moment) → (a : System Definition) → IsTold s a →
+    FallsInDeadlock a old.me.0.number victim (settling_of victim old new found).wait (words_of victim old new found)
+    (HasReadAll old.table.slots (keys_of victim old new found) (words_of victim old new found) step.old)

@@ -10,8 +10,9 @@ ghost use Rattle.mdl_visits_laws.specs.Victims.{VictimsFallInStandingDeadlocks};
 /// before that step, each member of the deadlock has a ticket that waits, and stands behind the next member. No such request of a member weighs
 /// less than the victim's, and of those that weigh the same the victim's session has the greatest number. The victim's wait is unsettled.
 ///
-/// The other members' waits may be lost by then: no latch keeps a session from settling a wait that the search has met unsettled. If that
-/// happens to the victim's own wait, the search settles nothing, and begins again with the words as they are then.
+/// By the words that the search judged by, no member's wait was settled. The others' may be lost by then, that of the session that searches among
+/// them: no latch keeps a session from settling a wait that the search has met unsettled. If none is, this is a deadlock, and the victim is its
+/// victim. If the victim's wait was settled first, the search settles nothing, and begins again with the words as they are then.
 ///
 /// A wait that was met settled stays so. So if all words were met before that step, and under the directory's latch, no deadlock through the
 /// session that searches would be chosen before this one.
