@@ -249,14 +249,14 @@ module _ (s t : State Slot View) (m : Mine) (st : Step Slot) (size : st.slots �
 
 -- ---- lists of steps
 
-same_last : (es : List Met) (e f : Met) → es ++ e ∷ [] ≡ es ++ f ∷ [] → e ≡ f
+pub same_last : (es : List Met) (e f : Met) → es ++ e ∷ [] ≡ es ++ f ∷ [] → e ≡ f
 same_last es e f is = let one : e ∷ [] ≡ f ∷ [] = append_cancel_left es (e ∷ []) (f ∷ []) is in ap (first_of e) one
   where
     first_of : Met → List Met → Met
     first_of else [] = else
     first_of else (x ∷ xs) = x
 
-no_longer : (es fs : List Met) (e : Met) → length fs ≡ 0 ⊎ (es ≡ fs) → fs ≡ es ++ e ∷ [] → ⊥
+pub no_longer : (es fs : List Met) (e : Met) → length fs ≡ 0 ⊎ (es ≡ fs) → fs ≡ es ++ e ∷ [] → ⊥
 no_longer es fs e known is =
     let more : length fs ≡ length es + 1 = ap (λ (xs : List Met). length xs) is ∙ length-append es (e ∷ []) in
     elim known [
@@ -299,7 +299,7 @@ module _ (s t : State Slot View) (v first more : View) (seat : get_elem? s.views
       ∙ at_longer (set s.views 0 first) (more ∷ []) 0 first (set_here s.views 0 first (at_inside s.views 0 v seat)) in
       ap (λ (x : View). x.log) (some-injective w first (sym is ∙ there)) ∙ cleared
 
-  none_gained : (i : ℕ) (u w : View) → get_elem? s.views i ≡ some u → get_elem? t.views i ≡ some w → (e : Met) → w.log ≡ u.log ++ e ∷ [] → ⊥
+  pub none_gained : (i : ℕ) (u w : View) → get_elem? s.views i ≡ some u → get_elem? t.views i ≡ some w → (e : Met) → w.log ≡ u.log ++ e ∷ [] → ⊥
   none_gained i u w was is e log = elim (cases_eq i 0) [
     | inl zero ↦ no_longer u.log w.log e (inl (ap (λ (xs : List Met). length xs) (first_cleared w (subst (λ (k : ℕ). get_elem? t.views k ≡ some w) zero is)))) log
     | inr else ↦ no_longer u.log w.log e (inr (ap (λ (x : View). x.log) (some-injective u w (sym (else_kept i u else was) ∙ is)))) log

@@ -1,5 +1,5 @@
 -- Who sees no deadlock under all latches is in none.
-use Rattle.std.proofs.Common.{◌≡◌, ◌≢◌, ℕ, suc, ◌+◌, ◌*◌, ◌%◌, ◌<◌, ◌==◌, ◌&&◌, ◌||◌, not, Bool, true, false, inl, inr, List, length, map, Some, refl, sym, ap, ◌∙◌, subst, arith, eq-eqb, ne_eqb}
+use Rattle.std.proofs.Common.{◌≡◌, ◌≢◌, ℕ, suc, ◌+◌, ◌*◌, ◌%◌, ◌<◌, ◌≤◌, ◌==◌, ◌&&◌, ◌||◌, not, Bool, true, false, inl, inr, List, length, map, Some, refl, sym, ap, ◌∙◌, subst, arith, eq-eqb, ne_eqb}
 use Rattle.std.specs.Prelude.{Option, Contains}
 use Rattle.std.specs.Option.{is_some}
 use Rattle.std.proofs.lemmas.Bool.{and_parts, and_from, eqb-true}
@@ -16,15 +16,19 @@ use Rattle.mdl_book.specs.Books.{lock_kind}
 use Rattle.mdl_book.specs.Tickets.{ticket_of}
 use Rattle.mdl_book.proofs.TicketLemmas.{find-contains}
 use Rattle.mdl_defs.specs.declared.definition.Definition.{Definition}
-use Rattle.mdl_graph.specs.WaitsFor.{holds_against, is_tied, is_unsettled, waits_ahead, waits_at, waits_for}
+use Rattle.mdl_graph.specs.WaitsFor.{SessionTest, holds_against, is_tied, is_unsettled, waits_ahead, waits_at, waits_for}
 use Rattle.mdl_steps.specs.declared.slot.Slot.{Slot}
+use Rattle.mdl_steps.specs.declared.view.Keys.{Keys}
 use Rattle.mdl_steps.specs.declared.view.LatchRecord.{LatchRecord}
+use Rattle.mdl_steps.specs.declared.view.Met.{Met}
 use Rattle.mdl_steps.specs.declared.view.View.{View}
 use Rattle.mdl_steps.specs.Cells.{desk_of, held_at, holder_at, waits}
+use Rattle.mdl_steps.specs.Layout.{wait_word}
 use Rattle.mdl_steps.specs.Plays.{Mine}
 use Rattle.mdl_steps.specs.Histories.{Reached}
-use Rattle.mdl_steps.specs.Rule.{Rule}
+use Rattle.mdl_steps.specs.Servings.{OnlyMeets}
 use Rattle.mdl_steps.specs.Sights.{SeesNoDeadlock, settled_in}
+use Rattle.mdl_steps.specs.WaitStates.{unsettled_state, wait_state}
 use Rattle.mdl_steps.proofs.Views.{at_inside, by_bool}
 use Rattle.mdl_steps.proofs.WaitTells.{asks_there}
 use Rattle.mdl_steps_laws.specs.Cares.{WhoSeesNoDeadlockIsInNone}
@@ -45,16 +49,23 @@ use Rattle.mdl_system.proofs.MemberLemmas.{any-found, any-from, Contains-none, C
 
 -- ---- ties
 
-module _ (s : State Slot View) (reached : Reached s) (id : ℕ) (m : Mine) (seat : get_elem? s.views id ≡ some m.0) (sees : SeesNoDeadlock (length s.homes) m)
+-- the place's latch is among these, and its book among those
+abbrev pub IsAmong : List LatchRecord → List BookView → ℕ → Type 0
+IsAmong latches books p = (h : LatchRecord) × (held_at p latches ≡ Some h) × Contains books h.book
+
+-- a step in the list only met the word of the session's wait, which wasn't open, while the list's session had just the records of latches that it has now
+abbrev pub WasMetSettled : ℕ → View → ℕ → Type 0
+WasMetSettled slots v session =
+    (e : Met) × Contains v.log e × OnlyMeets e.kind × (e.word ≡ wait_word slots session) × (e.held ≡ v.latches) × (wait_state e.found ≢ unsettled_state)
+
+-- a session holds the directory's latch, and those of the places of all its keys. These books have those of their records among them, and each of these
+-- sessions is settled by a word that was met
+module _ (s : State Slot View) (reached : Reached s) (id : ℕ) (v : View) (seat : get_elem? s.views id ≡ some v) (keys : Keys) (directory : v.directory ≡ Some keys)
+    (books : List BookView) (all : (p : ℕ) → 0 < p → p ≤ length keys.keys → IsAmong v.latches books p)
+    (settled : SessionTest) (met : (session : ℕ) → settled session ≡ true → WasMetSettled (length s.homes) v session)
     (a : System Definition) (told : IsTold s a) where
-  abbrev books : List BookView
-  books = map (λ (h : LatchRecord). h.book) m.0.latches
-
-  r : Rule s
-  r = rule_of s reached
-
-  keys_are : sees.keys.keys ≡ (rule_of s reached).keys
-  keys_are = ((rule_of s reached).directory_agrees.held id (desk_of m.0) (at_map desk_of s.views id m.0 seat) sees.keys sees.directory).2
+  keys_are : keys.keys ≡ (rule_of s reached).keys
+  keys_are = ((rule_of s reached).directory_agrees.held id (desk_of v) (at_map desk_of s.views id v seat) keys directory).2
 
   -- the place of a key at which somebody waits, and its record
   pub record Here (key : KeyName) : Type 0 where
@@ -62,25 +73,27 @@ module _ (s : State Slot View) (reached : Reached s) (id : ℕ) (m : Mine) (seat
     pub at : get_elem? told.1.keys i ≡ some key
     pub inside : suc i < length s.homes
     pub latch : LatchRecord
-    pub held : held_at (suc i) m.0.latches ≡ Some latch
+    pub held : held_at (suc i) v.latches ≡ Some latch
+    pub among : Contains books latch.book
     pub book : latch.book ≡ (told.0 key).book
 
   here : (key : KeyName) (w : Waiter) → Contains (a.waiting key) w → Here key
   here key w among = elim (find_key told.1.keys key) [
     | inl at ↦
-        let same : told.1.keys ≡ sees.keys.keys = same_keys s (rule_of s reached) told.1.keys told.1.keys_are ∙ sym keys_are in
+        let same : told.1.keys ≡ keys.keys = same_keys s (rule_of s reached) told.1.keys told.1.keys_are ∙ sym keys_are in
         let below : at.0 < length told.1.keys = at_inside told.1.keys at.0 key at.1 in
-        let many : length told.1.keys ≡ length sees.keys.keys = ap length same in
+        let many : length told.1.keys ≡ length keys.keys = ap length same in
         let fit : length (rule_of s reached).keys < length s.homes = (rule_of s reached).fit in
-        let count : length sees.keys.keys ≡ length (rule_of s reached).keys = ap length keys_are in
-        let h = sees.all (suc at.0) (omega arith) (omega arith) in
+        let count : length keys.keys ≡ length (rule_of s reached).keys = ap length keys_are in
+        let h = all (suc at.0) (omega arith) (omega arith) in
         record {
           i = at.0;
           at = at.1;
           inside = omega arith;
           latch = h.0;
           held = h.1;
-          book = (told.1.book_is at.0 key at.1).taken id m.0 seat h.0 h.1;
+          among = h.2;
+          book = (told.1.book_is at.0 key at.1).taken id v seat h.0 h.1;
         }
     | inr none ↦ absurd (Contains-none w.ticket (subst (λ (l : Lock). Contains l.book.waiting w.ticket) (told.1.without_place key none)
         (subst (λ (ts : List Ticket). Contains ts w.ticket) (told.2.waiting key) (Contains-map (λ (x : Waiter). x.ticket) (a.waiting key) w among))))
@@ -93,54 +106,43 @@ module _ (s : State Slot View) (reached : Reached s) (id : ℕ) (m : Mine) (seat
   kind_is : (key : KeyName) (p : Here key) → lock_kind p.latch.book ≡ kind_of key.namespace
   kind_is key p = ap lock_kind p.book ∙ ap (λ (k : KeyName). kind_of k.namespace) (told.2.keyed key)
 
-  among_books : (key : KeyName) (p : Here key) → Contains books p.latch.book
-  among_books key p = Contains-map (λ (h : LatchRecord). h.book) m.0.latches p.latch (find-contains (λ (h : LatchRecord). h.place == suc p.i) m.0.latches p.latch p.held)
-
   -- an open wait isn't settled by the words
-  open_ : (key : KeyName) (w : Waiter) (session : ℕ) → Wishes a session key w → settled_in sees.words session ≡ false
-  open_ key w session (among, own, unsettled) = by_bool (settled_in sees.words session) (λ settled. absurd (never (here key w among) settled)) (λ still. still)
+  open_ : (key : KeyName) (w : Waiter) (session : ℕ) → Wishes a session key w → settled session ≡ false
+  open_ key w session (among, own, unsettled) = by_bool (settled session) (λ closed. absurd (never (here key w among) closed)) (λ still. still)
     where
-      false_true : ◌≡◌ {A = Bool} false true → ⊥
-      false_true e = cc
+      one_view : (n : ℕ) → 0 < n → (j k : ℕ) (x u : View) → get_elem? s.views j ≡ some x → get_elem? s.views k ≡ some u → x.number ≡ n → u.number ≡ n → x ≡ u
+      one_view n some_n j k x u at at′ is is′ =
+          let same : j ≡ k = (rule_of s reached).enrolled.apart j k n (at_map (λ (y : View). y.number) s.views j x at ∙ ap (λ (i : ℕ). some i) is)
+          (at_map (λ (y : View). y.number) s.views k u at′ ∙ ap (λ (i : ℕ). some i) is′) some_n in
+          some-injective x u (sym (subst (λ (i : ℕ). get_elem? s.views i ≡ some x) same at) ∙ at′)
 
-      one_view : (n : ℕ) → 0 < n → (j k : ℕ) (v u : View) → get_elem? s.views j ≡ some v → get_elem? s.views k ≡ some u → v.number ≡ n → u.number ≡ n → v ≡ u
-      one_view n some_n j k v u at at′ is is′ =
-          let same : j ≡ k = (rule_of s reached).enrolled.apart j k n (at_map (λ (x : View). x.number) s.views j v at ∙ ap (λ (i : ℕ). some i) is)
-          (at_map (λ (x : View). x.number) s.views k u at′ ∙ ap (λ (i : ℕ). some i) is′) some_n in
-          some-injective v u (sym (subst (λ (i : ℕ). get_elem? s.views i ≡ some v) same at) ∙ at′)
-
-      never : (q : Here key) → settled_in sees.words session ≡ true → ⊥
-      never q settled =
-          let found = any-found (λ (x : ℕ × ℕ). x.0 == session && not (x.1 % 8 == 1)) sees.words settled in
-          let parts = and_parts (found.0.0 == session) (not (found.0.1 % 8 == 1)) found.2 in
-          let session_is : found.0.0 ≡ session = eqb-true found.0.0 session parts.0 in
-          let met = sees.met found.0 found.1 in
+      never : (q : Here key) → settled session ≡ true → ⊥
+      never q closed =
+          let was = met session closed in
           let there : Contains q.latch.book.waiting w.ticket = waits_there key w q among in
           let u = found_in q.latch.book.waiting w.ticket there in
           let same_number : ticket_of session w.ticket.number q.latch.book.waiting ≡ Some u.0 = subst (λ (n : ℕ). ticket_of n w.ticket.number q.latch.book.waiting ≡ Some u.0) own u.1 in
           let first : 0 < suc q.i = omega arith in
-          let book_is = (((rule_of s reached).places (suc q.i) first q.inside).held id (holder_at (suc q.i) m.0) (at_map (holder_at (suc q.i)) s.views id m.0 seat) q.latch q.held).book_is in
+          let book_is = (((rule_of s reached).places (suc q.i) first q.inside).held id (holder_at (suc q.i) v) (at_map (holder_at (suc q.i)) s.views id v seat) q.latch q.held).book_is in
           let asks = asks_there s (rule_of s reached) (suc q.i) first q.inside session w.ticket.number u.0 (ap (λ (b : BookView). ticket_of session w.ticket.number b.waiting) (sym book_is) ∙ same_number) in
           let some_session : 0 < session = subst (λ (n : ℕ). 0 < n) asks.4 (askers_are_sessions s reached asks.0 asks.1 asks.2 asks.3 asks.5) in
-          let stays = met_waits_stay s reached id m.0 seat met.0 met.1 (suc q.i) session w.ticket.number (first, q.inside) some_session (record {
-            kind = met.2;
-            word = met.3 ∙ ap (λ (n : ℕ). 8 * length s.homes + 8 + 8 * n) session_is;
+          let stays = met_waits_stay s reached id v seat was.0 was.1 (suc q.i) session w.ticket.number (first, q.inside) some_session (record {
+            kind = was.2;
+            word = was.3;
             latch = q.latch;
-            held = ap (held_at (suc q.i)) met.5 ∙ q.held;
+            held = ap (held_at (suc q.i)) was.4 ∙ q.held;
             waits = ap (λ (o : Option Ticket). is_some o) same_number;
           }) in
           let same_view : stays.1 ≡ asks.1 = one_view session some_session stays.0 asks.0 stays.1 asks.1 stays.2 asks.3 stays.3 asks.4 in
-          let facts = stays.5 asks.2 (ap (λ (v : View). v.asks) same_view ∙ asks.5) asks.7 in
-          let not_open : met.0.found % 8 ≢ 1 = λ is. false_true (sym (ap (λ (n : ℕ). not (n == 1)) (ap (λ (n : ℕ). n % 8) (sym met.4) ∙ is)) ∙ parts.1) in
+          let facts = stays.5 asks.2 (ap (λ (x : View). x.asks) same_view ∙ asks.5) asks.7 in
           let word_is : waits s session ≡ 8 * w.wait + code_of w.state = ap (waits s) (sym own) ∙ told.3.waiting key w among in
           let code : code_of w.state ≡ 1 = ap code_of unsettled in
-          facts.1 not_open (omega arith)
+          facts.1 was.5 (omega arith)
 
   -- a tie into a session that has one on is one by the books: that session waits, so it has no fast ticket
-  tied : (x y z : ℕ) → WaitsFor a x y → WaitsFor a y z → waits_for (settled_in sees.words) books x y ≡ true
+  pub tied : (x y z : ℕ) → WaitsFor a x y → WaitsFor a y z → waits_for settled books x y ≡ true
   tied x y z (apart, (key, wish, own, against)) (_, (at, its, wish_of_y, _)) =
       let p = here key wish own.0 in
-      let settled = settled_in sees.words in
       let ticket : Ticket = wish.ticket in
       let there = waits_there key wish p own.0 in
       let not_self : not (ticket.session == y) ≡ true = ap not (ne_eqb ticket.session y (λ e. apart (sym own.1 ∙ e))) in
@@ -158,7 +160,7 @@ module _ (s : State Slot View) (reached : Reached s) (id : ℕ) (m : Mine) (seat
             (any-from (λ (t : Ticket). t.session == y && waits_behind (lock_kind p.latch.book) ticket.mode t.mode) p.latch.book.waiting ahead.0.ticket (waits_there key ahead.0 p ahead.1.0)
             (and_from (ahead.0.ticket.session == y) _ (eq-eqb ahead.0.ticket.session y ahead.1.1) (ap (λ (k : Kind). waits_behind k ticket.mode ahead.0.ticket.mode) (kind_is key p) ∙ ahead.2))))
       ] in
-      any-from (λ (b : BookView). waits_at settled b x y) books p.latch.book (among_books key p)
+      any-from (λ (b : BookView). waits_at settled b x y) books p.latch.book p.among
       (and_from (is_unsettled settled x) _ (ap not (open_ key wish x own))
       (any-from (λ (t : Ticket). t.session == x && is_tied settled p.latch.book y t) p.latch.book.waiting ticket there
       (and_from (ticket.session == x) _ (eq-eqb ticket.session x own.1) (and_from (not (ticket.session == y)) _ not_self way))))
@@ -171,10 +173,38 @@ module _ (s : State Slot View) (reached : Reached s) (id : ℕ) (m : Mine) (seat
       right_or true v e = refl
       right_or false v e = e
 
-  -- ---- cycles
+-- ---- cycles
+
+module _ (s : State Slot View) (reached : Reached s) (id : ℕ) (m : Mine) (seat : get_elem? s.views id ≡ some m.0) (sees : SeesNoDeadlock (length s.homes) m)
+    (a : System Definition) (told : IsTold s a) where
+  abbrev books : List BookView
+  books = map (λ (h : LatchRecord). h.book) m.0.latches
+
+  all : (p : ℕ) → 0 < p → p ≤ length sees.keys.keys → IsAmong m.0.latches books p
+  all p first last =
+      let h = sees.all p first last in
+      (h.0, h.1, Contains-map (λ (x : LatchRecord). x.book) m.0.latches h.0 (find-contains (λ (x : LatchRecord). x.place == p) m.0.latches h.0 h.1))
+
+  met : (session : ℕ) → settled_in sees.words session ≡ true → WasMetSettled (length s.homes) m.0 session
+  met session settled =
+      let found = any-found (λ (x : ℕ × ℕ). x.0 == session && not (x.1 % 8 == 1)) sees.words settled in
+      let parts = and_parts (found.0.0 == session) (not (found.0.1 % 8 == 1)) found.2 in
+      let was = sees.met found.0 found.1 in (
+        was.0,
+        was.1,
+        was.2,
+        was.3 ∙ ap (wait_word (length s.homes)) (eqb-true found.0.0 session parts.0),
+        was.5,
+        λ is. false_true (sym (ap (λ (n : ℕ). not (n == 1)) (ap (λ (n : ℕ). n % 8) (sym was.4) ∙ is)) ∙ parts.1),
+      )
+    where
+      false_true : ◌≡◌ {A = Bool} false true → ⊥
+      false_true e = cc
 
   pub in_none : (cycle : List ℕ) → IsDeadlock a m.0.number cycle → ⊥
-  in_none cycle is = sees.none cycle (cycle-from (waits_for (settled_in sees.words) books) (WaitsFor a) tied m.0.number cycle is)
+  in_none cycle is =
+      let passes = tied s reached id m.0 seat sees.keys sees.directory books all (settled_in sees.words) met a told in
+      sees.none cycle (cycle-from (waits_for (settled_in sees.words) books) (WaitsFor a) passes m.0.number cycle is)
 
 pub who_sees_no_deadlock_is_in_none : WhoSeesNoDeadlockIsInNone
 who_sees_no_deadlock_is_in_none s reached id m seat sees a told cycle is = in_none s reached id m seat sees a told cycle is

@@ -39,7 +39,7 @@ asked_at s r place first last j v seat a asks here not_granted =
     ∙ first_found (wished v.number a) []
 
 -- and the place is that of a key
-at_from_get : (keys : List KeyName) (i : ℕ) (key : KeyName) → slice_get keys i ≡ Some key → get_elem? keys i ≡ some key
+pub at_from_get : (keys : List KeyName) (i : ℕ) (key : KeyName) → slice_get keys i ≡ Some key → get_elem? keys i ≡ some key
 at_from_get [] i key e = absurd (cc)
 at_from_get (k ∷ ks) zero key e = (let same : k ≡ key = cc in ap (λ (x : KeyName). some x) same)
 at_from_get (k ∷ ks) (suc i) key e = at_from_get ks i key e

@@ -1,0 +1,3 @@
+pub mod Settlings
+pub mod Standings
+pub mod Victims
