@@ -12,11 +12,12 @@ use Rattle.mdl_steps.specs.declared.deed.Deed.TheVariants.{Gain, Alter, Lose}
 use Rattle.mdl_steps.specs.declared.slot.Slot.{Slot}
 use Rattle.mdl_steps.specs.declared.view.LatchRecord.{LatchRecord}
 use Rattle.mdl_steps.specs.declared.view.View.{View}
-use Rattle.mdl_steps.specs.Cells.{held_at}
+use Rattle.mdl_steps.specs.Cells.{held_at, waits}
 use Rattle.mdl_steps.specs.Layout.{latch_word}
 use Rattle.mdl_steps.specs.Plays.{Mine}
 use Rattle.mdl_steps.specs.Rule.{Rule}
 use Rattle.mdl_steps.specs.Sights.{SeesNoDeadlock}
+use Rattle.mdl_steps.specs.WaitStates.{unsettled_state, wait_state}
 use Rattle.mdl_system.specs.Deadlocks.{DeadlocksGoThrough, HasNoDeadlock, IsDeadlock}
 use Rattle.mdl_system.specs.NumberingLaws.{IsWellNumbered}
 use Rattle.mdl_system.specs.Systems.{System, NoneForgotten, NoneForgottenAt}
@@ -34,18 +35,20 @@ ReachedTablesAreWellNumbered = (s : State Slot View) → Reached s → (a : Syst
 
 -- ---- deadlocks
 
--- whether a session has yet to search for a deadlock
+-- whether a session has yet to search for a deadlock: its wait is unsettled, and since the wait began it hasn't seen that it is in no deadlock
 abbrev pub searching : State Slot View → ℕ → Bool
-searching s session = list_any (λ (v : View). v.number == session && v.searches) s.views
+searching s session =
+    wait_state (waits s session) == unsettled_state && list_any (λ (v : View). v.number == session && v.searches) s.views
 
 -- each deadlock goes through a session that has yet to search
 abbrev pub NoDeadlockIsUnseen : Type 0
 NoDeadlockIsUnseen = (s : State Slot View) → Reached s → (a : System Definition) → IsTold s a → DeadlocksGoThrough (searching s) a
 
--- if no session has yet to search, there is no deadlock
+-- if no session whose wait is unsettled has yet to search, there is no deadlock
 abbrev pub NoDeadlockOnceAllHaveSearched : Type 0
 NoDeadlockOnceAllHaveSearched =
-    (s : State Slot View) → Reached s → ((i : ℕ) (v : View) → get_elem? s.views i ≡ some v → v.searches ≡ false) →
+    (s : State Slot View) → Reached s →
+    ((i : ℕ) (v : View) → get_elem? s.views i ≡ some v → wait_state (waits s v.number) ≡ unsettled_state → v.searches ≡ false) →
     (a : System Definition) → IsTold s a → HasNoDeadlock a
 
 -- a session that sees no deadlock is in none

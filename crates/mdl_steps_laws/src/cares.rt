@@ -8,12 +8,13 @@ pub fn reached_tables_are_well_numbered()
     ensures { ReachedTablesAreWellNumbered }
 {}
 
-/// Each deadlock goes through a session that has yet to search. It has to from the beginning of its wait on, until it sees that it is in no deadlock.
+/// Each deadlock goes through a session that has yet to search. It has to from the beginning of its wait on, until it sees that it is in no deadlock, or
+/// its wait is settled.
 pub fn no_deadlock_is_unseen()
     ensures { NoDeadlockIsUnseen }
 {}
 
-/// So if no session has yet to search, there is no deadlock.
+/// So if no session whose wait is unsettled has yet to search, there is no deadlock.
 pub fn no_deadlock_once_all_have_searched()
     ensures { NoDeadlockOnceAllHaveSearched }
 {}
