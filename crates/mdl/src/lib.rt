@@ -17,7 +17,7 @@
 //!
 //! use crate::requests::Request;
 //! use crate::work::answer_all;
-//! use mdl::{LockSpace, Manager, OwnedRunner, Pass, Session};
+//! use mdl::{CloseError, LockSpace, Manager, OwnedRunner, Pass, Session};
 //! use std::alloc::{AllocError, Global};
 //! use std::sync::Wait;
 //!
@@ -38,7 +38,7 @@
 //!     let mut session = Session::open(rt, manager, pass);
 //!     let who = session.number();
 //!     let end = work(alloc, &mut session, who, requests, &mut text);
-//!     close(session);
+//!     close(rt, session);
 //!     match end {
 //!         Ok(()) => Ok(text),
 //!         Err(error) => Err(error),
@@ -65,14 +65,22 @@
 //!     end
 //! }
 //!
-//! // Closes a session that has nothing.
-//! fn close<R: Drop>(session: Session<R>)
+//! // Closes a session that has nothing. If it owed a place a reschedule, after a fast release, it would make that first.
+//! fn close<R: Wait + Drop>(rt: &impl Wait, session: Session<R>)
 //!     requires { (space_of session).own ≡ record { held = []; wait = None } }
 //! {
-//!     match session.close() {
-//!         Ok(_pass) => {}
-//!         Err(_open) => unreachable!(),
+//!     let mut session = session;
+//!     for _ in rt.forever() {
+//!         match session.close() {
+//!             Ok(_pass) => return,
+//!             Err(CloseError::HoldsTickets(_open)) => unreachable!(),
+//!             Err(CloseError::Owes(open, place)) => {
+//!                 session = open;
+//!                 session.reschedule(place);
+//!             }
+//!         }
 //!     }
+//!     unreachable!()
 //! }
 //! ```
 #![tactic(auto)]
@@ -93,7 +101,7 @@ pub use mdl_lines as lines;
 pub use mdl_script as script;
 pub use mdl_script::{DEFAULT_CACHE, Ran, replay, run_on, run_threads};
 pub use mdl_shared as shared;
-pub use mdl_shared::{Manager, Pass, Session};
+pub use mdl_shared::{CloseError, Manager, Pass, Session};
 pub use mdl_space as space;
 pub use mdl_space::{
     Attempt, Begun, CoreSpace, Ended, Held, LockSpace, NewError, Place, Poll, Search, Settled,

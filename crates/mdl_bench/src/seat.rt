@@ -6,7 +6,7 @@ ghost use Rattle.mdl_shared.specs.SessionViews.{space_of};
 use crate::failure::Failure;
 use mdl_calls::{Place, SpaceError, TicketId};
 use mdl_key::{Key, Mode};
-use mdl_shared::{Fast, HoldsTickets, Released, Session};
+use mdl_shared::{CloseError, Fast, Released, Session};
 use std::sync::Wait;
 
 /// Returns the place of a key. The session knows the key from then on, and all that it knew before. It has room for `tickets` more tickets.
@@ -49,14 +49,21 @@ pub fn give_up<R>(session: &mut Session<R>, id: TicketId) -> bool
     }
 }
 
-/// Closes a session, and releases all that it has before. If memory runs out for the list of its tickets, tries again.
+/// Closes a session, and before releases all that it has, and makes the reschedules that it owes. If memory runs out for the list of its tickets,
+/// tries again.
 pub fn close<R: Wait, W: Wait + Drop>(rt: &R, mut session: Session<W>) {
     for _ in rt.forever() {
         match session.close() {
             Ok(_pass) => return,
-            Err(HoldsTickets(open)) => session = open,
+            Err(CloseError::HoldsTickets(open)) => {
+                session = open;
+                let _ = give_all_up(&mut session);
+            }
+            Err(CloseError::Owes(open, place)) => {
+                session = open;
+                session.reschedule(place);
+            }
         }
-        let _ = give_all_up(&mut session);
     }
     unreachable!()
 }

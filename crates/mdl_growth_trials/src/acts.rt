@@ -5,7 +5,7 @@ ghost use Rattle.mdl_shared.specs.SessionViews.{space_of};
 
 use mdl_defs::{Change, Column, Columns, Definition};
 use mdl_key::{Key, Mode};
-use mdl_shared::{Fast, Session};
+use mdl_shared::{Fast, Released, Session};
 use mdl_space::{Attempt, Begun, Ended, Place, Search, Settled, SpaceError, TicketId, Upgrade};
 use std::alloc::Global;
 use std::mem::drop;
@@ -32,6 +32,12 @@ pub(crate) enum Act {
     TryFast(Place, Mode, usize),
     /// Releases the tickets from one number to another.
     Release(TicketId, TicketId),
+    /// Releases a fast ticket, and leaves it to the session to reschedule the place.
+    ReleaseFast(TicketId),
+    /// Asks whether the session owes a place a reschedule.
+    Owes(Place),
+    /// Reschedules a place.
+    Reschedule(Place),
     /// Makes the session's fast tickets slow.
     Materialise,
 }
@@ -47,6 +53,7 @@ pub(crate) enum Reply {
     NoCycle,
     Lost(Settled),
     Changed(u64),
+    Owes(bool),
     Done,
     NoMemory,
     Refused,
@@ -57,7 +64,13 @@ impl Act {
     pub(crate) fn takes_none(self) -> bool {
         matches!(
             self,
-            Act::Release(_, _) | Act::Downgrade(_, _) | Act::EndWait | Act::TryFast(_, _, _)
+            Act::Release(_, _)
+                | Act::ReleaseFast(_)
+                | Act::Owes(_)
+                | Act::Reschedule(_)
+                | Act::Downgrade(_, _)
+                | Act::EndWait
+                | Act::TryFast(_, _, _)
         )
     }
 }
@@ -79,6 +92,9 @@ pub(crate) fn make<R: Wait>(session: &mut Session<R>, alloc: Global, act: Act) -
         Act::Reserve(count) => done(session.reserve_tickets(count)),
         Act::TryFast(place, mode, count) => try_fast(session, place, mode, count),
         Act::Release(first, last) => release_all(session, first, last),
+        Act::ReleaseFast(id) => released(session.release_fast(id)),
+        Act::Owes(place) => Reply::Owes(session.owes(place)),
+        Act::Reschedule(place) => reschedule(session, place),
         Act::Materialise => done(session.materialise()),
     }
 }
@@ -140,6 +156,14 @@ fn try_fast<R>(session: &mut Session<R>, place: Place, mode: Mode, count: usize)
         }
     }
     reply
+}
+
+fn reschedule<R: Wait>(session: &mut Session<R>, place: Place) -> Reply {
+    if !knows(session, place) {
+        return Reply::Refused;
+    }
+    session.reschedule(place);
+    Reply::Done
 }
 
 /// Whether a session knows the key of a place. Tries a second time if memory runs out.
@@ -216,6 +240,13 @@ fn upgraded(outcome: Result<Upgrade, SpaceError>) -> Reply {
     match outcome {
         Ok(Upgrade::Upgraded) => Reply::Done,
         Ok(Upgrade::WouldWait) => Reply::WouldWait,
+        Err(error) => refused(error),
+    }
+}
+
+fn released(outcome: Result<Released, SpaceError>) -> Reply {
+    match outcome {
+        Ok(Released { owes }) => Reply::Owes(owes),
         Err(error) => refused(error),
     }
 }

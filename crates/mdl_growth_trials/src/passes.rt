@@ -2,7 +2,8 @@
 ghost use Rattle.std.specs.Prelude.{◌≡◌, length, IfOk};
 ghost use Rattle.mdl_shared.specs.Passes.{ArePasses, table_of};
 
-use mdl_shared::{HoldsTickets, Manager, NewError, Pass, Session};
+use mdl_shared::{CloseError, Manager, NewError, Pass, Session};
+use mdl_space::Place;
 use std::alloc::Global;
 use std::mem::drop;
 use std::sync::Wait;
@@ -17,7 +18,7 @@ pub(crate) fn new_passes(alloc: Global, places: u16) -> Result<(Manager, Vec<Pas
     }
 }
 
-/// Closes a session, and releases all that it has before. Whether it had nothing.
+/// Closes a session, and before releases all that it has, and makes the reschedules that it owes. Whether it had and owed nothing.
 pub(crate) fn closes<R: Wait + Drop>(rt: &impl Wait, session: Session<R>) -> bool {
     let mut session = session;
     let mut had_nothing = true;
@@ -27,14 +28,38 @@ pub(crate) fn closes<R: Wait + Drop>(rt: &impl Wait, session: Session<R>) -> boo
                 drop(pass);
                 return had_nothing;
             }
-            Err(HoldsTickets(open)) => {
+            Err(CloseError::HoldsTickets(open)) => {
                 session = open;
                 give_up(&mut session);
+                had_nothing = false;
+            }
+            Err(CloseError::Owes(open, place)) => {
+                session = open;
+                session.reschedule(place);
                 had_nothing = false;
             }
         }
     }
     unreachable!()
+}
+
+/// Closes a session that has nothing, but owes a place a reschedule, and makes that before. Whether it was so.
+pub(crate) fn pays<R: Wait + Drop>(rt: &impl Wait, session: Session<R>, owed: Place) -> bool {
+    match session.close() {
+        Ok(pass) => {
+            drop(pass);
+            false
+        }
+        Err(CloseError::HoldsTickets(open)) => {
+            let _had_nothing = closes(rt, open);
+            false
+        }
+        Err(CloseError::Owes(open, place)) => {
+            let mut session = open;
+            session.reschedule(place);
+            closes(rt, session) && place == owed
+        }
+    }
 }
 
 // Ends the session's wait, and releases its first ticket.

@@ -2,7 +2,7 @@
 //! all is unchanged, except that fast tickets may have become slow ones, those of a place together. Then the call is made again.
 use crate::acts::{Act, Reply, knows, make};
 use crate::alike::are_alike;
-use crate::passes::{closes, new_passes};
+use crate::passes::{closes, new_passes, pays};
 use mdl_key::Mode;
 use mdl_shared::{Audited, Fast, Session};
 use mdl_space::{Place, Settled};
@@ -59,7 +59,7 @@ impl<R: Wait> Trio<R> {
         (first || self.place_stands_as(other, 1)) && (second || self.place_stands_as(other, 2))
     }
 
-    // Whether each session has the same tickets here as in another trio, and a wait in the same state.
+    // Whether each session has the same tickets here as in another trio, a wait in the same state, and owes the same places reschedules.
     fn has_the_same(&mut self, other: &mut Trio<R>) -> bool {
         for who in 1..=3 {
             if self.three.wait_of(who) != other.three.wait_of(who) {
@@ -79,9 +79,12 @@ impl<R: Wait> Trio<R> {
     }
 }
 
-// Whether a session has the same tickets as another one, and a wait in the same state.
+// Whether a session has the same tickets as another one, a wait in the same state, and owes the same places reschedules.
 fn has_the_same<R: Wait>(here: &mut Session<R>, there: &mut Session<R>) -> bool {
-    are_alike(here.held(), there.held()) && here.poll_wait() == there.poll_wait()
+    are_alike(here.held(), there.held())
+        && here.poll_wait() == there.poll_wait()
+        && here.owes(1) == there.owes(1)
+        && here.owes(2) == there.owes(2)
 }
 
 // Whether the audits of two sessions have the same book of a place.
@@ -193,7 +196,27 @@ const ROWS: &[Row] = &[
     (1, Act::Release(31, 31), Reply::Done),
     (2, Act::EndWait, Reply::Granted(5)),
     (2, Act::Release(5, 5), Reply::Done),
+    // Fast releases at a place where another session waits, and at one where it has a slow ticket. Both places are owed reschedules, and one is paid.
+    (1, Act::Reserve(2), Reply::Done),
+    (1, Act::TryFast(1, Mode::SR, 1), Reply::Granted(32)),
+    (1, Act::TryFast(2, Mode::SW, 1), Reply::Granted(33)),
+    (2, Act::Reserve(1), Reply::Done),
+    (2, Act::TryFast(2, Mode::S, 1), Reply::Granted(6)),
+    (2, Act::BeginWait(1, Mode::X), Reply::Waiting(4)),
+    (1, Act::ReleaseFast(32), Reply::Owes(true)),
+    (1, Act::ReleaseFast(33), Reply::Owes(true)),
+    (1, Act::Owes(1), Reply::Owes(true)),
+    (1, Act::Reschedule(1), Reply::Done),
+    (1, Act::Owes(1), Reply::Owes(false)),
+    (2, Act::EndWait, Reply::Granted(7)),
+    (2, Act::Release(6, 7), Reply::Done),
+    // Another session's reschedule doesn't pay the other.
+    (2, Act::Reschedule(2), Reply::Done),
+    (1, Act::Owes(2), Reply::Owes(true)),
 ];
+
+// The place to which session 1 owes a reschedule in the end.
+const OWED: Place = 2;
 
 /// Whether sessions do what they should.
 pub(crate) fn calls_are_answered<R: Wait>(rt: &R, alloc: Global) -> bool {
@@ -201,7 +224,11 @@ pub(crate) fn calls_are_answered<R: Wait>(rt: &R, alloc: Global) -> bool {
         return false;
     };
     let go_well = all_outlive(rt, alloc, &mut trio);
-    close(rt, trio) && go_well
+    let Trio { one, two, three } = trio;
+    let first = pays(rt, one, OWED);
+    let second = closes(rt, two);
+    let third = closes(rt, three);
+    first && second && third && go_well
 }
 
 fn all_outlive<'r, R: Wait>(rt: &'r R, alloc: Global, trio: &mut Trio<&'r R>) -> bool {

@@ -1,6 +1,6 @@
 //! The asker, the session that runs in the caller's thread: it creates the first schema, executes its own lines, and audits all books at the
 //! end.
-ghost use Rattle.std.specs.Prelude.{◌≡◌, IfOk, OnOk};
+ghost use Rattle.std.specs.Prelude.{◌≡◌, [], IfOk, OnOk};
 ghost use Rattle.mdl_session_laws.specs.SessionSpaces.{SpeaksFor};
 ghost use Rattle.mdl_stmt.specs.Attendance.{IsCapacity};
 ghost use Rattle.mdl_shared.specs.SessionViews.{space_of};
@@ -29,7 +29,9 @@ pub(crate) fn make_first_schema<R: Wait, G>(
     requires capacity { IsCapacity run.now.cache }
     requires speaks { SpeaksFor (space_of asker.old) who }
     requires nothing { (space_of asker.old).own ≡ nothing }
+    requires paid { asker.old.me.0.owes ≡ [] }
     ensures nothing { (space_of asker.new).own ≡ nothing }
+    ensures paid { asker.new.me.0.owes ≡ [] }
     ensures speaks { SpeaksFor (space_of asker.new) who }
     ensures first { OnOk result (MakesFirst (options_of run.now.patience run.now.cache) who asker.old asker.new) }
     ensures made { OnOk result (HasMadeFirst (options_of run.now.patience run.now.cache) who asker.new) }
@@ -63,7 +65,9 @@ pub(crate) fn take_turn<R: Wait, G: Gate>(
     requires capacity { IsCapacity run.now.cache }
     requires speaks { SpeaksFor (space_of asker.old) who }
     requires nothing { (space_of asker.old).own ≡ nothing }
+    requires paid { asker.old.me.0.owes ≡ [] }
     ensures nothing { (space_of asker.new).own ≡ nothing }
+    ensures paid { asker.new.me.0.owes ≡ [] }
     ensures speaks { SpeaksFor (space_of asker.new) who }
     ensures who { IfOk result (λ own. own.who ≡ who) }
     ensures answered { IfOk result (λ own. AreAnswers (options_of run.now.patience run.now.cache) run.now.script.now who asker.old own.answers.items asker.new) }
@@ -83,7 +87,9 @@ pub(crate) fn take_turn<R: Wait, G: Gate>(
 /// Returns the books of all keys.
 pub(crate) fn books<R: Wait>(asker: &mut Session<&R>) -> Result<Vec<Audited>, AllocError>
     requires nothing { (space_of asker.old).own ≡ nothing }
+    requires paid { asker.old.me.0.owes ≡ [] }
     ensures nothing { (space_of asker.new).own ≡ nothing }
+    ensures paid { asker.new.me.0.owes ≡ [] }
     ensures same { KeepsLists asker.old asker.new }
     ensures audited { IfOk result (λ books. AreOfOneAudit books.items asker.old asker.new) }
 {

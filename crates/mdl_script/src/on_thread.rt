@@ -1,12 +1,12 @@
 //! A session on a thread, from its pass to the end.
-ghost use Rattle.std.specs.Prelude.{◌≡◌};
+ghost use Rattle.std.specs.Prelude.{◌≡◌, []};
 ghost use Rattle.mdl_shared.specs.Passes.{pass_table, pass_view, table_of};
 ghost use Rattle.mdl_shared.specs.SessionViews.{space_of};
 ghost use Rattle.mdl_stmt.specs.Attendance.{IsCapacity};
 ghost use Rattle.mdl_script.specs.Answers.{nothing, options_of};
 ghost use Rattle.mdl_script.specs.Turns.{CameBack};
 
-use mdl_shared::{Manager, Pass, Session};
+use mdl_shared::{CloseError, Manager, Pass, Session};
 use mdl_stmt::Reply;
 use mdl_syntax::Script;
 use mdl_work::{Gate, work};
@@ -42,13 +42,15 @@ pub(crate) fn work_pass<R: Wait, G: Gate>(
     Answered { pass, answers }
 }
 
-/// Closes a session that has no ticket and no wait, and returns its pass.
+/// Closes a session that has no ticket and no wait, and owes no place a reschedule. Returns its pass.
 pub(crate) fn close<R: Drop>(session: Session<R>) -> Pass
-    requires { (space_of session).own ≡ nothing }
+    requires nothing { (space_of session).own ≡ nothing }
+    requires paid { session.me.0.owes ≡ [] }
     ensures { pass_view result ≡ session }
 {
     match session.close() {
         Ok(pass) => pass,
-        Err(_open) => unreachable!(),
+        Err(CloseError::HoldsTickets(_open)) => unreachable!(),
+        Err(CloseError::Owes(_open, _place)) => unreachable!(),
     }
 }

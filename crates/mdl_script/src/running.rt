@@ -1,5 +1,5 @@
 //! Plays a script of statements with a thread for each of its sessions.
-ghost use Rattle.std.specs.Prelude.{◌≡◌, ◌≢◌, ◌≤◌, ◌∷◌, true, All, IfOk, length};
+ghost use Rattle.std.specs.Prelude.{◌≡◌, ◌≢◌, ◌≤◌, [], ◌∷◌, true, All, IfOk, length};
 ghost use Rattle.std.specs.String.{string_bytes};
 ghost use Rattle.mdl_shared.specs.Passes.{pass_number, pass_table, pass_view, table_of};
 ghost use Rattle.mdl_shared.specs.SessionViews.{space_of};
@@ -108,8 +108,8 @@ fn ran_in<'s, E, R: Threads + Wait + Sync, G: Gate + Sync>(
     Ok(Ran { text, passes })
 }
 
-// Runs, by calls of the session that runs here. It has no ticket and no wait at the end, also if memory ran out. The passes are those of the
-// others.
+// Runs, by calls of the session that runs here. It has no ticket and no wait at the end, and owes no place a reschedule, also if memory ran out.
+// The passes are those of the others.
 fn ran_by<'s, E, R: Threads + Wait + Sync, G: Gate + Sync>(
     scope: &Scope<'s, E>,
     run: &Run<'s, R, G>,
@@ -121,12 +121,14 @@ fn ran_by<'s, E, R: Threads + Wait + Sync, G: Gate + Sync>(
     requires theirs { All (λ pass. pass_table pass ≡ table_of run.now.manager.now) others.items }
     requires there { All (λ other. other ≢ who → has_pass others.items other ≡ true) (named_sessions run.now.script.now) }
     requires idle { IsIdleAt (table_of run.now.manager.now) who asker.old }
+    requires paid { asker.old.me.0.owes ≡ [] }
     ensures ran { IfOk result (λ ran. IsRunBetween (options_of run.now.patience run.now.cache) run.now.script.now others.items ran.passes.items asker.old asker.new (string_bytes ran.text)) }
     ensures back { IfOk result (λ ran. ComeBack run.now.script.now who others.items ran.passes.items) }
     ensures theirs { IfOk result (λ ran. All (λ pass. pass_table pass ≡ table_of run.now.manager.now) ran.passes.items) }
     ensures there { IfOk result (λ ran. asker.new.table ≡ table_of run.now.manager.now) }
     ensures number { IfOk result (λ ran. asker.new.me.0.number ≡ who) }
     ensures nothing { (space_of asker.new).own ≡ nothing }
+    ensures paid { asker.new.me.0.owes ≡ [] }
 {
     let mut passes = others;
     make_first_schema(run, asker, who)?;

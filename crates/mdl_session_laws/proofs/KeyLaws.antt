@@ -8,7 +8,7 @@ use Rattle.mdl_calls.specs.Reads.{ComesBefore, HasTableOf}
 use Rattle.mdl_calls.specs.Words.{Answer, Refused, Done, At_place, Key_is, Tables, Call, Resolve, Key_of, Tables_of, Unpin, Wait, AreTablesOf, AwaitsAt, HoldsAt}
 use Rattle.mdl_calls.proofs.TableLemmas.{table-of}
 use Rattle.mdl_session_laws.specs.SessionJoins.{Joins, LearnsPlace, LearnsTables}
-use Rattle.mdl_session_laws.specs.SessionSpaces.{Space, KnownKey, SpeaksFor, Knows, Pins, Owes, own_of, key_known, is_known, place_known}
+use Rattle.mdl_session_laws.specs.SessionSpaces.{Space, KnownKey, SpeaksFor, Knows, Pins, own_of, key_known, is_known, place_known}
 use Rattle.mdl_session_laws.proofs.KeyLists.{is-known, known-is, key-of_place, last-known, place-of_key}
 use Rattle.mdl_session_laws.proofs.KnownAfter.{knows-on, known-on}
 use Rattle.mdl_session_laws.proofs.TicketLists.{all-among}
@@ -124,11 +124,6 @@ session-held_pinned = held-here
 pub session-wait_pinned : (a : Space) (w : ℕ) (wait : Wait) → SpeaksFor a w → (own_of a w).wait ≡ Some wait → Pins a w wait.place
 session-wait_pinned = wait-here
 
--- no call leaves a new debt
-pub session-no_new_debts : (a b : Space) (call : Call) (answer : Answer) (w place : ℕ) → SpeaksFor a w → Joins a call answer b → Owes b w place
-    → Owes a w place
-session-no_new_debts a b call answer w place speaks_for joins owes = owes
-
 -- no pin is given up yet
 no-unpin : {A : Type 0} → false ≡ true → A
 no-unpin e = cc
@@ -136,8 +131,8 @@ no-unpin e = cc
 pub session-unpins_none : (a b : Space) (who place : ℕ) → Joins a (Unpin who place) (Refused NoPlace) b → Pins a who place → ⊥
 session-unpins_none a b who place joins pins = no-unpin joins.has
 
-pub session-unpins_in_use : (a b : Space) (who place : ℕ) → Joins a (Unpin who place) (Refused InUse) b
-    → HoldsAt place (own_of a who) ⊎ AwaitsAt place (own_of a who) ⊎ Owes a who place
+pub session-unpins_in_use : {Owes : Type 0} (a b : Space) (who place : ℕ) → Joins a (Unpin who place) (Refused InUse) b
+    → HoldsAt place (own_of a who) ⊎ AwaitsAt place (own_of a who) ⊎ Owes
 session-unpins_in_use a b who place joins = no-unpin joins.has
 
 pub session-unpins : (a b : Space) (who place : ℕ) → Joins a (Unpin who place) Done b

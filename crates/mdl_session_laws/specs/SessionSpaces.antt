@@ -150,7 +150,3 @@ HasSeen a who place version = was_read place version a.reads ≡ true
 -- a pinned place is one whose key the session knows, which keeps that key: there is no way yet to give one up
 abbrev pub Pins : Space → ℕ → ℕ → Type 0
 Pins a who place = is_known place a.known ≡ true
-
--- the session owes no place a reschedule: no call of a lock space leaves one
-abbrev pub Owes : Space → ℕ → ℕ → Type 0
-Owes a who place = ⊥

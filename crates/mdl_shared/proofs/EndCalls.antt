@@ -21,6 +21,7 @@ use Rattle.mdl_steps.specs.WaitStates.{IsLost}
 use Rattle.mdl_session_laws.specs.SessionJoins.{Joins}
 use Rattle.mdl_visits.specs.Numbers.{is_ask_apart, is_no_number}
 use Rattle.mdl_visits.specs.Polls.{state_of}
+use Rattle.mdl_shared.specs.Debts.{IsOwed, OwesNoMore}
 use Rattle.mdl_shared.specs.Endings.{lost_end}
 use Rattle.mdl_shared.specs.Members.{IsMember}
 use Rattle.mdl_shared.specs.OwnLists.{told_of}
@@ -60,13 +61,17 @@ abbrev pub after-end : List Own → List ℕ → List Settlement → List Met �
 after-end slow owes settles log room s =
     record s { me = (record s.me.0 { slow = slow; asks = None; told = None; owes = owes; settles = settles; log = log }, s.me.1); room = room }
 
--- nothing else changed
+-- nothing else changed, and nothing is owed that wasn't before
 pub record HasEnded (slow : List Own) (s s′ : SessionView) : Type 0 where
   pub owes : List ℕ
   pub settles : List Settlement
   pub log : List Met
   pub room : Room
   pub now : s′ ≡ after-end slow owes settles log room s
+  pub owed : (q : ℕ) → IsOwed q owes → IsOwed q s.me.0.owes
+
+pub ended-debts : {slow : List Own} {s s′ : SessionView} → HasEnded slow s s′ → OwesNoMore s s′
+ended-debts ends q owed = ends.owed q (subst (λ (x : SessionView). IsOwed q x.me.0.owes) ends.now owed)
 
 -- without a wait there is nothing to end
 pub idle-joins : {s : SessionView} → IsMember s → s.me.0.asks ≡ None → Joins (space_of s) (End_wait s.me.0.number) (Refused NoWait) (space_of s)
@@ -108,6 +113,7 @@ module _ {s s′ : SessionView} (is : IsMember s) where
     last = refl;
     told = refl;
     fewer = is.fewer;
+    owed = λ q owed. is.owed q (ends.owed q owed);
   })
 
   module _ (a : Ask) (asks : s.me.0.asks ≡ Some a) where

@@ -22,14 +22,15 @@ use Rattle.mdl_visits.specs.Visits.{Does, VisitsOnce}
 use Rattle.mdl_visits.specs.WaitEndings.{EndsLost, idle, without_wait}
 use Rattle.mdl_visits.proofs.Rescheduling.{rescheduled_after}
 use Rattle.mdl_visits.proofs.Steps.{does_then, goes_by, step_after}
+use Rattle.mdl_shared.specs.Debts.{Pays}
 use Rattle.mdl_shared.specs.Members.{IsMember}
 use Rattle.mdl_shared.specs.SessionViews.{SessionView, lists_seen, session_at, settled_of, space_of}
 use Rattle.mdl_shared.specs.Showings.{EndsByOneStep, EndsOwnWait, LooksThen, Shows, ShowsStep}
 use Rattle.mdl_shared.specs.TicketLists.{KeepsRoom, Room}
 use Rattle.mdl_shared.specs.Waitings.{wait_fault}
-use Rattle.mdl_shared.proofs.EndCalls.{HasEnded, lost-joins, unsettled-joins, won-joins}
+use Rattle.mdl_shared.proofs.EndCalls.{HasEnded, ended-debts, lost-joins, unsettled-joins, won-joins}
 use Rattle.mdl_shared.proofs.Faults.{if-clear}
-use Rattle.mdl_shared.proofs.Members.{done-nothing}
+use Rattle.mdl_shared.proofs.Members.{done-nothing, owed-still}
 use Rattle.mdl_shared.proofs.PollCalls.{in-state, poll-pending, poll-settled, polls, settled-is, settled-more, unsettled}
 use Rattle.mdl_shared.proofs.WaitSteps.{told-own, word-step}
 
@@ -75,6 +76,8 @@ module _ {s mid : SessionView} (is : IsMember s) (a : Ask) (asks : s.me.0.asks �
           steps = tt;
           met = inr (refl, looks 1 (unsettled is waiting session found mine own none) (λ (m : Mine). mid.me ≡ m) refl);
           room = shown.room;
+          debts = shown.debts;
+          owes = shown.owes;
         },
       )
 
@@ -108,9 +111,10 @@ module _ {s mid : SessionView} (is : IsMember s) (a : Ask) (asks : s.me.0.asks �
     -- ---- it was lost
 
     pub lost-end : {s′ : SessionView} → Does [] mid.me s′.me → ShowsStep mid s′ (EndsWait mid.table.slots mid.me.0.number mid.me.0.waits (state_of one)) → is_answer_of (End_wait s.me.0.number) (Lost one) ≡ true → HasEnded s.me.0.slow s s′
-        → HasRescheduled mid.table a.place (without_wait mid.me) s′.me → VisitsOnce a.place mid.me s′.me → KeepsRoom 0 s.room s′.room
+        → HasRescheduled mid.table a.place (without_wait mid.me) s′.me → VisitsOnce a.place mid.me s′.me → Pays a.place s.me s′.me
+        → KeepsRoom 0 s.room s′.room
         → Joins (space_of s) (End_wait s.me.0.number) (Lost one) (space_of s′) × Shows (End_wait s.me.0.number) (Lost one) s s′
-    lost-end {s′} ends shows fits ended rescheduled once keeps =
+    lost-end {s′} ends shows fits ended rescheduled once pays keeps =
         let shown = polled.1 in (
           lost-joins is a asks one fits agreed ended,
           record {
@@ -130,9 +134,12 @@ module _ {s mid : SessionView} (is : IsMember s) (a : Ask) (asks : s.me.0.asks �
                     (ap (λ (x : SessionView). x.me.0.number) now) refl
                     (subst (λ (id : TableId). HasRescheduled id a.place (without_wait mid.me) s′.me) shown.table rescheduled),
                 looks (state_of one) (there one some) (λ (m : Mine). VisitsOnce a.place m s′.me) once,
+                pays,
               ),
             );
             room = keeps;
+            debts = ended-debts ended;
+            owes = tt;
           },
         )
 
@@ -140,8 +147,9 @@ module _ {s mid : SessionView} (is : IsMember s) (a : Ask) (asks : s.me.0.asks �
 
     pub won-end : one ≡ settled_as.Granted → {s′ : SessionView} → Does [] mid.me s′.me
         → (e : Met) × (s′.me.0.log ≡ mid.me.0.log ++ e ∷ []) × EndsWait mid.table.slots mid.me.0.number mid.me.0.waits granted_state e → (ended : HasEnded (owned a.place (Gain a.number a.mode) s.me.0.slow) s s′) → ended.settles ≡ s.me.0.settles
+        → ended.owes ≡ s.me.0.owes
         → KeepsRoom 1 s.room s′.room → Joins (space_of s) (End_wait s.me.0.number) (Granted a.number) (space_of s′) × Shows (End_wait s.me.0.number) (Granted a.number) s s′
-    won-end granted {s′} ends last ended settles keeps = (
+    won-end granted {s′} ends last ended settles owes keeps = (
       won-joins is a asks (λ how knows. sym granted ∙ agreed how knows) ended,
       record {
         table = ap (λ (x : SessionView). x.table) ended.now;
@@ -154,6 +162,8 @@ module _ {s mid : SessionView} (is : IsMember s) (a : Ask) (asks : s.me.0.asks �
         met = looks granted_state (there one some ∙ ap (λ (how : Settled). wait_in s.me.0.waits (state_of how)) granted) (EndsByOneStep granted_state (lists_seen s.me.0) s s′)
             (last.0, last.1, subst (λ (x : SessionView). EndsWait x.table.slots x.me.0.number x.me.0.waits granted_state last.0) now last.2);
         room = keeps;
+        debts = ended-debts ended;
+        owes = (ap (λ (x : SessionView). x.me.0.owes) ended.now ∙ owes, ap (λ (x : SessionView). x.me.0.searches) ended.now);
       },
     )
 
@@ -185,11 +195,13 @@ module _ {seat mid seat′ : SeatState} (sessions session found : ℕ) {room : R
         log = mid.me.0.log ++ went.made;
         room = room′;
         now = λ i. record { table = table i; sessions = sessions; me = me i; room = room′ };
+        owed = λ q owed. owed-still q place seat.me.0.owes owed;
       }
 
-  -- as granted, without settling any wait
+  -- as granted, without settling any wait, or paying a debt
   pub ended-won : {room′ : Room} (a : Ask) → seat.me.0.asks ≡ Some a → seat′ ≡ record mid { me = ended_granted mid.table.slots mid.me }
       → (ended : HasEnded (owned a.place (Gain a.number a.mode) seat.me.0.slow) (session_at seat sessions room) (session_at seat′ sessions room′)) × (ended.settles ≡ seat.me.0.settles)
+      × (ended.owes ≡ seat.me.0.owes)
   ended-won {room′} a asks made =
       let log = (ended_granted mid.table.slots mid.me).0.log in (
         record {
@@ -201,6 +213,8 @@ module _ {seat mid seat′ : SeatState} (sessions session found : ℕ) {room : R
               ap (λ (x : SeatState). session_at x sessions room′) made
               ∙ ap (λ (x : SessionView). record x { me = (record x.me.0 { slow = x.me.0.slow ++ taken_over x.me.0.asks x.me.0.slow; asks = None; told = None; log = log }, x.me.1); room = room′ }) now
               ∙ ap (λ (o : Option Ask). record (session_at seat sessions room) { me = (record seat.me.0 { slow = seat.me.0.slow ++ taken_over o seat.me.0.slow; asks = None; told = None; log = log }, seat.me.1); room = room′ }) asks;
+          owed = λ q owed. owed;
         },
+        refl,
         refl,
       )

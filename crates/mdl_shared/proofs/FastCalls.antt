@@ -14,6 +14,7 @@ use Rattle.mdl_shared.specs.declared.fast_path.NotFast.{NotFast}
 use Rattle.mdl_shared.specs.declared.fast_path.NotFast.TheVariants.{Limit}
 use Rattle.mdl_shared.specs.declared.member.Member.{Member}
 use Rattle.mdl_shared.specs.declared.try_fast.Fast.TheVariants.{Granted}
+use Rattle.mdl_shared.specs.Debts.{but_owing}
 use Rattle.mdl_shared.specs.DeedsDone.{DoesQuietly}
 use Rattle.mdl_shared.specs.FastCalls.{GaveUpFast, GetsNothing, HasFewerFast, HasTriedFast}
 use Rattle.mdl_shared.specs.Members.{kind_known, wish_fault}
@@ -100,13 +101,13 @@ its-number m id t held = subst (λ (n : ℕ). numbered n m.tickets.fast ≡ Some
 
 -- it was given up
 pub gave-up-fast : (m : Member) (b : SessionView) (id : ℕ) (t : Own) {owes : Bool} → numbered id m.tickets.fast ≡ Some t
-    → DoesQuietly t.place (Lose t.number ∷ []) (view_of m) b → ReleasesFast t.place t.number owes m.seat.me b.me
+    → DoesQuietly t.place (Lose t.number ∷ []) (view_of m) (but_owing (view_of m) b) → ReleasesFast t.place t.number owes m.seat.me b.me
     → (m.tickets.room.spare < b.room.spare) × (m.tickets.room.reach ≤ b.room.reach) → GaveUpFast id owes (view_of m) b
 gave-up-fast m b id t {owes} held quiet released room =
     let is : t.number ≡ id = has_number id t m.tickets.fast held in
     let its : numbered id m.seat.me.0.fast ≡ Some t = ap (λ (l : Lists). numbered id l.fast) (sym m.lists) ∙ held in
-    let gone : DoesQuietly t.place (Lose id ∷ []) (view_of m) b =
-    subst (λ (n : ℕ). DoesQuietly t.place (Lose n ∷ []) (view_of m) b) is quiet in
+    let gone : DoesQuietly t.place (Lose id ∷ []) (view_of m) (but_owing (view_of m) b) =
+    subst (λ (n : ℕ). DoesQuietly t.place (Lose n ∷ []) (view_of m) (but_owing (view_of m) b)) is quiet in
     let by : ReleasesFast t.place id owes m.seat.me b.me = subst (λ (n : ℕ). ReleasesFast t.place n owes m.seat.me b.me) is released in
     (release-joins (member m) id t (fast-held (member m) id t its) gone.done, (t, its, gone, by), room.0, room.1)
 

@@ -1,8 +1,7 @@
 -- What a session has once a fast ticket of its is granted, or released, or once those of a place are slow ones.
-use Rattle.std.proofs.Common.{◌≡◌, ℕ, ◌+◌, ◌==◌, Bool, not, List, [], ◌∷◌, ◌++◌, filter, is_some, Option, Some, None, inl, inr, refl, sym, ap, ◌∙◌}
-use Rattle.std.proofs.lemmas.Bool.{cases_eq, eqb-true}
+use Rattle.std.proofs.Common.{◌≡◌, ℕ, ◌+◌, ◌==◌, Bool, not, List, [], ◌∷◌, ◌++◌, filter, is_some, Option, Some, None, refl, sym, ap, ◌∙◌}
+use Rattle.std.proofs.lemmas.Bool.{eqb-true}
 use Rattle.mdl_key.specs.declared.mode.Mode.{Mode}
-use Rattle.mdl_word.specs.Words.{slow_flag}
 use Rattle.mdl_steps.specs.declared.deed.Deed.{Deed}
 use Rattle.mdl_steps.specs.declared.deed.Deed.TheVariants.{Gain, Lose}
 use Rattle.mdl_steps.specs.declared.view.Ask.{Ask}
@@ -10,19 +9,19 @@ use Rattle.mdl_steps.specs.declared.view.Known.{Known}
 use Rattle.mdl_steps.specs.declared.view.Own.{Own}
 use Rattle.mdl_steps.specs.Cells.{note_at, own_at}
 use Rattle.mdl_steps.specs.Deeds.{is_own}
-use Rattle.mdl_steps.specs.FastPlays.{but_at, but_own, fast_own, first_note, noted_at, owing}
+use Rattle.mdl_steps.specs.FastPlays.{but_at, but_own, fast_own, first_note, noted_at}
 use Rattle.mdl_steps.specs.Interleavings.{interleaved}
 use Rattle.mdl_steps.specs.Lists.{Each}
 use Rattle.mdl_steps.specs.Plays.{Mine}
 use Rattle.mdl_steps.specs.SeatStates.{AtItsTable, SeatState}
 use Rattle.mdl_steps.proofs.Interleaving.{each-uninterleaved}
-use Rattle.mdl_steps.proofs.Paid.{owes_else}
 use Rattle.mdl_steps.proofs.Views.{by_bool}
 use Rattle.mdl_visits.specs.FastTries.{GrantsFast, ReleasesFast}
 use Rattle.mdl_visits.specs.Materialisings.{Materialises}
 use Rattle.mdl_visits.specs.Numbers.{numbered}
 use Rattle.mdl_visits.proofs.Steps.{each_append}
 use Rattle.mdl_shared.specs.declared.member.Member.{Member}
+use Rattle.mdl_shared.specs.Debts.{but_owing}
 use Rattle.mdl_shared.specs.DeedsDone.{DoesQuietly, StaysFast}
 use Rattle.mdl_shared.specs.Members.{IsMember, increment_at}
 use Rattle.mdl_shared.specs.Rememberings.{AreAlike}
@@ -104,17 +103,19 @@ module _ (seat seat′ : SeatState) (sessions : ℕ) {room : Room} (is : IsMembe
             plain = λ all. counted-last v.known v.fast t all (ap is_some counted);
           };
           stays = λ state told. told;
-          owed = λ p owed. inl owed;
+          owed = λ p owed. owed;
           unasked = λ none. refl;
         };
         did = (granted.1.made, ap (λ (m : Mine). m.0.log) now, granted.1.did);
         settled = ap (λ (m : Mine). m.0.settles) now;
         told = ap (λ (m : Mine). m.0.told) now;
+        owes = ap (λ (m : Mine). m.0.owes) now;
+        searches = ap (λ (m : Mine). m.0.searches) now;
       }
 
-  -- one was released
+  -- one was released. What the session owes then is left out
   pub fast-released : {room′ : Room} {place number : ℕ} {owes : Bool} {t : Own} → numbered number seat.me.0.fast ≡ Some t → AtItsTable seat seat′ (ReleasesFast place number owes)
-      → DoesQuietly place (Lose number ∷ []) (session_at seat sessions room) (session_at seat′ sessions room′)
+      → DoesQuietly place (Lose number ∷ []) (session_at seat sessions room) (but_owing (session_at seat sessions room) (session_at seat′ sessions room′))
   fast-released {room′} {place} {number} {owes} {t} its released =
       let v = seat.me.0 in
       let now = released.1.now in record {
@@ -122,24 +123,23 @@ module _ (seat seat′ : SeatState) (sessions : ℕ) {room : Room} (is : IsMembe
           slow = v.slow;
           fast = but_own place number v.fast;
           told = v.told;
-          owes = owing place released.1.step.found v.owes;
+          owes = v.owes;
           searches = v.searches;
           settles = v.settles;
           log = _;
           room = room′;
-          now = seat-changed seat seat′ sessions released.0 _ now;
+          now = ap (but_owing (session_at seat sessions room)) (seat-changed seat seat′ sessions {room = room′} released.0 _ now);
           tickets = released-fast place number v.slow v.fast (rising is) (numbers-apart number t v.slow v.fast (rising is) its);
           fasts = fewer-fast v.known v.asks v.fast (λ u. not (is_own place number u));
           stays = λ state told. told;
-          owed = λ p owed. elim (cases_eq p place) [
-            | inl here ↦ inr (here, λ none. absurd (cc))
-            | inr there ↦ inl (sym (owes_else (slow_flag released.1.step.found) place p v.owes there) ∙ owed)
-          ];
+          owed = λ p owed. owed;
           unasked = λ none. refl;
         };
         did = (released.1.step ∷ [], ap (λ (m : Mine). m.0.log) now, ap (λ (ds : List Deed). ds ++ []) released.1.did);
         settled = ap (λ (m : Mine). m.0.settles) now;
         told = ap (λ (m : Mine). m.0.told) now;
+        owes = refl;
+        searches = ap (λ (m : Mine). m.0.searches) now;
       }
 
   -- those of a place became slow ones
@@ -160,12 +160,14 @@ module _ (seat seat′ : SeatState) (sessions : ℕ) {room : Room} (is : IsMembe
           tickets = made-slow place v.slow v.fast (rising is);
           fasts = fewer-fast v.known v.asks v.fast (λ u. not (u.place == place));
           stays = λ state told. told;
-          owed = λ p owed. inl owed;
+          owed = λ p owed. owed;
           unasked = λ none. refl;
         };
         did = (moved.1.made, ap (λ (m : Mine). m.0.log) now, moved.1.did);
         settled = ap (λ (m : Mine). m.0.settles) now;
         told = ap (λ (m : Mine). m.0.told) now;
+        owes = ap (λ (m : Mine). m.0.owes) now;
+        searches = ap (λ (m : Mine). m.0.searches) now;
       }
 
 -- ---- its own lists

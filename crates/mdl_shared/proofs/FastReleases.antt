@@ -1,22 +1,28 @@
 -- A fast ticket is given up, and the place is rescheduled where that is owed.
-use Rattle.std.proofs.Common.{◌≡◌, ℕ, true, false, Bool, List, [], inl, inr, refl, sym, ap, subst, ◌∙◌}
-use Rattle.std.proofs.lemmas.Bool.{false≢true}
+use Rattle.std.proofs.Common.{◌≡◌, ℕ, ◌==◌, true, false, Bool, List, [], ◌∷◌, if◌then◌else◌, refl, sym, ap, subst, ◌∙◌}
+use Rattle.std.proofs.lemmas.Bool.{eqb-true, false≢true}
 use Rattle.atomic_table.specs.Seated.{TableId}
 use Rattle.mdl_steps.specs.declared.deed.Deed.{Deed}
 use Rattle.mdl_steps.specs.declared.view.Own.{Own}
+use Rattle.mdl_steps.specs.Plays.{Mine}
 use Rattle.mdl_steps.specs.SeatStates.{AtItsTable, SeatState}
+use Rattle.mdl_steps.proofs.Views.{by_bool}
 use Rattle.mdl_visits.specs.FastTries.{ReleasesFast}
-use Rattle.mdl_visits.specs.Grantings.{HasRescheduled, VisitsAndReschedules}
-use Rattle.mdl_shared.specs.DeedsDone.{HasDone, IsOwed, StaysFast}
+use Rattle.mdl_visits.specs.Grantings.{HasRescheduled, VisitsAndReschedules, all_but}
 use Rattle.mdl_visits.specs.Visits.{VisitsOnce}
+use Rattle.mdl_shared.specs.Debts.{IsOwed, OwesNoMore, but_owing}
+use Rattle.mdl_shared.specs.DeedsDone.{HasDone, StaysFast}
+use Rattle.mdl_shared.specs.Members.{IsMember, is_known_place}
 use Rattle.mdl_shared.specs.SessionViews.{SessionView, session_at, tickets_seen}
 use Rattle.mdl_shared.specs.Showings.{GivesUpFast}
+use Rattle.mdl_shared.proofs.Debts.{paid-off, released-due, released-owes, released-quiet, rescheduled-owes}
 
 -- ---- two parts of a call
 
--- deeds with none after them are these deeds
-pub done-before : {at place : ℕ} {ds : List Deed} {a b c : SessionView} → HasDone place ds a b → HasDone at [] b c → HasDone place ds a c
-done-before {at} {place} {ds} {a} {b} {c} first later =
+-- deeds with none after them are these deeds. What is owed between the two is left out
+pub done-before : {at place : ℕ} {ds : List Deed} {a b c : SessionView} → HasDone place ds a (but_owing a b) → HasDone at [] b c → OwesNoMore a c
+    → HasDone place ds a c
+done-before {at} {place} {ds} {a} {b} {c} first later less =
     let b-is = first.now in record {
       slow = later.slow;
       fast = later.fast;
@@ -33,10 +39,7 @@ done-before {at} {place} {ds} {a} {b} {c} first later =
       tickets = later.tickets ∙ ap (λ (x : SessionView). tickets_seen x.me.0) b-is ∙ first.tickets;
       fasts = fast-then (subst (λ (x : SessionView). StaysFast x.me.0.known x.me.0.asks x.me.0.fast later.fast) b-is later.fasts);
       stays = λ state told. later.stays state (ap (λ (x : SessionView). x.me.0.told) b-is ∙ first.stays state told);
-      owed = λ p owed. elim (later.owed p owed) [
-        | inl before ↦ first.owed p (subst (λ (x : SessionView). IsOwed p x.me.0.owes) b-is before)
-        | inr never ↦ absurd (never.1 refl)
-      ];
+      owed = λ q owed. less q (subst (λ (x : SessionView). IsOwed q x.me.0.owes) (sym later.now) owed);
       unasked = λ none.
           later.unasked (ap (λ (x : SessionView). x.me.0.asks) b-is ∙ none) ∙ ap (λ (x : SessionView). x.me.0.told) b-is ∙ first.unasked none;
     }
@@ -54,14 +57,37 @@ module _ (a b : SessionView) (t : Own) (owes : Bool) (released : ReleasesFast t.
   pub gives-up : owes ≡ false → GivesUpFast t.number a b t
   gives-up quiet = (b.me, owes, released, (λ due. absurd (false≢true (sym quiet ∙ due))), (λ none. refl))
 
+  -- nothing else is owed then, either
+  pub gone-quiet : {place : ℕ} {ds : List Deed} → HasDone place ds a (but_owing a b) → owes ≡ false → HasDone place ds a b
+  gone-quiet {place} {ds} lost quiet =
+      subst (λ (x : SessionView). HasDone place ds a x)
+      (λ i. record b { me = (record b.me.0 { owes = sym (released-quiet released quiet) i }, b.me.1) }) lost
+
   -- and where it is the place was rescheduled then
-  pub gives-up_after : {at : ℕ} {ds : List Deed} {seat : SeatState} → HasDone at ds a b → owes ≡ true
+  pub gives-up_after : {at : ℕ} {ds : List Deed} {seat : SeatState} → HasDone at ds a (but_owing a b) → owes ≡ true
       → AtItsTable (record { table = b.table; me = b.me }) seat (VisitsAndReschedules b.table t.place []) → VisitsOnce t.place b.me seat.me
       → GivesUpFast t.number a (session_at seat b.sessions b.room) t
   gives-up_after {seat = seat} lost due visit once = (
     b.me,
     owes,
     released,
-    (λ up. (subst (λ (id : TableId). HasRescheduled id t.place b.me seat.me) (ap (λ (s : SessionView). s.table) lost.now) visit.1.way, once)),
+    (λ up. (subst (λ (id : TableId). HasRescheduled id t.place b.me seat.me) (ap (λ (s : SessionView). s.table) lost.now) visit.1.way, once, rescheduled-owes visit)),
     (λ down. absurd (false≢true (sym down ∙ due))),
   )
+
+  -- by which the debt is paid
+  pub paid-after : {seat : SeatState} → owes ≡ true → AtItsTable (record { table = b.table; me = b.me }) seat (VisitsAndReschedules b.table t.place [])
+      → OwesNoMore a (session_at seat b.sessions b.room)
+  paid-after due visit q owed =
+      paid-off q t.place a.me.0.owes (subst (IsOwed q) (ap (λ (m : Mine). m.0.owes) visit.1.now ∙ ap (all_but t.place) (released-due released due)) owed)
+
+  -- a place that is owed a reschedule then is one that the session knows
+  pub owed-known : IsMember a → is_known_place a.me.0.known t.place ≡ true → (q : ℕ) → IsOwed q b.me.0.owes → is_known_place b.me.0.known q ≡ true
+  owed-known is here q owed = ap (λ (m : Mine). is_known_place m.0.known q) released.now ∙ by owes (subst (IsOwed q) (released-owes released) owed)
+    where
+      by : (o : Bool) → IsOwed q (if o then t.place ∷ a.me.0.owes else a.me.0.owes) → is_known_place a.me.0.known q ≡ true
+      by false its = is.owed q its
+      by true its =
+          by_bool (t.place == q)
+          (λ same. ap (is_known_place a.me.0.known) (sym (eqb-true t.place q same)) ∙ here)
+          (λ apart. is.owed q (rw apart at its))

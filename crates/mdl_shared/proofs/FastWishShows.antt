@@ -24,6 +24,7 @@ use Rattle.mdl_shared.specs.Members.{IsMember, kind_known, obtrudes_at, wish_fau
 use Rattle.mdl_shared.specs.SessionViews.{SessionView, space_of}
 use Rattle.mdl_shared.specs.Showings.{FullForFast, IsClosed, IsGranted, LacksMemory, LacksRoomForFast, LacksRoomForWish, Shows, ShowsStep, SlowsAll, StopsOrVisits, StopsSlowing}
 use Rattle.mdl_shared.specs.TicketLists.{KeepsRoom}
+use Rattle.mdl_shared.proofs.Debts.{same-debts}
 use Rattle.mdl_shared.proofs.FastWishing.{by-latch, closed-more, next-slow, number-slow, same-space}
 use Rattle.mdl_shared.proofs.Members.{done-nothing}
 use Rattle.mdl_shared.proofs.QuietDeeds.{quiet-shows, quiet-then}
@@ -148,6 +149,7 @@ module _ {a : SessionView} (is : IsMember a) (place : ℕ) (mode : Mode) (clear 
         (does_then [] [] a.me b.me c.me slow.quiet.did (opens.made, log, opens.did)) (ap (λ (m : Mine). m.0.settles) opens.now ∙ slow.quiet.settled)
         (ap (λ (m : Mine). m.0.told) opens.now ∙ sym (untold-wish is place mode clear)) tt (by-latch slow place mode (obtrudes_at place mode a.me.0.known) c closed once met)
         (keeps-before 0 a.room b.room c.room slow.room begins.room)
+        (same-debts a c (ap (λ (m : Mine). m.0.owes) opens.now ∙ slow.quiet.owes)) (ap (λ (m : Mine). m.0.owes) opens.now ∙ slow.quiet.owes)
 
     pub begun-slow : (result : Result Begun SpaceError) → IfOk result (λ answer. HasBegun place mode answer b c)
         → OnErr result (DoesQuietly place [] b c × KeepsRoom 0 b.room c.room)

@@ -65,6 +65,8 @@ quiet-room a room quiet =
       did = quiet.did;
       settled = quiet.settled;
       told = quiet.told;
+      owes = quiet.owes;
+      searches = quiet.searches;
     }
 
 -- ---- the fast path was closed

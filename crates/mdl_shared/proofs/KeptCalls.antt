@@ -27,12 +27,14 @@ use Rattle.mdl_shared.specs.SessionViews.{Lists, SessionView, lists_seen, sessio
 use Rattle.mdl_shared.specs.Showings.{FindsVersion, MissesVersion, OfTicket, ReadsByLatch, Shows, VisitsInVain}
 use Rattle.mdl_shared.specs.TicketLists.{KeepsRoom, Room}
 use Rattle.mdl_shared.proofs.CacheEntries.{kept-met, met-first, met-looked, none-looked}
+use Rattle.mdl_shared.proofs.Debts.{same-debts}
 use Rattle.mdl_shared.proofs.Faults.{if-clear}
 use Rattle.mdl_shared.proofs.MemberFacts.{speaks}
 use Rattle.mdl_shared.proofs.Props.{member}
+use Rattle.mdl_shared.proofs.ReadCalls.{noted-owes}
 use Rattle.mdl_shared.proofs.Rooms.{keeps-before, keeps-same}
 use Rattle.mdl_shared.proofs.SameSpace.{reading_of}
-use Rattle.mdl_shared.proofs.VersionCalls.{finds-joins, finds-version, found-does, found-now, found-quiet, kept-joins, read-directory, read-does, read-lists, read-quiet, read-sessions, read-settles, read-space, read-table, read-told, unkept-joins, version-missed}
+use Rattle.mdl_shared.proofs.VersionCalls.{finds-joins, finds-version, found-does, found-noted, found-now, found-quiet, kept-joins, read-directory, read-does, read-lists, read-owes, read-quiet, read-searches, read-sessions, read-settles, read-space, read-table, read-told, unkept-joins, version-missed}
 
 -- the number of a ticket
 pub numbered-is : (id : ℕ) (tickets : List Own) (t : Own) → numbered id tickets ≡ Some t → t.number ≡ id
@@ -64,6 +66,8 @@ module _ (s : SessionView) (id : ℕ) (t : Own) (its : numbered id (tickets_seen
       steps = found-quiet finds;
       met = (t, its, inl finds);
       room = finds.room;
+      debts = same-debts s s′ (noted-owes (found-noted finds));
+      owes = (noted-owes (found-noted finds), ap (λ (x : SessionView). x.me.0.searches) (found-now finds));
     }
 
     -- but memory ran out
@@ -78,6 +82,8 @@ module _ (s : SessionView) (id : ℕ) (t : Own) (its : numbered id (tickets_seen
       steps = found-quiet finds;
       met = inr (refl, (t, its, inl (standing, finds)));
       room = finds.room;
+      debts = same-debts s s′ (noted-owes (found-noted finds));
+      owes = (noted-owes (found-noted finds), ap (λ (x : SessionView). x.me.0.searches) (found-now finds));
     }
 
     pub full-joins : Joins (space_of s) (Read_kept s.me.0.number id) (Reads standing.version standing.definition) (space_of s′)
@@ -135,6 +141,8 @@ module _ (s : SessionView) (id : ℕ) (t : Own) (its : numbered id (tickets_seen
       steps = quiet_on s.me mid.me s′.me (read-quiet reads) (read-directory reads) shows.steps;
       met = (t, its, inr (found, mid, reads, miss-latch standing shows));
       room = keeps-before 0 s.room mid.room s′.room reads.room shows.room;
+      debts = λ place owed. same-debts s mid (read-owes reads) place (shows.debts place owed);
+      owes = (shows.owes.0 ∙ read-owes reads, shows.owes.1 ∙ read-searches reads);
     }
 
     -- or memory runs out
@@ -167,6 +175,8 @@ module _ (s : SessionView) (id : ℕ) (t : Own) (its : numbered id (tickets_seen
       steps = quiet_on s.me mid.me s′.me (read-quiet reads) (read-directory reads) shows.steps;
       met = inr (refl, (t, its, inr (found, mid, reads, visits)));
       room = keeps-before 0 s.room mid.room s′.room reads.room shows.room;
+      debts = λ place owed. same-debts s mid (read-owes reads) place (shows.debts place owed);
+      owes = (shows.owes.0 ∙ read-owes reads, shows.owes.1 ∙ read-searches reads);
     }
 
 -- ---- what a session met

@@ -39,10 +39,11 @@ use Rattle.mdl_shared.specs.Passes.{view_of}
 use Rattle.mdl_shared.specs.SessionViews.{Lists, SessionView, lists_seen, session_at, space_of}
 use Rattle.mdl_shared.specs.Showings.{Shows}
 use Rattle.mdl_shared.specs.TicketLists.{KeepsRoom, Room}
+use Rattle.mdl_shared.proofs.Debts.{same-debts}
 use Rattle.mdl_shared.proofs.KnownKeys.{all_learnt, apart_and, new_place}
 use Rattle.mdl_shared.proofs.MemberFacts.{keys-apart, speaks}
 use Rattle.mdl_shared.proofs.Members.{HasDone, StaysInOrder, visited}
-use Rattle.mdl_shared.proofs.Membership.{counted_and, within_and}
+use Rattle.mdl_shared.proofs.Membership.{counted_and, still_known, within_and}
 use Rattle.mdl_shared.proofs.SameSpace.{Stays, joins-still, keeps-settled, refused, same-stays, sees-same}
 use Rattle.mdl_shared.proofs.SpaceLists.{apart-told, key-told, known-told, known_of, place-told}
 
@@ -76,12 +77,17 @@ learnt-order {more} {s} {s′} learnt is within = subst (λ (x : SessionView). S
   last = is.last;
   told = is.told;
   fewer = is.fewer;
+  owed = λ q owed. still_known s.me.0.known more q (is.owed q owed);
 })
 
 -- steps alone
 pub stepped : (seat seat′ : SeatState) (sessions : ℕ) {room room′ : Room} → seat′.table ≡ seat.table → MakesSteps seat.me seat′.me
     → HasDone 0 [] (session_at seat sessions room) (session_at seat′ sessions room′)
 stepped seat seat′ sessions table steps = visited seat seat′ sessions refl (table, record { made = steps.0; now = steps.1; did = steps.2 })
+
+-- what is owed is the same
+pub learnt-owes : {more : List Known} {s s′ : SessionView} → HasLearnt more s s′ → s′.me.0.owes ≡ s.me.0.owes
+learnt-owes learnt = ap (λ (x : SessionView). x.me.0.owes) learnt.now
 
 -- which leave its lists
 pub lists-stepped : (m m′ : Mine) → MakesSteps m m′ → lists_seen m′.0 ≡ lists_seen m.0
@@ -285,5 +291,7 @@ module _ (seat mid seat′ : SeatState) (sessions : ℕ) {room : Room} (schema :
             (tables, are, has, ap (λ (x : SessionView). x.me.0.known) learnt.now, subst (AreLearnt tables) (sym (ap (λ (x : SessionView). x.me.0.known) learnt.now)) known),
           );
           room = keeps;
+          debts = same-debts (session_at seat sessions room) (session_at seat′ sessions room′) (learnt-owes learnt);
+          owes = (learnt-owes learnt, ap (λ (x : SessionView). x.me.0.searches) learnt.now);
         },
       )

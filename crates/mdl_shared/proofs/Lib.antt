@@ -9,6 +9,7 @@ pub mod Alike
 pub mod Faults
 pub mod TicketOrder
 pub mod Props
+pub mod Debts
 pub mod MemberFacts
 pub mod SlowOrFast
 pub mod Members
@@ -22,12 +23,14 @@ pub mod PollCalls
 pub mod NotedOnce
 pub mod TicketEdits
 pub mod TicketParts
+pub mod OwedFlags
 pub mod TicketFaults
 pub mod TicketSearch
 pub mod TicketCalls
 pub mod ReleaseCalls
 pub mod WishFaults
 pub mod WishCalls
+pub mod ClosedSessions
 pub mod EndCalls
 pub mod SpaceReads
 pub mod ReadCalls

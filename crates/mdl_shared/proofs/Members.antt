@@ -1,5 +1,5 @@
 -- What is always so of a session between two calls is so after each call.
-pub use Rattle.mdl_shared.specs.DeedsDone.{HasDone, IsOwed, StaysFast}
+pub use Rattle.mdl_shared.specs.DeedsDone.{HasDone, StaysFast}
 use Rattle.std.proofs.Common.{◌≡◌, ◌⊎◌, inl, inr, ℕ, ◌+◌, ◌≤◌, ◌<◌, ◌==◌, ◌||◌, Bool, true, false, List, [], ◌∷◌, Option, Some, None, refl, sym, ap, subst, ◌∙◌, arith}
 use Rattle.std.specs.List.{list_any}
 use Rattle.atomic_table.specs.Seated.{TableId}
@@ -24,7 +24,8 @@ use Rattle.mdl_visits.specs.Idle.{IsIdle}
 use Rattle.mdl_visits.specs.Visits.{Visits}
 use Rattle.mdl_visits.specs.Numbers.{is_no_number, numbered}
 use Rattle.mdl_shared.specs.declared.member.Member.{Member}
-use Rattle.mdl_shared.specs.Members.{IsMember, are_counted, are_within, most_numbers, without_at}
+use Rattle.mdl_shared.specs.Debts.{IsOwed, OwesNoMore, but_owing}
+use Rattle.mdl_shared.specs.Members.{IsMember, are_counted, are_within, is_known_place, most_numbers, without_at}
 use Rattle.mdl_shared.specs.Rememberings.{AreAlike}
 use Rattle.mdl_shared.specs.SessionViews.{Lists, SessionView, lists_seen, session_at, space_of, tickets_of, tickets_seen}
 use Rattle.mdl_shared.specs.Showings.{own_fault}
@@ -46,6 +47,7 @@ pub record StaysInOrder (s s′ : SessionView) : Type 0 where
   pub last : is_ask_last s′.me.0.next s′.me.0.asks ≡ true
   pub told : is_ask_told s′.me.0.asks s′.me.0.told ≡ true
   pub fewer : (s′.me.0.waits < s′.me.0.next) × (s′.me.0.waits < most_numbers)
+  pub owed : (place : ℕ) → IsOwed place s′.me.0.owes → is_known_place s′.me.0.known place ≡ true
 
 -- and it is sound as a lock space
 pub in-order : {s s′ : SessionView} → IsMember s → StaysInOrder s s′ → s′.me.0.number ≡ s.me.0.number → IsSound (space_of s′) → IsMember s′
@@ -59,6 +61,7 @@ in-order {s} {s′} is order number sound = record {
   last = order.last;
   told = order.told;
   fewer = order.fewer;
+  owed = order.owed;
   counted = subst (λ (n : ℕ). (0 < n) × (n ≤ s′.sessions)) (sym number)
       (subst (λ (n : ℕ). (0 < s.me.0.number) × (s.me.0.number ≤ n)) (sym order.sessions) is.counted);
   narrow = subst (λ (t : TableId). (0 < t.slots) × (t.slots ≤ 65536)) (sym order.table) is.narrow;
@@ -81,6 +84,25 @@ member-room is r = record {
   last = is.last;
   told = is.told;
   fewer = is.fewer;
+  owed = is.owed;
+  counted = is.counted;
+  narrow = is.narrow;
+  words = is.words;
+}
+
+-- and whatever it owes, if it has looked up those places
+pub member-owing : (a b : SessionView) → IsMember (but_owing a b) → ((q : ℕ) → IsOwed q b.me.0.owes → is_known_place b.me.0.known q ≡ true) → IsMember b
+member-owing a b is owed = record {
+  sound = is.sound;
+  idle = is.idle;
+  unfast = is.unfast;
+  plain = is.plain;
+  within = is.within;
+  alike = is.alike;
+  last = is.last;
+  told = is.told;
+  fewer = is.fewer;
+  owed = owed;
   counted = is.counted;
   narrow = is.narrow;
   words = is.words;
@@ -112,12 +134,12 @@ visited {place} {ds} seat seat′ sessions {room} {room′} same visits = record
   tickets = same;
   fasts = same-fast seat.me.0.known seat.me.0.asks seat.me.0.fast;
   stays = λ state told. told;
-  owed = λ p owed. inl owed;
+  owed = λ p owed. owed;
   unasked = λ none. refl;
 }
 
 -- once a place was rescheduled, nothing is owed that wasn't before
-owed-still : (p place : ℕ) (owes : List ℕ) → IsOwed p (all_but place owes) → IsOwed p owes
+pub owed-still : (p place : ℕ) (owes : List ℕ) → IsOwed p (all_but place owes) → IsOwed p owes
 owed-still p place [] owed = owed
 owed-still p place (q ∷ qs) owed = by_bool (q == place)
     (λ here. or-later (q == p) (list_any (λ n. n == p) qs) (owed-still p place qs (rw here at owed)))
@@ -148,7 +170,7 @@ rescheduled {place} {ds} seat seat′ sessions {room} {room′} same visits =
       tickets = same;
       fasts = same-fast seat.me.0.known seat.me.0.asks seat.me.0.fast;
       stays = subst (λ (o : Option ℕ). StaysTold seat.me.0.told o) told visits.1.way.stays;
-      owed = λ p owed. inl (owed-still p place seat.me.0.owes owed);
+      owed = λ p owed. owed-still p place seat.me.0.owes owed;
       unasked = λ none. sym told ∙ visits.1.way.unasked none;
     }
 
@@ -186,6 +208,7 @@ module _ {place : ℕ} {ds : List Deed} {s s′ : SessionView} (done : HasDone p
         last = last-none s.me.0.next (all_next ds s.me.0.next) s.me.0.asks which is.last;
         told = told-stays s.me.0.asks s.me.0.told done.told done.unasked is.told;
         fewer = (omega (arith, more, fewer.0), fewer.1);
+        owed = λ p owed. is.owed p (done.owed p owed);
       })
 
   pub done-rest : KeepsRest s s′
@@ -203,6 +226,10 @@ module _ {place : ℕ} {ds : List Deed} {s s′ : SessionView} (done : HasDone p
 
   pub done-reads : s′.me.0.reads ≡ s.me.0.reads
   done-reads = ap (λ (x : SessionView). x.me.0.reads) done.now
+
+-- nothing is owed that wasn't before
+pub done-debts : {place : ℕ} {ds : List Deed} {s s′ : SessionView} → HasDone place ds s s′ → OwesNoMore s s′
+done-debts done p owed = done.owed p (subst (λ (x : SessionView). IsOwed p x.me.0.owes) done.now owed)
 
 -- without a deed all else stays
 pub done-nothing : {place : ℕ} {s s′ : SessionView} → HasDone place [] s s′ → Stays s s′
@@ -238,13 +265,7 @@ done-then {at} {place} {ds} {a} {b} {c} first later =
       tickets = later.tickets ∙ ap (all_owned place ds) (done-tickets first);
       fasts = fast-then (subst (λ (x : SessionView). StaysFast x.me.0.known x.me.0.asks x.me.0.fast later.fast) b-is later.fasts);
       stays = λ state told. later.stays state (ap (λ (x : SessionView). x.me.0.told) b-is ∙ first.stays state told);
-      owed = λ p owed. elim (later.owed p owed) [
-        | inl before ↦ elim (first.owed p (subst (λ (x : SessionView). IsOwed p x.me.0.owes) b-is before)) [
-          | inl once ↦ inl once
-          | inr never ↦ absurd (never.1 refl)
-        ]
-        | inr here ↦ inr here
-      ];
+      owed = λ p owed. first.owed p (subst (λ (x : SessionView). IsOwed p x.me.0.owes) b-is (later.owed p owed));
       unasked = λ none.
           let told : b.me.0.told ≡ first.told = ap (λ (x : SessionView). x.me.0.told) b-is in
           later.unasked (ap (λ (x : SessionView). x.me.0.asks) b-is ∙ none) ∙ told ∙ first.unasked none;

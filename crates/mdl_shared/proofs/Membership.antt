@@ -77,12 +77,12 @@ pub kind_place : (place : ℕ) (kind : Kind) (known : List Known) → kind_known
 kind_place place kind [] e = absurd (cc)
 kind_place place kind (k ∷ ks) e = by_bool (k.place == place) (λ hit. rw hit refl) (λ miss. rw miss (kind_place place kind ks (rw miss at e)))
 
--- ---- with one key more that the session knows
+-- ---- with keys more that the session knows
 
-pub still_known : (known : List Known) (one : Known) (place : ℕ) → is_known_place known place ≡ true → is_known_place (known ++ one ∷ []) place ≡ true
-still_known [] one place e = absurd (cc)
-still_known (k ∷ ks) one place e =
-    by_bool (k.place == place) (λ hit. rw hit refl) (λ miss. rw miss (still_known ks one place (rw miss at e)))
+pub still_known : (known more : List Known) (place : ℕ) → is_known_place known place ≡ true → is_known_place (known ++ more) place ≡ true
+still_known [] more place e = absurd (cc)
+still_known (k ∷ ks) more place e =
+    by_bool (k.place == place) (λ hit. rw hit refl) (λ miss. rw miss (still_known ks more place (rw miss at e)))
 
 pub within_more : (slots : ℕ) (known : List Known) (one : Known) → are_within slots known ≡ true → (0 < one.place) × (one.place < slots) → are_within slots (known ++ one ∷ []) ≡ true
 within_more slots [] one all here = and_from _ _ (and_from _ _ (lt-ltb 0 one.place here.0) (lt-ltb one.place slots here.1)) refl

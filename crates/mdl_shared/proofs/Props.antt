@@ -23,7 +23,8 @@ use Rattle.mdl_steps.specs.Lists.{Each}
 use Rattle.mdl_session_laws.specs.SessionSpaces.{FitsKey, IsNoted, IsSound, Space, are_apart, are_below, are_placed, first_free, is_known, is_newest, key_known, last_read, noted_at}
 use Rattle.mdl_visits.specs.Idle.{IsIdle}
 use Rattle.mdl_shared.specs.declared.member.Member.{Member}
-use Rattle.mdl_shared.specs.Members.{IsMember, are_counted, are_within, most_numbers}
+use Rattle.mdl_shared.specs.Debts.{IsOwed}
+use Rattle.mdl_shared.specs.Members.{IsMember, are_counted, are_within, is_known_place, most_numbers}
 use Rattle.mdl_shared.specs.Passes.{view_of}
 use Rattle.mdl_shared.specs.Rememberings.{AreAlike}
 use Rattle.mdl_shared.specs.SessionViews.{SessionView, tickets_seen}
@@ -115,6 +116,7 @@ IsMember-prop s x y =
     let last_prop : IsProp (is_ask_last s.me.0.next s.me.0.asks ≡ true) = hlevel props in
     let told_prop : IsProp (is_ask_told s.me.0.asks s.me.0.told ≡ true) = hlevel props in
     let fewer_prop : IsProp ((s.me.0.waits < s.me.0.next) × (s.me.0.waits < most_numbers)) = hlevel props in
+    let owed_prop : IsProp ((place : ℕ) → IsOwed place s.me.0.owes → is_known_place s.me.0.known place ≡ true) = hlevel props in
     let counted_prop : IsProp ((0 < s.me.0.number) × (s.me.0.number ≤ s.sessions)) = hlevel props in
     let narrow_prop : IsProp ((0 < s.table.slots) × (s.table.slots ≤ 65536)) = hlevel props in
     let words_prop : IsProp (s.table.words ≡ word_count s.table.slots s.sessions) = hlevel props in
@@ -128,6 +130,7 @@ IsMember-prop s x y =
       last = last_prop x.last y.last i;
       told = told_prop x.told y.told i;
       fewer = fewer_prop x.fewer y.fewer i;
+      owed = owed_prop x.owed y.owed i;
       counted = counted_prop x.counted y.counted i;
       narrow = narrow_prop x.narrow y.narrow i;
       words = words_prop x.words y.words i;

@@ -1,5 +1,5 @@
 -- What a session did by steps that left all waits alone: one part after another, and what a call shows by all of them.
-use Rattle.std.proofs.Common.{◌≡◌, ℕ, List, [], None, inl, refl, sym, ap, subst, ◌∙◌, append-nil}
+use Rattle.std.proofs.Common.{◌≡◌, ℕ, List, [], None, refl, sym, ap, subst, ◌∙◌, append-nil}
 use Rattle.mdl_calls.specs.Words.{Answer, Call}
 use Rattle.mdl_steps.specs.declared.deed.Deed.{Deed}
 use Rattle.mdl_steps.specs.declared.view.Met.{Met}
@@ -14,8 +14,9 @@ use Rattle.mdl_shared.specs.Passes.{view_of}
 use Rattle.mdl_shared.specs.SessionViews.{Lists, SessionView, lists_seen, session_at, tickets_of, tickets_seen}
 use Rattle.mdl_shared.specs.Showings.{KeepsTold, MeetsSo, SettlesSo, ShowsStep, Shows, StepsSo, done_by, gained_by, own_fault}
 use Rattle.mdl_shared.specs.TicketLists.{KeepsRoom, Room}
+use Rattle.mdl_shared.proofs.Debts.{keeps-debts}
 use Rattle.mdl_shared.proofs.Faults.{if-clear}
-use Rattle.mdl_shared.proofs.Members.{done-then, same-fast, seat-changed}
+use Rattle.mdl_shared.proofs.Members.{done-debts, done-then, same-fast, seat-changed}
 
 -- ---- steps
 
@@ -39,6 +40,8 @@ quiet-then {at} {place} {ds} {a} {b} {c} first later = record {
   did = does_then [] ds a.me b.me c.me first.did later.did;
   settled = later.settled ∙ first.settled;
   told = later.told ∙ first.told;
+  owes = later.owes ∙ first.owes;
+  searches = later.searches ∙ first.searches;
 }
 
 -- no step at all
@@ -57,12 +60,14 @@ quiet-none s = record {
     tickets = refl;
     fasts = same-fast s.me.0.known s.me.0.asks s.me.0.fast;
     stays = λ state told. told;
-    owed = λ p owed. inl owed;
+    owed = λ p owed. owed;
     unasked = λ none. refl;
   };
   did = ([], sym (append-nil s.me.0.log), refl);
   settled = refl;
   told = refl;
+  owes = refl;
+  searches = refl;
 }
 
 -- steps and nothing else
@@ -82,12 +87,14 @@ quiet-made seat seat′ sessions {room} {room′} made = record {
     tickets = refl;
     fasts = same-fast seat.me.0.known seat.me.0.asks seat.me.0.fast;
     stays = λ state told. told;
-    owed = λ p owed. inl owed;
+    owed = λ p owed. owed;
     unasked = λ none. refl;
   };
   did = (made.1.0, ap (λ (m : Mine). m.0.log) made.1.1, made.1.2);
   settled = ap (λ (m : Mine). m.0.settles) made.1.1;
   told = ap (λ (m : Mine). m.0.told) made.1.1;
+  owes = ap (λ (m : Mine). m.0.owes) made.1.1;
+  searches = ap (λ (m : Mine). m.0.searches) made.1.1;
 }
 
 -- a visit without a deed is steps and nothing else
@@ -101,6 +108,8 @@ quiet-visit done went = record {
   did = (went.made, ap (λ (m : Mine). m.0.log) went.now, went.did);
   settled = ap (λ (m : Mine). m.0.settles) went.now;
   told = ap (λ (m : Mine). m.0.told) went.now;
+  owes = ap (λ (m : Mine). m.0.owes) went.now;
+  searches = ap (λ (m : Mine). m.0.searches) went.now;
 }
 
 -- what a call shows by it
@@ -108,7 +117,7 @@ pub quiet-shows : {place : ℕ} {ds : List Deed} {s s′ : SessionView} {call : 
     → own_fault call (lists_seen s.me.0) ≡ None → (SettlesNothing s.me s′.me → SettlesSo call answer (lists_seen s.me.0) s s′)
     → (s′.me.0.told ≡ s.me.0.told → KeepsTold call s s′) → StepsSo call s s′ → MeetsSo call answer (lists_seen s.me.0) s s′
     → KeepsRoom (gained_by answer) s.room s′.room → Shows call answer s s′
-quiet-shows {ds = ds} {s = s} {s′ = s′} {call = call} quiet is clear settled told steps met keeps = record {
+quiet-shows {ds = ds} {s = s} {s′ = s′} {call = call} {answer = answer} quiet is clear settled told steps met keeps = record {
   table = ap (λ (x : SessionView). x.table) quiet.done.now;
   sessions = ap (λ (x : SessionView). x.sessions) quiet.done.now;
   refused = if-clear _ (own_fault call (lists_seen s.me.0)) clear;
@@ -118,6 +127,8 @@ quiet-shows {ds = ds} {s = s} {s′ = s′} {call = call} quiet is clear settled
   steps = steps;
   met = met;
   room = keeps;
+  debts = done-debts quiet.done;
+  owes = keeps-debts call answer s s′ quiet.owes quiet.searches;
 }
 
 -- ---- a session's own lists after a part without deeds

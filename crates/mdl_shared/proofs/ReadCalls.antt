@@ -41,6 +41,7 @@ use Rattle.mdl_shared.specs.TicketLists.{KeepsRoom, Room}
 use Rattle.mdl_shared.proofs.Alike.{alike_noting}
 use Rattle.mdl_shared.proofs.Faults.{if-clear, test-failed}
 use Rattle.mdl_shared.proofs.MemberFacts.{speaks}
+use Rattle.mdl_shared.proofs.Debts.{same-debts}
 use Rattle.mdl_shared.proofs.Members.{StaysInOrder}
 use Rattle.mdl_shared.proofs.SameSpace.{KeepsRest, Stays, joins-held, refused, same-stays, sees-same}
 use Rattle.mdl_shared.proofs.SpaceLists.{key-told, ticket-told}
@@ -94,6 +95,7 @@ module _ {place version : ℕ} {reads : List Read} {s s′ : SessionView} (noted
     last = is.last;
     told = is.told;
     fewer = is.fewer;
+    owed = is.owed;
   })
 
   noted-rest : KeepsRest s s′
@@ -101,6 +103,9 @@ module _ {place version : ℕ} {reads : List Read} {s s′ : SessionView} (noted
 
   pub noted-tickets : tickets_seen s′.me.0 ≡ noting_version place version (tickets_seen s.me.0)
   noted-tickets = ap (λ (x : SessionView). tickets_seen x.me.0) noted.now ∙ sym (noted-both place version s.me.0.slow s.me.0.fast)
+
+  pub noted-owes : s′.me.0.owes ≡ s.me.0.owes
+  noted-owes = ap (λ (x : SessionView). x.me.0.owes) noted.now
 
   noted-drawn : (space_of s′).numbers ≡ (space_of s).numbers
   noted-drawn = ap (λ (x : SessionView). (space_of x).numbers) noted.now
@@ -174,6 +179,8 @@ module _ {s : SessionView} (is : IsMember s) (id : ℕ) (t : Own) (its : numbere
     steps = quiet;
     met = (t, its, (follows, ap (λ (x : SessionView). x.me.0.reads) noted.now, met, once));
     room = keeps;
+    debts = same-debts s s′ (noted-owes noted);
+    owes = (noted-owes noted, ap (λ (x : SessionView). x.me.0.searches) noted.now);
   }
 
   pub unread-joins : {s′ : SessionView} → Stays s s′ → Joins (space_of s) (Read_definition s.me.0.number id) (Refused OutOfMemory) (space_of s′)
@@ -181,7 +188,7 @@ module _ {s : SessionView} (is : IsMember s) (id : ℕ) (t : Own) (its : numbere
 
   pub unread-shows : {s′ : SessionView} → s′.table ≡ s.table → s′.sessions ≡ s.sessions → Visits t.place [] s.me s′.me → StaysQuiet s.me s′.me
       → VisitsOnce t.place s.me s′.me → KeepsRoom 0 s.room s′.room → Shows (Read_definition s.me.0.number id) (Refused OutOfMemory) s s′
-  unread-shows table sessions visit quiet once keeps = record {
+  unread-shows {s′} table sessions visit quiet once keeps = record {
     table = table;
     sessions = sessions;
     refused = if-clear _ (holding_fault id (tickets_seen s.me.0)) (ap (λ (o : Option Own). if is_some o then None else Some NotHeld) its);
@@ -191,6 +198,8 @@ module _ {s : SessionView} (is : IsMember s) (id : ℕ) (t : Own) (its : numbere
     steps = quiet;
     met = inr (refl, (t, its, (visit, once)));
     room = keeps;
+    debts = same-debts s s′ (ap (λ (m : Mine). m.0.owes) visit.now);
+    owes = (ap (λ (m : Mine). m.0.owes) visit.now, ap (λ (m : Mine). m.0.searches) visit.now);
   }
 
   -- the key that the session knows at a place is that of the book which it met
@@ -289,4 +298,6 @@ module _ {s : SessionView} (is : IsMember s) (id : ℕ) (t : Own) (its : numbere
       steps = tt;
       met = inr (t, its, ((w, refl, why), once));
       room = keeps;
+      debts = same-debts s s′ (ap (λ (m : Mine). m.0.owes) visit.now);
+      owes = (ap (λ (m : Mine). m.0.owes) visit.now, ap (λ (m : Mine). m.0.searches) visit.now);
     }

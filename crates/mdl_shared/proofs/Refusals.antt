@@ -8,6 +8,7 @@ use Rattle.mdl_steps.specs.Plays.{Mine}
 use Rattle.mdl_visits.specs.Visits.{Does}
 use Rattle.mdl_shared.specs.SessionViews.{Lists, SessionView, lists_seen, tickets_seen}
 use Rattle.mdl_shared.specs.Showings.{KeepsTold, MakesNoStep, MeetsSo, SettlesSo, Shows, StaysFor, StepsSo, done_by, own_fault}
+use Rattle.mdl_shared.proofs.Debts.{keeps-debts}
 use Rattle.mdl_shared.proofs.Rooms.{keeps-same}
 
 -- without a step nothing is done, and the session stays
@@ -79,4 +80,6 @@ own-shows call why s fault = record {
   steps = steps-none call s;
   met = own-met call why (lists_seen s.me.0) s fault;
   room = keeps-same s.room;
+  debts = λ place owed. owed;
+  owes = keeps-debts call (Refused why) s s refl refl;
 }

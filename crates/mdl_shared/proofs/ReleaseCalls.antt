@@ -17,9 +17,10 @@ use Rattle.mdl_shared.specs.Members.{IsMember, holding_fault}
 use Rattle.mdl_shared.specs.SessionViews.{SessionView, session_at, space_of, tickets_seen}
 use Rattle.mdl_shared.specs.Showings.{GivesUpFast, GivesUpSlow, Shows}
 use Rattle.mdl_shared.specs.TicketLists.{KeepsRoom, Room}
+use Rattle.mdl_shared.proofs.Debts.{rescheduled-owes}
 use Rattle.mdl_shared.proofs.Faults.{if-clear}
 use Rattle.mdl_shared.proofs.MemberFacts.{fast-held, loses-slow}
-use Rattle.mdl_shared.proofs.Members.{rescheduled}
+use Rattle.mdl_shared.proofs.Members.{done-debts, rescheduled}
 use Rattle.mdl_shared.proofs.SlowOrFast.{fast-only}
 use Rattle.mdl_shared.proofs.TicketCalls.{release-joins}
 
@@ -37,6 +38,8 @@ release-shows {a} {b} id t its done did met keeps = record {
   steps = tt;
   met = (t, its, met);
   room = keeps;
+  debts = done-debts done;
+  owes = tt;
 }
 
 -- a slow one, by a visit of its place
@@ -49,7 +52,7 @@ released-slow seat seat′ sessions id {room} {room′} t is its slow none visit
     let done = rescheduled seat seat′ sessions {room = room} {room′ = room′} (loses-slow is t.place id t slow) visit in (
       release-joins is id t its done,
       release-shows id t its done (does_reschedule seat.me seat′.me seat.table t.place (Lose id ∷ []) visit.1) (
-        (λ its_slow. ((step.0, step.1, (step.2, step.3)), (visit.1.way, once))),
+        (λ its_slow. ((step.0, step.1, (step.2, step.3)), (visit.1.way, once, rescheduled-owes visit))),
         (λ its_fast. let never : ◌≡◌ {A = Option Own} None (Some t) = sym none ∙ its_fast in absurd (cc)),
       ) keeps,
     )

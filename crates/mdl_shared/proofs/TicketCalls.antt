@@ -28,10 +28,11 @@ use Rattle.mdl_shared.specs.SessionViews.{SessionView, session_at, space_of, tic
 use Rattle.mdl_shared.specs.Showings.{Shows}
 use Rattle.mdl_shared.specs.TicketLists.{KeepsRoom, Room}
 use Rattle.mdl_shared.specs.Upgrades.{upgrade_fault}
+use Rattle.mdl_shared.proofs.Debts.{rescheduled-owes}
 use Rattle.mdl_shared.proofs.Faults.{if-clear}
 use Rattle.mdl_shared.proofs.HeldTickets.{HoldsTicket}
 use Rattle.mdl_shared.proofs.MemberFacts.{alters-slow, speaks}
-use Rattle.mdl_shared.proofs.Members.{HasDone, done-next, done-nothing, done-reads, done-rest, done-tickets, rescheduled}
+use Rattle.mdl_shared.proofs.Members.{HasDone, done-debts, done-next, done-nothing, done-reads, done-rest, done-tickets, rescheduled}
 use Rattle.mdl_shared.proofs.NotedOnce.{one-note, one-note_done}
 use Rattle.mdl_shared.proofs.Refusals.{does-nothing}
 use Rattle.mdl_shared.proofs.Rooms.{keeps-same}
@@ -99,6 +100,8 @@ module _ {m : SessionView} (is : IsMember m) (id : ℕ) (t : Own) (its : numbere
           steps = tt;
           met = (t, its, (λ covered. refl, λ short. let never = sym has ∙ short in cc));
           room = keeps-same m.room;
+          debts = λ place owed. owed;
+          owes = (refl, refl);
         }
 
     -- to another
@@ -168,9 +171,10 @@ pub downgraded : (seat seat′ : SeatState) (sessions id : ℕ) {room room′ : 
     × Shows (Downgrade seat.me.0.number id mode) Done (session_at seat sessions room) (session_at seat′ sessions room′)
 downgraded seat seat′ sessions id {room} {room′} mode t is held slow clear visit step once keeps =
     let free = ap (λ o. downgrade_fault o mode seat.me.0.known) (held.own ∙ sym held.its) ∙ clear in
+    let done = rescheduled seat seat′ sessions {room = room} {room′ = room′} (alters-slow is t.place t.number mode t slow) visit in
     subst (λ (n : ℕ). Joins (space_of (session_at seat sessions room)) (Downgrade seat.me.0.number n mode) Done (space_of (session_at seat′ sessions room′))
     × Shows (Downgrade seat.me.0.number n mode) Done (session_at seat sessions room) (session_at seat′ sessions room′)) held.number (
-      downgrade-joins is t.number t held.own mode free (rescheduled seat seat′ sessions {room′ = room′} (alters-slow is t.place t.number mode t slow) visit),
+      downgrade-joins is t.number t held.own mode free done,
       record {
         table = visit.0;
         sessions = refl;
@@ -179,7 +183,9 @@ downgraded seat seat′ sessions id {room} {room′} mode t is held slow clear v
         settled = tt;
         told = tt;
         steps = tt;
-        met = ((t, held.own, (step.0, step.1, (step.2, step.3))), (t, held.own, (visit.1.way, once)));
+        met = ((t, held.own, (step.0, step.1, (step.2, step.3))), (t, held.own, (visit.1.way, once, rescheduled-owes visit)));
         room = keeps;
+        debts = done-debts done;
+        owes = tt;
       },
     )

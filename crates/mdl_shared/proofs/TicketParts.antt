@@ -20,8 +20,8 @@ use Rattle.mdl_shared.specs.declared.tickets.OfPlace.{OfPlace}
 use Rattle.mdl_shared.specs.OwnTickets.{AreKept, AreRising, fast_counted_at, fast_of, has_fast, is_fast_there, is_there, noted_in, own_of, slow_of, slowed}
 use Rattle.mdl_shared.proofs.TicketSearch.{no_ticket}
 
-no_place : OfPlace
-no_place = record { tickets = 0; fast = 0; noted = None }
+abbrev pub no_place : OfPlace
+no_place = record { tickets = 0; fast = 0; noted = None; owes = false }
 
 -- those of the tickets that pass a test, with their notes
 abbrev pub some_of : List OfPlace → (Gained → Bool) → List Gained → List Own

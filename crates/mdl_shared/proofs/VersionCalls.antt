@@ -38,6 +38,9 @@ met-at place version s =
 
 -- ---- the version was met, and nothing else changed
 
+pub version-owes : (seat seat′ : SeatState) (place version : ℕ) → seat′ ≡ record seat { me = met_version place version seat.me } → seat′.me.0.owes ≡ seat.me.0.owes
+version-owes seat seat′ place version made = ap (λ (x : SeatState). x.me.0.owes) made
+
 pub version-lists : (seat seat′ : SeatState) (place version : ℕ) → seat′ ≡ record seat { me = met_version place version seat.me } → lists_seen seat′.me.0 ≡ lists_seen seat.me.0
 version-lists seat seat′ place version made = ap (λ (x : SeatState). lists_seen x.me.0) made
 
@@ -77,6 +80,12 @@ module _ {place version : ℕ} {a b : SessionView} (reads : MissesVersion place 
 
   pub read-told : b.me.0.told ≡ a.me.0.told
   read-told = ap (λ (x : SessionView). x.me.0.told) read-now
+
+  pub read-owes : b.me.0.owes ≡ a.me.0.owes
+  read-owes = ap (λ (x : SessionView). x.me.0.owes) read-now
+
+  pub read-searches : b.me.0.searches ≡ a.me.0.searches
+  read-searches = ap (λ (x : SessionView). x.me.0.searches) read-now
 
   pub read-number : b.me.0.number ≡ a.me.0.number
   read-number = ap (λ (x : SessionView). x.me.0.number) read-now

@@ -23,8 +23,9 @@ use Rattle.mdl_shared.specs.Members.{IsMember}
 use Rattle.mdl_shared.specs.SessionViews.{Lists, SessionView, lists_seen, session_at, tickets_seen}
 use Rattle.mdl_shared.specs.Showings.{KeepsTold, MakesNoStep, MeetsSo, SettlesSo, Shows, StaysFor, StepsSo, done_by, gained_by, own_fault}
 use Rattle.mdl_shared.specs.TicketLists.{KeepsRoom, Room}
+use Rattle.mdl_shared.proofs.Debts.{keeps-debts}
 use Rattle.mdl_shared.proofs.MemberFacts.{speaks}
-use Rattle.mdl_shared.proofs.Members.{HasDone, done-nothing, done-order, done-then, kept, same-fast}
+use Rattle.mdl_shared.proofs.Members.{HasDone, done-debts, done-nothing, done-order, done-then, kept, same-fast}
 use Rattle.mdl_shared.proofs.Rooms.{keeps-before, keeps-equal, keeps-more}
 use Rattle.mdl_shared.proofs.SameSpace.{joins-still}
 
@@ -45,7 +46,7 @@ quietly-searched {seat = seat} {seat′ = seat′} {log = log} {told = told} {se
   tickets = refl;
   fasts = same-fast seat.me.0.known seat.me.0.asks seat.me.0.fast;
   stays = stays;
-  owed = λ p owed. inl owed;
+  owed = λ p owed. owed;
   unasked = unasked;
 }
 
@@ -79,6 +80,8 @@ waits-seen m b asks = ap (λ (l : Lists). is_some l.asks) (sym m.lists) ∙ asks
 pub record Watches (s s′ : SessionView) : Type 0 where
   pub done : HasDone 0 [] s s′
   pub lists : lists_seen s′.me.0 ≡ lists_seen s.me.0
+  pub owes : s′.me.0.owes ≡ s.me.0.owes
+  pub searches : s′.me.0.searches ≡ s.me.0.searches
   pub did : Does [] s.me s′.me
   pub stayed : StaysOn s.me s′.me
   pub keeps : KeepsRoom 0 s.room s′.room
@@ -87,7 +90,7 @@ pub record Watches (s s′ : SessionView) : Type 0 where
 pub shows : {call : Call} {answer : Answer} {s s′ : SessionView} → Watches s s′ → IfSome (own_fault call (lists_seen s.me.0)) (λ why. (answer ≡ Refused why) × MakesNoStep s s′)
     → Does (done_by call answer (tickets_seen s.me.0)) s.me s′.me → SettlesSo call answer (lists_seen s.me.0) s s′ → KeepsTold call s s′ → StepsSo call s s′
     → MeetsSo call answer (lists_seen s.me.0) s s′ → Shows call answer s s′
-shows {answer = answer} {s = s} {s′ = s′} watches refused did settled told steps met = record {
+shows {call = call} {answer = answer} {s = s} {s′ = s′} watches refused did settled told steps met = record {
   table = ap (λ (x : SessionView). x.table) watches.done.now;
   sessions = ap (λ (x : SessionView). x.sessions) watches.done.now;
   refused = refused;
@@ -97,12 +100,16 @@ shows {answer = answer} {s = s} {s′ = s′} watches refused did settled told s
   steps = steps;
   met = met;
   room = keeps-more (gained_by answer) s.room s′.room watches.keeps;
+  debts = done-debts watches.done;
+  owes = keeps-debts call answer s s′ watches.owes watches.searches;
 }
 
 pub watches-then : (a b c : SessionView) → Watches a b → Watches b c → Watches a c
 watches-then a b c first later = record {
   done = done-then first.done later.done;
   lists = later.lists ∙ first.lists;
+  owes = later.owes ∙ first.owes;
+  searches = later.searches ∙ first.searches;
   did = does_then [] [] a.me b.me c.me first.did later.did;
   stayed = (
     first.stayed.0 ++ later.stayed.0,
@@ -200,10 +207,12 @@ module _ (kind : StepKind) (session found left : ℕ) (settles : List Settlement
             tickets = refl;
             fasts = same-fast s.me.0.known s.me.0.asks s.me.0.fast;
             stays = keeps-told;
-            owed = λ p owed. inl owed;
+            owed = λ p owed. owed;
             unasked = keeps-none;
           };
           lists = ap (λ (x : SessionView). lists_seen x.me.0) now;
+          owes = ap (λ (x : SessionView). x.me.0.owes) now;
+          searches = ap (λ (x : SessionView). x.me.0.searches) now;
           did = (e ∷ [], log, refl);
           stayed = (e ∷ [], log, ((keeps, quiet), tt));
           keeps = keeps-equal s.room s′.room (ap (λ (x : SessionView). x.room) now);

@@ -150,6 +150,7 @@ module _ {s s′ : SessionView} (is : IsMember s) {place : ℕ} {mode : Mode} (c
         last = eq-eqb (s.me.0.next + 1) (s.me.0.next + 1) refl;
         told = refl;
         fewer = (omega (arith, fewer.0), omega (arith, fewer.0, below));
+        owed = is.owed;
       })
 
   pub begun-joins : {number : ℕ} → number ≡ s.me.0.waits + 1 → Joins (space_of s) (Begin_wait s.me.0.number place mode) (Waits number) (space_of s′)

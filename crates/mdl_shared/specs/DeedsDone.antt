@@ -1,6 +1,5 @@
 -- A session after deeds at a place, whether they were done to slow tickets or to fast ones, and whichever of its tickets became slow meanwhile.
-use Rattle.std.specs.Prelude.{◌≡◌, ◌≢◌, ◌⊎◌, ◌==◌, ℕ, Bool, true, List, [], Option, Some, None}
-use Rattle.std.specs.List.{list_any}
+use Rattle.std.specs.Prelude.{◌≡◌, ℕ, Bool, true, List, [], Option, Some, None}
 use Rattle.mdl_steps.specs.declared.deed.Deed.{Deed}
 use Rattle.mdl_steps.specs.declared.view.Ask.{Ask}
 use Rattle.mdl_steps.specs.declared.view.Met.{Met}
@@ -12,6 +11,7 @@ use Rattle.mdl_steps.specs.Interleavings.{interleaved}
 use Rattle.mdl_visits.specs.Grantings.{StaysTold}
 use Rattle.mdl_visits.specs.Polls.{SettlesNothing}
 use Rattle.mdl_visits.specs.Visits.{Does}
+use Rattle.mdl_shared.specs.Debts.{IsOwed}
 use Rattle.mdl_shared.specs.Members.{are_counted}
 use Rattle.mdl_shared.specs.SessionViews.{SessionView, tickets_seen}
 use Rattle.mdl_shared.specs.TicketLists.{Room}
@@ -22,13 +22,9 @@ pub record StaysFast (known : List Known) (asks : Option Ask) (fast fast′ : Li
   pub unfast : (a : Ask) → asks ≡ Some a → fast ≡ [] → fast′ ≡ []
   pub plain : are_counted known fast ≡ true → are_counted known fast′ ≡ true
 
--- the session owes a place a reschedule, by the list of places that it owes one
-abbrev pub IsOwed : ℕ → List ℕ → Type 0
-IsOwed place owes = list_any (λ p. p == place) owes ≡ true
-
 -- the session did these deeds at a place, to slow tickets or to fast ones, and made steps. It may have settled waits, and learnt the state of its own
--- wait. It owes no more places a reschedule, except perhaps this one if it did a deed. Nothing else changed, except perhaps which tickets are fast, the
--- room for more, and whether it has yet to search for a deadlock
+-- wait. It owes no place a reschedule that it didn't owe one before. Nothing else changed, except perhaps which tickets are fast, the room for more, and
+-- whether it has yet to search for a deadlock
 pub record HasDone (place : ℕ) (ds : List Deed) (s s′ : SessionView) : Type 0 where
   pub slow : List Own
   pub fast : List Own
@@ -57,12 +53,15 @@ pub record HasDone (place : ℕ) (ds : List Deed) (s s′ : SessionView) : Type 
   pub tickets : interleaved slow fast ≡ all_owned place ds (tickets_seen s.me.0)
   pub fasts : StaysFast s.me.0.known s.me.0.asks s.me.0.fast fast
   pub stays : StaysTold s.me.0.told told
-  pub owed : (p : ℕ) → IsOwed p owes → IsOwed p s.me.0.owes ⊎ ((p ≡ place) × (ds ≢ []))
+  pub owed : (p : ℕ) → IsOwed p owes → IsOwed p s.me.0.owes
   pub unasked : s.me.0.asks ≡ None → told ≡ s.me.0.told
 
--- the session did these deeds, its steps did just these, and it left all waits alone
+-- the session did these deeds, its steps did just these, and it left all waits alone. It owes the places that it owed before, and has yet to search for a
+-- deadlock if it had before
 pub record DoesQuietly (place : ℕ) (ds : List Deed) (s s′ : SessionView) : Type 0 where
   pub done : HasDone place ds s s′
   pub did : Does ds s.me s′.me
   pub settled : SettlesNothing s.me s′.me
   pub told : s′.me.0.told ≡ s.me.0.told
+  pub owes : s′.me.0.owes ≡ s.me.0.owes
+  pub searches : s′.me.0.searches ≡ s.me.0.searches

@@ -14,6 +14,7 @@ use Rattle.mdl_visits.specs.FastTries.{FindsObtrusive, GrantsAtLast, Misses, Rel
 use Rattle.mdl_visits.specs.Numbers.{numbered}
 use Rattle.mdl_shared.specs.declared.try_fast.Fast.{Fast}
 use Rattle.mdl_shared.specs.declared.try_fast.Fast.TheVariants.{Granted, Obtruded, Contended, Limit}
+use Rattle.mdl_shared.specs.Debts.{but_owing}
 use Rattle.mdl_shared.specs.DeedsDone.{DoesQuietly}
 use Rattle.mdl_shared.specs.Members.{increment_at, kind_known, most_numbers}
 use Rattle.mdl_shared.specs.SessionViews.{Lists, SessionView, StaysSame, lists_seen, space_of}
@@ -57,9 +58,10 @@ RefusesFast place mode why a b =
     × ((fast_fault place mode (lists_seen a.me.0) ≡ Some why)
     ⊎ ((fast_fault place mode (lists_seen a.me.0) ≡ None) × (why ≡ OutOfMemory) × (HasRoom place a.room → ⊥)))
 
--- the fast ticket with this number was released by one step. The session owes its place a reschedule if the word that the step found had the flag SLOW up
+-- the fast ticket with this number was released by one step. The session owes its place a reschedule, too, if the word that the step found had the flag
+-- SLOW up, and nothing else that it didn't owe before
 abbrev pub GaveUpFast : ℕ → Bool → SessionView → SessionView → Type 0
 GaveUpFast id owes a b =
     Joins (space_of a) (Release a.me.0.number id) Done (space_of b)
-    × ((t : Own) × (numbered id a.me.0.fast ≡ Some t) × DoesQuietly t.place (Lose id ∷ []) a b × ReleasesFast t.place id owes a.me b.me)
+    × ((t : Own) × (numbered id a.me.0.fast ≡ Some t) × DoesQuietly t.place (Lose id ∷ []) a (but_owing a b) × ReleasesFast t.place id owes a.me b.me)
     × (a.room.spare < b.room.spare) × (a.room.reach ≤ b.room.reach)

@@ -18,6 +18,8 @@ pub use Rattle.mdl_visits.specs.Visits
 pub use Rattle.mdl_visits.specs.WaitEndings
 pub use Rattle.mdl_visits.specs.WaitOpenings
 pub mod CacheEnds
+pub mod Closings
+pub mod Debts
 pub mod DeedsDone
 pub mod Doings
 pub mod Endings

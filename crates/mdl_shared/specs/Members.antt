@@ -17,6 +17,7 @@ use Rattle.mdl_steps.specs.Layout.{word_count}
 use Rattle.mdl_session_laws.specs.SessionSpaces.{IsSound}
 use Rattle.mdl_visits.specs.Idle.{IsIdle}
 use Rattle.mdl_visits.specs.Numbers.{numbered}
+use Rattle.mdl_shared.specs.Debts.{IsOwed}
 use Rattle.mdl_shared.specs.OwnLists.{key_known}
 use Rattle.mdl_shared.specs.Rememberings.{AreAlike}
 use Rattle.mdl_shared.specs.SessionViews.{SessionView, space_of, tickets_seen}
@@ -45,7 +46,8 @@ are_counted known fast = list_all (λ t. is_some (increment_at t.place t.mode kn
 -- what always holds of a session between two calls. As a lock space it is sound. It holds no latch. While it waits it has no fast ticket, and each fast
 -- one is at a place that it has looked up, in a mode that the word counts there. The places that it has looked up are the table's. The tickets of a place
 -- have one note. The ticket that it waits for has the last number that it gave out, and without a wait it knows of no settled one. It has given out no
--- more wait numbers than ticket numbers. It is one of the sessions of the space, for which the table has words
+-- more wait numbers than ticket numbers. It has looked up the places that it owes a reschedule. It is one of the sessions of the space, for which the
+-- table has words
 pub record IsMember (s : SessionView) : Type 0 where
   pub sound : IsSound (space_of s)
   pub idle : IsIdle s.me
@@ -56,6 +58,7 @@ pub record IsMember (s : SessionView) : Type 0 where
   pub last : is_ask_last s.me.0.next s.me.0.asks ≡ true
   pub told : is_ask_told s.me.0.asks s.me.0.told ≡ true
   pub fewer : (s.me.0.waits < s.me.0.next) × (s.me.0.waits < most_numbers)
+  pub owed : (place : ℕ) → IsOwed place s.me.0.owes → is_known_place s.me.0.known place ≡ true
   pub counted : (0 < s.me.0.number) × (s.me.0.number ≤ s.sessions)
   pub narrow : (0 < s.table.slots) × (s.table.slots ≤ 65536)
   pub words : s.table.words ≡ word_count s.table.slots s.sessions

@@ -21,6 +21,10 @@ has_fast p = nat_lt 0 p.fast
 abbrev pub noted_in : ℕ → List OfPlace → Option ℕ
 noted_in place places = option_and_then (λ (p : OfPlace). p.noted) (slice_get places place)
 
+-- whether the places are owed a reschedule, from place 0 on
+abbrev pub flags_of : List OfPlace → List Bool
+flags_of places = map (λ (p : OfPlace). p.owes) places
+
 -- a ticket with the note of its place
 abbrev pub own_of : List OfPlace → Gained → Own
 own_of places t = record { number = t.id; place = t.place; mode = t.mode; noted = noted_in t.place places }

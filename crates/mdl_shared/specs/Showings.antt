@@ -8,6 +8,7 @@ use Rattle.mdl_defs.specs.declared.standing.Standing.{Standing}
 use Rattle.mdl_system.specs.Strength.{covers}
 use Rattle.mdl_calls.specs.declared.answers.Search.{Search as Found}
 use Rattle.mdl_calls.specs.declared.answers.Search.TheVariants as found
+use Rattle.mdl_calls.specs.declared.answers.Settled.{Settled}
 use Rattle.mdl_calls.specs.declared.answers.TimedOut.TheVariants.{ByThisCall, Already}
 use Rattle.mdl_calls.specs.declared.answers.Upgrade.TheVariants as upgrade
 use Rattle.mdl_calls.specs.declared.space_error.SpaceError.{SpaceError}
@@ -31,6 +32,7 @@ use Rattle.mdl_steps.specs.Lists.{Each}
 use Rattle.mdl_steps.specs.Plays.{Mine}
 use Rattle.mdl_steps.specs.VersionPlays.{Follows, LearnsVersion, met_version, noted_version}
 use Rattle.mdl_steps.specs.Schemas.{unknown}
+use Rattle.mdl_steps.specs.WaitPlays.{met_wait}
 use Rattle.mdl_steps.specs.WaitStates.{granted_state, lost_state, unsettled_state, wait_in}
 use Rattle.mdl_visits.specs.declared.resolve_error.ResolveError.{ResolveError}
 use Rattle.mdl_visits.specs.declared.resolve_error.ResolveError.TheVariants as resolve_error
@@ -48,6 +50,7 @@ use Rattle.mdl_visits.specs.Tables.{AreTables, HasAsked}
 use Rattle.mdl_visits.specs.Visits.{AreStepsOf, Does, IsStepOf, MeetsBlocked, MeetsFull, MeetsFullWish, MakesMoreSteps, IsVisit, MeetsGrantable, StaysQuiet, StaysThere, Visits, VisitsOnce}
 use Rattle.mdl_visits.specs.WaitEndings.{without_wait}
 use Rattle.mdl_visits.specs.WaitOpenings.{MeetsOpening}
+use Rattle.mdl_shared.specs.Debts.{OwesNoMore, Pays}
 use Rattle.mdl_shared.specs.Doings.{merge_deeds, upgrade_deeds}
 use Rattle.mdl_calls.specs.Limits.{is_within}
 use Rattle.mdl_shared.specs.Members.{AreLearnt, holding_fault, increment_at, kind_known, obtrudes_at, place_known, wish_fault}
@@ -76,20 +79,21 @@ MakesNoStep a b = b.me ≡ a.me
 abbrev pub MeetsTicket : ℕ → List Deed → SessionView → SessionView → Own → Type 0
 MeetsTicket id ds a b t = ShowsStep a b (λ e. MeetsOwn t.place a.me.0.number id e × (e.deeds ≡ ds))
 
--- the session visited the ticket's place once and did nothing else, and the waits there that could be granted were granted
+-- the session visited the ticket's place once and did nothing else, and the waits there that could be granted were granted. The place isn't owed that
+-- any more
 abbrev pub Reschedules : SessionView → SessionView → Own → Type 0
-Reschedules a b t = HasRescheduled a.table t.place a.me b.me × VisitsOnce t.place a.me b.me
+Reschedules a b t = HasRescheduled a.table t.place a.me b.me × VisitsOnce t.place a.me b.me × Pays t.place a.me b.me
 
 -- the slow ticket with this number was released in one visit, and the waits at its place that could be granted were granted
 abbrev pub GivesUpSlow : ℕ → SessionView → SessionView → Own → Type 0
 GivesUpSlow id a b t = MeetsTicket id (Lose id ∷ []) a b t × Reschedules a b t
 
 -- a fast ticket was released by one step on the word of its place. If that step found the flag SLOW up, the place was visited once, and the waits there
--- that could be granted then were granted. Otherwise nothing else was done
+-- that could be granted then were granted: it isn't owed that any more. Otherwise nothing else was done
 abbrev pub GivesUpFast : ℕ → SessionView → SessionView → Own → Type 0
 GivesUpFast id a b t =
     (mid : Mine) × (owes : Bool) × ReleasesFast t.place id owes a.me mid
-    × (owes ≡ true → HasRescheduled a.table t.place mid b.me × VisitsOnce t.place mid b.me) × (owes ≡ false → b.me ≡ mid)
+    × (owes ≡ true → HasRescheduled a.table t.place mid b.me × VisitsOnce t.place mid b.me × Pays t.place mid b.me) × (owes ≡ false → b.me ≡ mid)
 
 -- the session visited a place once, and did nothing there
 abbrev pub VisitsInVain : ℕ → SessionView → SessionView → Type 0
@@ -182,6 +186,18 @@ LooksAtKeys a b = (k : Keys) × TookDirectory a.table.slots k k a.me b.me
 abbrev pub SearchesFor : Found → SessionView → SessionView → Type 0
 SearchesFor found a b =
     (k : Keys) × TookDirectory a.table.slots k k a.me b.me × Searched a.table a.me.0.number k found a.me b.me
+
+-- the session just after it read the word of its own wait, which was in this state
+abbrev pub own_wait_read : ℕ → Lists → SessionView → SessionView
+own_wait_read state l a = record a { me = met_wait a.table.slots a.me.0.number (wait_in l.waits state) a.me }
+
+-- the session read that its own wait is settled, and made no other step. It knows that then, and nothing else has changed
+abbrev pub ReadsSettled : Lists → SessionView → SessionView → Type 0
+ReadsSettled l a b = (how : Settled) × (b.me ≡ (own_wait_read (state_of how) l a).me) × (b.me.0.told ≡ Some (state_of how))
+
+-- the session, which didn't know that its own wait is settled, read first that the wait is unsettled. This holds of what it had then
+abbrev pub ReadsUnsettled : Lists → SessionView → (SessionView → Type 0) → Type 0
+ReadsUnsettled l a fact = (a.me.0.told ≡ None) × fact (own_wait_read unsettled_state l a)
 
 -- a step met the session's own wait in this state
 abbrev pub MeetsOwnWait : ℕ → Lists → SessionView → SessionView → Type 0
@@ -297,6 +313,16 @@ KeepsTold (Release who id) a b = Unit {0}
 KeepsTold (Downgrade who id mode) a b = Unit {0}
 KeepsTold _ a b = b.me.0.told ≡ a.me.0.told
 
+-- what a call with this answer leaves of what the session owes. Where it grants waits, `Pays` says that. Otherwise it leaves all unchanged, and, unless it
+-- begins a wait or searches, whether the session has yet to search for a deadlock, too
+abbrev pub KeepsDebts : Call → Answer → SessionView → SessionView → Type 0
+KeepsDebts (End_wait who) (Lost how) a b = Unit {0}
+KeepsDebts (Release who id) Done a b = Unit {0}
+KeepsDebts (Downgrade who id mode) Done a b = Unit {0}
+KeepsDebts (Begin_wait who place mode) answer a b = b.me.0.owes ≡ a.me.0.owes
+KeepsDebts (Search who) answer a b = b.me.0.owes ≡ a.me.0.owes
+KeepsDebts _ _ a b = (b.me.0.owes ≡ a.me.0.owes) × (b.me.0.searches ≡ a.me.0.searches)
+
 -- the list of steps grew by at most so many steps (`most`), which gave no latch back and raised no flag
 abbrev pub StaysFor : ℕ → Mine → Mine → Type 0
 StaysFor most m m′ = (made : List Met) × (m′.0.log ≡ m.0.log ++ made) × Each StaysThere made × (length made ≤ most)
@@ -361,9 +387,12 @@ MeetsSo (Begin_wait who place mode) (Waits number) l a b =
     × MeetsOpening a.table.slots place a.me.0.number l.waits l.next mode f)
 MeetsSo (Begin_wait who place mode) (Refused why) l a b =
     (own_fault (Begin_wait who place mode) l ≡ Some why) ⊎ LacksRoomForWish (MeetsFull place) place mode (obtrudes_at place mode l.known) why a b
-MeetsSo (Search who) No_cycle l a b = (l.asks ≡ None → MakesNoStep a b) × (is_some l.asks ≡ true → SearchesFor found.NoCycle a b)
-MeetsSo (Search who) (Victim_is victim) l a b = (is_some l.asks ≡ true) × SearchesFor (found.Victim victim) a b
-MeetsSo (Search who) (Refused why) l a b = (is_some l.asks ≡ true) × LooksAtKeys a b
+MeetsSo (Search who) No_cycle l a b =
+    (l.asks ≡ None → MakesNoStep a b)
+    × (is_some l.asks ≡ true → ReadsSettled l a b ⊎ (ReadsUnsettled l a (λ mid. SearchesFor found.NoCycle mid b) × (b.me.0.searches ≡ false)))
+MeetsSo (Search who) (Victim_is victim) l a b =
+    (is_some l.asks ≡ true) × ReadsUnsettled l a (λ mid. SearchesFor (found.Victim victim) mid b)
+MeetsSo (Search who) (Refused why) l a b = (is_some l.asks ≡ true) × ReadsUnsettled l a (λ mid. LooksAtKeys mid b)
 MeetsSo (Poll_wait who) Pending l a b = MeetsOwnWait unsettled_state l a b
 MeetsSo (Poll_wait who) (Is_settled how) l a b = MeetsOwnWait (state_of how) l a b
 MeetsSo (Poll_wait who) (Refused why) l a b = own_fault (Poll_wait who) l ≡ Some why
@@ -374,7 +403,7 @@ MeetsSo (End_wait who) (Granted id) l a b = LooksThen granted_state l a (EndsByO
 MeetsSo (End_wait who) (Lost how) l a b =
     EndsOwnWait (state_of how) l a b
     × ((ask : Ask) × (l.asks ≡ Some ask) × HasRescheduled a.table ask.place (without_wait a.me) b.me
-    × LooksThen (state_of how) l a (λ mid. VisitsOnce ask.place mid b.me))
+    × LooksThen (state_of how) l a (λ mid. VisitsOnce ask.place mid b.me) × Pays ask.place a.me b.me)
 MeetsSo (End_wait who) (Refused why) l a b = (own_fault (End_wait who) l ≡ Some why) ⊎ ((why ≡ cause.Unsettled) × LooksThen unsettled_state l a (λ mid. b.me ≡ mid))
 MeetsSo (Wait_of target) (Has_wait number) l a b =
     (is_within a.sessions target ≡ false → (number ≡ None) × MakesNoStep a b)
@@ -441,7 +470,8 @@ MeetsSo _ _ l a b = Unit {0}
 -- (`sessions`). If its own lists refuse the call, that is the answer, and no step is made (`refused`). The call's steps did these deeds, and no others
 -- (`did`), settled these waits, and no others (`settled`), changed what the session knows of its own wait only if the call may do that (`told`), gave no
 -- latch back and raised no flag if the call must not (`steps`), and met this (`met`). The room for tickets that there was is still there, except for the
--- ticket gained (`room`)
+-- ticket gained (`room`). The session owes no place a reschedule that it didn't owe one before (`debts`), and what it owed it still owes, except after a
+-- call that grants waits (`owes`)
 pub record ShowsBy (call : Call) (answer : Answer) (l : Lists) (a b : SessionView) : Type 0 where
   pub table : b.table ≡ a.table
   pub sessions : b.sessions ≡ a.sessions
@@ -452,6 +482,8 @@ pub record ShowsBy (call : Call) (answer : Answer) (l : Lists) (a b : SessionVie
   pub steps : StepsSo call a b
   pub met : MeetsSo call answer l a b
   pub room : KeepsRoom (gained_by answer) a.room b.room
+  pub debts : OwesNoMore a b
+  pub owes : KeepsDebts call answer a b
 
 -- what a call with this answer shows
 abbrev pub Shows : Call → Answer → SessionView → SessionView → Type 0

@@ -1,5 +1,5 @@
 -- A session's own list of its tickets, as the session's calls see it.
-use Rattle.std.specs.Prelude.{ℕ, ◌+◌, ◌<◌, ◌≤◌, List}
+use Rattle.std.specs.Prelude.{ℕ, ◌+◌, ◌<◌, ◌≤◌, Bool, List}
 use Rattle.mdl_steps.specs.declared.view.Own.{Own}
 
 -- the room of a session's list: for how many more tickets there is room, and below which place those may be
@@ -19,8 +19,10 @@ HasRoomFor count places room = (count ≤ room.spare) × (places ≤ room.reach)
 abbrev pub KeepsRoom : ℕ → Room → Room → Type 0
 KeepsRoom gained room room′ = (room.spare ≤ room′.spare + gained) × (room.reach ≤ room′.reach)
 
--- the slow tickets and the fast ones, each in the order in which the session got them, and the room for more
+-- the slow tickets and the fast ones, each in the order in which the session got them, whether the places are owed a reschedule, from place 0 on, and the
+-- room for more tickets
 pub record TicketList : Type 0 where
   pub slow : List Own
   pub fast : List Own
+  pub owes : List Bool
   pub room : Room

@@ -6,6 +6,7 @@ ghost use Rattle.mdl_visits.specs.Audits.{Audits};
 ghost use Rattle.mdl_visits.specs.Lookups.{TookDirectory};
 ghost use Rattle.mdl_visits.specs.Polls.{SettlesNothing};
 ghost use Rattle.mdl_visits.specs.Visits.{Does};
+ghost use Rattle.mdl_shared.specs.Debts.{OwesNoMore};
 ghost use Rattle.mdl_shared.specs.Showings.{KeepsLists};
 
 use crate::Session;
@@ -20,6 +21,7 @@ impl<R: Wait> Session<R> {
     /// It holds the latches of all these places, so other sessions' calls there wait meanwhile.
     pub fn audit(&mut self) -> Result<Vec<Audited>, SpaceError>
         ensures same { KeepsLists self.old self.new × (self.new.me.0.told ≡ self.old.me.0.told) }
+        ensures debts { OwesNoMore self.old self.new }
         ensures settles { SettlesNothing self.old.me self.new.me }
         ensures did { Does [] self.old.me self.new.me }
         ensures told { (k : Keys) × TookDirectory self.old.table.slots k k self.old.me self.new.me

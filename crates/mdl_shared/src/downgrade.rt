@@ -29,6 +29,7 @@ impl<R: Wait> Session<R> {
         let member = &mut self.member;
         downgrade(&self.rt, &mut member.seat, held, mode);
         member.tickets.set_mode(held.place, held.number, mode);
+        member.tickets.pay(held.place);
         Ok(())
     }
 }

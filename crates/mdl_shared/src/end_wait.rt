@@ -41,6 +41,7 @@ impl<R: Wait> Session<R> {
         };
         if let Some(ended) = lost_end(how) {
             end_lost_wait(&self.rt, &mut member.seat, ask, member.waits);
+            member.tickets.pay(ask.place);
             member.asks = None;
             return Ok(ended);
         }

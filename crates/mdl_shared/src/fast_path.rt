@@ -13,6 +13,7 @@ ghost use Rattle.mdl_visits.specs.FastTries.{GrantsAtLast, ReleasesFast};
 ghost use Rattle.mdl_visits.specs.Numbers.{numbered};
 ghost use Rattle.mdl_visits.specs.Visits.{StaysOn, VisitsOnce};
 ghost use Rattle.mdl_shared.specs.declared.fast_path.NotFast.TheVariants.{Limit};
+ghost use Rattle.mdl_shared.specs.Debts.{but_owing};
 ghost use Rattle.mdl_shared.specs.DeedsDone.{DoesQuietly};
 ghost use Rattle.mdl_shared.specs.FastDeeds.{AreSameOrSlow, AreSlowBefore, HasNoFast};
 ghost use Rattle.mdl_shared.specs.Members.{increment_at, most_numbers};
@@ -84,12 +85,12 @@ impl Member {
         Ok(number)
     }
 
-    /// Releases a fast ticket of the session. Returns whether waits at its place may have become grantable. It needs no latch and takes no
-    /// memory.
+    /// Releases a fast ticket of the session. Returns whether waits at its place may have become grantable: then the session owes the place a
+    /// reschedule. It needs no latch and takes no memory.
     #[inline(always)]
     pub(crate) fn lose_fast(&mut self, held: Own) -> bool
         requires held { numbered held.number self.old.tickets.fast ≡ Some held }
-        ensures lost { DoesQuietly held.place (Lose held.number ∷ []) (view_of self.old) (view_of self.new) }
+        ensures lost { DoesQuietly held.place (Lose held.number ∷ []) (view_of self.old) (but_owing (view_of self.old) (view_of self.new)) }
         ensures released { ReleasesFast held.place held.number result self.old.seat.me self.new.seat.me }
         ensures room { (self.old.tickets.room.spare < self.new.tickets.room.spare) × (self.old.tickets.room.reach ≤ self.new.tickets.room.reach) }
         ensures stays { StaysOn self.old.seat.me self.new.seat.me }
@@ -97,6 +98,9 @@ impl Member {
         let one = self.increment(held);
         let owes = release_fast(&mut self.seat, held.place, held.number, one);
         self.tickets.strike(held.place, held.number);
+        if owes {
+            self.tickets.owe(held.place);
+        }
         owes
     }
 

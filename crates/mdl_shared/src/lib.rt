@@ -13,7 +13,7 @@
 //! use mdl_shared::{Manager, Session};
 //! use std::process::Abort;
 //!
-//! /// Closes a session that has given up all tickets, and answers the number of its pass.
+//! /// Closes a session that has given up all tickets and owes nothing, and answers the number of its pass.
 //! fn close<R: Drop>(rt: &impl Abort, session: Session<R>) -> u16 {
 //!     match session.close() {
 //!         Ok(pass) => {
@@ -47,6 +47,7 @@ mod begin_wait;
 mod cached;
 mod change_definition;
 mod clone_ticket;
+mod close;
 mod downgrade;
 mod end_wait;
 mod fast_first;
@@ -60,6 +61,7 @@ mod manager;
 mod materialise;
 mod member;
 mod merge;
+mod owes;
 mod pass;
 mod poll_wait;
 mod read_definition;
@@ -83,6 +85,7 @@ mod wait_words;
 mod wishes;
 
 pub use cached::{Cached, read_cached};
+pub use close::CloseError;
 pub use manager::Manager;
 pub use mdl_calls::NewError;
 pub use mdl_visits::{
@@ -91,5 +94,5 @@ pub use mdl_visits::{
 };
 pub use pass::Pass;
 pub use release_fast::Released;
-pub use session::{HoldsTickets, Session};
+pub use session::Session;
 pub use try_fast::Fast;

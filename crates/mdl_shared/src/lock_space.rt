@@ -1,10 +1,12 @@
 //! A session as a lock space. It speaks for itself only.
+ghost use Rattle.std.proofs.Common.{◌∙◌};
 ghost use Rattle.mdl_session_laws.specs.SessionJoins.{Joins};
-ghost use Rattle.mdl_session_laws.specs.SessionSpaces.{SpeaksFor, own_of, numbers_of, Knows, IsSettledAs, HasMet, HasRead, HasSeen, Pins, Owes};
+ghost use Rattle.mdl_session_laws.specs.SessionSpaces.{SpeaksFor, own_of, numbers_of, Knows, IsSettledAs, HasMet, HasRead, HasSeen, Pins};
 ghost use Rattle.mdl_session_laws.proofs.CallLaws.{session-allowed, session-keeps, session-changes, session-others, session-rising, session-draws, session-others_draw, session-fits, session-lists, session-explains, session-upgrades};
-ghost use Rattle.mdl_session_laws.proofs.KeyLaws.{session-resolves, session-remembers, session-one_key, session-one_place, session-tells_key, session-held_places, session-wait_place, session-tells_tables, session-resolved_pinned, session-pins_stay, session-pinned_known, session-held_pinned, session-wait_pinned, session-no_new_debts, session-unpins_none, session-unpins_in_use, session-unpins};
+ghost use Rattle.mdl_session_laws.proofs.KeyLaws.{session-resolves, session-remembers, session-one_key, session-one_place, session-tells_key, session-held_places, session-wait_place, session-tells_tables, session-resolved_pinned, session-pins_stay, session-pinned_known, session-held_pinned, session-wait_pinned, session-unpins_none, session-unpins_in_use, session-unpins};
 ghost use Rattle.mdl_session_laws.proofs.WaitLaws.{session-tells, session-waits_settled, session-settled_once, session-stays, session-agrees, session-victims, session-counts, session-kills, session-kills_or_settled};
 ghost use Rattle.mdl_session_laws.proofs.ReadLaws.{session-meets, session-met_stays, session-reads, session-redefines, session-redefines_so, session-reads_one, session-stands, session-reads_fit, session-sees, session-seen_stays, session-seen_below};
+ghost use Rattle.mdl_shared.specs.Debts.{Owes};
 ghost use Rattle.mdl_shared.specs.KeptReads.{UsesKept};
 ghost use Rattle.mdl_shared.specs.SessionViews.{space_of};
 ghost use Rattle.mdl_shared.specs.Showings.{Shows};
@@ -39,7 +41,7 @@ impl<R: Wait> LockSpace for Session<R> {
 
     ghost pins = { λ s. Pins (space_of s) };
 
-    ghost owes = { λ s. Owes (space_of s) };
+    ghost owes = { λ s. Owes s };
 
     // What the session has before a call is joined to what it has after it, and the call's steps show what they met and did.
     ghost joins = { λ s call answer t. Joins (space_of s) call answer (space_of t) × Shows call answer s t };
@@ -236,7 +238,7 @@ impl<R: Wait> LockSpace for Session<R> {
 
     ghost wait_pinned = { λ a. session-wait_pinned (space_of a) };
 
-    ghost no_new_debts = { λ a b call answer w place speaks j. session-no_new_debts (space_of a) (space_of b) call answer w place speaks j.0 };
+    ghost no_new_debts = { λ a b call answer w place speaks j owes. (owes.0 ∙ j.0.number, j.1.debts place owes.1) };
 
     ghost unpins_none = { λ a b who place j. session-unpins_none (space_of a) (space_of b) who place j.0 };
 

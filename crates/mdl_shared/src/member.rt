@@ -3,6 +3,7 @@ ghost use Rattle.std.specs.Prelude.{◌≡◌, ◌<◌, ◌≤◌, [], None};
 ghost use Rattle.std.specs.Option.{ForSome};
 ghost use Rattle.mdl_steps.specs.Layout.{word_count};
 ghost use Rattle.mdl_steps.specs.SeatStates.{enrolled_seat};
+ghost use Rattle.mdl_shared.specs.Debts.{AreOwed};
 ghost use Rattle.mdl_shared.specs.Members.{IsMember};
 ghost use Rattle.mdl_shared.specs.SessionViews.{lists_seen, session_at};
 ghost use Rattle.mdl_shared.specs.TicketLists.{HasRoom};
@@ -33,6 +34,7 @@ pub(crate) struct Member {
     ghost lawful: { ∥ IsMember (session_at seat sessions tickets.room) ∥₁ },
     ghost lists: { record { slow = tickets.slow; fast = tickets.fast; known = known.known; next = next; asks = asks; waits = waits } ≡ lists_seen seat.me.0 },
     ghost room: { ForSome asks (λ ask. HasRoom ask.place tickets.room) },
+    ghost owed: { AreOwed tickets.owes seat.me.0.owes },
 }
 
 impl Member {

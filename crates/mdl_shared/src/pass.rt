@@ -1,5 +1,5 @@
 //! The right to a session.
-ghost use Rattle.std.specs.Prelude.{◌≡◌, None, length};
+ghost use Rattle.std.specs.Prelude.{◌≡◌, [], None, length};
 
 use crate::member::Member;
 
@@ -9,6 +9,7 @@ pub struct Pass {
     pub(crate) member: Member,
     ghost empty: { (length member.tickets.slow ≡ 0) × (length member.tickets.fast ≡ 0) },
     ghost unwaited: { member.asks ≡ None },
+    ghost paid: { member.seat.me.0.owes ≡ [] },
 }
 
 impl Pass {

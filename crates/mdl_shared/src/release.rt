@@ -15,7 +15,7 @@ use crate::Session;
 use crate::member::Member;
 use mdl_calls::{SpaceError, TicketId};
 use mdl_steps::Own;
-use mdl_visits::{release, reschedule};
+use mdl_visits::release;
 use std::sync::Wait;
 
 impl<R: Wait> Session<R> {
@@ -35,6 +35,7 @@ impl<R: Wait> Session<R> {
         let member = &mut self.member;
         release(&self.rt, &mut member.seat, held.place, id);
         member.tickets.strike(held.place, id);
+        member.tickets.pay(held.place);
         Ok(())
     }
 }
@@ -49,7 +50,7 @@ impl Member {
         ensures room { KeepsRoom 0 self.old.tickets.room self.new.tickets.room }
     {
         if self.lose_fast(held) {
-            reschedule(rt, &mut self.seat, held.place);
+            self.pay(rt, held.place);
         }
     }
 }

@@ -5,6 +5,7 @@ ghost use Rattle.mdl_shared.specs.SessionViews.{space_of};
 ghost use Rattle.mdl_shared.specs.Showings.{Shows};
 
 use crate::Session;
+use crate::wait_words::settled_in;
 use mdl_calls::{Search, SpaceError};
 use mdl_visits::search_deadlock;
 use std::alloc::AllocError;
@@ -15,12 +16,18 @@ impl<R: Wait> Session<R> {
     /// one, the wait of its victim is settled, which may be the session's own. If another session settles that wait first, the search is
     /// repeated.
     ///
-    /// It holds the latches of all places that have a key, so other sessions' calls there wait meanwhile.
+    /// It holds the latches of all places that have a key, so other sessions' calls there wait meanwhile. But a session without a wait, or
+    /// whose wait is settled, is in no deadlock, and takes no latch.
     pub fn search_deadlock(&mut self) -> Result<Search, SpaceError>
         ensures joined { Joins (space_of self.old) (Search_by self.old.me.0.number) (searched result) (space_of self.new) }
         ensures shown { Shows (Search_by self.old.me.0.number) (searched result) self.old self.new }
     {
         if self.member.asks.is_none() {
+            return Ok(Search::NoCycle);
+        }
+        let session = self.member.seat.number();
+        let word = self.member.seat.read_wait(session);
+        if settled_in(word.state()).is_some() {
             return Ok(Search::NoCycle);
         }
         let alloc = self.member.alloc;

@@ -1,5 +1,5 @@
 //! Sessions, which make the calls.
-ghost use Rattle.std.specs.Prelude.{◌≡◌, ◌<◌, ◌⊎◌, [], None, true, length, MatchResult};
+ghost use Rattle.std.specs.Prelude.{◌≡◌, [], None};
 
 use crate::member::Member;
 use crate::{Manager, Pass};
@@ -23,9 +23,6 @@ impl<R> Model for Session<R> {
     ghost view = { λ s. view_of s.member };
 }
 
-/// Why [`Session::close`] failed: the session has a ticket or a wait, so it isn't closed. This is the session.
-pub struct HoldsTickets<R>(pub Session<R>);
-
 impl<R> Session<R> {
     ghost use Rattle.mdl_session_laws.specs.SessionSpaces.{SpeaksFor};
     ghost use Rattle.mdl_shared.specs.Members.{IsMember};
@@ -37,6 +34,7 @@ impl<R> Session<R> {
         requires theirs { pass_table pass ≡ table_of manager.now }
         ensures opened { result ≡ pass_view pass }
         ensures nothing { (space_of result).own ≡ record { held = []; wait = None } }
+        ensures paid { result.me.0.owes ≡ [] }
     {
         let _manager = manager;
         let Pass { member } = pass;
@@ -50,25 +48,5 @@ impl<R> Session<R> {
         ensures lawful { IsMember self.now }
     {
         self.member.seat.number()
-    }
-}
-
-impl<R: Drop> Session<R> {
-    ghost use Rattle.mdl_calls.specs.Words.{is_waiting};
-    ghost use Rattle.mdl_shared.specs.Passes.{pass_view};
-    ghost use Rattle.mdl_shared.specs.SessionViews.{space_of};
-
-    /// Closes the session, and returns its pass. Fails with [`HoldsTickets`] while the session has a ticket or a wait, settled or not: the
-    /// session is unchanged. It takes no memory.
-    pub fn close(self) -> Result<Pass, HoldsTickets<R>>
-        ensures { MatchResult result
-            (λ pass. ((space_of self).own ≡ record { held = []; wait = None }) × (pass_view pass ≡ self))
-            (λ held. ((0 < length (space_of self).own.held) ⊎ (is_waiting (space_of self).own ≡ true)) × (held.0 ≡ self)) }
-    {
-        if !self.member.tickets.is_empty() || self.member.asks.is_some() {
-            return Err(HoldsTickets(self));
-        }
-        let Session { rt: _, member } = self;
-        Ok(Pass { member })
     }
 }

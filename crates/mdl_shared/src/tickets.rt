@@ -1,5 +1,5 @@
 //! A session's own list of its tickets.
-ghost use Rattle.std.specs.Prelude.{not, ◌^◌, MatchOption, None, OnErr, OnOk, IfOk, IfSome, Some, [], false, find, length, map, position, remove, slice_get, slice_index_or, true, ◌+◌, ◌-◌, ◌++◌, ◌<◌, ◌==◌, ◌∷◌, ◌≡◌, ◌≤◌, ◌&&◌, ℕ, if◌then◌else◌};
+ghost use Rattle.std.specs.Prelude.{not, ◌^◌, MatchOption, None, OnErr, OnOk, IfOk, IfSome, Some, [], false, find, length, map, nat_lt, position, remove, slice_get, slice_index_or, true, ◌+◌, ◌-◌, ◌++◌, ◌<◌, ◌==◌, ◌∷◌, ◌≡◌, ◌≤◌, ◌&&◌, ◌||◌, ℕ, if◌then◌else◌};
 ghost use Rattle.std.specs.List.{list_all};
 ghost use Rattle.std.specs.Option.{option_map};
 ghost use Rattle.std.specs.Vec.{vec_capacity, vec_len};
@@ -11,12 +11,13 @@ ghost use Rattle.mdl_steps.specs.FastPlays.{but_at, fast_own, first_note};
 ghost use Rattle.mdl_steps.specs.Interleavings.{interleaved};
 ghost use Rattle.mdl_steps.specs.Plays.{noting_version};
 ghost use Rattle.mdl_visits.specs.Numbers.{numbered};
+ghost use Rattle.mdl_shared.specs.Debts.{owed_in};
 ghost use Rattle.mdl_shared.specs.Members.{without_at};
 ghost use Rattle.mdl_shared.specs.Modes.{in_mode_at};
 ghost use Rattle.mdl_shared.specs.OwnLists.{told_of};
 ghost use Rattle.mdl_shared.specs.Waitings.{are_below};
 ghost use Rattle.mdl_shared.specs.TicketLists.{HasRoom, HasRoomFor, KeepsRoom};
-ghost use Rattle.mdl_shared.specs.OwnTickets.{IsLast, StandsAt, counted_at, fast_counted_at, fast_found, noted_in, own_of, AreRising, AreAt, has_fast, slowed};
+ghost use Rattle.mdl_shared.specs.OwnTickets.{IsLast, StandsAt, counted_at, fast_counted_at, fast_found, flags_of, noted_in, own_of, AreRising, AreAt, has_fast, slowed};
 
 use mdl_calls::{Held, Place, TicketId};
 use mdl_key::Mode;
@@ -24,13 +25,14 @@ use mdl_steps::Own;
 use std::alloc::{AllocError, Global};
 use std::marker::Model;
 
-/// What is kept of a place: how many tickets the session has there, how many of them are fast, and the version that is noted under all of
-/// them.
+/// What is kept of a place: how many tickets the session has there, how many of them are fast, the version that is noted under all of them,
+/// and whether the session owes the place a reschedule.
 #[derive(Clone, Copy)]
 pub(crate) struct OfPlace {
     pub(crate) tickets: usize,
     pub(crate) fast: usize,
     pub(crate) noted: Option<u64>,
+    pub(crate) owes: bool,
 }
 
 /// A ticket. A fast one is counted by its lock's word, and is in no book.
@@ -55,13 +57,14 @@ impl Model for Tickets {
     ghost use Rattle.std.specs.Prelude.{length, ◌-◌};
     ghost use Rattle.std.specs.Vec.{vec_capacity};
     ghost use Rattle.mdl_shared.specs.TicketLists.{TicketList};
-    ghost use Rattle.mdl_shared.specs.OwnTickets.{AreKept, slow_of, fast_of};
+    ghost use Rattle.mdl_shared.specs.OwnTickets.{AreKept, flags_of, slow_of, fast_of};
 
     ghost Value = { TicketList };
 
     ghost view = { λ s. record {
       slow = slow_of s.places.items s.gained.items;
       fast = fast_of s.places.items s.gained.items;
+      owes = flags_of s.places.items;
       room = record { spare = vec_capacity s.gained - length s.gained.items; reach = length s.places.items };
     } };
 
@@ -69,9 +72,9 @@ impl Model for Tickets {
 }
 
 impl Tickets {
-    /// An empty list. It takes no memory.
+    /// An empty list, without debts. It takes no memory.
     pub(crate) fn new(alloc: Global) -> Tickets
-        ensures { (result.slow ≡ []) × (result.fast ≡ []) }
+        ensures { (result.slow ≡ []) × (result.fast ≡ []) × (result.owes ≡ []) }
     {
         Tickets {
             gained: Vec::new(alloc),
@@ -156,10 +159,43 @@ impl Tickets {
         Ok(listed)
     }
 
+    /// Whether a place is owed a reschedule.
+    pub(crate) fn owes(&self, place: usize) -> bool
+        ensures { result ≡ owed_in place self.now.owes }
+    {
+        owed(&self.places, place)
+    }
+
+    /// The first place that is owed a reschedule.
+    pub(crate) fn first_owed(&self) -> Option<usize>
+        ensures { MatchOption result ((q : ℕ) → owed_in q self.now.owes ≡ false)
+            (λ place. (place < 65536) × (owed_in place self.now.owes ≡ true) × ((q : ℕ) → q < place → owed_in q self.now.owes ≡ false)) }
+    {
+        first_owed(&self.places)
+    }
+
+    /// Notes that a place is owed a reschedule. It takes no memory.
+    pub(crate) fn owe(&mut self, place: usize)
+        requires reached { place < self.old.room.reach }
+        ensures owes { (q : ℕ) → owed_in q self.new.owes ≡ (owed_in q self.old.owes || q == place) }
+        ensures same { (self.new.slow ≡ self.old.slow) × (self.new.fast ≡ self.old.fast) × (self.new.room ≡ self.old.room) }
+    {
+        set_owes(&mut self.places, place, true);
+    }
+
+    /// Notes that a place isn't owed a reschedule.
+    pub(crate) fn pay(&mut self, place: usize)
+        ensures owes { (q : ℕ) → owed_in q self.new.owes ≡ (owed_in q self.old.owes && not (q == place)) }
+        ensures same { (self.new.slow ≡ self.old.slow) × (self.new.fast ≡ self.old.fast) × (self.new.room ≡ self.old.room) }
+    {
+        set_owes(&mut self.places, place, false);
+    }
+
     /// Makes room for one more ticket at a place.
     pub(crate) fn reserve(&mut self, place: usize) -> Result<(), AllocError>
         requires { place < 65536 }
         ensures same { (self.new.slow ≡ self.old.slow) × (self.new.fast ≡ self.old.fast) }
+        ensures owes { (q : ℕ) → owed_in q self.new.owes ≡ owed_in q self.old.owes }
         ensures kept { KeepsRoom 0 self.old.room self.new.room }
         ensures room { OnOk result (HasRoom place self.new.room) }
         ensures lacked { OnErr result (HasRoom place self.old.room → ⊥) }
@@ -176,6 +212,7 @@ impl Tickets {
     pub(crate) fn reserve_many(&mut self, count: usize, places: usize) -> Result<(), AllocError>
         requires { places ≤ 65536 }
         ensures same { (self.new.slow ≡ self.old.slow) × (self.new.fast ≡ self.old.fast) }
+        ensures owes { (q : ℕ) → owed_in q self.new.owes ≡ owed_in q self.old.owes }
         ensures kept { KeepsRoom 0 self.old.room self.new.room }
         ensures room { OnOk result (HasRoomFor count places self.new.room) }
         ensures lacked { OnErr result (HasRoomFor count places self.old.room → ⊥) }
@@ -191,6 +228,7 @@ impl Tickets {
         requires slow { own_at place self.old.fast ≡ [] }
         ensures gained { self.new.slow ≡ self.old.slow ++ record { number = number; place = place; mode = mode; noted = note_at place self.old.slow } ∷ [] }
         ensures same { self.new.fast ≡ self.old.fast }
+        ensures owes { self.new.owes ≡ self.old.owes }
         ensures room { KeepsRoom 1 self.old.room self.new.room }
     {
         count_one(&mut self.places, place);
@@ -204,6 +242,7 @@ impl Tickets {
         requires below { are_below number (interleaved self.old.slow self.old.fast) ≡ true }
         ensures gained { self.new.fast ≡ self.old.fast ++ fast_own number place mode (first_note (own_at place self.old.fast ++ own_at place self.old.slow)) ∷ [] }
         ensures same { self.new.slow ≡ self.old.slow }
+        ensures owes { self.new.owes ≡ self.old.owes }
         ensures room { KeepsRoom 1 self.old.room self.new.room }
     {
         count_one(&mut self.places, place);
@@ -216,7 +255,8 @@ impl Tickets {
     /// Removes the ticket with a number at a place, if there is one.
     pub(crate) fn strike(&mut self, place: usize, id: TicketId)
         ensures struck { (self.new.slow ≡ without_at place id self.old.slow) × (self.new.fast ≡ without_at place id self.old.fast) }
-        ensures freed { (t : Own) → numbered id self.old.fast ≡ Some t → t.place ≡ place → self.old.room.spare < self.new.room.spare }
+        ensures freed { (t : Own) → numbered id self.old.fast ≡ Some t → t.place ≡ place → (self.old.room.spare < self.new.room.spare) × (place < self.new.room.reach) }
+        ensures owes { self.new.owes ≡ self.old.owes }
         ensures room { KeepsRoom 0 self.old.room self.new.room }
     {
         let Some(fast) = last_at(&self.gained, place, id) else {
@@ -234,7 +274,8 @@ impl Tickets {
     #[inline(never)]
     fn strike_earlier(&mut self, place: usize, id: TicketId)
         ensures struck { (self.new.slow ≡ without_at place id self.old.slow) × (self.new.fast ≡ without_at place id self.old.fast) }
-        ensures freed { (t : Own) → numbered id self.old.fast ≡ Some t → t.place ≡ place → self.old.room.spare < self.new.room.spare }
+        ensures freed { (t : Own) → numbered id self.old.fast ≡ Some t → t.place ≡ place → (self.old.room.spare < self.new.room.spare) × (place < self.new.room.reach) }
+        ensures owes { self.new.owes ≡ self.old.owes }
         ensures room { KeepsRoom 0 self.old.room self.new.room }
     {
         if let Some(at) = index_at(&self.gained, place, id) {
@@ -252,6 +293,7 @@ impl Tickets {
     pub(crate) fn set_mode(&mut self, place: usize, id: TicketId, mode: Mode)
         requires slow { numbered id self.old.fast ≡ None }
         ensures changed { (self.new.slow ≡ in_mode_at place id mode self.old.slow) × (self.new.fast ≡ self.old.fast) }
+        ensures owes { self.new.owes ≡ self.old.owes }
         ensures room { KeepsRoom 0 self.old.room self.new.room }
     {
         if let Some(at) = index_at(&self.gained, place, id) {
@@ -263,6 +305,7 @@ impl Tickets {
     pub(crate) fn make_slow(&mut self, place: usize)
         ensures slow { self.new.slow ≡ interleaved self.old.slow (own_at place self.old.fast) }
         ensures fast { self.new.fast ≡ but_at place self.old.fast }
+        ensures owes { self.new.owes ≡ self.old.owes }
         ensures room { KeepsRoom 0 self.old.room self.new.room }
     {
         self.fast -= clear_fast(&mut self.places, place);
@@ -272,6 +315,7 @@ impl Tickets {
     /// Notes a version under each ticket at a place.
     pub(crate) fn note_all(&mut self, place: usize, version: u64)
         ensures noted { (self.new.slow ≡ noting_version place version self.old.slow) × (self.new.fast ≡ noting_version place version self.old.fast) }
+        ensures owes { self.new.owes ≡ self.old.owes }
         ensures room { KeepsRoom 0 self.old.room self.new.room }
     {
         note(&mut self.places, place, version);
@@ -436,13 +480,28 @@ fn note_counted(places: &[OfPlace], place: usize) -> Option<u64>
     if here.tickets > 0 { here.noted } else { None }
 }
 
-// Adds places without tickets until there are at least `count`.
+// Whether a place is owed a reschedule.
+fn owed(places: &[OfPlace], place: usize) -> bool
+    ensures { result ≡ owed_in place (flags_of places.now) }
+{
+    places.get(place).map_or(false, |here| here.owes)
+}
+
+// The first place that is owed a reschedule.
+fn first_owed(places: &[OfPlace]) -> Option<usize>
+    ensures { result ≡ position (λ here. here.owes) places.now }
+{
+    places.iter().position(|here| here.owes)
+}
+
+// Adds places without tickets and debts until there are at least `count`.
 fn reach(places: &mut Vec<OfPlace>, count: usize) -> Result<(), AllocError>
     ensures length { length places.old.items ≤ length places.new.items }
     ensures narrow { count ≤ 65536 → length places.old.items ≤ 65536 → length places.new.items ≤ 65536 }
     ensures reach { OnOk result (count ≤ length places.new.items) }
     ensures lacked { OnErr result (length places.old.items < count) }
     ensures same { (q : ℕ) → AreAt q places.old.items places.new.items }
+    ensures owes { (q : ℕ) → owed_in q (flags_of places.new.items) ≡ owed_in q (flags_of places.old.items) }
 {
     if count <= places.len() {
         return Ok(());
@@ -451,11 +510,13 @@ fn reach(places: &mut Vec<OfPlace>, count: usize) -> Result<(), AllocError>
         tickets: 0,
         fast: 0,
         noted: None,
+        owes: false,
     };
     places.resize(count, none)
 }
 
 // Counts one more ticket at a place. The first one there has no note.
+#[tactic(auto, using(crate::proofs::OwedFlags::flags_kept))]
 fn count_one(places: &mut Vec<OfPlace>, place: usize)
     requires inside { place < length places.old.items }
     requires few { counted_at place places.old.items < 2 ^ 63 }
@@ -463,6 +524,7 @@ fn count_one(places: &mut Vec<OfPlace>, place: usize)
     ensures counted { (q : ℕ) → counted_at q places.new.items ≡ counted_at q places.old.items + (if q == place then 1 else 0) }
     ensures fast { (q : ℕ) → fast_counted_at q places.new.items ≡ fast_counted_at q places.old.items }
     ensures noted { (q : ℕ) → noted_in q places.new.items ≡ (if q == place && counted_at q places.old.items == 0 then None else noted_in q places.old.items) }
+    ensures owes { flags_of places.new.items ≡ flags_of places.old.items }
 {
     let here = &mut places[place];
     if here.tickets == 0 {
@@ -472,17 +534,21 @@ fn count_one(places: &mut Vec<OfPlace>, place: usize)
 }
 
 // Counts one ticket less at a place.
+#[tactic(auto, using(crate::proofs::OwedFlags::flags_kept))]
 fn uncount_one(places: &mut Vec<OfPlace>, place: usize)
     requires some { 0 < counted_at place places.old.items }
     ensures length { length places.new.items ≡ length places.old.items }
     ensures counted { (q : ℕ) → counted_at q places.old.items ≡ counted_at q places.new.items + (if q == place then 1 else 0) }
     ensures fast { (q : ℕ) → fast_counted_at q places.new.items ≡ fast_counted_at q places.old.items }
     ensures noted { (q : ℕ) → noted_in q places.new.items ≡ noted_in q places.old.items }
+    ensures owes { flags_of places.new.items ≡ flags_of places.old.items }
+    ensures inside { place < length places.new.items }
 {
     places[place].tickets -= 1;
 }
 
 // Counts one more of the tickets at a place as a fast one.
+#[tactic(auto, using(crate::proofs::OwedFlags::flags_kept))]
 fn count_fast(places: &mut Vec<OfPlace>, place: usize)
     requires inside { place < length places.old.items }
     requires few { fast_counted_at place places.old.items < 2 ^ 63 }
@@ -490,28 +556,33 @@ fn count_fast(places: &mut Vec<OfPlace>, place: usize)
     ensures counted { (q : ℕ) → counted_at q places.new.items ≡ counted_at q places.old.items }
     ensures fast { (q : ℕ) → fast_counted_at q places.new.items ≡ fast_counted_at q places.old.items + (if q == place then 1 else 0) }
     ensures noted { (q : ℕ) → noted_in q places.new.items ≡ noted_in q places.old.items }
+    ensures owes { flags_of places.new.items ≡ flags_of places.old.items }
 {
     places[place].fast += 1;
 }
 
 // Counts one fast ticket less at a place.
+#[tactic(auto, using(crate::proofs::OwedFlags::flags_kept))]
 fn uncount_fast(places: &mut Vec<OfPlace>, place: usize)
     requires some { 0 < fast_counted_at place places.old.items }
     ensures length { length places.new.items ≡ length places.old.items }
     ensures counted { (q : ℕ) → counted_at q places.new.items ≡ counted_at q places.old.items }
     ensures fast { (q : ℕ) → fast_counted_at q places.old.items ≡ fast_counted_at q places.new.items + (if q == place then 1 else 0) }
     ensures noted { (q : ℕ) → noted_in q places.new.items ≡ noted_in q places.old.items }
+    ensures owes { flags_of places.new.items ≡ flags_of places.old.items }
 {
     places[place].fast -= 1;
 }
 
 // Counts no ticket at a place as fast any more, and returns how many were.
+#[tactic(auto, using(crate::proofs::OwedFlags::flags_kept))]
 fn clear_fast(places: &mut Vec<OfPlace>, place: usize) -> usize
     ensures fast { result ≡ fast_counted_at place places.old.items }
     ensures length { length places.new.items ≡ length places.old.items }
     ensures counted { (q : ℕ) → counted_at q places.new.items ≡ counted_at q places.old.items }
     ensures cleared { (q : ℕ) → fast_counted_at q places.new.items ≡ (if q == place then 0 else fast_counted_at q places.old.items) }
     ensures noted { (q : ℕ) → noted_in q places.new.items ≡ noted_in q places.old.items }
+    ensures owes { flags_of places.new.items ≡ flags_of places.old.items }
 {
     if place < places.len() {
         let fast = places[place].fast;
@@ -523,13 +594,29 @@ fn clear_fast(places: &mut Vec<OfPlace>, place: usize) -> usize
 }
 
 // Notes a version at a place, if the list has this place.
+#[tactic(auto, using(crate::proofs::OwedFlags::flags_kept))]
 fn note(places: &mut Vec<OfPlace>, place: usize, version: u64)
     ensures length { length places.new.items ≡ length places.old.items }
     ensures counted { (q : ℕ) → counted_at q places.new.items ≡ counted_at q places.old.items }
     ensures fast { (q : ℕ) → fast_counted_at q places.new.items ≡ fast_counted_at q places.old.items }
     ensures noted { (q : ℕ) → 0 < counted_at q places.old.items → noted_in q places.new.items ≡ (if q == place then Some version else noted_in q places.old.items) }
+    ensures owes { flags_of places.new.items ≡ flags_of places.old.items }
 {
     if place < places.len() {
         places[place].noted = Some(version);
+    }
+}
+
+// Notes whether a place is owed a reschedule, if the list has this place.
+fn set_owes(places: &mut Vec<OfPlace>, place: usize, owes: bool)
+    ensures length { length places.new.items ≡ length places.old.items }
+    ensures counted { (q : ℕ) → counted_at q places.new.items ≡ counted_at q places.old.items }
+    ensures fast { (q : ℕ) → fast_counted_at q places.new.items ≡ fast_counted_at q places.old.items }
+    ensures noted { (q : ℕ) → noted_in q places.new.items ≡ noted_in q places.old.items }
+    ensures owes { (q : ℕ) → owed_in q (flags_of places.new.items)
+        ≡ (if q == place && nat_lt place (length places.old.items) then owes else owed_in q (flags_of places.old.items)) }
+{
+    if place < places.len() {
+        places[place].owes = owes;
     }
 }

@@ -5,7 +5,7 @@ ghost use Rattle.mdl.specs.mdl_shared.SessionViews.{space_of};
 
 use crate::requests::Request;
 use crate::work::answer_all;
-use mdl::{LockSpace, Manager, OwnedRunner, Pass, Session};
+use mdl::{CloseError, LockSpace, Manager, OwnedRunner, Pass, Session};
 use std::alloc::{AllocError, Global};
 use std::sync::Wait;
 
@@ -26,7 +26,7 @@ pub fn serve<R: Wait>(
     let mut session = Session::open(rt, manager, pass);
     let who = session.number();
     let end = work(alloc, &mut session, who, requests, &mut text);
-    close(session);
+    close(rt, session);
     match end {
         Ok(()) => Ok(text),
         Err(error) => Err(error),
@@ -53,12 +53,20 @@ fn work<S: LockSpace>(
     end
 }
 
-// Closes a session that has nothing.
-fn close<R: Drop>(session: Session<R>)
+// Closes a session that has nothing. If it owed a place a reschedule, after a fast release, it would make that first.
+fn close<R: Wait + Drop>(rt: &impl Wait, session: Session<R>)
     requires { (space_of session).own ≡ record { held = []; wait = None } }
 {
-    match session.close() {
-        Ok(_pass) => {}
-        Err(_open) => unreachable!(),
+    let mut session = session;
+    for _ in rt.forever() {
+        match session.close() {
+            Ok(_pass) => return,
+            Err(CloseError::HoldsTickets(_open)) => unreachable!(),
+            Err(CloseError::Owes(open, place)) => {
+                session = open;
+                session.reschedule(place);
+            }
+        }
     }
+    unreachable!()
 }

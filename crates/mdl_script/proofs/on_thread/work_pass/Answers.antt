@@ -1,7 +1,12 @@
--- The session that was opened has nothing, and its pass comes back.
+-- The session that was opened has nothing at the end, and its pass comes back.
 use Rattle.mdl_script.specs.Answers.{options_of}
-use Rattle.mdl_script.proofs.ThreadLemmas.{answers-are, closed-answers, closed-number, closed-there}
+use Rattle.mdl_script.proofs.ThreadLemmas.{answers-are, closed-answers, closed-number, closed-there, paid_behind}
 use Rattle.mdl_script.proofs.on_thread.work_pass.Goals as goal
+
+pub close-pass-requires-clause-paid : goal.close-pass-requires-clause-paid
+close-pass-requires-clause-paid g c =
+    paid_behind (options_of c.args.patience c.args.cache) c.args.script.now c.number-who.result c.open-session.result c.work-answers.new.space c.work-answers.result
+    c.work-answers.ensures.reads c.open-session.ensures.paid
 
 pub returns : goal.returns
 returns g c =

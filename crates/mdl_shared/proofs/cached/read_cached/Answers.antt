@@ -4,13 +4,14 @@ use Rattle.mdl_calls.specs.Words.{AreMet}
 use Rattle.mdl_defs.specs.Caches.{CacheView}
 use Rattle.mdl_session_laws.specs.SessionSpaces.{HasMet}
 use Rattle.mdl_shared.specs.SessionViews.{SessionView, space_of}
+use Rattle.mdl_shared.proofs.Debts.{owed-both, owed-on}
 use Rattle.mdl_shared.proofs.KeptCalls.{after, between, looked-same, seat-finds, seat-joins, seat-met, seat-reads, unfound-met}
 use Rattle.mdl_shared.proofs.MemberFacts.{place-within, ticket-known}
 use Rattle.mdl_shared.proofs.Members.{held-seen, room-kept}
 use Rattle.mdl_shared.proofs.Members.{kept as kept-sound}
 use Rattle.mdl_shared.proofs.Props.{member}
-use Rattle.mdl_shared.proofs.ReadCalls.{lists-noted, noted-order}
-use Rattle.mdl_shared.proofs.VersionCalls.{found-noted, version-done, version-lists}
+use Rattle.mdl_shared.proofs.ReadCalls.{lists-noted, noted-order, noted-owes}
+use Rattle.mdl_shared.proofs.VersionCalls.{found-noted, version-done, version-lists, version-owes}
 use Rattle.mdl_shared.proofs.WaitSteps.{still-member}
 use Rattle.mdl_shared.proofs.cached.read_cached.Goals as goal
 use Rattle.mdl_shared.proofs.cached.read_cached.Goals.{in-Some-look, in-None-look}
@@ -49,6 +50,7 @@ invariant_of-member g c =
       lawful = ∣ kept-sound (member m) (noted-order (found-noted finds) (member m)) (seat-joins m c.args.id t its kept met read.new.self read.result d hit read.ensures.newest read.ensures.one made room keeps) ∣₁;
       lists = lists-noted m (found-noted finds) refl c.note_all.ensures.noted;
       room = λ ask asks. room-kept m.tickets c.note_all.new.self keeps (m.room ask asks);
+      owed = owed-both m c.note_all.ensures.owes (noted-owes (found-noted finds));
     }
 
 pub invariant_of-member-in-None-look : goal.invariant_of-member-in-None-look
@@ -61,6 +63,7 @@ invariant_of-member-in-None-look g c =
       lawful = ∣ still-member done (member m) ∣₁;
       lists = m.lists ∙ sym (version-lists m.seat read.new.self c.in-Some.held.place read.result made);
       room = m.room;
+      owed = owed-on m (version-owes m.seat read.new.self c.in-Some.held.place read.result made);
     }
 
 pub returns-after-look : goal.returns-after-look

@@ -8,6 +8,7 @@ use Rattle.mdl_visits.specs.Visits.{AreStepsOf, MeetsBlocked}
 use Rattle.mdl_visits.specs.WaitOpenings.{MeetsOpening}
 use Rattle.mdl_shared.specs.SessionViews.{Lists, SessionView, lists_seen}
 use Rattle.mdl_shared.specs.TicketLists.{HasRoom}
+use Rattle.mdl_shared.proofs.Debts.{owed-both, owed-on, owed-visited, visited-owes}
 use Rattle.mdl_shared.proofs.Members.{done-order, kept, lists-done, lists-visited, visited}
 use Rattle.mdl_shared.proofs.Props.{member}
 use Rattle.mdl_shared.proofs.QuietDeeds.{quiet-visit}
@@ -44,6 +45,7 @@ invariant_of-self-in-Err-1 g c =
       lawful = ∣ still-member done (member m) ∣₁;
       lists = lists-done m c.args.place [] (lists-visited visit) refl refl;
       room = m.room;
+      owed = owed-visited m visit;
     }
 
 -- ---- the ticket was granted
@@ -70,6 +72,7 @@ invariant_of-self g c =
       lawful = ∣ kept (member m) (done-order done (member m) (inl may.wish.idle)) (begin-granted (member m) c.args.place c.args.mode may.clear (ap (λ (l : Lists). l.next) m.lists) done) ∣₁;
       lists = lists-done m c.args.place (Gain m.next c.args.mode ∷ []) (lists-visited visit) c.push_reserved.ensures.gained c.push_reserved.ensures.same;
       room = unasked m may.wish.idle _;
+      owed = owed-both m c.push_reserved.ensures.owes (visited-owes visit);
     }
 
 pub returns-in-Ok-Granted : goal.returns-in-Ok-Granted
@@ -98,6 +101,7 @@ invariant_of-self-2 g c =
       lawful = ∣ kept (member m) (begun-order (member m) may.clear now (unfast-seen m c.requires.unfast)) (begun-joins (member m) may.clear now refl) ∣₁;
       lists = waiting-lists m c.args.place c.args.mode ∙ sym (ap (λ (x : SessionView). lists_seen x.me.0) now);
       room = λ ask asks. let place : c.args.place ≡ ask.place = ap (λ (o : Option Ask). option_map_or (λ (a : Ask). a.place) o 0) asks in subst (λ (p : ℕ). HasRoom p m.tickets.room) place c.requires.room;
+      owed = owed-on m (ap (λ (x : SessionView). x.me.0.owes) now);
     }
 
 pub returns : goal.returns

@@ -4,6 +4,7 @@ use Rattle.mdl_steps.specs.declared.deed.Deed.TheVariants.{Gain}
 use Rattle.mdl_shared.specs.Modes.{clone_fault}
 use Rattle.mdl_shared.specs.SessionViews.{Lists}
 use Rattle.mdl_shared.proofs.CloneCalls.{clone-joins}
+use Rattle.mdl_shared.proofs.Debts.{owed-both, owed-visited, visited-owes}
 use Rattle.mdl_shared.proofs.Fitting.{fit_there}
 use Rattle.mdl_shared.proofs.Members.{done-order, kept, lists-done, lists-visited, visited}
 use Rattle.mdl_shared.proofs.Props.{member}
@@ -38,6 +39,7 @@ invariant_of-self g c =
       lawful = ∣ still-member (visited m.seat c.clone_ticket.new.seat m.sessions refl visit) (member m) ∣₁;
       lists = lists-done m c.args.held.place [] (lists-visited visit) refl refl;
       room = m.room;
+      owed = owed-visited m visit;
     }
 
 -- ---- it is made
@@ -66,4 +68,5 @@ invariant_of-self-2 g c =
       lawful = ∣ kept is (done-order done is (inl idle)) (clone-joins is t.number c.args.mode clear t its (ap (λ (l : Lists). l.next) m.lists) done) ∣₁;
       lists = lists-done m t.place (Gain m.next c.args.mode ∷ []) (lists-visited visit) c.push_reserved.ensures.gained c.push_reserved.ensures.same;
       room = unasked m idle _;
+      owed = owed-both m c.push_reserved.ensures.owes (visited-owes visit);
     }

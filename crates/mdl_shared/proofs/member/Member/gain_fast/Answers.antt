@@ -3,6 +3,7 @@ use Rattle.std.proofs.Common.{◌≡◌, inl, ℕ, ◌==◌, true, List, [], ◌
 use Rattle.std.proofs.lemmas.Bool.{eq-eqb}
 use Rattle.mdl_steps.specs.Cells.{own_at}
 use Rattle.mdl_steps.specs.FastPlays.{fast_own, first_note}
+use Rattle.mdl_steps.specs.Plays.{Mine}
 use Rattle.mdl_steps.specs.declared.deed.Deed.TheVariants.{Gain}
 use Rattle.mdl_steps.specs.declared.view.Own.{Own}
 use Rattle.mdl_steps.specs.SeatStates.{AtItsTable, SeatState}
@@ -13,6 +14,7 @@ use Rattle.mdl_visits.specs.Visits.{MakesSteps}
 use Rattle.mdl_shared.specs.DeedsDone.{DoesQuietly}
 use Rattle.mdl_shared.specs.Passes.{view_of}
 use Rattle.mdl_shared.specs.SessionViews.{Lists, session_at}
+use Rattle.mdl_shared.proofs.Debts.{owed-both, owed-stepped}
 use Rattle.mdl_shared.proofs.FastDone.{fast-granted, lists-granted}
 use Rattle.mdl_shared.proofs.FastFacts.{may-ask-fast}
 use Rattle.mdl_shared.proofs.Members.{done-order, kept}
@@ -57,6 +59,7 @@ invariant_of-self c =
       lawful = ∣ still-member (quiet-made {place = 0} m.seat c.try_fast.new.seat m.sessions made).done (member m) ∣₁;
       lists = lists-made m c.try_fast.new.seat made;
       room = m.room;
+      owed = owed-stepped m made.1;
     }
 
 pub invariant_of-self-in-Contended-1 : goal.invariant_of-self-in-Contended-1
@@ -66,6 +69,7 @@ invariant_of-self-in-Contended-1 c =
       lawful = ∣ still-member (quiet-made {place = 0} m.seat c.try_fast.new.seat m.sessions made).done (member m) ∣₁;
       lists = lists-made m c.try_fast.new.seat made;
       room = m.room;
+      owed = owed-stepped m made.1;
     }
 
 pub returns-in-Obtruded-clause-unchanged : goal.returns-in-Obtruded-clause-unchanged
@@ -104,6 +108,7 @@ invariant_of-self-2 c =
       lists = lists-granted m c.try_fast.new.seat granted.0 c.push_fast.ensures.same
           (c.push_fast.ensures.gained ∙ ap (λ (n : Option ℕ). m.tickets.fast ++ fast_own m.next c.args.place c.args.mode n ∷ []) (sym c.note_of-noted.ensures));
       room = unasked m may.idle _;
+      owed = owed-both m c.push_fast.ensures.owes (ap (λ (x : Mine). x.0.owes) granted.0.1.now);
     }
 
 pub returns-clause-granted : goal.returns-clause-granted

@@ -1,5 +1,5 @@
 -- The ticket is released, and its place is rescheduled where that is owed.
-use Rattle.std.proofs.Common.{◌≡◌, List, [], ◌∷◌, Some, refl, sym, ap, ◌∙◌}
+use Rattle.std.proofs.Common.{◌≡◌, List, [], ◌∷◌, Some, refl, sym, ap, subst, ◌∙◌}
 use Rattle.mdl_steps.specs.declared.deed.Deed.TheVariants.{Lose}
 use Rattle.mdl_steps.specs.declared.view.Known.{Known}
 use Rattle.mdl_visits.specs.Numbers.{numbered}
@@ -7,17 +7,18 @@ use Rattle.mdl_visits.proofs.Doing.{does_reschedule}
 use Rattle.mdl_visits.proofs.Steps.{does_then}
 use Rattle.mdl_shared.specs.Members.{is_known_place}
 use Rattle.mdl_shared.specs.Passes.{view_of}
-use Rattle.mdl_shared.specs.SessionViews.{Lists}
-use Rattle.mdl_shared.proofs.FastReleases.{done-before, gives-up, gives-up_after}
+use Rattle.mdl_shared.specs.SessionViews.{Lists, SessionView, session_at}
+use Rattle.mdl_shared.specs.Showings.{GivesUpFast}
+use Rattle.mdl_shared.specs.TicketLists.{KeepsRoom, Room}
+use Rattle.mdl_shared.proofs.FastReleases.{done-before, gives-up, gives-up_after, gone-quiet, paid-after}
 use Rattle.mdl_shared.proofs.MemberFacts.{fast-held, may-visit, ticket-known}
-use Rattle.mdl_shared.proofs.Members.{done-rest, lists-rescheduled, rescheduled}
+use Rattle.mdl_shared.proofs.Members.{HasDone, done-rest, rescheduled}
 use Rattle.mdl_shared.proofs.Props.{member}
 use Rattle.mdl_shared.proofs.Rooms.{keeps-freed}
-use Rattle.mdl_shared.proofs.WaitSteps.{still-member}
 use Rattle.mdl_shared.proofs.member.Member.give_up_fast.Goals as goal
 
-pub reschedule-requires : goal.reschedule-requires
-reschedule-requires g c =
+pub pay-requires : goal.pay-requires
+pay-requires g c =
     let m = c.args.self.now in
     let mid = c.lose_fast.new.self in
     let t = c.args.held in
@@ -26,29 +27,25 @@ reschedule-requires g c =
     let same = (done-rest c.lose_fast.ensures.lost.done).known in
     record { at = may-visit (member mid) t.place (ap (λ (ks : List Known). is_known_place ks t.place) same ∙ known) }
 
-pub invariant_of-self : goal.invariant_of-self
-invariant_of-self g c =
-    let mid = c.lose_fast.new.self in
-    let visit = c.reschedule.ensures.rescheduled in
-    let done = rescheduled {place = c.args.held.place} {ds = []} mid.seat c.reschedule.new.seat mid.sessions {room = mid.tickets.room} {room′ = mid.tickets.room} refl visit in record {
-      lawful = ∣ still-member done (member mid) ∣₁;
-      lists = mid.lists ∙ sym (lists-rescheduled visit);
-      room = mid.room;
-    }
-
 pub returns-then-lose_fast : goal.returns-then-lose_fast
 returns-then-lose_fast g c =
     let m = c.args.self.now in
     let mid = c.lose_fast.new.self in
-    let visit = c.reschedule.ensures.rescheduled in
+    let end = c.pay.new.self in
+    let visit = c.pay.ensures.rescheduled in
     let lost = c.lose_fast.ensures.lost in
+    let released = c.lose_fast.ensures.released in
     let t = c.args.held in
-    let later = rescheduled {place = t.place} {ds = []} mid.seat c.reschedule.new.seat mid.sessions {room = mid.tickets.room} {room′ = mid.tickets.room} refl visit in
+    let now : session_at end.seat mid.sessions mid.tickets.room ≡ view_of end = λ i. session_at end.seat (sym c.pay.ensures.same.0 i) (sym c.pay.ensures.same.1 i) in
+    let later = rescheduled {place = t.place} {ds = []} mid.seat end.seat mid.sessions {room = mid.tickets.room} {room′ = mid.tickets.room} refl visit in
+    let less = paid-after (view_of m) (view_of mid) t c.lose_fast.result released c.if-lose_fast.true visit in
     record {
-      lost = done-before lost.done later;
-      did = does_then (Lose t.number ∷ []) [] m.seat.me mid.seat.me c.reschedule.new.seat.me lost.did (does_reschedule mid.seat.me c.reschedule.new.seat.me mid.seat.table t.place [] visit.1);
-      given_up = gives-up_after (view_of m) (view_of mid) t c.lose_fast.result c.lose_fast.ensures.released lost.done c.if-lose_fast.true visit c.reschedule.ensures.once;
-      room = keeps-freed m.tickets.room mid.tickets.room c.lose_fast.ensures.room.0 c.lose_fast.ensures.room.1;
+      lost = subst (λ (s : SessionView). HasDone t.place (Lose t.number ∷ []) (view_of m) s) now (done-before lost.done later less);
+      did = does_then (Lose t.number ∷ []) [] m.seat.me mid.seat.me end.seat.me lost.did (does_reschedule mid.seat.me end.seat.me mid.seat.table t.place [] visit.1);
+      given_up = subst (λ (s : SessionView). GivesUpFast t.number (view_of m) s t) now
+          (gives-up_after (view_of m) (view_of mid) t c.lose_fast.result released lost.done c.if-lose_fast.true visit c.pay.ensures.once);
+      room = subst (λ (r : Room). KeepsRoom 0 m.tickets.room r) (sym c.pay.ensures.same.1)
+          (keeps-freed m.tickets.room mid.tickets.room c.lose_fast.ensures.room.0 c.lose_fast.ensures.room.1);
     }
 
 pub returns-else-lose_fast : goal.returns-else-lose_fast
@@ -56,9 +53,10 @@ returns-else-lose_fast g c =
     let m = c.args.self.now in
     let mid = c.lose_fast.new.self in
     let lost = c.lose_fast.ensures.lost in
+    let released = c.lose_fast.ensures.released in
     record {
-      lost = lost.done;
+      lost = gone-quiet (view_of m) (view_of mid) c.args.held c.lose_fast.result released lost.done c.if-lose_fast.false;
       did = lost.did;
-      given_up = gives-up (view_of m) (view_of mid) c.args.held c.lose_fast.result c.lose_fast.ensures.released c.if-lose_fast.false;
+      given_up = gives-up (view_of m) (view_of mid) c.args.held c.lose_fast.result released c.if-lose_fast.false;
       room = keeps-freed m.tickets.room mid.tickets.room c.lose_fast.ensures.room.0 c.lose_fast.ensures.room.1;
     }

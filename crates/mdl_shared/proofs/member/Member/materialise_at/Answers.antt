@@ -1,7 +1,9 @@
 -- The fast tickets of the place are slow ones then, or stay as they were for want of room.
 use Rattle.std.proofs.Common.{is_some, inl, inr, refl, sym, ap, ◌∙◌}
 use Rattle.std.proofs.lemmas.Bool.{false≢true}
+use Rattle.mdl_steps.specs.Plays.{Mine}
 use Rattle.mdl_shared.specs.Passes.{view_of}
+use Rattle.mdl_shared.proofs.Debts.{owed-both, owed-stepped}
 use Rattle.mdl_shared.proofs.FastDone.{fast-materialised, lists-materialised}
 use Rattle.mdl_shared.proofs.FastFacts.{kind-of-fast, may-make-slow, some-seen}
 use Rattle.mdl_shared.proofs.Members.{room-kept}
@@ -51,6 +53,7 @@ invariant_of-self g c =
       lawful = ∣ still-member (quiet-made {place = 0} m.seat c.materialise.new.seat m.sessions {room = m.tickets.room} {room′ = m.tickets.room} made).done (member m) ∣₁;
       lists = lists-made m c.materialise.new.seat made;
       room = m.room;
+      owed = owed-stepped m made.1;
     }
 
 pub returns-in-Err-clause-stops : goal.returns-in-Err-clause-stops
@@ -70,6 +73,7 @@ invariant_of-self-2 g c =
       lawful = ∣ still-member (fast-materialised m.seat c.materialise.new.seat m.sessions (member m) moved).done (member m) ∣₁;
       lists = lists-materialised m c.materialise.new.seat moved c.make_slow.ensures.slow c.make_slow.ensures.fast;
       room = λ ask asks. room-kept m.tickets c.make_slow.new.self c.make_slow.ensures.room (m.room ask asks);
+      owed = owed-both m c.make_slow.ensures.owes (ap (λ (x : Mine). x.0.owes) moved.1.now);
     }
 
 pub returns-clause-done : goal.returns-clause-done

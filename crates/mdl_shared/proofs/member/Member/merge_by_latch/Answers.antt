@@ -4,6 +4,7 @@ use Rattle.mdl_steps.specs.declared.deed.Deed.TheVariants.{Alter, Lose}
 use Rattle.mdl_shared.specs.Members.{without_at}
 use Rattle.mdl_shared.specs.Modes.{merge_fault}
 use Rattle.mdl_shared.specs.SessionViews.{Lists}
+use Rattle.mdl_shared.proofs.Debts.{owed-both, visited-owes}
 use Rattle.mdl_shared.proofs.MemberFacts.{merges-slow, spared}
 use Rattle.mdl_shared.proofs.Members.{done-order, fast-struck, kept, lists-done, lists-visited, room-kept, unnumbered, visited}
 use Rattle.mdl_shared.proofs.Props.{member}
@@ -55,6 +56,7 @@ invariant_of-self g c =
           (c.strike.ensures.struck.1 ∙ ap (without_at t.place gone.number) c.set_mode.ensures.changed.1));
       room = λ ask asks.
           room-kept c.set_mode.new.self c.strike.new.self c.strike.ensures.room (room-kept m.tickets c.set_mode.new.self c.set_mode.ensures.room (m.room ask asks));
+      owed = owed-both m (c.strike.ensures.owes ∙ c.set_mode.ensures.owes) (visited-owes visit);
     }
 
 pub returns-clause-merged : goal.returns-clause-merged

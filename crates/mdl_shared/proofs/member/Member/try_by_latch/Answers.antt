@@ -2,6 +2,7 @@
 use Rattle.std.proofs.Common.{Ok, [], ap, arith, inl, refl, ◌∙◌, ◌∷◌}
 use Rattle.mdl_shared.specs.SessionViews.{Lists}
 use Rattle.mdl_steps.specs.declared.deed.Deed.TheVariants.{Gain}
+use Rattle.mdl_shared.proofs.Debts.{owed-both, owed-visited, visited-owes}
 use Rattle.mdl_shared.proofs.Members.{done-order, kept, lists-done, lists-visited, visited}
 use Rattle.mdl_shared.proofs.Props.{member}
 use Rattle.mdl_shared.proofs.QuietDeeds.{quiet-visit}
@@ -41,6 +42,7 @@ invariant_of-self g c =
       lawful = ∣ still-member done (member m) ∣₁;
       lists = lists-done m c.args.place [] (lists-visited visit) refl refl;
       room = m.room;
+      owed = owed-visited m visit;
     }
 
 pub returns-in-Ok-Blocked : goal.returns-in-Ok-Blocked
@@ -66,6 +68,7 @@ invariant_of-self-in-Err-1 g c =
       lawful = ∣ still-member done (member m) ∣₁;
       lists = lists-done m c.args.place [] (lists-visited visit) refl refl;
       room = m.room;
+      owed = owed-visited m visit;
     }
 
 pub invariant_of-self-2 : goal.invariant_of-self-2
@@ -78,6 +81,7 @@ invariant_of-self-2 g c =
       lawful = ∣ kept (member m) (done-order done (member m) (inl may.wish.idle)) (try-granted (member m) c.args.place c.args.mode may.clear (ap (λ (l : Lists). l.next) m.lists) done) ∣₁;
       lists = lists-done m c.args.place (Gain m.next c.args.mode ∷ []) (lists-visited visit) c.push_reserved.ensures.gained c.push_reserved.ensures.same;
       room = unasked m may.wish.idle _;
+      owed = owed-both m c.push_reserved.ensures.owes (visited-owes visit);
     }
 
 pub returns : goal.returns

@@ -30,6 +30,7 @@ invariant_of-self g c =
       lawful = ∣ member-room (member m) c.reserve.new.self.room ∣₁;
       lists = lists-done m c.args.place [] refl same.0 same.1;
       room = λ ask asks. (let no = sym asks ∙ c.requires.idle in cc);
+      owed = λ q. c.reserve.ensures.owes q ∙ m.owed q;
     }
 
 pub returns-in_err-materialise : goal.returns-in_err-materialise

@@ -3,6 +3,7 @@ use Rattle.std.proofs.Common.{Some, [], ◌∷◌, inr, refl, sym, ap, ◌∙◌
 use Rattle.mdl_steps.specs.declared.deed.Deed.TheVariants.{Alter}
 use Rattle.mdl_shared.specs.SessionViews.{Lists}
 use Rattle.mdl_shared.specs.Upgrades.{upgrade_fault}
+use Rattle.mdl_shared.proofs.Debts.{owed-both, owed-visited, visited-owes}
 use Rattle.mdl_shared.proofs.MemberFacts.{alters-slow, spared}
 use Rattle.mdl_shared.proofs.Members.{done-order, kept, lists-done, lists-visited, room-kept, unnumbered, visited}
 use Rattle.mdl_shared.proofs.Membership.{kind_there}
@@ -46,6 +47,7 @@ invariant_of-self g c =
       lawful = ∣ still-member (visited m.seat c.upgrade_now.new.seat m.sessions refl visit) (member m) ∣₁;
       lists = lists-done m c.args.held.place [] (lists-visited visit) refl refl;
       room = m.room;
+      owed = owed-visited m visit;
     }
 
 -- ---- it has the mode
@@ -70,6 +72,7 @@ invariant_of-self-2 g c =
           (ap (upgrade_fault c.args.mode m.seat.me.0.known m.seat.me.0.asks) held.0.its ∙ clear) c.requires.short done) ∣₁;
       lists = lists-done m t.place (Alter t.number c.args.mode ∷ []) (lists-visited visit) c.set_mode.ensures.changed.0 c.set_mode.ensures.changed.1;
       room = λ ask asks. room-kept m.tickets c.set_mode.new.self c.set_mode.ensures.room (m.room ask asks);
+      owed = owed-both m c.set_mode.ensures.owes (visited-owes visit);
     }
 
 pub returns-clause-upgraded : goal.returns-clause-upgraded

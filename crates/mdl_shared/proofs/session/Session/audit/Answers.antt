@@ -2,6 +2,7 @@
 use Rattle.std.proofs.Common.{ap, refl, sym, ◌∙◌}
 use Rattle.mdl_steps.specs.Plays.{Mine}
 use Rattle.mdl_shared.specs.SessionViews.{lists_seen}
+use Rattle.mdl_shared.proofs.Debts.{owed-on}
 use Rattle.mdl_shared.proofs.Props.{member}
 use Rattle.mdl_shared.proofs.WaitSteps.{quietly, still-member}
 use Rattle.mdl_shared.proofs.session.Session.audit.Goals as goal
@@ -14,4 +15,4 @@ invariant_of-self-inside g c =
     let m = c.self.inside.member in
     let did = c.audit.ensures.steps in
     let done = quietly m.sessions did.0 did.1.1 (λ state told. told) (λ none. refl) in
-    (∣ still-member done (member m) ∣₁, (m.lists ∙ sym (ap (λ (x : Mine). lists_seen x.0) did.1.1), (m.room, tt)))
+    (∣ still-member done (member m) ∣₁, (m.lists ∙ sym (ap (λ (x : Mine). lists_seen x.0) did.1.1), (m.room, (owed-on m (ap (λ (x : Mine). x.0.owes) did.1.1), tt))))

@@ -6,10 +6,11 @@ use Rattle.mdl_key.specs.Words.{same_mode}
 use Rattle.mdl_calls.specs.declared.space_error.SpaceError.TheVariants.{NotExclusive, NotHeld}
 use Rattle.mdl_visits.specs.Redefinitions.{exclusive_fault}
 use Rattle.mdl_shared.specs.SessionViews.{session_at}
+use Rattle.mdl_shared.proofs.Debts.{owed-both, owed-visited}
 use Rattle.mdl_shared.proofs.MemberFacts.{may-visit, slow-apart, ticket-known}
 use Rattle.mdl_shared.proofs.Members.{done-nothing, done-order, held-seen, kept, lists-done, lists-visited, room-kept, visited}
 use Rattle.mdl_shared.proofs.Props.{member}
-use Rattle.mdl_shared.proofs.ReadCalls.{change-joins, lists-noted, noted-by, noted-order, unchanged-joins, unchanged-shows, unfit-joins}
+use Rattle.mdl_shared.proofs.ReadCalls.{change-joins, lists-noted, noted-by, noted-order, noted-owes, unchanged-joins, unchanged-shows, unfit-joins}
 use Rattle.mdl_shared.proofs.Rooms.{keeps-same}
 use Rattle.mdl_shared.proofs.SlowOrFast.{exclusive-slow}
 use Rattle.mdl_shared.proofs.session.Session.change_definition.Goals as goal
@@ -48,7 +49,7 @@ invariant_of-member g c =
     let visit = did.unchanged in
     let done = visited m.seat c.change_definition.new.seat m.sessions refl visit in
     let joins = unchanged-joins is c.args.id t its (session_at c.change_definition.new.seat m.sessions m.tickets.room) c.args.change.now (ap (λ (mode : Mode). same_mode mode X) own) (done-nothing done) c.in-Err.why did.refused in
-    record { lawful = ∣ kept is (done-order done is (inr refl)) joins ∣₁; lists = lists-done m t.place [] (lists-visited visit) refl refl; room = m.room }
+    record { lawful = ∣ kept is (done-order done is (inr refl)) joins ∣₁; lists = lists-done m t.place [] (lists-visited visit) refl refl; room = m.room; owed = owed-visited m visit }
 
 pub returns-in-Err : goal.returns-in-Err
 returns-in-Err g c =
@@ -80,6 +81,7 @@ invariant_of-member-2 g c =
       lawful = ∣ kept is (noted-order noted is) joins ∣₁;
       lists = lists-noted m noted changed.1.1 c.note_all.ensures.noted;
       room = λ ask asks. room-kept m.tickets c.note_all.new.self c.note_all.ensures.room (m.room ask asks);
+      owed = owed-both m c.note_all.ensures.owes (noted-owes noted);
     }
 
 pub returns-clause-joined : goal.returns-clause-joined

@@ -1,8 +1,12 @@
--- A session that is closed has no ticket, slow or fast.
-use Rattle.std.proofs.Common.{◌≡◌, length, sym, ◌∙◌, arith}
+-- A session that is closed has no ticket, slow or fast, and owes nothing. One that isn't has one, or owes a place a reschedule.
+use Rattle.std.proofs.Common.{◌≡◌, length, refl, sym, ◌∙◌, arith}
 use Rattle.std.proofs.lemmas.Bool.{eqb-true}
 use Rattle.mdl_steps.specs.Interleavings.{interleaved}
 use Rattle.mdl_steps.proofs.Interleaving.{length-interleaved}
+use Rattle.mdl_shared.proofs.ClosedSessions.{has-nothing}
+use Rattle.mdl_shared.proofs.Debts.{none-owed}
+use Rattle.mdl_shared.proofs.Props.{member}
+use Rattle.mdl_shared.proofs.SpaceLists.{known-told}
 use Rattle.mdl_shared.proofs.session.Session.close.Goals as goal
 
 pub invariant_of-result-clause-empty : goal.invariant_of-result-clause-empty
@@ -11,3 +15,20 @@ invariant_of-result-clause-empty g c =
     let none : length (interleaved list.slow list.fast) ≡ 0 = eqb-true (length (interleaved list.slow list.fast)) 0 (sym c.is_empty.ensures ∙ c.if-not-is_empty.false) in
     let parts = length-interleaved list.slow list.fast in
     (omega arith, omega arith)
+
+pub invariant_of-result-clause-paid : goal.invariant_of-result-clause-paid
+invariant_of-result-clause-paid g c =
+    let m = c.self.inside.member in
+    none-owed m.seat.me.0.owes (λ q. sym (m.owed q) ∙ (rw c.in_default.is at c.first_owed.ensures) q)
+
+pub returns-in-Some : goal.returns-in-Some
+returns-in-Some g c =
+    let m = c.self.inside.member in
+    let none = eqb-true (length (interleaved m.tickets.slow m.tickets.fast)) 0 (sym c.is_empty.ensures ∙ c.if-not-is_empty.false) in
+    let first = rw c.in-Some.is at c.first_owed.ensures in
+    rw (← c.self.view_is) (
+      has-nothing m none (sym c.is_some.ensures ∙ c.if-is_some.false),
+      (sym (m.owed c.in-Some.place) ∙ first.1, λ q before. sym (m.owed q) ∙ first.2 q before),
+      known-told c.in-Some.place m.seat.me.0.known ∙ (member m).owed c.in-Some.place (sym (m.owed c.in-Some.place) ∙ first.1),
+      refl,
+    )

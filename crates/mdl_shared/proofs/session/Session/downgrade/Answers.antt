@@ -1,5 +1,5 @@
 -- The ticket has the weaker mode, or it can't have it.
-use Rattle.std.proofs.Common.{Err, None, Some, [], inr, refl, rules, ◌∷◌, ◌≡◌, ℕ}
+use Rattle.std.proofs.Common.{Err, None, Some, [], inr, refl, sym, subst, rules, ◌∷◌, ◌≡◌, ◌∙◌, ℕ}
 use Rattle.mdl_key.specs.declared.mode.Mode.{Mode}
 use Rattle.mdl_calls.specs.Words.{Downgrade}
 use Rattle.mdl_steps.specs.declared.deed.Deed.TheVariants.{Alter}
@@ -9,6 +9,7 @@ use Rattle.mdl_shared.specs.declared.member.Member.{Member}
 use Rattle.mdl_shared.specs.Modes.{downgrade_fault}
 use Rattle.mdl_shared.specs.Passes.{view_of}
 use Rattle.mdl_shared.specs.SessionViews.{tickets_seen}
+use Rattle.mdl_shared.proofs.Debts.{owed-paid, rescheduled-owes}
 use Rattle.mdl_shared.proofs.MemberFacts.{alters-slow, spared}
 use Rattle.mdl_shared.proofs.Faults.{just-done, just-refused}
 use Rattle.mdl_shared.proofs.Fitting.{fit_there}
@@ -20,6 +21,7 @@ use Rattle.mdl_shared.proofs.SlowOrFast.{uncounted-slow, weakened-uncounted}
 use Rattle.mdl_shared.proofs.TicketCalls.{downgrade-unfit, downgraded}
 use Rattle.mdl_shared.proofs.TicketFaults.{downgrade-passed}
 use Rattle.mdl_shared.proofs.session.Session.downgrade.Goals as goal
+use Rattle.mdl_shared.specs.TicketLists.{KeepsRoom, Room}
 
 pub returns-in_err-held : goal.returns-in_err-held
 returns-in_err-held g c =
@@ -71,13 +73,15 @@ invariant_of-member g c =
     let held = holds-ticket m c.args.id t c.in_ok-held.ensures.found in
     let clear = fault-seen m (Downgrade m.seat.me.0.number c.args.id c.args.mode) None (just-done _ _ c.in_ok-held.ensures.just) in
     let did = c.downgrade.ensures in
+    let keeps = subst (λ (r : Room). KeepsRoom 0 m.tickets.room r) (sym c.pay.ensures.same.2) c.set_mode.ensures.room in
     let visit = did.downgraded in
     let slow = slow-held m c.args.id c.args.mode t held clear in
     let done = rescheduled m.seat c.downgrade.new.seat m.sessions (alters-slow is t.place t.number c.args.mode t slow) visit in
     record {
-      lawful = ∣ kept is (done-order done is (inr refl)) (downgraded m.seat c.downgrade.new.seat m.sessions c.args.id {room′ = c.set_mode.new.self.room} c.args.mode t is held slow clear visit did.step did.once c.set_mode.ensures.room).0 ∣₁;
-      lists = lists-done m t.place (Alter t.number c.args.mode ∷ []) (lists-rescheduled visit) c.set_mode.ensures.changed.0 c.set_mode.ensures.changed.1;
-      room = λ ask asks. room-kept m.tickets c.set_mode.new.self c.set_mode.ensures.room (m.room ask asks);
+      lawful = ∣ kept is (done-order done is (inr refl)) (downgraded m.seat c.downgrade.new.seat m.sessions c.args.id {room′ = c.pay.new.self.room} c.args.mode t is held slow clear visit did.step did.once keeps).0 ∣₁;
+      lists = lists-done m t.place (Alter t.number c.args.mode ∷ []) (lists-rescheduled visit) (c.pay.ensures.same.0 ∙ c.set_mode.ensures.changed.0) (c.pay.ensures.same.1 ∙ c.set_mode.ensures.changed.1);
+      room = λ ask asks. room-kept m.tickets c.pay.new.self keeps (m.room ask asks);
+      owed = owed-paid m c.set_mode.new.self c.pay.new.self t.place c.set_mode.ensures.owes c.pay.ensures.owes (rescheduled-owes visit);
     }
 
 pub returns : goal.returns
@@ -87,5 +91,6 @@ returns g c =
     let held = holds-ticket m c.args.id t c.in_ok-held.ensures.found in
     let clear = fault-seen m (Downgrade m.seat.me.0.number c.args.id c.args.mode) None (just-done _ _ c.in_ok-held.ensures.just) in
     let did = c.downgrade.ensures in
-    let both = downgraded m.seat c.downgrade.new.seat m.sessions c.args.id c.args.mode t (member m) held (slow-held m c.args.id c.args.mode t held clear) clear did.downgraded did.step did.once c.set_mode.ensures.room in
+    let keeps = subst (λ (r : Room). KeepsRoom 0 m.tickets.room r) (sym c.pay.ensures.same.2) c.set_mode.ensures.room in
+    let both = downgraded m.seat c.downgrade.new.seat m.sessions c.args.id {room′ = c.pay.new.self.room} c.args.mode t (member m) held (slow-held m c.args.id c.args.mode t held clear) clear did.downgraded did.step did.once keeps in
     rw (← c.self.view_is) (record { joined = both.0; shown = both.1 })

@@ -6,18 +6,20 @@ use Rattle.mdl_steps.specs.Deeds.{owned}
 use Rattle.mdl_steps.specs.Plays.{Mine}
 use Rattle.mdl_steps.specs.Seats.{IsPlace, IsRising}
 use Rattle.mdl_steps.specs.SeatStates.{SeatState}
+use Rattle.mdl_visits.specs.Grantings.{all_but}
 use Rattle.mdl_visits.specs.Polls.{state_of}
 use Rattle.mdl_shared.specs.Passes.{view_of}
 use Rattle.mdl_shared.specs.SessionViews.{Lists, SessionView, lists_seen, session_at, settled_of, tickets_of}
 use Rattle.mdl_shared.specs.Waitings.{are_below}
 use Rattle.mdl_steps.specs.Cells.{own_at}
+use Rattle.mdl_shared.proofs.Debts.{owed-both, owed-on, owed-paid, rescheduled-owes}
 use Rattle.mdl_shared.proofs.EndCalls.{asked-below, asks-nothing, granted-so, idle-joins, lost-order, lost-so, won-order}
 use Rattle.mdl_shared.proofs.EndSteps.{ended-lost, ended-won, ends-granted, lost-end, told-end, unsettled-end, won-end}
 use Rattle.mdl_shared.proofs.MemberFacts.{awaited, may-visit}
 use Rattle.mdl_shared.proofs.Members.{kept}
 use Rattle.mdl_shared.proofs.Props.{member}
 use Rattle.mdl_shared.proofs.PollCalls.{polls}
-use Rattle.mdl_shared.proofs.Rooms.{keeps-same}
+use Rattle.mdl_shared.proofs.Rooms.{keeps-equal}
 use Rattle.mdl_shared.proofs.WaitSteps.{session-there, still-member}
 use Rattle.mdl_shared.proofs.session.Session.end_wait.Goals as goal
 
@@ -45,6 +47,7 @@ invariant_of-member g c =
       lawful = ∣ still-member watched.done (member m) ∣₁;
       lists = m.lists ∙ sym watched.lists;
       room = m.room;
+      owed = owed-on m watched.owes;
     }
 
 pub returns-in_default-settled_in : goal.returns-in_default-settled_in
@@ -86,15 +89,19 @@ invariant_of-member-in-Some-lost_end g c =
     let now = ap (λ (x : SeatState). session_at x m.sessions m.tickets.room) c.read_wait.ensures.made in
     let one = c.in-Some-settled_in.how in
     let some = sym (ap settled_of c.state.ensures) ∙ sym c.settled_in.ensures ∙ c.in-Some-settled_in.is in
+    let keeps = keeps-equal m.tickets.room c.pay.new.self.room c.pay.ensures.same.2 in
     let ends = c.end_lost_wait.ensures.ended in
-    let ended = ended-lost m.sessions c.number-session.result c.read_wait.result.0 now ends in
+    let ended = ended-lost m.sessions c.number-session.result c.read_wait.result.0 now {room′ = c.pay.new.self.room} ends in
+    let pays = rescheduled-owes ends ∙ ap (λ (x : SessionView). all_but ask.place x.me.0.owes) now in
     let so = lost-so m.seat.me.0.number one c.in-Some-lost_end.ended (sym c.lost_end.ensures ∙ c.in-Some-lost_end.is) in
     let h = lost-end is ask asks c.number-session.result c.read_wait.result.0 c.number-session.ensures c.read_wait.ensures.own now one some (ends.1.made, ap (λ (x : Mine). x.0.log) ends.1.now, ends.1.did)
-    (c.end_lost_wait.ensures.met (state_of one) (told-end is ask asks c.number-session.result c.read_wait.result.0 c.number-session.ensures c.read_wait.ensures.own now one some)) so.1 ended ends.1.way c.end_lost_wait.ensures.once (keeps-same m.tickets.room) in
+    (c.end_lost_wait.ensures.met (state_of one) (told-end is ask asks c.number-session.result c.read_wait.result.0 c.number-session.ensures c.read_wait.ensures.own now one some)) so.1 ended ends.1.way c.end_lost_wait.ensures.once pays keeps in
     record {
       lawful = ∣ kept is (lost-order is ask asks ended) h.0 ∣₁;
-      lists = ap (λ (l : Lists). record l { asks = None }) m.lists ∙ sym (ap (λ (x : SessionView). lists_seen x.me.0) ended.now);
+      lists = (λ i. record { slow = c.pay.ensures.same.0 i; fast = c.pay.ensures.same.1 i; known = m.known.known; next = m.next; asks = None; waits = m.waits })
+          ∙ ap (λ (l : Lists). record l { asks = None }) m.lists ∙ sym (ap (λ (x : SessionView). lists_seen x.me.0) ended.now);
       room = asks-nothing _;
+      owed = owed-paid m m.tickets c.pay.new.self ask.place refl c.pay.ensures.owes pays;
     }
 
 pub returns-in-Some-lost_end : goal.returns-in-Some-lost_end
@@ -106,11 +113,13 @@ returns-in-Some-lost_end g c =
     let now = ap (λ (x : SeatState). session_at x m.sessions m.tickets.room) c.read_wait.ensures.made in
     let one = c.in-Some-settled_in.how in
     let some = sym (ap settled_of c.state.ensures) ∙ sym c.settled_in.ensures ∙ c.in-Some-settled_in.is in
+    let keeps = keeps-equal m.tickets.room c.pay.new.self.room c.pay.ensures.same.2 in
     let ends = c.end_lost_wait.ensures.ended in
-    let ended = ended-lost m.sessions c.number-session.result c.read_wait.result.0 now ends in
+    let ended = ended-lost m.sessions c.number-session.result c.read_wait.result.0 now {room′ = c.pay.new.self.room} ends in
+    let pays = rescheduled-owes ends ∙ ap (λ (x : SessionView). all_but ask.place x.me.0.owes) now in
     let so = lost-so m.seat.me.0.number one c.in-Some-lost_end.ended (sym c.lost_end.ensures ∙ c.in-Some-lost_end.is) in
     let h = lost-end is ask asks c.number-session.result c.read_wait.result.0 c.number-session.ensures c.read_wait.ensures.own now one some (ends.1.made, ap (λ (x : Mine). x.0.log) ends.1.now, ends.1.did)
-    (c.end_lost_wait.ensures.met (state_of one) (told-end is ask asks c.number-session.result c.read_wait.result.0 c.number-session.ensures c.read_wait.ensures.own now one some)) so.1 ended ends.1.way c.end_lost_wait.ensures.once (keeps-same m.tickets.room) in
+    (c.end_lost_wait.ensures.met (state_of one) (told-end is ask asks c.number-session.result c.read_wait.result.0 c.number-session.ensures c.read_wait.ensures.own now one some)) so.1 ended ends.1.way c.end_lost_wait.ensures.once pays keeps in
     rw (← c.self.view_is, so.0) (record { joined = h.0; shown = h.1 })
 
 -- ---- it was granted
@@ -151,13 +160,14 @@ invariant_of-member-2 g c =
     let some = sym (ap settled_of c.state.ensures) ∙ sym c.settled_in.ensures ∙ c.in-Some-settled_in.is in
     let ended = ended-won m.sessions c.number-session.result c.read_wait.result.0 now ask asks c.end_granted.ensures.made in
     let h = won-end is ask asks c.number-session.result c.read_wait.result.0 c.number-session.ensures c.read_wait.ensures.own now one some (granted-so one (sym c.lost_end.ensures ∙ c.in_default-lost_end.is)) (_ ∷ [], ap (λ (x : SeatState). x.me.0.log) c.end_granted.ensures.made, refl)
-    (ends-granted c.read_wait.new.self c.end_granted.new.self c.end_granted.ensures.made) ended.0 ended.1 c.push_reserved.ensures.room in
+    (ends-granted c.read_wait.new.self c.end_granted.new.self c.end_granted.ensures.made) ended.0 ended.1 ended.2 c.push_reserved.ensures.room in
     record {
       lawful = ∣ kept is (won-order is ask asks ended.0) h.0 ∣₁;
       lists = (λ i. record { slow = c.push_reserved.ensures.gained i; fast = c.push_reserved.ensures.same i; known = m.known.known; next = m.next; asks = None; waits = m.waits })
           ∙ ap (λ (l : Lists). record l { slow = owned ask.place (Gain ask.number ask.mode) l.slow; asks = None }) m.lists
           ∙ sym (ap (λ (x : SessionView). lists_seen x.me.0) ended.0.now);
       room = asks-nothing _;
+      owed = owed-both m c.push_reserved.ensures.owes (ap (λ (x : SeatState). x.me.0.owes) c.end_granted.ensures.made ∙ ap (λ (x : SessionView). x.me.0.owes) now);
     }
 
 pub returns : goal.returns
@@ -171,5 +181,5 @@ returns g c =
     let some = sym (ap settled_of c.state.ensures) ∙ sym c.settled_in.ensures ∙ c.in-Some-settled_in.is in
     let ended = ended-won m.sessions c.number-session.result c.read_wait.result.0 now ask asks c.end_granted.ensures.made in
     let h = won-end is ask asks c.number-session.result c.read_wait.result.0 c.number-session.ensures c.read_wait.ensures.own now one some (granted-so one (sym c.lost_end.ensures ∙ c.in_default-lost_end.is)) (_ ∷ [], ap (λ (x : SeatState). x.me.0.log) c.end_granted.ensures.made, refl)
-    (ends-granted c.read_wait.new.self c.end_granted.new.self c.end_granted.ensures.made) ended.0 ended.1 c.push_reserved.ensures.room in
+    (ends-granted c.read_wait.new.self c.end_granted.new.self c.end_granted.ensures.made) ended.0 ended.1 ended.2 c.push_reserved.ensures.room in
     rw (← c.self.view_is) (record { joined = h.0; shown = h.1 })

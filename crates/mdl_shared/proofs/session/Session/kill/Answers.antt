@@ -5,6 +5,7 @@ use Rattle.mdl_steps.specs.SeatStates.{SeatState}
 use Rattle.mdl_steps.specs.WaitSeats.{IsSession}
 use Rattle.mdl_shared.specs.Passes.{view_of}
 use Rattle.mdl_shared.specs.SessionViews.{SessionView, session_at}
+use Rattle.mdl_shared.proofs.Debts.{owed-on}
 use Rattle.mdl_shared.proofs.KillCalls.{kill-closed, kill-either, kill-ended, nobody-killed, target-there}
 use Rattle.mdl_shared.proofs.Props.{member}
 use Rattle.mdl_shared.proofs.WaitSteps.{still-member}
@@ -30,6 +31,7 @@ invariant_of-member g c =
       lawful = ∣ still-member watched.done (member m) ∣₁;
       lists = m.lists ∙ sym watched.lists;
       room = m.room;
+      owed = owed-on m watched.owes;
     }
 
 pub returns-then-not-is_open : goal.returns-then-not-is_open
@@ -59,6 +61,7 @@ invariant_of-member-2 g c =
       lawful = ∣ still-member watched.done (member m) ∣₁;
       lists = m.lists ∙ sym watched.lists;
       room = m.room;
+      owed = owed-on m watched.owes;
     }
 
 pub returns : goal.returns

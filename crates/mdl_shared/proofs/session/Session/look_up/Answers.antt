@@ -7,7 +7,8 @@ use Rattle.mdl_steps.specs.declared.view.Known.{Known}
 use Rattle.mdl_shared.specs.Members.{is_known_place, place_known}
 use Rattle.mdl_shared.specs.Passes.{view_of}
 use Rattle.mdl_shared.specs.SessionViews.{Lists, session_at}
-use Rattle.mdl_shared.proofs.KeyCalls.{learnt-order, lists-learnt, lists-stepped, no_place-joins, resolve-joins, resolved, stepped}
+use Rattle.mdl_shared.proofs.Debts.{owed-on, owed-stepped}
+use Rattle.mdl_shared.proofs.KeyCalls.{learnt-order, learnt-owes, lists-learnt, lists-stepped, no_place-joins, resolve-joins, resolved, stepped}
 use Rattle.mdl_shared.proofs.MemberFacts.{speaks}
 use Rattle.mdl_shared.proofs.Members.{done-nothing, done-order, kept}
 use Rattle.mdl_shared.proofs.Props.{member}
@@ -42,6 +43,7 @@ invariant_of-member-in-Err-resolve g c =
       lawful = ∣ kept is (done-order done is (inr refl)) (refused s (session_at c.resolve.new.seat m.sessions m.tickets.room) (Resolve s.me.0.number c.args.key.now) OutOfMemory (done-nothing done) (speaks is) refl refl tt (λ state how met. cc) tt) ∣₁;
       lists = ap (λ (ks : List Known). record { slow = m.tickets.slow; fast = m.tickets.fast; known = ks; next = m.next; asks = m.asks; waits = m.waits }) c.reserve.ensures.same ∙ m.lists ∙ sym (lists-stepped m.seat.me c.resolve.new.seat.me c.in-Err.ensures.refused);
       room = m.room;
+      owed = owed-stepped m c.in-Err.ensures.refused;
     }
 
 pub returns-in-Err-clause-joined : goal.returns-in-Err-clause-joined
@@ -86,6 +88,7 @@ invariant_of-member-2 g c =
           ∙ ap (λ (k : KeyName). c.reserve.new.self.known ++ record { key = k; place = place } ∷ []) c.in-Ok.ensures.cases
           ∙ ap (λ (ks : List Known). ks ++ record { key = key; place = place } ∷ []) c.reserve.ensures.same);
       room = m.room;
+      owed = owed-on m (learnt-owes told.0);
     }
 
 pub overflow_cast-result : goal.overflow_cast-result

@@ -3,6 +3,7 @@ use Rattle.std.proofs.Common.{true, false, not, sym, ap, ◌∙◌}
 use Rattle.mdl_steps.specs.SeatStates.{SeatState}
 use Rattle.mdl_shared.specs.Passes.{view_of}
 use Rattle.mdl_shared.specs.SessionViews.{session_at, settled_of}
+use Rattle.mdl_shared.proofs.Debts.{owed-on}
 use Rattle.mdl_shared.proofs.Props.{member}
 use Rattle.mdl_shared.proofs.PollCalls.{poll-pending, poll-refused, poll-settled, polls}
 use Rattle.mdl_shared.proofs.WaitSteps.{session-there, still-member, waits-seen}
@@ -30,6 +31,7 @@ invariant_of-self-inside g c =
       lawful = ∣ still-member watched.done (member m) ∣₁;
       lists = m.lists ∙ sym watched.lists;
       room = m.room;
+      owed = owed-on m watched.owes;
     }
 
 pub returns : goal.returns

@@ -8,10 +8,11 @@ use Rattle.mdl_shared.specs.Passes.{view_of}
 use Rattle.mdl_shared.specs.SessionViews.{tickets_seen}
 use Rattle.mdl_visits.specs.Visits.{Visits}
 use Rattle.mdl_steps.specs.SeatStates.{AtItsTable}
+use Rattle.mdl_shared.proofs.Debts.{owed-both, owed-visited}
 use Rattle.mdl_shared.proofs.MemberFacts.{may-visit, slow-there, speaks, ticket-known, unwaited}
 use Rattle.mdl_shared.proofs.Members.{done-nothing, done-order, held-seen, kept, lists-done, lists-visited, room-kept, visited}
 use Rattle.mdl_shared.proofs.Props.{member}
-use Rattle.mdl_shared.proofs.ReadCalls.{lists-noted, noted-by, noted-order, read-joins, read-shows, unread-joins, unread-shows}
+use Rattle.mdl_shared.proofs.ReadCalls.{lists-noted, noted-by, noted-order, noted-owes, read-joins, read-shows, unread-joins, unread-shows}
 use Rattle.mdl_shared.proofs.Refusals.{own-shows}
 use Rattle.mdl_shared.proofs.Rooms.{keeps-same}
 use Rattle.mdl_shared.proofs.SameSpace.{refused, same-stays}
@@ -49,6 +50,7 @@ invariant_of-member g c =
       lawful = ∣ kept is (done-order done is (inr refl)) (unread-joins is c.args.id c.in-Some.held its (done-nothing done)) ∣₁;
       lists = lists-done m c.in-Some.held.place [] (lists-visited visit) refl refl;
       room = m.room;
+      owed = owed-visited m visit;
     }
 
 pub returns-in_default-read_definition : goal.returns-in_default-read_definition
@@ -73,6 +75,7 @@ invariant_of-member-2 g c =
       lawful = ∣ kept is (noted-order noted is) (read-joins is c.args.id c.in-Some.held its c.in-Ok.standing noted did.follows) ∣₁;
       lists = lists-noted m noted refl c.note_all.ensures.noted;
       room = λ ask asks. room-kept m.tickets c.note_all.new.self c.note_all.ensures.room (m.room ask asks);
+      owed = owed-both m c.note_all.ensures.owes (noted-owes noted);
     }
 
 pub returns : goal.returns

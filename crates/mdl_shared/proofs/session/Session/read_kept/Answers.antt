@@ -8,15 +8,16 @@ use Rattle.mdl_shared.specs.Passes.{view_of}
 use Rattle.mdl_shared.specs.Showings.{Shows}
 use Rattle.mdl_shared.specs.SessionViews.{SessionView, space_of, tickets_seen}
 use Rattle.mdl_shared.specs.KeptReads.{kept_standing}
+use Rattle.mdl_shared.proofs.Debts.{owed-both, owed-on}
 use Rattle.mdl_shared.proofs.KeptCalls.{after, between, full-joins, full-shows, hit-shows, kept-still, met-read, miss-full_shows, miss-latch, miss-shows, miss-why, missed-met, seat-finds, seat-joins, seat-met, seat-reads, seat-still}
 use Rattle.mdl_shared.proofs.MemberFacts.{place-within, speaks, ticket-known}
 use Rattle.mdl_shared.proofs.Members.{held-seen, room-kept}
 use Rattle.mdl_shared.proofs.Members.{kept as kept-sound}
 use Rattle.mdl_shared.proofs.Props.{member}
-use Rattle.mdl_shared.proofs.ReadCalls.{lists-noted, noted-order}
+use Rattle.mdl_shared.proofs.ReadCalls.{lists-noted, noted-order, noted-owes}
 use Rattle.mdl_shared.proofs.SameSpace.{refused, same-stays}
 use Rattle.mdl_shared.proofs.SpaceTickets.{holds-told}
-use Rattle.mdl_shared.proofs.VersionCalls.{found-noted, version-done, version-lists}
+use Rattle.mdl_shared.proofs.VersionCalls.{found-noted, version-done, version-lists, version-owes}
 use Rattle.mdl_shared.proofs.WaitSteps.{still-member}
 use Rattle.mdl_shared.proofs.session.Session.read_kept.Goals as goal
 
@@ -71,6 +72,7 @@ invariant_of-member g c =
       lawful = ∣ kept-sound (member m) (noted-order (found-noted finds) (member m)) (seat-joins m c.args.id t its kept met read.new.self read.result d hit read.ensures.newest read.ensures.one made room keeps) ∣₁;
       lists = lists-noted m (found-noted finds) refl c.note_all.ensures.noted;
       room = λ ask asks. room-kept m.tickets c.note_all.new.self keeps (m.room ask asks);
+      owed = owed-both m c.note_all.ensures.owes (noted-owes (found-noted finds));
     }
 
 pub invariant_of-member-in_default-peek : goal.invariant_of-member-in_default-peek
@@ -83,6 +85,7 @@ invariant_of-member-in_default-peek g c =
       lawful = ∣ still-member done (member m) ∣₁;
       lists = m.lists ∙ sym (version-lists m.seat read.new.self c.in-Some.held.place read.result made);
       room = m.room;
+      owed = owed-on m (version-owes m.seat read.new.self c.in-Some.held.place read.result made);
     }
 
 pub returns-in_default-clone-clause-joined : goal.returns-in_default-clone-clause-joined

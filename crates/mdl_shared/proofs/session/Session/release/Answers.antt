@@ -11,6 +11,7 @@ use Rattle.mdl_visits.proofs.Numbers.{has_number}
 use Rattle.mdl_shared.specs.OwnTickets.{fast_found}
 use Rattle.mdl_shared.specs.Passes.{view_of}
 use Rattle.mdl_shared.specs.SessionViews.{tickets_seen}
+use Rattle.mdl_shared.proofs.Debts.{owed-paid, rescheduled-owes}
 use Rattle.mdl_shared.proofs.HeldTickets.{holds-ticket}
 use Rattle.mdl_shared.proofs.MemberFacts.{loses-slow, slow-there, spared, speaks}
 use Rattle.mdl_shared.proofs.Members.{done-order, fast-struck, held-seen, kept, lists-done, lists-rescheduled, rescheduled, room-kept}
@@ -20,6 +21,7 @@ use Rattle.mdl_shared.proofs.SameSpace.{refused, same-stays}
 use Rattle.mdl_shared.proofs.SlowOrFast.{fast-seen, slow-else}
 use Rattle.mdl_shared.proofs.SpaceTickets.{holds-told}
 use Rattle.mdl_shared.proofs.session.Session.release.Goals as goal
+use Rattle.mdl_shared.specs.TicketLists.{KeepsRoom, Room}
 
 -- ---- a fast one
 
@@ -76,11 +78,13 @@ invariant_of-member g c =
     let its = held-seen m id (Some t) (sym (ap (option_map (λ (f : Own × Bool). f.0)) c.in-Some.is) ∙ c.find.ensures.found) in
     let slow = slow-else is id t none its in
     let visit = c.release.ensures.released in
-    let done = rescheduled m.seat c.release.new.seat m.sessions {room′ = c.strike.new.self.room} (loses-slow is t.place id t slow) visit in
-    let both = released-slow m.seat c.release.new.seat m.sessions id {room′ = c.strike.new.self.room} t is its slow none visit c.release.ensures.step c.release.ensures.once c.strike.ensures.room in record {
+    let keeps = subst (λ (r : Room). KeepsRoom 0 m.tickets.room r) (sym c.pay.ensures.same.2) c.strike.ensures.room in
+    let done = rescheduled m.seat c.release.new.seat m.sessions {room′ = c.pay.new.self.room} (loses-slow is t.place id t slow) visit in
+    let both = released-slow m.seat c.release.new.seat m.sessions id {room′ = c.pay.new.self.room} t is its slow none visit c.release.ensures.step c.release.ensures.once keeps in record {
       lawful = ∣ kept is (done-order done is (inr refl)) both.0 ∣₁;
-      lists = lists-done m t.place (Lose id ∷ []) (lists-rescheduled visit) c.strike.ensures.struck.0 (fast-struck m t.place id (spared is id t slow) c.strike.ensures.struck.1);
-      room = λ ask asks. room-kept m.tickets c.strike.new.self c.strike.ensures.room (m.room ask asks);
+      lists = lists-done m t.place (Lose id ∷ []) (lists-rescheduled visit) (c.pay.ensures.same.0 ∙ c.strike.ensures.struck.0) (fast-struck m t.place id (spared is id t slow) (c.pay.ensures.same.1 ∙ c.strike.ensures.struck.1));
+      room = λ ask asks. room-kept m.tickets c.pay.new.self keeps (m.room ask asks);
+      owed = owed-paid m c.strike.new.self c.pay.new.self t.place c.strike.ensures.owes c.pay.ensures.owes (rescheduled-owes visit);
     }
 
 pub returns : goal.returns
@@ -91,5 +95,6 @@ returns g c =
     let t = c.in-Some.held in
     let none = fast-seen m id None (sym (ap fast_found c.in-Some.is ∙ rw c.if-fast.false refl) ∙ c.find.ensures.fast) in
     let its = held-seen m id (Some t) (sym (ap (option_map (λ (f : Own × Bool). f.0)) c.in-Some.is) ∙ c.find.ensures.found) in
-    let both = released-slow m.seat c.release.new.seat m.sessions id {room′ = c.strike.new.self.room} t is its (slow-else is id t none its) none c.release.ensures.released c.release.ensures.step c.release.ensures.once c.strike.ensures.room in
+    let keeps = subst (λ (r : Room). KeepsRoom 0 m.tickets.room r) (sym c.pay.ensures.same.2) c.strike.ensures.room in
+    let both = released-slow m.seat c.release.new.seat m.sessions id {room′ = c.pay.new.self.room} t is its (slow-else is id t none its) none c.release.ensures.released c.release.ensures.step c.release.ensures.once keeps in
     rw (← c.self.view_is) (record { joined = both.0; shown = both.1 })

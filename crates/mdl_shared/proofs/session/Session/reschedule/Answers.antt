@@ -1,23 +1,42 @@
 -- The place is one of the table's, and the session gives up nothing.
-use Rattle.std.proofs.Common.{[], refl, subst, sym, true, ◌∙◌, ◌≡◌}
+use Rattle.std.proofs.Common.{[], ap, subst, sym, true, ◌∙◌, ◌≡◌}
 use Rattle.mdl_session_laws.specs.SessionSpaces.{is_known}
-use Rattle.mdl_shared.specs.SessionViews.{SessionView, space_of}
+use Rattle.mdl_steps.specs.Plays.{Mine}
+use Rattle.mdl_visits.proofs.Doing.{does_reschedule}
+use Rattle.mdl_shared.specs.SessionViews.{SessionView, lists_seen, space_of}
+use Rattle.mdl_shared.proofs.Debts.{rescheduled-owes}
 use Rattle.mdl_shared.proofs.MemberFacts.{may-visit}
-use Rattle.mdl_shared.proofs.Members.{lists-rescheduled, rescheduled}
 use Rattle.mdl_shared.proofs.Props.{member}
+use Rattle.mdl_shared.proofs.Rooms.{keeps-equal}
 use Rattle.mdl_shared.proofs.SpaceLists.{known-told}
-use Rattle.mdl_shared.proofs.WaitSteps.{still-member}
 use Rattle.mdl_shared.proofs.session.Session.reschedule.Goals as goal
 
-pub reschedule-requires : goal.reschedule-requires
-reschedule-requires g c =
+pub pay-requires : goal.pay-requires
+pay-requires g c =
     let m = c.self.inside.member in
     let is = member m in
     let known = subst (λ (s : SessionView). is_known c.args.place (space_of s).known ≡ true) (sym c.self.view_is) c.requires.known in
     record { at = may-visit is c.args.place (sym (known-told c.args.place m.seat.me.0.known) ∙ known) }
 
-pub invariant_of-self-inside : goal.invariant_of-self-inside
-invariant_of-self-inside g c =
+pub returns : goal.returns
+returns g c =
     let m = c.self.inside.member in
-    let done = rescheduled {place = c.args.place} {ds = []} m.seat c.reschedule.new.seat m.sessions refl c.reschedule.ensures.rescheduled in
-    (∣ still-member done (member m) ∣₁, (m.lists ∙ sym (lists-rescheduled c.reschedule.ensures.rescheduled), (m.room, tt)))
+    let now = c.pay.new.self in
+    let visit = c.pay.ensures.rescheduled in
+    rw (← c.self.view_is) (record {
+      same = (
+        record {
+          number = ap (λ (x : Mine). x.0.number) visit.1.now;
+          table = visit.0;
+          sessions = c.pay.ensures.same.0;
+          lists = ap (λ (x : Mine). lists_seen x.0) visit.1.now;
+          reads = ap (λ (x : Mine). x.0.reads) visit.1.now;
+          room = keeps-equal m.tickets.room now.tickets.room c.pay.ensures.same.1;
+        },
+        visit.1.way.stays,
+      );
+      paid = rescheduled-owes visit;
+      did = does_reschedule m.seat.me now.seat.me m.seat.table c.args.place [] visit.1;
+      once = c.pay.ensures.once;
+      way = visit.1.way;
+    })

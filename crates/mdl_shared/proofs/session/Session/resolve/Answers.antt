@@ -42,6 +42,8 @@ returns-in-Some g c =
         steps = tt;
         met = (within.0, within.1, (λ known its. refl), λ none. let e = sym none ∙ found in cc);
         room = keeps-same m.tickets.room;
+        debts = λ place owed. owed;
+        owes = (refl, refl);
       };
     })
 

@@ -9,7 +9,8 @@ use Rattle.mdl_visits.specs.Tables.{AreWithin, HasAsked}
 use Rattle.mdl_shared.specs.Members.{are_apart}
 use Rattle.mdl_shared.specs.Passes.{view_of}
 use Rattle.mdl_shared.specs.SessionViews.{Lists}
-use Rattle.mdl_shared.proofs.KeyCalls.{all-apart, learnt-all, learnt-order, lists-learnt, lists-stepped, memory-joins, stepped, told-tables}
+use Rattle.mdl_shared.proofs.Debts.{owed-on, owed-stepped}
+use Rattle.mdl_shared.proofs.KeyCalls.{all-apart, learnt-all, learnt-order, learnt-owes, lists-learnt, lists-stepped, memory-joins, stepped, told-tables}
 use Rattle.mdl_shared.proofs.Members.{done-nothing, done-order, kept}
 use Rattle.mdl_shared.proofs.Props.{member}
 use Rattle.mdl_shared.proofs.Rooms.{keeps-same}
@@ -30,6 +31,7 @@ invariant_of-member g c =
       lawful = ∣ kept is (done-order done is (inr refl)) (memory-joins is c.args.schema.now (done-nothing done)) ∣₁;
       lists = ap (λ (ks : List Known). record { slow = m.tickets.slow; fast = m.tickets.fast; known = ks; next = m.next; asks = m.asks; waits = m.waits }) did.same ∙ m.lists ∙ sym (lists-stepped m.seat.me c.find_tables.new.seat.me did.unchanged);
       room = m.room;
+      owed = owed-stepped m did.unchanged;
     }
 
 pub returns-in_default-clause-joined : goal.returns-in_default-clause-joined
@@ -73,6 +75,7 @@ invariant_of-member-2 g c =
       lists = lists-learnt m learnt (c.learn.ensures.known ∙ ap (λ (ks : List Known). ks ++ unknown ks tables) did.same
           ∙ ap (λ (l : Lists). m.known.known ++ unknown l.known tables) m.lists);
       room = m.room;
+      owed = owed-on m (learnt-owes learnt);
     }
 
 pub returns : goal.returns

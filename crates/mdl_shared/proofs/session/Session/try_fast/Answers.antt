@@ -12,6 +12,9 @@ use Rattle.mdl_shared.proofs.session.Session.try_fast.Goals.{in-Ok, in-Err-Obtru
 pub invariant_of-self-inside-clause-lawful : goal.invariant_of-self-inside-clause-lawful
 invariant_of-self-inside-clause-lawful g c = ∣ member-room (member c.self.inside.member) c.reserve.new.self.room ∣₁
 
+pub invariant_of-self-inside-clause-owed : goal.invariant_of-self-inside-clause-owed
+invariant_of-self-inside-clause-owed g c = λ q. c.reserve.ensures.owes q ∙ c.self.inside.member.owed q
+
 pub returns-clause-tried : goal.returns-clause-tried
 returns-clause-tried g c =
     let m = c.self.inside.member in

@@ -2,10 +2,11 @@
 use Rattle.std.proofs.Common.{subst, sym, true, ◌∙◌, ◌≡◌}
 use Rattle.mdl_session_laws.specs.SessionSpaces.{is_known}
 use Rattle.mdl_shared.specs.SessionViews.{SessionView, space_of}
+use Rattle.mdl_shared.proofs.Debts.{owed-both}
 use Rattle.mdl_shared.proofs.MemberFacts.{place-within}
 use Rattle.mdl_shared.proofs.Members.{room-kept}
 use Rattle.mdl_shared.proofs.Props.{member}
-use Rattle.mdl_shared.proofs.ReadCalls.{lists-noted}
+use Rattle.mdl_shared.proofs.ReadCalls.{lists-noted, noted-owes}
 use Rattle.mdl_shared.proofs.SpaceLists.{known-told}
 use Rattle.mdl_shared.proofs.VersionCalls.{learnt-member, learnt-noted, version-reads}
 use Rattle.mdl_shared.proofs.session.Session.version.Goals as goal
@@ -26,6 +27,7 @@ invariant_of-member g c =
       lawful = ∣ learnt-member reads (member m) known ∣₁;
       lists = lists-noted m (learnt-noted reads) did.learnt.found c.note_all.ensures.noted;
       room = λ ask asks. room-kept m.tickets c.note_all.new.self c.note_all.ensures.room (m.room ask asks);
+      owed = owed-both m c.note_all.ensures.owes (noted-owes (learnt-noted reads));
     }
 
 pub returns : goal.returns

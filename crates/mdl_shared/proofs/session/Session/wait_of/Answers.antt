@@ -2,6 +2,7 @@
 use Rattle.std.proofs.Common.{sym, ap, ◌∙◌}
 use Rattle.mdl_steps.specs.SeatStates.{SeatState}
 use Rattle.mdl_shared.specs.SessionViews.{session_at}
+use Rattle.mdl_shared.proofs.Debts.{owed-on}
 use Rattle.mdl_shared.proofs.KillCalls.{nobody-waits, number-met, target-there}
 use Rattle.mdl_shared.proofs.Props.{member}
 use Rattle.mdl_shared.proofs.WaitSteps.{still-member}
@@ -26,6 +27,7 @@ invariant_of-self-inside g c =
       lawful = ∣ still-member watched.done (member m) ∣₁;
       lists = m.lists ∙ sym watched.lists;
       room = m.room;
+      owed = owed-on m watched.owes;
     }
 
 pub returns : goal.returns
