@@ -1,5 +1,5 @@
 # Prints the section at the head of a library crate that shows its example: the lines of the example's file, without what makes them a test if they are one.
-# Usage: awk -f example.awk crates/mdl_base_trials/src/examples/NAME.rt
+# Usage: awk -f example.awk crates/mdl_space_trials/src/examples/NAME.rt
 BEGIN {
     print "//! # Example"
     print "//!"

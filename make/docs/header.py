@@ -55,16 +55,16 @@ def capitals(name):
 
 
 class Header:
-    """A header, with the folder of its crate, the beginning of its names, and which enumeration has the numbers of which definition."""
+    """A header, with the folders of its crates, the beginning of its names, and which enumeration has the numbers of which definition."""
 
-    def __init__(self, crate, prefix, enums):
-        self.folder = pathlib.Path("crates", crate)
-        self.path = next(self.folder.glob("include/*.h"))
+    def __init__(self, crates, prefix, enums):
+        folders = [pathlib.Path("crates", it) for it in crates]
+        self.path = next(folders[0].glob("include/*.h"))
         self.prefix = prefix
         self.enums = enums
         self.text = re.sub(r"/\*.*?\*/", "", self.path.read_text(), flags=re.DOTALL)
-        self.specs = "\n".join(re.sub(r"--.*", "", it.read_text()) for it in sorted(self.folder.glob("specs/*.antt")))
-        self.code = "\n".join(it.read_text() for it in sorted(self.folder.glob("src/**/*.rt")))
+        self.specs = "\n".join(re.sub(r"--.*", "", it.read_text()) for folder in folders for it in sorted(folder.glob("specs/*.antt")))
+        self.code = "\n".join(it.read_text() for folder in folders for it in sorted(folder.glob("src/**/*.rt")))
 
     # ---- numbers
 
@@ -181,8 +181,8 @@ def differing(what, declared, own):
 
 
 HEADERS = [
-    Header("mdl_c", "MDL_", {it: f"mdl_{it}" for it in ("mode", "duration", "namespace", "status", "code")}),
-    Header("mdl_text", "MDL_TEXT_", {it: f"mdl_text_{it}" for it in ("kind", "code")}),
+    Header(["mdl_c", "mdl_c_calls"], "MDL_", {it: f"mdl_{it}" for it in ("mode", "duration", "namespace", "status", "code")}),
+    Header(["mdl_text"], "MDL_TEXT_", {it: f"mdl_text_{it}" for it in ("kind", "code")}),
 ]
 
 if __name__ == "__main__":

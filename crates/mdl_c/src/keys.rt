@@ -3,26 +3,11 @@ ghost use Rattle.std.specs.Prelude.{◌≡◌};
 ghost use Rattle.std.specs.Str.{IsUtf8};
 ghost use Rattle.mdl_key.specs.Keys.{commit_key, global_key, name_fault, schema_key, table_fault, table_key};
 ghost use Rattle.mdl_calls.specs.Words.{Resolve};
-ghost use Rattle.mdl_c.specs.Exports.{Number, Serves, Tells};
-ghost use Rattle.mdl_c.specs.Names.{Named};
+ghost use Rattle.mdl_c_calls.specs.Exports.{Number, Serves, Tells};
+ghost use Rattle.mdl_c_calls.specs.Names.{Named};
 
-use crate::codes::{CLOSED, place_code};
-use crate::handle::Space;
-use crate::names::{schema_of, table_of};
-use mdl_key::Key;
+use mdl_c_calls::Space;
 use std::alloc::Global;
-
-// Writes the place of a key.
-fn resolve(alloc: Global, space: &mut Space, who: u16, key: &Key, place: &mut u16) -> u32
-    ensures { Serves who (Resolve who key.now) space.old.handle.manager result space.new.handle.manager (Number place.old place.new) }
-{
-    let Some(mut manager) = space.take(alloc) else {
-        return CLOSED;
-    };
-    let code = place_code(manager.resolve(who, key), place);
-    space.put(manager);
-    code
-}
 
 /// Writes the place of a table's key.
 #[unsafe(no_mangle)]
@@ -38,10 +23,7 @@ pub extern "C" fn mdl_table(
         (Serves who (Resolve who (table_key schema.now table.now)) space.old.handle.manager result space.new.handle.manager (Number place.old place.new))
         (λ wrong. Tells wrong space.old.handle.manager result space.new.handle.manager × (place.new ≡ place.old)) }
 {
-    match table_of(alloc, schema, table) {
-        Ok(key) => resolve(alloc, space, who, &key, place),
-        Err(code) => code,
-    }
+    mdl_c_calls::mdl_table(alloc, space, who, schema, table, place)
 }
 
 /// Writes the place of a schema's key.
@@ -57,10 +39,7 @@ pub extern "C" fn mdl_schema(
         (Serves who (Resolve who (schema_key schema.now)) space.old.handle.manager result space.new.handle.manager (Number place.old place.new))
         (λ wrong. Tells wrong space.old.handle.manager result space.new.handle.manager × (place.new ≡ place.old)) }
 {
-    match schema_of(alloc, schema) {
-        Ok(key) => resolve(alloc, space, who, &key, place),
-        Err(code) => code,
-    }
+    mdl_c_calls::mdl_schema(alloc, space, who, schema, place)
 }
 
 /// Writes the place of the key of the global read lock.
@@ -68,7 +47,7 @@ pub extern "C" fn mdl_schema(
 pub extern "C" fn mdl_global(alloc: Global, space: &mut Space, who: u16, place: &mut u16) -> u32
     ensures { Serves who (Resolve who global_key) space.old.handle.manager result space.new.handle.manager (Number place.old place.new) }
 {
-    resolve(alloc, space, who, &Key::global(alloc), place)
+    mdl_c_calls::mdl_global(alloc, space, who, place)
 }
 
 /// Writes the place of the key that commits take.
@@ -76,5 +55,5 @@ pub extern "C" fn mdl_global(alloc: Global, space: &mut Space, who: u16, place: 
 pub extern "C" fn mdl_commit(alloc: Global, space: &mut Space, who: u16, place: &mut u16) -> u32
     ensures { Serves who (Resolve who commit_key) space.old.handle.manager result space.new.handle.manager (Number place.old place.new) }
 {
-    resolve(alloc, space, who, &Key::commit(alloc), place)
+    mdl_c_calls::mdl_commit(alloc, space, who, place)
 }

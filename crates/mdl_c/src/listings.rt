@@ -1,17 +1,11 @@
 //! What C gets to read of the locks, for a host that shows them and wakes its sessions. These calls change nothing.
-ghost use Rattle.std.specs.Prelude.{◌≡◌, MatchOption, length};
-ghost use Rattle.std.specs.Option.{option_copied, option_map};
+ghost use Rattle.std.specs.Prelude.{◌≡◌, length};
 ghost use Rattle.mdl_key.specs.Keys.{namespace_rank};
-ghost use Rattle.mdl_calls.specs.Words.{List_held, listed};
-ghost use Rattle.mdl_c.specs.Codes.{code_at, no_place};
-ghost use Rattle.mdl_c.specs.Exports.{Serves};
-ghost use Rattle.mdl_c.specs.Listings.{HeldTold, IsKept, IsTold, Shows, ShowsLock, TellsSettled, lock_rows};
+ghost use Rattle.mdl_calls.specs.Words.{List_held};
+ghost use Rattle.mdl_c_calls.specs.Exports.{Serves};
+ghost use Rattle.mdl_c_calls.specs.Listings.{HeldTold, IsKept, IsTold, Shows, ShowsLock, TellsSettled, lock_rows};
 
-use crate::codes::{CLOSED, DONE, NO_PLACE, NO_SESSION, cause_code};
-use crate::handle::Space;
-use crate::rows::{HeldRow, LockRow, tell_held, tell_lock, tell_text};
-use mdl_book::Book;
-use mdl_space::{Held, SpaceError};
+use mdl_c_calls::{HeldRow, LockRow, Space};
 use std::alloc::Global;
 
 /// Writes which sessions have waits that are settled and not ended, one bit each. The lowest bit is that of session 1.
@@ -19,12 +13,7 @@ use std::alloc::Global;
 pub extern "C" fn mdl_settled(alloc: Global, space: &mut Space, sessions: &mut u64) -> u32
     ensures { Shows space.old.handle.manager result space.new.handle.manager (sessions.new ≡ sessions.old) (λ m. (result ≡ 0) × TellsSettled m sessions.new) }
 {
-    let Some(mut manager) = space.take(alloc) else {
-        return CLOSED;
-    };
-    *sessions = manager.settled();
-    space.put(manager);
-    DONE
+    mdl_c_calls::mdl_settled(alloc, space, sessions)
 }
 
 /// Writes the tickets that a session holds, in the order in which it got them.
@@ -38,12 +27,7 @@ pub extern "C" fn mdl_held(
 ) -> u32
     ensures { Serves who (List_held who) space.old.handle.manager result space.new.handle.manager (HeldTold room.old room.new count.old count.new) }
 {
-    let Some(manager) = space.take(alloc) else {
-        return CLOSED;
-    };
-    let code = held_code(manager.held(who), room, count);
-    space.put(manager);
-    code
+    mdl_c_calls::mdl_held(alloc, space, who, room, count)
 }
 
 /// Writes how many places have keys. They are those from 1 to this number.
@@ -51,12 +35,7 @@ pub extern "C" fn mdl_held(
 pub extern "C" fn mdl_places(alloc: Global, space: &mut Space, count: &mut usize) -> u32
     ensures { Shows space.old.handle.manager result space.new.handle.manager (count.new ≡ count.old) (λ m. (result ≡ 0) × (count.new ≡ length m.space.books)) }
 {
-    let Some(manager) = space.take(alloc) else {
-        return CLOSED;
-    };
-    *count = manager.books().len();
-    space.put(manager);
-    DONE
+    mdl_c_calls::mdl_places(alloc, space, count)
 }
 
 /// Writes the key of a place: the number of its namespace, and the names of its schema and its table if it has them.
@@ -76,13 +55,16 @@ pub extern "C" fn mdl_key_of(
         (λ book. (namespace.new ≡ namespace_rank book.key.namespace)
         × IsTold book.key.schema schema.old schema.new schema_count.new × IsTold book.key.table table.old table.new table_count.new) }
 {
-    let Some(manager) = space.take(alloc) else {
-        return CLOSED;
-    };
-    let book = manager.book(place);
-    let code = key_code(book, namespace, schema, schema_count, table, table_count);
-    space.put(manager);
-    code
+    mdl_c_calls::mdl_key_of(
+        alloc,
+        space,
+        place,
+        namespace,
+        schema,
+        schema_count,
+        table,
+        table_count,
+    )
 }
 
 /// Writes the tickets of a place's lock: first the granted ones, in the order in which they were granted, then the waiting ones, in order of arrival.
@@ -97,66 +79,5 @@ pub extern "C" fn mdl_locks(
     ensures { ShowsLock place space.old.handle.manager result space.new.handle.manager
         (IsKept room.old room.new count.old count.new) (λ book. IsTold (lock_rows book) room.old room.new count.new) }
 {
-    let Some(manager) = space.take(alloc) else {
-        return CLOSED;
-    };
-    let code = lock_code(manager.book(place), room, count);
-    space.put(manager);
-    code
-}
-
-// Writes the tickets that a session holds, if there is such a session, and returns the code.
-fn held_code(
-    answer: Option<Result<Vec<Held>, SpaceError>>,
-    room: &mut [HeldRow],
-    count: &mut usize,
-) -> u32
-    ensures code { result ≡ code_at (option_map listed answer) }
-    ensures told { HeldTold room.old room.new count.old count.new (option_map listed answer) }
-{
-    match answer {
-        Some(Ok(tickets)) => {
-            tell_held(&tickets, room, count);
-            DONE
-        }
-        Some(Err(cause)) => cause_code(cause),
-        None => NO_SESSION,
-    }
-}
-
-// Writes the key of a lock, if there is one, and returns the code.
-fn key_code(
-    book: Option<&Book>,
-    namespace: &mut u8,
-    schema: &mut [u8],
-    schema_count: &mut usize,
-    table: &mut [u8],
-    table_count: &mut usize,
-) -> u32
-    ensures { MatchOption (option_copied book.entry)
-        ((result ≡ no_place) × (namespace.new ≡ namespace.old) × IsKept schema.old schema.new schema_count.old schema_count.new × IsKept table.old table.new table_count.old table_count.new)
-        (λ b. (result ≡ 0) × (namespace.new ≡ namespace_rank b.key.namespace)
-        × IsTold b.key.schema schema.old schema.new schema_count.new × IsTold b.key.table table.old table.new table_count.new) }
-{
-    let Some(book) = book else {
-        return NO_PLACE;
-    };
-    let key = book.key();
-    *namespace = key.namespace() as u8;
-    tell_text(key.schema_name(), schema, schema_count);
-    tell_text(key.table_name(), table, table_count);
-    DONE
-}
-
-// Writes the tickets of a lock, if there is one, and returns the code.
-fn lock_code(book: Option<&Book>, room: &mut [LockRow], count: &mut usize) -> u32
-    ensures { MatchOption (option_copied book.entry)
-        ((result ≡ no_place) × IsKept room.old room.new count.old count.new)
-        (λ b. (result ≡ 0) × IsTold (lock_rows b) room.old room.new count.new) }
-{
-    let Some(book) = book else {
-        return NO_PLACE;
-    };
-    tell_lock(book, room, count);
-    DONE
+    mdl_c_calls::mdl_locks(alloc, space, place, room, count)
 }

@@ -1,10 +1,7 @@
 //! The calls that make a manager and free it.
-ghost use Rattle.std.specs.Prelude.{◌≡◌};
-ghost use Rattle.mdl_c.specs.Exports.{Closes, Opens};
+ghost use Rattle.mdl_c_calls.specs.Exports.{Closes, Opens};
 
-use crate::codes::{CLOSED, DONE, IS_OPEN, NO_MEMORY, new_code};
-use crate::handle::Space;
-use crate::manager::Manager;
+use mdl_c_calls::Space;
 use std::alloc::Global;
 
 /// Makes a manager with this number of places and sessions, if there is none yet.
@@ -12,20 +9,7 @@ use std::alloc::Global;
 pub extern "C" fn mdl_open(alloc: Global, space: &mut Space, places: u16, sessions: u16) -> u32
     ensures { Opens places sessions space.old.handle.manager result space.new.handle.manager }
 {
-    if space.is_open() {
-        return IS_OPEN;
-    }
-    let manager = match Manager::new(alloc, places, sessions) {
-        Ok(manager) => manager,
-        Err(why) => return new_code(why),
-    };
-    match Box::new(alloc, manager) {
-        Ok(manager) => {
-            space.put(manager);
-            DONE
-        }
-        Err(_) => NO_MEMORY,
-    }
+    mdl_c_calls::mdl_open(alloc, space, places, sessions)
 }
 
 /// Frees the manager, with all that its sessions hold and wait for.
@@ -33,11 +17,5 @@ pub extern "C" fn mdl_open(alloc: Global, space: &mut Space, places: u16, sessio
 pub extern "C" fn mdl_close(alloc: Global, space: &mut Space) -> u32
     ensures { Closes space.old.handle.manager result space.new.handle.manager }
 {
-    match space.take(alloc) {
-        Some(manager) => {
-            drop(manager);
-            DONE
-        }
-        None => CLOSED,
-    }
+    mdl_c_calls::mdl_close(alloc, space)
 }

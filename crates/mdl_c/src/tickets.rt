@@ -1,11 +1,9 @@
 //! The calls that request a lock without waiting, and those that change held tickets.
-ghost use Rattle.std.specs.Prelude.{◌≡◌};
 ghost use Rattle.mdl_calls.specs.Words.{Clone_ticket, Downgrade, Merge, Release, Try_now, Upgrade_now};
-ghost use Rattle.mdl_c.specs.Codes.{mode_at, no_mode};
-ghost use Rattle.mdl_c.specs.Exports.{Nothing, Number, ServesDirect, ServesDirectWish};
+ghost use Rattle.mdl_c_calls.specs.Codes.{mode_at, no_mode};
+ghost use Rattle.mdl_c_calls.specs.Exports.{Nothing, Number, ServesDirect, ServesDirectWish};
 
-use crate::codes::{CLOSED, NO_MODE, attempt_code, clone_code, done_code, mode_of, upgrade_code};
-use crate::handle::Space;
+use mdl_c_calls::Space;
 use std::alloc::Global;
 
 /// Requests a lock, without waiting.
@@ -20,15 +18,7 @@ pub extern "C" fn mdl_try(
 ) -> u32
     ensures { ServesDirectWish no_mode (mode_at mode) (Try_now who place) who space.old.handle.manager result space.new.handle.manager (Number ticket.old ticket.new) }
 {
-    let Some(mode) = mode_of(mode) else {
-        return NO_MODE;
-    };
-    let Some(mut manager) = space.take(alloc) else {
-        return CLOSED;
-    };
-    let code = attempt_code(manager.try_now(who, place, mode), ticket);
-    space.put(manager);
-    code
+    mdl_c_calls::mdl_try(alloc, space, who, place, mode, ticket)
 }
 
 /// Releases a ticket.
@@ -36,12 +26,7 @@ pub extern "C" fn mdl_try(
 pub extern "C" fn mdl_release(alloc: Global, space: &mut Space, who: u16, ticket: u64) -> u32
     ensures { ServesDirect who (Release who ticket) space.old.handle.manager result space.new.handle.manager Nothing }
 {
-    let Some(mut manager) = space.take(alloc) else {
-        return CLOSED;
-    };
-    let code = done_code(manager.release(who, ticket));
-    space.put(manager);
-    code
+    mdl_c_calls::mdl_release(alloc, space, who, ticket)
 }
 
 /// Upgrades a held ticket to a stronger mode, without waiting.
@@ -55,15 +40,7 @@ pub extern "C" fn mdl_upgrade(
 ) -> u32
     ensures { ServesDirectWish no_mode (mode_at mode) (Upgrade_now who ticket) who space.old.handle.manager result space.new.handle.manager Nothing }
 {
-    let Some(mode) = mode_of(mode) else {
-        return NO_MODE;
-    };
-    let Some(mut manager) = space.take(alloc) else {
-        return CLOSED;
-    };
-    let code = upgrade_code(manager.upgrade_now(who, ticket, mode));
-    space.put(manager);
-    code
+    mdl_c_calls::mdl_upgrade(alloc, space, who, ticket, mode)
 }
 
 /// Downgrades a held ticket to a weaker mode.
@@ -77,15 +54,7 @@ pub extern "C" fn mdl_downgrade(
 ) -> u32
     ensures { ServesDirectWish no_mode (mode_at mode) (Downgrade who ticket) who space.old.handle.manager result space.new.handle.manager Nothing }
 {
-    let Some(mode) = mode_of(mode) else {
-        return NO_MODE;
-    };
-    let Some(mut manager) = space.take(alloc) else {
-        return CLOSED;
-    };
-    let code = done_code(manager.downgrade(who, ticket, mode));
-    space.put(manager);
-    code
+    mdl_c_calls::mdl_downgrade(alloc, space, who, ticket, mode)
 }
 
 /// Clones a held ticket: grants a second ticket of its place.
@@ -100,15 +69,7 @@ pub extern "C" fn mdl_clone(
 ) -> u32
     ensures { ServesDirectWish no_mode (mode_at mode) (Clone_ticket who ticket) who space.old.handle.manager result space.new.handle.manager (Number copy.old copy.new) }
 {
-    let Some(mode) = mode_of(mode) else {
-        return NO_MODE;
-    };
-    let Some(mut manager) = space.take(alloc) else {
-        return CLOSED;
-    };
-    let code = clone_code(manager.clone_ticket(who, ticket, mode), copy);
-    space.put(manager);
-    code
+    mdl_c_calls::mdl_clone(alloc, space, who, ticket, mode, copy)
 }
 
 /// Gives a held ticket the mode of another one of its place, and releases the other.
@@ -116,10 +77,5 @@ pub extern "C" fn mdl_clone(
 pub extern "C" fn mdl_merge(alloc: Global, space: &mut Space, who: u16, kept: u64, gone: u64) -> u32
     ensures { ServesDirect who (Merge who kept gone) space.old.handle.manager result space.new.handle.manager Nothing }
 {
-    let Some(mut manager) = space.take(alloc) else {
-        return CLOSED;
-    };
-    let code = done_code(manager.merge(who, kept, gone));
-    space.put(manager);
-    code
+    mdl_c_calls::mdl_merge(alloc, space, who, kept, gone)
 }

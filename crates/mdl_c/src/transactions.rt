@@ -4,21 +4,14 @@ ghost use Rattle.mdl_context.specs.Releases.{ending_statement, ending_transactio
 ghost use Rattle.mdl_context.specs.Requests.{acquiring};
 ghost use Rattle.mdl_context.specs.Upgrades.{downgrading, upgrading};
 ghost use Rattle.mdl_context.specs.Waits.{giving_up_wait, resuming};
-ghost use Rattle.mdl_c.specs.Codes.{mode_at, no_mode};
-ghost use Rattle.mdl_c.specs.ContextCodes.{acquire_code, acquire_told, done_code, mark_in_context, mark_told, namespace_at, resume_code, resume_told};
-ghost use Rattle.mdl_c.specs.Exports.{Replies, Tells};
-ghost use Rattle.mdl_c.specs.Managers.{context_fault};
-ghost use Rattle.mdl_c.specs.Names.{NamedIn};
-ghost use Rattle.mdl_c.specs.Transactions.{making_explicit, making_transactional, Begins, Ends, Given, Marks, ServesContext, Told, Untold, Wishes};
+ghost use Rattle.mdl_c_calls.specs.Codes.{mode_at, no_mode};
+ghost use Rattle.mdl_c_calls.specs.ContextCodes.{acquire_code, acquire_told, done_code, mark_in_context, mark_told, namespace_at, resume_code, resume_told};
+ghost use Rattle.mdl_c_calls.specs.Exports.{Replies, Tells};
+ghost use Rattle.mdl_c_calls.specs.Managers.{context_fault};
+ghost use Rattle.mdl_c_calls.specs.Names.{NamedIn};
+ghost use Rattle.mdl_c_calls.specs.Transactions.{making_explicit, making_transactional, Begins, Ends, Given, Marks, ServesContext, Told, Untold, Wishes};
 
-use crate::codes::{CLOSED, NO_MODE, mode_of};
-use crate::context_codes::{
-    NO_DURATION, acquire_code, duration_of, finish_code, mark_code, resume_code, served_code,
-};
-use crate::handle::Space;
-use crate::mark::Mark;
-use crate::names::key_of;
-use mdl_key::{Duration, Key, Mode};
+use mdl_c_calls::{Mark, Space};
 use std::alloc::Global;
 
 /// Begins a context, which keeps the session's tickets from now on.
@@ -26,12 +19,7 @@ use std::alloc::Global;
 pub extern "C" fn mdl_context_begin(alloc: Global, space: &mut Space, who: u16) -> u32
     ensures { Begins who space.old.handle.manager result space.new.handle.manager }
 {
-    let Some(mut manager) = space.take(alloc) else {
-        return CLOSED;
-    };
-    let code = served_code(manager.begin_context(alloc, who));
-    space.put(manager);
-    code
+    mdl_c_calls::mdl_context_begin(alloc, space, who)
 }
 
 /// Ends a session's context, which gives up its wait and releases all its tickets.
@@ -39,32 +27,7 @@ pub extern "C" fn mdl_context_begin(alloc: Global, space: &mut Space, who: u16) 
 pub extern "C" fn mdl_context_end(alloc: Global, space: &mut Space, who: u16) -> u32
     ensures { Ends who space.old.handle.manager result space.new.handle.manager }
 {
-    let Some(mut manager) = space.take(alloc) else {
-        return CLOSED;
-    };
-    let code = served_code(manager.end_context(who));
-    space.put(manager);
-    code
-}
-
-// Acquires a lock of a key, or begins to wait for it.
-fn acquire(
-    alloc: Global,
-    space: &mut Space,
-    who: u16,
-    key: &Key,
-    mode: Mode,
-    duration: Duration,
-    number: &mut u64,
-) -> u32
-    ensures { ServesContext who (acquiring (record { key = key.now; mode = mode; duration = duration })) acquire_code space.old.handle.manager result space.new.handle.manager (Told acquire_told number.old number.new) }
-{
-    let Some(mut manager) = space.take(alloc) else {
-        return CLOSED;
-    };
-    let code = acquire_code(manager.acquire(who, key, mode, duration), number);
-    space.put(manager);
-    code
+    mdl_c_calls::mdl_context_end(alloc, space, who)
 }
 
 /// Acquires a lock for this duration, or begins to wait for it.
@@ -84,16 +47,9 @@ pub extern "C" fn mdl_acquire(
         (λ wish. ServesContext who (acquiring wish) acquire_code space.old.handle.manager result space.new.handle.manager (Told acquire_told number.old number.new))
         (λ wrong. Tells wrong space.old.handle.manager result space.new.handle.manager × (number.new ≡ number.old)) }
 {
-    let Some(mode) = mode_of(mode) else {
-        return NO_MODE;
-    };
-    let Some(duration) = duration_of(duration) else {
-        return NO_DURATION;
-    };
-    match key_of(alloc, namespace, schema, table) {
-        Ok(key) => acquire(alloc, space, who, &key, mode, duration, number),
-        Err(code) => code,
-    }
+    mdl_c_calls::mdl_acquire(
+        alloc, space, who, namespace, schema, table, mode, duration, number,
+    )
 }
 
 /// Returns the state of the wait of a session's context, and ends the wait if it is settled.
@@ -101,12 +57,7 @@ pub extern "C" fn mdl_acquire(
 pub extern "C" fn mdl_resume(alloc: Global, space: &mut Space, who: u16, ticket: &mut u64) -> u32
     ensures { ServesContext who resuming resume_code space.old.handle.manager result space.new.handle.manager (Told resume_told ticket.old ticket.new) }
 {
-    let Some(mut manager) = space.take(alloc) else {
-        return CLOSED;
-    };
-    let code = resume_code(manager.resume(who), ticket);
-    space.put(manager);
-    code
+    mdl_c_calls::mdl_resume(alloc, space, who, ticket)
 }
 
 /// Gives up the wait of a session's context, unless it is settled already, and ends it.
@@ -114,12 +65,7 @@ pub extern "C" fn mdl_resume(alloc: Global, space: &mut Space, who: u16, ticket:
 pub extern "C" fn mdl_give_up(alloc: Global, space: &mut Space, who: u16, ticket: &mut u64) -> u32
     ensures { ServesContext who giving_up_wait resume_code space.old.handle.manager result space.new.handle.manager (Told resume_told ticket.old ticket.new) }
 {
-    let Some(mut manager) = space.take(alloc) else {
-        return CLOSED;
-    };
-    let code = resume_code(manager.give_up(who), ticket);
-    space.put(manager);
-    code
+    mdl_c_calls::mdl_give_up(alloc, space, who, ticket)
 }
 
 /// Upgrades a kept ticket to a stronger mode, or begins to wait for that.
@@ -136,15 +82,7 @@ pub extern "C" fn mdl_context_upgrade(
         (λ mode. ServesContext who (upgrading ticket mode) acquire_code space.old.handle.manager result space.new.handle.manager (Told acquire_told number.old number.new))
         (λ wrong. Tells wrong space.old.handle.manager result space.new.handle.manager × (number.new ≡ number.old)) }
 {
-    let Some(mode) = mode_of(mode) else {
-        return NO_MODE;
-    };
-    let Some(mut manager) = space.take(alloc) else {
-        return CLOSED;
-    };
-    let code = acquire_code(manager.upgrade(who, ticket, mode), number);
-    space.put(manager);
-    code
+    mdl_c_calls::mdl_context_upgrade(alloc, space, who, ticket, mode, number)
 }
 
 /// Downgrades a kept ticket to a weaker mode.
@@ -160,15 +98,7 @@ pub extern "C" fn mdl_context_downgrade(
         (λ mode. ServesContext who (downgrading ticket mode) done_code space.old.handle.manager result space.new.handle.manager Untold)
         (λ wrong. Tells wrong space.old.handle.manager result space.new.handle.manager) }
 {
-    let Some(mode) = mode_of(mode) else {
-        return NO_MODE;
-    };
-    let Some(mut manager) = space.take(alloc) else {
-        return CLOSED;
-    };
-    let code = finish_code(manager.downgrade_kept(who, ticket, mode));
-    space.put(manager);
-    code
+    mdl_c_calls::mdl_context_downgrade(alloc, space, who, ticket, mode)
 }
 
 /// Releases a kept ticket.
@@ -181,24 +111,7 @@ pub extern "C" fn mdl_context_release(
 ) -> u32
     ensures { ServesContext who (releasing ticket) done_code space.old.handle.manager result space.new.handle.manager Untold }
 {
-    let Some(mut manager) = space.take(alloc) else {
-        return CLOSED;
-    };
-    let code = finish_code(manager.release_kept(who, ticket));
-    space.put(manager);
-    code
-}
-
-// Releases all tickets of a key that the session's context keeps.
-fn release_name(alloc: Global, space: &mut Space, who: u16, key: &Key) -> u32
-    ensures { ServesContext who (releasing_name key.now) done_code space.old.handle.manager result space.new.handle.manager Untold }
-{
-    let Some(mut manager) = space.take(alloc) else {
-        return CLOSED;
-    };
-    let code = finish_code(manager.release_name(who, key));
-    space.put(manager);
-    code
+    mdl_c_calls::mdl_context_release(alloc, space, who, ticket)
 }
 
 /// Releases all tickets of a key that the session's context keeps.
@@ -215,10 +128,7 @@ pub extern "C" fn mdl_release_name(
         (λ key. ServesContext who (releasing_name key) done_code space.old.handle.manager result space.new.handle.manager Untold)
         (λ wrong. Tells wrong space.old.handle.manager result space.new.handle.manager) }
 {
-    match key_of(alloc, namespace, schema, table) {
-        Ok(key) => release_name(alloc, space, who, &key),
-        Err(code) => code,
-    }
+    mdl_c_calls::mdl_release_name(alloc, space, who, namespace, schema, table)
 }
 
 /// Writes a session's current mark: how many tickets its context keeps for the statement, and how many for the transaction.
@@ -226,12 +136,7 @@ pub extern "C" fn mdl_release_name(
 pub extern "C" fn mdl_savepoint(alloc: Global, space: &mut Space, who: u16, mark: &mut Mark) -> u32
     ensures { Replies context_fault who (Marks who) (λ _. 0) (Told mark_told mark.old mark.new) space.old.handle.manager result space.new.handle.manager }
 {
-    let Some(mut manager) = space.take(alloc) else {
-        return CLOSED;
-    };
-    let code = mark_code(manager.savepoint(who), mark);
-    space.put(manager);
-    code
+    mdl_c_calls::mdl_savepoint(alloc, space, who, mark)
 }
 
 /// Rolls back to a mark: of the statement's and of the transaction's tickets, keeps the earliest, as many as the mark counted, and releases the rest.
@@ -239,12 +144,7 @@ pub extern "C" fn mdl_savepoint(alloc: Global, space: &mut Space, who: u16, mark
 pub extern "C" fn mdl_rollback_to(alloc: Global, space: &mut Space, who: u16, mark: Mark) -> u32
     ensures { ServesContext who (rolling_back (mark_in_context mark)) done_code space.old.handle.manager result space.new.handle.manager Untold }
 {
-    let Some(mut manager) = space.take(alloc) else {
-        return CLOSED;
-    };
-    let code = finish_code(manager.rollback_to(who, mark.in_context()));
-    space.put(manager);
-    code
+    mdl_c_calls::mdl_rollback_to(alloc, space, who, mark)
 }
 
 /// Ends a statement: releases its tickets.
@@ -252,12 +152,7 @@ pub extern "C" fn mdl_rollback_to(alloc: Global, space: &mut Space, who: u16, ma
 pub extern "C" fn mdl_end_statement(alloc: Global, space: &mut Space, who: u16) -> u32
     ensures { ServesContext who ending_statement done_code space.old.handle.manager result space.new.handle.manager Untold }
 {
-    let Some(mut manager) = space.take(alloc) else {
-        return CLOSED;
-    };
-    let code = finish_code(manager.end_statement(who));
-    space.put(manager);
-    code
+    mdl_c_calls::mdl_end_statement(alloc, space, who)
 }
 
 /// Ends a transaction: releases the tickets of the statement and of the transaction.
@@ -265,12 +160,7 @@ pub extern "C" fn mdl_end_statement(alloc: Global, space: &mut Space, who: u16) 
 pub extern "C" fn mdl_end_transaction(alloc: Global, space: &mut Space, who: u16) -> u32
     ensures { ServesContext who ending_transaction done_code space.old.handle.manager result space.new.handle.manager Untold }
 {
-    let Some(mut manager) = space.take(alloc) else {
-        return CLOSED;
-    };
-    let code = finish_code(manager.end_transaction(who));
-    space.put(manager);
-    code
+    mdl_c_calls::mdl_end_transaction(alloc, space, who)
 }
 
 /// Makes all tickets explicit: the context keeps them until they are released.
@@ -278,12 +168,7 @@ pub extern "C" fn mdl_end_transaction(alloc: Global, space: &mut Space, who: u16
 pub extern "C" fn mdl_make_explicit(alloc: Global, space: &mut Space, who: u16) -> u32
     ensures { ServesContext who making_explicit done_code space.old.handle.manager result space.new.handle.manager Untold }
 {
-    let Some(mut manager) = space.take(alloc) else {
-        return CLOSED;
-    };
-    let code = finish_code(manager.make_explicit(who));
-    space.put(manager);
-    code
+    mdl_c_calls::mdl_make_explicit(alloc, space, who)
 }
 
 /// Makes the explicit tickets, except those of user-level locks, last until the transaction ends.
@@ -291,10 +176,5 @@ pub extern "C" fn mdl_make_explicit(alloc: Global, space: &mut Space, who: u16) 
 pub extern "C" fn mdl_make_transactional(alloc: Global, space: &mut Space, who: u16) -> u32
     ensures { ServesContext who making_transactional done_code space.old.handle.manager result space.new.handle.manager Untold }
 {
-    let Some(mut manager) = space.take(alloc) else {
-        return CLOSED;
-    };
-    let code = finish_code(manager.make_transactional(who));
-    space.put(manager);
-    code
+    mdl_c_calls::mdl_make_transactional(alloc, space, who)
 }

@@ -1,13 +1,9 @@
 //! The calls that begin, settle, end and observe waits.
-ghost use Rattle.std.specs.Prelude.{◌≡◌};
 ghost use Rattle.mdl_calls.specs.Words.{Begin_wait, End_wait, Kill, Poll_wait, Search, Settle_timeout};
-ghost use Rattle.mdl_c.specs.Codes.{mode_at, no_mode};
-ghost use Rattle.mdl_c.specs.Exports.{Nothing, Number, Serves, ServesAnybody, ServesDirect, ServesDirectWish};
+ghost use Rattle.mdl_c_calls.specs.Codes.{mode_at, no_mode};
+ghost use Rattle.mdl_c_calls.specs.Exports.{Nothing, Number, Serves, ServesAnybody, ServesDirect, ServesDirectWish};
 
-use crate::codes::{
-    CLOSED, NO_MODE, begun_code, end_code, kill_code, mode_of, poll_code, search_code, timeout_code,
-};
-use crate::handle::Space;
+use mdl_c_calls::Space;
 use std::alloc::Global;
 
 /// Requests a lock, and begins to wait for it if it can't be granted now.
@@ -22,15 +18,7 @@ pub extern "C" fn mdl_begin(
 ) -> u32
     ensures { ServesDirectWish no_mode (mode_at mode) (Begin_wait who place) who space.old.handle.manager result space.new.handle.manager (Number number.old number.new) }
 {
-    let Some(mode) = mode_of(mode) else {
-        return NO_MODE;
-    };
-    let Some(mut manager) = space.take(alloc) else {
-        return CLOSED;
-    };
-    let code = begun_code(manager.begin_wait(who, place, mode), number);
-    space.put(manager);
-    code
+    mdl_c_calls::mdl_begin(alloc, space, who, place, mode, number)
 }
 
 /// Looks for a deadlock that the session is part of. If there is one, settles the wait of its victim, and writes the victim's session.
@@ -38,12 +26,7 @@ pub extern "C" fn mdl_begin(
 pub extern "C" fn mdl_search(alloc: Global, space: &mut Space, who: u16, victim: &mut u16) -> u32
     ensures { ServesDirect who (Search who) space.old.handle.manager result space.new.handle.manager (Number victim.old victim.new) }
 {
-    let Some(mut manager) = space.take(alloc) else {
-        return CLOSED;
-    };
-    let code = search_code(manager.seek(who), victim);
-    space.put(manager);
-    code
+    mdl_c_calls::mdl_search(alloc, space, who, victim)
 }
 
 /// Returns the state of a session's wait.
@@ -51,12 +34,7 @@ pub extern "C" fn mdl_search(alloc: Global, space: &mut Space, who: u16, victim:
 pub extern "C" fn mdl_poll(alloc: Global, space: &mut Space, who: u16) -> u32
     ensures { Serves who (Poll_wait who) space.old.handle.manager result space.new.handle.manager Nothing }
 {
-    let Some(mut manager) = space.take(alloc) else {
-        return CLOSED;
-    };
-    let code = poll_code(manager.poll_wait(who));
-    space.put(manager);
-    code
+    mdl_c_calls::mdl_poll(alloc, space, who)
 }
 
 /// Ends a session's wait, which must be settled.
@@ -64,12 +42,7 @@ pub extern "C" fn mdl_poll(alloc: Global, space: &mut Space, who: u16) -> u32
 pub extern "C" fn mdl_end(alloc: Global, space: &mut Space, who: u16, ticket: &mut u64) -> u32
     ensures { ServesDirect who (End_wait who) space.old.handle.manager result space.new.handle.manager (Number ticket.old ticket.new) }
 {
-    let Some(mut manager) = space.take(alloc) else {
-        return CLOSED;
-    };
-    let code = end_code(manager.end_wait(who), ticket);
-    space.put(manager);
-    code
+    mdl_c_calls::mdl_end(alloc, space, who, ticket)
 }
 
 /// Settles a session's wait as a timeout, unless it is settled already. Returns how it is settled then.
@@ -77,12 +50,7 @@ pub extern "C" fn mdl_end(alloc: Global, space: &mut Space, who: u16, ticket: &m
 pub extern "C" fn mdl_time_out(alloc: Global, space: &mut Space, who: u16) -> u32
     ensures { Serves who (Settle_timeout who) space.old.handle.manager result space.new.handle.manager Nothing }
 {
-    let Some(mut manager) = space.take(alloc) else {
-        return CLOSED;
-    };
-    let code = timeout_code(manager.settle_timeout(who));
-    space.put(manager);
-    code
+    mdl_c_calls::mdl_time_out(alloc, space, who)
 }
 
 /// Settles the wait of this number of any session as killed, unless it is settled already or there is none.
@@ -90,10 +58,5 @@ pub extern "C" fn mdl_time_out(alloc: Global, space: &mut Space, who: u16) -> u3
 pub extern "C" fn mdl_kill(alloc: Global, space: &mut Space, target: u16, number: u64) -> u32
     ensures { ServesAnybody (Kill target number) space.old.handle.manager result space.new.handle.manager }
 {
-    let Some(mut manager) = space.take(alloc) else {
-        return CLOSED;
-    };
-    let code = kill_code(manager.kill(target, number));
-    space.put(manager);
-    code
+    mdl_c_calls::mdl_kill(alloc, space, target, number)
 }

@@ -1,0 +1,84 @@
+-- What C can read of the locks: which waits are settled, what a session holds, which keys there are, and who holds and waits for each lock. That is
+-- what the table metadata_locks of MySQL 5.7's Performance Schema shows. The form is this project's own. Reading changes nothing.
+use Rattle.std.specs.Prelude.{◌≡◌, ◌≤◌, ℕ, ◌-◌, Bool, ◌&&◌, ◌==◌, List, ◌++◌, length, map, take, drop, Option, Some, None, MatchOption, if◌then◌else◌}
+use Rattle.std.specs.Int.{bit_at}
+use Rattle.mdl_key.specs.Words.{mode_rank, most_sessions}
+use Rattle.mdl_book.specs.declared.book_view.BookView.{BookView}
+use Rattle.mdl_book.specs.declared.ticket.Ticket.{Ticket}
+use Rattle.mdl_calls.specs.declared.answers.Held.{Held}
+use Rattle.mdl_calls.specs.Words.{Holds}
+use Rattle.mdl_core.specs.CoreCalls.{has_settled}
+use Rattle.mdl_core.specs.Words.{Core, book_at, has_key}
+use Rattle.mdl_c_calls.specs.declared.rows.HeldRow.{HeldRow}
+use Rattle.mdl_c_calls.specs.declared.rows.LockRow.{LockRow}
+use Rattle.mdl_c_calls.specs.Codes.{closed, no_place}
+use Rattle.mdl_c_calls.specs.Exports.{Beside, Tells}
+use Rattle.mdl_c_calls.specs.Managers.{Managed, has_member}
+
+-- ---- lists in the caller's memory
+
+-- the room after a list is written: as many entries as fit, and behind them what was there before
+abbrev pub written : {T : Type 0} → List T → List T → List T
+written items room = take (length room) items ++ drop (length items) room
+
+-- a list is written as far as there is room, and the count is the length of the whole list
+abbrev pub IsTold : {T : Type 0} → List T → List T → List T → ℕ → Type 0
+IsTold items before after count = (after ≡ written items before) × (count ≡ length items)
+
+-- no list is written: room and count are unchanged
+abbrev pub IsKept : {T : Type 0} → List T → List T → ℕ → ℕ → Type 0
+IsKept before after old_count count = (after ≡ before) × (count ≡ old_count)
+
+-- ---- what is shown
+
+-- a call shows the manager and doesn't change it. If there is none, it returns the code for that and writes nothing
+abbrev pub Shows : Option Managed → ℕ → Option Managed → Type 0 → (Managed → Type 0) → Type 0
+Shows None code after Kept Shown = Tells closed None code after × Kept
+Shows (Some manager) code after Kept Shown = (after ≡ Some manager) × Shown manager
+
+-- the book of a place, if the place has a key
+abbrev pub keyed_book : ℕ → Core → Option BookView
+keyed_book place space = if has_key place space then Some (book_at place space) else None
+
+-- a call shows the lock of a place. If the place has no key, it returns the code for that and writes nothing
+abbrev pub ShowsLock : ℕ → Option Managed → ℕ → Option Managed → Type 0 → (BookView → Type 0) → Type 0
+ShowsLock place before code after Kept Shown =
+    Shows before code after Kept (λ manager.
+    MatchOption (keyed_book place manager.space) ((code ≡ no_place) × Kept) (λ book. (code ≡ 0) × Shown book))
+
+-- ---- settled waits
+
+-- whether a session of the manager has a wait that is settled, and not ended
+abbrev pub has_settled_wait : Managed → ℕ → Bool
+has_settled_wait manager who = has_member who manager && has_settled manager.space who
+
+-- the bits of a number, from the lowest on, are those of the sessions from 1: each is set exactly if its session has a settled wait
+abbrev pub TellsSettled : Managed → ℕ → Type 0
+TellsSettled manager sessions =
+    (who : ℕ) → 1 ≤ who → who ≤ most_sessions → (bit_at sessions (who - 1) == 1) ≡ has_settled_wait manager who
+
+-- ---- tickets
+
+-- the row of a held ticket. The mode is a number
+abbrev pub held_row : Held → HeldRow
+held_row held = record { ticket = held.id; place = held.place; mode = mode_rank held.mode }
+
+-- the tickets that an answer lists are written, in the order in which the session got them. If the answer is no list, nothing is written
+abbrev pub HeldTold : List HeldRow → List HeldRow → ℕ → ℕ → Beside
+HeldTold before after old_count count (Some (Holds tickets)) = IsTold (map held_row tickets) before after count
+HeldTold before after old_count count _ = IsKept before after old_count count
+
+-- the status of a ticket in a book: granted, or waiting, which the Performance Schema calls pending
+abbrev pub granted_status : ℕ
+granted_status = 0
+
+abbrev pub pending_status : ℕ
+pending_status = 1
+
+-- the row of a ticket with this status. The mode is a number
+abbrev pub lock_row : ℕ → Ticket → LockRow
+lock_row status ticket = record { ticket = ticket.number; session = ticket.session; mode = mode_rank ticket.mode; status = status }
+
+-- the tickets of a lock: the granted ones, in the order in which they were granted, and then the waiting ones, in the order of arrival
+abbrev pub lock_rows : BookView → List LockRow
+lock_rows book = map (lock_row granted_status) book.granted ++ map (lock_row pending_status) book.waiting

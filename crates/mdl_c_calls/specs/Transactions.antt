@@ -1,0 +1,118 @@
+-- What a call from C does to the context of a session, and the code that it returns. The calls of contexts are those of `mdl_context`. That a session
+-- has a context or makes direct calls by the numbers of its tickets, and never both, is this project's own choice.
+use Rattle.std.specs.Prelude.{◌≡◌, ◌⊎◌, ℕ, ◌-◌, Bool, not, ◌&&◌, ◌==◌, List, [], length, map, slice_set, Option, Some, None, is_some, MatchOption, Result, Ok, if◌then◌else◌}
+use Rattle.std.specs.Option.{option_or}
+use Rattle.mdl_key.specs.declared.mode.Duration.TheVariants.{Explicit}
+use Rattle.mdl_calls.specs.Words.{Own, Program, Give, ◌>>=◌, Runs}
+use Rattle.mdl_core.specs.Words.{Core, own_at}
+use Rattle.mdl_space.specs.CoreMembers.{core_space}
+use Rattle.mdl_context.specs.declared.context_error.ContextError.{ContextError}
+use Rattle.mdl_context.specs.declared.kept.Wanted.{Wanted}
+use Rattle.mdl_context.specs.declared.request.Mark.{Mark}
+use Rattle.mdl_context.specs.Contexts.{ContextView, mark_of}
+use Rattle.mdl_context.specs.Holdings.{kept_for, transactional}
+use Rattle.mdl_context.specs.Releases.{giving_up_all, unless, waiting_fault}
+use Rattle.mdl_context.specs.Requests.{Outcome}
+use Rattle.mdl_context.specs.Waits.{giving_up_wait}
+use Rattle.mdl_context.specs.Wishes.{Wish}
+use Rattle.mdl_c_calls.specs.Codes.{closed, mode_at, no_memory, no_mode}
+use Rattle.mdl_c_calls.specs.ContextCodes.{duration_at, namespace_at, no_duration, unserved_code}
+use Rattle.mdl_c_calls.specs.Exports.{Replies, Tells}
+use Rattle.mdl_c_calls.specs.Managers.{Managed, context_fault, direct_fault, seat_of}
+use Rattle.mdl_c_calls.specs.Names.{NamedIn}
+use Rattle.mdl_c_calls.specs.declared.seat.Seat.{Seat}
+use Rattle.mdl_c_calls.specs.declared.seat.Seat.TheVariants.{Direct, Kept}
+use Rattle.mdl_c_calls.specs.declared.unserved.Unserved.{Unserved}
+use Rattle.mdl_c_calls.specs.declared.unserved.Unserved.TheVariants.{InUse}
+
+-- the manager with another seat for a session
+abbrev pub seating : ℕ → Seat → Managed → Managed
+seating who seat manager = record manager { seats = slice_set manager.seats (who - 1) seat }
+
+-- ---- calls of contexts that make no call of the space
+
+-- all tickets become explicit: they are kept until they are released
+abbrev pub making_explicit : ContextView → Program (Outcome (Unit {0}))
+making_explicit context =
+    unless (waiting_fault context) context (Give (Ok tt, record context { kept = map (kept_for Explicit) context.kept }))
+
+-- the explicit tickets, except those of user-level locks, are kept until the transaction ends
+abbrev pub making_transactional : ContextView → Program (Outcome (Unit {0}))
+making_transactional context = unless (waiting_fault context) context (Give (Ok tt, record context { kept = map (transactional context.known) context.kept }))
+
+-- ---- the call of a session's context
+
+-- the session's context runs this program over the space, and nothing else changes
+abbrev pub RunsFor : {A : Type 0} → ℕ → (ContextView → Program (Outcome A)) → Result A ContextError → Managed → Managed → Type 0
+RunsFor who program result before after =
+    (context : ContextView) × (next : ContextView) × (space : Core) × (seat_of who before ≡ Some (Kept context))
+    × Runs core_space.joins before.space (program context) (result, next) space
+    × (after ≡ seating who (Kept next) (record before { space = space }))
+
+-- the context returns a mark of its tickets, and nothing changes
+abbrev pub Marks : ℕ → Mark → Managed → Managed → Type 0
+Marks who mark before after = (context : ContextView) × (seat_of who before ≡ Some (Kept context)) × (mark ≡ mark_of context.kept) × (after ≡ before)
+
+-- a call of a session's context, or its refusal if the session has none
+abbrev pub ServesContext : {A : Type 0} → ℕ → (ContextView → Program (Outcome A)) → (Result A ContextError → ℕ) → Option Managed → ℕ → Option Managed
+    → (Option (Result A ContextError) → Type 0) → Type 0
+ServesContext who program code_for before code after beside = Replies context_fault who (RunsFor who program) code_for beside before code after
+
+-- the call writes what it reports over what was there before
+abbrev pub Told : {R T : Type 0} → (Option R → T → T) → T → T → Option R → Type 0
+Told told old new answer = new ≡ told answer old
+
+-- the call writes nothing
+abbrev pub Untold : {R : Type 0} → Option R → Type 0
+Untold answer = Unit {0}
+
+-- ---- wishes
+
+-- `Done` holds of what a number names, or `Refused` of the code if it names nothing
+abbrev pub Given : {W : Type 0} → ℕ → Option W → (W → Type 0) → (ℕ → Type 0) → Type 0
+Given wrong None Done Refused = Refused wrong
+Given wrong (Some wish) Done Refused = Done wish
+
+-- `Done` holds of the wish (a request) with these numbers of mode and duration, and this number and names of the key, or `Refused` of a code
+abbrev pub Wishes : ℕ → List ℕ → List ℕ → ℕ → ℕ → (Wish → Type 0) → (ℕ → Type 0) → Type 0
+Wishes namespace schema table mode duration Done Refused =
+    Given no_mode (mode_at mode) (λ mode. Given no_duration (duration_at duration) (λ duration.
+    NamedIn (namespace_at namespace) schema table (λ key. Done (record { key = key; mode = mode; duration = duration })) Refused) Refused) Refused
+
+-- ---- the begin and end of a session's context
+
+-- the context of a session that has nothing
+abbrev pub new_context : ℕ → ContextView
+new_context who = record { who = who; kept = []; known = []; wait = None }
+
+-- whether a session holds no ticket and has no wait
+abbrev pub has_nothing : Own → Bool
+has_nothing own = length own.held == 0 && not (is_some own.wait)
+
+-- why a context can't begin: there is no such session, it has a context, or it holds a ticket or has a wait
+abbrev pub begin_fault : ℕ → Managed → Option Unserved
+begin_fault who manager =
+    option_or (direct_fault (seat_of who manager)) (if has_nothing (own_at manager.space who) then None else Some InUse)
+
+-- a context begins for a session. Listing what the session holds may run out of memory
+abbrev pub Begins : ℕ → Option Managed → ℕ → Option Managed → Type 0
+Begins who None code after = Tells closed None code after
+Begins who (Some manager) code after =
+    MatchOption (begin_fault who manager) ((code ≡ 0) × (after ≡ Some (seating who (Kept (new_context who)) manager)))
+    (λ (why : Unserved). Tells (unserved_code why) (Some manager) code after)
+    ⊎ ((direct_fault (seat_of who manager) ≡ None) × Tells no_memory (Some manager) code after)
+
+-- a context gives up this wait, if there is one, and then releases all tickets
+abbrev pub leaving_from : Option Wanted → ContextView → Program (Outcome (Unit {0}))
+leaving_from None context = giving_up_all context
+leaving_from (Some wanted) context = giving_up_wait context >>= (λ outcome. giving_up_all outcome.1)
+
+-- a session's context gives up its wait and releases its tickets, and the session has no context any more
+abbrev pub Leaves : ℕ → Unit {0} → Managed → Managed → Type 0
+Leaves who done before after =
+    (context : ContextView) × (next : ContextView) × (space : Core) × (seat_of who before ≡ Some (Kept context))
+    × Runs core_space.joins before.space (leaving_from context.wait context) (Ok tt, next) space
+    × (next.kept ≡ []) × (next.wait ≡ None) × (after ≡ seating who Direct (record before { space = space }))
+
+abbrev pub Ends : ℕ → Option Managed → ℕ → Option Managed → Type 0
+Ends who before code after = Replies context_fault who (Leaves who) (λ _. 0) Untold before code after

@@ -1,0 +1,139 @@
+//! The codes of the calls that are refused if a session has a context, and of the calls of contexts.
+ghost use Rattle.std.specs.Prelude.{◌≡◌};
+ghost use Rattle.std.specs.Result.{result_ok};
+ghost use Rattle.mdl_c_calls.specs.ContextCodes.{acquire_code, acquire_told, done_code, duration_at, fault_code, mark_told, namespace_at, resume_code, resume_told, served_code, unserved_code};
+
+use crate::codes::{DONE, NO_MEMORY, NO_SESSION, WAITING, cause_code, settled_code};
+use crate::mark::Mark;
+use crate::unserved::Unserved;
+use mdl_context::{Acquire, ContextError, Resume};
+use mdl_key::{Duration, Namespace};
+
+pub const NO_DURATION: u32 = 28;
+
+pub const NO_NAMESPACE: u32 = 29;
+
+/// Returns the duration of a number, if there is one.
+pub fn duration_of(number: u8) -> Option<Duration>
+    ensures { result ≡ duration_at number }
+{
+    match number {
+        0 => Some(Duration::Statement),
+        1 => Some(Duration::Transaction),
+        2 => Some(Duration::Explicit),
+        _ => None,
+    }
+}
+
+/// Returns the namespace of a number, if there is one.
+pub fn namespace_of(number: u8) -> Option<Namespace>
+    ensures { result ≡ namespace_at number }
+{
+    match number {
+        0 => Some(Namespace::Global),
+        1 => Some(Namespace::Schema),
+        2 => Some(Namespace::Table),
+        3 => Some(Namespace::Commit),
+        4 => Some(Namespace::UserLevelLock),
+        _ => None,
+    }
+}
+
+/// Returns the code that says why a manager refuses a session's call.
+pub fn unserved_code(why: Unserved) -> u32
+    ensures { result ≡ unserved_code why }
+{
+    match why {
+        Unserved::NoSession => NO_SESSION,
+        Unserved::HasContext => 25,
+        Unserved::NoContext => 26,
+        Unserved::InUse => 27,
+        Unserved::OutOfMemory => NO_MEMORY,
+    }
+}
+
+/// Returns the code that says why a context refuses a call.
+pub fn fault_code(fault: ContextError) -> u32
+    ensures { result ≡ fault_code fault }
+{
+    match fault {
+        ContextError::StaleSavepoint => 48,
+        ContextError::NotHeld => 49,
+        ContextError::Waiting => 50,
+        ContextError::Space(cause) => cause_code(cause),
+    }
+}
+
+/// Writes the number of the ticket or of the wait, if there is one, and returns the code.
+pub fn acquire_code(
+    answer: Result<Result<Acquire, ContextError>, Unserved>,
+    number: &mut u64,
+) -> u32
+    ensures code { result ≡ served_code acquire_code answer }
+    ensures told { number.new ≡ acquire_told (result_ok answer) number.old }
+{
+    match answer {
+        Ok(Ok(Acquire::Acquired(id))) => {
+            *number = id;
+            DONE
+        }
+        Ok(Ok(Acquire::MustWait(wait))) => {
+            *number = wait;
+            WAITING
+        }
+        Ok(Err(fault)) => fault_code(fault),
+        Err(why) => unserved_code(why),
+    }
+}
+
+/// Writes the ticket, if the wait has ended with one, and returns the code of the wait's state.
+pub fn resume_code(answer: Result<Result<Resume, ContextError>, Unserved>, ticket: &mut u64) -> u32
+    ensures code { result ≡ served_code resume_code answer }
+    ensures told { ticket.new ≡ resume_told (result_ok answer) ticket.old }
+{
+    match answer {
+        Ok(Ok(Resume::Waiting)) => WAITING,
+        Ok(Ok(Resume::Acquired(id))) => {
+            *ticket = id;
+            DONE
+        }
+        Ok(Ok(Resume::Lost(how))) => settled_code(how),
+        Ok(Err(fault)) => fault_code(fault),
+        Err(why) => unserved_code(why),
+    }
+}
+
+/// Returns the code of a call that is done or refused.
+pub fn finish_code(answer: Result<Result<(), ContextError>, Unserved>) -> u32
+    ensures { result ≡ served_code done_code answer }
+{
+    match answer {
+        Ok(Ok(())) => DONE,
+        Ok(Err(fault)) => fault_code(fault),
+        Err(why) => unserved_code(why),
+    }
+}
+
+/// Writes the session's mark, unless the call is refused, and returns the code.
+pub fn mark_code(answer: Result<mdl_context::Mark, Unserved>, mark: &mut Mark) -> u32
+    ensures code { result ≡ served_code (λ _. 0) answer }
+    ensures told { mark.new ≡ mark_told (result_ok answer) mark.old }
+{
+    match answer {
+        Ok(now) => {
+            *mark = Mark::of(now);
+            DONE
+        }
+        Err(why) => unserved_code(why),
+    }
+}
+
+/// Returns the code of a call that is done, unless the manager refuses it.
+pub fn served_code(answer: Result<(), Unserved>) -> u32
+    ensures { result ≡ served_code (λ _. 0) answer }
+{
+    match answer {
+        Ok(()) => DONE,
+        Err(why) => unserved_code(why),
+    }
+}

@@ -1,0 +1,113 @@
+//! What the C program's memory holds of a manager: a pointer to its box, or null.
+ghost use Rattle.std.specs.Prelude.{◌≡◌, true, None, Some, is_some, Option, MatchOption};
+ghost use Rattle.mdl_c_calls.specs.Handles.{keeps};
+ghost use Rattle.mdl_c_calls.specs.Managers.{Managed};
+ghost use Rattle.mdl_c_calls.specs.contracts.manager.Manager.{the_row};
+
+use crate::manager::Manager;
+use crate::parts::Parts;
+use std::alloc::Global;
+use std::marker::Model;
+use std::{mem, ptr};
+
+/// A manager's box, or none.
+#[derive(Drop)]
+#[repr(C)]
+pub struct Handle {
+    at: *mut u8,
+    alloc: Global,
+    pub ghost manager: { Option Managed },
+}
+
+impl Model for Handle {
+    ghost also_owns = { λ h. keeps h.alloc the_row h.at h.manager };
+}
+
+impl Handle {
+    fn none(alloc: Global) -> Handle
+        ensures { result.manager ≡ None }
+    {
+        Handle {
+            at: ptr::null_mut(),
+            alloc,
+        }
+    }
+
+    fn of_parts(parts: Parts<Manager, Global>) -> Handle
+        ensures { result.manager ≡ Some parts.value }
+    {
+        let Parts { ptr, alloc } = parts;
+        Handle {
+            at: ptr as *mut u8,
+            alloc,
+        }
+    }
+
+    fn into_parts(self) -> Parts<Manager, Global>
+        requires { is_some self.manager ≡ true }
+        ensures { self.manager ≡ Some result.value }
+    {
+        let Handle { at, alloc } = self;
+        Parts {
+            ptr: at as *mut Manager,
+            alloc,
+        }
+    }
+}
+
+unsafe impl Send for Handle {}
+
+/// A manager, or the room for one, in memory of the C program: `struct mdl_space` of `mdl.h`. All of its bytes are 0 if there is none.
+#[derive(Drop)]
+#[repr(C)]
+pub struct Space {
+    pub handle: Handle,
+    is_open: bool,
+    ghost tells: { is_some handle.manager ≡ is_open },
+}
+
+impl Space {
+    /// Whether there is a manager.
+    pub(crate) fn is_open(&self) -> bool
+        ensures { result ≡ is_some self.now.handle.manager }
+    {
+        self.is_open
+    }
+
+    /// Takes the manager out, if there is one.
+    pub(crate) fn take(&mut self, alloc: Global) -> Option<Box<Manager, Global>>
+        ensures taken { MatchOption result (self.old.handle.manager ≡ None) (λ b. self.old.handle.manager ≡ Some b.value) }
+        ensures left { self.new.handle.manager ≡ None }
+    {
+        let was = mem::replace(
+            self,
+            Space {
+                handle: Handle::none(alloc),
+                is_open: false,
+            },
+        );
+        if !was.is_open {
+            return None;
+        }
+        let Space { handle, is_open: _ } = was;
+        Some(handle.into_parts().into_box())
+    }
+
+    /// Puts a manager in, where there is none: one that is there would never be freed.
+    pub(crate) fn put(&mut self, manager: Box<Manager, Global>)
+        requires empty { self.old.handle.manager ≡ None }
+        ensures { self.new.handle.manager ≡ Some manager.value }
+    {
+        *self = Space {
+            handle: Handle::of_parts(Parts::of(manager)),
+            is_open: true,
+        };
+    }
+}
+
+fn crosses<T: Send>() {}
+
+/// A manager may be sent from one thread of the C program to another: a law, proved as the contract of a function that does nothing.
+pub fn spaces_cross() {
+    crosses::<Space>();
+}

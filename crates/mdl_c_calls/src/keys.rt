@@ -1,0 +1,70 @@
+//! The calls that return the place of a key.
+ghost use Rattle.std.specs.Prelude.{◌≡◌};
+ghost use Rattle.std.specs.Str.{IsUtf8};
+ghost use Rattle.mdl_key.specs.Keys.{commit_key, global_key, name_fault, schema_key, table_fault, table_key};
+ghost use Rattle.mdl_calls.specs.Words.{Resolve};
+ghost use Rattle.mdl_c_calls.specs.Exports.{Number, Serves, Tells};
+ghost use Rattle.mdl_c_calls.specs.Names.{Named};
+
+use crate::codes::{CLOSED, place_code};
+use crate::handle::Space;
+use crate::names::{schema_of, table_of};
+use mdl_key::Key;
+use std::alloc::Global;
+
+// Writes the place of a key.
+fn resolve(alloc: Global, space: &mut Space, who: u16, key: &Key, place: &mut u16) -> u32
+    ensures { Serves who (Resolve who key.now) space.old.handle.manager result space.new.handle.manager (Number place.old place.new) }
+{
+    let Some(mut manager) = space.take(alloc) else {
+        return CLOSED;
+    };
+    let code = place_code(manager.resolve(who, key), place);
+    space.put(manager);
+    code
+}
+
+/// Writes the place of a table's key.
+pub fn mdl_table(
+    alloc: Global,
+    space: &mut Space,
+    who: u16,
+    schema: &[u8],
+    table: &[u8],
+    place: &mut u16,
+) -> u32
+    ensures { Named (IsUtf8 schema.now × IsUtf8 table.now) (table_fault schema.now table.now)
+        (Serves who (Resolve who (table_key schema.now table.now)) space.old.handle.manager result space.new.handle.manager (Number place.old place.new))
+        (λ wrong. Tells wrong space.old.handle.manager result space.new.handle.manager × (place.new ≡ place.old)) }
+{
+    match table_of(alloc, schema, table) {
+        Ok(key) => resolve(alloc, space, who, &key, place),
+        Err(code) => code,
+    }
+}
+
+/// Writes the place of a schema's key.
+pub fn mdl_schema(alloc: Global, space: &mut Space, who: u16, schema: &[u8], place: &mut u16) -> u32
+    ensures { Named (IsUtf8 schema.now) (name_fault schema.now)
+        (Serves who (Resolve who (schema_key schema.now)) space.old.handle.manager result space.new.handle.manager (Number place.old place.new))
+        (λ wrong. Tells wrong space.old.handle.manager result space.new.handle.manager × (place.new ≡ place.old)) }
+{
+    match schema_of(alloc, schema) {
+        Ok(key) => resolve(alloc, space, who, &key, place),
+        Err(code) => code,
+    }
+}
+
+/// Writes the place of the key of the global read lock.
+pub fn mdl_global(alloc: Global, space: &mut Space, who: u16, place: &mut u16) -> u32
+    ensures { Serves who (Resolve who global_key) space.old.handle.manager result space.new.handle.manager (Number place.old place.new) }
+{
+    resolve(alloc, space, who, &Key::global(alloc), place)
+}
+
+/// Writes the place of the key that commits take.
+pub fn mdl_commit(alloc: Global, space: &mut Space, who: u16, place: &mut u16) -> u32
+    ensures { Serves who (Resolve who commit_key) space.old.handle.manager result space.new.handle.manager (Number place.old place.new) }
+{
+    resolve(alloc, space, who, &Key::commit(alloc), place)
+}

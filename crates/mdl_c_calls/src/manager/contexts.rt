@@ -1,0 +1,258 @@
+//! The calls of the sessions' contexts, and those that begin and end contexts.
+ghost use Rattle.std.specs.Prelude.{◌≡◌, ◌⊎◌, Some, None, Ok, [], MatchResult};
+ghost use Rattle.mdl_space.specs.CoreMembers.{core_space};
+ghost use Rattle.mdl_calls.specs.Words.{Runs};
+ghost use Rattle.mdl_context.specs.Contexts.{Attends, LeavesOthers};
+ghost use Rattle.mdl_context.specs.Releases.{ending_statement, ending_transaction, releasing, releasing_name, rolling_back};
+ghost use Rattle.mdl_context.specs.Requests.{acquiring};
+ghost use Rattle.mdl_context.specs.Upgrades.{downgrading, upgrading};
+ghost use Rattle.mdl_context.specs.Waits.{giving_up_wait, resuming};
+ghost use Rattle.mdl_c_calls.specs.Managers.{context_fault, direct_fault, seat_of, Asks};
+ghost use Rattle.mdl_c_calls.specs.Transactions.{begin_fault, leaving_from, making_explicit, making_transactional, new_context, seating, Leaves, Marks, RunsFor};
+ghost use Rattle.mdl_c_calls.specs.declared.seat.Seat.TheVariants.{Kept};
+
+use super::Manager;
+use crate::seat::Seat;
+use crate::unserved::Unserved;
+use mdl_context::{Acquire, Context, ContextError, Mark, Request, Resume};
+use mdl_key::{Duration, Key, Mode};
+use mdl_space::{CoreSpace, LockSpace, TicketId};
+use std::alloc::Global;
+
+impl Manager {
+    /// Begins a context, which keeps the session's tickets from now on.
+    pub fn begin_context(&mut self, alloc: Global, who: u16) -> Result<(), Unserved>
+        ensures { MatchResult result
+            (λ _. (begin_fault who self.old ≡ None) × (self.new ≡ seating who (Kept (new_context who)) self.old))
+            (λ why. ((begin_fault who self.old ≡ Some why) ⊎ ((direct_fault (seat_of who self.old) ≡ None) × (why ≡ Unserved.OutOfMemory))) × (self.new ≡ self.old)) }
+    {
+        self.check_unused(who)?;
+        self.seats[usize::from(who) - 1] = Seat::Kept(Context::new(alloc, who));
+        Ok(())
+    }
+
+    // Checks that there is such a session, and that it has no context, no ticket and no wait.
+    fn check_unused(&mut self, who: u16) -> Result<(), Unserved>
+        ensures fault { MatchResult result (λ _. begin_fault who self.old ≡ None) (λ why. (begin_fault who self.old ≡ Some why) ⊎ ((direct_fault (seat_of who self.old) ≡ None) × (why ≡ Unserved.OutOfMemory))) }
+        ensures same { self.new ≡ self.old }
+    {
+        self.check_direct(who)?;
+        if self.space.wait_of(who).is_some() {
+            return Err(Unserved::InUse);
+        }
+        match self.space.held(who) {
+            Ok(tickets) if tickets.is_empty() => Ok(()),
+            Ok(_) => Err(Unserved::InUse),
+            Err(_) => Err(Unserved::OutOfMemory),
+        }
+    }
+
+    /// Ends a session's context, which gives up its wait and releases all its tickets.
+    pub fn end_context(&mut self, who: u16) -> Result<(), Unserved>
+        ensures { Asks (context_fault (seat_of who self.old)) (λ done. Leaves who done self.old self.new) result self.old self.new }
+    {
+        let index = self.index_of(who)?;
+        match &mut self.seats[index] {
+            Seat::Direct => Err(Unserved::NoContext),
+            Seat::Kept(context) => {
+                give_all_up(&mut self.space, context);
+                self.seats[index] = Seat::Direct;
+                Ok(())
+            }
+        }
+    }
+
+    /// Acquires a lock for this duration, or begins to wait for it.
+    pub fn acquire(
+        &mut self,
+        who: u16,
+        key: &Key,
+        mode: Mode,
+        duration: Duration,
+    ) -> Result<Result<Acquire, ContextError>, Unserved>
+        ensures { Asks (context_fault (seat_of who self.old)) (λ r. RunsFor who (acquiring (record { key = key.now; mode = mode; duration = duration })) r self.old self.new) result self.old self.new }
+    {
+        let index = self.index_of(who)?;
+        let Seat::Kept(context) = &mut self.seats[index] else {
+            return Err(Unserved::NoContext);
+        };
+        Ok(context.acquire(
+            &mut self.space,
+            Request {
+                key,
+                mode,
+                duration,
+            },
+        ))
+    }
+
+    /// Returns the state of the wait, and ends the wait if it is settled.
+    pub fn resume(&mut self, who: u16) -> Result<Result<Resume, ContextError>, Unserved>
+        ensures { Asks (context_fault (seat_of who self.old)) (λ r. RunsFor who resuming r self.old self.new) result self.old self.new }
+    {
+        let index = self.index_of(who)?;
+        let Seat::Kept(context) = &mut self.seats[index] else {
+            return Err(Unserved::NoContext);
+        };
+        Ok(context.resume(&mut self.space))
+    }
+
+    /// Gives up the wait, unless it is settled already, and ends it.
+    pub fn give_up(&mut self, who: u16) -> Result<Result<Resume, ContextError>, Unserved>
+        ensures { Asks (context_fault (seat_of who self.old)) (λ r. RunsFor who giving_up_wait r self.old self.new) result self.old self.new }
+    {
+        let index = self.index_of(who)?;
+        let Seat::Kept(context) = &mut self.seats[index] else {
+            return Err(Unserved::NoContext);
+        };
+        Ok(context.give_up(&mut self.space))
+    }
+
+    /// Upgrades a kept ticket to a stronger mode, or begins to wait for that.
+    pub fn upgrade(
+        &mut self,
+        who: u16,
+        ticket: TicketId,
+        mode: Mode,
+    ) -> Result<Result<Acquire, ContextError>, Unserved>
+        ensures { Asks (context_fault (seat_of who self.old)) (λ r. RunsFor who (upgrading ticket mode) r self.old self.new) result self.old self.new }
+    {
+        let index = self.index_of(who)?;
+        let Seat::Kept(context) = &mut self.seats[index] else {
+            return Err(Unserved::NoContext);
+        };
+        Ok(context.upgrade(&mut self.space, ticket, mode))
+    }
+
+    /// Downgrades a kept ticket to a weaker mode.
+    pub fn downgrade_kept(
+        &mut self,
+        who: u16,
+        ticket: TicketId,
+        mode: Mode,
+    ) -> Result<Result<(), ContextError>, Unserved>
+        ensures { Asks (context_fault (seat_of who self.old)) (λ r. RunsFor who (downgrading ticket mode) r self.old self.new) result self.old self.new }
+    {
+        let index = self.index_of(who)?;
+        let Seat::Kept(context) = &mut self.seats[index] else {
+            return Err(Unserved::NoContext);
+        };
+        Ok(context.downgrade(&mut self.space, ticket, mode))
+    }
+
+    /// Releases a kept ticket.
+    pub fn release_kept(
+        &mut self,
+        who: u16,
+        ticket: TicketId,
+    ) -> Result<Result<(), ContextError>, Unserved>
+        ensures { Asks (context_fault (seat_of who self.old)) (λ r. RunsFor who (releasing ticket) r self.old self.new) result self.old self.new }
+    {
+        let index = self.index_of(who)?;
+        let Seat::Kept(context) = &mut self.seats[index] else {
+            return Err(Unserved::NoContext);
+        };
+        Ok(context.release(&mut self.space, ticket))
+    }
+
+    /// Releases all tickets of a key that the session's context keeps.
+    pub fn release_name(
+        &mut self,
+        who: u16,
+        key: &Key,
+    ) -> Result<Result<(), ContextError>, Unserved>
+        ensures { Asks (context_fault (seat_of who self.old)) (λ r. RunsFor who (releasing_name key.now) r self.old self.new) result self.old self.new }
+    {
+        let index = self.index_of(who)?;
+        let Seat::Kept(context) = &mut self.seats[index] else {
+            return Err(Unserved::NoContext);
+        };
+        Ok(context.release_name(&mut self.space, key))
+    }
+
+    /// Returns the session's current mark.
+    pub fn savepoint(&mut self, who: u16) -> Result<Mark, Unserved>
+        ensures { Asks (context_fault (seat_of who self.old)) (λ mark. Marks who mark self.old self.new) result self.old self.new }
+    {
+        let index = self.index_of(who)?;
+        match &self.seats[index] {
+            Seat::Direct => Err(Unserved::NoContext),
+            Seat::Kept(context) => Ok(context.savepoint()),
+        }
+    }
+
+    /// Rolls back to a mark.
+    pub fn rollback_to(
+        &mut self,
+        who: u16,
+        mark: Mark,
+    ) -> Result<Result<(), ContextError>, Unserved>
+        ensures { Asks (context_fault (seat_of who self.old)) (λ r. RunsFor who (rolling_back mark) r self.old self.new) result self.old self.new }
+    {
+        let index = self.index_of(who)?;
+        let Seat::Kept(context) = &mut self.seats[index] else {
+            return Err(Unserved::NoContext);
+        };
+        Ok(context.rollback_to(&mut self.space, mark))
+    }
+
+    /// Ends a statement: releases its tickets.
+    pub fn end_statement(&mut self, who: u16) -> Result<Result<(), ContextError>, Unserved>
+        ensures { Asks (context_fault (seat_of who self.old)) (λ r. RunsFor who ending_statement r self.old self.new) result self.old self.new }
+    {
+        let index = self.index_of(who)?;
+        let Seat::Kept(context) = &mut self.seats[index] else {
+            return Err(Unserved::NoContext);
+        };
+        Ok(context.end_statement(&mut self.space))
+    }
+
+    /// Ends a transaction: releases the tickets of the statement and of the transaction.
+    pub fn end_transaction(&mut self, who: u16) -> Result<Result<(), ContextError>, Unserved>
+        ensures { Asks (context_fault (seat_of who self.old)) (λ r. RunsFor who ending_transaction r self.old self.new) result self.old self.new }
+    {
+        let index = self.index_of(who)?;
+        let Seat::Kept(context) = &mut self.seats[index] else {
+            return Err(Unserved::NoContext);
+        };
+        Ok(context.end_transaction(&mut self.space))
+    }
+
+    /// Makes all tickets explicit: the context keeps them until they are released.
+    pub fn make_explicit(&mut self, who: u16) -> Result<Result<(), ContextError>, Unserved>
+        ensures { Asks (context_fault (seat_of who self.old)) (λ r. RunsFor who making_explicit r self.old self.new) result self.old self.new }
+    {
+        let index = self.index_of(who)?;
+        let Seat::Kept(context) = &mut self.seats[index] else {
+            return Err(Unserved::NoContext);
+        };
+        Ok(context.make_explicit())
+    }
+
+    /// Makes the explicit tickets, except those of user-level locks, last until the transaction ends.
+    pub fn make_transactional(&mut self, who: u16) -> Result<Result<(), ContextError>, Unserved>
+        ensures { Asks (context_fault (seat_of who self.old)) (λ r. RunsFor who making_transactional r self.old self.new) result self.old self.new }
+    {
+        let index = self.index_of(who)?;
+        let Seat::Kept(context) = &mut self.seats[index] else {
+            return Err(Unserved::NoContext);
+        };
+        Ok(context.make_transactional())
+    }
+}
+
+// Gives up the wait of a context, if there is one, and then releases all its tickets.
+fn give_all_up(space: &mut CoreSpace, context: &mut Context<CoreSpace>)
+    requires { Attends core_space space.old context.old }
+    ensures run { Runs core_space.joins space.old (leaving_from context.old.wait context.old) (Ok tt, context.new) space.new }
+    ensures kept { context.new.kept ≡ [] }
+    ensures wait { context.new.wait ≡ None }
+    ensures attends { Attends core_space space.new context.new }
+    ensures others { LeavesOthers core_space context.old.who space.old space.new }
+    ensures who { context.new.who ≡ context.old.who }
+{
+    if context.wish().is_some() {
+        let _end = context.give_up(space);
+    }
+    context.finish_all(space);
+}
