@@ -1,2 +1,3 @@
+pub mod shared
 pub mod used_up
 pub mod Rooms

@@ -7,7 +7,7 @@ use mdl_calls::{Attempt, Place, TicketId};
 use mdl_defs::{Column, Definition, Standing};
 use mdl_key::{Key, MOST_PLACES, MOST_SESSIONS, Mode};
 use mdl_script::{DEFAULT_CACHE, OpenGate, Ran};
-use mdl_shared::{HoldsTickets, Manager, Pass, Session};
+use mdl_shared::{CloseError, Manager, Pass, Session};
 use std::alloc::Global;
 use std::mem::drop;
 use std::process::Abort;
@@ -102,11 +102,12 @@ fn played_beside<R: Threads + Wait + Sync>(
     (ran, own.release(id).is_ok() && sees_new)
 }
 
-/// Closes a session, which must have no ticket and no wait.
+/// Closes a session, which must have no ticket and no wait, and owe no place a reschedule.
 pub(crate) fn close<R: Drop>(rt: &impl Abort, session: Session<R>) {
     match session.close() {
         Ok(_pass) => {}
-        Err(HoldsTickets(_session)) => panic!(rt; "the session has a ticket or a wait"),
+        Err(CloseError::HoldsTickets(_session)) => panic!(rt; "the session has a ticket or a wait"),
+        Err(CloseError::Owes(_session, place)) => panic!(rt; "place {place} is owed a reschedule"),
     }
 }
 

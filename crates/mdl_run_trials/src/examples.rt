@@ -4,5 +4,8 @@ mod program;
 mod rows;
 mod script;
 mod script_laws;
+mod shared;
+mod steps;
 mod stmt;
+mod visits;
 mod work;

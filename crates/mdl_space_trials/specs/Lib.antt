@@ -1,2 +1,3 @@
+pub mod base
 pub mod contexts
 pub mod Serving

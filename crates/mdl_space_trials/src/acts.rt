@@ -120,7 +120,11 @@ fn redefine<S: LockSpace>(
 
 fn seen(outcome: Result<Standing, SpaceError>) -> Result<Seen, SpaceError> {
     match outcome {
-        Ok(standing) => Ok((standing.version, what_stands(&standing))),
+        Ok(standing) => {
+            let seen = (standing.version, what_stands(&standing));
+            drop(standing);
+            Ok(seen)
+        }
         Err(error) => Err(error),
     }
 }

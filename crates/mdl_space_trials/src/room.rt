@@ -85,10 +85,10 @@ impl Room {
             sessions,
         };
         if room.has_places(keys) {
-            Some(room)
-        } else {
-            None
+            return Some(room);
         }
+        drop(room);
+        None
     }
 
     /// Creates a room in which a table, a schema, the global lock, the commit lock and another table have the places 1 to 5.
@@ -108,10 +108,12 @@ impl Room {
 
     /// Returns the place of a key, asked by the first session.
     pub(crate) fn place_of(&mut self, of: Of) -> Result<Place, SpaceError> {
-        match new_key(self.alloc, of) {
-            Ok(key) => self.resolve(&key),
-            Err(_) => Err(SpaceError::OutOfMemory),
-        }
+        let Ok(key) = new_key(self.alloc, of) else {
+            return Err(SpaceError::OutOfMemory);
+        };
+        let place = self.resolve(&key);
+        drop(key);
+        place
     }
 
     // The same for a finished key.
@@ -172,10 +174,12 @@ impl Room {
 
 // The same in a new room.
 pub(crate) fn first_wrong(alloc: Global, rows: &[Row]) -> Option<usize> {
-    match Room::new(alloc) {
-        Some(mut room) => room.first_wrong(rows),
-        None => Some(rows.len()),
-    }
+    let Some(mut room) = Room::new(alloc) else {
+        return Some(rows.len());
+    };
+    let wrong = room.first_wrong(rows);
+    drop(room);
+    wrong
 }
 
 const STORIES: &[&[Story]] = &[

@@ -1,6 +1,0 @@
--- The first list gets shorter.
-use Rattle.std.proofs.Common.{length}
-use Rattle.mdl_base_trials.proofs.deadlocks.plain.+is_in_order.Given as goal
-
-abbrev pub decreases-is_in_order : goal.decreases-is_in_order
-decreases-is_in_order l = length l.one.now

@@ -1,0 +1,3 @@
+pub mod FastRuns
+pub mod MetAfter
+pub mod SettledSearches

@@ -1,0 +1,3 @@
+-- The definitions for the tests of the shared table.
+pub mod contexts
+pub mod steps

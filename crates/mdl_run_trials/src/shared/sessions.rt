@@ -1,0 +1,55 @@
+//! Sessions open and close, on two threads.
+ghost use Rattle.std.specs.Prelude.{◌≡◌};
+ghost use Rattle.mdl_shared.specs.Passes.{pass_table, pass_view, table_of};
+
+use mdl_shared::{CloseError, Manager, Pass, Session};
+use std::process::Abort;
+use std::test::Fail;
+use std::thread;
+
+/// Closes a session that has no ticket and owes nothing, and returns its pass.
+pub(crate) fn closed<R: Drop>(rt: &impl Abort, session: Session<R>) -> Pass {
+    match session.close() {
+        Ok(pass) => pass,
+        Err(CloseError::HoldsTickets(_session)) => panic!(rt; "the session holds no ticket"),
+        Err(CloseError::Owes(_session, place)) => panic!(rt; "place {place} is owed nothing"),
+    }
+}
+
+// Opens a pass's session, and closes it. It has no ticket yet.
+fn reopen(manager: &Manager, pass: Pass) -> Pass
+    requires { pass_table pass ≡ table_of manager.now }
+    ensures { pass_view result ≡ pass_view pass }
+{
+    let session = Session::open((), manager, pass);
+    match session.close() {
+        Ok(pass) => pass,
+        Err(CloseError::HoldsTickets(_session)) => unreachable!(),
+        Err(CloseError::Owes(_session, _place)) => unreachable!(),
+    }
+}
+
+// Opens and closes a session `times` times, and returns its number.
+fn reopened(manager: &Manager, mut pass: Pass, times: u32) -> u16
+    requires { pass_table pass ≡ table_of manager.now }
+{
+    for _ in 0..times {
+        pass = reopen(manager, pass);
+    }
+    pass.number()
+}
+
+#[test]
+fn two_threads_open_two_sessions(rt: HostRuntime) -> Result<(), Fail> {
+    let (manager, mut passes) = Manager::new(rt.alloc(), 1, 2)?;
+    let two = passes.remove(1);
+    let one = passes.remove(0);
+    let manager = &manager;
+    let (first, second) = thread::join(
+        &rt,
+        move || reopened(manager, one, 20_000),
+        move || reopened(manager, two, 20_000),
+    );
+    assert!(rt; first == 1 && second == 2);
+    Ok(())
+}

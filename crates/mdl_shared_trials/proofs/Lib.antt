@@ -1,2 +1,0 @@
-pub mod FastRuns
-pub mod MetAfter

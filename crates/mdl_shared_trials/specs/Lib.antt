@@ -1,2 +1,0 @@
-pub mod contexts
-pub mod steps

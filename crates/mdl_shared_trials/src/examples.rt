@@ -1,4 +1,0 @@
-//! Examples of crates, which the heads of their `src/lib.rt` show, too.
-mod shared;
-mod steps;
-mod visits;

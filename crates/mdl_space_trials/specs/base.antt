@@ -1,0 +1,2 @@
+-- The definitions for the tests of the base crates.
+pub mod deadlocks

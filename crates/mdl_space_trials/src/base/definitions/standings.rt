@@ -1,0 +1,170 @@
+//! The definition in a book, change by change.
+use super::{Act, What, X, X_Y, change, definition};
+use crate::base::keys::names::{Name, key_of};
+use crate::base::rows::{is_right, none_is_wrong};
+use mdl_book::Book;
+use mdl_defs::{ChangeError, DefError, Definition, Standing};
+use mdl_key::Namespace;
+use std::alloc::Global;
+
+// A change, the version after it or the refusal, and the definition afterwards.
+type Step = (Act, Result<u64, ChangeError>, Option<What>);
+
+const UNDER_A_TABLE: &[Step] = &[
+    (Act::Drop, Err(ChangeError::Def(DefError::Missing)), None),
+    (Act::Create(What::Schema), Err(ChangeError::WrongKind), None),
+    (Act::Create(X), Ok(1), Some(X)),
+    (
+        Act::Create(X_Y),
+        Err(ChangeError::Def(DefError::Exists)),
+        Some(X),
+    ),
+    (
+        Act::Create(What::Schema),
+        Err(ChangeError::WrongKind),
+        Some(X),
+    ),
+    (Act::Add("y"), Ok(2), Some(X_Y)),
+    (
+        Act::Add("y"),
+        Err(ChangeError::Def(DefError::DuplicateColumn)),
+        Some(X_Y),
+    ),
+    (Act::Drop, Ok(3), None),
+    (Act::Put(X_Y), Ok(4), Some(X_Y)),
+    (Act::Lose("y"), Ok(5), Some(X)),
+    (
+        Act::Lose("x"),
+        Err(ChangeError::Def(DefError::LastColumn)),
+        Some(X),
+    ),
+    (Act::Put(X), Ok(6), Some(X)),
+];
+
+const UNDER_A_SCHEMA: &[Step] = &[
+    (Act::Put(X), Err(ChangeError::WrongKind), None),
+    (Act::Create(What::Schema), Ok(1), Some(What::Schema)),
+    (
+        Act::Add("x"),
+        Err(ChangeError::Def(DefError::WrongKind)),
+        Some(What::Schema),
+    ),
+    (Act::Put(What::Schema), Ok(2), Some(What::Schema)),
+    (Act::Drop, Ok(3), None),
+];
+
+const UNDER_OTHERS: &[Step] = &[
+    (Act::Create(What::Schema), Err(ChangeError::WrongKind), None),
+    (Act::Put(X), Err(ChangeError::WrongKind), None),
+    (Act::Drop, Err(ChangeError::WrongKind), None),
+    (Act::Add("x"), Err(ChangeError::WrongKind), None),
+];
+
+fn is_copied(standing: &Standing) -> bool {
+    match standing.clone() {
+        Ok(copy) => copy == *standing,
+        Err(_) => false,
+    }
+}
+
+// Whether a book has this version and definition, and a copy of them is equal.
+fn is_read(book: &Book, version: u64, wanted: &Option<Definition>) -> bool {
+    match book.read() {
+        Ok(standing) => {
+            standing.version == version && standing.definition == *wanted && is_copied(&standing)
+        }
+        Err(_) => false,
+    }
+}
+
+// Whether a book has this definition and this version, and reads them.
+fn stands(alloc: Global, book: &Book, version: u64, what: Option<What>) -> bool {
+    let wanted = super::standing(alloc, what);
+    is_read(book, version, &wanted)
+        && book.definition() == wanted.as_ref()
+        && book.version() == version
+}
+
+// Makes a change. Whether its answer, and the definition afterwards, are those of its row.
+fn goes_so(alloc: Global, book: &mut Book, (act, want, what): Step) -> bool {
+    let before = book.version();
+    let answer = match change(alloc, act) {
+        Some(change) => {
+            let answer = book.redefine(&change);
+            drop(change);
+            answer
+        }
+        None => Err(ChangeError::OutOfMemory),
+    };
+    answer == want && stands(alloc, book, want.unwrap_or(before), what)
+}
+
+// Returns the index of the first wrong step.
+fn first_wrong_of(alloc: Global, book: &mut Book, steps: &[Step]) -> Option<usize> {
+    for (place, step) in steps.iter().enumerate() {
+        if !goes_so(alloc, book, *step) {
+            return Some(place);
+        }
+    }
+    None
+}
+
+// The same for a new book of the key with this name.
+fn first_wrong(alloc: Global, name: Name, steps: &[Step]) -> Option<usize> {
+    match key_of(alloc, name) {
+        Ok(key) => first_wrong_of(alloc, &mut Book::new(alloc, key), steps),
+        Err(_) => Some(0),
+    }
+}
+
+// The name of a lock, and the calls of its book.
+const BOOKS: &[(&str, Name, &[Step])] = &[
+    ("table", (Namespace::Table, "test", "t"), UNDER_A_TABLE),
+    ("schema", (Namespace::Schema, "test", ""), UNDER_A_SCHEMA),
+    ("commit", (Namespace::Commit, "", ""), UNDER_OTHERS),
+    (
+        "user-level lock",
+        (Namespace::UserLevelLock, "t", ""),
+        UNDER_OTHERS,
+    ),
+];
+
+#[test]
+fn books_keep_what_stands(rt: HostRuntime) {
+    for (what, name, steps) in BOOKS {
+        let wrong = first_wrong(rt.alloc(), *name, steps);
+        none_is_wrong(&rt, what, wrong);
+    }
+}
+
+// The last possible change, and changes that come too late.
+const LATE: &[(Act, Result<u64, ChangeError>)] = &[
+    (Act::Lose("x"), Ok(1_000_000)),
+    (Act::Drop, Err(ChangeError::VersionFull)),
+    (Act::Put(X), Err(ChangeError::VersionFull)),
+    (Act::Create(What::Schema), Err(ChangeError::VersionFull)),
+    (Act::Lose("z"), Err(ChangeError::VersionFull)),
+];
+
+// Whether a change of a table gives this answer.
+fn answers(
+    alloc: Global,
+    standing: &mut Standing,
+    act: Act,
+    want: Result<u64, ChangeError>,
+) -> bool {
+    match change(alloc, act) {
+        Some(change) => standing.change(alloc, Namespace::Table, &change) == want,
+        None => false,
+    }
+}
+
+#[test]
+fn versions_have_an_end(rt: HostRuntime) {
+    let mut standing = Standing::new();
+    standing.definition = definition(rt.alloc(), X_Y);
+    standing.version = 999_999;
+    for (place, (act, want)) in LATE.iter().enumerate() {
+        is_right(&rt, place, answers(rt.alloc(), &mut standing, *act, *want));
+    }
+}
