@@ -17,7 +17,8 @@ import re
 import sys
 
 PAGE = pathlib.Path("docs/LIBRARY.md")
-CAUSES = pathlib.Path("crates/mdl_calls/specs/Causes.antt")
+CALLS = pathlib.Path("crates/mdl_calls/specs/calls")
+SHARED_CAUSES = pathlib.Path("crates/mdl_calls/specs/CallSpec.antt")
 HEAD = "| call | memory |"
 INNER_CRATES = {"mdl_steps", "mdl_visits"}
 
@@ -112,8 +113,10 @@ def may_be_for_memory(error, known):
 
 def is_ruled_out_by_causes(name):
     """Whether the call of `LockSpace` with this name is never refused because memory runs out."""
-    cause = rf"^IsCause \w+ \({name.capitalize()} .*?OutOfMemory\)? \w+ = (.*)$"
-    return all(it == "⊥" for it in re.findall(cause, CAUSES.read_text(), re.MULTILINE))
+    spec = (CALLS / f"{name.title().replace('_', '')}.antt").read_text()
+    cause = re.search(r"\bcause = (\w+)", spec)
+    equation = rf"^{cause[1]} .*?OutOfMemory\)? \w+ \w+ = (.*)$" if cause else r"(?!)"
+    return all(it == "⊥" for it in re.findall(equation, spec + SHARED_CAUSES.read_text(), re.MULTILINE))
 
 
 def with_faults(clause, defined):
@@ -154,7 +157,7 @@ def wrong_row(name, carried_by, call, defined, known):
         return None
     owner, _, own = name.rpartition("::")
     if owner == "LockSpace":
-        return None if is_ruled_out_by_causes(own) else f"in {CAUSES} it has the cause OutOfMemory"
+        return None if is_ruled_out_by_causes(own) else f"in {CALLS} it has the cause OutOfMemory"
     if is_ruled_out_by_clause(call, carried_by, defined) or is_ruled_out_by_law(call, carried_by, defined):
         return None
     return "by its contract it may be refused for want of memory, or its row doesn't name the clause or the law by which it may not"

@@ -1,7 +1,7 @@
 //! A session reads a table's definition under a fast ticket, with its cache or under the latch of the place.
 ghost use Rattle.std.specs.Prelude.{◌≡◌};
 ghost use Rattle.mdl_calls.specs.Words.{AreMet};
-ghost use Rattle.mdl_session_laws.specs.SessionSpaces.{HasMet};
+ghost use Rattle.mdl_calls.specs.SessionData.{HasMet};
 ghost use Rattle.mdl_shared.specs.SessionViews.{space_of};
 
 use crate::failure::Failure;

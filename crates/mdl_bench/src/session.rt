@@ -1,6 +1,6 @@
 //! The repeated calls of a session of the table that threads share, while no other session requests anything.
 ghost use Rattle.std.specs.Prelude.{◌≡◌, true};
-ghost use Rattle.mdl_session_laws.specs.SessionSpaces.{is_known};
+ghost use Rattle.mdl_calls.specs.SessionData.{is_known};
 ghost use Rattle.mdl_shared.specs.SessionViews.{space_of};
 
 use crate::failure::Failure;

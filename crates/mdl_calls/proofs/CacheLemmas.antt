@@ -1,5 +1,5 @@
 -- What a cache keeps was met.
-use Rattle.std.proofs.Common.{ℕ, List, [], Contains, arith}
+use Rattle.std.proofs.Common.{ℕ, List, [], arith}
 use Rattle.mdl_defs.specs.declared.standing.Standing.{Standing}
 use Rattle.mdl_defs.specs.Caches.{Kept}
 use Rattle.mdl_calls.specs.Caches.{AreMet}

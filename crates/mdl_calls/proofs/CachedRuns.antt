@@ -1,9 +1,9 @@
 -- Runs of a session with a cache, and runs without it.
 use Rattle.std.proofs.Common.{◌≡◌, ℕ, false, ap, refl, inl, inr}
 use Rattle.mdl_defs.specs.Caches.{CacheView}
-use Rattle.mdl_calls.specs.Answers.{Answer}
+use Rattle.mdl_calls.specs.Interface.{Answer, Call, Read_kept}
 use Rattle.mdl_calls.specs.Caches.{CacheAfter, with_cache}
-use Rattle.mdl_calls.specs.Calls.{Call, Read_kept, reads_with_cache}
+use Rattle.mdl_calls.specs.AllCalls.{reads_with_cache}
 use Rattle.mdl_calls.specs.Faithful.{EachCall}
 use Rattle.mdl_calls.specs.Runs.{Program, Give, Ask, Grow, Runs}
 

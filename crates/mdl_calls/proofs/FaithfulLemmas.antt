@@ -1,8 +1,8 @@
 -- Programs where memory is wanting: one after another, and that runs and outcomes are the same where it wasn't.
 use Rattle.std.proofs.Common.{◌≡◌, Bool, true, false, if◌then◌else◌, ◌⊎◌, inl, inr, refl, sym, subst}
 use Rattle.mdl_calls.specs.declared.space_error.SpaceError.TheVariants.{OutOfMemory}
-use Rattle.mdl_calls.specs.Answers.{Answer, Refused}
-use Rattle.mdl_calls.specs.Calls.{Call, takes_memory}
+use Rattle.mdl_calls.specs.Interface.{Answer, Refused, Call}
+use Rattle.mdl_calls.specs.AllCalls.{takes_memory}
 use Rattle.mdl_calls.specs.Faithful.{Each, EachCall, IsFaithful, IsFrugal, StepsOrWants}
 use Rattle.mdl_calls.specs.Runs.{Program, Give, Ask, Grow, ◌>>=◌, Runs, outcome_of}
 

@@ -1,7 +1,6 @@
 -- Runs of programs: one after another, and what they keep.
 use Rattle.std.proofs.Common.{inl, inr, subst, sym}
-use Rattle.mdl_calls.specs.Calls.{Call}
-use Rattle.mdl_calls.specs.Answers.{Answer}
+use Rattle.mdl_calls.specs.Interface.{Call, Answer}
 use Rattle.mdl_calls.specs.Runs.{Program, Give, Ask, Grow, ◌>>=◌, Runs}
 
 -- a run of one program, and then one of what its reply leads to, is a run of both

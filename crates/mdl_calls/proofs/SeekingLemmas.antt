@@ -1,8 +1,7 @@
 -- Searches for deadlocks, one after another: which calls they make, and that they fail once one of them found no memory.
 use Rattle.std.proofs.Common.{ℕ, zero, suc, refl}
 use Rattle.std.specs.Prelude.{◌==◌}
-use Rattle.mdl_calls.specs.Answers.{Answer, Victim_is}
-use Rattle.mdl_calls.specs.Calls.{Call, Search}
+use Rattle.mdl_calls.specs.Interface.{Answer, Victim_is, Call, Search}
 use Rattle.mdl_calls.specs.Faithful.{EachCall, IsFaithful}
 use Rattle.mdl_calls.specs.Runs.{Program}
 use Rattle.mdl_calls.specs.Searches.{SearchEnd, IsStarvedSearch, after_search, seeking}

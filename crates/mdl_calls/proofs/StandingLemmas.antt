@@ -18,9 +18,9 @@ use Rattle.mdl_key.specs.Words.{same_mode}
 use Rattle.mdl_calls.specs.declared.space_error.SpaceError.{SpaceError}
 use Rattle.mdl_calls.specs.declared.space_error.SpaceError.TheVariants.{OutOfMemory}
 use Rattle.mdl_calls.specs.declared.space_error.SpaceError.TheVariants as space_error
-use Rattle.mdl_calls.specs.Answers.{Answer, Refused, Changed}
-use Rattle.mdl_calls.specs.Calls.{Change_definition, change_takes_memory}
-use Rattle.mdl_calls.specs.Causes.{Knowledge, OfHeld, IsCause}
+use Rattle.mdl_calls.specs.Interface.{Answer, Refused, Changed, Change_definition, change_takes_memory}
+use Rattle.mdl_calls.specs.AllCalls.{IsCause}
+use Rattle.mdl_calls.specs.Causes.{Knowledge, OfHeld}
 use Rattle.mdl_calls.specs.Own.{Own}
 use Rattle.mdl_calls.specs.Reads.{IsChangeOf, cause_of}
 

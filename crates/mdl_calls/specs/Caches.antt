@@ -2,8 +2,7 @@
 use Rattle.std.specs.Prelude.{◌≡◌, ℕ, List, Some, Contains}
 use Rattle.mdl_defs.specs.declared.standing.Standing.{Standing}
 use Rattle.mdl_defs.specs.Caches.{CacheView, Kept}
-use Rattle.mdl_calls.specs.Answers.{Answer}
-use Rattle.mdl_calls.specs.Calls.{Call, Read_kept}
+use Rattle.mdl_calls.specs.Interface.{Answer, Call, Read_kept}
 
 -- each definition in the cache was met at its place, with its version
 abbrev pub AreMet : (ℕ → Standing → Type 0) → List Kept → Type 0

@@ -1,11 +1,9 @@
--- What a session has in a lock space, and what each call does to it.
+-- What a session has in a lock space, and how that changes. What each call does to it is in `Effects`.
 use Rattle.std.specs.Prelude.{◌≡◌, ℕ, ◌+◌, Bool, true, not, ◌&&◌, ◌==◌, nat_lt, List, [], ◌∷◌, ◌++◌, map, filter, find, Option, Some, None, is_some, if◌then◌else◌, IsTrue}
 use Rattle.std.specs.List.{list_all}
 use Rattle.std.specs.Option.{option_map}
 use Rattle.mdl_key.specs.declared.mode.Mode.{Mode}
 use Rattle.mdl_calls.specs.declared.answers.Held.{Held}
-use Rattle.mdl_calls.specs.Answers.{Answer, Done, Granted, Waits, Lost, Upgraded}
-use Rattle.mdl_calls.specs.Calls.{Call, Try_now, Begin_wait, End_wait, Release, Clone_ticket, Upgrade_now, Merge, Downgrade}
 use Rattle.mdl_system.specs.Strength.{covers}
 
 -- a wait that isn't ended: its number, and the place and the mode that the session waits for
@@ -93,20 +91,6 @@ abbrev pub merging : ℕ → ℕ → Option Held → Own → Own
 merging old new None own = own
 merging old new (Some ticket) own = changing old (λ _. ticket.mode) (giving_up new own)
 
--- what the caller has after a call with this answer. Calls and answers that aren't named here change nothing.
-abbrev pub own_after : Call → Answer → Own → Own
-own_after (Try_now who place mode) (Granted id) own = gaining id place mode own
-own_after (Begin_wait who place mode) (Granted id) own = gaining id place mode own
-own_after (Begin_wait who place mode) (Waits number) own = waiting number place mode own
-own_after (End_wait who) (Granted id) own = winning id own.wait own
-own_after (End_wait who) (Lost how) own = ending own
-own_after (Release who id) Done own = giving_up id own
-own_after (Clone_ticket who id mode) (Granted copy) own = cloning copy mode (ticket_held id own) own
-own_after (Upgrade_now who id mode) Upgraded own = changing id (upgraded mode) own
-own_after (Merge who old new) Done own = merging old new (ticket_held new own) own
-own_after (Downgrade who id mode) Done own = changing id (λ _. mode) own
-own_after _ _ own = own
-
 -- the last numbers after one more ticket got a number
 abbrev pub ticket_drawn : Numbers → Numbers
 ticket_drawn numbers = record numbers { last_ticket = numbers.last_ticket + 1 }
@@ -122,13 +106,3 @@ DrawsTicket id before after = (id ≡ before.last_ticket + 1) × (after ≡ tick
 -- a wait gets the next number, and its ticket gets one
 abbrev pub DrawsWait : ℕ → Numbers → Numbers → Type 0
 DrawsWait number before after = (number ≡ before.last_wait + 1) × (after ≡ wait_drawn before)
-
--- which numbers the caller gets by a call with this answer. Calls and answers that aren't named here give none. The ticket of an
--- ended wait has the number that it got when the wait began, which is still the last one.
-abbrev pub Draws : Call → Answer → Numbers → Numbers → Type 0
-Draws (Try_now who place mode) (Granted id) before after = DrawsTicket id before after
-Draws (Begin_wait who place mode) (Granted id) before after = DrawsTicket id before after
-Draws (Begin_wait who place mode) (Waits number) before after = DrawsWait number before after
-Draws (End_wait who) (Granted id) before after = (id ≡ before.last_ticket) × (after ≡ before)
-Draws (Clone_ticket who id mode) (Granted copy) before after = DrawsTicket copy before after
-Draws _ _ before after = after ≡ before

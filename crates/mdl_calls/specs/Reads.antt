@@ -1,6 +1,5 @@
 -- What a session reads and changes under its tickets: the version and definition of a key. And which tables of a schema it is given.
-use Rattle.std.specs.Prelude.{◌≡◌, ◌⊎◌, ℕ, ◌+◌, Bool, true, false, ◌&&◌, List, Option, Some, None, MatchOption, Contains, All, AllPairs}
-use Rattle.std.specs.Option.{option_map}
+use Rattle.std.specs.Prelude.{◌≡◌, ◌⊎◌, ℕ, ◌+◌, Bool, true, false, ◌&&◌, List, Some, MatchOption, Contains, All, AllPairs}
 use Rattle.std.specs.Str.{bytes_eq}
 use Rattle.std.specs.declared.cmp.Ordering.TheVariants.{Less}
 use Rattle.mdl_key.specs.declared.namespace.Namespace.{Namespace}
@@ -14,10 +13,9 @@ use Rattle.mdl_defs.specs.Standings.{standing_fault}
 use Rattle.mdl_calls.specs.declared.answers.Held.{Held}
 use Rattle.mdl_calls.specs.declared.space_error.SpaceError.{SpaceError}
 use Rattle.mdl_calls.specs.declared.space_error.SpaceError.TheVariants.{VersionFull, WrongKind, Def, OutOfMemory}
-use Rattle.mdl_calls.specs.Answers.{Answer, Refused, Changed}
-use Rattle.mdl_calls.specs.Calls.{Call, Read_definition, Read_kept, Change_definition}
+use Rattle.mdl_calls.specs.Interface.{Answer, Refused, Changed}
 use Rattle.mdl_calls.specs.Causes.{Knowledge}
-use Rattle.mdl_calls.specs.Own.{Own, Wait, ticket_held}
+use Rattle.mdl_calls.specs.Own.{Own, Wait}
 
 -- a session holds a ticket at a place
 abbrev pub HoldsAt : ℕ → Own → Type 0
@@ -26,17 +24,6 @@ HoldsAt place own = (ticket : Held) × Contains own.held ticket × (ticket.place
 -- a session has a wait at a place
 abbrev pub AwaitsAt : ℕ → Own → Type 0
 AwaitsAt place own = (wait : Wait) × (own.wait ≡ Some wait) × (wait.place ≡ place)
-
--- the number of the ticket under which a call reads, if it does
-abbrev pub read_under : Call → Option ℕ
-read_under (Read_definition who id) = Some id
-read_under (Read_kept who id) = Some id
-read_under _ = None
-
--- the place whose definition a call with this answer changed, if it changed one
-abbrev pub redefined_place : Call → Answer → Own → Option ℕ
-redefined_place (Change_definition who id change) (Changed version) own = option_map (λ ticket. ticket.place) (ticket_held id own)
-redefined_place _ _ own = None
 
 -- the error that a space returns if a definition can't be changed for this cause
 abbrev pub cause_of : ChangeError → SpaceError

@@ -1,8 +1,7 @@
 -- Programs of calls, and their runs over a lock space: each call takes the state before it to the state after it. If a program
 -- needs memory of its own, it says how it goes on with the memory and without it.
 use Rattle.std.specs.Prelude.{◌≡◌, ◌⊎◌}
-use Rattle.mdl_calls.specs.Calls.{Call}
-use Rattle.mdl_calls.specs.Answers.{Answer}
+use Rattle.mdl_calls.specs.Interface.{Call, Answer}
 
 -- a program: it ends with a reply (`Give`), makes a call and goes on by its answer (`Ask`), or asks for memory of its own and goes
 -- on by whether that is refused or found (`Grow`)

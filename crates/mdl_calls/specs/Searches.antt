@@ -3,8 +3,7 @@
 use Rattle.std.specs.Prelude.{◌≡◌, ℕ, zero, suc, ◌==◌, if◌then◌else◌}
 use Rattle.mdl_calls.specs.declared.space_error.SpaceError.{SpaceError}
 use Rattle.mdl_calls.specs.declared.space_error.SpaceError.TheVariants.{OutOfMemory}
-use Rattle.mdl_calls.specs.Answers.{Answer, Refused, Victim_is}
-use Rattle.mdl_calls.specs.Calls.{Search}
+use Rattle.mdl_calls.specs.Interface.{Answer, Refused, Victim_is, Search}
 use Rattle.mdl_calls.specs.Runs.{Program, Give, Ask}
 
 -- how a session's searches end: no deadlock is left that the session is part of, or it is a victim itself (`Over`); they stopped

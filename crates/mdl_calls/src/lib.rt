@@ -1,6 +1,6 @@
-//! The trait [`LockSpace`], and the definitions that its contracts cite: its calls (`specs/Calls`), their answers
-//! (`specs/Answers`), what each call does to its caller (`specs/Own`), why a call is refused (`specs/Causes`), how waits are
-//! settled (`specs/Waits`), and programs of calls (`specs/Runs`).
+//! The trait [`LockSpace`], and the definitions that its contracts cite: its calls and their answers (`specs/Interface`), what
+//! each call promises (a file for each in `specs/calls`), how waits are settled (`specs/Waits`), and programs of calls
+//! (`specs/Runs`).
 //!
 //! They apply to every space: `CoreSpace` of `mdl_space` is one, and a `Session` of `mdl_shared` another.
 //!

@@ -13,10 +13,10 @@ use Rattle.mdl_system.specs.Strength.{covers, may_upgrade}
 use Rattle.mdl_system.proofs.StrengthLemmas.{upgrade-raises}
 use Rattle.mdl_calls.specs.declared.answers.Held.{Held}
 use Rattle.mdl_calls.specs.declared.space_error.SpaceError.{SpaceError}
-use Rattle.mdl_calls.specs.Causes.{Knowledge, IsClear, IsFit, Mergeable}
+use Rattle.mdl_calls.specs.Causes.{Knowledge, IsFit, Mergeable}
 use Rattle.mdl_calls.specs.Own.{changing, upgraded, waiting}
 use Rattle.mdl_calls.specs.Own as owned
-use Rattle.mdl_calls.specs.Words.{Answer, Done, Call, Upgrade_now, Unpin, caller, Own, IsRising, own_after, gaining, giving_up, is_number, ticket_held, Runs, Give, Ask}
+use Rattle.mdl_calls.specs.Words.{Answer, Done, Call, Upgrade_now, Unpin, caller, Own, IsRising, own_after, gaining, giving_up, is_number, ticket_held, Runs, Give, Ask, IsClear}
 use Rattle.mdl_calls.proofs.RunLemmas.{runs_bind}
 use Rattle.mdl_calls.specs.declared.lock_space.LockSpace.{Ghosts}
 use Rattle.mdl_context.specs.declared.asking.Got.{Got}

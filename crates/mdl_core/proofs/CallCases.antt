@@ -4,7 +4,7 @@ use Rattle.mdl_key.specs.declared.mode.Mode.{Mode}
 use Rattle.mdl_key.specs.declared.mode.Mode.TheVariants.{X}
 use Rattle.mdl_key.specs.Words.{same_mode}
 use Rattle.mdl_calls.specs.declared.space_error.SpaceError.{SpaceError}
-use Rattle.mdl_calls.specs.Answers.{Answer, Refused}
+use Rattle.mdl_calls.specs.Words.{Answer, Refused}
 use Rattle.mdl_core.specs.CoreCalls.{refused_or, first_cause}
 use Rattle.mdl_core.specs.Cores.{Core}
 

@@ -1,6 +1,6 @@
 //! Calls of a session of a space that threads share, and their answers.
 ghost use Rattle.std.specs.Prelude.{◌≡◌, true};
-ghost use Rattle.mdl_session_laws.specs.SessionSpaces.{is_known};
+ghost use Rattle.mdl_calls.specs.SessionData.{is_known};
 ghost use Rattle.mdl_shared.specs.SessionViews.{space_of};
 
 use mdl_defs::{Change, Column, Columns, Definition};

@@ -4,7 +4,7 @@ use Rattle.std.specs.List.{list_any}
 use Rattle.std.proofs.lemmas.Bool.{eq-eqb, false≢true}
 use Rattle.mdl_defs.specs.Caches.{CacheView}
 use Rattle.mdl_calls.specs.Words.{Program, Give, Ask, Grow, Runs}
-use Rattle.mdl_session_laws.specs.SessionSpaces.{SpeaksFor}
+use Rattle.mdl_calls.specs.SessionData.{SpeaksFor}
 use Rattle.mdl_rows.specs.declared.reply.Reply.{Reply}
 use Rattle.mdl_syntax.specs.declared.script.Line.{Line}
 use Rattle.mdl_shared.specs.declared.pass.Pass.{Pass}

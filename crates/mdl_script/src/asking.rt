@@ -1,7 +1,7 @@
 //! The asker, the session that runs in the caller's thread: it creates the first schema, executes its own lines, and audits all books at the
 //! end.
 ghost use Rattle.std.specs.Prelude.{◌≡◌, [], IfOk, OnOk};
-ghost use Rattle.mdl_session_laws.specs.SessionSpaces.{SpeaksFor};
+ghost use Rattle.mdl_calls.specs.SessionData.{SpeaksFor};
 ghost use Rattle.mdl_stmt.specs.Attendance.{IsCapacity};
 ghost use Rattle.mdl_shared.specs.SessionViews.{space_of};
 ghost use Rattle.mdl_shared.specs.Showings.{KeepsLists};

@@ -1,9 +1,9 @@
 -- Whether a session has a wait in the space of one thread, followed through a program of its calls.
 use Rattle.std.proofs.Common.{◌≡◌, ◌≢◌, ℕ, Bool, true, false, Option, Some, None, IfSome, refl, subst, ap, ◌∙◌, sym}
 use Rattle.std.specs.Prelude.{is_some}
-use Rattle.mdl_calls.specs.Own.{Own, own_after, ticket_held}
+use Rattle.mdl_calls.specs.Own.{Own, ticket_held}
 use Rattle.mdl_calls.specs.Own as own
-use Rattle.mdl_calls.specs.Words.{Answer, Refused, Done, Granted, Waits, Lost, Upgraded, Call, caller, Try_now, Begin_wait, Search, End_wait, Release, Clone_ticket, Upgrade_now, Merge, Downgrade, Program, Give, Ask, Grow, ◌>>=◌, EachCall, outcome_of}
+use Rattle.mdl_calls.specs.Words.{Answer, Refused, Done, Granted, Waits, Lost, Upgraded, Call, caller, Try_now, Begin_wait, Search, End_wait, Release, Clone_ticket, Upgrade_now, Merge, Downgrade, Program, Give, Ask, Grow, ◌>>=◌, EachCall, outcome_of, own_after}
 use Rattle.mdl_core.specs.CoreCalls.{outcome, searching_of, victim_at}
 use Rattle.mdl_core.specs.CoreJoins.{Joins, SpeaksFor, own_at}
 use Rattle.mdl_core.specs.Cores.{Core}

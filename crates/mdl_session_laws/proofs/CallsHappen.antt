@@ -11,14 +11,15 @@ use Rattle.mdl_calls.specs.declared.space_error.SpaceError.TheVariants.{OutOfMem
 use Rattle.mdl_calls.specs.Own.{ending, gaining, ticket_drawn, wait_drawn, waiting}
 use Rattle.mdl_calls.specs.Words.{Wait_of, Kill, Release, Downgrade, Poll_wait, Settle_timeout, End_wait, Change_definition, Unpin, caller, OfHeld, Own, holds, ticket_held}
 use Rattle.mdl_session_laws.specs.Happenings.{KeysAreFound, LocksAreHad, WaitsAreBegun, WaitsAreLost, StandingsAreRead, StandingsAreChanged, MemoryRunsOut}
-use Rattle.mdl_session_laws.specs.SessionJoins.{KeepsSettled, LearnsPlace, NotesThere}
-use Rattle.mdl_session_laws.specs.SessionSpaces.{Space, IsSound, SpeaksFor}
+use Rattle.mdl_calls.specs.Learning.{KeepsSettled, LearnsPlace}
+use Rattle.mdl_calls.specs.Meetings.{NotesThere}
+use Rattle.mdl_calls.specs.SessionData.{SessionData, IsSound, SpeaksFor}
 use Rattle.mdl_session_laws.proofs.RefusedCalls.{KeepsAll, reads-nothing, refused-joins}
 
 -- ---- the wait
 
 -- what it knows of its wait stays
-settled-same : (a b : Space) → b.settled ≡ a.settled → KeepsSettled false a b
+settled-same : (a b : SessionData) → b.settled ≡ a.settled → KeepsSettled false a b
 settled-same a b same = ((λ how is. same ∙ is), λ idle. same)
 
 -- ---- keys
@@ -44,7 +45,7 @@ keys-found a place key sound new free = (
   },
 )
   where
-    b : Space
+    b : SessionData
     b = record a { known = a.known ++ record { key = key; place = place } ∷ [] }
 
 -- ---- locks and waits
@@ -70,7 +71,7 @@ locks-had a place mode sound idle known fit = (
   },
 )
   where
-    b : Space
+    b : SessionData
     b = record a { own = gaining (a.numbers.last_ticket + 1) place mode a.own; numbers = ticket_drawn a.numbers }
 
 pub waits-begun : WaitsAreBegun
@@ -94,7 +95,7 @@ waits-begun a place mode sound idle known fit = (
   },
 )
   where
-    b : Space
+    b : SessionData
     b = record a { own = waiting (a.numbers.last_wait + 1) place mode a.own; numbers = wait_drawn a.numbers }
 
 pub waits-lost : WaitsAreLost
@@ -118,7 +119,7 @@ waits-lost a sound lost = (
   },
 )
   where
-    b : Space
+    b : SessionData
     b = record a { own = ending a.own; settled = None }
 
 -- ---- what stands
@@ -128,13 +129,13 @@ held-is : (id : ℕ) (own : Own) (ticket : Held) → ticket_held id own ≡ Some
 held-is id own ticket its = ap is_some its
 
 -- the session that has read this at a place
-abbrev noting : (place : ℕ) (standing : Standing) (a : Space) → Space
+abbrev noting : (place : ℕ) (standing : Standing) (a : SessionData) → SessionData
 noting place standing a = record a {
   notes = record { place = place; version = standing.version } ∷ a.notes;
   reads = a.reads ++ record { place = place; standing = standing } ∷ [];
 }
 
-notes-there : (place : ℕ) (standing : Standing) (a : Space) → NotesThere place standing a (noting place standing a)
+notes-there : (place : ℕ) (standing : Standing) (a : SessionData) → NotesThere place standing a (noting place standing a)
 notes-there place standing a = record {
   last = inl refl;
   here = grind (arith, nat_tests);
@@ -193,18 +194,18 @@ standings-changed a id ticket stood change sound its exclusive meets allowed = (
   },
 )
   where
-    b : Space
+    b : SessionData
     b = noting ticket.place (standing_after change stood) a
 
 -- ---- want of memory
 
 -- whoever calls is the session
-caller-is : (a : Space) (o : Option ℕ) → IsSound a → o ≡ Some a.number → IfSome o (SpeaksFor a)
+caller-is : (a : SessionData) (o : Option ℕ) → IsSound a → o ≡ Some a.number → IfSome o (SpeaksFor a)
 caller-is a None sound e = tt
 caller-is a (Some who) sound e = (let same : who ≡ a.number = cc in same, sound)
 
 -- nothing changes
-keeps-all : (a : Space) → KeepsAll a a
+keeps-all : (a : SessionData) → KeepsAll a a
 keeps-all a = record { number = refl; own = refl; numbers = refl; known = refl; settled = settled-same a a refl; notes = refl; reads = refl }
 
 pub memory-out : MemoryRunsOut

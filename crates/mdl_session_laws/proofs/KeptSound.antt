@@ -2,8 +2,9 @@
 use Rattle.std.proofs.Common.{◌≡◌, ℕ, Bool, true, false, is_some, Option, Some, None, IfSome, inr, refl, sym, ap, subst, ◌∙◌}
 use Rattle.mdl_calls.specs.declared.answers.Settled.{Settled}
 use Rattle.mdl_calls.specs.Words.{Answer, Call, IsRising, Own, Wait, is_waiting, own_after}
-use Rattle.mdl_session_laws.specs.SessionJoins.{Joins, KeepsSettled, ends_wait}
-use Rattle.mdl_session_laws.specs.SessionSpaces.{Space, IsSound, Knows, is_known, are_below, are_placed, first_free}
+use Rattle.mdl_calls.specs.Learning.{KeepsSettled}
+use Rattle.mdl_calls.specs.SessionData.{SessionData, IsSound, Knows, is_known, are_below, are_placed, first_free}
+use Rattle.mdl_session_laws.specs.SessionJoins.{Joins, ends_wait}
 use Rattle.mdl_session_laws.specs.SpaceLaws.{beginning}
 use Rattle.mdl_session_laws.proofs.KnownAfter.{known-apart, knows-on, known-on}
 use Rattle.mdl_session_laws.proofs.OwnAfter.{placed-after, awaited-after, counts-after, waits-on}
@@ -11,14 +12,14 @@ use Rattle.mdl_session_laws.proofs.ReadAfter.{HasLearnt, learnt, noted-on, newes
 use Rattle.mdl_session_laws.proofs.TicketLists.{all-weaker}
 
 -- where it has no wait, it knows nothing of one
-unsettled : (a : Space) → IsSound a → is_waiting a.own ≡ false → a.settled ≡ None
+unsettled : (a : SessionData) → IsSound a → is_waiting a.own ≡ false → a.settled ≡ None
 unsettled a sound idle = by a.settled sound.settled
   where
     by : (o : Option Settled) → (is_some o ≡ true → is_waiting a.own ≡ true) → o ≡ None
     by None waits = refl
     by (Some how) waits = let no = sym (waits refl) ∙ idle in cc
 
-module _ (a b : Space) (call : Call) (answer : Answer) (sound : IsSound a) (joins : Joins a call answer b) where
+module _ (a b : SessionData) (call : Call) (answer : Answer) (sound : IsSound a) (joins : Joins a call answer b) where
   -- places that were known are
   known-still : (place : ℕ) → is_known place a.known ≡ true → is_known place b.known ≡ true
   known-still = known-on call answer a.known b.known joins.learns
@@ -72,9 +73,9 @@ module _ (a b : Space) (call : Call) (answer : Answer) (sound : IsSound a) (join
       }
 
 -- likewise of a session that has learnt what stands at a place, and is otherwise the same
-pub learns-sound : (a b : Space) → IsSound a → HasLearnt a b → b ≡ record a { notes = b.notes; reads = b.reads } → IsSound b
+pub learns-sound : (a b : SessionData) → IsSound a → HasLearnt a b → b ≡ record a { notes = b.notes; reads = b.reads } → IsSound b
 learns-sound a b sound learns same =
-    let c : Space = record a { notes = b.notes; reads = b.reads } in
+    let c : SessionData = record a { notes = b.notes; reads = b.reads } in
     let lets = inr (subst (HasLearnt a) same learns) in
     subst IsSound (sym same) (record {
       rising = sound.rising;

@@ -7,8 +7,9 @@ use Rattle.mdl_calls.specs.declared.space_error.SpaceError.TheVariants.{NoPlace,
 use Rattle.mdl_calls.specs.Reads.{ComesBefore, HasTableOf}
 use Rattle.mdl_calls.specs.Words.{Answer, Refused, Done, At_place, Key_is, Tables, Call, Resolve, Key_of, Tables_of, Unpin, Wait, AreTablesOf, AwaitsAt, HoldsAt}
 use Rattle.mdl_calls.proofs.TableLemmas.{table-of}
-use Rattle.mdl_session_laws.specs.SessionJoins.{Joins, LearnsPlace, LearnsTables}
-use Rattle.mdl_session_laws.specs.SessionSpaces.{Space, KnownKey, SpeaksFor, Knows, Pins, own_of, key_known, is_known, place_known}
+use Rattle.mdl_calls.specs.Learning.{LearnsPlace, LearnsTables}
+use Rattle.mdl_calls.specs.SessionData.{SessionData, KnownKey, SpeaksFor, Knows, Pins, own_of, key_known, is_known, place_known}
+use Rattle.mdl_session_laws.specs.SessionJoins.{Joins}
 use Rattle.mdl_session_laws.proofs.KeyLists.{is-known, known-is, key-of_place, last-known, place-of_key}
 use Rattle.mdl_session_laws.proofs.KnownAfter.{knows-on, known-on}
 use Rattle.mdl_session_laws.proofs.TicketLists.{all-among}
@@ -16,7 +17,7 @@ use Rattle.mdl_session_laws.proofs.TicketLists.{all-among}
 -- ---- keys and places
 
 -- whoever resolves a key knows its place
-pub session-resolves : (a b : Space) (who place : ℕ) (key : KeyName) → Joins a (Resolve who key) (At_place place) b → Knows b who place key
+pub session-resolves : (a b : SessionData) (who place : ℕ) (key : KeyName) → Joins a (Resolve who key) (At_place place) b → Knows b who place key
 session-resolves a b who place key joins = by (place_known key a.known) refl joins.learns
   where
     by : (o : Option ℕ) → place_known key a.known ≡ o → LearnsPlace key place o a.known b.known → key_known place b.known ≡ Some key
@@ -25,45 +26,45 @@ session-resolves a b who place key joins = by (place_known key a.known) refl joi
     by None is learns = ap (key_known place) learns.1 ∙ last-known a.known place key learns.0
 
 -- a place keeps its key, for all who know it
-pub session-remembers : (a b : Space) (call : Call) (answer : Answer) (w place : ℕ) (key : KeyName) → SpeaksFor a w
+pub session-remembers : (a b : SessionData) (call : Call) (answer : Answer) (w place : ℕ) (key : KeyName) → SpeaksFor a w
     → (call ≡ Unpin w place → answer ≡ Done → ⊥) → Joins a call answer b → Knows a w place key → Knows b w place key
 session-remembers a b call answer w place key speaks_for stays joins = knows-on call answer a.known b.known joins.learns place key
 
 -- a place has one key
-pub session-one_key : (a : Space) (w place : ℕ) (key other : KeyName) → SpeaksFor a w → Knows a w place key → Knows a w place other → key ≡ other
+pub session-one_key : (a : SessionData) (w place : ℕ) (key other : KeyName) → SpeaksFor a w → Knows a w place key → Knows a w place other → key ≡ other
 session-one_key a w place key other speaks_for one two = let same = sym one ∙ two in cc
 
 -- a key has one place
-pub session-one_place : (a : Space) (w place other : ℕ) (key : KeyName) → SpeaksFor a w → Knows a w place key → Knows a w other key → place ≡ other
+pub session-one_place : (a : SessionData) (w place other : ℕ) (key : KeyName) → SpeaksFor a w → Knows a w place key → Knows a w other key → place ≡ other
 session-one_place a w place other key speaks_for one two =
     let apart = speaks_for.1.apart in
     let same = sym (place-of_key a.known place key apart one) ∙ place-of_key a.known other key apart two in
     cc
 
 -- whoever is told the key of a place knows it
-pub session-tells_key : (a b : Space) (who place : ℕ) (key : KeyName) → Joins a (Key_of who place) (Key_is key) b → Knows b who place key
+pub session-tells_key : (a b : SessionData) (who place : ℕ) (key : KeyName) → Joins a (Key_of who place) (Key_is key) b → Knows b who place key
 session-tells_key a b who place key joins = knows-on (Key_of who place) (Key_is key) a.known b.known joins.learns place key joins.truly
 
 -- ---- tickets and waits
 
-held-here : (a : Space) (w : ℕ) (ticket : Held) → SpeaksFor a w → Contains a.own.held ticket → is_known ticket.place a.known ≡ true
+held-here : (a : SessionData) (w : ℕ) (ticket : Held) → SpeaksFor a w → Contains a.own.held ticket → is_known ticket.place a.known ≡ true
 held-here a w ticket speaks_for = all-among (λ (t : Held). is_known t.place a.known) a.own.held ticket speaks_for.1.placed
 
-wait-here : (a : Space) (w : ℕ) (wait : Wait) → SpeaksFor a w → a.own.wait ≡ Some wait → is_known wait.place a.known ≡ true
+wait-here : (a : SessionData) (w : ℕ) (wait : Wait) → SpeaksFor a w → a.own.wait ≡ Some wait → is_known wait.place a.known ≡ true
 wait-here a w wait speaks_for its = subst (λ o. IfSome o (λ (x : Wait). is_known x.place a.known ≡ true)) its speaks_for.1.awaited
 
 -- whoever holds a ticket knows the key of its place
-pub session-held_places : (a : Space) (w : ℕ) (ticket : Held) → SpeaksFor a w → Contains (own_of a w).held ticket
+pub session-held_places : (a : SessionData) (w : ℕ) (ticket : Held) → SpeaksFor a w → Contains (own_of a w).held ticket
     → (key : KeyName) × Knows a w ticket.place key
 session-held_places a w ticket speaks_for holds = is-known a.known ticket.place (held-here a w ticket speaks_for holds)
 
 -- whoever waits knows the key of the place that is waited for
-pub session-wait_place : (a : Space) (w : ℕ) (wait : Wait) → SpeaksFor a w → (own_of a w).wait ≡ Some wait → (key : KeyName) × Knows a w wait.place key
+pub session-wait_place : (a : SessionData) (w : ℕ) (wait : Wait) → SpeaksFor a w → (own_of a w).wait ≡ Some wait → (key : KeyName) × Knows a w wait.place key
 session-wait_place a w wait speaks_for its = is-known a.known wait.place (wait-here a w wait speaks_for its)
 
 -- ---- tables
 
-module _ (a b : Space) (who : ℕ) (schema places : List ℕ) (learns : LearnsTables schema places a.known b.known) where
+module _ (a b : SessionData) (who : ℕ) (schema places : List ℕ) (learns : LearnsTables schema places a.known b.known) where
   -- a key at a place
   at : ℕ → KnownKey
   at place = record { key = global_key; place = place }
@@ -94,7 +95,7 @@ module _ (a b : Space) (who : ℕ) (schema places : List ℕ) (learns : LearnsTa
       (λ n. key_cmp (same n) (also n)) ∙ learns.in_order i j (at d) lt short
 
 -- whoever is told the tables of a schema knows them
-pub session-tells_tables : (a b : Space) (who : ℕ) (schema places : List ℕ) → Joins a (Tables_of who schema) (Tables places) b
+pub session-tells_tables : (a b : SessionData) (who : ℕ) (schema places : List ℕ) → Joins a (Tables_of who schema) (Tables places) b
     → AreTablesOf (Knows b who) schema places
 session-tells_tables a b who schema places joins =
     let learns = joins.learns in
@@ -104,37 +105,37 @@ session-tells_tables a b who schema places joins =
 -- ---- pins
 
 -- whoever resolves a key pins its place
-pub session-resolved_pinned : (a b : Space) (who place : ℕ) (key : KeyName) → Joins a (Resolve who key) (At_place place) b → Pins b who place
+pub session-resolved_pinned : (a b : SessionData) (who place : ℕ) (key : KeyName) → Joins a (Resolve who key) (At_place place) b → Pins b who place
 session-resolved_pinned a b who place key joins = known-is b.known place key (session-resolves a b who place key joins)
 
 -- a pin stays
-pub session-pins_stay : (a b : Space) (call : Call) (answer : Answer) (w place : ℕ) → SpeaksFor a w → (call ≡ Unpin w place → answer ≡ Done → ⊥)
+pub session-pins_stay : (a b : SessionData) (call : Call) (answer : Answer) (w place : ℕ) → SpeaksFor a w → (call ≡ Unpin w place → answer ≡ Done → ⊥)
     → Joins a call answer b → Pins a w place → Pins b w place
 session-pins_stay a b call answer w place speaks_for stays joins = known-on call answer a.known b.known joins.learns place
 
 -- whoever pins a place knows its key
-pub session-pinned_known : (a : Space) (w place : ℕ) → SpeaksFor a w → Pins a w place → (key : KeyName) × Knows a w place key
+pub session-pinned_known : (a : SessionData) (w place : ℕ) → SpeaksFor a w → Pins a w place → (key : KeyName) × Knows a w place key
 session-pinned_known a w place speaks_for pins = is-known a.known place pins
 
 -- the place of a held ticket is pinned
-pub session-held_pinned : (a : Space) (w : ℕ) (ticket : Held) → SpeaksFor a w → Contains (own_of a w).held ticket → Pins a w ticket.place
+pub session-held_pinned : (a : SessionData) (w : ℕ) (ticket : Held) → SpeaksFor a w → Contains (own_of a w).held ticket → Pins a w ticket.place
 session-held_pinned = held-here
 
 -- the place that is waited for is pinned
-pub session-wait_pinned : (a : Space) (w : ℕ) (wait : Wait) → SpeaksFor a w → (own_of a w).wait ≡ Some wait → Pins a w wait.place
+pub session-wait_pinned : (a : SessionData) (w : ℕ) (wait : Wait) → SpeaksFor a w → (own_of a w).wait ≡ Some wait → Pins a w wait.place
 session-wait_pinned = wait-here
 
 -- no pin is given up yet
 no-unpin : {A : Type 0} → false ≡ true → A
 no-unpin e = cc
 
-pub session-unpins_none : (a b : Space) (who place : ℕ) → Joins a (Unpin who place) (Refused NoPlace) b → Pins a who place → ⊥
+pub session-unpins_none : (a b : SessionData) (who place : ℕ) → Joins a (Unpin who place) (Refused NoPlace) b → Pins a who place → ⊥
 session-unpins_none a b who place joins pins = no-unpin joins.has
 
-pub session-unpins_in_use : {Owes : Type 0} (a b : Space) (who place : ℕ) → Joins a (Unpin who place) (Refused InUse) b
+pub session-unpins_in_use : {Owes : Type 0} (a b : SessionData) (who place : ℕ) → Joins a (Unpin who place) (Refused InUse) b
     → HoldsAt place (own_of a who) ⊎ AwaitsAt place (own_of a who) ⊎ Owes
 session-unpins_in_use a b who place joins = no-unpin joins.has
 
-pub session-unpins : (a b : Space) (who place : ℕ) → Joins a (Unpin who place) Done b
+pub session-unpins : (a b : SessionData) (who place : ℕ) → Joins a (Unpin who place) Done b
     → Pins a who place × (HoldsAt place (own_of a who) → ⊥) × (AwaitsAt place (own_of a who) → ⊥)
 session-unpins a b who place joins = no-unpin joins.has

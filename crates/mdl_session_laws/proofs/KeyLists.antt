@@ -5,7 +5,7 @@ use Rattle.std.proofs.lemmas.Bool.Decides.{nat_tests}
 use Rattle.std.proofs.lemmas.List.Folds.{list_all-append}
 use Rattle.mdl_key.specs.Words.{KeyName, key_eq}
 use Rattle.mdl_system.proofs.Deciding.{key-Decides}
-use Rattle.mdl_session_laws.specs.SessionSpaces.{KnownKey, key_known, is_known, place_known, are_two, are_apart}
+use Rattle.mdl_calls.specs.SessionData.{KnownKey, key_known, is_known, place_known, are_two, are_apart}
 
 -- ---- look-ups
 

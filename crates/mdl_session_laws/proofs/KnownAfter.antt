@@ -2,8 +2,9 @@
 use Rattle.std.proofs.Common.{◌≡◌, ℕ, true, List, [], ◌++◌, Option, Some, None, refl, sym, ap, ◌∙◌, append-nil}
 use Rattle.mdl_key.specs.Words.{KeyName}
 use Rattle.mdl_calls.specs.Words.{Answer, At_place, Tables, Call, Resolve, Tables_of}
-use Rattle.mdl_session_laws.specs.SessionJoins.{Learns, LearnsPlace}
-use Rattle.mdl_session_laws.specs.SessionSpaces.{KnownKey, key_known, is_known, place_known, are_apart}
+use Rattle.mdl_calls.specs.Learning.{LearnsPlace}
+use Rattle.mdl_calls.specs.SessionData.{KnownKey, key_known, is_known, place_known, are_apart}
+use Rattle.mdl_session_laws.specs.SessionJoins.{Learns}
 use Rattle.mdl_session_laws.proofs.KeyLists.{keeps-known, stays-known, apart-last}
 
 same-grows : (before after : List KnownKey) → after ≡ before → (more : List KnownKey) × (after ≡ before ++ more)

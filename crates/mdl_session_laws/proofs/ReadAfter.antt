@@ -8,8 +8,9 @@ use Rattle.mdl_defs.specs.Standings.{MayStand, standing_after}
 use Rattle.mdl_defs.proofs.StandingLemmas.{changes-keep_standing}
 use Rattle.mdl_calls.specs.declared.answers.Held.{Held}
 use Rattle.mdl_calls.specs.Words.{Answer, Refused, Reads, Changed, Call, Read_definition, Read_kept, Change_definition, OfHeld, Own, is_number, ticket_held}
-use Rattle.mdl_session_laws.specs.SessionJoins.{IsLast, LetsRead, Meets, NotesThere, ReadsNothing, ReadsThere, ChangesThere}
-use Rattle.mdl_session_laws.specs.SessionSpaces.{Space, Reading, IsSound, IsNoted, FitsKey, key_known, is_known, noted_at, last_read, is_newest, was_read}
+use Rattle.mdl_calls.specs.Meetings.{IsLast, Meets, NotesThere, ReadsNothing, ReadsThere, ChangesThere}
+use Rattle.mdl_calls.specs.SessionData.{SessionData, Reading, IsSound, IsNoted, FitsKey, key_known, is_known, noted_at, last_read, is_newest, was_read}
+use Rattle.mdl_session_laws.specs.SessionJoins.{LetsRead}
 use Rattle.mdl_session_laws.proofs.KeyLists.{is-known}
 use Rattle.mdl_session_laws.proofs.ReadLists.{last-here, last-elsewhere, last-keeps, last-stays, last-newest, last-newest_elsewhere, newest-up}
 use Rattle.mdl_session_laws.proofs.TicketLists.{all-found}
@@ -28,7 +29,7 @@ pub held-of : (id : ℕ) (own : Own) (P : Held → Type 0) (ticket : Held) → t
 held-of id own P ticket e = subst (λ o. MatchOption o ⊥ P → P ticket) (sym e) (λ h. h)
 
 -- a held ticket's place has a key
-pub held-known : (a : Space) (id : ℕ) (ticket : Held) → IsSound a → ticket_held id a.own ≡ Some ticket
+pub held-known : (a : SessionData) (id : ℕ) (ticket : Held) → IsSound a → ticket_held id a.own ≡ Some ticket
     → (key : KeyName) × (key_known ticket.place a.known ≡ Some key)
 held-known a id ticket sound e =
     is-known a.known ticket.place (all-found (λ (t : Held). is_known t.place a.known) (is_number id) a.own.held ticket sound.placed e)
@@ -36,12 +37,12 @@ held-known a id ticket sound e =
 -- ---- what was learnt
 
 -- what is met at a known place may stand there
-pub meets-fits : (a : Space) (place : ℕ) (standing : Standing) (key : KeyName) → key_known place a.known ≡ Some key → Meets place standing a → FitsKey a place standing
+pub meets-fits : (a : SessionData) (place : ℕ) (standing : Standing) (key : KeyName) → key_known place a.known ≡ Some key → Meets place standing a → FitsKey a place standing
 meets-fits a place standing key its meets =
     subst (λ (o : Option KeyName). MatchOption o ⊥ (λ k. MayStand k.namespace standing)) (sym its) (meets.fits key its)
 
 -- a session has read what may stand there, and nothing newer before. What is noted there is its version
-pub record HasLearnt (a b : Space) : Type 0 where
+pub record HasLearnt (a b : SessionData) : Type 0 where
   pub place : ℕ
   pub standing : Standing
   pub newest : is_newest place standing.version a.reads ≡ true
@@ -51,7 +52,7 @@ pub record HasLearnt (a b : Space) : Type 0 where
   pub elsewhere : (other : ℕ) → other ≢ place → noted_at other b.notes ≡ noted_at other a.notes
 
 -- as it notes that there
-by-notes : (a b : Space) (place : ℕ) (standing : Standing) → is_newest place standing.version a.reads ≡ true → FitsKey a place standing
+by-notes : (a b : SessionData) (place : ℕ) (standing : Standing) → is_newest place standing.version a.reads ≡ true → FitsKey a place standing
     → NotesThere place standing a b → HasLearnt a b
 by-notes a b place standing newest fits notes = record {
   place = place;
@@ -63,14 +64,14 @@ by-notes a b place standing newest fits notes = record {
   elsewhere = notes.elsewhere;
 }
 
-learnt-read : (a b : Space) (id : ℕ) (standing : Standing) → IsSound a → OfHeld id a.own (λ ticket. ReadsThere standing a b ticket.place) → HasLearnt a b
+learnt-read : (a b : SessionData) (id : ℕ) (standing : Standing) → IsSound a → OfHeld id a.own (λ ticket. ReadsThere standing a b ticket.place) → HasLearnt a b
 learnt-read a b id standing sound lets =
     let h = of-held id a.own (λ ticket. ReadsThere standing a b ticket.place) lets in
     let key = held-known a id h.0 sound h.1 in
     by-notes a b h.0.place standing h.2.0.newest (meets-fits a h.0.place standing key.0 key.1 h.2.0) h.2.1
 
 -- also where the call was refused
-learnt-vain : (a b : Space) (id : ℕ) → IsSound a → OfHeld id a.own (λ ticket. (standing : Standing) × (b.reads ≡ a.reads) × ReadsThere standing a b ticket.place)
+learnt-vain : (a b : SessionData) (id : ℕ) → IsSound a → OfHeld id a.own (λ ticket. (standing : Standing) × (b.reads ≡ a.reads) × ReadsThere standing a b ticket.place)
     → HasLearnt a b
 learnt-vain a b id sound lets =
     let h = of-held id a.own (λ ticket. (standing : Standing) × (b.reads ≡ a.reads) × ReadsThere standing a b ticket.place) lets in
@@ -78,13 +79,13 @@ learnt-vain a b id sound lets =
     by-notes a b h.0.place h.2.0 h.2.2.0.newest (meets-fits a h.0.place h.2.0 key.0 key.1 h.2.2.0) h.2.2.1
 
 -- what is made of what stood may stand where that did
-pub changed-fits : (a b : Space) (place version : ℕ) (change : Change) (key : KeyName) → key_known place a.known ≡ Some key
+pub changed-fits : (a b : SessionData) (place version : ℕ) (change : Change) (key : KeyName) → key_known place a.known ≡ Some key
     → (changes : ChangesThere change version a b place) → FitsKey a place (standing_after change changes.stood)
 changed-fits a b place version change key its changes =
     subst (λ (o : Option KeyName). MatchOption o ⊥ (λ k. MayStand k.namespace (standing_after change changes.stood))) (sym its)
     (changes-keep_standing key.namespace changes.stood change (changes.meets.fits key its) (changes.allowed key its))
 
-learnt-changed : (a b : Space) (id version : ℕ) (change : Change) → IsSound a → OfHeld id a.own (λ ticket. ChangesThere change version a b ticket.place) → HasLearnt a b
+learnt-changed : (a b : SessionData) (id version : ℕ) (change : Change) → IsSound a → OfHeld id a.own (λ ticket. ChangesThere change version a b ticket.place) → HasLearnt a b
 learnt-changed a b id version change sound lets =
     let h = of-held id a.own (λ ticket. ChangesThere change version a b ticket.place) lets in
     let key = held-known a id h.0 sound h.1 in
@@ -92,7 +93,7 @@ learnt-changed a b id version change sound lets =
     (changed-fits a b h.0.place version change key.0 key.1 h.2) h.2.notes
 
 -- a call lets its session read nothing, or at one place
-pub learnt : (a b : Space) (call : Call) (answer : Answer) → IsSound a → LetsRead call answer a b → ReadsNothing a b ⊎ HasLearnt a b
+pub learnt : (a b : SessionData) (call : Call) (answer : Answer) → IsSound a → LetsRead call answer a b → ReadsNothing a b ⊎ HasLearnt a b
 learnt a b (Read_definition who id) (Reads version definition) sound lets = inr (learnt-read a b id _ sound lets)
 learnt a b (Read_kept who id) (Reads version definition) sound lets = inr (learnt-read a b id _ sound lets)
 learnt a b (Read_kept who id) (Refused why) sound lets = elim lets [
@@ -105,17 +106,17 @@ learnt a b _ _ sound lets = inl lets
 -- ---- what is kept of it
 
 -- what was read stays read
-pub was_read-on : (a b : Space) → ReadsNothing a b ⊎ HasLearnt a b → (place version : ℕ) → was_read place version a.reads ≡ true → was_read place version b.reads ≡ true
+pub was_read-on : (a b : SessionData) → ReadsNothing a b ⊎ HasLearnt a b → (place version : ℕ) → was_read place version a.reads ≡ true → was_read place version b.reads ≡ true
 was_read-on a b (inl nothing) place version was = ap (was_read place version) nothing.reads ∙ was
 was_read-on a b (inr h) place version was = last-stays h.place place version h.standing a.reads b.reads h.last was
 
 -- and is one of those that were read
-pub among-on : (a b : Space) → ReadsNothing a b ⊎ HasLearnt a b → (r : Reading) → Contains a.reads r → Contains b.reads r
+pub among-on : (a b : SessionData) → ReadsNothing a b ⊎ HasLearnt a b → (r : Reading) → Contains a.reads r → Contains b.reads r
 among-on a b (inl nothing) r among = subst (λ l. Contains l r) (sym nothing.reads) among
 among-on a b (inr h) r among = last-keeps h.place h.standing a.reads b.reads r h.last among
 
 -- the version that is noted is that of what was read last
-pub noted-on : (a b : Space) → IsSound a → ReadsNothing a b ⊎ HasLearnt a b → (place version : ℕ) → noted_at place b.notes ≡ Some version → IsNoted b place version
+pub noted-on : (a b : SessionData) → IsSound a → ReadsNothing a b ⊎ HasLearnt a b → (place version : ℕ) → noted_at place b.notes ≡ Some version → IsNoted b place version
 noted-on a b sound (inl nothing) place version is =
     ap (λ reads. option_map (λ (s : Standing). s.version) (last_read place reads)) nothing.reads ∙ sound.noted place version (nothing.noted place version is)
 noted-on a b sound (inr h) place version is = elim (eqb_tells place h.place) [
@@ -130,7 +131,7 @@ noted-on a b sound (inr h) place version is = elim (eqb_tells place h.place) [
 ]
 
 -- nothing newer was read there
-pub newest-on : (a b : Space) → IsSound a → ReadsNothing a b ⊎ HasLearnt a b → (place : ℕ) (standing : Standing) → last_read place b.reads ≡ Some standing
+pub newest-on : (a b : SessionData) → IsSound a → ReadsNothing a b ⊎ HasLearnt a b → (place : ℕ) (standing : Standing) → last_read place b.reads ≡ Some standing
     → is_newest place standing.version b.reads ≡ true
 newest-on a b sound (inl nothing) place standing is =
     ap (is_newest place standing.version) nothing.reads ∙ sound.newest place standing (ap (last_read place) (sym nothing.reads) ∙ is)
@@ -146,7 +147,7 @@ newest-on a b sound (inr h) place standing is = elim (eqb_tells place h.place) [
 ]
 
 -- and it may stand there, as what is known stays known
-pub fits-on : (a b : Space) → IsSound a → ((place : ℕ) (key : KeyName) → key_known place a.known ≡ Some key → key_known place b.known ≡ Some key)
+pub fits-on : (a b : SessionData) → IsSound a → ((place : ℕ) (key : KeyName) → key_known place a.known ≡ Some key → key_known place b.known ≡ Some key)
     → ReadsNothing a b ⊎ HasLearnt a b → (place : ℕ) (standing : Standing) → last_read place b.reads ≡ Some standing → FitsKey b place standing
 fits-on a b sound knows lets place standing is = on (before lets)
   where

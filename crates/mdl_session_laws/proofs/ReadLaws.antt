@@ -11,23 +11,24 @@ use Rattle.mdl_calls.specs.declared.answers.Held.{Held}
 use Rattle.mdl_calls.specs.declared.space_error.SpaceError.{SpaceError}
 use Rattle.mdl_calls.specs.declared.space_error.SpaceError.TheVariants.{OutOfMemory}
 use Rattle.mdl_calls.specs.Words.{Answer, Refused, Reads, Changed, Call, Read_definition, Read_kept, Change_definition, caller, HoldsAt, IsChangeOf, cause_of, OfHeld, read_under, redefined_place, ticket_held}
-use Rattle.mdl_session_laws.specs.SessionJoins.{Joins, Meets, MeetsFault, NotesThere, ReadsNothing, ReadsThere, ChangesThere, IsRefusedFor}
-use Rattle.mdl_session_laws.specs.SessionSpaces.{Space, SpeaksFor, Knows, HasMet, HasRead, HasSeen, own_of, last_read}
+use Rattle.mdl_calls.specs.Meetings.{Meets, MeetsFault, NotesThere, ReadsNothing, ReadsThere, ChangesThere, IsRefusedFor}
+use Rattle.mdl_calls.specs.SessionData.{SessionData, SpeaksFor, Knows, HasMet, HasRead, HasSeen, own_of, last_read}
+use Rattle.mdl_session_laws.specs.SessionJoins.{Joins}
 use Rattle.mdl_session_laws.proofs.ReadAfter.{of-held, held-of, learnt, among-on, was_read-on}
 use Rattle.mdl_session_laws.proofs.ReadLists.{last-among, last-here, last-elsewhere, last-was_read, newest-above}
 
 -- ---- what was met
 
 -- what is noted and read last at a place is what is met there
-pub meets-read : (a : Space) (who place : ℕ) (standing stood : Standing) → HasRead a who place standing → Meets place stood a → standing ≡ stood
+pub meets-read : (a : SessionData) (who place : ℕ) (standing stood : Standing) → HasRead a who place standing → Meets place stood a → standing ≡ stood
 meets-read a who place standing stood has meets = meets.same standing has.1 (meets.noted standing.version has.0)
 
 -- what is noted now has been read
-noted-read : (a b : Space) (who place : ℕ) (standing : Standing) → NotesThere place standing a b → HasRead b who place standing
+noted-read : (a b : SessionData) (who place : ℕ) (standing : Standing) → NotesThere place standing a b → HasRead b who place standing
 noted-read a b who place standing notes = (notes.here, last-here place standing a.reads b.reads notes.last)
 
 -- elsewhere the same is
-noted-elsewhere : (a b : Space) (who place other : ℕ) (standing read : Standing) → NotesThere place standing a b → other ≢ place
+noted-elsewhere : (a b : SessionData) (who place other : ℕ) (standing read : Standing) → NotesThere place standing a b → other ≢ place
     → HasRead a who other read → HasRead b who other read
 noted-elsewhere a b who place other standing read notes apart has =
     (notes.elsewhere other apart ∙ has.0, last-elsewhere place other standing a.reads b.reads notes.last apart ∙ has.1)
@@ -35,7 +36,7 @@ noted-elsewhere a b who place other standing read notes apart has =
 -- ---- reads
 
 -- whoever reads under a ticket has read what stands at its place
-pub session-reads : (a b : Space) (call : Call) (who id version : ℕ) (definition : Option Definition) (ticket : Held)
+pub session-reads : (a b : SessionData) (call : Call) (who id version : ℕ) (definition : Option Definition) (ticket : Held)
     → caller call ≡ Some who → read_under call ≡ Some id → ticket_held id (own_of a who) ≡ Some ticket → Joins a call (Reads version definition) b
     → HasRead b who ticket.place (record { version = version; definition = definition })
 session-reads a b (Read_definition w n) who id version definition ticket mine under its joins =
@@ -53,7 +54,7 @@ session-reads a b _ who id version definition ticket mine under its joins = cc
 -- ---- changes
 
 -- whoever changes what stands there knows what stands there then
-pub session-redefines : (a b : Space) (who id version : ℕ) (change : Change) (ticket : Held) → ticket_held id (own_of a who) ≡ Some ticket
+pub session-redefines : (a b : SessionData) (who id version : ℕ) (change : Change) (ticket : Held) → ticket_held id (own_of a who) ≡ Some ticket
     → Joins a (Change_definition who id change) (Changed version) b
     → (definition : Option Definition) × HasRead b who ticket.place (record { version = version; definition = definition })
 session-redefines a b who id version change ticket its joins =
@@ -64,7 +65,7 @@ session-redefines a b who id version change ticket its joins =
           (noted-read a b who ticket.place after changes.notes),
     )
 
-module _ (a b : Space) (who id : ℕ) (change : Change) (ticket : Held) (key : KeyName) (standing : Standing) (its : ticket_held id a.own ≡ Some ticket)
+module _ (a b : SessionData) (who id : ℕ) (change : Change) (ticket : Held) (key : KeyName) (standing : Standing) (its : ticket_held id a.own ≡ Some ticket)
     (exclusive : same_mode ticket.mode X ≡ true) (knows : Knows a who ticket.place key) (has : HasRead a who ticket.place standing) where
   -- the change was made of what was read
   made : (version : ℕ) → Joins a (Change_definition who id change) (Changed version) b
@@ -100,7 +101,7 @@ module _ (a b : Space) (who id : ℕ) (change : Change) (ticket : Held) (key : K
   of_answer _ joins = let no = joins.fits in absurd (cc)
 
 -- it is what the change makes of what was read there, or the change is refused for that
-pub session-redefines_so : (a b : Space) (who id : ℕ) (change : Change) (answer : Answer) (ticket : Held) (key : KeyName) (standing : Standing)
+pub session-redefines_so : (a b : SessionData) (who id : ℕ) (change : Change) (answer : Answer) (ticket : Held) (key : KeyName) (standing : Standing)
     → ticket_held id (own_of a who) ≡ Some ticket → same_mode ticket.mode X ≡ true → Knows a who ticket.place key → HasRead a who ticket.place standing
     → Joins a (Change_definition who id change) answer b
     → IsChangeOf key change standing answer
@@ -111,10 +112,10 @@ session-redefines_so a b who id change answer ticket key standing its exclusive 
 -- ---- what stands
 
 -- one thing stands at a place
-pub session-reads_one : (a : Space) (w place : ℕ) (one other : Standing) → SpeaksFor a w → HasRead a w place one → HasRead a w place other → one ≡ other
+pub session-reads_one : (a : SessionData) (w place : ℕ) (one other : Standing) → SpeaksFor a w → HasRead a w place one → HasRead a w place other → one ≡ other
 session-reads_one a w place one other speaks_for read again = let same = sym read.1 ∙ again.1 in cc
 
-module _ (a b : Space) (w place : ℕ) (standing : Standing) (has : HasRead a w place standing) where
+module _ (a b : SessionData) (w place : ℕ) (standing : Standing) (has : HasRead a w place standing) where
   -- it is read again
   stands-read : (id : ℕ) (read : Standing) → OfHeld id a.own (λ (t : Held). ReadsThere read a b t.place) → HasRead b w place standing
   stands-read id read lets =
@@ -152,7 +153,7 @@ module _ (a b : Space) (w place : ℕ) (standing : Standing) (has : HasRead a w 
   stands-on holds nothing = (nothing.carried place standing.version holds has.0, ap (last_read place) nothing.reads ∙ has.1)
 
 -- what was read stands as long as a ticket is held, unless the session itself changes it
-pub session-stands : (a b : Space) (call : Call) (answer : Answer) (w place : ℕ) (standing : Standing) → SpeaksFor a w
+pub session-stands : (a b : SessionData) (call : Call) (answer : Answer) (w place : ℕ) (standing : Standing) → SpeaksFor a w
     → (caller call ≡ Some w → redefined_place call answer (own_of a w) ≡ Some place → ⊥) → HoldsAt place (own_of b w) → Joins a call answer b
     → HasRead a w place standing → HasRead b w place standing
 session-stands a b (Read_definition who id) (Reads version definition) w place standing speaks_for other holds joins has =
@@ -168,31 +169,31 @@ session-stands a b (Change_definition who id change) (Changed version) w place s
 session-stands a b _ _ w place standing speaks_for other holds joins has = stands-on a b w place standing has holds joins.reads
 
 -- what stands may stand under its key
-pub session-reads_fit : (a : Space) (w place : ℕ) (key : KeyName) (standing : Standing) → SpeaksFor a w → Knows a w place key → HasRead a w place standing
+pub session-reads_fit : (a : SessionData) (w place : ℕ) (key : KeyName) (standing : Standing) → SpeaksFor a w → Knows a w place key → HasRead a w place standing
     → MayStand key.namespace standing
 session-reads_fit a w place key standing speaks_for knows has =
     subst (λ (o : Option KeyName). MatchOption o ⊥ (λ k. MayStand k.namespace standing)) knows (speaks_for.1.fits place standing has.1)
 
 -- what is read is seen
-pub session-sees : (a : Space) (w place : ℕ) (standing : Standing) → SpeaksFor a w → HasRead a w place standing → HasSeen a w place standing.version
+pub session-sees : (a : SessionData) (w place : ℕ) (standing : Standing) → SpeaksFor a w → HasRead a w place standing → HasSeen a w place standing.version
 session-sees a w place standing speaks_for has = last-was_read a.reads place standing has.1
 
 -- what was seen was seen
-pub session-seen_stays : (a b : Space) (call : Call) (answer : Answer) (w place version : ℕ) → SpeaksFor a w → Joins a call answer b
+pub session-seen_stays : (a b : SessionData) (call : Call) (answer : Answer) (w place version : ℕ) → SpeaksFor a w → Joins a call answer b
     → HasSeen a w place version → HasSeen b w place version
 session-seen_stays a b call answer w place version speaks_for joins = was_read-on a b (learnt a b call answer speaks_for.1 joins.reads) place version
 
 -- no version is read below one that was seen
-pub session-seen_below : (a : Space) (w place version : ℕ) (standing : Standing) → SpeaksFor a w → HasSeen a w place version
+pub session-seen_below : (a : SessionData) (w place version : ℕ) (standing : Standing) → SpeaksFor a w → HasSeen a w place version
     → HasRead a w place standing → version ≤ standing.version
 session-seen_below a w place version standing speaks_for seen has =
     newest-above a.reads place version standing.version seen (speaks_for.1.newest place standing has.1)
 
 -- what is read is met
-pub session-meets : (a : Space) (w place : ℕ) (standing : Standing) → SpeaksFor a w → HasRead a w place standing → HasMet a w place standing
+pub session-meets : (a : SessionData) (w place : ℕ) (standing : Standing) → SpeaksFor a w → HasRead a w place standing → HasMet a w place standing
 session-meets a w place standing speaks_for has = last-among a.reads place standing has.1
 
 -- what was met was met
-pub session-met_stays : (a b : Space) (call : Call) (answer : Answer) (w place : ℕ) (standing : Standing) → SpeaksFor a w → Joins a call answer b
+pub session-met_stays : (a b : SessionData) (call : Call) (answer : Answer) (w place : ℕ) (standing : Standing) → SpeaksFor a w → Joins a call answer b
     → HasMet a w place standing → HasMet b w place standing
 session-met_stays a b call answer w place standing speaks_for joins = among-on a b (learnt a b call answer speaks_for.1 joins.reads) _

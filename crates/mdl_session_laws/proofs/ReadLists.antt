@@ -6,8 +6,8 @@ use Rattle.std.proofs.lemmas.Bool.Decides.{nat_tests}
 use Rattle.std.proofs.lemmas.List.Elements.{Contains-append_left, Contains-append_right}
 use Rattle.std.proofs.lemmas.List.Folds.{list_any-append}
 use Rattle.mdl_defs.specs.declared.standing.Standing.{Standing}
-use Rattle.mdl_session_laws.specs.SessionJoins.{IsLast}
-use Rattle.mdl_session_laws.specs.SessionSpaces.{Reading, last_read, was_read, is_newest}
+use Rattle.mdl_calls.specs.Meetings.{IsLast}
+use Rattle.mdl_calls.specs.SessionData.{Reading, last_read, was_read, is_newest}
 
 or-none : {A : Type 0} (o : Option A) → option_or o None ≡ o
 or-none None = refl

@@ -3,11 +3,13 @@ use Rattle.std.proofs.Common.{inl, ◌≡◌, ℕ, true, false, Option, Some, If
 use Rattle.mdl_calls.specs.declared.answers.Settled.{Settled}
 use Rattle.mdl_calls.specs.declared.space_error.SpaceError.{SpaceError}
 use Rattle.mdl_calls.specs.Words.{Refused, Call, Resolve, Try_now, Read_definition, Read_kept, Poll_wait, End_wait, caller, is_answer_of, told, IsCause, Own, Numbers, Draws, own_after}
-use Rattle.mdl_session_laws.specs.SessionJoins.{Joins, KeepsSettled, Learns, LetsRead, ReadsNothing, TellsTruly, ends_wait, gained_at, has_call, met}
-use Rattle.mdl_session_laws.specs.SessionSpaces.{Space, SpeaksFor, Knows, is_known, noted_at}
+use Rattle.mdl_calls.specs.Learning.{KeepsSettled}
+use Rattle.mdl_calls.specs.Meetings.{ReadsNothing}
+use Rattle.mdl_calls.specs.SessionData.{SessionData, SpeaksFor, Knows, is_known, noted_at}
+use Rattle.mdl_session_laws.specs.SessionJoins.{Joins, Learns, LetsRead, TellsTruly, ends_wait, gained_at, has_call, met}
 
 -- all is the same but how the wait is settled, which may have been learnt
-pub record KeepsAll (a b : Space) : Type 0 where
+pub record KeepsAll (a b : SessionData) : Type 0 where
   pub number : b.number ≡ a.number
   pub own : b.own ≡ a.own
   pub numbers : b.numbers ≡ a.numbers
@@ -17,7 +19,7 @@ pub record KeepsAll (a b : Space) : Type 0 where
   pub reads : b.reads ≡ a.reads
 
 -- nothing is read, or noted
-pub reads-nothing : (a b : Space) → b.reads ≡ a.reads → b.notes ≡ a.notes → ReadsNothing a b
+pub reads-nothing : (a b : SessionData) → b.reads ≡ a.reads → b.notes ≡ a.notes → ReadsNothing a b
 reads-nothing a b reads notes = record {
   reads = reads;
   noted = λ place version noted. ap (noted_at place) (sym notes) ∙ noted;
@@ -36,11 +38,11 @@ refused-gains : (known : ℕ → Type 0) (call : Call) (why : SpaceError) → If
 refused-gains known (Try_now who place mode) why = tt
 refused-gains known _ why = tt
 
-refused-learns : (call : Call) (why : SpaceError) (a b : Space) → b.known ≡ a.known → Learns call (Refused why) a.known b.known
+refused-learns : (call : Call) (why : SpaceError) (a b : SessionData) → b.known ≡ a.known → Learns call (Refused why) a.known b.known
 refused-learns (Resolve who key) why a b e = e
 refused-learns _ why a b e = e
 
-refused-told : (call : Call) (why : SpaceError) (how : Settled) (b : Space) → told call (Refused why) ≡ Some how → b.settled ≡ Some how
+refused-told : (call : Call) (why : SpaceError) (how : Settled) (b : SessionData) → told call (Refused why) ≡ Some how → b.settled ≡ Some how
 refused-told (Poll_wait who) why how b e = cc
 refused-told _ why how b e = cc
 
@@ -48,12 +50,12 @@ refused-ends : (call : Call) (why : SpaceError) → ends_wait call (Refused why)
 refused-ends (End_wait who) why = refl
 refused-ends _ why = refl
 
-refused-reads : (call : Call) (why : SpaceError) (a b : Space) → ReadsNothing a b → LetsRead call (Refused why) a b
+refused-reads : (call : Call) (why : SpaceError) (a b : SessionData) → ReadsNothing a b → LetsRead call (Refused why) a b
 refused-reads (Read_definition who id) why a b nothing = nothing
 refused-reads (Read_kept who id) why a b nothing = inl nothing
 refused-reads _ why a b nothing = nothing
 
-pub refused-joins : (a b : Space) (call : Call) (why : SpaceError) → IfSome (caller call) (SpeaksFor a) → has_call call ≡ true
+pub refused-joins : (a b : SessionData) (call : Call) (why : SpaceError) → IfSome (caller call) (SpeaksFor a) → has_call call ≡ true
     → is_answer_of call (Refused why) ≡ true → KeepsAll a b → IsCause (Knows a a.number) call why a.own
     → ((state : Option Settled) (how : Settled) → met call (Refused why) ≡ Some state → a.settled ≡ Some how → state ≡ Some how)
     → TellsTruly call (Refused why) a b → Joins a call (Refused why) b

@@ -7,7 +7,7 @@ use Rattle.std.proofs.lemmas.List.Folds.{list_all-append}
 use Rattle.std.proofs.lemmas.List.Sums.{AllPass-from_list_all}
 use Rattle.mdl_calls.specs.declared.answers.Held.{Held}
 use Rattle.mdl_calls.specs.Words.{are_rising}
-use Rattle.mdl_session_laws.specs.SessionSpaces.{are_below}
+use Rattle.mdl_calls.specs.SessionData.{are_below}
 
 -- ---- tests of all
 

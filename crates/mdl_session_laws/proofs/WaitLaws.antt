@@ -4,31 +4,40 @@ use Rattle.mdl_calls.specs.declared.answers.Settled.{Settled}
 use Rattle.mdl_calls.specs.declared.answers.Settled.TheVariants as settled_as
 use Rattle.mdl_calls.specs.declared.answers.TimedOut.TheVariants.{ByThisCall, Already}
 use Rattle.mdl_calls.specs.declared.space_error.SpaceError.TheVariants.{NoWait, Unsettled}
-use Rattle.mdl_calls.specs.Words.{Answer, Refused, Granted, Victim_is, Pending, Is_settled, Timed_out, Lost, Has_wait, Has_killed, is_answer_of, Call, Search, Poll_wait, Settle_timeout, End_wait, Wait_of, Kill, caller, IsEndOf, IsExplained, IsToldOf, told, wait_number, is_waiting}
-use Rattle.mdl_session_laws.specs.SessionJoins.{Joins, KeepsSettled, ends_wait, met}
-use Rattle.mdl_session_laws.specs.SessionSpaces.{Space, SpeaksFor, IsSettledAs, Knows, own_of}
+use Rattle.mdl_calls.specs.Words.{Answer, Refused, Done, Granted, Upgraded, Waits, Victim_is, Pending, Is_settled, Timed_out, Lost, Has_wait, Has_killed, is_answer_of, Begin_wait, Call, Clone_ticket, Downgrade, Merge, Release, Search, Try_now, Upgrade_now, Poll_wait, Settle_timeout, End_wait, Wait_of, Kill, caller, IsEndOf, IsExplained, IsToldOf, told, wait_number, is_waiting}
+use Rattle.mdl_calls.specs.Learning.{KeepsSettled}
+use Rattle.mdl_calls.specs.SessionData.{SessionData, SpeaksFor, IsSettledAs, Knows, own_of}
+use Rattle.mdl_session_laws.specs.SessionJoins.{Joins, ends_wait, met}
 use Rattle.mdl_session_laws.proofs.CallLaws.{speaks}
 
 -- an answer that tells how the caller's wait is settled is true
-pub session-tells : (a b : Space) (call : Call) (answer : Answer) (who : ℕ) (how : Settled) → caller call ≡ Some who → told call answer ≡ Some how
+pub session-tells : (a b : SessionData) (call : Call) (answer : Answer) (who : ℕ) (how : Settled) → caller call ≡ Some who → told call answer ≡ Some how
     → Joins a call answer b → IsSettledAs b who how
 session-tells a b call answer who how mine tells joins = joins.told how tells
 
 -- only a wait is settled
-pub session-waits_settled : (a : Space) (w : ℕ) (how : Settled) → SpeaksFor a w → IsSettledAs a w how → is_waiting (own_of a w) ≡ true
+pub session-waits_settled : (a : SessionData) (w : ℕ) (how : Settled) → SpeaksFor a w → IsSettledAs a w how → is_waiting (own_of a w) ≡ true
 session-waits_settled a w how speaks_for settled = speaks_for.1.settled (ap is_some settled)
 
 -- a wait is settled in one way
-pub session-settled_once : (a : Space) (w : ℕ) (how other : Settled) → SpeaksFor a w → IsSettledAs a w how → IsSettledAs a w other → how ≡ other
+pub session-settled_once : (a : SessionData) (w : ℕ) (how other : Settled) → SpeaksFor a w → IsSettledAs a w how → IsSettledAs a w other → how ≡ other
 session-settled_once a w how other speaks_for one two = let same = sym one ∙ two in cc
 
 -- only its session ends a wait
 ended-by : (call : Call) (answer : Answer) → ends_wait call answer ≡ true → (who : ℕ) × (call ≡ End_wait who)
 ended-by (End_wait who) answer ends = (who, refl)
-ended-by _ answer ends = cc
+ended-by (Try_now who place mode) (Granted id) ends = cc
+ended-by (Begin_wait who place mode) (Granted id) ends = cc
+ended-by (Begin_wait who place mode) (Waits number) ends = cc
+ended-by (Release who id) Done ends = cc
+ended-by (Clone_ticket who id mode) (Granted copy) ends = cc
+ended-by (Upgrade_now who id mode) Upgraded ends = cc
+ended-by (Merge who old new) Done ends = cc
+ended-by (Downgrade who id mode) Done ends = cc
+ended-by _ _ ends = cc
 
 -- what a wait is settled as stays, until the wait is ended
-pub session-stays : (a b : Space) (call : Call) (answer : Answer) (w : ℕ) (how : Settled) → SpeaksFor a w → (call ≡ End_wait w → ⊥)
+pub session-stays : (a b : SessionData) (call : Call) (answer : Answer) (w : ℕ) (how : Settled) → SpeaksFor a w → (call ≡ End_wait w → ⊥)
     → Joins a call answer b → IsSettledAs a w how → IsSettledAs b w how
 session-stays a b call answer w how speaks_for apart joins settled = by (ends_wait call answer) refl joins.settled
   where
@@ -45,7 +54,7 @@ lost-end settled_as.Granted who fits = cc
 lost-end _ who fits = refl
 
 -- who is told what, where a settled wait is met as it is settled
-told-so : (a : Space) (call : Call) (answer : Answer) (how : Settled) → is_waiting a.own ≡ true → is_answer_of call answer ≡ true
+told-so : (a : SessionData) (call : Call) (answer : Answer) (how : Settled) → is_waiting a.own ≡ true → is_answer_of call answer ≡ true
     → IsExplained (Knows a a.number) call answer a.own → ((state : Option Settled) → met call answer ≡ Some state → state ≡ Some how) → IsToldOf how call answer
 told-so a (Poll_wait who) Pending how waits fits clear agreed = let no = agreed None refl in cc
 told-so a (Poll_wait who) (Is_settled one) how waits fits clear agreed = let same = agreed (Some one) refl in cc
@@ -70,22 +79,22 @@ told-so a (End_wait who) _ how waits fits clear agreed = absurd (cc)
 told-so a _ answer how waits fits clear agreed = tt
 
 -- the caller is told of a settled wait as it is settled
-pub session-agrees : (a b : Space) (call : Call) (answer : Answer) (who : ℕ) (how : Settled) → caller call ≡ Some who → IsSettledAs a who how
+pub session-agrees : (a b : SessionData) (call : Call) (answer : Answer) (who : ℕ) (how : Settled) → caller call ≡ Some who → IsSettledAs a who how
     → Joins a call answer b → IsToldOf how call answer
 session-agrees a b call answer who how mine settled joins =
     told-so a call answer how ((speaks a b call answer who mine joins).1.settled (ap is_some settled)) joins.fits joins.explained
     (λ state is. joins.agreed state how is settled)
 
 -- the victim of a deadlock has lost its wait
-pub session-victims : (a b : Space) (who victim : ℕ) → SpeaksFor a victim → Joins a (Search who) (Victim_is victim) b → IsSettledAs b victim settled_as.Victim
+pub session-victims : (a b : SessionData) (who victim : ℕ) → SpeaksFor a victim → Joins a (Search who) (Victim_is victim) b → IsSettledAs b victim settled_as.Victim
 session-victims a b who victim speaks_for joins = joins.truly speaks_for.0
 
 -- the number of a wait is told truly
-pub session-counts : (a b : Space) (w : ℕ) (number : Option ℕ) → SpeaksFor a w → Joins a (Wait_of w) (Has_wait number) b → number ≡ wait_number (own_of a w)
+pub session-counts : (a b : SessionData) (w : ℕ) (number : Option ℕ) → SpeaksFor a w → Joins a (Wait_of w) (Has_wait number) b → number ≡ wait_number (own_of a w)
 session-counts a b w number speaks_for joins = joins.truly speaks_for.0
 
 -- only the wait of the number that was named is killed
-pub session-kills : (a b : Space) (w number : ℕ) → SpeaksFor a w → Joins a (Kill w number) (Has_killed true) b
+pub session-kills : (a b : SessionData) (w number : ℕ) → SpeaksFor a w → Joins a (Kill w number) (Has_killed true) b
     → (wait_number (own_of a w) ≡ Some number) × IsSettledAs b w settled_as.Killed
 session-kills a b w number speaks_for joins = joins.truly speaks_for.0
 
@@ -94,6 +103,6 @@ settled-how None some = cc
 settled-how (Some how) some = (how, refl)
 
 -- a kill that kills nothing found no wait of the number that was named, or a settled one
-pub session-kills_or_settled : (a b : Space) (w number : ℕ) → SpeaksFor a w → Joins a (Kill w number) (Has_killed false) b
+pub session-kills_or_settled : (a b : SessionData) (w number : ℕ) → SpeaksFor a w → Joins a (Kill w number) (Has_killed false) b
     → wait_number (own_of a w) ≡ Some number → (how : Settled) × IsSettledAs b w how
 session-kills_or_settled a b w number speaks_for joins waits = settled-how b.settled (joins.truly speaks_for.0 waits)

@@ -11,45 +11,46 @@ use Rattle.mdl_calls.specs.declared.answers.Held.{Held}
 use Rattle.mdl_calls.specs.declared.answers.Settled.TheVariants.{Victim}
 use Rattle.mdl_calls.specs.declared.space_error.SpaceError.TheVariants.{OutOfMemory}
 use Rattle.mdl_calls.specs.Words.{Answer, Refused, At_place, Granted, Waits, Lost, Reads, Changed, Call, Resolve, Try_now, Begin_wait, End_wait, Read_definition, Change_definition, caller, takes_memory, IsFit, is_waiting, ticket_held}
-use Rattle.mdl_session_laws.specs.SessionJoins.{Joins, Meets}
-use Rattle.mdl_session_laws.specs.SessionSpaces.{Space, IsSound, Knows, key_known, is_known, place_known}
+use Rattle.mdl_calls.specs.Meetings.{Meets}
+use Rattle.mdl_calls.specs.SessionData.{SessionData, IsSound, Knows, key_known, is_known, place_known}
+use Rattle.mdl_session_laws.specs.SessionJoins.{Joins}
 
 -- a session can make this call and get this answer
-abbrev pub CanJoin : Space → Call → Answer → Type 0
-CanJoin a call answer = (b : Space) × Joins a call answer b
+abbrev pub CanJoin : SessionData → Call → Answer → Type 0
+CanJoin a call answer = (b : SessionData) × Joins a call answer b
 
 -- a key whose place the session doesn't know can get any place of which it knows no key
 abbrev pub KeysAreFound : Type 0
 KeysAreFound =
-    (a : Space) (place : ℕ) (key : KeyName) → IsSound a → place_known key a.known ≡ None → is_known place a.known ≡ false →
+    (a : SessionData) (place : ℕ) (key : KeyName) → IsSound a → place_known key a.known ≡ None → is_known place a.known ≡ false →
     CanJoin a (Resolve a.number key) (At_place place)
 
 -- a lock can be granted at a place that the session knows, in a mode of the key's kind, if the session has no wait
 abbrev pub LocksAreHad : Type 0
 LocksAreHad =
-    (a : Space) (place : ℕ) (mode : Mode) → IsSound a → is_waiting a.own ≡ false → is_known place a.known ≡ true → IsFit (Knows a a.number) place mode →
+    (a : SessionData) (place : ℕ) (mode : Mode) → IsSound a → is_waiting a.own ≡ false → is_known place a.known ≡ true → IsFit (Knows a a.number) place mode →
     CanJoin a (Try_now a.number place mode) (Granted (a.numbers.last_ticket + 1))
 
 -- a wait can begin at a place that the session knows, for a mode of the key's kind, if the session has no wait
 abbrev pub WaitsAreBegun : Type 0
 WaitsAreBegun =
-    (a : Space) (place : ℕ) (mode : Mode) → IsSound a → is_waiting a.own ≡ false → is_known place a.known ≡ true → IsFit (Knows a a.number) place mode →
+    (a : SessionData) (place : ℕ) (mode : Mode) → IsSound a → is_waiting a.own ≡ false → is_known place a.known ≡ true → IsFit (Knows a a.number) place mode →
     CanJoin a (Begin_wait a.number place mode) (Waits (a.numbers.last_wait + 1))
 
 -- a wait that is settled as a deadlock's victim can be ended
 abbrev pub WaitsAreLost : Type 0
-WaitsAreLost = (a : Space) → IsSound a → a.settled ≡ Some Victim → CanJoin a (End_wait a.number) (Lost Victim)
+WaitsAreLost = (a : SessionData) → IsSound a → a.settled ≡ Some Victim → CanJoin a (End_wait a.number) (Lost Victim)
 
 -- the version and definition that a session may meet under a ticket can be read
 abbrev pub StandingsAreRead : Type 0
 StandingsAreRead =
-    (a : Space) (id : ℕ) (ticket : Held) (standing : Standing) → IsSound a → ticket_held id a.own ≡ Some ticket → Meets ticket.place standing a →
+    (a : SessionData) (id : ℕ) (ticket : Held) (standing : Standing) → IsSound a → ticket_held id a.own ≡ Some ticket → Meets ticket.place standing a →
     CanJoin a (Read_definition a.number id) (Reads standing.version standing.definition)
 
 -- they can be changed under a ticket that is held in mode X, if they allow the change
 abbrev pub StandingsAreChanged : Type 0
 StandingsAreChanged =
-    (a : Space) (id : ℕ) (ticket : Held) (stood : Standing) (change : Change) → IsSound a → ticket_held id a.own ≡ Some ticket →
+    (a : SessionData) (id : ℕ) (ticket : Held) (stood : Standing) (change : Change) → IsSound a → ticket_held id a.own ≡ Some ticket →
     same_mode ticket.mode X ≡ true → Meets ticket.place stood a →
     ((key : KeyName) → key_known ticket.place a.known ≡ Some key → standing_fault key.namespace change stood ≡ None) →
     CanJoin a (Change_definition a.number id change) (Changed (stood.version + 1))
@@ -57,4 +58,4 @@ StandingsAreChanged =
 -- a call that takes memory can be refused because memory ran out, and the session is unchanged
 abbrev pub MemoryRunsOut : Type 0
 MemoryRunsOut =
-    (a : Space) (call : Call) → IsSound a → caller call ≡ Some a.number → takes_memory call ≡ true → Joins a call (Refused OutOfMemory) a
+    (a : SessionData) (call : Call) → IsSound a → caller call ≡ Some a.number → takes_memory call ≡ true → Joins a call (Refused OutOfMemory) a

@@ -1,4 +1,3 @@
 pub mod Happenings
 pub mod SessionJoins
-pub mod SessionSpaces
 pub mod SpaceLaws

@@ -1,5 +1,5 @@
-//! A session of a space that threads share is a lock space: the data that it keeps for itself (`specs/SessionSpaces`), the relation of a call to the session
-//! before and after it (`specs/SessionJoins`), and the laws of lock spaces that follow. A few of them are contracts here. `proofs` has each law of the
+//! A session of a space that threads share is a lock space: the data that it keeps for itself (`SessionData` of `mdl_calls`), the relation of a call to the
+//! session before and after it (`specs/SessionJoins`), and the laws of lock spaces that follow. A few of them are contracts here. `proofs` has each law of the
 //! trait as a lemma.
 //!
 //! There is no code here: each law is the contract of a function that does nothing.

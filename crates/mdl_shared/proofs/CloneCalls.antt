@@ -9,8 +9,8 @@ use Rattle.mdl_calls.specs.Own.{cloning}
 use Rattle.mdl_calls.specs.Words.{Clone_ticket, cloned, Granted, IsCause, MayClone, OfHeld, Refused, is_waiting}
 use Rattle.mdl_steps.specs.declared.deed.Deed.TheVariants.{Gain}
 use Rattle.mdl_steps.specs.declared.view.Own.{Own}
+use Rattle.mdl_calls.specs.SessionData.{Knows}
 use Rattle.mdl_session_laws.specs.SessionJoins.{Joins}
-use Rattle.mdl_session_laws.specs.SessionSpaces.{Knows}
 use Rattle.mdl_visits.specs.Leavings.{MeetsOwn}
 use Rattle.mdl_visits.specs.Numbers.{numbered}
 use Rattle.mdl_visits.specs.Visits.{MeetsFull, VisitsOnce}

@@ -13,8 +13,8 @@ use Rattle.mdl_calls.specs.Words.{Begin_wait, Granted, Refused, Try_now, Waits, 
 use Rattle.mdl_steps.specs.declared.deed.Deed.TheVariants.{Gain}
 use Rattle.mdl_steps.specs.declared.view.Met.{Met}
 use Rattle.mdl_steps.specs.Plays.{Mine}
+use Rattle.mdl_calls.specs.SessionData.{SessionData}
 use Rattle.mdl_session_laws.specs.SessionJoins.{Joins}
-use Rattle.mdl_session_laws.specs.SessionSpaces.{Space}
 use Rattle.mdl_visits.specs.Visits.{AreStepsOf, IsVisit, MeetsBlocked, MeetsFull, MeetsFullWish, MeetsGrantable}
 use Rattle.mdl_visits.specs.WaitOpenings.{MeetsOpening, awaiting}
 use Rattle.mdl_visits.proofs.Steps.{does_then}
@@ -137,7 +137,7 @@ module _ {a : SessionView} (is : IsMember a) (place : ℕ) (mode : Mode) (clear 
         = λ i. record { table = begins.table i; sessions = begins.sessions i; me = begins.opens.now i; room = c.room } in
         let joins = begun-joins (still-member slow.quiet.done is) still now begins.next in
         let by = subst (λ (n : ℕ). Joins (space_of b) (Begin_wait n place mode) (Waits number) (space_of c)) (number-slow slow) joins in
-        subst (λ (s : Space). Joins s (Begin_wait a.me.0.number place mode) (Waits number) (space_of c)) (same-space slow.quiet) by
+        subst (λ (s : SessionData). Joins s (Begin_wait a.me.0.number place mode) (Waits number) (space_of c)) (same-space slow.quiet) by
 
     waits-shows : {number : ℕ} → BeginsToWait place mode number b c → Shows (Begin_wait a.me.0.number place mode) (Waits number) a c
     waits-shows begins =

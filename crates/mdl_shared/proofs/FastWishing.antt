@@ -9,7 +9,7 @@ use Rattle.mdl_steps.specs.declared.view.Own.{Own}
 use Rattle.mdl_steps.specs.Cells.{own_at}
 use Rattle.mdl_steps.specs.Lists.{Each}
 use Rattle.mdl_steps.specs.Plays.{Mine}
-use Rattle.mdl_session_laws.specs.SessionSpaces.{Space}
+use Rattle.mdl_calls.specs.SessionData.{SessionData}
 use Rattle.mdl_visits.specs.Materialisings.{MeetsFullFor}
 use Rattle.mdl_visits.specs.Visits.{IsVisit, MakesMoreSteps}
 use Rattle.mdl_visits.proofs.Steps.{each_map}
@@ -29,7 +29,7 @@ use Rattle.mdl_shared.proofs.SpaceLists.{known_of}
 pub same-space : {place : ℕ} {a b : SessionView} → DoesQuietly place [] a b → space_of b ≡ space_of a
 same-space {a = a} quiet =
     let told : quiet.done.told ≡ a.me.0.told = sym (ap (λ (x : SessionView). x.me.0.told) quiet.done.now) ∙ quiet.told in
-    let space : List Own → Option ℕ → Space = λ tickets told. record {
+    let space : List Own → Option ℕ → SessionData = λ tickets told. record {
       number = a.me.0.number;
       own = own_by tickets a.me.0.asks a.me.0.waits;
       numbers = numbers_by a.me.0.next a.me.0.waits;

@@ -14,8 +14,9 @@ use Rattle.mdl_steps.specs.SeatStates.{SeatState}
 use Rattle.mdl_steps.specs.VersionPlays.{ReadNoneNewer, ReadOneStanding, met_version, noted_version}
 use Rattle.mdl_system.proofs.MemberLemmas.{Contains-map}
 use Rattle.mdl_system.proofs.OrderLemmas.{middle}
-use Rattle.mdl_session_laws.specs.SessionJoins.{Joins, ReadsThere as Read_so}
-use Rattle.mdl_session_laws.specs.SessionSpaces.{HasMet, Space}
+use Rattle.mdl_calls.specs.Meetings.{ReadsThere as Read_so}
+use Rattle.mdl_calls.specs.SessionData.{HasMet, SessionData}
+use Rattle.mdl_session_laws.specs.SessionJoins.{Joins}
 use Rattle.mdl_session_laws.proofs.ReadLaws.{session-met_stays}
 use Rattle.mdl_visits.specs.Numbers.{numbered}
 use Rattle.mdl_visits.proofs.Steps.{does_then, quiet_on}
@@ -122,7 +123,7 @@ module _ (s : SessionView) (id : ℕ) (t : Own) (its : numbered id (tickets_seen
         → Joins (space_of s) (Read_kept s.me.0.number id) (Reads version definition) (space_of s′)
     miss-joins version definition joins =
         kept-joins (space_of s) (space_of s′) s.me.0.number id version definition
-        (subst (λ (a : Space). Joins a (Read_definition a.number id) (Reads version definition) (space_of s′)) (read-space reads) joins)
+        (subst (λ (a : SessionData). Joins a (Read_definition a.number id) (Reads version definition) (space_of s′)) (read-space reads) joins)
 
     pub miss-latch : (standing : Standing) → Shows (Read_definition mid.me.0.number id) (Reads standing.version standing.definition) mid s′
         → ReadsByLatch id t standing mid s′
@@ -161,7 +162,7 @@ module _ (s : SessionView) (id : ℕ) (t : Own) (its : numbered id (tickets_seen
         → Joins (space_of s) (Read_kept s.me.0.number id) (Refused OutOfMemory) (space_of s′)
     miss-full_joins joins =
         unkept-joins (space_of s) (space_of s′) s.me.0.number id
-        (subst (λ (a : Space). Joins a (Read_definition a.number id) (Refused OutOfMemory) (space_of s′)) (read-space reads) joins)
+        (subst (λ (a : SessionData). Joins a (Read_definition a.number id) (Refused OutOfMemory) (space_of s′)) (read-space reads) joins)
 
     pub miss-full_shows : VisitsInVain t.place mid s′ → Shows (Read_definition mid.me.0.number id) (Refused OutOfMemory) mid s′
         → Shows (Read_kept s.me.0.number id) (Refused OutOfMemory) s s′
@@ -182,7 +183,7 @@ module _ (s : SessionView) (id : ℕ) (t : Own) (its : numbered id (tickets_seen
 -- ---- what a session met
 
 -- it has met after a call
-pub met-after : {s : SessionView} (is : IsMember s) (b : Space) (call : Call) (answer : Answer) (kept : List Kept) → Joins (space_of s) call answer b
+pub met-after : {s : SessionView} (is : IsMember s) (b : SessionData) (call : Call) (answer : Answer) (kept : List Kept) → Joins (space_of s) call answer b
     → AreMet (HasMet (space_of s) s.me.0.number) kept → AreMet (HasMet b b.number) kept
 met-after {s} is b call answer kept joins all one among =
     session-met_stays (space_of s) b call answer s.me.0.number one.0.0 (kept_standing one.0.1 one.1) (speaks is) joins (all one among)
@@ -251,14 +252,14 @@ module _ (m : Member) (id : ℕ) (t : Own) (its : numbered id (tickets_seen m.se
 
   -- each definition that the cache keeps was met still
   pub unfound-met : AreMet (HasMet (space_of between) seat′.me.0.number) kept
-  unfound-met = subst (λ (b : Space). AreMet (HasMet b b.number) kept) (sym (read-space seat-reads)) met
+  unfound-met = subst (λ (b : SessionData). AreMet (HasMet b b.number) kept) (sym (read-space seat-reads)) met
 
   -- and after a read under the latch
   pub missed-met : (s′ : SessionView) (answer : Answer) → Joins (space_of between) (Read_definition seat′.me.0.number id) answer (space_of s′)
       → AreMet (HasMet (space_of s′) s′.me.0.number) kept
   missed-met s′ answer joins =
       met-after (member m) (space_of s′) (Read_definition m.seat.me.0.number id) answer kept
-      (subst (λ (a : Space). Joins a (Read_definition a.number id) answer (space_of s′)) (read-space seat-reads) joins) met
+      (subst (λ (a : SessionData). Joins a (Read_definition a.number id) answer (space_of s′)) (read-space seat-reads) joins) met
 
   -- the look left the cache as it was
   pub looked-same : (before after : CacheView) → before.kept ≡ kept → after ≡ record { kept = looked_at t.place version kept; capacity = before.capacity }

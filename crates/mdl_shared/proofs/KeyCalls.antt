@@ -20,8 +20,9 @@ use Rattle.mdl_steps.specs.declared.view.Met.{Met}
 use Rattle.mdl_steps.specs.Schemas.{is_of_tables, is_table_of, unknown}
 use Rattle.mdl_steps.specs.Plays.{Mine}
 use Rattle.mdl_steps.specs.SeatStates.{AtItsTable, SeatState}
-use Rattle.mdl_session_laws.specs.SessionJoins.{Joins, LearnsPlace as LearnsAt, LearnsTables}
-use Rattle.mdl_session_laws.specs.SessionSpaces.{KnownKey, key_known as key_known_in}
+use Rattle.mdl_calls.specs.Learning.{LearnsPlace as LearnsAt, LearnsTables}
+use Rattle.mdl_calls.specs.SessionData.{KnownKey, key_known as key_known_in}
+use Rattle.mdl_session_laws.specs.SessionJoins.{Joins}
 use Rattle.mdl_session_laws.proofs.KeyLists.{place-of_key}
 use Rattle.mdl_session_laws.proofs.RefusedCalls.{reads-nothing}
 use Rattle.mdl_visits.specs.Lookups.{IsAnswer, TookDirectory, knowing}

@@ -19,7 +19,7 @@ use Rattle.mdl_steps.specs.Lists.{Each}
 use Rattle.mdl_steps.specs.VersionPlays.{Follows, ReadNoneNewer, ReadOneStanding}
 use Rattle.mdl_steps.proofs.Interleaving.{each-uninterleaved}
 use Rattle.mdl_steps.proofs.Views.{by_bool}
-use Rattle.mdl_session_laws.specs.SessionSpaces.{HasMet, Reading, last_read, was_read}
+use Rattle.mdl_calls.specs.SessionData.{HasMet, Reading, last_read, was_read}
 use Rattle.mdl_session_laws.proofs.ReadLists.{last-among, newest-above}
 use Rattle.mdl_visits.specs.Numbers.{numbered}
 use Rattle.mdl_shared.specs.Members.{IsMember, are_apart, are_two}

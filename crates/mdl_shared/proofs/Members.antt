@@ -16,8 +16,8 @@ use Rattle.mdl_steps.specs.Layout.{word_count}
 use Rattle.mdl_steps.specs.Plays.{Mine}
 use Rattle.mdl_steps.specs.SeatStates.{AtItsTable, SeatState}
 use Rattle.mdl_steps.proofs.Views.{by_bool}
+use Rattle.mdl_calls.specs.SessionData.{IsSound}
 use Rattle.mdl_session_laws.specs.SessionJoins.{Joins}
-use Rattle.mdl_session_laws.specs.SessionSpaces.{IsSound}
 use Rattle.mdl_session_laws.proofs.KeptSound.{keeps-sound}
 use Rattle.mdl_visits.specs.Grantings.{StaysTold, VisitsAndReschedules, all_but}
 use Rattle.mdl_visits.specs.Idle.{IsIdle}

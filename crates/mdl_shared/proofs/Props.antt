@@ -20,7 +20,7 @@ use Rattle.mdl_steps.specs.declared.view.Ask.{Ask}
 use Rattle.mdl_steps.specs.declared.view.Own.{Own}
 use Rattle.mdl_steps.specs.Layout.{word_count}
 use Rattle.mdl_steps.specs.Lists.{Each}
-use Rattle.mdl_session_laws.specs.SessionSpaces.{FitsKey, IsNoted, IsSound, Space, are_apart, are_below, are_placed, first_free, is_known, is_newest, key_known, last_read, noted_at}
+use Rattle.mdl_calls.specs.SessionData.{FitsKey, IsNoted, IsSound, SessionData, are_apart, are_below, are_placed, first_free, is_known, is_newest, key_known, last_read, noted_at}
 use Rattle.mdl_visits.specs.Idle.{IsIdle}
 use Rattle.mdl_shared.specs.declared.member.Member.{Member}
 use Rattle.mdl_shared.specs.Debts.{IsOwed}
@@ -52,7 +52,7 @@ MayStand-prop namespace standing x y =
       fits = fits_prop x.fits y.fits i;
     }
 
-FitsKey-prop : (a : Space) (place : ℕ) (standing : Standing) → IsProp (FitsKey a place standing)
+FitsKey-prop : (a : SessionData) (place : ℕ) (standing : Standing) → IsProp (FitsKey a place standing)
 FitsKey-prop a place standing = by (key_known place a.known)
   where
     by : (o : Option KeyName) → IsProp (MatchOption o ⊥ (λ (key : KeyName). MayStand key.namespace standing))
@@ -77,14 +77,14 @@ tickets-set = Coded-set (coded_list view.the_row.coded)
 
 -- ---- what is always so
 
-awaited-prop : (a : Space) → IsProp (IfSome a.own.wait (λ (w : Wait). is_known w.place a.known ≡ true))
+awaited-prop : (a : SessionData) → IsProp (IfSome a.own.wait (λ (w : Wait). is_known w.place a.known ≡ true))
 awaited-prop a = by a.own.wait
   where
     by : (o : Option Wait) → IsProp (IfSome o (λ (w : Wait). is_known w.place a.known ≡ true))
     by None = Unit-prop
     by (Some w) = hlevel props
 
-IsSound-prop : (a : Space) → IsProp (IsSound a)
+IsSound-prop : (a : SessionData) → IsProp (IsSound a)
 IsSound-prop a x y =
     let rising_prop : IsProp (IsRising a.own) = hlevel props in
     let below_prop : IsProp (are_below (first_free (is_waiting a.own) a.numbers) a.own.held ≡ true) = hlevel props in

@@ -22,8 +22,9 @@ use Rattle.mdl_steps.specs.declared.view.Read.{Read}
 use Rattle.mdl_steps.specs.Plays.{Mine, noting_version}
 use Rattle.mdl_steps.specs.SeatStates.{SeatState}
 use Rattle.mdl_steps.specs.VersionPlays.{Follows}
-use Rattle.mdl_session_laws.specs.SessionJoins.{ChangesThere, IsLast, Joins, MeetsFault as Faulty, ReadsThere as Read_so, TellsTruly}
-use Rattle.mdl_session_laws.specs.SessionSpaces.{Knows, key_known as key_known_in}
+use Rattle.mdl_calls.specs.Meetings.{ChangesThere, IsLast, MeetsFault as Faulty, ReadsThere as Read_so}
+use Rattle.mdl_calls.specs.SessionData.{Knows, key_known as key_known_in}
+use Rattle.mdl_session_laws.specs.SessionJoins.{Joins, TellsTruly}
 use Rattle.mdl_visits.specs.Leavings.{Learns, MeetsStanding}
 use Rattle.mdl_visits.specs.Numbers.{numbered}
 use Rattle.mdl_visits.specs.Readings.{WasHeld}

@@ -10,8 +10,10 @@ use Rattle.mdl_calls.specs.Words.{Answer, Call, Draws, IsCause, IsExplained, Num
 use Rattle.mdl_steps.specs.declared.view.Ask.{Ask}
 use Rattle.mdl_steps.specs.declared.view.Own.{Own}
 use Rattle.mdl_steps.specs.declared.view.Read.{Read}
-use Rattle.mdl_session_laws.specs.SessionJoins.{Joins, KeepsSettled, Learns, LetsRead, ReadsNothing, TellsTruly, ends_wait, gained_at, has_call, met}
-use Rattle.mdl_session_laws.specs.SessionSpaces.{Reading, SpeaksFor, Knows, is_known}
+use Rattle.mdl_calls.specs.Learning.{KeepsSettled}
+use Rattle.mdl_calls.specs.Meetings.{ReadsNothing}
+use Rattle.mdl_calls.specs.SessionData.{Reading, SpeaksFor, Knows, is_known}
+use Rattle.mdl_session_laws.specs.SessionJoins.{Joins, Learns, LetsRead, TellsTruly, ends_wait, gained_at, has_call, met}
 use Rattle.mdl_session_laws.proofs.RefusedCalls.{KeepsAll, reads-nothing, refused-joins}
 use Rattle.mdl_visits.specs.Grantings.{StaysTold}
 use Rattle.mdl_visits.specs.Polls.{state_of}

@@ -11,8 +11,8 @@ use Rattle.mdl_calls.specs.Words.{Answer, No_cycle, Refused, Victim_is, Search, 
 use Rattle.mdl_steps.specs.declared.step_kind.StepKind.TheVariants.{ReadWait}
 use Rattle.mdl_steps.specs.WaitPlays.{TellsOwn}
 use Rattle.mdl_steps.specs.WaitStates.{wait_in, wait_state}
+use Rattle.mdl_calls.specs.SessionData.{Knows}
 use Rattle.mdl_session_laws.specs.SessionJoins.{Joins}
-use Rattle.mdl_session_laws.specs.SessionSpaces.{Knows}
 use Rattle.mdl_visits.specs.Polls.{SettlesNothing, state_of}
 use Rattle.mdl_visits.specs.Searches.{KnowsVictim}
 use Rattle.mdl_visits.specs.Visits.{Does}

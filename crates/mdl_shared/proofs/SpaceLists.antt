@@ -8,7 +8,7 @@ use Rattle.mdl_key.specs.Words.{KeyName, is_mode_of, key_eq, kind_of}
 use Rattle.mdl_calls.specs.Words.{is_number}
 use Rattle.mdl_steps.specs.declared.view.Known.{Known}
 use Rattle.mdl_steps.specs.declared.view.Own.{Own}
-use Rattle.mdl_session_laws.specs.SessionSpaces.{KnownKey, are_apart as are_apart_in, are_two as are_two_in, is_known as is_known_in, key_known as key_known_in, place_known as place_known_in}
+use Rattle.mdl_calls.specs.SessionData.{KnownKey, are_apart as are_apart_in, are_two as are_two_in, is_known as is_known_in, key_known as key_known_in, place_known as place_known_in}
 use Rattle.mdl_steps.proofs.Views.{by_bool}
 use Rattle.mdl_visits.specs.Numbers.{numbered}
 use Rattle.mdl_shared.specs.Members.{are_apart, are_two, is_known_place, kind_known, place_known}

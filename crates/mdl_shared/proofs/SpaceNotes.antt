@@ -11,8 +11,8 @@ use Rattle.mdl_steps.specs.Cells.{note_at}
 use Rattle.mdl_steps.specs.Deeds.{is_own}
 use Rattle.mdl_steps.specs.Plays.{noting_version}
 use Rattle.mdl_steps.proofs.Views.{by_bool}
-use Rattle.mdl_session_laws.specs.SessionJoins.{ReadsNothing}
-use Rattle.mdl_session_laws.specs.SessionSpaces.{Note, noted_at}
+use Rattle.mdl_calls.specs.Meetings.{ReadsNothing}
+use Rattle.mdl_calls.specs.SessionData.{Note, noted_at}
 use Rattle.mdl_session_laws.proofs.TicketLists.{all-among}
 use Rattle.mdl_visits.specs.Readings.{ReadsNothing as ReadNothing}
 use Rattle.mdl_shared.specs.Modes.{in_mode_at}

@@ -20,8 +20,8 @@ use Rattle.mdl_steps.specs.Lists.{Each}
 use Rattle.mdl_steps.specs.Plays.{noting_version}
 use Rattle.mdl_steps.specs.VersionPlays.{Follows}
 use Rattle.mdl_steps.proofs.Views.{by_bool}
-use Rattle.mdl_session_laws.specs.SessionJoins.{IsLast, Meets, NotesThere}
-use Rattle.mdl_session_laws.specs.SessionSpaces.{Note, is_newest, last_read, noted_at}
+use Rattle.mdl_calls.specs.Meetings.{IsLast, Meets, NotesThere}
+use Rattle.mdl_calls.specs.SessionData.{Note, is_newest, last_read, noted_at}
 use Rattle.mdl_visits.specs.Numbers.{numbered}
 use Rattle.mdl_visits.specs.Readings.{ReadsThere}
 use Rattle.mdl_shared.specs.OwnLists.{key_known, told_of}

@@ -14,7 +14,8 @@ use Rattle.mdl_steps.specs.declared.deed.Deed.TheVariants.{Alter, Lose}
 use Rattle.mdl_steps.specs.declared.view.Own.{Own}
 use Rattle.mdl_steps.specs.declared.view.Met.{Met}
 use Rattle.mdl_steps.specs.SeatStates.{AtItsTable, SeatState}
-use Rattle.mdl_session_laws.specs.SessionJoins.{Joins, ReadsNothing}
+use Rattle.mdl_calls.specs.Meetings.{ReadsNothing}
+use Rattle.mdl_session_laws.specs.SessionJoins.{Joins}
 use Rattle.mdl_visits.specs.Grantings.{VisitsAndReschedules}
 use Rattle.mdl_visits.specs.Leavings.{MeetsOwn}
 use Rattle.mdl_visits.specs.Numbers.{numbered}

@@ -11,8 +11,8 @@ use Rattle.mdl_steps.specs.Layout.{version_word}
 use Rattle.mdl_steps.specs.Plays.{Mine, noting_version}
 use Rattle.mdl_steps.specs.SeatStates.{SeatState}
 use Rattle.mdl_steps.specs.VersionPlays.{LearnsVersion, ReadNoneNewer, ReadOneStanding, learnt_version, met_version, noted_version}
+use Rattle.mdl_calls.specs.SessionData.{HasMet, SessionData, is_known}
 use Rattle.mdl_session_laws.specs.SessionJoins.{Joins}
-use Rattle.mdl_session_laws.specs.SessionSpaces.{HasMet, Space, is_known}
 use Rattle.mdl_session_laws.proofs.KeptSound.{learns-sound}
 use Rattle.mdl_session_laws.proofs.KeyLists.{is-known}
 use Rattle.mdl_session_laws.proofs.ReadAfter.{HasLearnt, meets-fits}
@@ -201,7 +201,7 @@ module _ {place version : ℕ} {s s′ : SessionView} (reads : ReadsVersion plac
 
 -- ---- a read with a cache joins as one without it
 
-pub kept-joins : (a b : Space) (who id version : ℕ) (definition : Option Definition) → Joins a (Read_definition who id) (Reads version definition) b
+pub kept-joins : (a b : SessionData) (who id version : ℕ) (definition : Option Definition) → Joins a (Read_definition who id) (Reads version definition) b
     → Joins a (Read_kept who id) (Reads version definition) b
 kept-joins a b who id version definition joins = record {
   mine = joins.mine;
@@ -220,7 +220,7 @@ kept-joins a b who id version definition joins = record {
   truly = joins.truly;
 }
 
-pub unkept-joins : (a b : Space) (who id : ℕ) → Joins a (Read_definition who id) (Refused OutOfMemory) b → Joins a (Read_kept who id) (Refused OutOfMemory) b
+pub unkept-joins : (a b : SessionData) (who id : ℕ) → Joins a (Read_definition who id) (Refused OutOfMemory) b → Joins a (Read_kept who id) (Refused OutOfMemory) b
 unkept-joins a b who id joins = record {
   mine = joins.mine;
   has = refl;

@@ -12,8 +12,9 @@ use Rattle.mdl_steps.specs.declared.view.Met.{Met}
 use Rattle.mdl_steps.specs.Cells.{note_at}
 use Rattle.mdl_steps.specs.SeatStates.{AtItsTable, SeatState}
 use Rattle.mdl_steps.specs.WaitPlays.{asking}
-use Rattle.mdl_session_laws.specs.SessionJoins.{Joins, Learns, LetsRead, ReadsNothing, TellsTruly, ends_wait, gained_at, has_call, met}
-use Rattle.mdl_session_laws.specs.SessionSpaces.{SpeaksFor, Knows, is_known}
+use Rattle.mdl_calls.specs.Meetings.{ReadsNothing}
+use Rattle.mdl_calls.specs.SessionData.{SpeaksFor, Knows, is_known}
+use Rattle.mdl_session_laws.specs.SessionJoins.{Joins, Learns, LetsRead, TellsTruly, ends_wait, gained_at, has_call, met}
 use Rattle.mdl_session_laws.proofs.RefusedCalls.{reads-nothing}
 use Rattle.mdl_visits.specs.WaitOpenings.{Opens, awaiting}
 use Rattle.mdl_shared.specs.Members.{IsMember, kind_known, wish_fault}

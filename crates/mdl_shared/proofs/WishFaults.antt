@@ -12,7 +12,7 @@ use Rattle.mdl_calls.specs.Words.{IsFit, IsUnfit, IsUnknown, Knowledge, MayClone
 use Rattle.mdl_steps.specs.declared.view.Ask.{Ask}
 use Rattle.mdl_steps.specs.declared.view.Known.{Known}
 use Rattle.mdl_steps.specs.declared.view.Own.{Own}
-use Rattle.mdl_session_laws.specs.SessionSpaces.{Knows, is_known}
+use Rattle.mdl_calls.specs.SessionData.{Knows, is_known}
 use Rattle.mdl_visits.specs.Numbers.{numbered}
 use Rattle.mdl_shared.specs.Members.{kind_known, most_numbers, wish_fault}
 use Rattle.mdl_shared.specs.Modes.{clone_fault, is_fit}

@@ -6,7 +6,7 @@ use Rattle.mdl_calls.specs.declared.space_error.SpaceError.{SpaceError}
 use Rattle.mdl_calls.specs.Words.{AreMet}
 use Rattle.mdl_defs.specs.Caches.{CacheView, kept_of, looked_at}
 use Rattle.mdl_defs.specs.contracts.def_cache.DefCache.{the_row}
-use Rattle.mdl_session_laws.specs.SessionSpaces.{HasMet}
+use Rattle.mdl_calls.specs.SessionData.{HasMet}
 use Rattle.mdl_shared.specs.declared.cached.Cached.{Cached}
 use Rattle.mdl_shared.specs.declared.cached.Cached.TheVariants.{Hit, Stale}
 use Rattle.mdl_shared.specs.KeptReads.{kept_standing}

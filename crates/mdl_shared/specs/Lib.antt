@@ -1,6 +1,6 @@
 -- The definitions of the crates below that this crate's public clauses cite, under this crate's own paths.
+pub use Rattle.mdl_calls.specs.SessionData
 pub use Rattle.mdl_session_laws.specs.SessionJoins
-pub use Rattle.mdl_session_laws.specs.SessionSpaces
 pub use Rattle.mdl_visits.specs.Audits
 pub use Rattle.mdl_visits.specs.FastTries
 pub use Rattle.mdl_visits.specs.Grantings

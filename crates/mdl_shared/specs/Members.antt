@@ -14,7 +14,7 @@ use Rattle.mdl_steps.specs.declared.view.Known.{Known}
 use Rattle.mdl_steps.specs.declared.view.Own.{Own}
 use Rattle.mdl_steps.specs.Deeds.{is_own}
 use Rattle.mdl_steps.specs.Layout.{word_count}
-use Rattle.mdl_session_laws.specs.SessionSpaces.{IsSound}
+use Rattle.mdl_calls.specs.SessionData.{IsSound}
 use Rattle.mdl_visits.specs.Idle.{IsIdle}
 use Rattle.mdl_visits.specs.Numbers.{numbered}
 use Rattle.mdl_shared.specs.Debts.{IsOwed}

@@ -14,7 +14,7 @@ use Rattle.mdl_steps.specs.Plays.{Mine}
 use Rattle.mdl_steps.specs.SeatStates.{SeatState}
 use Rattle.mdl_steps.specs.declared.wait_word.Loss.TheVariants as loss
 use Rattle.mdl_steps.specs.WaitStates.{granted_state, lost_state}
-use Rattle.mdl_session_laws.specs.SessionSpaces.{Space, Note}
+use Rattle.mdl_calls.specs.SessionData.{SessionData, Note}
 use Rattle.mdl_shared.specs.OwnLists.{told_of}
 use Rattle.mdl_shared.specs.TicketLists.{KeepsRoom, Room}
 
@@ -79,7 +79,7 @@ tickets_seen me = tickets_of (lists_seen me)
 -- ---- as a lock space
 
 -- the session with this number as a lock space, by its lists, by what it knows of its wait's state, and by what it read
-abbrev pub space_by : ℕ → Lists → Option ℕ → List Read → Space
+abbrev pub space_by : ℕ → Lists → Option ℕ → List Read → SessionData
 space_by number lists told reads = record {
   number = number;
   own = record {
@@ -94,5 +94,5 @@ space_by number lists told reads = record {
 }
 
 -- a session as a lock space: what it has of the space, as plain data
-abbrev pub space_of : SessionView → Space
+abbrev pub space_of : SessionView → SessionData
 space_of s = space_by s.me.0.number (lists_seen s.me.0) s.me.0.told s.me.0.reads

@@ -5,7 +5,7 @@ ghost use Rattle.std.specs.Prelude.{◌≡◌, None, IfErr, IfOk};
 ghost use Rattle.std.specs.Borrow.{sem};
 ghost use Rattle.mdl_calls.specs.declared.space_error.SpaceError.TheVariants.{NotHeld};
 ghost use Rattle.mdl_calls.specs.Words.{AreMet};
-ghost use Rattle.mdl_session_laws.specs.SessionSpaces.{HasMet};
+ghost use Rattle.mdl_calls.specs.SessionData.{HasMet};
 ghost use Rattle.mdl_visits.specs.Numbers.{numbered};
 ghost use Rattle.mdl_shared.specs.CacheEnds.{EndsCached};
 ghost use Rattle.mdl_shared.specs.KeptReads.{FindsKept};

@@ -1,8 +1,8 @@
 //! Reads the definition of a key under a ticket, from the session's cache if that keeps it.
 ghost use Rattle.std.specs.Prelude.{◌≡◌, ◌<◌, IfOk, OnErr};
 ghost use Rattle.mdl_calls.specs.Words.{AreMet, Read_kept, read};
+ghost use Rattle.mdl_calls.specs.SessionData.{HasMet};
 ghost use Rattle.mdl_session_laws.specs.SessionJoins.{Joins};
-ghost use Rattle.mdl_session_laws.specs.SessionSpaces.{HasMet};
 ghost use Rattle.mdl_shared.specs.KeptReads.{MayKeep, ReadsKept};
 ghost use Rattle.mdl_shared.specs.SessionViews.{space_of};
 ghost use Rattle.mdl_shared.specs.Showings.{Shows};

@@ -24,7 +24,7 @@ impl<R> Model for Session<R> {
 }
 
 impl<R> Session<R> {
-    ghost use Rattle.mdl_session_laws.specs.SessionSpaces.{SpeaksFor};
+    ghost use Rattle.mdl_calls.specs.SessionData.{SpeaksFor};
     ghost use Rattle.mdl_shared.specs.Members.{IsMember};
     ghost use Rattle.mdl_shared.specs.Passes.{pass_table, pass_view, table_of};
     ghost use Rattle.mdl_shared.specs.SessionViews.{space_of};

@@ -1,7 +1,7 @@
 -- The definitions of lower crates that the public clauses of this one cite, under this crate's own paths.
-pub use Rattle.mdl_calls.specs.Answers
-pub use Rattle.mdl_calls.specs.Calls
+pub use Rattle.mdl_calls.specs.AllCalls
 pub use Rattle.mdl_calls.specs.Causes
+pub use Rattle.mdl_calls.specs.Interface
 pub use Rattle.mdl_calls.specs.Own
 pub use Rattle.mdl_calls.specs.Runs
 pub use Rattle.mdl_calls.specs.Searches

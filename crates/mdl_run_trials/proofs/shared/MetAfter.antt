@@ -7,7 +7,7 @@ use Rattle.mdl_calls.specs.Words.{AreMet}
 use Rattle.mdl_shared.specs.declared.try_fast.Fast.{Fast}
 use Rattle.mdl_shared.specs.declared.try_fast.Fast.TheVariants.{Granted, Obtruded, Contended, Limit}
 use Rattle.mdl_shared.specs.FastCalls.{HasTriedFast, RefusesFast}
-use Rattle.mdl_shared.specs.SessionSpaces.{HasMet, Reading}
+use Rattle.mdl_shared.specs.SessionData.{HasMet, Reading}
 use Rattle.mdl_shared.specs.SessionViews.{SessionView, space_of}
 
 -- a session has read the same as before

@@ -1,7 +1,7 @@
 //! Steps of a session that reads with a cache of its own, while another one makes changes, and their results.
 ghost use Rattle.std.specs.Prelude.{◌≡◌, []};
 ghost use Rattle.mdl_calls.specs.Words.{AreMet};
-ghost use Rattle.mdl_shared.specs.SessionSpaces.{HasMet};
+ghost use Rattle.mdl_shared.specs.SessionData.{HasMet};
 ghost use Rattle.mdl_shared.specs.SessionViews.{space_of};
 
 use crate::shared::acts::{Act, Lock, NO_MEMORY, Reply, make};

@@ -1,6 +1,6 @@
 -- Each definition in the cache was met.
 use Rattle.mdl_calls.specs.Words.{AreMet}
-use Rattle.mdl_session_laws.specs.SessionSpaces.{HasMet}
+use Rattle.mdl_calls.specs.SessionData.{HasMet}
 use Rattle.mdl_shared.specs.SessionViews.{space_of}
 use Rattle.mdl_bench.proofs.reads.look_often.Given as goal
 

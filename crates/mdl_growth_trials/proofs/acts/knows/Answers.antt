@@ -1,6 +1,6 @@
 -- A place whose key the session tells is one that it knows.
 use Rattle.std.proofs.Common.{◌∙◌, ap, is_some}
-use Rattle.mdl_session_laws.specs.SessionSpaces.{is_known}
+use Rattle.mdl_calls.specs.SessionData.{is_known}
 use Rattle.mdl_growth_trials.proofs.acts.knows.Goals as goal
 
 pub returns-in-Ok : goal.returns-in-Ok

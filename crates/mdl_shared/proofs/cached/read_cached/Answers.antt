@@ -1,8 +1,8 @@
 -- The version is that of the ticket's place. Where the cache keeps a definition of it, that was read, is what stands, and comes first in the cache afterwards.
 use Rattle.std.proofs.Common.{arith, option_copied, refl, subst, sym, ap, ◌∙◌}
-use Rattle.mdl_calls.specs.Words.{AreMet}
+use Rattle.mdl_calls.specs.Words.{AreMet, Read_kept}
 use Rattle.mdl_defs.specs.Caches.{CacheView}
-use Rattle.mdl_session_laws.specs.SessionSpaces.{HasMet}
+use Rattle.mdl_calls.specs.SessionData.{HasMet}
 use Rattle.mdl_shared.specs.SessionViews.{SessionView, space_of}
 use Rattle.mdl_shared.proofs.Debts.{owed-both, owed-on}
 use Rattle.mdl_shared.proofs.KeptCalls.{after, between, looked-same, seat-finds, seat-joins, seat-met, seat-reads, unfound-met}
@@ -47,7 +47,7 @@ invariant_of-member g c =
     let keeps = c.note_all.ensures.room in
     let finds = seat-finds m c.args.id t its kept met read.new.self read.result d hit read.ensures.newest read.ensures.one made room keeps in
     record {
-      lawful = ∣ kept-sound (member m) (noted-order (found-noted finds) (member m)) (seat-joins m c.args.id t its kept met read.new.self read.result d hit read.ensures.newest read.ensures.one made room keeps) ∣₁;
+      lawful = ∣ kept-sound {call = Read_kept _ _} (member m) (noted-order (found-noted finds) (member m)) (seat-joins m c.args.id t its kept met read.new.self read.result d hit read.ensures.newest read.ensures.one made room keeps) ∣₁;
       lists = lists-noted m (found-noted finds) refl c.note_all.ensures.noted;
       room = λ ask asks. room-kept m.tickets c.note_all.new.self keeps (m.room ask asks);
       owed = owed-both m c.note_all.ensures.owes (noted-owes (found-noted finds));

@@ -1,6 +1,6 @@
 -- A place whose key the session tells is one that it knows.
 use Rattle.std.proofs.Common.{◌∙◌, ap, is_some}
-use Rattle.mdl_shared.specs.SessionSpaces.{is_known}
+use Rattle.mdl_shared.specs.SessionData.{is_known}
 use Rattle.mdl_run_trials.proofs.shared.acts.reschedule.Goals as goal
 
 pub reschedule-requires : goal.reschedule-requires

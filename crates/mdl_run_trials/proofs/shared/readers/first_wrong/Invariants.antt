@@ -1,6 +1,6 @@
 -- What the cache keeps was met.
 use Rattle.mdl_calls.specs.Words.{AreMet}
-use Rattle.mdl_shared.specs.SessionSpaces.{HasMet}
+use Rattle.mdl_shared.specs.SessionData.{HasMet}
 use Rattle.mdl_shared.specs.SessionViews.{space_of}
 use Rattle.mdl_run_trials.proofs.shared.readers.first_wrong.Given as goal
 

@@ -1,7 +1,7 @@
 -- A place whose key the session tells is one that it knows. Neither that nor the try reads anything.
 use Rattle.std.proofs.Common.{◌∙◌, ap, is_some}
 use Rattle.mdl_key.specs.declared.mode.Mode.TheVariants.{SR}
-use Rattle.mdl_shared.specs.SessionSpaces.{is_known}
+use Rattle.mdl_shared.specs.SessionData.{is_known}
 use Rattle.mdl_run_trials.proofs.shared.MetAfter.{met-same, try-same}
 use Rattle.mdl_run_trials.proofs.shared.readers.take_fast.Goals as goal
 

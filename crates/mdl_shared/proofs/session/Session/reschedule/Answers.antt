@@ -1,6 +1,6 @@
 -- The place is one of the table's, and the session gives up nothing.
 use Rattle.std.proofs.Common.{[], ap, subst, sym, true, ◌∙◌, ◌≡◌}
-use Rattle.mdl_session_laws.specs.SessionSpaces.{is_known}
+use Rattle.mdl_calls.specs.SessionData.{is_known}
 use Rattle.mdl_steps.specs.Plays.{Mine}
 use Rattle.mdl_visits.proofs.Doing.{does_reschedule}
 use Rattle.mdl_shared.specs.SessionViews.{SessionView, lists_seen, space_of}

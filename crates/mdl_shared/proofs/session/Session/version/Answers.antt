@@ -1,6 +1,6 @@
 -- The place is one of the table's, and what stands there is noted under each ticket that the session has there.
 use Rattle.std.proofs.Common.{subst, sym, true, ◌∙◌, ◌≡◌}
-use Rattle.mdl_session_laws.specs.SessionSpaces.{is_known}
+use Rattle.mdl_calls.specs.SessionData.{is_known}
 use Rattle.mdl_shared.specs.SessionViews.{SessionView, space_of}
 use Rattle.mdl_shared.proofs.Debts.{owed-both}
 use Rattle.mdl_shared.proofs.MemberFacts.{place-within}

@@ -8,7 +8,7 @@ use Rattle.mdl_defs.specs.declared.standing.Standing.{Standing}
 use Rattle.mdl_defs.specs.Standings.{MayStand}
 use Rattle.mdl_calls.specs.declared.answers.Held.{Held}
 use Rattle.mdl_calls.specs.declared.answers.Settled.{Settled}
-use Rattle.mdl_calls.specs.Words.{Own, Numbers, IsRising, is_waiting}
+use Rattle.mdl_calls.specs.Own.{Own, Numbers, IsRising, is_waiting}
 
 -- a key and its place, as the session has looked it up
 pub record KnownKey : Type 0 where
@@ -27,7 +27,7 @@ pub record Reading : Type 0 where
 
 -- a session: its number; its held tickets and its wait, and the last numbers that it gave them; the keys that it has looked up; how its wait is
 -- settled, if it has met that; a note for each ticket under which it noted a version; and what it read, the first read first
-pub record Space : Type 0 where
+pub record SessionData : Type 0 where
   pub number : ℕ
   pub own : Own
   pub numbers : Numbers
@@ -92,17 +92,17 @@ abbrev pub are_placed : List KnownKey → List Held → Bool
 are_placed known held = list_all (λ (t : Held). is_known t.place known) held
 
 -- this version is that of the last read at the place
-abbrev pub IsNoted : Space → ℕ → ℕ → Type 0
+abbrev pub IsNoted : SessionData → ℕ → ℕ → Type 0
 IsNoted a place version = option_map (λ (s : Standing). s.version) (last_read place a.reads) ≡ Some version
 
 -- the key of the place is known, and this is a valid version and definition for it
-abbrev pub FitsKey : Space → ℕ → Standing → Type 0
+abbrev pub FitsKey : SessionData → ℕ → Standing → Type 0
 FitsKey a place standing = MatchOption (key_known place a.known) ⊥ (λ key. MayStand key.namespace standing)
 
 -- what always holds of a session: its tickets have rising numbers, below that of the ticket that it waits for. They and its wait are at places that it
 -- knows. No key that it knows has two places, and no place two keys. If its wait is settled, it has a wait. A version that it noted at a place is that of its
 -- last read there. Of a place it read no version newer than the last one, and what it read last is valid for the place's key.
-pub record IsSound (a : Space) : Type 0 where
+pub record IsSound (a : SessionData) : Type 0 where
   pub rising : IsRising a.own
   pub below : are_below (first_free (is_waiting a.own) a.numbers) a.own.held ≡ true
   pub placed : are_placed a.known a.own.held ≡ true
@@ -116,37 +116,37 @@ pub record IsSound (a : Space) : Type 0 where
 -- ---- what it is as a space
 
 -- the session speaks for itself alone, and is sound
-abbrev pub SpeaksFor : Space → ℕ → Type 0
+abbrev pub SpeaksFor : SessionData → ℕ → Type 0
 SpeaksFor a who = (who ≡ a.number) × IsSound a
 
 -- what the session has: its held tickets and its wait
-abbrev pub own_of : Space → ℕ → Own
+abbrev pub own_of : SessionData → ℕ → Own
 own_of a who = a.own
 
 -- the last numbers that were given to its tickets and waits
-abbrev pub numbers_of : Space → ℕ → Numbers
+abbrev pub numbers_of : SessionData → ℕ → Numbers
 numbers_of a who = a.numbers
 
 -- the session knows that the place has this key
-abbrev pub Knows : Space → ℕ → ℕ → KeyName → Type 0
+abbrev pub Knows : SessionData → ℕ → ℕ → KeyName → Type 0
 Knows a who place key = key_known place a.known ≡ Some key
 
 -- the session knows that its wait is settled in this way
-abbrev pub IsSettledAs : Space → ℕ → Settled → Type 0
+abbrev pub IsSettledAs : SessionData → ℕ → Settled → Type 0
 IsSettledAs a who how = a.settled ≡ Some how
 
 -- a place has this version and definition: they are the session's last reading there, and it has noted the version
-abbrev pub HasRead : Space → ℕ → ℕ → Standing → Type 0
+abbrev pub HasRead : SessionData → ℕ → ℕ → Standing → Type 0
 HasRead a who place standing = (noted_at place a.notes ≡ Some standing.version) × (last_read place a.reads ≡ Some standing)
 
 -- the session has read this version and definition at the place, now or before
-abbrev pub HasMet : Space → ℕ → ℕ → Standing → Type 0
+abbrev pub HasMet : SessionData → ℕ → ℕ → Standing → Type 0
 HasMet a who place standing = Contains a.reads (record { place = place; standing = standing })
 
 -- the session has read this version at the place, now or before
-abbrev pub HasSeen : Space → ℕ → ℕ → ℕ → Type 0
+abbrev pub HasSeen : SessionData → ℕ → ℕ → ℕ → Type 0
 HasSeen a who place version = was_read place version a.reads ≡ true
 
 -- a pinned place is one whose key the session knows, which keeps that key: there is no way yet to give one up
-abbrev pub Pins : Space → ℕ → ℕ → Type 0
+abbrev pub Pins : SessionData → ℕ → ℕ → Type 0
 Pins a who place = is_known place a.known ≡ true

@@ -1,6 +1,10 @@
--- The answers of a lock space to its calls.
+-- The interface of a lock space, after MySQL 5.7: its calls, which are those of `MDL_context` in sql/mdl.h, here as calls of numbered sessions, and their
+-- answers. What each call promises stands in its own file of `calls`.
 use Rattle.std.specs.Prelude.{ℕ, Bool, true, false, List, Option, Result, Ok, Err, Vec}
+use Rattle.mdl_key.specs.declared.mode.Mode.{Mode}
 use Rattle.mdl_key.specs.Keys.{KeyName}
+use Rattle.mdl_defs.specs.declared.change.Change.{Change}
+use Rattle.mdl_defs.specs.declared.change.Change.TheVariants as change
 use Rattle.mdl_defs.specs.declared.definition.Definition.{Definition}
 use Rattle.mdl_defs.specs.declared.standing.Standing.{Standing}
 use Rattle.mdl_calls.specs.declared.space_error.SpaceError.{SpaceError}
@@ -21,7 +25,60 @@ use Rattle.mdl_calls.specs.declared.answers.Ended.{Ended}
 use Rattle.mdl_calls.specs.declared.answers.Ended.TheVariants as ended_as
 use Rattle.mdl_calls.specs.declared.answers.Upgrade.{Upgrade}
 use Rattle.mdl_calls.specs.declared.answers.Upgrade.TheVariants as upgrade_as
-use Rattle.mdl_calls.specs.Calls.{Call, Resolve, Try_now, Begin_wait, Search, Poll_wait, Settle_timeout, End_wait, Wait_of, Kill, Release, Clone_ticket, Upgrade_now, Merge, Downgrade, Read_definition, Change_definition, Tables_of, Key_of, Read_kept, List_held, Unpin}
+
+-- ---- calls
+
+-- a call, with the session that makes it and its arguments
+pub data Call : Type 0 where
+  -- the place of a key
+  Resolve : (who : ℕ) (key : KeyName) → Call
+  -- a lock, if it can be granted without waiting
+  Try_now : (who place : ℕ) (mode : Mode) → Call
+  -- a lock, or otherwise a wait for it
+  Begin_wait : (who place : ℕ) (mode : Mode) → Call
+  -- a deadlock that the caller's wait is part of
+  Search : (who : ℕ) → Call
+  -- the state of the caller's wait
+  Poll_wait : (who : ℕ) → Call
+  -- the timeout of the caller's wait
+  Settle_timeout : (who : ℕ) → Call
+  -- the end of the caller's wait, once it is settled
+  End_wait : (who : ℕ) → Call
+  -- the number of a session's wait
+  Wait_of : (target : ℕ) → Call
+  -- the kill of a session's wait of this number
+  Kill : (target number : ℕ) → Call
+  -- the release of a held ticket
+  Release : (who id : ℕ) → Call
+  -- a second ticket beside a held one
+  Clone_ticket : (who id : ℕ) (mode : Mode) → Call
+  -- a stronger mode of a held ticket, if it can be granted without waiting
+  Upgrade_now : (who id : ℕ) (mode : Mode) → Call
+  -- two held tickets of one place merged into one
+  Merge : (who old new : ℕ) → Call
+  -- a weaker mode of a held ticket
+  Downgrade : (who id : ℕ) (mode : Mode) → Call
+  -- the version and the definition at a held ticket's place
+  Read_definition : (who id : ℕ) → Call
+  -- a change of the definition at a held ticket's place
+  Change_definition : (who id : ℕ) (change : Change) → Call
+  -- the tables of a schema that have a definition
+  Tables_of : (who : ℕ) (schema : List ℕ) → Call
+  -- the key of a place
+  Key_of : (who place : ℕ) → Call
+  -- like `Read_definition`, with the session's cache
+  Read_kept : (who id : ℕ) → Call
+  -- the tickets that the caller holds
+  List_held : (who : ℕ) → Call
+  -- the end of the caller's pin of a place
+  Unpin : (who place : ℕ) → Call
+
+-- whether a change of a definition may need memory: dropping the definition doesn't
+abbrev pub change_takes_memory : Change → Bool
+change_takes_memory change.Drop = false
+change_takes_memory _ = true
+
+-- ---- answers
 
 -- the answer of a call: what it returns
 pub data Answer : Type 0 where
@@ -45,41 +102,6 @@ pub data Answer : Type 0 where
   Tables : (places : List ℕ) → Answer
   Key_is : KeyName → Answer
   Holds : List Held → Answer
-
--- whether a call can have this answer, by its form. Asking for a wait's number and killing a wait are never refused.
-abbrev pub is_answer_of : Call → Answer → Bool
-is_answer_of (Wait_of _) (Has_wait _) = true
-is_answer_of (Wait_of _) _ = false
-is_answer_of (Kill _ _) (Has_killed _) = true
-is_answer_of (Kill _ _) _ = false
-is_answer_of _ (Refused _) = true
-is_answer_of (Resolve _ _) (At_place _) = true
-is_answer_of (Try_now _ _ _) (Granted _) = true
-is_answer_of (Try_now _ _ _) Would_wait = true
-is_answer_of (Begin_wait _ _ _) (Granted _) = true
-is_answer_of (Begin_wait _ _ _) (Waits _) = true
-is_answer_of (Search _) No_cycle = true
-is_answer_of (Search _) (Victim_is _) = true
-is_answer_of (Poll_wait _) Pending = true
-is_answer_of (Poll_wait _) (Is_settled _) = true
-is_answer_of (Settle_timeout _) (Timed_out _) = true
-is_answer_of (End_wait _) (Granted _) = true
-is_answer_of (End_wait _) (Lost settled_as.Granted) = false
-is_answer_of (End_wait _) (Lost _) = true
-is_answer_of (Release _ _) Done = true
-is_answer_of (Clone_ticket _ _ _) (Granted _) = true
-is_answer_of (Upgrade_now _ _ _) Upgraded = true
-is_answer_of (Upgrade_now _ _ _) Would_wait = true
-is_answer_of (Merge _ _ _) Done = true
-is_answer_of (Downgrade _ _ _) Done = true
-is_answer_of (Read_definition _ _) (Reads _ _) = true
-is_answer_of (Change_definition _ _ _) (Changed _) = true
-is_answer_of (Tables_of _ _) (Tables _) = true
-is_answer_of (Key_of _ _) (Key_is _) = true
-is_answer_of (Read_kept _ _) (Reads _ _) = true
-is_answer_of (List_held _) (Holds _) = true
-is_answer_of (Unpin _ _) Done = true
-is_answer_of _ _ = false
 
 -- whether the call was refused because memory ran out
 abbrev pub finds_no_memory : Answer → Bool

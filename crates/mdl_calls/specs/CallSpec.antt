@@ -1,0 +1,140 @@
+-- The specification of a call: what every lock space promises of it, and what a session of a shared space then has, knows and has read. Each call has its own,
+-- in a file of `calls`.
+use Rattle.std.specs.Prelude.{◌≡◌, ℕ, Bool, true, false, List, Option, Some, None}
+use Rattle.std.specs.Option.{IfSome}
+use Rattle.mdl_key.specs.declared.mode.Mode.{Mode}
+use Rattle.mdl_calls.specs.declared.answers.Settled.{Settled}
+use Rattle.mdl_calls.specs.declared.space_error.SpaceError.{SpaceError}
+use Rattle.mdl_calls.specs.declared.space_error.SpaceError.TheVariants.{NoPlace, NotHeld, AlreadyWaiting, BadMode, NoWait, CounterFull, Full, OutOfMemory}
+use Rattle.mdl_calls.specs.Interface.{Answer, Refused}
+use Rattle.mdl_calls.specs.Own.{Own, holds, is_waiting}
+use Rattle.mdl_calls.specs.Effects.{Effect, Keeps, own_by, DrawsBy, place_of, ends}
+use Rattle.mdl_calls.specs.Causes.{Knowledge, IsUnknown, IsFit, IsUnfit}
+use Rattle.mdl_calls.specs.SessionData.{SessionData, KnownKey, SpeaksFor, Knows, is_known}
+use Rattle.mdl_calls.specs.Learning.{KeepsSettled}
+use Rattle.mdl_calls.specs.Meetings.{ReadsNothing}
+
+-- ---- what several calls share
+
+-- why a call on the caller's own wait is refused: there is none
+abbrev pub no_wait_cause : SpaceError → Knowledge → Own → Type 0
+no_wait_cause NoWait knows own = is_waiting own ≡ false
+no_wait_cause _ knows own = ⊥
+
+-- why a call on a held ticket that takes no memory is refused: no ticket of the number is held
+abbrev pub no_ticket_cause : ℕ → SpaceError → Knowledge → Own → Type 0
+no_ticket_cause id NotHeld knows own = holds id own ≡ false
+no_ticket_cause id _ knows own = ⊥
+
+-- why a read under a ticket is refused: no ticket of the number is held, or memory ran out
+abbrev pub read_cause : ℕ → SpaceError → Knowledge → Own → Type 0
+read_cause id NotHeld knows own = holds id own ≡ false
+read_cause id OutOfMemory knows own = Unit {0}
+read_cause id _ knows own = ⊥
+
+-- why a call is refused for which there is only one reason: memory ran out
+abbrev pub memory_cause : SpaceError → Knowledge → Own → Type 0
+memory_cause OutOfMemory knows own = Unit {0}
+memory_cause _ knows own = ⊥
+
+-- the caller may request a lock: it has no wait, and the mode is one of the kind of the place's key
+abbrev pub MayAsk : ℕ → Mode → Knowledge → Own → Type 0
+MayAsk place mode knows own = (is_waiting own ≡ false) × IsFit knows place mode
+
+-- why a request is refused: the caller doesn't know the place, or waits already, or the mode doesn't fit, or there is no number or no room left, or memory
+-- ran out
+abbrev pub wish_cause : ℕ → Mode → SpaceError → Knowledge → Own → Type 0
+wish_cause place mode NoPlace knows own = IsUnknown knows place
+wish_cause place mode AlreadyWaiting knows own = is_waiting own ≡ true
+wish_cause place mode BadMode knows own = (is_waiting own ≡ false) × IsUnfit knows place mode
+wish_cause place mode CounterFull knows own = MayAsk place mode knows own
+wish_cause place mode Full knows own = MayAsk place mode knows own
+wish_cause place mode OutOfMemory knows own = Unit {0}
+wish_cause place mode _ knows own = ⊥
+
+-- ---- a call by its aspects
+
+-- what is promised of a call
+pub record CallSpec : Type 1 where
+  -- the session that makes it, unless any session may
+  pub caller : Option ℕ
+  -- whether sessions have this call
+  pub has : Bool
+  -- whether it may need memory
+  pub takes_memory : Bool
+  -- whether it reads with its session's cache
+  pub reads_with_cache : Bool
+  -- whether it can have this answer, by the answer's form
+  pub answers : Answer → Bool
+  -- what must hold of the caller's tickets and wait for it not to be refused
+  pub clear : Knowledge → Own → Type 0
+  -- which errors it can be refused with, and what each says of the caller's tickets and wait
+  pub cause : SpaceError → Knowledge → Own → Type 0
+  -- what it does to them
+  pub effect : Answer → Effect
+  -- the state in which it met the caller's wait, if the answer says that: not settled, or settled in this way
+  pub met : Answer → Option (Option Settled)
+  -- how the caller's wait is settled from then on, if the answer says that
+  pub told : Answer → Option Settled
+  -- whether this is an answer to it if the caller's wait is settled in this way
+  pub told_of : Settled → Answer → Type 0
+  -- which keys the caller knows before and after
+  pub learns : Answer → List KnownKey → List KnownKey → Type 0
+  -- the ticket under which it reads, if it does
+  pub reads_under : Option ℕ
+  -- the ticket under which it changed a definition, if it did
+  pub redefines : Answer → Option ℕ
+  -- what the caller reads and notes
+  pub reads : Answer → SessionData → SessionData → Type 0
+  -- what else the answer says of the session
+  pub says : Answer → SessionData → SessionData → Type 0
+
+-- a call of this session of which each aspect is the strongest promise: it has no answer and no cause of a refusal, takes no memory, and changes nothing. Its
+-- caller learns and reads nothing. Only what must hold for it not to be refused, and what its answers say, are left open.
+abbrev pub unchanged : ℕ → CallSpec
+unchanged who = record {
+  caller = Some who;
+  has = true;
+  takes_memory = false;
+  reads_with_cache = false;
+  answers = λ answer. false;
+  clear = λ knows own. Unit {0};
+  cause = λ why knows own. ⊥;
+  effect = λ answer. Keeps;
+  met = λ answer. None;
+  told = λ answer. None;
+  told_of = λ how answer. Unit {0};
+  learns = λ answer before after. after ≡ before;
+  reads_under = None;
+  redefines = λ answer. None;
+  reads = λ answer a b. ReadsNothing a b;
+  says = λ answer a b. Unit {0};
+}
+
+-- ---- what it is to a session
+
+-- what an answer says of the caller's tickets and wait: if it is a refusal, its cause; otherwise that there is none
+abbrev pub Explains : CallSpec → Knowledge → Answer → Own → Type 0
+Explains call knows (Refused why) own = call.cause why knows own
+Explains call knows _ own = call.clear knows own
+
+-- a call with this answer takes the session from the one state to the other. The caller, if there is one, is the session itself (`mine`). Sessions have such
+-- a call (`has`), and it can have such an answer (`fits`). The session has what the call leaves it (`own`, `numbers`), and a refusal has a cause
+-- (`explained`). It got a ticket or a wait only at a place that it knows (`gained`), and knows the keys that it learnt (`learns`). If it knew how its wait is
+-- settled, the call met the wait settled so (`agreed`). It knows what the answer says of its wait (`told`), and otherwise what it knew or may have learnt
+-- (`settled`). It has read what the call lets it read (`reads`), and what the answer says of it is true (`truly`). No clause says anything of other sessions.
+pub record Transition (call : CallSpec) (answer : Answer) (a b : SessionData) : Type 0 where
+  pub mine : IfSome call.caller (SpeaksFor a)
+  pub has : call.has ≡ true
+  pub fits : call.answers answer ≡ true
+  pub number : b.number ≡ a.number
+  pub own : b.own ≡ own_by (call.effect answer) a.own
+  pub numbers : DrawsBy (call.effect answer) a.numbers b.numbers
+  pub explained : Explains call (Knows a a.number) answer a.own
+  pub gained : IfSome (place_of (call.effect answer)) (λ place. is_known place a.known ≡ true)
+  pub learns : call.learns answer a.known b.known
+  pub agreed : (state : Option Settled) (how : Settled) → call.met answer ≡ Some state → a.settled ≡ Some how → state ≡ Some how
+  pub told : (how : Settled) → call.told answer ≡ Some how → b.settled ≡ Some how
+  pub settled : KeepsSettled (ends (call.effect answer)) a b
+  pub reads : call.reads answer a b
+  pub truly : call.says answer a b

@@ -1,0 +1,22 @@
+-- The specifications of the calls, each in a file of its own.
+pub mod BeginWait
+pub mod ChangeDefinition
+pub mod CloneTicket
+pub mod Downgrade
+pub mod EndWait
+pub mod KeyOf
+pub mod Kill
+pub mod ListHeld
+pub mod Merge
+pub mod PollWait
+pub mod ReadDefinition
+pub mod ReadKept
+pub mod Release
+pub mod Resolve
+pub mod Search
+pub mod SettleTimeout
+pub mod TablesOf
+pub mod TryNow
+pub mod Unpin
+pub mod UpgradeNow
+pub mod WaitOf

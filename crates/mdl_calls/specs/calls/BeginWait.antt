@@ -1,0 +1,29 @@
+-- `begin_wait`: a lock, or otherwise a wait for it. It is refused for the same reasons as `try_now`. It changes no held ticket, and learns and reads nothing.
+use Rattle.std.specs.Prelude.{ℕ, Bool, true, false}
+use Rattle.mdl_key.specs.declared.mode.Mode.{Mode}
+use Rattle.mdl_calls.specs.Interface.{Answer, Refused, Granted, Waits}
+use Rattle.mdl_calls.specs.Effects.{Effect, Keeps, Gains, Begins}
+use Rattle.mdl_calls.specs.CallSpec.{CallSpec, unchanged, MayAsk, wish_cause}
+
+-- its answers
+abbrev pub answers : Answer → Bool
+answers (Refused why) = true
+answers (Granted id) = true
+answers (Waits number) = true
+answers _ = false
+
+-- a granted ticket is held; otherwise the wait begins
+abbrev pub effect : ℕ → Mode → Answer → Effect
+effect place mode (Granted id) = Gains id place mode
+effect place mode (Waits number) = Begins number place mode
+effect place mode _ = Keeps
+
+-- the call
+abbrev pub begin_wait : ℕ → ℕ → Mode → CallSpec
+begin_wait who place mode = record (unchanged who) {
+  takes_memory = true;
+  answers = answers;
+  clear = MayAsk place mode;
+  cause = wish_cause place mode;
+  effect = effect place mode;
+}

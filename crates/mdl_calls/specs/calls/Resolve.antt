@@ -1,0 +1,33 @@
+-- `resolve`: the place of a key. The session knows it from then on, and pins it. A call is refused if there is no place left for the key, of which the session
+-- then knows no place, or if memory runs out. It changes no ticket and no wait, and reads nothing.
+use Rattle.std.specs.Prelude.{◌≡◌, ℕ, Bool, true, false, List}
+use Rattle.mdl_key.specs.Words.{KeyName}
+use Rattle.mdl_calls.specs.declared.space_error.SpaceError.{SpaceError}
+use Rattle.mdl_calls.specs.declared.space_error.SpaceError.TheVariants.{NoPlace, OutOfMemory}
+use Rattle.mdl_calls.specs.Interface.{Answer, Refused, At_place}
+use Rattle.mdl_calls.specs.Own.{Own}
+use Rattle.mdl_calls.specs.Causes.{Knowledge, IsUnplaced}
+use Rattle.mdl_calls.specs.SessionData.{KnownKey, place_known}
+use Rattle.mdl_calls.specs.Learning.{LearnsPlace}
+use Rattle.mdl_calls.specs.CallSpec.{CallSpec, unchanged}
+
+-- its answers
+abbrev pub answers : Answer → Bool
+answers (Refused why) = true
+answers (At_place place) = true
+answers _ = false
+
+-- why it is refused
+abbrev pub cause : KeyName → SpaceError → Knowledge → Own → Type 0
+cause key NoPlace knows own = IsUnplaced knows key
+cause key OutOfMemory knows own = Unit {0}
+cause key _ knows own = ⊥
+
+-- the key at its place is learnt, unless it was known
+abbrev pub learns : KeyName → Answer → List KnownKey → List KnownKey → Type 0
+learns key (At_place place) before after = LearnsPlace key place (place_known key before) before after
+learns key _ before after = after ≡ before
+
+-- the call
+abbrev pub resolve : ℕ → KeyName → CallSpec
+resolve who key = record (unchanged who) { takes_memory = true; answers = answers; cause = cause key; learns = learns key }

@@ -1,0 +1,23 @@
+-- `search`: a deadlock that the session's wait is part of, whose victim's wait is then settled. It is refused only if memory runs out. It changes no ticket, ends
+-- no wait, and learns no key and reads nothing.
+use Rattle.std.specs.Prelude.{◌≡◌, ℕ, Bool, true, false, Some}
+use Rattle.mdl_calls.specs.declared.answers.Settled.TheVariants as settled_as
+use Rattle.mdl_calls.specs.Interface.{Answer, Refused, No_cycle, Victim_is}
+use Rattle.mdl_calls.specs.SessionData.{SessionData}
+use Rattle.mdl_calls.specs.CallSpec.{CallSpec, unchanged, memory_cause}
+
+-- its answers
+abbrev pub answers : Answer → Bool
+answers (Refused why) = true
+answers No_cycle = true
+answers (Victim_is victim) = true
+answers _ = false
+
+-- if the session itself is the victim, it knows that its wait is settled so. The victim may be another session: of that nothing is said.
+abbrev pub says : Answer → SessionData → SessionData → Type 0
+says (Victim_is victim) a b = victim ≡ a.number → b.settled ≡ Some settled_as.Victim
+says _ a b = Unit {0}
+
+-- the call
+abbrev pub search_deadlock : ℕ → CallSpec
+search_deadlock who = record (unchanged who) { takes_memory = true; answers = answers; cause = memory_cause; says = says }

@@ -1,0 +1,20 @@
+-- `wait_of`: the number of a session's wait, if it has one. Any session may ask for that of any other. It takes no memory, changes nothing, and is never refused.
+use Rattle.std.specs.Prelude.{◌≡◌, ℕ, Bool, true, false, None}
+use Rattle.mdl_calls.specs.Interface.{Answer, Has_wait}
+use Rattle.mdl_calls.specs.Own.{wait_number}
+use Rattle.mdl_calls.specs.SessionData.{SessionData}
+use Rattle.mdl_calls.specs.CallSpec.{CallSpec, unchanged}
+
+-- its answers
+abbrev pub answers : Answer → Bool
+answers (Has_wait number) = true
+answers _ = false
+
+-- if the session asks for its own wait, it is told its number. It may be another session: of that nothing is said.
+abbrev pub says : ℕ → Answer → SessionData → SessionData → Type 0
+says target (Has_wait number) a b = target ≡ a.number → number ≡ wait_number a.own
+says target _ a b = Unit {0}
+
+-- the call
+abbrev pub wait_of : ℕ → CallSpec
+wait_of target = record (unchanged target) { caller = None; answers = answers; says = says target }
