@@ -11,7 +11,7 @@ use Rattle.mdl_shared.specs.declared.pass.Pass.{Pass}
 use Rattle.mdl_shared.specs.KeptReads.{UsesKept}
 use Rattle.mdl_shared.specs.Passes.{pass_number, pass_view}
 use Rattle.mdl_shared.specs.SessionViews.{SessionView, space_of}
-use Rattle.mdl_shared.specs.Showings.{Shows}
+use Rattle.mdl_shared.specs.AllSteps.{Shows}
 use Rattle.mdl_work.specs.Works.{RunsFromEmpty, lines_of, newcomer, working_off}
 
 -- no ticket and no wait

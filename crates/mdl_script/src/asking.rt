@@ -3,8 +3,7 @@
 ghost use Rattle.std.specs.Prelude.{◌≡◌, [], IfOk, OnOk};
 ghost use Rattle.mdl_calls.specs.SessionData.{SpeaksFor};
 ghost use Rattle.mdl_stmt.specs.Attendance.{IsCapacity};
-ghost use Rattle.mdl_shared.specs.SessionViews.{space_of};
-ghost use Rattle.mdl_shared.specs.Showings.{KeepsLists};
+ghost use Rattle.mdl_shared.specs.SessionViews.{KeepsLists, space_of};
 ghost use Rattle.mdl_script.specs.Answers.{AreAnswers, nothing, options_of};
 ghost use Rattle.mdl_script.specs.Books.{AreOfOneAudit};
 ghost use Rattle.mdl_script.specs.Runs.{HasMadeFirst, MakesFirst};

@@ -21,7 +21,9 @@ use Rattle.mdl_shared.specs.Members.{IsMember}
 use Rattle.mdl_shared.specs.Modes.{clone_fault}
 use Rattle.mdl_shared.specs.OwnLists.{told_of}
 use Rattle.mdl_shared.specs.SessionViews.{SessionView, space_of, tickets_seen}
-use Rattle.mdl_shared.specs.Showings.{FullForFast, IsClosed, IsCloned, LacksMemory, LacksRoomForWish, MeetsTicket, Shows, ShowsStep, SlowsAll, StopsSlowing}
+use Rattle.mdl_shared.specs.AllSteps.{Shows}
+use Rattle.mdl_shared.specs.Steps.{MeetsTicket, ShowsStep}
+use Rattle.mdl_shared.specs.WishSteps.{FullForFast, IsClosed, IsCloned, LacksMemory, LacksRoomForWish, SlowsAll, StopsSlowing}
 use Rattle.mdl_shared.specs.TicketLists.{KeepsRoom}
 use Rattle.mdl_shared.proofs.FastWishing.{by-latch, number-slow}
 use Rattle.mdl_shared.proofs.FastWishShows.{full-fast, full-one, wish-lack}
@@ -65,7 +67,7 @@ module _ {s : SessionView} (is : IsMember s) (id : ℕ) (mode : Mode) where
 
       clone-shows : {s′ : SessionView} {new : ℕ} → DoesQuietly t.place (Gain new mode ∷ []) s s′
           → IsCloned t.place mode id (Gain new mode) s s′ → KeepsRoom 1 s.room s′.room → Shows (Clone_ticket s.me.0.number id mode) (Granted new) s s′
-      clone-shows quiet met keeps = quiet-shows quiet refl clear (λ e. e) (λ e. e) tt (t, its, met) keeps
+      clone-shows quiet met keeps = quiet-shows quiet refl clear (λ e. e) (λ e. e) (λ owes searches. (owes, searches)) (t, its, met) keeps
 
       -- by the fast path
       pub fast-cloned : {b : SessionView} {new : ℕ} → GainsFast t.place mode new s b
@@ -77,7 +79,7 @@ module _ {s : SessionView} (is : IsMember s) (id : ℕ) (mode : Mode) where
           → Joins (space_of s) (Clone_ticket s.me.0.number id mode) (Refused why) (space_of b) × Shows (Clone_ticket s.me.0.number id mode) (Refused why) s b
       clone-full {b = b} still lacks = (
         clone-refused (done-nothing still.0.done) (wish-lack t.place mode false s b lacks),
-        quiet-shows still.0 refl clear (λ e. e) (λ e. e) tt (inr (t, its, lacks)) still.1,
+        quiet-shows still.0 refl clear (λ e. e) (λ e. e) (λ owes searches. (owes, searches)) (inr (t, its, lacks)) still.1,
       )
 
       pub full-cloned : {b : SessionView} {why : SpaceError} → DoesQuietly 0 [] s b × KeepsRoom 0 s.room b.room

@@ -4,7 +4,6 @@ use Rattle.std.specs.List.{list_any}
 use Rattle.std.proofs.lemmas.Bool.{and_parts, eq-eqb, false≢true}
 use Rattle.std.proofs.lemmas.Bool.Decides.{nat_tests}
 use Rattle.atomic_table.specs.Seated.{TableId}
-use Rattle.mdl_calls.specs.Words.{Answer, Begin_wait, Call, Done, Downgrade, End_wait, Lost, Release, Search}
 use Rattle.mdl_steps.specs.declared.deed.Deed.{Deed}
 use Rattle.mdl_steps.specs.Plays.{Mine}
 use Rattle.mdl_steps.specs.SeatStates.{AtItsTable, SeatState}
@@ -15,7 +14,6 @@ use Rattle.mdl_visits.specs.Visits.{MakesSteps, Visits}
 use Rattle.mdl_shared.specs.declared.member.Member.{Member}
 use Rattle.mdl_shared.specs.Debts.{AreOwed, IsOwed, OwesNoMore, owed_in}
 use Rattle.mdl_shared.specs.SessionViews.{SessionView}
-use Rattle.mdl_shared.specs.Showings.{KeepsDebts}
 use Rattle.mdl_shared.specs.TicketLists.{TicketList}
 
 -- ---- what is owed after a visit is the same
@@ -88,15 +86,6 @@ released-due {place} {m = m} released due = released-owes released ∙ ap (λ b.
 -- what is owed still was owed before
 pub same-debts : (a b : SessionView) → b.me.0.owes ≡ a.me.0.owes → OwesNoMore a b
 same-debts a b same place owed = subst (IsOwed place) same owed
-
--- where it is the same, a call leaves of it what it has to leave
-pub keeps-debts : (call : Call) (answer : Answer) (a b : SessionView) → b.me.0.owes ≡ a.me.0.owes → b.me.0.searches ≡ a.me.0.searches → KeepsDebts call answer a b
-keeps-debts (End_wait who) (Lost how) a b owes searches = tt
-keeps-debts (Release who id) Done a b owes searches = tt
-keeps-debts (Downgrade who id mode) Done a b owes searches = tt
-keeps-debts (Begin_wait who place mode) answer a b owes searches = owes
-keeps-debts (Search who) answer a b owes searches = owes
-keeps-debts _ _ a b owes searches = (owes, searches)
 
 -- where no place is owed a reschedule, the list is empty
 pub none-owed : (owes : List ℕ) → ((q : ℕ) → list_any (λ p. p == q) owes ≡ false) → owes ≡ []

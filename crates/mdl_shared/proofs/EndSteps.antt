@@ -25,7 +25,8 @@ use Rattle.mdl_visits.proofs.Steps.{does_then, goes_by, step_after}
 use Rattle.mdl_shared.specs.Debts.{Pays}
 use Rattle.mdl_shared.specs.Members.{IsMember}
 use Rattle.mdl_shared.specs.SessionViews.{SessionView, lists_seen, session_at, settled_of, space_of}
-use Rattle.mdl_shared.specs.Showings.{EndsByOneStep, EndsOwnWait, LooksThen, Shows, ShowsStep}
+use Rattle.mdl_shared.specs.AllSteps.{Shows}
+use Rattle.mdl_shared.specs.Steps.{EndsByOneStep, EndsOwnWait, LooksThen, ShowsStep}
 use Rattle.mdl_shared.specs.TicketLists.{KeepsRoom, Room}
 use Rattle.mdl_shared.specs.Waitings.{wait_fault}
 use Rattle.mdl_shared.proofs.EndCalls.{HasEnded, ended-debts, lost-joins, unsettled-joins, won-joins}
@@ -73,7 +74,6 @@ module _ {s mid : SessionView} (is : IsMember s) (a : Ask) (asks : s.me.0.asks �
           did = shown.did;
           settled = shown.settled;
           told = tt;
-          steps = tt;
           met = inr (refl, looks 1 (unsettled is waiting session found mine own none) (λ (m : Mine). mid.me ≡ m) refl);
           room = shown.room;
           debts = shown.debts;
@@ -102,7 +102,7 @@ module _ {s mid : SessionView} (is : IsMember s) (a : Ask) (asks : s.me.0.asks �
     -- the step that ends it comes after the one that read it
     met : (s′ : SessionView) → ShowsStep mid s′ (EndsWait mid.table.slots mid.me.0.number mid.me.0.waits (state_of one)) → EndsOwnWait (state_of one) (lists_seen s.me.0) s s′
     met s′ shown =
-        let read = polled.1.met in (
+        let read = polled.1.met.0 in (
           shown.0,
           step_after s.me mid.me s′.me (goes_by s.me mid.me read.0 read.1) shown.0 shown.1,
           subst (λ (x : SessionView). EndsWait x.table.slots x.me.0.number x.me.0.waits (state_of one) shown.0) now shown.2,
@@ -115,7 +115,8 @@ module _ {s mid : SessionView} (is : IsMember s) (a : Ask) (asks : s.me.0.asks �
         → KeepsRoom 0 s.room s′.room
         → Joins (space_of s) (End_wait s.me.0.number) (Lost one) (space_of s′) × Shows (End_wait s.me.0.number) (Lost one) s s′
     lost-end {s′} ends shows fits ended rescheduled once pays keeps =
-        let shown = polled.1 in (
+        let shown = polled.1 in
+        let stayed = shown.met.1 in (
           lost-joins is a asks one fits agreed ended,
           record {
             table = ap (λ (x : SessionView). x.table) ended.now;
@@ -124,13 +125,12 @@ module _ {s mid : SessionView} (is : IsMember s) (a : Ask) (asks : s.me.0.asks �
             did = did s′ ends;
             settled = tt;
             told = tt;
-            steps = tt;
             met = (
               met s′ shows,
               (
                 a,
                 asks,
-                rescheduled_after s.table a.place (without_wait s.me) (without_wait mid.me) s′.me (shown.steps.0, shown.steps.1, shown.steps.2) shown.settled refl
+                rescheduled_after s.table a.place (without_wait s.me) (without_wait mid.me) s′.me (stayed.0, stayed.1, stayed.2) shown.settled refl
                     (ap (λ (x : SessionView). x.me.0.number) now) refl
                     (subst (λ (id : TableId). HasRescheduled id a.place (without_wait mid.me) s′.me) shown.table rescheduled),
                 looks (state_of one) (there one some) (λ (m : Mine). VisitsOnce a.place m s′.me) once,
@@ -158,7 +158,6 @@ module _ {s mid : SessionView} (is : IsMember s) (a : Ask) (asks : s.me.0.asks �
         did = did s′ ends;
         settled = ap (λ (x : SessionView). x.me.0.settles) ended.now ∙ settles;
         told = tt;
-        steps = tt;
         met = looks granted_state (there one some ∙ ap (λ (how : Settled). wait_in s.me.0.waits (state_of how)) granted) (EndsByOneStep granted_state (lists_seen s.me.0) s s′)
             (last.0, last.1, subst (λ (x : SessionView). EndsWait x.table.slots x.me.0.number x.me.0.waits granted_state last.0) now last.2);
         room = keeps;

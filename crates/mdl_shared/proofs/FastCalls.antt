@@ -20,7 +20,8 @@ use Rattle.mdl_shared.specs.FastCalls.{GaveUpFast, GetsNothing, HasFewerFast, Ha
 use Rattle.mdl_shared.specs.Members.{kind_known, wish_fault}
 use Rattle.mdl_shared.specs.Passes.{view_of}
 use Rattle.mdl_shared.specs.SessionViews.{Lists, SessionView, StaysSame, lists_seen}
-use Rattle.mdl_shared.specs.Showings.{AllMadeSlow, MakesSlow, ShowsStep}
+use Rattle.mdl_shared.specs.Steps.{ShowsStep}
+use Rattle.mdl_shared.specs.WishSteps.{AllMadeSlow, MakesSlow}
 use Rattle.mdl_shared.specs.TicketLists.{KeepsRoom, Room, TicketList}
 use Rattle.mdl_shared.proofs.FastWishing.{quiet-room}
 use Rattle.mdl_shared.proofs.MemberFacts.{fast-held}

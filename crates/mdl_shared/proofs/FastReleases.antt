@@ -14,7 +14,7 @@ use Rattle.mdl_shared.specs.Debts.{IsOwed, OwesNoMore, but_owing}
 use Rattle.mdl_shared.specs.DeedsDone.{HasDone, StaysFast}
 use Rattle.mdl_shared.specs.Members.{IsMember, is_known_place}
 use Rattle.mdl_shared.specs.SessionViews.{SessionView, session_at, tickets_seen}
-use Rattle.mdl_shared.specs.Showings.{GivesUpFast}
+use Rattle.mdl_shared.specs.Steps.{GivesUpFast}
 use Rattle.mdl_shared.proofs.Debts.{paid-off, released-due, released-owes, released-quiet, rescheduled-owes}
 
 -- ---- two parts of a call

@@ -22,7 +22,9 @@ use Rattle.mdl_shared.specs.DeedsDone.{DoesQuietly}
 use Rattle.mdl_shared.specs.FastWishes.{BecomesSlow, BeginsToWait, GainsFast, GainsSlow, HasBegun, HasTried}
 use Rattle.mdl_shared.specs.Members.{IsMember, kind_known, obtrudes_at, wish_fault}
 use Rattle.mdl_shared.specs.SessionViews.{SessionView, space_of}
-use Rattle.mdl_shared.specs.Showings.{FullForFast, IsClosed, IsGranted, LacksMemory, LacksRoomForFast, LacksRoomForWish, Shows, ShowsStep, SlowsAll, StopsOrVisits, StopsSlowing}
+use Rattle.mdl_shared.specs.AllSteps.{Shows}
+use Rattle.mdl_shared.specs.Steps.{ShowsStep}
+use Rattle.mdl_shared.specs.WishSteps.{FullForFast, IsClosed, IsGranted, LacksMemory, LacksRoomForFast, LacksRoomForWish, SlowsAll, StopsOrVisits, StopsSlowing}
 use Rattle.mdl_shared.specs.TicketLists.{KeepsRoom}
 use Rattle.mdl_shared.proofs.Debts.{same-debts}
 use Rattle.mdl_shared.proofs.FastWishing.{by-latch, closed-more, next-slow, number-slow, same-space}
@@ -74,14 +76,14 @@ module _ {a : SessionView} (is : IsMember a) (place : ℕ) (mode : Mode) (clear 
       → Joins (space_of a) (Try_now a.me.0.number place mode) (Refused why) (space_of b) × Shows (Try_now a.me.0.number place mode) (Refused why) a b
   try-full {b = b} still lacks = (
     try-refused is place mode clear (done-nothing still.0.done) (wish-lack place mode (obtrudes_at place mode a.me.0.known) a b lacks),
-    quiet-shows still.0 refl clear (λ s. s) (λ t. t) tt (inr lacks) still.1,
+    quiet-shows still.0 refl clear (λ s. s) (λ t. t) (λ owes searches. (owes, searches)) (inr lacks) still.1,
   )
 
   pub begin-full : {at : ℕ} {b : SessionView} {why : SpaceError} → DoesQuietly at [] a b × KeepsRoom 0 a.room b.room → LacksRoomForWish (MeetsFull place) place mode (obtrudes_at place mode a.me.0.known) why a b
       → Joins (space_of a) (Begin_wait a.me.0.number place mode) (Refused why) (space_of b) × Shows (Begin_wait a.me.0.number place mode) (Refused why) a b
   begin-full {b = b} still lacks = (
     begin-refused is place mode clear (done-nothing still.0.done) (wish-lack place mode (obtrudes_at place mode a.me.0.known) a b lacks),
-    quiet-shows still.0 refl clear (λ s. s) (λ t. t) tt (inr lacks) still.1,
+    quiet-shows still.0 refl clear (λ s. s) (λ t. t) (λ owes searches. (owes, searches)) (inr lacks) still.1,
   )
 
   -- ---- granted
@@ -89,10 +91,10 @@ module _ {a : SessionView} (is : IsMember a) (place : ℕ) (mode : Mode) (clear 
   module _ {b : SessionView} {id : ℕ} (first : id ≡ a.me.0.next) (quiet : DoesQuietly place (Gain id mode ∷ []) a b) (met : IsGranted place mode (Gain id mode) a b)
       (keeps : KeepsRoom 1 a.room b.room) where
     pub try-grants : Joins (space_of a) (Try_now a.me.0.number place mode) (Granted id) (space_of b) × Shows (Try_now a.me.0.number place mode) (Granted id) a b
-    try-grants = (try-granted is place mode clear first quiet.done, quiet-shows quiet refl clear (λ s. s) (λ t. t) tt met keeps)
+    try-grants = (try-granted is place mode clear first quiet.done, quiet-shows quiet refl clear (λ s. s) (λ t. t) (λ owes searches. (owes, searches)) met keeps)
 
     pub begin-grants : Joins (space_of a) (Begin_wait a.me.0.number place mode) (Granted id) (space_of b) × Shows (Begin_wait a.me.0.number place mode) (Granted id) a b
-    begin-grants = (begin-granted is place mode clear first quiet.done, quiet-shows quiet refl clear (λ s. s) (λ t. t) tt met keeps)
+    begin-grants = (begin-granted is place mode clear first quiet.done, quiet-shows quiet refl clear (λ s. s) (λ t. t) (λ owes searches. (owes, searches)) met keeps)
 
   -- by the fast path
   pub try-fast : {b : SessionView} {id : ℕ} → GainsFast place mode id a b
@@ -123,7 +125,7 @@ module _ {a : SessionView} (is : IsMember a) (place : ℕ) (mode : Mode) (clear 
         let quiet = quiet-then slow.quiet tried.quiet in
         let met = subst (λ (n : ℕ). ShowsStep b c (MeetsBlocked place n mode)) (number-slow slow) tried.met in (
           try-blocked is place mode clear (done-nothing quiet.done),
-          quiet-shows quiet refl clear (λ s. s) (λ t. t) tt (by-latch slow place mode (obtrudes_at place mode a.me.0.known) c closed once met) (keeps-before 0 a.room b.room c.room slow.room tried.room),
+          quiet-shows quiet refl clear (λ s. s) (λ t. t) (λ owes searches. (owes, searches)) (by-latch slow place mode (obtrudes_at place mode a.me.0.known) c closed once met) (keeps-before 0 a.room b.room c.room slow.room tried.room),
         )
     tried-slow (Err why) tried still causes =
         let met = subst (λ (n : ℕ). (why ≡ OutOfMemory) ⊎ ((why ≡ fault.Full) × ShowsStep b c (MeetsFullWish place n mode true))) (number-slow slow) causes in
@@ -147,7 +149,7 @@ module _ {a : SessionView} (is : IsMember a) (place : ℕ) (mode : Mode) (clear 
         × MeetsOpening x.table.slots place x.me.0.number x.me.0.waits x.me.0.next mode f) slow.quiet.done.now begins.met in
         shows (begins.table ∙ ap (λ (x : SessionView). x.table) slow.quiet.done.now) (begins.sessions ∙ ap (λ (x : SessionView). x.sessions) slow.quiet.done.now) clear
         (does_then [] [] a.me b.me c.me slow.quiet.did (opens.made, log, opens.did)) (ap (λ (m : Mine). m.0.settles) opens.now ∙ slow.quiet.settled)
-        (ap (λ (m : Mine). m.0.told) opens.now ∙ sym (untold-wish is place mode clear)) tt (by-latch slow place mode (obtrudes_at place mode a.me.0.known) c closed once met)
+        (ap (λ (m : Mine). m.0.told) opens.now ∙ sym (untold-wish is place mode clear)) (by-latch slow place mode (obtrudes_at place mode a.me.0.known) c closed once met)
         (keeps-before 0 a.room b.room c.room slow.room begins.room)
         (same-debts a c (ap (λ (m : Mine). m.0.owes) opens.now ∙ slow.quiet.owes)) (ap (λ (m : Mine). m.0.owes) opens.now ∙ slow.quiet.owes)
 

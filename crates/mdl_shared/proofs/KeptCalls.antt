@@ -19,13 +19,15 @@ use Rattle.mdl_calls.specs.SessionData.{HasMet, SessionData}
 use Rattle.mdl_session_laws.specs.SessionJoins.{Joins}
 use Rattle.mdl_session_laws.proofs.ReadLaws.{session-met_stays}
 use Rattle.mdl_visits.specs.Numbers.{numbered}
-use Rattle.mdl_visits.proofs.Steps.{does_then, quiet_on}
+use Rattle.mdl_visits.proofs.Steps.{does_then}
 use Rattle.mdl_shared.specs.declared.member.Member.{Member}
 use Rattle.mdl_shared.specs.KeptReads.{MayKeep, kept_standing}
 use Rattle.mdl_shared.specs.Members.{IsMember, holding_fault}
 use Rattle.mdl_shared.specs.Passes.{view_of}
 use Rattle.mdl_shared.specs.SessionViews.{Lists, SessionView, lists_seen, session_at, space_of, tickets_of, tickets_seen}
-use Rattle.mdl_shared.specs.Showings.{FindsVersion, MissesVersion, OfTicket, ReadsByLatch, Shows, VisitsInVain}
+use Rattle.mdl_shared.specs.AllSteps.{Shows}
+use Rattle.mdl_shared.specs.ReadSteps.{FindsVersion, MissesVersion, ReadsByLatch, VisitsInVain}
+use Rattle.mdl_shared.specs.Steps.{OfTicket}
 use Rattle.mdl_shared.specs.TicketLists.{KeepsRoom, Room}
 use Rattle.mdl_shared.proofs.CacheEntries.{kept-met, met-first, met-looked, none-looked}
 use Rattle.mdl_shared.proofs.Debts.{same-debts}
@@ -35,7 +37,7 @@ use Rattle.mdl_shared.proofs.Props.{member}
 use Rattle.mdl_shared.proofs.ReadCalls.{noted-owes}
 use Rattle.mdl_shared.proofs.Rooms.{keeps-before, keeps-same}
 use Rattle.mdl_shared.proofs.SameSpace.{reading_of}
-use Rattle.mdl_shared.proofs.VersionCalls.{finds-joins, finds-version, found-does, found-noted, found-now, found-quiet, kept-joins, read-directory, read-does, read-lists, read-owes, read-quiet, read-searches, read-sessions, read-settles, read-space, read-table, read-told, unkept-joins, version-missed}
+use Rattle.mdl_shared.proofs.VersionCalls.{finds-joins, finds-version, found-does, found-noted, found-now, kept-joins, read-does, read-lists, read-owes, read-searches, read-sessions, read-settles, read-space, read-table, read-told, unkept-joins, version-missed}
 
 -- the number of a ticket
 pub numbered-is : (id : ℕ) (tickets : List Own) (t : Own) → numbered id tickets ≡ Some t → t.number ≡ id
@@ -64,7 +66,6 @@ module _ (s : SessionView) (id : ℕ) (t : Own) (its : numbered id (tickets_seen
       did = found-does finds;
       settled = ap (λ (x : SessionView). x.me.0.settles) (found-now finds);
       told = ap (λ (x : SessionView). x.me.0.told) (found-now finds);
-      steps = found-quiet finds;
       met = (t, its, inl finds);
       room = finds.room;
       debts = same-debts s s′ (noted-owes (found-noted finds));
@@ -80,7 +81,6 @@ module _ (s : SessionView) (id : ℕ) (t : Own) (its : numbered id (tickets_seen
       did = found-does finds;
       settled = ap (λ (x : SessionView). x.me.0.settles) (found-now finds);
       told = ap (λ (x : SessionView). x.me.0.told) (found-now finds);
-      steps = found-quiet finds;
       met = inr (refl, (t, its, inl (standing, finds)));
       room = finds.room;
       debts = same-debts s s′ (noted-owes (found-noted finds));
@@ -139,7 +139,6 @@ module _ (s : SessionView) (id : ℕ) (t : Own) (its : numbered id (tickets_seen
       did = does_then [] [] s.me mid.me s′.me (read-does reads) shows.did;
       settled = shows.settled ∙ read-settles reads;
       told = shows.told ∙ read-told reads;
-      steps = quiet_on s.me mid.me s′.me (read-quiet reads) (read-directory reads) shows.steps;
       met = (t, its, inr (found, mid, reads, miss-latch standing shows));
       room = keeps-before 0 s.room mid.room s′.room reads.room shows.room;
       debts = λ place owed. same-debts s mid (read-owes reads) place (shows.debts place owed);
@@ -173,7 +172,6 @@ module _ (s : SessionView) (id : ℕ) (t : Own) (its : numbered id (tickets_seen
       did = does_then [] [] s.me mid.me s′.me (read-does reads) shows.did;
       settled = shows.settled ∙ read-settles reads;
       told = shows.told ∙ read-told reads;
-      steps = quiet_on s.me mid.me s′.me (read-quiet reads) (read-directory reads) shows.steps;
       met = inr (refl, (t, its, inr (found, mid, reads, visits)));
       room = keeps-before 0 s.room mid.room s′.room reads.room shows.room;
       debts = λ place owed. same-debts s mid (read-owes reads) place (shows.debts place owed);

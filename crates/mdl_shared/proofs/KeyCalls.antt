@@ -38,7 +38,7 @@ use Rattle.mdl_shared.specs.Members.{AreLearnt, IsMember, are_apart, is_known_pl
 use Rattle.mdl_shared.specs.OwnLists.{key_known}
 use Rattle.mdl_shared.specs.Passes.{view_of}
 use Rattle.mdl_shared.specs.SessionViews.{Lists, SessionView, lists_seen, session_at, space_of}
-use Rattle.mdl_shared.specs.Showings.{Shows}
+use Rattle.mdl_shared.specs.AllSteps.{Shows}
 use Rattle.mdl_shared.specs.TicketLists.{KeepsRoom, Room}
 use Rattle.mdl_shared.proofs.Debts.{same-debts}
 use Rattle.mdl_shared.proofs.KnownKeys.{all_learnt, apart_and, new_place}
@@ -285,7 +285,6 @@ module _ (seat mid seat′ : SeatState) (sessions : ℕ) {room : Room} (schema :
           did = does_then [] [] old mid.me new (does_steps (knowing_all tables old) mid.me knows) (does_steps mid.me new steps.1);
           settled = ap (λ (x : SessionView). x.me.0.settles) learnt.now;
           told = ap (λ (x : SessionView). x.me.0.told) learnt.now;
-          steps = tt;
           met = (
             k,
             took_earlier seat.table.slots k k old mid.me new took.1 quiet none,

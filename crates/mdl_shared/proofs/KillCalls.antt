@@ -23,7 +23,8 @@ use Rattle.mdl_visits.specs.Polls.{MeetsOther, MeetsWait, number_in}
 use Rattle.mdl_visits.proofs.Steps.{goes_staying, step_after}
 use Rattle.mdl_shared.specs.Members.{IsMember}
 use Rattle.mdl_shared.specs.SessionViews.{SessionView, settled_told, space_of}
-use Rattle.mdl_shared.specs.Showings.{ShowsStep, Shows, StaysFor}
+use Rattle.mdl_shared.specs.AllSteps.{Shows}
+use Rattle.mdl_shared.specs.Steps.{ShowsStep, StaysFor}
 use Rattle.mdl_shared.proofs.PollCalls.{settled-some}
 use Rattle.mdl_shared.proofs.Members.{done-nothing}
 use Rattle.mdl_shared.proofs.SameSpace.{joins-still, same-stays, told-settled, wait_by}
@@ -76,8 +77,13 @@ number-met {s} {s′} target found within own now =
       did,
       joins-still s s′ (Wait_of target) (Has_wait (number_in found)) (done-nothing did.done) tt refl refl refl refl tt tt refl (λ state how is. cc) (λ how is. cc) refl (λ r. r)
           (λ mine. own-number s found (own mine)),
-      shows did tt did.did (ap (λ (x : SessionView). x.me.0.settles) now) tt (stays-once ReadWait target found found s.me.0.settles s s′ now refl refl)
-          (((λ beyond. absurd (false≢true (sym beyond ∙ within))), (λ w. (met.0, met.1, record { word = met.2.word_is; told = ap number_in (sym met.2.found) })))),
+      shows did tt did.did (ap (λ (x : SessionView). x.me.0.settles) now) tt (λ owes searches. (owes, searches)) (
+        (λ beyond. absurd (false≢true (sym beyond ∙ within))),
+        (λ w. (
+          (met.0, met.1, record { word = met.2.word_is; told = ap number_in (sym met.2.found) }),
+          stays-once ReadWait target found found s.me.0.settles s s′ now refl refl,
+        )),
+      ),
     )
 
 -- ---- kills
@@ -105,8 +111,7 @@ module _ {s s′ : SessionView} (target number : ℕ) (within : is_within s.sess
       → Joins (space_of s) (Kill target number) (Has_killed false) (space_of s′) × Shows (Kill target number) (Has_killed false) s s′
   kill-missed few settles met known = (
     joins-still s s′ (Kill target number) (Has_killed false) (done-nothing did.done) tt refl refl refl refl tt tt refl (λ state how is. cc) (λ how is. cc) refl (λ r. r) known,
-    shows did tt did.did (settles) tt few
-        (((λ beyond. absurd (false≢true (sym beyond ∙ within))), (λ w. met))),
+    shows did tt did.did settles tt (λ owes searches. (owes, searches)) ((λ beyond. absurd (false≢true (sym beyond ∙ within))), (λ w. (met, few))),
   )
 
   pub kill-settled : StaysFor 2 s.me s′.me → s′.me.0.settles ≡ s.me.0.settles ++ record { session = target; wait = number; state = 5 } ∷ []
@@ -116,8 +121,7 @@ module _ {s s′ : SessionView} (target number : ℕ) (within : is_within s.sess
   kill-settled few settles met known = (
     joins-still s s′ (Kill target number) (Has_killed true) (done-nothing did.done) tt refl refl refl refl tt tt refl (λ state how is. cc) (λ how is. cc) refl (λ r. r)
         (λ mine. let h = known mine in (h.0, told-settled s′.me.0.told Killed h.1)),
-    shows did tt did.did (settles) tt few
-        ((within, met)),
+    shows did tt did.did settles tt (λ owes searches. (owes, searches)) (within, met, few),
   )
 
 -- a word that was read, and wasn't open, is that of no open wait

@@ -53,3 +53,4 @@ pub mod FastWishing
 pub mod SlowFirst
 pub mod FastWishShows
 pub mod FastCalls
+pub mod OldShowings

@@ -24,11 +24,11 @@ use Rattle.mdl_visits.specs.Idle.{IsIdle}
 use Rattle.mdl_visits.specs.Visits.{Visits}
 use Rattle.mdl_visits.specs.Numbers.{is_no_number, numbered}
 use Rattle.mdl_shared.specs.declared.member.Member.{Member}
+use Rattle.mdl_shared.specs.AllSteps.{steps_of}
 use Rattle.mdl_shared.specs.Debts.{IsOwed, OwesNoMore, but_owing}
 use Rattle.mdl_shared.specs.Members.{IsMember, are_counted, are_within, is_known_place, most_numbers, without_at}
 use Rattle.mdl_shared.specs.Rememberings.{AreAlike}
 use Rattle.mdl_shared.specs.SessionViews.{Lists, SessionView, lists_seen, session_at, space_of, tickets_of, tickets_seen}
-use Rattle.mdl_shared.specs.Showings.{own_fault}
 use Rattle.mdl_shared.specs.TicketLists.{HasRoom, KeepsRoom, Room, TicketList}
 use Rattle.mdl_shared.specs.Waitings.{is_ask_last, is_ask_told}
 use Rattle.mdl_shared.proofs.Alike.{alike_done}
@@ -316,6 +316,6 @@ held-seen m id o found = ap (λ (l : Lists). numbered id (tickets_of l)) (sym m.
 
 -- a fault by its own lists is one of its view
 pub fault-seen : (m : Member) (call : Call) (o : Option SpaceError)
-    → own_fault call (record { slow = m.tickets.slow; fast = m.tickets.fast; known = m.known.known; next = m.next; asks = m.asks; waits = m.waits }) ≡ o
-    → own_fault call (lists_seen m.seat.me.0) ≡ o
-fault-seen m call o fault = ap (own_fault call) (sym m.lists) ∙ fault
+    → (steps_of call).fault (record { slow = m.tickets.slow; fast = m.tickets.fast; known = m.known.known; next = m.next; asks = m.asks; waits = m.waits }) ≡ o
+    → (steps_of call).fault (lists_seen m.seat.me.0) ≡ o
+fault-seen m call o fault = ap (λ (l : Lists). (steps_of call).fault l) (sym m.lists) ∙ fault

@@ -18,7 +18,8 @@ use Rattle.mdl_session_laws.specs.SessionJoins.{Joins}
 use Rattle.mdl_visits.specs.Polls.{state_of}
 use Rattle.mdl_shared.specs.Members.{IsMember}
 use Rattle.mdl_shared.specs.SessionViews.{SessionView, lists_seen, settled_of, space_of}
-use Rattle.mdl_shared.specs.Showings.{MeetsOwnWait, Shows}
+use Rattle.mdl_shared.specs.AllSteps.{Shows}
+use Rattle.mdl_shared.specs.Steps.{MeetsOwnWait}
 use Rattle.mdl_shared.specs.Waitings.{wait_fault}
 use Rattle.mdl_shared.proofs.Faults.{if-clear}
 use Rattle.mdl_shared.proofs.MemberFacts.{speaks}
@@ -101,8 +102,10 @@ module _ {s : SessionView} (is : IsMember s) (waiting : is_some s.me.0.asks ≡ 
 
     polls-own : (state : ℕ) → wait_state found ≡ state → MeetsOwnWait state (lists_seen s.me.0) s s′
     polls-own state its =
-        let met = met-word ReadWait session found found s.me.0.settles s s′ now in
-        (met.0, met.1, record { word = met.2.word_is ∙ ap (wait_word s.table.slots) mine; found = met.2.found ∙ in-state state its })
+        let met = met-word ReadWait session found found s.me.0.settles s s′ now in (
+          (met.0, met.1, record { word = met.2.word_is ∙ ap (wait_word s.table.slots) mine; found = met.2.found ∙ in-state state its }),
+          stays-once ReadWait session found found s.me.0.settles s s′ now refl refl,
+        )
 
     pub poll-pending : settled_of (wait_state found) ≡ None
         → Joins (space_of s) (Poll_wait s.me.0.number) Pending (space_of s′) × Shows (Poll_wait s.me.0.number) Pending s s′
@@ -110,7 +113,7 @@ module _ {s : SessionView} (is : IsMember s) (waiting : is_some s.me.0.asks ≡ 
       joins-still s s′ (Poll_wait s.me.0.number) Pending (done-nothing polls.done) (speaks is) refl refl refl refl
           (waits-asks s.me.0.asks s.me.0.waits ∙ waiting) tt refl
           (λ state how met knows. let e : None ≡ state = cc in sym e ∙ agreed None none how knows) (λ how told. cc) refl (λ r. r) tt,
-      shows polls (if-clear _ (wait_fault s.me.0.asks) (clear-wait s.me.0.asks waiting)) polls.did (ap (λ (x : SessionView). x.me.0.settles) now) tt (stays-once ReadWait session found found s.me.0.settles s s′ now refl refl)
+      shows polls (if-clear _ (wait_fault s.me.0.asks) (clear-wait s.me.0.asks waiting)) polls.did (ap (λ (x : SessionView). x.me.0.settles) now) tt (λ owes searches. (owes, searches))
           (polls-own 1 (unsettled-is (wait_state found) none busy ok.state)),
     )
 
@@ -123,7 +126,7 @@ module _ {s : SessionView} (is : IsMember s) (waiting : is_some s.me.0.asks ≡ 
               (waits-asks s.me.0.asks s.me.0.waits ∙ waiting) tt refl
               (λ state how met knows. let e : Some one ≡ state = cc in sym e ∙ agreed (Some one) some how knows)
               (λ how tells. let e : one ≡ how = cc in told-settled s′.me.0.told how (told ∙ ap (λ (x : Settled). Some (state_of x)) e)) refl (λ r. r) tt,
-          shows polls (if-clear _ (wait_fault s.me.0.asks) (clear-wait s.me.0.asks waiting)) polls.did (ap (λ (x : SessionView). x.me.0.settles) now) tt (stays-once ReadWait session found found s.me.0.settles s s′ now refl refl)
+          shows polls (if-clear _ (wait_fault s.me.0.asks) (clear-wait s.me.0.asks waiting)) polls.did (ap (λ (x : SessionView). x.me.0.settles) now) tt (λ owes searches. (owes, searches))
               (polls-own (state_of one) its),
         )
 
@@ -151,8 +154,10 @@ module _ {s : SessionView} (is : IsMember s) (waiting : is_some s.me.0.asks ≡ 
               (λ how tells. let e : Timeout ≡ how = cc in told-settled s′.me.0.told how (told ∙ ap (λ (x : Settled). Some (state_of x)) e)) refl (λ r. r) tt,
           shows did (if-clear _ (wait_fault s.me.0.asks) (clear-wait s.me.0.asks waiting)) did.did (ap (λ (x : SessionView). x.me.0.settles) now ∙ ap (λ (n : ℕ). s.me.0.settles ++ record { session = n; wait = wait; state = 4 } ∷ []) mine
               ∙ ap (λ (w : ℕ). s.me.0.settles ++ record { session = s.me.0.number; wait = w; state = 4 } ∷ []) last) tt
-              (stays-once SettleWait session (wait_in wait 1) (wait_in wait 4) all s s′ now refl refl)
-              ((met.0, met.1, record { word = met.2.word_is ∙ ap (wait_word s.table.slots) mine; found = met.2.found ∙ ap (λ (w : ℕ). wait_in w 1) last })),
+              (λ owes searches. (owes, searches)) (
+                (met.0, met.1, record { word = met.2.word_is ∙ ap (wait_word s.table.slots) mine; found = met.2.found ∙ ap (λ (w : ℕ). wait_in w 1) last }),
+                stays-once SettleWait session (wait_in wait 1) (wait_in wait 4) all s s′ now refl refl,
+              ),
         )
 
     pub timeout-already : (one : Settled) → settled_of (wait_state found) ≡ Some one
@@ -170,8 +175,10 @@ module _ {s : SessionView} (is : IsMember s) (waiting : is_some s.me.0.asks ≡ 
               (λ state how met knows. let e : Some one ≡ state = cc in sym e ∙ agreed (Some one) some how knows)
               (λ how tells. let e : one ≡ how = cc in told-settled s′.me.0.told how (told ∙ ap (λ (x : Settled). Some (state_of x)) e)) refl (λ r. r) tt,
           shows did (if-clear _ (wait_fault s.me.0.asks) (clear-wait s.me.0.asks waiting)) did.did (ap (λ (x : SessionView). x.me.0.settles) now) tt
-              (stays-once MissWait session found found s.me.0.settles s s′ now refl refl)
-              ((met.0, met.1, record { word = met.2.word_is ∙ ap (wait_word s.table.slots) mine; found = met.2.found ∙ in-state (state_of one) its })),
+              (λ owes searches. (owes, searches)) (
+                (met.0, met.1, record { word = met.2.word_is ∙ ap (wait_word s.table.slots) mine; found = met.2.found ∙ in-state (state_of one) its }),
+                stays-once MissWait session found found s.me.0.settles s s′ now refl refl,
+              ),
         )
 
     pub timeouts : Watches s s′

@@ -1,6 +1,6 @@
 -- What a session did by steps that left all waits alone: one part after another, and what a call shows by all of them.
 use Rattle.std.proofs.Common.{◌≡◌, ℕ, List, [], None, refl, sym, ap, subst, ◌∙◌, append-nil}
-use Rattle.mdl_calls.specs.Words.{Answer, Call}
+use Rattle.mdl_calls.specs.Words.{Answer}
 use Rattle.mdl_steps.specs.declared.deed.Deed.{Deed}
 use Rattle.mdl_steps.specs.declared.view.Met.{Met}
 use Rattle.mdl_steps.specs.Plays.{Mine}
@@ -12,9 +12,9 @@ use Rattle.mdl_shared.specs.declared.member.Member.{Member}
 use Rattle.mdl_shared.specs.DeedsDone.{DoesQuietly, HasDone}
 use Rattle.mdl_shared.specs.Passes.{view_of}
 use Rattle.mdl_shared.specs.SessionViews.{Lists, SessionView, lists_seen, session_at, tickets_of, tickets_seen}
-use Rattle.mdl_shared.specs.Showings.{KeepsTold, MeetsSo, SettlesSo, ShowsStep, Shows, StepsSo, done_by, gained_by, own_fault}
+use Rattle.mdl_shared.specs.StepSpec.{StepSpec, TakesSteps, gained_by}
+use Rattle.mdl_shared.specs.Steps.{ShowsStep}
 use Rattle.mdl_shared.specs.TicketLists.{KeepsRoom, Room}
-use Rattle.mdl_shared.proofs.Debts.{keeps-debts}
 use Rattle.mdl_shared.proofs.Faults.{if-clear}
 use Rattle.mdl_shared.proofs.Members.{done-debts, done-then, same-fast, seat-changed}
 
@@ -113,22 +113,21 @@ quiet-visit done went = record {
 }
 
 -- what a call shows by it
-pub quiet-shows : {place : ℕ} {ds : List Deed} {s s′ : SessionView} {call : Call} {answer : Answer} → DoesQuietly place ds s s′ → ds ≡ done_by call answer (tickets_seen s.me.0)
-    → own_fault call (lists_seen s.me.0) ≡ None → (SettlesNothing s.me s′.me → SettlesSo call answer (lists_seen s.me.0) s s′)
-    → (s′.me.0.told ≡ s.me.0.told → KeepsTold call s s′) → StepsSo call s s′ → MeetsSo call answer (lists_seen s.me.0) s s′
-    → KeepsRoom (gained_by answer) s.room s′.room → Shows call answer s s′
-quiet-shows {ds = ds} {s = s} {s′ = s′} {call = call} {answer = answer} quiet is clear settled told steps met keeps = record {
+pub quiet-shows : {place : ℕ} {ds : List Deed} {s s′ : SessionView} {call : StepSpec} {answer : Answer} → DoesQuietly place ds s s′ → ds ≡ call.did answer (tickets_seen s.me.0)
+    → call.fault (lists_seen s.me.0) ≡ None → (SettlesNothing s.me s′.me → call.settled answer (lists_seen s.me.0) s s′)
+    → (s′.me.0.told ≡ s.me.0.told → call.told s s′) → (s′.me.0.owes ≡ s.me.0.owes → s′.me.0.searches ≡ s.me.0.searches → call.owes answer s s′)
+    → call.met answer (lists_seen s.me.0) s s′ → KeepsRoom (gained_by answer) s.room s′.room → TakesSteps call answer s s′
+quiet-shows {ds = ds} {s = s} {s′ = s′} {call = call} quiet is clear settled told owes met keeps = record {
   table = ap (λ (x : SessionView). x.table) quiet.done.now;
   sessions = ap (λ (x : SessionView). x.sessions) quiet.done.now;
-  refused = if-clear _ (own_fault call (lists_seen s.me.0)) clear;
+  refused = if-clear _ (call.fault (lists_seen s.me.0)) clear;
   did = subst (λ (d : List Deed). Does d s.me s′.me) is quiet.did;
   settled = settled quiet.settled;
   told = told quiet.told;
-  steps = steps;
   met = met;
   room = keeps;
   debts = done-debts quiet.done;
-  owes = keeps-debts call answer s s′ quiet.owes quiet.searches;
+  owes = owes quiet.owes quiet.searches;
 }
 
 -- ---- a session's own lists after a part without deeds

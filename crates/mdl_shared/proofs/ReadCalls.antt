@@ -37,7 +37,8 @@ use Rattle.mdl_shared.specs.OwnLists.{told_of}
 use Rattle.mdl_shared.specs.Passes.{view_of}
 use Rattle.mdl_shared.specs.Rememberings.{AreAlike}
 use Rattle.mdl_shared.specs.SessionViews.{Lists, SessionView, lists_seen, session_at, space_of, tickets_seen}
-use Rattle.mdl_shared.specs.Showings.{ShowsStep, Shows}
+use Rattle.mdl_shared.specs.AllSteps.{Shows}
+use Rattle.mdl_shared.specs.Steps.{ShowsStep}
 use Rattle.mdl_shared.specs.TicketLists.{KeepsRoom, Room}
 use Rattle.mdl_shared.proofs.Alike.{alike_noting}
 use Rattle.mdl_shared.proofs.Faults.{if-clear, test-failed}
@@ -177,8 +178,7 @@ module _ {s : SessionView} (is : IsMember s) (id : ℕ) (t : Own) (its : numbere
     did = did;
     settled = ap (λ (x : SessionView). x.me.0.settles) noted.now;
     told = ap (λ (x : SessionView). x.me.0.told) noted.now;
-    steps = quiet;
-    met = (t, its, (follows, ap (λ (x : SessionView). x.me.0.reads) noted.now, met, once));
+    met = (t, its, (follows, ap (λ (x : SessionView). x.me.0.reads) noted.now, met, once, quiet));
     room = keeps;
     debts = same-debts s s′ (noted-owes noted);
     owes = (noted-owes noted, ap (λ (x : SessionView). x.me.0.searches) noted.now);
@@ -196,8 +196,7 @@ module _ {s : SessionView} (is : IsMember s) (id : ℕ) (t : Own) (its : numbere
     did = does_visits s.me _ t.place [] visit;
     settled = ap (λ (m : Mine). m.0.settles) visit.now;
     told = ap (λ (m : Mine). m.0.told) visit.now;
-    steps = quiet;
-    met = inr (refl, (t, its, (visit, once)));
+    met = inr (refl, (t, its, (visit, once, quiet)));
     room = keeps;
     debts = same-debts s s′ (ap (λ (m : Mine). m.0.owes) visit.now);
     owes = (ap (λ (m : Mine). m.0.owes) visit.now, ap (λ (m : Mine). m.0.searches) visit.now);
@@ -296,7 +295,6 @@ module _ {s : SessionView} (is : IsMember s) (id : ℕ) (t : Own) (its : numbere
       did = does_visits s.me s′.me t.place [] visit;
       settled = ap (λ (m : Mine). m.0.settles) visit.now;
       told = ap (λ (m : Mine). m.0.told) visit.now;
-      steps = tt;
       met = inr (t, its, ((w, refl, why), once));
       room = keeps;
       debts = same-debts s s′ (ap (λ (m : Mine). m.0.owes) visit.now);

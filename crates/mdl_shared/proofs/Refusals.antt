@@ -1,5 +1,5 @@
 -- A call that is refused for what the session has of its own, before any step.
-use Rattle.std.proofs.Common.{◌≡◌, ℕ, arith, List, [], Some, IfSome, Option, inl, refl, sym, subst, append-nil}
+use Rattle.std.proofs.Common.{◌≡◌, List, [], Some, IfSome, Option, inl, refl, sym, subst, append-nil}
 use Rattle.mdl_calls.specs.declared.space_error.SpaceError.{SpaceError}
 use Rattle.mdl_calls.specs.Words.{Refused, Call, Resolve, Try_now, Begin_wait, Search, Poll_wait, Settle_timeout, End_wait, Wait_of, Kill, Release, Clone_ticket, Upgrade_now, Merge, Downgrade, Read_definition, Read_kept, Change_definition, Tables_of, Key_of}
 use Rattle.mdl_steps.specs.declared.deed.Deed.{Deed}
@@ -7,27 +7,24 @@ use Rattle.mdl_steps.specs.declared.view.Own.{Own}
 use Rattle.mdl_steps.specs.Plays.{Mine}
 use Rattle.mdl_visits.specs.Visits.{Does}
 use Rattle.mdl_shared.specs.SessionViews.{Lists, SessionView, lists_seen, tickets_seen}
-use Rattle.mdl_shared.specs.Showings.{KeepsTold, MakesNoStep, MeetsSo, SettlesSo, Shows, StaysFor, StepsSo, done_by, own_fault}
-use Rattle.mdl_shared.proofs.Debts.{keeps-debts}
+use Rattle.mdl_shared.specs.AllSteps.{Shows, steps_of}
+use Rattle.mdl_shared.specs.Steps.{MakesNoStep}
 use Rattle.mdl_shared.proofs.Rooms.{keeps-same}
 
 -- without a step nothing is done, and the session stays
 pub does-nothing : (m : Mine) → Does [] m m
 does-nothing m = ([], sym (append-nil m.0.log), refl)
 
-stays-for : (most : ℕ) (m : Mine) → StaysFor most m m
-stays-for most m = ([], sym (append-nil m.0.log), tt, omega arith)
-
--- a refusal does no deed, and settles no wait
-done-refused : (call : Call) (why : SpaceError) (tickets : List Own) → done_by call (Refused why) tickets ≡ []
+-- a refusal does no deed, settles no wait, and changes nothing that is known or owed
+done-refused : (call : Call) (why : SpaceError) (tickets : List Own) → (steps_of call).did (Refused why) tickets ≡ []
 done-refused (Try_now who place mode) why tickets = refl
 done-refused _ why tickets = refl
 
-settled-refused : (call : Call) (why : SpaceError) (l : Lists) (s : SessionView) → SettlesSo call (Refused why) l s s
+settled-refused : (call : Call) (why : SpaceError) (l : Lists) (s : SessionView) → (steps_of call).settled (Refused why) l s s
 settled-refused (Search who) why l s = refl
 settled-refused _ why l s = refl
 
-told-same : (call : Call) (s : SessionView) → KeepsTold call s s
+told-same : (call : Call) (s : SessionView) → (steps_of call).told s s
 told-same (Search who) s = tt
 told-same (Poll_wait who) s = tt
 told-same (Settle_timeout who) s = tt
@@ -38,17 +35,12 @@ told-same (Release who id) s = tt
 told-same (Downgrade who id mode) s = tt
 told-same _ s = refl
 
-steps-none : (call : Call) (s : SessionView) → StepsSo call s s
-steps-none (Poll_wait who) s = stays-for 1 s.me
-steps-none (Settle_timeout who) s = stays-for 1 s.me
-steps-none (Wait_of target) s = stays-for 1 s.me
-steps-none (Kill target number) s = stays-for 2 s.me
-steps-none (Read_definition who id) s = ([], sym (append-nil s.me.0.log), tt)
-steps-none (Read_kept who id) s = ([], sym (append-nil s.me.0.log), tt)
-steps-none _ s = tt
+owes-refused : (call : Call) (why : SpaceError) (s : SessionView) → (steps_of call).owes (Refused why) s s
+owes-refused (Search who) why s = refl
+owes-refused _ why s = (refl, refl)
 
 -- it meets nothing but its own fault
-own-met : (call : Call) (why : SpaceError) (l : Lists) (s : SessionView) → own_fault call l ≡ Some why → MeetsSo call (Refused why) l s s
+own-met : (call : Call) (why : SpaceError) (l : Lists) (s : SessionView) → (steps_of call).fault l ≡ Some why → (steps_of call).met (Refused why) l s s
 own-met (Resolve who key) why l s e = cc
 own-met (Try_now who place mode) why l s e = inl e
 own-met (Begin_wait who place mode) why l s e = inl e
@@ -69,7 +61,7 @@ own-met (Key_of who place) why l s e = refl
 own-met _ why l s e = cc
 
 -- so a call that has a fault of the session's own shows just that
-pub own-shows : (call : Call) (why : SpaceError) (s : SessionView) → own_fault call (lists_seen s.me.0) ≡ Some why → Shows call (Refused why) s s
+pub own-shows : (call : Call) (why : SpaceError) (s : SessionView) → (steps_of call).fault (lists_seen s.me.0) ≡ Some why → Shows call (Refused why) s s
 own-shows call why s fault = record {
   table = refl;
   sessions = refl;
@@ -77,9 +69,8 @@ own-shows call why s fault = record {
   did = subst (λ (ds : List Deed). Does ds s.me s.me) (sym (done-refused call why (tickets_seen s.me.0))) (does-nothing s.me);
   settled = settled-refused call why (lists_seen s.me.0) s;
   told = told-same call s;
-  steps = steps-none call s;
   met = own-met call why (lists_seen s.me.0) s fault;
   room = keeps-same s.room;
   debts = λ place owed. owed;
-  owes = keeps-debts call (Refused why) s s refl refl;
+  owes = owes-refused call why s;
 }

@@ -15,7 +15,8 @@ use Rattle.mdl_visits.proofs.Numbers.{has_number}
 use Rattle.mdl_shared.specs.DeedsDone.{HasDone}
 use Rattle.mdl_shared.specs.Members.{IsMember, holding_fault}
 use Rattle.mdl_shared.specs.SessionViews.{SessionView, session_at, space_of, tickets_seen}
-use Rattle.mdl_shared.specs.Showings.{GivesUpFast, GivesUpSlow, Shows}
+use Rattle.mdl_shared.specs.AllSteps.{Shows}
+use Rattle.mdl_shared.specs.Steps.{GivesUpFast, GivesUpSlow}
 use Rattle.mdl_shared.specs.TicketLists.{KeepsRoom, Room}
 use Rattle.mdl_shared.proofs.Debts.{rescheduled-owes}
 use Rattle.mdl_shared.proofs.Faults.{if-clear}
@@ -35,7 +36,6 @@ release-shows {a} {b} id t its done did met keeps = record {
   did = did;
   settled = tt;
   told = tt;
-  steps = tt;
   met = (t, its, met);
   room = keeps;
   debts = done-debts done;

@@ -20,8 +20,11 @@ use Rattle.mdl_visits.proofs.Steps.{does_then}
 use Rattle.mdl_shared.specs.DeedsDone.{HasDone}
 use Rattle.mdl_shared.specs.Members.{IsMember}
 use Rattle.mdl_shared.specs.SessionViews.{SessionView, lists_seen, settled_of, space_of}
-use Rattle.mdl_shared.specs.Showings.{LooksAtKeys, MeetsSo, ReadsUnsettled, SearchesFor, SettlesSo, Shows, gained_by, own_wait_read}
+use Rattle.mdl_shared.specs.AllSteps.{Shows}
+use Rattle.mdl_shared.specs.StepSpec.{gained_by}
+use Rattle.mdl_shared.specs.Steps.{LooksAtKeys, ReadsUnsettled, SearchesFor, own_wait_read}
 use Rattle.mdl_shared.specs.TicketLists.{KeepsRoom}
+use Rattle.mdl_shared.specs.calls.Search.{search_deadlock}
 use Rattle.mdl_shared.proofs.MemberFacts.{speaks}
 use Rattle.mdl_shared.proofs.Members.{done-debts, done-nothing, done-then}
 use Rattle.mdl_shared.proofs.PollCalls.{in-state, polls, settled-is, settled-more, unsettled}
@@ -70,7 +73,7 @@ module _ {s mid : SessionView} (is : IsMember s) (waiting : is_some s.me.0.asks 
       let told = told-own ReadWait session word word s.me.0.settles s mid now mine (settled-more (wait_state word) one its) ∙ ap Some its in
       let watched = polls is waiting session word mine own now in (
         search-joins is (done-nothing watched.done) (Ok found.NoCycle) tt tt,
-        shows watched tt watched.did tt tt tt
+        shows watched tt watched.did tt tt (λ owes searches. owes)
             (asked s waiting, λ asks. inl (one, ap (λ (x : SessionView). x.me) (reads (state_of one) (in-state is waiting session word mine own (state_of one) its)), told)),
       )
 
@@ -98,8 +101,8 @@ module _ {s mid : SessionView} (is : IsMember s) (waiting : is_some s.me.0.asks 
       both : HasDone 0 [] s s′
       both = done-then (polls is waiting session word mine own now).done done
 
-      shown : (answer : Answer) → Does [] s.me s′.me → SettlesSo (Search s.me.0.number) answer (lists_seen s.me.0) s s′
-          → MeetsSo (Search s.me.0.number) answer (lists_seen s.me.0) s s′ → KeepsRoom (gained_by answer) s.room s′.room → Shows (Search s.me.0.number) answer s s′
+      shown : (answer : Answer) → Does [] s.me s′.me → search_deadlock.settled answer (lists_seen s.me.0) s s′
+          → search_deadlock.met answer (lists_seen s.me.0) s s′ → KeepsRoom (gained_by answer) s.room s′.room → Shows (Search s.me.0.number) answer s s′
       shown answer did settled met room = record {
         table = ap (λ (x : SessionView). x.table) both.now;
         sessions = ap (λ (x : SessionView). x.sessions) both.now;
@@ -107,7 +110,6 @@ module _ {s mid : SessionView} (is : IsMember s) (waiting : is_some s.me.0.asks 
         did = did;
         settled = settled;
         told = tt;
-        steps = tt;
         met = met;
         room = room;
         debts = done-debts both;

@@ -25,7 +25,9 @@ use Rattle.mdl_shared.specs.Members.{IsMember}
 use Rattle.mdl_shared.specs.Modes.{merge_fault}
 use Rattle.mdl_shared.specs.Passes.{view_of}
 use Rattle.mdl_shared.specs.SessionViews.{SessionView, space_of, tickets_seen}
-use Rattle.mdl_shared.specs.Showings.{AllMadeSlow, LacksRoomForFast, Shows, ShowsStep, SlowsAll, StopsSlowing}
+use Rattle.mdl_shared.specs.AllSteps.{Shows}
+use Rattle.mdl_shared.specs.Steps.{ShowsStep}
+use Rattle.mdl_shared.specs.WishSteps.{AllMadeSlow, LacksRoomForFast, SlowsAll, StopsSlowing}
 use Rattle.mdl_shared.specs.TicketLists.{KeepsRoom}
 use Rattle.mdl_shared.specs.Upgrades.{upgrade_fault}
 use Rattle.mdl_shared.proofs.FastWishing.{by-visit, number-slow}
@@ -67,7 +69,7 @@ module _ {a : SessionView} (is : IsMember a) (id : ℕ) (t : Own) (its : numbere
         (by-cause (λ w. IsCause (Knows (space_of a) a.me.0.number) (Upgrade_now a.me.0.number id mode) w (space_of a).own) why tt
         (may-rise is id t its mode clear) (lack-cause a b lacks))
         (λ state how is. cc) tt,
-    quiet-shows quiet refl clear (λ e. e) (λ e. e) tt (inr ((t, its, short), lacks, stops)) keeps,
+    quiet-shows quiet refl clear (λ e. e) (λ e. e) (λ owes searches. (owes, searches)) (inr ((t, its, short), lacks, stops)) keeps,
   )
 
   deeds : (answer : Upgrade) → covers t.mode mode ≡ false → rise_deeds id mode answer ≡ upgrade_deeds id mode (Ok answer) (numbered id (tickets_seen a.me.0))
@@ -84,7 +86,7 @@ module _ {a : SessionView} (is : IsMember a) (id : ℕ) (t : Own) (its : numbere
         let met = subst (λ (n : ℕ). ShowsStep b c (MeetsGrantable t.place b.me.0.number mode (Alter n mode))) number went.1 in
         let by = subst (λ (who : ℕ). ShowsStep b c (MeetsGrantable t.place who mode (Alter id mode))) (number-slow slow) met in (
           upgrade-joins is id t its mode clear short quiet.done,
-          quiet-shows quiet (deeds upgrade.Upgraded short) clear (λ e. e) (λ e. e) tt
+          quiet-shows quiet (deeds upgrade.Upgraded short) clear (λ e. e) (λ e. e) (λ owes searches. (owes, searches))
               (t, its, ((λ has. let no = sym has ∙ short in cc), (λ less. by-visit slow t.place true c turn once by))) (keeps-before 0 a.room b.room c.room slow.room keeps),
         )
 
@@ -95,7 +97,7 @@ module _ {a : SessionView} (is : IsMember a) (id : ℕ) (t : Own) (its : numbere
         let quiet = quiet-then slow.quiet went.0 in
         let by = subst (λ (who : ℕ). ShowsStep b c (MeetsBlocked t.place who mode)) (number-slow slow) went.1 in (
           blocked-joins is id t its mode clear short quiet.done,
-          quiet-shows quiet (deeds upgrade.WouldWait short) clear (λ e. e) (λ e. e) tt (t, its, (short, by-visit slow t.place true c turn once by)) (keeps-before 0 a.room b.room c.room slow.room keeps),
+          quiet-shows quiet (deeds upgrade.WouldWait short) clear (λ e. e) (λ e. e) (λ owes searches. (owes, searches)) (t, its, (short, by-visit slow t.place true c turn once by)) (keeps-before 0 a.room b.room c.room slow.room keeps),
         )
 
     -- either
@@ -124,7 +126,7 @@ module _ {a : SessionView} (is : IsMember a) (old new : ℕ) (kept gone : Own) (
         (by-cause (λ w. IsCause (Knows (space_of a) a.me.0.number) (Merge a.me.0.number old new) w (space_of a).own) why tt
         (merge-clear a old new kept gone its other free) (lack-cause a b lacks))
         (λ state how is. cc) tt,
-    quiet-shows quiet refl clear (λ e. e) (λ e. e) tt (inr (lacks, stops)) keeps,
+    quiet-shows quiet refl clear (λ e. e) (λ e. e) (λ owes searches. (owes, searches)) (inr (lacks, stops)) keeps,
   )
 
   -- the tickets are one
@@ -140,6 +142,6 @@ module _ {a : SessionView} (is : IsMember a) (old new : ℕ) (kept gone : Own) (
       let met = subst₃ (λ (who n p : ℕ). MeetsOwn kept.place who n step.0 × MeetsOwn kept.place who p step.0 × (step.0.deeds ≡ Alter n gone.mode ∷ Lose p ∷ []))
       (number-slow slow) one two (step.2, step.3, step.4) in (
         merge-joins is old kept its new gone other free quiet.done,
-        quiet-shows quiet (sym (ap (merge_deeds old new (Ok tt)) other)) clear (λ e. e) (λ e. e) tt
+        quiet-shows quiet (sym (ap (merge_deeds old new (Ok tt)) other)) clear (λ e. e) (λ e. e) (λ owes searches. (owes, searches))
             (kept, its, (gone, other, by-visit slow kept.place false c turn once (step.0, step.1, met))) (keeps-before 0 a.room b.room c.room slow.room keeps),
       )

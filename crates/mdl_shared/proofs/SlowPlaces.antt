@@ -15,7 +15,8 @@ use Rattle.mdl_visits.specs.Visits.{MakesMoreSteps, VisitsOnce}
 use Rattle.mdl_shared.specs.FastDeeds.{AreSameOrSlow, AreSlowBefore}
 use Rattle.mdl_shared.specs.declared.member.Member.{Member}
 use Rattle.mdl_shared.specs.SessionViews.{Lists, SessionView}
-use Rattle.mdl_shared.specs.Showings.{AllMadeSlow, FullForFast, IsNextFast, LacksRoomForFast, MakesSlow, ShowsStep, SlowsInTurn, StopsSlowing}
+use Rattle.mdl_shared.specs.Steps.{ShowsStep}
+use Rattle.mdl_shared.specs.WishSteps.{AllMadeSlow, FullForFast, IsNextFast, LacksRoomForFast, MakesSlow, SlowsInTurn, StopsSlowing}
 use Rattle.mdl_shared.proofs.QuietDeeds.{shows-first, shows-later}
 
 -- ---- the tickets of one place, without those of another

@@ -26,7 +26,7 @@ use Rattle.mdl_shared.specs.Members.{IsMember}
 use Rattle.mdl_shared.specs.Modes.{downgrade_fault, merge_fault}
 use Rattle.mdl_shared.specs.OwnLists.{told_of}
 use Rattle.mdl_shared.specs.SessionViews.{SessionView, session_at, space_of, tickets_seen}
-use Rattle.mdl_shared.specs.Showings.{Shows}
+use Rattle.mdl_shared.specs.AllSteps.{Shows}
 use Rattle.mdl_shared.specs.TicketLists.{KeepsRoom, Room}
 use Rattle.mdl_shared.specs.Upgrades.{upgrade_fault}
 use Rattle.mdl_shared.proofs.Debts.{rescheduled-owes}
@@ -98,7 +98,6 @@ module _ {m : SessionView} (is : IsMember m) (id : ℕ) (t : Own) (its : numbere
           did = subst (λ (ds : List Deed). Does ds m.me m.me) (sym none) (does-nothing m.me);
           settled = refl;
           told = refl;
-          steps = tt;
           met = (t, its, (λ covered. refl, λ short. let never = sym has ∙ short in cc));
           room = keeps-same m.room;
           debts = λ place owed. owed;
@@ -183,7 +182,6 @@ downgraded seat seat′ sessions id {room} {room′} mode t is held slow clear v
         did = does_reschedule seat.me seat′.me seat.table t.place (Alter t.number mode ∷ []) visit.1;
         settled = tt;
         told = tt;
-        steps = tt;
         met = ((t, held.own, (step.0, step.1, (step.2, step.3))), (t, held.own, (visit.1.way, once, rescheduled-owes visit)));
         room = keeps;
         debts = done-debts done;

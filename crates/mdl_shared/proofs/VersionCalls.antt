@@ -22,7 +22,7 @@ use Rattle.mdl_visits.proofs.Steps.{quiet_one}
 use Rattle.mdl_shared.specs.Members.{IsMember}
 use Rattle.mdl_shared.specs.OwnLists.{told_of}
 use Rattle.mdl_shared.specs.SessionViews.{SessionView, lists_seen, session_at, space_of, tickets_seen}
-use Rattle.mdl_shared.specs.Showings.{FindsVersion, MissesVersion, ReadsVersion}
+use Rattle.mdl_shared.specs.ReadSteps.{FindsVersion, MissesVersion, ReadsVersion}
 use Rattle.mdl_shared.specs.TicketLists.{KeepsRoom, Room}
 use Rattle.mdl_shared.proofs.LastReads.{follows-last, is-last, was-read}
 use Rattle.mdl_shared.proofs.Members.{HasDone, in-order}

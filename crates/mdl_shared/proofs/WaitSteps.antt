@@ -2,7 +2,7 @@
 use Rattle.std.proofs.Common.{◌≡◌, ◌⊎◌, ℕ, ◌<◌, ◌≤◌, ◌==◌, ◌&&◌, Bool, true, false, is_some, List, [], ◌∷◌, ◌++◌, length, Option, Some, None, IfSome, inl, inr, refl, sym, ap, subst, ◌∙◌, append_assoc, append-nil, length-append, arith}
 use Rattle.std.specs.Prelude.{nat_lt}
 use Rattle.std.proofs.lemmas.Bool.{and_parts, eq-eqb, eqb-true, false≢true, lt-ltb, ltb-true}
-use Rattle.mdl_calls.specs.Words.{Answer, Call, No_cycle, Refused, Search}
+use Rattle.mdl_calls.specs.Words.{Answer, No_cycle, Refused, Search}
 use Rattle.mdl_steps.specs.declared.step_kind.StepKind.{StepKind}
 use Rattle.mdl_steps.specs.declared.view.Met.{Met}
 use Rattle.mdl_steps.specs.declared.view.Settlement.{Settlement}
@@ -21,9 +21,9 @@ use Rattle.mdl_visits.proofs.Steps.{does_then, each_append}
 use Rattle.mdl_shared.specs.declared.member.Member.{Member}
 use Rattle.mdl_shared.specs.Members.{IsMember}
 use Rattle.mdl_shared.specs.SessionViews.{Lists, SessionView, lists_seen, session_at, tickets_seen}
-use Rattle.mdl_shared.specs.Showings.{KeepsTold, MakesNoStep, MeetsSo, SettlesSo, Shows, StaysFor, StepsSo, done_by, gained_by, own_fault}
+use Rattle.mdl_shared.specs.StepSpec.{StepSpec, TakesSteps, gained_by}
+use Rattle.mdl_shared.specs.Steps.{MakesNoStep, StaysFor}
 use Rattle.mdl_shared.specs.TicketLists.{KeepsRoom, Room}
-use Rattle.mdl_shared.proofs.Debts.{keeps-debts}
 use Rattle.mdl_shared.proofs.MemberFacts.{speaks}
 use Rattle.mdl_shared.proofs.Members.{HasDone, done-debts, done-nothing, done-order, done-then, kept, same-fast}
 use Rattle.mdl_shared.proofs.Rooms.{keeps-before, keeps-equal, keeps-more}
@@ -87,21 +87,21 @@ pub record Watches (s s′ : SessionView) : Type 0 where
   pub keeps : KeepsRoom 0 s.room s′.room
 
 -- a call shows what its steps show
-pub shows : {call : Call} {answer : Answer} {s s′ : SessionView} → Watches s s′ → IfSome (own_fault call (lists_seen s.me.0)) (λ why. (answer ≡ Refused why) × MakesNoStep s s′)
-    → Does (done_by call answer (tickets_seen s.me.0)) s.me s′.me → SettlesSo call answer (lists_seen s.me.0) s s′ → KeepsTold call s s′ → StepsSo call s s′
-    → MeetsSo call answer (lists_seen s.me.0) s s′ → Shows call answer s s′
-shows {call = call} {answer = answer} {s = s} {s′ = s′} watches refused did settled told steps met = record {
+pub shows : {call : StepSpec} {answer : Answer} {s s′ : SessionView} → Watches s s′ → IfSome (call.fault (lists_seen s.me.0)) (λ why. (answer ≡ Refused why) × MakesNoStep s s′)
+    → Does (call.did answer (tickets_seen s.me.0)) s.me s′.me → call.settled answer (lists_seen s.me.0) s s′ → call.told s s′
+    → (s′.me.0.owes ≡ s.me.0.owes → s′.me.0.searches ≡ s.me.0.searches → call.owes answer s s′) → call.met answer (lists_seen s.me.0) s s′
+    → TakesSteps call answer s s′
+shows {answer = answer} {s = s} {s′ = s′} watches refused did settled told owes met = record {
   table = ap (λ (x : SessionView). x.table) watches.done.now;
   sessions = ap (λ (x : SessionView). x.sessions) watches.done.now;
   refused = refused;
   did = did;
   settled = settled;
   told = told;
-  steps = steps;
   met = met;
   room = keeps-more (gained_by answer) s.room s′.room watches.keeps;
   debts = done-debts watches.done;
-  owes = keeps-debts call answer s s′ watches.owes watches.searches;
+  owes = owes watches.owes watches.searches;
 }
 
 pub watches-then : (a b c : SessionView) → Watches a b → Watches b c → Watches a c

@@ -11,7 +11,8 @@ use Rattle.mdl_shared.specs.declared.cached.Cached.{Cached}
 use Rattle.mdl_shared.specs.declared.cached.Cached.TheVariants.{Hit, Stale}
 use Rattle.mdl_shared.specs.KeptReads.{kept_standing}
 use Rattle.mdl_shared.specs.SessionViews.{SessionView, lists_seen, space_of}
-use Rattle.mdl_shared.specs.Showings.{FindsVersion, OfTicket}
+use Rattle.mdl_shared.specs.ReadSteps.{FindsVersion}
+use Rattle.mdl_shared.specs.Steps.{OfTicket}
 
 -- what a lookup by the ticket with this number leaves in the session's cache: a definition that is found comes first, and the rest stays in order. If none
 -- is found, the cache is unchanged

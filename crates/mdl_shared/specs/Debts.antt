@@ -25,6 +25,14 @@ Owes s who place = (who ≡ s.me.0.number) × IsOwed place s.me.0.owes
 abbrev pub OwesNoMore : SessionView → SessionView → Type 0
 OwesNoMore a b = (place : ℕ) → IsOwed place b.me.0.owes → IsOwed place a.me.0.owes
 
+-- what the session owes is unchanged
+abbrev pub OwesSame : SessionView → SessionView → Type 0
+OwesSame a b = b.me.0.owes ≡ a.me.0.owes
+
+-- likewise, and whether it has yet to search for a deadlock
+abbrev pub KeepsDebts : SessionView → SessionView → Type 0
+KeepsDebts a b = OwesSame a b × (b.me.0.searches ≡ a.me.0.searches)
+
 -- a place was rescheduled between the two: it isn't owed that any more, and what else was owed still is
 abbrev pub Pays : ℕ → Mine → Mine → Type 0
 Pays place m m′ = m′.0.owes ≡ all_but place m.0.owes

@@ -17,8 +17,7 @@ use Rattle.mdl_shared.specs.declared.try_fast.Fast.TheVariants.{Granted, Obtrude
 use Rattle.mdl_shared.specs.Debts.{but_owing}
 use Rattle.mdl_shared.specs.DeedsDone.{DoesQuietly}
 use Rattle.mdl_shared.specs.Members.{increment_at, kind_known, most_numbers}
-use Rattle.mdl_shared.specs.SessionViews.{Lists, SessionView, StaysSame, lists_seen, space_of}
-use Rattle.mdl_shared.specs.Showings.{KeepsLists}
+use Rattle.mdl_shared.specs.SessionViews.{KeepsLists, Lists, SessionView, StaysSame, lists_seen, space_of}
 use Rattle.mdl_shared.specs.TicketLists.{HasRoom, KeepsRoom}
 
 -- why a fast ticket isn't even tried for, the least cause first: the session knows no key of the place, it waits, the word of the place doesn't count the

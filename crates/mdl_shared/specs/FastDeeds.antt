@@ -6,7 +6,8 @@ use Rattle.mdl_visits.specs.FastTries.{FindsObtrusive, Misses}
 use Rattle.mdl_shared.specs.declared.fast_path.NotFast.{NotFast}
 use Rattle.mdl_shared.specs.declared.fast_path.NotFast.TheVariants.{Obtruded, Contended, Limit}
 use Rattle.mdl_shared.specs.SessionViews.{SessionView}
-use Rattle.mdl_shared.specs.Showings.{MakesSlow, ShowsStep}
+use Rattle.mdl_shared.specs.Steps.{ShowsStep}
+use Rattle.mdl_shared.specs.WishSteps.{MakesSlow}
 
 -- why the session got no fast ticket at a place: the flag OBTRUSIVE was found up, or eight fast grants missed, or it has as many there as a session may
 -- have, and made no step

@@ -12,7 +12,8 @@ use Rattle.mdl_visits.specs.Visits.{AreStepsOf, MeetsBlocked, MeetsGrantable}
 use Rattle.mdl_visits.specs.WaitOpenings.{MeetsOpening, Opens}
 use Rattle.mdl_shared.specs.DeedsDone.{DoesQuietly}
 use Rattle.mdl_shared.specs.SessionViews.{SessionView}
-use Rattle.mdl_shared.specs.Showings.{AllMadeSlow, ShowsStep}
+use Rattle.mdl_shared.specs.Steps.{ShowsStep}
+use Rattle.mdl_shared.specs.WishSteps.{AllMadeSlow}
 use Rattle.mdl_shared.specs.TicketLists.{KeepsRoom}
 
 -- ---- on the fast path

@@ -9,7 +9,8 @@ use Rattle.mdl_session_laws.specs.SessionJoins.{Joins}
 use Rattle.mdl_shared.specs.declared.cached.Cached.{Cached}
 use Rattle.mdl_shared.specs.declared.cached.Cached.TheVariants.{Hit, Stale}
 use Rattle.mdl_shared.specs.SessionViews.{SessionView, lists_seen, space_of}
-use Rattle.mdl_shared.specs.Showings.{FindsVersion, MissesVersion, OfTicket, ReadsByLatch}
+use Rattle.mdl_shared.specs.ReadSteps.{FindsVersion, MissesVersion, ReadsByLatch}
+use Rattle.mdl_shared.specs.Steps.{OfTicket}
 
 -- a version with the definition that a cache keeps of it
 abbrev pub kept_standing : ℕ → Definition → Standing

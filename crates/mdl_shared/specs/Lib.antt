@@ -17,6 +17,7 @@ pub use Rattle.mdl_visits.specs.Tables
 pub use Rattle.mdl_visits.specs.Visits
 pub use Rattle.mdl_visits.specs.WaitEndings
 pub use Rattle.mdl_visits.specs.WaitOpenings
+pub mod AllSteps
 pub mod CacheEnds
 pub mod Closings
 pub mod Debts
@@ -32,9 +33,13 @@ pub mod Modes
 pub mod OwnLists
 pub mod OwnTickets
 pub mod Passes
+pub mod ReadSteps
 pub mod Rememberings
 pub mod SessionViews
-pub mod Showings
+pub mod StepSpec
+pub mod Steps
 pub mod TicketLists
 pub mod Upgrades
 pub mod Waitings
+pub mod WishSteps
+pub mod calls

@@ -52,6 +52,10 @@ session_at seat sessions room = record { table = seat.table; sessions = sessions
 abbrev pub StaysSame : SessionView → SessionView → Type 0
 StaysSame a b = (b ≡ record a { room = b.room }) × KeepsRoom 0 a.room b.room
 
+-- if the session knew how its wait was settled, it still knows that. Otherwise it may have learnt it
+abbrev pub RemembersWait : SessionView → SessionView → Type 0
+RemembersWait a b = (state : ℕ) → a.me.0.told ≡ Some state → b.me.0.told ≡ Some state
+
 -- ---- its lists
 
 -- a session's own lists: its slow tickets and its fast ones, each in the order in which it got them, the keys that it has looked up, the number of its
@@ -75,6 +79,15 @@ tickets_of l = interleaved l.slow l.fast
 -- all tickets of a session, by what it has at the table
 abbrev pub tickets_seen : View → List Own
 tickets_seen me = tickets_of (lists_seen me)
+
+-- the session has the same number, at the same table of the same space, the same lists and at least the same room, and read nothing
+pub record KeepsLists (a b : SessionView) : Type 0 where
+  pub number : b.me.0.number ≡ a.me.0.number
+  pub table : b.table ≡ a.table
+  pub sessions : b.sessions ≡ a.sessions
+  pub lists : lists_seen b.me.0 ≡ lists_seen a.me.0
+  pub reads : b.me.0.reads ≡ a.me.0.reads
+  pub room : KeepsRoom 0 a.room b.room
 
 -- ---- as a lock space
 

@@ -7,7 +7,7 @@ ghost use Rattle.mdl_visits.specs.Lookups.{TookDirectory};
 ghost use Rattle.mdl_visits.specs.Polls.{SettlesNothing};
 ghost use Rattle.mdl_visits.specs.Visits.{Does};
 ghost use Rattle.mdl_shared.specs.Debts.{OwesNoMore};
-ghost use Rattle.mdl_shared.specs.Showings.{KeepsLists};
+ghost use Rattle.mdl_shared.specs.SessionViews.{KeepsLists};
 
 use crate::Session;
 use mdl_calls::SpaceError;

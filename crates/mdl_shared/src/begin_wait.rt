@@ -10,8 +10,10 @@ ghost use Rattle.mdl_shared.specs.FastWishes.{HasBegun};
 ghost use Rattle.mdl_shared.specs.Members.{kind_known, wish_fault};
 ghost use Rattle.mdl_shared.specs.Passes.{view_of};
 ghost use Rattle.mdl_shared.specs.SessionViews.{space_of};
-ghost use Rattle.mdl_shared.specs.Showings.{Shows, ShowsStep};
+ghost use Rattle.mdl_shared.specs.StepSpec.{TakesSteps};
+ghost use Rattle.mdl_shared.specs.Steps.{ShowsStep};
 ghost use Rattle.mdl_shared.specs.TicketLists.{HasRoom, KeepsRoom};
+ghost use Rattle.mdl_shared.specs.calls.BeginWait as steps;
 
 use crate::Session;
 use crate::member::Member;
@@ -27,7 +29,7 @@ impl<R: Wait> Session<R> {
     /// latch of a place. It takes all memory that the session's own lists need, also for the end of the wait.
     pub fn begin_wait(&mut self, place: Place, mode: Mode) -> Result<Begun, SpaceError>
         ensures joined { Joins (space_of self.old) (Begin_wait self.old.me.0.number place mode) (begun result) (space_of self.new) }
-        ensures shown { Shows (Begin_wait self.old.me.0.number place mode) (begun result) self.old self.new }
+        ensures shown { TakesSteps (steps.begin_wait place mode) (begun result) self.old self.new }
     {
         let place = place as usize;
         let kind = self.member.kind_wished(place, mode)?;

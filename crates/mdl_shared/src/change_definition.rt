@@ -2,7 +2,8 @@
 ghost use Rattle.mdl_calls.specs.Words.{Change_definition, redefined};
 ghost use Rattle.mdl_session_laws.specs.SessionJoins.{Joins};
 ghost use Rattle.mdl_shared.specs.SessionViews.{space_of};
-ghost use Rattle.mdl_shared.specs.Showings.{Shows};
+ghost use Rattle.mdl_shared.specs.StepSpec.{TakesSteps};
+ghost use Rattle.mdl_shared.specs.calls.ChangeDefinition as steps;
 
 use crate::Session;
 use mdl_calls::{SpaceError, TicketId};
@@ -16,7 +17,7 @@ impl<R: Wait> Session<R> {
     /// `Drop` takes no memory.
     pub fn change_definition(&mut self, id: TicketId, change: &Change) -> Result<u64, SpaceError>
         ensures joined { Joins (space_of self.old) (Change_definition self.old.me.0.number id change.now) (redefined result) (space_of self.new) }
-        ensures shown { Shows (Change_definition self.old.me.0.number id change.now) (redefined result) self.old self.new }
+        ensures shown { TakesSteps (steps.change_definition id change.now) (redefined result) self.old self.new }
     {
         let Some(held) = self.member.tickets.get(id) else {
             return Err(SpaceError::NotHeld);

@@ -13,8 +13,10 @@ ghost use Rattle.mdl_shared.specs.Members.{kind_known};
 ghost use Rattle.mdl_shared.specs.Modes.{clone_fault};
 ghost use Rattle.mdl_shared.specs.Passes.{view_of};
 ghost use Rattle.mdl_shared.specs.SessionViews.{space_of};
-ghost use Rattle.mdl_shared.specs.Showings.{MeetsTicket, Shows, ShowsStep};
+ghost use Rattle.mdl_shared.specs.StepSpec.{TakesSteps};
+ghost use Rattle.mdl_shared.specs.Steps.{MeetsTicket, ShowsStep};
 ghost use Rattle.mdl_shared.specs.TicketLists.{HasRoom, KeepsRoom};
+ghost use Rattle.mdl_shared.specs.calls.CloneTicket as steps;
 
 use crate::Session;
 use crate::holdings::MOST_NUMBERS;
@@ -32,7 +34,7 @@ impl<R: Wait> Session<R> {
     /// ticket overtakes waiters.
     pub fn clone_ticket(&mut self, id: TicketId, mode: Mode) -> Result<TicketId, SpaceError>
         ensures joined { Joins (space_of self.old) (Clone_ticket self.old.me.0.number id mode) (cloned result) (space_of self.new) }
-        ensures shown { Shows (Clone_ticket self.old.me.0.number id mode) (cloned result) self.old self.new }
+        ensures shown { TakesSteps (steps.clone_ticket id mode) (cloned result) self.old self.new }
     {
         let (held, kind) = self.member.clonable(id, mode)?;
         let member = &mut self.member;

@@ -7,7 +7,8 @@ ghost use Rattle.mdl_steps.specs.Interleavings.{interleaved};
 ghost use Rattle.mdl_visits.specs.Numbers.{numbered};
 ghost use Rattle.mdl_shared.specs.Modes.{downgrade_fault};
 ghost use Rattle.mdl_shared.specs.SessionViews.{space_of};
-ghost use Rattle.mdl_shared.specs.Showings.{Shows};
+ghost use Rattle.mdl_shared.specs.StepSpec.{TakesSteps};
+ghost use Rattle.mdl_shared.specs.calls.Downgrade as steps;
 
 use crate::Session;
 use crate::member::Member;
@@ -23,7 +24,7 @@ impl<R: Wait> Session<R> {
     /// then. It takes no memory.
     pub fn downgrade(&mut self, id: TicketId, mode: Mode) -> Result<(), SpaceError>
         ensures joined { Joins (space_of self.old) (Downgrade self.old.me.0.number id mode) (done result) (space_of self.new) }
-        ensures shown { Shows (Downgrade self.old.me.0.number id mode) (done result) self.old self.new }
+        ensures shown { TakesSteps (steps.downgrade id mode) (done result) self.old self.new }
     {
         let held = self.member.downgradable(id, mode)?;
         let member = &mut self.member;

@@ -4,7 +4,8 @@ ghost use Rattle.mdl_calls.specs.Words.{End_wait, ended};
 ghost use Rattle.mdl_session_laws.specs.SessionJoins.{Joins};
 ghost use Rattle.mdl_shared.specs.Endings.{lost_end};
 ghost use Rattle.mdl_shared.specs.SessionViews.{space_of};
-ghost use Rattle.mdl_shared.specs.Showings.{Shows};
+ghost use Rattle.mdl_shared.specs.StepSpec.{TakesSteps};
+ghost use Rattle.mdl_shared.specs.calls.EndWait as steps;
 
 use crate::Session;
 use crate::wait_words::settled_in;
@@ -29,7 +30,7 @@ impl<R: Wait> Session<R> {
     /// place that can be granted then are granted. Refused with [`SpaceError::Unsettled`] while the wait isn't settled. It takes no memory.
     pub fn end_wait(&mut self) -> Result<Ended, SpaceError>
         ensures joined { Joins (space_of self.old) (End_wait self.old.me.0.number) (ended result) (space_of self.new) }
-        ensures shown { Shows (End_wait self.old.me.0.number) (ended result) self.old self.new }
+        ensures shown { TakesSteps steps.end_wait (ended result) self.old self.new }
     {
         let member = &mut self.member;
         let Some(ask) = member.asks else {

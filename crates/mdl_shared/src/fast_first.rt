@@ -7,7 +7,7 @@ ghost use Rattle.mdl_shared.specs.DeedsDone.{DoesQuietly};
 ghost use Rattle.mdl_shared.specs.FastWishes.{BecomesSlow, GainsFast};
 ghost use Rattle.mdl_shared.specs.Members.{kind_known, most_numbers};
 ghost use Rattle.mdl_shared.specs.Passes.{view_of};
-ghost use Rattle.mdl_shared.specs.Showings.{FindsClosed, FullForFast, IsClosed, LacksMemory, SlowsAll, StopsSlowing};
+ghost use Rattle.mdl_shared.specs.WishSteps.{FindsClosed, FullForFast, IsClosed, LacksMemory, SlowsAll, StopsSlowing};
 ghost use Rattle.mdl_shared.specs.TicketLists.{HasRoom, KeepsRoom};
 
 use crate::member::Member;

@@ -18,7 +18,8 @@ ghost use Rattle.mdl_shared.specs.DeedsDone.{DoesQuietly};
 ghost use Rattle.mdl_shared.specs.FastDeeds.{AreSameOrSlow, AreSlowBefore, HasNoFast};
 ghost use Rattle.mdl_shared.specs.Members.{increment_at, most_numbers};
 ghost use Rattle.mdl_shared.specs.Passes.{view_of};
-ghost use Rattle.mdl_shared.specs.Showings.{AllMadeSlow, LacksRoomForFast, MakesSlow, ShowsStep, SlowsAll, StopsSlowing};
+ghost use Rattle.mdl_shared.specs.Steps.{ShowsStep};
+ghost use Rattle.mdl_shared.specs.WishSteps.{AllMadeSlow, LacksRoomForFast, MakesSlow, SlowsAll, StopsSlowing};
 ghost use Rattle.mdl_shared.specs.TicketLists.{HasRoom, KeepsRoom};
 
 use crate::member::Member;

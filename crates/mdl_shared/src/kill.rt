@@ -2,7 +2,8 @@
 ghost use Rattle.mdl_calls.specs.Words.{Has_killed, Kill};
 ghost use Rattle.mdl_session_laws.specs.SessionJoins.{Joins};
 ghost use Rattle.mdl_shared.specs.SessionViews.{space_of};
-ghost use Rattle.mdl_shared.specs.Showings.{Shows};
+ghost use Rattle.mdl_shared.specs.StepSpec.{TakesSteps};
+ghost use Rattle.mdl_shared.specs.calls.Kill as steps;
 
 use crate::Session;
 use crate::wait_words::{is_open, is_session};
@@ -13,7 +14,7 @@ impl<R> Session<R> {
     /// memory.
     pub fn kill(&mut self, target: u16, number: u64) -> bool
         ensures joined { Joins (space_of self.old) (Kill target number) (Has_killed result) (space_of self.new) }
-        ensures shown { Shows (Kill target number) (Has_killed result) self.old self.new }
+        ensures shown { TakesSteps (steps.kill target number) (Has_killed result) self.old self.new }
     {
         if !is_session(target, self.member.sessions) {
             return false;

@@ -9,7 +9,7 @@ ghost use Rattle.mdl_session_laws.proofs.ReadLaws.{session-meets, session-met_st
 ghost use Rattle.mdl_shared.specs.Debts.{Owes};
 ghost use Rattle.mdl_shared.specs.KeptReads.{UsesKept};
 ghost use Rattle.mdl_shared.specs.SessionViews.{space_of};
-ghost use Rattle.mdl_shared.specs.Showings.{Shows};
+ghost use Rattle.mdl_shared.specs.AllSteps.{Shows};
 
 use crate::Session;
 use mdl_calls::{

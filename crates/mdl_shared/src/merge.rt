@@ -12,8 +12,9 @@ ghost use Rattle.mdl_shared.specs.DeedsDone.{DoesQuietly};
 ghost use Rattle.mdl_shared.specs.Modes.{may_merge, merge_fault};
 ghost use Rattle.mdl_shared.specs.Passes.{view_of};
 ghost use Rattle.mdl_shared.specs.SessionViews.{space_of};
-ghost use Rattle.mdl_shared.specs.Showings.{Shows};
+ghost use Rattle.mdl_shared.specs.StepSpec.{TakesSteps};
 ghost use Rattle.mdl_shared.specs.TicketLists.{KeepsRoom};
+ghost use Rattle.mdl_shared.specs.calls.Merge as steps;
 
 use crate::Session;
 use crate::member::Member;
@@ -29,7 +30,7 @@ impl<R: Wait> Session<R> {
     /// room for them.
     pub fn merge(&mut self, old: TicketId, new: TicketId) -> Result<(), SpaceError>
         ensures joined { Joins (space_of self.old) (Merge self.old.me.0.number old new) (done result) (space_of self.new) }
-        ensures shown { Shows (Merge self.old.me.0.number old new) (done result) self.old self.new }
+        ensures shown { TakesSteps (steps.merge old new) (done result) self.old self.new }
     {
         let (kept, gone) = self.member.mergeable(old, new)?;
         self.member.materialise(&self.rt)?;

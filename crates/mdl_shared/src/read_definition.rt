@@ -2,7 +2,8 @@
 ghost use Rattle.mdl_calls.specs.Words.{Read_definition, read};
 ghost use Rattle.mdl_session_laws.specs.SessionJoins.{Joins};
 ghost use Rattle.mdl_shared.specs.SessionViews.{space_of};
-ghost use Rattle.mdl_shared.specs.Showings.{Shows};
+ghost use Rattle.mdl_shared.specs.StepSpec.{TakesSteps};
+ghost use Rattle.mdl_shared.specs.calls.ReadDefinition as steps;
 
 use crate::Session;
 use mdl_calls::{SpaceError, TicketId};
@@ -14,7 +15,7 @@ impl<R: Wait> Session<R> {
     /// Returns the version of the key of a ticket's place, with its definition if there is one.
     pub fn read_definition(&mut self, id: TicketId) -> Result<Standing, SpaceError>
         ensures joined { Joins (space_of self.old) (Read_definition self.old.me.0.number id) (read result) (space_of self.new) }
-        ensures shown { Shows (Read_definition self.old.me.0.number id) (read result) self.old self.new }
+        ensures shown { TakesSteps (steps.read_definition id) (read result) self.old self.new }
     {
         let Some(held) = self.member.tickets.get(id) else {
             return Err(SpaceError::NotHeld);

@@ -5,7 +5,8 @@ ghost use Rattle.mdl_calls.specs.SessionData.{HasMet};
 ghost use Rattle.mdl_session_laws.specs.SessionJoins.{Joins};
 ghost use Rattle.mdl_shared.specs.KeptReads.{MayKeep, ReadsKept};
 ghost use Rattle.mdl_shared.specs.SessionViews.{space_of};
-ghost use Rattle.mdl_shared.specs.Showings.{Shows};
+ghost use Rattle.mdl_shared.specs.StepSpec.{TakesSteps};
+ghost use Rattle.mdl_shared.specs.calls.ReadKept as steps;
 
 use crate::Session;
 use mdl_calls::{SpaceError, TicketId};
@@ -20,7 +21,7 @@ impl<R: Wait> Session<R> {
     pub fn read_kept(&mut self, id: TicketId, cache: &mut DefCache) -> Result<Standing, SpaceError>
         requires met { AreMet (HasMet (space_of self.old) self.old.me.0.number) cache.old.kept }
         ensures joined { Joins (space_of self.old) (Read_kept self.old.me.0.number id) (read result) (space_of self.new) }
-        ensures shown { Shows (Read_kept self.old.me.0.number id) (read result) self.old self.new }
+        ensures shown { TakesSteps (steps.read_kept id) (read result) self.old self.new }
         ensures met { AreMet (HasMet (space_of self.new) self.new.me.0.number) cache.new.kept }
         ensures capacity { cache.new.capacity ≡ cache.old.capacity }
         ensures kept { IfOk result (λ standing. ReadsKept id standing self.old self.new cache.old cache.new) }

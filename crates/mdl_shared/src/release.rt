@@ -8,8 +8,10 @@ ghost use Rattle.mdl_visits.specs.Visits.{Does};
 ghost use Rattle.mdl_shared.specs.DeedsDone.{HasDone};
 ghost use Rattle.mdl_shared.specs.Passes.{view_of};
 ghost use Rattle.mdl_shared.specs.SessionViews.{space_of};
-ghost use Rattle.mdl_shared.specs.Showings.{GivesUpFast, Shows};
+ghost use Rattle.mdl_shared.specs.StepSpec.{TakesSteps};
+ghost use Rattle.mdl_shared.specs.Steps.{GivesUpFast};
 ghost use Rattle.mdl_shared.specs.TicketLists.{KeepsRoom};
+ghost use Rattle.mdl_shared.specs.calls.Release as steps;
 
 use crate::Session;
 use crate::member::Member;
@@ -23,7 +25,7 @@ impl<R: Wait> Session<R> {
     /// its place. The latch is taken then only if that step finds that a session may be waiting there. It takes no memory.
     pub fn release(&mut self, id: TicketId) -> Result<(), SpaceError>
         ensures joined { Joins (space_of self.old) (Release self.old.me.0.number id) (done result) (space_of self.new) }
-        ensures shown { Shows (Release self.old.me.0.number id) (done result) self.old self.new }
+        ensures shown { TakesSteps (steps.release id) (done result) self.old self.new }
     {
         let Some((held, fast)) = self.member.tickets.find(id) else {
             return Err(SpaceError::NotHeld);

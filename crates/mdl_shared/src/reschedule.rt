@@ -5,8 +5,7 @@ ghost use Rattle.mdl_visits.specs.Grantings.{HasRescheduled, VisitsAndReschedule
 ghost use Rattle.mdl_visits.specs.Visits.{Does, MayVisit, VisitsOnce};
 ghost use Rattle.mdl_calls.specs.SessionData.{is_known};
 ghost use Rattle.mdl_shared.specs.Debts.{Pays};
-ghost use Rattle.mdl_shared.specs.SessionViews.{space_of};
-ghost use Rattle.mdl_shared.specs.Showings.{KeepsLists, RemembersWait};
+ghost use Rattle.mdl_shared.specs.SessionViews.{KeepsLists, RemembersWait, space_of};
 
 use crate::Session;
 use crate::member::Member;

@@ -4,7 +4,8 @@ ghost use Rattle.mdl_calls.specs.Words.{Resolve, placed};
 ghost use Rattle.mdl_session_laws.specs.SessionJoins.{Joins};
 ghost use Rattle.mdl_shared.specs.Members.{place_known};
 ghost use Rattle.mdl_shared.specs.SessionViews.{space_of};
-ghost use Rattle.mdl_shared.specs.Showings.{Shows};
+ghost use Rattle.mdl_shared.specs.StepSpec.{TakesSteps};
+ghost use Rattle.mdl_shared.specs.calls.Resolve as steps;
 
 use crate::Session;
 use mdl_calls::{Place, SpaceError};
@@ -17,7 +18,7 @@ impl<R: Wait> Session<R> {
     /// a call at most, and only for a key that it doesn't know.
     pub fn resolve(&mut self, key: &Key) -> Result<Place, SpaceError>
         ensures joined { Joins (space_of self.old) (Resolve self.old.me.0.number key.now) (placed result) (space_of self.new) }
-        ensures shown { Shows (Resolve self.old.me.0.number key.now) (placed result) self.old self.new }
+        ensures shown { TakesSteps (steps.resolve key.now) (placed result) self.old self.new }
     {
         if let Some(place) = self.member.known.place_of(key) {
             return Ok(place as u16);
@@ -30,7 +31,7 @@ impl<R: Wait> Session<R> {
     fn look_up(&mut self, key: &Key) -> Result<Place, SpaceError>
         requires unknown { place_known key.now self.old.me.0.known ≡ None }
         ensures joined { Joins (space_of self.old) (Resolve self.old.me.0.number key.now) (placed result) (space_of self.new) }
-        ensures shown { Shows (Resolve self.old.me.0.number key.now) (placed result) self.old self.new }
+        ensures shown { TakesSteps (steps.resolve key.now) (placed result) self.old self.new }
     {
         let member = &mut self.member;
         let slots = member.seat.slot_count();

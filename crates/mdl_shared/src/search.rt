@@ -2,7 +2,8 @@
 ghost use Rattle.mdl_calls.specs.Words.{Search as Search_by, searched};
 ghost use Rattle.mdl_session_laws.specs.SessionJoins.{Joins};
 ghost use Rattle.mdl_shared.specs.SessionViews.{space_of};
-ghost use Rattle.mdl_shared.specs.Showings.{Shows};
+ghost use Rattle.mdl_shared.specs.StepSpec.{TakesSteps};
+ghost use Rattle.mdl_shared.specs.calls.Search as steps;
 
 use crate::Session;
 use crate::wait_words::settled_in;
@@ -20,7 +21,7 @@ impl<R: Wait> Session<R> {
     /// whose wait is settled, is in no deadlock, and takes no latch.
     pub fn search_deadlock(&mut self) -> Result<Search, SpaceError>
         ensures joined { Joins (space_of self.old) (Search_by self.old.me.0.number) (searched result) (space_of self.new) }
-        ensures shown { Shows (Search_by self.old.me.0.number) (searched result) self.old self.new }
+        ensures shown { TakesSteps steps.search_deadlock (searched result) self.old self.new }
     {
         if self.member.asks.is_none() {
             return Ok(Search::NoCycle);

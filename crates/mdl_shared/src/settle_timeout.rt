@@ -2,7 +2,8 @@
 ghost use Rattle.mdl_calls.specs.Words.{Settle_timeout, timed_out};
 ghost use Rattle.mdl_session_laws.specs.SessionJoins.{Joins};
 ghost use Rattle.mdl_shared.specs.SessionViews.{space_of};
-ghost use Rattle.mdl_shared.specs.Showings.{Shows};
+ghost use Rattle.mdl_shared.specs.StepSpec.{TakesSteps};
+ghost use Rattle.mdl_shared.specs.calls.SettleTimeout as steps;
 
 use crate::Session;
 use crate::wait_words::settled_in;
@@ -14,7 +15,7 @@ impl<R> Session<R> {
     /// before. It takes no memory.
     pub fn settle_timeout(&mut self) -> Result<TimedOut, SpaceError>
         ensures joined { Joins (space_of self.old) (Settle_timeout self.old.me.0.number) (timed_out result) (space_of self.new) }
-        ensures shown { Shows (Settle_timeout self.old.me.0.number) (timed_out result) self.old self.new }
+        ensures shown { TakesSteps steps.settle_timeout (timed_out result) self.old self.new }
     {
         if self.member.asks.is_none() {
             return Err(SpaceError::NoWait);

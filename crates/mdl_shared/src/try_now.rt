@@ -10,8 +10,10 @@ ghost use Rattle.mdl_shared.specs.FastWishes.{HasTried};
 ghost use Rattle.mdl_shared.specs.Members.{kind_known, wish_fault};
 ghost use Rattle.mdl_shared.specs.Passes.{view_of};
 ghost use Rattle.mdl_shared.specs.SessionViews.{space_of};
-ghost use Rattle.mdl_shared.specs.Showings.{Shows, ShowsStep};
+ghost use Rattle.mdl_shared.specs.StepSpec.{TakesSteps};
+ghost use Rattle.mdl_shared.specs.Steps.{ShowsStep};
 ghost use Rattle.mdl_shared.specs.TicketLists.{HasRoom, KeepsRoom};
+ghost use Rattle.mdl_shared.specs.calls.TryNow as steps;
 
 use crate::Session;
 use crate::member::Member;
@@ -25,7 +27,7 @@ impl<R: Wait> Session<R> {
     /// Requests a lock, without waiting for it. The call waits only while another session holds the latch of a place.
     pub fn try_now(&mut self, place: Place, mode: Mode) -> Result<Attempt, SpaceError>
         ensures joined { Joins (space_of self.old) (Try_now self.old.me.0.number place mode) (attempted result) (space_of self.new) }
-        ensures shown { Shows (Try_now self.old.me.0.number place mode) (attempted result) self.old self.new }
+        ensures shown { TakesSteps (steps.try_now place mode) (attempted result) self.old self.new }
     {
         let place = place as usize;
         let kind = self.member.kind_wished(place, mode)?;

@@ -13,9 +13,11 @@ ghost use Rattle.mdl_shared.specs.DeedsDone.{DoesQuietly};
 ghost use Rattle.mdl_shared.specs.Members.{kind_known};
 ghost use Rattle.mdl_shared.specs.Passes.{view_of};
 ghost use Rattle.mdl_shared.specs.SessionViews.{space_of};
-ghost use Rattle.mdl_shared.specs.Showings.{Shows, ShowsStep};
+ghost use Rattle.mdl_shared.specs.StepSpec.{TakesSteps};
+ghost use Rattle.mdl_shared.specs.Steps.{ShowsStep};
 ghost use Rattle.mdl_shared.specs.TicketLists.{KeepsRoom};
 ghost use Rattle.mdl_shared.specs.Upgrades.{can_have, upgrade_fault};
+ghost use Rattle.mdl_shared.specs.calls.UpgradeNow as steps;
 
 use crate::Session;
 use crate::member::Member;
@@ -33,7 +35,7 @@ impl<R: Wait> Session<R> {
     /// for them.
     pub fn upgrade_now(&mut self, id: TicketId, mode: Mode) -> Result<Upgrade, SpaceError>
         ensures joined { Joins (space_of self.old) (Upgrade_now self.old.me.0.number id mode) (upgrade_tried result) (space_of self.new) }
-        ensures shown { Shows (Upgrade_now self.old.me.0.number id mode) (upgrade_tried result) self.old self.new }
+        ensures shown { TakesSteps (steps.upgrade_now id mode) (upgrade_tried result) self.old self.new }
     {
         let held = self.member.upgradable(id, mode)?;
         if covers(held.mode, mode) {

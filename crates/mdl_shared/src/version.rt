@@ -2,7 +2,7 @@
 ghost use Rattle.std.specs.Prelude.{◌≡◌, true};
 ghost use Rattle.mdl_calls.specs.SessionData.{is_known};
 ghost use Rattle.mdl_shared.specs.SessionViews.{space_of};
-ghost use Rattle.mdl_shared.specs.Showings.{ReadsVersion};
+ghost use Rattle.mdl_shared.specs.ReadSteps.{ReadsVersion};
 
 use crate::Session;
 use mdl_calls::Place;

@@ -4,7 +4,8 @@ ghost use Rattle.mdl_visits.specs.Polls.{number_in};
 ghost use Rattle.mdl_shared.specs.SessionViews.{space_of};
 ghost use Rattle.mdl_calls.specs.Words.{Has_wait, Wait_of};
 ghost use Rattle.mdl_session_laws.specs.SessionJoins.{Joins};
-ghost use Rattle.mdl_shared.specs.Showings.{Shows};
+ghost use Rattle.mdl_shared.specs.StepSpec.{TakesSteps};
+ghost use Rattle.mdl_shared.specs.calls.WaitOf as steps;
 
 use crate::Session;
 use crate::wait_words::is_session;
@@ -25,7 +26,7 @@ impl<R> Session<R> {
     /// Returns the number of any session's wait, if it has one. It takes no memory.
     pub fn wait_of(&mut self, target: u16) -> Option<u64>
         ensures joined { Joins (space_of self.old) (Wait_of target) (Has_wait result) (space_of self.new) }
-        ensures shown { Shows (Wait_of target) (Has_wait result) self.old self.new }
+        ensures shown { TakesSteps (steps.wait_of target) (Has_wait result) self.old self.new }
     {
         if !is_session(target, self.member.sessions) {
             return None;

@@ -8,7 +8,7 @@ use Rattle.mdl_calls.specs.declared.answers.Settled.TheVariants.{Timeout}
 use Rattle.mdl_calls.specs.declared.answers.TimedOut.{TimedOut}
 use Rattle.mdl_calls.specs.declared.answers.TimedOut.TheVariants.{Already, ByThisCall}
 use Rattle.mdl_calls.specs.declared.space_error.SpaceError.{SpaceError}
-use Rattle.mdl_calls.specs.Words.{Search, Settle_timeout, searched, timed_out}
+use Rattle.mdl_calls.specs.Words.{Settle_timeout, searched, timed_out}
 use Rattle.mdl_steps.specs.declared.step_kind.StepKind.TheVariants.{ReadWait}
 use Rattle.mdl_steps.specs.declared.view.Ask.{Ask}
 use Rattle.mdl_steps.specs.declared.view.Met.{Met}
@@ -19,7 +19,8 @@ use Rattle.mdl_steps.specs.WaitStates.{wait_in}
 use Rattle.mdl_visits.specs.Polls.{state_of}
 use Rattle.mdl_shared.specs.SessionJoins.{Joins}
 use Rattle.mdl_shared.specs.SessionViews.{SessionView, settled_told, space_of}
-use Rattle.mdl_shared.specs.Showings.{Shows}
+use Rattle.mdl_shared.specs.StepSpec.{TakesSteps}
+use Rattle.mdl_shared.specs.calls.Search.{search_deadlock}
 
 -- what is known was told
 knows-told : (told : Option ℕ) (how : Settled) → settled_told told ≡ Some how → is_some told ≡ true
@@ -38,7 +39,7 @@ OnlyReads a b = (made : List Met) × (b.me.0.log ≡ a.me.0.log ++ made) × (len
 untold : {P : Type 0} (told : Option ℕ) → is_some told ≡ true → told ≡ None → P
 untold told knows none = absurd (false≢true (sym (ap is_some none) ∙ knows))
 
-pub settled-search : (a b : SessionView) (result : Result Found SpaceError) → is_some a.me.0.told ≡ true → Shows (Search a.me.0.number) (searched result) a b
+pub settled-search : (a b : SessionView) (result : Result Found SpaceError) → is_some a.me.0.told ≡ true → TakesSteps search_deadlock (searched result) a b
     → (result ≡ Ok NoCycle) × OnlyReads a b
 settled-search a b (Ok NoCycle) knows shown = (refl, by a.me.0.asks refl)
   where

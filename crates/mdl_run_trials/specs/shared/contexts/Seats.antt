@@ -5,7 +5,7 @@ use Rattle.mdl_calls.specs.declared.lock_space.LockSpace.{Ghosts}
 use Rattle.mdl_shared.specs.Debts.{Owes}
 use Rattle.mdl_shared.specs.KeptReads.{UsesKept}
 use Rattle.mdl_shared.specs.SessionViews.{SessionView, space_of}
-use Rattle.mdl_shared.specs.Showings.{Shows}
+use Rattle.mdl_shared.specs.AllSteps.{Shows}
 
 -- the definitions that a session gives the trait `LockSpace`
 abbrev pub session_space : Ghosts SessionView

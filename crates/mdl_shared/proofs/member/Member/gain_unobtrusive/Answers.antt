@@ -8,7 +8,7 @@ use Rattle.mdl_shared.specs.declared.fast_path.NotFast.TheVariants.{Obtruded, Co
 use Rattle.mdl_shared.specs.FastDeeds.{HasNoFast}
 use Rattle.mdl_shared.specs.Passes.{view_of}
 use Rattle.mdl_shared.specs.SessionViews.{SessionView}
-use Rattle.mdl_shared.specs.Showings.{FindsClosed}
+use Rattle.mdl_shared.specs.WishSteps.{FindsClosed}
 use Rattle.mdl_shared.proofs.QuietDeeds.{quiet-none}
 use Rattle.mdl_shared.proofs.member.Member.gain_unobtrusive.Goals as goal
 

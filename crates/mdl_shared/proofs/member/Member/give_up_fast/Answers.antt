@@ -8,7 +8,7 @@ use Rattle.mdl_visits.proofs.Steps.{does_then}
 use Rattle.mdl_shared.specs.Members.{is_known_place}
 use Rattle.mdl_shared.specs.Passes.{view_of}
 use Rattle.mdl_shared.specs.SessionViews.{Lists, SessionView, session_at}
-use Rattle.mdl_shared.specs.Showings.{GivesUpFast}
+use Rattle.mdl_shared.specs.Steps.{GivesUpFast}
 use Rattle.mdl_shared.specs.TicketLists.{KeepsRoom, Room}
 use Rattle.mdl_shared.proofs.FastReleases.{done-before, gives-up, gives-up_after, gone-quiet, paid-after}
 use Rattle.mdl_shared.proofs.MemberFacts.{fast-held, may-visit, ticket-known}

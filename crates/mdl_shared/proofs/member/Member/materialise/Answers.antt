@@ -5,7 +5,7 @@ use Rattle.mdl_steps.specs.Cells.{own_at}
 use Rattle.mdl_steps.specs.FastPlays.{but_at}
 use Rattle.mdl_shared.specs.Passes.{view_of}
 use Rattle.mdl_shared.specs.SessionViews.{Lists}
-use Rattle.mdl_shared.specs.Showings.{SlowsInTurn}
+use Rattle.mdl_shared.specs.WishSteps.{SlowsInTurn}
 use Rattle.mdl_shared.proofs.QuietDeeds.{quiet-none, quiet-steps, quiet-then, same-lists}
 use Rattle.mdl_shared.proofs.Rooms.{keeps-before, keeps-same}
 use Rattle.mdl_shared.proofs.SlowPlaces.{all-slow, before-more, before-still, fewer-left, lacks-after, next-seen, none-before, same-at-first, slow-more, slow-still, stops-more, turn-more}

@@ -3,7 +3,7 @@ use Rattle.std.proofs.Common.{◌≡◌, ℕ, List, None, [], length}
 use Rattle.mdl_shared.specs.DeedsDone.{DoesQuietly}
 use Rattle.mdl_shared.specs.FastDeeds.{AreSameOrSlow, AreSlowBefore}
 use Rattle.mdl_shared.specs.Passes.{view_of}
-use Rattle.mdl_shared.specs.Showings.{SlowsInTurn}
+use Rattle.mdl_shared.specs.WishSteps.{SlowsInTurn}
 use Rattle.mdl_shared.specs.TicketLists.{KeepsRoom}
 use Rattle.mdl_shared.proofs.member.Member.materialise.Given as goal
 

@@ -5,7 +5,7 @@ use Rattle.mdl_defs.specs.Caches.{CacheView}
 use Rattle.mdl_calls.specs.Words.{AreMet, Read_definition, Read_kept, Refused, read as read_as}
 use Rattle.mdl_calls.specs.SessionData.{HasMet}
 use Rattle.mdl_shared.specs.Passes.{view_of}
-use Rattle.mdl_shared.specs.Showings.{Shows}
+use Rattle.mdl_shared.specs.AllSteps.{Shows}
 use Rattle.mdl_shared.specs.SessionViews.{SessionView, space_of, tickets_seen}
 use Rattle.mdl_shared.specs.KeptReads.{kept_standing}
 use Rattle.mdl_shared.proofs.Debts.{owed-both, owed-on}

@@ -39,7 +39,6 @@ returns-in-Some g c =
         did = does-nothing s.me;
         settled = refl;
         told = refl;
-        steps = tt;
         met = (within.0, within.1, (λ known its. refl), λ none. let e = sym none ∙ found in cc);
         room = keeps-same m.tickets.room;
         debts = λ place owed. owed;

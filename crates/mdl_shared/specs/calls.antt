@@ -1,0 +1,21 @@
+-- The calls of a session by their steps, a file for each: by which steps the shared table does the call, and what they meet.
+pub mod BeginWait
+pub mod ChangeDefinition
+pub mod CloneTicket
+pub mod Downgrade
+pub mod EndWait
+pub mod KeyOf
+pub mod Kill
+pub mod ListHeld
+pub mod Merge
+pub mod PollWait
+pub mod ReadDefinition
+pub mod ReadKept
+pub mod Release
+pub mod Resolve
+pub mod Search
+pub mod SettleTimeout
+pub mod TablesOf
+pub mod TryNow
+pub mod UpgradeNow
+pub mod WaitOf

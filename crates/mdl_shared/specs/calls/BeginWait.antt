@@ -1,0 +1,45 @@
+-- A lock, or otherwise a wait for it: on the fast path, or, where that is closed, in one visit to the place. If the request is blocked there, the step
+-- after the one that found it so opens the wait.
+use Rattle.std.specs.Prelude.{◌≡◌, ◌⊎◌, ℕ, List, [], ◌∷◌, Option, Some}
+use Rattle.mdl_key.specs.declared.mode.Mode.{Mode}
+use Rattle.mdl_calls.specs.declared.space_error.SpaceError.{SpaceError}
+use Rattle.mdl_calls.specs.Words.{Answer, Refused, Granted, Waits}
+use Rattle.mdl_steps.specs.declared.deed.Deed.{Deed}
+use Rattle.mdl_steps.specs.declared.deed.Deed.TheVariants.{Gain}
+use Rattle.mdl_steps.specs.declared.view.Met.{Met}
+use Rattle.mdl_steps.specs.declared.view.Own.{Own}
+use Rattle.mdl_visits.specs.Visits.{AreStepsOf, MeetsBlocked, MeetsFull}
+use Rattle.mdl_visits.specs.WaitOpenings.{MeetsOpening}
+use Rattle.mdl_shared.specs.Debts.{KeepsDebts, OwesSame}
+use Rattle.mdl_shared.specs.Members.{kind_known, obtrudes_at, wish_fault}
+use Rattle.mdl_shared.specs.SessionViews.{Lists, SessionView}
+use Rattle.mdl_shared.specs.WishSteps.{ByLatch, IsGranted, LacksRoomForWish}
+use Rattle.mdl_shared.specs.StepSpec.{StepSpec, no_steps}
+
+-- why the session's own lists refuse it
+abbrev pub own_fault : ℕ → Mode → Lists → Option SpaceError
+own_fault place mode l = wish_fault (kind_known place l.known) l.asks mode l.next
+
+-- the ticket that was granted is gained
+abbrev pub did : Mode → Answer → List Own → List Deed
+did mode (Granted id) tickets = Gain id mode ∷ []
+did mode _ tickets = []
+
+-- a session that begins to wait has yet to search for a deadlock
+abbrev pub owes : Answer → SessionView → SessionView → Type 0
+owes (Waits number) a b = OwesSame a b
+owes _ a b = KeepsDebts a b
+
+-- which steps were made, and what they met. A request past the fast path is granted, waits or is refused by the book of the place
+abbrev pub met : ℕ → Mode → Answer → Lists → SessionView → SessionView → Type 0
+met place mode (Granted id) l a b = IsGranted place mode (Gain id mode) a b
+met place mode (Waits number) l a b =
+    ByLatch place mode (obtrudes_at place mode l.known) a b (λ mid. (e f : Met) × AreStepsOf mid.me b.me e f × MeetsBlocked place a.me.0.number mode e
+    × MeetsOpening a.table.slots place a.me.0.number l.waits l.next mode f)
+met place mode (Refused why) l a b =
+    (own_fault place mode l ≡ Some why) ⊎ LacksRoomForWish (MeetsFull place) place mode (obtrudes_at place mode l.known) why a b
+met place mode _ l a b = ⊥
+
+-- the call
+abbrev pub begin_wait : ℕ → Mode → StepSpec
+begin_wait place mode = record no_steps { fault = own_fault place mode; did = did mode; owes = owes; met = met place mode }

@@ -1,0 +1,29 @@
+-- A change of the definition at the place of a held ticket in mode X: in one visit to the place, which changes it, or finds why it can't be changed.
+use Rattle.std.specs.Prelude.{◌≡◌, ◌⊎◌, ℕ, Option, Some}
+use Rattle.mdl_key.specs.declared.mode.Mode.TheVariants.{X}
+use Rattle.mdl_defs.specs.declared.change.Change.{Change}
+use Rattle.mdl_calls.specs.declared.space_error.SpaceError.{SpaceError}
+use Rattle.mdl_calls.specs.Words.{Answer, Refused, Changed}
+use Rattle.mdl_visits.specs.Numbers.{numbered}
+use Rattle.mdl_visits.specs.Redefinitions.{IsRefusedAs, Redefines, exclusive_fault}
+use Rattle.mdl_visits.specs.Visits.{VisitsOnce}
+use Rattle.mdl_shared.specs.SessionViews.{Lists, SessionView, tickets_of}
+use Rattle.mdl_shared.specs.Steps.{OfTicket}
+use Rattle.mdl_shared.specs.StepSpec.{StepSpec, no_steps}
+
+-- why the session's own lists refuse it
+abbrev pub own_fault : ℕ → Lists → Option SpaceError
+own_fault id l = exclusive_fault (numbered id (tickets_of l))
+
+-- which steps were made, and what they met
+abbrev pub met : ℕ → Change → Answer → Lists → SessionView → SessionView → Type 0
+met id change (Changed version) l a b =
+    OfTicket id l (λ t. (t.mode ≡ X) × Redefines t.place change version a.me b.me × VisitsOnce t.place a.me b.me)
+met id change (Refused why) l a b =
+    (own_fault id l ≡ Some why)
+    ⊎ OfTicket id l (λ t. IsRefusedAs t.place a.me.0.number change why a.me b.me × VisitsOnce t.place a.me b.me)
+met id change _ l a b = ⊥
+
+-- the call
+abbrev pub change_definition : ℕ → Change → StepSpec
+change_definition id change = record no_steps { fault = own_fault id; met = met id change }

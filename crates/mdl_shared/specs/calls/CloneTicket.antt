@@ -1,0 +1,35 @@
+-- A second ticket beside a held one: on the fast path, or, where that is closed, in one visit to the place.
+use Rattle.std.specs.Prelude.{◌≡◌, ◌⊎◌, ℕ, false, List, [], ◌∷◌, Option, Some}
+use Rattle.mdl_key.specs.declared.mode.Mode.{Mode}
+use Rattle.mdl_calls.specs.declared.space_error.SpaceError.{SpaceError}
+use Rattle.mdl_calls.specs.Words.{Answer, Refused, Granted}
+use Rattle.mdl_steps.specs.declared.deed.Deed.{Deed}
+use Rattle.mdl_steps.specs.declared.deed.Deed.TheVariants.{Gain}
+use Rattle.mdl_steps.specs.declared.view.Own.{Own}
+use Rattle.mdl_visits.specs.Numbers.{numbered}
+use Rattle.mdl_visits.specs.Visits.{MeetsFull}
+use Rattle.mdl_shared.specs.Modes.{clone_fault}
+use Rattle.mdl_shared.specs.SessionViews.{Lists, SessionView, tickets_of}
+use Rattle.mdl_shared.specs.Steps.{OfTicket}
+use Rattle.mdl_shared.specs.WishSteps.{IsCloned, LacksRoomForWish}
+use Rattle.mdl_shared.specs.StepSpec.{StepSpec, no_steps}
+
+-- why the session's own lists refuse it
+abbrev pub own_fault : ℕ → Mode → Lists → Option SpaceError
+own_fault id mode l = clone_fault (numbered id (tickets_of l)) l.asks mode l.known l.next
+
+-- the second ticket is gained
+abbrev pub did : Mode → Answer → List Own → List Deed
+did mode (Granted new) tickets = Gain new mode ∷ []
+did mode _ tickets = []
+
+-- which steps were made, and what they met. A clone isn't obtrusive, so no flag OBTRUSIVE is raised
+abbrev pub met : ℕ → Mode → Answer → Lists → SessionView → SessionView → Type 0
+met id mode (Granted new) l a b = OfTicket id l (λ t. IsCloned t.place mode id (Gain new mode) a b)
+met id mode (Refused why) l a b =
+    (own_fault id mode l ≡ Some why) ⊎ OfTicket id l (λ t. LacksRoomForWish (MeetsFull t.place) t.place mode false why a b)
+met id mode _ l a b = ⊥
+
+-- the call
+abbrev pub clone_ticket : ℕ → Mode → StepSpec
+clone_ticket id mode = record no_steps { fault = own_fault id mode; did = did mode; met = met id mode }

@@ -1,0 +1,51 @@
+-- A weaker mode of a held ticket: in one visit to its place, where the waits that can be granted then are granted.
+use Rattle.std.specs.Prelude.{◌≡◌, ℕ, List, [], ◌∷◌, Option, Some}
+use Rattle.mdl_key.specs.declared.mode.Mode.{Mode}
+use Rattle.mdl_calls.specs.declared.space_error.SpaceError.{SpaceError}
+use Rattle.mdl_calls.specs.Words.{Answer, Refused, Done}
+use Rattle.mdl_steps.specs.declared.deed.Deed.{Deed}
+use Rattle.mdl_steps.specs.declared.deed.Deed.TheVariants.{Alter}
+use Rattle.mdl_steps.specs.declared.view.Own.{Own}
+use Rattle.mdl_visits.specs.Numbers.{numbered}
+use Rattle.mdl_visits.specs.Polls.{SettlesNothing}
+use Rattle.mdl_shared.specs.Debts.{KeepsDebts}
+use Rattle.mdl_shared.specs.Modes.{downgrade_fault}
+use Rattle.mdl_shared.specs.SessionViews.{Lists, SessionView, tickets_of}
+use Rattle.mdl_shared.specs.Steps.{OfTicket, MeetsTicket, Reschedules}
+use Rattle.mdl_shared.specs.StepSpec.{StepSpec, no_steps}
+
+-- why the session's own lists refuse it
+abbrev pub own_fault : ℕ → Mode → Lists → Option SpaceError
+own_fault id mode l = downgrade_fault (numbered id (tickets_of l)) mode l.known
+
+-- the ticket has the mode
+abbrev pub did : ℕ → Mode → Answer → List Own → List Deed
+did id mode Done tickets = Alter id mode ∷ []
+did id mode _ tickets = []
+
+-- a downgrade may settle waits: `HasRescheduled` says which
+abbrev pub settled : Answer → Lists → SessionView → SessionView → Type 0
+settled Done l a b = Unit {0}
+settled _ l a b = SettlesNothing a.me b.me
+
+-- what the place is owed is paid: `Pays` says that
+abbrev pub owes : Answer → SessionView → SessionView → Type 0
+owes Done a b = Unit {0}
+owes _ a b = KeepsDebts a b
+
+-- which steps were made, and what they met
+abbrev pub met : ℕ → Mode → Answer → Lists → SessionView → SessionView → Type 0
+met id mode Done l a b = OfTicket id l (MeetsTicket id (Alter id mode ∷ []) a b) × OfTicket id l (Reschedules a b)
+met id mode (Refused why) l a b = own_fault id mode l ≡ Some why
+met id mode _ l a b = ⊥
+
+-- the call. If the session's own wait is at the place, it may learn that it is settled
+abbrev pub downgrade : ℕ → Mode → StepSpec
+downgrade id mode = record no_steps {
+  fault = own_fault id mode;
+  did = did id mode;
+  told = λ a b. Unit {0};
+  settled = settled;
+  owes = owes;
+  met = met id mode;
+}

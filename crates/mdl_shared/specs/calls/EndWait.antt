@@ -1,0 +1,40 @@
+-- The end of the session's wait, once it is settled. The first step reads the word of the wait. If the wait is unsettled, no other follows. A granted one
+-- ends by one step more. A lost one ends in one visit to its place, where the waits that can be granted then are granted.
+use Rattle.std.specs.Prelude.{◌≡◌, ◌⊎◌, Some}
+use Rattle.mdl_calls.specs.declared.space_error.SpaceError.TheVariants as cause
+use Rattle.mdl_calls.specs.Words.{Answer, Refused, Granted, Lost}
+use Rattle.mdl_steps.specs.declared.view.Ask.{Ask}
+use Rattle.mdl_steps.specs.WaitStates.{granted_state, unsettled_state}
+use Rattle.mdl_visits.specs.Grantings.{HasRescheduled}
+use Rattle.mdl_visits.specs.Polls.{SettlesNothing, state_of}
+use Rattle.mdl_visits.specs.Visits.{VisitsOnce}
+use Rattle.mdl_visits.specs.WaitEndings.{without_wait}
+use Rattle.mdl_shared.specs.Debts.{KeepsDebts, Pays}
+use Rattle.mdl_shared.specs.SessionViews.{Lists, SessionView}
+use Rattle.mdl_shared.specs.Waitings.{wait_fault}
+use Rattle.mdl_shared.specs.Steps.{LooksThen, EndsByOneStep, EndsOwnWait}
+use Rattle.mdl_shared.specs.StepSpec.{StepSpec, no_steps}
+
+-- the end of a lost wait may settle waits of others: `HasRescheduled` says which
+abbrev pub settled : Answer → Lists → SessionView → SessionView → Type 0
+settled (Lost how) l a b = Unit {0}
+settled _ l a b = SettlesNothing a.me b.me
+
+-- the end of a lost wait pays what its place is owed: `Pays` says that
+abbrev pub owes : Answer → SessionView → SessionView → Type 0
+owes (Lost how) a b = Unit {0}
+owes _ a b = KeepsDebts a b
+
+-- which steps were made, and what they met
+abbrev pub met : Answer → Lists → SessionView → SessionView → Type 0
+met (Granted id) l a b = LooksThen granted_state l a (EndsByOneStep granted_state l a b)
+met (Lost how) l a b =
+    EndsOwnWait (state_of how) l a b
+    × ((ask : Ask) × (l.asks ≡ Some ask) × HasRescheduled a.table ask.place (without_wait a.me) b.me
+    × LooksThen (state_of how) l a (λ mid. VisitsOnce ask.place mid b.me) × Pays ask.place a.me b.me)
+met (Refused why) l a b = (wait_fault l.asks ≡ Some why) ⊎ ((why ≡ cause.Unsettled) × LooksThen unsettled_state l a (λ mid. b.me ≡ mid))
+met _ l a b = ⊥
+
+-- the call. The session learns whether its wait is settled, and has none once that is ended
+abbrev pub end_wait : StepSpec
+end_wait = record no_steps { fault = λ l. wait_fault l.asks; told = λ a b. Unit {0}; settled = settled; owes = owes; met = met }

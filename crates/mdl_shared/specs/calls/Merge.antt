@@ -1,0 +1,36 @@
+-- Two held tickets of one place merged into one: in one visit to the place, once all fast tickets of the session are slow ones.
+use Rattle.std.specs.Prelude.{◌≡◌, ◌⊎◌, ℕ, false, List, [], ◌∷◌, Option, Some, Ok}
+use Rattle.mdl_calls.specs.declared.space_error.SpaceError.{SpaceError}
+use Rattle.mdl_calls.specs.Words.{Answer, Refused, Done}
+use Rattle.mdl_steps.specs.declared.deed.Deed.{Deed}
+use Rattle.mdl_steps.specs.declared.deed.Deed.TheVariants.{Alter, Lose}
+use Rattle.mdl_steps.specs.declared.view.Own.{Own}
+use Rattle.mdl_visits.specs.Leavings.{MeetsOwn}
+use Rattle.mdl_visits.specs.Numbers.{numbered}
+use Rattle.mdl_shared.specs.Doings.{merge_deeds}
+use Rattle.mdl_shared.specs.Modes.{merge_fault}
+use Rattle.mdl_shared.specs.SessionViews.{Lists, SessionView, tickets_of}
+use Rattle.mdl_shared.specs.Steps.{ShowsStep, OfTicket}
+use Rattle.mdl_shared.specs.WishSteps.{StopsSlowing, ByVisit, LacksRoomForFast}
+use Rattle.mdl_shared.specs.StepSpec.{StepSpec, no_steps}
+
+-- why the session's own lists refuse it
+abbrev pub own_fault : ℕ → ℕ → Lists → Option SpaceError
+own_fault old new l = merge_fault (numbered old (tickets_of l)) (numbered new (tickets_of l)) l.asks
+
+-- the one ticket has the other one's mode, and the other one is lost
+abbrev pub did : ℕ → ℕ → Answer → List Own → List Deed
+did old new Done tickets = merge_deeds old new (Ok tt) (numbered new tickets)
+did old new _ tickets = []
+
+-- which steps were made, and what they met
+abbrev pub met : ℕ → ℕ → Answer → Lists → SessionView → SessionView → Type 0
+met old new Done l a b =
+    OfTicket old l (λ kept. OfTicket new l (λ gone. ByVisit kept.place false a b (λ mid. ShowsStep mid b (λ e.
+    MeetsOwn kept.place a.me.0.number old e × MeetsOwn kept.place a.me.0.number new e × (e.deeds ≡ Alter old gone.mode ∷ Lose new ∷ [])))))
+met old new (Refused why) l a b = (own_fault old new l ≡ Some why) ⊎ (LacksRoomForFast why a b × StopsSlowing a.me b.me)
+met old new _ l a b = ⊥
+
+-- the call
+abbrev pub merge : ℕ → ℕ → StepSpec
+merge old new = record no_steps { fault = own_fault old new; did = did old new; met = met old new }

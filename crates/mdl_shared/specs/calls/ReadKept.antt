@@ -1,0 +1,26 @@
+-- The version and the definition at a held ticket's place, with the session's cache: one step reads the version without the latch. If the cache keeps no
+-- definition of that version, the place is visited once after it.
+use Rattle.std.specs.Prelude.{◌≡◌, ◌⊎◌, ℕ, Some}
+use Rattle.mdl_defs.specs.declared.standing.Standing.{Standing}
+use Rattle.mdl_calls.specs.declared.space_error.SpaceError.TheVariants as cause
+use Rattle.mdl_calls.specs.Words.{Answer, Refused, Reads}
+use Rattle.mdl_shared.specs.Members.{holding_fault}
+use Rattle.mdl_shared.specs.SessionViews.{Lists, SessionView, tickets_of}
+use Rattle.mdl_shared.specs.Steps.{OfTicket}
+use Rattle.mdl_shared.specs.ReadSteps.{MissesVersion, FindsVersion, ReadsByLatch, VisitsInVain}
+use Rattle.mdl_shared.specs.StepSpec.{StepSpec, no_steps}
+
+-- which steps were made, and what they met. Memory may run out for a copy of what the cache keeps, or in the visit, which is in vain then
+abbrev pub met : ℕ → Answer → Lists → SessionView → SessionView → Type 0
+met id (Reads version definition) l a b =
+    OfTicket id l (λ t. FindsVersion t.place (record { version = version; definition = definition }) a b
+    ⊎ ((found : ℕ) × (mid : SessionView) × MissesVersion t.place found a mid × ReadsByLatch id t (record { version = version; definition = definition }) mid b))
+met id (Refused why) l a b =
+    (holding_fault id (tickets_of l) ≡ Some why)
+    ⊎ ((why ≡ cause.OutOfMemory) × OfTicket id l (λ t. ((standing : Standing) × FindsVersion t.place standing a b)
+    ⊎ ((found : ℕ) × (mid : SessionView) × MissesVersion t.place found a mid × VisitsInVain t.place mid b)))
+met id _ l a b = ⊥
+
+-- the call
+abbrev pub read_kept : ℕ → StepSpec
+read_kept id = record no_steps { fault = λ l. holding_fault id (tickets_of l); met = met id }

@@ -1,0 +1,47 @@
+-- The release of a held ticket: of a slow one in one visit to its place, of a fast one by one step on the word of the place. The waits there that can be
+-- granted then are granted. After a fast release the place is visited only if a session may be waiting there.
+use Rattle.std.specs.Prelude.{◌≡◌, ℕ, List, [], ◌∷◌, Some}
+use Rattle.mdl_calls.specs.Words.{Answer, Refused, Done}
+use Rattle.mdl_steps.specs.declared.deed.Deed.{Deed}
+use Rattle.mdl_steps.specs.declared.deed.Deed.TheVariants.{Lose}
+use Rattle.mdl_steps.specs.declared.view.Own.{Own}
+use Rattle.mdl_visits.specs.Numbers.{numbered}
+use Rattle.mdl_visits.specs.Polls.{SettlesNothing}
+use Rattle.mdl_shared.specs.Debts.{KeepsDebts}
+use Rattle.mdl_shared.specs.Members.{holding_fault}
+use Rattle.mdl_shared.specs.SessionViews.{Lists, SessionView, tickets_of}
+use Rattle.mdl_shared.specs.Steps.{OfTicket, GivesUpSlow, GivesUpFast}
+use Rattle.mdl_shared.specs.StepSpec.{StepSpec, no_steps}
+
+-- the ticket is lost
+abbrev pub did : ℕ → Answer → List Own → List Deed
+did id Done tickets = Lose id ∷ []
+did id _ tickets = []
+
+-- a release may settle waits: `HasRescheduled` says which
+abbrev pub settled : Answer → Lists → SessionView → SessionView → Type 0
+settled Done l a b = Unit {0}
+settled _ l a b = SettlesNothing a.me b.me
+
+-- where waits are granted, what the place is owed is paid: `Pays` says that
+abbrev pub owes : Answer → SessionView → SessionView → Type 0
+owes Done a b = Unit {0}
+owes _ a b = KeepsDebts a b
+
+-- which steps were made, and what they met
+abbrev pub met : ℕ → Answer → Lists → SessionView → SessionView → Type 0
+met id Done l a b =
+    OfTicket id l (λ t. (numbered id l.slow ≡ Some t → GivesUpSlow id a b t) × (numbered id l.fast ≡ Some t → GivesUpFast id a b t))
+met id (Refused why) l a b = holding_fault id (tickets_of l) ≡ Some why
+met id _ l a b = ⊥
+
+-- the call. If the session's own wait is at the place, it may learn that it is settled
+abbrev pub release : ℕ → StepSpec
+release id = record no_steps {
+  fault = λ l. holding_fault id (tickets_of l);
+  did = did id;
+  told = λ a b. Unit {0};
+  settled = settled;
+  owes = owes;
+  met = met id;
+}

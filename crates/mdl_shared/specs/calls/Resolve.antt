@@ -1,0 +1,26 @@
+-- The place of a key. A key that the session knows takes no step. For another one the session looks in the directory once, which has its place or gives it
+-- the next one.
+use Rattle.std.specs.Prelude.{◌≡◌, ◌⊎◌, ℕ, ◌<◌, Some, None, Ok, Err}
+use Rattle.mdl_key.specs.Words.{KeyName}
+use Rattle.mdl_calls.specs.declared.space_error.SpaceError.TheVariants as cause
+use Rattle.mdl_calls.specs.Words.{Answer, Refused, At_place}
+use Rattle.mdl_visits.specs.declared.resolve_error.ResolveError.TheVariants as resolve_error
+use Rattle.mdl_shared.specs.Members.{place_known}
+use Rattle.mdl_shared.specs.SessionViews.{Lists, SessionView}
+use Rattle.mdl_shared.specs.Steps.{MakesNoStep, LooksUp, LooksAtKeys}
+use Rattle.mdl_shared.specs.StepSpec.{StepSpec, no_steps}
+
+-- which steps were made, and what they met. A refusal is for want of a place in the directory, or of memory, before the look or at it
+abbrev pub met : KeyName → Answer → Lists → SessionView → SessionView → Type 0
+met key (At_place place) l a b =
+    (0 < place) × (place < a.table.slots)
+    × ((known : ℕ) → place_known key l.known ≡ Some known → MakesNoStep a b)
+    × (place_known key l.known ≡ None → LooksUp key (Ok place) a b)
+met key (Refused why) l a b =
+    (place_known key l.known ≡ None)
+    × (((why ≡ cause.NoPlace) × LooksUp key (Err resolve_error.NoPlace) a b) ⊎ ((why ≡ cause.OutOfMemory) × (MakesNoStep a b ⊎ LooksAtKeys a b)))
+met key _ l a b = ⊥
+
+-- the call
+abbrev pub resolve : KeyName → StepSpec
+resolve key = record no_steps { met = met key }

@@ -1,0 +1,26 @@
+-- The tables of a schema that have a definition: one look at the directory, after which the session knows the keys of all the schema's tables, and then a
+-- look at each table's place.
+use Rattle.std.specs.Prelude.{◌≡◌, ℕ, List, ◌++◌}
+use Rattle.mdl_calls.specs.Words.{Answer, Refused, Tables}
+use Rattle.mdl_steps.specs.declared.view.Keys.{Keys}
+use Rattle.mdl_steps.specs.declared.view.Known.{Known}
+use Rattle.mdl_steps.specs.Schemas.{unknown}
+use Rattle.mdl_visits.specs.Lookups.{TookDirectory}
+use Rattle.mdl_visits.specs.Tables.{AreTables, HasAsked}
+use Rattle.mdl_shared.specs.Members.{AreLearnt}
+use Rattle.mdl_shared.specs.SessionViews.{Lists, SessionView}
+use Rattle.mdl_shared.specs.Steps.{LooksAtKeys}
+use Rattle.mdl_shared.specs.StepSpec.{StepSpec, no_steps}
+
+-- which steps were made, and what they met. A refusal comes at the look at the directory
+abbrev pub met : List ℕ → Answer → Lists → SessionView → SessionView → Type 0
+met schema (Tables places) l a b =
+    (k : Keys) × TookDirectory a.table.slots k k a.me b.me
+    × ((tables : List Known) × AreTables schema k tables × HasAsked a.me.0.number tables places a.me b.me
+    × (b.me.0.known ≡ l.known ++ unknown l.known tables) × AreLearnt tables b.me.0.known)
+met schema (Refused why) l a b = LooksAtKeys a b
+met schema _ l a b = ⊥
+
+-- the call
+abbrev pub tables_of : List ℕ → StepSpec
+tables_of schema = record no_steps { met = met schema }

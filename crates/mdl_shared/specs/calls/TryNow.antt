@@ -1,0 +1,37 @@
+-- A lock, if it can be granted without waiting: on the fast path, or, where that is closed, in one visit to the place.
+use Rattle.std.specs.Prelude.{◌≡◌, ◌⊎◌, ℕ, true, List, [], ◌∷◌, Option, Some}
+use Rattle.mdl_key.specs.declared.mode.Mode.{Mode}
+use Rattle.mdl_calls.specs.declared.space_error.SpaceError.{SpaceError}
+use Rattle.mdl_calls.specs.Words.{Answer, Refused, Granted, Would_wait}
+use Rattle.mdl_steps.specs.declared.deed.Deed.{Deed}
+use Rattle.mdl_steps.specs.declared.deed.Deed.TheVariants.{Gain}
+use Rattle.mdl_steps.specs.declared.view.Own.{Own}
+use Rattle.mdl_visits.specs.Visits.{MeetsBlocked, MeetsFullWish}
+use Rattle.mdl_shared.specs.Members.{kind_known, obtrudes_at, wish_fault}
+use Rattle.mdl_shared.specs.SessionViews.{Lists, SessionView}
+use Rattle.mdl_shared.specs.Steps.{ShowsStep}
+use Rattle.mdl_shared.specs.WishSteps.{ByLatch, IsGranted, LacksRoomForWish}
+use Rattle.mdl_shared.specs.StepSpec.{StepSpec, no_steps}
+
+-- why the session's own lists refuse it
+abbrev pub own_fault : ℕ → Mode → Lists → Option SpaceError
+own_fault place mode l = wish_fault (kind_known place l.known) l.asks mode l.next
+
+-- the ticket that was granted is gained
+abbrev pub did : Mode → Answer → List Own → List Deed
+did mode (Granted id) tickets = Gain id mode ∷ []
+did mode _ tickets = []
+
+-- which steps were made, and what they met. A request past the fast path is granted, blocked or refused by the book of the place
+abbrev pub met : ℕ → Mode → Answer → Lists → SessionView → SessionView → Type 0
+met place mode (Granted id) l a b = IsGranted place mode (Gain id mode) a b
+met place mode Would_wait l a b =
+    ByLatch place mode (obtrudes_at place mode l.known) a b (λ mid. ShowsStep mid b (MeetsBlocked place a.me.0.number mode))
+met place mode (Refused why) l a b =
+    (own_fault place mode l ≡ Some why)
+    ⊎ LacksRoomForWish (MeetsFullWish place a.me.0.number mode true) place mode (obtrudes_at place mode l.known) why a b
+met place mode _ l a b = ⊥
+
+-- the call
+abbrev pub try_now : ℕ → Mode → StepSpec
+try_now place mode = record no_steps { fault = own_fault place mode; did = did mode; met = met place mode }
