@@ -53,4 +53,3 @@ pub mod FastWishing
 pub mod SlowFirst
 pub mod FastWishShows
 pub mod FastCalls
-pub mod OldShowings

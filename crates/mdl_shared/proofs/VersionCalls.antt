@@ -17,8 +17,7 @@ use Rattle.mdl_session_laws.proofs.KeptSound.{learns-sound}
 use Rattle.mdl_session_laws.proofs.KeyLists.{is-known}
 use Rattle.mdl_session_laws.proofs.ReadAfter.{HasLearnt, meets-fits}
 use Rattle.mdl_visits.specs.Numbers.{numbered}
-use Rattle.mdl_visits.specs.Visits.{Does, StaysQuiet}
-use Rattle.mdl_visits.proofs.Steps.{quiet_one}
+use Rattle.mdl_visits.specs.Visits.{Does}
 use Rattle.mdl_shared.specs.Members.{IsMember}
 use Rattle.mdl_shared.specs.OwnLists.{told_of}
 use Rattle.mdl_shared.specs.SessionViews.{SessionView, lists_seen, session_at, space_of, tickets_seen}
@@ -90,17 +89,11 @@ module _ {place version : ℕ} {a b : SessionView} (reads : MissesVersion place 
   pub read-number : b.me.0.number ≡ a.me.0.number
   read-number = ap (λ (x : SessionView). x.me.0.number) read-now
 
-  pub read-directory : b.me.0.directory ≡ a.me.0.directory
-  read-directory = ap (λ (x : SessionView). x.me.0.directory) read-now
-
   pub read-log : b.me.0.log ≡ a.me.0.log ++ met-at place version a ∷ []
   read-log = ap (λ (x : SessionView). x.me.0.log) read-now
 
   pub read-does : Does [] a.me b.me
   read-does = (met-at place version a ∷ [], read-log, refl)
-
-  pub read-quiet : StaysQuiet a.me b.me
-  read-quiet = quiet_one (met-at place version a) a.me b.me read-log (refl, refl)
 
 -- ---- the version of what was read was met, and is noted
 
@@ -117,9 +110,6 @@ module _ {place : ℕ} {standing : Standing} {a b : SessionView} (finds : FindsV
 
   pub found-does : Does [] a.me b.me
   found-does = (met-at place standing.version a ∷ [], found-log, refl)
-
-  pub found-quiet : StaysQuiet a.me b.me
-  found-quiet = quiet_one (met-at place standing.version a) a.me b.me found-log (refl, refl)
 
 module _ {s s′ : SessionView} (is : IsMember s) (id : ℕ) (t : Own) (its : numbered id (tickets_seen s.me.0) ≡ Some t) (standing : Standing)
     (met : HasMet (space_of s) s.me.0.number t.place standing) (newest : ReadNoneNewer t.place standing.version s.me) (one : ReadOneStanding t.place standing.version s.me) where
