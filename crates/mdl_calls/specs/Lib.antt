@@ -8,11 +8,13 @@ pub mod Interface
 pub mod Learning
 pub mod Limits
 pub mod Meetings
+pub mod MemberLaws
 pub mod Own
 pub mod Reads
 pub mod Runs
 pub mod Searches
 pub mod SessionData
+pub mod SpaceLaws
 pub mod Waits
 pub mod Words
 pub mod calls

@@ -1,6 +1,6 @@
 //! The trait [`LockSpace`], and the definitions that its contracts cite: its calls and their answers (`specs/Interface`), what
-//! each call promises (a file for each in `specs/calls`), how waits are settled (`specs/Waits`), and programs of calls
-//! (`specs/Runs`).
+//! each call promises (a file for each in `specs/calls`), the laws of spaces (`specs/SpaceLaws`), how waits are settled
+//! (`specs/Waits`), and programs of calls (`specs/Runs`).
 //!
 //! They apply to every space: `CoreSpace` of `mdl_space` is one, and a `Session` of `mdl_shared` another.
 //!

@@ -1,19 +1,11 @@
 //! The trait of lock spaces.
-ghost use Rattle.std.specs.Prelude.{◌≡◌, ◌≤◌, ◌⊎◌, ℕ, Some, true, false, List, Option, Contains};
-ghost use Rattle.std.specs.Option.{IfSome};
-ghost use Rattle.mdl_key.specs.Words.{KeyName, same_mode};
-ghost use Rattle.mdl_key.specs.declared.mode.Mode.{Mode};
-ghost use Rattle.mdl_key.specs.declared.mode.Mode.TheVariants.{X};
+ghost use Rattle.std.specs.Prelude.{◌≡◌, ℕ};
+ghost use Rattle.mdl_key.specs.Words.{KeyName};
 ghost use Rattle.mdl_defs.specs.Caches.{CacheView};
-ghost use Rattle.mdl_defs.specs.declared.change.Change.{Change};
-ghost use Rattle.mdl_defs.specs.declared.definition.Definition.{Definition};
 ghost use Rattle.mdl_defs.specs.declared.standing.Standing.{Standing};
-ghost use Rattle.mdl_defs.specs.Standings.{MayStand, standing_after};
-ghost use Rattle.mdl_system.specs.Strength.{covers};
-ghost use Rattle.mdl_calls.specs.declared.space_error.SpaceError.{SpaceError};
 ghost use Rattle.mdl_calls.specs.declared.answers.Settled.{Settled};
-ghost use Rattle.mdl_calls.specs.declared.answers.Held.{Held};
-ghost use Rattle.mdl_calls.specs.Words.{AreMet, Call, Resolve, Try_now, Begin_wait, Search as Search_by, Poll_wait, Settle_timeout, End_wait, Wait_of, Kill, Release, Clone_ticket, Upgrade_now, Merge, Downgrade, List_held, Read_definition, Read_kept, Change_definition, Tables_of, Key_of, Unpin, caller, Answer, Refused, Would_wait, Changed, Done, Reads, Tables, Key_is, At_place, Victim_is, Has_wait, Has_killed, Holds, is_answer_of, placed, attempted, begun, searched, polled, timed_out, ended, done, cloned, upgrade_tried, listed, Own, Wait, Numbers, own_after, wait_number, is_waiting, IsRising, Draws, IsExplained, told, IsToldOf, HoldsAt, AwaitsAt, AreTablesOf, IsChangeOf, keyed, read, read_under, redefined, redefined_place, tables_told, ticket_held};
+ghost use Rattle.mdl_calls.specs.SpaceLaws.{SpaceLaws};
+ghost use Rattle.mdl_calls.specs.Words.{AreMet, Call, Resolve, Try_now, Begin_wait, Search as Search_by, Poll_wait, Settle_timeout, End_wait, Wait_of, Kill, Release, Clone_ticket, Upgrade_now, Merge, Downgrade, List_held, Read_definition, Read_kept, Change_definition, Tables_of, Key_of, Answer, Has_wait, Has_killed, placed, attempted, begun, searched, polled, timed_out, ended, done, cloned, upgrade_tried, listed, Own, Numbers, keyed, read, redefined, tables_told};
 
 use crate::{
     Attempt, Begun, Ended, Held, Place, Poll, Search, SpaceError, TicketId, TimedOut, Upgrade,
@@ -28,7 +20,7 @@ use mdl_key::{Key, Mode};
 /// session is the same in every space. No call changes what another session holds. A space in which other sessions act at the
 /// same time promises less about the rest than a space of one thread.
 ///
-/// The laws after the methods hold in every space. What a method's text says beyond them holds for `CoreSpace` of `mdl_space`, by
+/// The laws (`specs/SpaceLaws`) hold in every space. What a method's text says beyond them holds for `CoreSpace` of `mdl_space`, by
 /// the laws of `mdl_core`: that a new key takes the next free place, which victim a search chooses, that a clone overtakes
 /// waiters, that a session's other tickets don't block its upgrade, that exactly the tables with a definition are returned, and
 /// that a session has no number left only once it has used the last one.
@@ -214,200 +206,6 @@ pub trait LockSpace {
         requires { speaks_for self.now who }
         ensures { joins self.now (List_held who) (listed result) self.now };
 
-    // A call is made for a session that the space speaks for.
-    ghost allowed: { (a b : Self) (call : Call) (answer : Answer) → joins a call answer b → IfSome (caller call) (speaks_for a) };
-
-    // After a call the space still speaks for the same sessions.
-    ghost keeps: { (a b : Self) (call : Call) (answer : Answer) (w : ℕ) → speaks_for a w → joins a call answer b → speaks_for b w };
-
-    // The call and its answer determine what the caller has afterwards.
-    ghost changes: { (a b : Self) (call : Call) (answer : Answer) (who : ℕ) → caller call ≡ Some who
-        → joins a call answer b → own b who ≡ own_after call answer (own a who) };
-
-    // What other sessions have doesn't change.
-    ghost others: { (a b : Self) (call : Call) (answer : Answer) (w : ℕ) → speaks_for a w → (caller call ≡ Some w → ⊥)
-        → joins a call answer b → own b w ≡ own a w };
-
-    // The numbers of held tickets rise.
-    ghost rising: { (a : Self) (w : ℕ) → speaks_for a w → IsRising (own a w) };
-
-    // Each answer is one that the call can have.
-    ghost fits: { (a b : Self) (call : Call) (answer : Answer) → joins a call answer b → is_answer_of call answer ≡ true };
-
-    // The tickets that `held` returns are those that the session holds.
-    ghost lists: { (a b : Self) (who : ℕ) (tickets : List Held) → joins a (List_held who) (Holds tickets) b
-        → tickets ≡ (own a who).held };
-
-    // A refused call has a cause for its refusal, and a call that isn't refused has none.
-    ghost explains: { (a b : Self) (call : Call) (answer : Answer) (who : ℕ) → caller call ≡ Some who
-        → joins a call answer b → IsExplained (knows a who) call answer (own a who) };
-
-    // A session that resolves a key knows its place.
-    ghost resolves: { (a b : Self) (who place : ℕ) (key : KeyName) → joins a (Resolve who key) (At_place place) b
-        → knows b who place key };
-
-    // A place keeps its key for each session that knows it, until that session gives up its pin.
-    ghost remembers: { (a b : Self) (call : Call) (answer : Answer) (w place : ℕ) (key : KeyName) → speaks_for a w
-        → (call ≡ Unpin w place → answer ≡ Done → ⊥) → joins a call answer b → knows a w place key → knows b w place key };
-
-    // A place has one key.
-    ghost one_key: { (a : Self) (w place : ℕ) (key other : KeyName) → speaks_for a w → knows a w place key
-        → knows a w place other → key ≡ other };
-
-    // A key has one place.
-    ghost one_place: { (a : Self) (w place other : ℕ) (key : KeyName) → speaks_for a w → knows a w place key
-        → knows a w other key → place ≡ other };
-
-    // A session that holds a ticket knows the key of its place.
-    ghost held_places: { (a : Self) (w : ℕ) (ticket : Held) → speaks_for a w → Contains (own a w).held ticket
-        → (key : KeyName) × knows a w ticket.place key };
-
-    // A session that waits knows the key of the place that it waits for.
-    ghost wait_place: { (a : Self) (w : ℕ) (wait : Wait) → speaks_for a w → (own a w).wait ≡ Some wait
-        → (key : KeyName) × knows a w wait.place key };
-
-    // An answer that says how the caller's wait is settled is true.
-    ghost tells: { (a b : Self) (call : Call) (answer : Answer) (who : ℕ) (how : Settled) → caller call ≡ Some who
-        → told call answer ≡ Some how → joins a call answer b → is_settled b who how };
-
-    // A session whose wait is settled has a wait.
-    ghost waits_settled: { (a : Self) (w : ℕ) (how : Settled) → speaks_for a w → is_settled a w how
-        → is_waiting (own a w) ≡ true };
-
-    // A wait is settled in only one way.
-    ghost settled_once: { (a : Self) (w : ℕ) (how other : Settled) → speaks_for a w → is_settled a w how
-        → is_settled a w other → how ≡ other };
-
-    // A settled wait stays settled in the same way, until it is ended.
-    ghost stays: { (a b : Self) (call : Call) (answer : Answer) (w : ℕ) (how : Settled) → speaks_for a w
-        → (call ≡ End_wait w → ⊥) → joins a call answer b → is_settled a w how → is_settled b w how };
-
-    // An answer about the caller's settled wait says in which way it is settled.
-    ghost agrees: { (a b : Self) (call : Call) (answer : Answer) (who : ℕ) (how : Settled) → caller call ≡ Some who
-        → is_settled a who how → joins a call answer b → IsToldOf how call answer };
-
-    // The wait of a deadlock's victim is settled as `Victim`.
-    ghost victims: { (a b : Self) (who victim : ℕ) → speaks_for a victim → joins a (Search_by who) (Victim_is victim) b
-        → is_settled b victim Settled.Victim };
-
-    // The number that `wait_of` returns is that of the session's wait.
-    ghost counts: { (a b : Self) (w : ℕ) (number : Option ℕ) → speaks_for a w → joins a (Wait_of w) (Has_wait number) b
-        → number ≡ wait_number (own a w) };
-
-    // A kill that returns true found a wait of the number that was passed, and this wait is now settled as killed.
-    ghost kills: { (a b : Self) (w number : ℕ) → speaks_for a w → joins a (Kill w number) (Has_killed true) b
-        → (wait_number (own a w) ≡ Some number) × is_settled b w Settled.Killed };
-
-    // A kill that returns false found no wait of the number that was passed, or a settled one.
-    ghost kills_or_settled: { (a b : Self) (w number : ℕ) → speaks_for a w → joins a (Kill w number) (Has_killed false) b
-        → wait_number (own a w) ≡ Some number → (how : Settled) × is_settled b w how };
-
-    // A new ticket or wait of the caller gets the next number. The ticket of an ended wait keeps the number that it got as the wait began.
-    ghost draws: { (a b : Self) (call : Call) (answer : Answer) (who : ℕ) → caller call ≡ Some who
-        → joins a call answer b → Draws call answer (numbers a who) (numbers b who) };
-
-    // Other sessions get no numbers.
-    ghost others_draw: { (a b : Self) (call : Call) (answer : Answer) (w : ℕ) → speaks_for a w → (caller call ≡ Some w → ⊥)
-        → joins a call answer b → numbers b w ≡ numbers a w };
-
-    // A read under a ticket returns the version and the definition of the ticket's place.
-    ghost reads: { (a b : Self) (call : Call) (who id version : ℕ) (definition : Option Definition) (ticket : Held)
-        → caller call ≡ Some who → read_under call ≡ Some id → ticket_held id (own a who) ≡ Some ticket
-        → joins a call (Reads version definition) b
-        → has_read b who ticket.place (record { version = version; definition = definition }) };
-
-    // After a change the session knows the new definition, whose version is the one that the call returned.
-    ghost redefines: { (a b : Self) (who id version : ℕ) (change : Change) (ticket : Held)
-        → ticket_held id (own a who) ≡ Some ticket → joins a (Change_definition who id change) (Changed version) b
-        → (definition : Option Definition)
-        × has_read b who ticket.place (record { version = version; definition = definition }) };
-
-    // If the session had read the definition, a change under a ticket in mode X is applied to that, or is refused because of that or for
-    // lack of memory.
-    ghost redefines_so: { (a b : Self) (who id : ℕ) (change : Change) (answer : Answer) (ticket : Held) (key : KeyName) (standing : Standing)
-        → ticket_held id (own a who) ≡ Some ticket → same_mode ticket.mode X ≡ true → knows a who ticket.place key
-        → has_read a who ticket.place standing → joins a (Change_definition who id change) answer b
-        → IsChangeOf key change standing answer
-        × ((version : ℕ) → answer ≡ Changed version → has_read b who ticket.place (standing_after change standing)) };
-
-    // A place has one version and one definition at a time.
-    ghost reads_one: { (a : Self) (w place : ℕ) (one other : Standing) → speaks_for a w → has_read a w place one
-        → has_read a w place other → one ≡ other };
-
-    // A version and definition that a session has read don't change while it holds a ticket of the place, unless it changes them itself.
-    ghost stands: { (a b : Self) (call : Call) (answer : Answer) (w place : ℕ) (standing : Standing) → speaks_for a w
-        → (caller call ≡ Some w → redefined_place call answer (own a w) ≡ Some place → ⊥) → HoldsAt place (own b w)
-        → joins a call answer b → has_read a w place standing → has_read b w place standing };
-
-    // What was read is a valid version and definition for the place's key.
-    ghost reads_fit: { (a : Self) (w place : ℕ) (key : KeyName) (standing : Standing) → speaks_for a w → knows a w place key
-        → has_read a w place standing → MayStand key.namespace standing };
-
-    // A session has seen each version that it has read.
-    ghost sees: { (a : Self) (w place : ℕ) (standing : Standing) → speaks_for a w → has_read a w place standing
-        → has_seen a w place standing.version };
-
-    // A version that was seen stays seen.
-    ghost seen_stays: { (a b : Self) (call : Call) (answer : Answer) (w place version : ℕ) → speaks_for a w
-        → joins a call answer b → has_seen a w place version → has_seen b w place version };
-
-    // No version that is read is below one that was seen.
-    ghost seen_below: { (a : Self) (w place version : ℕ) (standing : Standing) → speaks_for a w → has_seen a w place version
-        → has_read a w place standing → version ≤ standing.version };
-
-    // A session has met what it has read.
-    ghost meets: { (a : Self) (w place : ℕ) (standing : Standing) → speaks_for a w → has_read a w place standing
-        → has_met a w place standing };
-
-    // What was met stays met.
-    ghost met_stays: { (a b : Self) (call : Call) (answer : Answer) (w place : ℕ) (standing : Standing) → speaks_for a w
-        → joins a call answer b → has_met a w place standing → has_met b w place standing };
-
-    // An upgrade to a mode that the held one covers never has to wait.
-    ghost upgrades: { (a b : Self) (who id : ℕ) (mode : Mode) (ticket : Held) → ticket_held id (own a who) ≡ Some ticket
-        → covers ticket.mode mode ≡ true → joins a (Upgrade_now who id mode) Would_wait b → ⊥ };
-
-    // A session that gets the key of a place knows it.
-    ghost tells_key: { (a b : Self) (who place : ℕ) (key : KeyName) → joins a (Key_of who place) (Key_is key) b
-        → knows b who place key };
-
-    // A session that gets the tables of a schema knows them. They are in the order of their keys.
-    ghost tells_tables: { (a b : Self) (who : ℕ) (schema places : List ℕ) → joins a (Tables_of who schema) (Tables places) b
-        → AreTablesOf (knows b who) schema places };
-
-    // A session that resolves a key pins its place.
-    ghost resolved_pinned: { (a b : Self) (who place : ℕ) (key : KeyName) → joins a (Resolve who key) (At_place place) b
-        → pins b who place };
-
-    // A pin stays until its session gives it up.
-    ghost pins_stay: { (a b : Self) (call : Call) (answer : Answer) (w place : ℕ) → speaks_for a w
-        → (call ≡ Unpin w place → answer ≡ Done → ⊥) → joins a call answer b → pins a w place → pins b w place };
-
-    // A session that pins a place knows its key.
-    ghost pinned_known: { (a : Self) (w place : ℕ) → speaks_for a w → pins a w place
-        → (key : KeyName) × knows a w place key };
-
-    // The place of a held ticket is pinned.
-    ghost held_pinned: { (a : Self) (w : ℕ) (ticket : Held) → speaks_for a w → Contains (own a w).held ticket
-        → pins a w ticket.place };
-
-    // A session pins the place that it waits for.
-    ghost wait_pinned: { (a : Self) (w : ℕ) (wait : Wait) → speaks_for a w → (own a w).wait ≡ Some wait
-        → pins a w wait.place };
-
-    // After a call no session owes a reschedule that it didn't owe before.
-    ghost no_new_debts: { (a b : Self) (call : Call) (answer : Answer) (w place : ℕ) → speaks_for a w
-        → joins a call answer b → owes b w place → owes a w place };
-
-    // Giving up a pin fails with `NoPlace` only if the session doesn't pin the place.
-    ghost unpins_none: { (a b : Self) (who place : ℕ) → joins a (Unpin who place) (Refused SpaceError.NoPlace) b
-        → pins a who place → ⊥ };
-
-    // Giving up a pin fails with `InUse` only if the session has a ticket or a wait at the place, or owes it a reschedule.
-    ghost unpins_in_use: { (a b : Self) (who place : ℕ) → joins a (Unpin who place) (Refused SpaceError.InUse) b
-        → HoldsAt place (own a who) ⊎ AwaitsAt place (own a who) ⊎ owes a who place };
-
-    // A pin is given up only if the session has it, and has no ticket and no wait at the place.
-    ghost unpins: { (a b : Self) (who place : ℕ) → joins a (Unpin who place) Done b
-        → pins a who place × (HoldsAt place (own a who) → ⊥) × (AwaitsAt place (own a who) → ⊥) };
+    // What holds of the ghost members in every space.
+    ghost laws: { SpaceLaws speaks_for own knows is_settled numbers has_read has_met has_seen pins owes joins };
 }

@@ -8,9 +8,10 @@ use Rattle.mdl_key.specs.Keys.{KeyName, key_eq}
 use Rattle.mdl_system.proofs.Deciding.{key-Decides}
 use Rattle.mdl_calls.specs.declared.answers.Held.{Held}
 use Rattle.mdl_calls.specs.declared.answers.Settled.{Settled}
-use Rattle.mdl_calls.specs.Words.{Answer, Done, Granted, Lost, Call, End_wait, Unpin, caller, Own, own_after, gaining}
+use Rattle.mdl_calls.specs.Words.{Answer, Granted, Lost, Call, End_wait, Unpin, caller, Own, own_after, gaining}
 use Rattle.mdl_calls.specs.Own.{waiting}
 use Rattle.mdl_calls.specs.declared.lock_space.LockSpace.{Ghosts}
+use Rattle.mdl_calls.specs.MemberLaws.{LawsOf}
 use Rattle.mdl_context.specs.declared.kept.Kept.{Kept}
 use Rattle.mdl_context.specs.declared.kept.Wanted.{Wanted}
 use Rattle.mdl_context.specs.Contexts.{ContextView, Attends, IsAwaited, Serves, held_of, place_known, is_known_place}
@@ -161,23 +162,19 @@ module _ {S : Type 0} {members : Ghosts S} where
 
 -- ---- over a call
 
-module _ {S : Type 0} (members : Ghosts S)
-    (keeps : (a b : S) (call : Call) (answer : Answer) (w : ℕ) → members.speaks_for a w → members.joins a call answer b → members.speaks_for b w)
-    (changes : (a b : S) (call : Call) (answer : Answer) (who : ℕ) → caller call ≡ Some who → members.joins a call answer b → members.own b who ≡ own_after call answer (members.own a who))
-    (remembers : (a b : S) (call : Call) (answer : Answer) (w place : ℕ) (key : KeyName) → members.speaks_for a w → (call ≡ Unpin w place → answer ≡ Done → ⊥) → members.joins a call answer b
-    → members.knows a w place key → members.knows b w place key) where
+module _ {S : Type 0} (members : Ghosts S) (laws : LawsOf members) where
   -- what is known stays known
   pub known-still : (a b : S) (call : Call) (answer : Answer) (who : ℕ) → members.speaks_for a who → unpins call ≡ false → members.joins a call answer b
       → (place : ℕ) (key : KeyName) → members.knows a who place key → members.knows b who place key
-  known-still a b call answer who speaks stays step place key = remembers a b call answer who place key speaks (λ e done. cc) step
+  known-still a b call answer who speaks stays step place key = laws.remembers a b call answer who place key speaks (λ e done. cc) step
 
   -- the context serves what the call makes of the session
   pub attends-after : (a b : S) (call : Call) (answer : Answer) (before after : ContextView) → Attends members a before → caller call ≡ Some before.who → unpins call ≡ false
       → members.joins a call answer b → Serves (own_after call answer (members.own a before.who)) after → after.who ≡ before.who → after.known ≡ before.known → ArePlaced before.known after.kept
       → IsAwaitedIn before.known after.kept after.wait → Attends members b after
   attends-after a b call answer before after attends by stays step serves same known placed wished =
-      let now : members.own b before.who ≡ own_after call answer (members.own a before.who) = changes a b call answer before.who by step in
-      attends-over a b before after attends (known-still a b call answer before.who attends.speaks stays step) (keeps a b call answer before.who attends.speaks step)
+      let now : members.own b before.who ≡ own_after call answer (members.own a before.who) = laws.changes a b call answer before.who by step in
+      attends-over a b before after attends (known-still a b call answer before.who attends.speaks stays step) (laws.keeps a b call answer before.who attends.speaks step)
       (subst (λ (o : Own). Serves o after) (sym now) serves) same known placed wished
 
   -- a call that does nothing to the session

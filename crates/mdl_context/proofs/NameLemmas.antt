@@ -4,8 +4,8 @@ use Rattle.std.specs.Prelude.{◌==◌, not, All, filter}
 use Rattle.std.proofs.lemmas.List.Elements.{All-head, All-tail}
 use Rattle.mdl_key.specs.Keys.{KeyName, key_eq}
 use Rattle.mdl_system.proofs.Deciding.{key-Decides}
-use Rattle.mdl_calls.specs.Own.{IsRising}
 use Rattle.mdl_calls.specs.declared.lock_space.LockSpace.{Ghosts}
+use Rattle.mdl_calls.specs.MemberLaws.{LawsOf}
 use Rattle.mdl_context.specs.declared.kept.Kept.{Kept}
 use Rattle.mdl_context.specs.Contexts.{AreRising, place_known, is_known_place, without}
 use Rattle.mdl_context.specs.Holdings.{is_at}
@@ -18,10 +18,7 @@ none-pass : (p : Kept → Bool) (kept : List Kept) → filter p (filter (λ t. n
 none-pass p [] = refl
 none-pass p (t ∷ ts) = grind (arith, none-pass p ts)
 
-module _ {S : Type 0} (members : Ghosts S)
-    (rising : (a : S) (w : ℕ) → members.speaks_for a w → IsRising (members.own a w))
-    (one_key : (a : S) (w place : ℕ) (key other : KeyName) → members.speaks_for a w → members.knows a w place key → members.knows a w place other → key ≡ other)
-    (one_place : (a : S) (w place other : ℕ) (key : KeyName) → members.speaks_for a w → members.knows a w place key → members.knows a w other key → place ≡ other) where
+module _ {S : Type 0} (members : Ghosts S) (laws : LawsOf members) where
   module _ (space : S) (who : ℕ) (speaks : members.speaks_for space who) (key : KeyName) where
     -- the place that a context knows is the key's
     knows-there : (known : List (KeyName × ℕ)) (place : ℕ) → All (λ (entry : KeyName × ℕ). members.knows space who entry.1 entry.0) known → place_known key known ≡ Some place → members.knows space who place key
@@ -42,7 +39,7 @@ module _ {S : Type 0} (members : Ghosts S)
       other : key_eq key e.0 ≡ false → (b : Bool) → (e.1 == place) ≡ b → b ≡ false
       other differs true same =
           let there : members.knows space who place e.0 = subst (λ p. members.knows space who p e.0) (equal e.1 place same) (All-head (λ (entry : KeyName × ℕ). members.knows space who entry.1 entry.0) e es all) in
-          let one : key ≡ e.0 = one_key space who place key e.0 speaks knew there in
+          let one : key ≡ e.0 = laws.one_key space who place key e.0 speaks knew there in
           absurd (grind (arith, differs, (key-Decides key e.0).1 one))
       other differs false same = refl
 
@@ -69,7 +66,7 @@ module _ {S : Type 0} (members : Ghosts S)
         ap (filter (is_at place)) (without-none context.kept)
         ∙ none-at context.known place context.kept attends.places (not-there space context.who attends.speaks key context.known place attends.known knew none)
     go (Some there) found =
-        let same : place ≡ there = one_place space context.who place there key attends.speaks knew (knows-there space context.who attends.speaks key context.known there attends.known found) in
-        let rises : AreRising context.kept = rising-kept _ context (rising space context.who attends.speaks) attends.serves in
+        let same : place ≡ there = laws.one_place space context.who place there key attends.speaks knew (knows-there space context.who attends.speaks key context.known there attends.known found) in
+        let rises : AreRising context.kept = rising-kept _ context (laws.rising space context.who attends.speaks) attends.serves in
         subst (λ p. filter (is_at p) (without (filter (is_at there) context.kept) context.kept) ≡ []) (sym same)
         (ap (filter (is_at there)) (sym (others-without (is_at there) context.kept rises)) ∙ none-pass (is_at there) context.kept)

@@ -1,11 +1,10 @@
 -- A context makes its calls for its own session, so nothing changes for the others.
 use Rattle.std.proofs.Common.{◌≡◌, ◌≢◌, ℕ, List, Option, Some, inl, inr, refl, sym, ap, ◌∙◌, subst}
 use Rattle.mdl_key.specs.declared.mode.Mode.{Mode}
-use Rattle.mdl_key.specs.Keys.{KeyName}
-use Rattle.mdl_defs.specs.declared.standing.Standing.{Standing}
 use Rattle.mdl_calls.specs.declared.answers.Held.{Held}
-use Rattle.mdl_calls.specs.Words.{Answer, Done, Call, Unpin, caller, EachCall, Program, Runs, Give, Ask, Grow}
+use Rattle.mdl_calls.specs.Words.{Answer, Call, Unpin, caller, EachCall, Program, Runs, Give, Ask, Grow}
 use Rattle.mdl_calls.specs.declared.lock_space.LockSpace.{Ghosts}
+use Rattle.mdl_calls.specs.MemberLaws.{LawsOf}
 use Rattle.mdl_context.specs.declared.kept.Kept.{Kept}
 use Rattle.mdl_context.specs.declared.request.Acquire.{Acquire}
 use Rattle.mdl_context.specs.declared.request.Tried.{Tried}
@@ -44,13 +43,7 @@ both-leave members who a mid b first second = (
       (there.0, λ place standing met. there.1 place standing (here.1 place standing met)),
 )
 
-module _ {S : Type 0} (members : Ghosts S)
-    (keeps : (a b : S) (call : Call) (answer : Answer) (w : ℕ) → members.speaks_for a w → members.joins a call answer b → members.speaks_for b w)
-    (others : (a b : S) (call : Call) (answer : Answer) (w : ℕ) → members.speaks_for a w → (caller call ≡ Some w → ⊥) → members.joins a call answer b → members.own b w ≡ members.own a w)
-    (remembers : (a b : S) (call : Call) (answer : Answer) (w place : ℕ) (key : KeyName) → members.speaks_for a w → (call ≡ Unpin w place → answer ≡ Done → ⊥) → members.joins a call answer b
-    → members.knows a w place key → members.knows b w place key)
-    (met_stays : (a b : S) (call : Call) (answer : Answer) (w place : ℕ) (standing : Standing) → members.speaks_for a w → members.joins a call answer b
-    → members.has_met a w place standing → members.has_met b w place standing) where
+module _ {S : Type 0} (members : Ghosts S) (laws : LawsOf members) where
   not-theirs : (call : Call) (w who place : ℕ) → w ≢ who → caller call ≡ Some who → call ≡ Unpin w place → ⊥
   not-theirs call w who place other made e = other (unwrap (ap caller (sym e) ∙ made)) where
     unwrap : Some w ≡ Some who → w ≡ who
@@ -60,11 +53,11 @@ module _ {S : Type 0} (members : Ghosts S)
   pub leaves-call : (a b : S) (call : Call) (answer : Answer) (who : ℕ) → caller call ≡ Some who → members.joins a call answer b → LeavesOthers members who a b
   leaves-call a b call answer who made step = (
     λ w other speaks. (
-      keeps a b call answer w speaks step,
-      others a b call answer w speaks (λ e. other (cc)) step,
-      λ place key known. remembers a b call answer w place key speaks (λ e _. not-theirs call w who place other made e) step known,
+      laws.keeps a b call answer w speaks step,
+      laws.others a b call answer w speaks (λ e. other (cc)) step,
+      λ place key known. laws.remembers a b call answer w place key speaks (λ e _. not-theirs call w who place other made e) step known,
     ),
-    λ w speaks. (keeps a b call answer w speaks step, λ place standing met. met_stays a b call answer w place standing speaks step met),
+    λ w speaks. (laws.keeps a b call answer w speaks step, λ place standing met. laws.met_stays a b call answer w place standing speaks step met),
   )
 
   pub leaves : {A : Type 0} (who : ℕ) (program : Program A) (a b : S) (reply : A) → IsFor who program → Runs members.joins a program reply b → LeavesOthers members who a b

@@ -14,11 +14,12 @@ use Rattle.mdl_system.proofs.StrengthLemmas.{upgrade-raises}
 use Rattle.mdl_calls.specs.declared.answers.Held.{Held}
 use Rattle.mdl_calls.specs.declared.space_error.SpaceError.{SpaceError}
 use Rattle.mdl_calls.specs.Causes.{Knowledge, IsFit, Mergeable}
-use Rattle.mdl_calls.specs.Own.{changing, upgraded, waiting}
+use Rattle.mdl_calls.specs.Own.{changing, waiting}
 use Rattle.mdl_calls.specs.Own as owned
-use Rattle.mdl_calls.specs.Words.{Answer, Done, Call, Upgrade_now, Unpin, caller, Own, IsRising, own_after, gaining, giving_up, is_number, ticket_held, Runs, Give, Ask, IsClear}
+use Rattle.mdl_calls.specs.Words.{Answer, Call, Upgrade_now, caller, Own, IsRising, own_after, gaining, giving_up, is_number, ticket_held, Runs, Give, Ask, IsClear}
 use Rattle.mdl_calls.proofs.RunLemmas.{runs_bind}
 use Rattle.mdl_calls.specs.declared.lock_space.LockSpace.{Ghosts}
+use Rattle.mdl_calls.specs.MemberLaws.{LawsOf}
 use Rattle.mdl_context.specs.declared.asking.Got.{Got}
 use Rattle.mdl_context.specs.declared.asking.Got.TheVariants as got
 use Rattle.mdl_context.specs.declared.context_error.ContextError.TheVariants.{NotHeld, Waiting, Space}
@@ -176,17 +177,13 @@ module _ {S : Type 0} {members : Ghosts S} where
 
 -- ---- over a call
 
-module _ {S : Type 0} (members : Ghosts S)
-    (keeps : (a b : S) (call : Call) (answer : Answer) (w : ℕ) → members.speaks_for a w → members.joins a call answer b → members.speaks_for b w)
-    (changes : (a b : S) (call : Call) (answer : Answer) (who : ℕ) → caller call ≡ Some who → members.joins a call answer b → members.own b who ≡ own_after call answer (members.own a who))
-    (remembers : (a b : S) (call : Call) (answer : Answer) (w place : ℕ) (key : KeyName) → members.speaks_for a w → (call ≡ Unpin w place → answer ≡ Done → ⊥) → members.joins a call answer b
-    → members.knows a w place key → members.knows b w place key) where
+module _ {S : Type 0} (members : Ghosts S) (laws : LawsOf members) where
   -- the mode of a ticket is changed
   pub attends-in_mode : (a b : S) (call : Call) (answer : Answer) (id : ℕ) (f : Mode → Mode) (before after : ContextView) → Attends members a before
       → caller call ≡ Some before.who → unpins call ≡ false → members.joins a call answer b → own_after call answer (members.own a before.who) ≡ changing id f (members.own a before.who) → after.who ≡ before.who
       → after.known ≡ before.known → after.kept ≡ in_mode id f before.kept → after.wait ≡ before.wait → is_some before.wait ≡ false → Attends members b after
   attends-in_mode a b call answer id f before after attends by stays step changed_there who known kept wait idle =
-      attends-after members keeps changes remembers a b call answer before after attends by stays step
+      attends-after members laws a b call answer before after attends by stays step
       (serves-in_mode id f (members.own a before.who) (own_after call answer (members.own a before.who)) before after attends.serves changed_there kept wait) who known
       (subst (ArePlaced before.known) (sym kept) (placed-in_mode before.known id f before.kept attends.places))
       (awaited-idle before.known after.kept after.wait (ap is_some wait ∙ idle))

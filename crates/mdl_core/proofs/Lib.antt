@@ -30,6 +30,7 @@ pub mod SearchRuns
 pub mod SessionAnswers
 pub mod SessionHas
 pub mod SessionWaits
+pub mod SpaceLaws
 pub mod SparedSeats
 pub mod TableLists
 pub mod TicketLists

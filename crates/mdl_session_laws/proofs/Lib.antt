@@ -9,5 +9,7 @@ pub mod ReadAfter
 pub mod ReadLaws
 pub mod ReadLists
 pub mod RefusedCalls
+pub mod SessionLaws
 pub mod TicketLists
+pub mod ViewLaws
 pub mod WaitLaws

@@ -69,8 +69,8 @@ in-order {s} {s′} is order number sound = record {
       (is.words ∙ ap (word_count s.table.slots) (sym order.sessions));
 }
 
-pub kept : {s s′ : SessionView} {call : Call} {answer : Answer} → IsMember s → StaysInOrder s s′ → Joins (space_of s) call answer (space_of s′) → IsMember s′
-kept {s} {s′} {call} {answer} is order joins = in-order is order joins.number (keeps-sound (space_of s) (space_of s′) call answer is.sound joins)
+pub kept : {s s′ : SessionView} (call : Call) {answer : Answer} → IsMember s → StaysInOrder s s′ → Joins (space_of s) call answer (space_of s′) → IsMember s′
+kept {s} {s′} call {answer} is order joins = in-order is order joins.number (keeps-sound (space_of s) (space_of s′) call answer is.sound joins)
 
 -- whatever room it has
 pub member-room : {s : SessionView} → IsMember s → (r : Room) → IsMember (record s { room = r })

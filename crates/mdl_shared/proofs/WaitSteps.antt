@@ -63,7 +63,7 @@ asked s waiting none = absurd (false≢true (sym (ap is_some none) ∙ waiting))
 -- what is always so of a session stays so where it does no deed
 pub still-member : {place : ℕ} {s s′ : SessionView} → HasDone place [] s s′ → IsMember s → IsMember s′
 still-member {s = s} {s′ = s′} done is =
-    kept {call = Search s.me.0.number} {answer = No_cycle} is (done-order done is (inr refl))
+    kept (Search s.me.0.number) {answer = No_cycle} is (done-order done is (inr refl))
     (joins-still s s′ (Search s.me.0.number) No_cycle (done-nothing done) (speaks is) refl refl refl refl tt tt refl (λ state how met. cc) (λ how told. cc) refl (λ r. r) tt)
 
 -- the word of a session's wait is one of the table's

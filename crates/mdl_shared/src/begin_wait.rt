@@ -1,9 +1,10 @@
 //! Requests a lock, and begins to wait for it if it can't be granted now.
 ghost use Rattle.std.specs.Prelude.{◌≡◌, ◌⊎◌, [], None, Some, IfErr, IfOk, OnErr};
+ghost use Rattle.mdl_calls.specs.CallSpec.{Transition};
+ghost use Rattle.mdl_calls.specs.calls.BeginWait as call;
 ghost use Rattle.mdl_calls.specs.declared.space_error.SpaceError.TheVariants.{Full, OutOfMemory};
-ghost use Rattle.mdl_calls.specs.Words.{Begin_wait, begun};
+ghost use Rattle.mdl_calls.specs.Words.{begun};
 ghost use Rattle.mdl_key.specs.Words.{is_obtrusive};
-ghost use Rattle.mdl_session_laws.specs.SessionJoins.{Joins};
 ghost use Rattle.mdl_visits.specs.Visits.{IsVisit, MeetsFull};
 ghost use Rattle.mdl_shared.specs.DeedsDone.{DoesQuietly};
 ghost use Rattle.mdl_shared.specs.FastWishes.{HasBegun};
@@ -28,7 +29,7 @@ impl<R: Wait> Session<R> {
     /// Requests a lock, and begins to wait for it if it can't be granted now. The call itself waits only while another session holds the
     /// latch of a place. It takes all memory that the session's own lists need, also for the end of the wait.
     pub fn begin_wait(&mut self, place: Place, mode: Mode) -> Result<Begun, SpaceError>
-        ensures joined { Joins (space_of self.old) (Begin_wait self.old.me.0.number place mode) (begun result) (space_of self.new) }
+        ensures joined { Transition (call.begin_wait self.old.me.0.number place mode) (begun result) (space_of self.old) (space_of self.new) }
         ensures shown { TakesSteps (steps.begin_wait place mode) (begun result) self.old self.new }
     {
         let place = place as usize;

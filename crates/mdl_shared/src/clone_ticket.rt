@@ -1,9 +1,10 @@
 //! Makes a second ticket of one that the session holds.
 ghost use Rattle.std.specs.Prelude.{◌≡◌, ◌⊎◌, ◌∷◌, [], None, Some, IfErr, IfOk, OnErr};
 ghost use Rattle.mdl_key.specs.Refusals.{RefusesJust};
+ghost use Rattle.mdl_calls.specs.CallSpec.{Transition};
+ghost use Rattle.mdl_calls.specs.calls.CloneTicket as call;
 ghost use Rattle.mdl_calls.specs.declared.space_error.SpaceError.TheVariants.{Full, OutOfMemory};
-ghost use Rattle.mdl_calls.specs.Words.{Clone_ticket, cloned};
-ghost use Rattle.mdl_session_laws.specs.SessionJoins.{Joins};
+ghost use Rattle.mdl_calls.specs.Words.{cloned};
 ghost use Rattle.mdl_steps.specs.declared.deed.Deed.TheVariants.{Gain};
 ghost use Rattle.mdl_steps.specs.Interleavings.{interleaved};
 ghost use Rattle.mdl_visits.specs.Numbers.{numbered};
@@ -33,7 +34,7 @@ impl<R: Wait> Session<R> {
     /// Gives the session a second ticket at the place of a held one, in a mode that the held one covers, and returns its number. The new
     /// ticket overtakes waiters.
     pub fn clone_ticket(&mut self, id: TicketId, mode: Mode) -> Result<TicketId, SpaceError>
-        ensures joined { Joins (space_of self.old) (Clone_ticket self.old.me.0.number id mode) (cloned result) (space_of self.new) }
+        ensures joined { Transition (call.clone_ticket self.old.me.0.number id mode) (cloned result) (space_of self.old) (space_of self.new) }
         ensures shown { TakesSteps (steps.clone_ticket id mode) (cloned result) self.old self.new }
     {
         let (held, kind) = self.member.clonable(id, mode)?;

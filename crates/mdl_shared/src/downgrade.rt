@@ -1,8 +1,9 @@
 //! Gives a ticket a weaker mode.
 ghost use Rattle.std.specs.Prelude.{IfOk, Some, ◌≡◌};
 ghost use Rattle.mdl_key.specs.Refusals.{RefusesJust};
-ghost use Rattle.mdl_calls.specs.Words.{Downgrade, done};
-ghost use Rattle.mdl_session_laws.specs.SessionJoins.{Joins};
+ghost use Rattle.mdl_calls.specs.CallSpec.{Transition};
+ghost use Rattle.mdl_calls.specs.calls.Downgrade as call;
+ghost use Rattle.mdl_calls.specs.Words.{done};
 ghost use Rattle.mdl_steps.specs.Interleavings.{interleaved};
 ghost use Rattle.mdl_visits.specs.Numbers.{numbered};
 ghost use Rattle.mdl_shared.specs.Modes.{downgrade_fault};
@@ -23,7 +24,7 @@ impl<R: Wait> Session<R> {
     /// Gives a held ticket a weaker mode: X becomes SU, SNW or SNRW, and SNW becomes SU. Grants the waits at its place that can be granted
     /// then. It takes no memory.
     pub fn downgrade(&mut self, id: TicketId, mode: Mode) -> Result<(), SpaceError>
-        ensures joined { Joins (space_of self.old) (Downgrade self.old.me.0.number id mode) (done result) (space_of self.new) }
+        ensures joined { Transition (call.downgrade self.old.me.0.number id mode) (done result) (space_of self.old) (space_of self.new) }
         ensures shown { TakesSteps (steps.downgrade id mode) (done result) self.old self.new }
     {
         let held = self.member.downgradable(id, mode)?;

@@ -1,7 +1,8 @@
 //! Ends the session's wait.
 ghost use Rattle.std.specs.Prelude.{◌≡◌};
-ghost use Rattle.mdl_calls.specs.Words.{End_wait, ended};
-ghost use Rattle.mdl_session_laws.specs.SessionJoins.{Joins};
+ghost use Rattle.mdl_calls.specs.CallSpec.{Transition};
+ghost use Rattle.mdl_calls.specs.calls.EndWait as call;
+ghost use Rattle.mdl_calls.specs.Words.{ended};
 ghost use Rattle.mdl_shared.specs.Endings.{lost_end};
 ghost use Rattle.mdl_shared.specs.SessionViews.{space_of};
 ghost use Rattle.mdl_shared.specs.StepSpec.{TakesSteps};
@@ -29,7 +30,7 @@ impl<R: Wait> Session<R> {
     /// Ends the session's wait. If it was granted, the session holds the ticket. If it was lost, the ticket is removed, and the waits at its
     /// place that can be granted then are granted. Refused with [`SpaceError::Unsettled`] while the wait isn't settled. It takes no memory.
     pub fn end_wait(&mut self) -> Result<Ended, SpaceError>
-        ensures joined { Joins (space_of self.old) (End_wait self.old.me.0.number) (ended result) (space_of self.new) }
+        ensures joined { Transition (call.end_wait self.old.me.0.number) (ended result) (space_of self.old) (space_of self.new) }
         ensures shown { TakesSteps steps.end_wait (ended result) self.old self.new }
     {
         let member = &mut self.member;

@@ -1,8 +1,9 @@
 //! Merges two tickets.
 ghost use Rattle.std.specs.Prelude.{◌≡◌, ◌∷◌, [], IfOk, None, Some};
 ghost use Rattle.mdl_key.specs.Refusals.{RefusesJust};
-ghost use Rattle.mdl_calls.specs.Words.{Merge, done};
-ghost use Rattle.mdl_session_laws.specs.SessionJoins.{Joins};
+ghost use Rattle.mdl_calls.specs.CallSpec.{Transition};
+ghost use Rattle.mdl_calls.specs.calls.Merge as call;
+ghost use Rattle.mdl_calls.specs.Words.{done};
 ghost use Rattle.mdl_steps.specs.declared.deed.Deed.TheVariants.{Alter, Lose};
 ghost use Rattle.mdl_steps.specs.Interleavings.{interleaved};
 ghost use Rattle.mdl_visits.specs.Leavings.{MergesOwn};
@@ -29,7 +30,7 @@ impl<R: Wait> Session<R> {
     /// keeps its number. If the session has fast tickets, they become slow first: that takes memory, and the call is refused if there is no
     /// room for them.
     pub fn merge(&mut self, old: TicketId, new: TicketId) -> Result<(), SpaceError>
-        ensures joined { Joins (space_of self.old) (Merge self.old.me.0.number old new) (done result) (space_of self.new) }
+        ensures joined { Transition (call.merge self.old.me.0.number old new) (done result) (space_of self.old) (space_of self.new) }
         ensures shown { TakesSteps (steps.merge old new) (done result) self.old self.new }
     {
         let (kept, gone) = self.member.mergeable(old, new)?;

@@ -1,8 +1,9 @@
 //! Reads the definition of a key under a ticket, from the session's cache if that keeps it.
 ghost use Rattle.std.specs.Prelude.{◌≡◌, ◌<◌, IfOk, OnErr};
-ghost use Rattle.mdl_calls.specs.Words.{AreMet, Read_kept, read};
+ghost use Rattle.mdl_calls.specs.CallSpec.{Transition};
+ghost use Rattle.mdl_calls.specs.calls.ReadKept as call;
+ghost use Rattle.mdl_calls.specs.Words.{AreMet, read};
 ghost use Rattle.mdl_calls.specs.SessionData.{HasMet};
-ghost use Rattle.mdl_session_laws.specs.SessionJoins.{Joins};
 ghost use Rattle.mdl_shared.specs.KeptReads.{MayKeep, ReadsKept};
 ghost use Rattle.mdl_shared.specs.SessionViews.{space_of};
 ghost use Rattle.mdl_shared.specs.StepSpec.{TakesSteps};
@@ -20,7 +21,7 @@ impl<R: Wait> Session<R> {
     /// noted under the ticket nevertheless.
     pub fn read_kept(&mut self, id: TicketId, cache: &mut DefCache) -> Result<Standing, SpaceError>
         requires met { AreMet (HasMet (space_of self.old) self.old.me.0.number) cache.old.kept }
-        ensures joined { Joins (space_of self.old) (Read_kept self.old.me.0.number id) (read result) (space_of self.new) }
+        ensures joined { Transition (call.read_kept self.old.me.0.number id) (read result) (space_of self.old) (space_of self.new) }
         ensures shown { TakesSteps (steps.read_kept id) (read result) self.old self.new }
         ensures met { AreMet (HasMet (space_of self.new) self.new.me.0.number) cache.new.kept }
         ensures capacity { cache.new.capacity ≡ cache.old.capacity }

@@ -1,8 +1,9 @@
 //! Releases a ticket.
 ghost use Rattle.std.specs.Prelude.{◌≡◌, ◌∷◌, [], Some};
-ghost use Rattle.mdl_calls.specs.Words.{Release, done};
+ghost use Rattle.mdl_calls.specs.CallSpec.{Transition};
+ghost use Rattle.mdl_calls.specs.calls.Release as call;
+ghost use Rattle.mdl_calls.specs.Words.{done};
 ghost use Rattle.mdl_steps.specs.declared.deed.Deed.TheVariants.{Lose};
-ghost use Rattle.mdl_session_laws.specs.SessionJoins.{Joins};
 ghost use Rattle.mdl_visits.specs.Numbers.{numbered};
 ghost use Rattle.mdl_visits.specs.Visits.{Does};
 ghost use Rattle.mdl_shared.specs.DeedsDone.{HasDone};
@@ -24,7 +25,7 @@ impl<R: Wait> Session<R> {
     /// Releases a ticket, and grants the waits at its place that can be granted then. A fast ticket is released by one step on the word of
     /// its place. The latch is taken then only if that step finds that a session may be waiting there. It takes no memory.
     pub fn release(&mut self, id: TicketId) -> Result<(), SpaceError>
-        ensures joined { Joins (space_of self.old) (Release self.old.me.0.number id) (done result) (space_of self.new) }
+        ensures joined { Transition (call.release self.old.me.0.number id) (done result) (space_of self.old) (space_of self.new) }
         ensures shown { TakesSteps (steps.release id) (done result) self.old self.new }
     {
         let Some((held, fast)) = self.member.tickets.find(id) else {

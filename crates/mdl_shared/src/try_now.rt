@@ -1,9 +1,10 @@
 //! Requests a lock, without waiting.
 ghost use Rattle.std.specs.Prelude.{◌≡◌, ◌⊎◌, true, [], None, Some, IfErr, IfOk, OnErr};
+ghost use Rattle.mdl_calls.specs.CallSpec.{Transition};
+ghost use Rattle.mdl_calls.specs.calls.TryNow as call;
 ghost use Rattle.mdl_calls.specs.declared.space_error.SpaceError.TheVariants.{Full, OutOfMemory};
-ghost use Rattle.mdl_calls.specs.Words.{Try_now, attempted};
+ghost use Rattle.mdl_calls.specs.Words.{attempted};
 ghost use Rattle.mdl_key.specs.Words.{is_obtrusive};
-ghost use Rattle.mdl_session_laws.specs.SessionJoins.{Joins};
 ghost use Rattle.mdl_visits.specs.Visits.{IsVisit, MeetsFullWish};
 ghost use Rattle.mdl_shared.specs.DeedsDone.{DoesQuietly};
 ghost use Rattle.mdl_shared.specs.FastWishes.{HasTried};
@@ -26,7 +27,7 @@ use std::sync::Wait;
 impl<R: Wait> Session<R> {
     /// Requests a lock, without waiting for it. The call waits only while another session holds the latch of a place.
     pub fn try_now(&mut self, place: Place, mode: Mode) -> Result<Attempt, SpaceError>
-        ensures joined { Joins (space_of self.old) (Try_now self.old.me.0.number place mode) (attempted result) (space_of self.new) }
+        ensures joined { Transition (call.try_now self.old.me.0.number place mode) (attempted result) (space_of self.old) (space_of self.new) }
         ensures shown { TakesSteps (steps.try_now place mode) (attempted result) self.old self.new }
     {
         let place = place as usize;

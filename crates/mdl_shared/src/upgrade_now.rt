@@ -2,9 +2,10 @@
 ghost use Rattle.std.specs.Prelude.{◌≡◌, ◌∷◌, [], false, true, IfOk, None, Some};
 ghost use Rattle.mdl_key.specs.Refusals.{RefusesJust};
 ghost use Rattle.mdl_system.specs.Strength.{covers};
+ghost use Rattle.mdl_calls.specs.CallSpec.{Transition};
+ghost use Rattle.mdl_calls.specs.calls.UpgradeNow as call;
 ghost use Rattle.mdl_calls.specs.declared.answers.Upgrade.TheVariants.{Upgraded, WouldWait};
-ghost use Rattle.mdl_calls.specs.Words.{Upgrade_now, upgrade_tried};
-ghost use Rattle.mdl_session_laws.specs.SessionJoins.{Joins};
+ghost use Rattle.mdl_calls.specs.Words.{upgrade_tried};
 ghost use Rattle.mdl_steps.specs.declared.deed.Deed.TheVariants.{Alter};
 ghost use Rattle.mdl_steps.specs.Interleavings.{interleaved};
 ghost use Rattle.mdl_visits.specs.Numbers.{numbered};
@@ -34,7 +35,7 @@ impl<R: Wait> Session<R> {
     /// Otherwise the session's fast tickets, if it has any, become slow first: that takes memory, and the call is refused if there is no room
     /// for them.
     pub fn upgrade_now(&mut self, id: TicketId, mode: Mode) -> Result<Upgrade, SpaceError>
-        ensures joined { Joins (space_of self.old) (Upgrade_now self.old.me.0.number id mode) (upgrade_tried result) (space_of self.new) }
+        ensures joined { Transition (call.upgrade_now self.old.me.0.number id mode) (upgrade_tried result) (space_of self.old) (space_of self.new) }
         ensures shown { TakesSteps (steps.upgrade_now id mode) (upgrade_tried result) self.old self.new }
     {
         let held = self.member.upgradable(id, mode)?;

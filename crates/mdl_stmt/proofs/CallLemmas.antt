@@ -16,9 +16,10 @@ use Rattle.std.proofs.Common.{◌≡◌, ◌≢◌, ℕ, refl, Some, None, Resul
 use Rattle.mdl_key.specs.Keys.{KeyName}
 use Rattle.mdl_key.specs.declared.mode.Mode.{Mode}
 use Rattle.mdl_calls.specs.declared.space_error.SpaceError.{SpaceError}
-use Rattle.mdl_calls.specs.Words.{AreMet, Answer, Done, Call, Unpin, caller, Runs, Change_definition, Changed, Has_killed, Has_wait, Key_is, Key_of, Kill, Read_kept, Reads, Refused, Tables, Tables_of, Wait_of}
+use Rattle.mdl_calls.specs.Words.{AreMet, Answer, Call, Unpin, caller, Runs, Change_definition, Changed, Has_killed, Has_wait, Key_is, Key_of, Kill, Read_kept, Reads, Refused, Tables, Tables_of, Wait_of}
 use Rattle.mdl_calls.proofs.CacheLemmas.{still-met}
 use Rattle.mdl_calls.specs.declared.lock_space.LockSpace.{Ghosts}
+use Rattle.mdl_calls.specs.MemberLaws.{LawsOf}
 use Rattle.mdl_context.specs.Contexts.{ContextView, Attends}
 use Rattle.mdl_context.proofs.AttendLemmas.{attends-same}
 use Rattle.mdl_rows.specs.declared.ending.Ending.{Ending}
@@ -34,39 +35,32 @@ use Rattle.mdl_stmt.specs.Players.{PlayerView}
 abbrev pub KeepsPlaces : Call → Type 0
 KeepsPlaces call = (w place : ℕ) → call ≡ Unpin w place → ⊥
 
-module _ {S : Type 0} (members : Ghosts S)
-    (keeps : (a b : S) (call : Call) (answer : Answer) (w : ℕ) → members.speaks_for a w → members.joins a call answer b → members.speaks_for b w)
-    (remembers : (a b : S) (call : Call) (answer : Answer) (w place : ℕ) (key : KeyName) → members.speaks_for a w → (call ≡ Unpin w place → answer ≡ Done → ⊥) → members.joins a call answer b
-    → members.knows a w place key → members.knows b w place key) where
+module _ {S : Type 0} (members : Ghosts S) (laws : LawsOf members) where
   -- a call after which the session has what it had
   pub attends-call : (context : ContextView) (a b : S) (call : Call) (answer : Answer) → KeepsPlaces call → members.own b context.who ≡ members.own a context.who → members.joins a call answer b →
       Attends members a context → Attends members b context
   attends-call context a b call answer kept same joined attends =
-      attends-same a b context attends (λ place key known. remembers a b call answer context.who place key attends.speaks (λ e _. kept _ _ e) joined known)
-      (keeps a b call answer context.who attends.speaks joined) same
+      attends-same a b context attends (λ place key known. laws.remembers a b call answer context.who place key attends.speaks (λ e _. kept _ _ e) joined known)
+      (laws.keeps a b call answer context.who attends.speaks joined) same
 
   -- one that is nobody's
-  leaves-call : (others : (a b : S) (call : Call) (answer : Answer) (w : ℕ) → members.speaks_for a w → (caller call ≡ Some w → ⊥) → members.joins a call answer b → members.own b w ≡ members.own a w)
-      (a b : S) (call : Call) (answer : Answer) (w : ℕ) → KeepsPlaces call → (caller call ≡ Some w → ⊥) → members.joins a call answer b → members.speaks_for a w →
+  leaves-call : (a b : S) (call : Call) (answer : Answer) (w : ℕ) → KeepsPlaces call → (caller call ≡ Some w → ⊥) → members.joins a call answer b → members.speaks_for a w →
       members.speaks_for b w × (members.own b w ≡ members.own a w) × ((place : ℕ) (key : KeyName) → members.knows a w place key → members.knows b w place key)
-  leaves-call others a b call answer w kept nobody joined speaks =
-      (keeps a b call answer w speaks joined, others a b call answer w speaks nobody joined, λ place key known. remembers a b call answer w place key speaks (λ e _. kept _ _ e) joined known)
+  leaves-call a b call answer w kept nobody joined speaks =
+      (laws.keeps a b call answer w speaks joined, laws.others a b call answer w speaks nobody joined, λ place key known. laws.remembers a b call answer w place key speaks (λ e _. kept _ _ e) joined known)
 
   -- a session goes on after a call of its own, or nobody's, after which it has what it had
-  pub goes_on-call : (others : (a b : S) (call : Call) (answer : Answer) (w : ℕ) → members.speaks_for a w → (caller call ≡ Some w → ⊥) → members.joins a call answer b → members.own b w ≡ members.own a w)
-      (met_stays : (a b : S) (call : Call) (answer : Answer) (w place : ℕ) (standing : Standing) → members.speaks_for a w → members.joins a call answer b
-      → members.has_met a w place standing → members.has_met b w place standing)
-      (x : PlayerView) (a b : S) (call : Call) (answer : Answer) → KeepsPlaces call → ((w : ℕ) → w ≢ x.context.who → caller call ≡ Some w → ⊥) → members.own b x.context.who ≡ members.own a x.context.who →
+  pub goes_on-call : (x : PlayerView) (a b : S) (call : Call) (answer : Answer) → KeepsPlaces call → ((w : ℕ) → w ≢ x.context.who → caller call ≡ Some w → ⊥) → members.own b x.context.who ≡ members.own a x.context.who →
       members.joins a call answer b → Attends members a x.context → AreMet (members.has_met a x.context.who) x.cache.kept → GoesOn members a x b x
-  goes_on-call others met_stays x a b call answer kept apart same joined attends met = record {
+  goes_on-call x a b call answer kept apart same joined attends met = record {
     who = refl;
     others = (
-      λ w other speaks. leaves-call others a b call answer w kept (apart w other) joined speaks,
-      λ w speaks. (keeps a b call answer w speaks joined, λ place standing met. met_stays a b call answer w place standing speaks joined met),
+      λ w other speaks. leaves-call a b call answer w kept (apart w other) joined speaks,
+      λ w speaks. (laws.keeps a b call answer w speaks joined, λ place standing met. laws.met_stays a b call answer w place standing speaks joined met),
     );
     attends = attends-call x.context a b call answer kept same joined attends;
     met = still-met (members.has_met a x.context.who) (members.has_met b x.context.who) x.cache.kept
-        (λ place standing there. met_stays a b call answer x.context.who place standing attends.speaks joined there) met;
+        (λ place standing there. laws.met_stays a b call answer x.context.who place standing attends.speaks joined there) met;
     capacity = refl;
   }
 

@@ -4,13 +4,13 @@ use Rattle.std.specs.Prelude.{IfOk, OnErr, Vec}
 use Rattle.std.proofs.lemmas.Bool.{eq-eqb, ne_eqb}
 use Rattle.std.proofs.lemmas.List.{append-nil, append_assoc, drop_more, map-append}
 use Rattle.std.specs.Option.{option_map}
-use Rattle.mdl_key.specs.Keys.{KeyName}
 use Rattle.mdl_defs.specs.Caches.{CacheView}
-use Rattle.mdl_calls.specs.Words.{Answer, Call, Done, Unpin, Pending, Poll_wait, Settle_timeout, caller, own_after, Program, Give, Runs, ◌>>◌}
+use Rattle.mdl_calls.specs.Words.{Answer, Call, Done, Pending, Poll_wait, Settle_timeout, Program, Give, Runs, ◌>>◌}
 use Rattle.mdl_calls.proofs.CacheLemmas.{still-met}
 use Rattle.mdl_calls.proofs.CachedRuns.{ReadsNone}
 use Rattle.mdl_calls.proofs.RunLemmas.{runs_bind}
 use Rattle.mdl_calls.specs.declared.lock_space.LockSpace.{Ghosts}
+use Rattle.mdl_calls.specs.MemberLaws.{LawsOf}
 use Rattle.mdl_context.specs.Contexts.{ContextView, Attends, KeepsMet}
 use Rattle.mdl_context.proofs.AttendLemmas.{attends-still}
 use Rattle.mdl_context.proofs.OthersLemmas.{IsFor}
@@ -67,11 +67,7 @@ module _ {S : Type 0} (joins : S → Call → Answer → S → Type 0) where
   unfolding waiting_out
   patience-over who answer a b step = (answer, b, step, (refl, refl))
 
-module _ {S : Type 0} (members : Ghosts S)
-    (keeps : (a b : S) (call : Call) (answer : Answer) (w : ℕ) → members.speaks_for a w → members.joins a call answer b → members.speaks_for b w)
-    (changes : (a b : S) (call : Call) (answer : Answer) (who : ℕ) → caller call ≡ Some who → members.joins a call answer b → members.own b who ≡ own_after call answer (members.own a who))
-    (remembers : (a b : S) (call : Call) (answer : Answer) (w place : ℕ) (key : KeyName) → members.speaks_for a w → (call ≡ Unpin w place → answer ≡ Done → ⊥) → members.joins a call answer b
-    → members.knows a w place key → members.knows b w place key) where
+module _ {S : Type 0} (members : Ghosts S) (laws : LawsOf members) where
   -- a wait was looked at: what is so now stays so if more follows, or nothing does
   after-looked : (P : S → Type 0) (more : Program (Unit {0})) (answer : Answer) (a b : S) → P a → (Runs members.joins a more tt b → P b) → Runs members.joins a (while_pending more answer) tt b → P b
   after-looked P more Pending a b now later run = later run
@@ -83,9 +79,9 @@ module _ {S : Type 0} (members : Ghosts S)
   unfolding waiting_out
   attends-waited zero context a b attends (answer, mid, step, (same, here)) =
       subst (λ (s : S). Attends members s context) here
-      (attends-still members keeps changes remembers a mid (Settle_timeout context.who) answer context attends refl refl refl step)
+      (attends-still members laws a mid (Settle_timeout context.who) answer context attends refl refl refl step)
   attends-waited (suc polls) context a b attends (answer, mid, step, run) =
-      let now = attends-still members keeps changes remembers a mid (Poll_wait context.who) answer context attends refl refl refl step in
+      let now = attends-still members laws a mid (Poll_wait context.who) answer context attends refl refl refl step in
       after-looked (λ (s : S). Attends members s context) (waiting_out context.who polls) answer mid b now (attends-waited polls context mid b now) run
 
 -- what its cache keeps was met, and stays so over what others and the session itself do

@@ -49,7 +49,8 @@ reads id change _ a b = ReadsNothing a b
 -- under a ticket in mode X it is refused only for what it met there, or for want of memory
 abbrev pub says : ℕ → Change → Answer → SessionData → SessionData → Type 0
 says id change (Refused why) a b = (ticket : Held) → ticket_held id a.own ≡ Some ticket → IsRefusedFor change why a ticket
-says id change _ a b = Unit {0}
+says id change (Changed version) a b = Unit {0}
+says id change _ a b = ⊥
 
 -- the call
 abbrev pub change_definition : ℕ → ℕ → Change → CallSpec

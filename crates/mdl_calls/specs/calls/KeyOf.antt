@@ -23,7 +23,8 @@ cause place _ knows own = ⊥
 -- the session knew that key there
 abbrev pub says : ℕ → Answer → SessionData → SessionData → Type 0
 says place (Key_is key) a b = key_known place a.known ≡ Some key
-says place _ a b = Unit {0}
+says place (Refused why) a b = Unit {0}
+says place _ a b = ⊥
 
 -- the call
 abbrev pub key_of : ℕ → ℕ → CallSpec

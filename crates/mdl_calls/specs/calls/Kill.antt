@@ -17,7 +17,7 @@ answers _ = false
 abbrev pub says : ℕ → ℕ → Answer → SessionData → SessionData → Type 0
 says target number (Has_killed true) a b = target ≡ a.number → (wait_number a.own ≡ Some number) × (b.settled ≡ Some settled_as.Killed)
 says target number (Has_killed false) a b = target ≡ a.number → wait_number a.own ≡ Some number → is_some b.settled ≡ true
-says target number _ a b = Unit {0}
+says target number _ a b = ⊥
 
 -- the call
 abbrev pub kill : ℕ → ℕ → CallSpec

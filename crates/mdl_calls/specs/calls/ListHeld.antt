@@ -13,7 +13,8 @@ answers _ = false
 -- they are those that it holds
 abbrev pub says : Answer → SessionData → SessionData → Type 0
 says (Holds tickets) a b = tickets ≡ a.own.held
-says _ a b = Unit {0}
+says (Refused why) a b = Unit {0}
+says _ a b = ⊥
 
 -- the call
 abbrev pub list_held : ℕ → CallSpec

@@ -16,7 +16,9 @@ answers _ = false
 -- if the session itself is the victim, it knows that its wait is settled so. The victim may be another session: of that nothing is said.
 abbrev pub says : Answer → SessionData → SessionData → Type 0
 says (Victim_is victim) a b = victim ≡ a.number → b.settled ≡ Some settled_as.Victim
-says _ a b = Unit {0}
+says No_cycle a b = Unit {0}
+says (Refused why) a b = Unit {0}
+says _ a b = ⊥
 
 -- the call
 abbrev pub search_deadlock : ℕ → CallSpec

@@ -41,7 +41,9 @@ effect id mode _ = Keeps
 -- where it would have to wait, the held mode didn't cover the mode
 abbrev pub says : ℕ → Mode → Answer → SessionData → SessionData → Type 0
 says id mode Would_wait a b = OfHeld id a.own (λ ticket. covers ticket.mode mode ≡ false)
-says id mode _ a b = Unit {0}
+says id mode Upgraded a b = Unit {0}
+says id mode (Refused why) a b = Unit {0}
+says id mode _ a b = ⊥
 
 -- the call
 abbrev pub upgrade_now : ℕ → ℕ → Mode → CallSpec

@@ -13,7 +13,7 @@ answers _ = false
 -- if the session asks for its own wait, it is told its number. It may be another session: of that nothing is said.
 abbrev pub says : ℕ → Answer → SessionData → SessionData → Type 0
 says target (Has_wait number) a b = target ≡ a.number → number ≡ wait_number a.own
-says target _ a b = Unit {0}
+says target _ a b = ⊥
 
 -- the call
 abbrev pub wait_of : ℕ → CallSpec

@@ -7,10 +7,11 @@ use Rattle.mdl_calls.specs.Words.{Answer, Refused, At_place}
 use Rattle.mdl_visits.specs.declared.resolve_error.ResolveError.TheVariants as resolve_error
 use Rattle.mdl_shared.specs.Members.{place_known}
 use Rattle.mdl_shared.specs.SessionViews.{Lists, SessionView}
-use Rattle.mdl_shared.specs.Steps.{MakesNoStep, LooksUp, LooksAtKeys}
+use Rattle.mdl_shared.specs.Steps.{MakesNoStep, LooksUp}
 use Rattle.mdl_shared.specs.StepSpec.{StepSpec, no_steps}
 
--- which steps were made, and what they met. A refusal is for want of a place in the directory, or of memory, before the look or at it
+-- which steps were made, and what they met. A refusal is for want of a place in the directory, or of memory: before the look, or at it
+-- where the directory has a place for one more key
 abbrev pub met : KeyName → Answer → Lists → SessionView → SessionView → Type 0
 met key (At_place place) l a b =
     (0 < place) × (place < a.table.slots)
@@ -18,7 +19,7 @@ met key (At_place place) l a b =
     × (place_known key l.known ≡ None → LooksUp key (Ok place) a b)
 met key (Refused why) l a b =
     (place_known key l.known ≡ None)
-    × (((why ≡ cause.NoPlace) × LooksUp key (Err resolve_error.NoPlace) a b) ⊎ ((why ≡ cause.OutOfMemory) × (MakesNoStep a b ⊎ LooksAtKeys a b)))
+    × (((why ≡ cause.NoPlace) × LooksUp key (Err resolve_error.NoPlace) a b) ⊎ ((why ≡ cause.OutOfMemory) × (MakesNoStep a b ⊎ LooksUp key (Err resolve_error.OutOfMemory) a b)))
 met key _ l a b = ⊥
 
 -- the call

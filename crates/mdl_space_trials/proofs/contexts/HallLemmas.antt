@@ -1,11 +1,11 @@
 -- Contexts of several sessions over the lock space of one thread.
 use Rattle.std.proofs.Common.{◌≡◌, ◌≢◌, ℕ, zero, suc, ◌<◌, ◌≤◌, ◌+◌, ◌-◌, List, [], ◌∷◌, length, get_or, set, Some, None, refl, sym, ap, ◌∙◌, subst, arith}
 use Rattle.std.proofs.lemmas.List.Elements.{All-nil}
-use Rattle.mdl_key.specs.Keys.{KeyName}
 use Rattle.mdl_core.specs.Words.{Core, SpeaksFor, own_at}
 use Rattle.mdl_space.specs.CoreMembers.{core_space}
-use Rattle.mdl_calls.specs.Words.{Answer, Done, Call, Unpin, caller}
+use Rattle.mdl_calls.specs.Words.{Answer, Call, caller}
 use Rattle.mdl_calls.specs.declared.lock_space.LockSpace.{Ghosts}
+use Rattle.mdl_calls.specs.MemberLaws.{LawsOf}
 use Rattle.mdl_context.specs.Contexts.{ContextView, Attends, LeavesOthers}
 use Rattle.mdl_space_trials.specs.contexts.Halls.{AreServed}
 use Rattle.mdl_context.proofs.AttendLemmas.{attends-same}
@@ -19,15 +19,11 @@ served_at space first (suc i) (x ∷ xs) d served inside =
     let rest = served_at space (first + 1) i xs d served.2 (omega arith) in (rest.0 ∙ omega arith, rest.1)
 
 -- whoever else makes a call, the context is attended to
-pub attended_over : {S : Type 0} (members : Ghosts S)
-    → ((a b : S) (call : Call) (answer : Answer) (w : ℕ) → members.speaks_for a w → members.joins a call answer b → members.speaks_for b w)
-    → ((a b : S) (call : Call) (answer : Answer) (w : ℕ) → members.speaks_for a w → (caller call ≡ Some w → ⊥) → members.joins a call answer b → members.own b w ≡ members.own a w)
-    → ((a b : S) (call : Call) (answer : Answer) (w place : ℕ) (key : KeyName) → members.speaks_for a w → (call ≡ Unpin w place → answer ≡ Done → ⊥) → members.joins a call answer b
-    → members.knows a w place key → members.knows b w place key)
+pub attended_over : {S : Type 0} (members : Ghosts S) → LawsOf members
     → (a b : S) (call : Call) (answer : Answer) (x : ContextView) → (caller call ≡ Some x.who → ⊥) → members.joins a call answer b → Attends members a x → Attends members b x
-attended_over members keeps others remembers a b call answer x other step attends =
-    attends-same a b x attends (λ place key there. remembers a b call answer x.who place key attends.speaks (λ e _. other (ap caller e)) step there)
-    (keeps a b call answer x.who attends.speaks step) (others a b call answer x.who attends.speaks other step)
+attended_over members laws a b call answer x other step attends =
+    attends-same a b x attends (λ place key there. laws.remembers a b call answer x.who place key attends.speaks (λ e _. other (ap caller e)) step there)
+    (laws.keeps a b call answer x.who attends.speaks step) (laws.others a b call answer x.who attends.speaks other step)
 
 -- one of the others has made a call
 still_attended : (before after : Core) (x : ContextView) (who : ℕ) → LeavesOthers core_space who before after → x.who ≢ who

@@ -7,17 +7,17 @@ use Rattle.mdl_context.proofs.asking.ask.Goals as goal
 pub wait_at-requires-clause-idle : goal.wait_at-requires-clause-idle
 wait_at-requires-clause-idle g c =
     let arm = c.in-Ok-WouldWait in
-    ap (λ (own : Own). own.wait) (g.met.S.LockSpace.changes _ _ _ _ _ refl (rw (arm.is, arm.field-0-is) at c.try_now.ensures)) ∙ c.requires.idle
+    ap (λ (own : Own). own.wait) (g.met.S.LockSpace.laws.changes _ _ _ _ _ refl (rw (arm.is, arm.field-0-is) at c.try_now.ensures)) ∙ c.requires.idle
 
 pub returns-in-Ok-Granted-clause-own : goal.returns-in-Ok-Granted-clause-own
 returns-in-Ok-Granted-clause-own g c =
     let arm = c.in-Ok-Granted in
-    g.met.S.LockSpace.changes _ _ _ _ _ refl (rw (arm.is, arm.field-0-is) at c.try_now.ensures)
+    g.met.S.LockSpace.laws.changes _ _ _ _ _ refl (rw (arm.is, arm.field-0-is) at c.try_now.ensures)
 
 pub returns-in-Ok-WouldWait-clause-own : goal.returns-in-Ok-WouldWait-clause-own
 returns-in-Ok-WouldWait-clause-own g c =
     let arm = c.in-Ok-WouldWait in
-    c.wait_at.ensures.own ∙ ap (own_got c.args.place c.args.mode c.wait_at.result) (g.met.S.LockSpace.changes _ _ _ _ _ refl (rw (arm.is, arm.field-0-is) at c.try_now.ensures))
+    c.wait_at.ensures.own ∙ ap (own_got c.args.place c.args.mode c.wait_at.result) (g.met.S.LockSpace.laws.changes _ _ _ _ _ refl (rw (arm.is, arm.field-0-is) at c.try_now.ensures))
 
 pub returns-in-Err-clause-own : goal.returns-in-Err-clause-own
-returns-in-Err-clause-own g c = g.met.S.LockSpace.changes _ _ _ _ _ refl (rw c.in-Err.is at c.try_now.ensures)
+returns-in-Err-clause-own g c = g.met.S.LockSpace.laws.changes _ _ _ _ _ refl (rw c.in-Err.is at c.try_now.ensures)

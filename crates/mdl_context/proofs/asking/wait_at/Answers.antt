@@ -7,18 +7,18 @@ use Rattle.mdl_context.proofs.asking.wait_at.Goals as goal
 pub wait_on-requires-clause-waits : goal.wait_on-requires-clause-waits
 wait_on-requires-clause-waits g c =
     let arm = c.in-Ok-Waiting in
-    ap is_waiting (g.met.S.LockSpace.changes _ _ _ _ _ refl (rw (arm.is, arm.field-0-is) at c.begin_wait.ensures))
+    ap is_waiting (g.met.S.LockSpace.laws.changes _ _ _ _ _ refl (rw (arm.is, arm.field-0-is) at c.begin_wait.ensures))
 
 pub returns-in-Ok-Granted-clause-own : goal.returns-in-Ok-Granted-clause-own
 returns-in-Ok-Granted-clause-own g c =
     let arm = c.in-Ok-Granted in
-    g.met.S.LockSpace.changes _ _ _ _ _ refl (rw (arm.is, arm.field-0-is) at c.begin_wait.ensures)
+    g.met.S.LockSpace.laws.changes _ _ _ _ _ refl (rw (arm.is, arm.field-0-is) at c.begin_wait.ensures)
 
 pub returns-in-Ok-Waiting-clause-own : goal.returns-in-Ok-Waiting-clause-own
 returns-in-Ok-Waiting-clause-own g c =
     let arm = c.in-Ok-Waiting in
-    let began = g.met.S.LockSpace.changes _ _ _ _ _ refl (rw (arm.is, arm.field-0-is) at c.begin_wait.ensures) in
+    let began = g.met.S.LockSpace.laws.changes _ _ _ _ _ refl (rw (arm.is, arm.field-0-is) at c.begin_wait.ensures) in
     own-waited arm.number c.args.place c.args.mode _ _ _ _ c.wait_on.ensures.own began c.requires.idle
 
 pub returns-in-Err-clause-own : goal.returns-in-Err-clause-own
-returns-in-Err-clause-own g c = g.met.S.LockSpace.changes _ _ _ _ _ refl (rw c.in-Err.is at c.begin_wait.ensures)
+returns-in-Err-clause-own g c = g.met.S.LockSpace.laws.changes _ _ _ _ _ refl (rw c.in-Err.is at c.begin_wait.ensures)

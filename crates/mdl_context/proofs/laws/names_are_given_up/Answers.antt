@@ -3,5 +3,5 @@ use Rattle.mdl_context.proofs.laws.names_are_given_up.Goals as goal
 
 pub returns : goal.returns
 returns g c =
-    let laws = g.met.S.LockSpace in
-    names-given-up g.S.LockSpace laws.rising laws.one_key laws.one_place
+    let laws = g.met.S.LockSpace.laws in
+    names-given-up g.S.LockSpace laws

@@ -30,7 +30,7 @@ loop-ticket-preserved g c =
             remembers = λ place key knew. w.release.ensures.remembers place key (known.remembers place key knew);
             run = λ b rest. known.run b (run-goes p items i t c.loop-ticket-test.true is g.S.LockSpace.joins c.args.who c.loop-ticket.space w.release.new.space b goes_now w.release.ensures.released rest);
             held = ap (λ (own : Own). own.held) w.release.ensures.own
-                ∙ held-goes p items i t c.loop-ticket-test.true is now (g.met.S.LockSpace.rising _ _ known.speaks) known.held goes_now;
+                ∙ held-goes p items i t c.loop-ticket-test.true is now (g.met.S.LockSpace.laws.rising _ _ known.speaks) known.held goes_now;
             wait = ap (λ (own : Own). own.wait) w.release.ensures.own ∙ known.wait;
           })
       | else-names w ↦

@@ -17,10 +17,10 @@ pub returns-in_err-search-clause-refused : goal.returns-in_err-search-clause-ref
 returns-in_err-search-clause-refused g c =
     let knows : Knowledge = g.S.LockSpace.knows c.loop-turn.space c.args.who in
     let refused : c.from_residual.result ≡ Err c.in_err-search.field-0.0 = search rules in
-    rw refused (search-refused knows c.args.who _ _ (g.met.S.LockSpace.explains _ _ _ _ _ refl c.in_err-search.ensures))
+    rw refused (search-refused knows c.args.who _ _ (g.met.S.LockSpace.laws.explains _ _ _ _ _ refl c.in_err-search.ensures))
 
 pub returns-in_err-search-clause-own : goal.returns-in_err-search-clause-own
-returns-in_err-search-clause-own g c = g.met.S.LockSpace.changes _ _ _ _ _ refl c.in_err-search.ensures ∙ c.loop-turn.invariant.own
+returns-in_err-search-clause-own g c = g.met.S.LockSpace.laws.changes _ _ _ _ _ refl c.in_err-search.ensures ∙ c.loop-turn.invariant.own
 
 pub returns-in-NoCycle-clause-run : goal.returns-in-NoCycle-clause-run
 returns-in-NoCycle-clause-run g c =
@@ -28,7 +28,7 @@ returns-in-NoCycle-clause-run g c =
     c.loop-turn.invariant.run _ _ (seek-none g.S.LockSpace.joins c.args.who _ _ _ left (rw c.in-NoCycle.is at c.in_ok-search.ensures))
 
 pub returns-in-NoCycle-clause-own : goal.returns-in-NoCycle-clause-own
-returns-in-NoCycle-clause-own g c = g.met.S.LockSpace.changes _ _ _ _ _ refl c.in_ok-search.ensures ∙ c.loop-turn.invariant.own
+returns-in-NoCycle-clause-own g c = g.met.S.LockSpace.laws.changes _ _ _ _ _ refl c.in_ok-search.ensures ∙ c.loop-turn.invariant.own
 
 pub returns-in-Victim-clause-run : goal.returns-in-Victim-clause-run
 returns-in-Victim-clause-run g c =
@@ -36,11 +36,11 @@ returns-in-Victim-clause-run g c =
     c.loop-turn.invariant.run _ _ (seek-lost g.S.LockSpace.joins c.args.who _ _ _ c.in-Victim.victim left c.if-victim-who.true (rw c.in-Victim.is at c.in_ok-search.ensures))
 
 pub returns-in-Victim-clause-own : goal.returns-in-Victim-clause-own
-returns-in-Victim-clause-own g c = g.met.S.LockSpace.changes _ _ _ _ _ refl c.in_ok-search.ensures ∙ c.loop-turn.invariant.own
+returns-in-Victim-clause-own g c = g.met.S.LockSpace.laws.changes _ _ _ _ _ refl c.in_ok-search.ensures ∙ c.loop-turn.invariant.own
 
 pub loop-turn-preserved : goal.loop-turn-preserved
 loop-turn-preserved g c =
-    let laws = g.met.S.LockSpace in
+    let laws = g.met.S.LockSpace.laws in
     let kept = c.loop-turn.invariant in
     let turn = c.loop-turn._turn in
     let joins = g.S.LockSpace.joins in
@@ -49,7 +49,7 @@ loop-turn-preserved g c =
     let other : (c.in-Victim.victim == who) ≡ false = grind (arith, nat_tests, c.if-victim-who.false) in
     record {
       speaks = laws.keeps _ _ _ _ _ kept.speaks c.in_ok-search.ensures;
-      remembers = λ place key knew. known-still g.S.LockSpace laws.keeps laws.changes laws.remembers _ _ _ _ _ kept.speaks refl c.in_ok-search.ensures place key (kept.remembers place key knew);
+      remembers = λ place key knew. known-still g.S.LockSpace laws _ _ _ _ _ kept.speaks refl c.in_ok-search.ensures place key (kept.remembers place key knew);
       own = laws.changes _ _ _ _ _ refl c.in_ok-search.ensures ∙ kept.own;
       run = λ b end rest. kept.run b end (subst (λ n. Runs joins c.loop-turn.space (seeking n who) end b) count
           (seek-on joins who _ _ _ b c.in-Victim.victim end other (rw c.in-Victim.is at c.in_ok-search.ensures) rest));

@@ -11,4 +11,4 @@ read_kept-outcome-requires-clause-met g c =
     subst (AreMet met) (sym made.0) (none-met met)
 
 pub returns-in-0 : goal.returns-in-0
-returns-in-0 g c = λ w speaks. g.met.S.LockSpace.keeps _ _ _ _ w speaks c.read_kept-outcome.ensures.joined
+returns-in-0 g c = λ w speaks. g.met.S.LockSpace.laws.keeps _ _ _ _ w speaks c.read_kept-outcome.ensures.joined

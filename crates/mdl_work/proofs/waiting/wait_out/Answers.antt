@@ -26,7 +26,7 @@ loop-poll-preserved g c =
     let joins = g.S.LockSpace.joins in
     let fewer : suc (c.args.patience - (c.loop-poll._poll + 1)) ≡ c.args.patience - c.loop-poll._poll = omega (arith, c.loop-poll-test.true) in
     record {
-      speaks = g.met.S.LockSpace.keeps _ _ _ _ _ c.loop-poll.invariant.speaks c.poll_wait.ensures;
+      speaks = g.met.S.LockSpace.laws.keeps _ _ _ _ _ c.loop-poll.invariant.speaks c.poll_wait.ensures;
       run = λ b rest. c.loop-poll.invariant.run b
           (subst (λ (n : ℕ). Runs joins c.loop-poll.space (waiting_out c.args.who n) tt b) fewer
           (looked-pending joins c.args.who _ _ _ b (rw (c.in-Ok-Pending.is, c.in-Ok-Pending.field-0-is) at c.poll_wait.ensures) rest));

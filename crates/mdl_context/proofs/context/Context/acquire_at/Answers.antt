@@ -18,7 +18,7 @@ gain-requires-clause-held g c =
     let before : ContextView = context_of c.self.inside.who c.self.inside.holdings in
     let serves = rw (← c.self.view_is) at c.requires.attends.serves in
     let enough = c.sufficient-ticket.ensures ∙ ap (earliest (suffices c.args.place (wish_of c.args.request))) c.reserve.ensures.kept in
-    sufficient-held c.args.place (wish_of c.args.request) _ before c.sufficient-ticket.result (g.met.S.LockSpace.rising _ _ (rw (← c.self.view_is) at c.requires.attends.speaks)) serves enough
+    sufficient-held c.args.place (wish_of c.args.request) _ before c.sufficient-ticket.result (g.met.S.LockSpace.laws.rising _ _ (rw (← c.self.view_is) at c.requires.attends.speaks)) serves enough
 
 pub returns-in-Ok-Granted-clause-run : goal.returns-in-Ok-Granted-clause-run
 returns-in-Ok-Granted-clause-run g c =

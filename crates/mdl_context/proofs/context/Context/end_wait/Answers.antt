@@ -9,32 +9,32 @@ use Rattle.mdl_context.proofs.context.Context.end_wait.Goals as goal
 pub unwrap-requires : goal.unwrap-requires
 unwrap-requires g c =
     let settled = rw (← c.self.view_is) at c.requires.settled in
-    is_ok-ended settled.0 _ (g.met.S.LockSpace.agrees _ _ _ _ _ _ refl settled.1 c.end_wait.ensures)
+    is_ok-ended settled.0 _ (g.met.S.LockSpace.laws.agrees _ _ _ _ _ _ refl settled.1 c.end_wait.ensures)
 
 pub win-requires-clause-attends : goal.win-requires-clause-attends
 win-requires-clause-attends g c =
     let same : c.self.inside.who ≡ c.args.self.now.who = ap (λ (v : ContextView). v.who) c.self.view_is in
-    let laws = g.met.S.LockSpace in
+    let laws = g.met.S.LockSpace.laws in
     let step = rw (same, c.unwrap.ensures, c.in-Granted.is) at c.end_wait.ensures in
-    attends-won g.S.LockSpace laws.keeps laws.changes laws.remembers _ _ c.in-Granted.id c.args.self.now (taking_up c.in-Granted.id c.args.self.now) c.requires.attends step refl refl refl refl
+    attends-won g.S.LockSpace laws _ _ c.in-Granted.id c.args.self.now (taking_up c.in-Granted.id c.args.self.now) c.requires.attends step refl refl refl refl
 
 pub returns-in-Victim-clause-attends : goal.returns-in-Victim-clause-attends
 returns-in-Victim-clause-attends g c =
     let same : c.self.inside.who ≡ c.args.self.now.who = ap (λ (v : ContextView). v.who) c.self.view_is in
-    let laws = g.met.S.LockSpace in
+    let laws = g.met.S.LockSpace.laws in
     let step = rw (same, c.unwrap.ensures, c.in-Victim.is) at c.end_wait.ensures in
-    attends-lost g.S.LockSpace laws.keeps laws.changes laws.remembers _ _ _ _ _ c.requires.attends step c.lose.ensures.lost
+    attends-lost g.S.LockSpace laws _ _ _ _ _ c.requires.attends step c.lose.ensures.lost
 
 pub returns-in-Timeout-clause-attends : goal.returns-in-Timeout-clause-attends
 returns-in-Timeout-clause-attends g c =
     let same : c.self.inside.who ≡ c.args.self.now.who = ap (λ (v : ContextView). v.who) c.self.view_is in
-    let laws = g.met.S.LockSpace in
+    let laws = g.met.S.LockSpace.laws in
     let step = rw (same, c.unwrap.ensures, c.in-Timeout.is) at c.end_wait.ensures in
-    attends-lost g.S.LockSpace laws.keeps laws.changes laws.remembers _ _ _ _ _ c.requires.attends step c.lose-in-Timeout.ensures.lost
+    attends-lost g.S.LockSpace laws _ _ _ _ _ c.requires.attends step c.lose-in-Timeout.ensures.lost
 
 pub returns-in-Killed-clause-attends : goal.returns-in-Killed-clause-attends
 returns-in-Killed-clause-attends g c =
     let same : c.self.inside.who ≡ c.args.self.now.who = ap (λ (v : ContextView). v.who) c.self.view_is in
-    let laws = g.met.S.LockSpace in
+    let laws = g.met.S.LockSpace.laws in
     let step = rw (same, c.unwrap.ensures, c.in-Killed.is) at c.end_wait.ensures in
-    attends-lost g.S.LockSpace laws.keeps laws.changes laws.remembers _ _ _ _ _ c.requires.attends step c.lose-in-Killed.ensures.lost
+    attends-lost g.S.LockSpace laws _ _ _ _ _ c.requires.attends step c.lose-in-Killed.ensures.lost

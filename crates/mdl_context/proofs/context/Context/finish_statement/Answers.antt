@@ -12,5 +12,5 @@ returns-clause-run g c =
 
 pub returns-clause-others : goal.returns-clause-others
 returns-clause-others g c =
-    let laws = g.met.S.LockSpace in
-    leaves g.S.LockSpace laws.keeps laws.others laws.remembers laws.met_stays _ _ _ _ _ (for_all _ _) c.release_beyond.ensures.run
+    let laws = g.met.S.LockSpace.laws in
+    leaves g.S.LockSpace laws _ _ _ _ _ (for_all _ _) c.release_beyond.ensures.run

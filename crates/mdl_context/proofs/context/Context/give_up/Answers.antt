@@ -14,17 +14,17 @@ pub unwrap-requires : goal.unwrap-requires
 unwrap-requires g c =
     let knows : Knowledge = g.S.LockSpace.knows c.args.space.now c.self.inside.who in
     let waits = waits-there _ _ (rw (← c.self.view_is) at c.requires.serves) (sym c.is_waiting.ensures ∙ c.if-not-is_waiting.false) in
-    is_ok-timed_out knows c.self.inside.who _ _ (g.met.S.LockSpace.explains _ _ _ _ _ refl c.settle_timeout.ensures) waits
+    is_ok-timed_out knows c.self.inside.who _ _ (g.met.S.LockSpace.laws.explains _ _ _ _ _ refl c.settle_timeout.ensures) waits
 
 pub end_wait-requires-clause-attends : goal.end_wait-requires-clause-attends
 end_wait-requires-clause-attends g c =
     let same : c.self.inside.who ≡ c.args.self.now.who = ap (λ (v : ContextView). v.who) c.self.view_is in
-    let laws = g.met.S.LockSpace in
-    attends-still g.S.LockSpace laws.keeps laws.changes laws.remembers _ _ _ _ c.args.self.now c.requires refl refl refl (rw (same, c.unwrap.ensures) at c.settle_timeout.ensures)
+    let laws = g.met.S.LockSpace.laws in
+    attends-still g.S.LockSpace laws _ _ _ _ c.args.self.now c.requires refl refl refl (rw (same, c.unwrap.ensures) at c.settle_timeout.ensures)
 
 pub returns-clause-others : goal.returns-clause-others
 returns-clause-others g c =
     let same : c.self.inside.who ≡ c.args.self.now.who = ap (λ (v : ContextView). v.who) c.self.view_is in
-    let laws = g.met.S.LockSpace in
-    leaves g.S.LockSpace laws.keeps laws.others laws.remembers laws.met_stays c.args.self.now.who (Ask (Settle_timeout c.args.self.now.who) (λ _. ending c.args.self.now)) _ _ (c.end_wait.result, c.end_wait.new.self) (refl, λ _. for_ending c.args.self.now)
+    let laws = g.met.S.LockSpace.laws in
+    leaves g.S.LockSpace laws c.args.self.now.who (Ask (Settle_timeout c.args.self.now.who) (λ _. ending c.args.self.now)) _ _ (c.end_wait.result, c.end_wait.new.self) (refl, λ _. for_ending c.args.self.now)
     (_, _, rw same at c.settle_timeout.ensures, c.end_wait.ensures.run)

@@ -8,20 +8,20 @@ use Rattle.mdl_context.proofs.context.Context.look_up.Goals as goal
 
 pub returns-in-Err-clause-attends : goal.returns-in-Err-clause-attends
 returns-in-Err-clause-attends g c =
-    let laws = g.met.S.LockSpace in
+    let laws = g.met.S.LockSpace.laws in
     let same : c.self.inside.who ≡ c.args.self.now.who = ap (λ (v : ContextView). v.who) c.self.view_is in
-    attends-still g.S.LockSpace laws.keeps laws.changes laws.remembers _ _ _ _ c.args.self.now c.requires.attends refl refl refl (rw (same, c.in-Err.is) at c.resolve.ensures)
+    attends-still g.S.LockSpace laws _ _ _ _ c.args.self.now c.requires.attends refl refl refl (rw (same, c.in-Err.is) at c.resolve.ensures)
 
 pub returns-in-Err-clause-own : goal.returns-in-Err-clause-own
 returns-in-Err-clause-own g c =
     let same : c.self.inside.who ≡ c.args.self.now.who = ap (λ (v : ContextView). v.who) c.self.view_is in
-    g.met.S.LockSpace.changes _ _ _ _ _ refl (rw (same, c.in-Err.is) at c.resolve.ensures)
+    g.met.S.LockSpace.laws.changes _ _ _ _ _ refl (rw (same, c.in-Err.is) at c.resolve.ensures)
 
 pub returns-then-is_err-clause-attends : goal.returns-then-is_err-clause-attends
 returns-then-is_err-clause-attends g c =
     let same : c.self.inside.who ≡ c.args.self.now.who = ap (λ (v : ContextView). v.who) c.self.view_is in
-    let laws = g.met.S.LockSpace in
-    let still = attends-still g.S.LockSpace laws.keeps laws.changes laws.remembers _ _ _ _ c.args.self.now c.requires.attends refl refl refl (rw (same, c.in-Ok.is) at c.resolve.ensures) in
+    let laws = g.met.S.LockSpace.laws in
+    let still = attends-still g.S.LockSpace laws _ _ _ _ c.args.self.now c.requires.attends refl refl refl (rw (same, c.in-Ok.is) at c.resolve.ensures) in
     let forgot : c.remember.new.self.known ≡ c.self.inside.holdings.known = search rules in
     subst (Attends g.S.LockSpace c.resolve.new.self)
     (sym (same-context c.self.inside.who _ _ _ _ _ _ c.remember.ensures.kept forgot c.remember.ensures.wait ∙ c.self.view_is)) still
@@ -29,13 +29,13 @@ returns-then-is_err-clause-attends g c =
 pub returns-then-is_err-clause-own : goal.returns-then-is_err-clause-own
 returns-then-is_err-clause-own g c =
     let same : c.self.inside.who ≡ c.args.self.now.who = ap (λ (v : ContextView). v.who) c.self.view_is in
-    g.met.S.LockSpace.changes _ _ _ _ _ refl (rw (same, c.in-Ok.is) at c.resolve.ensures)
+    g.met.S.LockSpace.laws.changes _ _ _ _ _ refl (rw (same, c.in-Ok.is) at c.resolve.ensures)
 
 pub acquire_at-requires-clause-attends : goal.acquire_at-requires-clause-attends
 acquire_at-requires-clause-attends g c =
     let same : c.self.inside.who ≡ c.args.self.now.who = ap (λ (v : ContextView). v.who) c.self.view_is in
-    let laws = g.met.S.LockSpace in
-    let still = attends-still g.S.LockSpace laws.keeps laws.changes laws.remembers _ _ _ _ c.args.self.now c.requires.attends refl refl refl (rw (same, c.in-Ok.is) at c.resolve.ensures) in
+    let laws = g.met.S.LockSpace.laws in
+    let still = attends-still g.S.LockSpace laws _ _ _ _ c.args.self.now c.requires.attends refl refl refl (rw (same, c.in-Ok.is) at c.resolve.ensures) in
     let learnt : c.remember.new.self.known ≡ c.self.inside.holdings.known ++ (c.args.request.key.now, c.in-Ok.place) ∷ [] = search rules in
     attends-learnt c.resolve.new.self c.args.request.key.now c.in-Ok.place c.args.self.now _ still (laws.resolves _ _ _ _ _ (rw (same, c.in-Ok.is) at c.resolve.ensures))
     (same-context c.self.inside.who _ _ _ _ _ _ c.remember.ensures.kept learnt c.remember.ensures.wait ∙ ap (remembering c.args.request.key.now c.in-Ok.place) c.self.view_is)

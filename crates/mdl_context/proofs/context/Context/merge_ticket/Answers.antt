@@ -14,18 +14,18 @@ merge-requires-clause-idle g c =
 pub merge-requires-clause-mergeable : goal.merge-requires-clause-mergeable
 merge-requires-clause-mergeable g c =
     let second = rw (← c.self.view_is) at c.requires.second in
-    has-mergeable c.args.id c.args.new c.args.mode c.args.space.now _ (g.met.S.LockSpace.rising _ _ second.4.speaks) second
+    has-mergeable c.args.id c.args.new c.args.mode c.args.space.now _ (g.met.S.LockSpace.laws.rising _ _ second.4.speaks) second
 
 pub set_mode-requires : goal.set_mode-requires
 set_mode-requires g c =
     let second = rw (← c.self.view_is) at c.requires.second in
-    has-rising c.args.id c.args.new c.args.mode c.args.space.now _ (g.met.S.LockSpace.rising _ _ second.4.speaks) second
+    has-rising c.args.id c.args.new c.args.mode c.args.space.now _ (g.met.S.LockSpace.laws.rising _ _ second.4.speaks) second
 
 pub returns-in-Ok-clause-attends : goal.returns-in-Ok-clause-attends
 returns-in-Ok-clause-attends g c =
     let second = rw (← c.self.view_is) at c.requires.second in
     let idle = rw (← c.self.view_is) at c.requires.idle in
-    attends-united c.args.id c.args.new c.args.mode c.args.space.now _ (g.met.S.LockSpace.rising _ _ second.4.speaks) second c.merge.new.space _ c.merge.ensures.remembers c.merge.ensures.speaks
+    attends-united c.args.id c.args.new c.args.mode c.args.space.now _ (g.met.S.LockSpace.laws.rising _ _ second.4.speaks) second c.merge.new.space _ c.merge.ensures.remembers c.merge.ensures.speaks
     (rw c.in-Ok.is at c.merge.ensures.own) refl c.set_mode.ensures.known c.set_mode.ensures.kept c.set_mode.ensures.wait (ap is_some idle)
 
 pub returns-in-Err-clause-attends : goal.returns-in-Err-clause-attends
@@ -33,5 +33,5 @@ returns-in-Err-clause-attends g c =
     let second = rw (← c.self.view_is) at c.requires.second in
     let idle = rw (← c.self.view_is) at c.requires.idle in
     rw (← c.self.view_is)
-    (attends-parted c.args.id c.args.new c.args.mode c.args.space.now _ (g.met.S.LockSpace.rising _ _ second.4.speaks) second c.merge.new.space _ c.merge.ensures.remembers c.merge.ensures.speaks
+    (attends-parted c.args.id c.args.new c.args.mode c.args.space.now _ (g.met.S.LockSpace.laws.rising _ _ second.4.speaks) second c.merge.new.space _ c.merge.ensures.remembers c.merge.ensures.speaks
     (rw c.in-Err.is at c.merge.ensures.own) refl refl refl refl (ap is_some idle))

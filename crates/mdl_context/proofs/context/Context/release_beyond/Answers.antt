@@ -10,7 +10,7 @@ use Rattle.mdl_context.proofs.context.Context.release_beyond.Goals as goal
 pub returns-in-Some-clause-run : goal.returns-in-Some-clause-run
 returns-in-Some-clause-run g c =
     let kept = c.self.inside.holdings.kept in
-    let rising : AreRising kept = rw (← c.self.view_is) at (rising-kept _ _ (g.met.S.LockSpace.rising _ _ c.requires.attends.speaks) c.requires.attends.serves) in
+    let rising : AreRising kept = rw (← c.self.view_is) at (rising-kept _ _ (g.met.S.LockSpace.laws.rising _ _ c.requires.attends.speaks) c.requires.attends.serves) in
     rw (← c.self.view_is)
     (run-as g.S.LockSpace.joins c.self.inside.who _ _ c.args.space.now c.release_all.new.space
     (gone-beyond c.args.duration c.args.most c.in-Some.first kept c.nth_for.result rising c.nth_for.ensures c.in-Some.is) c.release_all.ensures.run)
@@ -18,7 +18,7 @@ returns-in-Some-clause-run g c =
 pub returns-in-Some-clause-kept : goal.returns-in-Some-clause-kept
 returns-in-Some-clause-kept g c =
     let kept = c.self.inside.holdings.kept in
-    let rising : AreRising kept = rw (← c.self.view_is) at (rising-kept _ _ (g.met.S.LockSpace.rising _ _ c.requires.attends.speaks) c.requires.attends.serves) in
+    let rising : AreRising kept = rw (← c.self.view_is) at (rising-kept _ _ (g.met.S.LockSpace.laws.rising _ _ c.requires.attends.speaks) c.requires.attends.serves) in
     rw (← c.self.view_is)
     (same-context c.self.inside.who _ _ _ _ _ _
     (c.release_all.ensures.kept ∙ kept-beyond c.args.duration c.args.most c.in-Some.first kept c.nth_for.result rising c.nth_for.ensures c.in-Some.is) c.release_all.ensures.known c.release_all.ensures.waits)

@@ -15,7 +15,7 @@ pub returns-clause-run : goal.returns-clause-run
 returns-clause-run g c =
     let joins = g.S.LockSpace.joins in
     let kept = c.self.inside.holdings.kept in
-    let rising : AreRising kept = rw (← c.self.view_is) at (rising-kept _ _ (g.met.S.LockSpace.rising _ _ c.requires.speaks) c.requires.serves) in
+    let rising : AreRising kept = rw (← c.self.view_is) at (rising-kept _ _ (g.met.S.LockSpace.laws.rising _ _ c.requires.speaks) c.requires.serves) in
     let before : ContextView = record { who = c.self.inside.who; kept = kept; known = c.self.inside.holdings.known; wait = c.self.inside.holdings.wait } in
     let after : ContextView = record { who = c.self.inside.who; kept = c.release_all.new.holdings.kept; known = c.release_all.new.holdings.known; wait = c.release_all.new.holdings.wait } in
     let gone = at_known_place (place_known c.args.key.now before.known) kept in
@@ -44,5 +44,5 @@ returns-clause-attends g c =
 
 pub returns-clause-others : goal.returns-clause-others
 returns-clause-others g c =
-    let laws = g.met.S.LockSpace in
-    rw (← c.self.view_is) (leaves g.S.LockSpace laws.keeps laws.others laws.remembers laws.met_stays _ _ _ _ _ (for_all _ _) c.release_all.ensures.run)
+    let laws = g.met.S.LockSpace.laws in
+    rw (← c.self.view_is) (leaves g.S.LockSpace laws _ _ _ _ _ (for_all _ _) c.release_all.ensures.run)

@@ -18,37 +18,37 @@ pub unwrap-requires : goal.unwrap-requires
 unwrap-requires g c =
     let knows : Knowledge = g.S.LockSpace.knows c.args.space.now c.self.inside.who in
     let waits : is_some c.self.inside.holdings.wait ≡ true = searched-waits _ _ c.is_searched.ensures c.in-Some-false.is in
-    is_ok-polled knows c.self.inside.who _ _ (g.met.S.LockSpace.explains _ _ _ _ _ refl c.poll_wait.ensures) (waits-there _ _ (rw (← c.self.view_is) at c.requires.serves) waits)
+    is_ok-polled knows c.self.inside.who _ _ (g.met.S.LockSpace.laws.explains _ _ _ _ _ refl c.poll_wait.ensures) (waits-there _ _ (rw (← c.self.view_is) at c.requires.serves) waits)
 
 pub end_wait-requires-clause-attends : goal.end_wait-requires-clause-attends
 end_wait-requires-clause-attends g c =
     let same : c.self.inside.who ≡ c.args.self.now.who = ap (λ (v : ContextView). v.who) c.self.view_is in
-    let laws = g.met.S.LockSpace in
-    attends-still g.S.LockSpace laws.keeps laws.changes laws.remembers _ _ _ _ c.args.self.now c.requires refl refl refl (rw (same, c.unwrap.ensures, c.in-Settled.is) at c.poll_wait.ensures)
+    let laws = g.met.S.LockSpace.laws in
+    attends-still g.S.LockSpace laws _ _ _ _ c.args.self.now c.requires refl refl refl (rw (same, c.unwrap.ensures, c.in-Settled.is) at c.poll_wait.ensures)
 
 pub search_on-requires-clause-attends : goal.search_on-requires-clause-attends
 search_on-requires-clause-attends g c =
     let same : c.self.inside.who ≡ c.args.self.now.who = ap (λ (v : ContextView). v.who) c.self.view_is in
-    let laws = g.met.S.LockSpace in
-    attends-still g.S.LockSpace laws.keeps laws.changes laws.remembers _ _ _ _ c.args.self.now c.requires refl refl refl (rw (same, c.unwrap.ensures, c.in-Pending.is) at c.poll_wait.ensures)
+    let laws = g.met.S.LockSpace.laws in
+    attends-still g.S.LockSpace laws _ _ _ _ c.args.self.now c.requires refl refl refl (rw (same, c.unwrap.ensures, c.in-Pending.is) at c.poll_wait.ensures)
 
 pub returns-in-Some-true-clause-others : goal.returns-in-Some-true-clause-others
 returns-in-Some-true-clause-others g c =
-    let laws = g.met.S.LockSpace in
-    leaves g.S.LockSpace laws.keeps laws.others laws.remembers laws.met_stays c.args.self.now.who (looking c.args.self.now) _ _ (c.look.result, c.look.new.self) (for_looking c.args.self.now) c.look.ensures.run
+    let laws = g.met.S.LockSpace.laws in
+    leaves g.S.LockSpace laws c.args.self.now.who (looking c.args.self.now) _ _ (c.look.result, c.look.new.self) (for_looking c.args.self.now) c.look.ensures.run
 
 pub returns-in-Pending-clause-others : goal.returns-in-Pending-clause-others
 returns-in-Pending-clause-others g c =
     let same : c.self.inside.who ≡ c.args.self.now.who = ap (λ (v : ContextView). v.who) c.self.view_is in
-    let laws = g.met.S.LockSpace in
-    leaves g.S.LockSpace laws.keeps laws.others laws.remembers laws.met_stays c.args.self.now.who (Ask (Poll_wait c.args.self.now.who) (λ _. searching_on c.args.self.now)) _ _ (c.search_on.result, c.search_on.new.self) (refl, λ _. for_searching_on c.args.self.now)
+    let laws = g.met.S.LockSpace.laws in
+    leaves g.S.LockSpace laws c.args.self.now.who (Ask (Poll_wait c.args.self.now.who) (λ _. searching_on c.args.self.now)) _ _ (c.search_on.result, c.search_on.new.self) (refl, λ _. for_searching_on c.args.self.now)
     (_, _, rw same at c.poll_wait.ensures, c.search_on.ensures.run)
 
 pub returns-in-Settled-clause-others : goal.returns-in-Settled-clause-others
 returns-in-Settled-clause-others g c =
     let same : c.self.inside.who ≡ c.args.self.now.who = ap (λ (v : ContextView). v.who) c.self.view_is in
-    let laws = g.met.S.LockSpace in
-    leaves g.S.LockSpace laws.keeps laws.others laws.remembers laws.met_stays c.args.self.now.who (Ask (Poll_wait c.args.self.now.who) (λ _. ending c.args.self.now)) _ _ (c.end_wait.result, c.end_wait.new.self) (refl, λ _. for_ending c.args.self.now)
+    let laws = g.met.S.LockSpace.laws in
+    leaves g.S.LockSpace laws c.args.self.now.who (Ask (Poll_wait c.args.self.now.who) (λ _. ending c.args.self.now)) _ _ (c.end_wait.result, c.end_wait.new.self) (refl, λ _. for_ending c.args.self.now)
     (_, _, rw same at c.poll_wait.ensures, c.end_wait.ensures.run)
 
 pub returns-in-Pending-clause-outcome : goal.returns-in-Pending-clause-outcome

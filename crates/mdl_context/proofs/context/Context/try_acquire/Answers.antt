@@ -7,12 +7,12 @@ use Rattle.mdl_context.proofs.context.Context.try_acquire.Goals as goal
 
 pub returns-in-Some-clause-others : goal.returns-in-Some-clause-others
 returns-in-Some-clause-others g c =
-    let laws = g.met.S.LockSpace in
-    leaves g.S.LockSpace laws.keeps laws.others laws.remembers laws.met_stays c.args.self.now.who (trying_at c.in-Some.place (wish_of c.args.request) c.args.self.now) _ _ (c.try_at.result, c.try_at.new.self)
+    let laws = g.met.S.LockSpace.laws in
+    leaves g.S.LockSpace laws c.args.self.now.who (trying_at c.in-Some.place (wish_of c.args.request) c.args.self.now) _ _ (c.try_at.result, c.try_at.new.self)
     (for_trying_again _ _ _ c.args.self.now) c.try_at.ensures.run
 
 pub returns-in-None-clause-others : goal.returns-in-None-clause-others
 returns-in-None-clause-others g c =
-    let laws = g.met.S.LockSpace in
-    leaves g.S.LockSpace laws.keeps laws.others laws.remembers laws.met_stays c.args.self.now.who (trying_found None (wish_of c.args.request) c.args.self.now) _ _ (c.look_up_and_try.result, c.look_up_and_try.new.self)
+    let laws = g.met.S.LockSpace.laws in
+    leaves g.S.LockSpace laws c.args.self.now.who (trying_found None (wish_of c.args.request) c.args.self.now) _ _ (c.look_up_and_try.result, c.look_up_and_try.new.self)
     (for_trying_found None (wish_of c.args.request) c.args.self.now) c.look_up_and_try.ensures.run

@@ -33,13 +33,13 @@ returns-then-is_waiting-clause-refused g c =
 pub wait_to_upgrade-requires-clause-attends : goal.wait_to_upgrade-requires-clause-attends
 wait_to_upgrade-requires-clause-attends g c =
     let same : c.self.inside.who ≡ c.args.self.now.who = ap (λ (v : ContextView). v.who) c.self.view_is in
-    let laws = g.met.S.LockSpace in
-    attends-still g.S.LockSpace laws.keeps laws.changes laws.remembers _ _ _ _ c.args.self.now c.requires refl refl refl (rw (same, c.in-Ok-WouldWait.is, c.in-Ok-WouldWait.field-0-is) at c.upgrade_now.ensures)
+    let laws = g.met.S.LockSpace.laws in
+    attends-still g.S.LockSpace laws _ _ _ _ c.args.self.now c.requires refl refl refl (rw (same, c.in-Ok-WouldWait.is, c.in-Ok-WouldWait.field-0-is) at c.upgrade_now.ensures)
 
 pub wait_to_upgrade-requires-clause-kept : goal.wait_to_upgrade-requires-clause-kept
 wait_to_upgrade-requires-clause-kept g c =
     let knows : Knowledge = g.S.LockSpace.knows c.args.space.now c.self.inside.who in
-    let laws = g.met.S.LockSpace in
+    let laws = g.met.S.LockSpace.laws in
     let step = rw (c.in-Ok-WouldWait.is, c.in-Ok-WouldWait.field-0-is) at c.upgrade_now.ensures in
     rw (← c.self.view_is)
     (wait-fits knows c.self.inside.who c.args.id c.args.mode (g.S.LockSpace.own c.args.space.now c.self.inside.who) (context_of c.self.inside.who c.self.inside.holdings) c.in-Some.wanted (rw (← c.self.view_is) at c.requires.serves)
@@ -64,8 +64,8 @@ returns-in-Ok-Upgraded-clause-run g c =
 
 pub returns-in-Ok-Upgraded-clause-attends : goal.returns-in-Ok-Upgraded-clause-attends
 returns-in-Ok-Upgraded-clause-attends g c =
-    let laws = g.met.S.LockSpace in
-    attends-in_mode g.S.LockSpace laws.keeps laws.changes laws.remembers _ _ _ _ c.args.id (upgraded c.args.mode) _ _ (rw (← c.self.view_is) at c.requires) refl refl
+    let laws = g.met.S.LockSpace.laws in
+    attends-in_mode g.S.LockSpace laws _ _ _ _ c.args.id (upgraded c.args.mode) _ _ (rw (← c.self.view_is) at c.requires) refl refl
     (rw (c.in-Ok-Upgraded.is, c.in-Ok-Upgraded.field-0-is) at c.upgrade_now.ensures) refl refl c.strengthen.ensures.known c.strengthen.ensures.kept c.strengthen.ensures.wait (sym c.is_waiting.ensures ∙ c.if-is_waiting.false)
 
 pub returns-in-Ok-WouldWait-clause-refused : goal.returns-in-Ok-WouldWait-clause-refused
@@ -87,8 +87,8 @@ returns-in-Ok-WouldWait-clause-run g c =
 
 pub returns-in-Ok-WouldWait-clause-others : goal.returns-in-Ok-WouldWait-clause-others
 returns-in-Ok-WouldWait-clause-others g c =
-    let laws = g.met.S.LockSpace in
-    leaves g.S.LockSpace laws.keeps laws.others laws.remembers laws.met_stays c.args.self.now.who (upgrading c.args.id c.args.mode c.args.self.now) _ _ (c.wait_to_upgrade.result, c.wait_to_upgrade.new.self)
+    let laws = g.met.S.LockSpace.laws in
+    leaves g.S.LockSpace laws c.args.self.now.who (upgrading c.args.id c.args.mode c.args.self.now) _ _ (c.wait_to_upgrade.result, c.wait_to_upgrade.new.self)
     (for_upgrading c.args.id c.args.mode c.args.self.now) (returns-in-Ok-WouldWait-clause-run g c)
 
 pub returns-in-Err-clause-refused : goal.returns-in-Err-clause-refused
@@ -106,13 +106,13 @@ returns-in-Err-clause-run g c =
 pub returns-in-Err-clause-attends : goal.returns-in-Err-clause-attends
 returns-in-Err-clause-attends g c =
     let same : c.self.inside.who ≡ c.args.self.now.who = ap (λ (v : ContextView). v.who) c.self.view_is in
-    let laws = g.met.S.LockSpace in
-    attends-still g.S.LockSpace laws.keeps laws.changes laws.remembers _ _ _ _ c.args.self.now c.requires refl refl refl (rw (same, c.in-Err.is) at c.upgrade_now.ensures)
+    let laws = g.met.S.LockSpace.laws in
+    attends-still g.S.LockSpace laws _ _ _ _ c.args.self.now c.requires refl refl refl (rw (same, c.in-Err.is) at c.upgrade_now.ensures)
 
 pub returns-in-Err-clause-own : goal.returns-in-Err-clause-own
 returns-in-Err-clause-own g c =
     let same : c.self.inside.who ≡ c.args.self.now.who = ap (λ (v : ContextView). v.who) c.self.view_is in
-    g.met.S.LockSpace.changes _ _ _ _ _ refl (rw (same, c.in-Err.is) at c.upgrade_now.ensures)
+    g.met.S.LockSpace.laws.changes _ _ _ _ _ refl (rw (same, c.in-Err.is) at c.upgrade_now.ensures)
 
 pub returns-in-Ok-WouldWait-clause-outcome : goal.returns-in-Ok-WouldWait-clause-outcome
 returns-in-Ok-WouldWait-clause-outcome g c =

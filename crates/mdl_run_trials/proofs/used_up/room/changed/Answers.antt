@@ -4,9 +4,9 @@ use Rattle.mdl_context.proofs.OthersLemmas.{leaves-call}
 use Rattle.mdl_run_trials.proofs.used_up.room.changed.Goals as goal
 
 pub returns-clause-speaks : goal.returns-clause-speaks
-returns-clause-speaks g c = g.met.S.LockSpace.keeps _ _ _ _ _ c.requires c.change_definition.ensures
+returns-clause-speaks g c = g.met.S.LockSpace.laws.keeps _ _ _ _ _ c.requires c.change_definition.ensures
 
 pub returns-clause-others : goal.returns-clause-others
 returns-clause-others g c =
-    let laws = g.met.S.LockSpace in
-    leaves-call g.S.LockSpace laws.keeps laws.others laws.remembers laws.met_stays _ _ _ _ _ refl c.change_definition.ensures
+    let laws = g.met.S.LockSpace.laws in
+    leaves-call g.S.LockSpace laws _ _ _ _ _ refl c.change_definition.ensures

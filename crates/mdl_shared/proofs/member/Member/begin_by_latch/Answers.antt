@@ -70,7 +70,7 @@ invariant_of-self g c =
     let visit = (c.begin_wait.ensures.granted (c.in-Ok-Granted.is ∙ ap Ok c.in-Ok-Granted.field-0-is)).0 in
     let done = gained-by m c.begin_wait.new.seat c.args.place c.args.mode c.requires.unfast visit in
     record {
-      lawful = ∣ kept {call = Begin_wait _ _ _} (member m) (done-order done (member m) (inl may.wish.idle)) (begin-granted (member m) c.args.place c.args.mode may.clear (ap (λ (l : Lists). l.next) m.lists) done) ∣₁;
+      lawful = ∣ kept (Begin_wait _ _ _) (member m) (done-order done (member m) (inl may.wish.idle)) (begin-granted (member m) c.args.place c.args.mode may.clear (ap (λ (l : Lists). l.next) m.lists) done) ∣₁;
       lists = lists-done m c.args.place (Gain m.next c.args.mode ∷ []) (lists-visited visit) c.push_reserved.ensures.gained c.push_reserved.ensures.same;
       room = unasked m may.wish.idle _;
       owed = owed-both m c.push_reserved.ensures.owes (visited-owes visit);
@@ -99,7 +99,7 @@ invariant_of-self-2 g c =
     let may = may-wish m c.args.place c.args.kind c.args.mode (c.requires.known, c.requires.clear) in
     let now = begun m.seat c.begin_wait.new.seat m.sessions {room = m.tickets.room} (c.begin_wait.ensures.waiting (c.in-Ok-Waiting.is ∙ ap Ok c.in-Ok-Waiting.field-0-is)).0 in
     record {
-      lawful = ∣ kept {call = Begin_wait _ _ _} (member m) (begun-order (member m) may.clear now (unfast-seen m c.requires.unfast)) (begun-joins (member m) may.clear now refl) ∣₁;
+      lawful = ∣ kept (Begin_wait _ _ _) (member m) (begun-order (member m) may.clear now (unfast-seen m c.requires.unfast)) (begun-joins (member m) may.clear now refl) ∣₁;
       lists = waiting-lists m c.args.place c.args.mode ∙ sym (ap (λ (x : SessionView). lists_seen x.me.0) now);
       room = λ ask asks. let place : c.args.place ≡ ask.place = ap (λ (o : Option Ask). option_map_or (λ (a : Ask). a.place) o 0) asks in subst (λ (p : ℕ). HasRoom p m.tickets.room) place c.requires.room;
       owed = owed-on m (ap (λ (x : SessionView). x.me.0.owes) now);

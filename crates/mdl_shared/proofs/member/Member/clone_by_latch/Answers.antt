@@ -66,7 +66,7 @@ invariant_of-self-2 g c =
     let visit = c.in_default.ensures.cloned in
     let done = gained-by m c.clone_ticket.new.seat t.place c.args.mode c.requires.unfast visit in
     record {
-      lawful = ∣ kept {call = Clone_ticket _ _ _} is (done-order done is (inl idle)) (clone-joins is t.number c.args.mode clear t its (ap (λ (l : Lists). l.next) m.lists) done) ∣₁;
+      lawful = ∣ kept (Clone_ticket _ _ _) is (done-order done is (inl idle)) (clone-joins is t.number c.args.mode clear t its (ap (λ (l : Lists). l.next) m.lists) done) ∣₁;
       lists = lists-done m t.place (Gain m.next c.args.mode ∷ []) (lists-visited visit) c.push_reserved.ensures.gained c.push_reserved.ensures.same;
       room = unasked m idle _;
       owed = owed-both m c.push_reserved.ensures.owes (visited-owes visit);

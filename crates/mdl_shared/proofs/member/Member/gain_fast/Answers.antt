@@ -105,7 +105,7 @@ invariant_of-self-2 c =
     let granted = c.in-Granted.ensures.granted refl in
     let noted = c.note_of-noted.ensures ∙ ap (λ (l : Lists). first_note (own_at c.args.place l.fast ++ own_at c.args.place l.slow)) m.lists in
     let done = (fast-granted m.seat c.try_fast.new.seat m.sessions is may.idle may.counted noted granted.0).done in record {
-      lawful = ∣ kept {call = Try_now _ _ _} is (done-order done is (inl may.idle)) (try-granted is c.args.place c.args.mode may.clear refl done) ∣₁;
+      lawful = ∣ kept (Try_now _ _ _) is (done-order done is (inl may.idle)) (try-granted is c.args.place c.args.mode may.clear refl done) ∣₁;
       lists = lists-granted m c.try_fast.new.seat granted.0 c.push_fast.ensures.same
           (c.push_fast.ensures.gained ∙ ap (λ (n : Option ℕ). m.tickets.fast ++ fast_own m.next c.args.place c.args.mode n ∷ []) (sym c.note_of-noted.ensures));
       room = unasked m may.idle _;

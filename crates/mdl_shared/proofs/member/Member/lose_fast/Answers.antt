@@ -37,7 +37,7 @@ still m t held seat owes released room =
     let is = member m in
     let its = fast-held is t.number t (seen m t held) in
     let done = (fast-released m.seat seat m.sessions {room = m.tickets.room} is {room′ = room} (seen m t held) released).done in
-    member-owing (view_of m) (session_at seat m.sessions room) (kept {call = Release _ _} is (done-order done is (inr refl)) (release-joins is t.number t its done))
+    member-owing (view_of m) (session_at seat m.sessions room) (kept (Release _ _) is (done-order done is (inr refl)) (release-joins is t.number t its done))
     (owed-known (view_of m) (session_at seat m.sessions room) t owes released.1 is (ticket-known is t.number t its))
 
 pub invariant_of-self : goal.invariant_of-self

@@ -50,7 +50,7 @@ invariant_of-self g c =
     let slow = merges-slow is t.place t.number gone.number gone.mode t gone one.1.its other.1.its in
     let done = visited m.seat c.merge.new.seat m.sessions slow visit in
     record {
-      lawful = ∣ kept {call = Merge _ _ _} is (done-order done is (inr refl)) (merge-joins is t.number t one.0.its gone.number gone other.0.its free done) ∣₁;
+      lawful = ∣ kept (Merge _ _ _) is (done-order done is (inr refl)) (merge-joins is t.number t one.0.its gone.number gone other.0.its free done) ∣₁;
       lists = lists-done m t.place (Alter t.number gone.mode ∷ Lose gone.number ∷ []) (lists-visited visit)
           (c.strike.ensures.struck.0 ∙ ap (without_at t.place gone.number) c.set_mode.ensures.changed.0)
           (fast-struck m t.place gone.number (spared is gone.number gone other.1.its)

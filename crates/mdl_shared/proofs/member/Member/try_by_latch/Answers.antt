@@ -79,7 +79,7 @@ invariant_of-self-2 g c =
     let visit = (c.try_now.ensures.granted (c.in-Ok-Granted.is ∙ ap Ok c.in-Ok-Granted.field-0-is)).0 in
     let done = gained-by m c.try_now.new.seat c.args.place c.args.mode c.requires.unfast visit in
     record {
-      lawful = ∣ kept {call = Try_now _ _ _} (member m) (done-order done (member m) (inl may.wish.idle)) (try-granted (member m) c.args.place c.args.mode may.clear (ap (λ (l : Lists). l.next) m.lists) done) ∣₁;
+      lawful = ∣ kept (Try_now _ _ _) (member m) (done-order done (member m) (inl may.wish.idle)) (try-granted (member m) c.args.place c.args.mode may.clear (ap (λ (l : Lists). l.next) m.lists) done) ∣₁;
       lists = lists-done m c.args.place (Gain m.next c.args.mode ∷ []) (lists-visited visit) c.push_reserved.ensures.gained c.push_reserved.ensures.same;
       room = unasked m may.wish.idle _;
       owed = owed-both m c.push_reserved.ensures.owes (visited-owes visit);

@@ -69,7 +69,7 @@ invariant_of-self-2 g c =
     let visit = (c.upgrade_now.ensures.granted c.in-Granted.is).0 in
     let done = visited m.seat c.upgrade_now.new.seat m.sessions (alters-slow is t.place t.number c.args.mode t held.1.its) visit in
     record {
-      lawful = ∣ kept {call = Upgrade_now _ _ _} is (done-order done is (inr refl)) (upgrade-joins is t.number t held.0.its c.args.mode
+      lawful = ∣ kept (Upgrade_now _ _ _) is (done-order done is (inr refl)) (upgrade-joins is t.number t held.0.its c.args.mode
           (ap (upgrade_fault c.args.mode m.seat.me.0.known m.seat.me.0.asks) held.0.its ∙ clear) c.requires.short done) ∣₁;
       lists = lists-done m t.place (Alter t.number c.args.mode ∷ []) (lists-visited visit) c.set_mode.ensures.changed.0 c.set_mode.ensures.changed.1;
       room = λ ask asks. room-kept m.tickets c.set_mode.new.self c.set_mode.ensures.room (m.room ask asks);

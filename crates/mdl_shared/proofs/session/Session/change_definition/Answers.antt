@@ -50,7 +50,7 @@ invariant_of-member g c =
     let visit = did.unchanged in
     let done = visited m.seat c.change_definition.new.seat m.sessions refl visit in
     let joins = unchanged-joins is c.args.id t its (session_at c.change_definition.new.seat m.sessions m.tickets.room) c.args.change.now (ap (λ (mode : Mode). same_mode mode X) own) (done-nothing done) c.in-Err.why did.refused in
-    record { lawful = ∣ kept {call = Change_definition _ _ _} is (done-order done is (inr refl)) joins ∣₁; lists = lists-done m t.place [] (lists-visited visit) refl refl; room = m.room; owed = owed-visited m visit }
+    record { lawful = ∣ kept (Change_definition _ _ _) is (done-order done is (inr refl)) joins ∣₁; lists = lists-done m t.place [] (lists-visited visit) refl refl; room = m.room; owed = owed-visited m visit }
 
 pub returns-in-Err : goal.returns-in-Err
 returns-in-Err g c =
@@ -79,7 +79,7 @@ invariant_of-member-2 g c =
     let noted = noted-by changed.1.0 m.seat c.change_definition.new.seat m.sessions changed.0.0 changed.1.2 in
     let joins = change-joins is c.args.id t its (session_at c.change_definition.new.seat m.sessions c.note_all.new.self.room) c.args.change.now (ap (λ (mode : Mode). same_mode mode X) own) changed.1.0 c.in-Ok.version noted changed.1.1 changed.0.1 in
     record {
-      lawful = ∣ kept {call = Change_definition _ _ _} is (noted-order noted is) joins ∣₁;
+      lawful = ∣ kept (Change_definition _ _ _) is (noted-order noted is) joins ∣₁;
       lists = lists-noted m noted changed.1.1 c.note_all.ensures.noted;
       room = λ ask asks. room-kept m.tickets c.note_all.new.self c.note_all.ensures.room (m.room ask asks);
       owed = owed-both m c.note_all.ensures.owes (noted-owes noted);

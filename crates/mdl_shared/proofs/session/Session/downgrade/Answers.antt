@@ -78,7 +78,7 @@ invariant_of-member g c =
     let slow = slow-held m c.args.id c.args.mode t held clear in
     let done = rescheduled m.seat c.downgrade.new.seat m.sessions (alters-slow is t.place t.number c.args.mode t slow) visit in
     record {
-      lawful = ∣ kept {call = Downgrade _ _ _} is (done-order done is (inr refl)) (downgraded m.seat c.downgrade.new.seat m.sessions c.args.id {room′ = c.pay.new.self.room} c.args.mode t is held slow clear visit did.step did.once keeps).0 ∣₁;
+      lawful = ∣ kept (Downgrade _ _ _) is (done-order done is (inr refl)) (downgraded m.seat c.downgrade.new.seat m.sessions c.args.id {room′ = c.pay.new.self.room} c.args.mode t is held slow clear visit did.step did.once keeps).0 ∣₁;
       lists = lists-done m t.place (Alter t.number c.args.mode ∷ []) (lists-rescheduled visit) (c.pay.ensures.same.0 ∙ c.set_mode.ensures.changed.0) (c.pay.ensures.same.1 ∙ c.set_mode.ensures.changed.1);
       room = λ ask asks. room-kept m.tickets c.pay.new.self keeps (m.room ask asks);
       owed = owed-paid m c.set_mode.new.self c.pay.new.self t.place c.set_mode.ensures.owes c.pay.ensures.owes (rescheduled-owes visit);

@@ -98,7 +98,7 @@ invariant_of-member-in-Some-lost_end g c =
     let h = lost-end is ask asks c.number-session.result c.read_wait.result.0 c.number-session.ensures c.read_wait.ensures.own now one some (ends.1.made, ap (λ (x : Mine). x.0.log) ends.1.now, ends.1.did)
     (c.end_lost_wait.ensures.met (state_of one) (told-end is ask asks c.number-session.result c.read_wait.result.0 c.number-session.ensures c.read_wait.ensures.own now one some)) so.1 ended ends.1.way c.end_lost_wait.ensures.once pays keeps in
     record {
-      lawful = ∣ kept {call = End_wait _} is (lost-order is ask asks ended) h.0 ∣₁;
+      lawful = ∣ kept (End_wait _) is (lost-order is ask asks ended) h.0 ∣₁;
       lists = (λ i. record { slow = c.pay.ensures.same.0 i; fast = c.pay.ensures.same.1 i; known = m.known.known; next = m.next; asks = None; waits = m.waits })
           ∙ ap (λ (l : Lists). record l { asks = None }) m.lists ∙ sym (ap (λ (x : SessionView). lists_seen x.me.0) ended.now);
       room = asks-nothing _;
@@ -163,7 +163,7 @@ invariant_of-member-2 g c =
     let h = won-end is ask asks c.number-session.result c.read_wait.result.0 c.number-session.ensures c.read_wait.ensures.own now one some (granted-so one (sym c.lost_end.ensures ∙ c.in_default-lost_end.is)) (_ ∷ [], ap (λ (x : SeatState). x.me.0.log) c.end_granted.ensures.made, refl)
     (ends-granted c.read_wait.new.self c.end_granted.new.self c.end_granted.ensures.made) ended.0 ended.1 ended.2 c.push_reserved.ensures.room in
     record {
-      lawful = ∣ kept {call = End_wait _} is (won-order is ask asks ended.0) h.0 ∣₁;
+      lawful = ∣ kept (End_wait _) is (won-order is ask asks ended.0) h.0 ∣₁;
       lists = (λ i. record { slow = c.push_reserved.ensures.gained i; fast = c.push_reserved.ensures.same i; known = m.known.known; next = m.next; asks = None; waits = m.waits })
           ∙ ap (λ (l : Lists). record l { slow = owned ask.place (Gain ask.number ask.mode) l.slow; asks = None }) m.lists
           ∙ sym (ap (λ (x : SessionView). lists_seen x.me.0) ended.0.now);

@@ -40,7 +40,7 @@ invariant_of-member-in-Err-resolve g c =
     let s = view_of m in
     let is = member m in
     let done = stepped m.seat c.resolve.new.seat m.sessions c.in-Err.ensures.answer.2.0 c.in-Err.ensures.refused in record {
-      lawful = ∣ kept {call = Resolve _ _} is (done-order done is (inr refl)) (refused s (session_at c.resolve.new.seat m.sessions m.tickets.room) (Resolve s.me.0.number c.args.key.now) OutOfMemory (done-nothing done) (speaks is) refl refl tt (λ state how met. cc) tt) ∣₁;
+      lawful = ∣ kept (Resolve _ _) is (done-order done is (inr refl)) (refused s (session_at c.resolve.new.seat m.sessions m.tickets.room) (Resolve s.me.0.number c.args.key.now) OutOfMemory (done-nothing done) (speaks is) refl refl tt (λ state how met. cc) tt) ∣₁;
       lists = ap (λ (ks : List Known). record { slow = m.tickets.slow; fast = m.tickets.fast; known = ks; next = m.next; asks = m.asks; waits = m.waits }) c.reserve.ensures.same ∙ m.lists ∙ sym (lists-stepped m.seat.me c.resolve.new.seat.me c.in-Err.ensures.refused);
       room = m.room;
       owed = owed-stepped m c.in-Err.ensures.refused;
@@ -83,7 +83,7 @@ invariant_of-member-2 g c =
     let none : place_known key m.seat.me.0.known ≡ None = rw (← c.self.view_is) at c.requires.unknown in
     let told = resolved m.seat c.resolve.new.seat m.sessions place key none c.in-Ok-resolve.ensures.known c.in-Ok-resolve.ensures.answer in
     record {
-      lawful = ∣ kept {call = Resolve _ _} is (learnt-order told.0 is told.1) (resolve-joins is key none place told.2 told.0) ∣₁;
+      lawful = ∣ kept (Resolve _ _) is (learnt-order told.0 is told.1) (resolve-joins is key none place told.2 told.0) ∣₁;
       lists = lists-learnt m told.0 (c.push_reserved.ensures.known
           ∙ ap (λ (k : KeyName). c.reserve.new.self.known ++ record { key = k; place = place } ∷ []) c.in-Ok.ensures.cases
           ∙ ap (λ (ks : List Known). ks ++ record { key = key; place = place } ∷ []) c.reserve.ensures.same);

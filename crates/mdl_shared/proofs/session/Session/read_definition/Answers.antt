@@ -47,7 +47,7 @@ invariant_of-member g c =
     let visit : AtItsTable m.seat c.read_definition.new.seat (Visits c.in-Some.held.place []) = (did.quiet.0, did.unchanged) in
     let done = visited m.seat c.read_definition.new.seat m.sessions refl visit in
     record {
-      lawful = ∣ kept {call = Read_definition _ _} is (done-order done is (inr refl)) (unread-joins is c.args.id c.in-Some.held its (done-nothing done)) ∣₁;
+      lawful = ∣ kept (Read_definition _ _) is (done-order done is (inr refl)) (unread-joins is c.args.id c.in-Some.held its (done-nothing done)) ∣₁;
       lists = lists-done m c.in-Some.held.place [] (lists-visited visit) refl refl;
       room = m.room;
       owed = owed-visited m visit;
@@ -72,7 +72,7 @@ invariant_of-member-2 g c =
     let did = c.in-Ok.ensures in
     let noted = noted-by c.in-Ok.standing m.seat c.read_definition.new.seat m.sessions did.quiet.0 did.learnt.0 in
     record {
-      lawful = ∣ kept {call = Read_definition _ _} is (noted-order noted is) (read-joins is c.args.id c.in-Some.held its c.in-Ok.standing noted did.follows) ∣₁;
+      lawful = ∣ kept (Read_definition _ _) is (noted-order noted is) (read-joins is c.args.id c.in-Some.held its c.in-Ok.standing noted did.follows) ∣₁;
       lists = lists-noted m noted refl c.note_all.ensures.noted;
       room = λ ask asks. room-kept m.tickets c.note_all.new.self c.note_all.ensures.room (m.room ask asks);
       owed = owed-both m c.note_all.ensures.owes (noted-owes noted);

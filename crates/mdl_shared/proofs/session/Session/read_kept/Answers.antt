@@ -69,7 +69,7 @@ invariant_of-member g c =
     let keeps = c.note_all.ensures.room in
     let finds = seat-finds m c.args.id t its kept met read.new.self read.result d hit read.ensures.newest read.ensures.one made room keeps in
     record {
-      lawful = ∣ kept-sound {call = Read_kept _ _} (member m) (noted-order (found-noted finds) (member m)) (seat-joins m c.args.id t its kept met read.new.self read.result d hit read.ensures.newest read.ensures.one made room keeps) ∣₁;
+      lawful = ∣ kept-sound (Read_kept _ _) (member m) (noted-order (found-noted finds) (member m)) (seat-joins m c.args.id t its kept met read.new.self read.result d hit read.ensures.newest read.ensures.one made room keeps) ∣₁;
       lists = lists-noted m (found-noted finds) refl c.note_all.ensures.noted;
       room = λ ask asks. room-kept m.tickets c.note_all.new.self keeps (m.room ask asks);
       owed = owed-both m c.note_all.ensures.owes (noted-owes (found-noted finds));

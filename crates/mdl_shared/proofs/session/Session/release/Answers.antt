@@ -81,7 +81,7 @@ invariant_of-member g c =
     let keeps = subst (λ (r : Room). KeepsRoom 0 m.tickets.room r) (sym c.pay.ensures.same.2) c.strike.ensures.room in
     let done = rescheduled m.seat c.release.new.seat m.sessions {room′ = c.pay.new.self.room} (loses-slow is t.place id t slow) visit in
     let both = released-slow m.seat c.release.new.seat m.sessions id {room′ = c.pay.new.self.room} t is its slow none visit c.release.ensures.step c.release.ensures.once keeps in record {
-      lawful = ∣ kept {call = Release _ _} is (done-order done is (inr refl)) both.0 ∣₁;
+      lawful = ∣ kept (Release _ _) is (done-order done is (inr refl)) both.0 ∣₁;
       lists = lists-done m t.place (Lose id ∷ []) (lists-rescheduled visit) (c.pay.ensures.same.0 ∙ c.strike.ensures.struck.0) (fast-struck m t.place id (spared is id t slow) (c.pay.ensures.same.1 ∙ c.strike.ensures.struck.1));
       room = λ ask asks. room-kept m.tickets c.pay.new.self keeps (m.room ask asks);
       owed = owed-paid m c.strike.new.self c.pay.new.self t.place c.strike.ensures.owes c.pay.ensures.owes (rescheduled-owes visit);

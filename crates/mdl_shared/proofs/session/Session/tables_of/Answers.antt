@@ -29,7 +29,7 @@ invariant_of-member g c =
     let is = member m in
     let did = c.in_default.ensures in
     let done = stepped m.seat c.find_tables.new.seat m.sessions did.found.1.0 did.unchanged in record {
-      lawful = ∣ kept {call = Tables_of _ _} is (done-order done is (inr refl)) (memory-joins is c.args.schema.now (done-nothing done)) ∣₁;
+      lawful = ∣ kept (Tables_of _ _) is (done-order done is (inr refl)) (memory-joins is c.args.schema.now (done-nothing done)) ∣₁;
       lists = ap (λ (ks : List Known). record { slow = m.tickets.slow; fast = m.tickets.fast; known = ks; next = m.next; asks = m.asks; waits = m.waits }) did.same ∙ m.lists ∙ sym (lists-stepped m.seat.me c.find_tables.new.seat.me did.unchanged);
       room = m.room;
       owed = owed-stepped m did.unchanged;
@@ -71,7 +71,7 @@ invariant_of-member-2 g c =
     let told = told-tables m.seat c.find_tables.new.seat new.seat m.sessions c.args.schema.now did.found.0 tables is did.found.1 did.found.2.0 did.found.2.1 c.tables_defined.ensures.steps
     {room′ = m.tickets.room} new.places.items c.tables_defined.ensures.directory (subst (λ (ts : List Known). HasAsked c.find_tables.new.seat.me.0.number ts new.places.items c.find_tables.new.seat.me new.seat.me) c.deref.ensures.value c.tables_defined.ensures.asked) (keeps-same m.tickets.room) in
     record {
-      lawful = ∣ kept {call = Tables_of _ _} is (learnt-order learnt is
+      lawful = ∣ kept (Tables_of _ _) is (learnt-order learnt is
           (All-filter (λ (k : Known). not (is_known m.seat.me.0.known k.key)) (λ (x : Known). (0 < x.place) × (x.place < m.seat.table.slots)) tables did.within)) told.0 ∣₁;
       lists = lists-learnt m learnt (c.learn.ensures.known ∙ ap (λ (ks : List Known). ks ++ unknown ks tables) did.same
           ∙ ap (λ (l : Lists). m.known.known ++ unknown l.known tables) m.lists);

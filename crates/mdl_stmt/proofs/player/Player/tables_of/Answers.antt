@@ -16,7 +16,7 @@ returns-clause-run g c =
 
 pub returns-clause-goes_on : goal.returns-clause-goes_on
 returns-clause-goes_on g c =
-    let laws = g.met.S.LockSpace in
+    let laws = g.met.S.LockSpace.laws in
     let who : c.who.result ≡ c.args.self.now.context.who = c.who.ensures ∙ ap (λ (p : PlayerView). p.context.who) c.self.view_is in
-    goes_on-call g.S.LockSpace laws.keeps laws.remembers laws.others laws.met_stays c.args.self.now c.args.space.now c.tables_of.new.self _ _ (λ w place e. cc) (λ w other e. other cc)
+    goes_on-call g.S.LockSpace laws c.args.self.now c.args.space.now c.tables_of.new.self _ _ (λ w place e. cc) (λ w other e. other cc)
     (laws.changes c.args.space.now c.tables_of.new.self _ _ c.args.self.now.context.who (ap (λ (n : ℕ). Some n) who) c.tables_of.ensures) c.tables_of.ensures c.requires.ready.attends c.requires.ready.met

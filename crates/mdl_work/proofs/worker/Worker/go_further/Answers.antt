@@ -17,13 +17,13 @@ use Rattle.mdl_work.proofs.worker.Worker.go_further.Goals as goal
 
 pub go_on-requires-clause-attends : goal.go_on-requires-clause-attends
 go_on-requires-clause-attends g c =
-    let laws = g.met.S.LockSpace in
+    let laws = g.met.S.LockSpace.laws in
     let self = c.args.self.now in
     let context = self.runner.context in
     let waited = subst (λ (w : ℕ). Runs g.S.LockSpace.joins c.args.space.now (waiting_out w self.patience) tt c.wait_out.new.space) (sym c.requires.who) c.wait_out.ensures in
-    let left = leaves g.S.LockSpace laws.keeps laws.others laws.remembers laws.met_stays context.who (waiting_out context.who self.patience) _ _ tt (for_waiting_out context.who self.patience) waited in
+    let left = leaves g.S.LockSpace laws context.who (waiting_out context.who self.patience) _ _ tt (for_waiting_out context.who self.patience) waited in
     attends-with g.S.LockSpace context self.runner.cache _ _
-    (attends-waited g.S.LockSpace laws.keeps laws.changes laws.remembers self.patience context _ _ c.requires.attends.attends waited) left.1 c.requires.attends
+    (attends-waited g.S.LockSpace laws self.patience context _ _ c.requires.attends.attends waited) left.1 c.requires.attends
 
 pub returns-clause-run : goal.returns-clause-run
 returns-clause-run g c =
@@ -36,11 +36,11 @@ returns-clause-run g c =
 
 pub returns-clause-others : goal.returns-clause-others
 returns-clause-others g c =
-    let laws = g.met.S.LockSpace in
+    let laws = g.met.S.LockSpace.laws in
     let lock = g.S.LockSpace in
     let self = c.args.self.now in
     both-leave lock self.who _ _ _
-    (leaves g.S.LockSpace laws.keeps laws.others laws.remembers laws.met_stays self.who (waiting_out self.who self.patience) _ _ tt (for_waiting_out self.who self.patience) c.wait_out.ensures)
+    (leaves g.S.LockSpace laws self.who (waiting_out self.who self.patience) _ _ tt (for_waiting_out self.who self.patience) c.wait_out.ensures)
     (subst (λ (w : ℕ). LeavesOthers lock w c.wait_out.new.space c.go_on.new.space) c.requires.who c.go_on.ensures.others)
 
 pub returns-clause-left : goal.returns-clause-left
