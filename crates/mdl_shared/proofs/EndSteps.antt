@@ -139,7 +139,7 @@ module _ {s mid : SessionView} (is : IsMember s) (a : Ask) (asks : s.me.0.asks â
             );
             room = keeps;
             debts = ended-debts ended;
-            owes = tt;
+            owes = ap (Î» (x : SessionView). x.me.0.searches) ended.now;
           },
         )
 

@@ -151,7 +151,8 @@ module _ {a : SessionView} (is : IsMember a) (place : ℕ) (mode : Mode) (clear 
         (does_then [] [] a.me b.me c.me slow.quiet.did (opens.made, log, opens.did)) (ap (λ (m : Mine). m.0.settles) opens.now ∙ slow.quiet.settled)
         (ap (λ (m : Mine). m.0.told) opens.now ∙ sym (untold-wish is place mode clear)) (by-latch slow place mode (obtrudes_at place mode a.me.0.known) c closed once met)
         (keeps-before 0 a.room b.room c.room slow.room begins.room)
-        (same-debts a c (ap (λ (m : Mine). m.0.owes) opens.now ∙ slow.quiet.owes)) (ap (λ (m : Mine). m.0.owes) opens.now ∙ slow.quiet.owes)
+        (same-debts a c (ap (λ (m : Mine). m.0.owes) opens.now ∙ slow.quiet.owes))
+        (ap (λ (m : Mine). m.0.owes) opens.now ∙ slow.quiet.owes, ap (λ (m : Mine). m.0.searches) opens.now)
 
     pub begun-slow : (result : Result Begun SpaceError) → IfOk result (λ answer. HasBegun place mode answer b c)
         → OnErr result (DoesQuietly place [] b c × KeepsRoom 0 b.room c.room)

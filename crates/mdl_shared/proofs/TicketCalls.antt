@@ -12,6 +12,7 @@ use Rattle.mdl_calls.specs.Own.{merging, upgraded}
 use Rattle.mdl_steps.specs.declared.deed.Deed.{Deed}
 use Rattle.mdl_steps.specs.declared.deed.Deed.TheVariants.{Alter, Lose}
 use Rattle.mdl_steps.specs.declared.view.Own.{Own}
+use Rattle.mdl_steps.specs.Plays.{Mine}
 use Rattle.mdl_steps.specs.declared.view.Met.{Met}
 use Rattle.mdl_steps.specs.SeatStates.{AtItsTable, SeatState}
 use Rattle.mdl_calls.specs.Meetings.{ReadsNothing}
@@ -185,6 +186,6 @@ downgraded seat seat′ sessions id {room} {room′} mode t is held slow clear v
         met = ((t, held.own, (step.0, step.1, (step.2, step.3))), (t, held.own, (visit.1.way, once, rescheduled-owes visit)));
         room = keeps;
         debts = done-debts done;
-        owes = tt;
+        owes = ap (λ (m : Mine). m.0.searches) visit.1.now;
       },
     )

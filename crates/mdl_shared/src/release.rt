@@ -50,6 +50,7 @@ impl Member {
         ensures lost { HasDone held.place (Lose held.number ∷ []) (view_of self.old) (view_of self.new) }
         ensures did { Does (Lose held.number ∷ []) self.old.seat.me self.new.seat.me }
         ensures given_up { GivesUpFast held.number (view_of self.old) (view_of self.new) held }
+        ensures searches { self.new.seat.me.0.searches ≡ self.old.seat.me.0.searches }
         ensures room { KeepsRoom 0 self.old.tickets.room self.new.tickets.room }
     {
         if self.lose_fast(held) {

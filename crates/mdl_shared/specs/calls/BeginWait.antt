@@ -1,6 +1,6 @@
 -- A lock, or otherwise a wait for it: on the fast path, or, where that is closed, in one visit to the place. If the request is blocked there, the step
 -- after the one that found it so opens the wait.
-use Rattle.std.specs.Prelude.{◌≡◌, ◌⊎◌, ℕ, List, [], ◌∷◌, Option, Some}
+use Rattle.std.specs.Prelude.{◌≡◌, ◌⊎◌, ℕ, true, List, [], ◌∷◌, Option, Some}
 use Rattle.mdl_key.specs.declared.mode.Mode.{Mode}
 use Rattle.mdl_calls.specs.declared.space_error.SpaceError.{SpaceError}
 use Rattle.mdl_calls.specs.Words.{Answer, Refused, Granted, Waits}
@@ -27,7 +27,7 @@ did mode _ tickets = []
 
 -- a session that begins to wait has yet to search for a deadlock
 abbrev pub owes : Answer → SessionView → SessionView → Type 0
-owes (Waits number) a b = OwesSame a b
+owes (Waits number) a b = OwesSame a b × (b.me.0.searches ≡ true)
 owes _ a b = KeepsDebts a b
 
 -- which steps were made, and what they met. A request past the fast path is granted, waits or is refused by the book of the place

@@ -20,9 +20,9 @@ abbrev pub settled : Answer → Lists → SessionView → SessionView → Type 0
 settled (Lost how) l a b = Unit {0}
 settled _ l a b = SettlesNothing a.me b.me
 
--- the end of a lost wait pays what its place is owed: `Pays` says that
+-- the end of a lost wait pays what its place is owed: `Pays` says that. Whether the session has yet to search stays
 abbrev pub owes : Answer → SessionView → SessionView → Type 0
-owes (Lost how) a b = Unit {0}
+owes (Lost how) a b = b.me.0.searches ≡ a.me.0.searches
 owes _ a b = KeepsDebts a b
 
 -- which steps were made, and what they met

@@ -23,9 +23,9 @@ abbrev pub settled : Answer → Lists → SessionView → SessionView → Type 0
 settled Done l a b = Unit {0}
 settled _ l a b = SettlesNothing a.me b.me
 
--- where waits are granted, what the place is owed is paid: `Pays` says that
+-- where waits are granted, what the place is owed is paid: `Pays` says that. A search that the session has yet to make it still has to make
 abbrev pub owes : Answer → SessionView → SessionView → Type 0
-owes Done a b = Unit {0}
+owes Done a b = b.me.0.searches ≡ a.me.0.searches
 owes _ a b = KeepsDebts a b
 
 -- which steps were made, and what they met

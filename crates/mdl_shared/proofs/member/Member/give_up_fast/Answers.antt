@@ -2,6 +2,7 @@
 use Rattle.std.proofs.Common.{◌≡◌, List, [], ◌∷◌, Some, refl, sym, ap, subst, ◌∙◌}
 use Rattle.mdl_steps.specs.declared.deed.Deed.TheVariants.{Lose}
 use Rattle.mdl_steps.specs.declared.view.Known.{Known}
+use Rattle.mdl_steps.specs.Plays.{Mine}
 use Rattle.mdl_visits.specs.Numbers.{numbered}
 use Rattle.mdl_visits.proofs.Doing.{does_reschedule}
 use Rattle.mdl_visits.proofs.Steps.{does_then}
@@ -44,6 +45,7 @@ returns-then-lose_fast g c =
       did = does_then (Lose t.number ∷ []) [] m.seat.me mid.seat.me end.seat.me lost.did (does_reschedule mid.seat.me end.seat.me mid.seat.table t.place [] visit.1);
       given_up = subst (λ (s : SessionView). GivesUpFast t.number (view_of m) s t) now
           (gives-up_after (view_of m) (view_of mid) t c.lose_fast.result released lost.done c.if-lose_fast.true visit c.pay.ensures.once);
+      searches = ap (λ (m : Mine). m.0.searches) visit.1.now ∙ lost.searches;
       room = subst (λ (r : Room). KeepsRoom 0 m.tickets.room r) (sym c.pay.ensures.same.1)
           (keeps-freed m.tickets.room mid.tickets.room c.lose_fast.ensures.room.0 c.lose_fast.ensures.room.1);
     }
@@ -58,5 +60,6 @@ returns-else-lose_fast g c =
       lost = gone-quiet (view_of m) (view_of mid) c.args.held c.lose_fast.result released lost.done c.if-lose_fast.false;
       did = lost.did;
       given_up = gives-up (view_of m) (view_of mid) c.args.held c.lose_fast.result released c.if-lose_fast.false;
+      searches = lost.searches;
       room = keeps-freed m.tickets.room mid.tickets.room c.lose_fast.ensures.room.0 c.lose_fast.ensures.room.1;
     }

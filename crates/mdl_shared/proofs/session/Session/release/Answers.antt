@@ -38,7 +38,7 @@ returns-then-fast g c =
     let t = c.in-Some.held in
     let its = fast-seen m c.args.id (Some t) (sym (ap fast_found c.in-Some.is ∙ rw c.if-fast.true refl) ∙ c.find.ensures.fast) in
     let gone = c.give_up_fast.ensures in
-    let both = released-fast c.args.id t (member m) its gone.lost gone.did gone.given_up gone.room in
+    let both = released-fast c.args.id t (member m) its gone.lost gone.did gone.given_up gone.searches gone.room in
     rw (← c.self.view_is) (record { joined = both.0; shown = both.1 })
 
 -- ---- none
