@@ -4,7 +4,7 @@ use Rattle.std.specs.Prelude.{replicate}
 use Rattle.std.proofs.lemmas.Bool.{false≢true}
 use Rattle.std.proofs.lemmas.Bool.Decides.{eqb_tells}
 use Rattle.mdl_key.specs.Keys.{KeyName}
-use Rattle.mdl_calls.specs.Words.{Answer, Call, caller, Own, own_after}
+use Rattle.mdl_calls.specs.Words.{Answer, Call, caller, SessionLocks, own_after}
 use Rattle.mdl_core.specs.CoreCalls.{has_call}
 use Rattle.mdl_core.specs.CoreJoins.{Joins}
 use Rattle.mdl_core.specs.Words.{Core, Knows, SpeaksFor, own_at}
@@ -37,7 +37,7 @@ spared-other a b call answer w other joined speaks = (
 )
 
 -- and its caller, too, where it leaves what that has
-pub spared-still : (a b : Core) (call : Call) (answer : Answer) (w : ℕ) → ((own : Own) → own_after call answer own ≡ own) → Joins a call answer b → IsSpared a b w
+pub spared-still : (a b : Core) (call : Call) (answer : Answer) (w : ℕ) → ((own : SessionLocks) → own_after call answer own ≡ own) → Joins a call answer b → IsSpared a b w
 spared-still a b call answer w still joined speaks = (
   core-keeps calls_keep-sound a b call answer w speaks joined,
   same (caller call) refl,

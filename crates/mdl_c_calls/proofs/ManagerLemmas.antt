@@ -8,7 +8,7 @@ use Rattle.std.proofs.lemmas.List.Elements.{All-nil}
 use Rattle.std.proofs.lemmas.Bool.Decides.{nat_tests}
 use Rattle.std.proofs.lemmas.Option.{get_or_from_slice_get, slice_get_read, slice_get_within}
 use Rattle.mdl_calls.specs.declared.answers.Held.{Held}
-use Rattle.mdl_calls.specs.Words.{Answer, Call, caller, Own, Wait, own_after}
+use Rattle.mdl_calls.specs.Words.{Answer, Call, caller, SessionLocks, Wait, own_after}
 use Rattle.mdl_core.specs.Words.{Core, SpeaksFor, own_at}
 use Rattle.mdl_core.proofs.CallLaws.{core-keeps}
 use Rattle.mdl_core.proofs.CoreSound.{calls_keep-sound}
@@ -51,7 +51,7 @@ direct-seat who manager direct = by (who == 0) refl where
 -- ---- serving
 
 -- a call that leaves what its caller has
-pub serves-still : (a b : Core) (call : Call) (answer : Answer) (sessions : ℕ) (seats : List Seat) → ((own : Own) → own_after call answer own ≡ own)
+pub serves-still : (a b : Core) (call : Call) (answer : Answer) (sessions : ℕ) (seats : List Seat) → ((own : SessionLocks) → own_after call answer own ≡ own)
     → ServesAll a sessions seats → core_space.joins a call answer b → ServesAll b sessions seats
 serves-still a b call answer sessions seats still serves joined = record {
   seated = serves.seated;

@@ -3,7 +3,7 @@
 use Rattle.std.specs.Prelude.{◌≡◌, ◌⊎◌, ℕ, ◌-◌, Bool, not, ◌&&◌, ◌==◌, List, [], length, map, slice_set, Option, Some, None, is_some, MatchOption, Result, Ok, if◌then◌else◌}
 use Rattle.std.specs.Option.{option_or}
 use Rattle.mdl_key.specs.declared.mode.Duration.TheVariants.{Explicit}
-use Rattle.mdl_calls.specs.Words.{Own, Program, Give, ◌>>=◌, Runs}
+use Rattle.mdl_calls.specs.Words.{SessionLocks, Program, Give, ◌>>=◌, Runs}
 use Rattle.mdl_core.specs.Words.{Core, own_at}
 use Rattle.mdl_space.specs.CoreMembers.{core_space}
 use Rattle.mdl_context.specs.declared.context_error.ContextError.{ContextError}
@@ -86,7 +86,7 @@ abbrev pub new_context : ℕ → ContextView
 new_context who = record { who = who; kept = []; known = []; wait = None }
 
 -- whether a session holds no ticket and has no wait
-abbrev pub has_nothing : Own → Bool
+abbrev pub has_nothing : SessionLocks → Bool
 has_nothing own = length own.held == 0 && not (is_some own.wait)
 
 -- why a context can't begin: there is no such session, it has a context, or it holds a ticket or has a wait

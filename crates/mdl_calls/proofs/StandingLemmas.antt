@@ -21,7 +21,7 @@ use Rattle.mdl_calls.specs.declared.space_error.SpaceError.TheVariants as space_
 use Rattle.mdl_calls.specs.Interface.{Answer, Refused, Changed, Change_definition, change_takes_memory}
 use Rattle.mdl_calls.specs.AllCalls.{IsCause}
 use Rattle.mdl_calls.specs.Causes.{Knowledge, OfHeld}
-use Rattle.mdl_calls.specs.Own.{Own}
+use Rattle.mdl_calls.specs.SessionLocks.{SessionLocks}
 use Rattle.mdl_calls.specs.Reads.{IsChangeOf, cause_of}
 
 -- want of memory is no fault of what is asked
@@ -60,7 +60,7 @@ is_change-of key change standing result refuses next = by (standing_fault key.na
     by (Some fault) (Err why) ok e = let same : why ≡ fault = cc in inr (ap (λ w. Refused (cause_of w)) same)
 
 -- each such refusal has its cause, where an exclusive ticket is held
-pub redefined-cause : (knows : Knowledge) (who id : ℕ) (change : Change) (own : Own) (key : KeyName) (standing : Standing) (refusal : SpaceError)
+pub redefined-cause : (knows : Knowledge) (who id : ℕ) (change : Change) (own : SessionLocks) (key : KeyName) (standing : Standing) (refusal : SpaceError)
     → OfHeld id own (λ ticket. same_mode ticket.mode X ≡ true) → IsChangeOf key change standing (Refused refusal)
     → (refusal ≡ OutOfMemory → change_takes_memory change ≡ true) → IsCause knows (Change_definition who id change) refusal own
 redefined-cause knows who id change own key standing refusal exclusive of_change memory = by of_change

@@ -4,7 +4,7 @@ use Rattle.std.specs.Option.{option_map}
 use Rattle.mdl_calls.specs.declared.answers.Settled.{Settled}
 use Rattle.mdl_calls.specs.declared.space_error.SpaceError.{SpaceError}
 use Rattle.mdl_calls.specs.Interface.{Call, Resolve, Try_now, Begin_wait, Search, Poll_wait, Settle_timeout, End_wait, Wait_of, Kill, Release, Clone_ticket, Upgrade_now, Merge, Downgrade, Read_definition, Read_kept, Change_definition, Tables_of, Key_of, List_held, Unpin, Answer}
-use Rattle.mdl_calls.specs.Own.{Own, Numbers, ticket_held}
+use Rattle.mdl_calls.specs.SessionLocks.{SessionLocks, Numbers, ticket_held}
 use Rattle.mdl_calls.specs.Effects.{own_by, DrawsBy}
 use Rattle.mdl_calls.specs.Causes.{Knowledge}
 use Rattle.mdl_calls.specs.CallSpec.{CallSpec, Explains}
@@ -76,21 +76,21 @@ abbrev pub is_answer_of : Call → Answer → Bool
 is_answer_of call answer = (spec_of call).answers answer
 
 -- what must hold of the caller's tickets and wait for a call not to be refused
-abbrev pub IsClear : Knowledge → Call → Own → Type 0
+abbrev pub IsClear : Knowledge → Call → SessionLocks → Type 0
 IsClear knows call own = (spec_of call).clear knows own
 
 -- which errors a call can be refused with, and what each says of the caller's tickets and wait
-abbrev pub IsCause : Knowledge → Call → SpaceError → Own → Type 0
+abbrev pub IsCause : Knowledge → Call → SpaceError → SessionLocks → Type 0
 IsCause knows call why own = (spec_of call).cause why knows own
 
 -- what an answer says of the caller's tickets and wait: if it is a refusal, its cause; otherwise that there is none
-abbrev pub IsExplained : Knowledge → Call → Answer → Own → Type 0
+abbrev pub IsExplained : Knowledge → Call → Answer → SessionLocks → Type 0
 IsExplained knows call answer own = Explains (spec_of call) knows answer own
 
 -- ---- what the caller has
 
 -- what the caller has after a call with this answer
-abbrev pub own_after : Call → Answer → Own → Own
+abbrev pub own_after : Call → Answer → SessionLocks → SessionLocks
 own_after call answer own = own_by ((spec_of call).effect answer) own
 
 -- which numbers the caller gets by a call with this answer
@@ -114,10 +114,10 @@ abbrev pub read_under : Call → Option ℕ
 read_under call = (spec_of call).reads_under
 
 -- the place of a ticket of this number, if there is a number and such a ticket is held
-abbrev pub place_under : Option ℕ → Own → Option ℕ
+abbrev pub place_under : Option ℕ → SessionLocks → Option ℕ
 place_under None own = None
 place_under (Some id) own = option_map (λ ticket. ticket.place) (ticket_held id own)
 
 -- the place whose definition a call with this answer changed, if it changed one
-abbrev pub redefined_place : Call → Answer → Own → Option ℕ
+abbrev pub redefined_place : Call → Answer → SessionLocks → Option ℕ
 redefined_place call answer own = place_under ((spec_of call).redefines answer) own

@@ -7,7 +7,7 @@ use Rattle.mdl_calls.specs.declared.answers.Settled.{Settled}
 use Rattle.mdl_calls.specs.declared.space_error.SpaceError.{SpaceError}
 use Rattle.mdl_calls.specs.declared.space_error.SpaceError.TheVariants.{NoPlace, NotHeld, AlreadyWaiting, BadMode, NoWait, CounterFull, Full, OutOfMemory}
 use Rattle.mdl_calls.specs.Interface.{Answer, Refused}
-use Rattle.mdl_calls.specs.Own.{Own, holds, is_waiting}
+use Rattle.mdl_calls.specs.SessionLocks.{SessionLocks, holds, is_waiting}
 use Rattle.mdl_calls.specs.Effects.{Effect, Keeps, own_by, DrawsBy, place_of, ends}
 use Rattle.mdl_calls.specs.Causes.{Knowledge, IsUnknown, IsFit, IsUnfit}
 use Rattle.mdl_calls.specs.SessionData.{SessionData, KnownKey, SpeaksFor, Knows, is_known}
@@ -17,33 +17,33 @@ use Rattle.mdl_calls.specs.Meetings.{ReadsNothing}
 -- ---- what several calls share
 
 -- why a call on the caller's own wait is refused: there is none
-abbrev pub no_wait_cause : SpaceError → Knowledge → Own → Type 0
+abbrev pub no_wait_cause : SpaceError → Knowledge → SessionLocks → Type 0
 no_wait_cause NoWait knows own = is_waiting own ≡ false
 no_wait_cause _ knows own = ⊥
 
 -- why a call on a held ticket that takes no memory is refused: no ticket of the number is held
-abbrev pub no_ticket_cause : ℕ → SpaceError → Knowledge → Own → Type 0
+abbrev pub no_ticket_cause : ℕ → SpaceError → Knowledge → SessionLocks → Type 0
 no_ticket_cause id NotHeld knows own = holds id own ≡ false
 no_ticket_cause id _ knows own = ⊥
 
 -- why a read under a ticket is refused: no ticket of the number is held, or memory ran out
-abbrev pub read_cause : ℕ → SpaceError → Knowledge → Own → Type 0
+abbrev pub read_cause : ℕ → SpaceError → Knowledge → SessionLocks → Type 0
 read_cause id NotHeld knows own = holds id own ≡ false
 read_cause id OutOfMemory knows own = Unit {0}
 read_cause id _ knows own = ⊥
 
 -- why a call is refused for which there is only one reason: memory ran out
-abbrev pub memory_cause : SpaceError → Knowledge → Own → Type 0
+abbrev pub memory_cause : SpaceError → Knowledge → SessionLocks → Type 0
 memory_cause OutOfMemory knows own = Unit {0}
 memory_cause _ knows own = ⊥
 
 -- the caller may request a lock: it has no wait, and the mode is one of the kind of the place's key
-abbrev pub MayAsk : ℕ → Mode → Knowledge → Own → Type 0
+abbrev pub MayAsk : ℕ → Mode → Knowledge → SessionLocks → Type 0
 MayAsk place mode knows own = (is_waiting own ≡ false) × IsFit knows place mode
 
 -- why a request is refused: the caller doesn't know the place, or waits already, or the mode doesn't fit, or there is no number or no room left, or memory
 -- ran out
-abbrev pub wish_cause : ℕ → Mode → SpaceError → Knowledge → Own → Type 0
+abbrev pub wish_cause : ℕ → Mode → SpaceError → Knowledge → SessionLocks → Type 0
 wish_cause place mode NoPlace knows own = IsUnknown knows place
 wish_cause place mode AlreadyWaiting knows own = is_waiting own ≡ true
 wish_cause place mode BadMode knows own = (is_waiting own ≡ false) × IsUnfit knows place mode
@@ -67,9 +67,9 @@ pub record CallSpec : Type 1 where
   -- whether it can have this answer, by the answer's form
   pub answers : Answer → Bool
   -- what must hold of the caller's tickets and wait for it not to be refused
-  pub clear : Knowledge → Own → Type 0
+  pub clear : Knowledge → SessionLocks → Type 0
   -- which errors it can be refused with, and what each says of the caller's tickets and wait
-  pub cause : SpaceError → Knowledge → Own → Type 0
+  pub cause : SpaceError → Knowledge → SessionLocks → Type 0
   -- what it does to them
   pub effect : Answer → Effect
   -- the state in which it met the caller's wait, if the answer says that: not settled, or settled in this way
@@ -114,7 +114,7 @@ unchanged who = record {
 -- ---- what it is to a session
 
 -- what an answer says of the caller's tickets and wait: if it is a refusal, its cause; otherwise that there is none
-abbrev pub Explains : CallSpec → Knowledge → Answer → Own → Type 0
+abbrev pub Explains : CallSpec → Knowledge → Answer → SessionLocks → Type 0
 Explains call knows (Refused why) own = call.cause why knows own
 Explains call knows _ own = call.clear knows own
 

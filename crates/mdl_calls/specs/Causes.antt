@@ -4,7 +4,7 @@ use Rattle.std.specs.Prelude.{◌≡◌, ℕ, Bool, true, false, not, ◌&&◌, 
 use Rattle.mdl_key.specs.declared.mode.Mode.{Mode}
 use Rattle.mdl_key.specs.Words.{KeyName, kind_of, is_mode_of}
 use Rattle.mdl_calls.specs.declared.answers.Held.{Held}
-use Rattle.mdl_calls.specs.Own.{Own, ticket_held}
+use Rattle.mdl_calls.specs.SessionLocks.{SessionLocks, ticket_held}
 use Rattle.mdl_system.specs.Strength.{covers, may_upgrade, may_downgrade}
 
 -- what a session knows of keys: which key is at which place
@@ -28,7 +28,7 @@ abbrev pub IsUnfit : Knowledge → ℕ → Mode → Type 0
 IsUnfit knows place mode = (key : KeyName) → knows place key → is_mode_of (kind_of key.namespace) mode ≡ false
 
 -- a ticket of this number is held, and it has the property
-abbrev pub OfHeld : ℕ → Own → (Held → Type 0) → Type 0
+abbrev pub OfHeld : ℕ → SessionLocks → (Held → Type 0) → Type 0
 OfHeld id own P = MatchOption (ticket_held id own) ⊥ P
 
 -- a held ticket may be cloned in the mode: it covers the mode, which is one of the place's kind
@@ -60,5 +60,5 @@ abbrev pub may_merge : Held → Held → Bool
 may_merge kept gone = not (kept.id == gone.id) && kept.place == gone.place && covers gone.mode kept.mode
 
 -- the two tickets are held, and this is whether they may be merged
-abbrev pub Mergeable : Bool → ℕ → ℕ → Own → Type 0
+abbrev pub Mergeable : Bool → ℕ → ℕ → SessionLocks → Type 0
 Mergeable answer old new own = OfHeld old own (λ kept. OfHeld new own (λ gone. may_merge kept gone ≡ answer))

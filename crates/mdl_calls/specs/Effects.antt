@@ -1,7 +1,7 @@
 -- What a call does to its caller's tickets and wait, and which numbers it gives them: its effect.
 use Rattle.std.specs.Prelude.{◌≡◌, ℕ, Bool, true, false, Option, Some, None}
 use Rattle.mdl_key.specs.declared.mode.Mode.{Mode}
-use Rattle.mdl_calls.specs.Own.{DrawsTicket, DrawsWait, Numbers, Own, changing, cloning, ending, gaining, giving_up, merging, ticket_held, upgraded, waiting, winning}
+use Rattle.mdl_calls.specs.SessionLocks.{DrawsTicket, DrawsWait, Numbers, SessionLocks, changing, cloning, ending, gaining, giving_up, merging, ticket_held, upgraded, waiting, winning}
 
 -- the effect of a call
 pub data Effect : Type 0 where
@@ -27,7 +27,7 @@ pub data Effect : Type 0 where
   Lowers : (id : ℕ) (mode : Mode) → Effect
 
 -- what the caller has afterwards
-abbrev pub own_by : Effect → Own → Own
+abbrev pub own_by : Effect → SessionLocks → SessionLocks
 own_by Keeps own = own
 own_by (Gains id place mode) own = gaining id place mode own
 own_by (Begins number place mode) own = waiting number place mode own

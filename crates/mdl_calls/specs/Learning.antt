@@ -4,7 +4,7 @@ use Rattle.std.specs.declared.cmp.Ordering.TheVariants.{Less}
 use Rattle.mdl_key.specs.Keys.{key_cmp}
 use Rattle.mdl_key.specs.Words.{KeyName}
 use Rattle.mdl_calls.specs.declared.answers.Settled.{Settled}
-use Rattle.mdl_calls.specs.Own.{is_waiting}
+use Rattle.mdl_calls.specs.SessionLocks.{is_waiting}
 use Rattle.mdl_calls.specs.Reads.{is_table_of}
 use Rattle.mdl_calls.specs.SessionData.{SessionData, KnownKey, key_known, is_known, are_apart}
 

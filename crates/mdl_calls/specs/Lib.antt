@@ -9,11 +9,11 @@ pub mod Learning
 pub mod Limits
 pub mod Meetings
 pub mod MemberLaws
-pub mod Own
 pub mod Reads
 pub mod Runs
 pub mod Searches
 pub mod SessionData
+pub mod SessionLocks
 pub mod SpaceLaws
 pub mod Waits
 pub mod Words

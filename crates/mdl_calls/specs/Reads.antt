@@ -15,14 +15,14 @@ use Rattle.mdl_calls.specs.declared.space_error.SpaceError.{SpaceError}
 use Rattle.mdl_calls.specs.declared.space_error.SpaceError.TheVariants.{VersionFull, WrongKind, Def, OutOfMemory}
 use Rattle.mdl_calls.specs.Interface.{Answer, Refused, Changed}
 use Rattle.mdl_calls.specs.Causes.{Knowledge}
-use Rattle.mdl_calls.specs.Own.{Own, Wait}
+use Rattle.mdl_calls.specs.SessionLocks.{SessionLocks, Wait}
 
 -- a session holds a ticket at a place
-abbrev pub HoldsAt : ℕ → Own → Type 0
+abbrev pub HoldsAt : ℕ → SessionLocks → Type 0
 HoldsAt place own = (ticket : Held) × Contains own.held ticket × (ticket.place ≡ place)
 
 -- a session has a wait at a place
-abbrev pub AwaitsAt : ℕ → Own → Type 0
+abbrev pub AwaitsAt : ℕ → SessionLocks → Type 0
 AwaitsAt place own = (wait : Wait) × (own.wait ≡ Some wait) × (wait.place ≡ place)
 
 -- the error that a space returns if a definition can't be changed for this cause

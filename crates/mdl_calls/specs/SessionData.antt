@@ -8,7 +8,7 @@ use Rattle.mdl_defs.specs.declared.standing.Standing.{Standing}
 use Rattle.mdl_defs.specs.Standings.{MayStand}
 use Rattle.mdl_calls.specs.declared.answers.Held.{Held}
 use Rattle.mdl_calls.specs.declared.answers.Settled.{Settled}
-use Rattle.mdl_calls.specs.Own.{Own, Numbers, IsRising, is_waiting}
+use Rattle.mdl_calls.specs.SessionLocks.{SessionLocks, Numbers, IsRising, is_waiting}
 
 -- a key and its place, as the session has looked it up
 pub record KnownKey : Type 0 where
@@ -29,7 +29,7 @@ pub record Reading : Type 0 where
 -- settled, if it has met that; a note for each ticket under which it noted a version; and what it read, the first read first
 pub record SessionData : Type 0 where
   pub number : ℕ
-  pub own : Own
+  pub own : SessionLocks
   pub numbers : Numbers
   pub known : List KnownKey
   pub settled : Option Settled
@@ -120,7 +120,7 @@ abbrev pub SpeaksFor : SessionData → ℕ → Type 0
 SpeaksFor a who = (who ≡ a.number) × IsSound a
 
 -- what the session has: its held tickets and its wait
-abbrev pub own_of : SessionData → ℕ → Own
+abbrev pub own_of : SessionData → ℕ → SessionLocks
 own_of a who = a.own
 
 -- the last numbers that were given to its tickets and waits

@@ -14,11 +14,11 @@ use Rattle.mdl_calls.specs.declared.answers.Held.{Held}
 use Rattle.mdl_calls.specs.declared.answers.Settled.{Settled}
 use Rattle.mdl_calls.specs.declared.answers.Settled.TheVariants as settled_as
 use Rattle.mdl_calls.specs.declared.space_error.SpaceError.TheVariants.{NoPlace, InUse}
-use Rattle.mdl_calls.specs.Words.{Answer, Refused, Done, At_place, Would_wait, Changed, Reads, Tables, Key_is, Victim_is, Has_wait, Has_killed, Holds, is_answer_of, Call, Resolve, Search, End_wait, Wait_of, Kill, Upgrade_now, Change_definition, Tables_of, Key_of, List_held, Unpin, caller, IsExplained, Own, Wait, Numbers, Draws, IsRising, own_after, wait_number, is_waiting, ticket_held, AreTablesOf, AwaitsAt, HoldsAt, IsChangeOf, read_under, redefined_place, IsToldOf, told}
+use Rattle.mdl_calls.specs.Words.{Answer, Refused, Done, At_place, Would_wait, Changed, Reads, Tables, Key_is, Victim_is, Has_wait, Has_killed, Holds, is_answer_of, Call, Resolve, Search, End_wait, Wait_of, Kill, Upgrade_now, Change_definition, Tables_of, Key_of, List_held, Unpin, caller, IsExplained, SessionLocks, Wait, Numbers, Draws, IsRising, own_after, wait_number, is_waiting, ticket_held, AreTablesOf, AwaitsAt, HoldsAt, IsChangeOf, read_under, redefined_place, IsToldOf, told}
 
 -- what holds of the ghost members of each lock space, which the trait `LockSpace` describes: the sessions that it speaks for, what they have, know, have
 -- read and owe, and how calls join one space to the next
-pub record SpaceLaws {S : Type 0} (speaks_for : S → ℕ → Type 0) (own : S → ℕ → Own) (knows : S → ℕ → ℕ → KeyName → Type 0)
+pub record SpaceLaws {S : Type 0} (speaks_for : S → ℕ → Type 0) (own : S → ℕ → SessionLocks) (knows : S → ℕ → ℕ → KeyName → Type 0)
     (is_settled : S → ℕ → Settled → Type 0) (numbers : S → ℕ → Numbers) (has_read has_met : S → ℕ → ℕ → Standing → Type 0)
     (has_seen : S → ℕ → ℕ → ℕ → Type 0) (pins owes : S → ℕ → ℕ → Type 0) (joins : S → Call → Answer → S → Type 0) : Type 0 where
   -- a call is made for a session that the space speaks for

@@ -5,7 +5,7 @@ ghost use Rattle.mdl_defs.specs.Caches.{CacheView};
 ghost use Rattle.mdl_defs.specs.declared.standing.Standing.{Standing};
 ghost use Rattle.mdl_calls.specs.declared.answers.Settled.{Settled};
 ghost use Rattle.mdl_calls.specs.SpaceLaws.{SpaceLaws};
-ghost use Rattle.mdl_calls.specs.Words.{AreMet, Call, Resolve, Try_now, Begin_wait, Search as Search_by, Poll_wait, Settle_timeout, End_wait, Wait_of, Kill, Release, Clone_ticket, Upgrade_now, Merge, Downgrade, List_held, Read_definition, Read_kept, Change_definition, Tables_of, Key_of, Answer, Has_wait, Has_killed, placed, attempted, begun, searched, polled, timed_out, ended, done, cloned, upgrade_tried, listed, Own, Numbers, keyed, read, redefined, tables_told};
+ghost use Rattle.mdl_calls.specs.Words.{AreMet, Call, Resolve, Try_now, Begin_wait, Search as Search_by, Poll_wait, Settle_timeout, End_wait, Wait_of, Kill, Release, Clone_ticket, Upgrade_now, Merge, Downgrade, List_held, Read_definition, Read_kept, Change_definition, Tables_of, Key_of, Answer, Has_wait, Has_killed, placed, attempted, begun, searched, polled, timed_out, ended, done, cloned, upgrade_tried, listed, SessionLocks, Numbers, keyed, read, redefined, tables_told};
 
 use crate::{
     Attempt, Begun, Ended, Held, Place, Poll, Search, SpaceError, TicketId, TimedOut, Upgrade,
@@ -31,7 +31,7 @@ pub trait LockSpace {
     ghost speaks_for: { Self → ℕ → Type 0 };
 
     // A session's held tickets and its wait.
-    ghost own: { Self → ℕ → Own };
+    ghost own: { Self → ℕ → SessionLocks };
 
     // A session knows that this place has this key.
     ghost knows: { Self → ℕ → ℕ → KeyName → Type 0 };

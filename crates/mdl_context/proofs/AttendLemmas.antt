@@ -8,8 +8,8 @@ use Rattle.mdl_key.specs.Keys.{KeyName, key_eq}
 use Rattle.mdl_system.proofs.Deciding.{key-Decides}
 use Rattle.mdl_calls.specs.declared.answers.Held.{Held}
 use Rattle.mdl_calls.specs.declared.answers.Settled.{Settled}
-use Rattle.mdl_calls.specs.Words.{Answer, Granted, Lost, Call, End_wait, Unpin, caller, Own, own_after, gaining}
-use Rattle.mdl_calls.specs.Own.{waiting}
+use Rattle.mdl_calls.specs.Words.{Answer, Granted, Lost, Call, End_wait, Unpin, caller, SessionLocks, own_after, gaining}
+use Rattle.mdl_calls.specs.SessionLocks.{waiting}
 use Rattle.mdl_calls.specs.declared.lock_space.LockSpace.{Ghosts}
 use Rattle.mdl_calls.specs.MemberLaws.{LawsOf}
 use Rattle.mdl_context.specs.declared.kept.Kept.{Kept}
@@ -106,7 +106,7 @@ module _ {S : Type 0} {members : Ghosts S} where
   pub attends-same : (a b : S) (context : ContextView) → Attends members a context → ((place : ℕ) (key : KeyName) → members.knows a context.who place key → members.knows b context.who place key)
       → members.speaks_for b context.who → members.own b context.who ≡ members.own a context.who → Attends members b context
   attends-same a b context attends still speaks same =
-      attends-over a b context context attends still speaks (subst (λ (o : Own). Serves o context) (sym same) attends.serves) refl refl attends.places attends.wish
+      attends-over a b context context attends still speaks (subst (λ (o : SessionLocks). Serves o context) (sym same) attends.serves) refl refl attends.places attends.wish
 
   -- fewer tickets are left
   pub attends-left : (a b : S) (before after : ContextView) (stays : Kept → Bool) → Attends members a before → ((place : ℕ) (key : KeyName) → members.knows a before.who place key → members.knows b before.who place key)
@@ -175,13 +175,13 @@ module _ {S : Type 0} (members : Ghosts S) (laws : LawsOf members) where
   attends-after a b call answer before after attends by stays step serves same known placed wished =
       let now : members.own b before.who ≡ own_after call answer (members.own a before.who) = laws.changes a b call answer before.who by step in
       attends-over a b before after attends (known-still a b call answer before.who attends.speaks stays step) (laws.keeps a b call answer before.who attends.speaks step)
-      (subst (λ (o : Own). Serves o after) (sym now) serves) same known placed wished
+      (subst (λ (o : SessionLocks). Serves o after) (sym now) serves) same known placed wished
 
   -- a call that does nothing to the session
   pub attends-still : (a b : S) (call : Call) (answer : Answer) (context : ContextView) → Attends members a context → caller call ≡ Some context.who → unpins call ≡ false
       → own_after call answer (members.own a context.who) ≡ members.own a context.who → members.joins a call answer b → Attends members b context
   attends-still a b call answer context attends by stays nothing step =
-      attends-after a b call answer context context attends by stays step (subst (λ (o : Own). Serves o context) (sym nothing) attends.serves) refl refl attends.places attends.wish
+      attends-after a b call answer context context attends by stays step (subst (λ (o : SessionLocks). Serves o context) (sym nothing) attends.serves) refl refl attends.places attends.wish
 
   -- a wait ends with its ticket
   pub attends-won : (a b : S) (id : ℕ) (before after : ContextView) → Attends members a before → members.joins a (End_wait before.who) (Granted id) b

@@ -6,7 +6,7 @@ use Rattle.std.proofs.lemmas.Bool.Decides.{nat_tests}
 use Rattle.mdl_key.specs.declared.mode.Duration.{Duration}
 use Rattle.mdl_key.specs.declared.mode.Duration.TheVariants.{Statement, Transaction}
 use Rattle.mdl_key.specs.Keys.{KeyName}
-use Rattle.mdl_calls.specs.Words.{Answer, Call, Own, IsRising, is_number, holds, giving_up, Program, Runs, Give}
+use Rattle.mdl_calls.specs.Words.{Answer, Call, SessionLocks, IsRising, is_number, holds, giving_up, Program, Runs, Give}
 use Rattle.mdl_calls.proofs.RunLemmas.{runs_bind}
 use Rattle.mdl_context.specs.declared.context_error.ContextError.{ContextError}
 use Rattle.mdl_context.specs.declared.kept.Kept.{Kept}
@@ -21,7 +21,7 @@ use Rattle.mdl_context.specs.Requests.{Outcome}
 use Rattle.mdl_context.proofs.FrontLemmas.{Above, front, left-beyond, statement-gone, without-append}
 
 -- the numbers of what a context keeps rise
-pub rising-kept : (own : Own) (context : ContextView) → IsRising own → Serves own context → AreRising context.kept
+pub rising-kept : (own : SessionLocks) (context : ContextView) → IsRising own → Serves own context → AreRising context.kept
 rising-kept own context rising serves = rw serves.held at rising
 
 -- ---- which tickets go
@@ -93,14 +93,14 @@ pub held-without : (id : ℕ) (kept : List Kept) → filter (λ h. not (is_numbe
 held-without id [] = refl
 held-without id (t ∷ ts) = grind (arith, nat_tests, held-without id ts)
 
-pub holds-kept : (id : ℕ) (own : Own) (context : ContextView) → Serves own context → has_number context.kept id ≡ true → holds id own ≡ true
+pub holds-kept : (id : ℕ) (own : SessionLocks) (context : ContextView) → Serves own context → has_number context.kept id ≡ true → holds id own ≡ true
 holds-kept id own context serves has = ap (λ hs. is_some (find (is_number id) hs)) serves.held ∙ has-holds id context.kept ∙ has
 
-pub serves-without : (id : ℕ) (own then : Own) (before after : ContextView) → Serves own before → then ≡ giving_up id own
+pub serves-without : (id : ℕ) (own then : SessionLocks) (before after : ContextView) → Serves own before → then ≡ giving_up id own
     → after.kept ≡ without_number id before.kept → after.wait ≡ before.wait → Serves then after
 serves-without id own then before after serves gone left still = record {
-  held = ap (λ (o : Own). o.held) gone ∙ ap (filter (λ h. not (is_number id h))) serves.held ∙ held-without id before.kept ∙ sym (ap (map held_of) left);
-  wait = ap (λ (o : Own). option_map wish_there o.wait) gone ∙ serves.wait ∙ sym (ap (option_map wish_here) still);
+  held = ap (λ (o : SessionLocks). o.held) gone ∙ ap (filter (λ h. not (is_number id h))) serves.held ∙ held-without id before.kept ∙ sym (ap (map held_of) left);
+  wait = ap (λ (o : SessionLocks). option_map wish_there o.wait) gone ∙ serves.wait ∙ sym (ap (option_map wish_here) still);
 }
 
 -- a context without a wait isn't refused for one

@@ -4,7 +4,7 @@ use Rattle.mdl_key.specs.declared.mode.Mode.{Mode}
 use Rattle.mdl_calls.specs.declared.space_error.SpaceError.{SpaceError}
 use Rattle.std.specs.Option.{IfSome, option_map}
 use Rattle.mdl_calls.specs.declared.answers.Held.{Held}
-use Rattle.mdl_calls.specs.Own.{Own, Wait, IsRising, ticket_held, waiting, ending}
+use Rattle.mdl_calls.specs.SessionLocks.{SessionLocks, Wait, IsRising, ticket_held, waiting, ending}
 use Rattle.mdl_calls.specs.Words.{Answer, Call, Runs, Give}
 use Rattle.mdl_calls.proofs.RunLemmas.{runs_bind}
 use Rattle.mdl_context.specs.declared.kept.Kept.{Kept}
@@ -24,11 +24,11 @@ use Rattle.mdl_context.specs.declared.asking.Got.TheVariants as got
 use Rattle.mdl_context.specs.Gains.{gaining_from, trying_from, own_got, OwnWaited}
 
 -- a wait that began and was given up leaves nothing
-pub began-and-ended : (number place : ℕ) (mode : Mode) (own : Own) → own.wait ≡ None → ending (waiting number place mode own) ≡ own
-began-and-ended number place mode own none = ap (λ (wait : Option Wait). let o : Own = record { held = own.held; wait = wait } in o) (sym none)
+pub began-and-ended : (number place : ℕ) (mode : Mode) (own : SessionLocks) → own.wait ≡ None → ending (waiting number place mode own) ≡ own
+began-and-ended number place mode own none = ap (λ (wait : Option Wait). let o : SessionLocks = record { held = own.held; wait = wait } in o) (sym none)
 
 -- a wait that began goes on, or is given up
-pub own-waited : (number place : ℕ) (mode : Mode) (result : Result Got SpaceError) (before mid after : Own) → OwnWaited number result mid after → mid ≡ waiting number place mode before
+pub own-waited : (number place : ℕ) (mode : Mode) (result : Result Got SpaceError) (before mid after : SessionLocks) → OwnWaited number result mid after → mid ≡ waiting number place mode before
     → before.wait ≡ None → after ≡ own_got place mode result before
 own-waited number place mode (Ok (got.Granted id)) before mid after told began idle = absurd told
 own-waited number place mode (Ok (got.Waits n searched)) before mid after told began idle = told.1 ∙ began ∙ ap (λ m. waiting m place mode before) (sym told.0)
@@ -40,7 +40,7 @@ idle-wait None wanted same none = refl
 idle-wait (Some wait) None same none = cc
 idle-wait (Some wait) (Some wanted) same none = cc
 
-pub idle-there : (own : Own) (context : ContextView) → Serves own context → context.wait ≡ None → own.wait ≡ None
+pub idle-there : (own : SessionLocks) (context : ContextView) → Serves own context → context.wait ≡ None → own.wait ≡ None
 idle-there own context serves none = idle-wait own.wait context.wait serves.wait none
 
 -- what is found at a place is there
@@ -52,7 +52,7 @@ found-place p place (x ∷ xs) held there found = go (p x) refl (found-place p p
   go false e later = later (grind (arith, e, found))
 
 -- a ticket that suffices is held, and at the place
-pub sufficient-held : (place : ℕ) (request : Wish) (own : Own) (context : ContextView) (ticket : Option Held) → IsRising own → Serves own context
+pub sufficient-held : (place : ℕ) (request : Wish) (own : SessionLocks) (context : ContextView) (ticket : Option Held) → IsRising own → Serves own context
     → ticket ≡ earliest (suffices place request) context.kept → IfSome ticket (λ held. (ticket_held held.id own ≡ Some held) × (held.place ≡ place))
 sufficient-held place request own context None rising serves is = tt
 sufficient-held place request own context (Some held) rising serves is =

@@ -8,9 +8,9 @@ use Rattle.mdl_calls.specs.declared.answers.Held.{Held}
 use Rattle.mdl_calls.specs.declared.space_error.SpaceError.{SpaceError}
 use Rattle.mdl_calls.specs.declared.space_error.SpaceError.TheVariants.{NotHeld, AlreadyWaiting, BadMode, Full, OutOfMemory}
 use Rattle.mdl_calls.specs.Causes.{Mergeable, may_merge}
-use Rattle.mdl_calls.specs.Own.{changing}
-use Rattle.mdl_calls.specs.Own as owned
-use Rattle.mdl_calls.specs.Words.{done, Merge, Knowledge, IsCause, IsExplained, Own, IsRising, is_number, is_waiting, ticket_held, holds, giving_up}
+use Rattle.mdl_calls.specs.SessionLocks.{changing}
+use Rattle.mdl_calls.specs.SessionLocks as owned
+use Rattle.mdl_calls.specs.Words.{done, Merge, Knowledge, IsCause, IsExplained, SessionLocks, IsRising, is_number, is_waiting, ticket_held, holds, giving_up}
 use Rattle.mdl_system.specs.Strength.{covers}
 use Rattle.mdl_context.specs.declared.kept.Kept.{Kept}
 use Rattle.mdl_context.specs.Contexts.{ContextView, Serves, AreRising, held_of, ticket_kept, wish_here, wish_there}
@@ -61,17 +61,17 @@ held-in_mode id f [] = refl
 held-in_mode id f (x ∷ xs) = grind (arith, nat_tests, held-in_mode id f xs)
 
 -- the context serves the session as the mode of a ticket is changed
-pub serves-in_mode : (id : ℕ) (f : Mode → Mode) (own now : Own) (before after : ContextView) → Serves own before → now ≡ changing id f own
+pub serves-in_mode : (id : ℕ) (f : Mode → Mode) (own now : SessionLocks) (before after : ContextView) → Serves own before → now ≡ changing id f own
     → after.kept ≡ in_mode id f before.kept → after.wait ≡ before.wait → Serves now after
 serves-in_mode id f own now before after serves changed kept wait = record {
-  held = ap (λ (o : Own). o.held) changed ∙ ap (map (λ (h : Held). if is_number id h then record h { mode = f h.mode } else h)) serves.held
+  held = ap (λ (o : SessionLocks). o.held) changed ∙ ap (map (λ (h : Held). if is_number id h then record h { mode = f h.mode } else h)) serves.held
       ∙ held-in_mode id f before.kept ∙ sym (ap (map held_of) kept);
-  wait = ap (λ (o : Own). option_map wish_there o.wait) changed ∙ serves.wait ∙ sym (ap (option_map wish_here) wait);
+  wait = ap (λ (o : SessionLocks). option_map wish_there o.wait) changed ∙ serves.wait ∙ sym (ap (option_map wish_here) wait);
 }
 
 -- ---- a second ticket
 
-module _ (own : Own) (context : ContextView) (second : Kept) (rising : IsRising own) (serves : Serves own (with_ticket second context)) where
+module _ (own : SessionLocks) (context : ContextView) (second : Kept) (rising : IsRising own) (serves : Serves own (with_ticket second context)) where
   kept-rising : AreRising (context.kept ++ second ∷ [])
   kept-rising = rw serves.held at rising
 
@@ -91,14 +91,14 @@ module _ (own : Own) (context : ContextView) (second : Kept) (rising : IsRising 
       ∙ ap (map held_of) (last-gone context.kept second kept-rising)
 
   -- it is released
-  pub serves-released : (now : Own) (after : ContextView) → now ≡ giving_up second.id own → after.kept ≡ context.kept → after.wait ≡ context.wait → Serves now after
+  pub serves-released : (now : SessionLocks) (after : ContextView) → now ≡ giving_up second.id own → after.kept ≡ context.kept → after.wait ≡ context.wait → Serves now after
   serves-released now after gone kept wait = record {
-    held = ap (λ (o : Own). o.held) gone ∙ left-held ∙ sym (ap (map held_of) kept);
-    wait = ap (λ (o : Own). option_map wish_there o.wait) gone ∙ serves.wait ∙ sym (ap (option_map wish_here) wait);
+    held = ap (λ (o : SessionLocks). o.held) gone ∙ left-held ∙ sym (ap (map held_of) kept);
+    wait = ap (λ (o : SessionLocks). option_map wish_there o.wait) gone ∙ serves.wait ∙ sym (ap (option_map wish_here) wait);
   }
 
   -- it is merged into another one
-  pub serves-merged : (id : ℕ) (now : Own) (after : ContextView) → now ≡ owned.merging id second.id (ticket_held second.id own) own
+  pub serves-merged : (id : ℕ) (now : SessionLocks) (after : ContextView) → now ≡ owned.merging id second.id (ticket_held second.id own) own
       → after.kept ≡ in_mode id (λ _. second.mode) context.kept → after.wait ≡ context.wait → Serves now after
   serves-merged id now after merged kept wait =
       serves-in_mode id (λ _. second.mode) (giving_up second.id own) now context after
@@ -117,7 +117,7 @@ module _ (own : Own) (context : ContextView) (second : Kept) (rising : IsRising 
 -- ---- refusals
 
 -- where two tickets can be merged, the second is held
-pub holds-second : (id new : ℕ) (own : Own) → Mergeable true id new own → holds new own ≡ true
+pub holds-second : (id new : ℕ) (own : SessionLocks) → Mergeable true id new own → holds new own ≡ true
 holds-second id new own may = go (ticket_held id own) (ticket_held new own) may where
   go : (o p : Option Held) → MatchOption o ⊥ (λ k. MatchOption p ⊥ (λ g. may_merge k g ≡ true)) → is_some p ≡ true
   go None p may = absurd may
@@ -125,14 +125,14 @@ holds-second id new own may = go (ticket_held id own) (ticket_held new own) may 
   go (Some k) (Some g) may = refl
 
 -- so is the first
-holds-first : (id new : ℕ) (own : Own) → Mergeable true id new own → holds id own ≡ true
+holds-first : (id new : ℕ) (own : SessionLocks) → Mergeable true id new own → holds id own ≡ true
 holds-first id new own may = go (ticket_held id own) (ticket_held new own) may where
   go : (o p : Option Held) → MatchOption o ⊥ (λ k. MatchOption p ⊥ (λ g. may_merge k g ≡ true)) → is_some o ≡ true
   go None p may = absurd may
   go (Some k) p may = refl
 
 -- they can, or they can't
-not-both : (id new : ℕ) (own : Own) → Mergeable true id new own → Mergeable false id new own → ⊥
+not-both : (id new : ℕ) (own : SessionLocks) → Mergeable true id new own → Mergeable false id new own → ⊥
 not-both id new own may cannot = go (ticket_held id own) (ticket_held new own) may cannot where
   go : (o p : Option Held) → MatchOption o ⊥ (λ k. MatchOption p ⊥ (λ g. may_merge k g ≡ true)) → MatchOption o ⊥ (λ k. MatchOption p ⊥ (λ g. may_merge k g ≡ false)) → ⊥
   go None p may cannot = may
@@ -140,7 +140,7 @@ not-both id new own may cannot = go (ticket_held id own) (ticket_held new own) m
   go (Some k) (Some g) may cannot = cc
 
 -- a merge that is possible is refused only for want of memory or of room
-cause-merge : (knows : Knowledge) (who id new : ℕ) (refusal : SpaceError) (own : Own) → Mergeable true id new own → is_waiting own ≡ false
+cause-merge : (knows : Knowledge) (who id new : ℕ) (refusal : SpaceError) (own : SessionLocks) → Mergeable true id new own → is_waiting own ≡ false
     → IsCause knows (Merge who id new) refusal own → is_merge_refusal refusal ≡ true
 cause-merge knows who id new NotHeld own may idle cause = let first = holds-first id new own may in let second = holds-second id new own may in let wrong : true ≡ false = rw (first, second) at cause in cc
 cause-merge knows who id new AlreadyWaiting own may idle cause = let waits = cause.1 in cc
@@ -149,7 +149,7 @@ cause-merge knows who id new Full own may idle cause = refl
 cause-merge knows who id new OutOfMemory own may idle cause = refl
 cause-merge knows who id new _ own may idle cause = absurd cause
 
-pub refused-merge : (knows : Knowledge) (who id new : ℕ) (result : Result (Unit {0}) SpaceError) (own : Own) → Mergeable true id new own → is_waiting own ≡ false
+pub refused-merge : (knows : Knowledge) (who id new : ℕ) (result : Result (Unit {0}) SpaceError) (own : SessionLocks) → Mergeable true id new own → is_waiting own ≡ false
     → IsExplained knows (Merge who id new) (done result) own → IfErr result (λ refusal. is_merge_refusal refusal ≡ true)
 refused-merge knows who id new (Ok x) own may idle told = tt
 refused-merge knows who id new (Err refusal) own may idle told = cause-merge knows who id new refusal own may idle told

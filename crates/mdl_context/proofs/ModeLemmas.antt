@@ -4,7 +4,7 @@ use Rattle.std.specs.Prelude.{position, slice_set, if◌then◌else◌}
 use Rattle.std.proofs.lemmas.Bool.Decides.{nat_tests}
 use Rattle.std.proofs.lemmas.List.Quantifiers.{position-Some}
 use Rattle.mdl_key.specs.declared.mode.Mode.{Mode}
-use Rattle.mdl_calls.specs.Own.{upgraded}
+use Rattle.mdl_calls.specs.SessionLocks.{upgraded}
 use Rattle.mdl_system.specs.Strength.{covers}
 use Rattle.mdl_context.specs.declared.kept.Kept.{Kept}
 use Rattle.mdl_context.specs.Contexts.{AreRising, has_number}

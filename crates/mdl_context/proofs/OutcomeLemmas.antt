@@ -5,7 +5,7 @@ use Rattle.std.specs.Option.{option_map}
 use Rattle.std.proofs.lemmas.Bool.{eqb-true}
 use Rattle.mdl_key.specs.declared.mode.Mode.{Mode}
 use Rattle.mdl_book.proofs.TicketLemmas.{find-passes}
-use Rattle.mdl_calls.specs.Own.{upgraded}
+use Rattle.mdl_calls.specs.SessionLocks.{upgraded}
 use Rattle.mdl_calls.specs.declared.space_error.SpaceError.{SpaceError}
 use Rattle.mdl_calls.specs.declared.space_error.SpaceError.TheVariants.{NoWait}
 use Rattle.mdl_calls.specs.Words.{Answer, Upgraded, Would_wait, Upgrade_now, Ask, Granted, Pending, Is_settled, Lost, Settle_timeout, Each, Give, SearchEnd, Over, Cut_off, Failed, seeking, most_searches}

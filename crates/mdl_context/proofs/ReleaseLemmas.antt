@@ -8,19 +8,19 @@ use Rattle.mdl_key.specs.declared.mode.Mode.TheVariants.{IX}
 use Rattle.mdl_key.specs.declared.mode.Duration.TheVariants.{Statement}
 use Rattle.mdl_calls.specs.declared.space_error.SpaceError.{SpaceError}
 use Rattle.mdl_calls.specs.declared.space_error.SpaceError.TheVariants.{NotHeld}
-use Rattle.mdl_calls.specs.Words.{Answer, Done, done, Call, Release, Knowledge, IsCause, IsExplained, Own, IsRising, is_number, holds, giving_up, Runs}
+use Rattle.mdl_calls.specs.Words.{Answer, Done, done, Call, Release, Knowledge, IsCause, IsExplained, SessionLocks, IsRising, is_number, holds, giving_up, Runs}
 use Rattle.mdl_context.specs.declared.kept.Kept.{Kept}
 use Rattle.mdl_context.specs.Contexts.{AreRising, held_of}
 use Rattle.mdl_context.specs.Releases.{releasing_all}
 use Rattle.mdl_context.proofs.FrontLemmas.{Above}
 
 -- a release is refused only where no such ticket is held
-pub release-refused : (knows : Knowledge) (who id : ℕ) (refusal : SpaceError) (own : Own) → IsCause knows (Release who id) refusal own → holds id own ≡ true → ⊥
+pub release-refused : (knows : Knowledge) (who id : ℕ) (refusal : SpaceError) (own : SessionLocks) → IsCause knows (Release who id) refusal own → holds id own ≡ true → ⊥
 release-refused knows who id NotHeld own cause held = cc
 release-refused knows who id _ own cause held = absurd cause
 
 -- so one that is held is released
-pub is_ok-released : (knows : Knowledge) (who id : ℕ) (r : Result (Unit {0}) SpaceError) (own : Own) → IsExplained knows (Release who id) (done r) own → holds id own ≡ true → IsOk r
+pub is_ok-released : (knows : Knowledge) (who id : ℕ) (r : Result (Unit {0}) SpaceError) (own : SessionLocks) → IsExplained knows (Release who id) (done r) own → holds id own ≡ true → IsOk r
 is_ok-released knows who id (Ok x) own told held = search rules
 is_ok-released knows who id (Err e) own told held = absurd (release-refused knows who id e own told held)
 
@@ -102,11 +102,11 @@ module _ (p : Kept → Bool) (items : List Kept) (i : ℕ) (t : Kept) (inside : 
   run-stays joins who before b e run = rw (rest-stays e) run
 
   -- the ticket is still held
-  pub holds-here : (own : Own) → own.held ≡ map held_of (left p i items) → holds t.id own ≡ true
+  pub holds-here : (own : SessionLocks) → own.held ≡ map held_of (left p i items) → holds t.id own ≡ true
   holds-here own held = ap (λ hs. is_some (find (is_number t.id) hs)) (held ∙ ap (map held_of) left_now) ∙ holds_mid front_now (drop (i + 1) items) t
 
   -- and then it isn't
-  pub held-goes : (own : Own) → IsRising own → own.held ≡ map held_of (left p i items) → p t ≡ true → (giving_up t.id own).held ≡ map held_of (left p (i + 1) items)
+  pub held-goes : (own : SessionLocks) → IsRising own → own.held ≡ map held_of (left p i items) → p t ≡ true → (giving_up t.id own).held ≡ map held_of (left p (i + 1) items)
   held-goes own rising held e =
       let all = held ∙ ap (map held_of) left_now in
       ap (filter (λ h. not (is_number t.id h))) all

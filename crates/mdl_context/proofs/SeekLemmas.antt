@@ -10,12 +10,12 @@ use Rattle.mdl_calls.specs.declared.answers.Ended.{Ended}
 use Rattle.mdl_calls.specs.declared.answers.Ended.TheVariants as ended_as
 use Rattle.mdl_calls.specs.declared.answers.Settled.{Settled}
 use Rattle.mdl_calls.specs.declared.answers.Settled.TheVariants as settled_as
-use Rattle.mdl_calls.specs.Words.{Answer, Refused, No_cycle, Victim_is, Lost, ended, Knowledge, IsCause, Call, Search, Settle_timeout, End_wait, Own, Wait, IsRising, are_rising, is_number, is_waiting, holds, gaining, ending, winning, giving_up, Runs, SearchEnd, Over, Cut_off, Failed, seeking}
+use Rattle.mdl_calls.specs.Words.{Answer, Refused, No_cycle, Victim_is, Lost, ended, Knowledge, IsCause, Call, Search, Settle_timeout, End_wait, SessionLocks, Wait, IsRising, are_rising, is_number, is_waiting, holds, gaining, ending, winning, giving_up, Runs, SearchEnd, Over, Cut_off, Failed, seeking}
 use Rattle.mdl_calls.specs.declared.space_error.SpaceError.TheVariants.{OutOfMemory}
 use Rattle.mdl_context.specs.Gains.{abandoning}
 
 -- a search is refused only for memory
-pub search-refused : (knows : Knowledge) (who : ℕ) (refusal : SpaceError) (own : Own) → IsCause knows (Search who) refusal own → refusal ≡ OutOfMemory
+pub search-refused : (knows : Knowledge) (who : ℕ) (refusal : SpaceError) (own : SessionLocks) → IsCause knows (Search who) refusal own → refusal ≡ OutOfMemory
 search-refused knows who OutOfMemory own cause = refl
 search-refused knows who _ own cause = absurd cause
 
@@ -57,7 +57,7 @@ holds_last : (id : ℕ) (held : List Held) (ticket : Held) → ticket.id ≡ id 
 holds_last id [] ticket e = grind (arith, nat_tests)
 holds_last id (x ∷ xs) ticket e = grind (arith, nat_tests, holds_last id xs ticket)
 
-pub holds-gained : (id place : ℕ) (mode : Mode) (own : Own) → holds id (gaining id place mode own) ≡ true
+pub holds-gained : (id place : ℕ) (mode : Mode) (own : SessionLocks) → holds id (gaining id place mode own) ≡ true
 holds-gained id place mode own = holds_last id own.held (record { id = id; place = place; mode = mode }) refl
 
 below_last : (n : ℕ) (xs : List Held) (t : Held) → IsTrue (list_all (λ other. nat_lt n other.id) (xs ++ t ∷ [])) → n < t.id
@@ -68,9 +68,9 @@ without_last : (id : ℕ) (xs : List Held) (t : Held) → t.id ≡ id → IsTrue
 without_last id [] t e h = grind (arith, nat_tests)
 without_last id (x ∷ xs) t e h = grind (arith, nat_tests, below_last x.id xs t, without_last id xs t e)
 
-pub gained-given_up : (id place : ℕ) (mode : Mode) (own : Own) → IsRising (gaining id place mode own) → giving_up id (gaining id place mode own) ≡ own
+pub gained-given_up : (id place : ℕ) (mode : Mode) (own : SessionLocks) → IsRising (gaining id place mode own) → giving_up id (gaining id place mode own) ≡ own
 gained-given_up id place mode own rising =
-    ap (λ (held : List Held). let o : Own = record { held = held; wait = own.wait } in o) (without_last id own.held (record { id = id; place = place; mode = mode }) refl rising)
+    ap (λ (held : List Held). let o : SessionLocks = record { held = held; wait = own.wait } in o) (without_last id own.held (record { id = id; place = place; mode = mode }) refl rising)
 
 -- ---- a wait that is given up
 
@@ -82,14 +82,14 @@ lost-otherwise ended_as.Timeout other = (settled_as.Timeout, refl)
 lost-otherwise ended_as.Killed other = (settled_as.Killed, refl)
 
 -- the ticket of a wait that is ended is held
-pub holds-won : (id : ℕ) (own : Own) → is_waiting own ≡ true → holds id (winning id own.wait own) ≡ true
+pub holds-won : (id : ℕ) (own : SessionLocks) → is_waiting own ≡ true → holds id (winning id own.wait own) ≡ true
 holds-won id own waits = go own.wait waits where
   go : (wait : Option Wait) → is_some wait ≡ true → holds id (winning id wait own) ≡ true
   go None e = cc
   go (Some wait) e = holds-gained id wait.place wait.mode (ending own)
 
 -- and once it is released, just the wait is gone
-pub won-given_up : (id : ℕ) (own : Own) → is_waiting own ≡ true → IsRising (winning id own.wait own) → giving_up id (winning id own.wait own) ≡ ending own
+pub won-given_up : (id : ℕ) (own : SessionLocks) → is_waiting own ≡ true → IsRising (winning id own.wait own) → giving_up id (winning id own.wait own) ≡ ending own
 won-given_up id own waits rising = go own.wait waits rising where
   go : (wait : Option Wait) → is_some wait ≡ true → IsRising (winning id wait own) → giving_up id (winning id wait own) ≡ ending own
   go None e rises = cc

@@ -6,7 +6,7 @@ use Rattle.std.proofs.lemmas.Bool.Decides.{nat_tests}
 use Rattle.std.proofs.lemmas.List.{map-append}
 use Rattle.mdl_key.specs.declared.mode.Mode.{Mode}
 use Rattle.mdl_calls.specs.declared.answers.Held.{Held}
-use Rattle.mdl_calls.specs.Own.{Own, Wait, IsRising, is_waiting, is_number, ticket_held, gaining, waiting, ending, winning}
+use Rattle.mdl_calls.specs.SessionLocks.{SessionLocks, Wait, IsRising, is_waiting, is_number, ticket_held, gaining, waiting, ending, winning}
 use Rattle.mdl_context.specs.declared.kept.Kept.{Kept}
 use Rattle.mdl_context.specs.declared.kept.Wanted.{Wanted}
 use Rattle.mdl_context.specs.Wishes.{Wish}
@@ -24,7 +24,7 @@ held-same f same [] = refl
 held-same f same (t ∷ ts) = grind (arith, same t, held-same f same ts)
 
 -- so the context serves the session as before
-pub serves-changed : (f : Kept → Kept) → ((t : Kept) → held_of (f t) ≡ held_of t) → (own : Own) (before after : ContextView) →
+pub serves-changed : (f : Kept → Kept) → ((t : Kept) → held_of (f t) ≡ held_of t) → (own : SessionLocks) (before after : ContextView) →
     after.kept ≡ map f before.kept → after.wait ≡ before.wait → Serves own before → Serves own after
 serves-changed f same own before after kept wait serves = record {
   held = serves.held ∙ sym (ap (map held_of) kept ∙ held-same f same before.kept);
@@ -32,27 +32,27 @@ serves-changed f same own before after kept wait serves = record {
 }
 
 -- a ticket is gained
-pub serves-gaining : (own after : Own) (before then : ContextView) (id place : ℕ) (request : Wish) → Serves own before → after ≡ gaining id place request.mode own
+pub serves-gaining : (own after : SessionLocks) (before then : ContextView) (id place : ℕ) (request : Wish) → Serves own before → after ≡ gaining id place request.mode own
     → then.kept ≡ before.kept ++ kept_of id place request ∷ [] → then.wait ≡ before.wait → Serves after then
 serves-gaining own after before then id place request serves gain kept wait = record {
-  held = ap (λ (o : Own). o.held) gain ∙ ap (λ hs. hs ++ held_of (kept_of id place request) ∷ []) serves.held
+  held = ap (λ (o : SessionLocks). o.held) gain ∙ ap (λ hs. hs ++ held_of (kept_of id place request) ∷ []) serves.held
       ∙ sym (map-append held_of before.kept (kept_of id place request ∷ [])) ∙ sym (ap (map held_of) kept);
-  wait = ap (λ (o : Own). option_map wish_there o.wait) gain ∙ serves.wait ∙ sym (ap (option_map wish_here) wait);
+  wait = ap (λ (o : SessionLocks). option_map wish_there o.wait) gain ∙ serves.wait ∙ sym (ap (option_map wish_here) wait);
 }
 
 -- a wait begins
-pub serves-waiting : (own after : Own) (before then : ContextView) (number place : ℕ) (request : Wish) (searched : Bool) → Serves own before → after ≡ waiting number place request.mode own
+pub serves-waiting : (own after : SessionLocks) (before then : ContextView) (number place : ℕ) (request : Wish) (searched : Bool) → Serves own before → after ≡ waiting number place request.mode own
     → then.kept ≡ before.kept → then.wait ≡ Some (wanted_of place request searched) → Serves after then
 serves-waiting own after before then number place request searched serves begin kept wait = record {
-  held = ap (λ (o : Own). o.held) begin ∙ serves.held ∙ sym (ap (map held_of) kept);
-  wait = ap (λ (o : Own). option_map wish_there o.wait) begin ∙ sym (ap (option_map wish_here) wait);
+  held = ap (λ (o : SessionLocks). o.held) begin ∙ serves.held ∙ sym (ap (map held_of) kept);
+  wait = ap (λ (o : SessionLocks). option_map wish_there o.wait) begin ∙ sym (ap (option_map wish_here) wait);
 }
 
 -- a wait ends without a ticket
-pub serves-ending : (own after : Own) (before then : ContextView) → Serves own before → after ≡ ending own → then.kept ≡ before.kept → then.wait ≡ None → Serves after then
+pub serves-ending : (own after : SessionLocks) (before then : ContextView) → Serves own before → after ≡ ending own → then.kept ≡ before.kept → then.wait ≡ None → Serves after then
 serves-ending own after before then serves end kept wait = record {
-  held = ap (λ (o : Own). o.held) end ∙ serves.held ∙ sym (ap (map held_of) kept);
-  wait = ap (λ (o : Own). option_map wish_there o.wait) end ∙ sym (ap (option_map wish_here) wait);
+  held = ap (λ (o : SessionLocks). o.held) end ∙ serves.held ∙ sym (ap (map held_of) kept);
+  wait = ap (λ (o : SessionLocks). option_map wish_there o.wait) end ∙ sym (ap (option_map wish_here) wait);
 }
 
 won-held : (id : ℕ) (held : List Held) (kept : List Kept) (w : Option Wait) (v : Option Wanted) → held ≡ map held_of kept → option_map wish_there w ≡ option_map wish_here v
@@ -70,11 +70,11 @@ won-wait id held None = refl
 won-wait id held (Some w) = refl
 
 -- a wait ends with its ticket
-pub serves-winning : (id : ℕ) (own after : Own) (before then : ContextView) → Serves own before → after ≡ winning id own.wait own
+pub serves-winning : (id : ℕ) (own after : SessionLocks) (before then : ContextView) → Serves own before → after ≡ winning id own.wait own
     → then.kept ≡ with_wanted id before.wait before.kept → then.wait ≡ None → Serves after then
 serves-winning id own after before then serves win kept wait = record {
-  held = ap (λ (o : Own). o.held) win ∙ won-held id own.held before.kept own.wait before.wait serves.held serves.wait ∙ sym (ap (map held_of) kept);
-  wait = ap (λ (o : Own). option_map wish_there o.wait) win ∙ ap (option_map wish_there) (won-wait id own.held own.wait) ∙ sym (ap (option_map wish_here) wait);
+  held = ap (λ (o : SessionLocks). o.held) win ∙ won-held id own.held before.kept own.wait before.wait serves.held serves.wait ∙ sym (ap (map held_of) kept);
+  wait = ap (λ (o : SessionLocks). option_map wish_there o.wait) win ∙ ap (option_map wish_there) (won-wait id own.held own.wait) ∙ sym (ap (option_map wish_here) wait);
 }
 
 -- what is found is held
@@ -90,7 +90,7 @@ earliest-found : (f : Option Kept) (h : Held) → option_map held_of f ≡ Some 
 earliest-found None h e = cc
 earliest-found (Some t) h e = (t, refl, unwrap e)
 
-pub earliest-held : (p : Kept → Bool) (own : Own) (context : ContextView) (h : Held) → IsRising own → Serves own context → earliest p context.kept ≡ Some h → ticket_held h.id own ≡ Some h
+pub earliest-held : (p : Kept → Bool) (own : SessionLocks) (context : ContextView) (h : Held) → IsRising own → Serves own context → earliest p context.kept ≡ Some h → ticket_held h.id own ≡ Some h
 earliest-held p own context h rising serves found =
     let it = earliest-found (find p context.kept) h found in
     ap (find (is_number h.id)) serves.held
@@ -103,11 +103,11 @@ same-waiting None (Some v) same = cc
 same-waiting (Some w) None same = cc
 same-waiting (Some w) (Some v) same = refl
 
-pub waits-there : (own : Own) (context : ContextView) → Serves own context → is_some context.wait ≡ true → is_waiting own ≡ true
+pub waits-there : (own : SessionLocks) (context : ContextView) → Serves own context → is_some context.wait ≡ true → is_waiting own ≡ true
 waits-there own context serves waits = same-waiting own.wait context.wait serves.wait ∙ waits
 
 -- fewer tickets are left, and the same wait
-pub serves-left : (own after : Own) (before then : ContextView) → Serves own before → after.held ≡ map held_of then.kept → after.wait ≡ own.wait → then.wait ≡ before.wait → Serves after then
+pub serves-left : (own after : SessionLocks) (before then : ContextView) → Serves own before → after.held ≡ map held_of then.kept → after.wait ≡ own.wait → then.wait ≡ before.wait → Serves after then
 serves-left own after before then serves held there here = record {
   held = held;
   wait = ap (option_map wish_there) there ∙ serves.wait ∙ sym (ap (option_map wish_here) here);

@@ -14,9 +14,9 @@ use Rattle.mdl_system.proofs.StrengthLemmas.{upgrade-raises}
 use Rattle.mdl_calls.specs.declared.answers.Held.{Held}
 use Rattle.mdl_calls.specs.declared.space_error.SpaceError.{SpaceError}
 use Rattle.mdl_calls.specs.Causes.{Knowledge, IsFit, Mergeable}
-use Rattle.mdl_calls.specs.Own.{changing, waiting}
-use Rattle.mdl_calls.specs.Own as owned
-use Rattle.mdl_calls.specs.Words.{Answer, Call, Upgrade_now, caller, Own, IsRising, own_after, gaining, giving_up, is_number, ticket_held, Runs, Give, Ask, IsClear}
+use Rattle.mdl_calls.specs.SessionLocks.{changing, waiting}
+use Rattle.mdl_calls.specs.SessionLocks as owned
+use Rattle.mdl_calls.specs.Words.{Answer, Call, Upgrade_now, caller, SessionLocks, IsRising, own_after, gaining, giving_up, is_number, ticket_held, Runs, Give, Ask, IsClear}
 use Rattle.mdl_calls.proofs.RunLemmas.{runs_bind}
 use Rattle.mdl_calls.specs.declared.lock_space.LockSpace.{Ghosts}
 use Rattle.mdl_calls.specs.MemberLaws.{LawsOf}
@@ -66,11 +66,11 @@ kept-number id xs t found = eqb-true t.id id (find-passes (λ (x : Kept). x.id =
 -- ---- what the context attends to
 
 -- a ticket is gained
-serves-more : (own after : Own) (before now : ContextView) (t : Kept) → Serves own before → after ≡ gaining t.id t.place t.mode own
+serves-more : (own after : SessionLocks) (before now : ContextView) (t : Kept) → Serves own before → after ≡ gaining t.id t.place t.mode own
     → now.kept ≡ before.kept ++ t ∷ [] → now.wait ≡ before.wait → Serves after now
 serves-more own after before now t serves gain kept wait = record {
-  held = ap (λ (o : Own). o.held) gain ∙ ap (λ hs. hs ++ held_of t ∷ []) serves.held ∙ sym (map-append held_of before.kept (t ∷ [])) ∙ sym (ap (map held_of) kept);
-  wait = ap (λ (o : Own). option_map wish_there o.wait) gain ∙ serves.wait ∙ sym (ap (option_map wish_here) wait);
+  held = ap (λ (o : SessionLocks). o.held) gain ∙ ap (λ hs. hs ++ held_of t ∷ []) serves.held ∙ sym (map-append held_of before.kept (t ∷ [])) ∙ sym (ap (map held_of) kept);
+  wait = ap (λ (o : SessionLocks). option_map wish_there o.wait) gain ∙ serves.wait ∙ sym (ap (option_map wish_here) wait);
 }
 
 module _ {S : Type 0} {members : Ghosts S} where
@@ -110,8 +110,8 @@ module _ {S : Type 0} {members : Ghosts S} where
       → after.who ≡ before.who → after.known ≡ before.known → after.kept ≡ before.kept → after.wait ≡ Some (record wanted { searched = searched }) → Attends members b after
   attends-to-upgrade a b before after id number wanted searched attends still speaks begins fits who known kept wait =
       attends-over a b before after attends still speaks (record {
-        held = ap (λ (o : Own). o.held) begins ∙ attends.serves.held ∙ sym (ap (map held_of) kept);
-        wait = ap (λ (o : Own). option_map wish_there o.wait) begins ∙ sym (ap (option_map wish_here) wait);
+        held = ap (λ (o : SessionLocks). o.held) begins ∙ attends.serves.held ∙ sym (ap (map held_of) kept);
+        wait = ap (λ (o : SessionLocks). option_map wish_there o.wait) begins ∙ sym (ap (option_map wish_here) wait);
       }) who known (subst (ArePlaced before.known) (sym kept) attends.places)
       (subst (λ (ks : List Kept). IsAwaitedIn before.known ks after.wait) (sym kept)
       (subst (IsAwaitedIn before.known before.kept) (sym wait) (go (ticket_kept id before.kept) refl fits)))
@@ -265,7 +265,7 @@ kept-held id [] t found = cc
 kept-held id (x ∷ xs) t found = grind (arith, nat_tests, kept-held id xs t)
 
 -- where its mode may be raised and isn't so strong already, the new mode is stronger
-pub may-rise : (knows : Knowledge) (who id : ℕ) (mode : Mode) (own : Own) (context : ContextView) (t : Kept) → Serves own context → ticket_kept id context.kept ≡ Some t
+pub may-rise : (knows : Knowledge) (who id : ℕ) (mode : Mode) (own : SessionLocks) (context : ContextView) (t : Kept) → Serves own context → ticket_kept id context.kept ≡ Some t
     → IsClear knows (Upgrade_now who id mode) own → ((h : Held) → ticket_held id own ≡ Some h → covers h.mode mode ≡ true → ⊥) → covers mode t.mode ≡ true
 may-rise knows who id mode own context t serves found clear weaker = go (covers t.mode mode) refl where
   held : ticket_held id own ≡ Some (held_of t)
@@ -279,7 +279,7 @@ may-rise knows who id mode own context t serves found clear weaker = go (covers 
   go false e = (upgrade-raises t.mode mode (rw e at able.0)).0
 
 -- a wish for an upgrade that can't be had at once
-pub wait-fits : (knows : Knowledge) (who id : ℕ) (mode : Mode) (own : Own) (context : ContextView) (wanted : Wanted) → Serves own context
+pub wait-fits : (knows : Knowledge) (who id : ℕ) (mode : Mode) (own : SessionLocks) (context : ContextView) (wanted : Wanted) → Serves own context
     → option_map (λ t. wanted_upgrade t mode false) (ticket_kept id context.kept) ≡ Some wanted
     → IsClear knows (Upgrade_now who id mode) own → ((h : Held) → ticket_held id own ≡ Some h → covers h.mode mode ≡ true → ⊥)
     → MatchOption (ticket_kept id context.kept) ⊥ (λ ticket. (wanted ≡ wanted_upgrade ticket wanted.mode false) × (covers wanted.mode ticket.mode ≡ true))

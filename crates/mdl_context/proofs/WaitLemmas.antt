@@ -9,23 +9,23 @@ use Rattle.mdl_calls.specs.declared.answers.TimedOut.TheVariants.{ByThisCall, Al
 use Rattle.mdl_calls.specs.declared.answers.Ended.{Ended}
 use Rattle.mdl_calls.specs.declared.space_error.SpaceError.{SpaceError}
 use Rattle.mdl_calls.specs.declared.space_error.SpaceError.TheVariants.{NoWait}
-use Rattle.mdl_calls.specs.Words.{polled, timed_out, ended, Poll_wait, Settle_timeout, Knowledge, IsCause, IsExplained, Own, is_waiting, told, IsEndOf}
+use Rattle.mdl_calls.specs.Words.{polled, timed_out, ended, Poll_wait, Settle_timeout, Knowledge, IsCause, IsExplained, SessionLocks, is_waiting, told, IsEndOf}
 
-poll-refused : (knows : Knowledge) (who : ℕ) (refusal : SpaceError) (own : Own) → IsCause knows (Poll_wait who) refusal own → is_waiting own ≡ true → ⊥
+poll-refused : (knows : Knowledge) (who : ℕ) (refusal : SpaceError) (own : SessionLocks) → IsCause knows (Poll_wait who) refusal own → is_waiting own ≡ true → ⊥
 poll-refused knows who NoWait own cause waits = cc
 poll-refused knows who _ own cause waits = absurd cause
 
 -- a wait can be looked after
-pub is_ok-polled : (knows : Knowledge) (who : ℕ) (r : Result Poll SpaceError) (own : Own) → IsExplained knows (Poll_wait who) (polled r) own → is_waiting own ≡ true → IsOk r
+pub is_ok-polled : (knows : Knowledge) (who : ℕ) (r : Result Poll SpaceError) (own : SessionLocks) → IsExplained knows (Poll_wait who) (polled r) own → is_waiting own ≡ true → IsOk r
 is_ok-polled knows who (Ok x) own told waits = search rules
 is_ok-polled knows who (Err e) own told waits = absurd (poll-refused knows who e own told waits)
 
-settle-refused : (knows : Knowledge) (who : ℕ) (refusal : SpaceError) (own : Own) → IsCause knows (Settle_timeout who) refusal own → is_waiting own ≡ true → ⊥
+settle-refused : (knows : Knowledge) (who : ℕ) (refusal : SpaceError) (own : SessionLocks) → IsCause knows (Settle_timeout who) refusal own → is_waiting own ≡ true → ⊥
 settle-refused knows who NoWait own cause waits = cc
 settle-refused knows who _ own cause waits = absurd cause
 
 -- patience with a wait can be lost
-pub is_ok-timed_out : (knows : Knowledge) (who : ℕ) (r : Result TimedOut SpaceError) (own : Own) → IsExplained knows (Settle_timeout who) (timed_out r) own → is_waiting own ≡ true → IsOk r
+pub is_ok-timed_out : (knows : Knowledge) (who : ℕ) (r : Result TimedOut SpaceError) (own : SessionLocks) → IsExplained knows (Settle_timeout who) (timed_out r) own → is_waiting own ≡ true → IsOk r
 is_ok-timed_out knows who (Ok x) own told waits = search rules
 is_ok-timed_out knows who (Err e) own told waits = absurd (settle-refused knows who e own told waits)
 

@@ -13,7 +13,7 @@ use Rattle.mdl_key.specs.Keys.{KeyName, key_eq}
 use Rattle.mdl_defs.specs.declared.standing.Standing.{Standing}
 use Rattle.mdl_calls.specs.declared.answers.Held.{Held}
 use Rattle.mdl_calls.specs.declared.answers.Settled.{Settled}
-use Rattle.mdl_calls.specs.Own.{Own, Wait, are_rising}
+use Rattle.mdl_calls.specs.SessionLocks.{SessionLocks, Wait, are_rising}
 use Rattle.mdl_system.specs.Strength.{covers}
 use Rattle.mdl_calls.specs.declared.lock_space.LockSpace.{Ghosts}
 use Rattle.mdl_context.specs.declared.kept.Kept.{Kept}
@@ -121,7 +121,7 @@ wish_here wanted = (wanted.place, wanted.mode)
 
 -- a context keeps exactly the tickets that the session holds in the lock space, and waits for the same place and mode as the
 -- session does there
-pub record Serves (own : Own) (context : ContextView) : Type 0 where
+pub record Serves (own : SessionLocks) (context : ContextView) : Type 0 where
   pub held : own.held ≡ map held_of context.kept
   pub wait : option_map wish_there own.wait ≡ option_map wish_here context.wait
 

@@ -6,8 +6,8 @@ use Rattle.mdl_key.specs.declared.mode.Mode.{Mode}
 use Rattle.mdl_calls.specs.declared.answers.Held.{Held}
 use Rattle.mdl_calls.specs.declared.space_error.SpaceError.{SpaceError}
 use Rattle.mdl_calls.specs.declared.space_error.SpaceError.TheVariants.{WrongKind}
-use Rattle.mdl_calls.specs.Own as owned
-use Rattle.mdl_calls.specs.Words.{Own, Answer, Refused, Granted, Would_wait, Waits, Try_now, Begin_wait, Clone_ticket, Settle_timeout, End_wait, Release, Program, Give, Ask, ◌>>=◌, ◌>>◌, SearchEnd, Over, Cut_off, Failed, seeking, most_searches}
+use Rattle.mdl_calls.specs.SessionLocks as owned
+use Rattle.mdl_calls.specs.Words.{SessionLocks, Answer, Refused, Granted, Would_wait, Waits, Try_now, Begin_wait, Clone_ticket, Settle_timeout, End_wait, Release, Program, Give, Ask, ◌>>=◌, ◌>>◌, SearchEnd, Over, Cut_off, Failed, seeking, most_searches}
 use Rattle.mdl_context.specs.declared.asking.Got.{Got}
 use Rattle.mdl_context.specs.declared.asking.Got.TheVariants as got
 use Rattle.mdl_context.specs.declared.request.Tried.{Tried}
@@ -80,19 +80,19 @@ trying_from (Some ticket) who place mode = Ask (Clone_ticket who ticket.id mode)
 trying_from None who place mode = Ask (Try_now who place mode) tried_answered
 
 -- what the session has after a request for a lock at a place
-abbrev pub own_got : ℕ → Mode → Result Got SpaceError → Own → Own
+abbrev pub own_got : ℕ → Mode → Result Got SpaceError → SessionLocks → SessionLocks
 own_got place mode (Ok (got.Granted id)) own = owned.gaining id place mode own
 own_got place mode (Ok (got.Waits number searched)) own = owned.waiting number place mode own
 own_got place mode (Err refusal) own = own
 
 -- what the session has after the searches that follow the start of a wait with this number: the wait, or after a
 -- refusal none
-abbrev pub OwnWaited : ℕ → Result Got SpaceError → Own → Own → Type 0
+abbrev pub OwnWaited : ℕ → Result Got SpaceError → SessionLocks → SessionLocks → Type 0
 OwnWaited number (Ok (got.Granted id)) before after = ⊥
 OwnWaited number (Ok (got.Waits n searched)) before after = (n ≡ number) × (after ≡ before)
 OwnWaited number (Err refusal) before after = after ≡ owned.ending before
 
 -- what the session has after a request that doesn't wait
-abbrev pub own_tried : ℕ → Mode → Result Tried SpaceError → Own → Own
+abbrev pub own_tried : ℕ → Mode → Result Tried SpaceError → SessionLocks → SessionLocks
 own_tried place mode (Ok (try_as.Acquired id)) own = owned.gaining id place mode own
 own_tried place mode _ own = own

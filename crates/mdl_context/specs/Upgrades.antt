@@ -5,8 +5,8 @@ use Rattle.std.specs.Prelude.{◌≡◌, ℕ, Bool, true, false, [], ◌∷◌, 
 use Rattle.mdl_key.specs.declared.mode.Mode.{Mode}
 use Rattle.mdl_calls.specs.declared.space_error.SpaceError.{SpaceError}
 use Rattle.mdl_calls.specs.declared.space_error.SpaceError.TheVariants.{OutOfMemory, Full}
-use Rattle.mdl_calls.specs.Own.{Own, upgraded, giving_up}
-use Rattle.mdl_calls.specs.Own as owned
+use Rattle.mdl_calls.specs.SessionLocks.{SessionLocks, upgraded, giving_up}
+use Rattle.mdl_calls.specs.SessionLocks as owned
 use Rattle.mdl_calls.specs.Words.{Answer, Done, Upgraded, Would_wait, ticket_held, Upgrade_now, Merge, Downgrade, Release, Program, Give, Ask, Grow, ◌>>=◌}
 use Rattle.mdl_calls.specs.declared.lock_space.LockSpace.{Ghosts}
 use Rattle.mdl_context.specs.declared.asking.Got.{Got}
@@ -48,7 +48,7 @@ merged answer id mode context (Ok _) = (Ok answer, with_mode id (λ _. mode) con
 merged answer id mode context (Err refusal) = (Err (Space refusal), context)
 
 -- what the session has in the space after a merge
-abbrev pub own_merged : ℕ → ℕ → Result (Unit {0}) SpaceError → Own → Own
+abbrev pub own_merged : ℕ → ℕ → Result (Unit {0}) SpaceError → SessionLocks → SessionLocks
 own_merged id new (Ok _) own = owned.merging id new (ticket_held new own) own
 own_merged id new (Err refusal) own = giving_up new own
 

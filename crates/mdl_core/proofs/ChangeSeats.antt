@@ -12,7 +12,7 @@ use Rattle.mdl_key.specs.Modes.{is_mode_of}
 use Rattle.mdl_book.specs.declared.ticket.Ticket.{Ticket}
 use Rattle.mdl_book.specs.Books.{lock_kind}
 use Rattle.mdl_book.specs.Tickets.{ticket_id}
-use Rattle.mdl_calls.specs.Own.{are_rising, is_number}
+use Rattle.mdl_calls.specs.SessionLocks.{are_rising, is_number}
 use Rattle.mdl_calls.specs.Words.{may_merge}
 use Rattle.mdl_calls.specs.declared.answers.Held.{Held}
 use Rattle.mdl_calls.specs.declared.answers.Settled.{Settled}

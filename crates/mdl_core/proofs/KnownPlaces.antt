@@ -12,7 +12,7 @@ use Rattle.mdl_key.specs.Keys.{KeyName, global_key, key_eq}
 use Rattle.mdl_calls.specs.declared.answers.Held.{Held}
 use Rattle.mdl_calls.specs.declared.answers.Settled.{Settled}
 use Rattle.mdl_calls.specs.declared.answers.Settled.TheVariants as settled_as
-use Rattle.mdl_calls.specs.Own.{Wait}
+use Rattle.mdl_calls.specs.SessionLocks.{Wait}
 use Rattle.mdl_core.specs.declared.pending.Pending.{Pending}
 use Rattle.mdl_core.specs.Changes.{opening}
 use Rattle.mdl_core.specs.CoreJoins.{SpeaksFor, own_at, Knows}

@@ -17,8 +17,8 @@ use Rattle.mdl_calls.specs.declared.answers.Settled.TheVariants as settled_as
 use Rattle.mdl_calls.specs.declared.answers.TimedOut.TheVariants.{Already}
 use Rattle.mdl_calls.specs.declared.space_error.SpaceError.{SpaceError}
 use Rattle.mdl_calls.specs.declared.space_error.SpaceError.TheVariants.{NoPlace, NotHeld, NotUpgradable, NotExclusive, AlreadyWaiting, BadMode, VersionFull, NoWait, Unsettled as Not_settled, CounterFull, Full, Def, WrongKind}
-use Rattle.mdl_calls.specs.Words.{Answer, Refused, Granted, Is_settled, Done, Timed_out, Lost, Changed, Upgraded, is_answer_of, Call, Resolve, Try_now, Begin_wait, Search, Poll_wait, Settle_timeout, End_wait, Wait_of, Kill, Release, Clone_ticket, Upgrade_now, Merge, Downgrade, Read_definition, Read_kept, Change_definition, Key_of, Tables_of, List_held, caller, OfHeld, IsFit, IsUnfit, IsUnknown, MayClone, MayNotClone, MayUpgrade, MayNotUpgrade, MayDowngrade, MayNotDowngrade, Mergeable, may_merge, IsCause, IsExplained, Own, Numbers, is_number, is_waiting, wait_number, own_after, winning, cloning as cloning_own, holds, giving_up, Draws, IsEndOf, IsToldOf, cause_of}
-use Rattle.mdl_calls.specs.Own.{changing as changing_own, merging as merging_own, upgraded}
+use Rattle.mdl_calls.specs.Words.{Answer, Refused, Granted, Is_settled, Done, Timed_out, Lost, Changed, Upgraded, is_answer_of, Call, Resolve, Try_now, Begin_wait, Search, Poll_wait, Settle_timeout, End_wait, Wait_of, Kill, Release, Clone_ticket, Upgrade_now, Merge, Downgrade, Read_definition, Read_kept, Change_definition, Key_of, Tables_of, List_held, caller, OfHeld, IsFit, IsUnfit, IsUnknown, MayClone, MayNotClone, MayUpgrade, MayNotUpgrade, MayDowngrade, MayNotDowngrade, Mergeable, may_merge, IsCause, IsExplained, SessionLocks, Numbers, is_number, is_waiting, wait_number, own_after, winning, cloning as cloning_own, holds, giving_up, Draws, IsEndOf, IsToldOf, cause_of}
+use Rattle.mdl_calls.specs.SessionLocks.{changing as changing_own, merging as merging_own, upgraded}
 use Rattle.mdl_core.specs.declared.pending.Pending.{Pending}
 use Rattle.mdl_core.specs.ChangeEvents.{holding_of, waiting_ticket, IsChangeEvent}
 use Rattle.mdl_core.specs.Changes.{Change, Gain, Lose, Queue, Leave, Take_up, Alter, Fold, Redefine, May, next_ticket, losing, leaving, altering, serving}
@@ -128,7 +128,7 @@ module _ (seat : SeatView) (rising : AllPairs below seat.held) (id : ℕ) (ticke
 -- a refusal is an answer of the caller's call, and changes nothing
 refusal-plain : (a : Core) (call : Call) (who : ℕ) (refusal : SpaceError) → caller call ≡ Some who
     → (is_answer_of call (Refused refusal) ≡ true) × (is_change a call (Refused refusal) ≡ false)
-    × ((own : Own) → own ≡ own_after call (Refused refusal) own) × ((numbers : Numbers) → Draws call (Refused refusal) numbers numbers)
+    × ((own : SessionLocks) → own ≡ own_after call (Refused refusal) own) × ((numbers : Numbers) → Draws call (Refused refusal) numbers numbers)
 refusal-plain a (Wait_of _) who refusal made = cc
 refusal-plain a (Kill _ _) who refusal made = cc
 refusal-plain a _ who refusal made = (refl, refl, (λ own. refl), λ numbers. refl)

@@ -5,7 +5,7 @@ use Rattle.mdl_key.specs.Keys.{KeyName}
 use Rattle.mdl_defs.specs.declared.standing.Standing.{Standing}
 use Rattle.mdl_calls.specs.declared.answers.Settled.{Settled}
 use Rattle.mdl_core.specs.declared.pending.Pending.{Pending}
-use Rattle.mdl_calls.specs.Words.{Answer, Call, caller, takes_memory, Own, Numbers, HoldsAt}
+use Rattle.mdl_calls.specs.Words.{Answer, Call, caller, takes_memory, SessionLocks, Numbers, HoldsAt}
 use Rattle.mdl_core.specs.CoreCalls.{has_call, outcome, Makes, wait_at}
 use Rattle.mdl_core.specs.Cores.{Core, seat_at, has_key, has_session, key_at, standing_at}
 use Rattle.mdl_core.specs.Seats.{own_of, numbers_of}
@@ -16,7 +16,7 @@ abbrev pub SpeaksFor : Core → ℕ → Type 0
 SpeaksFor core who = (has_session who core ≡ true) × IsSound core
 
 -- a session's held tickets and its wait
-abbrev pub own_at : Core → ℕ → Own
+abbrev pub own_at : Core → ℕ → SessionLocks
 own_at core who = own_of (seat_at who core)
 
 -- the last numbers that were given to a session's tickets and waits

@@ -5,7 +5,7 @@ use Rattle.mdl_key.specs.declared.mode.Mode.{Mode}
 use Rattle.mdl_calls.specs.declared.answers.Held.{Held}
 use Rattle.mdl_calls.specs.declared.answers.Settled.{Settled}
 use Rattle.mdl_core.specs.declared.pending.Pending.{Pending}
-use Rattle.mdl_calls.specs.Own.{Own, Numbers, is_number}
+use Rattle.mdl_calls.specs.SessionLocks.{SessionLocks, Numbers, is_number}
 
 -- a seat: the held tickets in the order in which the session got them, the wait that isn't ended, and the last numbers that were
 -- given to its tickets and waits
@@ -20,7 +20,7 @@ abbrev pub empty_seat : SeatView
 empty_seat = record { held = []; wait = None; last_ticket = 0; last_wait = 0 }
 
 -- the held tickets and the wait, as callers see them
-abbrev pub own_of : SeatView → Own
+abbrev pub own_of : SeatView → SessionLocks
 own_of seat = record {
   held = seat.held;
   wait = option_map (λ wait. record { number = wait.number; place = wait.place; mode = wait.mode }) seat.wait;

@@ -11,7 +11,7 @@ use Rattle.mdl_core.specs.declared.pending.Pending.{Pending}
 use Rattle.mdl_defs.specs.Standings.{MayStand}
 use Rattle.mdl_core.specs.Cores.{Core, book_at, seat_at, key_at, standing_at, has_key, has_session}
 use Rattle.mdl_core.specs.CoreSystems.{system_of}
-use Rattle.mdl_calls.specs.Own.{IsRising}
+use Rattle.mdl_calls.specs.SessionLocks.{IsRising}
 use Rattle.mdl_core.specs.Seats.{SeatView, own_of, ticket_of_wait}
 use Rattle.mdl_system.specs.Systems.{IsLawful, NoneForgotten}
 

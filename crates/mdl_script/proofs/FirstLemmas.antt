@@ -4,7 +4,7 @@ use Rattle.std.specs.Prelude.{replicate}
 use Rattle.std.specs.List.{range_with_len}
 use Rattle.std.proofs.lemmas.List.Elements.{All-nil}
 use Rattle.std.proofs.lemmas.List.FromFn.{length-map-range_with_len}
-use Rattle.mdl_calls.specs.Words.{Own}
+use Rattle.mdl_calls.specs.Words.{SessionLocks}
 use Rattle.mdl_core.specs.Seats.{SeatView, empty_seat, own_of}
 use Rattle.mdl_core.specs.Words as core
 use Rattle.mdl_core.specs.Words.{Core, SpeaksFor, own_at}
@@ -36,7 +36,7 @@ new-all players who least most so = let same : who - 1 ≡ 64 = omega (arith, le
 
 -- ---- the space at first
 
-abbrev nothing : Own
+abbrev nothing : SessionLocks
 nothing = record { held = []; wait = None }
 
 -- what these have is nothing

@@ -6,7 +6,7 @@ use Rattle.std.proofs.lemmas.Bool.Decides.{eqb_tells}
 use Rattle.std.specs.Prelude.{IfOk}
 use Rattle.std.proofs.lemmas.List.{drop_more}
 use Rattle.mdl_core.specs.CoreCalls.{has_settled}
-use Rattle.mdl_calls.specs.Words.{Answer, Own, Settle_timeout, own_after}
+use Rattle.mdl_calls.specs.Words.{Answer, SessionLocks, Settle_timeout, own_after}
 use Rattle.mdl_core.specs.CoreJoins.{Joins}
 use Rattle.mdl_core.specs.Words.{Core, SpeaksFor, own_at}
 use Rattle.mdl_space.specs.CoreMembers.{core_space}
@@ -134,7 +134,7 @@ no-turn n world after out next whole end none so left now there =
 
 -- ---- a wait that times out
 
-own-timed_out : (answer : Answer) (who : ℕ) (own : Own) → own_after (Settle_timeout who) answer own ≡ own
+own-timed_out : (answer : Answer) (who : ℕ) (own : SessionLocks) → own_after (Settle_timeout who) answer own ≡ own
 own-timed_out answer who own = refl
 
 -- it leaves to each what it has

@@ -2,7 +2,7 @@
 use Rattle.std.specs.Prelude.{◌≡◌, ◌≢◌, ◌⊎◌, ℕ, List, [], Contains, map, Some, None}
 use Rattle.atomic_table.specs.Seated.{TableId}
 use Rattle.mdl_defs.specs.Caches.{CacheView}
-use Rattle.mdl_calls.specs.Words.{Answer, Call, Own, with_cache}
+use Rattle.mdl_calls.specs.Words.{Answer, Call, SessionLocks, with_cache}
 use Rattle.mdl_calls.specs.SessionData.{SpeaksFor, own_of}
 use Rattle.mdl_session_laws.specs.SessionJoins.{Joins}
 use Rattle.mdl_rows.specs.declared.reply.Reply.{Reply}
@@ -15,7 +15,7 @@ use Rattle.mdl_shared.specs.AllSteps.{Shows}
 use Rattle.mdl_work.specs.Works.{RunsFromEmpty, lines_of, newcomer, working_off}
 
 -- no ticket and no wait
-abbrev pub nothing : Own
+abbrev pub nothing : SessionLocks
 nothing = record { held = []; wait = None }
 
 -- a session of this table and with this number that has no ticket and no wait

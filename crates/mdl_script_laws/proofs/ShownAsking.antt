@@ -8,8 +8,8 @@ use Rattle.mdl_system.proofs.MemberLemmas.{Contains-none}
 use Rattle.mdl_system.proofs.OrderLemmas.{Contains-cons_cases}
 use Rattle.mdl_book.proofs.TicketLemmas.{find-passes, find-contains}
 use Rattle.mdl_calls.specs.declared.answers.Held.{Held}
-use Rattle.mdl_calls.specs.Own.{Wait}
-use Rattle.mdl_calls.specs.Words.{Answer, At_place, Granted, Would_wait, Waits, Resolve, Try_now, Begin_wait, Settle_timeout, End_wait, Release, Clone_ticket, Own, IsRising, is_waiting, ticket_held, is_number, gaining, cloning, winning, Program, Give, Ask, Grow, EachCall, SearchEnd, Over, Cut_off, Failed, seeking, most_searches}
+use Rattle.mdl_calls.specs.SessionLocks.{Wait}
+use Rattle.mdl_calls.specs.Words.{Answer, At_place, Granted, Would_wait, Waits, Resolve, Try_now, Begin_wait, Settle_timeout, End_wait, Release, Clone_ticket, SessionLocks, IsRising, is_waiting, ticket_held, is_number, gaining, cloning, winning, Program, Give, Ask, Grow, EachCall, SearchEnd, Over, Cut_off, Failed, seeking, most_searches}
 use Rattle.mdl_calls.proofs.SeekingLemmas.{calls_seeking}
 use Rattle.mdl_core.specs.CoreJoins.{Joins, Knows, SpeaksFor, own_at}
 use Rattle.mdl_core.specs.Cores.{Core}
@@ -42,7 +42,7 @@ none-found p (y ∷ ys) x found among =
     ] refl found
 
 -- the ticket of a number that is held is the one of this number
-pub held-number : (own : Own) (t : Held) (id : ℕ) → IsRising own → Contains own.held t → t.id ≡ id → ticket_held id own ≡ Some t
+pub held-number : (own : SessionLocks) (t : Held) (id : ℕ) → IsRising own → Contains own.held t → t.id ≡ id → ticket_held id own ≡ Some t
 held-number own t id rising among number = go (ticket_held id own) refl
   where
     go : (o : Option Held) → ticket_held id own ≡ o → ticket_held id own ≡ Some t
@@ -68,7 +68,7 @@ gained-by a b who id place mode spares own = record {
   spares = spares;
   fresh = gained-fresh id place mode (own_at a who) (subst IsRising own (core-rising b who spares.speaks));
   ticket = record { id = id; place = place; mode = mode };
-  there = subst (λ (o : Own). Contains o.held (record { id = id; place = place; mode = mode })) (sym own) (gained-there id place mode (own_at a who));
+  there = subst (λ (o : SessionLocks). Contains o.held (record { id = id; place = place; mode = mode })) (sym own) (gained-there id place mode (own_at a who));
   number = refl;
   at = refl;
 }
@@ -108,7 +108,7 @@ won-by a b who id speaks joins = go (own_at a who).wait refl
             spares = spares;
             fresh = gained-fresh id w.place w.mode (record { held = (own_at a who).held; wait = None }) (subst IsRising own (core-rising b who spares.speaks));
             ticket = record { id = id; place = w.place; mode = w.mode };
-            there = subst (λ (o : Own). Contains o.held (record { id = id; place = w.place; mode = w.mode })) (sym own)
+            there = subst (λ (o : SessionLocks). Contains o.held (record { id = id; place = w.place; mode = w.mode })) (sym own)
                 (gained-there id w.place w.mode (record { held = (own_at a who).held; wait = None }));
             number = refl;
             at = refl;
@@ -197,7 +197,7 @@ module _ (a : Core) (context : ContextView) (place : ℕ) (request : Wish) (fits
       (gains.wish_sought context.who number) c
       (leads-quiet (seeking most_searches context.who) c c context.who none (stays-here context.who none c step.speaks) (quiet-seeking context.who most_searches))
       (λ end d stays. asked-sought d number end (spares-then context.who none a c d (spares-then context.who none a b c spares step) stays.0)
-      (λ w e. at w (subst (λ (o : Own). o.wait ≡ Some w) own (stays.1 w e))))
+      (λ w e. at w (subst (λ (o : SessionLocks). o.wait ≡ Some w) own (stays.1 w e))))
     where
       at : (w : Wait) → Some (record { number = number; place = place; mode = request.mode }) ≡ Some w → w.place ≡ place
       at w e = let f : record { number = number; place = place; mode = request.mode } ≡ w = cc in ap (λ (x : Wait). x.place) (sym f)

@@ -6,8 +6,8 @@ use Rattle.std.proofs.lemmas.List.Elements.{Contains-append_left}
 use Rattle.mdl_key.specs.declared.mode.Mode.{Mode}
 use Rattle.mdl_key.specs.Keys.{KeyName}
 use Rattle.mdl_calls.specs.declared.answers.Held.{Held}
-use Rattle.mdl_calls.specs.Own.{Wait}
-use Rattle.mdl_calls.specs.Words.{Answer, Granted, Lost, Done, Call, caller, Try_now, Begin_wait, End_wait, Release, Clone_ticket, Upgrade_now, Merge, Downgrade, Change_definition, Unpin, Own, own_after, ticket_held, is_number, cloning, winning, redefined_place, Program, Give, Ask, Grow, ◌>>=◌, Each, EachCall, outcome_of}
+use Rattle.mdl_calls.specs.SessionLocks.{Wait}
+use Rattle.mdl_calls.specs.Words.{Answer, Granted, Lost, Done, Call, caller, Try_now, Begin_wait, End_wait, Release, Clone_ticket, Upgrade_now, Merge, Downgrade, Change_definition, Unpin, SessionLocks, own_after, ticket_held, is_number, cloning, winning, redefined_place, Program, Give, Ask, Grow, ◌>>=◌, Each, EachCall, outcome_of}
 use Rattle.mdl_core.specs.CoreCalls.{outcome}
 use Rattle.mdl_core.specs.CoreJoins.{Joins, Knows, SpeaksFor, own_at}
 use Rattle.mdl_core.specs.Cores.{Core, has_key, standing_at}
@@ -30,11 +30,11 @@ IsMild gone (Change_definition who id change) = ⊥
 IsMild gone (Unpin who place) = ⊥
 IsMild gone _ = Unit {0}
 
-won-among : (id : ℕ) (wait : Option Wait) (own : Own) (t : Held) → Contains own.held t → Contains (winning id wait own).held t
+won-among : (id : ℕ) (wait : Option Wait) (own : SessionLocks) (t : Held) → Contains own.held t → Contains (winning id wait own).held t
 won-among id None own t among = among
 won-among id (Some wait) own t among = Contains-append_left own.held _ t among
 
-cloned-among : (id : ℕ) (mode : Mode) (ticket : Option Held) (own : Own) (t : Held) → Contains own.held t → Contains (cloning id mode ticket own).held t
+cloned-among : (id : ℕ) (mode : Mode) (ticket : Option Held) (own : SessionLocks) (t : Held) → Contains own.held t → Contains (cloning id mode ticket own).held t
 cloned-among id mode None own t among = among
 cloned-among id mode (Some ticket) own t among = Contains-append_left own.held _ t among
 
@@ -45,7 +45,7 @@ other_number id t other = go (is_number id t) refl
     go true e = absurd (other (grind (arith, nat_tests)))
     go false e = refl
 
-held-after : (gone : ℕ → Type 0) (call : Call) (answer : Answer) (own : Own) (t : Held) → IsMild gone call → (gone t.id → ⊥) → Contains own.held t
+held-after : (gone : ℕ → Type 0) (call : Call) (answer : Answer) (own : SessionLocks) (t : Held) → IsMild gone call → (gone t.id → ⊥) → Contains own.held t
     → Contains (own_after call answer own).held t
 held-after gone (Try_now who place mode) (Granted id) own t mild stays among = Contains-append_left own.held _ t among
 held-after gone (Begin_wait who place mode) (Granted id) own t mild stays among = Contains-append_left own.held _ t among
@@ -58,7 +58,7 @@ held-after gone (Merge who old new) answer own t mild stays among = absurd mild
 held-after gone (Downgrade who id mode) answer own t mild stays among = absurd mild
 held-after gone call answer own t mild stays among = among
 
-mild-keeps : (gone : ℕ → Type 0) (call : Call) (answer : Answer) (own : Own) (place : ℕ) → IsMild gone call → redefined_place call answer own ≡ Some place → ⊥
+mild-keeps : (gone : ℕ → Type 0) (call : Call) (answer : Answer) (own : SessionLocks) (place : ℕ) → IsMild gone call → redefined_place call answer own ≡ Some place → ⊥
 mild-keeps gone (Change_definition who id change) answer own place mild e = mild
 mild-keeps gone call answer own place mild e = cc
 
@@ -101,7 +101,7 @@ spares-call who gone a b call answer speaks mine mild joins = record {
   where
     held : (t : Held) → Contains (own_at a who).held t → (gone t.id → ⊥) → Contains (own_at b who).held t
     held t among stays =
-        subst (λ (o : Own). Contains o.held t) (sym (core-changes a b call answer who mine joins)) (held-after gone call answer (own_at a who) t mild stays among)
+        subst (λ (o : SessionLocks). Contains o.held t) (sym (core-changes a b call answer who mine joins)) (held-after gone call answer (own_at a who) t mild stays among)
 
 -- a call of anybody else
 pub spares-other : (who : ℕ) (gone : ℕ → Type 0) (a b : Core) (call : Call) (answer : Answer) → SpeaksFor a who → (caller call ≡ Some who → ⊥)
@@ -115,7 +115,7 @@ spares-other who gone a b call answer speaks other joins = record {
 }
   where
     held : (t : Held) → Contains (own_at a who).held t → (gone t.id → ⊥) → Contains (own_at b who).held t
-    held t among stays = subst (λ (o : Own). Contains o.held t) (sym (core-others a b call answer who speaks other joins)) among
+    held t among stays = subst (λ (o : SessionLocks). Contains o.held t) (sym (core-others a b call answer who speaks other joins)) among
 
 -- ---- the wait of a session
 
@@ -123,15 +123,15 @@ abbrev pub begins_wait : Call → Bool
 begins_wait (Begin_wait who place mode) = true
 begins_wait _ = false
 
-won-wait : (id : ℕ) (wait : Option Wait) (own : Own) (w : Wait) → own.wait ≡ wait → (winning id wait own).wait ≡ Some w → own.wait ≡ Some w
+won-wait : (id : ℕ) (wait : Option Wait) (own : SessionLocks) (w : Wait) → own.wait ≡ wait → (winning id wait own).wait ≡ Some w → own.wait ≡ Some w
 won-wait id None own w same e = e
 won-wait id (Some wait) own w same e = cc
 
-cloned-wait : (id : ℕ) (mode : Mode) (ticket : Option Held) (own : Own) (w : Wait) → (cloning id mode ticket own).wait ≡ Some w → own.wait ≡ Some w
+cloned-wait : (id : ℕ) (mode : Mode) (ticket : Option Held) (own : SessionLocks) (w : Wait) → (cloning id mode ticket own).wait ≡ Some w → own.wait ≡ Some w
 cloned-wait id mode None own w e = e
 cloned-wait id mode (Some ticket) own w e = e
 
-wait-after : (gone : ℕ → Type 0) (call : Call) (answer : Answer) (own : Own) (w : Wait) → IsMild gone call → begins_wait call ≡ false
+wait-after : (gone : ℕ → Type 0) (call : Call) (answer : Answer) (own : SessionLocks) (w : Wait) → IsMild gone call → begins_wait call ≡ false
     → (own_after call answer own).wait ≡ Some w → own.wait ≡ Some w
 wait-after gone (Begin_wait who place mode) answer own w mild begins e = cc
 wait-after gone (Try_now who place mode) (Granted id) own w mild begins e = e
@@ -166,7 +166,7 @@ pub stays-call : (who : ℕ) (gone : ℕ → Type 0) (a b : Core) (call : Call) 
     → Stays who gone a b
 stays-call who gone a b call answer speaks quiet joins = (
   spares-call who gone a b call answer speaks quiet.0 quiet.1 joins,
-  λ w e. wait-after gone call answer (own_at a who) w quiet.1 quiet.2 (subst (λ (o : Own). o.wait ≡ Some w) (core-changes a b call answer who quiet.0 joins) e),
+  λ w e. wait-after gone call answer (own_at a who) w quiet.1 quiet.2 (subst (λ (o : SessionLocks). o.wait ≡ Some w) (core-changes a b call answer who quiet.0 joins) e),
 )
 
 -- a call of anybody else
@@ -174,7 +174,7 @@ pub stays-other : (who : ℕ) (a b : Core) (call : Call) (answer : Answer) → S
     → Stays who none a b
 stays-other who a b call answer speaks other joins = (
   spares-other who none a b call answer speaks other joins,
-  λ w e. subst (λ (o : Own). o.wait ≡ Some w) (core-others a b call answer who speaks other joins) e,
+  λ w e. subst (λ (o : SessionLocks). o.wait ≡ Some w) (core-others a b call answer who speaks other joins) e,
 )
 
 -- ---- programs

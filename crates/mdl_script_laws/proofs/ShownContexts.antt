@@ -10,8 +10,8 @@ use Rattle.mdl_key.specs.Keys.{KeyName}
 use Rattle.mdl_system.proofs.MemberLemmas.{Contains-map_from, Contains-none}
 use Rattle.mdl_system.proofs.OrderLemmas.{Contains-cons_cases, Contains-here}
 use Rattle.mdl_calls.specs.declared.answers.Held.{Held}
-use Rattle.mdl_calls.specs.Own.{Wait}
-use Rattle.mdl_calls.specs.Words.{Own, IsRising, are_rising, gaining}
+use Rattle.mdl_calls.specs.SessionLocks.{Wait}
+use Rattle.mdl_calls.specs.Words.{SessionLocks, IsRising, are_rising, gaining}
 use Rattle.mdl_core.specs.CoreJoins.{Knows, SpeaksFor, own_at}
 use Rattle.mdl_core.specs.Cores.{Core}
 use Rattle.mdl_context.specs.declared.kept.Kept.{Kept}
@@ -41,11 +41,11 @@ below-last (y ∷ ys) x t rising among =
 abbrev pub IsFresh : Core → ℕ → ℕ → Type 0
 IsFresh a who id = (t : Held) → Contains (own_at a who).held t → t.id ≢ id
 
-pub gained-fresh : (id place : ℕ) (mode : Mode) (own : Own) → IsRising (gaining id place mode own) → (t : Held) → Contains own.held t → t.id ≢ id
+pub gained-fresh : (id place : ℕ) (mode : Mode) (own : SessionLocks) → IsRising (gaining id place mode own) → (t : Held) → Contains own.held t → t.id ≢ id
 gained-fresh id place mode own rising t among same = let lt = below-last own.held
     (record { id = id; place = place; mode = mode }) t rising among in omega (arith, lt, same)
 
-pub gained-there : (id place : ℕ) (mode : Mode) (own : Own) → Contains (gaining id place mode own).held (record { id = id; place = place; mode = mode })
+pub gained-there : (id place : ℕ) (mode : Mode) (own : SessionLocks) → Contains (gaining id place mode own).held (record { id = id; place = place; mode = mode })
 gained-there id place mode own = Contains-append_right own.held (_ ∷ []) _ (Contains-here _ [])
 
 -- ---- what a context keeps

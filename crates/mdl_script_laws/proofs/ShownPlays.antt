@@ -8,7 +8,7 @@ use Rattle.mdl_defs.specs.declared.definition.Definition.{Definition}
 use Rattle.mdl_defs.specs.declared.standing.Standing.{Standing}
 use Rattle.mdl_system.proofs.MemberLemmas.{Contains-map_from}
 use Rattle.mdl_calls.specs.declared.answers.Held.{Held}
-use Rattle.mdl_calls.specs.Words.{Answer, Has_wait, Reads, Changed, Change_definition, Kill, Read_kept, Wait_of, Own, Program, ◌>>=◌, Tables, Key_is, Tables_of, Key_of}
+use Rattle.mdl_calls.specs.Words.{Answer, Has_wait, Reads, Changed, Change_definition, Kill, Read_kept, Wait_of, SessionLocks, Program, ◌>>=◌, Tables, Key_is, Tables_of, Key_of}
 use Rattle.mdl_core.specs.CoreJoins.{Joins, Knows, SpeaksFor, own_at}
 use Rattle.mdl_core.specs.Cores.{Core, standing_at}
 use Rattle.mdl_core.proofs.CallLaws.{core-changes, core-keeps, core-remembers, core-rising}
@@ -63,11 +63,11 @@ fits-changed a b context id change answer fits joins =
     let same = core-changes a b (Change_definition context.who id change) answer context.who refl joins in
     record {
       speaks = core-keeps calls_keep-sound a b (Change_definition context.who id change) answer context.who fits.speaks joins;
-      backed = λ k among. (let h = fits.backed k among in (h.0, subst (λ (o : Own). Contains o.held h.0) (sym same) h.1, h.2, h.3));
+      backed = λ k among. (let h = fits.backed k among in (h.0, subst (λ (o : SessionLocks). Contains o.held h.0) (sym same) h.1, h.2, h.3));
       alone = fits.alone;
       known = λ key place e. core-remembers a b (Change_definition context.who id change) answer context.who place key fits.speaks (λ f done. cc) joins
           (fits.known key place e);
-      wait = λ wanted w e f. fits.wait wanted w e (subst (λ (o : Own). o.wait ≡ Some w) same f);
+      wait = λ wanted w e f. fits.wait wanted w e (subst (λ (o : SessionLocks). o.wait ≡ Some w) same f);
     }
 
 -- ---- locks
@@ -187,7 +187,7 @@ module _ (old : TableShown → Type 0) (live : Bool) (locks : List (ℕ × KeyNa
           → Joins a (Read_kept who id) (Reads version definition) b
           → Contains (own_at a who).held t → Contains (own_at b who).held t
       read-there a b who id version definition t speaks joins among =
-          subst (λ (o : Own). Contains o.held t) (sym (core-changes a b (Read_kept who id) (Reads version definition) who refl joins)) among
+          subst (λ (o : SessionLocks). Contains o.held t) (sym (core-changes a b (Read_kept who id) (Reads version definition) who refl joins)) among
 
   leads-read : (id : ℕ) (more : Standing → Program Pause) (a b : Core) (session : Session) (answer : Answer) → At a session.context session.state
       → Joins a (Read_kept session.context.who id) answer b

@@ -7,8 +7,8 @@ use Rattle.mdl_key.specs.Keys.{KeyName}
 use Rattle.mdl_system.proofs.MemberLemmas.{Contains-map, Contains-map_from}
 use Rattle.mdl_calls.specs.declared.answers.Held.{Held}
 use Rattle.mdl_calls.specs.declared.space_error.SpaceError.{SpaceError}
-use Rattle.mdl_calls.specs.Own.{Wait, changing, giving_up, merging, upgraded}
-use Rattle.mdl_calls.specs.Words.{Answer, Done, Granted, Lost, Pending, Is_settled, Upgraded, Would_wait, Waits, Call, caller, Begin_wait, Downgrade, End_wait, Merge, Poll_wait, Release, Upgrade_now, Own, own_after, ticket_held, is_number, Give, Ask, SearchEnd, Over, Cut_off, Failed, seeking, most_searches}
+use Rattle.mdl_calls.specs.SessionLocks.{Wait, changing, giving_up, merging, upgraded}
+use Rattle.mdl_calls.specs.Words.{Answer, Done, Granted, Lost, Pending, Is_settled, Upgraded, Would_wait, Waits, Call, caller, Begin_wait, Downgrade, End_wait, Merge, Poll_wait, Release, Upgrade_now, SessionLocks, own_after, ticket_held, is_number, Give, Ask, SearchEnd, Over, Cut_off, Failed, seeking, most_searches}
 use Rattle.mdl_core.specs.CoreJoins.{Joins, Knows, SpeaksFor, own_at}
 use Rattle.mdl_core.specs.Cores.{Core}
 use Rattle.mdl_core.proofs.CallLaws.{core-changes, core-keeps, core-remembers}
@@ -106,7 +106,7 @@ places-own : (who : ℕ) (gone : ℕ → Type 0) (a b : Core) (call : Call) (ans
 places-own who gone a b call answer speaks mine joins remembers held = record {
   speaks = core-keeps calls_keep-sound a b call answer who speaks joins;
   held = λ t among stays.
-      let u = held t among stays in (u.0, subst (λ (o : Own). Contains o.held u.0) (sym (core-changes a b call answer who mine joins)) u.1, u.2, u.3);
+      let u = held t among stays in (u.0, subst (λ (o : SessionLocks). Contains o.held u.0) (sym (core-changes a b call answer who mine joins)) u.1, u.2, u.3);
   known = remembers;
 }
 
@@ -128,7 +128,7 @@ places-then who gone a b c early late = record {
 }
 
 -- the tickets in another mode
-changed-there : (id : ℕ) (change : Mode → Mode) (own : Own) (t : Held) → Contains own.held t
+changed-there : (id : ℕ) (change : Mode → Mode) (own : SessionLocks) (t : Held) → Contains own.held t
     → (u : Held) × Contains (changing id change own).held u × (u.id ≡ t.id) × (u.place ≡ t.place)
 changed-there id change own t among =
     let as_changed : Held → Held = λ ticket. if is_number id ticket then record ticket { mode = change ticket.mode } else ticket in (
@@ -146,7 +146,7 @@ other-number id t other = go (is_number id t) refl
     go false e = refl
 
 -- the same after a merge, but for the ticket that is merged
-merged-there : (old new : ℕ) (ticket : Option Held) (own : Own) (t : Held) → Contains own.held t → (t.id ≡ new → ⊥)
+merged-there : (old new : ℕ) (ticket : Option Held) (own : SessionLocks) (t : Held) → Contains own.held t → (t.id ≡ new → ⊥)
     → (u : Held) × Contains (merging old new ticket own).held u × (u.id ≡ t.id) × (u.place ≡ t.place)
 merged-there old new None own t among other = (t, among, refl, refl)
 merged-there old new (Some ticket) own t among other =
@@ -254,7 +254,7 @@ got-begun a b who place mode (Waits number) speaks joins =
     let own = core-changes a b (Begin_wait who place mode) (Waits number) who refl joins in
     leads-bind (λ x c. Stays who none b c) (GotAt a who place) (seeking most_searches who) (gains.wish_sought who number) b
     (leads-quiet (seeking most_searches who) b b who none (stays-here who none b step.speaks) (quiet-seeking who most_searches))
-    (λ end c stays. got-sought a c who place number end (spares-then who none a b c step stays.0) (λ w e. at w (subst (λ (o : Own). o.wait ≡ Some w) own (stays.1 w e))))
+    (λ end c stays. got-sought a c who place number end (spares-then who none a b c step stays.0) (λ w e. at w (subst (λ (o : SessionLocks). o.wait ≡ Some w) own (stays.1 w e))))
   where
     at : (w : Wait) → Some (record { number = number; place = place; mode = mode }) ≡ Some w → w.place ≡ place
     at w e = let f : record { number = number; place = place; mode = mode } ≡ w = cc in ap (λ (x : Wait). x.place) (sym f)

@@ -12,7 +12,7 @@ use Rattle.mdl_key.specs.Keys.{KeyName, schema_key}
 use Rattle.mdl_calls.specs.declared.answers.Settled.{Settled}
 use Rattle.mdl_calls.specs.declared.answers.Settled.TheVariants as settled_as
 use Rattle.mdl_calls.specs.declared.space_error.SpaceError.{SpaceError}
-use Rattle.mdl_calls.specs.Words.{Answer, At_place, Done, Granted, Lost, Is_settled, Call, End_wait, Settle_timeout, Own, Program, Give, Ask, Grow, ◌>>=◌, EachCall, outcome_of}
+use Rattle.mdl_calls.specs.Words.{Answer, At_place, Done, Granted, Lost, Is_settled, Call, End_wait, Settle_timeout, SessionLocks, Program, Give, Ask, Grow, ◌>>=◌, EachCall, outcome_of}
 use Rattle.mdl_core.specs.declared.pending.Pending.{Pending}
 use Rattle.mdl_core.specs.CoreCalls.{ending, ending_at, ending_of, has_settled, outcome, polling}
 use Rattle.mdl_core.specs.CoreJoins.{SpeaksFor, own_at}
@@ -214,7 +214,7 @@ seen-played line who program world is made staffed tied seen =
     (λ w there apart.
     let own : own_at after w ≡ own_at world.core w =
     others-outcome program world.core who w (staffed.speaks who is.0 is.1) (staffed.speaks w there.0 there.1) apart made in
-    subst (λ (has : Own). IsTied (player_at w world).session (is_some has.wait)) (sym own) (seen w there)) where
+    subst (λ (has : SessionLocks). IsTied (player_at w world).session (is_some has.wait)) (sym own) (seen w there)) where
       after : Core
       after = (outcome_of outcome program world.core).1
 
@@ -290,7 +290,7 @@ seen-timed_out who world is staffed seen w session = by w session (eqb_tells w w
       let own : own_at after w ≡ own_at world.core w =
       core-others world.core after (Settle_timeout who) (outcome (Settle_timeout who) world.core).0 w (staffed.speaks w there.0 there.1)
       (λ e. other.1 (cc)) joins in
-      subst (λ (has : Own). IsTied (player_at w world).session (is_some has.wait)) (sym own) (seen w there)
+      subst (λ (has : SessionLocks). IsTied (player_at w world).session (is_some has.wait)) (sym own) (seen w there)
 
 keeps-seen : Keeps IsSeen Anything
 keeps-seen = record {
@@ -329,11 +329,11 @@ none-first who is = by (eqb_tells who 1) where
   by : ((eqb who 1 ≡ true) × (who ≡ 1)) ⊎ ((eqb who 1 ≡ false) × (who ≢ 1)) → is_some (own_at first_core who).wait ≡ false
   by (inl same) =
       let tracks : Tracks HasNone (creating test) (is_some (own_at (empty_core 256 64) 1).wait) =
-      subst (λ (has : Own). Tracks HasNone (creating test) (is_some has.wait)) (sym (none-empty 1 one)) (λ answer is. none-at answer) in
+      subst (λ (has : SessionLocks). Tracks HasNone (creating test) (is_some has.wait)) (sym (none-empty 1 one)) (λ answer is. none-at answer) in
       subst (λ k. is_some (own_at first_core k).wait ≡ false) (sym same.1)
       (tracks-outcome HasNone (creating test) (empty_core 256 64) 1 (speak-empty 1 one.0 one.1) (made-creating test) tracks)
   by (inr other) =
-      ap (λ (has : Own). is_some has.wait)
+      ap (λ (has : SessionLocks). is_some has.wait)
       (others-outcome (creating test) (empty_core 256 64) 1 who (speak-empty 1 one.0 one.1) (speak-empty who is.0 is.1) other.1
       (made-creating test) ∙ none-empty who is)
 

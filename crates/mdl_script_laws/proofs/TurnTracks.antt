@@ -1,8 +1,8 @@
 -- Whether a session has a wait in the space of one thread, followed through a program of its calls.
 use Rattle.std.proofs.Common.{◌≡◌, ◌≢◌, ℕ, Bool, true, false, Option, Some, None, IfSome, refl, subst, ap, ◌∙◌, sym}
 use Rattle.std.specs.Prelude.{is_some}
-use Rattle.mdl_calls.specs.Own.{Own, ticket_held}
-use Rattle.mdl_calls.specs.Own as own
+use Rattle.mdl_calls.specs.SessionLocks.{SessionLocks, ticket_held}
+use Rattle.mdl_calls.specs.SessionLocks as own
 use Rattle.mdl_calls.specs.Words.{Answer, Refused, Done, Granted, Waits, Lost, Upgraded, Call, caller, Try_now, Begin_wait, Search, End_wait, Release, Clone_ticket, Upgrade_now, Merge, Downgrade, Program, Give, Ask, Grow, ◌>>=◌, EachCall, outcome_of, own_after}
 use Rattle.mdl_core.specs.CoreCalls.{outcome, searching_of, victim_at}
 use Rattle.mdl_core.specs.CoreJoins.{Joins, SpeaksFor, own_at}
@@ -21,7 +21,7 @@ wait_after (End_wait who) (Granted id) waits = false
 wait_after (End_wait who) (Lost how) waits = false
 wait_after _ _ waits = waits
 
-own-wait : (call : Call) (answer : Answer) (has : Own) → is_some (own_after call answer has).wait ≡ wait_after call answer (is_some has.wait)
+own-wait : (call : Call) (answer : Answer) (has : SessionLocks) → is_some (own_after call answer has).wait ≡ wait_after call answer (is_some has.wait)
 own-wait (Begin_wait who place mode) (Waits number) has = refl
 own-wait (End_wait who) (Granted id) has = elim has.wait as (λ wait. is_some (own.winning id wait (record has { wait = wait })).wait ≡ false) [ None ↦ refl | Some wait ↦ refl ]
 own-wait (End_wait who) (Lost how) has = refl
@@ -65,10 +65,10 @@ call-waits who core call speaks made = by (caller call) refl made.1 where
   by : (maker : Option ℕ) → caller call ≡ maker → IfSome maker (λ w. w ≡ who)
       → is_some (own_at after who).wait ≡ wait_after call answer (is_some (own_at core who).wait)
   by None e same =
-      ap (λ (has : Own). is_some has.wait) (core-others core after call answer who speaks (λ its. cc) joins)
+      ap (λ (has : SessionLocks). is_some has.wait) (core-others core after call answer who speaks (λ its. cc) joins)
       ∙ sym (nobody-waits call answer (is_some (own_at core who).wait) e)
   by (Some w) e same =
-      ap (λ (has : Own). is_some has.wait) (core-changes core after call answer who (e ∙ ap Some same) joins)
+      ap (λ (has : SessionLocks). is_some has.wait) (core-changes core after call answer who (e ∙ ap Some same) joins)
       ∙ own-wait call answer (own_at core who)
 
 -- ---- programs

@@ -3,7 +3,7 @@ use Rattle.std.proofs.Common.{◌≡◌, ◌≢◌, ℕ, zero, suc, ◌<◌, ◌
 use Rattle.std.specs.Prelude.{replicate}
 use Rattle.std.specs.List.{range_with_len}
 use Rattle.std.proofs.lemmas.List.Elements.{All-nil}
-use Rattle.mdl_calls.specs.Words.{Own}
+use Rattle.mdl_calls.specs.Words.{SessionLocks}
 use Rattle.mdl_core.specs.Seats.{SeatView, empty_seat, own_of}
 use Rattle.mdl_core.specs.Words.{Core, SpeaksFor, empty_core, own_at}
 use Rattle.mdl_space.specs.CoreMembers.{core_space}
@@ -81,7 +81,7 @@ new-more xs n so =
     let count : suc n ≡ n + 1 = omega arith in
     ap (λ ys. ys ++ newcomer (n + 1) ∷ []) so ∙ map-more newcomer 1 n (n + 1) (omega arith) ∙ ap (λ k. map newcomer (range_with_len 1 k)) count
 
-abbrev nothing : Own
+abbrev nothing : SessionLocks
 nothing = record { held = []; wait = None }
 
 -- what these have is nothing

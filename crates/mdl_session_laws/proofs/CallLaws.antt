@@ -3,7 +3,7 @@ use Rattle.std.proofs.Common.{◌≡◌, ℕ, true, false, List, Option, Some, N
 use Rattle.std.proofs.lemmas.Bool.{false≢true}
 use Rattle.mdl_key.specs.declared.mode.Mode.{Mode}
 use Rattle.mdl_calls.specs.declared.answers.Held.{Held}
-use Rattle.mdl_calls.specs.Words.{Answer, Would_wait, Holds, is_answer_of, Call, Wait_of, Kill, List_held, Upgrade_now, caller, IsExplained, Own, Numbers, Draws, IsRising, own_after, ticket_held}
+use Rattle.mdl_calls.specs.Words.{Answer, Would_wait, Holds, is_answer_of, Call, Wait_of, Kill, List_held, Upgrade_now, caller, IsExplained, SessionLocks, Numbers, Draws, IsRising, own_after, ticket_held}
 use Rattle.mdl_system.specs.Words.{covers}
 use Rattle.mdl_calls.specs.SessionData.{SessionData, SpeaksFor, Knows, own_of, numbers_of}
 use Rattle.mdl_session_laws.specs.SessionJoins.{Joins}
@@ -25,7 +25,7 @@ no_caller a b call answer w speaks_for other joins = by (caller call) joins.mine
     by (Some who) mine other = absurd (other (ap (λ n. Some n) (mine.0 ∙ sym speaks_for.0)))
 
 -- such a call leaves what a session has
-nobody-changes : (call : Call) (answer : Answer) (own : Own) → caller call ≡ None → own_after call answer own ≡ own
+nobody-changes : (call : Call) (answer : Answer) (own : SessionLocks) → caller call ≡ None → own_after call answer own ≡ own
 nobody-changes (Wait_of target) answer own e = refl
 nobody-changes (Kill target number) answer own e = refl
 nobody-changes _ answer own e = cc

@@ -8,8 +8,8 @@ use Rattle.mdl_defs.specs.Standings.{standing_after}
 use Rattle.mdl_calls.specs.declared.answers.Held.{Held}
 use Rattle.mdl_calls.specs.declared.answers.Settled.TheVariants.{Victim}
 use Rattle.mdl_calls.specs.declared.space_error.SpaceError.TheVariants.{OutOfMemory}
-use Rattle.mdl_calls.specs.Own.{ending, gaining, ticket_drawn, wait_drawn, waiting}
-use Rattle.mdl_calls.specs.Words.{Wait_of, Kill, Release, Downgrade, Poll_wait, Settle_timeout, End_wait, Change_definition, Unpin, caller, OfHeld, Own, holds, ticket_held}
+use Rattle.mdl_calls.specs.SessionLocks.{ending, gaining, ticket_drawn, wait_drawn, waiting}
+use Rattle.mdl_calls.specs.Words.{Wait_of, Kill, Release, Downgrade, Poll_wait, Settle_timeout, End_wait, Change_definition, Unpin, caller, OfHeld, SessionLocks, holds, ticket_held}
 use Rattle.mdl_session_laws.specs.Happenings.{KeysAreFound, LocksAreHad, WaitsAreBegun, WaitsAreLost, StandingsAreRead, StandingsAreChanged, MemoryRunsOut}
 use Rattle.mdl_calls.specs.Learning.{KeepsSettled, LearnsPlace}
 use Rattle.mdl_calls.specs.Meetings.{NotesThere}
@@ -125,7 +125,7 @@ waits-lost a sound lost = (
 -- ---- what stands
 
 -- a ticket of the number is held
-held-is : (id : ℕ) (own : Own) (ticket : Held) → ticket_held id own ≡ Some ticket → holds id own ≡ true
+held-is : (id : ℕ) (own : SessionLocks) (ticket : Held) → ticket_held id own ≡ Some ticket → holds id own ≡ true
 held-is id own ticket its = ap is_some its
 
 -- the session that has read this at a place
@@ -143,7 +143,7 @@ notes-there place standing a = record {
 }
 
 -- of the ticket that is held
-of-ticket : (id : ℕ) (own : Own) (ticket : Held) (P : Held → Type 0) → ticket_held id own ≡ Some ticket → P ticket → OfHeld id own P
+of-ticket : (id : ℕ) (own : SessionLocks) (ticket : Held) (P : Held → Type 0) → ticket_held id own ≡ Some ticket → P ticket → OfHeld id own P
 of-ticket id own ticket P its h = subst (λ o. MatchOption o ⊥ P) (sym its) h
 
 pub standings-read : StandingsAreRead

@@ -1,7 +1,7 @@
 -- What is always so of a session is so after each call.
 use Rattle.std.proofs.Common.{◌≡◌, ℕ, Bool, true, false, is_some, Option, Some, None, IfSome, inr, refl, sym, ap, subst, ◌∙◌}
 use Rattle.mdl_calls.specs.declared.answers.Settled.{Settled}
-use Rattle.mdl_calls.specs.Words.{Answer, Call, IsRising, Own, Wait, is_waiting, own_after}
+use Rattle.mdl_calls.specs.Words.{Answer, Call, IsRising, SessionLocks, Wait, is_waiting, own_after}
 use Rattle.mdl_calls.specs.Learning.{KeepsSettled}
 use Rattle.mdl_calls.specs.SessionData.{SessionData, IsSound, Knows, is_known, are_below, are_placed, first_free}
 use Rattle.mdl_session_laws.specs.SessionJoins.{Joins, ends_wait}
@@ -53,7 +53,7 @@ module _ (a b : SessionData) (call : Call) (answer : Answer) (sound : IsSound a)
           waits false e = free (keeps.1 e ∙ unsettled a sound e)
 
   -- what is so of what the call leaves is so of what the session has
-  of-own : (P : Own → Type 0) → P (own_after call answer a.own) → P b.own
+  of-own : (P : SessionLocks → Type 0) → P (own_after call answer a.own) → P b.own
   of-own P = subst P (sym joins.own)
 
   pub keeps-sound : IsSound b

@@ -2,8 +2,8 @@
 use Rattle.std.proofs.Common.{◌≡◌, ℕ, ◌+◌, Bool, true, false, not, nat_lt, List, [], ◌∷◌, ◌++◌, map, filter, is_some, Option, Some, None, MatchOption, IfSome, if◌then◌else◌, refl, sym, ap, subst, ◌∙◌, lt-ltb, arith}
 use Rattle.mdl_key.specs.declared.mode.Mode.{Mode}
 use Rattle.mdl_calls.specs.declared.answers.Held.{Held}
-use Rattle.mdl_calls.specs.Own.{DrawsTicket, DrawsWait, changing, cloning, ending, gaining, merging, upgraded, waiting, winning}
-use Rattle.mdl_calls.specs.Words.{Answer, Granted, Waits, Lost, Done, Upgraded, Call, Try_now, Begin_wait, End_wait, Release, Clone_ticket, Upgrade_now, Merge, Downgrade, Knowledge, IsExplained, MayClone, Own, Wait, Numbers, Draws, IsRising, giving_up, is_number, is_waiting, own_after, ticket_held}
+use Rattle.mdl_calls.specs.SessionLocks.{DrawsTicket, DrawsWait, changing, cloning, ending, gaining, merging, upgraded, waiting, winning}
+use Rattle.mdl_calls.specs.Words.{Answer, Granted, Waits, Lost, Done, Upgraded, Call, Try_now, Begin_wait, End_wait, Release, Clone_ticket, Upgrade_now, Merge, Downgrade, Knowledge, IsExplained, MayClone, SessionLocks, Wait, Numbers, Draws, IsRising, giving_up, is_number, is_waiting, own_after, ticket_held}
 use Rattle.mdl_calls.specs.SessionData.{KnownKey, is_known, are_below, are_placed, first_free}
 use Rattle.mdl_session_laws.specs.SessionJoins.{gained_at, ends_wait}
 use Rattle.mdl_session_laws.proofs.TicketLists.{all-fewer, all-changed, all-last, all-found, rising-fewer, rising-changed, rising-last, below-up}
@@ -31,7 +31,7 @@ module _ (known : List KnownKey) where
   here-changed id change = all-changed is_here (in_mode id change) (λ t. ap (λ p. is_known p known) (keeps-place id change t))
 
   -- what was gained is at a known place
-  pub placed-after : (call : Call) (answer : Answer) (own : Own) → are_placed known own.held ≡ true → IfSome own.wait (λ (w : Wait). is_known w.place known ≡ true)
+  pub placed-after : (call : Call) (answer : Answer) (own : SessionLocks) → are_placed known own.held ≡ true → IfSome own.wait (λ (w : Wait). is_known w.place known ≡ true)
       → IfSome (gained_at call answer) (λ place. is_known place known ≡ true) → are_placed known (own_after call answer own).held ≡ true
   placed-after (Try_now who place mode) (Granted id) own here awaited gained = all-last is_here own.held _ here gained
   placed-after (Begin_wait who place mode) (Granted id) own here awaited gained = all-last is_here own.held _ here gained
@@ -57,7 +57,7 @@ module _ (known : List KnownKey) where
   placed-after _ _ own here awaited gained = here
 
   -- and so is what is waited for
-  pub awaited-after : (call : Call) (answer : Answer) (own : Own) → IfSome own.wait (λ (w : Wait). is_known w.place known ≡ true)
+  pub awaited-after : (call : Call) (answer : Answer) (own : SessionLocks) → IfSome own.wait (λ (w : Wait). is_known w.place known ≡ true)
       → IfSome (gained_at call answer) (λ place. is_known place known ≡ true)
       → IfSome (own_after call answer own).wait (λ (w : Wait). is_known w.place known ≡ true)
   awaited-after (Try_now who place mode) (Granted id) own awaited gained = awaited
@@ -87,11 +87,11 @@ module _ (known : List KnownKey) where
 -- ---- numbers
 
 -- held tickets have rising numbers, and the first free one is above them
-abbrev Counts : Own → Numbers → Type 0
+abbrev Counts : SessionLocks → Numbers → Type 0
 Counts own numbers = IsRising own × (are_below (first_free (is_waiting own) numbers) own.held ≡ true)
 
 -- whether it waits or not, the next number is above them
-below-next : (own : Own) (numbers : Numbers) → Counts own numbers → are_below (numbers.last_ticket + 1) own.held ≡ true
+below-next : (own : SessionLocks) (numbers : Numbers) → Counts own numbers → are_below (numbers.last_ticket + 1) own.held ≡ true
 below-next own numbers counts = by (is_waiting own) counts.1
   where
     by : (b : Bool) → are_below (first_free b numbers) own.held ≡ true → are_below (numbers.last_ticket + 1) own.held ≡ true
@@ -104,7 +104,7 @@ below-last held t below =
     all-last (λ other. nat_lt other.id (t.id + 1)) held t (below-up t.id (t.id + 1) next held below) next
 
 -- one more, of the next number, where it doesn't wait
-counts-gaining : (own : Own) (id place : ℕ) (mode : Mode) (before after : Numbers) → is_waiting own ≡ false → Counts own before → DrawsTicket id before after
+counts-gaining : (own : SessionLocks) (id place : ℕ) (mode : Mode) (before after : Numbers) → is_waiting own ≡ false → Counts own before → DrawsTicket id before after
     → Counts (gaining id place mode own) after
 counts-gaining own id place mode before after idle counts draws = (
   rising-last own.held t counts.0 below,
@@ -119,7 +119,7 @@ counts-gaining own id place mode before after idle counts draws = (
     below = subst (λ n. are_below n own.held ≡ true) (sym draws.0) (below-next own before counts)
 
 -- those that are left, where it waits or not as before and gives no number
-counts-fewer : (own : Own) (keep : Held → Bool) (before after : Numbers) → Counts own before → after ≡ before → Counts (record own { held = filter keep own.held }) after
+counts-fewer : (own : SessionLocks) (keep : Held → Bool) (before after : Numbers) → Counts own before → after ≡ before → Counts (record own { held = filter keep own.held }) after
 counts-fewer own keep before after counts e = (
   rising-fewer keep own.held counts.0,
   subst (λ n. are_below (first_free (is_waiting own) n) (filter keep own.held) ≡ true) (sym e)
@@ -127,7 +127,7 @@ counts-fewer own keep before after counts e = (
 )
 
 -- and those that get another mode
-counts-changed : (own : Own) (id : ℕ) (change : Mode → Mode) (before after : Numbers) → Counts own before → after ≡ before → Counts (changing id change own) after
+counts-changed : (own : SessionLocks) (id : ℕ) (change : Mode → Mode) (before after : Numbers) → Counts own before → after ≡ before → Counts (changing id change own) after
 counts-changed own id change before after counts e = (
   rising-changed (in_mode id change) (keeps-number id change) own.held counts.0,
   subst (λ n. are_below (first_free (is_waiting own) n) (map (in_mode id change) own.held) ≡ true) (sym e)
@@ -136,15 +136,15 @@ counts-changed own id change before after counts e = (
 )
 
 -- nothing at all
-counts-same : (own : Own) (before after : Numbers) → Counts own before → after ≡ before → Counts own after
+counts-same : (own : SessionLocks) (before after : Numbers) → Counts own before → after ≡ before → Counts own after
 counts-same own before after counts e = subst (Counts own) (sym e) counts
 
 -- without the wait
-counts-ending : (own : Own) (before after : Numbers) → Counts own before → after ≡ before → Counts (ending own) after
+counts-ending : (own : SessionLocks) (before after : Numbers) → Counts own before → after ≡ before → Counts (ending own) after
 counts-ending own before after counts e = subst (Counts (ending own)) (sym e) (counts.0, below-next own before counts)
 
 -- with the ticket that was waited for
-counts-winning : (own : Own) (id : ℕ) (before after : Numbers) → is_waiting own ≡ true → Counts own before → (id ≡ before.last_ticket) × (after ≡ before)
+counts-winning : (own : SessionLocks) (id : ℕ) (before after : Numbers) → is_waiting own ≡ true → Counts own before → (id ≡ before.last_ticket) × (after ≡ before)
     → Counts (winning id own.wait own) after
 counts-winning own id before after waits counts draws =
     elim own.wait as (λ o. is_some o ≡ true → are_below (first_free (is_some o) before) own.held ≡ true → Counts (winning id o own) after) [
@@ -158,7 +158,7 @@ counts-winning own id before after waits counts draws =
     ] waits counts.1
 
 -- with a wait, of the next number
-counts-waiting : (own : Own) (number place : ℕ) (mode : Mode) (before after : Numbers) → is_waiting own ≡ false → Counts own before → DrawsWait number before after
+counts-waiting : (own : SessionLocks) (number place : ℕ) (mode : Mode) (before after : Numbers) → is_waiting own ≡ false → Counts own before → DrawsWait number before after
     → Counts (waiting number place mode own) after
 counts-waiting own number place mode before after idle counts draws = (
   counts.0,
@@ -166,7 +166,7 @@ counts-waiting own number place mode before after idle counts draws = (
 )
 
 -- whatever a call leaves
-pub counts-after : (knows : Knowledge) (call : Call) (answer : Answer) (own : Own) (before after : Numbers) → Counts own before
+pub counts-after : (knows : Knowledge) (call : Call) (answer : Answer) (own : SessionLocks) (before after : Numbers) → Counts own before
     → Draws call answer before after → IsExplained knows call answer own → Counts (own_after call answer own) after
 counts-after knows (Try_now who place mode) (Granted id) own before after counts draws clear = counts-gaining own id place mode before after clear.0 counts draws
 counts-after knows (Begin_wait who place mode) (Granted id) own before after counts draws clear = counts-gaining own id place mode before after clear.0 counts draws
@@ -193,7 +193,7 @@ counts-after knows _ _ own before after counts draws clear = counts-same own bef
 -- ---- the wait
 
 -- a wait goes on unless it is ended
-pub waits-on : (call : Call) (answer : Answer) (own : Own) → ends_wait call answer ≡ false → is_waiting own ≡ true → is_waiting (own_after call answer own) ≡ true
+pub waits-on : (call : Call) (answer : Answer) (own : SessionLocks) → ends_wait call answer ≡ false → is_waiting own ≡ true → is_waiting (own_after call answer own) ≡ true
 waits-on (Try_now who place mode) (Granted id) own on waits = waits
 waits-on (Begin_wait who place mode) (Granted id) own on waits = waits
 waits-on (Begin_wait who place mode) (Waits number) own on waits = refl

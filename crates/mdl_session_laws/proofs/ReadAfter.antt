@@ -7,7 +7,7 @@ use Rattle.mdl_defs.specs.declared.standing.Standing.{Standing}
 use Rattle.mdl_defs.specs.Standings.{MayStand, standing_after}
 use Rattle.mdl_defs.proofs.StandingLemmas.{changes-keep_standing}
 use Rattle.mdl_calls.specs.declared.answers.Held.{Held}
-use Rattle.mdl_calls.specs.Words.{Answer, Refused, Reads, Changed, Call, Read_definition, Read_kept, Change_definition, OfHeld, Own, is_number, ticket_held}
+use Rattle.mdl_calls.specs.Words.{Answer, Refused, Reads, Changed, Call, Read_definition, Read_kept, Change_definition, OfHeld, SessionLocks, is_number, ticket_held}
 use Rattle.mdl_calls.specs.Meetings.{IsLast, Meets, NotesThere, ReadsNothing, ReadsThere, ChangesThere}
 use Rattle.mdl_calls.specs.SessionData.{SessionData, Reading, IsSound, IsNoted, FitsKey, key_known, is_known, noted_at, last_read, is_newest, was_read}
 use Rattle.mdl_session_laws.specs.SessionJoins.{LetsRead}
@@ -18,14 +18,14 @@ use Rattle.mdl_session_laws.proofs.TicketLists.{all-found}
 -- ---- tickets
 
 -- what is said of a held ticket is said of one
-pub of-held : (id : ℕ) (own : Own) (P : Held → Type 0) → OfHeld id own P → (ticket : Held) × (ticket_held id own ≡ Some ticket) × P ticket
+pub of-held : (id : ℕ) (own : SessionLocks) (P : Held → Type 0) → OfHeld id own P → (ticket : Held) × (ticket_held id own ≡ Some ticket) × P ticket
 of-held id own P = elim (ticket_held id own) as (λ o. MatchOption o ⊥ P → (ticket : Held) × (o ≡ Some ticket) × P ticket) [
   | None ↦ λ none. absurd none
   | Some ticket ↦ λ h. (ticket, refl, h)
 ]
 
 -- and of the one that is held
-pub held-of : (id : ℕ) (own : Own) (P : Held → Type 0) (ticket : Held) → ticket_held id own ≡ Some ticket → OfHeld id own P → P ticket
+pub held-of : (id : ℕ) (own : SessionLocks) (P : Held → Type 0) (ticket : Held) → ticket_held id own ≡ Some ticket → OfHeld id own P → P ticket
 held-of id own P ticket e = subst (λ o. MatchOption o ⊥ P → P ticket) (sym e) (λ h. h)
 
 -- a held ticket's place has a key

@@ -2,7 +2,7 @@
 use Rattle.std.proofs.Common.{inl, ◌≡◌, ℕ, true, false, Option, Some, IfSome, refl, sym, ap, subst, ◌∙◌}
 use Rattle.mdl_calls.specs.declared.answers.Settled.{Settled}
 use Rattle.mdl_calls.specs.declared.space_error.SpaceError.{SpaceError}
-use Rattle.mdl_calls.specs.Words.{Refused, Call, Resolve, Try_now, Read_definition, Read_kept, Poll_wait, End_wait, caller, is_answer_of, told, IsCause, Own, Numbers, Draws, own_after}
+use Rattle.mdl_calls.specs.Words.{Refused, Call, Resolve, Try_now, Read_definition, Read_kept, Poll_wait, End_wait, caller, is_answer_of, told, IsCause, SessionLocks, Numbers, Draws, own_after}
 use Rattle.mdl_calls.specs.Learning.{KeepsSettled}
 use Rattle.mdl_calls.specs.Meetings.{ReadsNothing}
 use Rattle.mdl_calls.specs.SessionData.{SessionData, SpeaksFor, Knows, is_known, noted_at}
@@ -26,7 +26,7 @@ reads-nothing a b reads notes = record {
   carried = λ place version holds noted. ap (noted_at place) notes ∙ noted;
 }
 
-refused-own : (call : Call) (why : SpaceError) (own : Own) → own_after call (Refused why) own ≡ own
+refused-own : (call : Call) (why : SpaceError) (own : SessionLocks) → own_after call (Refused why) own ≡ own
 refused-own (Try_now who place mode) why own = refl
 refused-own _ why own = refl
 

@@ -5,7 +5,7 @@ use Rattle.mdl_key.specs.Words.{KeyName}
 use Rattle.mdl_defs.specs.declared.standing.Standing.{Standing}
 use Rattle.mdl_calls.specs.declared.answers.Settled.{Settled}
 use Rattle.mdl_calls.specs.SpaceLaws.{SpaceLaws}
-use Rattle.mdl_calls.specs.Words.{Answer, Call, Own, Numbers}
+use Rattle.mdl_calls.specs.Words.{Answer, Call, SessionLocks, Numbers}
 
 -- the last of three, for another one
 or-owes : {A B C D : Type 0} → (C → D) → A ⊎ B ⊎ C → A ⊎ B ⊎ D
@@ -13,7 +13,7 @@ or-owes f (inl a) = inl a
 or-owes f (inr (inl b)) = inr (inl b)
 or-owes f (inr (inr c)) = inr (inr (f c))
 
-module _ {S V : Type 0} {speaks_for : V → ℕ → Type 0} {own : V → ℕ → Own} {knows : V → ℕ → ℕ → KeyName → Type 0} {is_settled : V → ℕ → Settled → Type 0}
+module _ {S V : Type 0} {speaks_for : V → ℕ → Type 0} {own : V → ℕ → SessionLocks} {knows : V → ℕ → ℕ → KeyName → Type 0} {is_settled : V → ℕ → Settled → Type 0}
     {numbers : V → ℕ → Numbers} {has_read has_met : V → ℕ → ℕ → Standing → Type 0} {has_seen : V → ℕ → ℕ → ℕ → Type 0} {pins owes : V → ℕ → ℕ → Type 0}
     {joins : V → Call → Answer → V → Type 0} {debts : S → ℕ → ℕ → Type 0} {joined : S → Call → Answer → S → Type 0}
     (view : S → V) (laws : SpaceLaws speaks_for own knows is_settled numbers has_read has_met has_seen pins owes joins)

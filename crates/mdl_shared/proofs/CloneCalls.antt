@@ -5,7 +5,7 @@ use Rattle.std.specs.Option.{option_map}
 use Rattle.mdl_key.specs.declared.mode.Mode.{Mode}
 use Rattle.mdl_calls.specs.declared.space_error.SpaceError.{SpaceError}
 use Rattle.mdl_calls.specs.declared.space_error.SpaceError.TheVariants.{Full, OutOfMemory}
-use Rattle.mdl_calls.specs.Own.{cloning}
+use Rattle.mdl_calls.specs.SessionLocks.{cloning}
 use Rattle.mdl_calls.specs.Words.{Clone_ticket, cloned, Granted, IsCause, MayClone, OfHeld, Refused, is_waiting}
 use Rattle.mdl_steps.specs.declared.deed.Deed.TheVariants.{Gain}
 use Rattle.mdl_steps.specs.declared.view.Own.{Own}

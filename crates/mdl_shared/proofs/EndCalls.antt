@@ -7,7 +7,7 @@ use Rattle.mdl_calls.specs.declared.answers.Ended.TheVariants as ended_as
 use Rattle.mdl_calls.specs.declared.answers.Settled.{Settled}
 use Rattle.mdl_calls.specs.declared.answers.Settled.TheVariants as settled_as
 use Rattle.mdl_calls.specs.declared.space_error.SpaceError.TheVariants.{NoWait, Unsettled}
-use Rattle.mdl_calls.specs.Own.{winning}
+use Rattle.mdl_calls.specs.SessionLocks.{winning}
 use Rattle.mdl_calls.specs.Words.{Granted, Lost, Refused, End_wait, ended, is_answer_of, is_waiting}
 use Rattle.mdl_steps.specs.declared.deed.Deed.TheVariants.{Gain}
 use Rattle.mdl_steps.specs.declared.view.Ask.{Ask}

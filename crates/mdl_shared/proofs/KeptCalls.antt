@@ -7,7 +7,7 @@ use Rattle.mdl_defs.specs.Caches.{CacheView, Kept, kept_of, looked_at}
 use Rattle.mdl_calls.specs.declared.answers.Held.{Held}
 use Rattle.mdl_calls.specs.declared.space_error.SpaceError.{SpaceError}
 use Rattle.mdl_calls.specs.declared.space_error.SpaceError.TheVariants.{NotHeld, OutOfMemory}
-use Rattle.mdl_calls.specs.Words.{Answer, AreMet, Call, OfHeld, Own as Has, Read_definition, Read_kept, Reads, Refused, ticket_held}
+use Rattle.mdl_calls.specs.Words.{Answer, AreMet, Call, OfHeld, Read_definition, Read_kept, Reads, Refused, SessionLocks, ticket_held}
 use Rattle.mdl_steps.specs.declared.view.Own.{Own}
 use Rattle.mdl_steps.specs.declared.view.Read.{Read}
 use Rattle.mdl_steps.specs.SeatStates.{SeatState}
@@ -45,7 +45,7 @@ numbered-is id [] t its = cc
 numbered-is id (x ∷ xs) t its = grind (arith, nat_tests, numbered-is id xs t)
 
 -- what is so of a held ticket, where it is said more weakly
-map-held : (id : ℕ) (own : Has) (P Q : Held → Type 0) → ((h : Held) → P h → Q h) → OfHeld id own P → OfHeld id own Q
+map-held : (id : ℕ) (own : SessionLocks) (P Q : Held → Type 0) → ((h : Held) → P h → Q h) → OfHeld id own P → OfHeld id own Q
 map-held id own P Q weaker = elim (ticket_held id own) as (λ o. MatchOption o ⊥ P → MatchOption o ⊥ Q) [
   | None ↦ λ none. none
   | Some h ↦ λ so. weaker h so

@@ -6,7 +6,7 @@ use Rattle.mdl_calls.specs.declared.answers.Held.{Held}
 use Rattle.mdl_calls.specs.declared.answers.Settled.{Settled}
 use Rattle.mdl_calls.specs.declared.answers.Settled.TheVariants as settled_as
 use Rattle.mdl_calls.specs.declared.space_error.SpaceError.{SpaceError}
-use Rattle.mdl_calls.specs.Words.{Answer, Call, Draws, IsCause, IsExplained, Numbers, Own as Mine, Refused, Wait, caller, is_answer_of, own_after, told}
+use Rattle.mdl_calls.specs.Words.{Answer, Call, Draws, IsCause, IsExplained, Numbers, Refused, SessionLocks, Wait, caller, is_answer_of, own_after, told}
 use Rattle.mdl_steps.specs.declared.view.Ask.{Ask}
 use Rattle.mdl_steps.specs.declared.view.Own.{Own}
 use Rattle.mdl_steps.specs.declared.view.Read.{Read}
@@ -31,11 +31,11 @@ reading_of r = record { place = r.place; standing = r.standing }
 abbrev pub wait_by : ℕ → Option Ask → Option Wait
 wait_by waits asks = option_map (λ (a : Ask). record { number = waits; place = a.place; mode = a.mode }) asks
 
-abbrev pub own_of : List Held → Option Wait → Mine
+abbrev pub own_of : List Held → Option Wait → SessionLocks
 own_of held wait = record { held = held; wait = wait }
 
 -- by its tickets and its wait
-abbrev pub own_by : List Own → Option Ask → ℕ → Mine
+abbrev pub own_by : List Own → Option Ask → ℕ → SessionLocks
 own_by tickets asks waits = record { held = map told_of tickets; wait = wait_by waits asks }
 
 -- and the last numbers that it gave

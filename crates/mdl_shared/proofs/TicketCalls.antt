@@ -8,7 +8,7 @@ use Rattle.mdl_calls.specs.declared.answers.Held.{Held}
 use Rattle.mdl_calls.specs.declared.answers.Upgrade.TheVariants as upgrade
 use Rattle.mdl_calls.specs.declared.space_error.SpaceError.{SpaceError}
 use Rattle.mdl_calls.specs.Words.{Done, Refused, Upgraded, Would_wait, Release, Downgrade, Upgrade_now, Merge, MayUpgrade, OfHeld, is_number, is_waiting}
-use Rattle.mdl_calls.specs.Own.{merging, upgraded}
+use Rattle.mdl_calls.specs.SessionLocks.{merging, upgraded}
 use Rattle.mdl_steps.specs.declared.deed.Deed.{Deed}
 use Rattle.mdl_steps.specs.declared.deed.Deed.TheVariants.{Alter, Lose}
 use Rattle.mdl_steps.specs.declared.view.Own.{Own}

@@ -8,7 +8,7 @@ use Rattle.mdl_system.specs.Strength.{covers, may_downgrade, may_upgrade}
 use Rattle.mdl_system.proofs.StrengthLemmas.{upgrade-raises}
 use Rattle.mdl_calls.specs.declared.space_error.SpaceError.{SpaceError}
 use Rattle.mdl_calls.specs.declared.space_error.SpaceError.TheVariants.{AlreadyWaiting, BadMode, NotHeld, NotUpgradable}
-use Rattle.mdl_calls.specs.Words.{Downgrade, Upgrade_now, Merge, IsCause, Knowledge, MayDowngrade, MayNotDowngrade, MayUpgrade, MayNotUpgrade, Mergeable, OfHeld, Own as Mine, holds, is_waiting, may_merge as may_merge_told}
+use Rattle.mdl_calls.specs.Words.{Downgrade, Upgrade_now, Merge, IsCause, Knowledge, MayDowngrade, MayNotDowngrade, MayUpgrade, MayNotUpgrade, Mergeable, OfHeld, SessionLocks, holds, is_waiting, may_merge as may_merge_told}
 use Rattle.mdl_steps.specs.declared.view.Ask.{Ask}
 use Rattle.mdl_steps.specs.declared.view.Known.{Known}
 use Rattle.mdl_steps.specs.declared.view.Own.{Own}
@@ -107,7 +107,7 @@ module _ (m : SessionView) where
   abbrev pub knows : Knowledge
   knows = Knows (space_of m) m.me.0.number
 
-  abbrev pub own : Mine
+  abbrev pub own : SessionLocks
   own = (space_of m).own
 
   -- a downgrade

@@ -5,7 +5,7 @@ use Rattle.mdl_key.specs.declared.mode.Mode.{Mode}
 use Rattle.mdl_calls.specs.declared.answers.Settled.{Settled}
 use Rattle.mdl_calls.specs.declared.space_error.SpaceError.{SpaceError}
 use Rattle.mdl_calls.specs.declared.space_error.SpaceError.TheVariants.{Full, OutOfMemory}
-use Rattle.mdl_calls.specs.Own.{DrawsTicket, gaining, ticket_drawn, wait_drawn}
+use Rattle.mdl_calls.specs.SessionLocks.{DrawsTicket, gaining, ticket_drawn, wait_drawn}
 use Rattle.mdl_calls.specs.Words.{Granted, Refused, Waits, Would_wait, Call, Begin_wait, Try_now, Draws, IsCause, IsExplained, IsFit, caller, is_answer_of, is_waiting, own_after, told}
 use Rattle.mdl_steps.specs.declared.deed.Deed.TheVariants.{Gain}
 use Rattle.mdl_steps.specs.declared.view.Met.{Met}

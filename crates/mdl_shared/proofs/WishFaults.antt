@@ -8,7 +8,7 @@ use Rattle.mdl_key.specs.Words.{is_mode_of}
 use Rattle.mdl_system.specs.Strength.{covers}
 use Rattle.mdl_calls.specs.declared.space_error.SpaceError.{SpaceError}
 use Rattle.mdl_calls.specs.declared.space_error.SpaceError.TheVariants.{AlreadyWaiting, BadMode, CounterFull, NoPlace, NotHeld}
-use Rattle.mdl_calls.specs.Words.{IsFit, IsUnfit, IsUnknown, Knowledge, MayClone, MayNotClone, OfHeld, Own as Mine, holds, is_waiting}
+use Rattle.mdl_calls.specs.Words.{IsFit, IsUnfit, IsUnknown, Knowledge, MayClone, MayNotClone, OfHeld, SessionLocks, holds, is_waiting}
 use Rattle.mdl_steps.specs.declared.view.Ask.{Ask}
 use Rattle.mdl_steps.specs.declared.view.Known.{Known}
 use Rattle.mdl_steps.specs.declared.view.Own.{Own}
@@ -55,7 +55,7 @@ module _ (m : SessionView) where
   abbrev knows : Knowledge
   knows = Knows (space_of m) m.me.0.number
 
-  abbrev own : Mine
+  abbrev own : SessionLocks
   own = (space_of m).own
 
   waits-not : is_some m.me.0.asks ≡ false → is_waiting own ≡ false

@@ -22,7 +22,7 @@ use Rattle.mdl_book.specs.Tickets.{is_ticket, ticket_of, without}
 use Rattle.mdl_book.proofs.FastLemmas.{may_stand-none}
 use Rattle.mdl_book.proofs.TicketLemmas.{none_at, parted, find-passes, find-contains, All-without}
 use Rattle.mdl_calls.specs.declared.answers.Held.{Held}
-use Rattle.mdl_calls.specs.Own.{are_rising, is_number}
+use Rattle.mdl_calls.specs.SessionLocks.{are_rising, is_number}
 use Rattle.mdl_core.specs.CoreCalls.{is_lower}
 use Rattle.mdl_core.specs.Words.{Core, SpeaksFor, IsTied, altering, book_at, seat_at, has_key, in_book_of}
 use Rattle.mdl_system.specs.Strength.{covers, may_downgrade}

@@ -12,7 +12,7 @@ use Rattle.std.proofs.lemmas.List.Quantifiers.{position-Some}
 use Rattle.mdl_key.specs.declared.mode.Mode.TheVariants.{X}
 use Rattle.mdl_book.proofs.TicketLemmas.{none_at}
 use Rattle.mdl_calls.specs.declared.answers.Held.{Held}
-use Rattle.mdl_calls.specs.Own.{are_rising, is_number}
+use Rattle.mdl_calls.specs.SessionLocks.{are_rising, is_number}
 
 below_at : (n : ℕ) (xs : List Held) (j : ℕ) (d : Held) → IsTrue (list_all (λ other. nat_lt n other.id) xs) → j < length xs → n < (get_or xs j d).id
 below_at n [] j d above inside = absurd (omega arith)

@@ -13,7 +13,7 @@ use Rattle.mdl_calls.specs.declared.answers.Held.{Held}
 use Rattle.mdl_calls.specs.declared.answers.Settled.{Settled}
 use Rattle.mdl_calls.specs.declared.answers.Settled.TheVariants as settled_as
 use Rattle.mdl_core.specs.declared.pending.Pending.{Pending}
-use Rattle.mdl_calls.specs.Own.{is_number}
+use Rattle.mdl_calls.specs.SessionLocks.{is_number}
 use Rattle.mdl_core.specs.Words.{SeatView, ticket_of_wait, Core, book_at, seat_at, key_at, has_key, system_of, SpeaksFor, IsTied, Has, Awaits, in_book_of, holding_of}
 use Rattle.mdl_system.specs.Words.{of_lock, covers}
 use Rattle.mdl_system.proofs.BookLemmas.{compatible-Decides}

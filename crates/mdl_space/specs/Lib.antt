@@ -2,7 +2,7 @@
 pub use Rattle.mdl_calls.specs.AllCalls
 pub use Rattle.mdl_calls.specs.Causes
 pub use Rattle.mdl_calls.specs.Interface
-pub use Rattle.mdl_calls.specs.Own
+pub use Rattle.mdl_calls.specs.SessionLocks
 pub use Rattle.mdl_calls.specs.Runs
 pub use Rattle.mdl_calls.specs.Searches
 pub use Rattle.mdl_calls.specs.Waits

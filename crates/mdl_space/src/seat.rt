@@ -1,7 +1,7 @@
 //! What a lock space keeps of one session.
 ghost use Rattle.std.specs.Prelude.{◌≡◌, ℕ, ◌+◌, ◌<◌, ◌^◌, find, position, Some, None, IsTrue, OnOk, OnErr, IsOkUnless};
 ghost use Rattle.mdl_key.specs.declared.mode.Mode.{Mode};
-ghost use Rattle.mdl_calls.specs.Own.{are_rising, is_number};
+ghost use Rattle.mdl_calls.specs.SessionLocks.{are_rising, is_number};
 ghost use Rattle.mdl_core.specs.Seats.{SeatView, empty_seat, holding, without_ticket, beginning_wait, is_closed, is_open, settling, without_wait, with_ticket_in, with_ticket_of};
 
 use crate::{Held, Place, Settled, SpaceError, TicketId};

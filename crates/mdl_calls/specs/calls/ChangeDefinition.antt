@@ -9,7 +9,7 @@ use Rattle.mdl_calls.specs.declared.answers.Held.{Held}
 use Rattle.mdl_calls.specs.declared.space_error.SpaceError.{SpaceError}
 use Rattle.mdl_calls.specs.declared.space_error.SpaceError.TheVariants.{NotHeld, NotExclusive, VersionFull, Def, WrongKind, OutOfMemory}
 use Rattle.mdl_calls.specs.Interface.{change_takes_memory, Answer, Refused, Changed}
-use Rattle.mdl_calls.specs.Own.{Own, ticket_held, holds}
+use Rattle.mdl_calls.specs.SessionLocks.{SessionLocks, ticket_held, holds}
 use Rattle.mdl_calls.specs.Causes.{Knowledge, OfHeld}
 use Rattle.mdl_calls.specs.SessionData.{SessionData}
 use Rattle.mdl_calls.specs.Meetings.{ReadsNothing, ChangesThere, IsRefusedFor}
@@ -22,11 +22,11 @@ answers (Changed version) = true
 answers _ = false
 
 -- the ticket is held in mode X
-abbrev pub IsExclusive : ℕ → Own → Type 0
+abbrev pub IsExclusive : ℕ → SessionLocks → Type 0
 IsExclusive id own = OfHeld id own (λ ticket. same_mode ticket.mode X ≡ true)
 
 -- why it is refused. That memory ran out is told as such, and never as a fault of the definition.
-abbrev pub cause : ℕ → Change → SpaceError → Knowledge → Own → Type 0
+abbrev pub cause : ℕ → Change → SpaceError → Knowledge → SessionLocks → Type 0
 cause id change NotHeld knows own = holds id own ≡ false
 cause id change NotExclusive knows own = OfHeld id own (λ ticket. same_mode ticket.mode X ≡ false)
 cause id change VersionFull knows own = IsExclusive id own

@@ -6,7 +6,7 @@ use Rattle.mdl_key.specs.declared.mode.Mode.{Mode}
 use Rattle.mdl_calls.specs.declared.space_error.SpaceError.{SpaceError}
 use Rattle.mdl_calls.specs.declared.space_error.SpaceError.TheVariants.{NotHeld, AlreadyWaiting, BadMode, CounterFull, Full, OutOfMemory}
 use Rattle.mdl_calls.specs.Interface.{Answer, Refused, Granted}
-use Rattle.mdl_calls.specs.Own.{Own, holds, is_waiting}
+use Rattle.mdl_calls.specs.SessionLocks.{SessionLocks, holds, is_waiting}
 use Rattle.mdl_calls.specs.Effects.{Effect, Keeps, Clones}
 use Rattle.mdl_calls.specs.Causes.{Knowledge, OfHeld, MayClone, MayNotClone}
 use Rattle.mdl_calls.specs.CallSpec.{CallSpec, unchanged}
@@ -18,11 +18,11 @@ answers (Granted copy) = true
 answers _ = false
 
 -- the caller has no wait, and holds the ticket, which may be cloned so
-abbrev pub clear : ℕ → Mode → Knowledge → Own → Type 0
+abbrev pub clear : ℕ → Mode → Knowledge → SessionLocks → Type 0
 clear id mode knows own = (is_waiting own ≡ false) × OfHeld id own (MayClone knows mode)
 
 -- why it is refused
-abbrev pub cause : ℕ → Mode → SpaceError → Knowledge → Own → Type 0
+abbrev pub cause : ℕ → Mode → SpaceError → Knowledge → SessionLocks → Type 0
 cause id mode NotHeld knows own = holds id own ≡ false
 cause id mode AlreadyWaiting knows own = (holds id own ≡ true) × (is_waiting own ≡ true)
 cause id mode BadMode knows own = (is_waiting own ≡ false) × OfHeld id own (MayNotClone knows mode)

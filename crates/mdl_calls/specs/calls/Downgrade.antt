@@ -5,7 +5,7 @@ use Rattle.mdl_key.specs.declared.mode.Mode.{Mode}
 use Rattle.mdl_calls.specs.declared.space_error.SpaceError.{SpaceError}
 use Rattle.mdl_calls.specs.declared.space_error.SpaceError.TheVariants.{NotHeld, NotUpgradable}
 use Rattle.mdl_calls.specs.Interface.{Answer, Refused, Done}
-use Rattle.mdl_calls.specs.Own.{Own, holds}
+use Rattle.mdl_calls.specs.SessionLocks.{SessionLocks, holds}
 use Rattle.mdl_calls.specs.Effects.{Effect, Keeps, Lowers}
 use Rattle.mdl_calls.specs.Causes.{Knowledge, OfHeld, MayDowngrade, MayNotDowngrade}
 use Rattle.mdl_calls.specs.CallSpec.{CallSpec, unchanged}
@@ -17,7 +17,7 @@ answers Done = true
 answers _ = false
 
 -- why it is refused
-abbrev pub cause : ℕ → Mode → SpaceError → Knowledge → Own → Type 0
+abbrev pub cause : ℕ → Mode → SpaceError → Knowledge → SessionLocks → Type 0
 cause id mode NotHeld knows own = holds id own ≡ false
 cause id mode NotUpgradable knows own = OfHeld id own (MayNotDowngrade knows mode)
 cause id mode _ knows own = ⊥

@@ -6,7 +6,7 @@ use Rattle.mdl_calls.specs.declared.answers.Settled.TheVariants as settled_as
 use Rattle.mdl_calls.specs.declared.space_error.SpaceError.{SpaceError}
 use Rattle.mdl_calls.specs.declared.space_error.SpaceError.TheVariants.{NoWait, Unsettled}
 use Rattle.mdl_calls.specs.Interface.{Answer, Refused, Granted, Lost}
-use Rattle.mdl_calls.specs.Own.{Own, is_waiting}
+use Rattle.mdl_calls.specs.SessionLocks.{SessionLocks, is_waiting}
 use Rattle.mdl_calls.specs.Effects.{Effect, Keeps, Wins, Ends}
 use Rattle.mdl_calls.specs.Causes.{Knowledge}
 use Rattle.mdl_calls.specs.Waits.{IsEndOf}
@@ -21,7 +21,7 @@ answers (Lost how) = true
 answers _ = false
 
 -- why it is refused
-abbrev pub cause : SpaceError → Knowledge → Own → Type 0
+abbrev pub cause : SpaceError → Knowledge → SessionLocks → Type 0
 cause NoWait knows own = is_waiting own ≡ false
 cause Unsettled knows own = is_waiting own ≡ true
 cause _ knows own = ⊥

@@ -3,7 +3,7 @@ use Rattle.std.specs.Prelude.{◌≡◌, ℕ, Bool, true, false, Some}
 use Rattle.mdl_calls.specs.declared.space_error.SpaceError.{SpaceError}
 use Rattle.mdl_calls.specs.declared.space_error.SpaceError.TheVariants.{NoPlace, OutOfMemory}
 use Rattle.mdl_calls.specs.Interface.{Answer, Refused, Key_is}
-use Rattle.mdl_calls.specs.Own.{Own}
+use Rattle.mdl_calls.specs.SessionLocks.{SessionLocks}
 use Rattle.mdl_calls.specs.Causes.{Knowledge, IsUnknown}
 use Rattle.mdl_calls.specs.SessionData.{SessionData, key_known}
 use Rattle.mdl_calls.specs.CallSpec.{CallSpec, unchanged}
@@ -15,7 +15,7 @@ answers (Key_is key) = true
 answers _ = false
 
 -- why it is refused
-abbrev pub cause : ℕ → SpaceError → Knowledge → Own → Type 0
+abbrev pub cause : ℕ → SpaceError → Knowledge → SessionLocks → Type 0
 cause place NoPlace knows own = IsUnknown knows place
 cause place OutOfMemory knows own = Unit {0}
 cause place _ knows own = ⊥

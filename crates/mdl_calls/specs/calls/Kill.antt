@@ -3,7 +3,7 @@
 use Rattle.std.specs.Prelude.{◌≡◌, ℕ, Bool, true, false, Some, None, is_some}
 use Rattle.mdl_calls.specs.declared.answers.Settled.TheVariants as settled_as
 use Rattle.mdl_calls.specs.Interface.{Answer, Has_killed}
-use Rattle.mdl_calls.specs.Own.{wait_number}
+use Rattle.mdl_calls.specs.SessionLocks.{wait_number}
 use Rattle.mdl_calls.specs.SessionData.{SessionData}
 use Rattle.mdl_calls.specs.CallSpec.{CallSpec, unchanged}
 

@@ -4,7 +4,7 @@ use Rattle.std.specs.Prelude.{◌≡◌, ℕ, Bool, true, false, ◌&&◌}
 use Rattle.mdl_calls.specs.declared.space_error.SpaceError.{SpaceError}
 use Rattle.mdl_calls.specs.declared.space_error.SpaceError.TheVariants.{NotHeld, AlreadyWaiting, BadMode, Full, OutOfMemory}
 use Rattle.mdl_calls.specs.Interface.{Answer, Refused, Done}
-use Rattle.mdl_calls.specs.Own.{Own, holds, is_waiting}
+use Rattle.mdl_calls.specs.SessionLocks.{SessionLocks, holds, is_waiting}
 use Rattle.mdl_calls.specs.Effects.{Effect, Keeps, Merges}
 use Rattle.mdl_calls.specs.Causes.{Knowledge, Mergeable}
 use Rattle.mdl_calls.specs.CallSpec.{CallSpec, unchanged}
@@ -16,11 +16,11 @@ answers Done = true
 answers _ = false
 
 -- the caller has no wait, and holds both tickets, which may be merged
-abbrev pub clear : ℕ → ℕ → Knowledge → Own → Type 0
+abbrev pub clear : ℕ → ℕ → Knowledge → SessionLocks → Type 0
 clear old new knows own = (is_waiting own ≡ false) × Mergeable true old new own
 
 -- why it is refused
-abbrev pub cause : ℕ → ℕ → SpaceError → Knowledge → Own → Type 0
+abbrev pub cause : ℕ → ℕ → SpaceError → Knowledge → SessionLocks → Type 0
 cause old new NotHeld knows own = (holds old own && holds new own) ≡ false
 cause old new AlreadyWaiting knows own = ((holds old own && holds new own) ≡ true) × (is_waiting own ≡ true)
 cause old new BadMode knows own = (is_waiting own ≡ false) × Mergeable false old new own

@@ -2,7 +2,7 @@
 use Rattle.std.specs.Prelude.{◌≡◌, ℕ, Bool, true, false, Option, Some, None}
 use Rattle.mdl_calls.specs.declared.answers.Settled.{Settled}
 use Rattle.mdl_calls.specs.Interface.{Answer, Refused, Pending, Is_settled}
-use Rattle.mdl_calls.specs.Own.{is_waiting}
+use Rattle.mdl_calls.specs.SessionLocks.{is_waiting}
 use Rattle.mdl_calls.specs.CallSpec.{CallSpec, unchanged, no_wait_cause}
 
 -- its answers

@@ -2,7 +2,7 @@
 -- nothing. It changes no ticket and no wait.
 use Rattle.std.specs.Prelude.{◌≡◌, ℕ, Bool, true, false, Some}
 use Rattle.mdl_calls.specs.Interface.{Answer, Refused, Reads}
-use Rattle.mdl_calls.specs.Own.{holds}
+use Rattle.mdl_calls.specs.SessionLocks.{holds}
 use Rattle.mdl_calls.specs.Causes.{OfHeld}
 use Rattle.mdl_calls.specs.SessionData.{SessionData}
 use Rattle.mdl_calls.specs.Meetings.{ReadsNothing, ReadsThere}

@@ -2,7 +2,7 @@
 -- and reads nothing.
 use Rattle.std.specs.Prelude.{◌≡◌, ℕ, Bool, true, false}
 use Rattle.mdl_calls.specs.Interface.{Answer, Refused, Done}
-use Rattle.mdl_calls.specs.Own.{holds}
+use Rattle.mdl_calls.specs.SessionLocks.{holds}
 use Rattle.mdl_calls.specs.Effects.{Effect, Keeps, GivesUp}
 use Rattle.mdl_calls.specs.CallSpec.{CallSpec, unchanged, no_ticket_cause}
 

@@ -5,7 +5,7 @@ use Rattle.mdl_key.specs.Words.{KeyName}
 use Rattle.mdl_calls.specs.declared.space_error.SpaceError.{SpaceError}
 use Rattle.mdl_calls.specs.declared.space_error.SpaceError.TheVariants.{NoPlace, OutOfMemory}
 use Rattle.mdl_calls.specs.Interface.{Answer, Refused, At_place}
-use Rattle.mdl_calls.specs.Own.{Own}
+use Rattle.mdl_calls.specs.SessionLocks.{SessionLocks}
 use Rattle.mdl_calls.specs.Causes.{Knowledge, IsUnplaced}
 use Rattle.mdl_calls.specs.SessionData.{KnownKey, place_known}
 use Rattle.mdl_calls.specs.Learning.{LearnsPlace}
@@ -18,7 +18,7 @@ answers (At_place place) = true
 answers _ = false
 
 -- why it is refused
-abbrev pub cause : KeyName → SpaceError → Knowledge → Own → Type 0
+abbrev pub cause : KeyName → SpaceError → Knowledge → SessionLocks → Type 0
 cause key NoPlace knows own = IsUnplaced knows key
 cause key OutOfMemory knows own = Unit {0}
 cause key _ knows own = ⊥

@@ -5,7 +5,7 @@ use Rattle.mdl_calls.specs.declared.answers.Settled.{Settled}
 use Rattle.mdl_calls.specs.declared.answers.Settled.TheVariants as settled_as
 use Rattle.mdl_calls.specs.declared.answers.TimedOut.TheVariants.{ByThisCall, Already}
 use Rattle.mdl_calls.specs.Interface.{Answer, Refused, Timed_out}
-use Rattle.mdl_calls.specs.Own.{is_waiting}
+use Rattle.mdl_calls.specs.SessionLocks.{is_waiting}
 use Rattle.mdl_calls.specs.CallSpec.{CallSpec, unchanged, no_wait_cause}
 
 -- its answers

@@ -4,7 +4,7 @@ use Rattle.std.specs.Prelude.{ℕ, Bool, true, false}
 use Rattle.mdl_calls.specs.declared.space_error.SpaceError.{SpaceError}
 use Rattle.mdl_calls.specs.declared.space_error.SpaceError.TheVariants.{NoPlace, InUse}
 use Rattle.mdl_calls.specs.Interface.{Answer, Refused, Done}
-use Rattle.mdl_calls.specs.Own.{Own}
+use Rattle.mdl_calls.specs.SessionLocks.{SessionLocks}
 use Rattle.mdl_calls.specs.Causes.{Knowledge}
 use Rattle.mdl_calls.specs.CallSpec.{CallSpec, unchanged}
 
@@ -16,7 +16,7 @@ answers _ = false
 
 -- why it is refused. A session may know the key of a place that it doesn't pin, so this says nothing: that there was no pin is a law of its own (`unpins_none`),
 -- and that the place was in use another one (`unpins_in_use`).
-abbrev pub cause : SpaceError → Knowledge → Own → Type 0
+abbrev pub cause : SpaceError → Knowledge → SessionLocks → Type 0
 cause NoPlace knows own = Unit {0}
 cause InUse knows own = Unit {0}
 cause _ knows own = ⊥

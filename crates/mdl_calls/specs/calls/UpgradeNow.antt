@@ -7,7 +7,7 @@ use Rattle.mdl_system.specs.Strength.{covers}
 use Rattle.mdl_calls.specs.declared.space_error.SpaceError.{SpaceError}
 use Rattle.mdl_calls.specs.declared.space_error.SpaceError.TheVariants.{NotHeld, NotUpgradable, AlreadyWaiting, Full, OutOfMemory}
 use Rattle.mdl_calls.specs.Interface.{Answer, Refused, Would_wait, Upgraded}
-use Rattle.mdl_calls.specs.Own.{Own, holds, is_waiting}
+use Rattle.mdl_calls.specs.SessionLocks.{SessionLocks, holds, is_waiting}
 use Rattle.mdl_calls.specs.Effects.{Effect, Keeps, Raises}
 use Rattle.mdl_calls.specs.Causes.{Knowledge, OfHeld, MayUpgrade, MayNotUpgrade}
 use Rattle.mdl_calls.specs.SessionData.{SessionData}
@@ -21,11 +21,11 @@ answers Would_wait = true
 answers _ = false
 
 -- the caller has no wait, and holds the ticket, which may be upgraded so
-abbrev pub clear : ℕ → Mode → Knowledge → Own → Type 0
+abbrev pub clear : ℕ → Mode → Knowledge → SessionLocks → Type 0
 clear id mode knows own = (is_waiting own ≡ false) × OfHeld id own (MayUpgrade knows mode)
 
 -- why it is refused
-abbrev pub cause : ℕ → Mode → SpaceError → Knowledge → Own → Type 0
+abbrev pub cause : ℕ → Mode → SpaceError → Knowledge → SessionLocks → Type 0
 cause id mode NotHeld knows own = holds id own ≡ false
 cause id mode NotUpgradable knows own = OfHeld id own (MayNotUpgrade knows mode)
 cause id mode AlreadyWaiting knows own = (is_waiting own ≡ true) × OfHeld id own (MayUpgrade knows mode)

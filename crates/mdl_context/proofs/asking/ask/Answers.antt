@@ -1,13 +1,13 @@
 -- The ticket is gained, or it is waited for, or nothing has changed.
 use Rattle.std.proofs.Common.{refl, ap, ◌∙◌}
-use Rattle.mdl_calls.specs.Own.{Own}
+use Rattle.mdl_calls.specs.SessionLocks.{SessionLocks}
 use Rattle.mdl_context.specs.Gains.{own_got}
 use Rattle.mdl_context.proofs.asking.ask.Goals as goal
 
 pub wait_at-requires-clause-idle : goal.wait_at-requires-clause-idle
 wait_at-requires-clause-idle g c =
     let arm = c.in-Ok-WouldWait in
-    ap (λ (own : Own). own.wait) (g.met.S.LockSpace.laws.changes _ _ _ _ _ refl (rw (arm.is, arm.field-0-is) at c.try_now.ensures)) ∙ c.requires.idle
+    ap (λ (own : SessionLocks). own.wait) (g.met.S.LockSpace.laws.changes _ _ _ _ _ refl (rw (arm.is, arm.field-0-is) at c.try_now.ensures)) ∙ c.requires.idle
 
 pub returns-in-Ok-Granted-clause-own : goal.returns-in-Ok-Granted-clause-own
 returns-in-Ok-Granted-clause-own g c =

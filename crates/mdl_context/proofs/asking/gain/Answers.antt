@@ -1,6 +1,6 @@
 -- The copy is gained, or a new ticket, or nothing has changed.
 use Rattle.std.proofs.Common.{refl, ap, ◌∙◌}
-use Rattle.mdl_calls.specs.Own.{cloning, gaining}
+use Rattle.mdl_calls.specs.SessionLocks.{cloning, gaining}
 use Rattle.mdl_context.proofs.asking.gain.Goals as goal
 
 pub returns-in-Ok-clause-own : goal.returns-in-Ok-clause-own

@@ -1,6 +1,6 @@
 -- The ticket is gained, or the wait begins, or nothing has changed.
 use Rattle.std.proofs.Common.{refl, ap}
-use Rattle.mdl_calls.specs.Own.{is_waiting}
+use Rattle.mdl_calls.specs.SessionLocks.{is_waiting}
 use Rattle.mdl_context.proofs.GainLemmas.{own-waited}
 use Rattle.mdl_context.proofs.asking.wait_at.Goals as goal
 

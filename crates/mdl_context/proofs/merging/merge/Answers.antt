@@ -1,7 +1,7 @@
 -- The new ticket is merged, or released.
 use Rattle.std.proofs.Common.{refl, ap, ◌∙◌}
 use Rattle.mdl_calls.specs.Causes.{Knowledge}
-use Rattle.mdl_calls.specs.Own.{holds, giving_up}
+use Rattle.mdl_calls.specs.SessionLocks.{holds, giving_up}
 use Rattle.mdl_context.proofs.MergeLemmas.{holds-second, refused-merge}
 use Rattle.mdl_context.proofs.merging.merge.Goals as goal
 

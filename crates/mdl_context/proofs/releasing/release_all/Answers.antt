@@ -1,7 +1,7 @@
 -- Each ticket that goes is still held when it is its turn.
 use Rattle.std.proofs.Common.{get_or, sym, ap, ◌∙◌}
 use Rattle.std.specs.Prelude.{map}
-use Rattle.mdl_calls.specs.Own.{Own}
+use Rattle.mdl_calls.specs.SessionLocks.{SessionLocks}
 use Rattle.mdl_context.specs.Contexts.{held_of}
 use Rattle.mdl_context.specs.Goings.{goes}
 use Rattle.mdl_context.proofs.ReleaseLemmas.{no_item, own_item, run-goes, run-stays, left-stays, holds-here, held-goes}
@@ -20,7 +20,7 @@ loop-ticket-preserved g c =
     let i = c.loop-ticket.ticket-index in
     let t = get_or items i no_item in
     let is = own_item items i no_item c.loop-ticket-test.true in
-    let now : Own = g.S.LockSpace.own c.loop-ticket.space c.args.who in
+    let now : SessionLocks = g.S.LockSpace.own c.loop-ticket.space c.args.who in
     let known = c.loop-ticket.invariant in
     elim c.if-names.branch [
       | then-names w ↦
@@ -29,9 +29,9 @@ loop-ticket-preserved g c =
             speaks = w.release.ensures.speaks;
             remembers = λ place key knew. w.release.ensures.remembers place key (known.remembers place key knew);
             run = λ b rest. known.run b (run-goes p items i t c.loop-ticket-test.true is g.S.LockSpace.joins c.args.who c.loop-ticket.space w.release.new.space b goes_now w.release.ensures.released rest);
-            held = ap (λ (own : Own). own.held) w.release.ensures.own
+            held = ap (λ (own : SessionLocks). own.held) w.release.ensures.own
                 ∙ held-goes p items i t c.loop-ticket-test.true is now (g.met.S.LockSpace.laws.rising _ _ known.speaks) known.held goes_now;
-            wait = ap (λ (own : Own). own.wait) w.release.ensures.own ∙ known.wait;
+            wait = ap (λ (own : SessionLocks). own.wait) w.release.ensures.own ∙ known.wait;
           })
       | else-names w ↦
           let stays_now = sym c.names.ensures ∙ w.if-names.false in

@@ -2,7 +2,7 @@
 use Rattle.std.proofs.Common.{◌≡◌, Ok, Err, refl, sym, ap, ◌∙◌, subst}
 use Rattle.mdl_calls.specs.Causes.{Knowledge}
 use Rattle.mdl_calls.specs.Words.{Refused, Upgraded, Would_wait, Runs}
-use Rattle.mdl_calls.specs.Own.{upgraded}
+use Rattle.mdl_calls.specs.SessionLocks.{upgraded}
 use Rattle.mdl_context.specs.declared.context_error.ContextError.TheVariants.{Space}
 use Rattle.mdl_context.specs.declared.kept.Wanted.{Wanted}
 use Rattle.mdl_context.specs.declared.request.Acquire.{Acquire}

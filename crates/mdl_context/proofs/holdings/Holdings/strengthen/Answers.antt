@@ -2,7 +2,7 @@
 use Rattle.std.proofs.Common.{◌≡◌, Some, None, sym, ap, ◌∙◌, refl}
 use Rattle.std.specs.Prelude.{position, slice_set}
 use Rattle.std.proofs.lemmas.List.{length-set}
-use Rattle.mdl_calls.specs.Own.{upgraded}
+use Rattle.mdl_calls.specs.SessionLocks.{upgraded}
 use Rattle.mdl_context.specs.Contexts.{AreRising}
 use Rattle.mdl_context.specs.Holdings.{is_ticket, in_mode}
 use Rattle.mdl_context.proofs.ModeLemmas.{in_mode-at, in_mode-none, numbers-in_mode, upgraded-weaker, upgraded-covered}

@@ -1,7 +1,7 @@
 -- The held ticket keeps all away that clash with it, and so all that clash with what it covers.
 use Rattle.std.proofs.Common.{◌≡◌, ap}
 use Rattle.mdl_core.specs.Cores.{Core, seat_at}
-use Rattle.mdl_calls.specs.Own.{is_number}
+use Rattle.mdl_calls.specs.SessionLocks.{is_number}
 use Rattle.mdl_space.proofs.ServingLemmas.{seat_here}
 use Rattle.mdl_space.proofs.SpeakingLemmas.{found_among, held-found, held-stands, clone-compatible}
 use Rattle.mdl_space.proofs.core_space.CoreSpace.clone_held.Goals as goal

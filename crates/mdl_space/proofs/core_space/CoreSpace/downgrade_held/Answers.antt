@@ -2,7 +2,7 @@
 use Rattle.std.proofs.Common.{◌≡◌, ap, sym, ◌∙◌}
 use Rattle.mdl_core.specs.Cores.{Core, has_key, seat_at}
 use Rattle.mdl_space.proofs.ServingLemmas.{seat_here}
-use Rattle.mdl_calls.specs.Own.{is_number}
+use Rattle.mdl_calls.specs.SessionLocks.{is_number}
 use Rattle.mdl_space.proofs.ModeLemmas.{altered-key, lower-compatible}
 use Rattle.mdl_space.proofs.SpeakingLemmas.{found_among, held-found, held-stands}
 use Rattle.mdl_space.proofs.core_space.CoreSpace.downgrade_held.Goals as goal

@@ -6,7 +6,7 @@ use Rattle.std.specs.Prelude.{IsSome}
 use Rattle.mdl_book.specs.Books.{lock_kind}
 use Rattle.mdl_book.specs.Granting.{is_compatible}
 use Rattle.mdl_book.specs.Tickets.{ticket_of}
-use Rattle.mdl_calls.specs.Own.{is_number}
+use Rattle.mdl_calls.specs.SessionLocks.{is_number}
 use Rattle.mdl_space.proofs.ModeLemmas.{held-compatible}
 use Rattle.mdl_space.proofs.SpeakingLemmas.{found_among, held-found, held-stands}
 use Rattle.mdl_space.proofs.core_space.CoreSpace.merge_held.Goals as goal

@@ -1,7 +1,7 @@
 -- The numbers of the tickets that are left rise.
 use Rattle.std.proofs.Common.{sym, subst}
 use Rattle.std.specs.Prelude.{not, IsTrue}
-use Rattle.mdl_calls.specs.Own.{are_rising, is_number}
+use Rattle.mdl_calls.specs.SessionLocks.{are_rising, is_number}
 use Rattle.mdl_core.specs.Seats.{SeatView}
 use Rattle.mdl_space.proofs.ModeLemmas.{rising_left}
 use Rattle.mdl_space.proofs.seat.Seat.fold.Goals as goal

@@ -2,7 +2,7 @@
 use Rattle.std.proofs.Common.{List, sym, ap, ◌∙◌}
 use Rattle.std.specs.Prelude.{IsTrue}
 use Rattle.mdl_calls.specs.declared.answers.Held.{Held}
-use Rattle.mdl_calls.specs.Own.{are_rising}
+use Rattle.mdl_calls.specs.SessionLocks.{are_rising}
 use Rattle.mdl_core.specs.Seats.{SeatView}
 use Rattle.mdl_space.proofs.ModeLemmas.{with_mode_at, with_mode_none}
 use Rattle.mdl_space.proofs.seat.Seat.set_mode.Goals as goal

@@ -1,7 +1,7 @@
 -- What stands at the place is what is found.
 use Rattle.std.proofs.Common.{sym, ◌∙◌}
 use Rattle.mdl_book.proofs.TicketLemmas.{found_at, none_at}
-use Rattle.mdl_calls.specs.Own.{is_number}
+use Rattle.mdl_calls.specs.SessionLocks.{is_number}
 use Rattle.mdl_space.proofs.seat.Seat.ticket.Goals as goal
 
 pub returns-in-Some : goal.returns-in-Some

@@ -13,7 +13,7 @@ pub record Wait : Type 0 where
   pub mode : Mode
 
 -- what a session has: its held tickets, in the order in which it got them, and its wait
-pub record Own : Type 0 where
+pub record SessionLocks : Type 0 where
   pub held : List Held
   pub wait : Option Wait
 
@@ -28,7 +28,7 @@ are_rising [] = true
 are_rising (ticket ∷ later) = list_all (λ other. nat_lt ticket.id other.id) later && are_rising later
 
 -- the numbers of the session's held tickets rise: no two are the same, and the newest ticket has the greatest
-abbrev pub IsRising : Own → Type 0
+abbrev pub IsRising : SessionLocks → Type 0
 IsRising own = IsTrue (are_rising own.held)
 
 -- whether a ticket has this number
@@ -36,49 +36,49 @@ abbrev pub is_number : ℕ → Held → Bool
 is_number id ticket = ticket.id == id
 
 -- the held ticket of a number, if there is one
-abbrev pub ticket_held : ℕ → Own → Option Held
+abbrev pub ticket_held : ℕ → SessionLocks → Option Held
 ticket_held id own = find (is_number id) own.held
 
 -- whether a ticket of this number is held
-abbrev pub holds : ℕ → Own → Bool
+abbrev pub holds : ℕ → SessionLocks → Bool
 holds id own = is_some (ticket_held id own)
 
 -- the number of the session's wait, if it has one
-abbrev pub wait_number : Own → Option ℕ
+abbrev pub wait_number : SessionLocks → Option ℕ
 wait_number own = option_map (λ wait. wait.number) own.wait
 
 -- whether the session has a wait
-abbrev pub is_waiting : Own → Bool
+abbrev pub is_waiting : SessionLocks → Bool
 is_waiting own = is_some own.wait
 
 -- what the session has after it got one more ticket
-abbrev pub gaining : ℕ → ℕ → Mode → Own → Own
+abbrev pub gaining : ℕ → ℕ → Mode → SessionLocks → SessionLocks
 gaining id place mode own = record own { held = own.held ++ record { id = id; place = place; mode = mode } ∷ [] }
 
 -- what it has after a wait began
-abbrev pub waiting : ℕ → ℕ → Mode → Own → Own
+abbrev pub waiting : ℕ → ℕ → Mode → SessionLocks → SessionLocks
 waiting number place mode own = record own { wait = Some (record { number = number; place = place; mode = mode }) }
 
 -- what it has after its wait ended without a ticket
-abbrev pub ending : Own → Own
+abbrev pub ending : SessionLocks → SessionLocks
 ending own = record own { wait = None }
 
 -- what it has after its wait ended with the ticket that it waited for
-abbrev pub winning : ℕ → Option Wait → Own → Own
+abbrev pub winning : ℕ → Option Wait → SessionLocks → SessionLocks
 winning id None own = own
 winning id (Some wait) own = gaining id wait.place wait.mode (ending own)
 
 -- what it has after it released a ticket
-abbrev pub giving_up : ℕ → Own → Own
+abbrev pub giving_up : ℕ → SessionLocks → SessionLocks
 giving_up id own = record own { held = filter (λ ticket. not (is_number id ticket)) own.held }
 
 -- what it has after it got a second ticket at a held one's place
-abbrev pub cloning : ℕ → Mode → Option Held → Own → Own
+abbrev pub cloning : ℕ → Mode → Option Held → SessionLocks → SessionLocks
 cloning id mode None own = own
 cloning id mode (Some ticket) own = gaining id ticket.place mode own
 
 -- what it has after a ticket's mode was changed
-abbrev pub changing : ℕ → (Mode → Mode) → Own → Own
+abbrev pub changing : ℕ → (Mode → Mode) → SessionLocks → SessionLocks
 changing id change own =
     record own { held = map (λ ticket. if is_number id ticket then record ticket { mode = change ticket.mode } else ticket) own.held }
 
@@ -87,7 +87,7 @@ abbrev pub upgraded : Mode → Mode → Mode
 upgraded mode held = if covers held mode then held else mode
 
 -- what it has after a ticket got the mode of another one, which was released
-abbrev pub merging : ℕ → ℕ → Option Held → Own → Own
+abbrev pub merging : ℕ → ℕ → Option Held → SessionLocks → SessionLocks
 merging old new None own = own
 merging old new (Some ticket) own = changing old (λ _. ticket.mode) (giving_up new own)
 
