@@ -113,7 +113,7 @@ impl CoreSpace {
     }
 
     /// Returns the place of a key, which is the next free one if the key is new.
-    pub(crate) fn place_key(&mut self, key: &Key) -> Result<Place, SpaceError>
+    pub(crate) fn resolve(&mut self, key: &Key) -> Result<Place, SpaceError>
         ensures { Makes true (resolving key.now) self.old (placed result) self.new }
     {
         if let Some(place) = self.known.get(key) {
@@ -137,7 +137,7 @@ impl CoreSpace {
     }
 
     /// Returns the key of a place.
-    pub(crate) fn key_at(&self, place: Place) -> Result<Key, SpaceError>
+    pub(crate) fn key_of(&self, place: Place) -> Result<Key, SpaceError>
         ensures { Makes true (naming place) self.now (keyed result) self.now }
     {
         let place = usize::from(place);
@@ -151,7 +151,7 @@ impl CoreSpace {
     }
 
     /// Grants a lock, if it can be granted now.
-    pub(crate) fn try_lock(
+    pub(crate) fn try_now(
         &mut self,
         who: u16,
         place: Place,
@@ -173,7 +173,7 @@ impl CoreSpace {
     }
 
     /// Grants a lock, or begins a wait for it if it can't be granted now.
-    pub(crate) fn begin_lock(
+    pub(crate) fn begin_wait(
         &mut self,
         who: u16,
         place: Place,
@@ -198,7 +198,7 @@ impl CoreSpace {
     }
 
     /// Searches for a deadlock that a session is part of, and settles the wait of its victim.
-    pub(crate) fn find_victim(&mut self, who: u16) -> Result<Search, SpaceError>
+    pub(crate) fn search_deadlock(&mut self, who: u16) -> Result<Search, SpaceError>
         requires { SpeaksFor self.old who }
         ensures { Makes true (searching who) self.old (searched result) self.new }
     {
@@ -213,7 +213,7 @@ impl CoreSpace {
     }
 
     /// Returns the state of a session's wait.
-    pub(crate) fn poll(&self, who: u16) -> Result<Poll, SpaceError>
+    pub(crate) fn poll_wait(&self, who: u16) -> Result<Poll, SpaceError>
         requires { has_session who self.now ≡ true }
         ensures { Makes false (polling who) self.now (polled result) self.now }
     {
@@ -227,7 +227,7 @@ impl CoreSpace {
     }
 
     /// Settles a session's wait as a timeout, unless it is settled already.
-    pub(crate) fn time_out(&mut self, who: u16) -> Result<TimedOut, SpaceError>
+    pub(crate) fn settle_timeout(&mut self, who: u16) -> Result<TimedOut, SpaceError>
         requires { has_session who self.old ≡ true }
         ensures { Makes false (timing_out who) self.old (timed_out result) self.new }
     {
@@ -243,7 +243,7 @@ impl CoreSpace {
     }
 
     /// Ends a session's settled wait. If it was granted, the session then holds the ticket.
-    pub(crate) fn finish_wait(&mut self, who: u16) -> Result<Ended, SpaceError>
+    pub(crate) fn end_wait(&mut self, who: u16) -> Result<Ended, SpaceError>
         requires { SpeaksFor self.old who }
         ensures { Makes false (ending who) self.old (ended result) self.new }
     {
@@ -274,7 +274,7 @@ impl CoreSpace {
     }
 
     /// Returns the number of any session's wait.
-    pub(crate) fn wait_number(&self, target: u16) -> Option<u64>
+    pub(crate) fn wait_of(&self, target: u16) -> Option<u64>
         ensures { Makes false (looking_after target) self.now (Has_wait result) self.now }
     {
         if target == 0 || usize::from(target) > self.seats.len() {
@@ -287,7 +287,7 @@ impl CoreSpace {
     }
 
     /// Settles any session's wait of this number as killed, unless it is settled already. Returns whether this call settled it.
-    pub(crate) fn kill_wait(&mut self, target: u16, number: u64) -> bool
+    pub(crate) fn kill(&mut self, target: u16, number: u64) -> bool
         ensures { Makes false (killing target number) self.old (Has_killed result) self.new }
     {
         if target == 0 || usize::from(target) > self.seats.len() {
@@ -305,7 +305,7 @@ impl CoreSpace {
     }
 
     /// Releases a held ticket.
-    pub(crate) fn give_back(&mut self, who: u16, id: TicketId) -> Result<(), SpaceError>
+    pub(crate) fn release(&mut self, who: u16, id: TicketId) -> Result<(), SpaceError>
         requires { SpeaksFor self.old who }
         ensures { Makes false (releasing who id) self.old (done result) self.new }
     {
@@ -317,7 +317,7 @@ impl CoreSpace {
     }
 
     /// Grants a second ticket at a held one's place.
-    pub(crate) fn clone_held(
+    pub(crate) fn clone_ticket(
         &mut self,
         who: u16,
         id: TicketId,
@@ -334,7 +334,7 @@ impl CoreSpace {
     }
 
     /// Returns the tickets that a session holds.
-    pub(crate) fn list_held(&self, who: u16) -> Result<Vec<Held>, SpaceError>
+    pub(crate) fn held(&self, who: u16) -> Result<Vec<Held>, SpaceError>
         requires { has_session who self.now ≡ true }
         ensures { Makes true (listing who) self.now (listed result) self.now }
     {

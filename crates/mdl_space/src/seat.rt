@@ -193,7 +193,7 @@ impl Seat {
         requires { IsTrue (are_rising self.now.held) }
         ensures { result ≡ find (is_number id) self.now.held }
     {
-        match place_of(&self.held, id) {
+        match index_of(&self.held, id) {
             Some(at) => Some(self.held[at]),
             None => None,
         }
@@ -204,7 +204,7 @@ impl Seat {
         requires { IsTrue (are_rising self.old.held) }
         ensures { self.new ≡ without_ticket id self.old }
     {
-        if let Some(at) = place_of(&self.held, id) {
+        if let Some(at) = index_of(&self.held, id) {
             self.held.remove(at);
         }
     }
@@ -214,7 +214,7 @@ impl Seat {
         requires { IsTrue (are_rising self.old.held) }
         ensures { self.new ≡ with_ticket_in id mode self.old }
     {
-        if let Some(at) = place_of(&self.held, id) {
+        if let Some(at) = index_of(&self.held, id) {
             self.held[at].mode = mode;
         }
     }
@@ -230,7 +230,7 @@ impl Seat {
 }
 
 // The index of the ticket of a number, among tickets whose numbers rise.
-fn place_of(held: &[Held], id: TicketId) -> Option<usize>
+fn index_of(held: &[Held], id: TicketId) -> Option<usize>
     requires { IsTrue (are_rising held.now) }
     ensures { result ≡ position (is_number id) held.now }
 {

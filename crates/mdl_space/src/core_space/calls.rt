@@ -38,63 +38,63 @@ impl LockSpace for CoreSpace {
     ghost uses_cache = { λ _ _ _ _ before after _. after ≡ before };
 
     fn resolve(&mut self, _who: u16, key: &Key) -> Result<Place, SpaceError> {
-        self.place_key(key)
+        CoreSpace::resolve(self, key)
     }
 
     fn try_now(&mut self, who: u16, place: Place, mode: Mode) -> Result<Attempt, SpaceError> {
-        self.try_lock(who, place, mode)
+        CoreSpace::try_now(self, who, place, mode)
     }
 
     fn begin_wait(&mut self, who: u16, place: Place, mode: Mode) -> Result<Begun, SpaceError> {
-        self.begin_lock(who, place, mode)
+        CoreSpace::begin_wait(self, who, place, mode)
     }
 
     fn search(&mut self, who: u16) -> Result<Search, SpaceError> {
-        self.find_victim(who)
+        CoreSpace::search_deadlock(self, who)
     }
 
     fn poll_wait(&mut self, who: u16) -> Result<Poll, SpaceError> {
-        self.poll(who)
+        CoreSpace::poll_wait(self, who)
     }
 
     fn settle_timeout(&mut self, who: u16) -> Result<TimedOut, SpaceError> {
-        self.time_out(who)
+        CoreSpace::settle_timeout(self, who)
     }
 
     fn end_wait(&mut self, who: u16) -> Result<Ended, SpaceError> {
-        self.finish_wait(who)
+        CoreSpace::end_wait(self, who)
     }
 
     fn wait_of(&mut self, target: u16) -> Option<u64> {
-        self.wait_number(target)
+        CoreSpace::wait_of(self, target)
     }
 
     fn kill(&mut self, target: u16, number: u64) -> bool {
-        self.kill_wait(target, number)
+        CoreSpace::kill(self, target, number)
     }
 
     fn release(&mut self, who: u16, id: TicketId) -> Result<(), SpaceError> {
-        self.give_back(who, id)
+        CoreSpace::release(self, who, id)
     }
 
     fn clone_ticket(&mut self, who: u16, id: TicketId, mode: Mode) -> Result<TicketId, SpaceError> {
-        self.clone_held(who, id, mode)
+        CoreSpace::clone_ticket(self, who, id, mode)
     }
 
     fn upgrade_now(&mut self, who: u16, id: TicketId, mode: Mode) -> Result<Upgrade, SpaceError> {
-        self.upgrade_held(who, id, mode)
+        CoreSpace::upgrade_now(self, who, id, mode)
     }
 
     fn merge(&mut self, who: u16, old: TicketId, new: TicketId) -> Result<(), SpaceError> {
-        self.merge_held(who, old, new)
+        CoreSpace::merge(self, who, old, new)
     }
 
     fn downgrade(&mut self, who: u16, id: TicketId, mode: Mode) -> Result<(), SpaceError> {
-        self.downgrade_held(who, id, mode)
+        CoreSpace::downgrade(self, who, id, mode)
     }
 
     fn read_definition(&mut self, who: u16, ticket: TicketId) -> Result<Standing, SpaceError> {
-        self.read_held(who, ticket)
+        CoreSpace::read_definition(self, who, ticket)
     }
 
     fn read_kept(
@@ -103,7 +103,7 @@ impl LockSpace for CoreSpace {
         id: TicketId,
         _cache: &mut DefCache,
     ) -> Result<Standing, SpaceError> {
-        self.read_held(who, id)
+        CoreSpace::read_definition(self, who, id)
     }
 
     fn change_definition(
@@ -112,19 +112,19 @@ impl LockSpace for CoreSpace {
         id: TicketId,
         change: &Change,
     ) -> Result<u64, SpaceError> {
-        self.redefine_held(who, id, change)
+        CoreSpace::change_definition(self, who, id, change)
     }
 
     fn key_of(&mut self, _who: u16, place: Place) -> Result<Key, SpaceError> {
-        self.key_at(place)
+        CoreSpace::key_of(self, place)
     }
 
     fn tables_of(&mut self, _who: u16, schema: &str) -> Result<Vec<Place>, SpaceError> {
-        self.list_tables(schema)
+        CoreSpace::tables_of(self, schema)
     }
 
     fn held(&self, who: u16) -> Result<Vec<Held>, SpaceError> {
-        self.list_held(who)
+        CoreSpace::held(self, who)
     }
 
     ghost laws = { core-laws };

@@ -10,7 +10,7 @@ use mdl_key::Mode;
 
 impl CoreSpace {
     /// Returns the version and the definition of the key at a held ticket's place.
-    pub(crate) fn read_held(&self, who: u16, id: TicketId) -> Result<Standing, SpaceError>
+    pub(crate) fn read_definition(&self, who: u16, id: TicketId) -> Result<Standing, SpaceError>
         requires { SpeaksFor self.now who }
         ensures { Makes true (reading who id) self.now (read result) self.now }
     {
@@ -21,7 +21,7 @@ impl CoreSpace {
     }
 
     /// Changes the definition of the key at the place of a ticket that is held in mode X, and returns the new version.
-    pub(crate) fn redefine_held(
+    pub(crate) fn change_definition(
         &mut self,
         who: u16,
         id: TicketId,

@@ -16,7 +16,7 @@ use mdl_system::{covers, may_downgrade, may_upgrade};
 
 impl CoreSpace {
     /// Gives a held ticket a stronger mode, if that can be granted now. It takes no memory.
-    pub(crate) fn upgrade_held(
+    pub(crate) fn upgrade_now(
         &mut self,
         who: u16,
         id: TicketId,
@@ -36,12 +36,7 @@ impl CoreSpace {
     }
 
     /// Gives a held ticket the mode of another one, which is released. It takes no memory.
-    pub(crate) fn merge_held(
-        &mut self,
-        who: u16,
-        old: TicketId,
-        new: TicketId,
-    ) -> Result<(), SpaceError>
+    pub(crate) fn merge(&mut self, who: u16, old: TicketId, new: TicketId) -> Result<(), SpaceError>
         requires { SpeaksFor self.old who }
         ensures { Makes false (merging who old new) self.old (done result) self.new }
     {
@@ -58,12 +53,7 @@ impl CoreSpace {
     }
 
     /// Gives a held ticket a weaker mode, and then grants waiters of its place.
-    pub(crate) fn downgrade_held(
-        &mut self,
-        who: u16,
-        id: TicketId,
-        mode: Mode,
-    ) -> Result<(), SpaceError>
+    pub(crate) fn downgrade(&mut self, who: u16, id: TicketId, mode: Mode) -> Result<(), SpaceError>
         requires { SpeaksFor self.old who }
         ensures { Makes false (downgrading who id mode) self.old (done result) self.new }
     {

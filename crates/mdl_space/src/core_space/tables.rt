@@ -9,7 +9,7 @@ use mdl_key::{Key, Namespace};
 
 impl CoreSpace {
     /// Returns the places of a schema's tables that have a definition, in the order of their keys.
-    pub(crate) fn list_tables(&self, schema: &str) -> Result<Vec<Place>, SpaceError>
+    pub(crate) fn tables_of(&self, schema: &str) -> Result<Vec<Place>, SpaceError>
         ensures { Makes true (telling_tables schema.now) self.now (tables_told result) self.now }
     {
         let mut places = Vec::new(self.alloc);

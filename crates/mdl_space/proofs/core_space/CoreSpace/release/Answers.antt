@@ -3,7 +3,7 @@ use Rattle.std.proofs.Common.{◌≡◌, ap}
 use Rattle.mdl_core.specs.Cores.{Core, seat_at}
 use Rattle.mdl_space.proofs.ServingLemmas.{seat_here}
 use Rattle.mdl_space.proofs.SpeakingLemmas.{held-stands}
-use Rattle.mdl_space.proofs.core_space.CoreSpace.give_back.Goals as goal
+use Rattle.mdl_space.proofs.core_space.CoreSpace.release.Goals as goal
 
 pub free-requires-clause-key : goal.free-requires-clause-key
 free-requires-clause-key c =

@@ -3,8 +3,8 @@ use Rattle.std.proofs.Common.{◌≡◌, Some, true, sym, ◌∙◌, arith}
 use Rattle.mdl_core.specs.Words.{has_session, victim_at}
 use Rattle.mdl_core.proofs.VictimLemmas.{victim-waits}
 use Rattle.mdl_space.proofs.ServingLemmas.{session-bounds}
-use Rattle.mdl_space.proofs.core_space.CoreSpace.find_victim.Goals as goal
-use Rattle.mdl_space.proofs.core_space.CoreSpace.find_victim.Goals.{After-from}
+use Rattle.mdl_space.proofs.core_space.CoreSpace.search_deadlock.Goals as goal
+use Rattle.mdl_space.proofs.core_space.CoreSpace.search_deadlock.Goals.{After-from}
 
 is_session : (c : After-from) → has_session c.in-Ok-Some.victim c.args.self.now ≡ true
 is_session c =

@@ -5,7 +5,7 @@ use Rattle.mdl_space.proofs.ServingLemmas.{seat_here}
 use Rattle.mdl_calls.specs.SessionLocks.{is_number}
 use Rattle.mdl_space.proofs.ModeLemmas.{altered-key, lower-compatible}
 use Rattle.mdl_space.proofs.SpeakingLemmas.{found_among, held-found, held-stands}
-use Rattle.mdl_space.proofs.core_space.CoreSpace.downgrade_held.Goals as goal
+use Rattle.mdl_space.proofs.core_space.CoreSpace.downgrade.Goals as goal
 
 pub is_lower-requires : goal.is_lower-requires
 is_lower-requires c =

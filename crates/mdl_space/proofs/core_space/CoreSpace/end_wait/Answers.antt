@@ -4,7 +4,7 @@ use Rattle.mdl_calls.specs.declared.answers.Settled.TheVariants as settled_as
 use Rattle.mdl_core.specs.Cores.{Core, seat_at}
 use Rattle.mdl_space.proofs.ServingLemmas.{seat_here}
 use Rattle.mdl_space.proofs.SpeakingLemmas.{wait-stands}
-use Rattle.mdl_space.proofs.core_space.CoreSpace.finish_wait.Goals as goal
+use Rattle.mdl_space.proofs.core_space.CoreSpace.end_wait.Goals as goal
 
 pub leave-requires-clause-key : goal.leave-requires-clause-key
 leave-requires-clause-key c =

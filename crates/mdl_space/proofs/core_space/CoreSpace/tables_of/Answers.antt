@@ -4,7 +4,7 @@ use Rattle.std.specs.List.{range_with_len}
 use Rattle.mdl_core.proofs.CoreReads.{of_within}
 use Rattle.mdl_core.specs.Words.{Core, has_defined_table, has_key, in_key_order}
 use Rattle.mdl_space.proofs.TableLemmas.{listed-keys, one-more_listed}
-use Rattle.mdl_space.proofs.core_space.CoreSpace.list_tables.Goals as goal
+use Rattle.mdl_space.proofs.core_space.CoreSpace.tables_of.Goals as goal
 
 pub loop-index-preserved : goal.loop-index-preserved
 loop-index-preserved c =

@@ -2,7 +2,7 @@
 use Rattle.std.proofs.Common.{◌≡◌, ◌+◌, ◌-◌, true, length, All, filter}
 use Rattle.std.specs.List.{range_with_len}
 use Rattle.mdl_core.specs.Words.{has_defined_table, has_key, in_key_order}
-use Rattle.mdl_space.proofs.core_space.CoreSpace.list_tables.Given as goal
+use Rattle.mdl_space.proofs.core_space.CoreSpace.tables_of.Given as goal
 
 abbrev pub invariant-loop-index : goal.invariant-loop-index
 invariant-loop-index l = record {

@@ -9,7 +9,7 @@ use Rattle.mdl_book.specs.Tickets.{ticket_of}
 use Rattle.mdl_calls.specs.SessionLocks.{is_number}
 use Rattle.mdl_space.proofs.ModeLemmas.{held-compatible}
 use Rattle.mdl_space.proofs.SpeakingLemmas.{found_among, held-found, held-stands}
-use Rattle.mdl_space.proofs.core_space.CoreSpace.merge_held.Goals as goal
+use Rattle.mdl_space.proofs.core_space.CoreSpace.merge.Goals as goal
 
 pub fold-requires-clause-key : goal.fold-requires-clause-key
 fold-requires-clause-key c =

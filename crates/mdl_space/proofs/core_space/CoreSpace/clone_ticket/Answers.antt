@@ -4,7 +4,7 @@ use Rattle.mdl_core.specs.Cores.{Core, seat_at}
 use Rattle.mdl_calls.specs.SessionLocks.{is_number}
 use Rattle.mdl_space.proofs.ServingLemmas.{seat_here}
 use Rattle.mdl_space.proofs.SpeakingLemmas.{found_among, held-found, held-stands, clone-compatible}
-use Rattle.mdl_space.proofs.core_space.CoreSpace.clone_held.Goals as goal
+use Rattle.mdl_space.proofs.core_space.CoreSpace.clone_ticket.Goals as goal
 
 pub check_clone-requires-clause-key : goal.check_clone-requires-clause-key
 check_clone-requires-clause-key c =

@@ -3,7 +3,7 @@ use Rattle.std.proofs.Common.{rules, ◌≡◌, ◌+◌, None, Some, cond, lengt
 use Rattle.std.specs.Map.{lookup}
 use Rattle.mdl_key.specs.Keys.{KeyName, key_eq}
 use Rattle.mdl_space.proofs.KnownKeyLemmas.{one_more_known}
-use Rattle.mdl_space.proofs.core_space.CoreSpace.place_key.Goals as goal
+use Rattle.mdl_space.proofs.core_space.CoreSpace.resolve.Goals as goal
 
 pub invariant_of-self-2 : goal.invariant_of-self-2
 invariant_of-self-2 c =

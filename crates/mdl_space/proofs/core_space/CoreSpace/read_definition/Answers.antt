@@ -3,7 +3,7 @@ use Rattle.std.proofs.Common.{◌≡◌, ap}
 use Rattle.mdl_core.specs.Cores.{Core, seat_at}
 use Rattle.mdl_space.proofs.ServingLemmas.{seat_here}
 use Rattle.mdl_space.proofs.SpeakingLemmas.{held-stands}
-use Rattle.mdl_space.proofs.core_space.CoreSpace.read_held.Goals as goal
+use Rattle.mdl_space.proofs.core_space.CoreSpace.read_definition.Goals as goal
 
 pub read_at-requires : goal.read_at-requires
 read_at-requires c =
