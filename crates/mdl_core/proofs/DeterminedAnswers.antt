@@ -19,7 +19,7 @@ use Rattle.mdl_calls.specs.declared.space_error.SpaceError.TheVariants.{NotHeld,
 use Rattle.mdl_calls.specs.Words.{Answer, Refused, Done, Would_wait, No_cycle, Victim_is, Has_wait, Has_killed, Changed, Upgraded, finds_no_memory, Call, Resolve, Try_now, Begin_wait, Search, Poll_wait, Settle_timeout, End_wait, Wait_of, Kill, Release, Clone_ticket, Upgrade_now, Merge, Downgrade, Read_definition, Read_kept, Change_definition, Key_of, Tables_of, List_held, caller, may_merge}
 use Rattle.mdl_core.specs.declared.pending.Pending.{Pending}
 use Rattle.mdl_core.specs.ChangeEvents.{holding_of}
-use Rattle.mdl_core.specs.CoreCalls.{has_call, outcome, refused_or, first_cause, request_causes, clone_causes, granted_unless_full, queued_unless_full, cloning_of, upgrade_causes, upgraded_if_free, upgrading_of, is_lower, downgrading_of, merge_causes, merging_of, held_ticket, releasing_of, standing, polling_of, timing_out_at, timing_out_of, ending_at, ending_of, wait_at, is_open_wait, looking_after, killing, searching_of, searching, victim_at, reading_of, redefining_of, redefining_fault, redefined_unless}
+use Rattle.mdl_core.specs.CoreCalls.{has_call, outcome, refused_or, first_cause, request_causes, clone_causes, granted_unless_full, queued_unless_full, cloning_of, upgrade_causes, upgraded_if_free, upgrading_of, is_lower, downgrading_of, merge_causes, merging_of, held_ticket, releasing_of, poll_answer, polling_of, timing_out_at, timing_out_of, ending_at, ending_of, wait_at, is_open_wait, wait_of_outcome, kill_outcome, searching_of, search_outcome, victim_at, reading_of, redefining_of, redefining_fault, redefined_unless}
 use Rattle.mdl_core.specs.CoreJoins.{SpeaksFor, numbers_at}
 use Rattle.mdl_core.specs.Cores.{Core, book_at, seat_at, key_at, standing_at, has_key, has_session, is_free}
 use Rattle.mdl_core.specs.Changes.{altering, folding, serving}
@@ -62,7 +62,7 @@ both_true p q e f = (λ i. e i && f i)
 
 -- ---- the answers that tell how a wait stands
 
-poll-same : (settled : Option Settled) → standing settled ≡ to_poll settled
+poll-same : (settled : Option Settled) → poll_answer settled ≡ to_poll settled
 poll-same None = refl
 poll-same (Some how) = refl
 
@@ -86,7 +86,7 @@ one-victim a cycle one other (among, (weight, weighs, least)) (among_too, (heavy
     let second = least_too one weight among weighs in
     grind (arith)
 
-searches : (a : Core) (who : ℕ) → IsTied a → IsAnswer (ToSearch (system_of a) who) (searching who a).0
+searches : (a : Core) (who : ℕ) → IsTied a → IsAnswer (ToSearch (system_of a) who) (search_outcome who a).0
 searches a who tied =
     option_cases (λ o. IsAnswer (ToSearch (system_of a) who) (searching_of o a).0) (victim_at who a)
     (λ none. where-not _ _ (Only No_cycle) No_cycle (λ deadlock. nothing-found a who tied none deadlock.0 deadlock.1) (only No_cycle))
@@ -295,11 +295,11 @@ module _ (a : Core) (who : ℕ) (sound : IsSound a) (has : has_session who a ≡
 -- ---- waits of others
 
 looks : (a : Core) (target : ℕ) → IsSound a
-    → IsAnswer (OfWait (system_of a) target (Only (Has_wait None)) (λ number id settled. Only (Has_wait (Some number)))) (looking_after target a).0
+    → IsAnswer (OfWait (system_of a) target (Only (Has_wait None)) (λ number id settled. Only (Has_wait (Some number)))) (wait_of_outcome target a).0
 looks a target sound = go (has_session target a) refl
   where
     go : (b : Bool) → has_session target a ≡ b
-        → IsAnswer (OfWait (system_of a) target (Only (Has_wait None)) (λ number id settled. Only (Has_wait (Some number)))) (looking_after target a).0
+        → IsAnswer (OfWait (system_of a) target (Only (Has_wait None)) (λ number id settled. Only (Has_wait (Some number)))) (wait_of_outcome target a).0
     go true has =
         subst (λ (o : Option Pending). IsAnswer (OfWait (system_of a) target (Only (Has_wait None)) (λ number id settled. Only (Has_wait (Some number))))
         (Has_wait (option_map (λ (wait : Pending). wait.number) o))) (sym (wait-of_session a target has))
@@ -311,7 +311,7 @@ looks a target sound = go (has_session target a) refl
         (without-wait (system_of a) target _ _ _ ((sessions-have a target sound).1 none).1 (only _))
 
 kills : (a : Core) (target number : ℕ) → IsSound a
-    → IsAnswer (Where (WaitsSomewhere (system_of a) target number) (Only (Has_killed true)) (Only (Has_killed false))) (killing target number a).0
+    → IsAnswer (Where (WaitsSomewhere (system_of a) target number) (Only (Has_killed true)) (Only (Has_killed false))) (kill_outcome target number a).0
 kills a target number sound =
     test_cases (λ (r : Answer × Core). IsAnswer (Where (WaitsSomewhere (system_of a) target number) (Only (Has_killed true)) (Only (Has_killed false))) r.0)
     (is_open_wait number (wait_at target a)) _ _

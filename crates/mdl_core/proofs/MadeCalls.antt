@@ -22,7 +22,7 @@ use Rattle.mdl_calls.specs.SessionLocks.{changing as changing_own, merging as me
 use Rattle.mdl_core.specs.declared.pending.Pending.{Pending}
 use Rattle.mdl_core.specs.ChangeEvents.{holding_of, waiting_ticket, IsChangeEvent}
 use Rattle.mdl_core.specs.Changes.{Change, Gain, Lose, Queue, Leave, Take_up, Alter, Fold, Redefine, May, next_ticket, losing, leaving, altering, serving}
-use Rattle.mdl_core.specs.CoreCalls.{has_call, outcome, refused_or, first_cause, placing, request_causes, clone_causes, cloning_of, upgrade_causes, upgraded_if_free, upgrading_of, is_lower, downgrading_of, merge_causes, merging_of, held_ticket, releasing_of, standing, polling_of, timing_out_at, timing_out_of, ending_at, ending_of, wait_at, is_open_wait, victim_at, searching_of, reading_of, redefining_fault, redefined_unless, redefining_of}
+use Rattle.mdl_core.specs.CoreCalls.{has_call, outcome, refused_or, first_cause, placing, request_causes, clone_causes, cloning_of, upgrade_causes, upgraded_if_free, upgrading_of, is_lower, downgrading_of, merge_causes, merging_of, held_ticket, releasing_of, poll_answer, polling_of, timing_out_at, timing_out_of, ending_at, ending_of, wait_at, is_open_wait, victim_at, searching_of, reading_of, redefining_fault, redefined_unless, redefining_of}
 use Rattle.mdl_core.specs.CoreJoins.{own_at, numbers_at, Knows}
 use Rattle.mdl_core.specs.CoreLaws.{is_weaker, is_change, IsEventOf}
 use Rattle.mdl_core.specs.Cores.{Core, book_at, seat_at, key_at, standing_at, has_key, has_session, index_of, is_free, booking}
@@ -346,7 +346,7 @@ module _ (a : Core) where
     made (Poll_wait who) has is =
         option_cases (λ o. F (Poll_wait who) (polling_of o a)) (seat_at who a).wait
         (λ none. (let idle = idle_so who none in refused who NoWait refl idle.0 (λ how has. absurd (idle.1 how has)) tt))
-        (λ wait its. option_cases (λ s. F (Poll_wait who) (standing s, a)) wait.settled
+        (λ wait its. option_cases (λ s. F (Poll_wait who) (poll_answer s, a)) wait.settled
         (λ free. stays refl refl tt (tells refl refl (waiting_so who wait its) (λ how has. absurd (not_so who wait its free how has))))
         (λ how settled. stays refl refl (settled_at (seat_at who a) wait how its settled)
         (tells refl refl (waiting_so who wait its) (λ other has. ap (λ h. Is_settled h) (same_settled who wait its how other settled has)))))

@@ -14,7 +14,7 @@ use Rattle.mdl_book.specs.Tickets.{ticket_id}
 use Rattle.mdl_calls.specs.declared.space_error.SpaceError.TheVariants.{NoPlace, Full}
 use Rattle.mdl_calls.specs.Words.{Answer, Refused, At_place, Granted, Waits, Key_is}
 use Rattle.mdl_calls.proofs.MappedLists.{pairs-map}
-use Rattle.mdl_core.specs.CoreCalls.{is_full, placing, resolving, naming, granted_unless_full, queued_unless_full}
+use Rattle.mdl_core.specs.CoreCalls.{is_full, placing, resolve_outcome, key_of_outcome, granted_unless_full, queued_unless_full}
 use Rattle.mdl_core.specs.CoreJoins.{numbers_at}
 use Rattle.mdl_core.specs.Cores.{Core, book_at, seat_at, key_at, has_key, index_of}
 use Rattle.mdl_core.specs.CoreSystems.{granted_in, book_of, waiter_in, system_of}
@@ -64,7 +64,7 @@ module _ (core : Core) where
   at-nowhere place Then absent y =
       subst (λ o. MatchOption o (y ≡ Refused NoPlace) (λ key. Then key y) ↔ (y ≡ Refused NoPlace)) (sym (key_of-nowhere place absent)) (only (Refused NoPlace) y)
 
-  pub names : (place : ℕ) → IsAnswer (AtPlace (places_of core) place (λ key. Only (Key_is key))) (naming place core).0
+  pub names : (place : ℕ) → IsAnswer (AtPlace (places_of core) place (λ key. Only (Key_is key))) (key_of_outcome place core).0
   names place =
       test_cases (λ (r : Answer × Core). IsAnswer (AtPlace (places_of core) place (λ key. Only (Key_is key))) r.0) (not (has_key place core)) _ _
       (λ absent. at-nowhere place _ (not_true _ absent))
@@ -90,7 +90,7 @@ module _ (core : Core) where
       ap (λ n. slice_index_or core.books n (empty_book global_key)) here ∙ get_or_default core.books at (empty_book global_key) from.0 inside ∙ from.1.2 in
       not_there core key (suc at) tied.keys none has (ap (λ (b : BookView). b.key) book ∙ sym from.2)
 
-  pub resolves : IsTied core → (key : KeyName) → IsAnswer (ToResolve (places_of core) key) (resolving key core).0
+  pub resolves : IsTied core → (key : KeyName) → IsAnswer (ToResolve (places_of core) key) (resolve_outcome key core).0
   resolves tied key = option_cases (λ o. IsAnswer (ToResolve (places_of core) key) (placing key o core).0) (index_of key core.books) next known
     where
       counted : length (places_of core).keys ≡ length core.books

@@ -20,7 +20,7 @@ use Rattle.mdl_calls.specs.Words.{Answer, Refused, takes_memory, Call, Resolve, 
 use Rattle.mdl_core.specs.declared.pending.Pending.{Pending}
 use Rattle.mdl_core.specs.Changes.{Change, Gain, Lose, Queue, Admit, Settle, Leave, Take_up, Alter, Fold, Redefine, seat_after, book_after, is_of_book, booked_if, changing, next_ready, admitting_if, serving}
 unfoldable use Rattle.mdl_core.specs.Changes.{admitting_up_to}
-use Rattle.mdl_core.specs.CoreCalls.{has_call, outcome, Makes, placing, resolving, refused_or, is_full, granted_unless_full, queued_unless_full, cloning_of, upgrading_of, is_lower, downgrading_of, merging_of, held_ticket, releasing_of, polling_of, timing_out_at, timing_out_of, ending_at, ending_of, is_open_wait, wait_at, searching_of, victim_at, reading_of, redefining_of, redefining_fault, redefined_unless}
+use Rattle.mdl_core.specs.CoreCalls.{has_call, outcome, Makes, placing, resolve_outcome, refused_or, is_full, granted_unless_full, queued_unless_full, cloning_of, upgrading_of, is_lower, downgrading_of, merging_of, held_ticket, releasing_of, polling_of, timing_out_at, timing_out_of, ending_at, ending_of, is_open_wait, wait_at, searching_of, victim_at, reading_of, redefining_of, redefining_fault, redefined_unless}
 use Rattle.mdl_core.specs.Cores.{Core, book_at, seat_at, index_of, is_free, has_key}
 use Rattle.mdl_core.specs.Determined.{Places, places_of, PlacesAfter, PlacesAndNumbersFollow}
 use Rattle.mdl_core.specs.Seats.{SeatView}
@@ -209,7 +209,7 @@ module _ (a : Core) (who : ℕ) (key : KeyName) (tied : IsTied a) where
   abbrev Follows : Answer × Core → Type 0
   Follows r = PlacesAfter (Resolve who key) r.0 (places_of a) (places_of r.1)
 
-  resolve-follows : Follows (resolving key a)
+  resolve-follows : Follows (resolve_outcome key a)
   resolve-follows = option_cases (λ o. Follows (placing key o a)) (index_of key a.books) next known
     where
       known : (index : ℕ) → index_of key a.books ≡ Some index → Follows (placing key (Some index) a)

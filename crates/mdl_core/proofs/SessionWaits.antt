@@ -4,7 +4,7 @@ use Rattle.std.proofs.lemmas.Bool.Decides.{Decides-eqb}
 use Rattle.mdl_calls.specs.declared.answers.Settled.TheVariants as settled_as
 use Rattle.mdl_core.specs.declared.pending.Pending.{Pending}
 use Rattle.mdl_calls.specs.Words.{Answer, Has_wait, Has_killed, Wait_of}
-use Rattle.mdl_core.specs.CoreCalls.{wait_at, is_open_wait, killing}
+use Rattle.mdl_core.specs.CoreCalls.{wait_at, is_open_wait, kill_outcome}
 use Rattle.mdl_core.specs.CoreJoins.{Joins}
 use Rattle.mdl_core.specs.Cores.{Core, seat_at}
 use Rattle.mdl_core.specs.Changes.{losing}
@@ -27,7 +27,7 @@ found-open a target number waits =
     ap (is_open_wait number) found
     ∙ (λ i. (Decides-eqb wait.number number).1 waits.3 i && not (is_some (waits.4 i)))
 
-kills-so : (a : Core) (target number : ℕ) → Kills a target number (killing target number a)
+kills-so : (a : Core) (target number : ℕ) → Kills a target number (kill_outcome target number a)
 kills-so a target number =
     test_cases (Kills a target number) (is_open_wait number (wait_at target a)) (Has_killed true, losing target settled_as.Killed a) (Has_killed false, a)
     (λ unsettled killed e. (

@@ -56,16 +56,16 @@ placing key None core =
     if nat_le core.places (length core.books) then (Refused NoPlace, core) else (At_place (length core.books + 1), opening key core)
 
 -- the outcome of resolving a key: the place that it has, or the next one
-abbrev pub resolving : KeyName → Core → Answer × Core
-resolving key core = placing key (index_of key core.books) core
+abbrev pub resolve_outcome : KeyName → Core → Answer × Core
+resolve_outcome key core = placing key (index_of key core.books) core
 
 -- the outcome of asking for the key of a place
-abbrev pub naming : ℕ → Core → Answer × Core
-naming place core = if not (has_key place core) then (Refused NoPlace, core) else (Key_is (key_at place core), core)
+abbrev pub key_of_outcome : ℕ → Core → Answer × Core
+key_of_outcome place core = if not (has_key place core) then (Refused NoPlace, core) else (Key_is (key_at place core), core)
 
 -- the outcome of listing the tables of a schema
-abbrev pub telling_tables : List ℕ → Core → Answer × Core
-telling_tables schema core = (Tables (tables_in schema core), core)
+abbrev pub tables_of_outcome : List ℕ → Core → Answer × Core
+tables_of_outcome schema core = (Tables (tables_in schema core), core)
 
 -- ---- locks
 
@@ -89,14 +89,14 @@ queued_unless_full who place mode core =
     if is_full place core then (Refused Full, core) else (Waits ((seat_at who core).last_wait + 1), queueing who place mode core)
 
 -- the outcome of a request for a lock without waiting
-abbrev pub trying : ℕ → ℕ → Mode → Core → Answer × Core
-trying who place mode core =
+abbrev pub try_now_outcome : ℕ → ℕ → Mode → Core → Answer × Core
+try_now_outcome who place mode core =
     refused_or (first_cause (request_causes who place mode core)) core
     (if not (is_free who place mode core) then (Would_wait, core) else granted_unless_full who place mode core)
 
 -- the outcome of a request for a lock that waits if it can't be granted
-abbrev pub beginning : ℕ → ℕ → Mode → Core → Answer × Core
-beginning who place mode core =
+abbrev pub begin_wait_outcome : ℕ → ℕ → Mode → Core → Answer × Core
+begin_wait_outcome who place mode core =
     refused_or (first_cause (request_causes who place mode core)) core
     (if not (is_free who place mode core) then queued_unless_full who place mode core else granted_unless_full who place mode core)
 
@@ -119,8 +119,8 @@ abbrev pub held_ticket : ℕ → ℕ → Core → Option Held
 held_ticket who id core = find (is_number id) (seat_at who core).held
 
 -- the outcome of cloning the ticket of a number
-abbrev pub cloning : ℕ → ℕ → Mode → Core → Answer × Core
-cloning who id mode core = cloning_of who mode (held_ticket who id core) core
+abbrev pub clone_ticket_outcome : ℕ → ℕ → Mode → Core → Answer × Core
+clone_ticket_outcome who id mode core = cloning_of who mode (held_ticket who id core) core
 
 -- the outcome of releasing this ticket, if it is held: then waiters of its place are granted
 abbrev pub releasing_of : ℕ → Option Held → Core → Answer × Core
@@ -128,8 +128,8 @@ releasing_of who None core = (Refused NotHeld, core)
 releasing_of who (Some ticket) core = (Done, serving ticket.place (freeing who ticket core))
 
 -- the outcome of releasing the ticket of a number
-abbrev pub releasing : ℕ → ℕ → Core → Answer × Core
-releasing who id core = releasing_of who (held_ticket who id core) core
+abbrev pub release_outcome : ℕ → ℕ → Core → Answer × Core
+release_outcome who id core = releasing_of who (held_ticket who id core) core
 
 -- ---- modes of held tickets
 
@@ -153,8 +153,8 @@ upgrading_of who mode (Some ticket) core =
     refused_or (first_cause (upgrade_causes who mode ticket core)) core (upgraded_if_free who mode ticket core)
 
 -- the outcome of upgrading the ticket of a number
-abbrev pub upgrading : ℕ → ℕ → Mode → Core → Answer × Core
-upgrading who id mode core = upgrading_of who mode (held_ticket who id core) core
+abbrev pub upgrade_now_outcome : ℕ → ℕ → Mode → Core → Answer × Core
+upgrade_now_outcome who id mode core = upgrading_of who mode (held_ticket who id core) core
 
 -- whether a held ticket may be downgraded to a mode, which is one of the place's kind
 abbrev pub is_lower : Mode → Held → Core → Bool
@@ -167,8 +167,8 @@ downgrading_of who mode (Some ticket) core =
     if not (is_lower mode ticket core) then (Refused NotUpgradable, core) else (Done, serving ticket.place (altering who ticket mode core))
 
 -- the outcome of downgrading the ticket of a number
-abbrev pub downgrading : ℕ → ℕ → Mode → Core → Answer × Core
-downgrading who id mode core = downgrading_of who mode (held_ticket who id core) core
+abbrev pub downgrade_outcome : ℕ → ℕ → Mode → Core → Answer × Core
+downgrade_outcome who id mode core = downgrading_of who mode (held_ticket who id core) core
 
 -- why a merge of two held tickets is refused, in the order in which the causes count
 abbrev pub merge_causes : ℕ → Held → Held → Core → List (Bool × SpaceError)
@@ -182,24 +182,24 @@ merging_of who (Some old) (Some new) core =
 merging_of who _ _ core = (Refused NotHeld, core)
 
 -- the outcome of merging the tickets of two numbers
-abbrev pub merging : ℕ → ℕ → ℕ → Core → Answer × Core
-merging who old new core = merging_of who (held_ticket who old core) (held_ticket who new core) core
+abbrev pub merge_outcome : ℕ → ℕ → ℕ → Core → Answer × Core
+merge_outcome who old new core = merging_of who (held_ticket who old core) (held_ticket who new core) core
 
 -- ---- waits
 
 -- the answer to polling a wait that is settled in this way, if it is settled
-abbrev pub standing : Option Settled → Answer
-standing None = Is_pending
-standing (Some how) = Is_settled how
+abbrev pub poll_answer : Option Settled → Answer
+poll_answer None = Is_pending
+poll_answer (Some how) = Is_settled how
 
 -- the outcome of polling a wait, if there is one
 abbrev pub polling_of : Option Pending → Core → Answer × Core
 polling_of None core = (Refused NoWait, core)
-polling_of (Some wait) core = (standing wait.settled, core)
+polling_of (Some wait) core = (poll_answer wait.settled, core)
 
 -- the outcome of polling a session's wait
-abbrev pub polling : ℕ → Core → Answer × Core
-polling who core = polling_of (seat_at who core).wait core
+abbrev pub poll_wait_outcome : ℕ → Core → Answer × Core
+poll_wait_outcome who core = polling_of (seat_at who core).wait core
 
 -- the outcome of timing out a session's wait that is settled in this way, if it is: it is settled as a timeout unless it was settled before
 abbrev pub timing_out_at : ℕ → Option Settled → Core → Answer × Core
@@ -212,8 +212,8 @@ timing_out_of who None core = (Refused NoWait, core)
 timing_out_of who (Some wait) core = timing_out_at who wait.settled core
 
 -- the outcome of timing out the wait that a session has
-abbrev pub timing_out : ℕ → Core → Answer × Core
-timing_out who core = timing_out_of who (seat_at who core).wait core
+abbrev pub settle_timeout_outcome : ℕ → Core → Answer × Core
+settle_timeout_outcome who core = timing_out_of who (seat_at who core).wait core
 
 -- the outcome of ending a session's wait that is settled in this way, if it is: the session holds the ticket; or the ticket is removed from
 -- the waiting ones, and then waiters of its place are granted
@@ -228,16 +228,16 @@ ending_of who None core = (Refused NoWait, core)
 ending_of who (Some wait) core = ending_at who wait wait.settled core
 
 -- the outcome of ending the wait that a session has
-abbrev pub ending : ℕ → Core → Answer × Core
-ending who core = ending_of who (seat_at who core).wait core
+abbrev pub end_wait_outcome : ℕ → Core → Answer × Core
+end_wait_outcome who core = ending_of who (seat_at who core).wait core
 
 -- the wait of any session, if there is such a session and it has one
 abbrev pub wait_at : ℕ → Core → Option Pending
 wait_at target core = if has_session target core then (seat_at target core).wait else None
 
 -- the outcome of asking for the number of any session's wait
-abbrev pub looking_after : ℕ → Core → Answer × Core
-looking_after target core = (Has_wait (option_map (λ (wait : Pending). wait.number) (wait_at target core)), core)
+abbrev pub wait_of_outcome : ℕ → Core → Answer × Core
+wait_of_outcome target core = (Has_wait (option_map (λ (wait : Pending). wait.number) (wait_at target core)), core)
 
 -- whether there is a wait, which is unsettled and has this number
 abbrev pub is_open_wait : ℕ → Option Pending → Bool
@@ -245,8 +245,8 @@ is_open_wait number None = false
 is_open_wait number (Some wait) = wait.number == number && is_open (Some wait)
 
 -- the outcome of a kill: an unsettled wait of this number is settled as killed
-abbrev pub killing : ℕ → ℕ → Core → Answer × Core
-killing target number core =
+abbrev pub kill_outcome : ℕ → ℕ → Core → Answer × Core
+kill_outcome target number core =
     if is_open_wait number (wait_at target core) then (Has_killed true, losing target settled_as.Killed core) else (Has_killed false, core)
 
 -- ---- deadlocks
@@ -265,8 +265,8 @@ abbrev pub victim_at : ℕ → Core → Option ℕ
 victim_at who core = victim_in (has_settled core) core.books who
 
 -- the outcome of a search for a deadlock that the session is part of
-abbrev pub searching : ℕ → Core → Answer × Core
-searching who core = searching_of (victim_at who core) core
+abbrev pub search_outcome : ℕ → Core → Answer × Core
+search_outcome who core = searching_of (victim_at who core) core
 
 -- ---- definitions
 
@@ -276,8 +276,8 @@ reading_of None core = (Refused NotHeld, core)
 reading_of (Some ticket) core = (Reads (standing_at ticket.place core).version (standing_at ticket.place core).definition, core)
 
 -- the outcome of reading under the ticket of a number
-abbrev pub reading : ℕ → ℕ → Core → Answer × Core
-reading who id core = reading_of (held_ticket who id core) core
+abbrev pub read_outcome : ℕ → ℕ → Core → Answer × Core
+read_outcome who id core = reading_of (held_ticket who id core) core
 
 -- why the definition of a place's key can't be changed so, if it can't
 abbrev pub redefining_fault : ℕ → Change → Core → Option ChangeError
@@ -296,14 +296,14 @@ redefining_of (Some ticket) change core =
     else redefined_unless (redefining_fault ticket.place change core) ticket.place change core
 
 -- the outcome of a change of the definition under the ticket of a number
-abbrev pub redefining : ℕ → ℕ → Change → Core → Answer × Core
-redefining who id change core = redefining_of (held_ticket who id core) change core
+abbrev pub change_definition_outcome : ℕ → ℕ → Change → Core → Answer × Core
+change_definition_outcome who id change core = redefining_of (held_ticket who id core) change core
 
 -- ---- lists
 
 -- the outcome of listing a session's held tickets
-abbrev pub listing : ℕ → Core → Answer × Core
-listing who core = (Holds (seat_at who core).held, core)
+abbrev pub held_outcome : ℕ → Core → Answer × Core
+held_outcome who core = (Holds (seat_at who core).held, core)
 
 -- ---- all calls
 
@@ -333,26 +333,26 @@ has_call _ = false
 
 -- the outcome of a call: its answer, and the space after it
 abbrev pub outcome : Call → Core → Answer × Core
-outcome (Resolve who key) core = resolving key core
-outcome (Try_now who place mode) core = trying who place mode core
-outcome (Begin_wait who place mode) core = beginning who place mode core
-outcome (Search who) core = searching who core
-outcome (Poll_wait who) core = polling who core
-outcome (Settle_timeout who) core = timing_out who core
-outcome (End_wait who) core = ending who core
-outcome (Wait_of target) core = looking_after target core
-outcome (Kill target number) core = killing target number core
-outcome (Release who id) core = releasing who id core
-outcome (Clone_ticket who id mode) core = cloning who id mode core
-outcome (Upgrade_now who id mode) core = upgrading who id mode core
-outcome (Merge who old new) core = merging who old new core
-outcome (Downgrade who id mode) core = downgrading who id mode core
-outcome (Read_definition who id) core = reading who id core
-outcome (Read_kept who id) core = reading who id core
-outcome (Change_definition who id change) core = redefining who id change core
-outcome (Key_of who place) core = naming place core
-outcome (Tables_of who schema) core = telling_tables schema core
-outcome (List_held who) core = listing who core
+outcome (Resolve who key) core = resolve_outcome key core
+outcome (Try_now who place mode) core = try_now_outcome who place mode core
+outcome (Begin_wait who place mode) core = begin_wait_outcome who place mode core
+outcome (Search who) core = search_outcome who core
+outcome (Poll_wait who) core = poll_wait_outcome who core
+outcome (Settle_timeout who) core = settle_timeout_outcome who core
+outcome (End_wait who) core = end_wait_outcome who core
+outcome (Wait_of target) core = wait_of_outcome target core
+outcome (Kill target number) core = kill_outcome target number core
+outcome (Release who id) core = release_outcome who id core
+outcome (Clone_ticket who id mode) core = clone_ticket_outcome who id mode core
+outcome (Upgrade_now who id mode) core = upgrade_now_outcome who id mode core
+outcome (Merge who old new) core = merge_outcome who old new core
+outcome (Downgrade who id mode) core = downgrade_outcome who id mode core
+outcome (Read_definition who id) core = read_outcome who id core
+outcome (Read_kept who id) core = read_outcome who id core
+outcome (Change_definition who id change) core = change_definition_outcome who id change core
+outcome (Key_of who place) core = key_of_outcome place core
+outcome (Tables_of who schema) core = tables_of_outcome schema core
+outcome (List_held who) core = held_outcome who core
 outcome _ core = (Refused OutOfMemory, core)
 
 -- a call with this step made the step; or, if it takes memory, it was refused because memory ran out, and changed nothing

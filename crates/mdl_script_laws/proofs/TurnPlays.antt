@@ -8,7 +8,7 @@ use Rattle.mdl_calls.specs.declared.space_error.SpaceError.{SpaceError}
 use Rattle.mdl_calls.specs.Words.{Answer, Granted, Lost, Is_settled, Give, Each, outcome_of, Program}
 use Rattle.mdl_calls.proofs.FaithfulLemmas.{each_then}
 use Rattle.mdl_core.specs.declared.pending.Pending.{Pending}
-use Rattle.mdl_core.specs.CoreCalls.{ending, has_settled, outcome, polling, polling_of}
+use Rattle.mdl_core.specs.CoreCalls.{end_wait_outcome, has_settled, outcome, poll_wait_outcome, polling_of}
 use Rattle.mdl_core.specs.Cores.{Core, has_session, seat_at}
 use Rattle.mdl_core.specs.Seats.{is_closed}
 use Rattle.mdl_context.specs.declared.request.Mark.{Mark}
@@ -143,7 +143,7 @@ polled-settled : (wait : Option Pending) (its : Pending) (how : Settled) (core :
     → polling_of wait core ≡ (Is_settled how, core)
 polled-settled wait its how core same settled = rw same (rw settled refl)
 
-pub polls-settled : (who : ℕ) (core : Core) → has_settled core who ≡ true → (how : Settled) × (polling who core ≡ (Is_settled how, core))
+pub polls-settled : (who : ℕ) (core : Core) → has_settled core who ≡ true → (how : Settled) × (poll_wait_outcome who core ≡ (Is_settled how, core))
 polls-settled who core settled =
     let it = settled-wait (has_session who core) (seat_at who core).wait settled in
     (it.1, polled-settled (seat_at who core).wait it.0 it.1 core it.2 it.3)
@@ -166,15 +166,15 @@ over-ended context (Lost how) core = tt
 over-ended context answer core = tt
 
 over-polled : (context : ContextView) (core : Core) (how : Settled) → IsOver (outcome_of outcome (waits.poll_answered context (Is_settled how)) core).0
-over-polled context core how = over-ended context (ending context.who core).0 (ending context.who core).1
+over-polled context core how = over-ended context (end_wait_outcome context.who core).0 (end_wait_outcome context.who core).1
 
 -- so a wait that goes on comes to its end
-over-looking : (context : ContextView) (core : Core) (how : Settled) → polling context.who core ≡ (Is_settled how, core)
+over-looking : (context : ContextView) (core : Core) (how : Settled) → poll_wait_outcome context.who core ≡ (Is_settled how, core)
     → IsOver (outcome_of outcome (waits.looking context) core).0
 over-looking context core how polls =
     subst (λ (told : Answer × Core). IsOver (outcome_of outcome (waits.poll_answered context told.0) told.1).0) (sym polls) (over-polled context core how)
 
-over-going : (searched : Option Bool) (context : ContextView) (core : Core) (how : Settled) → polling context.who core ≡ (Is_settled how, core)
+over-going : (searched : Option Bool) (context : ContextView) (core : Core) (how : Settled) → poll_wait_outcome context.who core ≡ (Is_settled how, core)
     → IsOver (outcome_of outcome (waits.going_on searched context) core).0
 over-going None context core how polls = tt
 over-going (Some true) context core how polls = over-looking context core how polls

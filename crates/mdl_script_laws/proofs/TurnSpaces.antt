@@ -14,7 +14,7 @@ use Rattle.mdl_calls.specs.declared.answers.Settled.TheVariants as settled_as
 use Rattle.mdl_calls.specs.declared.space_error.SpaceError.{SpaceError}
 use Rattle.mdl_calls.specs.Words.{Answer, At_place, Done, Granted, Lost, Is_settled, Call, End_wait, Settle_timeout, SessionLocks, Program, Give, Ask, Grow, ◌>>=◌, EachCall, outcome_of}
 use Rattle.mdl_core.specs.declared.pending.Pending.{Pending}
-use Rattle.mdl_core.specs.CoreCalls.{ending, ending_at, ending_of, has_settled, outcome, polling}
+use Rattle.mdl_core.specs.CoreCalls.{end_wait_outcome, ending_at, ending_of, has_settled, outcome, poll_wait_outcome}
 use Rattle.mdl_core.specs.CoreJoins.{SpeaksFor, own_at}
 use Rattle.mdl_core.specs.Cores.{Core, empty_core, has_session, seat_at}
 use Rattle.mdl_core.specs.RunLaws.{IsMadeFor}
@@ -92,7 +92,7 @@ ends-of : (who : ℕ) (wait : Option Pending) (its : Pending) (how : Settled) (c
 ends-of who wait its how core same settled = rw same (rw settled (ends-at who its how core))
 
 -- where the wait is settled its end is told
-ends-settled : (who : ℕ) (core : Core) → has_settled core who ≡ true → IsEndAnswer (ending who core).0
+ends-settled : (who : ℕ) (core : Core) → has_settled core who ≡ true → IsEndAnswer (end_wait_outcome who core).0
 ends-settled who core settled =
     let it = settled-wait (has_session who core) (seat_at who core).wait settled in ends-of who (seat_at who core).wait it.0 it.1 core it.2 it.3
 
@@ -131,14 +131,14 @@ Ends context program core = let end = outcome_of outcome program core in IsEnded
 
 ended-ending : (context : ContextView) (core : Core) → SpeaksFor core context.who → has_settled core context.who ≡ true → Ends context (waits.ending context) core
 ended-ending context core speaks settled =
-    ended-answered context (ending context.who core).0 (ending context.who core).1 (is_some (own_at core context.who).wait)
-    (core-keeps calls_keep-sound core (ending context.who core).1 (End_wait context.who) (ending context.who core).0 context.who speaks
+    ended-answered context (end_wait_outcome context.who core).0 (end_wait_outcome context.who core).1 (is_some (own_at core context.who).wait)
+    (core-keeps calls_keep-sound core (end_wait_outcome context.who core).1 (End_wait context.who) (end_wait_outcome context.who core).0 context.who speaks
     (joins-outcome context.who core (End_wait context.who) speaks (refl, refl)))
     (ends-settled context.who core settled)
     (call-waits context.who core (End_wait context.who) speaks (refl, refl))
 
 ended-going : (searched : Option Bool) (context : ContextView) (core : Core) (how : Settled) → is_some searched ≡ true
-    → polling context.who core ≡ (Is_settled how, core)
+    → poll_wait_outcome context.who core ≡ (Is_settled how, core)
     → Ends context (waits.ending context) core → Ends context (waits.going_on searched context) core
 ended-going None context core how some polls ends = cc
 ended-going (Some true) context core how some polls ends =

@@ -5,7 +5,7 @@ ghost use Rattle.mdl_book.specs.Books.{lock_kind};
 ghost use Rattle.mdl_book.specs.Granting.{is_compatible};
 ghost use Rattle.mdl_book.specs.Tickets.{ticket_of};
 ghost use Rattle.mdl_system.specs.Strength.{covers};
-ghost use Rattle.mdl_core.specs.Words.{empty_core, book_at, has_key, has_session, seat_at, first_cause, request_causes, clone_causes, listing, naming, resolving, trying, beginning, searching, polling, timing_out, ending, looking_after, killing, releasing, granted_unless_full, cloning, Makes, SpeaksFor, leaving, freeing, serving};
+ghost use Rattle.mdl_core.specs.Words.{empty_core, book_at, has_key, has_session, seat_at, first_cause, request_causes, clone_causes, held_outcome, key_of_outcome, resolve_outcome, try_now_outcome, begin_wait_outcome, search_outcome, poll_wait_outcome, settle_timeout_outcome, end_wait_outcome, wait_of_outcome, kill_outcome, release_outcome, granted_unless_full, clone_ticket_outcome, Makes, SpeaksFor, leaving, freeing, serving};
 ghost use Rattle.mdl_calls.specs.Words.{are_rising, new_fault, Has_wait, Has_killed, keyed, placed, attempted, begun, searched, polled, timed_out, ended, done, cloned, listed};
 
 use crate::granting::{give, is_free, queue};
@@ -114,7 +114,7 @@ impl CoreSpace {
 
     /// Returns the place of a key, which is the next free one if the key is new.
     pub(crate) fn resolve(&mut self, key: &Key) -> Result<Place, SpaceError>
-        ensures { Makes true (resolving key.now) self.old (placed result) self.new }
+        ensures { Makes true (resolve_outcome key.now) self.old (placed result) self.new }
     {
         if let Some(place) = self.known.get(key) {
             return Ok(*place);
@@ -138,7 +138,7 @@ impl CoreSpace {
 
     /// Returns the key of a place.
     pub(crate) fn key_of(&self, place: Place) -> Result<Key, SpaceError>
-        ensures { Makes true (naming place) self.now (keyed result) self.now }
+        ensures { Makes true (key_of_outcome place) self.now (keyed result) self.now }
     {
         let place = usize::from(place);
         if place == 0 || place > self.books.len() {
@@ -158,7 +158,7 @@ impl CoreSpace {
         mode: Mode,
     ) -> Result<Attempt, SpaceError>
         requires { has_session who self.old ≡ true }
-        ensures { Makes true (trying who place mode) self.old (attempted result) self.new }
+        ensures { Makes true (try_now_outcome who place mode) self.old (attempted result) self.new }
     {
         self.check_request(who, place, mode)?;
         let book = &mut self.books[usize::from(place) - 1];
@@ -180,7 +180,7 @@ impl CoreSpace {
         mode: Mode,
     ) -> Result<Begun, SpaceError>
         requires { has_session who self.old ≡ true }
-        ensures { Makes true (beginning who place mode) self.old (begun result) self.new }
+        ensures { Makes true (begin_wait_outcome who place mode) self.old (begun result) self.new }
     {
         self.check_request(who, place, mode)?;
         let book = &mut self.books[usize::from(place) - 1];
@@ -200,7 +200,7 @@ impl CoreSpace {
     /// Searches for a deadlock that a session is part of, and settles the wait of its victim.
     pub(crate) fn search_deadlock(&mut self, who: u16) -> Result<Search, SpaceError>
         requires { SpeaksFor self.old who }
-        ensures { Makes true (searching who) self.old (searched result) self.new }
+        ensures { Makes true (search_outcome who) self.old (searched result) self.new }
     {
         match self.victim_of(who) {
             Ok(Some(victim)) => {
@@ -215,7 +215,7 @@ impl CoreSpace {
     /// Returns the state of a session's wait.
     pub(crate) fn poll_wait(&self, who: u16) -> Result<Poll, SpaceError>
         requires { has_session who self.now ≡ true }
-        ensures { Makes false (polling who) self.now (polled result) self.now }
+        ensures { Makes false (poll_wait_outcome who) self.now (polled result) self.now }
     {
         match self.seats[usize::from(who) - 1].wait() {
             Some(wait) => match wait.settled {
@@ -229,7 +229,7 @@ impl CoreSpace {
     /// Settles a session's wait as a timeout, unless it is settled already.
     pub(crate) fn settle_timeout(&mut self, who: u16) -> Result<TimedOut, SpaceError>
         requires { has_session who self.old ≡ true }
-        ensures { Makes false (timing_out who) self.old (timed_out result) self.new }
+        ensures { Makes false (settle_timeout_outcome who) self.old (timed_out result) self.new }
     {
         let seat = &mut self.seats[usize::from(who) - 1];
         let Some(wait) = seat.wait() else {
@@ -245,7 +245,7 @@ impl CoreSpace {
     /// Ends a session's settled wait. If it was granted, the session then holds the ticket.
     pub(crate) fn end_wait(&mut self, who: u16) -> Result<Ended, SpaceError>
         requires { SpeaksFor self.old who }
-        ensures { Makes false (ending who) self.old (ended result) self.new }
+        ensures { Makes false (end_wait_outcome who) self.old (ended result) self.new }
     {
         let Some(wait) = self.seats[usize::from(who) - 1].wait() else {
             return Err(SpaceError::NoWait);
@@ -275,7 +275,7 @@ impl CoreSpace {
 
     /// Returns the number of any session's wait.
     pub(crate) fn wait_of(&self, target: u16) -> Option<u64>
-        ensures { Makes false (looking_after target) self.now (Has_wait result) self.now }
+        ensures { Makes false (wait_of_outcome target) self.now (Has_wait result) self.now }
     {
         if target == 0 || usize::from(target) > self.seats.len() {
             return None;
@@ -288,7 +288,7 @@ impl CoreSpace {
 
     /// Settles any session's wait of this number as killed, unless it is settled already. Returns whether this call settled it.
     pub(crate) fn kill(&mut self, target: u16, number: u64) -> bool
-        ensures { Makes false (killing target number) self.old (Has_killed result) self.new }
+        ensures { Makes false (kill_outcome target number) self.old (Has_killed result) self.new }
     {
         if target == 0 || usize::from(target) > self.seats.len() {
             return false;
@@ -307,7 +307,7 @@ impl CoreSpace {
     /// Releases a held ticket.
     pub(crate) fn release(&mut self, who: u16, id: TicketId) -> Result<(), SpaceError>
         requires { SpeaksFor self.old who }
-        ensures { Makes false (releasing who id) self.old (done result) self.new }
+        ensures { Makes false (release_outcome who id) self.old (done result) self.new }
     {
         let Some(ticket) = self.seats[usize::from(who) - 1].ticket(id) else {
             return Err(SpaceError::NotHeld);
@@ -324,7 +324,7 @@ impl CoreSpace {
         mode: Mode,
     ) -> Result<TicketId, SpaceError>
         requires { SpeaksFor self.old who }
-        ensures { Makes true (cloning who id mode) self.old (cloned result) self.new }
+        ensures { Makes true (clone_ticket_outcome who id mode) self.old (cloned result) self.new }
     {
         let Some(ticket) = self.seats[usize::from(who) - 1].ticket(id) else {
             return Err(SpaceError::NotHeld);
@@ -336,7 +336,7 @@ impl CoreSpace {
     /// Returns the tickets that a session holds.
     pub(crate) fn held(&self, who: u16) -> Result<Vec<Held>, SpaceError>
         requires { has_session who self.now ≡ true }
-        ensures { Makes true (listing who) self.now (listed result) self.now }
+        ensures { Makes true (held_outcome who) self.now (listed result) self.now }
     {
         let mut tickets = Vec::new(self.alloc);
         let held = self.seats[usize::from(who) - 1].held();

@@ -1,6 +1,6 @@
 //! Reading and changing the definitions of keys.
 ghost use Rattle.std.specs.Prelude.{◌≡◌, true, IfOk, IsOkUnless};
-ghost use Rattle.mdl_core.specs.Words.{SpeaksFor, Makes, has_key, standing_at, reading, redefining, redefining_fault, redefined_unless};
+ghost use Rattle.mdl_core.specs.Words.{SpeaksFor, Makes, has_key, standing_at, read_outcome, change_definition_outcome, redefining_fault, redefined_unless};
 ghost use Rattle.mdl_calls.specs.Words.{change_takes_memory, read, redefined};
 
 use crate::core_space::CoreSpace;
@@ -12,7 +12,7 @@ impl CoreSpace {
     /// Returns the version and the definition of the key at a held ticket's place.
     pub(crate) fn read_definition(&self, who: u16, id: TicketId) -> Result<Standing, SpaceError>
         requires { SpeaksFor self.now who }
-        ensures { Makes true (reading who id) self.now (read result) self.now }
+        ensures { Makes true (read_outcome who id) self.now (read result) self.now }
     {
         let Some(ticket) = self.seats[usize::from(who) - 1].ticket(id) else {
             return Err(SpaceError::NotHeld);
@@ -28,7 +28,7 @@ impl CoreSpace {
         change: &Change,
     ) -> Result<u64, SpaceError>
         requires { SpeaksFor self.old who }
-        ensures { Makes (change_takes_memory change.now) (redefining who id change.now) self.old (redefined result) self.new }
+        ensures { Makes (change_takes_memory change.now) (change_definition_outcome who id change.now) self.old (redefined result) self.new }
     {
         let Some(ticket) = self.seats[usize::from(who) - 1].ticket(id) else {
             return Err(SpaceError::NotHeld);

@@ -6,7 +6,7 @@ ghost use Rattle.mdl_book.specs.Tickets.{ticket_of};
 ghost use Rattle.mdl_calls.specs.Words.{are_rising, done, upgrade_tried};
 ghost use Rattle.mdl_core.specs.CoreCalls.{is_lower};
 ghost use Rattle.mdl_core.specs.Cores.{is_free};
-ghost use Rattle.mdl_core.specs.Words.{Makes, SpeaksFor, altering, book_at, downgrading, first_cause, folding, has_key, has_session, merge_causes, merging, seat_at, serving, upgrade_causes, upgrading};
+ghost use Rattle.mdl_core.specs.Words.{Makes, SpeaksFor, altering, book_at, downgrade_outcome, first_cause, folding, has_key, has_session, merge_causes, merge_outcome, seat_at, serving, upgrade_causes, upgrade_now_outcome};
 
 use crate::core_space::CoreSpace;
 use crate::granting::{NO_FAST, fold, is_free};
@@ -23,7 +23,7 @@ impl CoreSpace {
         mode: Mode,
     ) -> Result<Upgrade, SpaceError>
         requires { SpeaksFor self.old who }
-        ensures { Makes false (upgrading who id mode) self.old (upgrade_tried result) self.new }
+        ensures { Makes false (upgrade_now_outcome who id mode) self.old (upgrade_tried result) self.new }
     {
         let Some(ticket) = self.seats[usize::from(who) - 1].ticket(id) else {
             return Err(SpaceError::NotHeld);
@@ -38,7 +38,7 @@ impl CoreSpace {
     /// Gives a held ticket the mode of another one, which is released. It takes no memory.
     pub(crate) fn merge(&mut self, who: u16, old: TicketId, new: TicketId) -> Result<(), SpaceError>
         requires { SpeaksFor self.old who }
-        ensures { Makes false (merging who old new) self.old (done result) self.new }
+        ensures { Makes false (merge_outcome who old new) self.old (done result) self.new }
     {
         let seat = &self.seats[usize::from(who) - 1];
         let Some(kept) = seat.ticket(old) else {
@@ -55,7 +55,7 @@ impl CoreSpace {
     /// Gives a held ticket a weaker mode, and then grants waiters of its place.
     pub(crate) fn downgrade(&mut self, who: u16, id: TicketId, mode: Mode) -> Result<(), SpaceError>
         requires { SpeaksFor self.old who }
-        ensures { Makes false (downgrading who id mode) self.old (done result) self.new }
+        ensures { Makes false (downgrade_outcome who id mode) self.old (done result) self.new }
     {
         let Some(ticket) = self.seats[usize::from(who) - 1].ticket(id) else {
             return Err(SpaceError::NotHeld);

@@ -1,6 +1,6 @@
 //! The tables of a schema.
 ghost use Rattle.std.specs.Prelude.{◌≡◌, true, All, IfOk, IsOkUnless, if◌then◌else◌};
-ghost use Rattle.mdl_core.specs.Words.{Makes, comes_before, has_defined_table, has_key, put_in_order, telling_tables};
+ghost use Rattle.mdl_core.specs.Words.{Makes, comes_before, has_defined_table, has_key, put_in_order, tables_of_outcome};
 ghost use Rattle.mdl_calls.specs.Words.{is_table_of, tables_told};
 
 use crate::core_space::CoreSpace;
@@ -10,7 +10,7 @@ use mdl_key::{Key, Namespace};
 impl CoreSpace {
     /// Returns the places of a schema's tables that have a definition, in the order of their keys.
     pub(crate) fn tables_of(&self, schema: &str) -> Result<Vec<Place>, SpaceError>
-        ensures { Makes true (telling_tables schema.now) self.now (tables_told result) self.now }
+        ensures { Makes true (tables_of_outcome schema.now) self.now (tables_told result) self.now }
     {
         let mut places = Vec::new(self.alloc);
         for index in (0..self.books.len()).rev() {
