@@ -13,7 +13,7 @@
 //! ```
 //! ghost use Rattle.std.specs.Prelude.{◌≡◌, [], None};
 //! ghost use Rattle.mdl.specs.mdl_shared.Passes.{pass_table, table_of};
-//! ghost use Rattle.mdl.specs.mdl_shared.SessionViews.{space_of};
+//! ghost use Rattle.mdl.specs.mdl_shared.SessionViews.{data_of};
 //!
 //! use crate::requests::Request;
 //! use crate::work::answer_all;
@@ -67,7 +67,7 @@
 //!
 //! // Closes a session that has nothing. If it owed a place a reschedule, after a fast release, it would make that first.
 //! fn close<R: Wait + Drop>(rt: &impl Wait, session: Session<R>)
-//!     requires { (space_of session).own ≡ record { held = []; wait = None } }
+//!     requires { (data_of session).own ≡ record { held = []; wait = None } }
 //! {
 //!     let mut session = session;
 //!     for _ in rt.forever() {

@@ -6,17 +6,17 @@ use Rattle.mdl_calls.specs.SessionData.{is_known}
 use Rattle.mdl_session_laws.specs.SessionJoins.{Joins}
 use Rattle.mdl_session_laws.proofs.KeyLaws.{session-resolved_pinned}
 use Rattle.mdl_session_laws.proofs.KnownAfter.{known-on}
-use Rattle.mdl_shared.specs.SessionViews.{SessionView, space_of}
+use Rattle.mdl_shared.specs.SessionViews.{SessionView, data_of}
 
 -- it knows the key's place
-pub resolved-known : (a b c : SessionView) (who place : ℕ) (key : KeyName) → Joins (space_of a) (Resolve who key) (At_place place) (space_of b)
-    → c ≡ record b { room = c.room } → is_known place (space_of c).known ≡ true
+pub resolved-known : (a b c : SessionView) (who place : ℕ) (key : KeyName) → Joins (data_of a) (Resolve who key) (At_place place) (data_of b)
+    → c ≡ record b { room = c.room } → is_known place (data_of c).known ≡ true
 resolved-known a b c who place key joined same =
-    ap (λ s. is_known place (space_of s).known) same ∙ session-resolved_pinned (space_of a) (space_of b) who place key joined
+    ap (λ s. is_known place (data_of s).known) same ∙ session-resolved_pinned (data_of a) (data_of b) who place key joined
 
 -- and all that it knew
-pub resolved-kept : (a b c : SessionView) (who : ℕ) (key : KeyName) (answer : Answer) → Joins (space_of a) (Resolve who key) answer (space_of b)
-    → c ≡ record b { room = c.room } → (place : ℕ) → is_known place (space_of a).known ≡ true → is_known place (space_of c).known ≡ true
+pub resolved-kept : (a b c : SessionView) (who : ℕ) (key : KeyName) (answer : Answer) → Joins (data_of a) (Resolve who key) answer (data_of b)
+    → c ≡ record b { room = c.room } → (place : ℕ) → is_known place (data_of a).known ≡ true → is_known place (data_of c).known ≡ true
 resolved-kept a b c who key answer joined same place knew =
-    ap (λ s. is_known place (space_of s).known) same
-    ∙ known-on (Resolve who key) answer (space_of a).known (space_of b).known joined.learns place knew
+    ap (λ s. is_known place (data_of s).known) same
+    ∙ known-on (Resolve who key) answer (data_of a).known (data_of b).known joined.learns place knew

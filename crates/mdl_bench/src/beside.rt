@@ -1,7 +1,7 @@
 //! The repeated calls of a session on a thread of its own, beside other sessions.
 ghost use Rattle.std.specs.Prelude.{◌≡◌, true};
 ghost use Rattle.mdl_calls.specs.SessionData.{is_known};
-ghost use Rattle.mdl_shared.specs.SessionViews.{space_of};
+ghost use Rattle.mdl_shared.specs.SessionViews.{data_of};
 
 use crate::failure::Failure;
 use crate::lap::{Lap, Race, Start};
@@ -56,10 +56,10 @@ fn turn_often<R: Wait + Clock>(
     part: &Part,
     turns: u32,
 ) -> Result<Duration, Failure>
-    requires global { is_known places.global (space_of session.old).known ≡ true }
-    requires first { is_known places.first (space_of session.old).known ≡ true }
-    requires second { is_known places.second (space_of session.old).known ≡ true }
-    requires third { is_known places.third (space_of session.old).known ≡ true }
+    requires global { is_known places.global (data_of session.old).known ≡ true }
+    requires first { is_known places.first (data_of session.old).known ≡ true }
+    requires second { is_known places.second (data_of session.old).known ≡ true }
+    requires third { is_known places.third (data_of session.old).known ≡ true }
 {
     let mut alters = Duration::ZERO;
     for turn in 0..turns {
@@ -79,8 +79,8 @@ fn turn_often<R: Wait + Clock>(
 
 // Gains a fast ticket at the last table, and releases it.
 fn pair<R: Wait>(rt: &R, session: &mut Session<&R>, places: Places) -> Result<(), Failure>
-    requires third { is_known places.third (space_of session.old).known ≡ true }
-    ensures known { (space_of session.new).known ≡ (space_of session.old).known }
+    requires third { is_known places.third (data_of session.old).known ≡ true }
+    ensures known { (data_of session.new).known ≡ (data_of session.old).known }
 {
     let id = gain(rt, session, places.third, Mode::SR)?;
     give_up(session, places.third, id)
@@ -88,11 +88,11 @@ fn pair<R: Wait>(rt: &R, session: &mut Session<&R>, places: Places) -> Result<()
 
 // Gains tickets of all four, and releases them. All sessions gain them in this order, so no two wait for each other.
 fn transaction<R: Wait>(rt: &R, session: &mut Session<&R>, places: Places) -> Result<(), Failure>
-    requires global { is_known places.global (space_of session.old).known ≡ true }
-    requires first { is_known places.first (space_of session.old).known ≡ true }
-    requires second { is_known places.second (space_of session.old).known ≡ true }
-    requires third { is_known places.third (space_of session.old).known ≡ true }
-    ensures known { (space_of session.new).known ≡ (space_of session.old).known }
+    requires global { is_known places.global (data_of session.old).known ≡ true }
+    requires first { is_known places.first (data_of session.old).known ≡ true }
+    requires second { is_known places.second (data_of session.old).known ≡ true }
+    requires third { is_known places.third (data_of session.old).known ≡ true }
+    ensures known { (data_of session.new).known ≡ (data_of session.old).known }
 {
     let a = gain(rt, session, places.global, Mode::IX)?;
     let b = gain(rt, session, places.first, Mode::SW)?;
@@ -110,8 +110,8 @@ fn alter<R: Wait + Clock>(
     session: &mut Session<&R>,
     places: Places,
 ) -> Result<Duration, Failure>
-    requires third { is_known places.third (space_of session.old).known ≡ true }
-    ensures known { (space_of session.new).known ≡ (space_of session.old).known }
+    requires third { is_known places.third (data_of session.old).known ≡ true }
+    ensures known { (data_of session.new).known ≡ (data_of session.old).known }
 {
     let began = Instant::now(rt)?;
     let id = take(rt, session, places.third, Mode::X)?;

@@ -1,7 +1,7 @@
 //! Calls of sessions beside sessions of other threads: they try again if the word changed meanwhile, and wait if the lock isn't free.
 ghost use Rattle.std.specs.Prelude.{◌≡◌, true};
 ghost use Rattle.mdl_calls.specs.SessionData.{is_known};
-ghost use Rattle.mdl_shared.specs.SessionViews.{space_of};
+ghost use Rattle.mdl_shared.specs.SessionViews.{data_of};
 
 use crate::failure::Failure;
 use mdl_calls::{Attempt, Begun, Ended, Place, Poll, TicketId};
@@ -17,8 +17,8 @@ pub fn gain<R: Wait>(
     place: Place,
     mode: Mode,
 ) -> Result<TicketId, Failure>
-    requires known { is_known place (space_of session.old).known ≡ true }
-    ensures known { (space_of session.new).known ≡ (space_of session.old).known }
+    requires known { is_known place (data_of session.old).known ≡ true }
+    ensures known { (data_of session.new).known ≡ (data_of session.old).known }
 {
     for _ in rt.forever() {
         match session.try_fast(place, mode) {
@@ -39,7 +39,7 @@ pub fn take<R: Wait>(
     place: Place,
     mode: Mode,
 ) -> Result<TicketId, Failure>
-    ensures known { (space_of session.new).known ≡ (space_of session.old).known }
+    ensures known { (data_of session.new).known ≡ (data_of session.old).known }
 {
     match session.try_now(place, mode) {
         Ok(Attempt::Granted(id)) => Ok(id),
@@ -55,7 +55,7 @@ fn wait_for<R: Wait>(
     place: Place,
     mode: Mode,
 ) -> Result<TicketId, Failure>
-    ensures known { (space_of session.new).known ≡ (space_of session.old).known }
+    ensures known { (data_of session.new).known ≡ (data_of session.old).known }
 {
     match session.begin_wait(place, mode) {
         Ok(Begun::Granted(id)) => return Ok(id),
@@ -71,7 +71,7 @@ fn wait_for<R: Wait>(
 
 // Waits until the session's wait is settled, or can't be polled.
 fn wait<R: Wait>(rt: &R, session: &mut Session<&R>)
-    ensures known { (space_of session.new).known ≡ (space_of session.old).known }
+    ensures known { (data_of session.new).known ≡ (data_of session.old).known }
 {
     for _ in rt.forever() {
         match session.poll_wait() {
@@ -88,8 +88,8 @@ pub fn give_up<R: Wait>(
     place: Place,
     id: TicketId,
 ) -> Result<(), Failure>
-    requires known { is_known place (space_of session.old).known ≡ true }
-    ensures known { (space_of session.new).known ≡ (space_of session.old).known }
+    requires known { is_known place (data_of session.old).known ≡ true }
+    ensures known { (data_of session.new).known ≡ (data_of session.old).known }
 {
     match session.release_fast(id) {
         Ok(Released { owes }) => {
@@ -104,7 +104,7 @@ pub fn give_up<R: Wait>(
 
 // Releases a slow ticket.
 fn give_up_slow<R: Wait>(session: &mut Session<&R>, id: TicketId) -> Result<(), Failure>
-    ensures known { (space_of session.new).known ≡ (space_of session.old).known }
+    ensures known { (data_of session.new).known ≡ (data_of session.old).known }
 {
     match session.release(id) {
         Ok(()) => Ok(()),

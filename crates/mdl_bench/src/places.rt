@@ -1,7 +1,7 @@
 //! What a transaction locks: GLOBAL and three tables.
 ghost use Rattle.std.specs.Prelude.{◌≡◌, ℕ, true, IfOk};
 ghost use Rattle.mdl_calls.specs.SessionData.{is_known};
-ghost use Rattle.mdl_shared.specs.SessionViews.{space_of};
+ghost use Rattle.mdl_shared.specs.SessionViews.{data_of};
 
 use crate::failure::Failure;
 use crate::seat::look_up;
@@ -27,10 +27,10 @@ pub fn look_all_up<R: Wait>(
     session: &mut Session<R>,
     from: u16,
 ) -> Result<Places, Failure>
-    ensures global { IfOk result (λ places. is_known places.global (space_of session.new).known ≡ true) }
-    ensures first { IfOk result (λ places. is_known places.first (space_of session.new).known ≡ true) }
-    ensures second { IfOk result (λ places. is_known places.second (space_of session.new).known ≡ true) }
-    ensures third { IfOk result (λ places. is_known places.third (space_of session.new).known ≡ true) }
+    ensures global { IfOk result (λ places. is_known places.global (data_of session.new).known ≡ true) }
+    ensures first { IfOk result (λ places. is_known places.first (data_of session.new).known ≡ true) }
+    ensures second { IfOk result (λ places. is_known places.second (data_of session.new).known ≡ true) }
+    ensures third { IfOk result (λ places. is_known places.third (data_of session.new).known ≡ true) }
 {
     let global = look_up(session, &Key::global(alloc), 1)?;
     let first = look_table_up(alloc, session, from, 2)?;
@@ -51,8 +51,8 @@ pub fn look_table_up<R: Wait>(
     index: u16,
     tickets: usize,
 ) -> Result<Place, Failure>
-    ensures known { IfOk result (λ place. is_known place (space_of session.new).known ≡ true) }
-    ensures kept { (place : ℕ) → is_known place (space_of session.old).known ≡ true → is_known place (space_of session.new).known ≡ true }
+    ensures known { IfOk result (λ place. is_known place (data_of session.new).known ≡ true) }
+    ensures kept { (place : ℕ) → is_known place (data_of session.old).known ≡ true → is_known place (data_of session.new).known ≡ true }
 {
     let key = table(alloc, index)?;
     look_up(session, &key, tickets)

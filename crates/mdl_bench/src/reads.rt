@@ -2,7 +2,7 @@
 ghost use Rattle.std.specs.Prelude.{◌≡◌};
 ghost use Rattle.mdl_calls.specs.Words.{AreMet};
 ghost use Rattle.mdl_calls.specs.SessionData.{HasMet};
-ghost use Rattle.mdl_shared.specs.SessionViews.{space_of};
+ghost use Rattle.mdl_shared.specs.SessionViews.{data_of};
 
 use crate::failure::Failure;
 use crate::lap::{Lap, Race, Start};
@@ -98,7 +98,7 @@ fn read_last<R: Wait + Clock + CpuClock>(
     reading: &Reading,
     race: &Race,
 ) -> Result<Lap, Failure>
-    requires met { AreMet (HasMet (space_of session.old) session.old.me.0.number) cache.old.kept }
+    requires met { AreMet (HasMet (data_of session.old) session.old.me.0.number) cache.old.kept }
 {
     let start = Start::of(rt, race)?;
     let found = match reading {
@@ -111,8 +111,8 @@ fn read_last<R: Wait + Clock + CpuClock>(
 
 // Reads under each ticket, and keeps the tables in the cache. Whether all are defined.
 fn keep_all<R: Wait>(session: &mut Session<R>, ids: &[TicketId], cache: &mut DefCache) -> bool
-    requires met { AreMet (HasMet (space_of session.old) session.old.me.0.number) cache.old.kept }
-    ensures met { AreMet (HasMet (space_of session.new) session.new.me.0.number) cache.new.kept }
+    requires met { AreMet (HasMet (data_of session.old) session.old.me.0.number) cache.old.kept }
+    ensures met { AreMet (HasMet (data_of session.new) session.new.me.0.number) cache.new.kept }
 {
     let mut all = true;
     for id in ids {
@@ -123,7 +123,7 @@ fn keep_all<R: Wait>(session: &mut Session<R>, ids: &[TicketId], cache: &mut Def
 
 // Reads a definition that the cache lends, `turns` times. Returns how often the cache kept it.
 fn look_often<R>(session: &mut Session<R>, id: TicketId, cache: &mut DefCache, turns: u32) -> u32
-    requires met { AreMet (HasMet (space_of session.old) session.old.me.0.number) cache.old.kept }
+    requires met { AreMet (HasMet (data_of session.old) session.old.me.0.number) cache.old.kept }
 {
     let mut found = 0u32;
     for _turn in 0..turns {
@@ -136,8 +136,8 @@ fn look_often<R>(session: &mut Session<R>, id: TicketId, cache: &mut DefCache, t
 
 // Whether the cache lends a table for the ticket.
 fn looks<R>(session: &mut Session<R>, id: TicketId, cache: &mut DefCache) -> bool
-    requires met { AreMet (HasMet (space_of session.old) session.old.me.0.number) cache.old.kept }
-    ensures met { AreMet (HasMet (space_of session.new) session.new.me.0.number) cache.new.kept }
+    requires met { AreMet (HasMet (data_of session.old) session.old.me.0.number) cache.old.kept }
+    ensures met { AreMet (HasMet (data_of session.new) session.new.me.0.number) cache.new.kept }
 {
     is_hit(read_cached(cache, session, id))
 }
@@ -157,7 +157,7 @@ fn copy_often<R: Wait>(
     cache: &mut DefCache,
     turns: u32,
 ) -> u32
-    requires met { AreMet (HasMet (space_of session.old) session.old.me.0.number) cache.old.kept }
+    requires met { AreMet (HasMet (data_of session.old) session.old.me.0.number) cache.old.kept }
 {
     let mut found = 0u32;
     for _turn in 0..turns {
@@ -170,8 +170,8 @@ fn copy_often<R: Wait>(
 
 // Copies the definition from the cache, or reads it and keeps it there. Whether it is a table.
 fn keeps<R: Wait>(session: &mut Session<R>, id: TicketId, cache: &mut DefCache) -> bool
-    requires met { AreMet (HasMet (space_of session.old) session.old.me.0.number) cache.old.kept }
-    ensures met { AreMet (HasMet (space_of session.new) session.new.me.0.number) cache.new.kept }
+    requires met { AreMet (HasMet (data_of session.old) session.old.me.0.number) cache.old.kept }
+    ensures met { AreMet (HasMet (data_of session.new) session.new.me.0.number) cache.new.kept }
 {
     match session.read_kept(id, cache) {
         Ok(standing) => is_table(&standing.definition),

@@ -1,7 +1,7 @@
 //! Sessions of the table that threads share: how they are closed, and calls after which they still know all keys that they knew.
 ghost use Rattle.std.specs.Prelude.{◌≡◌, ℕ, true, IfOk};
 ghost use Rattle.mdl_calls.specs.SessionData.{is_known};
-ghost use Rattle.mdl_shared.specs.SessionViews.{space_of};
+ghost use Rattle.mdl_shared.specs.SessionViews.{data_of};
 
 use crate::failure::Failure;
 use mdl_calls::{Place, SpaceError, TicketId};
@@ -15,8 +15,8 @@ pub fn look_up<R: Wait>(
     key: &Key,
     tickets: usize,
 ) -> Result<Place, Failure>
-    ensures known { IfOk result (λ place. is_known place (space_of session.new).known ≡ true) }
-    ensures kept { (place : ℕ) → is_known place (space_of session.old).known ≡ true → is_known place (space_of session.new).known ≡ true }
+    ensures known { IfOk result (λ place. is_known place (data_of session.new).known ≡ true) }
+    ensures kept { (place : ℕ) → is_known place (data_of session.old).known ≡ true → is_known place (data_of session.new).known ≡ true }
 {
     let place = match session.resolve(key) {
         Ok(place) => place,
@@ -30,8 +30,8 @@ pub fn look_up<R: Wait>(
 
 /// Tries to gain a fast ticket. Returns its number if it is granted.
 pub fn gain<R>(session: &mut Session<R>, place: Place, mode: Mode) -> Option<TicketId>
-    requires known { is_known place (space_of session.old).known ≡ true }
-    ensures known { (space_of session.new).known ≡ (space_of session.old).known }
+    requires known { is_known place (data_of session.old).known ≡ true }
+    ensures known { (data_of session.new).known ≡ (data_of session.old).known }
 {
     match session.try_fast(place, mode) {
         Ok(Fast::Granted(id)) => Some(id),
@@ -41,7 +41,7 @@ pub fn gain<R>(session: &mut Session<R>, place: Place, mode: Mode) -> Option<Tic
 
 /// Releases a fast ticket. Whether the session had it, and owes no reschedule.
 pub fn give_up<R>(session: &mut Session<R>, id: TicketId) -> bool
-    ensures known { (space_of session.new).known ≡ (space_of session.old).known }
+    ensures known { (data_of session.new).known ≡ (data_of session.old).known }
 {
     match session.release_fast(id) {
         Ok(Released { owes }) => !owes,

@@ -1,7 +1,7 @@
 //! The repeated calls of a session of the table that threads share, while no other session requests anything.
 ghost use Rattle.std.specs.Prelude.{◌≡◌, true};
 ghost use Rattle.mdl_calls.specs.SessionData.{is_known};
-ghost use Rattle.mdl_shared.specs.SessionViews.{space_of};
+ghost use Rattle.mdl_shared.specs.SessionViews.{data_of};
 
 use crate::failure::Failure;
 use crate::lap::{Lap, Race, Start};
@@ -68,7 +68,7 @@ pub fn time_pairs<R: Wait + Clock + CpuClock>(
 
 // Makes `turns` pairs of calls. Returns how many succeeded.
 fn make_pairs<R>(session: &mut Session<R>, place: Place, turns: u32) -> u32
-    requires known { is_known place (space_of session.old).known ≡ true }
+    requires known { is_known place (data_of session.old).known ≡ true }
 {
     let mut made = 0u32;
     for _turn in 0..turns {
@@ -200,10 +200,10 @@ pub fn time_transactions<R: Wait + Clock + CpuClock>(
 
 // Makes `turns` transactions. Returns how many succeeded.
 fn transact_often<R>(session: &mut Session<R>, places: Places, turns: u32) -> u32
-    requires global { is_known places.global (space_of session.old).known ≡ true }
-    requires first { is_known places.first (space_of session.old).known ≡ true }
-    requires second { is_known places.second (space_of session.old).known ≡ true }
-    requires third { is_known places.third (space_of session.old).known ≡ true }
+    requires global { is_known places.global (data_of session.old).known ≡ true }
+    requires first { is_known places.first (data_of session.old).known ≡ true }
+    requires second { is_known places.second (data_of session.old).known ≡ true }
+    requires third { is_known places.third (data_of session.old).known ≡ true }
 {
     let mut made = 0u32;
     for _turn in 0..turns {
@@ -216,11 +216,11 @@ fn transact_often<R>(session: &mut Session<R>, places: Places, turns: u32) -> u3
 
 // Gains the fast tickets and releases them, the last one first, as MySQL ends a transaction. Whether all calls succeeded.
 fn transacts<R>(session: &mut Session<R>, places: Places) -> bool
-    requires global { is_known places.global (space_of session.old).known ≡ true }
-    requires first { is_known places.first (space_of session.old).known ≡ true }
-    requires second { is_known places.second (space_of session.old).known ≡ true }
-    requires third { is_known places.third (space_of session.old).known ≡ true }
-    ensures known { (space_of session.new).known ≡ (space_of session.old).known }
+    requires global { is_known places.global (data_of session.old).known ≡ true }
+    requires first { is_known places.first (data_of session.old).known ≡ true }
+    requires second { is_known places.second (data_of session.old).known ≡ true }
+    requires third { is_known places.third (data_of session.old).known ≡ true }
+    ensures known { (data_of session.new).known ≡ (data_of session.old).known }
 {
     let Some(global) = gain(session, places.global, Mode::IX) else {
         return false;

@@ -1,7 +1,7 @@
 //! Calls of a session of a space that threads share, and their answers.
 ghost use Rattle.std.specs.Prelude.{◌≡◌, true};
 ghost use Rattle.mdl_calls.specs.SessionData.{is_known};
-ghost use Rattle.mdl_shared.specs.SessionViews.{space_of};
+ghost use Rattle.mdl_shared.specs.SessionViews.{data_of};
 
 use mdl_defs::{Change, Column, Columns, Definition};
 use mdl_key::{Key, Mode};
@@ -168,7 +168,7 @@ fn reschedule<R: Wait>(session: &mut Session<R>, place: Place) -> Reply {
 
 /// Whether a session knows the key of a place. Tries a second time if memory runs out.
 pub(crate) fn knows<R>(session: &mut Session<R>, place: Place) -> bool
-    ensures { result ≡ true → is_known place (space_of session.new).known ≡ true }
+    ensures { result ≡ true → is_known place (data_of session.new).known ≡ true }
 {
     match session.key_of(place) {
         Ok(_key) => true,

@@ -10,7 +10,7 @@ use Rattle.mdl_syntax.specs.declared.script.Line.{Line}
 use Rattle.mdl_shared.specs.declared.pass.Pass.{Pass}
 use Rattle.mdl_shared.specs.Debts.{IsOwed, OwesNoMore}
 use Rattle.mdl_shared.specs.Passes.{pass_number, pass_table, pass_view}
-use Rattle.mdl_shared.specs.SessionViews.{SessionView, space_of}
+use Rattle.mdl_shared.specs.SessionViews.{SessionView, data_of}
 use Rattle.mdl_work.specs.Paces.{answers_in}
 use Rattle.mdl_work.specs.Works.{RunsFromEmpty, lines_of, newcomer, working_off}
 use Rattle.mdl_script.specs.Answers.{AreAnswers, CachedSteps, Options, WorksOff, nothing}
@@ -53,7 +53,7 @@ paid_behind options lines who a b result run =
 
 -- a session that had nothing, and worked its lines off until it had nothing again, answered so
 pub answers-are : {Z E : Type 0} (options : Options) (lines : List Line) (who : ℕ) (a b : SessionView) (result : Result (Vec (ℕ × Reply) Z) E) →
-    SpeaksFor (space_of a) who → (space_of a).own ≡ nothing → (space_of b).own ≡ nothing → Ends options lines who a result b →
+    SpeaksFor (data_of a) who → (data_of a).own ≡ nothing → (data_of b).own ≡ nothing → Ends options lines who a result b →
     IfOk result (λ answers. map (λ (answer : ℕ × Reply). answer.0) answers.items ≡ map (λ (line : Line). line.number) (lines_of who lines)) →
     IfOk result (λ answers. AreAnswers options lines who a answers.items b)
 answers-are options lines who a b (Ok answers) speaks had has run numbers =
@@ -64,7 +64,7 @@ answers-are options lines who a b (Err why) speaks had has run numbers = tt
 
 -- the session of a pass that was opened, and closed again, has the number that it had
 pub closed-number : (who : ℕ) (opened closed : Pass) (a b : SessionView) → a ≡ pass_view opened → pass_view closed ≡ b →
-    who ≡ a.me.0.number → SpeaksFor (space_of b) who → pass_number closed ≡ pass_number opened
+    who ≡ a.me.0.number → SpeaksFor (data_of b) who → pass_number closed ≡ pass_number opened
 closed-number who opened closed a b begun ended is speaks =
     ap (λ (s : SessionView). s.me.0.number) ended ∙ (sym speaks.0 ∙ (is ∙ ap (λ (s : SessionView). s.me.0.number) begun))
 

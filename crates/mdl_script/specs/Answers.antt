@@ -10,7 +10,7 @@ use Rattle.mdl_syntax.specs.declared.script.Line.{Line}
 use Rattle.mdl_shared.specs.declared.pass.Pass.{Pass}
 use Rattle.mdl_shared.specs.KeptReads.{UsesKept}
 use Rattle.mdl_shared.specs.Passes.{pass_number, pass_view}
-use Rattle.mdl_shared.specs.SessionViews.{SessionView, space_of}
+use Rattle.mdl_shared.specs.SessionViews.{SessionView, data_of}
 use Rattle.mdl_shared.specs.AllSteps.{Shows}
 use Rattle.mdl_work.specs.Works.{RunsFromEmpty, lines_of, newcomer, working_off}
 
@@ -21,12 +21,12 @@ nothing = record { held = []; wait = None }
 -- a session of this table and with this number that has no ticket and no wait
 pub record IsIdleAt (table : TableId) (who : ℕ) (session : SessionView) : Type 0 where
   pub there : session.table ≡ table
-  pub speaks : SpeaksFor (space_of session) who
-  pub has_nothing : (space_of session).own ≡ nothing
+  pub speaks : SpeaksFor (data_of session) who
+  pub has_nothing : (data_of session).own ≡ nothing
 
 -- a call takes a session from one state to the next, as far as its tickets and its wait go, and its steps show what the call read and did
 abbrev pub JoinsSteps : SessionView → Call → Answer → SessionView → Type 0
-JoinsSteps s call answer t = Joins (space_of s) call answer (space_of t) × Shows call answer s t
+JoinsSteps s call answer t = Joins (data_of s) call answer (data_of t) × Shows call answer s t
 
 -- the options of a run: how often a session looks at a wait before it times out, and how many definitions its cache keeps
 pub record Options : Type 0 where
@@ -49,10 +49,10 @@ WorksOff options lines who s answers t =
 -- from one state to another a session executed its lines of a script with these options, and gave these answers. In both it had nothing, and each line
 -- has its answer, in order
 pub record AreAnswers (options : Options) (lines : List Line) (who : ℕ) (before : SessionView) (answers : List (ℕ × Reply)) (after : SessionView) : Type 0 where
-  pub speaks : SpeaksFor (space_of before) who
-  pub had_nothing : own_of (space_of before) who ≡ nothing
+  pub speaks : SpeaksFor (data_of before) who
+  pub had_nothing : own_of (data_of before) who ≡ nothing
   pub run : WorksOff options lines who before answers after
-  pub has_nothing : own_of (space_of after) who ≡ nothing
+  pub has_nothing : own_of (data_of after) who ≡ nothing
   pub numbers : map (λ (answer : ℕ × Reply). answer.0) answers ≡ map (λ (line : Line). line.number) (lines_of who lines)
 
 -- a session gave these answers between the state of a pass that was given (`opened`) and that of a pass that came back (`closed`)

@@ -3,7 +3,7 @@
 ghost use Rattle.std.specs.Prelude.{◌≡◌, [], IfOk, OnOk};
 ghost use Rattle.mdl_calls.specs.SessionData.{SpeaksFor};
 ghost use Rattle.mdl_stmt.specs.Attendance.{IsCapacity};
-ghost use Rattle.mdl_shared.specs.SessionViews.{KeepsLists, space_of};
+ghost use Rattle.mdl_shared.specs.SessionViews.{KeepsLists, data_of};
 ghost use Rattle.mdl_script.specs.Answers.{AreAnswers, nothing, options_of};
 ghost use Rattle.mdl_script.specs.Books.{AreOfOneAudit};
 ghost use Rattle.mdl_script.specs.Runs.{HasMadeFirst, MakesFirst};
@@ -26,12 +26,12 @@ pub(crate) fn make_first_schema<R: Wait, G>(
     who: u16,
 ) -> Result<(), AllocError>
     requires capacity { IsCapacity run.now.cache }
-    requires speaks { SpeaksFor (space_of asker.old) who }
-    requires nothing { (space_of asker.old).own ≡ nothing }
+    requires speaks { SpeaksFor (data_of asker.old) who }
+    requires nothing { (data_of asker.old).own ≡ nothing }
     requires paid { asker.old.me.0.owes ≡ [] }
-    ensures nothing { (space_of asker.new).own ≡ nothing }
+    ensures nothing { (data_of asker.new).own ≡ nothing }
     ensures paid { asker.new.me.0.owes ≡ [] }
-    ensures speaks { SpeaksFor (space_of asker.new) who }
+    ensures speaks { SpeaksFor (data_of asker.new) who }
     ensures first { OnOk result (MakesFirst (options_of run.now.patience run.now.cache) who asker.old asker.new) }
     ensures made { OnOk result (HasMadeFirst (options_of run.now.patience run.now.cache) who asker.new) }
 {
@@ -62,12 +62,12 @@ pub(crate) fn take_turn<R: Wait, G: Gate>(
     who: u16,
 ) -> Result<Transcript, AllocError>
     requires capacity { IsCapacity run.now.cache }
-    requires speaks { SpeaksFor (space_of asker.old) who }
-    requires nothing { (space_of asker.old).own ≡ nothing }
+    requires speaks { SpeaksFor (data_of asker.old) who }
+    requires nothing { (data_of asker.old).own ≡ nothing }
     requires paid { asker.old.me.0.owes ≡ [] }
-    ensures nothing { (space_of asker.new).own ≡ nothing }
+    ensures nothing { (data_of asker.new).own ≡ nothing }
     ensures paid { asker.new.me.0.owes ≡ [] }
-    ensures speaks { SpeaksFor (space_of asker.new) who }
+    ensures speaks { SpeaksFor (data_of asker.new) who }
     ensures who { IfOk result (λ own. own.who ≡ who) }
     ensures answered { IfOk result (λ own. AreAnswers (options_of run.now.patience run.now.cache) run.now.script.now who asker.old own.answers.items asker.new) }
 {
@@ -85,9 +85,9 @@ pub(crate) fn take_turn<R: Wait, G: Gate>(
 
 /// Returns the books of all keys.
 pub(crate) fn books<R: Wait>(asker: &mut Session<&R>) -> Result<Vec<Audited>, AllocError>
-    requires nothing { (space_of asker.old).own ≡ nothing }
+    requires nothing { (data_of asker.old).own ≡ nothing }
     requires paid { asker.old.me.0.owes ≡ [] }
-    ensures nothing { (space_of asker.new).own ≡ nothing }
+    ensures nothing { (data_of asker.new).own ≡ nothing }
     ensures paid { asker.new.me.0.owes ≡ [] }
     ensures same { KeepsLists asker.old asker.new }
     ensures audited { IfOk result (λ books. AreOfOneAudit books.items asker.old asker.new) }

@@ -1,7 +1,7 @@
 //! A session on a thread, from its pass to the end.
 ghost use Rattle.std.specs.Prelude.{◌≡◌, []};
 ghost use Rattle.mdl_shared.specs.Passes.{pass_table, pass_view, table_of};
-ghost use Rattle.mdl_shared.specs.SessionViews.{space_of};
+ghost use Rattle.mdl_shared.specs.SessionViews.{data_of};
 ghost use Rattle.mdl_stmt.specs.Attendance.{IsCapacity};
 ghost use Rattle.mdl_script.specs.Answers.{nothing, options_of};
 ghost use Rattle.mdl_script.specs.Turns.{CameBack};
@@ -44,7 +44,7 @@ pub(crate) fn work_pass<R: Wait, G: Gate>(
 
 /// Closes a session that has no ticket and no wait, and owes no place a reschedule. Returns its pass.
 pub(crate) fn close<R: Drop>(session: Session<R>) -> Pass
-    requires nothing { (space_of session).own ≡ nothing }
+    requires nothing { (data_of session).own ≡ nothing }
     requires paid { session.me.0.owes ≡ [] }
     ensures { pass_view result ≡ session }
 {

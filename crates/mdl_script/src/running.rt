@@ -2,7 +2,7 @@
 ghost use Rattle.std.specs.Prelude.{◌≡◌, ◌≢◌, ◌≤◌, [], ◌∷◌, true, All, IfOk, length};
 ghost use Rattle.std.specs.String.{string_bytes};
 ghost use Rattle.mdl_shared.specs.Passes.{pass_number, pass_table, pass_view, table_of};
-ghost use Rattle.mdl_shared.specs.SessionViews.{space_of};
+ghost use Rattle.mdl_shared.specs.SessionViews.{data_of};
 ghost use Rattle.mdl_stmt.specs.Attendance.{IsCapacity};
 ghost use Rattle.mdl_script.specs.Answers.{IsIdleAt, nothing, options_of};
 ghost use Rattle.mdl_script.specs.RunTexts.{named_sessions};
@@ -127,7 +127,7 @@ fn ran_by<'s, E, R: Threads + Wait + Sync, G: Gate + Sync>(
     ensures theirs { IfOk result (λ ran. All (λ pass. pass_table pass ≡ table_of run.now.manager.now) ran.passes.items) }
     ensures there { IfOk result (λ ran. asker.new.table ≡ table_of run.now.manager.now) }
     ensures number { IfOk result (λ ran. asker.new.me.0.number ≡ who) }
-    ensures nothing { (space_of asker.new).own ≡ nothing }
+    ensures nothing { (data_of asker.new).own ≡ nothing }
     ensures paid { asker.new.me.0.owes ≡ [] }
 {
     let mut passes = others;

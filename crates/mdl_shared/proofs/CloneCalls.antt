@@ -20,7 +20,7 @@ use Rattle.mdl_shared.specs.FastWishes.{BecomesSlow, GainsFast}
 use Rattle.mdl_shared.specs.Members.{IsMember}
 use Rattle.mdl_shared.specs.Modes.{clone_fault}
 use Rattle.mdl_shared.specs.OwnLists.{told_of}
-use Rattle.mdl_shared.specs.SessionViews.{SessionView, space_of, tickets_seen}
+use Rattle.mdl_shared.specs.SessionViews.{SessionView, data_of, tickets_seen}
 use Rattle.mdl_shared.specs.AllSteps.{Shows}
 use Rattle.mdl_shared.specs.Steps.{MeetsTicket, ShowsStep}
 use Rattle.mdl_shared.specs.WishSteps.{FullForFast, IsClosed, IsCloned, LacksMemory, LacksRoomForWish, SlowsAll, StopsSlowing}
@@ -39,30 +39,30 @@ use Rattle.mdl_shared.proofs.WishFaults.{clone-cause, clone-clear}
 module _ {s : SessionView} (is : IsMember s) (id : ℕ) (mode : Mode) where
   -- refused for what the session has
   pub clone-unfit : (why : SpaceError) → clone_fault (numbered id (tickets_seen s.me.0)) s.me.0.asks mode s.me.0.known s.me.0.next ≡ Some why
-      → Joins (space_of s) (Clone_ticket s.me.0.number id mode) (Refused why) (space_of s)
+      → Joins (data_of s) (Clone_ticket s.me.0.number id mode) (Refused why) (data_of s)
   clone-unfit why fault =
       refused s s (Clone_ticket s.me.0.number id mode) why (same-stays s) (speaks is) refl refl
-      (clone-cause s (λ w. IsCause (Knows (space_of s) s.me.0.number) (Clone_ticket s.me.0.number id mode) w (space_of s).own) id mode why (numbered id (tickets_seen s.me.0)) refl
+      (clone-cause s (λ w. IsCause (Knows (data_of s) s.me.0.number) (Clone_ticket s.me.0.number id mode) w (data_of s).own) id mode why (numbered id (tickets_seen s.me.0)) refl
       (λ h. h) (λ h. h) (λ h. h) (λ h. h) fault) (λ state how is. cc) tt
 
   module _ (clear : clone_fault (numbered id (tickets_seen s.me.0)) s.me.0.asks mode s.me.0.known s.me.0.next ≡ None) where
-    may-clone : (is_waiting (space_of s).own ≡ false) × OfHeld id (space_of s).own (MayClone (Knows (space_of s) s.me.0.number) mode)
+    may-clone : (is_waiting (data_of s).own ≡ false) × OfHeld id (data_of s).own (MayClone (Knows (data_of s) s.me.0.number) mode)
     may-clone = let h = clone-clear s id mode (numbered id (tickets_seen s.me.0)) refl clear in (waits-asks s.me.0.asks s.me.0.waits ∙ h.0, h.1)
 
     -- refused, as memory ran out or the book is full
     clone-refused : {s′ : SessionView} → Stays s s′ → {why : SpaceError} → (why ≡ OutOfMemory) ⊎ (why ≡ Full)
-        → Joins (space_of s) (Clone_ticket s.me.0.number id mode) (Refused why) (space_of s′)
+        → Joins (data_of s) (Clone_ticket s.me.0.number id mode) (Refused why) (data_of s′)
     clone-refused {s′} stays {why} causes =
         refused s s′ (Clone_ticket s.me.0.number id mode) why stays (speaks is) refl refl
-        (by-cause (λ w. IsCause (Knows (space_of s) s.me.0.number) (Clone_ticket s.me.0.number id mode) w (space_of s).own) why tt may-clone causes)
+        (by-cause (λ w. IsCause (Knows (data_of s) s.me.0.number) (Clone_ticket s.me.0.number id mode) w (data_of s).own) why tt may-clone causes)
         (λ state how is. cc) tt
 
     module _ (t : Own) (its : numbered id (tickets_seen s.me.0) ≡ Some t) where
       pub clone-joins : {s′ : SessionView} {new : ℕ} → new ≡ s.me.0.next → HasDone t.place (Gain new mode ∷ []) s s′
-          → Joins (space_of s) (Clone_ticket s.me.0.number id mode) (Granted new) (space_of s′)
+          → Joins (data_of s) (Clone_ticket s.me.0.number id mode) (Granted new) (data_of s′)
       clone-joins {s′} {new} first done =
           gain-joins is first done (Clone_ticket s.me.0.number id mode) (speaks is) refl refl
-          (ap (λ o. cloning new mode o (space_of s).own) (ticket-told id (tickets_seen s.me.0) ∙ ap (option_map told_of) its)) (λ d. d)
+          (ap (λ o. cloning new mode o (data_of s).own) (ticket-told id (tickets_seen s.me.0) ∙ ap (option_map told_of) its)) (λ d. d)
           may-clone tt refl (λ state how is. cc) (λ how is. cc) refl (λ r. r) tt
 
       clone-shows : {s′ : SessionView} {new : ℕ} → DoesQuietly t.place (Gain new mode ∷ []) s s′
@@ -71,12 +71,12 @@ module _ {s : SessionView} (is : IsMember s) (id : ℕ) (mode : Mode) where
 
       -- by the fast path
       pub fast-cloned : {b : SessionView} {new : ℕ} → GainsFast t.place mode new s b
-          → Joins (space_of s) (Clone_ticket s.me.0.number id mode) (Granted new) (space_of b) × Shows (Clone_ticket s.me.0.number id mode) (Granted new) s b
+          → Joins (data_of s) (Clone_ticket s.me.0.number id mode) (Granted new) (data_of b) × Shows (Clone_ticket s.me.0.number id mode) (Granted new) s b
       fast-cloned gains = (clone-joins gains.first gains.quiet.done, clone-shows gains.quiet (inl gains.met) gains.room)
 
       -- there was no room
       clone-full : {at : ℕ} {b : SessionView} {why : SpaceError} → DoesQuietly at [] s b × KeepsRoom 0 s.room b.room → LacksRoomForWish (MeetsFull t.place) t.place mode false why s b
-          → Joins (space_of s) (Clone_ticket s.me.0.number id mode) (Refused why) (space_of b) × Shows (Clone_ticket s.me.0.number id mode) (Refused why) s b
+          → Joins (data_of s) (Clone_ticket s.me.0.number id mode) (Refused why) (data_of b) × Shows (Clone_ticket s.me.0.number id mode) (Refused why) s b
       clone-full {b = b} still lacks = (
         clone-refused (done-nothing still.0.done) (wish-lack t.place mode false s b lacks),
         quiet-shows still.0 refl clear (λ e. e) (λ e. e) (λ owes searches. (owes, searches)) (inr (t, its, lacks)) still.1,
@@ -84,7 +84,7 @@ module _ {s : SessionView} (is : IsMember s) (id : ℕ) (mode : Mode) where
 
       pub full-cloned : {b : SessionView} {why : SpaceError} → DoesQuietly 0 [] s b × KeepsRoom 0 s.room b.room
           → ((why ≡ OutOfMemory) × LacksMemory t.place mode StopsSlowing s b) ⊎ ((why ≡ Full) × IsClosed t.place mode StopsSlowing s b × FullForFast s b)
-          → Joins (space_of s) (Clone_ticket s.me.0.number id mode) (Refused why) (space_of b) × Shows (Clone_ticket s.me.0.number id mode) (Refused why) s b
+          → Joins (data_of s) (Clone_ticket s.me.0.number id mode) (Refused why) (data_of b) × Shows (Clone_ticket s.me.0.number id mode) (Refused why) s b
       full-cloned {b} still causes = clone-full still (full-fast t.place mode false s b causes)
 
       -- by the latch of the place, once all fast tickets are slow ones
@@ -94,7 +94,7 @@ module _ {s : SessionView} (is : IsMember s) (id : ℕ) (mode : Mode) where
             × KeepsRoom 1 b.room c.room)
             → OnErr result (DoesQuietly t.place [] b c × KeepsRoom 0 b.room c.room)
             → IfErr result (λ why. (why ≡ OutOfMemory) ⊎ ((why ≡ Full) × ShowsStep b c (MeetsFull t.place)))
-            → Joins (space_of s) (Clone_ticket s.me.0.number id mode) (cloned result) (space_of c)
+            → Joins (data_of s) (Clone_ticket s.me.0.number id mode) (cloned result) (data_of c)
             × Shows (Clone_ticket s.me.0.number id mode) (cloned result) s c
         cloned-slow next first (Ok new) made still causes =
             let quiet = quiet-then slow.quiet made.1 in

@@ -26,7 +26,7 @@ use Rattle.mdl_shared.specs.Endings.{lost_end}
 use Rattle.mdl_shared.specs.Members.{IsMember}
 use Rattle.mdl_shared.specs.OwnLists.{told_of}
 use Rattle.mdl_shared.specs.Rememberings.{AreAlike}
-use Rattle.mdl_shared.specs.SessionViews.{SessionView, space_of, tickets_seen}
+use Rattle.mdl_shared.specs.SessionViews.{SessionView, data_of, tickets_seen}
 use Rattle.mdl_shared.specs.TicketLists.{Room}
 use Rattle.mdl_shared.specs.Waitings.{are_below}
 use Rattle.mdl_shared.proofs.Alike.{alike_done}
@@ -74,12 +74,12 @@ pub ended-debts : {slow : List Own} {s s′ : SessionView} → HasEnded slow s s
 ended-debts ends q owed = ends.owed q (subst (λ (x : SessionView). IsOwed q x.me.0.owes) ends.now owed)
 
 -- without a wait there is nothing to end
-pub idle-joins : {s : SessionView} → IsMember s → s.me.0.asks ≡ None → Joins (space_of s) (End_wait s.me.0.number) (Refused NoWait) (space_of s)
+pub idle-joins : {s : SessionView} → IsMember s → s.me.0.asks ≡ None → Joins (data_of s) (End_wait s.me.0.number) (Refused NoWait) (data_of s)
 idle-joins {s} is idle =
     refused s s (End_wait s.me.0.number) NoWait (same-stays s) (speaks is) refl refl (waits-asks s.me.0.asks s.me.0.waits ∙ ap is_some idle) (λ state how is. cc) tt
 
 -- it waits where it asks
-waits : (s : SessionView) (a : Ask) → s.me.0.asks ≡ Some a → is_waiting (space_of s).own ≡ true
+waits : (s : SessionView) (a : Ask) → s.me.0.asks ≡ Some a → is_waiting (data_of s).own ≡ true
 waits s a asks = waits-asks s.me.0.asks s.me.0.waits ∙ ap is_some asks
 
 -- nothing is asked for then
@@ -118,7 +118,7 @@ module _ {s s′ : SessionView} (is : IsMember s) where
 
   module _ (a : Ask) (asks : s.me.0.asks ≡ Some a) where
     -- it isn't settled
-    pub unsettled-joins : Stays s s′ → ((how : Settled) → (space_of s).settled ≡ Some how → ⊥) → Joins (space_of s) (End_wait s.me.0.number) (Refused Unsettled) (space_of s′)
+    pub unsettled-joins : Stays s s′ → ((how : Settled) → (data_of s).settled ≡ Some how → ⊥) → Joins (data_of s) (End_wait s.me.0.number) (Refused Unsettled) (data_of s′)
     unsettled-joins stays unsettled =
         refused s s′ (End_wait s.me.0.number) Unsettled stays (speaks is) refl refl (waits s a asks) (λ state how met knows. absurd (unsettled how knows)) tt
 
@@ -126,19 +126,19 @@ module _ {s s′ : SessionView} (is : IsMember s) where
     pub won-order : HasEnded (owned a.place (Gain a.number a.mode) s.me.0.slow) s s′ → StaysInOrder s s′
     won-order ends = ended-order ends (subst AreAlike (sym (gains is a asks)) (alike_done a.place (Gain a.number a.mode ∷ []) (tickets_seen s.me.0) is.alike))
 
-    pub won-joins : ((how : Settled) → (space_of s).settled ≡ Some how → settled_as.Granted ≡ how) → HasEnded (owned a.place (Gain a.number a.mode) s.me.0.slow) s s′
-        → Joins (space_of s) (End_wait s.me.0.number) (Granted a.number) (space_of s′)
+    pub won-joins : ((how : Settled) → (data_of s).settled ≡ Some how → settled_as.Granted ≡ how) → HasEnded (owned a.place (Gain a.number a.mode) s.me.0.slow) s s′
+        → Joins (data_of s) (End_wait s.me.0.number) (Granted a.number) (data_of s′)
     won-joins agreed ends =
         let last = ask-last is a asks in
         let id : a.number ≡ s.me.0.next - 1 = omega arith in
-        subst (λ (x : SessionView). Joins (space_of s) (End_wait s.me.0.number) (Granted a.number) (space_of x)) (sym ends.now) (record {
+        subst (λ (x : SessionView). Joins (data_of s) (End_wait s.me.0.number) (Granted a.number) (data_of x)) (sym ends.now) (record {
           mine = speaks is;
           has = refl;
           fits = refl;
           number = refl;
           own = ap (λ (ts : List Own). own_of (map told_of ts) None) (gains is a asks)
               ∙ ap (λ held. own_of held None) (told-last (tickets_seen s.me.0) (record { number = a.number; place = a.place; mode = a.mode; noted = note_at a.place (tickets_seen s.me.0) }))
-              ∙ sym (ap (λ (o : Option Ask). winning a.number (wait_by s.me.0.waits o) (space_of s).own) asks);
+              ∙ sym (ap (λ (o : Option Ask). winning a.number (wait_by s.me.0.waits o) (data_of s).own) asks);
           numbers = (id, refl);
           explained = waits s a asks;
           gained = tt;
@@ -155,9 +155,9 @@ module _ {s s′ : SessionView} (is : IsMember s) where
     pub lost-order : HasEnded s.me.0.slow s s′ → StaysInOrder s s′
     lost-order ends = ended-order ends is.alike
 
-    pub lost-joins : (one : Settled) → is_answer_of (End_wait s.me.0.number) (Lost one) ≡ true → ((how : Settled) → (space_of s).settled ≡ Some how → one ≡ how)
-        → HasEnded s.me.0.slow s s′ → Joins (space_of s) (End_wait s.me.0.number) (Lost one) (space_of s′)
-    lost-joins one fits agreed ends = subst (λ (x : SessionView). Joins (space_of s) (End_wait s.me.0.number) (Lost one) (space_of x)) (sym ends.now) (record {
+    pub lost-joins : (one : Settled) → is_answer_of (End_wait s.me.0.number) (Lost one) ≡ true → ((how : Settled) → (data_of s).settled ≡ Some how → one ≡ how)
+        → HasEnded s.me.0.slow s s′ → Joins (data_of s) (End_wait s.me.0.number) (Lost one) (data_of s′)
+    lost-joins one fits agreed ends = subst (λ (x : SessionView). Joins (data_of s) (End_wait s.me.0.number) (Lost one) (data_of x)) (sym ends.now) (record {
       mine = speaks is;
       has = refl;
       fits = fits;

@@ -24,7 +24,7 @@ use Rattle.mdl_visits.proofs.Rescheduling.{rescheduled_after}
 use Rattle.mdl_visits.proofs.Steps.{does_then, goes_by, step_after}
 use Rattle.mdl_shared.specs.Debts.{Pays}
 use Rattle.mdl_shared.specs.Members.{IsMember}
-use Rattle.mdl_shared.specs.SessionViews.{SessionView, lists_seen, session_at, settled_of, space_of}
+use Rattle.mdl_shared.specs.SessionViews.{SessionView, data_of, lists_seen, session_at, settled_of}
 use Rattle.mdl_shared.specs.AllSteps.{Shows}
 use Rattle.mdl_shared.specs.Steps.{EndsByOneStep, EndsOwnWait, LooksThen, ShowsStep}
 use Rattle.mdl_shared.specs.TicketLists.{KeepsRoom, Room}
@@ -61,7 +61,7 @@ module _ {s mid : SessionView} (is : IsMember s) (a : Ask) (asks : s.me.0.asks �
   -- ---- it is not settled
 
   pub unsettled-end : settled_of (wait_state found) ≡ None
-      → Joins (space_of s) (End_wait s.me.0.number) (Refused Unsettled) (space_of mid) × Shows (End_wait s.me.0.number) (Refused Unsettled) s mid
+      → Joins (data_of s) (End_wait s.me.0.number) (Refused Unsettled) (data_of mid) × Shows (End_wait s.me.0.number) (Refused Unsettled) s mid
   unsettled-end none =
       let polled = poll-pending is waiting session found mine own now none in
       let shown = polled.1 in (
@@ -84,10 +84,10 @@ module _ {s mid : SessionView} (is : IsMember s) (a : Ask) (asks : s.me.0.asks �
   -- ---- it is settled
 
   module _ (one : Settled) (some : settled_of (wait_state found) ≡ Some one) where
-    polled : Joins (space_of s) (Poll_wait s.me.0.number) (Is_settled one) (space_of mid) × Shows (Poll_wait s.me.0.number) (Is_settled one) s mid
+    polled : Joins (data_of s) (Poll_wait s.me.0.number) (Is_settled one) (data_of mid) × Shows (Poll_wait s.me.0.number) (Is_settled one) s mid
     polled = poll-settled is waiting session found mine own now one some
 
-    agreed : (how : Settled) → (space_of s).settled ≡ Some how → one ≡ how
+    agreed : (how : Settled) → (data_of s).settled ≡ Some how → one ≡ how
     agreed how knows = let e : Some one ≡ Some how = polled.0.agreed (Some one) how refl knows in cc
 
     -- the session knows that then
@@ -113,7 +113,7 @@ module _ {s mid : SessionView} (is : IsMember s) (a : Ask) (asks : s.me.0.asks �
     pub lost-end : {s′ : SessionView} → Does [] mid.me s′.me → ShowsStep mid s′ (EndsWait mid.table.slots mid.me.0.number mid.me.0.waits (state_of one)) → is_answer_of (End_wait s.me.0.number) (Lost one) ≡ true → HasEnded s.me.0.slow s s′
         → HasRescheduled mid.table a.place (without_wait mid.me) s′.me → VisitsOnce a.place mid.me s′.me → Pays a.place s.me s′.me
         → KeepsRoom 0 s.room s′.room
-        → Joins (space_of s) (End_wait s.me.0.number) (Lost one) (space_of s′) × Shows (End_wait s.me.0.number) (Lost one) s s′
+        → Joins (data_of s) (End_wait s.me.0.number) (Lost one) (data_of s′) × Shows (End_wait s.me.0.number) (Lost one) s s′
     lost-end {s′} ends shows fits ended rescheduled once pays keeps =
         let shown = polled.1 in
         let stayed = shown.met.1 in (
@@ -148,7 +148,7 @@ module _ {s mid : SessionView} (is : IsMember s) (a : Ask) (asks : s.me.0.asks �
     pub won-end : one ≡ settled_as.Granted → {s′ : SessionView} → Does [] mid.me s′.me
         → (e : Met) × (s′.me.0.log ≡ mid.me.0.log ++ e ∷ []) × EndsWait mid.table.slots mid.me.0.number mid.me.0.waits granted_state e → (ended : HasEnded (owned a.place (Gain a.number a.mode) s.me.0.slow) s s′) → ended.settles ≡ s.me.0.settles
         → ended.owes ≡ s.me.0.owes
-        → KeepsRoom 1 s.room s′.room → Joins (space_of s) (End_wait s.me.0.number) (Granted a.number) (space_of s′) × Shows (End_wait s.me.0.number) (Granted a.number) s s′
+        → KeepsRoom 1 s.room s′.room → Joins (data_of s) (End_wait s.me.0.number) (Granted a.number) (data_of s′) × Shows (End_wait s.me.0.number) (Granted a.number) s s′
     won-end granted {s′} ends last ended settles owes keeps = (
       won-joins is a asks (λ how knows. sym granted ∙ agreed how knows) ended,
       record {

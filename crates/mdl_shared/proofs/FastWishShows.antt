@@ -21,7 +21,7 @@ use Rattle.mdl_visits.proofs.Steps.{does_then}
 use Rattle.mdl_shared.specs.DeedsDone.{DoesQuietly}
 use Rattle.mdl_shared.specs.FastWishes.{BecomesSlow, BeginsToWait, GainsFast, GainsSlow, HasBegun, HasTried}
 use Rattle.mdl_shared.specs.Members.{IsMember, kind_known, obtrudes_at, wish_fault}
-use Rattle.mdl_shared.specs.SessionViews.{SessionView, space_of}
+use Rattle.mdl_shared.specs.SessionViews.{SessionView, data_of}
 use Rattle.mdl_shared.specs.AllSteps.{Shows}
 use Rattle.mdl_shared.specs.Steps.{ShowsStep}
 use Rattle.mdl_shared.specs.WishSteps.{FullForFast, IsClosed, IsGranted, LacksMemory, LacksRoomForFast, LacksRoomForWish, SlowsAll, StopsOrVisits, StopsSlowing}
@@ -73,14 +73,14 @@ module _ {a : SessionView} (is : IsMember a) (place : ℕ) (mode : Mode) (clear 
 
   pub try-full : {at : ℕ} {b : SessionView} {why : SpaceError} → DoesQuietly at [] a b × KeepsRoom 0 a.room b.room
       → LacksRoomForWish (MeetsFullWish place a.me.0.number mode true) place mode (obtrudes_at place mode a.me.0.known) why a b
-      → Joins (space_of a) (Try_now a.me.0.number place mode) (Refused why) (space_of b) × Shows (Try_now a.me.0.number place mode) (Refused why) a b
+      → Joins (data_of a) (Try_now a.me.0.number place mode) (Refused why) (data_of b) × Shows (Try_now a.me.0.number place mode) (Refused why) a b
   try-full {b = b} still lacks = (
     try-refused is place mode clear (done-nothing still.0.done) (wish-lack place mode (obtrudes_at place mode a.me.0.known) a b lacks),
     quiet-shows still.0 refl clear (λ s. s) (λ t. t) (λ owes searches. (owes, searches)) (inr lacks) still.1,
   )
 
   pub begin-full : {at : ℕ} {b : SessionView} {why : SpaceError} → DoesQuietly at [] a b × KeepsRoom 0 a.room b.room → LacksRoomForWish (MeetsFull place) place mode (obtrudes_at place mode a.me.0.known) why a b
-      → Joins (space_of a) (Begin_wait a.me.0.number place mode) (Refused why) (space_of b) × Shows (Begin_wait a.me.0.number place mode) (Refused why) a b
+      → Joins (data_of a) (Begin_wait a.me.0.number place mode) (Refused why) (data_of b) × Shows (Begin_wait a.me.0.number place mode) (Refused why) a b
   begin-full {b = b} still lacks = (
     begin-refused is place mode clear (done-nothing still.0.done) (wish-lack place mode (obtrudes_at place mode a.me.0.known) a b lacks),
     quiet-shows still.0 refl clear (λ s. s) (λ t. t) (λ owes searches. (owes, searches)) (inr lacks) still.1,
@@ -90,19 +90,19 @@ module _ {a : SessionView} (is : IsMember a) (place : ℕ) (mode : Mode) (clear 
 
   module _ {b : SessionView} {id : ℕ} (first : id ≡ a.me.0.next) (quiet : DoesQuietly place (Gain id mode ∷ []) a b) (met : IsGranted place mode (Gain id mode) a b)
       (keeps : KeepsRoom 1 a.room b.room) where
-    pub try-grants : Joins (space_of a) (Try_now a.me.0.number place mode) (Granted id) (space_of b) × Shows (Try_now a.me.0.number place mode) (Granted id) a b
+    pub try-grants : Joins (data_of a) (Try_now a.me.0.number place mode) (Granted id) (data_of b) × Shows (Try_now a.me.0.number place mode) (Granted id) a b
     try-grants = (try-granted is place mode clear first quiet.done, quiet-shows quiet refl clear (λ s. s) (λ t. t) (λ owes searches. (owes, searches)) met keeps)
 
-    pub begin-grants : Joins (space_of a) (Begin_wait a.me.0.number place mode) (Granted id) (space_of b) × Shows (Begin_wait a.me.0.number place mode) (Granted id) a b
+    pub begin-grants : Joins (data_of a) (Begin_wait a.me.0.number place mode) (Granted id) (data_of b) × Shows (Begin_wait a.me.0.number place mode) (Granted id) a b
     begin-grants = (begin-granted is place mode clear first quiet.done, quiet-shows quiet refl clear (λ s. s) (λ t. t) (λ owes searches. (owes, searches)) met keeps)
 
   -- by the fast path
   pub try-fast : {b : SessionView} {id : ℕ} → GainsFast place mode id a b
-      → Joins (space_of a) (Try_now a.me.0.number place mode) (Granted id) (space_of b) × Shows (Try_now a.me.0.number place mode) (Granted id) a b
+      → Joins (data_of a) (Try_now a.me.0.number place mode) (Granted id) (data_of b) × Shows (Try_now a.me.0.number place mode) (Granted id) a b
   try-fast gains = try-grants gains.first gains.quiet (inl gains.met) gains.room
 
   pub begin-fast : {b : SessionView} {id : ℕ} → GainsFast place mode id a b
-      → Joins (space_of a) (Begin_wait a.me.0.number place mode) (Granted id) (space_of b) × Shows (Begin_wait a.me.0.number place mode) (Granted id) a b
+      → Joins (data_of a) (Begin_wait a.me.0.number place mode) (Granted id) (data_of b) × Shows (Begin_wait a.me.0.number place mode) (Granted id) a b
   begin-fast gains = begin-grants gains.first gains.quiet (inl gains.met) gains.room
 
   -- ---- by the latch of the place, once all fast tickets are slow ones
@@ -116,7 +116,7 @@ module _ {a : SessionView} (is : IsMember a) (place : ℕ) (mode : Mode) (clear 
     pub tried-slow : (result : Result Attempt SpaceError) → IfOk result (λ answer. HasTried place mode answer b c)
         → OnErr result (DoesQuietly place [] b c × KeepsRoom 0 b.room c.room)
         → IfErr result (λ why. (why ≡ OutOfMemory) ⊎ ((why ≡ fault.Full) × ShowsStep b c (MeetsFullWish place b.me.0.number mode true)))
-        → Joins (space_of a) (Try_now a.me.0.number place mode) (attempted result) (space_of c)
+        → Joins (data_of a) (Try_now a.me.0.number place mode) (attempted result) (data_of c)
         × Shows (Try_now a.me.0.number place mode) (attempted result) a c
     tried-slow (Ok (attempt.Granted id)) tried still causes =
         try-grants (tried.first ∙ next-slow slow) (quiet-then slow.quiet tried.quiet) (granted-since tried)
@@ -132,14 +132,14 @@ module _ {a : SessionView} (is : IsMember a) (place : ℕ) (mode : Mode) (clear 
         try-full (quiet-then slow.quiet still.0, keeps-before 0 a.room b.room c.room slow.room still.1) (full-one place mode (obtrudes_at place mode a.me.0.known) a b c slow closed once met)
 
     -- it waits
-    waits-joins : {number : ℕ} → BeginsToWait place mode number b c → Joins (space_of a) (Begin_wait a.me.0.number place mode) (Waits number) (space_of c)
+    waits-joins : {number : ℕ} → BeginsToWait place mode number b c → Joins (data_of a) (Begin_wait a.me.0.number place mode) (Waits number) (data_of c)
     waits-joins {number} begins =
         let still = ap (λ (x : SessionView). wish_fault (kind_known place x.me.0.known) x.me.0.asks mode x.me.0.next) slow.quiet.done.now ∙ clear in
         let now : c ≡ record b { me = (record (awaiting place mode b.me.0) { log = b.me.0.log ++ begins.opens.made }, b.me.1); room = c.room }
         = λ i. record { table = begins.table i; sessions = begins.sessions i; me = begins.opens.now i; room = c.room } in
         let joins = begun-joins (still-member slow.quiet.done is) still now begins.next in
-        let by = subst (λ (n : ℕ). Joins (space_of b) (Begin_wait n place mode) (Waits number) (space_of c)) (number-slow slow) joins in
-        subst (λ (s : SessionData). Joins s (Begin_wait a.me.0.number place mode) (Waits number) (space_of c)) (same-space slow.quiet) by
+        let by = subst (λ (n : ℕ). Joins (data_of b) (Begin_wait n place mode) (Waits number) (data_of c)) (number-slow slow) joins in
+        subst (λ (s : SessionData). Joins s (Begin_wait a.me.0.number place mode) (Waits number) (data_of c)) (same-space slow.quiet) by
 
     waits-shows : {number : ℕ} → BeginsToWait place mode number b c → Shows (Begin_wait a.me.0.number place mode) (Waits number) a c
     waits-shows begins =
@@ -157,7 +157,7 @@ module _ {a : SessionView} (is : IsMember a) (place : ℕ) (mode : Mode) (clear 
     pub begun-slow : (result : Result Begun SpaceError) → IfOk result (λ answer. HasBegun place mode answer b c)
         → OnErr result (DoesQuietly place [] b c × KeepsRoom 0 b.room c.room)
         → IfErr result (λ why. (why ≡ OutOfMemory) ⊎ ((why ≡ fault.Full) × ShowsStep b c (MeetsFull place)))
-        → Joins (space_of a) (Begin_wait a.me.0.number place mode) (begun result) (space_of c)
+        → Joins (data_of a) (Begin_wait a.me.0.number place mode) (begun result) (data_of c)
         × Shows (Begin_wait a.me.0.number place mode) (begun result) a c
     begun-slow (Ok (begin.Granted id)) asked still causes =
         begin-grants (asked.first ∙ next-slow slow) (quiet-then slow.quiet asked.quiet) (granted-since asked)

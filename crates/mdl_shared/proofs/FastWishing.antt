@@ -16,7 +16,7 @@ use Rattle.mdl_visits.proofs.Steps.{each_map}
 use Rattle.mdl_shared.specs.declared.member.Member.{Member}
 use Rattle.mdl_shared.specs.DeedsDone.{DoesQuietly}
 use Rattle.mdl_shared.specs.FastWishes.{BecomesSlow}
-use Rattle.mdl_shared.specs.SessionViews.{Lists, SessionView, note_of, settled_told, space_of}
+use Rattle.mdl_shared.specs.SessionViews.{Lists, SessionView, data_of, note_of, settled_told}
 use Rattle.mdl_shared.specs.Steps.{ShowsStep}
 use Rattle.mdl_shared.specs.WishSteps.{AllMadeSlow, ByLatch, ByVisit, FindsClosed, FromUnfast, FullForFast, IsClosed, LacksMemory, LacksRoomForFast, MakesSlow, SlowsAll, StopsSlowing}
 use Rattle.mdl_shared.specs.TicketLists.{Room}
@@ -27,7 +27,7 @@ use Rattle.mdl_shared.proofs.SpaceLists.{known_of}
 -- ---- as a lock space
 
 -- it is the same where nothing was done but steps, whichever of its tickets are fast
-pub same-space : {place : ℕ} {a b : SessionView} → DoesQuietly place [] a b → space_of b ≡ space_of a
+pub same-space : {place : ℕ} {a b : SessionView} → DoesQuietly place [] a b → data_of b ≡ data_of a
 same-space {a = a} quiet =
     let told : quiet.done.told ≡ a.me.0.told = sym (ap (λ (x : SessionView). x.me.0.told) quiet.done.now) ∙ quiet.told in
     let space : List Own → Option ℕ → SessionData = λ tickets told. record {
@@ -39,7 +39,7 @@ same-space {a = a} quiet =
       notes = filter_map note_of tickets;
       reads = map reading_of a.me.0.reads;
     } in
-    ap space_of quiet.done.now ∙ (λ i. space (quiet.done.tickets i) (told i))
+    ap data_of quiet.done.now ∙ (λ i. space (quiet.done.tickets i) (told i))
 
 -- ---- after room was made
 

@@ -24,7 +24,7 @@ use Rattle.mdl_shared.specs.declared.member.Member.{Member}
 use Rattle.mdl_shared.specs.KeptReads.{MayKeep, kept_standing}
 use Rattle.mdl_shared.specs.Members.{IsMember, holding_fault}
 use Rattle.mdl_shared.specs.Passes.{view_of}
-use Rattle.mdl_shared.specs.SessionViews.{Lists, SessionView, lists_seen, session_at, space_of, tickets_of, tickets_seen}
+use Rattle.mdl_shared.specs.SessionViews.{Lists, SessionView, data_of, lists_seen, session_at, tickets_of, tickets_seen}
 use Rattle.mdl_shared.specs.AllSteps.{Shows}
 use Rattle.mdl_shared.specs.ReadSteps.{FindsVersion, MissesVersion, ReadsByLatch, VisitsInVain}
 use Rattle.mdl_shared.specs.Steps.{OfTicket}
@@ -87,8 +87,8 @@ module _ (s : SessionView) (id : ℕ) (t : Own) (its : numbered id (tickets_seen
       owes = (noted-owes (found-noted finds), ap (λ (x : SessionView). x.me.0.searches) (found-now finds));
     }
 
-    pub full-joins : Joins (space_of s) (Read_kept s.me.0.number id) (Reads standing.version standing.definition) (space_of s′)
-        → Joins (space_of s) (Read_kept s.me.0.number id) (Refused OutOfMemory) (space_of s′)
+    pub full-joins : Joins (data_of s) (Read_kept s.me.0.number id) (Reads standing.version standing.definition) (data_of s′)
+        → Joins (data_of s) (Read_kept s.me.0.number id) (Refused OutOfMemory) (data_of s′)
     full-joins joins = record {
       mine = joins.mine;
       has = refl;
@@ -104,9 +104,9 @@ module _ (s : SessionView) (id : ℕ) (t : Own) (its : numbered id (tickets_seen
       settled = joins.settled;
       reads = inr (
         refl,
-        map-held id (space_of s).own (λ (h : Held). Read_so standing (space_of s) (space_of s′) h.place)
-            (λ (h : Held). (x : Standing) × ((space_of s′).reads ≡ (space_of s).reads) × Read_so x (space_of s) (space_of s′) h.place)
-            (λ h there. (standing, ap (λ (x : SessionView). (space_of x).reads) (found-now finds), there)) joins.reads,
+        map-held id (data_of s).own (λ (h : Held). Read_so standing (data_of s) (data_of s′) h.place)
+            (λ (h : Held). (x : Standing) × ((data_of s′).reads ≡ (data_of s).reads) × Read_so x (data_of s) (data_of s′) h.place)
+            (λ h there. (standing, ap (λ (x : SessionView). (data_of x).reads) (found-now finds), there)) joins.reads,
       );
       truly = tt;
     }
@@ -119,11 +119,11 @@ module _ (s : SessionView) (id : ℕ) (t : Own) (its : numbered id (tickets_seen
         let same : ◌≡◌ {A = Option Own} (Some t) (Some u) = sym its ∙ ap (λ (l : Lists). numbered id (tickets_of l)) (sym (read-lists reads)) ∙ other in
         cc
 
-    pub miss-joins : (version : ℕ) (definition : Option Definition) → Joins (space_of mid) (Read_definition mid.me.0.number id) (Reads version definition) (space_of s′)
-        → Joins (space_of s) (Read_kept s.me.0.number id) (Reads version definition) (space_of s′)
+    pub miss-joins : (version : ℕ) (definition : Option Definition) → Joins (data_of mid) (Read_definition mid.me.0.number id) (Reads version definition) (data_of s′)
+        → Joins (data_of s) (Read_kept s.me.0.number id) (Reads version definition) (data_of s′)
     miss-joins version definition joins =
-        kept-joins (space_of s) (space_of s′) s.me.0.number id version definition
-        (subst (λ (a : SessionData). Joins a (Read_definition a.number id) (Reads version definition) (space_of s′)) (read-space reads) joins)
+        kept-joins (data_of s) (data_of s′) s.me.0.number id version definition
+        (subst (λ (a : SessionData). Joins a (Read_definition a.number id) (Reads version definition) (data_of s′)) (read-space reads) joins)
 
     pub miss-latch : (standing : Standing) → Shows (Read_definition mid.me.0.number id) (Reads standing.version standing.definition) mid s′
         → ReadsByLatch id t standing mid s′
@@ -157,11 +157,11 @@ module _ (s : SessionView) (id : ℕ) (t : Own) (its : numbered id (tickets_seen
             cc
         by (inr met) = (met.0, subst (λ (u : Own). VisitsInVain u.place mid s′) (sym (miss-ticket met.1.0 met.1.1)) met.1.2)
 
-    pub miss-full_joins : Joins (space_of mid) (Read_definition mid.me.0.number id) (Refused OutOfMemory) (space_of s′)
-        → Joins (space_of s) (Read_kept s.me.0.number id) (Refused OutOfMemory) (space_of s′)
+    pub miss-full_joins : Joins (data_of mid) (Read_definition mid.me.0.number id) (Refused OutOfMemory) (data_of s′)
+        → Joins (data_of s) (Read_kept s.me.0.number id) (Refused OutOfMemory) (data_of s′)
     miss-full_joins joins =
-        unkept-joins (space_of s) (space_of s′) s.me.0.number id
-        (subst (λ (a : SessionData). Joins a (Read_definition a.number id) (Refused OutOfMemory) (space_of s′)) (read-space reads) joins)
+        unkept-joins (data_of s) (data_of s′) s.me.0.number id
+        (subst (λ (a : SessionData). Joins a (Read_definition a.number id) (Refused OutOfMemory) (data_of s′)) (read-space reads) joins)
 
     pub miss-full_shows : VisitsInVain t.place mid s′ → Shows (Read_definition mid.me.0.number id) (Refused OutOfMemory) mid s′
         → Shows (Read_kept s.me.0.number id) (Refused OutOfMemory) s s′
@@ -181,14 +181,14 @@ module _ (s : SessionView) (id : ℕ) (t : Own) (its : numbered id (tickets_seen
 -- ---- what a session met
 
 -- it has met after a call
-pub met-after : {s : SessionView} (is : IsMember s) (b : SessionData) (call : Call) (answer : Answer) (kept : List Kept) → Joins (space_of s) call answer b
-    → AreMet (HasMet (space_of s) s.me.0.number) kept → AreMet (HasMet b b.number) kept
+pub met-after : {s : SessionView} (is : IsMember s) (b : SessionData) (call : Call) (answer : Answer) (kept : List Kept) → Joins (data_of s) call answer b
+    → AreMet (HasMet (data_of s) s.me.0.number) kept → AreMet (HasMet b b.number) kept
 met-after {s} is b call answer kept joins all one among =
-    session-met_stays (space_of s) b call answer s.me.0.number one.0.0 (kept_standing one.0.1 one.1) (speaks is) joins (all one among)
+    session-met_stays (data_of s) b call answer s.me.0.number one.0.0 (kept_standing one.0.1 one.1) (speaks is) joins (all one among)
 
 -- and what it read last
 pub met-read : (a b : SessionView) (place : ℕ) (standing : Standing) → b.me.0.reads ≡ a.me.0.reads ++ record { place = place; standing = standing } ∷ []
-    → HasMet (space_of b) b.me.0.number place standing
+    → HasMet (data_of b) b.me.0.number place standing
 met-read a b place standing reads =
     subst (λ (l : List Read). Contains (map reading_of l) (record { place = place; standing = standing })) (sym reads)
     (Contains-map reading_of _ (record { place = place; standing = standing }) (middle a.me.0.reads [] _))
@@ -196,21 +196,21 @@ met-read a b place standing reads =
 -- ---- where a definition is kept of the version that a step found
 
 module _ {s s′ : SessionView} (is : IsMember s) (id : ℕ) (t : Own) (its : numbered id (tickets_seen s.me.0) ≡ Some t) (kept : List Kept)
-    (met : AreMet (HasMet (space_of s) s.me.0.number) kept) (version : ℕ) (d : Definition) (hit : kept_of t.place version kept ≡ Some d)
+    (met : AreMet (HasMet (data_of s) s.me.0.number) kept) (version : ℕ) (d : Definition) (hit : kept_of t.place version kept ≡ Some d)
     (newest : ReadNoneNewer t.place version s.me) (one : ReadOneStanding t.place version s.me)
     (now : s′.me ≡ noted_version t.place version s.me) (same : s′ ≡ record s { me = s′.me; room = s′.room }) (keeps : KeepsRoom 0 s.room s′.room) where
-  was-met : HasMet (space_of s) s.me.0.number t.place (kept_standing version d)
-  was-met = kept-met (HasMet (space_of s) s.me.0.number) t.place version kept d met hit
+  was-met : HasMet (data_of s) s.me.0.number t.place (kept_standing version d)
+  was-met = kept-met (HasMet (data_of s) s.me.0.number) t.place version kept d met hit
 
   pub hit-finds : FindsVersion t.place (kept_standing version d) s s′
   hit-finds = finds-version is id t its (kept_standing version d) was-met newest one now same keeps
 
-  pub hit-joins : Joins (space_of s) (Read_definition s.me.0.number id) (Reads version (Some d)) (space_of s′)
+  pub hit-joins : Joins (data_of s) (Read_definition s.me.0.number id) (Reads version (Some d)) (data_of s′)
   hit-joins = finds-joins is id t its (kept_standing version d) was-met newest one hit-finds
 
 -- where it was found by a session's seat
 module _ (m : Member) (id : ℕ) (t : Own) (its : numbered id (tickets_seen m.seat.me.0) ≡ Some t) (kept : List Kept)
-    (met : AreMet (HasMet (space_of (view_of m)) m.seat.me.0.number) kept) (seat′ : SeatState) (version : ℕ) (d : Definition)
+    (met : AreMet (HasMet (data_of (view_of m)) m.seat.me.0.number) kept) (seat′ : SeatState) (version : ℕ) (d : Definition)
     (hit : kept_of t.place version kept ≡ Some d) (newest : ReadNoneNewer t.place version m.seat.me) (one : ReadOneStanding t.place version m.seat.me)
     (made : seat′ ≡ record m.seat { me = noted_version t.place version m.seat.me }) (room′ : Room) (keeps : KeepsRoom 0 m.tickets.room room′) where
   abbrev pub after : SessionView
@@ -225,21 +225,21 @@ module _ (m : Member) (id : ℕ) (t : Own) (its : numbered id (tickets_seen m.se
   pub seat-finds : FindsVersion t.place (kept_standing version d) (view_of m) after
   seat-finds = hit-finds {s′ = after} (member m) id t its kept met version d hit newest one now same keeps
 
-  pub seat-joins : Joins (space_of (view_of m)) (Read_kept m.seat.me.0.number id) (Reads version (Some d)) (space_of after)
-  seat-joins = kept-joins (space_of (view_of m)) (space_of after) m.seat.me.0.number id version (Some d)
+  pub seat-joins : Joins (data_of (view_of m)) (Read_kept m.seat.me.0.number id) (Reads version (Some d)) (data_of after)
+  seat-joins = kept-joins (data_of (view_of m)) (data_of after) m.seat.me.0.number id version (Some d)
       (hit-joins {s′ = after} (member m) id t its kept met version d hit newest one now same keeps)
 
   -- and each definition that the cache keeps was met still
-  pub seat-still : AreMet (HasMet (space_of after) seat′.me.0.number) kept
-  seat-still = met-after (member m) (space_of after) (Read_kept m.seat.me.0.number id) (Reads version (Some d)) kept seat-joins met
+  pub seat-still : AreMet (HasMet (data_of after) seat′.me.0.number) kept
+  seat-still = met-after (member m) (data_of after) (Read_kept m.seat.me.0.number id) (Reads version (Some d)) kept seat-joins met
 
   -- also after a look
-  pub seat-met : AreMet (HasMet (space_of after) seat′.me.0.number) (looked_at t.place version kept)
-  seat-met = met-looked (HasMet (space_of after) seat′.me.0.number) t.place version kept seat-still
+  pub seat-met : AreMet (HasMet (data_of after) seat′.me.0.number) (looked_at t.place version kept)
+  seat-met = met-looked (HasMet (data_of after) seat′.me.0.number) t.place version kept seat-still
 
 -- where none is kept of the version that a session's seat found
 module _ (m : Member) (id : ℕ) (t : Own) (its : numbered id (tickets_seen m.seat.me.0) ≡ Some t) (kept : List Kept)
-    (met : AreMet (HasMet (space_of (view_of m)) m.seat.me.0.number) kept) (seat′ : SeatState) (version : ℕ)
+    (met : AreMet (HasMet (data_of (view_of m)) m.seat.me.0.number) kept) (seat′ : SeatState) (version : ℕ)
     (none : kept_of t.place version kept ≡ None) (newest : ReadNoneNewer t.place version m.seat.me)
     (made : seat′ ≡ record m.seat { me = met_version t.place version m.seat.me }) where
   abbrev pub between : SessionView
@@ -249,15 +249,15 @@ module _ (m : Member) (id : ℕ) (t : Own) (its : numbered id (tickets_seen m.se
   seat-reads = version-missed m.seat seat′ m.sessions t.place version made newest (keeps-same m.tickets.room)
 
   -- each definition that the cache keeps was met still
-  pub unfound-met : AreMet (HasMet (space_of between) seat′.me.0.number) kept
+  pub unfound-met : AreMet (HasMet (data_of between) seat′.me.0.number) kept
   unfound-met = subst (λ (b : SessionData). AreMet (HasMet b b.number) kept) (sym (read-space seat-reads)) met
 
   -- and after a read under the latch
-  pub missed-met : (s′ : SessionView) (answer : Answer) → Joins (space_of between) (Read_definition seat′.me.0.number id) answer (space_of s′)
-      → AreMet (HasMet (space_of s′) s′.me.0.number) kept
+  pub missed-met : (s′ : SessionView) (answer : Answer) → Joins (data_of between) (Read_definition seat′.me.0.number id) answer (data_of s′)
+      → AreMet (HasMet (data_of s′) s′.me.0.number) kept
   missed-met s′ answer joins =
-      met-after (member m) (space_of s′) (Read_definition m.seat.me.0.number id) answer kept
-      (subst (λ (a : SessionData). Joins a (Read_definition a.number id) answer (space_of s′)) (read-space seat-reads) joins) met
+      met-after (member m) (data_of s′) (Read_definition m.seat.me.0.number id) answer kept
+      (subst (λ (a : SessionData). Joins a (Read_definition a.number id) answer (data_of s′)) (read-space seat-reads) joins) met
 
   -- the look left the cache as it was
   pub looked-same : (before after : CacheView) → before.kept ≡ kept → after ≡ record { kept = looked_at t.place version kept; capacity = before.capacity }

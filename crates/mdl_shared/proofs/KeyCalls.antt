@@ -37,7 +37,7 @@ use Rattle.mdl_shared.specs.declared.member.Member.{Member}
 use Rattle.mdl_shared.specs.Members.{AreLearnt, IsMember, are_apart, is_known_place, place_known}
 use Rattle.mdl_shared.specs.OwnLists.{key_known}
 use Rattle.mdl_shared.specs.Passes.{view_of}
-use Rattle.mdl_shared.specs.SessionViews.{Lists, SessionView, lists_seen, session_at, space_of}
+use Rattle.mdl_shared.specs.SessionViews.{Lists, SessionView, data_of, lists_seen, session_at}
 use Rattle.mdl_shared.specs.AllSteps.{Shows}
 use Rattle.mdl_shared.specs.TicketLists.{KeepsRoom, Room}
 use Rattle.mdl_shared.proofs.Debts.{same-debts}
@@ -105,7 +105,7 @@ lists-learnt m {more} {known} {s} learnt same =
 
 module _ {s : SessionView} (is : IsMember s) (key : KeyName) where
   -- that it knows
-  pub known-joins : (place : ℕ) → place_known key s.me.0.known ≡ Some place → Joins (space_of s) (Resolve s.me.0.number key) (At_place place) (space_of s)
+  pub known-joins : (place : ℕ) → place_known key s.me.0.known ≡ Some place → Joins (data_of s) (Resolve s.me.0.number key) (At_place place) (data_of s)
   known-joins place found =
       joins-still s s (Resolve s.me.0.number key) (At_place place) (same-stays s) (speaks is) refl refl refl refl tt tt
       (subst (λ (o : Option ℕ). LearnsAt key place o (map known_of s.me.0.known) (map known_of s.me.0.known)) (sym (place-told key s.me.0.known ∙ found)) (refl, refl))
@@ -114,11 +114,11 @@ module _ {s : SessionView} (is : IsMember s) (key : KeyName) where
   module _ (none : place_known key s.me.0.known ≡ None) where
     -- that it learns
     pub resolve-joins : {s′ : SessionView} (place : ℕ) → is_known_place s.me.0.known place ≡ false → HasLearnt (record { key = key; place = place } ∷ []) s s′
-        → Joins (space_of s) (Resolve s.me.0.number key) (At_place place) (space_of s′)
+        → Joins (data_of s) (Resolve s.me.0.number key) (At_place place) (data_of s′)
     resolve-joins {s′} place new learnt =
         let one : Known = record { key = key; place = place } in
         let x : SessionView = record s { me = (record s.me.0 { known = s.me.0.known ++ one ∷ []; log = learnt.log }, s.me.1); room = learnt.room } in
-        subst (λ (t : SessionView). Joins (space_of s) (Resolve s.me.0.number key) (At_place place) (space_of t)) (sym learnt.now) (record {
+        subst (λ (t : SessionView). Joins (data_of s) (Resolve s.me.0.number key) (At_place place) (data_of t)) (sym learnt.now) (record {
           mine = speaks is;
           has = refl;
           fits = refl;
@@ -132,16 +132,16 @@ module _ {s : SessionView} (is : IsMember s) (key : KeyName) where
           agreed = λ state how met. cc;
           told = λ how told. cc;
           settled = keeps-settled s x (sees-same s x refl refl refl);
-          reads = reads-nothing (space_of s) (space_of x) refl refl;
+          reads = reads-nothing (data_of s) (data_of x) refl refl;
           truly = tt;
         })
 
     -- that has none
-    pub no_place-joins : {s′ : SessionView} → Stays s s′ → Joins (space_of s) (Resolve s.me.0.number key) (Refused NoPlace) (space_of s′)
+    pub no_place-joins : {s′ : SessionView} → Stays s s′ → Joins (data_of s) (Resolve s.me.0.number key) (Refused NoPlace) (data_of s′)
     no_place-joins {s′} stays =
         refused s s′ (Resolve s.me.0.number key) NoPlace stays (speaks is) refl refl
         (λ place knows.
-        let there = place-of_key (space_of s).known place key is.sound.apart knows in
+        let there = place-of_key (data_of s).known place key is.sound.apart knows in
         let e : Some place ≡ None = sym there ∙ place-told key s.me.0.known ∙ none in cc)
         (λ state how met. cc) tt
 
@@ -220,11 +220,11 @@ tables-learnt schema k before after tables more asked places are same those grow
 pub tables-joins : {s s′ : SessionView} → IsMember s → (schema : List ℕ) (k : Keys) (tables : List Known) (places : List ℕ) → AreTables schema k tables
     → HasAsked s.me.0.number tables places s.me s′.me → HasLearnt (unknown s.me.0.known tables) s s′
     → AreLearnt tables (s.me.0.known ++ unknown s.me.0.known tables) → are_apart (s.me.0.known ++ unknown s.me.0.known tables) ≡ true
-    → Joins (space_of s) (Tables_of s.me.0.number schema) (Tables places) (space_of s′)
+    → Joins (data_of s) (Tables_of s.me.0.number schema) (Tables places) (data_of s′)
 tables-joins {s} {s′} is schema k tables places are asked learnt all apart =
     let more : List Known = unknown s.me.0.known tables in
     let x : SessionView = record s { me = (record s.me.0 { known = s.me.0.known ++ more; log = learnt.log }, s.me.1); room = learnt.room } in
-    subst (λ (t : SessionView). Joins (space_of s) (Tables_of s.me.0.number schema) (Tables places) (space_of t)) (sym learnt.now) (record {
+    subst (λ (t : SessionView). Joins (data_of s) (Tables_of s.me.0.number schema) (Tables places) (data_of t)) (sym learnt.now) (record {
       mine = speaks is;
       has = refl;
       fits = refl;
@@ -237,12 +237,12 @@ tables-joins {s} {s′} is schema k tables places are asked learnt all apart =
       agreed = λ state how met. cc;
       told = λ how told. cc;
       settled = keeps-settled s x (sees-same s x refl refl refl);
-      reads = reads-nothing (space_of s) (space_of x) refl refl;
+      reads = reads-nothing (data_of s) (data_of x) refl refl;
       truly = tt;
     })
 
 -- refused, since memory ran out
-pub memory-joins : {s s′ : SessionView} → IsMember s → (schema : List ℕ) → Stays s s′ → Joins (space_of s) (Tables_of s.me.0.number schema) (Refused OutOfMemory) (space_of s′)
+pub memory-joins : {s s′ : SessionView} → IsMember s → (schema : List ℕ) → Stays s s′ → Joins (data_of s) (Tables_of s.me.0.number schema) (Refused OutOfMemory) (data_of s′)
 memory-joins {s} {s′} is schema stays = refused s s′ (Tables_of s.me.0.number schema) OutOfMemory stays (speaks is) refl refl tt (λ state how met. cc) tt
 
 steps-then : (m m′ m″ : Mine) → MakesSteps m m′ → MakesSteps m′ m″ → MakesSteps m m″
@@ -266,7 +266,7 @@ module _ (seat mid seat′ : SeatState) (sessions : ℕ) {room : Room} (schema :
   all-apart = apart_and schema k seat.me.0 tables took.1.recorded.known are (keys-apart is)
 
   pub told-tables : {room′ : Room} (places : List ℕ) → StaysQuiet mid.me seat′.me → HasAsked mid.me.0.number tables places mid.me seat′.me
-      → KeepsRoom 0 room room′ → Joins (space_of (session_at seat sessions room)) (Tables_of seat.me.0.number schema) (Tables places) (space_of (session_at seat′ sessions room′))
+      → KeepsRoom 0 room room′ → Joins (data_of (session_at seat sessions room)) (Tables_of seat.me.0.number schema) (Tables places) (data_of (session_at seat′ sessions room′))
       × Shows (Tables_of seat.me.0.number schema) (Tables places) (session_at seat sessions room) (session_at seat′ sessions room′)
   told-tables {room′} places quiet asked keeps =
       let old : Mine = seat.me in

@@ -22,7 +22,7 @@ use Rattle.mdl_session_laws.specs.SessionJoins.{Joins}
 use Rattle.mdl_visits.specs.Polls.{MeetsOther, MeetsWait, number_in}
 use Rattle.mdl_visits.proofs.Steps.{goes_staying, step_after}
 use Rattle.mdl_shared.specs.Members.{IsMember}
-use Rattle.mdl_shared.specs.SessionViews.{SessionView, settled_told, space_of}
+use Rattle.mdl_shared.specs.SessionViews.{SessionView, data_of, settled_told}
 use Rattle.mdl_shared.specs.AllSteps.{Shows}
 use Rattle.mdl_shared.specs.Steps.{ShowsStep, StaysFor}
 use Rattle.mdl_shared.proofs.PollCalls.{settled-some}
@@ -48,12 +48,12 @@ module _ {s : SessionView} (is : IsMember s) (target : ℕ) where
   target-there within = let parts = within-parts s.sessions target within in session-there s is target parts.0 parts.1
 
   -- of a session that there isn't nothing is told
-  pub nobody-waits : is_within s.sessions target ≡ false → Joins (space_of s) (Wait_of target) (Has_wait None) (space_of s)
+  pub nobody-waits : is_within s.sessions target ≡ false → Joins (data_of s) (Wait_of target) (Has_wait None) (data_of s)
   nobody-waits beyond =
       joins-still s s (Wait_of target) (Has_wait None) (same-stays s) tt refl refl refl refl tt tt refl (λ state how is. cc) (λ how is. cc) refl (λ r. r)
       (λ mine. absurd (not-own beyond mine))
 
-  pub nobody-killed : (number : ℕ) → is_within s.sessions target ≡ false → Joins (space_of s) (Kill target number) (Has_killed false) (space_of s)
+  pub nobody-killed : (number : ℕ) → is_within s.sessions target ≡ false → Joins (data_of s) (Kill target number) (Has_killed false) (data_of s)
   nobody-killed number beyond =
       joins-still s s (Kill target number) (Has_killed false) (same-stays s) tt refl refl refl refl tt tt refl (λ state how is. cc) (λ how is. cc) refl (λ r. r)
       (λ mine. absurd (not-own beyond mine))
@@ -61,7 +61,7 @@ module _ {s : SessionView} (is : IsMember s) (target : ℕ) where
 -- ---- the number of a wait
 
 -- its own word has the number of the session's wait
-own-number : (s : SessionView) (found : ℕ) → WaitOk s.table.slots found (waiter_of s.me.0) → number_in found ≡ wait_number (space_of s).own
+own-number : (s : SessionView) (found : ℕ) → WaitOk s.table.slots found (waiter_of s.me.0) → number_in found ≡ wait_number (data_of s).own
 own-number s found sound = by s.me.0.asks refl
   where
     by : (o : Option Ask) → s.me.0.asks ≡ o → number_in found ≡ option_map (λ (w : Wait). w.number) (wait_by s.me.0.waits o)
@@ -70,7 +70,7 @@ own-number s found sound = by s.me.0.asks refl
 
 pub number-met : {s s′ : SessionView} (target found : ℕ) → is_within s.sessions target ≡ true → TellsOwn s.table.slots target found s.me.0
     → s′ ≡ word-step ReadWait target found found s.me.0.settles s
-    → Watches s s′ × Joins (space_of s) (Wait_of target) (Has_wait (number_in found)) (space_of s′) × Shows (Wait_of target) (Has_wait (number_in found)) s s′
+    → Watches s s′ × Joins (data_of s) (Wait_of target) (Has_wait (number_in found)) (data_of s′) × Shows (Wait_of target) (Has_wait (number_in found)) s s′
 number-met {s} {s′} target found within own now =
     let did = watches ReadWait target found found s.me.0.settles s s′ now own (inl refl) refl refl in
     let met = met-word ReadWait target found found s.me.0.settles s s′ now in (
@@ -90,10 +90,10 @@ number-met {s} {s′} target found within own now =
 
 -- the session's own wait of a number that is met and isn't open is settled, and the session knows that
 closed-settled : (kind : StepKind) (s s′ : SessionView) (target number found : ℕ) → target ≡ s.me.0.number → WaitOk s.table.slots found (waiter_of s.me.0)
-    → s′ ≡ word-step kind target found found s.me.0.settles s → found ≢ wait_in number 1 → wait_number (space_of s).own ≡ Some number → is_some (space_of s′).settled ≡ true
+    → s′ ≡ word-step kind target found found s.me.0.settles s → found ≢ wait_in number 1 → wait_number (data_of s).own ≡ Some number → is_some (data_of s′).settled ≡ true
 closed-settled kind s s′ target number found mine sound now other its = by s.me.0.asks refl its
   where
-    by : (o : Option Ask) → s.me.0.asks ≡ o → option_map (λ (w : Wait). w.number) (wait_by s.me.0.waits o) ≡ Some number → is_some (space_of s′).settled ≡ true
+    by : (o : Option Ask) → s.me.0.asks ≡ o → option_map (λ (w : Wait). w.number) (wait_by s.me.0.waits o) ≡ Some number → is_some (data_of s′).settled ≡ true
     by None none e = cc
     by (Some a) some e =
         let same : s.me.0.waits ≡ number = cc in
@@ -107,8 +107,8 @@ closed-settled kind s s′ target number found mine sound now other its = by s.m
 module _ {s s′ : SessionView} (target number : ℕ) (within : is_within s.sessions target ≡ true) (did : Watches s s′) where
   -- whoever met another word settled nothing
   pub kill-missed : StaysFor 2 s.me s′.me → s′.me.0.settles ≡ s.me.0.settles → ShowsStep s s′ (MeetsOther s.table.slots target (wait_in number 1))
-      → (target ≡ s.me.0.number → wait_number (space_of s).own ≡ Some number → is_some (space_of s′).settled ≡ true)
-      → Joins (space_of s) (Kill target number) (Has_killed false) (space_of s′) × Shows (Kill target number) (Has_killed false) s s′
+      → (target ≡ s.me.0.number → wait_number (data_of s).own ≡ Some number → is_some (data_of s′).settled ≡ true)
+      → Joins (data_of s) (Kill target number) (Has_killed false) (data_of s′) × Shows (Kill target number) (Has_killed false) s s′
   kill-missed few settles met known = (
     joins-still s s′ (Kill target number) (Has_killed false) (done-nothing did.done) tt refl refl refl refl tt tt refl (λ state how is. cc) (λ how is. cc) refl (λ r. r) known,
     shows did tt did.did settles tt (λ owes searches. (owes, searches)) ((λ beyond. absurd (false≢true (sym beyond ∙ within))), (λ w. (met, few))),
@@ -116,8 +116,8 @@ module _ {s s′ : SessionView} (target number : ℕ) (within : is_within s.sess
 
   pub kill-settled : StaysFor 2 s.me s′.me → s′.me.0.settles ≡ s.me.0.settles ++ record { session = target; wait = number; state = 5 } ∷ []
       → ShowsStep s s′ (MeetsWait s.table.slots target number 1)
-      → (target ≡ s.me.0.number → (wait_number (space_of s).own ≡ Some number) × (s′.me.0.told ≡ Some 5))
-      → Joins (space_of s) (Kill target number) (Has_killed true) (space_of s′) × Shows (Kill target number) (Has_killed true) s s′
+      → (target ≡ s.me.0.number → (wait_number (data_of s).own ≡ Some number) × (s′.me.0.told ≡ Some 5))
+      → Joins (data_of s) (Kill target number) (Has_killed true) (data_of s′) × Shows (Kill target number) (Has_killed true) s s′
   kill-settled few settles met known = (
     joins-still s s′ (Kill target number) (Has_killed true) (done-nothing did.done) tt refl refl refl refl tt tt refl (λ state how is. cc) (λ how is. cc) refl (λ r. r)
         (λ mine. let h = known mine in (h.0, told-settled s′.me.0.told Killed h.1)),
@@ -127,7 +127,7 @@ module _ {s s′ : SessionView} (target number : ℕ) (within : is_within s.sess
 -- a word that was read, and wasn't open, is that of no open wait
 pub kill-closed : {s s′ : SessionView} (target number found : ℕ) → is_within s.sessions target ≡ true → TellsOwn s.table.slots target found s.me.0
     → s′ ≡ word-step ReadWait target found found s.me.0.settles s → found ≢ wait_in number 1
-    → Watches s s′ × Joins (space_of s) (Kill target number) (Has_killed false) (space_of s′) × Shows (Kill target number) (Has_killed false) s s′
+    → Watches s s′ × Joins (data_of s) (Kill target number) (Has_killed false) (data_of s′) × Shows (Kill target number) (Has_killed false) s s′
 kill-closed {s} {s′} target number found within own now other =
     let did = watches ReadWait target found found s.me.0.settles s s′ now own (inl refl) refl refl in
     let met = met-word ReadWait target found found s.me.0.settles s s′ now in
@@ -157,11 +157,11 @@ module _ (s t s′ : SessionView) (target number first found : ℕ) (within : is
   same-table : t.table ≡ s.table
   same-table = ap (λ (x : SessionView). x.table) now
 
-  same-wait : wait_number (space_of t).own ≡ wait_number (space_of s).own
-  same-wait = ap (λ (x : SessionView). wait_number (space_of x).own) now
+  same-wait : wait_number (data_of t).own ≡ wait_number (data_of s).own
+  same-wait = ap (λ (x : SessionView). wait_number (data_of x).own) now
 
   pub kill-done : found ≡ wait_in number 1
-      → Watches s s′ × Joins (space_of s) (Kill target number) (Has_killed true) (space_of s′) × Shows (Kill target number) (Has_killed true) s s′
+      → Watches s s′ × Joins (data_of s) (Kill target number) (Has_killed true) (data_of s′) × Shows (Kill target number) (Has_killed true) s s′
   kill-done is_found =
       let made = hit is_found in
       let odd : wait_state (wait_in number 1) ≡ 1 = omega arith in
@@ -180,7 +180,7 @@ module _ (s t s′ : SessionView) (target number first found : ℕ) (within : is
       (sym same-wait ∙ sym (own-number t found (later its)) ∙ whole, told-own SettleWait target (wait_in number 1) (wait_in number 5) all t s′ made its (omega (arith, five)) ∙ ap Some five)) in (did, told.0, told.1)
 
   pub kill-missed-later : found ≢ wait_in number 1
-      → Watches s s′ × Joins (space_of s) (Kill target number) (Has_killed false) (space_of s′) × Shows (Kill target number) (Has_killed false) s s′
+      → Watches s s′ × Joins (data_of s) (Kill target number) (Has_killed false) (data_of s′) × Shows (Kill target number) (Has_killed false) s s′
   kill-missed-later other =
       let made = miss other in
       let misses = watches MissWait target found found t.me.0.settles t s′ made later (inl refl) refl refl in
@@ -199,6 +199,6 @@ module _ (s t s′ : SessionView) (target number first found : ℕ) (within : is
       by_bool (found == wait_in number 1) (λ same. (kill-done (eqb-true found (wait_in number 1) same)).0) (λ differ. (kill-missed-later (eqb-false found (wait_in number 1) differ)).0)
 
   pub kill-ended : (result : Bool) → (result ≡ true → found ≡ wait_in number 1) → (result ≡ false → found ≢ wait_in number 1)
-      → Joins (space_of s) (Kill target number) (Has_killed result) (space_of s′) × Shows (Kill target number) (Has_killed result) s s′
+      → Joins (data_of s) (Kill target number) (Has_killed result) (data_of s′) × Shows (Kill target number) (Has_killed result) s s′
   kill-ended true same other = let h = kill-done (same refl) in (h.1, h.2)
   kill-ended false same other = let h = kill-missed-later (other refl) in (h.1, h.2)

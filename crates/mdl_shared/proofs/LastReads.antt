@@ -24,7 +24,7 @@ use Rattle.mdl_session_laws.proofs.ReadLists.{last-among, newest-above}
 use Rattle.mdl_visits.specs.Numbers.{numbered}
 use Rattle.mdl_shared.specs.Members.{IsMember, are_apart, are_two}
 use Rattle.mdl_shared.specs.OwnLists.{key_known}
-use Rattle.mdl_shared.specs.SessionViews.{SessionView, space_of, tickets_seen}
+use Rattle.mdl_shared.specs.SessionViews.{SessionView, data_of, tickets_seen}
 use Rattle.mdl_shared.proofs.Alike.{all_noted}
 use Rattle.mdl_shared.proofs.MemberFacts.{keys-apart}
 use Rattle.mdl_shared.proofs.SameSpace.{reading_of}
@@ -123,7 +123,7 @@ each-noted place version mark (t ∷ ts) all so =
 -- ---- a version that was read and stands
 
 module _ {s : SessionView} (is : IsMember s) (id : ℕ) (t : Own) (its : numbered id (tickets_seen s.me.0) ≡ Some t) (standing : Standing)
-    (met : HasMet (space_of s) s.me.0.number t.place standing) (newest : ReadNoneNewer t.place standing.version s.me) (one : ReadOneStanding t.place standing.version s.me) where
+    (met : HasMet (data_of s) s.me.0.number t.place standing) (newest : ReadNoneNewer t.place standing.version s.me) (one : ReadOneStanding t.place standing.version s.me) where
   pub was-read : Contains s.me.0.reads (record { place = t.place; standing = standing })
   was-read = as-read s.me.0.reads t.place standing met
 
@@ -131,13 +131,13 @@ module _ {s : SessionView} (is : IsMember s) (id : ℕ) (t : Own) (its : numbere
   there = at-place t.place s.me.0.reads _ (eq-eqb t.place t.place refl) was-read
 
   -- it was read last
-  pub is-last : last_read t.place (space_of s).reads ≡ Some standing
+  pub is-last : last_read t.place (data_of s).reads ≡ Some standing
   is-last =
-      let some = last-some (space_of s).reads t.place standing met in
-      let last = as-read s.me.0.reads t.place some.0 (last-among (space_of s).reads t.place some.0 some.1) in
+      let some = last-some (data_of s).reads t.place standing met in
+      let last = as-read s.me.0.reads t.place some.0 (last-among (data_of s).reads t.place some.0 some.1) in
       let last-there = at-place t.place s.me.0.reads _ (eq-eqb t.place t.place refl) last in
       let below = each-among (λ (r : Read). r.standing.version ≤ standing.version) (reads_at t.place s.me.0.reads) newest _ last-there in
-      let above = newest-above (space_of s).reads t.place standing.version some.0.version (among-read (space_of s).reads t.place standing met)
+      let above = newest-above (data_of s).reads t.place standing.version some.0.version (among-read (data_of s).reads t.place standing met)
       (is.sound.newest t.place some.0 some.1) in
       let same : some.0.version ≡ standing.version = omega (arith, below, above) in
       some.1 ∙ ap Some (one _ _ last-there there same refl)

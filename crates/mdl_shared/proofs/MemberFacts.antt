@@ -25,7 +25,7 @@ use Rattle.mdl_visits.specs.Numbers.{all_numbers, is_ask_apart, is_no_number, nu
 use Rattle.mdl_visits.proofs.Numbers.{not_waited}
 use Rattle.mdl_shared.specs.Members.{IsMember, are_apart, is_known_place}
 use Rattle.mdl_shared.specs.OwnLists.{told_of}
-use Rattle.mdl_shared.specs.SessionViews.{SessionView, space_of, tickets_seen}
+use Rattle.mdl_shared.specs.SessionViews.{SessionView, data_of, tickets_seen}
 use Rattle.mdl_shared.specs.Waitings.{are_below, is_ask_last, is_ask_told}
 use Rattle.mdl_shared.proofs.Membership.{are_placed, has_numbered, known_within, placed_at, some_key}
 use Rattle.mdl_shared.proofs.SameSpace.{numbers_by, wait_by}
@@ -77,7 +77,7 @@ found-later p (z ∷ zs) ys none = by_bool (p z) (λ hit. let no = rw hit at non
 
 module _ {s : SessionView} (is : IsMember s) where
   -- it speaks for its number
-  pub speaks : SpeaksFor (space_of s) s.me.0.number
+  pub speaks : SpeaksFor (data_of s) s.me.0.number
   speaks = (refl, is.sound)
 
   -- ---- its wait

@@ -28,7 +28,7 @@ use Rattle.mdl_shared.specs.AllSteps.{steps_of}
 use Rattle.mdl_shared.specs.Debts.{IsOwed, OwesNoMore, but_owing}
 use Rattle.mdl_shared.specs.Members.{IsMember, are_counted, are_within, is_known_place, most_numbers, without_at}
 use Rattle.mdl_shared.specs.Rememberings.{AreAlike}
-use Rattle.mdl_shared.specs.SessionViews.{Lists, SessionView, lists_seen, session_at, space_of, tickets_of, tickets_seen}
+use Rattle.mdl_shared.specs.SessionViews.{Lists, SessionView, data_of, lists_seen, session_at, tickets_of, tickets_seen}
 use Rattle.mdl_shared.specs.TicketLists.{HasRoom, KeepsRoom, Room, TicketList}
 use Rattle.mdl_shared.specs.Waitings.{is_ask_last, is_ask_told}
 use Rattle.mdl_shared.proofs.Alike.{alike_done}
@@ -50,7 +50,7 @@ pub record StaysInOrder (s s′ : SessionView) : Type 0 where
   pub owed : (place : ℕ) → IsOwed place s′.me.0.owes → is_known_place s′.me.0.known place ≡ true
 
 -- and it is sound as a lock space
-pub in-order : {s s′ : SessionView} → IsMember s → StaysInOrder s s′ → s′.me.0.number ≡ s.me.0.number → IsSound (space_of s′) → IsMember s′
+pub in-order : {s s′ : SessionView} → IsMember s → StaysInOrder s s′ → s′.me.0.number ≡ s.me.0.number → IsSound (data_of s′) → IsMember s′
 in-order {s} {s′} is order number sound = record {
   sound = sound;
   idle = order.idle;
@@ -69,8 +69,8 @@ in-order {s} {s′} is order number sound = record {
       (is.words ∙ ap (word_count s.table.slots) (sym order.sessions));
 }
 
-pub kept : {s s′ : SessionView} (call : Call) {answer : Answer} → IsMember s → StaysInOrder s s′ → Joins (space_of s) call answer (space_of s′) → IsMember s′
-kept {s} {s′} call {answer} is order joins = in-order is order joins.number (keeps-sound (space_of s) (space_of s′) call answer is.sound joins)
+pub kept : {s s′ : SessionView} (call : Call) {answer : Answer} → IsMember s → StaysInOrder s s′ → Joins (data_of s) call answer (data_of s′) → IsMember s′
+kept {s} {s′} call {answer} is order joins = in-order is order joins.number (keeps-sound (data_of s) (data_of s′) call answer is.sound joins)
 
 -- whatever room it has
 pub member-room : {s : SessionView} → IsMember s → (r : Room) → IsMember (record s { room = r })

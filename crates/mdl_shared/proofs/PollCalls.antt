@@ -17,7 +17,7 @@ use Rattle.mdl_steps.specs.WaitStates.{IsSettled, wait_in, wait_state}
 use Rattle.mdl_session_laws.specs.SessionJoins.{Joins}
 use Rattle.mdl_visits.specs.Polls.{state_of}
 use Rattle.mdl_shared.specs.Members.{IsMember}
-use Rattle.mdl_shared.specs.SessionViews.{SessionView, lists_seen, settled_of, space_of}
+use Rattle.mdl_shared.specs.SessionViews.{SessionView, data_of, lists_seen, settled_of}
 use Rattle.mdl_shared.specs.AllSteps.{Shows}
 use Rattle.mdl_shared.specs.Steps.{MeetsOwnWait}
 use Rattle.mdl_shared.specs.Waitings.{wait_fault}
@@ -63,11 +63,11 @@ clear-wait (Some a) e = refl
 
 -- without one both calls are refused
 module _ {s : SessionView} (is : IsMember s) (idle : is_some s.me.0.asks ≡ false) where
-  pub poll-refused : Joins (space_of s) (Poll_wait s.me.0.number) (Refused NoWait) (space_of s)
+  pub poll-refused : Joins (data_of s) (Poll_wait s.me.0.number) (Refused NoWait) (data_of s)
   poll-refused =
       refused s s (Poll_wait s.me.0.number) NoWait (same-stays s) (speaks is) refl refl (waits-asks s.me.0.asks s.me.0.waits ∙ idle) (λ state how is. cc) tt
 
-  pub timeout-refused : Joins (space_of s) (Settle_timeout s.me.0.number) (Refused NoWait) (space_of s)
+  pub timeout-refused : Joins (data_of s) (Settle_timeout s.me.0.number) (Refused NoWait) (data_of s)
   timeout-refused =
       refused s s (Settle_timeout s.me.0.number) NoWait (same-stays s) (speaks is) refl refl (waits-asks s.me.0.asks s.me.0.waits ∙ idle) (λ state how is. cc) tt
 
@@ -91,7 +91,7 @@ module _ {s : SessionView} (is : IsMember s) (waiting : is_some s.me.0.asks ≡ 
   unsettled e = in-state 1 (unsettled-is (wait_state found) e busy ok.state)
 
   -- what the session knew of it is so
-  agreed : (o : Option Settled) → settled_of (wait_state found) ≡ o → (how : Settled) → (space_of s).settled ≡ Some how → o ≡ Some how
+  agreed : (o : Option Settled) → settled_of (wait_state found) ≡ o → (how : Settled) → (data_of s).settled ≡ Some how → o ≡ Some how
   agreed o its how knows = let h = settled-told s.me.0.told how knows in sym its ∙ ap settled_of (ok.told h.0 h.1).1 ∙ h.2
 
   -- ---- polls
@@ -108,7 +108,7 @@ module _ {s : SessionView} (is : IsMember s) (waiting : is_some s.me.0.asks ≡ 
         )
 
     pub poll-pending : settled_of (wait_state found) ≡ None
-        → Joins (space_of s) (Poll_wait s.me.0.number) Pending (space_of s′) × Shows (Poll_wait s.me.0.number) Pending s s′
+        → Joins (data_of s) (Poll_wait s.me.0.number) Pending (data_of s′) × Shows (Poll_wait s.me.0.number) Pending s s′
     poll-pending none = (
       joins-still s s′ (Poll_wait s.me.0.number) Pending (done-nothing polls.done) (speaks is) refl refl refl refl
           (waits-asks s.me.0.asks s.me.0.waits ∙ waiting) tt refl
@@ -118,7 +118,7 @@ module _ {s : SessionView} (is : IsMember s) (waiting : is_some s.me.0.asks ≡ 
     )
 
     pub poll-settled : (one : Settled) → settled_of (wait_state found) ≡ Some one
-        → Joins (space_of s) (Poll_wait s.me.0.number) (Is_settled one) (space_of s′) × Shows (Poll_wait s.me.0.number) (Is_settled one) s s′
+        → Joins (data_of s) (Poll_wait s.me.0.number) (Is_settled one) (data_of s′) × Shows (Poll_wait s.me.0.number) (Is_settled one) s s′
     poll-settled one some =
         let its = settled-is (wait_state found) one some in
         let told = told-own ReadWait session found found s.me.0.settles s s′ now mine (settled-more (wait_state found) one its) ∙ ap Some its in (
@@ -137,7 +137,7 @@ module _ {s : SessionView} (is : IsMember s) (waiting : is_some s.me.0.asks ≡ 
       → s′ ≡ word-step SettleWait session (wait_in wait 1) (wait_in wait 4) (s.me.0.settles ++ record { session = session; wait = wait; state = 4 } ∷ []) s)
       (miss : found ≢ wait_in wait 1 → s′ ≡ word-step MissWait session found found s.me.0.settles s) where
     pub timeout-now : settled_of (wait_state found) ≡ None
-        → Watches s s′ × Joins (space_of s) (Settle_timeout s.me.0.number) (Timed_out ByThisCall) (space_of s′) × Shows (Settle_timeout s.me.0.number) (Timed_out ByThisCall) s s′
+        → Watches s s′ × Joins (data_of s) (Settle_timeout s.me.0.number) (Timed_out ByThisCall) (data_of s′) × Shows (Settle_timeout s.me.0.number) (Timed_out ByThisCall) s s′
     timeout-now none =
         let is_found = unsettled none ∙ ap (λ (w : ℕ). wait_in w 1) (sym last) in
         let now = hit is_found in
@@ -161,7 +161,7 @@ module _ {s : SessionView} (is : IsMember s) (waiting : is_some s.me.0.asks ≡ 
         )
 
     pub timeout-already : (one : Settled) → settled_of (wait_state found) ≡ Some one
-        → Watches s s′ × Joins (space_of s) (Settle_timeout s.me.0.number) (Timed_out (Already one)) (space_of s′) × Shows (Settle_timeout s.me.0.number) (Timed_out (Already one)) s s′
+        → Watches s s′ × Joins (data_of s) (Settle_timeout s.me.0.number) (Timed_out (Already one)) (data_of s′) × Shows (Settle_timeout s.me.0.number) (Timed_out (Already one)) s s′
     timeout-already one some =
         let its = settled-is (wait_state found) one some in
         let more = settled-more (wait_state found) one its in

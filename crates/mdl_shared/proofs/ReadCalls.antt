@@ -36,7 +36,7 @@ use Rattle.mdl_shared.specs.Members.{IsMember, holding_fault}
 use Rattle.mdl_shared.specs.OwnLists.{told_of}
 use Rattle.mdl_shared.specs.Passes.{view_of}
 use Rattle.mdl_shared.specs.Rememberings.{AreAlike}
-use Rattle.mdl_shared.specs.SessionViews.{Lists, SessionView, lists_seen, session_at, space_of, tickets_seen}
+use Rattle.mdl_shared.specs.SessionViews.{Lists, SessionView, data_of, lists_seen, session_at, tickets_seen}
 use Rattle.mdl_shared.specs.AllSteps.{Shows}
 use Rattle.mdl_shared.specs.Steps.{ShowsStep}
 use Rattle.mdl_shared.specs.TicketLists.{KeepsRoom, Room}
@@ -109,8 +109,8 @@ module _ {place version : ℕ} {reads : List Read} {s s′ : SessionView} (noted
   pub noted-owes : s′.me.0.owes ≡ s.me.0.owes
   noted-owes = ap (λ (x : SessionView). x.me.0.owes) noted.now
 
-  noted-drawn : (space_of s′).numbers ≡ (space_of s).numbers
-  noted-drawn = ap (λ (x : SessionView). (space_of x).numbers) noted.now
+  noted-drawn : (data_of s′).numbers ≡ (data_of s).numbers
+  noted-drawn = ap (λ (x : SessionView). (data_of x).numbers) noted.now
 
 -- its own lists are those of its view still
 pub lists-noted : (m : Member) {place found version : ℕ} {reads : List Read} {slow fast : List Own} {s : SessionView} → NotesAll place found reads (view_of m) s → found ≡ version
@@ -124,23 +124,23 @@ lists-noted m {place} {found} {version} {reads} {slow} {fast} {s} noted is same 
 
 -- a session without the ticket, or without an exclusive one
 pub unfit-joins : {s : SessionView} → IsMember s → (id : ℕ) (change : Change) (why : SpaceError) → exclusive_fault (numbered id (tickets_seen s.me.0)) ≡ Some why
-    → Joins (space_of s) (Change_definition s.me.0.number id change) (Refused why) (space_of s)
+    → Joins (data_of s) (Change_definition s.me.0.number id change) (Refused why) (data_of s)
 unfit-joins {s} is id change why fault =
     let told = by (numbered id (tickets_seen s.me.0)) refl fault in
     refused s s (Change_definition s.me.0.number id change) why (same-stays s) (speaks is) refl refl told.0 (λ state how met. cc) told.1
   where
     by : (o : Option Own) → numbered id (tickets_seen s.me.0) ≡ o → exclusive_fault o ≡ Some why
-        → IsCause (Knows (space_of s) s.me.0.number) (Change_definition s.me.0.number id change) why (space_of s).own
-        × TellsTruly (Change_definition s.me.0.number id change) (Refused why) (space_of s) (space_of s)
+        → IsCause (Knows (data_of s) s.me.0.number) (Change_definition s.me.0.number id change) why (data_of s).own
+        × TellsTruly (Change_definition s.me.0.number id change) (Refused why) (data_of s) (data_of s)
     by None its e =
         let none : why ≡ NotHeld = cc in (
-          subst (λ w. IsCause (Knows (space_of s) s.me.0.number) (Change_definition s.me.0.number id change) w (space_of s).own) (sym none)
+          subst (λ w. IsCause (Knows (data_of s) s.me.0.number) (Change_definition s.me.0.number id change) w (data_of s).own) (sym none)
               (holds-told id (tickets_seen s.me.0) false (ap is_some its)),
           λ ticket held exclusive. let e = sym held ∙ ticket-told id (tickets_seen s.me.0) ∙ ap (option_map told_of) its in cc,
         )
     by (Some t) its e =
         let b = test-failed (same_mode t.mode X) NotExclusive why e in (
-          subst (λ w. IsCause (Knows (space_of s) s.me.0.number) (Change_definition s.me.0.number id change) w (space_of s).own) (sym b.1)
+          subst (λ w. IsCause (Knows (data_of s) s.me.0.number) (Change_definition s.me.0.number id change) w (data_of s).own) (sym b.1)
               (of-held id (tickets_seen s.me.0) t (λ (h : Held). same_mode h.mode X ≡ false) its b.0),
           λ ticket held exclusive.
               let same : Some ticket ≡ Some (told_of t) = sym held ∙ ticket-told id (tickets_seen s.me.0) ∙ ap (option_map told_of) its in
@@ -153,18 +153,18 @@ unfit-joins {s} is id change why fault =
 module _ {s : SessionView} (is : IsMember s) (id : ℕ) (t : Own) (its : numbered id (tickets_seen s.me.0) ≡ Some t) where
   -- reads
   pub last-joins : {s′ : SessionView} (standing : Standing) {reads : List Read} → NotesAll t.place standing.version reads s s′ → Follows t.place standing s.me
-      → IsLast t.place standing (space_of s).reads (space_of s′).reads
-      → Joins (space_of s) (Read_definition s.me.0.number id) (Reads standing.version standing.definition) (space_of s′)
+      → IsLast t.place standing (data_of s).reads (data_of s′).reads
+      → Joins (data_of s) (Read_definition s.me.0.number id) (Reads standing.version standing.definition) (data_of s′)
   last-joins {s′} standing noted follows last =
       joins-held s s′ (Read_definition s.me.0.number id) (Reads standing.version standing.definition) (map told_of (tickets_seen s.me.0)) (noted-rest noted) (speaks is) refl refl
       (ap (map told_of) (noted-tickets noted) ∙ noting-told t.place standing.version (tickets_seen s.me.0)) refl (noted-drawn noted) (holds-told id (tickets_seen s.me.0) true (ap is_some its)) tt refl
       (λ state how met. cc) (λ how told. cc) refl
-      (of-held id (tickets_seen s.me.0) t (λ (h : Held). Read_so standing (space_of s) (space_of s′) h.place) its
+      (of-held id (tickets_seen s.me.0) t (λ (h : Held). Read_so standing (data_of s) (data_of s′) h.place) its
       (meets-there s t.place standing follows, notes-there s s′ id t.place t standing its refl (noted-tickets noted) last))
       tt
 
   pub read-joins : {s′ : SessionView} (standing : Standing) → HasNoted t.place standing s s′ → Follows t.place standing s.me
-      → Joins (space_of s) (Read_definition s.me.0.number id) (Reads standing.version standing.definition) (space_of s′)
+      → Joins (data_of s) (Read_definition s.me.0.number id) (Reads standing.version standing.definition) (data_of s′)
   read-joins {s′} standing noted follows =
       last-joins standing noted follows (read-last s s′ t.place standing (ap (λ (x : SessionView). x.me.0.reads) noted.now))
 
@@ -184,7 +184,7 @@ module _ {s : SessionView} (is : IsMember s) (id : ℕ) (t : Own) (its : numbere
     owes = (noted-owes noted, ap (λ (x : SessionView). x.me.0.searches) noted.now);
   }
 
-  pub unread-joins : {s′ : SessionView} → Stays s s′ → Joins (space_of s) (Read_definition s.me.0.number id) (Refused OutOfMemory) (space_of s′)
+  pub unread-joins : {s′ : SessionView} → Stays s s′ → Joins (data_of s) (Read_definition s.me.0.number id) (Refused OutOfMemory) (data_of s′)
   unread-joins {s′} stays = refused s s′ (Read_definition s.me.0.number id) OutOfMemory stays (speaks is) refl refl tt (λ state how met. cc) tt
 
   pub unread-shows : {s′ : SessionView} → s′.table ≡ s.table → s′.sessions ≡ s.sessions → Visits t.place [] s.me s′.me → StaysQuiet s.me s′.me
@@ -203,19 +203,19 @@ module _ {s : SessionView} (is : IsMember s) (id : ℕ) (t : Own) (its : numbere
   }
 
   -- the key that the session knows at a place is that of the book which it met
-  named-there : (met key : KeyName) → IsNamed t.place met s.me → key_known_in t.place (space_of s).known ≡ Some key → met ≡ key
+  named-there : (met key : KeyName) → IsNamed t.place met s.me → key_known_in t.place (data_of s).known ≡ Some key → met ≡ key
   named-there met key named knows =
       let there = known-there t.place key s.me.0.known (sym (key-told t.place s.me.0.known) ∙ knows) in
       named there.0 there.1 there.2 there.3 ∙ there.4
 
   -- of the ticket that is held
-  told-one : (ticket : Held) → ticket_held id (space_of s).own ≡ Some ticket → ticket ≡ told_of t
+  told-one : (ticket : Held) → ticket_held id (data_of s).own ≡ Some ticket → ticket ≡ told_of t
   told-one ticket held = let e : Some ticket ≡ Some (told_of t) = sym held ∙ ticket-told id (tickets_seen s.me.0) ∙ ap (option_map told_of) its in cc
 
   -- changes
   module _ (s′ : SessionView) (change : Change) (exclusive : same_mode t.mode X ≡ true) where
     pub change-joins : (standing : Standing) (version : ℕ) → HasNoted t.place standing s s′ → standing.version ≡ version → Redefines t.place change version s.me s′.me
-        → Joins (space_of s) (Change_definition s.me.0.number id change) (Changed version) (space_of s′)
+        → Joins (data_of s) (Change_definition s.me.0.number id change) (Changed version) (data_of s′)
     change-joins standing version noted same redefines =
         let stood = redefines.meets.latch.book.standing in
         let newer = redefines.meets.newer in
@@ -223,7 +223,7 @@ module _ {s : SessionView} (is : IsMember s) (id : ℕ) (t : Own) (its : numbere
         (ap (map told_of) (noted-tickets noted) ∙ noting-told t.place standing.version (tickets_seen s.me.0)) refl (noted-drawn noted)
         (of-held id (tickets_seen s.me.0) t (λ (h : Held). same_mode h.mode X ≡ true) its exclusive) tt refl
         (λ state how met. cc) (λ how told. cc) refl
-        (of-held id (tickets_seen s.me.0) t (λ (h : Held). ChangesThere change version (space_of s) (space_of s′) h.place) its (record {
+        (of-held id (tickets_seen s.me.0) t (λ (h : Held). ChangesThere change version (data_of s) (data_of s′) h.place) its (record {
           stood = stood;
           meets = meets-there s t.place stood redefines.follows;
           allowed = λ key knows. subst (λ (k : KeyName). standing_fault k.namespace change stood ≡ None)
@@ -236,20 +236,20 @@ module _ {s : SessionView} (is : IsMember s) (id : ℕ) (t : Own) (its : numbere
         tt
 
     abbrev IsToldSo : SpaceError → Type 0
-    IsToldSo w = IsCause (Knows (space_of s) s.me.0.number) (Change_definition s.me.0.number id change) w (space_of s).own
-        × TellsTruly (Change_definition s.me.0.number id change) (Refused w) (space_of s) (space_of s′)
+    IsToldSo w = IsCause (Knows (data_of s) s.me.0.number) (Change_definition s.me.0.number id change) w (data_of s).own
+        × TellsTruly (Change_definition s.me.0.number id change) (Refused w) (data_of s) (data_of s′)
 
     -- refused for what was met, or since memory ran out
     refused-so : (w : ChangeError) → IsRefusedFor t.place s.me.0.number change w s.me s′.me → IsToldSo (cause_of w)
     refused-so w (inl met) =
         let fault = met.2.fault in
         let latch = met.2.latch in (
-          redefined-cause (Knows (space_of s) s.me.0.number) s.me.0.number id change (space_of s).own latch.book.key latch.book.standing (cause_of w)
+          redefined-cause (Knows (data_of s) s.me.0.number) s.me.0.number id change (data_of s).own latch.book.key latch.book.standing (cause_of w)
               (of-held id (tickets_seen s.me.0) t (λ (h : Held). same_mode h.mode X ≡ true) its exclusive)
               (inr (subst (λ o. MatchOption o (Refused (cause_of w) ≡ Changed (latch.book.standing.version + 1)) (λ why. Refused (cause_of w) ≡ Refused (cause_of why))) (sym fault) refl))
               (memory-cause w latch.book.key latch.book.standing fault),
           λ ticket held so.
-              inr (subst (λ (h : Held). Faulty change (cause_of w) (space_of s) h.place) (sym (told-one ticket held)) (record {
+              inr (subst (λ (h : Held). Faulty change (cause_of w) (data_of s) h.place) (sym (told-one ticket held)) (record {
                 stood = latch.book.standing;
                 meets = meets-there s t.place latch.book.standing met.3;
                 why = w;
@@ -272,7 +272,7 @@ module _ {s : SessionView} (is : IsMember s) (id : ℕ) (t : Own) (its : numbere
             (λ drop. subst (λ o. RefusesJust {T = ℕ} o (Err error.OutOfMemory)) (sym (fault ∙ ap (λ x. Some x) (out w e))) refl) refl
     refused-so w (inr memory) =
         let is_out : cause_of w ≡ OutOfMemory = ap cause_of memory.0 in (
-          subst (λ x. IsCause (Knows (space_of s) s.me.0.number) (Change_definition s.me.0.number id change) x (space_of s).own) (sym is_out) (takes change memory.1),
+          subst (λ x. IsCause (Knows (data_of s) s.me.0.number) (Change_definition s.me.0.number id change) x (data_of s).own) (sym is_out) (takes change memory.1),
           λ ticket held so. inl is_out,
         )
       where
@@ -281,7 +281,7 @@ module _ {s : SessionView} (is : IsMember s) (id : ℕ) (t : Own) (its : numbere
         takes _ apart = refl
 
     pub unchanged-joins : Stays s s′ → (w : ChangeError) → IsRefusedFor t.place s.me.0.number change w s.me s′.me
-        → Joins (space_of s) (Change_definition s.me.0.number id change) (Refused (cause_of w)) (space_of s′)
+        → Joins (data_of s) (Change_definition s.me.0.number id change) (Refused (cause_of w)) (data_of s′)
     unchanged-joins stays w why =
         let told = refused-so w why in
         refused s s′ (Change_definition s.me.0.number id change) (cause_of w) stays (speaks is) refl refl told.0 (λ state how met. cc) told.1

@@ -15,7 +15,7 @@ use Rattle.mdl_visits.proofs.Doing.{does_reschedule}
 use Rattle.mdl_visits.proofs.Numbers.{has_number}
 use Rattle.mdl_shared.specs.DeedsDone.{HasDone}
 use Rattle.mdl_shared.specs.Members.{IsMember, holding_fault}
-use Rattle.mdl_shared.specs.SessionViews.{SessionView, session_at, space_of, tickets_seen}
+use Rattle.mdl_shared.specs.SessionViews.{SessionView, data_of, session_at, tickets_seen}
 use Rattle.mdl_shared.specs.AllSteps.{Shows}
 use Rattle.mdl_shared.specs.Steps.{GivesUpFast, GivesUpSlow}
 use Rattle.mdl_shared.specs.TicketLists.{KeepsRoom, Room}
@@ -47,7 +47,7 @@ release-shows {a} {b} id t its done did met searches keeps = record {
 pub released-slow : (seat seat′ : SeatState) (sessions id : ℕ) {room room′ : Room} (t : Own) → IsMember (session_at seat sessions room) → numbered id (tickets_seen seat.me.0) ≡ Some t
     → numbered id seat.me.0.slow ≡ Some t → numbered id seat.me.0.fast ≡ None → AtItsTable seat seat′ (VisitsAndReschedules seat.table t.place (Lose id ∷ []))
     → DoesToOwn t.place id (Lose id ∷ []) seat seat′ → VisitsOnce t.place seat.me seat′.me → KeepsRoom 0 room room′
-    → Joins (space_of (session_at seat sessions room)) (Release seat.me.0.number id) Done (space_of (session_at seat′ sessions room′))
+    → Joins (data_of (session_at seat sessions room)) (Release seat.me.0.number id) Done (data_of (session_at seat′ sessions room′))
     × Shows (Release seat.me.0.number id) Done (session_at seat sessions room) (session_at seat′ sessions room′)
 released-slow seat seat′ sessions id {room} {room′} t is its slow none visit step once keeps =
     let done = rescheduled seat seat′ sessions {room = room} {room′ = room′} (loses-slow is t.place id t slow) visit in (
@@ -61,7 +61,7 @@ released-slow seat seat′ sessions id {room} {room′} t is its slow none visit
 -- a fast one
 pub released-fast : {a b : SessionView} (id : ℕ) (t : Own) → IsMember a → numbered id a.me.0.fast ≡ Some t → HasDone t.place (Lose t.number ∷ []) a b
     → Does (Lose t.number ∷ []) a.me b.me → GivesUpFast t.number a b t → b.me.0.searches ≡ a.me.0.searches → KeepsRoom 0 a.room b.room
-    → Joins (space_of a) (Release a.me.0.number id) Done (space_of b) × Shows (Release a.me.0.number id) Done a b
+    → Joins (data_of a) (Release a.me.0.number id) Done (data_of b) × Shows (Release a.me.0.number id) Done a b
 released-fast {a} {b} id t is fast done did way searches keeps =
     let number = has_number id t a.me.0.fast fast in
     let its = fast-held is id t fast in

@@ -19,7 +19,7 @@ use Rattle.mdl_visits.specs.Grantings.{StaysTold}
 use Rattle.mdl_visits.specs.Polls.{state_of}
 use Rattle.mdl_visits.specs.Readings.{ReadsNothing as ReadNothing}
 use Rattle.mdl_shared.specs.OwnLists.{told_of}
-use Rattle.mdl_shared.specs.SessionViews.{SessionView, note_of, settled_of, settled_told, space_of, tickets_seen}
+use Rattle.mdl_shared.specs.SessionViews.{SessionView, data_of, note_of, settled_of, settled_told, tickets_seen}
 use Rattle.mdl_shared.proofs.SpaceLists.{known_of}
 
 -- ---- what a session has
@@ -127,14 +127,14 @@ no-asks None waits idle = refl
 no-asks (Some a) waits idle = cc
 
 -- it knows of its wait what it knew, and may know more, where it waits
-pub keeps-settled : (m m′ : SessionView) → SeesWait m m′ → KeepsSettled false (space_of m) (space_of m′)
+pub keeps-settled : (m m′ : SessionView) → SeesWait m m′ → KeepsSettled false (data_of m) (data_of m′)
 keeps-settled m m′ sees = (
   λ how is. settled-stays m.me.0.told m′.me.0.told how sees.stays is,
   λ idle. ap settled_told (sees.unasked (no-asks m.me.0.asks m.me.0.waits idle)),
 )
 
 -- it is the same space but for that
-pub keeps-all : (m m′ : SessionView) → Stays m m′ → KeepsAll (space_of m) (space_of m′)
+pub keeps-all : (m m′ : SessionView) → Stays m m′ → KeepsAll (data_of m) (data_of m′)
 keeps-all m m′ stays = record {
   number = stays.number;
   own = own-same (tickets_seen m.me.0) (tickets_seen m′.me.0) m.me.0.asks m′.me.0.asks m.me.0.waits m′.me.0.waits stays.tickets stays.wait.asks stays.wait.waits;
@@ -146,28 +146,28 @@ keeps-all m m′ stays = record {
 }
 
 -- a refused call joins the two
-pub refused : (m m′ : SessionView) (call : Call) (why : SpaceError) → Stays m m′ → IfSome (caller call) (SpeaksFor (space_of m)) → has_call call ≡ true
-    → is_answer_of call (Refused why) ≡ true → IsCause (Knows (space_of m) m.me.0.number) call why (space_of m).own
-    → ((state : Option Settled) (how : Settled) → met call (Refused why) ≡ Some state → (space_of m).settled ≡ Some how → state ≡ Some how)
-    → TellsTruly call (Refused why) (space_of m) (space_of m′) → Joins (space_of m) call (Refused why) (space_of m′)
+pub refused : (m m′ : SessionView) (call : Call) (why : SpaceError) → Stays m m′ → IfSome (caller call) (SpeaksFor (data_of m)) → has_call call ≡ true
+    → is_answer_of call (Refused why) ≡ true → IsCause (Knows (data_of m) m.me.0.number) call why (data_of m).own
+    → ((state : Option Settled) (how : Settled) → met call (Refused why) ≡ Some state → (data_of m).settled ≡ Some how → state ≡ Some how)
+    → TellsTruly call (Refused why) (data_of m) (data_of m′) → Joins (data_of m) call (Refused why) (data_of m′)
 refused m m′ call why stays mine has fits cause agreed truly =
-    refused-joins (space_of m) (space_of m′) call why mine has fits (keeps-all m m′ stays) cause agreed truly
+    refused-joins (data_of m) (data_of m′) call why mine has fits (keeps-all m m′ stays) cause agreed truly
 
 -- and so does any that leaves its caller what it has
-pub joins-still : (m m′ : SessionView) (call : Call) (answer : Answer) → Stays m m′ → IfSome (caller call) (SpeaksFor (space_of m)) → has_call call ≡ true
-    → is_answer_of call answer ≡ true → own_after call answer (space_of m).own ≡ (space_of m).own
-    → Draws call answer (space_of m).numbers (space_of m).numbers
-    → IsExplained (Knows (space_of m) m.me.0.number) call answer (space_of m).own
-    → IfSome (gained_at call answer) (λ place. is_known place (space_of m).known ≡ true)
-    → Learns call answer (space_of m).known (space_of m).known
-    → ((state : Option Settled) (how : Settled) → met call answer ≡ Some state → (space_of m).settled ≡ Some how → state ≡ Some how)
-    → ((how : Settled) → told call answer ≡ Some how → (space_of m′).settled ≡ Some how)
+pub joins-still : (m m′ : SessionView) (call : Call) (answer : Answer) → Stays m m′ → IfSome (caller call) (SpeaksFor (data_of m)) → has_call call ≡ true
+    → is_answer_of call answer ≡ true → own_after call answer (data_of m).own ≡ (data_of m).own
+    → Draws call answer (data_of m).numbers (data_of m).numbers
+    → IsExplained (Knows (data_of m) m.me.0.number) call answer (data_of m).own
+    → IfSome (gained_at call answer) (λ place. is_known place (data_of m).known ≡ true)
+    → Learns call answer (data_of m).known (data_of m).known
+    → ((state : Option Settled) (how : Settled) → met call answer ≡ Some state → (data_of m).settled ≡ Some how → state ≡ Some how)
+    → ((how : Settled) → told call answer ≡ Some how → (data_of m′).settled ≡ Some how)
     → ends_wait call answer ≡ false
-    → (ReadsNothing (space_of m) (space_of m′) → LetsRead call answer (space_of m) (space_of m′))
-    → TellsTruly call answer (space_of m) (space_of m′) → Joins (space_of m) call answer (space_of m′)
+    → (ReadsNothing (data_of m) (data_of m′) → LetsRead call answer (data_of m) (data_of m′))
+    → TellsTruly call answer (data_of m) (data_of m′) → Joins (data_of m) call answer (data_of m′)
 joins-still m m′ call answer stays mine has fits own draws explained gained learns agreed tells ends reads truly =
-    let a = space_of m in
-    let b = space_of m′ in
+    let a = data_of m in
+    let b = data_of m′ in
     let same = keeps-all m m′ stays in record {
       mine = mine;
       has = has;
@@ -186,17 +186,17 @@ joins-still m m′ call answer stays mine has fits own draws explained gained le
     }
 
 -- and one that leaves it other tickets, and the wait as it is
-pub joins-held : (m m′ : SessionView) (call : Call) (answer : Answer) (held : List Held) → KeepsRest m m′ → IfSome (caller call) (SpeaksFor (space_of m))
+pub joins-held : (m m′ : SessionView) (call : Call) (answer : Answer) (held : List Held) → KeepsRest m m′ → IfSome (caller call) (SpeaksFor (data_of m))
     → has_call call ≡ true → is_answer_of call answer ≡ true → map told_of (tickets_seen m′.me.0) ≡ held
-    → own_after call answer (space_of m).own ≡ own_of held (wait_by m.me.0.waits m.me.0.asks)
-    → Draws call answer (space_of m).numbers (space_of m′).numbers
-    → IsExplained (Knows (space_of m) m.me.0.number) call answer (space_of m).own
-    → IfSome (gained_at call answer) (λ place. is_known place (space_of m).known ≡ true)
-    → Learns call answer (space_of m).known (space_of m).known
-    → ((state : Option Settled) (how : Settled) → met call answer ≡ Some state → (space_of m).settled ≡ Some how → state ≡ Some how)
-    → ((how : Settled) → told call answer ≡ Some how → (space_of m′).settled ≡ Some how)
-    → ends_wait call answer ≡ false → LetsRead call answer (space_of m) (space_of m′)
-    → TellsTruly call answer (space_of m) (space_of m′) → Joins (space_of m) call answer (space_of m′)
+    → own_after call answer (data_of m).own ≡ own_of held (wait_by m.me.0.waits m.me.0.asks)
+    → Draws call answer (data_of m).numbers (data_of m′).numbers
+    → IsExplained (Knows (data_of m) m.me.0.number) call answer (data_of m).own
+    → IfSome (gained_at call answer) (λ place. is_known place (data_of m).known ≡ true)
+    → Learns call answer (data_of m).known (data_of m).known
+    → ((state : Option Settled) (how : Settled) → met call answer ≡ Some state → (data_of m).settled ≡ Some how → state ≡ Some how)
+    → ((how : Settled) → told call answer ≡ Some how → (data_of m′).settled ≡ Some how)
+    → ends_wait call answer ≡ false → LetsRead call answer (data_of m) (data_of m′)
+    → TellsTruly call answer (data_of m) (data_of m′) → Joins (data_of m) call answer (data_of m′)
 joins-held m m′ call answer held rest mine has fits its own draws explained gained learns agreed tells ends reads truly = record {
   mine = mine;
   has = has;
@@ -206,10 +206,10 @@ joins-held m m′ call answer held rest mine has fits its own draws explained ga
   numbers = draws;
   explained = explained;
   gained = gained;
-  learns = subst (Learns call answer (space_of m).known) (sym (ap (map known_of) rest.known)) learns;
+  learns = subst (Learns call answer (data_of m).known) (sym (ap (map known_of) rest.known)) learns;
   agreed = agreed;
   told = tells;
-  settled = subst (λ (e : Bool). KeepsSettled e (space_of m) (space_of m′)) (sym ends) (keeps-settled m m′ rest.wait);
+  settled = subst (λ (e : Bool). KeepsSettled e (data_of m) (data_of m′)) (sym ends) (keeps-settled m m′ rest.wait);
   reads = reads;
   truly = truly;
 }

@@ -19,7 +19,7 @@ use Rattle.mdl_visits.specs.Visits.{Does}
 use Rattle.mdl_visits.proofs.Steps.{does_then}
 use Rattle.mdl_shared.specs.DeedsDone.{HasDone}
 use Rattle.mdl_shared.specs.Members.{IsMember}
-use Rattle.mdl_shared.specs.SessionViews.{SessionView, lists_seen, settled_of, space_of}
+use Rattle.mdl_shared.specs.SessionViews.{SessionView, data_of, lists_seen, settled_of}
 use Rattle.mdl_shared.specs.AllSteps.{Shows}
 use Rattle.mdl_shared.specs.StepSpec.{gained_by}
 use Rattle.mdl_shared.specs.Steps.{LooksAtKeys, ReadsUnsettled, SearchesFor, own_wait_read}
@@ -34,7 +34,7 @@ use Rattle.mdl_shared.proofs.WaitSteps.{asked, shows, told-own, word-step}
 
 pub search-joins : {s s′ : SessionView} → IsMember s → Stays s s′ → (result : Result Found SpaceError)
     → IfOk result (λ f. KnowsVictim s.me.0.number f s′.me) → IfErr result (λ why. why ≡ OutOfMemory)
-    → Joins (space_of s) (Search s.me.0.number) (searched result) (space_of s′)
+    → Joins (data_of s) (Search s.me.0.number) (searched result) (data_of s′)
 search-joins {s} {s′} is stays (Ok found.NoCycle) knows memory =
     joins-still s s′ (Search s.me.0.number) No_cycle stays (speaks is) refl refl refl refl tt tt refl (λ state how is. cc) (λ how is. cc) refl (λ r. r) tt
 search-joins {s} {s′} is stays (Ok (found.Victim victim)) knows memory =
@@ -42,7 +42,7 @@ search-joins {s} {s′} is stays (Ok (found.Victim victim)) knows memory =
     (λ mine. told-settled s′.me.0.told Victim (knows mine))
 search-joins {s} {s′} is stays (Err why) knows memory =
     refused s s′ (Search s.me.0.number) why stays (speaks is) refl refl
-    (subst (λ (w : SpaceError). IsCause (Knows (space_of s) s.me.0.number) (Search s.me.0.number) w (space_of s).own) (sym memory) tt) (λ state how is. cc) tt
+    (subst (λ (w : SpaceError). IsCause (Knows (data_of s) s.me.0.number) (Search s.me.0.number) w (data_of s).own) (sym memory) tt) (λ state how is. cc) tt
 
 -- ---- whether the wait is settled
 
@@ -65,7 +65,7 @@ module _ {s mid : SessionView} (is : IsMember s) (waiting : is_some s.me.0.asks 
   -- ---- it is settled
 
   pub search-settled : is_some (settled_of (wait_state word)) ≡ true
-      → Joins (space_of s) (Search s.me.0.number) No_cycle (space_of mid) × Shows (Search s.me.0.number) No_cycle s mid
+      → Joins (data_of s) (Search s.me.0.number) No_cycle (data_of mid) × Shows (Search s.me.0.number) No_cycle s mid
   search-settled some =
       let there = some-there (settled_of (wait_state word)) some in
       let one = there.0 in
@@ -119,7 +119,7 @@ module _ {s mid : SessionView} (is : IsMember s) (waiting : is_some s.me.0.asks 
       -- a search by all books was made then
       pub search-unsettled : (result : Result Found SpaceError) → IfOk result (λ f. KnowsVictim mid.me.0.number f s′.me × SearchesFor f mid s′ × (f ≡ found.NoCycle → s′.me.0.searches ≡ false))
           → IfErr result (λ why. (why ≡ OutOfMemory) × SettlesNothing mid.me s′.me × LooksAtKeys mid s′)
-          → Joins (space_of s) (Search s.me.0.number) (searched result) (space_of s′) × Shows (Search s.me.0.number) (searched result) s s′
+          → Joins (data_of s) (Search s.me.0.number) (searched result) (data_of s′) × Shows (Search s.me.0.number) (searched result) s s′
       search-unsettled result ok_so err_so = by result ok_so err_so
         where
           all-did : Does [] s.me s′.me
@@ -130,7 +130,7 @@ module _ {s mid : SessionView} (is : IsMember s) (waiting : is_some s.me.0.asks 
 
           by : (result : Result Found SpaceError) → IfOk result (λ f. KnowsVictim mid.me.0.number f s′.me × SearchesFor f mid s′ × (f ≡ found.NoCycle → s′.me.0.searches ≡ false))
               → IfErr result (λ why. (why ≡ OutOfMemory) × SettlesNothing mid.me s′.me × LooksAtKeys mid s′)
-              → Joins (space_of s) (Search s.me.0.number) (searched result) (space_of s′) × Shows (Search s.me.0.number) (searched result) s s′
+              → Joins (data_of s) (Search s.me.0.number) (searched result) (data_of s′) × Shows (Search s.me.0.number) (searched result) s s′
           by (Ok found.NoCycle) so failed = (
             search-joins is (done-nothing both) (Ok found.NoCycle) tt tt,
             shown No_cycle all-did tt (asked s waiting, λ asks. inr (opens (λ (x : SessionView). SearchesFor found.NoCycle x s′) so.1, so.2 refl)) room,

@@ -24,7 +24,7 @@ use Rattle.mdl_shared.specs.FastWishes.{BecomesSlow}
 use Rattle.mdl_shared.specs.Members.{IsMember}
 use Rattle.mdl_shared.specs.Modes.{merge_fault}
 use Rattle.mdl_shared.specs.Passes.{view_of}
-use Rattle.mdl_shared.specs.SessionViews.{SessionView, space_of, tickets_seen}
+use Rattle.mdl_shared.specs.SessionViews.{SessionView, data_of, tickets_seen}
 use Rattle.mdl_shared.specs.AllSteps.{Shows}
 use Rattle.mdl_shared.specs.Steps.{ShowsStep}
 use Rattle.mdl_shared.specs.WishSteps.{AllMadeSlow, LacksRoomForFast, SlowsAll, StopsSlowing}
@@ -63,10 +63,10 @@ module _ {a : SessionView} (is : IsMember a) (id : ℕ) (t : Own) (its : numbere
     (clear : upgrade_fault mode a.me.0.known a.me.0.asks (numbered id (tickets_seen a.me.0)) ≡ None) where
   -- there was no room for the fast tickets
   pub upgrade-refused : {b : SessionView} {why : SpaceError} → covers t.mode mode ≡ false → DoesQuietly 0 [] a b → LacksRoomForFast why a b → StopsSlowing a.me b.me → KeepsRoom 0 a.room b.room
-      → Joins (space_of a) (Upgrade_now a.me.0.number id mode) (Refused why) (space_of b) × Shows (Upgrade_now a.me.0.number id mode) (Refused why) a b
+      → Joins (data_of a) (Upgrade_now a.me.0.number id mode) (Refused why) (data_of b) × Shows (Upgrade_now a.me.0.number id mode) (Refused why) a b
   upgrade-refused {b} {why} short quiet lacks stops keeps = (
     refused a b (Upgrade_now a.me.0.number id mode) why (done-nothing quiet.done) (speaks is) refl refl
-        (by-cause (λ w. IsCause (Knows (space_of a) a.me.0.number) (Upgrade_now a.me.0.number id mode) w (space_of a).own) why tt
+        (by-cause (λ w. IsCause (Knows (data_of a) a.me.0.number) (Upgrade_now a.me.0.number id mode) w (data_of a).own) why tt
         (may-rise is id t its mode clear) (lack-cause a b lacks))
         (λ state how is. cc) tt,
     quiet-shows quiet refl clear (λ e. e) (λ e. e) (λ owes searches. (owes, searches)) (inr ((t, its, short), lacks, stops)) keeps,
@@ -79,7 +79,7 @@ module _ {a : SessionView} (is : IsMember a) (id : ℕ) (t : Own) (its : numbere
       (keeps : KeepsRoom 0 b.room c.room) where
     -- it has the mode
     upgraded-slow : DoesQuietly t.place (Alter t.number mode ∷ []) b c × ShowsStep b c (MeetsGrantable t.place b.me.0.number mode (Alter t.number mode))
-        → Joins (space_of a) (Upgrade_now a.me.0.number id mode) Upgraded (space_of c) × Shows (Upgrade_now a.me.0.number id mode) Upgraded a c
+        → Joins (data_of a) (Upgrade_now a.me.0.number id mode) Upgraded (data_of c) × Shows (Upgrade_now a.me.0.number id mode) Upgraded a c
     upgraded-slow went =
         let number = has_number id t (tickets_seen a.me.0) its in
         let quiet = quiet-then slow.quiet (subst (λ (n : ℕ). DoesQuietly t.place (Alter n mode ∷ []) b c) number went.0) in
@@ -92,7 +92,7 @@ module _ {a : SessionView} (is : IsMember a) (id : ℕ) (t : Own) (its : numbere
 
     -- it would have to wait
     blocked-slow : DoesQuietly t.place [] b c × ShowsStep b c (MeetsBlocked t.place b.me.0.number mode)
-        → Joins (space_of a) (Upgrade_now a.me.0.number id mode) Would_wait (space_of c) × Shows (Upgrade_now a.me.0.number id mode) Would_wait a c
+        → Joins (data_of a) (Upgrade_now a.me.0.number id mode) Would_wait (data_of c) × Shows (Upgrade_now a.me.0.number id mode) Would_wait a c
     blocked-slow went =
         let quiet = quiet-then slow.quiet went.0 in
         let by = subst (λ (who : ℕ). ShowsStep b c (MeetsBlocked t.place who mode)) (number-slow slow) went.1 in (
@@ -105,7 +105,7 @@ module _ {a : SessionView} (is : IsMember a) (id : ℕ) (t : Own) (its : numbere
         → (answer ≡ upgrade.Upgraded → DoesQuietly t.place (Alter t.number mode ∷ []) b c
         × ShowsStep b c (MeetsGrantable t.place b.me.0.number mode (Alter t.number mode)))
         → (answer ≡ upgrade.WouldWait → DoesQuietly t.place [] b c × ShowsStep b c (MeetsBlocked t.place b.me.0.number mode))
-        → Joins (space_of a) (Upgrade_now a.me.0.number id mode) (upgrade_tried (Ok answer)) (space_of c)
+        → Joins (data_of a) (Upgrade_now a.me.0.number id mode) (upgrade_tried (Ok answer)) (data_of c)
         × Shows (Upgrade_now a.me.0.number id mode) (upgrade_tried (Ok answer)) a c
     tried-slow upgrade.Upgraded granted blocked = upgraded-slow (granted refl)
     tried-slow upgrade.WouldWait granted blocked = blocked-slow (blocked refl)
@@ -120,10 +120,10 @@ module _ {a : SessionView} (is : IsMember a) (old new : ℕ) (kept gone : Own) (
 
   -- there was no room for the fast tickets
   pub merge-refused : {b : SessionView} {why : SpaceError} → DoesQuietly 0 [] a b → LacksRoomForFast why a b → StopsSlowing a.me b.me → KeepsRoom 0 a.room b.room
-      → Joins (space_of a) (Merge a.me.0.number old new) (Refused why) (space_of b) × Shows (Merge a.me.0.number old new) (Refused why) a b
+      → Joins (data_of a) (Merge a.me.0.number old new) (Refused why) (data_of b) × Shows (Merge a.me.0.number old new) (Refused why) a b
   merge-refused {b} {why} quiet lacks stops keeps = (
     refused a b (Merge a.me.0.number old new) why (done-nothing quiet.done) (speaks is) refl refl
-        (by-cause (λ w. IsCause (Knows (space_of a) a.me.0.number) (Merge a.me.0.number old new) w (space_of a).own) why tt
+        (by-cause (λ w. IsCause (Knows (data_of a) a.me.0.number) (Merge a.me.0.number old new) w (data_of a).own) why tt
         (merge-clear a old new kept gone its other free) (lack-cause a b lacks))
         (λ state how is. cc) tt,
     quiet-shows quiet refl clear (λ e. e) (λ e. e) (λ owes searches. (owes, searches)) (inr (lacks, stops)) keeps,
@@ -134,7 +134,7 @@ module _ {a : SessionView} (is : IsMember a) (old new : ℕ) (kept gone : Own) (
       → DoesQuietly kept.place (Alter kept.number gone.mode ∷ Lose gone.number ∷ []) b c
       → ((e : Met) × IsStepOf b.me c.me e × MeetsOwn kept.place b.me.0.number kept.number e × MeetsOwn kept.place b.me.0.number gone.number e
       × (e.deeds ≡ Alter kept.number gone.mode ∷ Lose gone.number ∷ []))
-      → Joins (space_of a) (Merge a.me.0.number old new) Done (space_of c) × Shows (Merge a.me.0.number old new) Done a c
+      → Joins (data_of a) (Merge a.me.0.number old new) Done (data_of c) × Shows (Merge a.me.0.number old new) Done a c
   merged-slow {b} {c} slow turn once keeps went step =
       let one = has_number old kept (tickets_seen a.me.0) its in
       let two = has_number new gone (tickets_seen a.me.0) other in

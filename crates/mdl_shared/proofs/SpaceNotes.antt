@@ -17,7 +17,7 @@ use Rattle.mdl_session_laws.proofs.TicketLists.{all-among}
 use Rattle.mdl_visits.specs.Readings.{ReadsNothing as ReadNothing}
 use Rattle.mdl_shared.specs.Modes.{in_mode_at}
 use Rattle.mdl_shared.specs.OwnLists.{told_of}
-use Rattle.mdl_shared.specs.SessionViews.{SessionView, note_of, space_of, tickets_seen}
+use Rattle.mdl_shared.specs.SessionViews.{SessionView, data_of, note_of, tickets_seen}
 use Rattle.mdl_shared.proofs.SameSpace.{reading_of}
 
 -- the version that is noted at a place
@@ -130,7 +130,7 @@ noted-gained at id place mode tickets all =
 -- ---- a session that reads nothing
 
 pub nothing-read : (m m′ : SessionView) → ReadNothing m.me m′.me
-    → ((place : ℕ) → AllNoted place (noted_under place (tickets_seen m.me.0)) (tickets_seen m′.me.0)) → ReadsNothing (space_of m) (space_of m′)
+    → ((place : ℕ) → AllNoted place (noted_under place (tickets_seen m.me.0)) (tickets_seen m′.me.0)) → ReadsNothing (data_of m) (data_of m′)
 nothing-read m m′ reads all = record {
   reads = ap (map reading_of) reads;
   noted = λ place version is. noted-in place version (noted_under place (tickets_seen m.me.0)) (tickets_seen m′.me.0) (all place) is;

@@ -25,7 +25,7 @@ use Rattle.mdl_calls.specs.SessionData.{Note, is_newest, last_read, noted_at}
 use Rattle.mdl_visits.specs.Numbers.{numbered}
 use Rattle.mdl_visits.specs.Readings.{ReadsThere}
 use Rattle.mdl_shared.specs.OwnLists.{key_known, told_of}
-use Rattle.mdl_shared.specs.SessionViews.{SessionView, note_of, space_of, tickets_seen}
+use Rattle.mdl_shared.specs.SessionViews.{SessionView, data_of, note_of, tickets_seen}
 use Rattle.mdl_shared.proofs.SameSpace.{reading_of}
 use Rattle.mdl_shared.proofs.SpaceLists.{key-told}
 use Rattle.mdl_shared.proofs.SpaceNotes.{and_note, note-here, note-there, noted_under, noting-elsewhere, noting-placed}
@@ -110,7 +110,7 @@ last-each place standing last (r ∷ rs) each e same =
 
 -- ---- what is met at a place
 
-pub meets-there : (m : SessionView) (place : ℕ) (standing : Standing) → Follows place standing m.me → Meets place standing (space_of m)
+pub meets-there : (m : SessionView) (place : ℕ) (standing : Standing) → Follows place standing m.me → Meets place standing (data_of m)
 meets-there m place standing follows = record {
   fits = λ key knows.
       let there = known-there place key m.me.0.known (sym (key-told place m.me.0.known) ∙ knows) in
@@ -125,13 +125,13 @@ meets-there m place standing follows = record {
 
 -- it was read there, after all that was read before
 pub read-last : (m m′ : SessionView) (place : ℕ) (standing : Standing) → ReadsThere place standing m.me m′.me
-    → IsLast place standing (space_of m).reads (space_of m′).reads
+    → IsLast place standing (data_of m).reads (data_of m′).reads
 read-last m m′ place standing reads = inl (ap (map reading_of) reads ∙ map-append reading_of m.me.0.reads (record { place = place; standing = standing } ∷ []))
 
 -- it has been read last, and is noted there
 pub notes-there : (m m′ : SessionView) (id place : ℕ) (t : Own) (standing : Standing) → numbered id (tickets_seen m.me.0) ≡ Some t → t.place ≡ place
-    → (tickets_seen m′.me.0) ≡ noting_version place standing.version (tickets_seen m.me.0) → IsLast place standing (space_of m).reads (space_of m′).reads
-    → NotesThere place standing (space_of m) (space_of m′)
+    → (tickets_seen m′.me.0) ≡ noting_version place standing.version (tickets_seen m.me.0) → IsLast place standing (data_of m).reads (data_of m′).reads
+    → NotesThere place standing (data_of m) (data_of m′)
 notes-there m m′ id place t standing its here noted last = record {
   last = last;
   here = ap (noted_under place) noted ∙ noting-placed place standing.version (tickets_seen m.me.0) (placed-some place id (tickets_seen m.me.0) t its here);

@@ -26,7 +26,7 @@ use Rattle.mdl_shared.specs.Doings.{rise_deeds, upgrade_deeds}
 use Rattle.mdl_shared.specs.Members.{IsMember}
 use Rattle.mdl_shared.specs.Modes.{downgrade_fault, merge_fault}
 use Rattle.mdl_shared.specs.OwnLists.{told_of}
-use Rattle.mdl_shared.specs.SessionViews.{SessionView, session_at, space_of, tickets_seen}
+use Rattle.mdl_shared.specs.SessionViews.{SessionView, data_of, session_at, tickets_seen}
 use Rattle.mdl_shared.specs.AllSteps.{Shows}
 use Rattle.mdl_shared.specs.TicketLists.{KeepsRoom, Room}
 use Rattle.mdl_shared.specs.Upgrades.{upgrade_fault}
@@ -47,7 +47,7 @@ use Rattle.mdl_shared.proofs.TicketFaults.{downgrade-cause, downgrade-clear, kno
 -- ---- a call with one deed
 
 -- reads nothing, and notes nothing
-pub deed-reads : {place : ℕ} {d : Deed} {m m′ : SessionView} → IsMember m → HasDone place (d ∷ []) m m′ → ReadsNothing (space_of m) (space_of m′)
+pub deed-reads : {place : ℕ} {d : Deed} {m m′ : SessionView} → IsMember m → HasDone place (d ∷ []) m m′ → ReadsNothing (data_of m) (data_of m′)
 deed-reads {place} {d} {m} {m′} is done =
     nothing-read m m′ (done-reads done) (λ at. subst (AllNoted at (noted_under at (tickets_seen m.me.0))) (sym (done-tickets done)) (one-note_done m is at place d))
 
@@ -57,17 +57,17 @@ module _ {m : SessionView} (is : IsMember m) (id : ℕ) (t : Own) (its : numbere
   here = only-one id (is_here t.place) (tickets_seen m.me.0) t is.sound.rising its (eq-eqb t.place t.place refl)
 
   -- no number was given
-  drawn : {ds : List Deed} {m′ : SessionView} → HasDone t.place ds m m′ → m′.me.0.next ≡ m.me.0.next → (space_of m′).numbers ≡ (space_of m).numbers
+  drawn : {ds : List Deed} {m′ : SessionView} → HasDone t.place ds m m′ → m′.me.0.next ≡ m.me.0.next → (data_of m′).numbers ≡ (data_of m).numbers
   drawn {ds} {m′} done next = numbers-same m.me.0.next m′.me.0.next m.me.0.waits m′.me.0.waits next (done-rest done).wait.waits
 
-  pub release-joins : {m′ : SessionView} → HasDone t.place (Lose id ∷ []) m m′ → Joins (space_of m) (Release m.me.0.number id) Done (space_of m′)
+  pub release-joins : {m′ : SessionView} → HasDone t.place (Lose id ∷ []) m m′ → Joins (data_of m) (Release m.me.0.number id) Done (data_of m′)
   release-joins {m′} done =
       joins-held m m′ (Release m.me.0.number id) Done (filter (λ (h : Held). not (is_number id h)) (map told_of (tickets_seen m.me.0))) (done-rest done) (speaks is) refl refl
       (ap (map told_of) (done-tickets done) ∙ given-up t.place id (tickets_seen m.me.0) here) refl (drawn done (done-next done))
       (holds-told id (tickets_seen m.me.0) true (ap is_some its)) tt refl (λ state how is. cc) (λ how is. cc) refl (deed-reads is done) tt
 
   downgrade-joins : {m′ : SessionView} (mode : Mode) → downgrade_fault (numbered id (tickets_seen m.me.0)) mode m.me.0.known ≡ None → HasDone t.place (Alter id mode ∷ []) m m′
-      → Joins (space_of m) (Downgrade m.me.0.number id mode) Done (space_of m′)
+      → Joins (data_of m) (Downgrade m.me.0.number id mode) Done (data_of m′)
   downgrade-joins {m′} mode clear done =
       joins-held m m′ (Downgrade m.me.0.number id mode) Done (map (in_mode_told id (λ _. mode)) (map told_of (tickets_seen m.me.0))) (done-rest done) (speaks is) refl refl
       (ap (map told_of) (done-tickets done) ∙ in-mode t.place id mode (λ _. mode) (is_here t.place) (tickets_seen m.me.0) (λ u there. (there, refl)) here) refl
@@ -77,11 +77,11 @@ module _ {m : SessionView} (is : IsMember m) (id : ℕ) (t : Own) (its : numbere
   -- ---- upgrades
 
   module _ (mode : Mode) (clear : upgrade_fault mode m.me.0.known m.me.0.asks (numbered id (tickets_seen m.me.0)) ≡ None) where
-    pub may-rise : (is_waiting (space_of m).own ≡ false) × OfHeld id (space_of m).own (MayUpgrade (knows m) mode)
+    pub may-rise : (is_waiting (data_of m).own ≡ false) × OfHeld id (data_of m).own (MayUpgrade (knows m) mode)
     may-rise = upgrade-clear m id mode t its (sym (ap (upgrade_fault mode m.me.0.known m.me.0.asks) its) ∙ clear)
 
     -- to a mode that its own covers
-    pub covered-joins : covers t.mode mode ≡ true → Joins (space_of m) (Upgrade_now m.me.0.number id mode) Upgraded (space_of m)
+    pub covered-joins : covers t.mode mode ≡ true → Joins (data_of m) (Upgrade_now m.me.0.number id mode) Upgraded (data_of m)
     covered-joins has =
         joins-held m m (Upgrade_now m.me.0.number id mode) Upgraded (map (in_mode_told id (upgraded mode)) (map told_of (tickets_seen m.me.0))) (same-rest m) (speaks is) refl refl
         (same-mode id (upgraded mode) (λ u. covers u.mode mode) (tickets_seen m.me.0) (λ u h. ap (λ b. if b then u.mode else mode) h)
@@ -106,7 +106,7 @@ module _ {m : SessionView} (is : IsMember m) (id : ℕ) (t : Own) (its : numbere
         }
 
     -- to another
-    pub upgrade-joins : {m′ : SessionView} → covers t.mode mode ≡ false → HasDone t.place (Alter id mode ∷ []) m m′ → Joins (space_of m) (Upgrade_now m.me.0.number id mode) Upgraded (space_of m′)
+    pub upgrade-joins : {m′ : SessionView} → covers t.mode mode ≡ false → HasDone t.place (Alter id mode ∷ []) m m′ → Joins (data_of m) (Upgrade_now m.me.0.number id mode) Upgraded (data_of m′)
     upgrade-joins {m′} short done =
         joins-held m m′ (Upgrade_now m.me.0.number id mode) Upgraded (map (in_mode_told id (upgraded mode)) (map told_of (tickets_seen m.me.0))) (done-rest done) (speaks is) refl refl
         (ap (map told_of) (done-tickets done) ∙ in-mode t.place id mode (upgraded mode) (λ u. is_here t.place u && not (covers u.mode mode)) (tickets_seen m.me.0)
@@ -117,7 +117,7 @@ module _ {m : SessionView} (is : IsMember m) (id : ℕ) (t : Own) (its : numbere
         refl (drawn done (done-next done)) may-rise tt refl (λ state how is. cc) (λ how is. cc) refl (deed-reads is done) tt
 
     -- that would have to wait
-    pub blocked-joins : {m′ : SessionView} → covers t.mode mode ≡ false → HasDone t.place [] m m′ → Joins (space_of m) (Upgrade_now m.me.0.number id mode) Would_wait (space_of m′)
+    pub blocked-joins : {m′ : SessionView} → covers t.mode mode ≡ false → HasDone t.place [] m m′ → Joins (data_of m) (Upgrade_now m.me.0.number id mode) Would_wait (data_of m′)
     blocked-joins {m′} short done =
         joins-still m m′ (Upgrade_now m.me.0.number id mode) Would_wait (done-nothing done) (speaks is) refl refl refl refl
         may-rise tt refl (λ state how is. cc) (λ how is. cc) refl (λ r. r)
@@ -126,13 +126,13 @@ module _ {m : SessionView} (is : IsMember m) (id : ℕ) (t : Own) (its : numbere
   -- ---- merges, the ticket being kept
 
   pub merge-joins : {m′ : SessionView} (new : ℕ) (gone : Own) → numbered new (tickets_seen m.me.0) ≡ Some gone → merge_fault (Some t) (Some gone) m.me.0.asks ≡ None
-      → HasDone t.place (Alter id gone.mode ∷ Lose new ∷ []) m m′ → Joins (space_of m) (Merge m.me.0.number id new) Done (space_of m′)
+      → HasDone t.place (Alter id gone.mode ∷ Lose new ∷ []) m m′ → Joins (data_of m) (Merge m.me.0.number id new) Done (data_of m′)
   merge-joins {m′} new gone other clear done =
       joins-held m m′ (Merge m.me.0.number id new) Done (map (in_mode_told id (λ _. gone.mode)) (filter (λ (h : Held). not (is_number new h)) (map told_of (tickets_seen m.me.0))))
       (done-rest done) (speaks is) refl refl
       (ap (map told_of) (done-tickets done) ∙ merged-told t.place id new gone.mode (tickets_seen m.me.0) here
       (only-one new (is_here t.place) (tickets_seen m.me.0) gone is.sound.rising other (merge-here t gone m.me.0.asks clear)))
-      (ap (λ o. merging id new o (space_of m).own) (ticket-told new (tickets_seen m.me.0) ∙ ap (option_map told_of) other)) (drawn done (done-next done))
+      (ap (λ o. merging id new o (data_of m).own) (ticket-told new (tickets_seen m.me.0) ∙ ap (option_map told_of) other)) (drawn done (done-next done))
       (merge-clear m id new t gone its other clear) tt refl (λ state how is. cc) (λ how is. cc) refl
       (nothing-read m m′ (done-reads done) (λ at.
       subst (AllNoted at (noted_under at (tickets_seen m.me.0))) (sym (done-tickets done))
@@ -143,19 +143,19 @@ module _ {m : SessionView} (is : IsMember m) (id : ℕ) (t : Own) (its : numbere
 
 module _ {s : SessionView} (is : IsMember s) (why : SpaceError) where
   pub downgrade-unfit : (id : ℕ) (mode : Mode) → downgrade_fault (numbered id (tickets_seen s.me.0)) mode s.me.0.known ≡ Some why
-      → Joins (space_of s) (Downgrade s.me.0.number id mode) (Refused why) (space_of s)
+      → Joins (data_of s) (Downgrade s.me.0.number id mode) (Refused why) (data_of s)
   downgrade-unfit id mode fault =
       refused s s (Downgrade s.me.0.number id mode) why (same-stays s) (speaks is) refl refl
       (downgrade-cause s s.me.0.number id mode why (numbered id (tickets_seen s.me.0)) refl fault) (λ state how is. cc) tt
 
   pub upgrade-unfit : (id : ℕ) (mode : Mode) → upgrade_fault mode s.me.0.known s.me.0.asks (numbered id (tickets_seen s.me.0)) ≡ Some why
-      → Joins (space_of s) (Upgrade_now s.me.0.number id mode) (Refused why) (space_of s)
+      → Joins (data_of s) (Upgrade_now s.me.0.number id mode) (Refused why) (data_of s)
   upgrade-unfit id mode fault =
       refused s s (Upgrade_now s.me.0.number id mode) why (same-stays s) (speaks is) refl refl
       (upgrade-cause s s.me.0.number id mode why (numbered id (tickets_seen s.me.0)) refl fault) (λ state how is. cc) tt
 
   pub merge-unfit : (old new : ℕ) → merge_fault (numbered old (tickets_seen s.me.0)) (numbered new (tickets_seen s.me.0)) s.me.0.asks ≡ Some why
-      → Joins (space_of s) (Merge s.me.0.number old new) (Refused why) (space_of s)
+      → Joins (data_of s) (Merge s.me.0.number old new) (Refused why) (data_of s)
   merge-unfit old new fault =
       refused s s (Merge s.me.0.number old new) why (same-stays s) (speaks is) refl refl
       (merge-cause s s.me.0.number old new why (numbered old (tickets_seen s.me.0)) (numbered new (tickets_seen s.me.0)) refl refl fault) (λ state how is. cc) tt
@@ -168,12 +168,12 @@ pub downgraded : (seat seat′ : SeatState) (sessions id : ℕ) {room room′ : 
     → AtItsTable seat seat′ (VisitsAndReschedules seat.table t.place (Alter t.number mode ∷ []))
     → ((e : Met) × IsStepOf seat.me seat′.me e × MeetsOwn t.place seat.me.0.number t.number e × (e.deeds ≡ Alter t.number mode ∷ []))
     → VisitsOnce t.place seat.me seat′.me → KeepsRoom 0 room room′
-    → Joins (space_of (session_at seat sessions room)) (Downgrade seat.me.0.number id mode) Done (space_of (session_at seat′ sessions room′))
+    → Joins (data_of (session_at seat sessions room)) (Downgrade seat.me.0.number id mode) Done (data_of (session_at seat′ sessions room′))
     × Shows (Downgrade seat.me.0.number id mode) Done (session_at seat sessions room) (session_at seat′ sessions room′)
 downgraded seat seat′ sessions id {room} {room′} mode t is held slow clear visit step once keeps =
     let free = ap (λ o. downgrade_fault o mode seat.me.0.known) (held.own ∙ sym held.its) ∙ clear in
     let done = rescheduled seat seat′ sessions {room = room} {room′ = room′} (alters-slow is t.place t.number mode t slow) visit in
-    subst (λ (n : ℕ). Joins (space_of (session_at seat sessions room)) (Downgrade seat.me.0.number n mode) Done (space_of (session_at seat′ sessions room′))
+    subst (λ (n : ℕ). Joins (data_of (session_at seat sessions room)) (Downgrade seat.me.0.number n mode) Done (data_of (session_at seat′ sessions room′))
     × Shows (Downgrade seat.me.0.number n mode) Done (session_at seat sessions room) (session_at seat′ sessions room′)) held.number (
       downgrade-joins is t.number t held.own mode free done,
       record {

@@ -17,7 +17,7 @@ use Rattle.mdl_visits.specs.Numbers.{numbered}
 use Rattle.mdl_shared.specs.Members.{kind_known}
 use Rattle.mdl_shared.specs.Modes.{downgrade_fault, is_fit, may_merge, merge_fault}
 use Rattle.mdl_shared.specs.OwnLists.{told_of}
-use Rattle.mdl_shared.specs.SessionViews.{SessionView, space_of, tickets_seen}
+use Rattle.mdl_shared.specs.SessionViews.{SessionView, data_of, tickets_seen}
 use Rattle.mdl_shared.specs.Upgrades.{can_have, upgrade_fault}
 use Rattle.mdl_shared.proofs.Faults.{test-failed, test-passed}
 use Rattle.mdl_shared.proofs.SameSpace.{no-asks, waits-asks}
@@ -105,10 +105,10 @@ merge-here kept gone asks e = eq-eqb gone.place kept.place (sym (merge-passed ke
 
 module _ (m : SessionView) where
   abbrev pub knows : Knowledge
-  knows = Knows (space_of m) m.me.0.number
+  knows = Knows (data_of m) m.me.0.number
 
   abbrev pub own : SessionLocks
-  own = (space_of m).own
+  own = (data_of m).own
 
   -- a downgrade
   pub downgrade-clear : (id : ℕ) (mode : Mode) (t : Own) → numbered id (tickets_seen m.me.0) ≡ Some t → downgrade_fault (numbered id (tickets_seen m.me.0)) mode m.me.0.known ≡ None

@@ -20,7 +20,7 @@ use Rattle.mdl_visits.specs.Numbers.{numbered}
 use Rattle.mdl_visits.specs.Visits.{Does}
 use Rattle.mdl_shared.specs.Members.{IsMember}
 use Rattle.mdl_shared.specs.OwnLists.{told_of}
-use Rattle.mdl_shared.specs.SessionViews.{SessionView, lists_seen, session_at, space_of, tickets_seen}
+use Rattle.mdl_shared.specs.SessionViews.{SessionView, data_of, lists_seen, session_at, tickets_seen}
 use Rattle.mdl_shared.specs.ReadSteps.{FindsVersion, MissesVersion, ReadsVersion}
 use Rattle.mdl_shared.specs.TicketLists.{KeepsRoom, Room}
 use Rattle.mdl_shared.proofs.LastReads.{follows-last, is-last, was-read}
@@ -62,8 +62,8 @@ module _ {place version : ℕ} {a b : SessionView} (reads : MissesVersion place 
   read-now : b ≡ record a { me = met_version place version a.me; room = b.room }
   read-now = reads.same ∙ ap (λ (m : Mine). record a { me = m; room = b.room }) reads.now
 
-  pub read-space : space_of b ≡ space_of a
-  read-space = ap space_of read-now
+  pub read-space : data_of b ≡ data_of a
+  read-space = ap data_of read-now
 
   pub read-lists : lists_seen b.me.0 ≡ lists_seen a.me.0
   read-lists = ap (λ (x : SessionView). lists_seen x.me.0) read-now
@@ -112,7 +112,7 @@ module _ {place : ℕ} {standing : Standing} {a b : SessionView} (finds : FindsV
   found-does = (met-at place standing.version a ∷ [], found-log, refl)
 
 module _ {s s′ : SessionView} (is : IsMember s) (id : ℕ) (t : Own) (its : numbered id (tickets_seen s.me.0) ≡ Some t) (standing : Standing)
-    (met : HasMet (space_of s) s.me.0.number t.place standing) (newest : ReadNoneNewer t.place standing.version s.me) (one : ReadOneStanding t.place standing.version s.me) where
+    (met : HasMet (data_of s) s.me.0.number t.place standing) (newest : ReadNoneNewer t.place standing.version s.me) (one : ReadOneStanding t.place standing.version s.me) where
   pub finds-version : s′.me ≡ noted_version t.place standing.version s.me → s′ ≡ record s { me = s′.me; room = s′.room } → KeepsRoom 0 s.room s′.room
       → FindsVersion t.place standing s s′
   finds-version now same keeps = record {
@@ -123,11 +123,11 @@ module _ {s s′ : SessionView} (is : IsMember s) (id : ℕ) (t : Own) (its : nu
     follows = follows-last is id t its standing met newest one;
   }
 
-  pub finds-joins : FindsVersion t.place standing s s′ → Joins (space_of s) (Read_definition s.me.0.number id) (Reads standing.version standing.definition) (space_of s′)
+  pub finds-joins : FindsVersion t.place standing s s′ → Joins (data_of s) (Read_definition s.me.0.number id) (Reads standing.version standing.definition) (data_of s′)
   finds-joins finds =
       let noted = found-noted finds in
       last-joins is id t its standing noted finds.follows
-      (inr (ap (λ (x : SessionView). (space_of x).reads) noted.now, is-last is id t its standing met newest one))
+      (inr (ap (λ (x : SessionView). (data_of x).reads) noted.now, is-last is id t its standing met newest one))
 
 -- ---- the version is read, and what is defined in it counts as read
 
@@ -150,18 +150,18 @@ module _ {place version : ℕ} {s s′ : SessionView} (reads : ReadsVersion plac
   pub learnt-noted : HasNoted place learnt-found s s′
   learnt-noted = record { log = _; room = s′.room; now = learnt-now }
 
-  module _ (is : IsMember s) (known : is_known place (space_of s).known ≡ true) where
-    learnt-all : HasLearnt (space_of s) (space_of s′)
+  module _ (is : IsMember s) (known : is_known place (data_of s).known ≡ true) where
+    learnt-all : HasLearnt (data_of s) (data_of s′)
     learnt-all =
         let tickets = tickets_seen s.me.0 in
         let n = learnt-found.version in
-        let key = is-known (space_of s).known place known in
+        let key = is-known (data_of s).known place known in
         let meets = meets-there s place learnt-found reads.learnt.follows in
         record {
           place = place;
           standing = learnt-found;
           newest = meets.newest;
-          fits = meets-fits (space_of s) place learnt-found key.0 key.1 meets;
+          fits = meets-fits (data_of s) place learnt-found key.0 key.1 meets;
           last = read-last s s′ place learnt-found (ap (λ (x : SessionView). x.me.0.reads) learnt-now);
           here = λ v noted.
               let under = sym (ap (noted_under place) (noted-tickets learnt-noted)) ∙ noted in
@@ -170,24 +170,24 @@ module _ {place version : ℕ} {s s′ : SessionView} (reads : ReadsVersion plac
           elsewhere = λ other apart. ap (noted_under other) (noted-tickets learnt-noted) ∙ noting-elsewhere place n other tickets apart;
         }
 
-    learnt-rest : space_of s′ ≡ record (space_of s) { notes = (space_of s′).notes; reads = (space_of s′).reads }
+    learnt-rest : data_of s′ ≡ record (data_of s) { notes = (data_of s′).notes; reads = (data_of s′).reads }
     learnt-rest =
         let held : map told_of (tickets_seen s′.me.0) ≡ map told_of (tickets_seen s.me.0) =
         ap (map told_of) (noted-tickets learnt-noted) ∙ noting-told place learnt-found.version (tickets_seen s.me.0) in
         λ i. record {
-          number = ap (λ (x : SessionView). (space_of x).number) learnt-now i;
-          own = record { held = held i; wait = ap (λ (x : SessionView). (space_of x).own.wait) learnt-now i };
-          numbers = ap (λ (x : SessionView). (space_of x).numbers) learnt-now i;
-          known = ap (λ (x : SessionView). (space_of x).known) learnt-now i;
-          settled = ap (λ (x : SessionView). (space_of x).settled) learnt-now i;
-          notes = (space_of s′).notes;
-          reads = (space_of s′).reads;
+          number = ap (λ (x : SessionView). (data_of x).number) learnt-now i;
+          own = record { held = held i; wait = ap (λ (x : SessionView). (data_of x).own.wait) learnt-now i };
+          numbers = ap (λ (x : SessionView). (data_of x).numbers) learnt-now i;
+          known = ap (λ (x : SessionView). (data_of x).known) learnt-now i;
+          settled = ap (λ (x : SessionView). (data_of x).settled) learnt-now i;
+          notes = (data_of s′).notes;
+          reads = (data_of s′).reads;
         }
 
     pub learnt-member : IsMember s′
     learnt-member =
         in-order is (noted-order learnt-noted is) (ap (λ (x : SessionView). x.me.0.number) learnt-now)
-        (learns-sound (space_of s) (space_of s′) is.sound learnt-all learnt-rest)
+        (learns-sound (data_of s) (data_of s′) is.sound learnt-all learnt-rest)
 
 -- ---- a read with a cache joins as one without it
 

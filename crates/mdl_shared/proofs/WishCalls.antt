@@ -19,7 +19,7 @@ use Rattle.mdl_session_laws.proofs.RefusedCalls.{reads-nothing}
 use Rattle.mdl_visits.specs.WaitOpenings.{Opens, awaiting}
 use Rattle.mdl_shared.specs.Members.{IsMember, kind_known, wish_fault}
 use Rattle.mdl_shared.specs.OwnLists.{told_of}
-use Rattle.mdl_shared.specs.SessionViews.{SessionView, session_at, settled_told, space_of, tickets_seen}
+use Rattle.mdl_shared.specs.SessionViews.{SessionView, data_of, session_at, settled_told, tickets_seen}
 use Rattle.mdl_shared.specs.TicketLists.{Room}
 use Rattle.mdl_shared.proofs.MemberFacts.{next-some, nothing-told, speaks}
 use Rattle.mdl_shared.proofs.Members.{HasDone, StaysInOrder, done-next, done-rest, done-tickets}
@@ -45,17 +45,17 @@ numbers-waited next next′ waits waits′ some n w =
 -- ---- one ticket more
 
 pub gain-joins : {s s′ : SessionView} (is : IsMember s) {place id : ℕ} {mode : Mode} → id ≡ s.me.0.next → HasDone place (Gain id mode ∷ []) s s′ → (call : Call)
-    → IfSome (caller call) (SpeaksFor (space_of s)) → has_call call ≡ true → is_answer_of call (Granted id) ≡ true
-    → own_after call (Granted id) (space_of s).own ≡ gaining id place mode (space_of s).own
-    → (DrawsTicket id (space_of s).numbers (space_of s′).numbers → Draws call (Granted id) (space_of s).numbers (space_of s′).numbers)
-    → IsExplained (Knows (space_of s) s.me.0.number) call (Granted id) (space_of s).own
-    → IfSome (gained_at call (Granted id)) (λ place. is_known place (space_of s).known ≡ true)
-    → Learns call (Granted id) (space_of s).known (space_of s).known
-    → ((state : Option Settled) (how : Settled) → met call (Granted id) ≡ Some state → (space_of s).settled ≡ Some how → state ≡ Some how)
-    → ((how : Settled) → told call (Granted id) ≡ Some how → (space_of s′).settled ≡ Some how)
+    → IfSome (caller call) (SpeaksFor (data_of s)) → has_call call ≡ true → is_answer_of call (Granted id) ≡ true
+    → own_after call (Granted id) (data_of s).own ≡ gaining id place mode (data_of s).own
+    → (DrawsTicket id (data_of s).numbers (data_of s′).numbers → Draws call (Granted id) (data_of s).numbers (data_of s′).numbers)
+    → IsExplained (Knows (data_of s) s.me.0.number) call (Granted id) (data_of s).own
+    → IfSome (gained_at call (Granted id)) (λ place. is_known place (data_of s).known ≡ true)
+    → Learns call (Granted id) (data_of s).known (data_of s).known
+    → ((state : Option Settled) (how : Settled) → met call (Granted id) ≡ Some state → (data_of s).settled ≡ Some how → state ≡ Some how)
+    → ((how : Settled) → told call (Granted id) ≡ Some how → (data_of s′).settled ≡ Some how)
     → ends_wait call (Granted id) ≡ false
-    → (ReadsNothing (space_of s) (space_of s′) → LetsRead call (Granted id) (space_of s) (space_of s′))
-    → TellsTruly call (Granted id) (space_of s) (space_of s′) → Joins (space_of s) call (Granted id) (space_of s′)
+    → (ReadsNothing (data_of s) (data_of s′) → LetsRead call (Granted id) (data_of s) (data_of s′))
+    → TellsTruly call (Granted id) (data_of s) (data_of s′) → Joins (data_of s) call (Granted id) (data_of s′)
 gain-joins {s} {s′} is {place} {id} {mode} first done call mine has fits own draws explained at learns agreed tells ends lets truly =
     let some = next-some is in
     let drawn : id ≡ (s.me.0.next - 1) + 1 = omega arith in
@@ -74,20 +74,20 @@ by-cause P why memory full (inr is) = subst P (sym is) full
 module _ {s : SessionView} (is : IsMember s) (place : ℕ) (mode : Mode) where
   -- refused for what the session has
   module _ (why : SpaceError) (fault : wish_fault (kind_known place s.me.0.known) s.me.0.asks mode s.me.0.next ≡ Some why) where
-    pub try-unfit : Joins (space_of s) (Try_now s.me.0.number place mode) (Refused why) (space_of s)
+    pub try-unfit : Joins (data_of s) (Try_now s.me.0.number place mode) (Refused why) (data_of s)
     try-unfit =
         refused s s (Try_now s.me.0.number place mode) why (same-stays s) (speaks is) refl refl
-        (wish-cause s (λ w. IsCause (Knows (space_of s) s.me.0.number) (Try_now s.me.0.number place mode) w (space_of s).own) place mode why
+        (wish-cause s (λ w. IsCause (Knows (data_of s) s.me.0.number) (Try_now s.me.0.number place mode) w (data_of s).own) place mode why
         (λ h. h) (λ h. h) (λ h. h) (λ h. h) fault) (λ state how is. cc) tt
 
-    pub begin-unfit : Joins (space_of s) (Begin_wait s.me.0.number place mode) (Refused why) (space_of s)
+    pub begin-unfit : Joins (data_of s) (Begin_wait s.me.0.number place mode) (Refused why) (data_of s)
     begin-unfit =
         refused s s (Begin_wait s.me.0.number place mode) why (same-stays s) (speaks is) refl refl
-        (wish-cause s (λ w. IsCause (Knows (space_of s) s.me.0.number) (Begin_wait s.me.0.number place mode) w (space_of s).own) place mode why
+        (wish-cause s (λ w. IsCause (Knows (data_of s) s.me.0.number) (Begin_wait s.me.0.number place mode) w (data_of s).own) place mode why
         (λ h. h) (λ h. h) (λ h. h) (λ h. h) fault) (λ state how is. cc) tt
 
   module _ (clear : wish_fault (kind_known place s.me.0.known) s.me.0.asks mode s.me.0.next ≡ None) where
-    clear-wish : (is_waiting (space_of s).own ≡ false) × IsFit (Knows (space_of s) s.me.0.number) place mode
+    clear-wish : (is_waiting (data_of s).own ≡ false) × IsFit (Knows (data_of s) s.me.0.number) place mode
     clear-wish = let h = wish-clear s place mode clear in (waits-asks s.me.0.asks s.me.0.waits ∙ h.0, h.1)
 
     -- the session was told of no wait
@@ -95,35 +95,35 @@ module _ {s : SessionView} (is : IsMember s) (place : ℕ) (mode : Mode) where
     untold-wish = nothing-told is (no-asks s.me.0.asks s.me.0.waits clear-wish.0)
 
     pub try-granted : {s′ : SessionView} {id : ℕ} → id ≡ s.me.0.next → HasDone place (Gain id mode ∷ []) s s′
-        → Joins (space_of s) (Try_now s.me.0.number place mode) (Granted id) (space_of s′)
+        → Joins (data_of s) (Try_now s.me.0.number place mode) (Granted id) (data_of s′)
     try-granted first done =
         gain-joins is first done (Try_now s.me.0.number place mode) (speaks is) refl refl refl (λ d. d) clear-wish (wish-clear s place mode clear).2 refl
         (λ state how is. cc) (λ how is. cc) refl (λ r. r) tt
 
     pub begin-granted : {s′ : SessionView} {id : ℕ} → id ≡ s.me.0.next → HasDone place (Gain id mode ∷ []) s s′
-        → Joins (space_of s) (Begin_wait s.me.0.number place mode) (Granted id) (space_of s′)
+        → Joins (data_of s) (Begin_wait s.me.0.number place mode) (Granted id) (data_of s′)
     begin-granted first done =
         gain-joins is first done (Begin_wait s.me.0.number place mode) (speaks is) refl refl refl (λ d. d) clear-wish (wish-clear s place mode clear).2 refl
         (λ state how is. cc) (λ how is. cc) refl (λ r. r) tt
 
-    pub try-blocked : {s′ : SessionView} → Stays s s′ → Joins (space_of s) (Try_now s.me.0.number place mode) Would_wait (space_of s′)
+    pub try-blocked : {s′ : SessionView} → Stays s s′ → Joins (data_of s) (Try_now s.me.0.number place mode) Would_wait (data_of s′)
     try-blocked {s′} stays =
         joins-still s s′ (Try_now s.me.0.number place mode) Would_wait stays (speaks is) refl refl refl refl clear-wish tt refl
         (λ state how is. cc) (λ how is. cc) refl (λ r. r) tt
 
     -- refused, as memory ran out or the book is full
     pub try-refused : {s′ : SessionView} → Stays s s′ → {why : SpaceError} → (why ≡ OutOfMemory) ⊎ (why ≡ Full)
-        → Joins (space_of s) (Try_now s.me.0.number place mode) (Refused why) (space_of s′)
+        → Joins (data_of s) (Try_now s.me.0.number place mode) (Refused why) (data_of s′)
     try-refused {s′} stays {why} causes =
         refused s s′ (Try_now s.me.0.number place mode) why stays (speaks is) refl refl
-        (by-cause (λ w. IsCause (Knows (space_of s) s.me.0.number) (Try_now s.me.0.number place mode) w (space_of s).own) why tt clear-wish causes)
+        (by-cause (λ w. IsCause (Knows (data_of s) s.me.0.number) (Try_now s.me.0.number place mode) w (data_of s).own) why tt clear-wish causes)
         (λ state how is. cc) tt
 
     pub begin-refused : {s′ : SessionView} → Stays s s′ → {why : SpaceError} → (why ≡ OutOfMemory) ⊎ (why ≡ Full)
-        → Joins (space_of s) (Begin_wait s.me.0.number place mode) (Refused why) (space_of s′)
+        → Joins (data_of s) (Begin_wait s.me.0.number place mode) (Refused why) (data_of s′)
     begin-refused {s′} stays {why} causes =
         refused s s′ (Begin_wait s.me.0.number place mode) why stays (speaks is) refl refl
-        (by-cause (λ w. IsCause (Knows (space_of s) s.me.0.number) (Begin_wait s.me.0.number place mode) w (space_of s).own) why tt clear-wish causes)
+        (by-cause (λ w. IsCause (Knows (data_of s) s.me.0.number) (Begin_wait s.me.0.number place mode) w (data_of s).own) why tt clear-wish causes)
         (λ state how is. cc) tt
 
 -- ---- waits that begin
@@ -154,10 +154,10 @@ module _ {s s′ : SessionView} (is : IsMember s) {place : ℕ} {mode : Mode} (c
         owed = is.owed;
       })
 
-  pub begun-joins : {number : ℕ} → number ≡ s.me.0.waits + 1 → Joins (space_of s) (Begin_wait s.me.0.number place mode) (Waits number) (space_of s′)
+  pub begun-joins : {number : ℕ} → number ≡ s.me.0.waits + 1 → Joins (data_of s) (Begin_wait s.me.0.number place mode) (Waits number) (data_of s′)
   begun-joins {number} drawn =
       let untold = untold-wish is place mode clear in
-      subst (λ (x : SessionView). Joins (space_of s) (Begin_wait s.me.0.number place mode) (Waits number) (space_of x)) (sym now) (record {
+      subst (λ (x : SessionView). Joins (data_of s) (Begin_wait s.me.0.number place mode) (Waits number) (data_of x)) (sym now) (record {
         mine = speaks is;
         has = refl;
         fits = refl;
@@ -170,6 +170,6 @@ module _ {s s′ : SessionView} (is : IsMember s) {place : ℕ} {mode : Mode} (c
         agreed = λ state how met. cc;
         told = λ how told. cc;
         settled = (λ how settled. let no = sym (ap settled_told untold) ∙ settled in cc, λ idle. sym (ap settled_told untold));
-        reads = reads-nothing (space_of s) _ refl refl;
+        reads = reads-nothing (data_of s) _ refl refl;
         truly = tt;
       })

@@ -16,7 +16,7 @@ use Rattle.mdl_calls.specs.SessionData.{Knows, is_known}
 use Rattle.mdl_visits.specs.Numbers.{numbered}
 use Rattle.mdl_shared.specs.Members.{kind_known, most_numbers, wish_fault}
 use Rattle.mdl_shared.specs.Modes.{clone_fault, is_fit}
-use Rattle.mdl_shared.specs.SessionViews.{SessionView, space_of, tickets_seen}
+use Rattle.mdl_shared.specs.SessionViews.{SessionView, data_of, tickets_seen}
 use Rattle.mdl_shared.proofs.SameSpace.{no-asks, waits-asks}
 use Rattle.mdl_shared.proofs.SpaceLists.{fit-known, kind-is_known, no-kind, of-kind}
 use Rattle.mdl_shared.proofs.SpaceTickets.{holds-told, of-held}
@@ -53,10 +53,10 @@ clone-passed asks mode known next o t its e =
 
 module _ (m : SessionView) where
   abbrev knows : Knowledge
-  knows = Knows (space_of m) m.me.0.number
+  knows = Knows (data_of m) m.me.0.number
 
   abbrev own : SessionLocks
-  own = (space_of m).own
+  own = (data_of m).own
 
   waits-not : is_some m.me.0.asks ≡ false → is_waiting own ≡ false
   waits-not e = waits-asks m.me.0.asks m.me.0.waits ∙ e
@@ -65,11 +65,11 @@ module _ (m : SessionView) where
 
   -- there is no fault, and so the place is known, the mode is of its kind, and there are numbers left
   pub wish-clear : (place : ℕ) (mode : Mode) → wish_fault (kind_known place m.me.0.known) m.me.0.asks mode m.me.0.next ≡ None
-      → (is_some m.me.0.asks ≡ false) × IsFit knows place mode × (is_known place (space_of m).known ≡ true) × (m.me.0.next < most_numbers)
+      → (is_some m.me.0.asks ≡ false) × IsFit knows place mode × (is_known place (data_of m).known ≡ true) × (m.me.0.next < most_numbers)
   wish-clear place mode e = by (kind_known place m.me.0.known) refl e
     where
       by : (o : Option Kind) → kind_known place m.me.0.known ≡ o → wish_fault o m.me.0.asks mode m.me.0.next ≡ None
-          → (is_some m.me.0.asks ≡ false) × IsFit knows place mode × (is_known place (space_of m).known ≡ true) × (m.me.0.next < most_numbers)
+          → (is_some m.me.0.asks ≡ false) × IsFit knows place mode × (is_known place (data_of m).known ≡ true) × (m.me.0.next < most_numbers)
       by None is e = cc
       by (Some kind) is e =
           let clear = chain-clear (is_some m.me.0.asks) (is_mode_of kind mode) (nat_le most_numbers m.me.0.next) AlreadyWaiting BadMode CounterFull e in

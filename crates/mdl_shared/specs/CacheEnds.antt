@@ -10,7 +10,7 @@ use Rattle.mdl_calls.specs.SessionData.{HasMet}
 use Rattle.mdl_shared.specs.declared.cached.Cached.{Cached}
 use Rattle.mdl_shared.specs.declared.cached.Cached.TheVariants.{Hit, Stale}
 use Rattle.mdl_shared.specs.KeptReads.{kept_standing}
-use Rattle.mdl_shared.specs.SessionViews.{SessionView, lists_seen, space_of}
+use Rattle.mdl_shared.specs.SessionViews.{SessionView, data_of, lists_seen}
 use Rattle.mdl_shared.specs.ReadSteps.{FindsVersion}
 use Rattle.mdl_shared.specs.Steps.{OfTicket}
 
@@ -27,7 +27,7 @@ LeavesOrder id (Err why) a b before after = after ≡ before
 -- the cache after such a lookup: it has that order, and the session has met each definition in it
 pub record IsCacheAfter (id : ℕ) (result : Result Cached SpaceError) (a b : SessionView) (before after : CacheView) : Type 0 where
   pub order : LeavesOrder id result a b before after
-  pub met : AreMet (HasMet (space_of b) b.me.0.number) after.kept
+  pub met : AreMet (HasMet (data_of b) b.me.0.number) after.kept
 
 -- that holds of the cache at the end of the loan
 abbrev pub EndsCached : MutBor CacheView → ℕ → Result Cached SpaceError → SessionView → SessionView → Fml

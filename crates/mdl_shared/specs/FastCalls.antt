@@ -17,7 +17,7 @@ use Rattle.mdl_shared.specs.declared.try_fast.Fast.TheVariants.{Granted, Obtrude
 use Rattle.mdl_shared.specs.Debts.{but_owing}
 use Rattle.mdl_shared.specs.DeedsDone.{DoesQuietly}
 use Rattle.mdl_shared.specs.Members.{increment_at, kind_known, most_numbers}
-use Rattle.mdl_shared.specs.SessionViews.{KeepsLists, Lists, SessionView, StaysSame, lists_seen, space_of}
+use Rattle.mdl_shared.specs.SessionViews.{KeepsLists, Lists, SessionView, StaysSame, data_of, lists_seen}
 use Rattle.mdl_shared.specs.TicketLists.{HasRoom, KeepsRoom}
 
 -- why a fast ticket isn't even tried for, the least cause first: the session knows no key of the place, it waits, the word of the place doesn't count the
@@ -41,7 +41,7 @@ GetsNothing place a b = HasFewerFast place a × KeepsLists a b × DoesQuietly pl
 abbrev pub HasTriedFast : ℕ → Mode → Fast → SessionView → SessionView → Type 0
 HasTriedFast place mode (Granted id) a b =
     HasFewerFast place a
-    × Joins (space_of a) (Try_now a.me.0.number place mode) (calls.Granted id) (space_of b)
+    × Joins (data_of a) (Try_now a.me.0.number place mode) (calls.Granted id) (data_of b)
     × DoesQuietly place (Gain id mode ∷ []) a b
     × GrantsAtLast place (Gain id mode) a.me b.me
     × (is_some (numbered id b.me.0.fast) ≡ true)
@@ -61,6 +61,6 @@ RefusesFast place mode why a b =
 -- SLOW up, and nothing else that it didn't owe before
 abbrev pub GaveUpFast : ℕ → Bool → SessionView → SessionView → Type 0
 GaveUpFast id owes a b =
-    Joins (space_of a) (Release a.me.0.number id) Done (space_of b)
+    Joins (data_of a) (Release a.me.0.number id) Done (data_of b)
     × ((t : Own) × (numbered id a.me.0.fast ≡ Some t) × DoesQuietly t.place (Lose id ∷ []) a (but_owing a b) × ReleasesFast t.place id owes a.me b.me)
     × (a.room.spare < b.room.spare) × (a.room.reach ≤ b.room.reach)

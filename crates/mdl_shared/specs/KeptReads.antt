@@ -8,7 +8,7 @@ use Rattle.mdl_calls.specs.Words.{Answer, Read_kept, Reads, Refused}
 use Rattle.mdl_session_laws.specs.SessionJoins.{Joins}
 use Rattle.mdl_shared.specs.declared.cached.Cached.{Cached}
 use Rattle.mdl_shared.specs.declared.cached.Cached.TheVariants.{Hit, Stale}
-use Rattle.mdl_shared.specs.SessionViews.{SessionView, lists_seen, space_of}
+use Rattle.mdl_shared.specs.SessionViews.{SessionView, data_of, lists_seen}
 use Rattle.mdl_shared.specs.ReadSteps.{FindsVersion, MissesVersion, ReadsByLatch}
 use Rattle.mdl_shared.specs.Steps.{OfTicket}
 
@@ -22,7 +22,7 @@ abbrev pub FindsKept : ℕ → List Kept → Cached → SessionView → SessionV
 FindsKept id kept (Hit definition) a b =
     OfTicket id (lists_seen a.me.0) (λ t. (version : ℕ) × (kept_of t.place version kept ≡ Some definition.now)
     × FindsVersion t.place (kept_standing version definition.now) a b
-    × Joins (space_of a) (Read_kept a.me.0.number id) (Reads version (Some definition.now)) (space_of b))
+    × Joins (data_of a) (Read_kept a.me.0.number id) (Reads version (Some definition.now)) (data_of b))
 FindsKept id kept Stale a b =
     OfTicket id (lists_seen a.me.0) (λ t. (version : ℕ) × (kept_of t.place version kept ≡ None) × MissesVersion t.place version a b)
 

@@ -20,7 +20,7 @@ use Rattle.mdl_visits.specs.Numbers.{numbered}
 use Rattle.mdl_shared.specs.Debts.{IsOwed}
 use Rattle.mdl_shared.specs.OwnLists.{key_known}
 use Rattle.mdl_shared.specs.Rememberings.{AreAlike}
-use Rattle.mdl_shared.specs.SessionViews.{SessionView, space_of, tickets_seen}
+use Rattle.mdl_shared.specs.SessionViews.{SessionView, data_of, tickets_seen}
 use Rattle.mdl_shared.specs.Waitings.{is_ask_last, is_ask_told}
 
 -- a session's tickets have numbers below this
@@ -49,7 +49,7 @@ are_counted known fast = list_all (λ t. is_some (increment_at t.place t.mode kn
 -- more wait numbers than ticket numbers. It has looked up the places that it owes a reschedule. It is one of the sessions of the space, for which the
 -- table has words
 pub record IsMember (s : SessionView) : Type 0 where
-  pub sound : IsSound (space_of s)
+  pub sound : IsSound (data_of s)
   pub idle : IsIdle s.me
   pub unfast : (a : Ask) → s.me.0.asks ≡ Some a → s.me.0.fast ≡ []
   pub plain : are_counted s.me.0.known s.me.0.fast ≡ true

@@ -92,8 +92,8 @@ pub record KeepsLists (a b : SessionView) : Type 0 where
 -- ---- as a lock space
 
 -- the session with this number as a lock space, by its lists, by what it knows of its wait's state, and by what it read
-abbrev pub space_by : ℕ → Lists → Option ℕ → List Read → SessionData
-space_by number lists told reads = record {
+abbrev pub data_by : ℕ → Lists → Option ℕ → List Read → SessionData
+data_by number lists told reads = record {
   number = number;
   own = record {
     held = map told_of (tickets_of lists);
@@ -107,5 +107,5 @@ space_by number lists told reads = record {
 }
 
 -- a session as a lock space: what it has of the space, as plain data
-abbrev pub space_of : SessionView → SessionData
-space_of s = space_by s.me.0.number (lists_seen s.me.0) s.me.0.told s.me.0.reads
+abbrev pub data_of : SessionView → SessionData
+data_of s = data_by s.me.0.number (lists_seen s.me.0) s.me.0.told s.me.0.reads

@@ -10,7 +10,7 @@ ghost use Rattle.mdl_shared.specs.DeedsDone.{DoesQuietly};
 ghost use Rattle.mdl_shared.specs.FastWishes.{HasBegun};
 ghost use Rattle.mdl_shared.specs.Members.{kind_known, wish_fault};
 ghost use Rattle.mdl_shared.specs.Passes.{view_of};
-ghost use Rattle.mdl_shared.specs.SessionViews.{space_of};
+ghost use Rattle.mdl_shared.specs.SessionViews.{data_of};
 ghost use Rattle.mdl_shared.specs.StepSpec.{TakesSteps};
 ghost use Rattle.mdl_shared.specs.Steps.{ShowsStep};
 ghost use Rattle.mdl_shared.specs.TicketLists.{HasRoom, KeepsRoom};
@@ -29,7 +29,7 @@ impl<R: Wait> Session<R> {
     /// Requests a lock, and begins to wait for it if it can't be granted now. The call itself waits only while another session holds the
     /// latch of a place. It takes all memory that the session's own lists need, also for the end of the wait.
     pub fn begin_wait(&mut self, place: Place, mode: Mode) -> Result<Begun, SpaceError>
-        ensures joined { Transition (call.begin_wait self.old.me.0.number place mode) (begun result) (space_of self.old) (space_of self.new) }
+        ensures joined { Transition (call.begin_wait self.old.me.0.number place mode) (begun result) (data_of self.old) (data_of self.new) }
         ensures shown { TakesSteps (steps.begin_wait place mode) (begun result) self.old self.new }
     {
         let place = place as usize;

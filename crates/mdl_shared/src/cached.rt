@@ -9,7 +9,7 @@ ghost use Rattle.mdl_calls.specs.SessionData.{HasMet};
 ghost use Rattle.mdl_visits.specs.Numbers.{numbered};
 ghost use Rattle.mdl_shared.specs.CacheEnds.{EndsCached};
 ghost use Rattle.mdl_shared.specs.KeptReads.{FindsKept};
-ghost use Rattle.mdl_shared.specs.SessionViews.{space_of, tickets_seen};
+ghost use Rattle.mdl_shared.specs.SessionViews.{data_of, tickets_seen};
 
 use crate::Session;
 use mdl_calls::{SpaceError, TicketId};
@@ -32,7 +32,7 @@ pub fn read_cached<'a, R>(
     session: &mut Session<R>,
     id: TicketId,
 ) -> Result<Cached<'a>, SpaceError>
-    requires met { AreMet (HasMet (space_of session.old) session.old.me.0.number) cache.old.kept }
+    requires met { AreMet (HasMet (data_of session.old) session.old.me.0.number) cache.old.kept }
     ensures* ended { sem 𝓛 (EndsCached cache.entry id result session.old session.new) }
     ensures found { IfOk result (λ found. FindsKept id cache.old.kept found session.old session.new) }
     ensures refused { IfErr result (λ why. (why ≡ NotHeld) × (numbered id (tickets_seen session.old.me.0) ≡ None) × (session.new ≡ session.old)) }
@@ -60,7 +60,7 @@ impl<R> Session<R> {
         id: TicketId,
         cache: &'a mut DefCache,
     ) -> Result<Cached<'a>, SpaceError>
-        requires met { AreMet (HasMet (space_of self.old) self.old.me.0.number) cache.old.kept }
+        requires met { AreMet (HasMet (data_of self.old) self.old.me.0.number) cache.old.kept }
         ensures found { IfOk result (λ found. FindsKept id cache.old.kept found self.old self.new) }
         ensures refused { IfErr result (λ why. (why ≡ NotHeld) × (numbered id (tickets_seen self.old.me.0) ≡ None) × (self.new ≡ self.old)) }
     {

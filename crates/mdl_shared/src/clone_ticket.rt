@@ -13,7 +13,7 @@ ghost use Rattle.mdl_shared.specs.DeedsDone.{DoesQuietly};
 ghost use Rattle.mdl_shared.specs.Members.{kind_known};
 ghost use Rattle.mdl_shared.specs.Modes.{clone_fault};
 ghost use Rattle.mdl_shared.specs.Passes.{view_of};
-ghost use Rattle.mdl_shared.specs.SessionViews.{space_of};
+ghost use Rattle.mdl_shared.specs.SessionViews.{data_of};
 ghost use Rattle.mdl_shared.specs.StepSpec.{TakesSteps};
 ghost use Rattle.mdl_shared.specs.Steps.{MeetsTicket, ShowsStep};
 ghost use Rattle.mdl_shared.specs.TicketLists.{HasRoom, KeepsRoom};
@@ -34,7 +34,7 @@ impl<R: Wait> Session<R> {
     /// Gives the session a second ticket at the place of a held one, in a mode that the held one covers, and returns its number. The new
     /// ticket overtakes waiters.
     pub fn clone_ticket(&mut self, id: TicketId, mode: Mode) -> Result<TicketId, SpaceError>
-        ensures joined { Transition (call.clone_ticket self.old.me.0.number id mode) (cloned result) (space_of self.old) (space_of self.new) }
+        ensures joined { Transition (call.clone_ticket self.old.me.0.number id mode) (cloned result) (data_of self.old) (data_of self.new) }
         ensures shown { TakesSteps (steps.clone_ticket id mode) (cloned result) self.old self.new }
     {
         let (held, kind) = self.member.clonable(id, mode)?;

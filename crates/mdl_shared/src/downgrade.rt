@@ -7,7 +7,7 @@ ghost use Rattle.mdl_calls.specs.Words.{done};
 ghost use Rattle.mdl_steps.specs.Interleavings.{interleaved};
 ghost use Rattle.mdl_visits.specs.Numbers.{numbered};
 ghost use Rattle.mdl_shared.specs.Modes.{downgrade_fault};
-ghost use Rattle.mdl_shared.specs.SessionViews.{space_of};
+ghost use Rattle.mdl_shared.specs.SessionViews.{data_of};
 ghost use Rattle.mdl_shared.specs.StepSpec.{TakesSteps};
 ghost use Rattle.mdl_shared.specs.calls.Downgrade as steps;
 
@@ -24,7 +24,7 @@ impl<R: Wait> Session<R> {
     /// Gives a held ticket a weaker mode: X becomes SU, SNW or SNRW, and SNW becomes SU. Grants the waits at its place that can be granted
     /// then. It takes no memory.
     pub fn downgrade(&mut self, id: TicketId, mode: Mode) -> Result<(), SpaceError>
-        ensures joined { Transition (call.downgrade self.old.me.0.number id mode) (done result) (space_of self.old) (space_of self.new) }
+        ensures joined { Transition (call.downgrade self.old.me.0.number id mode) (done result) (data_of self.old) (data_of self.new) }
         ensures shown { TakesSteps (steps.downgrade id mode) (done result) self.old self.new }
     {
         let held = self.member.downgradable(id, mode)?;

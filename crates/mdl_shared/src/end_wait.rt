@@ -4,7 +4,7 @@ ghost use Rattle.mdl_calls.specs.CallSpec.{Transition};
 ghost use Rattle.mdl_calls.specs.calls.EndWait as call;
 ghost use Rattle.mdl_calls.specs.Words.{ended};
 ghost use Rattle.mdl_shared.specs.Endings.{lost_end};
-ghost use Rattle.mdl_shared.specs.SessionViews.{space_of};
+ghost use Rattle.mdl_shared.specs.SessionViews.{data_of};
 ghost use Rattle.mdl_shared.specs.StepSpec.{TakesSteps};
 ghost use Rattle.mdl_shared.specs.calls.EndWait as steps;
 
@@ -30,7 +30,7 @@ impl<R: Wait> Session<R> {
     /// Ends the session's wait. If it was granted, the session holds the ticket. If it was lost, the ticket is removed, and the waits at its
     /// place that can be granted then are granted. Refused with [`SpaceError::Unsettled`] while the wait isn't settled. It takes no memory.
     pub fn end_wait(&mut self) -> Result<Ended, SpaceError>
-        ensures joined { Transition (call.end_wait self.old.me.0.number) (ended result) (space_of self.old) (space_of self.new) }
+        ensures joined { Transition (call.end_wait self.old.me.0.number) (ended result) (data_of self.old) (data_of self.new) }
         ensures shown { TakesSteps steps.end_wait (ended result) self.old self.new }
     {
         let member = &mut self.member;

@@ -6,7 +6,7 @@ ghost use Rattle.mdl_session_laws.proofs.SessionLaws.{session-laws};
 ghost use Rattle.mdl_session_laws.proofs.ViewLaws.{laws-by_view};
 ghost use Rattle.mdl_shared.specs.Debts.{Owes};
 ghost use Rattle.mdl_shared.specs.KeptReads.{UsesKept};
-ghost use Rattle.mdl_shared.specs.SessionViews.{space_of};
+ghost use Rattle.mdl_shared.specs.SessionViews.{data_of};
 ghost use Rattle.mdl_shared.specs.AllSteps.{Shows};
 
 use crate::Session;
@@ -21,28 +21,28 @@ use std::sync::Wait;
 /// A session is a lock space for its own calls. It shows nothing of other sessions' calls. The caller passes the session's own number as
 /// `who`.
 impl<R: Wait> LockSpace for Session<R> {
-    ghost speaks_for = { λ s. SpeaksFor (space_of s) };
+    ghost speaks_for = { λ s. SpeaksFor (data_of s) };
 
-    ghost own = { λ s. own_of (space_of s) };
+    ghost own = { λ s. own_of (data_of s) };
 
-    ghost knows = { λ s. Knows (space_of s) };
+    ghost knows = { λ s. Knows (data_of s) };
 
-    ghost is_settled = { λ s. IsSettledAs (space_of s) };
+    ghost is_settled = { λ s. IsSettledAs (data_of s) };
 
-    ghost numbers = { λ s. numbers_of (space_of s) };
+    ghost numbers = { λ s. numbers_of (data_of s) };
 
-    ghost has_read = { λ s. HasRead (space_of s) };
+    ghost has_read = { λ s. HasRead (data_of s) };
 
-    ghost has_met = { λ s. HasMet (space_of s) };
+    ghost has_met = { λ s. HasMet (data_of s) };
 
-    ghost has_seen = { λ s. HasSeen (space_of s) };
+    ghost has_seen = { λ s. HasSeen (data_of s) };
 
-    ghost pins = { λ s. Pins (space_of s) };
+    ghost pins = { λ s. Pins (data_of s) };
 
     ghost owes = { λ s. Owes s };
 
     // What the session has before a call is joined to what it has after it, and the call's steps show what they met and did.
-    ghost joins = { λ s call answer t. Joins (space_of s) call answer (space_of t) × Shows call answer s t };
+    ghost joins = { λ s call answer t. Joins (data_of s) call answer (data_of t) × Shows call answer s t };
 
     // A read takes the definition from the cache if that keeps the one of the version found.
     ghost uses_cache = { λ s _ id answer before after t. UsesKept id answer s t before after };
@@ -143,6 +143,6 @@ impl<R: Wait> LockSpace for Session<R> {
     }
 
     // They hold of the session's plain data, which tell of no debts. A call leaves no new debt.
-    ghost laws = { laws-by_view space_of session-laws (λ a b call answer j. j.0) (λ a w place owes. absurd owes)
+    ghost laws = { laws-by_view data_of session-laws (λ a b call answer j. j.0) (λ a w place owes. absurd owes)
         (λ a b call answer w place speaks j owes. (owes.0 ∙ j.0.number, j.1.debts place owes.1)) };
 }

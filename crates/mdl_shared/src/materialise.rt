@@ -4,7 +4,7 @@
 ghost use Rattle.std.specs.Prelude.{◌≡◌, [], IfErr, OnErr, OnOk};
 ghost use Rattle.mdl_shared.specs.DeedsDone.{DoesQuietly};
 ghost use Rattle.mdl_shared.specs.FastDeeds.{AreSameOrSlow, AreSlowBefore};
-ghost use Rattle.mdl_shared.specs.SessionViews.{space_of};
+ghost use Rattle.mdl_shared.specs.SessionViews.{data_of};
 ghost use Rattle.mdl_shared.specs.WishSteps.{AllMadeSlow, LacksRoomForFast, SlowsAll, StopsSlowing};
 ghost use Rattle.mdl_shared.specs.TicketLists.{KeepsRoom};
 
@@ -18,7 +18,7 @@ impl<R: Wait> Session<R> {
     ///
     /// A session that waits has no fast ticket.
     pub fn materialise(&mut self) -> Result<(), SpaceError>
-        ensures same { space_of self.new ≡ space_of self.old }
+        ensures same { data_of self.new ≡ data_of self.old }
         ensures quiet { DoesQuietly 0 [] self.old self.new }
         ensures slow { OnOk result ((self.new.me.0.fast ≡ []) × AllMadeSlow self.old self.new) }
         ensures turn { OnOk result (SlowsAll self.old.me self.new.me) }

@@ -12,7 +12,7 @@ ghost use Rattle.mdl_visits.specs.Visits.{VisitsOnce};
 ghost use Rattle.mdl_shared.specs.DeedsDone.{DoesQuietly};
 ghost use Rattle.mdl_shared.specs.Modes.{may_merge, merge_fault};
 ghost use Rattle.mdl_shared.specs.Passes.{view_of};
-ghost use Rattle.mdl_shared.specs.SessionViews.{space_of};
+ghost use Rattle.mdl_shared.specs.SessionViews.{data_of};
 ghost use Rattle.mdl_shared.specs.StepSpec.{TakesSteps};
 ghost use Rattle.mdl_shared.specs.TicketLists.{KeepsRoom};
 ghost use Rattle.mdl_shared.specs.calls.Merge as steps;
@@ -30,7 +30,7 @@ impl<R: Wait> Session<R> {
     /// keeps its number. If the session has fast tickets, they become slow first: that takes memory, and the call is refused if there is no
     /// room for them.
     pub fn merge(&mut self, old: TicketId, new: TicketId) -> Result<(), SpaceError>
-        ensures joined { Transition (call.merge self.old.me.0.number old new) (done result) (space_of self.old) (space_of self.new) }
+        ensures joined { Transition (call.merge self.old.me.0.number old new) (done result) (data_of self.old) (data_of self.new) }
         ensures shown { TakesSteps (steps.merge old new) (done result) self.old self.new }
     {
         let (kept, gone) = self.member.mergeable(old, new)?;

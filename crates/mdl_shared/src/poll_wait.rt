@@ -2,7 +2,7 @@
 ghost use Rattle.mdl_calls.specs.CallSpec.{Transition};
 ghost use Rattle.mdl_calls.specs.calls.PollWait as call;
 ghost use Rattle.mdl_calls.specs.Words.{polled};
-ghost use Rattle.mdl_shared.specs.SessionViews.{space_of};
+ghost use Rattle.mdl_shared.specs.SessionViews.{data_of};
 ghost use Rattle.mdl_shared.specs.StepSpec.{TakesSteps};
 ghost use Rattle.mdl_shared.specs.calls.PollWait as steps;
 
@@ -13,7 +13,7 @@ use mdl_calls::{Poll, SpaceError};
 impl<R> Session<R> {
     /// Returns the state of the session's wait. It takes no memory.
     pub fn poll_wait(&mut self) -> Result<Poll, SpaceError>
-        ensures joined { Transition (call.poll_wait self.old.me.0.number) (polled result) (space_of self.old) (space_of self.new) }
+        ensures joined { Transition (call.poll_wait self.old.me.0.number) (polled result) (data_of self.old) (data_of self.new) }
         ensures shown { TakesSteps steps.poll_wait (polled result) self.old self.new }
     {
         if self.member.asks.is_none() {

@@ -2,7 +2,7 @@
 ghost use Rattle.mdl_calls.specs.CallSpec.{Transition};
 ghost use Rattle.mdl_calls.specs.calls.ReadDefinition as call;
 ghost use Rattle.mdl_calls.specs.Words.{read};
-ghost use Rattle.mdl_shared.specs.SessionViews.{space_of};
+ghost use Rattle.mdl_shared.specs.SessionViews.{data_of};
 ghost use Rattle.mdl_shared.specs.StepSpec.{TakesSteps};
 ghost use Rattle.mdl_shared.specs.calls.ReadDefinition as steps;
 
@@ -15,7 +15,7 @@ use std::sync::Wait;
 impl<R: Wait> Session<R> {
     /// Returns the version of the key of a ticket's place, with its definition if there is one.
     pub fn read_definition(&mut self, id: TicketId) -> Result<Standing, SpaceError>
-        ensures joined { Transition (call.read_definition self.old.me.0.number id) (read result) (space_of self.old) (space_of self.new) }
+        ensures joined { Transition (call.read_definition self.old.me.0.number id) (read result) (data_of self.old) (data_of self.new) }
         ensures shown { TakesSteps (steps.read_definition id) (read result) self.old self.new }
     {
         let Some(held) = self.member.tickets.get(id) else {

@@ -5,7 +5,7 @@ ghost use Rattle.mdl_calls.specs.calls.ReadKept as call;
 ghost use Rattle.mdl_calls.specs.Words.{AreMet, read};
 ghost use Rattle.mdl_calls.specs.SessionData.{HasMet};
 ghost use Rattle.mdl_shared.specs.KeptReads.{MayKeep, ReadsKept};
-ghost use Rattle.mdl_shared.specs.SessionViews.{space_of};
+ghost use Rattle.mdl_shared.specs.SessionViews.{data_of};
 ghost use Rattle.mdl_shared.specs.StepSpec.{TakesSteps};
 ghost use Rattle.mdl_shared.specs.calls.ReadKept as steps;
 
@@ -20,10 +20,10 @@ impl<R: Wait> Session<R> {
     /// this session read in this space. If memory runs out for a copy of what the cache keeps, the cache is left as it was, and the version is
     /// noted under the ticket nevertheless.
     pub fn read_kept(&mut self, id: TicketId, cache: &mut DefCache) -> Result<Standing, SpaceError>
-        requires met { AreMet (HasMet (space_of self.old) self.old.me.0.number) cache.old.kept }
-        ensures joined { Transition (call.read_kept self.old.me.0.number id) (read result) (space_of self.old) (space_of self.new) }
+        requires met { AreMet (HasMet (data_of self.old) self.old.me.0.number) cache.old.kept }
+        ensures joined { Transition (call.read_kept self.old.me.0.number id) (read result) (data_of self.old) (data_of self.new) }
         ensures shown { TakesSteps (steps.read_kept id) (read result) self.old self.new }
-        ensures met { AreMet (HasMet (space_of self.new) self.new.me.0.number) cache.new.kept }
+        ensures met { AreMet (HasMet (data_of self.new) self.new.me.0.number) cache.new.kept }
         ensures capacity { cache.new.capacity ≡ cache.old.capacity }
         ensures kept { IfOk result (λ standing. ReadsKept id standing self.old self.new cache.old cache.new) }
         ensures left { OnErr result (cache.new ≡ cache.old) }

@@ -8,7 +8,7 @@ ghost use Rattle.mdl_visits.specs.Numbers.{numbered};
 ghost use Rattle.mdl_visits.specs.Visits.{Does};
 ghost use Rattle.mdl_shared.specs.DeedsDone.{HasDone};
 ghost use Rattle.mdl_shared.specs.Passes.{view_of};
-ghost use Rattle.mdl_shared.specs.SessionViews.{space_of};
+ghost use Rattle.mdl_shared.specs.SessionViews.{data_of};
 ghost use Rattle.mdl_shared.specs.StepSpec.{TakesSteps};
 ghost use Rattle.mdl_shared.specs.Steps.{GivesUpFast};
 ghost use Rattle.mdl_shared.specs.TicketLists.{KeepsRoom};
@@ -25,7 +25,7 @@ impl<R: Wait> Session<R> {
     /// Releases a ticket, and grants the waits at its place that can be granted then. A fast ticket is released by one step on the word of
     /// its place. The latch is taken then only if that step finds that a session may be waiting there. It takes no memory.
     pub fn release(&mut self, id: TicketId) -> Result<(), SpaceError>
-        ensures joined { Transition (call.release self.old.me.0.number id) (done result) (space_of self.old) (space_of self.new) }
+        ensures joined { Transition (call.release self.old.me.0.number id) (done result) (data_of self.old) (data_of self.new) }
         ensures shown { TakesSteps (steps.release id) (done result) self.old self.new }
     {
         let Some((held, fast)) = self.member.tickets.find(id) else {

@@ -5,7 +5,7 @@ ghost use Rattle.mdl_visits.specs.Grantings.{HasRescheduled, VisitsAndReschedule
 ghost use Rattle.mdl_visits.specs.Visits.{Does, MayVisit, VisitsOnce};
 ghost use Rattle.mdl_calls.specs.SessionData.{is_known};
 ghost use Rattle.mdl_shared.specs.Debts.{Pays};
-ghost use Rattle.mdl_shared.specs.SessionViews.{KeepsLists, RemembersWait, space_of};
+ghost use Rattle.mdl_shared.specs.SessionViews.{KeepsLists, RemembersWait, data_of};
 
 use crate::Session;
 use crate::member::Member;
@@ -17,7 +17,7 @@ impl<R: Wait> Session<R> {
     /// Grants the waits at a place that can be granted, in order of arrival, and does nothing else. The session must have resolved a key to
     /// the place. It doesn't owe the place a reschedule any more. It takes no memory.
     pub fn reschedule(&mut self, place: Place)
-        requires known { is_known place (space_of self.old).known ≡ true }
+        requires known { is_known place (data_of self.old).known ≡ true }
         ensures same { KeepsLists self.old self.new × RemembersWait self.old self.new }
         ensures paid { Pays place self.old.me self.new.me }
         ensures did { Does [] self.old.me self.new.me }

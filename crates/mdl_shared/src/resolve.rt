@@ -4,7 +4,7 @@ ghost use Rattle.mdl_calls.specs.CallSpec.{Transition};
 ghost use Rattle.mdl_calls.specs.calls.Resolve as call;
 ghost use Rattle.mdl_calls.specs.Words.{placed};
 ghost use Rattle.mdl_shared.specs.Members.{place_known};
-ghost use Rattle.mdl_shared.specs.SessionViews.{space_of};
+ghost use Rattle.mdl_shared.specs.SessionViews.{data_of};
 ghost use Rattle.mdl_shared.specs.StepSpec.{TakesSteps};
 ghost use Rattle.mdl_shared.specs.calls.Resolve as steps;
 
@@ -18,7 +18,7 @@ impl<R: Wait> Session<R> {
     /// Returns the place of a key, which never changes. A new key gets the next free place. The session looks in the directory once in
     /// a call at most, and only for a key that it doesn't know.
     pub fn resolve(&mut self, key: &Key) -> Result<Place, SpaceError>
-        ensures joined { Transition (call.resolve self.old.me.0.number key.now) (placed result) (space_of self.old) (space_of self.new) }
+        ensures joined { Transition (call.resolve self.old.me.0.number key.now) (placed result) (data_of self.old) (data_of self.new) }
         ensures shown { TakesSteps (steps.resolve key.now) (placed result) self.old self.new }
     {
         if let Some(place) = self.member.known.place_of(key) {
@@ -31,7 +31,7 @@ impl<R: Wait> Session<R> {
     #[inline(never)]
     fn look_up(&mut self, key: &Key) -> Result<Place, SpaceError>
         requires unknown { place_known key.now self.old.me.0.known ≡ None }
-        ensures joined { Transition (call.resolve self.old.me.0.number key.now) (placed result) (space_of self.old) (space_of self.new) }
+        ensures joined { Transition (call.resolve self.old.me.0.number key.now) (placed result) (data_of self.old) (data_of self.new) }
         ensures shown { TakesSteps (steps.resolve key.now) (placed result) self.old self.new }
     {
         let member = &mut self.member;

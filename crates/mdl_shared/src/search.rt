@@ -2,7 +2,7 @@
 ghost use Rattle.mdl_calls.specs.CallSpec.{Transition};
 ghost use Rattle.mdl_calls.specs.calls.Search as call;
 ghost use Rattle.mdl_calls.specs.Words.{searched};
-ghost use Rattle.mdl_shared.specs.SessionViews.{space_of};
+ghost use Rattle.mdl_shared.specs.SessionViews.{data_of};
 ghost use Rattle.mdl_shared.specs.StepSpec.{TakesSteps};
 ghost use Rattle.mdl_shared.specs.calls.Search as steps;
 
@@ -21,7 +21,7 @@ impl<R: Wait> Session<R> {
     /// It holds the latches of all places that have a key, so other sessions' calls there wait meanwhile. But a session without a wait, or
     /// whose wait is settled, is in no deadlock, and takes no latch.
     pub fn search_deadlock(&mut self) -> Result<Search, SpaceError>
-        ensures joined { Transition (call.search_deadlock self.old.me.0.number) (searched result) (space_of self.old) (space_of self.new) }
+        ensures joined { Transition (call.search_deadlock self.old.me.0.number) (searched result) (data_of self.old) (data_of self.new) }
         ensures shown { TakesSteps steps.search_deadlock (searched result) self.old self.new }
     {
         if self.member.asks.is_none() {

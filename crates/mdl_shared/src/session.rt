@@ -27,13 +27,13 @@ impl<R> Session<R> {
     ghost use Rattle.mdl_calls.specs.SessionData.{SpeaksFor};
     ghost use Rattle.mdl_shared.specs.Members.{IsMember};
     ghost use Rattle.mdl_shared.specs.Passes.{pass_table, pass_view, table_of};
-    ghost use Rattle.mdl_shared.specs.SessionViews.{space_of};
+    ghost use Rattle.mdl_shared.specs.SessionViews.{data_of};
 
     /// Opens the session of a pass, which must be a pass of this manager. It takes no memory.
     pub fn open(rt: R, manager: &Manager, pass: Pass) -> Session<R>
         requires theirs { pass_table pass ≡ table_of manager.now }
         ensures opened { result ≡ pass_view pass }
-        ensures nothing { (space_of result).own ≡ record { held = []; wait = None } }
+        ensures nothing { (data_of result).own ≡ record { held = []; wait = None } }
         ensures paid { result.me.0.owes ≡ [] }
     {
         let _manager = manager;
@@ -44,7 +44,7 @@ impl<R> Session<R> {
     /// Returns the session's number, which is that of its pass. As a lock space the session speaks for this number only.
     pub fn number(&self) -> u16
         ensures number { result ≡ self.now.me.0.number }
-        ensures speaks { SpeaksFor (space_of self.now) result }
+        ensures speaks { SpeaksFor (data_of self.now) result }
         ensures lawful { IsMember self.now }
     {
         self.member.seat.number()

@@ -2,7 +2,7 @@
 ghost use Rattle.mdl_calls.specs.CallSpec.{Transition};
 ghost use Rattle.mdl_calls.specs.calls.SettleTimeout as call;
 ghost use Rattle.mdl_calls.specs.Words.{timed_out};
-ghost use Rattle.mdl_shared.specs.SessionViews.{space_of};
+ghost use Rattle.mdl_shared.specs.SessionViews.{data_of};
 ghost use Rattle.mdl_shared.specs.StepSpec.{TakesSteps};
 ghost use Rattle.mdl_shared.specs.calls.SettleTimeout as steps;
 
@@ -15,7 +15,7 @@ impl<R> Session<R> {
     /// Settles the session's wait as a timeout, unless it is settled already. Returns whether this call settled it, or how it was settled
     /// before. It takes no memory.
     pub fn settle_timeout(&mut self) -> Result<TimedOut, SpaceError>
-        ensures joined { Transition (call.settle_timeout self.old.me.0.number) (timed_out result) (space_of self.old) (space_of self.new) }
+        ensures joined { Transition (call.settle_timeout self.old.me.0.number) (timed_out result) (data_of self.old) (data_of self.new) }
         ensures shown { TakesSteps steps.settle_timeout (timed_out result) self.old self.new }
     {
         if self.member.asks.is_none() {

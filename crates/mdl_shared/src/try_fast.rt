@@ -6,7 +6,7 @@ ghost use Rattle.mdl_calls.specs.SessionData.{is_known};
 ghost use Rattle.mdl_visits.specs.Visits.{StaysOn};
 ghost use Rattle.mdl_shared.specs.FastCalls.{HasTriedFast, RefusesFast, fast_fault};
 ghost use Rattle.mdl_shared.specs.Members.{increment_at, kind_known, wish_fault};
-ghost use Rattle.mdl_shared.specs.SessionViews.{lists_seen, space_of};
+ghost use Rattle.mdl_shared.specs.SessionViews.{data_of, lists_seen};
 
 use crate::Session;
 use crate::fast_path::NotFast;
@@ -35,7 +35,7 @@ impl<R> Session<R> {
     ///
     /// It takes memory only if there is no room for one more ticket. [`Session::reserve_tickets`] makes room in advance.
     pub fn try_fast(&mut self, place: Place, mode: Mode) -> Result<Fast, SpaceError>
-        requires known { is_known place (space_of self.old).known ≡ true }
+        requires known { is_known place (data_of self.old).known ≡ true }
         ensures tried { IfOk result (λ fast. HasTriedFast place mode fast self.old self.new) }
         ensures fit { IfOk result (λ fast. fast_fault place mode (lists_seen self.old.me.0) ≡ None) }
         ensures refused { IfErr result (λ why. RefusesFast place mode why self.old self.new) }

@@ -10,7 +10,7 @@ ghost use Rattle.mdl_shared.specs.DeedsDone.{DoesQuietly};
 ghost use Rattle.mdl_shared.specs.FastWishes.{HasTried};
 ghost use Rattle.mdl_shared.specs.Members.{kind_known, wish_fault};
 ghost use Rattle.mdl_shared.specs.Passes.{view_of};
-ghost use Rattle.mdl_shared.specs.SessionViews.{space_of};
+ghost use Rattle.mdl_shared.specs.SessionViews.{data_of};
 ghost use Rattle.mdl_shared.specs.StepSpec.{TakesSteps};
 ghost use Rattle.mdl_shared.specs.Steps.{ShowsStep};
 ghost use Rattle.mdl_shared.specs.TicketLists.{HasRoom, KeepsRoom};
@@ -27,7 +27,7 @@ use std::sync::Wait;
 impl<R: Wait> Session<R> {
     /// Requests a lock, without waiting for it. The call waits only while another session holds the latch of a place.
     pub fn try_now(&mut self, place: Place, mode: Mode) -> Result<Attempt, SpaceError>
-        ensures joined { Transition (call.try_now self.old.me.0.number place mode) (attempted result) (space_of self.old) (space_of self.new) }
+        ensures joined { Transition (call.try_now self.old.me.0.number place mode) (attempted result) (data_of self.old) (data_of self.new) }
         ensures shown { TakesSteps (steps.try_now place mode) (attempted result) self.old self.new }
     {
         let place = place as usize;

@@ -13,7 +13,7 @@ ghost use Rattle.mdl_visits.specs.Visits.{IsVisit, MeetsBlocked, MeetsGrantable}
 ghost use Rattle.mdl_shared.specs.DeedsDone.{DoesQuietly};
 ghost use Rattle.mdl_shared.specs.Members.{kind_known};
 ghost use Rattle.mdl_shared.specs.Passes.{view_of};
-ghost use Rattle.mdl_shared.specs.SessionViews.{space_of};
+ghost use Rattle.mdl_shared.specs.SessionViews.{data_of};
 ghost use Rattle.mdl_shared.specs.StepSpec.{TakesSteps};
 ghost use Rattle.mdl_shared.specs.Steps.{ShowsStep};
 ghost use Rattle.mdl_shared.specs.TicketLists.{KeepsRoom};
@@ -35,7 +35,7 @@ impl<R: Wait> Session<R> {
     /// Otherwise the session's fast tickets, if it has any, become slow first: that takes memory, and the call is refused if there is no room
     /// for them.
     pub fn upgrade_now(&mut self, id: TicketId, mode: Mode) -> Result<Upgrade, SpaceError>
-        ensures joined { Transition (call.upgrade_now self.old.me.0.number id mode) (upgrade_tried result) (space_of self.old) (space_of self.new) }
+        ensures joined { Transition (call.upgrade_now self.old.me.0.number id mode) (upgrade_tried result) (data_of self.old) (data_of self.new) }
         ensures shown { TakesSteps (steps.upgrade_now id mode) (upgrade_tried result) self.old self.new }
     {
         let held = self.member.upgradable(id, mode)?;

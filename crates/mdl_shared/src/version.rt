@@ -1,7 +1,7 @@
 //! Reads the version of a place without its latch.
 ghost use Rattle.std.specs.Prelude.{◌≡◌, true};
 ghost use Rattle.mdl_calls.specs.SessionData.{is_known};
-ghost use Rattle.mdl_shared.specs.SessionViews.{space_of};
+ghost use Rattle.mdl_shared.specs.SessionViews.{data_of};
 ghost use Rattle.mdl_shared.specs.ReadSteps.{ReadsVersion};
 
 use crate::Session;
@@ -14,7 +14,7 @@ impl<R> Session<R> {
     /// The definition of this version counts as read: no later read of the session finds an older one. If the session has no ticket at the
     /// place, the definition may be changed right after.
     pub fn version(&mut self, place: Place) -> u64
-        requires known { is_known place (space_of self.old).known ≡ true }
+        requires known { is_known place (data_of self.old).known ≡ true }
         ensures read { ReadsVersion place result self.old self.new }
     {
         let place = place as usize;

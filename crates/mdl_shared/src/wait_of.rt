@@ -1,7 +1,7 @@
 //! The number of a wait.
 ghost use Rattle.std.specs.Prelude.{None, Some, ◌<◌, ◌≡◌};
 ghost use Rattle.mdl_visits.specs.Polls.{number_in};
-ghost use Rattle.mdl_shared.specs.SessionViews.{space_of};
+ghost use Rattle.mdl_shared.specs.SessionViews.{data_of};
 ghost use Rattle.mdl_calls.specs.CallSpec.{Transition};
 ghost use Rattle.mdl_calls.specs.calls.WaitOf as call;
 ghost use Rattle.mdl_calls.specs.Words.{Has_wait};
@@ -26,7 +26,7 @@ fn number_in(word: WaitWord) -> Option<u64>
 impl<R> Session<R> {
     /// Returns the number of any session's wait, if it has one. It takes no memory.
     pub fn wait_of(&mut self, target: u16) -> Option<u64>
-        ensures joined { Transition (call.wait_of target) (Has_wait result) (space_of self.old) (space_of self.new) }
+        ensures joined { Transition (call.wait_of target) (Has_wait result) (data_of self.old) (data_of self.new) }
         ensures shown { TakesSteps (steps.wait_of target) (Has_wait result) self.old self.new }
     {
         if !is_session(target, self.member.sessions) {

@@ -1,7 +1,7 @@
 //! `mdl`: a session of the shared table is opened with its pass, has its statements done, gives all up, and is closed.
 ghost use Rattle.std.specs.Prelude.{◌≡◌, [], None};
 ghost use Rattle.mdl.specs.mdl_shared.Passes.{pass_table, table_of};
-ghost use Rattle.mdl.specs.mdl_shared.SessionViews.{space_of};
+ghost use Rattle.mdl.specs.mdl_shared.SessionViews.{data_of};
 
 use crate::requests::Request;
 use crate::work::answer_all;
@@ -55,7 +55,7 @@ fn work<S: LockSpace>(
 
 // Closes a session that has nothing. If it owed a place a reschedule, after a fast release, it would make that first.
 fn close<R: Wait + Drop>(rt: &impl Wait, session: Session<R>)
-    requires { (space_of session).own ≡ record { held = []; wait = None } }
+    requires { (data_of session).own ≡ record { held = []; wait = None } }
 {
     let mut session = session;
     for _ in rt.forever() {

@@ -18,7 +18,7 @@ use Rattle.mdl_steps.specs.Plays.{Mine}
 use Rattle.mdl_steps.specs.WaitStates.{wait_in}
 use Rattle.mdl_visits.specs.Polls.{state_of}
 use Rattle.mdl_shared.specs.SessionJoins.{Joins}
-use Rattle.mdl_shared.specs.SessionViews.{SessionView, settled_told, space_of}
+use Rattle.mdl_shared.specs.SessionViews.{SessionView, data_of, settled_told}
 use Rattle.mdl_shared.specs.StepSpec.{TakesSteps}
 use Rattle.mdl_shared.specs.calls.Search.{search_deadlock}
 
@@ -28,7 +28,7 @@ knows-told None how knows = cc
 knows-told (Some state) how knows = refl
 
 -- after a timeout it is
-pub timeout-told : (a b : SessionView) (how : TimedOut) → Joins (space_of a) (Settle_timeout a.me.0.number) (timed_out (Ok how)) (space_of b) → is_some b.me.0.told ≡ true
+pub timeout-told : (a b : SessionView) (how : TimedOut) → Joins (data_of a) (Settle_timeout a.me.0.number) (timed_out (Ok how)) (data_of b) → is_some b.me.0.told ≡ true
 timeout-told a b ByThisCall joined = knows-told b.me.0.told Timeout (joined.told Timeout refl)
 timeout-told a b (Already how) joined = knows-told b.me.0.told how (joined.told how refl)
 

@@ -2,7 +2,7 @@
 ghost use Rattle.std.specs.Prelude.{◌≡◌, []};
 ghost use Rattle.mdl_calls.specs.Words.{AreMet};
 ghost use Rattle.mdl_shared.specs.SessionData.{HasMet};
-ghost use Rattle.mdl_shared.specs.SessionViews.{space_of};
+ghost use Rattle.mdl_shared.specs.SessionViews.{data_of};
 
 use crate::shared::acts::{Act, Lock, NO_MEMORY, Reply, make};
 use crate::shared::rows::{Three, none_is_wrong, open_three};
@@ -101,8 +101,8 @@ fn begin<S: LockSpace>(_space: &S, _who: u16, _cache: &DefCache)
 
 // Looks in a cache, without the latch. The cache may be used again.
 fn look<R>(cache: &mut DefCache, session: &mut Session<R>, id: TicketId, names: Names) -> Found
-    requires met { AreMet (HasMet (space_of session.old) session.old.me.0.number) cache.old.kept }
-    ensures met { AreMet (HasMet (space_of session.new) session.new.me.0.number) cache.new.kept }
+    requires met { AreMet (HasMet (data_of session.old) session.old.me.0.number) cache.old.kept }
+    ensures met { AreMet (HasMet (data_of session.new) session.new.me.0.number) cache.new.kept }
 {
     looked(read_cached(cache, session, id), names)
 }
@@ -157,8 +157,8 @@ fn give_up<S: LockSpace>(space: &mut S, who: u16, id: TicketId, _cache: &DefCach
 
 // Takes a ticket to read with, without the latch, at a place that the session has looked up.
 fn take_fast<R>(session: &mut Session<R>, place: Place, _cache: &DefCache) -> Option<TicketId>
-    requires met { AreMet (HasMet (space_of session.old) session.old.me.0.number) _cache.now.kept }
-    ensures met { AreMet (HasMet (space_of session.new) session.new.me.0.number) _cache.now.kept }
+    requires met { AreMet (HasMet (data_of session.old) session.old.me.0.number) _cache.now.kept }
+    ensures met { AreMet (HasMet (data_of session.new) session.new.me.0.number) _cache.now.kept }
 {
     match session.key_of(place) {
         Ok(_key) => granted(session.try_fast(place, Mode::SR)),
@@ -175,8 +175,8 @@ fn granted(outcome: Result<Fast, SpaceError>) -> Option<TicketId> {
 
 // Whether a step of the reader has its right result.
 fn does<R: Wait>(alloc: Global, cache: &mut DefCache, reader: &mut Session<R>, step: Step) -> bool
-    requires met { AreMet (HasMet (space_of reader.old) reader.old.me.0.number) cache.old.kept }
-    ensures met { AreMet (HasMet (space_of reader.new) reader.new.me.0.number) cache.new.kept }
+    requires met { AreMet (HasMet (data_of reader.old) reader.old.me.0.number) cache.old.kept }
+    ensures met { AreMet (HasMet (data_of reader.new) reader.new.me.0.number) cache.new.kept }
 {
     let who = reader.number();
     match step {
@@ -212,7 +212,7 @@ fn first_wrong<R: Wait>(
     steps: &[Step],
 ) -> Option<usize>
     requires nothing { cache.old.kept ≡ [] }
-    ensures met { AreMet (HasMet (space_of sessions.new.one) sessions.new.one.me.0.number) cache.new.kept }
+    ensures met { AreMet (HasMet (data_of sessions.new.one) sessions.new.one.me.0.number) cache.new.kept }
 {
     let who = sessions.one.number();
     begin(&sessions.one, who, cache);

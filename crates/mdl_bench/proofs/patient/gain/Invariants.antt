@@ -1,7 +1,7 @@
 -- A try for a fast ticket leaves the keys that the session knows.
 use Rattle.std.proofs.Common.{◌≡◌}
-use Rattle.mdl_shared.specs.SessionViews.{space_of}
+use Rattle.mdl_shared.specs.SessionViews.{data_of}
 use Rattle.mdl_bench.proofs.patient.gain.Given as goal
 
 abbrev pub invariant-loop : goal.invariant-loop
-invariant-loop g l = (space_of l.session).known ≡ (space_of l.fn.session).known
+invariant-loop g l = (data_of l.session).known ≡ (data_of l.fn.session).known

@@ -3,7 +3,7 @@ use Rattle.std.proofs.Common.{arith, option_copied, refl, subst, sym, ap, ◌∙
 use Rattle.mdl_calls.specs.Words.{AreMet, Read_kept}
 use Rattle.mdl_defs.specs.Caches.{CacheView}
 use Rattle.mdl_calls.specs.SessionData.{HasMet}
-use Rattle.mdl_shared.specs.SessionViews.{SessionView, space_of}
+use Rattle.mdl_shared.specs.SessionViews.{SessionView, data_of}
 use Rattle.mdl_shared.proofs.Debts.{owed-both, owed-on}
 use Rattle.mdl_shared.proofs.KeptCalls.{after, between, looked-same, seat-finds, seat-joins, seat-met, seat-reads, unfound-met}
 use Rattle.mdl_shared.proofs.MemberFacts.{place-within, ticket-known}
@@ -39,7 +39,7 @@ invariant_of-member g c =
     let its = held-seen m c.args.id c.get.result c.get.ensures.found ∙ c.in-Some.is in
     let read = c.read_version_kept-version in
     let kept = c.args.cache.now.kept in
-    let met = subst (λ (s : SessionView). AreMet (HasMet (space_of s) s.me.0.number) kept) (sym c.session.view_is) c.requires.met in
+    let met = subst (λ (s : SessionView). AreMet (HasMet (data_of s) s.me.0.number) kept) (sym c.session.view_is) c.requires.met in
     let d = c.in-Some-look.definition.now in
     let hit = sym c.look.ensures.found ∙ ap option_copied c.in-Some-look.is in
     let made = read.ensures.noted d hit in
@@ -74,7 +74,7 @@ returns-after-look g c =
     let its = held-seen m id c.get.result c.get.ensures.found ∙ c.in-Some.is in
     let read = c.read_version_kept-version in
     let kept = c.args.cache.now.kept in
-    let met = subst (λ (s : SessionView). AreMet (HasMet (space_of s) s.me.0.number) kept) (sym c.session.view_is) c.requires.met in
+    let met = subst (λ (s : SessionView). AreMet (HasMet (data_of s) s.me.0.number) kept) (sym c.session.view_is) c.requires.met in
     let ends = c.look.follows.holds-at-none in
     rw (← c.session.view_is) (elim c.match-look.branch [
       | in-Some-look w ↦ rw (w.cache-is, w.cache2-is, w.session-inside-is) (
@@ -86,7 +86,7 @@ returns-after-look g c =
           let finds = seat-finds m id t its kept met read.new.self read.result d hit read.ensures.newest read.ensures.one made room keeps in
           let joins = seat-joins m id t its kept met read.new.self read.result d hit read.ensures.newest read.ensures.one made room keeps in
           let still = seat-met m id t its kept met read.new.self read.result d hit read.ensures.newest read.ensures.one made room keeps in
-          let has = HasMet (space_of (after m id t its kept met read.new.self read.result d hit read.ensures.newest read.ensures.one made room keeps)) read.new.self.me.0.number in (
+          let has = HasMet (data_of (after m id t its kept met read.new.self read.result d hit read.ensures.newest read.ensures.one made room keeps)) read.new.self.me.0.number in (
             (
               refl,
               (λ _. tt),
@@ -103,7 +103,7 @@ returns-after-look g c =
           let made = read.ensures.missed none in
           let reads = seat-reads m id t its kept met read.new.self read.result none read.ensures.newest made in
           let still = unfound-met m id t its kept met read.new.self read.result none read.ensures.newest made in
-          let has = HasMet (space_of (between m id t its kept met read.new.self read.result none read.ensures.newest made)) read.new.self.me.0.number in
+          let has = HasMet (data_of (between m id t its kept met read.new.self read.result none read.ensures.newest made)) read.new.self.me.0.number in
           let same = looked-same m id t its kept met read.new.self read.result none read.ensures.newest made c.args.cache.now c.look.follows.lender-at-none refl ends in (
             (refl, (λ _. tt), record { order = same; met = subst (λ (x : CacheView). AreMet has x.kept) (sym same) still }),
             record { ended = tt; found = (t, its, (read.result, none, reads)); refused = tt },

@@ -6,7 +6,7 @@ use Rattle.mdl_calls.specs.Words.{AreMet, Read_definition, Read_kept, Refused, r
 use Rattle.mdl_calls.specs.SessionData.{HasMet}
 use Rattle.mdl_shared.specs.Passes.{view_of}
 use Rattle.mdl_shared.specs.AllSteps.{Shows}
-use Rattle.mdl_shared.specs.SessionViews.{SessionView, space_of, tickets_seen}
+use Rattle.mdl_shared.specs.SessionViews.{SessionView, data_of, tickets_seen}
 use Rattle.mdl_shared.specs.KeptReads.{kept_standing}
 use Rattle.mdl_shared.proofs.Debts.{owed-both, owed-on}
 use Rattle.mdl_shared.proofs.KeptCalls.{after, between, full-joins, full-shows, hit-shows, kept-still, met-read, miss-full_shows, miss-latch, miss-shows, miss-why, missed-met, seat-finds, seat-joins, seat-met, seat-reads, seat-still}
@@ -61,7 +61,7 @@ invariant_of-member g c =
     let its = held-seen m c.args.id c.get.result c.get.ensures.found ∙ c.in-Some.is in
     let read = c.read_version_kept-version in
     let kept = c.args.cache.now.kept in
-    let met = subst (λ (s : SessionView). AreMet (HasMet (space_of s) s.me.0.number) kept) (sym c.self.view_is) c.requires.met in
+    let met = subst (λ (s : SessionView). AreMet (HasMet (data_of s) s.me.0.number) kept) (sym c.self.view_is) c.requires.met in
     let d = c.in-Some-peek.definition.now in
     let hit = sym c.peek.ensures ∙ ap option_copied c.in-Some-peek.is in
     let made = read.ensures.noted d hit in
@@ -95,7 +95,7 @@ returns-in_default-clone-clause-joined g c =
     let its = held-seen m c.args.id c.get.result c.get.ensures.found ∙ c.in-Some.is in
     let read = c.read_version_kept-version in
     let kept = c.args.cache.now.kept in
-    let met = subst (λ (s : SessionView). AreMet (HasMet (space_of s) s.me.0.number) kept) (sym c.self.view_is) c.requires.met in
+    let met = subst (λ (s : SessionView). AreMet (HasMet (data_of s) s.me.0.number) kept) (sym c.self.view_is) c.requires.met in
     let d = c.in-Some-peek.definition.now in
     let hit = sym c.peek.ensures ∙ ap option_copied c.in-Some-peek.is in
     let made = read.ensures.noted d hit in
@@ -110,7 +110,7 @@ returns-in_default-clone-clause-shown g c =
     let its = held-seen m c.args.id c.get.result c.get.ensures.found ∙ c.in-Some.is in
     let read = c.read_version_kept-version in
     let kept = c.args.cache.now.kept in
-    let met = subst (λ (s : SessionView). AreMet (HasMet (space_of s) s.me.0.number) kept) (sym c.self.view_is) c.requires.met in
+    let met = subst (λ (s : SessionView). AreMet (HasMet (data_of s) s.me.0.number) kept) (sym c.self.view_is) c.requires.met in
     let d = c.in-Some-peek.definition.now in
     let hit = sym c.peek.ensures ∙ ap option_copied c.in-Some-peek.is in
     let made = read.ensures.noted d hit in
@@ -125,7 +125,7 @@ returns-in_default-clone-clause-met g c =
     let its = held-seen m c.args.id c.get.result c.get.ensures.found ∙ c.in-Some.is in
     let read = c.read_version_kept-version in
     let kept = c.args.cache.now.kept in
-    let met = subst (λ (s : SessionView). AreMet (HasMet (space_of s) s.me.0.number) kept) (sym c.self.view_is) c.requires.met in
+    let met = subst (λ (s : SessionView). AreMet (HasMet (data_of s) s.me.0.number) kept) (sym c.self.view_is) c.requires.met in
     let d = c.in-Some-peek.definition.now in
     let hit = sym c.peek.ensures ∙ ap option_copied c.in-Some-peek.is in
     let made = read.ensures.noted d hit in
@@ -143,7 +143,7 @@ returns-in-Some-peek-clause-joined g c =
     let its = held-seen m c.args.id c.get.result c.get.ensures.found ∙ c.in-Some.is in
     let read = c.read_version_kept-version in
     let kept = c.args.cache.now.kept in
-    let met = subst (λ (s : SessionView). AreMet (HasMet (space_of s) s.me.0.number) kept) (sym c.self.view_is) c.requires.met in
+    let met = subst (λ (s : SessionView). AreMet (HasMet (data_of s) s.me.0.number) kept) (sym c.self.view_is) c.requires.met in
     let d = c.in-Some-peek.definition.now in
     let hit = sym c.peek.ensures ∙ ap option_copied c.in-Some-peek.is in
     let made = read.ensures.noted d hit in
@@ -158,7 +158,7 @@ returns-in-Some-peek-clause-shown g c =
     let its = held-seen m c.args.id c.get.result c.get.ensures.found ∙ c.in-Some.is in
     let read = c.read_version_kept-version in
     let kept = c.args.cache.now.kept in
-    let met = subst (λ (s : SessionView). AreMet (HasMet (space_of s) s.me.0.number) kept) (sym c.self.view_is) c.requires.met in
+    let met = subst (λ (s : SessionView). AreMet (HasMet (data_of s) s.me.0.number) kept) (sym c.self.view_is) c.requires.met in
     let d = c.in-Some-peek.definition.now in
     let hit = sym c.peek.ensures ∙ ap option_copied c.in-Some-peek.is in
     let made = read.ensures.noted d hit in
@@ -173,13 +173,13 @@ returns-in-Some-peek-clause-met g c =
     let its = held-seen m c.args.id c.get.result c.get.ensures.found ∙ c.in-Some.is in
     let read = c.read_version_kept-version in
     let kept = c.args.cache.now.kept in
-    let met = subst (λ (s : SessionView). AreMet (HasMet (space_of s) s.me.0.number) kept) (sym c.self.view_is) c.requires.met in
+    let met = subst (λ (s : SessionView). AreMet (HasMet (data_of s) s.me.0.number) kept) (sym c.self.view_is) c.requires.met in
     let d = c.in-Some-peek.definition.now in
     let hit = sym c.peek.ensures ∙ ap option_copied c.in-Some-peek.is in
     let made = read.ensures.noted d hit in
     let room = c.note_all.new.self.room in
     let keeps = c.note_all.ensures.room in
-    subst (λ (x : CacheView). AreMet (HasMet (space_of (after m c.args.id t its kept met read.new.self read.result d hit read.ensures.newest read.ensures.one made room keeps)) m.seat.me.0.number) x.kept) (sym c.look-first.follows.holds-at-none) (seat-met m c.args.id t its kept met read.new.self read.result d hit read.ensures.newest read.ensures.one made room keeps)
+    subst (λ (x : CacheView). AreMet (HasMet (data_of (after m c.args.id t its kept met read.new.self read.result d hit read.ensures.newest read.ensures.one made room keeps)) m.seat.me.0.number) x.kept) (sym c.look-first.follows.holds-at-none) (seat-met m c.args.id t its kept met read.new.self read.result d hit read.ensures.newest read.ensures.one made room keeps)
 
 pub returns-in-Some-peek-clause-kept : goal.returns-in-Some-peek-clause-kept
 returns-in-Some-peek-clause-kept g c =
@@ -188,7 +188,7 @@ returns-in-Some-peek-clause-kept g c =
     let its = held-seen m c.args.id c.get.result c.get.ensures.found ∙ c.in-Some.is in
     let read = c.read_version_kept-version in
     let kept = c.args.cache.now.kept in
-    let met = subst (λ (s : SessionView). AreMet (HasMet (space_of s) s.me.0.number) kept) (sym c.self.view_is) c.requires.met in
+    let met = subst (λ (s : SessionView). AreMet (HasMet (data_of s) s.me.0.number) kept) (sym c.self.view_is) c.requires.met in
     let d = c.in-Some-peek.definition.now in
     let hit = sym c.peek.ensures ∙ ap option_copied c.in-Some-peek.is in
     let made = read.ensures.noted d hit in
@@ -203,7 +203,7 @@ returns-in_err-standing-clause-shown g c =
     let its = held-seen m c.args.id c.get.result c.get.ensures.found ∙ c.in-Some.is in
     let read = c.read_version_kept-version in
     let kept = c.args.cache.now.kept in
-    let met = subst (λ (s : SessionView). AreMet (HasMet (space_of s) s.me.0.number) kept) (sym c.self.view_is) c.requires.met in
+    let met = subst (λ (s : SessionView). AreMet (HasMet (data_of s) s.me.0.number) kept) (sym c.self.view_is) c.requires.met in
     let none = sym c.peek.ensures ∙ ap option_copied c.in_default-peek.is in
     let made = read.ensures.missed none in
     let s′ = c.read_definition.new.self in
@@ -227,7 +227,7 @@ returns-in_err-standing-clause-met g c =
     let its = held-seen m c.args.id c.get.result c.get.ensures.found ∙ c.in-Some.is in
     let read = c.read_version_kept-version in
     let kept = c.args.cache.now.kept in
-    let met = subst (λ (s : SessionView). AreMet (HasMet (space_of s) s.me.0.number) kept) (sym c.self.view_is) c.requires.met in
+    let met = subst (λ (s : SessionView). AreMet (HasMet (data_of s) s.me.0.number) kept) (sym c.self.view_is) c.requires.met in
     let none = sym c.peek.ensures ∙ ap option_copied c.in_default-peek.is in
     let made = read.ensures.missed none in
     let s′ = c.read_definition.new.self in
@@ -240,7 +240,7 @@ returns-clause-shown g c =
     let its = held-seen m c.args.id c.get.result c.get.ensures.found ∙ c.in-Some.is in
     let read = c.read_version_kept-version in
     let kept = c.args.cache.now.kept in
-    let met = subst (λ (s : SessionView). AreMet (HasMet (space_of s) s.me.0.number) kept) (sym c.self.view_is) c.requires.met in
+    let met = subst (λ (s : SessionView). AreMet (HasMet (data_of s) s.me.0.number) kept) (sym c.self.view_is) c.requires.met in
     let none = sym c.peek.ensures ∙ ap option_copied c.in_default-peek.is in
     let made = read.ensures.missed none in
     let s′ = c.read_definition.new.self in
@@ -254,7 +254,7 @@ returns-clause-met g c =
     let its = held-seen m c.args.id c.get.result c.get.ensures.found ∙ c.in-Some.is in
     let read = c.read_version_kept-version in
     let kept = c.args.cache.now.kept in
-    let met = subst (λ (s : SessionView). AreMet (HasMet (space_of s) s.me.0.number) kept) (sym c.self.view_is) c.requires.met in
+    let met = subst (λ (s : SessionView). AreMet (HasMet (data_of s) s.me.0.number) kept) (sym c.self.view_is) c.requires.met in
     let none = sym c.peek.ensures ∙ ap option_copied c.in_default-peek.is in
     let made = read.ensures.missed none in
     let s′ = c.read_definition.new.self in
@@ -262,7 +262,7 @@ returns-clause-met g c =
     let reads = seat-reads m c.args.id t its kept met read.new.self read.result none read.ensures.newest made in
     let standing = c.in_ok-standing.standing in
     let latch = miss-latch (view_of m) c.args.id t its mid s′ reads standing c.in_ok-standing.ensures.shown in
-    let has = HasMet (space_of s′) s′.me.0.number in
+    let has = HasMet (data_of s′) s′.me.0.number in
     kept-still has t.place standing c.args.cache.now c.keep.new.cache c.keep.ensures.kept
     (missed-met m c.args.id t its kept met read.new.self read.result none read.ensures.newest made s′ (read_as c.read_definition.result) c.read_definition.ensures.joined)
     (met-read mid s′ t.place standing latch.1)
@@ -274,7 +274,7 @@ returns-clause-kept g c =
     let its = held-seen m c.args.id c.get.result c.get.ensures.found ∙ c.in-Some.is in
     let read = c.read_version_kept-version in
     let kept = c.args.cache.now.kept in
-    let met = subst (λ (s : SessionView). AreMet (HasMet (space_of s) s.me.0.number) kept) (sym c.self.view_is) c.requires.met in
+    let met = subst (λ (s : SessionView). AreMet (HasMet (data_of s) s.me.0.number) kept) (sym c.self.view_is) c.requires.met in
     let none = sym c.peek.ensures ∙ ap option_copied c.in_default-peek.is in
     let made = read.ensures.missed none in
     let s′ = c.read_definition.new.self in

@@ -3,7 +3,7 @@ use Rattle.std.proofs.Common.{[], ap, subst, sym, true, ◌∙◌, ◌≡◌}
 use Rattle.mdl_calls.specs.SessionData.{is_known}
 use Rattle.mdl_steps.specs.Plays.{Mine}
 use Rattle.mdl_visits.proofs.Doing.{does_reschedule}
-use Rattle.mdl_shared.specs.SessionViews.{SessionView, lists_seen, space_of}
+use Rattle.mdl_shared.specs.SessionViews.{SessionView, data_of, lists_seen}
 use Rattle.mdl_shared.proofs.Debts.{rescheduled-owes}
 use Rattle.mdl_shared.proofs.MemberFacts.{may-visit}
 use Rattle.mdl_shared.proofs.Props.{member}
@@ -15,7 +15,7 @@ pub pay-requires : goal.pay-requires
 pay-requires g c =
     let m = c.self.inside.member in
     let is = member m in
-    let known = subst (λ (s : SessionView). is_known c.args.place (space_of s).known ≡ true) (sym c.self.view_is) c.requires.known in
+    let known = subst (λ (s : SessionView). is_known c.args.place (data_of s).known ≡ true) (sym c.self.view_is) c.requires.known in
     record { at = may-visit is c.args.place (sym (known-told c.args.place m.seat.me.0.known) ∙ known) }
 
 pub returns : goal.returns

@@ -1,7 +1,7 @@
 -- The place is one of the table's, and what stands there is noted under each ticket that the session has there.
 use Rattle.std.proofs.Common.{subst, sym, true, ◌∙◌, ◌≡◌}
 use Rattle.mdl_calls.specs.SessionData.{is_known}
-use Rattle.mdl_shared.specs.SessionViews.{SessionView, space_of}
+use Rattle.mdl_shared.specs.SessionViews.{SessionView, data_of}
 use Rattle.mdl_shared.proofs.Debts.{owed-both}
 use Rattle.mdl_shared.proofs.MemberFacts.{place-within}
 use Rattle.mdl_shared.proofs.Members.{room-kept}
@@ -14,13 +14,13 @@ use Rattle.mdl_shared.proofs.session.Session.version.Goals as goal
 pub read_version-version-requires : goal.read_version-version-requires
 read_version-version-requires g c =
     let m = c.self.inside.member in
-    let known = subst (λ (s : SessionView). is_known c.args.place (space_of s).known ≡ true) (sym c.self.view_is) c.requires.known in
+    let known = subst (λ (s : SessionView). is_known c.args.place (data_of s).known ≡ true) (sym c.self.view_is) c.requires.known in
     record { place = place-within (member m) c.args.place (sym (known-told c.args.place m.seat.me.0.known) ∙ known) }
 
 pub invariant_of-member : goal.invariant_of-member
 invariant_of-member g c =
     let m = c.self.inside.member in
-    let known = subst (λ (s : SessionView). is_known c.args.place (space_of s).known ≡ true) (sym c.self.view_is) c.requires.known in
+    let known = subst (λ (s : SessionView). is_known c.args.place (data_of s).known ≡ true) (sym c.self.view_is) c.requires.known in
     let did = c.read_version-version.ensures in
     let reads = version-reads m.seat c.read_version-version.new.self m.sessions did.same did.learnt c.note_all.ensures.room in
     record {
