@@ -11,10 +11,10 @@ const ROUNDS: usize = 10;
 
 /// What a turn is: what its calls are of (`shared` is the table that threads share), the number of threads, its name, and the number of turns in
 /// a round. There are so few that a round takes a millisecond or two, and often ends before other work gets the processor.
-pub struct Turn(pub &'static str, pub u16, pub &'static str, pub u32);
+pub struct Workload(pub &'static str, pub u16, pub &'static str, pub u32);
 
 /// What is timed: its name, its turns, and the work.
-pub struct Figure(pub &'static str, pub Turn, pub Work);
+pub struct Figure(pub &'static str, pub Workload, pub Work);
 
 /// A goal for two figures of a row, given by their indexes from 0: the most that the first should take, in percent of the second.
 pub struct Goal(pub usize, pub usize, pub u64);
@@ -94,7 +94,7 @@ impl Figure {
         alloc: Global,
         turns: u32,
     ) -> Result<u64, Failure> {
-        let Figure(_, Turn(_, threads, _, _), work) = self;
+        let Figure(_, Workload(_, threads, _, _), work) = self;
         let spent = work.round(rt, alloc, *threads, turns)?;
         Ok(tenths(spent, turns))
     }
@@ -140,7 +140,7 @@ fn told_of(times: &[u64], place: usize, figures: usize) -> (u64, u64) {
 
 // Prints the line for programs: NAME OF THREADS WHAT NS, where WHAT ends with the kind of the round.
 fn print_line<R: Print>(rt: &R, figure: &Figure, kind: &str, tenths: u64) -> Result<(), Failure> {
-    let Figure(name, Turn(of, threads, what, _), _) = figure;
+    let Figure(name, Workload(of, threads, what, _), _) = figure;
     println!(rt;
         "{name} {of} {threads} {what}_{kind} {}.{}",
         tenths / 10,

@@ -5,7 +5,7 @@ use crate::contexts::Wish;
 use crate::crowds::Crowd;
 use crate::play::Task::{Beside, Calls, Pairs, Reads, Steps, Transactions};
 use crate::reads::Reading;
-use crate::row::{Figure, Goal, Row, Turn};
+use crate::row::{Figure, Goal, Row, Workload};
 use crate::session::{Call, Stock};
 use crate::words::Step;
 use crate::work::Work::{
@@ -63,9 +63,9 @@ const MUCH: Stock = Stock {
     held: 250,
 };
 
-const PAIR: Turn = Turn("shared", 1, "pair", 20_000);
+const PAIR: Workload = Workload("shared", 1, "pair", 20_000);
 
-const REQUEST: Turn = Turn("shared", 1, "request", 20_000);
+const REQUEST: Workload = Workload("shared", 1, "request", 20_000);
 
 // A fast ticket to read is gained and released, and the same through a context.
 const PAIRS: &[Figure] = &[
@@ -75,7 +75,7 @@ const PAIRS: &[Figure] = &[
     Figure("a_request", REQUEST, Shared(Wish::Request, 0)),
 ];
 
-const TRANSACTION: Turn = Turn("shared", 1, "transaction", 5_000);
+const TRANSACTION: Workload = Workload("shared", 1, "transaction", 5_000);
 
 // The locks of a transaction that writes three tables, by fast tickets and through a context.
 const TRANSACTIONS: &[Figure] = &[
@@ -92,7 +92,7 @@ const TRANSACTIONS: &[Figure] = &[
     ),
 ];
 
-const EXCLUSIVE_PAIR: Turn = Turn("shared", 1, "pair", 10_000);
+const EXCLUSIVE_PAIR: Workload = Workload("shared", 1, "pair", 10_000);
 
 // A lock is taken in X, without the fast path, and released.
 const EXCLUSIVE: &[Figure] = &[
@@ -108,9 +108,9 @@ const EXCLUSIVE: &[Figure] = &[
     ),
 ];
 
-const RELEASE: Turn = Turn("shared", 1, "release", 500);
+const RELEASE: Workload = Workload("shared", 1, "release", 500);
 
-const RELEASE_STEPS: Turn = Turn("shared", 1, "release", 10_000);
+const RELEASE_STEPS: Workload = Workload("shared", 1, "release", 10_000);
 
 // One release grants 8 or 63 waits.
 const GRANTS: &[Figure] = &[
@@ -123,9 +123,9 @@ const GRANTS: &[Figure] = &[
     ),
 ];
 
-const CALL: Turn = Turn("shared", 1, "call", 20_000);
+const CALL: Workload = Workload("shared", 1, "call", 20_000);
 
-const PROBE: Turn = Turn("shared", 1, "probe", 20_000);
+const PROBE: Workload = Workload("shared", 1, "probe", 20_000);
 
 // A lock that is held is requested again, beside 0, 9 or 999 others.
 const AGAIN: &[Figure] = &[
@@ -137,9 +137,9 @@ const AGAIN: &[Figure] = &[
     Figure("h_again_1000_probe", PROBE, Keys(251)),
 ];
 
-const READ: Turn = Turn("shared", 1, "read", 20_000);
+const READ: Workload = Workload("shared", 1, "read", 20_000);
 
-const LONG_READ: Turn = Turn("shared", 1, "read", 1_000);
+const LONG_READ: Workload = Workload("shared", 1, "read", 1_000);
 
 // A definition is read: lent by a cache, compared with a look-up in a map; and copied from it, compared with a copy under the latch.
 const READS: &[Figure] = &[
@@ -163,9 +163,9 @@ const READS: &[Figure] = &[
     ),
 ];
 
-const PAIR_OF_TWO: Turn = Turn("shared", 2, "pair", 100_000);
+const PAIR_OF_TWO: Workload = Workload("shared", 2, "pair", 100_000);
 
-const PAIR_OF_FOUR: Turn = Turn("shared", 4, "pair", 100_000);
+const PAIR_OF_FOUR: Workload = Workload("shared", 4, "pair", 100_000);
 
 // Pairs at one place.
 const HOT: &[Figure] = &[
@@ -175,9 +175,9 @@ const HOT: &[Figure] = &[
     Figure("b_hot_steps", PAIR_OF_FOUR, Plays(Steps(Step::PairBeside))),
 ];
 
-const OWN_PAIR: Turn = Turn("shared", 1, "pair", 400_000);
+const OWN_PAIR: Workload = Workload("shared", 1, "pair", 400_000);
 
-const OWN_PAIR_OF_FOUR: Turn = Turn("shared", 4, "pair", 400_000);
+const OWN_PAIR_OF_FOUR: Workload = Workload("shared", 4, "pair", 400_000);
 
 // Pairs of each thread at a place of its own.
 const OWN: &[Figure] = &[
@@ -191,7 +191,7 @@ const OWN: &[Figure] = &[
     ),
 ];
 
-const TRANSACTION_OF_FOUR: Turn = Turn("shared", 4, "transaction", 50_000);
+const TRANSACTION_OF_FOUR: Workload = Workload("shared", 4, "transaction", 50_000);
 
 // Transactions, each thread with tables of its own.
 const CROWDS: &[Figure] = &[
@@ -207,7 +207,7 @@ const CROWDS: &[Figure] = &[
     ),
 ];
 
-const ALTER_OF_FOUR: Turn = Turn("shared", 4, "alter", 50_000);
+const ALTER_OF_FOUR: Workload = Workload("shared", 4, "alter", 50_000);
 
 // Transactions, all with the same tables, with an ALTER at times and without.
 const MIXED: &[Figure] = &[
@@ -228,9 +228,9 @@ const MIXED: &[Figure] = &[
     ),
 ];
 
-const SHARED_READ: Turn = Turn("shared", 1, "read", 100_000);
+const SHARED_READ: Workload = Workload("shared", 1, "read", 100_000);
 
-const READ_OF_FOUR: Turn = Turn("shared", 4, "read", 100_000);
+const READ_OF_FOUR: Workload = Workload("shared", 4, "read", 100_000);
 
 // Reads of one table's definition, lent by each session's own cache, and copied under the latch.
 const SHARED_READS: &[Figure] = &[
@@ -266,13 +266,13 @@ const SHARED_READS: &[Figure] = &[
     ),
 ];
 
-const LOOK: Turn = Turn("shared", 1, "look", 100_000);
+const LOOK: Workload = Workload("shared", 1, "look", 100_000);
 
-const SEARCH: Turn = Turn("shared", 1, "search", 500);
+const SEARCH: Workload = Workload("shared", 1, "search", 500);
 
-const LONG_SEARCH: Turn = Turn("shared", 1, "search", 200);
+const LONG_SEARCH: Workload = Workload("shared", 1, "search", 200);
 
-const SEARCH_STEPS: Turn = Turn("shared", 1, "search", 1_000);
+const SEARCH_STEPS: Workload = Workload("shared", 1, "search", 1_000);
 
 // A poll of a wait, and searches for a deadlock from the first of a chain, compared with taking all latches.
 const WAITS: &[Figure] = &[
@@ -288,7 +288,7 @@ const WAITS: &[Figure] = &[
     ),
 ];
 
-const FIRST_CALL: Turn = Turn("shared", 1, "call", 63);
+const FIRST_CALL: Workload = Workload("shared", 1, "call", 63);
 
 // The same calls of a session that knows one place, of one that knows 250, and of one that has a ticket at each of them.
 const PLACES: &[Figure] = &[
@@ -359,11 +359,11 @@ const PLACES: &[Figure] = &[
     ),
 ];
 
-const SPACE_PAIR: Turn = Turn("space", 1, "pair", 20_000);
+const SPACE_PAIR: Workload = Workload("space", 1, "pair", 20_000);
 
-const CONTEXT_PAIR: Turn = Turn("context", 1, "pair", 20_000);
+const CONTEXT_PAIR: Workload = Workload("context", 1, "pair", 20_000);
 
-const GO_BACK: Turn = Turn("context", 1, "turn", 100);
+const GO_BACK: Workload = Workload("context", 1, "turn", 100);
 
 // A space of one thread: a session that holds 1 to 1000 tickets takes and releases a lock, also through a context; and it rolls back a hundred.
 const SPACES: &[Figure] = &[
@@ -394,11 +394,11 @@ const SPACES: &[Figure] = &[
     Figure("lock_and_go_back_100", GO_BACK, Alone(Wish::GoBack, 0)),
 ];
 
-const BOOK_CALL: Turn = Turn("book", 1, "call", 500_000);
+const BOOK_CALL: Workload = Workload("book", 1, "call", 500_000);
 
-const BOOK_RELEASE: Turn = Turn("book", 1, "release", 500);
+const BOOK_RELEASE: Workload = Workload("book", 1, "release", 500);
 
-const LONG_BOOK_RELEASE: Turn = Turn("book", 1, "release", 50);
+const LONG_BOOK_RELEASE: Workload = Workload("book", 1, "release", 50);
 
 // The calls of one lock's book, by the number of its tickets or waiters.
 const BOOKS: &[Figure] = &[
@@ -418,11 +418,11 @@ const BOOKS: &[Figure] = &[
     Figure("grant_all_640", LONG_BOOK_RELEASE, Grants(640)),
 ];
 
-const GRAPH_OF_2: Turn = Turn("graph", 1, "search", 5_000);
+const GRAPH_OF_2: Workload = Workload("graph", 1, "search", 5_000);
 
-const GRAPH_OF_8: Turn = Turn("graph", 1, "search", 2_000);
+const GRAPH_OF_8: Workload = Workload("graph", 1, "search", 2_000);
 
-const GRAPH_OF_64: Turn = Turn("graph", 1, "search", 200);
+const GRAPH_OF_64: Workload = Workload("graph", 1, "search", 200);
 
 // Searches for a deadlock by the number of sessions, with the graph built from all books.
 const GRAPHS: &[Figure] = &[

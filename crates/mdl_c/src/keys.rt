@@ -6,14 +6,14 @@ ghost use Rattle.mdl_calls.specs.Words.{Resolve};
 ghost use Rattle.mdl_c_calls.specs.Exports.{Number, Serves, Tells};
 ghost use Rattle.mdl_c_calls.specs.Names.{Named};
 
-use mdl_c_calls::Space;
+use mdl_c_calls::MdlSpace;
 use std::alloc::Global;
 
 /// Writes the place of a table's key.
 #[unsafe(no_mangle)]
 pub extern "C" fn mdl_table(
     alloc: Global,
-    space: &mut Space,
+    space: &mut MdlSpace,
     who: u16,
     schema: &[u8],
     table: &[u8],
@@ -30,7 +30,7 @@ pub extern "C" fn mdl_table(
 #[unsafe(no_mangle)]
 pub extern "C" fn mdl_schema(
     alloc: Global,
-    space: &mut Space,
+    space: &mut MdlSpace,
     who: u16,
     schema: &[u8],
     place: &mut u16,
@@ -44,7 +44,7 @@ pub extern "C" fn mdl_schema(
 
 /// Writes the place of the key of the global read lock.
 #[unsafe(no_mangle)]
-pub extern "C" fn mdl_global(alloc: Global, space: &mut Space, who: u16, place: &mut u16) -> u32
+pub extern "C" fn mdl_global(alloc: Global, space: &mut MdlSpace, who: u16, place: &mut u16) -> u32
     ensures { Serves who (Resolve who global_key) space.old.handle.manager result space.new.handle.manager (Number place.old place.new) }
 {
     mdl_c_calls::mdl_global(alloc, space, who, place)
@@ -52,7 +52,7 @@ pub extern "C" fn mdl_global(alloc: Global, space: &mut Space, who: u16, place: 
 
 /// Writes the place of the key that commits take.
 #[unsafe(no_mangle)]
-pub extern "C" fn mdl_commit(alloc: Global, space: &mut Space, who: u16, place: &mut u16) -> u32
+pub extern "C" fn mdl_commit(alloc: Global, space: &mut MdlSpace, who: u16, place: &mut u16) -> u32
     ensures { Serves who (Resolve who commit_key) space.old.handle.manager result space.new.handle.manager (Number place.old place.new) }
 {
     mdl_c_calls::mdl_commit(alloc, space, who, place)

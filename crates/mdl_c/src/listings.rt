@@ -5,12 +5,12 @@ ghost use Rattle.mdl_calls.specs.Words.{List_held};
 ghost use Rattle.mdl_c_calls.specs.Exports.{Serves};
 ghost use Rattle.mdl_c_calls.specs.Listings.{HeldTold, IsKept, IsTold, Shows, ShowsLock, TellsSettled, lock_rows};
 
-use mdl_c_calls::{HeldRow, LockRow, Space};
+use mdl_c_calls::{HeldRow, LockRow, MdlSpace};
 use std::alloc::Global;
 
 /// Writes which sessions have waits that are settled and not ended, one bit each. The lowest bit is that of session 1.
 #[unsafe(no_mangle)]
-pub extern "C" fn mdl_settled(alloc: Global, space: &mut Space, sessions: &mut u64) -> u32
+pub extern "C" fn mdl_settled(alloc: Global, space: &mut MdlSpace, sessions: &mut u64) -> u32
     ensures { Shows space.old.handle.manager result space.new.handle.manager (sessions.new ≡ sessions.old) (λ m. (result ≡ 0) × TellsSettled m sessions.new) }
 {
     mdl_c_calls::mdl_settled(alloc, space, sessions)
@@ -20,7 +20,7 @@ pub extern "C" fn mdl_settled(alloc: Global, space: &mut Space, sessions: &mut u
 #[unsafe(no_mangle)]
 pub extern "C" fn mdl_held(
     alloc: Global,
-    space: &mut Space,
+    space: &mut MdlSpace,
     who: u16,
     room: &mut [HeldRow],
     count: &mut usize,
@@ -32,7 +32,7 @@ pub extern "C" fn mdl_held(
 
 /// Writes how many places have keys. They are those from 1 to this number.
 #[unsafe(no_mangle)]
-pub extern "C" fn mdl_places(alloc: Global, space: &mut Space, count: &mut usize) -> u32
+pub extern "C" fn mdl_places(alloc: Global, space: &mut MdlSpace, count: &mut usize) -> u32
     ensures { Shows space.old.handle.manager result space.new.handle.manager (count.new ≡ count.old) (λ m. (result ≡ 0) × (count.new ≡ length m.space.books)) }
 {
     mdl_c_calls::mdl_places(alloc, space, count)
@@ -42,7 +42,7 @@ pub extern "C" fn mdl_places(alloc: Global, space: &mut Space, count: &mut usize
 #[unsafe(no_mangle)]
 pub extern "C" fn mdl_key_of(
     alloc: Global,
-    space: &mut Space,
+    space: &mut MdlSpace,
     place: u16,
     namespace: &mut u8,
     schema: &mut [u8],
@@ -71,7 +71,7 @@ pub extern "C" fn mdl_key_of(
 #[unsafe(no_mangle)]
 pub extern "C" fn mdl_locks(
     alloc: Global,
-    space: &mut Space,
+    space: &mut MdlSpace,
     place: u16,
     room: &mut [LockRow],
     count: &mut usize,

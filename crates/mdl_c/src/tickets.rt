@@ -3,14 +3,14 @@ ghost use Rattle.mdl_calls.specs.Words.{Clone_ticket, Downgrade, Merge, Release,
 ghost use Rattle.mdl_c_calls.specs.Codes.{mode_at, no_mode};
 ghost use Rattle.mdl_c_calls.specs.Exports.{Nothing, Number, ServesDirect, ServesDirectWish};
 
-use mdl_c_calls::Space;
+use mdl_c_calls::MdlSpace;
 use std::alloc::Global;
 
 /// Requests a lock, without waiting.
 #[unsafe(no_mangle)]
 pub extern "C" fn mdl_try(
     alloc: Global,
-    space: &mut Space,
+    space: &mut MdlSpace,
     who: u16,
     place: u16,
     mode: u8,
@@ -23,7 +23,7 @@ pub extern "C" fn mdl_try(
 
 /// Releases a ticket.
 #[unsafe(no_mangle)]
-pub extern "C" fn mdl_release(alloc: Global, space: &mut Space, who: u16, ticket: u64) -> u32
+pub extern "C" fn mdl_release(alloc: Global, space: &mut MdlSpace, who: u16, ticket: u64) -> u32
     ensures { ServesDirect who (Release who ticket) space.old.handle.manager result space.new.handle.manager Nothing }
 {
     mdl_c_calls::mdl_release(alloc, space, who, ticket)
@@ -33,7 +33,7 @@ pub extern "C" fn mdl_release(alloc: Global, space: &mut Space, who: u16, ticket
 #[unsafe(no_mangle)]
 pub extern "C" fn mdl_upgrade(
     alloc: Global,
-    space: &mut Space,
+    space: &mut MdlSpace,
     who: u16,
     ticket: u64,
     mode: u8,
@@ -47,7 +47,7 @@ pub extern "C" fn mdl_upgrade(
 #[unsafe(no_mangle)]
 pub extern "C" fn mdl_downgrade(
     alloc: Global,
-    space: &mut Space,
+    space: &mut MdlSpace,
     who: u16,
     ticket: u64,
     mode: u8,
@@ -61,7 +61,7 @@ pub extern "C" fn mdl_downgrade(
 #[unsafe(no_mangle)]
 pub extern "C" fn mdl_clone(
     alloc: Global,
-    space: &mut Space,
+    space: &mut MdlSpace,
     who: u16,
     ticket: u64,
     mode: u8,
@@ -74,7 +74,13 @@ pub extern "C" fn mdl_clone(
 
 /// Gives a held ticket the mode of another one of its place, and releases the other.
 #[unsafe(no_mangle)]
-pub extern "C" fn mdl_merge(alloc: Global, space: &mut Space, who: u16, kept: u64, gone: u64) -> u32
+pub extern "C" fn mdl_merge(
+    alloc: Global,
+    space: &mut MdlSpace,
+    who: u16,
+    kept: u64,
+    gone: u64,
+) -> u32
     ensures { ServesDirect who (Merge who kept gone) space.old.handle.manager result space.new.handle.manager Nothing }
 {
     mdl_c_calls::mdl_merge(alloc, space, who, kept, gone)

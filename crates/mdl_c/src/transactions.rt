@@ -9,14 +9,14 @@ ghost use Rattle.mdl_c_calls.specs.ContextCodes.{acquire_code, acquire_told, don
 ghost use Rattle.mdl_c_calls.specs.Exports.{Replies, Tells};
 ghost use Rattle.mdl_c_calls.specs.Managers.{context_fault};
 ghost use Rattle.mdl_c_calls.specs.Names.{NamedIn};
-ghost use Rattle.mdl_c_calls.specs.Transactions.{making_explicit, making_transactional, Begins, Ends, Given, Marks, ServesContext, Told, Untold, Wishes};
+ghost use Rattle.mdl_c_calls.specs.Transactions.{making_explicit, making_transactional, Begins, Ends, Given, Marks, ServesContext, Reports, Untold, Wishes};
 
-use mdl_c_calls::{Mark, Space};
+use mdl_c_calls::{Mark, MdlSpace};
 use std::alloc::Global;
 
 /// Begins a context, which keeps the session's tickets from now on.
 #[unsafe(no_mangle)]
-pub extern "C" fn mdl_context_begin(alloc: Global, space: &mut Space, who: u16) -> u32
+pub extern "C" fn mdl_context_begin(alloc: Global, space: &mut MdlSpace, who: u16) -> u32
     ensures { Begins who space.old.handle.manager result space.new.handle.manager }
 {
     mdl_c_calls::mdl_context_begin(alloc, space, who)
@@ -24,7 +24,7 @@ pub extern "C" fn mdl_context_begin(alloc: Global, space: &mut Space, who: u16) 
 
 /// Ends a session's context, which gives up its wait and releases all its tickets.
 #[unsafe(no_mangle)]
-pub extern "C" fn mdl_context_end(alloc: Global, space: &mut Space, who: u16) -> u32
+pub extern "C" fn mdl_context_end(alloc: Global, space: &mut MdlSpace, who: u16) -> u32
     ensures { Ends who space.old.handle.manager result space.new.handle.manager }
 {
     mdl_c_calls::mdl_context_end(alloc, space, who)
@@ -34,7 +34,7 @@ pub extern "C" fn mdl_context_end(alloc: Global, space: &mut Space, who: u16) ->
 #[unsafe(no_mangle)]
 pub extern "C" fn mdl_acquire(
     alloc: Global,
-    space: &mut Space,
+    space: &mut MdlSpace,
     who: u16,
     namespace: u8,
     schema: &[u8],
@@ -44,7 +44,7 @@ pub extern "C" fn mdl_acquire(
     number: &mut u64,
 ) -> u32
     ensures { Wishes namespace schema.now table.now mode duration
-        (λ wish. ServesContext who (acquiring wish) acquire_code space.old.handle.manager result space.new.handle.manager (Told acquire_told number.old number.new))
+        (λ wish. ServesContext who (acquiring wish) acquire_code space.old.handle.manager result space.new.handle.manager (Reports acquire_told number.old number.new))
         (λ wrong. Tells wrong space.old.handle.manager result space.new.handle.manager × (number.new ≡ number.old)) }
 {
     mdl_c_calls::mdl_acquire(
@@ -54,16 +54,21 @@ pub extern "C" fn mdl_acquire(
 
 /// Returns the state of the wait of a session's context, and ends the wait if it is settled.
 #[unsafe(no_mangle)]
-pub extern "C" fn mdl_resume(alloc: Global, space: &mut Space, who: u16, ticket: &mut u64) -> u32
-    ensures { ServesContext who resuming resume_code space.old.handle.manager result space.new.handle.manager (Told resume_told ticket.old ticket.new) }
+pub extern "C" fn mdl_resume(alloc: Global, space: &mut MdlSpace, who: u16, ticket: &mut u64) -> u32
+    ensures { ServesContext who resuming resume_code space.old.handle.manager result space.new.handle.manager (Reports resume_told ticket.old ticket.new) }
 {
     mdl_c_calls::mdl_resume(alloc, space, who, ticket)
 }
 
 /// Gives up the wait of a session's context, unless it is settled already, and ends it.
 #[unsafe(no_mangle)]
-pub extern "C" fn mdl_give_up(alloc: Global, space: &mut Space, who: u16, ticket: &mut u64) -> u32
-    ensures { ServesContext who giving_up_wait resume_code space.old.handle.manager result space.new.handle.manager (Told resume_told ticket.old ticket.new) }
+pub extern "C" fn mdl_give_up(
+    alloc: Global,
+    space: &mut MdlSpace,
+    who: u16,
+    ticket: &mut u64,
+) -> u32
+    ensures { ServesContext who giving_up_wait resume_code space.old.handle.manager result space.new.handle.manager (Reports resume_told ticket.old ticket.new) }
 {
     mdl_c_calls::mdl_give_up(alloc, space, who, ticket)
 }
@@ -72,14 +77,14 @@ pub extern "C" fn mdl_give_up(alloc: Global, space: &mut Space, who: u16, ticket
 #[unsafe(no_mangle)]
 pub extern "C" fn mdl_context_upgrade(
     alloc: Global,
-    space: &mut Space,
+    space: &mut MdlSpace,
     who: u16,
     ticket: u64,
     mode: u8,
     number: &mut u64,
 ) -> u32
     ensures { Given no_mode (mode_at mode)
-        (λ mode. ServesContext who (upgrading ticket mode) acquire_code space.old.handle.manager result space.new.handle.manager (Told acquire_told number.old number.new))
+        (λ mode. ServesContext who (upgrading ticket mode) acquire_code space.old.handle.manager result space.new.handle.manager (Reports acquire_told number.old number.new))
         (λ wrong. Tells wrong space.old.handle.manager result space.new.handle.manager × (number.new ≡ number.old)) }
 {
     mdl_c_calls::mdl_context_upgrade(alloc, space, who, ticket, mode, number)
@@ -89,7 +94,7 @@ pub extern "C" fn mdl_context_upgrade(
 #[unsafe(no_mangle)]
 pub extern "C" fn mdl_context_downgrade(
     alloc: Global,
-    space: &mut Space,
+    space: &mut MdlSpace,
     who: u16,
     ticket: u64,
     mode: u8,
@@ -105,7 +110,7 @@ pub extern "C" fn mdl_context_downgrade(
 #[unsafe(no_mangle)]
 pub extern "C" fn mdl_context_release(
     alloc: Global,
-    space: &mut Space,
+    space: &mut MdlSpace,
     who: u16,
     ticket: u64,
 ) -> u32
@@ -118,7 +123,7 @@ pub extern "C" fn mdl_context_release(
 #[unsafe(no_mangle)]
 pub extern "C" fn mdl_release_name(
     alloc: Global,
-    space: &mut Space,
+    space: &mut MdlSpace,
     who: u16,
     namespace: u8,
     schema: &[u8],
@@ -133,15 +138,20 @@ pub extern "C" fn mdl_release_name(
 
 /// Writes a session's current mark: how many tickets its context keeps for the statement, and how many for the transaction.
 #[unsafe(no_mangle)]
-pub extern "C" fn mdl_savepoint(alloc: Global, space: &mut Space, who: u16, mark: &mut Mark) -> u32
-    ensures { Replies context_fault who (Marks who) (λ _. 0) (Told mark_told mark.old mark.new) space.old.handle.manager result space.new.handle.manager }
+pub extern "C" fn mdl_savepoint(
+    alloc: Global,
+    space: &mut MdlSpace,
+    who: u16,
+    mark: &mut Mark,
+) -> u32
+    ensures { Replies context_fault who (Marks who) (λ _. 0) (Reports mark_told mark.old mark.new) space.old.handle.manager result space.new.handle.manager }
 {
     mdl_c_calls::mdl_savepoint(alloc, space, who, mark)
 }
 
 /// Rolls back to a mark: of the statement's and of the transaction's tickets, keeps the earliest, as many as the mark counted, and releases the rest.
 #[unsafe(no_mangle)]
-pub extern "C" fn mdl_rollback_to(alloc: Global, space: &mut Space, who: u16, mark: Mark) -> u32
+pub extern "C" fn mdl_rollback_to(alloc: Global, space: &mut MdlSpace, who: u16, mark: Mark) -> u32
     ensures { ServesContext who (rolling_back (mark_in_context mark)) done_code space.old.handle.manager result space.new.handle.manager Untold }
 {
     mdl_c_calls::mdl_rollback_to(alloc, space, who, mark)
@@ -149,7 +159,7 @@ pub extern "C" fn mdl_rollback_to(alloc: Global, space: &mut Space, who: u16, ma
 
 /// Ends a statement: releases its tickets.
 #[unsafe(no_mangle)]
-pub extern "C" fn mdl_end_statement(alloc: Global, space: &mut Space, who: u16) -> u32
+pub extern "C" fn mdl_end_statement(alloc: Global, space: &mut MdlSpace, who: u16) -> u32
     ensures { ServesContext who ending_statement done_code space.old.handle.manager result space.new.handle.manager Untold }
 {
     mdl_c_calls::mdl_end_statement(alloc, space, who)
@@ -157,7 +167,7 @@ pub extern "C" fn mdl_end_statement(alloc: Global, space: &mut Space, who: u16) 
 
 /// Ends a transaction: releases the tickets of the statement and of the transaction.
 #[unsafe(no_mangle)]
-pub extern "C" fn mdl_end_transaction(alloc: Global, space: &mut Space, who: u16) -> u32
+pub extern "C" fn mdl_end_transaction(alloc: Global, space: &mut MdlSpace, who: u16) -> u32
     ensures { ServesContext who ending_transaction done_code space.old.handle.manager result space.new.handle.manager Untold }
 {
     mdl_c_calls::mdl_end_transaction(alloc, space, who)
@@ -165,7 +175,7 @@ pub extern "C" fn mdl_end_transaction(alloc: Global, space: &mut Space, who: u16
 
 /// Makes all tickets explicit: the context keeps them until they are released.
 #[unsafe(no_mangle)]
-pub extern "C" fn mdl_make_explicit(alloc: Global, space: &mut Space, who: u16) -> u32
+pub extern "C" fn mdl_make_explicit(alloc: Global, space: &mut MdlSpace, who: u16) -> u32
     ensures { ServesContext who making_explicit done_code space.old.handle.manager result space.new.handle.manager Untold }
 {
     mdl_c_calls::mdl_make_explicit(alloc, space, who)
@@ -173,7 +183,7 @@ pub extern "C" fn mdl_make_explicit(alloc: Global, space: &mut Space, who: u16) 
 
 /// Makes the explicit tickets, except those of user-level locks, last until the transaction ends.
 #[unsafe(no_mangle)]
-pub extern "C" fn mdl_make_transactional(alloc: Global, space: &mut Space, who: u16) -> u32
+pub extern "C" fn mdl_make_transactional(alloc: Global, space: &mut MdlSpace, who: u16) -> u32
     ensures { ServesContext who making_transactional done_code space.old.handle.manager result space.new.handle.manager Untold }
 {
     mdl_c_calls::mdl_make_transactional(alloc, space, who)

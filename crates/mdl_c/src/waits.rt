@@ -3,14 +3,14 @@ ghost use Rattle.mdl_calls.specs.Words.{Begin_wait, End_wait, Kill, Poll_wait, S
 ghost use Rattle.mdl_c_calls.specs.Codes.{mode_at, no_mode};
 ghost use Rattle.mdl_c_calls.specs.Exports.{Nothing, Number, Serves, ServesAnybody, ServesDirect, ServesDirectWish};
 
-use mdl_c_calls::Space;
+use mdl_c_calls::MdlSpace;
 use std::alloc::Global;
 
 /// Requests a lock, and begins to wait for it if it can't be granted now.
 #[unsafe(no_mangle)]
 pub extern "C" fn mdl_begin(
     alloc: Global,
-    space: &mut Space,
+    space: &mut MdlSpace,
     who: u16,
     place: u16,
     mode: u8,
@@ -23,7 +23,7 @@ pub extern "C" fn mdl_begin(
 
 /// Looks for a deadlock that the session is part of. If there is one, settles the wait of its victim, and writes the victim's session.
 #[unsafe(no_mangle)]
-pub extern "C" fn mdl_search(alloc: Global, space: &mut Space, who: u16, victim: &mut u16) -> u32
+pub extern "C" fn mdl_search(alloc: Global, space: &mut MdlSpace, who: u16, victim: &mut u16) -> u32
     ensures { ServesDirect who (Search who) space.old.handle.manager result space.new.handle.manager (Number victim.old victim.new) }
 {
     mdl_c_calls::mdl_search(alloc, space, who, victim)
@@ -31,7 +31,7 @@ pub extern "C" fn mdl_search(alloc: Global, space: &mut Space, who: u16, victim:
 
 /// Returns the state of a session's wait.
 #[unsafe(no_mangle)]
-pub extern "C" fn mdl_poll(alloc: Global, space: &mut Space, who: u16) -> u32
+pub extern "C" fn mdl_poll(alloc: Global, space: &mut MdlSpace, who: u16) -> u32
     ensures { Serves who (Poll_wait who) space.old.handle.manager result space.new.handle.manager Nothing }
 {
     mdl_c_calls::mdl_poll(alloc, space, who)
@@ -39,7 +39,7 @@ pub extern "C" fn mdl_poll(alloc: Global, space: &mut Space, who: u16) -> u32
 
 /// Ends a session's wait, which must be settled.
 #[unsafe(no_mangle)]
-pub extern "C" fn mdl_end(alloc: Global, space: &mut Space, who: u16, ticket: &mut u64) -> u32
+pub extern "C" fn mdl_end(alloc: Global, space: &mut MdlSpace, who: u16, ticket: &mut u64) -> u32
     ensures { ServesDirect who (End_wait who) space.old.handle.manager result space.new.handle.manager (Number ticket.old ticket.new) }
 {
     mdl_c_calls::mdl_end(alloc, space, who, ticket)
@@ -47,7 +47,7 @@ pub extern "C" fn mdl_end(alloc: Global, space: &mut Space, who: u16, ticket: &m
 
 /// Settles a session's wait as a timeout, unless it is settled already. Returns how it is settled then.
 #[unsafe(no_mangle)]
-pub extern "C" fn mdl_time_out(alloc: Global, space: &mut Space, who: u16) -> u32
+pub extern "C" fn mdl_time_out(alloc: Global, space: &mut MdlSpace, who: u16) -> u32
     ensures { Serves who (Settle_timeout who) space.old.handle.manager result space.new.handle.manager Nothing }
 {
     mdl_c_calls::mdl_time_out(alloc, space, who)
@@ -55,7 +55,7 @@ pub extern "C" fn mdl_time_out(alloc: Global, space: &mut Space, who: u16) -> u3
 
 /// Settles the wait of this number of any session as killed, unless it is settled already or there is none.
 #[unsafe(no_mangle)]
-pub extern "C" fn mdl_kill(alloc: Global, space: &mut Space, target: u16, number: u64) -> u32
+pub extern "C" fn mdl_kill(alloc: Global, space: &mut MdlSpace, target: u16, number: u64) -> u32
     ensures { ServesAnybody (Kill target number) space.old.handle.manager result space.new.handle.manager }
 {
     mdl_c_calls::mdl_kill(alloc, space, target, number)

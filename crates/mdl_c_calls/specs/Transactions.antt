@@ -59,8 +59,8 @@ abbrev pub ServesContext : {A : Type 0} → ℕ → (ContextView → Program (Ou
 ServesContext who program code_for before code after beside = Replies context_fault who (RunsFor who program) code_for beside before code after
 
 -- the call writes what it reports over what was there before
-abbrev pub Told : {R T : Type 0} → (Option R → T → T) → T → T → Option R → Type 0
-Told told old new answer = new ≡ told answer old
+abbrev pub Reports : {R T : Type 0} → (Option R → T → T) → T → T → Option R → Type 0
+Reports told old new answer = new ≡ told answer old
 
 -- the call writes nothing
 abbrev pub Untold : {R : Type 0} → Option R → Type 0

@@ -2,9 +2,9 @@
 ghost use Rattle.std.specs.Prelude.{◌≡◌, true, None, Some, is_some, Option, MatchOption};
 ghost use Rattle.mdl_c_calls.specs.Handles.{keeps};
 ghost use Rattle.mdl_c_calls.specs.Managers.{Managed};
-ghost use Rattle.mdl_c_calls.specs.contracts.manager.Manager.{the_row};
+ghost use Rattle.mdl_c_calls.specs.contracts.manager.ServedSpace.{the_row};
 
-use crate::manager::Manager;
+use crate::manager::ServedSpace;
 use crate::parts::Parts;
 use std::alloc::Global;
 use std::marker::Model;
@@ -33,7 +33,7 @@ impl Handle {
         }
     }
 
-    fn of_parts(parts: Parts<Manager, Global>) -> Handle
+    fn of_parts(parts: Parts<ServedSpace, Global>) -> Handle
         ensures { result.manager ≡ Some parts.value }
     {
         let Parts { ptr, alloc } = parts;
@@ -43,13 +43,13 @@ impl Handle {
         }
     }
 
-    fn into_parts(self) -> Parts<Manager, Global>
+    fn into_parts(self) -> Parts<ServedSpace, Global>
         requires { is_some self.manager ≡ true }
         ensures { self.manager ≡ Some result.value }
     {
         let Handle { at, alloc } = self;
         Parts {
-            ptr: at as *mut Manager,
+            ptr: at as *mut ServedSpace,
             alloc,
         }
     }
@@ -60,13 +60,13 @@ unsafe impl Send for Handle {}
 /// A manager, or the room for one, in memory of the C program: `struct mdl_space` of `mdl.h`. All of its bytes are 0 if there is none.
 #[derive(Drop)]
 #[repr(C)]
-pub struct Space {
+pub struct MdlSpace {
     pub handle: Handle,
     is_open: bool,
     ghost tells: { is_some handle.manager ≡ is_open },
 }
 
-impl Space {
+impl MdlSpace {
     /// Whether there is a manager.
     pub(crate) fn is_open(&self) -> bool
         ensures { result ≡ is_some self.now.handle.manager }
@@ -75,13 +75,13 @@ impl Space {
     }
 
     /// Takes the manager out, if there is one.
-    pub(crate) fn take(&mut self, alloc: Global) -> Option<Box<Manager, Global>>
+    pub(crate) fn take(&mut self, alloc: Global) -> Option<Box<ServedSpace, Global>>
         ensures taken { MatchOption result (self.old.handle.manager ≡ None) (λ b. self.old.handle.manager ≡ Some b.value) }
         ensures left { self.new.handle.manager ≡ None }
     {
         let was = mem::replace(
             self,
-            Space {
+            MdlSpace {
                 handle: Handle::none(alloc),
                 is_open: false,
             },
@@ -89,16 +89,16 @@ impl Space {
         if !was.is_open {
             return None;
         }
-        let Space { handle, is_open: _ } = was;
+        let MdlSpace { handle, is_open: _ } = was;
         Some(handle.into_parts().into_box())
     }
 
     /// Puts a manager in, where there is none: one that is there would never be freed.
-    pub(crate) fn put(&mut self, manager: Box<Manager, Global>)
+    pub(crate) fn put(&mut self, manager: Box<ServedSpace, Global>)
         requires empty { self.old.handle.manager ≡ None }
         ensures { self.new.handle.manager ≡ Some manager.value }
     {
-        *self = Space {
+        *self = MdlSpace {
             handle: Handle::of_parts(Parts::of(manager)),
             is_open: true,
         };
@@ -109,5 +109,5 @@ fn crosses<T: Send>() {}
 
 /// A manager may be sent from one thread of the C program to another: a law, proved as the contract of a function that does nothing.
 pub fn spaces_cross() {
-    crosses::<Space>();
+    crosses::<MdlSpace>();
 }

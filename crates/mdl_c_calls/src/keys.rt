@@ -7,13 +7,13 @@ ghost use Rattle.mdl_c_calls.specs.Exports.{Number, Serves, Tells};
 ghost use Rattle.mdl_c_calls.specs.Names.{Named};
 
 use crate::codes::{CLOSED, place_code};
-use crate::handle::Space;
+use crate::handle::MdlSpace;
 use crate::names::{schema_of, table_of};
 use mdl_key::Key;
 use std::alloc::Global;
 
 // Writes the place of a key.
-fn resolve(alloc: Global, space: &mut Space, who: u16, key: &Key, place: &mut u16) -> u32
+fn resolve(alloc: Global, space: &mut MdlSpace, who: u16, key: &Key, place: &mut u16) -> u32
     ensures { Serves who (Resolve who key.now) space.old.handle.manager result space.new.handle.manager (Number place.old place.new) }
 {
     let Some(mut manager) = space.take(alloc) else {
@@ -27,7 +27,7 @@ fn resolve(alloc: Global, space: &mut Space, who: u16, key: &Key, place: &mut u1
 /// Writes the place of a table's key.
 pub fn mdl_table(
     alloc: Global,
-    space: &mut Space,
+    space: &mut MdlSpace,
     who: u16,
     schema: &[u8],
     table: &[u8],
@@ -44,7 +44,13 @@ pub fn mdl_table(
 }
 
 /// Writes the place of a schema's key.
-pub fn mdl_schema(alloc: Global, space: &mut Space, who: u16, schema: &[u8], place: &mut u16) -> u32
+pub fn mdl_schema(
+    alloc: Global,
+    space: &mut MdlSpace,
+    who: u16,
+    schema: &[u8],
+    place: &mut u16,
+) -> u32
     ensures { Named (IsUtf8 schema.now) (name_fault schema.now)
         (Serves who (Resolve who (schema_key schema.now)) space.old.handle.manager result space.new.handle.manager (Number place.old place.new))
         (λ wrong. Tells wrong space.old.handle.manager result space.new.handle.manager × (place.new ≡ place.old)) }
@@ -56,14 +62,14 @@ pub fn mdl_schema(alloc: Global, space: &mut Space, who: u16, schema: &[u8], pla
 }
 
 /// Writes the place of the key of the global read lock.
-pub fn mdl_global(alloc: Global, space: &mut Space, who: u16, place: &mut u16) -> u32
+pub fn mdl_global(alloc: Global, space: &mut MdlSpace, who: u16, place: &mut u16) -> u32
     ensures { Serves who (Resolve who global_key) space.old.handle.manager result space.new.handle.manager (Number place.old place.new) }
 {
     resolve(alloc, space, who, &Key::global(alloc), place)
 }
 
 /// Writes the place of the key that commits take.
-pub fn mdl_commit(alloc: Global, space: &mut Space, who: u16, place: &mut u16) -> u32
+pub fn mdl_commit(alloc: Global, space: &mut MdlSpace, who: u16, place: &mut u16) -> u32
     ensures { Serves who (Resolve who commit_key) space.old.handle.manager result space.new.handle.manager (Number place.old place.new) }
 {
     resolve(alloc, space, who, &Key::commit(alloc), place)

@@ -25,7 +25,7 @@ mod transactions;
 mod unserved;
 mod waits;
 
-pub use handle::Space;
+pub use handle::MdlSpace;
 pub use keys::{mdl_commit, mdl_global, mdl_schema, mdl_table};
 pub use listings::{mdl_held, mdl_key_of, mdl_locks, mdl_places, mdl_settled};
 pub use mark::Mark;

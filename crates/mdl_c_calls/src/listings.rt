@@ -8,14 +8,14 @@ ghost use Rattle.mdl_c_calls.specs.Exports.{Serves};
 ghost use Rattle.mdl_c_calls.specs.Listings.{HeldTold, IsKept, IsTold, Shows, ShowsLock, TellsSettled, lock_rows};
 
 use crate::codes::{CLOSED, DONE, NO_PLACE, NO_SESSION, cause_code};
-use crate::handle::Space;
+use crate::handle::MdlSpace;
 use crate::rows::{HeldRow, LockRow, tell_held, tell_lock, tell_text};
 use mdl_book::Book;
 use mdl_space::{Held, SpaceError};
 use std::alloc::Global;
 
 /// Writes which sessions have waits that are settled and not ended, one bit each. The lowest bit is that of session 1.
-pub fn mdl_settled(alloc: Global, space: &mut Space, sessions: &mut u64) -> u32
+pub fn mdl_settled(alloc: Global, space: &mut MdlSpace, sessions: &mut u64) -> u32
     ensures { Shows space.old.handle.manager result space.new.handle.manager (sessions.new ≡ sessions.old) (λ m. (result ≡ 0) × TellsSettled m sessions.new) }
 {
     let Some(mut manager) = space.take(alloc) else {
@@ -29,7 +29,7 @@ pub fn mdl_settled(alloc: Global, space: &mut Space, sessions: &mut u64) -> u32
 /// Writes the tickets that a session holds, in the order in which it got them.
 pub fn mdl_held(
     alloc: Global,
-    space: &mut Space,
+    space: &mut MdlSpace,
     who: u16,
     room: &mut [HeldRow],
     count: &mut usize,
@@ -45,7 +45,7 @@ pub fn mdl_held(
 }
 
 /// Writes how many places have keys. They are those from 1 to this number.
-pub fn mdl_places(alloc: Global, space: &mut Space, count: &mut usize) -> u32
+pub fn mdl_places(alloc: Global, space: &mut MdlSpace, count: &mut usize) -> u32
     ensures { Shows space.old.handle.manager result space.new.handle.manager (count.new ≡ count.old) (λ m. (result ≡ 0) × (count.new ≡ length m.space.books)) }
 {
     let Some(manager) = space.take(alloc) else {
@@ -59,7 +59,7 @@ pub fn mdl_places(alloc: Global, space: &mut Space, count: &mut usize) -> u32
 /// Writes the key of a place: the number of its namespace, and the names of its schema and its table if it has them.
 pub fn mdl_key_of(
     alloc: Global,
-    space: &mut Space,
+    space: &mut MdlSpace,
     place: u16,
     namespace: &mut u8,
     schema: &mut [u8],
@@ -84,7 +84,7 @@ pub fn mdl_key_of(
 /// Writes the tickets of a place's lock: first the granted ones, in the order in which they were granted, then the waiting ones, in order of arrival.
 pub fn mdl_locks(
     alloc: Global,
-    space: &mut Space,
+    space: &mut MdlSpace,
     place: u16,
     room: &mut [LockRow],
     count: &mut usize,

@@ -22,13 +22,13 @@ mod lists;
 /// The space of one thread, the number of its sessions, and who keeps the tickets of each. A call of a session that isn't one of them returns `None`,
 /// or an `Unserved`.
 #[derive(Drop)]
-pub struct Manager {
+pub struct ServedSpace {
     space: CoreSpace,
     sessions: u16,
     seats: Vec<Seat>,
 }
 
-impl Model for Manager {
+impl Model for ServedSpace {
     ghost use Rattle.mdl_c_calls.specs.Managers.{Managed, ServesAll};
 
     ghost Value = { Managed };
@@ -38,14 +38,14 @@ impl Model for Manager {
     ghost invariant = { λ m. ServesAll m.space m.sessions m.seats.items };
 }
 
-impl Manager {
-    pub fn new(alloc: Global, places: u16, sessions: u16) -> Result<Manager, NewError>
+impl ServedSpace {
+    pub fn new(alloc: Global, places: u16, sessions: u16) -> Result<ServedSpace, NewError>
         ensures made { IfOk result (λ m. m ≡ new_manager places sessions) }
         ensures refused { Refuses (new_fault places sessions) NewError.OutOfMemory result }
     {
         let space = CoreSpace::new(alloc, places, sessions)?;
         match new_seats(alloc, sessions) {
-            Ok(seats) => Ok(Manager {
+            Ok(seats) => Ok(ServedSpace {
                 space,
                 sessions,
                 seats,

@@ -3,18 +3,18 @@ ghost use Rattle.std.specs.Prelude.{◌≡◌};
 ghost use Rattle.mdl_c_calls.specs.Exports.{Closes, Opens};
 
 use crate::codes::{CLOSED, DONE, IS_OPEN, NO_MEMORY, new_code};
-use crate::handle::Space;
-use crate::manager::Manager;
+use crate::handle::MdlSpace;
+use crate::manager::ServedSpace;
 use std::alloc::Global;
 
 /// Makes a manager with this number of places and sessions, if there is none yet.
-pub fn mdl_open(alloc: Global, space: &mut Space, places: u16, sessions: u16) -> u32
+pub fn mdl_open(alloc: Global, space: &mut MdlSpace, places: u16, sessions: u16) -> u32
     ensures { Opens places sessions space.old.handle.manager result space.new.handle.manager }
 {
     if space.is_open() {
         return IS_OPEN;
     }
-    let manager = match Manager::new(alloc, places, sessions) {
+    let manager = match ServedSpace::new(alloc, places, sessions) {
         Ok(manager) => manager,
         Err(why) => return new_code(why),
     };
@@ -28,7 +28,7 @@ pub fn mdl_open(alloc: Global, space: &mut Space, places: u16, sessions: u16) ->
 }
 
 /// Frees the manager, with all that its sessions hold and wait for.
-pub fn mdl_close(alloc: Global, space: &mut Space) -> u32
+pub fn mdl_close(alloc: Global, space: &mut MdlSpace) -> u32
     ensures { Closes space.old.handle.manager result space.new.handle.manager }
 {
     match space.take(alloc) {

@@ -9,20 +9,20 @@ ghost use Rattle.mdl_c_calls.specs.ContextCodes.{acquire_code, acquire_told, don
 ghost use Rattle.mdl_c_calls.specs.Exports.{Replies, Tells};
 ghost use Rattle.mdl_c_calls.specs.Managers.{context_fault};
 ghost use Rattle.mdl_c_calls.specs.Names.{NamedIn};
-ghost use Rattle.mdl_c_calls.specs.Transactions.{making_explicit, making_transactional, Begins, Ends, Given, Marks, ServesContext, Told, Untold, Wishes};
+ghost use Rattle.mdl_c_calls.specs.Transactions.{making_explicit, making_transactional, Begins, Ends, Given, Marks, ServesContext, Reports, Untold, Wishes};
 
 use crate::codes::{CLOSED, NO_MODE, mode_of};
 use crate::context_codes::{
     NO_DURATION, acquire_code, duration_of, finish_code, mark_code, resume_code, served_code,
 };
-use crate::handle::Space;
+use crate::handle::MdlSpace;
 use crate::mark::Mark;
 use crate::names::key_of;
 use mdl_key::{Duration, Key, Mode};
 use std::alloc::Global;
 
 /// Begins a context, which keeps the session's tickets from now on.
-pub fn mdl_context_begin(alloc: Global, space: &mut Space, who: u16) -> u32
+pub fn mdl_context_begin(alloc: Global, space: &mut MdlSpace, who: u16) -> u32
     ensures { Begins who space.old.handle.manager result space.new.handle.manager }
 {
     let Some(mut manager) = space.take(alloc) else {
@@ -34,7 +34,7 @@ pub fn mdl_context_begin(alloc: Global, space: &mut Space, who: u16) -> u32
 }
 
 /// Ends a session's context, which gives up its wait and releases all its tickets.
-pub fn mdl_context_end(alloc: Global, space: &mut Space, who: u16) -> u32
+pub fn mdl_context_end(alloc: Global, space: &mut MdlSpace, who: u16) -> u32
     ensures { Ends who space.old.handle.manager result space.new.handle.manager }
 {
     let Some(mut manager) = space.take(alloc) else {
@@ -48,14 +48,14 @@ pub fn mdl_context_end(alloc: Global, space: &mut Space, who: u16) -> u32
 // Acquires a lock of a key, or begins to wait for it.
 fn acquire(
     alloc: Global,
-    space: &mut Space,
+    space: &mut MdlSpace,
     who: u16,
     key: &Key,
     mode: Mode,
     duration: Duration,
     number: &mut u64,
 ) -> u32
-    ensures { ServesContext who (acquiring (record { key = key.now; mode = mode; duration = duration })) acquire_code space.old.handle.manager result space.new.handle.manager (Told acquire_told number.old number.new) }
+    ensures { ServesContext who (acquiring (record { key = key.now; mode = mode; duration = duration })) acquire_code space.old.handle.manager result space.new.handle.manager (Reports acquire_told number.old number.new) }
 {
     let Some(mut manager) = space.take(alloc) else {
         return CLOSED;
@@ -68,7 +68,7 @@ fn acquire(
 /// Acquires a lock for this duration, or begins to wait for it.
 pub fn mdl_acquire(
     alloc: Global,
-    space: &mut Space,
+    space: &mut MdlSpace,
     who: u16,
     namespace: u8,
     schema: &[u8],
@@ -78,7 +78,7 @@ pub fn mdl_acquire(
     number: &mut u64,
 ) -> u32
     ensures { Wishes namespace schema.now table.now mode duration
-        (λ wish. ServesContext who (acquiring wish) acquire_code space.old.handle.manager result space.new.handle.manager (Told acquire_told number.old number.new))
+        (λ wish. ServesContext who (acquiring wish) acquire_code space.old.handle.manager result space.new.handle.manager (Reports acquire_told number.old number.new))
         (λ wrong. Tells wrong space.old.handle.manager result space.new.handle.manager × (number.new ≡ number.old)) }
 {
     let Some(mode) = mode_of(mode) else {
@@ -94,8 +94,8 @@ pub fn mdl_acquire(
 }
 
 /// Returns the state of the wait of a session's context, and ends the wait if it is settled.
-pub fn mdl_resume(alloc: Global, space: &mut Space, who: u16, ticket: &mut u64) -> u32
-    ensures { ServesContext who resuming resume_code space.old.handle.manager result space.new.handle.manager (Told resume_told ticket.old ticket.new) }
+pub fn mdl_resume(alloc: Global, space: &mut MdlSpace, who: u16, ticket: &mut u64) -> u32
+    ensures { ServesContext who resuming resume_code space.old.handle.manager result space.new.handle.manager (Reports resume_told ticket.old ticket.new) }
 {
     let Some(mut manager) = space.take(alloc) else {
         return CLOSED;
@@ -106,8 +106,8 @@ pub fn mdl_resume(alloc: Global, space: &mut Space, who: u16, ticket: &mut u64) 
 }
 
 /// Gives up the wait of a session's context, unless it is settled already, and ends it.
-pub fn mdl_give_up(alloc: Global, space: &mut Space, who: u16, ticket: &mut u64) -> u32
-    ensures { ServesContext who giving_up_wait resume_code space.old.handle.manager result space.new.handle.manager (Told resume_told ticket.old ticket.new) }
+pub fn mdl_give_up(alloc: Global, space: &mut MdlSpace, who: u16, ticket: &mut u64) -> u32
+    ensures { ServesContext who giving_up_wait resume_code space.old.handle.manager result space.new.handle.manager (Reports resume_told ticket.old ticket.new) }
 {
     let Some(mut manager) = space.take(alloc) else {
         return CLOSED;
@@ -120,14 +120,14 @@ pub fn mdl_give_up(alloc: Global, space: &mut Space, who: u16, ticket: &mut u64)
 /// Upgrades a kept ticket to a stronger mode, or begins to wait for that.
 pub fn mdl_context_upgrade(
     alloc: Global,
-    space: &mut Space,
+    space: &mut MdlSpace,
     who: u16,
     ticket: u64,
     mode: u8,
     number: &mut u64,
 ) -> u32
     ensures { Given no_mode (mode_at mode)
-        (λ mode. ServesContext who (upgrading ticket mode) acquire_code space.old.handle.manager result space.new.handle.manager (Told acquire_told number.old number.new))
+        (λ mode. ServesContext who (upgrading ticket mode) acquire_code space.old.handle.manager result space.new.handle.manager (Reports acquire_told number.old number.new))
         (λ wrong. Tells wrong space.old.handle.manager result space.new.handle.manager × (number.new ≡ number.old)) }
 {
     let Some(mode) = mode_of(mode) else {
@@ -144,7 +144,7 @@ pub fn mdl_context_upgrade(
 /// Downgrades a kept ticket to a weaker mode.
 pub fn mdl_context_downgrade(
     alloc: Global,
-    space: &mut Space,
+    space: &mut MdlSpace,
     who: u16,
     ticket: u64,
     mode: u8,
@@ -165,7 +165,7 @@ pub fn mdl_context_downgrade(
 }
 
 /// Releases a kept ticket.
-pub fn mdl_context_release(alloc: Global, space: &mut Space, who: u16, ticket: u64) -> u32
+pub fn mdl_context_release(alloc: Global, space: &mut MdlSpace, who: u16, ticket: u64) -> u32
     ensures { ServesContext who (releasing ticket) done_code space.old.handle.manager result space.new.handle.manager Untold }
 {
     let Some(mut manager) = space.take(alloc) else {
@@ -177,7 +177,7 @@ pub fn mdl_context_release(alloc: Global, space: &mut Space, who: u16, ticket: u
 }
 
 // Releases all tickets of a key that the session's context keeps.
-fn release_name(alloc: Global, space: &mut Space, who: u16, key: &Key) -> u32
+fn release_name(alloc: Global, space: &mut MdlSpace, who: u16, key: &Key) -> u32
     ensures { ServesContext who (releasing_name key.now) done_code space.old.handle.manager result space.new.handle.manager Untold }
 {
     let Some(mut manager) = space.take(alloc) else {
@@ -191,7 +191,7 @@ fn release_name(alloc: Global, space: &mut Space, who: u16, key: &Key) -> u32
 /// Releases all tickets of a key that the session's context keeps.
 pub fn mdl_release_name(
     alloc: Global,
-    space: &mut Space,
+    space: &mut MdlSpace,
     who: u16,
     namespace: u8,
     schema: &[u8],
@@ -208,8 +208,8 @@ pub fn mdl_release_name(
 }
 
 /// Writes a session's current mark: how many tickets its context keeps for the statement, and how many for the transaction.
-pub fn mdl_savepoint(alloc: Global, space: &mut Space, who: u16, mark: &mut Mark) -> u32
-    ensures { Replies context_fault who (Marks who) (λ _. 0) (Told mark_told mark.old mark.new) space.old.handle.manager result space.new.handle.manager }
+pub fn mdl_savepoint(alloc: Global, space: &mut MdlSpace, who: u16, mark: &mut Mark) -> u32
+    ensures { Replies context_fault who (Marks who) (λ _. 0) (Reports mark_told mark.old mark.new) space.old.handle.manager result space.new.handle.manager }
 {
     let Some(mut manager) = space.take(alloc) else {
         return CLOSED;
@@ -220,7 +220,7 @@ pub fn mdl_savepoint(alloc: Global, space: &mut Space, who: u16, mark: &mut Mark
 }
 
 /// Rolls back to a mark: of the statement's and of the transaction's tickets, keeps the earliest, as many as the mark counted, and releases the rest.
-pub fn mdl_rollback_to(alloc: Global, space: &mut Space, who: u16, mark: Mark) -> u32
+pub fn mdl_rollback_to(alloc: Global, space: &mut MdlSpace, who: u16, mark: Mark) -> u32
     ensures { ServesContext who (rolling_back (mark_in_context mark)) done_code space.old.handle.manager result space.new.handle.manager Untold }
 {
     let Some(mut manager) = space.take(alloc) else {
@@ -232,7 +232,7 @@ pub fn mdl_rollback_to(alloc: Global, space: &mut Space, who: u16, mark: Mark) -
 }
 
 /// Ends a statement: releases its tickets.
-pub fn mdl_end_statement(alloc: Global, space: &mut Space, who: u16) -> u32
+pub fn mdl_end_statement(alloc: Global, space: &mut MdlSpace, who: u16) -> u32
     ensures { ServesContext who ending_statement done_code space.old.handle.manager result space.new.handle.manager Untold }
 {
     let Some(mut manager) = space.take(alloc) else {
@@ -244,7 +244,7 @@ pub fn mdl_end_statement(alloc: Global, space: &mut Space, who: u16) -> u32
 }
 
 /// Ends a transaction: releases the tickets of the statement and of the transaction.
-pub fn mdl_end_transaction(alloc: Global, space: &mut Space, who: u16) -> u32
+pub fn mdl_end_transaction(alloc: Global, space: &mut MdlSpace, who: u16) -> u32
     ensures { ServesContext who ending_transaction done_code space.old.handle.manager result space.new.handle.manager Untold }
 {
     let Some(mut manager) = space.take(alloc) else {
@@ -256,7 +256,7 @@ pub fn mdl_end_transaction(alloc: Global, space: &mut Space, who: u16) -> u32
 }
 
 /// Makes all tickets explicit: the context keeps them until they are released.
-pub fn mdl_make_explicit(alloc: Global, space: &mut Space, who: u16) -> u32
+pub fn mdl_make_explicit(alloc: Global, space: &mut MdlSpace, who: u16) -> u32
     ensures { ServesContext who making_explicit done_code space.old.handle.manager result space.new.handle.manager Untold }
 {
     let Some(mut manager) = space.take(alloc) else {
@@ -268,7 +268,7 @@ pub fn mdl_make_explicit(alloc: Global, space: &mut Space, who: u16) -> u32
 }
 
 /// Makes the explicit tickets, except those of user-level locks, last until the transaction ends.
-pub fn mdl_make_transactional(alloc: Global, space: &mut Space, who: u16) -> u32
+pub fn mdl_make_transactional(alloc: Global, space: &mut MdlSpace, who: u16) -> u32
     ensures { ServesContext who making_transactional done_code space.old.handle.manager result space.new.handle.manager Untold }
 {
     let Some(mut manager) = space.take(alloc) else {

@@ -7,13 +7,13 @@ ghost use Rattle.mdl_c_calls.specs.Exports.{Nothing, Number, Serves, ServesAnybo
 use crate::codes::{
     CLOSED, NO_MODE, begun_code, end_code, kill_code, mode_of, poll_code, search_code, timeout_code,
 };
-use crate::handle::Space;
+use crate::handle::MdlSpace;
 use std::alloc::Global;
 
 /// Requests a lock, and begins to wait for it if it can't be granted now.
 pub fn mdl_begin(
     alloc: Global,
-    space: &mut Space,
+    space: &mut MdlSpace,
     who: u16,
     place: u16,
     mode: u8,
@@ -33,7 +33,7 @@ pub fn mdl_begin(
 }
 
 /// Looks for a deadlock that the session is part of. If there is one, settles the wait of its victim, and writes the victim's session.
-pub fn mdl_search(alloc: Global, space: &mut Space, who: u16, victim: &mut u16) -> u32
+pub fn mdl_search(alloc: Global, space: &mut MdlSpace, who: u16, victim: &mut u16) -> u32
     ensures { ServesDirect who (Search who) space.old.handle.manager result space.new.handle.manager (Number victim.old victim.new) }
 {
     let Some(mut manager) = space.take(alloc) else {
@@ -45,7 +45,7 @@ pub fn mdl_search(alloc: Global, space: &mut Space, who: u16, victim: &mut u16) 
 }
 
 /// Returns the state of a session's wait.
-pub fn mdl_poll(alloc: Global, space: &mut Space, who: u16) -> u32
+pub fn mdl_poll(alloc: Global, space: &mut MdlSpace, who: u16) -> u32
     ensures { Serves who (Poll_wait who) space.old.handle.manager result space.new.handle.manager Nothing }
 {
     let Some(mut manager) = space.take(alloc) else {
@@ -57,7 +57,7 @@ pub fn mdl_poll(alloc: Global, space: &mut Space, who: u16) -> u32
 }
 
 /// Ends a session's wait, which must be settled.
-pub fn mdl_end(alloc: Global, space: &mut Space, who: u16, ticket: &mut u64) -> u32
+pub fn mdl_end(alloc: Global, space: &mut MdlSpace, who: u16, ticket: &mut u64) -> u32
     ensures { ServesDirect who (End_wait who) space.old.handle.manager result space.new.handle.manager (Number ticket.old ticket.new) }
 {
     let Some(mut manager) = space.take(alloc) else {
@@ -69,7 +69,7 @@ pub fn mdl_end(alloc: Global, space: &mut Space, who: u16, ticket: &mut u64) -> 
 }
 
 /// Settles a session's wait as a timeout, unless it is settled already. Returns how it is settled then.
-pub fn mdl_time_out(alloc: Global, space: &mut Space, who: u16) -> u32
+pub fn mdl_time_out(alloc: Global, space: &mut MdlSpace, who: u16) -> u32
     ensures { Serves who (Settle_timeout who) space.old.handle.manager result space.new.handle.manager Nothing }
 {
     let Some(mut manager) = space.take(alloc) else {
@@ -81,7 +81,7 @@ pub fn mdl_time_out(alloc: Global, space: &mut Space, who: u16) -> u32
 }
 
 /// Settles the wait of this number of any session as killed, unless it is settled already or there is none.
-pub fn mdl_kill(alloc: Global, space: &mut Space, target: u16, number: u64) -> u32
+pub fn mdl_kill(alloc: Global, space: &mut MdlSpace, target: u16, number: u64) -> u32
     ensures { ServesAnybody (Kill target number) space.old.handle.manager result space.new.handle.manager }
 {
     let Some(mut manager) = space.take(alloc) else {

@@ -19,8 +19,8 @@ use Rattle.mdl_context.specs.Holdings.{earliest, is_at}
 use Rattle.mdl_context.specs.Requests.{Outcome, suffices, is_reusable, outcome_got, acquiring_at, outcome_tried, trying_at}
 use Rattle.mdl_context.proofs.PlaceLemmas.{suffices-at, equal}
 use Rattle.mdl_context.proofs.ServingLemmas.{earliest-held}
-use Rattle.mdl_context.specs.declared.asking.Got.{Got}
-use Rattle.mdl_context.specs.declared.asking.Got.TheVariants as got
+use Rattle.mdl_context.specs.declared.asking.AskResult.{AskResult}
+use Rattle.mdl_context.specs.declared.asking.AskResult.TheVariants as got
 use Rattle.mdl_context.specs.Gains.{gaining_from, trying_from, own_got, OwnWaited}
 
 -- a wait that began and was given up leaves nothing
@@ -28,7 +28,7 @@ pub began-and-ended : (number place : ℕ) (mode : Mode) (own : SessionLocks) �
 began-and-ended number place mode own none = ap (λ (wait : Option Wait). let o : SessionLocks = record { held = own.held; wait = wait } in o) (sym none)
 
 -- a wait that began goes on, or is given up
-pub own-waited : (number place : ℕ) (mode : Mode) (result : Result Got SpaceError) (before mid after : SessionLocks) → OwnWaited number result mid after → mid ≡ waiting number place mode before
+pub own-waited : (number place : ℕ) (mode : Mode) (result : Result AskResult SpaceError) (before mid after : SessionLocks) → OwnWaited number result mid after → mid ≡ waiting number place mode before
     → before.wait ≡ None → after ≡ own_got place mode result before
 own-waited number place mode (Ok (got.Granted id)) before mid after told began idle = absurd told
 own-waited number place mode (Ok (got.Waits n searched)) before mid after told began idle = told.1 ∙ began ∙ ap (λ m. waiting m place mode before) (sym told.0)
@@ -61,7 +61,7 @@ sufficient-held place request own context (Some held) rising serves is =
 module _ {S : Type 0} (joins : S → Call → Answer → S → Type 0) (place : ℕ) (request : Wish) (before : ContextView) (found : Option Held)
     (is : found ≡ earliest (is_reusable place request) before.kept) where
   -- no ticket can be used again, and one is gained
-  pub run-gained : (ticket : Option Held) (result : Result Got SpaceError) (reply : Outcome Acquire) (a b : S) → found ≡ None → ticket ≡ earliest (suffices place request) before.kept
+  pub run-gained : (ticket : Option Held) (result : Result AskResult SpaceError) (reply : Outcome Acquire) (a b : S) → found ≡ None → ticket ≡ earliest (suffices place request) before.kept
       → Runs joins a (gaining_from ticket before.who place request.mode) result b → outcome_got place request before result ≡ reply → Runs joins a (acquiring_at place request before) reply b
   run-gained ticket result reply a b none enough run same =
       rw (sym is ∙ none) (inr (runs_bind joins (gaining_from (earliest (suffices place request) before.kept) before.who place request.mode) (λ end. Give (outcome_got place request before end)) a b b result reply

@@ -8,8 +8,8 @@ use Rattle.mdl_calls.specs.declared.space_error.SpaceError.TheVariants.{OutOfMem
 use Rattle.mdl_calls.specs.Words.{Answer, At_place, Done, Granted, Upgraded, Would_wait, Waits, Pending, Is_settled, Lost, Settle_timeout, Release, Upgrade_now, Downgrade, Program, Give, Ask, ◌>>◌, Each, IsFaithful, IsFrugal, SearchEnd, Over, Cut_off, Failed, IsStarvedSearch, seeking, most_searches}
 use Rattle.mdl_calls.proofs.FaithfulLemmas.{either, each_then, faithful_bind, frugal_bind, frugal_faithful}
 use Rattle.mdl_calls.proofs.SeekingLemmas.{faithful_seeking}
-use Rattle.mdl_context.specs.declared.asking.Got.{Got}
-use Rattle.mdl_context.specs.declared.asking.Got.TheVariants as got
+use Rattle.mdl_context.specs.declared.asking.AskResult.{AskResult}
+use Rattle.mdl_context.specs.declared.asking.AskResult.TheVariants as got
 use Rattle.mdl_context.specs.declared.context_error.ContextError.{ContextError}
 use Rattle.mdl_context.specs.declared.context_error.ContextError.TheVariants.{Waiting, Space}
 use Rattle.mdl_context.specs.declared.kept.Kept.{Kept}
@@ -91,7 +91,7 @@ frugal_downgrading id mode context =
 -- ---- wishes
 
 -- a lock at a place wasn't had for want of memory
-abbrev IsStarvedGain : Result Got SpaceError → Type 0
+abbrev IsStarvedGain : Result AskResult SpaceError → Type 0
 IsStarvedGain end = end ≡ Err OutOfMemory
 
 faithful_copy : (answer : Answer) → IsFaithful IsStarvedGain (gains.copy_answered answer)
@@ -102,18 +102,18 @@ faithful_wish_sought : (who number : ℕ) (end : SearchEnd) → IsFaithful IsSta
 faithful_wish_sought who number Over = tt
 faithful_wish_sought who number Cut_off = tt
 faithful_wish_sought who number (Failed refusal) =
-    frugal_faithful {A = Result Got SpaceError} IsStarvedGain (gains.abandoning who >> Give (Err refusal)) (frugal_abandoning who (Err refusal))
+    frugal_faithful {A = Result AskResult SpaceError} IsStarvedGain (gains.abandoning who >> Give (Err refusal)) (frugal_abandoning who (Err refusal))
 
 -- a search that found no memory, and so the wish
 each_wish_sought : (who number : ℕ) (end : SearchEnd) → IsStarvedSearch end → Each IsStarvedGain (gains.wish_sought who number end)
 each_wish_sought who number end e =
     subst (λ x. Each IsStarvedGain (gains.wish_sought who number x)) (sym e)
-    (each_then {A = Unit {0}} {B = Result Got SpaceError} IsStarvedGain (gains.abandoning who) (λ _. Give (Err OutOfMemory)) (λ _. refl))
+    (each_then {A = Unit {0}} {B = Result AskResult SpaceError} IsStarvedGain (gains.abandoning who) (λ _. Give (Err OutOfMemory)) (λ _. refl))
 
 faithful_wish : (who : ℕ) (answer : Answer) → IsFaithful IsStarvedGain (gains.wish_answered who answer)
 faithful_wish who (Granted id) = tt
 faithful_wish who (Waits number) =
-    faithful_bind {A = SearchEnd} {B = Result Got SpaceError} IsStarvedSearch IsStarvedGain (seeking most_searches who) (gains.wish_sought who number)
+    faithful_bind {A = SearchEnd} {B = Result AskResult SpaceError} IsStarvedSearch IsStarvedGain (seeking most_searches who) (gains.wish_sought who number)
     (faithful_seeking most_searches who) (each_wish_sought who number) (faithful_wish_sought who number)
 faithful_wish who _ = tt
 
@@ -131,7 +131,7 @@ faithful_reusing (Some ticket) place request context = tt
 faithful_reusing None place request context =
     let serving = earliest (requests.suffices place request) context.kept in (
       refl,
-      faithful_bind {A = Result Got SpaceError} {B = Outcome Acquire} IsStarvedGain IsStarved (gains.gaining_from serving context.who place request.mode)
+      faithful_bind {A = Result AskResult SpaceError} {B = Outcome Acquire} IsStarvedGain IsStarved (gains.gaining_from serving context.who place request.mode)
           (λ end. Give (requests.outcome_got place request context end)) (faithful_gaining serving context.who place request.mode)
           (λ end e. ap (λ x. (requests.outcome_got place request context x).0) e) (λ _. tt),
     )
@@ -267,7 +267,7 @@ faithful_giving_up_wait context =
 
 -- ---- upgrades
 
-faithful_second : (ticket : Kept) (mode : Mode) (context : ContextView) (end : Result Got SpaceError) → IsFaithful IsStarved (upgrades.second_got ticket mode context end)
+faithful_second : (ticket : Kept) (mode : Mode) (context : ContextView) (end : Result AskResult SpaceError) → IsFaithful IsStarved (upgrades.second_got ticket mode context end)
 faithful_second ticket mode context (Ok (got.Granted new)) =
     faithful_bind {A = Result (Unit {0}) SpaceError} {B = Outcome Acquire} IsStarvedMerge IsStarved (upgrades.merging context.who ticket.id new)
     (λ end. Give (upgrades.merged (Acquired ticket.id) ticket.id mode context end)) (faithful_merging context.who ticket.id new)
@@ -276,14 +276,14 @@ faithful_second ticket mode context (Ok (got.Waits number searched)) = tt
 faithful_second ticket mode context (Err refusal) = tt
 
 -- there was no memory to wait, and so none for the upgrade
-each_second : (ticket : Kept) (mode : Mode) (context : ContextView) (end : Result Got SpaceError) → IsStarvedGain end → Each IsStarved (upgrades.second_got ticket mode context end)
+each_second : (ticket : Kept) (mode : Mode) (context : ContextView) (end : Result AskResult SpaceError) → IsStarvedGain end → Each IsStarved (upgrades.second_got ticket mode context end)
 each_second ticket mode context end e = subst (λ x. Each IsStarved (upgrades.second_got ticket mode context x)) (sym e) refl
 
 faithful_upgrade : (ticket : Kept) (mode : Mode) (context : ContextView) (answer : Answer) → IsFaithful IsStarved (upgrades.upgrade_answered ticket mode context answer)
 faithful_upgrade ticket mode context Upgraded = tt
 faithful_upgrade ticket mode context Would_wait = (
   refl,
-  faithful_bind {A = Result Got SpaceError} {B = Outcome Acquire} IsStarvedGain IsStarved (gains.waiting_at context.who ticket.place mode)
+  faithful_bind {A = Result AskResult SpaceError} {B = Outcome Acquire} IsStarvedGain IsStarved (gains.waiting_at context.who ticket.place mode)
       (upgrades.second_got ticket mode context) (λ _. refl, faithful_wish context.who) (each_second ticket mode context) (faithful_second ticket mode context),
 )
 faithful_upgrade ticket mode context _ = tt

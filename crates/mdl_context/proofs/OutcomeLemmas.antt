@@ -11,8 +11,8 @@ use Rattle.mdl_calls.specs.declared.space_error.SpaceError.TheVariants.{NoWait}
 use Rattle.mdl_calls.specs.Words.{Answer, Upgraded, Would_wait, Upgrade_now, Ask, Granted, Pending, Is_settled, Lost, Settle_timeout, Each, Give, SearchEnd, Over, Cut_off, Failed, seeking, most_searches}
 use Rattle.mdl_calls.proofs.FaithfulLemmas.{either, each_then}
 use Rattle.mdl_system.specs.Strength.{covers}
-use Rattle.mdl_context.specs.declared.asking.Got.{Got}
-use Rattle.mdl_context.specs.declared.asking.Got.TheVariants as got
+use Rattle.mdl_context.specs.declared.asking.AskResult.{AskResult}
+use Rattle.mdl_context.specs.declared.asking.AskResult.TheVariants as got
 use Rattle.mdl_context.specs.declared.context_error.ContextError.{ContextError}
 use Rattle.mdl_context.specs.declared.context_error.ContextError.TheVariants.{Space}
 use Rattle.mdl_context.specs.declared.kept.Kept.{Kept}
@@ -52,7 +52,7 @@ module _ (id : ℕ) (mode : Mode) (before : ContextView) (ticket : Kept) (kept :
   raised_merged (Ok done) = (number, raised_by (λ _. mode) (λ held. covers-itself mode))
   raised_merged (Err refusal) = refl
 
-  raised_got : (end : Result Got SpaceError) → Each (UpgradeComesTo id mode before) (second_got ticket mode before end)
+  raised_got : (end : Result AskResult SpaceError) → Each (UpgradeComesTo id mode before) (second_got ticket mode before end)
   raised_got (Ok (got.Granted new)) =
       each_then {A = Result (Unit {0}) SpaceError} {B = Outcome Acquire} (UpgradeComesTo id mode before) (merging before.who ticket.id new)
       (λ end. Give (merged (Acquired ticket.id) ticket.id mode before end)) raised_merged
@@ -62,7 +62,7 @@ module _ (id : ℕ) (mode : Mode) (before : ContextView) (ticket : Kept) (kept :
   raised_waiting : Each (UpgradeComesTo id mode before) (waiting_to_upgrade ticket mode before)
   raised_waiting = (
     refl,
-    each_then {A = Result Got SpaceError} {B = Outcome Acquire} (UpgradeComesTo id mode before) (waiting_at before.who ticket.place mode)
+    each_then {A = Result AskResult SpaceError} {B = Outcome Acquire} (UpgradeComesTo id mode before) (waiting_at before.who ticket.place mode)
         (second_got ticket mode before) raised_got,
   )
 

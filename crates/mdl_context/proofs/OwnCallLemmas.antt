@@ -10,8 +10,8 @@ use Rattle.mdl_calls.specs.Words.{Answer, At_place, Done, Granted, Upgraded, Wou
 use Rattle.mdl_calls.proofs.FaithfulLemmas.{either, calls_bind}
 use Rattle.mdl_calls.proofs.SeekingLemmas.{calls_seeking}
 use Rattle.mdl_core.specs.RunLaws.{IsMadeFor}
-use Rattle.mdl_context.specs.declared.asking.Got.{Got}
-use Rattle.mdl_context.specs.declared.asking.Got.TheVariants as got
+use Rattle.mdl_context.specs.declared.asking.AskResult.{AskResult}
+use Rattle.mdl_context.specs.declared.asking.AskResult.TheVariants as got
 use Rattle.mdl_context.specs.declared.context_error.ContextError.{ContextError}
 use Rattle.mdl_context.specs.declared.context_error.ContextError.TheVariants.{Waiting, Space}
 use Rattle.mdl_context.specs.declared.kept.Kept.{Kept}
@@ -58,12 +58,12 @@ own_copy who _ = tt
 own_wish_sought : (who number : ℕ) (end : SearchEnd) → AreOwn who (gains.wish_sought who number end)
 own_wish_sought who number Over = tt
 own_wish_sought who number Cut_off = tt
-own_wish_sought who number (Failed refusal) = own_abandoning {A = Result Got SpaceError} who (Err refusal)
+own_wish_sought who number (Failed refusal) = own_abandoning {A = Result AskResult SpaceError} who (Err refusal)
 
 own_wish : (who : ℕ) (answer : Answer) → AreOwn who (gains.wish_answered who answer)
 own_wish who (Granted id) = tt
 own_wish who (Waits number) =
-    calls_bind {A = SearchEnd} {B = Result Got SpaceError} (IsOwnCall who) (seeking most_searches who) (gains.wish_sought who number)
+    calls_bind {A = SearchEnd} {B = Result AskResult SpaceError} (IsOwnCall who) (seeking most_searches who) (gains.wish_sought who number)
     (own_seeking most_searches who) (own_wish_sought who number)
 own_wish who _ = tt
 
@@ -81,7 +81,7 @@ own_reusing (Some ticket) place request context = tt
 own_reusing None place request context =
     let serving = earliest (requests.suffices place request) context.kept in (
       tt,
-      calls_bind {A = Result Got SpaceError} {B = Outcome Acquire} (IsOwnCall context.who) (gains.gaining_from serving context.who place request.mode)
+      calls_bind {A = Result AskResult SpaceError} {B = Outcome Acquire} (IsOwnCall context.who) (gains.gaining_from serving context.who place request.mode)
           (λ end. Give (requests.outcome_got place request context end)) (own_gaining serving context.who place request.mode) (λ _. tt),
     )
 
@@ -224,7 +224,7 @@ own_releasing id context =
 own_waiting_at : (who place : ℕ) (mode : Mode) → AreOwn who (gains.waiting_at who place mode)
 own_waiting_at who place mode = ((refl, refl, refl), own_wish who)
 
-own_second : (ticket : Kept) (mode : Mode) (context : ContextView) (end : Result Got SpaceError) → AreOwn context.who (upgrades.second_got ticket mode context end)
+own_second : (ticket : Kept) (mode : Mode) (context : ContextView) (end : Result AskResult SpaceError) → AreOwn context.who (upgrades.second_got ticket mode context end)
 own_second ticket mode context (Ok (got.Granted new)) =
     calls_bind {A = Result (Unit {0}) SpaceError} {B = Outcome Acquire} (IsOwnCall context.who) (upgrades.merging context.who ticket.id new)
     (λ end. Give (upgrades.merged (Acquired ticket.id) ticket.id mode context end)) (own_merging context.who ticket.id new) (λ _. tt)
@@ -234,7 +234,7 @@ own_second ticket mode context (Err refusal) = tt
 pub own_to_upgrade : (ticket : Kept) (mode : Mode) (context : ContextView) → AreOwn context.who (upgrades.waiting_to_upgrade ticket mode context)
 own_to_upgrade ticket mode context = (
   tt,
-  calls_bind {A = Result Got SpaceError} {B = Outcome Acquire} (IsOwnCall context.who) (gains.waiting_at context.who ticket.place mode)
+  calls_bind {A = Result AskResult SpaceError} {B = Outcome Acquire} (IsOwnCall context.who) (gains.waiting_at context.who ticket.place mode)
       (upgrades.second_got ticket mode context) (own_waiting_at context.who ticket.place mode) (own_second ticket mode context),
 )
 

@@ -3,8 +3,8 @@ use Rattle.std.proofs.Common.{◌≡◌, ℕ, Bool, true, false, Ok, Err, Result
 use Rattle.mdl_calls.specs.declared.space_error.SpaceError.{SpaceError}
 use Rattle.mdl_calls.specs.Words.{Answer, Call, Runs, Give, ◌>>◌, Over, Cut_off, Failed, seeking, most_searches}
 use Rattle.mdl_calls.proofs.RunLemmas.{runs_bind}
-use Rattle.mdl_context.specs.declared.asking.Got.{Got}
-use Rattle.mdl_context.specs.declared.asking.Got.TheVariants as got
+use Rattle.mdl_context.specs.declared.asking.AskResult.{AskResult}
+use Rattle.mdl_context.specs.declared.asking.AskResult.TheVariants as got
 use Rattle.mdl_context.specs.declared.context_error.ContextError.TheVariants.{Space}
 use Rattle.mdl_context.specs.declared.request.Resume.{Resume}
 use Rattle.mdl_context.specs.Contexts.{ContextView}
@@ -28,7 +28,7 @@ module _ {S : Type 0} (joins : S → Call → Answer → S → Type 0) where
       → Runs joins mid (abandoning who) tt b → Runs joins a (waiting_on who number) (Err refusal) b
   run-refused who number refusal a mid b failed abandoned =
       runs_bind joins (seeking most_searches who) (wish_sought who number) a mid b (Failed refusal) _ failed
-      (run-abandoned {A = Result Got SpaceError} who _ _ mid b abandoned refl)
+      (run-abandoned {A = Result AskResult SpaceError} who _ _ mid b abandoned refl)
 
   -- the wait is looked after
   pub run-over : (before between : ContextView) (reply : Outcome Resume) (a mid b : S) → Runs joins a (seeking most_searches before.who) Over mid → between ≡ searched before

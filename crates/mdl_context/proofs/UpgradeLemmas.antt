@@ -20,8 +20,8 @@ use Rattle.mdl_calls.specs.Words.{Answer, Call, Upgrade_now, caller, SessionLock
 use Rattle.mdl_calls.proofs.RunLemmas.{runs_bind}
 use Rattle.mdl_calls.specs.declared.lock_space.LockSpace.{Ghosts}
 use Rattle.mdl_calls.specs.MemberLaws.{LawsOf}
-use Rattle.mdl_context.specs.declared.asking.Got.{Got}
-use Rattle.mdl_context.specs.declared.asking.Got.TheVariants as got
+use Rattle.mdl_context.specs.declared.asking.AskResult.{AskResult}
+use Rattle.mdl_context.specs.declared.asking.AskResult.TheVariants as got
 use Rattle.mdl_context.specs.declared.context_error.ContextError.TheVariants.{NotHeld, Waiting, Space}
 use Rattle.mdl_context.specs.declared.kept.Kept.{Kept}
 use Rattle.mdl_context.specs.declared.kept.Wanted.{Wanted}
@@ -197,7 +197,7 @@ HasAsked joins id mode a reply b context =
 
 module _ {S : Type 0} (joins : S → Call → Answer → S → Type 0) (t : Kept) (id : ℕ) (mode : Mode) (context after : ContextView) (number : t.id ≡ id) where
   -- a second ticket was asked for
-  run-second : (end : Result Got SpaceError) (reply : Outcome Acquire) (a mid b : S) → Runs joins a (waiting_at context.who t.place mode) end mid
+  run-second : (end : Result AskResult SpaceError) (reply : Outcome Acquire) (a mid b : S) → Runs joins a (waiting_at context.who t.place mode) end mid
       → Runs joins mid (second_got t mode context end) reply b → Runs joins a (waiting_to_upgrade t mode context) reply b
   run-second end reply a mid b asked run = inr (runs_bind joins (waiting_at context.who t.place mode) (second_got t mode context) a mid b end reply asked run)
 

@@ -7,8 +7,8 @@ use Rattle.mdl_calls.specs.declared.space_error.SpaceError.{SpaceError}
 use Rattle.mdl_calls.specs.declared.space_error.SpaceError.TheVariants.{NoWait}
 use Rattle.mdl_calls.specs.Words.{Answer, At_place, Done, Granted, Upgraded, Would_wait, Pending, Is_settled, Lost, Release, Upgrade_now, Downgrade, Settle_timeout, Program, Give, Ask, Each, SearchEnd, Over, Cut_off, Failed, seeking, most_searches}
 use Rattle.mdl_calls.proofs.FaithfulLemmas.{either, each_then}
-use Rattle.mdl_context.specs.declared.asking.Got.{Got}
-use Rattle.mdl_context.specs.declared.asking.Got.TheVariants as got
+use Rattle.mdl_context.specs.declared.asking.AskResult.{AskResult}
+use Rattle.mdl_context.specs.declared.asking.AskResult.TheVariants as got
 use Rattle.mdl_context.specs.declared.context_error.ContextError.{ContextError}
 use Rattle.mdl_context.specs.declared.context_error.ContextError.TheVariants.{Waiting, Space}
 use Rattle.mdl_context.specs.declared.kept.Kept.{Kept}
@@ -38,7 +38,7 @@ StaysOf who program = Each (IsOf who) program
 
 -- ---- wishes
 
-of_got : (place : ℕ) (request : Wish) (context : ContextView) (end : Result Got SpaceError) →
+of_got : (place : ℕ) (request : Wish) (context : ContextView) (end : Result AskResult SpaceError) →
     IsOf {A = Acquire} context.who (requests.outcome_got place request context end)
 of_got place request context (Ok (got.Granted id)) = refl
 of_got place request context (Ok (got.Waits number searched)) = refl
@@ -49,7 +49,7 @@ of_reusing (Some ticket) place request context = refl
 of_reusing None place request context =
     let serving = earliest (requests.suffices place request) context.kept in (
       refl,
-      each_then {A = Result Got SpaceError} {B = Outcome Acquire} (IsOf context.who) (gains.gaining_from serving context.who place request.mode)
+      each_then {A = Result AskResult SpaceError} {B = Outcome Acquire} (IsOf context.who) (gains.gaining_from serving context.who place request.mode)
           (λ end. Give (requests.outcome_got place request context end)) (of_got place request context),
     )
 
@@ -173,7 +173,7 @@ of_releasing id context =
 
 -- ---- other modes
 
-of_second : (ticket : Kept) (mode : Mode) (context : ContextView) (end : Result Got SpaceError) → StaysOf {A = Acquire} context.who (upgrades.second_got ticket mode context end)
+of_second : (ticket : Kept) (mode : Mode) (context : ContextView) (end : Result AskResult SpaceError) → StaysOf {A = Acquire} context.who (upgrades.second_got ticket mode context end)
 of_second ticket mode context (Ok (got.Granted new)) =
     each_then {A = Result (Unit {0}) SpaceError} {B = Outcome Acquire} (IsOf context.who) (upgrades.merging context.who ticket.id new)
     (λ end. Give (upgrades.merged (Acquired ticket.id) ticket.id mode context end)) (of_merged {A = Acquire} (Acquired ticket.id) ticket.id mode context)
@@ -184,7 +184,7 @@ of_upgrade : (ticket : Kept) (mode : Mode) (context : ContextView) (answer : Ans
 of_upgrade ticket mode context Upgraded = refl
 of_upgrade ticket mode context Would_wait = (
   refl,
-  each_then {A = Result Got SpaceError} {B = Outcome Acquire} (IsOf context.who) (gains.waiting_at context.who ticket.place mode)
+  each_then {A = Result AskResult SpaceError} {B = Outcome Acquire} (IsOf context.who) (gains.waiting_at context.who ticket.place mode)
       (upgrades.second_got ticket mode context) (of_second ticket mode context),
 )
 of_upgrade ticket mode context _ = refl

@@ -14,8 +14,8 @@ use Rattle.mdl_calls.specs.declared.space_error.SpaceError.{SpaceError}
 use Rattle.mdl_calls.specs.Words.{Answer, At_place, Give, Each}
 use Rattle.mdl_calls.proofs.FaithfulLemmas.{either, each_then}
 use Rattle.mdl_system.specs.Strength.{covers}
-use Rattle.mdl_context.specs.declared.asking.Got.{Got}
-use Rattle.mdl_context.specs.declared.asking.Got.TheVariants as got
+use Rattle.mdl_context.specs.declared.asking.AskResult.{AskResult}
+use Rattle.mdl_context.specs.declared.asking.AskResult.TheVariants as got
 use Rattle.mdl_context.specs.declared.context_error.ContextError.TheVariants.{Waiting}
 use Rattle.mdl_context.specs.declared.kept.Kept.{Kept}
 use Rattle.mdl_context.specs.declared.kept.Wanted.{Wanted}
@@ -57,7 +57,7 @@ module _ (request : Wish) (before context : ContextView) (place : ℕ) (known : 
     reusable_wished place request t (find-passes (is_reusable place request) context.kept t found),
   )
 
-  met_got : (end : Result Got SpaceError) → IsMet request before (outcome_got place request context end)
+  met_got : (end : Result AskResult SpaceError) → IsMet request before (outcome_got place request context end)
   met_got (Ok (got.Granted id)) =
       let ticket = kept_of id place request in (
         place,
@@ -77,7 +77,7 @@ module _ (request : Wish) (before context : ContextView) (place : ℕ) (known : 
   met_reusing None e =
       subst (λ (found : Option Kept). Each (IsMet request before) (reusing (option_map held_of found) place request context)) (sym e) (
         (kept, wait),
-        each_then {A = Result Got SpaceError} {B = Outcome Acquire} (IsMet request before)
+        each_then {A = Result AskResult SpaceError} {B = Outcome Acquire} (IsMet request before)
             (gaining_from (earliest (suffices place request) context.kept) context.who place request.mode)
             (λ end. Give (outcome_got place request context end)) met_got,
       )
@@ -154,7 +154,7 @@ never_again place request t explicit passes =
     false≢true (sym (not-true (lasts Explicit t) parts.1) ∙ subst (λ duration. lasts duration t ≡ true) explicit long)
 
 module _ (request : Wish) (before context : ContextView) (place : ℕ) (explicit : request.duration ≡ Explicit) (kept : context.kept ≡ before.kept) where
-  gains_got : (end : Result Got SpaceError) → GainsATicket request before (outcome_got place request context end)
+  gains_got : (end : Result AskResult SpaceError) → GainsATicket request before (outcome_got place request context end)
   gains_got (Ok (got.Granted id)) = (place, ap (λ tickets. tickets ++ kept_of id place request ∷ []) kept)
   gains_got (Ok (got.Waits number searched)) = tt
   gains_got (Err refusal) = tt
@@ -165,7 +165,7 @@ module _ (request : Wish) (before context : ContextView) (place : ℕ) (explicit
   gains_reusing None e =
       subst (λ (found : Option Kept). Each (GainsATicket request before) (reusing (option_map held_of found) place request context)) (sym e) (
         tt,
-        each_then {A = Result Got SpaceError} {B = Outcome Acquire} (GainsATicket request before)
+        each_then {A = Result AskResult SpaceError} {B = Outcome Acquire} (GainsATicket request before)
             (gaining_from (earliest (suffices place request) context.kept) context.who place request.mode)
             (λ end. Give (outcome_got place request context end)) gains_got,
       )

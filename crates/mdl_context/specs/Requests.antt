@@ -10,8 +10,8 @@ use Rattle.mdl_calls.specs.declared.space_error.SpaceError.{SpaceError}
 use Rattle.mdl_calls.specs.declared.space_error.SpaceError.TheVariants.{OutOfMemory}
 use Rattle.mdl_calls.specs.Words.{Answer, At_place, Resolve, Program, Give, Ask, Grow, ◌>>=◌}
 use Rattle.mdl_system.specs.Strength.{covers}
-use Rattle.mdl_context.specs.declared.asking.Got.{Got}
-use Rattle.mdl_context.specs.declared.asking.Got.TheVariants as got
+use Rattle.mdl_context.specs.declared.asking.AskResult.{AskResult}
+use Rattle.mdl_context.specs.declared.asking.AskResult.TheVariants as got
 use Rattle.mdl_context.specs.declared.context_error.ContextError.{ContextError}
 use Rattle.mdl_context.specs.declared.context_error.ContextError.TheVariants.{Waiting, Space}
 use Rattle.mdl_context.specs.declared.kept.Kept.{Kept}
@@ -55,7 +55,7 @@ abbrev pub remembering : KeyName → ℕ → ContextView → ContextView
 remembering key place context = record context { known = context.known ++ (key, place) ∷ [] }
 
 -- the outcome of a request, from what the space answered
-abbrev pub outcome_got : ℕ → Wish → ContextView → Result Got SpaceError → Outcome Acquire
+abbrev pub outcome_got : ℕ → Wish → ContextView → Result AskResult SpaceError → Outcome Acquire
 outcome_got place request context (Ok (got.Granted id)) = (Ok (Acquired id), keeping id place request context)
 outcome_got place request context (Ok (got.Waits number searched)) = (Ok (MustWait number), awaiting place request searched context)
 outcome_got place request context (Err refusal) = (Err (Space refusal), context)

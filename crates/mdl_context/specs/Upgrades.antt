@@ -9,8 +9,8 @@ use Rattle.mdl_calls.specs.SessionLocks.{SessionLocks, upgraded, giving_up}
 use Rattle.mdl_calls.specs.SessionLocks as owned
 use Rattle.mdl_calls.specs.Words.{Answer, Done, Upgraded, Would_wait, ticket_held, Upgrade_now, Merge, Downgrade, Release, Program, Give, Ask, Grow, ◌>>=◌}
 use Rattle.mdl_calls.specs.declared.lock_space.LockSpace.{Ghosts}
-use Rattle.mdl_context.specs.declared.asking.Got.{Got}
-use Rattle.mdl_context.specs.declared.asking.Got.TheVariants as got
+use Rattle.mdl_context.specs.declared.asking.AskResult.{AskResult}
+use Rattle.mdl_context.specs.declared.asking.AskResult.TheVariants as got
 use Rattle.mdl_context.specs.declared.context_error.ContextError.{ContextError}
 use Rattle.mdl_context.specs.declared.context_error.ContextError.TheVariants.{NotHeld, Space}
 use Rattle.mdl_context.specs.declared.kept.Kept.{Kept}
@@ -89,7 +89,7 @@ awaiting_upgrade ticket mode searched context = record context { wait = Some (wa
 
 -- the rest of an upgrade once its second ticket, in the stronger mode, is asked for: if it was granted at once, it is merged
 -- into the first
-abbrev pub second_got : Kept → Mode → ContextView → Result Got SpaceError → Program (Outcome Acquire)
+abbrev pub second_got : Kept → Mode → ContextView → Result AskResult SpaceError → Program (Outcome Acquire)
 second_got ticket mode context (Ok (got.Granted new)) =
     merging context.who ticket.id new >>= (λ end. Give (merged (Acquired ticket.id) ticket.id mode context end))
 second_got ticket mode context (Ok (got.Waits number searched)) = Give (Ok (MustWait number), awaiting_upgrade ticket mode searched context)

@@ -12,7 +12,7 @@ use mdl_space::{Attempt, Begun, Held, LockSpace, Place, SpaceError, TicketId};
 
 /// The result of asking a space for a lock.
 #[derive(Clone, Copy)]
-pub enum Got {
+pub enum AskResult {
     /// The lock is held, by the ticket of this number.
     Granted(TicketId),
     /// The session waits. This is the number of its wait, and whether the searches for deadlocks are over.
@@ -26,7 +26,7 @@ pub(crate) fn gain<S: LockSpace>(
     ticket: Option<Held>,
     place: Place,
     mode: Mode,
-) -> Result<Got, SpaceError>
+) -> Result<AskResult, SpaceError>
     requires speaks { S.speaks_for space.old who }
     requires idle { (S.own space.old who).wait ≡ None }
     requires held { IfSome ticket (λ held. (ticket_held held.id (S.own space.old who) ≡ Some held) × (held.place ≡ place)) }
@@ -37,7 +37,7 @@ pub(crate) fn gain<S: LockSpace>(
 {
     match ticket {
         Some(held) => match space.clone_ticket(who, held.id, mode) {
-            Ok(id) => Ok(Got::Granted(id)),
+            Ok(id) => Ok(AskResult::Granted(id)),
             Err(refusal) => Err(refusal),
         },
         None => ask(space, who, place, mode),
@@ -89,7 +89,12 @@ fn try_ask<S: LockSpace>(
 }
 
 // Asks for a lock, and begins to wait for it if it can't be granted now.
-fn ask<S: LockSpace>(space: &mut S, who: u16, place: Place, mode: Mode) -> Result<Got, SpaceError>
+fn ask<S: LockSpace>(
+    space: &mut S,
+    who: u16,
+    place: Place,
+    mode: Mode,
+) -> Result<AskResult, SpaceError>
     requires speaks { S.speaks_for space.old who }
     requires idle { (S.own space.old who).wait ≡ None }
     ensures run { Runs S.joins space.old (asking_at who place mode) result space.new }
@@ -98,7 +103,7 @@ fn ask<S: LockSpace>(space: &mut S, who: u16, place: Place, mode: Mode) -> Resul
     ensures own { S.own space.new who ≡ own_got place mode result (S.own space.old who) }
 {
     match space.try_now(who, place, mode) {
-        Ok(Attempt::Granted(id)) => Ok(Got::Granted(id)),
+        Ok(Attempt::Granted(id)) => Ok(AskResult::Granted(id)),
         Ok(Attempt::WouldWait) => wait_at(space, who, place, mode),
         Err(refusal) => Err(refusal),
     }
@@ -110,7 +115,7 @@ pub(crate) fn wait_at<S: LockSpace>(
     who: u16,
     place: Place,
     mode: Mode,
-) -> Result<Got, SpaceError>
+) -> Result<AskResult, SpaceError>
     requires speaks { S.speaks_for space.old who }
     requires idle { (S.own space.old who).wait ≡ None }
     ensures run { Runs S.joins space.old (waiting_at who place mode) result space.new }
@@ -119,14 +124,14 @@ pub(crate) fn wait_at<S: LockSpace>(
     ensures own { S.own space.new who ≡ own_got place mode result (S.own space.old who) }
 {
     match space.begin_wait(who, place, mode) {
-        Ok(Begun::Granted(id)) => Ok(Got::Granted(id)),
+        Ok(Begun::Granted(id)) => Ok(AskResult::Granted(id)),
         Ok(Begun::Waiting(number)) => wait_on(space, who, number),
         Err(refusal) => Err(refusal),
     }
 }
 
 // Searches for deadlocks once the session waits. The wait stays, unless a search is refused.
-fn wait_on<S: LockSpace>(space: &mut S, who: u16, number: u64) -> Result<Got, SpaceError>
+fn wait_on<S: LockSpace>(space: &mut S, who: u16, number: u64) -> Result<AskResult, SpaceError>
     requires speaks { S.speaks_for space.old who }
     requires waits { is_waiting (S.own space.old who) ≡ true }
     ensures run { Runs S.joins space.old (waiting_on who number) result space.new }
@@ -135,7 +140,7 @@ fn wait_on<S: LockSpace>(space: &mut S, who: u16, number: u64) -> Result<Got, Sp
     ensures own { OwnWaited number result (S.own space.old who) (S.own space.new who) }
 {
     match seek(space, who) {
-        Ok(searched) => Ok(Got::Waits(number, searched)),
+        Ok(searched) => Ok(AskResult::Waits(number, searched)),
         Err(refusal) => {
             abandon(space, who);
             Err(refusal)

@@ -40,7 +40,7 @@ mod searches;
 mod wish_laws;
 mod wishes;
 
-pub use asking::Got;
+pub use asking::AskResult;
 pub use context::Context;
 pub use context_error::ContextError;
 pub use kept::{Kept, Wanted};

@@ -17,7 +17,7 @@ use Rattle.mdl_script.specs.RunTexts.{is_named, named_sessions}
 use Rattle.mdl_script.specs.Turns.{IsAbout, IsTurn, pass_sent, passes_sent, sent_to}
 use Rattle.mdl_script.specs.declared.on_thread.Answered.{Answered}
 use Rattle.mdl_script.specs.declared.turns.AnswersOf.{AnswersOf}
-use Rattle.mdl_script.specs.declared.turns.Turn.{Turn}
+use Rattle.mdl_script.specs.declared.turns.SessionThread.{SessionThread}
 use Rattle.mdl_script.proofs.TurnLemmas.{HasAll}
 
 -- what holds of all images holds of what they are images of
@@ -44,22 +44,22 @@ sent-one P options lines mine who (Some t) is kept =
     All-cons (λ (pass : Pass). P (pass_number pass)) t.promise.pass.value [] (subst P (sym kept.1) is) (All-nil (λ (pass : Pass). P (pass_number pass)))
 
 -- so what holds of all sessions that have a turn holds of the passes that threads got
-sent-all : (P : ℕ → Type 0) (options : Options) (lines : List Line) (mine : ℕ) (turns : List Turn) → All (IsTurn options lines mine) turns →
-    All (λ (turn : Turn). P turn.who) turns → All (λ (pass : Pass). P (pass_number pass)) (passes_sent turns)
+sent-all : (P : ℕ → Type 0) (options : Options) (lines : List Line) (mine : ℕ) (turns : List SessionThread) → All (IsTurn options lines mine) turns →
+    All (λ (turn : SessionThread). P turn.who) turns → All (λ (pass : Pass). P (pass_number pass)) (passes_sent turns)
 sent-all P options lines mine [] are all = All-nil (λ (pass : Pass). P (pass_number pass))
 sent-all P options lines mine (turn ∷ turns) are all =
     All-append (λ (pass : Pass). P (pass_number pass)) (pass_sent turn) (passes_sent turns)
     (sent-one P options lines mine turn.who turn.thread
-    (All-head (λ (t : Turn). P t.who) turn turns all) (All-head (IsTurn options lines mine) turn turns are))
-    (sent-all P options lines mine turns (All-tail (IsTurn options lines mine) turn turns are) (All-tail (λ (t : Turn). P t.who) turn turns all))
+    (All-head (λ (t : SessionThread). P t.who) turn turns all) (All-head (IsTurn options lines mine) turn turns are))
+    (sent-all P options lines mine turns (All-tail (IsTurn options lines mine) turn turns are) (All-tail (λ (t : SessionThread). P t.who) turn turns all))
 
 -- the script names them
-pub sent-named : (options : Options) (lines : List Line) (mine : ℕ) (turns : List Turn) → All (IsTurn options lines mine) turns →
-    map (λ (turn : Turn). turn.who) turns ≡ named_sessions lines → All (λ (pass : Pass). is_named lines (pass_number pass) ≡ true) (passes_sent turns)
+pub sent-named : (options : Options) (lines : List Line) (mine : ℕ) (turns : List SessionThread) → All (IsTurn options lines mine) turns →
+    map (λ (turn : SessionThread). turn.who) turns ≡ named_sessions lines → All (λ (pass : Pass). is_named lines (pass_number pass) ≡ true) (passes_sent turns)
 unfolding named_sessions
 sent-named options lines mine turns are sessions =
     sent-all (λ who. is_named lines who ≡ true) options lines mine turns are
-    (all-before (λ (turn : Turn). turn.who) (λ who. is_named lines who ≡ true) turns
+    (all-before (λ (turn : SessionThread). turn.who) (λ who. is_named lines who ≡ true) turns
     (subst (All (λ who. is_named lines who ≡ true)) (sym sessions) (filter_passes (is_named lines) (range_with_len 1 64))))
 
 -- ---- all of them

@@ -10,7 +10,7 @@ use Rattle.mdl_syntax.specs.declared.script.Line.{Line}
 use Rattle.atomic_table.specs.Seated.{TableId}
 use Rattle.mdl_shared.specs.declared.pass.Pass.{Pass}
 use Rattle.mdl_shared.specs.Passes.{pass_table}
-use Rattle.mdl_script.specs.declared.turns.Turn.{Turn}
+use Rattle.mdl_script.specs.declared.turns.SessionThread.{SessionThread}
 use Rattle.mdl_script.specs.Answers.{Options}
 use Rattle.mdl_script.specs.RunTexts.{is_named, named_sessions}
 use Rattle.mdl_script.specs.Turns.{IsTurn, has_pass, pass_sent, passes_sent}
@@ -56,8 +56,8 @@ each_named P lines who all is least most = all-passing P (is_named lines) 1 64 w
 -- ---- turns
 
 -- the turns of the sessions below one are started, and the passes of all others are left
-pub record AreStarted (options : Options) (lines : List Line) (mine : ℕ) (table : TableId) (all : List Pass) (who : ℕ) (turns : List Turn) (passes : List Pass) : Type 0 where
-  pub sessions : map (λ (turn : Turn). turn.who) turns ≡ filter (is_named lines) (range_with_len 1 (who - 1))
+pub record AreStarted (options : Options) (lines : List Line) (mine : ℕ) (table : TableId) (all : List Pass) (who : ℕ) (turns : List SessionThread) (passes : List Pass) : Type 0 where
+  pub sessions : map (λ (turn : SessionThread). turn.who) turns ≡ filter (is_named lines) (range_with_len 1 (who - 1))
   pub are_turns : All (IsTurn options lines mine) turns
   pub sent : IsPermutation all (passes_sent turns ++ passes)
   pub theirs : All (λ (pass : Pass). pass_table pass ≡ table) passes
@@ -69,7 +69,7 @@ pub started_none : (options : Options) (lines : List Line) (mine : ℕ) (table :
 started_none options lines mine table all are = record { sessions = refl; are_turns = All-nil _; sent = IsPermutation-refl all; theirs = are; left = λ other above. refl }
 
 -- the passes that turns got, with that of one turn more
-more_sent : (all : List Pass) (turns : List Turn) (passes left : List Pass) (turn : Turn) → IsPermutation all (passes_sent turns ++ passes) →
+more_sent : (all : List Pass) (turns : List SessionThread) (passes left : List Pass) (turn : SessionThread) → IsPermutation all (passes_sent turns ++ passes) →
     IsPermutation passes (pass_sent turn ++ left) → IsPermutation all (passes_sent (turns ++ turn ∷ []) ++ left)
 more_sent all turns passes left turn were is =
     let now = IsPermutation-trans all (passes_sent turns ++ passes) (passes_sent turns ++ (pass_sent turn ++ left)) were
@@ -79,14 +79,14 @@ more_sent all turns passes left turn were is =
     subst (IsPermutation all) same now
 
 -- one more is
-pub started_more : (options : Options) (lines : List Line) (mine : ℕ) (table : TableId) (all : List Pass) (who : ℕ) (turns : List Turn) (passes left : List Pass) (turn : Turn) →
+pub started_more : (options : Options) (lines : List Line) (mine : ℕ) (table : TableId) (all : List Pass) (who : ℕ) (turns : List SessionThread) (passes left : List Pass) (turn : SessionThread) →
     AreStarted options lines mine table all who turns passes → 1 ≤ who → is_named lines who ≡ true →
     turn.who ≡ who → IsTurn options lines mine turn → IsPermutation passes (pass_sent turn ++ left) → All (λ (pass : Pass). pass_table pass ≡ table) left →
     ((other : ℕ) → other ≢ who → has_pass left other ≡ has_pass passes other) →
     AreStarted options lines mine table all (who + 1) (turns ++ turn ∷ []) left
 started_more options lines mine table all who turns passes left turn was least named here is sent are others = record {
   sessions =
-      map-append (λ (t : Turn). t.who) turns (turn ∷ []) ∙ (ap (λ n. map (λ (t : Turn). t.who) turns ++ n ∷ []) here
+      map-append (λ (t : SessionThread). t.who) turns (turn ∷ []) ∙ (ap (λ n. map (λ (t : SessionThread). t.who) turns ++ n ∷ []) here
       ∙ (ap (λ xs. xs ++ who ∷ []) was.sessions
       ∙ (ap (λ xs. filter (is_named lines) (range_with_len 1 (who - 1)) ++ xs) (sym (one-kept (is_named lines) who named))
       ∙ (sym (filter-append (is_named lines) (range_with_len 1 (who - 1)) (who ∷ [])) ∙ ap (filter (is_named lines)) (ranges-so who least)))));
@@ -97,7 +97,7 @@ started_more options lines mine table all who turns passes left turn was least n
 }
 
 -- one that isn't named has no turn
-pub started_past : (options : Options) (lines : List Line) (mine : ℕ) (table : TableId) (all : List Pass) (who : ℕ) (turns : List Turn) (passes : List Pass) →
+pub started_past : (options : Options) (lines : List Line) (mine : ℕ) (table : TableId) (all : List Pass) (who : ℕ) (turns : List SessionThread) (passes : List Pass) →
     AreStarted options lines mine table all who turns passes → 1 ≤ who → is_named lines who ≡ false →
     AreStarted options lines mine table all (who + 1) turns passes
 started_past options lines mine table all who turns passes was least unnamed = record {
@@ -112,14 +112,14 @@ started_past options lines mine table all who turns passes was least unnamed = r
 }
 
 -- all are, in the end
-pub started_all : (options : Options) (lines : List Line) (mine : ℕ) (table : TableId) (all : List Pass) (who : ℕ) (turns : List Turn) (passes : List Pass) →
-    AreStarted options lines mine table all who turns passes → 65 ≤ who → who ≤ 65 → map (λ (turn : Turn). turn.who) turns ≡ named_sessions lines
+pub started_all : (options : Options) (lines : List Line) (mine : ℕ) (table : TableId) (all : List Pass) (who : ℕ) (turns : List SessionThread) (passes : List Pass) →
+    AreStarted options lines mine table all who turns passes → 65 ≤ who → who ≤ 65 → map (λ (turn : SessionThread). turn.who) turns ≡ named_sessions lines
 unfolding named_sessions
 started_all options lines mine table all who turns passes was least most =
     let count : who - 1 ≡ 64 = omega (arith, least, most) in was.sessions ∙ ap (λ n. filter (is_named lines) (range_with_len 1 n)) count
 
 -- the same of what is the same
-pub started_as : (options : Options) (lines : List Line) (mine : ℕ) (table : TableId) (all : List Pass) (who : ℕ) (turns later : List Turn) (passes left : List Pass) →
+pub started_as : (options : Options) (lines : List Line) (mine : ℕ) (table : TableId) (all : List Pass) (who : ℕ) (turns later : List SessionThread) (passes left : List Pass) →
     AreStarted options lines mine table all who turns passes → later ≡ turns → left ≡ passes → AreStarted options lines mine table all who later left
 started_as options lines mine table all who turns later passes left was same alike =
     subst (λ xs. AreStarted options lines mine table all who xs left) (sym same)

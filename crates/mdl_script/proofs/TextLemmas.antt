@@ -16,15 +16,15 @@ use Rattle.mdl_script.specs.Finals.{AreInKeyOrder, finals_text}
 use Rattle.mdl_script.specs.Runs.{ComeBack, MakesFirst, IsRunBetween, IsRunFrom}
 use Rattle.mdl_script.specs.RunTexts.{named_sessions, transcripts_text}
 use Rattle.mdl_script.specs.Turns.{GainsAnswers, passes_sent}
-use Rattle.mdl_script.specs.declared.turns.Turn.{Turn}
+use Rattle.mdl_script.specs.declared.turns.SessionThread.{SessionThread}
 use Rattle.mdl_script.proofs.BackLemmas.{asker-back, given-back, sent-given}
 use Rattle.mdl_script.proofs.TurnLemmas.{HasAll, all_among_more}
 
 -- a text that gained the answers of all that the script names, and then the lines of the books that the asker found behind its turn, tells of a run
-pub run-between : (who : ℕ) (options : Options) (lines : List Line) (given left back : List Pass) (turns : List Turn) (before made worked after : SessionView) (own : List (ℕ × Reply))
+pub run-between : (who : ℕ) (options : Options) (lines : List Line) (given left back : List Pass) (turns : List SessionThread) (before made worked after : SessionView) (own : List (ℕ × Reply))
     (start mid text : List ℕ) (books sorted : List Audited) → who ≡ before.me.0.number →
     MakesFirst options who before made → AreAnswers options lines who made own worked →
-    start ≡ [] → map (λ (turn : Turn). turn.who) turns ≡ named_sessions lines → GainsAnswers options lines who own turns start mid left back →
+    start ≡ [] → map (λ (turn : SessionThread). turn.who) turns ≡ named_sessions lines → GainsAnswers options lines who own turns start mid left back →
     IsPermutation given (passes_sent turns ++ left) →
     AreOfOneAudit books worked after → AreInKeyOrder books sorted → text ≡ mid ++ finals_text sorted → IsRunBetween options lines given back before after text
 run-between who options lines given left back turns before made worked after own start mid text books sorted is_who first turn empty named gains same audited ordered is =

@@ -18,7 +18,7 @@ use Rattle.mdl_rows.specs.declared.reply.Reply.{Reply}
 use Rattle.mdl_script.specs.Answers.{AreAnswers, IsTranscript, Options}
 use Rattle.mdl_script.specs.RunTexts.{answers_text, transcripts_text}
 use Rattle.mdl_script.specs.Turns.{GainsAnswers, has_pass, pass_sent, passes_sent, sent_to}
-use Rattle.mdl_script.specs.declared.turns.Turn.{Turn}
+use Rattle.mdl_script.specs.declared.turns.SessionThread.{SessionThread}
 
 -- ---- transcripts
 
@@ -68,7 +68,7 @@ gains_none options lines mine own text passes = record {
 }
 
 -- of the asker its own answers are
-pub gains_own : (options : Options) (lines : List Line) (mine : ℕ) (own : List (ℕ × Reply)) (turn : Turn) (before after : List ℕ) (passes : List Pass) →
+pub gains_own : (options : Options) (lines : List Line) (mine : ℕ) (own : List (ℕ × Reply)) (turn : SessionThread) (before after : List ℕ) (passes : List Pass) →
     turn.thread ≡ None → turn.who ≡ mine → after ≡ before ++ answers_text turn.who own →
     GainsAnswers options lines mine own (turn ∷ []) before after passes passes
 gains_own options lines mine own turn before after passes alone is grown =
@@ -85,7 +85,7 @@ gains_own options lines mine own turn before after passes alone is grown =
     }
 
 -- of one that has a thread, those that the thread returned with the pass
-pub gains_one : (options : Options) (lines : List Line) (mine : ℕ) (own answers : List (ℕ × Reply)) (turn : Turn) (opened closed : Pass) (before after : List ℕ) (old new : List Pass) →
+pub gains_one : (options : Options) (lines : List Line) (mine : ℕ) (own answers : List (ℕ × Reply)) (turn : SessionThread) (opened closed : Pass) (before after : List ℕ) (old new : List Pass) →
     pass_sent turn ≡ opened ∷ [] → turn.who ≢ mine → pass_number opened ≡ turn.who →
     pass_number closed ≡ pass_number opened → pass_table closed ≡ pass_table opened →
     AreAnswers options lines (pass_number opened) (pass_view opened) answers (pass_view closed) →
@@ -115,7 +115,7 @@ gains_one options lines mine own answers turn opened closed before after old new
     }
 
 -- what some turns gained, and then what others did
-pub gains_more : (options : Options) (lines : List Line) (mine : ℕ) (own : List (ℕ × Reply)) (some others : List Turn) (before mid after : List ℕ) (old passes new : List Pass) →
+pub gains_more : (options : Options) (lines : List Line) (mine : ℕ) (own : List (ℕ × Reply)) (some others : List SessionThread) (before mid after : List ℕ) (old passes new : List Pass) →
     GainsAnswers options lines mine own some before mid old passes → GainsAnswers options lines mine own others mid after passes new →
     GainsAnswers options lines mine own (some ++ others) before after old new
 gains_more options lines mine own some others before mid after old passes new first then =
@@ -123,7 +123,7 @@ gains_more options lines mine own some others before mid after old passes new fi
     let sessions = λ (transcript : ℕ × List (ℕ × Reply)). transcript.0 in
     let texts = λ (transcript : ℕ × List (ℕ × Reply)). answers_text transcript.0 transcript.1 in
     let number = λ (pass : Pass). pass_number pass in let table = λ (pass : Pass). pass_table pass in
-    let who = λ (turn : Turn). turn.who in
+    let who = λ (turn : SessionThread). turn.who in
     let a = passes_sent some in let b = passes_sent others in
     let sent : passes_sent (some ++ others) ≡ a ++ b = flat_map-append pass_sent some others in
     let ab : All (IsTranscript options lines (a ++ b) (first.closed ++ then.closed) mine own) (one ++ two) =
@@ -179,7 +179,7 @@ place_some passes who place found at is =
 -- ---- turns
 
 -- a turn more, of those that are left
-pub one_turn : (options : Options) (lines : List Line) (mine : ℕ) (own : List (ℕ × Reply)) (IsOne : Turn → Type 0) (turn : Turn) (left rest all : List Turn)
+pub one_turn : (options : Options) (lines : List Line) (mine : ℕ) (own : List (ℕ × Reply)) (IsOne : SessionThread → Type 0) (turn : SessionThread) (left rest all : List SessionThread)
     (first mid next : List ℕ) (old passes more : List Pass) → left ≡ turn ∷ rest →
     All IsOne left × ((end : List ℕ) (back : List Pass) → GainsAnswers options lines mine own left mid end passes back → GainsAnswers options lines mine own all first end old back) →
     GainsAnswers options lines mine own (turn ∷ []) mid next passes more →
@@ -191,7 +191,7 @@ one_turn options lines mine own IsOne turn left rest all first mid next old pass
 )
 
 -- no turn is left
-pub no_turn : (options : Options) (lines : List Line) (mine : ℕ) (own : List (ℕ × Reply)) (left all : List Turn) (first last : List ℕ) (old passes : List Pass) → length left ≡ 0 →
+pub no_turn : (options : Options) (lines : List Line) (mine : ℕ) (own : List (ℕ × Reply)) (left all : List SessionThread) (first last : List ℕ) (old passes : List Pass) → length left ≡ 0 →
     ((end : List ℕ) (back : List Pass) → GainsAnswers options lines mine own left last end passes back → GainsAnswers options lines mine own all first end old back) →
     GainsAnswers options lines mine own all first last old passes
 no_turn options lines mine own left all first last old passes none was =
@@ -199,7 +199,7 @@ no_turn options lines mine own left all first last old passes none was =
     (gains_none options lines mine own last passes))
 
 -- a text to which the answers of the asker were pushed, if there was memory for it, has gained them
-pub pushed_own : (options : Options) (lines : List Line) (mine : ℕ) (own pushed : List (ℕ × Reply)) (turn : Turn) (before after : List ℕ) (passes : List Pass) (result : Result (Unit {0}) AllocError) →
+pub pushed_own : (options : Options) (lines : List Line) (mine : ℕ) (own pushed : List (ℕ × Reply)) (turn : SessionThread) (before after : List ℕ) (passes : List Pass) (result : Result (Unit {0}) AllocError) →
     turn.thread ≡ None → turn.who ≡ mine → pushed ≡ own → OnOk result (after ≡ before ++ answers_text turn.who pushed) →
     OnOk result (GainsAnswers options lines mine own (turn ∷ []) before after passes passes)
 pushed_own options lines mine own pushed turn before after passes (Ok done) alone is same grown =
@@ -207,7 +207,7 @@ pushed_own options lines mine own pushed turn before after passes (Ok done) alon
 pushed_own options lines mine own pushed turn before after passes (Err why) alone is same grown = tt
 
 -- so has one to which those that a thread returned were pushed
-pub pushed_one : (options : Options) (lines : List Line) (mine : ℕ) (own answers pushed : List (ℕ × Reply)) (turn : Turn) (opened closed : Pass) (before after : List ℕ) (old new : List Pass)
+pub pushed_one : (options : Options) (lines : List Line) (mine : ℕ) (own answers pushed : List (ℕ × Reply)) (turn : SessionThread) (opened closed : Pass) (before after : List ℕ) (old new : List Pass)
     (result : Result (Unit {0}) AllocError) → pass_sent turn ≡ opened ∷ [] → turn.who ≢ mine → pass_number opened ≡ turn.who →
     pass_number closed ≡ pass_number opened → pass_table closed ≡ pass_table opened →
     AreAnswers options lines (pass_number opened) (pass_view opened) answers (pass_view closed) →

@@ -8,7 +8,7 @@ use Rattle.mdl_shared.specs.Passes.{pass_number, pass_table, pass_view}
 use Rattle.mdl_rows.specs.declared.reply.Reply.{Reply}
 use Rattle.mdl_script.specs.declared.on_thread.Answered.{Answered}
 use Rattle.mdl_script.specs.declared.turns.AnswersOf.{AnswersOf}
-use Rattle.mdl_script.specs.declared.turns.Turn.{Turn}
+use Rattle.mdl_script.specs.declared.turns.SessionThread.{SessionThread}
 use Rattle.mdl_script.specs.Answers.{AreAnswers, IsTranscript, Options, options_of}
 use Rattle.mdl_script.specs.RunTexts.{transcripts_text}
 
@@ -28,7 +28,7 @@ abbrev pub IsAbout : Options → List Line → AnswersOf → Type 0
 IsAbout options lines promise = (promise.script.now ≡ lines) × (options_of promise.patience promise.cache ≡ options)
 
 -- the session is the one that runs in the caller's thread, or a thread got its pass, and keeps a promise about its answers
-abbrev pub IsTurn : Options → List Line → ℕ → Turn → Type 0
+abbrev pub IsTurn : Options → List Line → ℕ → SessionThread → Type 0
 IsTurn options lines mine turn = MatchOption turn.thread (turn.who ≡ mine)
     (λ thread. (turn.who ≢ mine) × (pass_number thread.promise.pass.value ≡ turn.who) × IsAbout options lines thread.promise)
 
@@ -38,20 +38,20 @@ sent_to None = []
 sent_to (Some thread) = thread.promise.pass.value ∷ []
 
 -- the pass that a turn's thread got
-abbrev pub pass_sent : Turn → List Pass
+abbrev pub pass_sent : SessionThread → List Pass
 pass_sent turn = sent_to turn.thread
 
 -- the passes that the threads of turns got
-abbrev pub passes_sent : List Turn → List Pass
+abbrev pub passes_sent : List SessionThread → List Pass
 passes_sent = flat_map pass_sent
 
 -- what turns added to a text and to a list of passes: the answers of their sessions, session by session, and what came back of the passes that threads got
-pub record GainsAnswers (options : Options) (lines : List Line) (mine : ℕ) (own : List (ℕ × Reply)) (turns : List Turn) (before after : List ℕ) (old new : List Pass) : Type 0 where
+pub record GainsAnswers (options : Options) (lines : List Line) (mine : ℕ) (own : List (ℕ × Reply)) (turns : List SessionThread) (before after : List ℕ) (old new : List Pass) : Type 0 where
   pub closed : List Pass
   pub passes : new ≡ old ++ closed
   pub numbers : map pass_number closed ≡ map pass_number (passes_sent turns)
   pub tables : map pass_table closed ≡ map pass_table (passes_sent turns)
   pub transcripts : List (ℕ × List (ℕ × Reply))
-  pub sessions_are : map (λ (transcript : ℕ × List (ℕ × Reply)). transcript.0) transcripts ≡ map (λ (turn : Turn). turn.who) turns
+  pub sessions_are : map (λ (transcript : ℕ × List (ℕ × Reply)). transcript.0) transcripts ≡ map (λ (turn : SessionThread). turn.who) turns
   pub answered : All (IsTranscript options lines (passes_sent turns) closed mine own) transcripts
   pub gained : after ≡ before ++ transcripts_text transcripts

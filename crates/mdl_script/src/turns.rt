@@ -10,7 +10,7 @@ ghost use Rattle.mdl_script.specs.Runs.{HasMadeFirst};
 ghost use Rattle.mdl_script.specs.Turns.{CameBack, GainsAnswers, IsAbout, IsTurn, has_pass, pass_sent, passes_sent};
 
 use crate::on_thread::{Answered, work_pass};
-use crate::run::{Run, is_named};
+use crate::run::{ThreadedRun, is_named};
 use crate::told::push_answers;
 use mdl_key::MOST_SESSIONS;
 use mdl_shared::{Pass, Session};
@@ -38,7 +38,7 @@ impl<'s> Promise<Answered> for AnswersOf<'s> {
 
 /// A session, with its thread. There is none if it runs in the thread that started the others.
 #[derive(Drop)]
-pub(crate) struct Turn<'s> {
+pub(crate) struct SessionThread<'s> {
     pub(crate) who: u16,
     pub(crate) thread: Option<PromisedHandle<Answered, AnswersOf<'s>>>,
 }
@@ -74,7 +74,7 @@ fn place_of(passes: &[Pass], who: u16) -> Option<usize>
 /// Starts the session of a pass on a thread of its own.
 fn start_thread<'s, E, R: Threads + Wait + Sync, G: Gate + Sync>(
     scope: &Scope<'s, E>,
-    run: &Run<'s, R, G>,
+    run: &ThreadedRun<'s, R, G>,
     pass: Pass,
 ) -> Result<PromisedHandle<Answered, AnswersOf<'s>>, AllocError>
     requires theirs { pass_table pass ≡ table_of run.now.manager.now }
@@ -100,11 +100,11 @@ fn start_thread<'s, E, R: Threads + Wait + Sync, G: Gate + Sync>(
 /// Starts the turn of a session, on a thread unless the session is `mine`.
 fn start_turn<'s, E, R: Threads + Wait + Sync, G: Gate + Sync>(
     scope: &Scope<'s, E>,
-    run: &Run<'s, R, G>,
+    run: &ThreadedRun<'s, R, G>,
     passes: &mut Vec<Pass>,
     mine: u16,
     who: u16,
-) -> Result<Turn<'s>, AllocError>
+) -> Result<SessionThread<'s>, AllocError>
     requires theirs { All (λ pass. pass_table pass ≡ table_of run.now.manager.now) passes.old.items }
     requires capacity { IsCapacity run.now.cache }
     requires there { who ≢ mine → has_pass passes.old.items who ≡ true }
@@ -115,11 +115,11 @@ fn start_turn<'s, E, R: Threads + Wait + Sync, G: Gate + Sync>(
     ensures others { (other : ℕ) → other ≢ who → has_pass passes.new.items other ≡ has_pass passes.old.items other }
 {
     if who == mine {
-        return Ok(Turn { who, thread: None });
+        return Ok(SessionThread { who, thread: None });
     }
     let pass = take(passes, who);
     let thread = start_thread(scope, run, pass)?;
-    Ok(Turn {
+    Ok(SessionThread {
         who,
         thread: Some(thread),
     })
@@ -128,11 +128,11 @@ fn start_turn<'s, E, R: Threads + Wait + Sync, G: Gate + Sync>(
 /// Starts the turns of all sessions that the script names, except that `mine` runs in this thread. The asker has made the first schema.
 pub(crate) fn start_all<'s, E, R: Threads + Wait + Sync, G: Gate + Sync>(
     scope: &Scope<'s, E>,
-    run: &Run<'s, R, G>,
+    run: &ThreadedRun<'s, R, G>,
     passes: &mut Vec<Pass>,
     mine: u16,
     asker: &Session<&R>,
-) -> Result<Vec<Turn<'s>>, AllocError>
+) -> Result<Vec<SessionThread<'s>>, AllocError>
     requires theirs { All (λ pass. pass_table pass ≡ table_of run.now.manager.now) passes.old.items }
     requires capacity { IsCapacity run.now.cache }
     requires there { All (λ who. who ≢ mine → has_pass passes.old.items who ≡ true) (named_sessions run.now.script.now) }
@@ -163,14 +163,14 @@ pub(crate) struct Transcript {
 fn push_turn<R: Threads, G>(
     out: &mut String,
     passes: &mut Vec<Pass>,
-    run: &Run<R, G>,
-    turn: Turn<'_>,
+    run: &ThreadedRun<R, G>,
+    turn: SessionThread<'_>,
     own: &Transcript,
 ) -> Result<(), AllocError>
     requires { IsTurn (options_of run.now.patience run.now.cache) run.now.script.now own.now.who turn }
     ensures { OnOk result (GainsAnswers (options_of run.now.patience run.now.cache) run.now.script.now own.now.who own.now.answers.items (turn.entry ∷ []) (string_bytes out.old) (string_bytes out.new) passes.old.items passes.new.items) }
 {
-    let Turn { who, thread } = turn;
+    let SessionThread { who, thread } = turn;
     match thread {
         Some(thread) => {
             let Answered { pass, answers } = thread.join(run.rt);
@@ -185,8 +185,8 @@ fn push_turn<R: Threads, G>(
 pub(crate) fn push_turns<R: Threads, G>(
     out: &mut String,
     passes: &mut Vec<Pass>,
-    run: &Run<R, G>,
-    turns: Vec<Turn<'_>>,
+    run: &ThreadedRun<R, G>,
+    turns: Vec<SessionThread<'_>>,
     own: &Transcript,
 ) -> Result<(), AllocError>
     requires { All (IsTurn (options_of run.now.patience run.now.cache) run.now.script.now own.now.who) turns.items }

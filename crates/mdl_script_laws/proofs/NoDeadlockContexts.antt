@@ -12,8 +12,8 @@ use Rattle.mdl_core.specs.CoreJoins.{Joins}
 use Rattle.mdl_core.specs.Cores.{Core}
 use Rattle.mdl_core.specs.RunLaws.{IsMadeFor}
 use Rattle.mdl_core.proofs.CallDeadlocks.{waiting-leaves}
-use Rattle.mdl_context.specs.declared.asking.Got.{Got}
-use Rattle.mdl_context.specs.declared.asking.Got.TheVariants as got
+use Rattle.mdl_context.specs.declared.asking.AskResult.{AskResult}
+use Rattle.mdl_context.specs.declared.asking.AskResult.TheVariants as got
 use Rattle.mdl_context.specs.declared.context_error.ContextError.{ContextError}
 use Rattle.mdl_context.specs.declared.context_error.ContextError.TheVariants.{Waiting, Space}
 use Rattle.mdl_context.specs.declared.kept.Kept.{Kept}
@@ -165,7 +165,7 @@ calm-merged who new answer =
 calm-merging : (who id new : ℕ) → LeavesCalm who (upgrades.merging who id new)
 calm-merging who id new = calm-ask who (Merge who id new) (upgrades.merge_answered who new) (refl, refl) (λ answer session. refl) (calm-merged who new)
 
-calm-second : (ticket : Kept) (mode : Mode) (context : ContextView) (end : Result Got SpaceError)
+calm-second : (ticket : Kept) (mode : Mode) (context : ContextView) (end : Result AskResult SpaceError)
     → LeavesCalm context.who (upgrades.second_got ticket mode context end)
 calm-second ticket mode context (Ok (got.Granted new)) =
     calm-bind context.who (upgrades.merging context.who ticket.id new) (λ end. Give (upgrades.merged (Acquired ticket.id) ticket.id mode context end))

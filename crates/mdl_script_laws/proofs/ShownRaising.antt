@@ -13,8 +13,8 @@ use Rattle.mdl_core.specs.CoreJoins.{Joins, Knows, SpeaksFor, own_at}
 use Rattle.mdl_core.specs.Cores.{Core}
 use Rattle.mdl_core.proofs.CallLaws.{core-changes, core-keeps, core-remembers}
 use Rattle.mdl_core.proofs.CoreSound.{calls_keep-sound}
-use Rattle.mdl_context.specs.declared.asking.Got.{Got}
-use Rattle.mdl_context.specs.declared.asking.Got.TheVariants as got
+use Rattle.mdl_context.specs.declared.asking.AskResult.{AskResult}
+use Rattle.mdl_context.specs.declared.asking.AskResult.TheVariants as got
 use Rattle.mdl_context.specs.declared.context_error.ContextError.TheVariants.{NotHeld, Space, Waiting}
 use Rattle.mdl_context.specs.declared.kept.Kept.{Kept}
 use Rattle.mdl_context.specs.declared.kept.Wanted.{Wanted}
@@ -232,7 +232,7 @@ Raised before (Ok (acquire.Acquired id), after) b = Fits b after × (after.who �
 Raised before (Err error, after) b = Fits b after × (after.who ≡ before.who)
 
 -- a second ticket was asked for at a place: it is had, it is waited for there, or refused
-abbrev GotAt : Core → ℕ → ℕ → Result Got SpaceError → Core → Type 0
+abbrev GotAt : Core → ℕ → ℕ → Result AskResult SpaceError → Core → Type 0
 GotAt a who place (Ok (got.Granted id)) b = IsGained a who id place b
 GotAt a who place (Ok (got.Waits number searched)) b = Spares who none a b × ((w : Wait) → (own_at b who).wait ≡ Some w → w.place ≡ place)
 GotAt a who place (Err refusal) b = Spares who none a b
@@ -265,7 +265,7 @@ module _ (ticket : Kept) (mode : Mode) (context : ContextView) (idle : context.w
   raised-by b (Ok done) fits = (fits-mode ticket.id (λ _. mode) b context fits, refl)
   raised-by b (Err refusal) fits = (fits, refl)
 
-  raised-second : (a b : Core) (end : Result Got SpaceError) → Fits a context → GotAt a context.who ticket.place end b
+  raised-second : (a b : Core) (end : Result AskResult SpaceError) → Fits a context → GotAt a context.who ticket.place end b
       → Leads (Raised context) (upgrades.second_got ticket mode context end) b
   raised-second a b (Ok (got.Granted new)) fits gained =
       leads-bind (λ end c. Fits c context) (Raised context) (upgrades.merging context.who ticket.id new)

@@ -8,8 +8,8 @@ use Rattle.mdl_calls.specs.declared.space_error.SpaceError.TheVariants.{NoWait}
 use Rattle.mdl_calls.specs.Words.{Answer, At_place, Done, Granted, Upgraded, Would_wait, Waits, Pending, Is_settled, Lost, Call, Change_definition, Release, Upgrade_now, Downgrade, Settle_timeout, Program, Give, Ask, ◌>>◌, EachCall, SearchEnd, Over, Cut_off, Failed, seeking, most_searches}
 use Rattle.mdl_calls.proofs.FaithfulLemmas.{either, calls_bind}
 use Rattle.mdl_calls.proofs.SeekingLemmas.{calls_seeking}
-use Rattle.mdl_context.specs.declared.asking.Got.{Got}
-use Rattle.mdl_context.specs.declared.asking.Got.TheVariants as got
+use Rattle.mdl_context.specs.declared.asking.AskResult.{AskResult}
+use Rattle.mdl_context.specs.declared.asking.AskResult.TheVariants as got
 use Rattle.mdl_context.specs.declared.context_error.ContextError.{ContextError}
 use Rattle.mdl_context.specs.declared.context_error.ContextError.TheVariants.{Waiting, Space}
 use Rattle.mdl_context.specs.declared.kept.Kept.{Kept}
@@ -60,12 +60,12 @@ still-copy who _ = tt
 still-wish_sought : (who number : ℕ) (end : SearchEnd) → AreStill (gains.wish_sought who number end)
 still-wish_sought who number Over = tt
 still-wish_sought who number Cut_off = tt
-still-wish_sought who number (Failed refusal) = still-abandoning {A = Result Got SpaceError} who (Err refusal)
+still-wish_sought who number (Failed refusal) = still-abandoning {A = Result AskResult SpaceError} who (Err refusal)
 
 still-wish : (who : ℕ) (answer : Answer) → AreStill (gains.wish_answered who answer)
 still-wish who (Granted id) = tt
 still-wish who (Waits number) =
-    calls_bind {A = SearchEnd} {B = Result Got SpaceError} IsStill (seeking most_searches who) (gains.wish_sought who number)
+    calls_bind {A = SearchEnd} {B = Result AskResult SpaceError} IsStill (seeking most_searches who) (gains.wish_sought who number)
     (still-seeking most_searches who) (still-wish_sought who number)
 still-wish who _ = tt
 
@@ -83,7 +83,7 @@ still-reusing (Some ticket) place request context = tt
 still-reusing None place request context =
     let serving = earliest (requests.suffices place request) context.kept in (
       tt,
-      calls_bind {A = Result Got SpaceError} {B = Outcome Acquire} IsStill (gains.gaining_from serving context.who place request.mode)
+      calls_bind {A = Result AskResult SpaceError} {B = Outcome Acquire} IsStill (gains.gaining_from serving context.who place request.mode)
           (λ end. Give (requests.outcome_got place request context end)) (still-gaining serving context.who place request.mode) (λ _. tt),
     )
 
@@ -228,7 +228,7 @@ still-releasing id context =
 still-waiting_at : (who place : ℕ) (mode : Mode) → AreStill (gains.waiting_at who place mode)
 still-waiting_at who place mode = (tt, still-wish who)
 
-still-second : (ticket : Kept) (mode : Mode) (context : ContextView) (end : Result Got SpaceError) → AreStill (upgrades.second_got ticket mode context end)
+still-second : (ticket : Kept) (mode : Mode) (context : ContextView) (end : Result AskResult SpaceError) → AreStill (upgrades.second_got ticket mode context end)
 still-second ticket mode context (Ok (got.Granted new)) =
     calls_bind {A = Result (Unit {0}) SpaceError} {B = Outcome Acquire} IsStill (upgrades.merging context.who ticket.id new)
     (λ end. Give (upgrades.merged (Acquired ticket.id) ticket.id mode context end)) (still-merging context.who ticket.id new) (λ _. tt)
@@ -238,7 +238,7 @@ still-second ticket mode context (Err refusal) = tt
 pub still-to_upgrade : (ticket : Kept) (mode : Mode) (context : ContextView) → AreStill (upgrades.waiting_to_upgrade ticket mode context)
 still-to_upgrade ticket mode context = (
   tt,
-  calls_bind {A = Result Got SpaceError} {B = Outcome Acquire} IsStill (gains.waiting_at context.who ticket.place mode)
+  calls_bind {A = Result AskResult SpaceError} {B = Outcome Acquire} IsStill (gains.waiting_at context.who ticket.place mode)
       (upgrades.second_got ticket mode context) (still-waiting_at context.who ticket.place mode) (still-second ticket mode context),
 )
 

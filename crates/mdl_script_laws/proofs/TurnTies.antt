@@ -7,8 +7,8 @@ use Rattle.mdl_key.specs.declared.mode.Mode.{Mode}
 use Rattle.mdl_calls.specs.declared.answers.Held.{Held}
 use Rattle.mdl_calls.specs.declared.space_error.SpaceError.{SpaceError}
 use Rattle.mdl_calls.specs.Words.{Answer, At_place, Changed, Done, Granted, Has_wait, Reads, Refused, Upgraded, Victim_is, Waits, Would_wait, Begin_wait, Downgrade, Release, Search, Upgrade_now, Program, Give, Ask, ◌>>=◌, SearchEnd, Over, Cut_off, Failed, after_search, seeking, most_searches, Tables, Key_is}
-use Rattle.mdl_context.specs.declared.asking.Got.{Got}
-use Rattle.mdl_context.specs.declared.asking.Got.TheVariants as got
+use Rattle.mdl_context.specs.declared.asking.AskResult.{AskResult}
+use Rattle.mdl_context.specs.declared.asking.AskResult.TheVariants as got
 use Rattle.mdl_context.specs.declared.context_error.ContextError.{ContextError}
 use Rattle.mdl_context.specs.declared.context_error.ContextError.TheVariants.{Waiting}
 use Rattle.mdl_context.specs.declared.kept.Kept.{Kept}
@@ -225,7 +225,7 @@ stays-trying wish context waits =
 -- ---- other modes
 
 -- what a space was asked for is had or refused, or there is a wait
-abbrev IsGotTied : Result Got SpaceError → Bool → Type 0
+abbrev IsGotTied : Result AskResult SpaceError → Bool → Type 0
 IsGotTied (Ok (got.Waits number searched)) waits = waits ≡ true
 IsGotTied _ waits = waits ≡ false
 
@@ -251,7 +251,7 @@ tied-merged : (id : ℕ) (mode : Mode) (context : ContextView) (end : Result (Un
 tied-merged id mode context (Ok done) waits none = none
 tied-merged id mode context (Err refusal) waits none = none
 
-tied-second : (ticket : Kept) (mode : Mode) (context : ContextView) (end : Result Got SpaceError) (waits : Bool) → IsGotTied end waits
+tied-second : (ticket : Kept) (mode : Mode) (context : ContextView) (end : Result AskResult SpaceError) (waits : Bool) → IsGotTied end waits
     → Tracks IsAskedTied (upgrades.second_got ticket mode context end) waits
 tied-second ticket mode context (Ok (got.Granted new)) waits none =
     tracks-then {A = Result (Unit {0}) SpaceError} {B = Outcome Acquire} (Stays waits) IsAskedTied (upgrades.merging context.who ticket.id new)
@@ -264,7 +264,7 @@ tied-upgraded : (ticket : Kept) (mode : Mode) (context : ContextView) (answer : 
     → Tracks IsAskedTied (upgrades.upgrade_answered ticket mode context answer) false
 tied-upgraded ticket mode context Upgraded = refl
 tied-upgraded ticket mode context Would_wait =
-    tracks-then {A = Result Got SpaceError} {B = Outcome Acquire} IsGotTied IsAskedTied (gains.waiting_at context.who ticket.place mode)
+    tracks-then {A = Result AskResult SpaceError} {B = Outcome Acquire} IsGotTied IsAskedTied (gains.waiting_at context.who ticket.place mode)
     (upgrades.second_got ticket mode context) false (λ answer is. got-wished context.who ticket.place mode answer) (tied-second ticket mode context)
 tied-upgraded ticket mode context _ = refl
 

@@ -21,7 +21,7 @@ use crate::member::Member;
 use crate::wishes::refusal;
 use mdl_calls::{Attempt, Place, SpaceError};
 use mdl_key::{Kind, Mode};
-use mdl_visits::{Tried, try_now};
+use mdl_visits::{TryOutcome, try_now};
 use std::sync::Wait;
 
 impl<R: Wait> Session<R> {
@@ -60,8 +60,8 @@ impl Member {
     {
         let number = self.next;
         match try_now(rt, &mut self.seat, place, kind, number, mode) {
-            Ok(Tried::Granted) => {}
-            Ok(Tried::Blocked) => return Ok(Attempt::WouldWait),
+            Ok(TryOutcome::Granted) => {}
+            Ok(TryOutcome::Blocked) => return Ok(Attempt::WouldWait),
             Err(cause) => return Err(refusal(cause)),
         }
         self.tickets.push_reserved(number, place, mode);

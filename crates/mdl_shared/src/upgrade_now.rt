@@ -26,7 +26,7 @@ use mdl_calls::{SpaceError, TicketId, Upgrade};
 use mdl_key::Mode;
 use mdl_steps::Own;
 use mdl_system::{covers, may_upgrade};
-use mdl_visits::{Tried, upgrade_now};
+use mdl_visits::{TryOutcome, upgrade_now};
 use std::sync::Wait;
 
 impl<R: Wait> Session<R> {
@@ -80,8 +80,8 @@ impl Member {
         ensures room { KeepsRoom 0 self.old.tickets.room self.new.tickets.room }
     {
         match upgrade_now(rt, &mut self.seat, held.place, held.number, mode) {
-            Tried::Granted => {}
-            Tried::Blocked => return Upgrade::WouldWait,
+            TryOutcome::Granted => {}
+            TryOutcome::Blocked => return Upgrade::WouldWait,
         }
         self.tickets.set_mode(held.place, held.number, mode);
         Upgrade::Upgraded

@@ -12,7 +12,7 @@ use Rattle.mdl_context.specs.Waits.{resuming}
 use Rattle.mdl_rows.specs.declared.ending.Ending.{Ending}
 use Rattle.mdl_stmt.specs.declared.got.Played.{Played}
 use Rattle.mdl_stmt.specs.declared.got.Played.TheVariants as played
-use Rattle.mdl_stmt.specs.declared.keeping.Turn.{Turn}
+use Rattle.mdl_stmt.specs.declared.keeping.StartedStatement.{StartedStatement}
 use Rattle.mdl_stmt.specs.declared.kept_stage.KeptWork.{KeptWork}
 use Rattle.mdl_stmt.specs.declared.progress.Progress.{Progress}
 use Rattle.mdl_stmt.specs.declared.progress.Progress.TheVariants.{Waiting, Pending, Done}
@@ -45,7 +45,7 @@ module _ {S : Type 0} (joins : S → Call → Answer → S → Type 0) where
   keeps-none (Err error) player a = (refl, refl)
 
   -- it ended
-  pub ended-kept : (program : Program Pause) (turn : Turn) (after : PlayerView) (a b : S) → turn.work ≡ None →
+  pub ended-kept : (program : Program Pause) (turn : StartedStatement) (after : PlayerView) (a b : S) → turn.work ≡ None →
       Runs joins a program (ran turn.progress (at_rest after)) b → Runs joins a (program >>= keeping) (ran turn.progress (session_with after turn.work)) b
   ended-kept program turn after a b none run =
       subst (λ (w : Option KeptWork). Runs joins a (program >>= keeping) (ran turn.progress (session_with after w)) b) (sym none)
@@ -53,7 +53,7 @@ module _ {S : Type 0} (joins : S → Call → Answer → S → Type 0) where
 
 module _ {S : Type 0} (members : Ghosts S) where
   -- a row was played, and then its statement was ended, or what is left of it was copied
-  pub settled-so : (row : Row Reply) (mark : Mark) (before middle after : PlayerView) (how : Played) (turn : Turn) (a b c : S) →
+  pub settled-so : (row : Row Reply) (mark : Mark) (before middle after : PlayerView) (how : Played) (turn : StartedStatement) (a b c : S) →
       IsPlayed members row a before how b middle → IsSettled members how mark b middle turn c after →
       Runs (cached members) (a, before.cache) (play row mark (at_rest before) >>= keeping) (ran turn.progress (session_with after turn.work)) (c, after.cache)
   settled-so row mark before middle after (played.Ends ending) turn a b c comes (none, run) =
@@ -74,7 +74,7 @@ module _ {S : Type 0} (members : Ghosts S) where
       (a, before.cache) (b, before.cache) c (result, context) pause (resumes members before.context before.cache _ a b run) rest)
 
   -- it was lost, or memory ran out
-  pub ends-kept : (ending : Ending) (mark : Mark) (before after : PlayerView) (turn : Turn) (a b : S) → IsSettled members (played.Ends ending) mark a before turn b after →
+  pub ends-kept : (ending : Ending) (mark : Mark) (before after : PlayerView) (turn : StartedStatement) (a b : S) → IsSettled members (played.Ends ending) mark a before turn b after →
       Runs (cached members) (a, before.cache) (closing ending mark (at_rest before) >>= keeping) (ran turn.progress (session_with after turn.work)) (b, after.cache)
   ends-kept ending mark before after turn a b (none, run) =
       ended-kept (cached members) (closing ending mark (at_rest before)) turn after (a, before.cache) (b, after.cache) none run

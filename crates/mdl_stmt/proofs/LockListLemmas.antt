@@ -14,8 +14,8 @@ use Rattle.mdl_key.specs.Keys.{KeyName}
 use Rattle.mdl_calls.specs.declared.lock_space.LockSpace.{Ghosts}
 use Rattle.mdl_context.specs.Wishes.{Wish}
 use Rattle.mdl_rows.specs.declared.ending.Ending.{Ending}
-use Rattle.mdl_stmt.specs.declared.got.Got.TheVariants.{Had}
-use Rattle.mdl_stmt.specs.declared.got.Got.TheVariants as got
+use Rattle.mdl_stmt.specs.declared.got.LockResult.TheVariants.{Had}
+use Rattle.mdl_stmt.specs.declared.got.LockResult.TheVariants as got
 use Rattle.mdl_stmt.specs.declared.got.Listed.TheVariants as listed
 use Rattle.mdl_rows.specs.declared.reply.Reply.{Reply}
 use Rattle.mdl_stmt.specs.declared.lock_list.Locking.{Locking}

@@ -24,9 +24,9 @@ use Rattle.mdl_context.specs.Upgrades.{upgrading, downgrading}
 use Rattle.mdl_context.specs.Waits.{giving_up_wait}
 use Rattle.mdl_context.specs.Wishes.{Wish}
 use Rattle.mdl_rows.specs.declared.ending.Ending.{Ending}
-use Rattle.mdl_stmt.specs.declared.got.Got.{Got}
-use Rattle.mdl_stmt.specs.declared.got.Got.TheVariants.{Had}
-use Rattle.mdl_stmt.specs.declared.got.Got.TheVariants as got
+use Rattle.mdl_stmt.specs.declared.got.LockResult.{LockResult}
+use Rattle.mdl_stmt.specs.declared.got.LockResult.TheVariants.{Had}
+use Rattle.mdl_stmt.specs.declared.got.LockResult.TheVariants as got
 use Rattle.mdl_stmt.specs.declared.got.Played.{Played}
 use Rattle.mdl_stmt.specs.declared.got.Played.TheVariants as played
 use Rattle.mdl_rows.specs.declared.reply.Reply.{Reply}
@@ -186,7 +186,7 @@ module _ {S : Type 0} (members : Ghosts S) where
         runs_bind (cached members) (giving_up_wait before.context) (untold mark (at_rest before)) (a, before.cache) (b, before.cache) d _ pause (gives_up_wait members before.context before.cache _ a b gave) ended;
   }
 
-  pub got-told : (wish : Wish) (before : PlayerView) (number : ℕ) (context : ContextView) (told : Got ℕ) (after : PlayerView) (a b c : S) →
+  pub got-told : (wish : Wish) (before : PlayerView) (number : ℕ) (context : ContextView) (told : LockResult ℕ) (after : PlayerView) (a b c : S) →
       Runs members.joins a (acquiring wish before.context) (Ok (acquire.MustWait number), context) b →
       IsTold members wish.key b (record before { context = context }) told c after → IsGot members wish a before told c after
   got-told wish before number context (Had id) after a b c run told = absurd told
@@ -211,7 +211,7 @@ module _ {S : Type 0} (members : Ghosts S) where
     so = λ mark pause c after. asked-runs (upgrading id mode before.context) (upgrade_wish key mode) rest mark (at_rest before) _ pause (a, before.cache) (b, before.cache) c (upgrades members id mode before.context before.cache _ a b run) after;
   }
 
-  pub raised-told : (id : ℕ) (key : KeyName) (mode : Mode) (before : PlayerView) (number : ℕ) (context : ContextView) (told : Got ℕ) (after : PlayerView) (a b c : S) →
+  pub raised-told : (id : ℕ) (key : KeyName) (mode : Mode) (before : PlayerView) (number : ℕ) (context : ContextView) (told : LockResult ℕ) (after : PlayerView) (a b c : S) →
       Runs members.joins a (upgrading id mode before.context) (Ok (acquire.MustWait number), context) b →
       IsTold members key b (record before { context = context }) told c after → IsRaised members id key mode a before told c after
   raised-told id key mode before number context (Had new) after a b c run told = absurd told
@@ -249,7 +249,7 @@ module _ {S : Type 0} (members : Ghosts S) where
   }
 
   -- a transaction that wrote is committed under the COMMIT lock
-  abbrev pub IsLocked : KeyName → S → PlayerView → Got ℕ → S → PlayerView → Type 0
+  abbrev pub IsLocked : KeyName → S → PlayerView → LockResult ℕ → S → PlayerView → Type 0
   IsLocked key a before got b after = IsGot members (record { key = key; mode = IX; duration = Explicit }) a before got b after
 
   pub committed-under : (key : KeyName) (before middle after : PlayerView) (lock : ℕ) (a b c : S) → key ≡ commit_key →
@@ -275,7 +275,7 @@ module _ {S : Type 0} (members : Ghosts S) where
   looked-so x is_open has_written rest is wrote mark =
       sym (ap (λ o. play (looked o x.state.has_written >> rest) mark (at_rest x)) is ∙ ap (λ w. play (looked is_open w >> rest) mark (at_rest x)) wrote)
 
-  pub commit-looked : (before after : PlayerView) (got : Got (Unit {0})) (a b : S) → before.state.is_open ≡ true → before.state.has_written ≡ true →
+  pub commit-looked : (before after : PlayerView) (got : LockResult (Unit {0})) (a b : S) → before.state.is_open ≡ true → before.state.has_written ≡ true →
       IsCommitted members commit_writes a before got b after → IsCommitted members commit a before got b after
   commit-looked before after (Had x) a b is wrote made = λ rest. comes-as (play (commit >> rest)) (play (commit_writes >> rest)) (looked-so before true true rest is wrote) (made rest)
   commit-looked before after (got.Waits key) a b is wrote made = λ rest. waits-as (play (commit >> rest)) (play (commit_writes >> rest)) (looked-so before true true rest is wrote) (made rest)

@@ -15,16 +15,16 @@ use Rattle.mdl_context.specs.Wishes.{Wish}
 use Rattle.mdl_rows.specs.declared.ending.Ending.{Ending}
 use Rattle.mdl_rows.specs.declared.ending.Ending.TheVariants.{Starves}
 use Rattle.mdl_stmt.specs.Attendance.{cached}
-use Rattle.mdl_stmt.specs.declared.got.Got.{Got}
-use Rattle.mdl_stmt.specs.declared.got.Got.TheVariants.{Had}
-use Rattle.mdl_stmt.specs.declared.got.Got.TheVariants as got
+use Rattle.mdl_stmt.specs.declared.got.LockResult.{LockResult}
+use Rattle.mdl_stmt.specs.declared.got.LockResult.TheVariants.{Had}
+use Rattle.mdl_stmt.specs.declared.got.LockResult.TheVariants as got
 use Rattle.mdl_stmt.specs.declared.got.Listed.{Listed}
 use Rattle.mdl_stmt.specs.declared.got.Listed.TheVariants as listed
 use Rattle.mdl_stmt.specs.declared.got.Played.{Played}
 use Rattle.mdl_stmt.specs.declared.got.Played.TheVariants as played
 use Rattle.mdl_stmt.specs.declared.progress.Progress.{Progress}
 use Rattle.mdl_stmt.specs.declared.progress.Progress.TheVariants.{Waiting, Pending, Done}
-use Rattle.mdl_stmt.specs.declared.keeping.Turn.{Turn}
+use Rattle.mdl_stmt.specs.declared.keeping.StartedStatement.{StartedStatement}
 use Rattle.mdl_rows.specs.declared.reply.Reply.{Reply}
 use Rattle.mdl_rows.specs.Endings.{Pause, Ends, Begins_to_wait, Waits_on, Faults, closing, letting_go}
 use Rattle.mdl_rows.specs.Keepings.{keeping}
@@ -72,13 +72,13 @@ items_told (Ok list) = Ok list.items
 items_told (Err ending) = Err ending
 
 -- the result of a request: the lock is held, or waited for, or the statement is to end
-abbrev pub IsGot : {S : Type 0} → Ghosts S → Wish → S → PlayerView → Got ℕ → S → PlayerView → Type 0
+abbrev pub IsGot : {S : Type 0} → Ghosts S → Wish → S → PlayerView → LockResult ℕ → S → PlayerView → Type 0
 IsGot members wish a before (Had id) b after = (rest : ℕ → Row Reply) → Comes members a before (play (Acquire wish rest)) b after (play (rest id))
 IsGot members wish a before (got.Waits key) b after = (rest : ℕ → Row Reply) → Waits members a before (play (Acquire wish rest)) key wish.mode rest b after
 IsGot members wish a before (got.Ends ending) b after = (rest : ℕ → Row Reply) → Comes members a before (play (Acquire wish rest)) b after (closing ending)
 
 -- the result of an upgrade of a ticket: it is done, or waited for, or the statement is to end
-abbrev pub IsRaised : {S : Type 0} → Ghosts S → ℕ → KeyName → Mode → S → PlayerView → Got ℕ → S → PlayerView → Type 0
+abbrev pub IsRaised : {S : Type 0} → Ghosts S → ℕ → KeyName → Mode → S → PlayerView → LockResult ℕ → S → PlayerView → Type 0
 IsRaised members id key mode a before (Had new) b after = (rest : ℕ → Row Reply) → Comes members a before (play (Upgrade id key mode rest)) b after (play (rest new))
 IsRaised members id key mode a before (got.Waits told) b after = (rest : ℕ → Row Reply) → Waits members a before (play (Upgrade id key mode rest)) told mode rest b after
 IsRaised members id key mode a before (got.Ends ending) b after = (rest : ℕ → Row Reply) → Comes members a before (play (Upgrade id key mode rest)) b after (closing ending)
@@ -89,7 +89,7 @@ IsPlayed members row a before (played.Ends ending) b after = Comes members a bef
 IsPlayed members row a before (played.Waits key mode stage) b after = Waits members a before (play row) key mode (rest_of stage) b after
 
 -- the session has no wait after a request, unless it began to wait
-abbrev pub IdleUnlessGot : {A : Type 0} → Got A → PlayerView → Type 0
+abbrev pub IdleUnlessGot : {A : Type 0} → LockResult A → PlayerView → Type 0
 IdleUnlessGot (Had x) player = player.context.wait ≡ None
 IdleUnlessGot (got.Waits key) player = Unit {0}
 IdleUnlessGot (got.Ends ending) player = player.context.wait ≡ None
@@ -109,13 +109,13 @@ IsWithoutHalf {S} members ending a before b after =
     (mark : Mark) (pause : Pause) (c : S × CacheView) → Runs (cached members) (b, after.cache) (letting_go ending mark (at_rest after)) pause c → Runs (cached members) (a, before.cache) (closing ending mark (at_rest before)) pause c
 
 -- a wait has begun, and is to be reported: it is, or memory ran out and it was given up
-abbrev pub IsTold : {S : Type 0} → Ghosts S → KeyName → S → PlayerView → Got ℕ → S → PlayerView → Type 0
+abbrev pub IsTold : {S : Type 0} → Ghosts S → KeyName → S → PlayerView → LockResult ℕ → S → PlayerView → Type 0
 IsTold {S} members key a before (Had id) b after = ⊥
 IsTold {S} members key a before (got.Waits other) b after = (other ≡ key) × (a ≡ b) × (after ≡ before)
 IsTold {S} members key a before (got.Ends ending) b after = (ending ≡ Starves) × IsDropped members a before b after
 
 -- a transaction was to be committed: it is, or its COMMIT lock is waited for, or the statement is to end
-abbrev pub IsCommitted : {S : Type 0} → Ghosts S → Act → S → PlayerView → Got (Unit {0}) → S → PlayerView → Type 0
+abbrev pub IsCommitted : {S : Type 0} → Ghosts S → Act → S → PlayerView → LockResult (Unit {0}) → S → PlayerView → Type 0
 IsCommitted members act a before (Had _) b after = (rest : Row Reply) → Comes members a before (play (act >> rest)) b after (play rest)
 IsCommitted members act a before (got.Waits key) b after =
     (rest : Row Reply) → Waits members a before (play (act >> rest)) key IX (λ lock. end_under lock >> rest) b after
@@ -147,7 +147,7 @@ IdleUnlessListed (listed.Waits key mode had) player = Unit {0}
 IdleUnlessListed (listed.Ends ending) player = player.context.wait ≡ None
 
 -- a row was played up to its end or a wait, and then the statement was ended, or what is left of it was copied
-abbrev pub IsSettled : {S : Type 0} → Ghosts S → Played → Mark → S → PlayerView → Turn → S → PlayerView → Type 0
+abbrev pub IsSettled : {S : Type 0} → Ghosts S → Played → Mark → S → PlayerView → StartedStatement → S → PlayerView → Type 0
 IsSettled members (played.Ends ending) mark a before turn b after =
     (turn.work ≡ None) × Runs (cached members) (a, before.cache) (closing ending mark (at_rest before)) (ran turn.progress (at_rest after)) (b, after.cache)
 IsSettled members (played.Waits key mode stage) mark a before turn b after =

@@ -10,7 +10,7 @@ ghost use Rattle.mdl_rows.specs.declared.ending.Ending.TheVariants.{Answers, Sta
 ghost use Rattle.mdl_rows.specs.declared.reply.Reply.TheVariants.{Error};
 
 use crate::creating::{MOST_VERSIONS, schema_of};
-use crate::got::{Got, Played};
+use crate::got::{LockResult, Played};
 use crate::player::Player;
 use crate::reading::failing;
 use crate::stage::{Altering, Stage};
@@ -60,13 +60,13 @@ impl<S: LockSpace> Player<S> {
             duration: Duration::Statement,
         };
         match self.get(space, request) {
-            Got::Had(_) => self.lock_schema_and_alter(space, alteration),
-            Got::Waits(key) => Played::Waits(
+            LockResult::Had(_) => self.lock_schema_and_alter(space, alteration),
+            LockResult::Waits(key) => Played::Waits(
                 key,
                 Mode::IX,
                 Stage::Alter(alteration, Altering::Global),
             ),
-            Got::Ends(ending) => Played::Ends(ending),
+            LockResult::Ends(ending) => Played::Ends(ending),
         }
     }
 
@@ -90,13 +90,13 @@ impl<S: LockSpace> Player<S> {
             duration: Duration::Transaction,
         };
         match self.get(space, request) {
-            Got::Had(_) => self.alter_in_schema(space, alteration),
-            Got::Waits(key) => Played::Waits(
+            LockResult::Had(_) => self.alter_in_schema(space, alteration),
+            LockResult::Waits(key) => Played::Waits(
                 key,
                 Mode::IX,
                 Stage::Alter(alteration, Altering::Schema),
             ),
-            Got::Ends(ending) => Played::Ends(ending),
+            LockResult::Ends(ending) => Played::Ends(ending),
         }
     }
 
@@ -130,13 +130,13 @@ impl<S: LockSpace> Player<S> {
             duration: Duration::Transaction,
         };
         match self.get(space, request) {
-            Got::Had(ticket) => self.alter_under(space, alteration, ticket),
-            Got::Waits(key) => Played::Waits(
+            LockResult::Had(ticket) => self.alter_under(space, alteration, ticket),
+            LockResult::Waits(key) => Played::Waits(
                 key,
                 Mode::SU,
                 Stage::Alter(alteration, Altering::Table),
             ),
-            Got::Ends(ending) => Played::Ends(ending),
+            LockResult::Ends(ending) => Played::Ends(ending),
         }
     }
 
@@ -175,13 +175,13 @@ impl<S: LockSpace> Player<S> {
         ensures idle { IdleUnlessPlayed result self.new }
     {
         match self.raise(space, ticket, &alteration.table, Mode::SNW) {
-            Got::Had(copied) => self.raise_and_change(space, alteration, copied),
-            Got::Waits(key) => Played::Waits(
+            LockResult::Had(copied) => self.raise_and_change(space, alteration, copied),
+            LockResult::Waits(key) => Played::Waits(
                 key,
                 Mode::SNW,
                 Stage::Alter(alteration, Altering::Copy),
             ),
-            Got::Ends(ending) => Played::Ends(ending),
+            LockResult::Ends(ending) => Played::Ends(ending),
         }
     }
 
@@ -199,13 +199,13 @@ impl<S: LockSpace> Player<S> {
         ensures idle { IdleUnlessPlayed result self.new }
     {
         match self.raise(space, ticket, &alteration.table, Mode::X) {
-            Got::Had(prepared) => self.reopen_and_change(space, alteration, prepared),
-            Got::Waits(key) => Played::Waits(
+            LockResult::Had(prepared) => self.reopen_and_change(space, alteration, prepared),
+            LockResult::Waits(key) => Played::Waits(
                 key,
                 Mode::X,
                 Stage::Alter(alteration, Altering::InPlace),
             ),
-            Got::Ends(ending) => Played::Ends(ending),
+            LockResult::Ends(ending) => Played::Ends(ending),
         }
     }
 
@@ -238,13 +238,13 @@ impl<S: LockSpace> Player<S> {
         ensures idle { IdleUnlessPlayed result self.new }
     {
         match self.raise(space, ticket, &alteration.table, Mode::X) {
-            Got::Had(alone) => self.change_table(space, alteration, alone),
-            Got::Waits(key) => Played::Waits(
+            LockResult::Had(alone) => self.change_table(space, alteration, alone),
+            LockResult::Waits(key) => Played::Waits(
                 key,
                 Mode::X,
                 Stage::Alter(alteration, Altering::Change),
             ),
-            Got::Ends(ending) => Played::Ends(ending),
+            LockResult::Ends(ending) => Played::Ends(ending),
         }
     }
 

@@ -3,7 +3,7 @@ ghost use Rattle.mdl_stmt.specs.Attendance.{GoesOn, IsReady};
 ghost use Rattle.mdl_stmt.specs.Gets.{IsPlayed, IdleUnlessPlayed};
 ghost use Rattle.mdl_rows.specs.Statements.{after_commit, alter_among_locked, alter_locked, alter_locked_under, change_and_lower};
 
-use crate::got::{Got, Played};
+use crate::got::{LockResult, Played};
 use crate::player::Player;
 use crate::reading::failing;
 use crate::stage::{Altering, Stage};
@@ -53,13 +53,13 @@ impl<S: LockSpace> Player<S> {
             duration: Duration::Transaction,
         };
         match self.get(space, request) {
-            Got::Had(ticket) => self.alter_locked_under(space, alteration, ticket),
-            Got::Waits(key) => Played::Waits(
+            LockResult::Had(ticket) => self.alter_locked_under(space, alteration, ticket),
+            LockResult::Waits(key) => Played::Waits(
                 key,
                 Mode::SNRW,
                 Stage::Alter(alteration, Altering::Locked),
             ),
-            Got::Ends(ending) => Played::Ends(ending),
+            LockResult::Ends(ending) => Played::Ends(ending),
         }
     }
 
@@ -79,13 +79,13 @@ impl<S: LockSpace> Player<S> {
             return Played::Ends(ending);
         }
         match self.raise(space, ticket, &alteration.table, Mode::X) {
-            Got::Had(alone) => self.change_and_lower(space, alteration, alone),
-            Got::Waits(key) => Played::Waits(
+            LockResult::Had(alone) => self.change_and_lower(space, alteration, alone),
+            LockResult::Waits(key) => Played::Waits(
                 key,
                 Mode::X,
                 Stage::Alter(alteration, Altering::ChangeLocked),
             ),
-            Got::Ends(ending) => Played::Ends(ending),
+            LockResult::Ends(ending) => Played::Ends(ending),
         }
     }
 

@@ -8,7 +8,7 @@ ghost use Rattle.mdl_stmt.specs.Stages.{rest_of_creating};
 ghost use Rattle.mdl_rows.specs.Statements.{create_after_commit, lock_schema_and_create, lock_and_create, create_under, check_schema, check_new, make_table, schema_of};
 ghost use Rattle.mdl_stmt.specs.declared.got.Played.TheVariants as played;
 
-use crate::got::{Got, Played};
+use crate::got::{LockResult, Played};
 use crate::player::Player;
 use crate::reading::failing;
 use crate::stage::{Creating, Stage};
@@ -43,13 +43,13 @@ impl<S: LockSpace> Player<S> {
             duration: Duration::Statement,
         };
         match self.get(space, request) {
-            Got::Had(_) => self.lock_schema_and_create(space, table, columns),
-            Got::Waits(key) => Played::Waits(
+            LockResult::Had(_) => self.lock_schema_and_create(space, table, columns),
+            LockResult::Waits(key) => Played::Waits(
                 key,
                 Mode::IX,
                 Stage::Create(Creating::Global(table, columns)),
             ),
-            Got::Ends(ending) => Played::Ends(ending),
+            LockResult::Ends(ending) => Played::Ends(ending),
         }
     }
 
@@ -74,13 +74,13 @@ impl<S: LockSpace> Player<S> {
             duration: Duration::Transaction,
         };
         match self.get(space, request) {
-            Got::Had(over) => self.lock_and_create(space, table, columns, over),
-            Got::Waits(key) => Played::Waits(
+            LockResult::Had(over) => self.lock_and_create(space, table, columns, over),
+            LockResult::Waits(key) => Played::Waits(
                 key,
                 Mode::IX,
                 Stage::Create(Creating::Schema(table, columns)),
             ),
-            Got::Ends(ending) => Played::Ends(ending),
+            LockResult::Ends(ending) => Played::Ends(ending),
         }
     }
 
@@ -103,13 +103,13 @@ impl<S: LockSpace> Player<S> {
             duration: Duration::Transaction,
         };
         match self.get(space, request) {
-            Got::Had(ticket) => self.create_under(space, columns, schema, ticket),
-            Got::Waits(key) => Played::Waits(
+            LockResult::Had(ticket) => self.create_under(space, columns, schema, ticket),
+            LockResult::Waits(key) => Played::Waits(
                 key,
                 Mode::X,
                 Stage::Create(Creating::Table(columns, schema)),
             ),
-            Got::Ends(ending) => Played::Ends(ending),
+            LockResult::Ends(ending) => Played::Ends(ending),
         }
     }
 

@@ -6,7 +6,7 @@ ghost use Rattle.mdl_stmt.specs.Stages.{rest_of_creating_schema};
 ghost use Rattle.mdl_rows.specs.Statements.{create_schema_after_commit, lock_and_create_schema, create_schema_under, check_new_schema};
 
 use crate::creating::MOST_VERSIONS;
-use crate::got::{Got, Played};
+use crate::got::{LockResult, Played};
 use crate::player::Player;
 use crate::reading::failing;
 use crate::stage::{CreatingSchema, Stage};
@@ -33,13 +33,13 @@ impl<S: LockSpace> Player<S> {
             duration: Duration::Statement,
         };
         match self.get(space, request) {
-            Got::Had(_) => self.lock_and_create_schema(space, name),
-            Got::Waits(key) => Played::Waits(
+            LockResult::Had(_) => self.lock_and_create_schema(space, name),
+            LockResult::Waits(key) => Played::Waits(
                 key,
                 Mode::IX,
                 Stage::CreateSchema(CreatingSchema::Global(name)),
             ),
-            Got::Ends(ending) => Played::Ends(ending),
+            LockResult::Ends(ending) => Played::Ends(ending),
         }
     }
 
@@ -59,13 +59,13 @@ impl<S: LockSpace> Player<S> {
             duration: Duration::Transaction,
         };
         match self.get(space, request) {
-            Got::Had(ticket) => self.create_schema_under(space, ticket),
-            Got::Waits(key) => Played::Waits(
+            LockResult::Had(ticket) => self.create_schema_under(space, ticket),
+            LockResult::Waits(key) => Played::Waits(
                 key,
                 Mode::X,
                 Stage::CreateSchema(CreatingSchema::Schema),
             ),
-            Got::Ends(ending) => Played::Ends(ending),
+            LockResult::Ends(ending) => Played::Ends(ending),
         }
     }
 

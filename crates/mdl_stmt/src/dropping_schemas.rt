@@ -6,7 +6,7 @@ ghost use Rattle.mdl_stmt.specs.Stages.{lock_rest, rest_of_dropping_schema};
 ghost use Rattle.mdl_rows.specs.Statements.{drop_schema_after_commit, lock_and_drop_schema, drop_schema_under, drop_with, keys_of, tables_in};
 
 use crate::Reply;
-use crate::got::{Got, Listed, Played};
+use crate::got::{Listed, LockResult, Played};
 use crate::lock_list::LockList;
 use crate::player::Player;
 use crate::stage::{DroppingSchema, Stage};
@@ -32,13 +32,13 @@ impl<S: LockSpace> Player<S> {
             duration: Duration::Statement,
         };
         match self.get(space, request) {
-            Got::Had(_) => self.lock_and_drop_schema(space, name),
-            Got::Waits(key) => Played::Waits(
+            LockResult::Had(_) => self.lock_and_drop_schema(space, name),
+            LockResult::Waits(key) => Played::Waits(
                 key,
                 Mode::IX,
                 Stage::DropSchema(DroppingSchema::Global(name)),
             ),
-            Got::Ends(ending) => Played::Ends(ending),
+            LockResult::Ends(ending) => Played::Ends(ending),
         }
     }
 
@@ -58,13 +58,13 @@ impl<S: LockSpace> Player<S> {
             duration: Duration::Transaction,
         };
         match self.get(space, request) {
-            Got::Had(ticket) => self.drop_schema_under(space, name, ticket),
-            Got::Waits(key) => Played::Waits(
+            LockResult::Had(ticket) => self.drop_schema_under(space, name, ticket),
+            LockResult::Waits(key) => Played::Waits(
                 key,
                 Mode::X,
                 Stage::DropSchema(DroppingSchema::Schema(name)),
             ),
-            Got::Ends(ending) => Played::Ends(ending),
+            LockResult::Ends(ending) => Played::Ends(ending),
         }
     }
 

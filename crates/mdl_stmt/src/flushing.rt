@@ -8,7 +8,7 @@ ghost use Rattle.mdl_stmt.specs.Stages.{rest_of_flushing};
 ghost use Rattle.mdl_rows.specs.Statements.{after_commit, flush_after_commit, flush_first, get_read_lock, lock_commits, read_lock_under};
 ghost use Rattle.mdl_stmt.specs.declared.got.Played.TheVariants as played;
 
-use crate::got::{Got, Played};
+use crate::got::{LockResult, Played};
 use crate::player::Player;
 use crate::reading::failing;
 use crate::stage::{Flushing, Stage};
@@ -61,9 +61,9 @@ impl<S: LockSpace> Player<S> {
             duration: Duration::Explicit,
         };
         match self.get(space, request) {
-            Got::Had(global) => self.lock_commits(space, global),
-            Got::Waits(key) => Played::Waits(key, Mode::S, Stage::Flush(Flushing::Global)),
-            Got::Ends(ending) => Played::Ends(ending),
+            LockResult::Had(global) => self.lock_commits(space, global),
+            LockResult::Waits(key) => Played::Waits(key, Mode::S, Stage::Flush(Flushing::Global)),
+            LockResult::Ends(ending) => Played::Ends(ending),
         }
     }
 
@@ -82,9 +82,9 @@ impl<S: LockSpace> Player<S> {
             duration: Duration::Explicit,
         };
         match self.get(space, request) {
-            Got::Had(commit) => Played::Ends(self.read_lock_under(space, commit)),
-            Got::Waits(key) => Played::Waits(key, Mode::S, Stage::Flush(Flushing::Commit)),
-            Got::Ends(ending) => Played::Ends(ending),
+            LockResult::Had(commit) => Played::Ends(self.read_lock_under(space, commit)),
+            LockResult::Waits(key) => Played::Waits(key, Mode::S, Stage::Flush(Flushing::Commit)),
+            LockResult::Ends(ending) => Played::Ends(ending),
         }
     }
 

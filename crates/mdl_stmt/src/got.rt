@@ -6,7 +6,7 @@ use mdl_rows::Ending;
 
 /// The result of a request for locks.
 #[derive(Drop)]
-pub enum Got<T> {
+pub enum LockResult<T> {
     /// The locks are held.
     Had(T),
     /// The session waits for the lock of this key.

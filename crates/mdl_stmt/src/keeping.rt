@@ -25,14 +25,14 @@ use std::mem::drop;
 
 /// How far a statement has come, and what is left of it if it waits.
 #[derive(Drop)]
-pub struct Turn {
+pub struct StartedStatement {
     pub(crate) progress: Result<Progress, OutOfMemory>,
     pub(crate) work: Option<KeptWork>,
 }
 
 impl<S: LockSpace> Player<S> {
     /// Starts a statement.
-    pub(crate) fn start_kept(&mut self, space: &mut S, statement: &Statement) -> Turn
+    pub(crate) fn start_kept(&mut self, space: &mut S, statement: &Statement) -> StartedStatement
         requires ready { IsReady S.LockSpace space.old self.old }
         ensures run { Runs (cached S.LockSpace) (space.old, self.old.cache) (starting_kept statement.now (at_rest self.old)) (ran result.progress (session_with self.new result.work)) (space.new, self.new.cache) }
         ensures goes_on { GoesOn S.LockSpace space.old self.old space.new self.new }
@@ -44,7 +44,7 @@ impl<S: LockSpace> Player<S> {
     }
 
     /// Continues a waiting statement.
-    pub(crate) fn go_on_kept(&mut self, space: &mut S, work: KeptWork) -> Turn
+    pub(crate) fn go_on_kept(&mut self, space: &mut S, work: KeptWork) -> StartedStatement
         requires attends { AttendsWith S.LockSpace space.old self.old.context self.old.cache }
         ensures run { Runs (cached S.LockSpace) (space.old, self.old.cache) (going_on_kept (session_with self.old (Some work))) (ran result.progress (session_with self.new result.work)) (space.new, self.new.cache) }
         ensures goes_on { GoesOn S.LockSpace space.old self.old space.new self.new }
@@ -52,7 +52,7 @@ impl<S: LockSpace> Player<S> {
     {
         let user = self.context.waits_for_user_lock();
         match self.context.resume(space) {
-            Ok(Resume::Waiting) => Turn {
+            Ok(Resume::Waiting) => StartedStatement {
                 progress: Ok(Progress::Pending),
                 work: Some(work),
             },
@@ -64,7 +64,7 @@ impl<S: LockSpace> Player<S> {
 
     // Ends a statement that waited. What was kept of it is dropped by a call, here and below: a drop in place has an arm for each variant, which the
     // prover follows.
-    fn end_kept(&mut self, space: &mut S, ending: Ending, work: KeptWork) -> Turn
+    fn end_kept(&mut self, space: &mut S, ending: Ending, work: KeptWork) -> StartedStatement
         requires ready { IsReady S.LockSpace space.old self.old }
         ensures run { IsSettled S.LockSpace (Ends ending) work.mark space.old self.old result space.new self.new }
         ensures goes_on { GoesOn S.LockSpace space.old self.old space.new self.new }
@@ -76,20 +76,20 @@ impl<S: LockSpace> Player<S> {
     }
 
     // Ends a statement.
-    fn end_turn(&mut self, space: &mut S, ending: Ending, mark: Mark) -> Turn
+    fn end_turn(&mut self, space: &mut S, ending: Ending, mark: Mark) -> StartedStatement
         requires ready { IsReady S.LockSpace space.old self.old }
         ensures run { IsSettled S.LockSpace (Ends ending) mark space.old self.old result space.new self.new }
         ensures goes_on { GoesOn S.LockSpace space.old self.old space.new self.new }
         ensures idle { self.new.context.wait ≡ None }
     {
-        Turn {
+        StartedStatement {
             progress: self.close(space, ending, mark),
             work: None,
         }
     }
 
     // Continues a statement whose wait was granted.
-    fn proceed_kept(&mut self, space: &mut S, work: KeptWork, ticket: TicketId) -> Turn
+    fn proceed_kept(&mut self, space: &mut S, work: KeptWork, ticket: TicketId) -> StartedStatement
         requires ready { IsReady S.LockSpace space.old self.old }
         ensures run { Runs (cached S.LockSpace) (space.old, self.old.cache) (play_kept (rest_of_kept work.stage ticket) work.mark (at_rest self.old)) (ran result.progress (session_with self.new result.work)) (space.new, self.new.cache) }
         ensures goes_on { GoesOn S.LockSpace space.old self.old space.new self.new }
@@ -142,7 +142,7 @@ impl<S: LockSpace> Player<S> {
         at: KeptDropping,
         ticket: TicketId,
         mark: Mark,
-    ) -> Turn
+    ) -> StartedStatement
         requires ready { IsReady S.LockSpace space.old self.old }
         ensures run { Runs (cached S.LockSpace) (space.old, self.old.cache) (play_kept (rest_of_kept_dropping at ticket) mark (at_rest self.old)) (ran result.progress (session_with self.new result.work)) (space.new, self.new.cache) }
         ensures goes_on { GoesOn S.LockSpace space.old self.old space.new self.new }
@@ -166,7 +166,7 @@ impl<S: LockSpace> Player<S> {
         at: KeptDroppingSchema,
         ticket: TicketId,
         mark: Mark,
-    ) -> Turn
+    ) -> StartedStatement
         requires ready { IsReady S.LockSpace space.old self.old }
         ensures run { Runs (cached S.LockSpace) (space.old, self.old.cache) (play_kept (rest_of_kept_dropping_schema at ticket) mark (at_rest self.old)) (ran result.progress (session_with self.new result.work)) (space.new, self.new.cache) }
         ensures goes_on { GoesOn S.LockSpace space.old self.old space.new self.new }
@@ -189,7 +189,13 @@ impl<S: LockSpace> Player<S> {
     }
 
     // Continues a statement at a stage.
-    fn proceed_at(&mut self, space: &mut S, stage: Stage<'_>, ticket: TicketId, mark: Mark) -> Turn
+    fn proceed_at(
+        &mut self,
+        space: &mut S,
+        stage: Stage<'_>,
+        ticket: TicketId,
+        mark: Mark,
+    ) -> StartedStatement
         requires ready { IsReady S.LockSpace space.old self.old }
         ensures run { Runs (cached S.LockSpace) (space.old, self.old.cache) (play_kept (rest_of stage.entry ticket) mark (at_rest self.old)) (ran result.progress (session_with self.new result.work)) (space.new, self.new.cache) }
         ensures goes_on { GoesOn S.LockSpace space.old self.old space.new self.new }
@@ -200,7 +206,12 @@ impl<S: LockSpace> Player<S> {
     }
 
     /// Ends a statement, or if it waits, keeps a copy of what is left of it.
-    pub(crate) fn settle(&mut self, space: &mut S, played: Played<'_>, mark: Mark) -> Turn
+    pub(crate) fn settle(
+        &mut self,
+        space: &mut S,
+        played: Played<'_>,
+        mark: Mark,
+    ) -> StartedStatement
         requires attends { AttendsWith S.LockSpace space.old self.old.context self.old.cache }
         requires idle { IdleUnlessPlayed played self.old }
         ensures run { IsSettled S.LockSpace played.entry mark space.old self.old result space.new self.new }
@@ -221,7 +232,7 @@ impl<S: LockSpace> Player<S> {
         mode: Mode,
         stage: Stage<'_>,
         mark: Mark,
-    ) -> Turn
+    ) -> StartedStatement
         requires attends { AttendsWith S.LockSpace space.old self.old.context self.old.cache }
         ensures run { Runs (cached S.LockSpace) (space.old, self.old.cache) (keeping (Begins_to_wait key mode (with_left (at_rest self.old) (record { rest = rest_of stage.entry; mark = mark }))))
             (ran result.progress (session_with self.new result.work)) (space.new, self.new.cache) }
@@ -229,13 +240,13 @@ impl<S: LockSpace> Player<S> {
         ensures idle { result.work ≡ None → self.new.context.wait ≡ None }
     {
         match KeptStage::keep(self.alloc, stage) {
-            Ok(stage) => Turn {
+            Ok(stage) => StartedStatement {
                 progress: Ok(Progress::Waiting(key, mode)),
                 work: Some(KeptWork { stage, mark }),
             },
             Err(_) => {
                 self.drop_wait(space);
-                Turn {
+                StartedStatement {
                     progress: self.close(space, Ending::Starves, mark),
                     work: None,
                 }

@@ -5,7 +5,7 @@ ghost use Rattle.mdl_stmt.specs.Gets.{IsListed, IsListedBy, IdleUnlessListed, Ke
 ghost use Rattle.mdl_stmt.specs.Stages.{wish_by};
 ghost use Rattle.mdl_rows.specs.Statements.{ddl_lock};
 
-use crate::got::{Got, Listed};
+use crate::got::{Listed, LockResult};
 use crate::key_lists::may_write;
 use crate::lock_list::{LockList, Locking};
 use crate::player::Player;
@@ -47,9 +47,9 @@ impl<S: LockSpace> Player<S> {
                 duration: duration_of(locking, key),
             };
             match self.get(space, request) {
-                Got::Had(ticket) => locks = locks.with(ticket),
-                Got::Waits(key) => return Listed::Waits(key, mode, locks),
-                Got::Ends(ending) => return Listed::Ends(ending),
+                LockResult::Had(ticket) => locks = locks.with(ticket),
+                LockResult::Waits(key) => return Listed::Waits(key, mode, locks),
+                LockResult::Ends(ending) => return Listed::Ends(ending),
             }
         }
         Listed::Had(locks)

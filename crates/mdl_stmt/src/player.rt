@@ -8,7 +8,7 @@ ghost use Rattle.mdl_rows.specs.Rows.{Give, Try_acquire, downgrade};
 ghost use Rattle.mdl_rows.specs.States.{at_first};
 
 use crate::explicit::ExplicitLocks;
-use crate::got::Got;
+use crate::got::LockResult;
 use crate::savepoint::Savepoints;
 use crate::{ErrorNumber, OutOfMemory, Reply};
 use mdl_context::{Acquire, Context, ContextError, Request, Resume, Tried};
@@ -62,16 +62,16 @@ impl<S: LockSpace> Player<S> {
     }
 
     /// Gets a lock, or begins to wait for it.
-    pub(crate) fn get(&mut self, space: &mut S, request: Request<'_>) -> Got<TicketId>
+    pub(crate) fn get(&mut self, space: &mut S, request: Request<'_>) -> LockResult<TicketId>
         requires ready { IsReady S.LockSpace space.old self.old }
         ensures run { IsGot S.LockSpace (wish_of request.entry) space.old self.old result space.new self.new }
         ensures goes_on { GoesOn S.LockSpace space.old self.old space.new self.new }
         ensures idle { IdleUnlessGot result self.new }
     {
         match self.context.acquire(space, request) {
-            Ok(Acquire::Acquired(id)) => Got::Had(id),
+            Ok(Acquire::Acquired(id)) => LockResult::Had(id),
             Ok(Acquire::MustWait(_)) => self.tell_wait(space, request.key),
-            Err(error) => Got::Ends(ending_of_error(error)),
+            Err(error) => LockResult::Ends(ending_of_error(error)),
         }
     }
 
@@ -100,16 +100,16 @@ impl<S: LockSpace> Player<S> {
         ticket: TicketId,
         key: &Key,
         mode: Mode,
-    ) -> Got<TicketId>
+    ) -> LockResult<TicketId>
         requires ready { IsReady S.LockSpace space.old self.old }
         ensures run { IsRaised S.LockSpace ticket key.now mode space.old self.old result space.new self.new }
         ensures goes_on { GoesOn S.LockSpace space.old self.old space.new self.new }
         ensures idle { IdleUnlessGot result self.new }
     {
         match self.context.upgrade(space, ticket, mode) {
-            Ok(Acquire::Acquired(id)) => Got::Had(id),
+            Ok(Acquire::Acquired(id)) => LockResult::Had(id),
             Ok(Acquire::MustWait(_)) => self.tell_wait(space, key),
-            Err(error) => Got::Ends(ending_of_error(error)),
+            Err(error) => LockResult::Ends(ending_of_error(error)),
         }
     }
 
@@ -124,17 +124,17 @@ impl<S: LockSpace> Player<S> {
     }
 
     /// Returns that a wait has begun, or gives up the wait if memory runs out for a copy of the key.
-    pub(crate) fn tell_wait(&mut self, space: &mut S, key: &Key) -> Got<TicketId>
+    pub(crate) fn tell_wait(&mut self, space: &mut S, key: &Key) -> LockResult<TicketId>
         requires attends { AttendsWith S.LockSpace space.old self.old.context self.old.cache }
         ensures run { IsTold S.LockSpace key.now space.old self.old result space.new self.new }
         ensures goes_on { GoesOn S.LockSpace space.old self.old space.new self.new }
         ensures idle { IdleUnlessGot result self.new }
     {
         match key.clone() {
-            Ok(key) => Got::Waits(key),
+            Ok(key) => LockResult::Waits(key),
             Err(_) => {
                 self.drop_wait(space);
-                Got::Ends(Ending::Starves)
+                LockResult::Ends(Ending::Starves)
             }
         }
     }

@@ -6,7 +6,7 @@ ghost use Rattle.mdl_stmt.specs.Stages.{show_next, rest_of_writing};
 ghost use Rattle.mdl_rows.specs.Statements.{lock_to_read, lock_held, select, show_held, show_all, write, write_locked, lock_writes, write_mode, write_under, wrote, lock_and_write};
 ghost use Rattle.mdl_stmt.specs.declared.got.Played.TheVariants as played;
 
-use crate::got::{Got, Played};
+use crate::got::{LockResult, Played};
 use crate::player::Player;
 use crate::reading::failing;
 use crate::stage::{Stage, Writing};
@@ -90,11 +90,11 @@ impl<S: LockSpace> Player<S> {
                 duration: Duration::Transaction,
             };
             let ticket = match self.get(space, request) {
-                Got::Had(ticket) => ticket,
-                Got::Waits(key) => {
+                LockResult::Had(ticket) => ticket,
+                LockResult::Waits(key) => {
                     return Played::Waits(key, Mode::SR, Stage::Select(tables, at, shown));
                 }
-                Got::Ends(ending) => return Played::Ends(ending),
+                LockResult::Ends(ending) => return Played::Ends(ending),
             };
             shown = match self.show(space, shown, table, ticket) {
                 Ok(more) => more,
@@ -178,13 +178,13 @@ impl<S: LockSpace> Player<S> {
             duration: Duration::Statement,
         };
         match self.get(space, request) {
-            Got::Had(_) => self.lock_and_write(space, table, priority),
-            Got::Waits(key) => Played::Waits(
+            LockResult::Had(_) => self.lock_and_write(space, table, priority),
+            LockResult::Waits(key) => Played::Waits(
                 key,
                 Mode::IX,
                 Stage::Write(Writing::Global(table, priority)),
             ),
-            Got::Ends(ending) => Played::Ends(ending),
+            LockResult::Ends(ending) => Played::Ends(ending),
         }
     }
 
@@ -207,9 +207,9 @@ impl<S: LockSpace> Player<S> {
             duration: Duration::Transaction,
         };
         match self.get(space, request) {
-            Got::Had(ticket) => self.write_under(space, ticket),
-            Got::Waits(key) => Played::Waits(key, mode, Stage::Write(Writing::Table)),
-            Got::Ends(ending) => Played::Ends(ending),
+            LockResult::Had(ticket) => self.write_under(space, ticket),
+            LockResult::Waits(key) => Played::Waits(key, mode, Stage::Write(Writing::Table)),
+            LockResult::Ends(ending) => Played::Ends(ending),
         }
     }
 
@@ -238,9 +238,9 @@ impl<S: LockSpace> Player<S> {
             return Played::Ends(Ending::Answers(Reply::Ok));
         }
         match self.commit_writes(space) {
-            Got::Had(()) => Played::Ends(Ending::Answers(Reply::Ok)),
-            Got::Waits(key) => Played::Waits(key, Mode::IX, Stage::Write(Writing::Commit)),
-            Got::Ends(ending) => Played::Ends(ending),
+            LockResult::Had(()) => Played::Ends(Ending::Answers(Reply::Ok)),
+            LockResult::Waits(key) => Played::Waits(key, Mode::IX, Stage::Write(Writing::Commit)),
+            LockResult::Ends(ending) => Played::Ends(ending),
         }
     }
 

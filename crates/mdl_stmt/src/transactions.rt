@@ -5,7 +5,7 @@ ghost use Rattle.mdl_stmt.specs.Gets.{IsStep, IsCommitted, IsPlayed, IdleUnlessG
 ghost use Rattle.mdl_stmt.specs.declared.got.Played.TheVariants as played;
 ghost use Rattle.mdl_rows.specs.Statements.{end_transaction, end_under, commit, commit_writes, rollback, save, rollback_to, after_commit, begin_after_commit, commit_first};
 
-use crate::got::{Got, Played};
+use crate::got::{LockResult, Played};
 use crate::player::Player;
 use crate::stage::Stage;
 use crate::{ErrorNumber, Reply};
@@ -41,7 +41,7 @@ impl<S: LockSpace> Player<S> {
     }
 
     /// Commits a transaction that wrote.
-    pub(crate) fn commit_writes(&mut self, space: &mut S) -> Got<()>
+    pub(crate) fn commit_writes(&mut self, space: &mut S) -> LockResult<()>
         requires ready { IsReady S.LockSpace space.old self.old }
         ensures run { IsCommitted S.LockSpace commit_writes space.old self.old result space.new self.new }
         ensures goes_on { GoesOn S.LockSpace space.old self.old space.new self.new }
@@ -54,30 +54,30 @@ impl<S: LockSpace> Player<S> {
             duration: Duration::Explicit,
         };
         match self.get(space, request) {
-            Got::Had(lock) => {
+            LockResult::Had(lock) => {
                 self.end_under(space, lock);
-                Got::Had(())
+                LockResult::Had(())
             }
-            Got::Waits(key) => Got::Waits(key),
-            Got::Ends(ending) => Got::Ends(ending),
+            LockResult::Waits(key) => LockResult::Waits(key),
+            LockResult::Ends(ending) => LockResult::Ends(ending),
         }
     }
 
     /// Commits an open transaction.
-    fn commit(&mut self, space: &mut S) -> Got<()>
+    fn commit(&mut self, space: &mut S) -> LockResult<()>
         requires ready { IsReady S.LockSpace space.old self.old }
         ensures run { IsCommitted S.LockSpace commit space.old self.old result space.new self.new }
         ensures goes_on { GoesOn S.LockSpace space.old self.old space.new self.new }
         ensures idle { IdleUnlessGot result self.new }
     {
         if !self.is_open {
-            return Got::Had(());
+            return LockResult::Had(());
         }
         if self.has_written {
             return self.commit_writes(space);
         }
         self.end_transaction(space);
-        Got::Had(())
+        LockResult::Had(())
     }
 
     /// Commits an open transaction, and then performs the rest of the statement.
@@ -88,9 +88,9 @@ impl<S: LockSpace> Player<S> {
         ensures idle { IdleUnlessPlayed result self.new }
     {
         match self.commit(space) {
-            Got::Had(()) => self.after_commit(space, statement),
-            Got::Waits(key) => Played::Waits(key, Mode::IX, Stage::Commit(statement)),
-            Got::Ends(ending) => Played::Ends(ending),
+            LockResult::Had(()) => self.after_commit(space, statement),
+            LockResult::Waits(key) => Played::Waits(key, Mode::IX, Stage::Commit(statement)),
+            LockResult::Ends(ending) => Played::Ends(ending),
         }
     }
 

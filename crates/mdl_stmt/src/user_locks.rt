@@ -6,7 +6,7 @@ ghost use Rattle.mdl_stmt.specs.declared.got.Played.TheVariants as played;
 ghost use Rattle.mdl_rows.specs.Statements.{get_lock, give_back, release_lock};
 
 use crate::Reply;
-use crate::got::{Got, Played};
+use crate::got::{LockResult, Played};
 use crate::player::Player;
 use crate::stage::Stage;
 use mdl_context::Request;
@@ -32,9 +32,9 @@ impl<S: LockSpace> Player<S> {
             duration: Duration::Explicit,
         };
         match self.get(space, request) {
-            Got::Had(_) => Played::Ends(Ending::Answers(Reply::Number(true))),
-            Got::Waits(key) => Played::Waits(key, Mode::X, Stage::GetLock),
-            Got::Ends(ending) => Played::Ends(ending),
+            LockResult::Had(_) => Played::Ends(Ending::Answers(Reply::Number(true))),
+            LockResult::Waits(key) => Played::Waits(key, Mode::X, Stage::GetLock),
+            LockResult::Ends(ending) => Played::Ends(ending),
         }
     }
 

@@ -5,15 +5,15 @@ use Rattle.mdl_lines.specs.declared.fault.Fault.{Fault}
 use Rattle.mdl_lines.specs.declared.fault.Fault.TheVariants.{Refused, Memory, Read, Write}
 use Rattle.mdl_lines.specs.declared.fault.LineError.{LineError}
 use Rattle.mdl_lines.specs.Words.{MayEnd}
-use Rattle.mdl_text.specs.Playing.{Told, Answers, Plays, PrintsAnswers, Tells}
+use Rattle.mdl_text.specs.Playing.{Written, Answers, Plays, PrintsAnswers, Tells}
 
 -- a run that was done had no refused line
-prints : {A : Type 0} (said : Result (List A) (ℕ × LineError)) (answers : List ℕ) (code : ℕ) (before after : Told)
+prints : {A : Type 0} (said : Result (List A) (ℕ × LineError)) (answers : List ℕ) (code : ℕ) (before after : Written)
     → MayEnd said (Ok (tt {0})) → PrintsAnswers answers code before after → Answers said answers code before after
 prints (Ok asked) answers code before after ends tells = tells
 prints (Err refusal) answers code before after ends tells = absurd (cc)
 
-pub plays : {A : Type 0} (said : Result (List A) (ℕ × LineError)) (end : Result (Unit {0}) Fault) (answers output : List ℕ) (code : ℕ) (before after : Told)
+pub plays : {A : Type 0} (said : Result (List A) (ℕ × LineError)) (end : Result (Unit {0}) Fault) (answers output : List ℕ) (code : ℕ) (before after : Written)
     → MayEnd said end → OnOk end (answers ≡ output) → Tells end answers code before after → Plays said output code before after
 plays said (Ok ended) answers output code before after ends same tells =
     inl (prints said output code before after ends (subst (λ text. PrintsAnswers text code before after) same tells))

@@ -11,7 +11,7 @@ ghost use Rattle.mdl_c_calls.specs.Managers.{context_fault, direct_fault, seat_o
 ghost use Rattle.mdl_c_calls.specs.Transactions.{begin_fault, leaving_from, making_explicit, making_transactional, new_context, seating, Leaves, Marks, RunsFor};
 ghost use Rattle.mdl_c_calls.specs.declared.seat.Seat.TheVariants.{Kept};
 
-use super::Manager;
+use super::ServedSpace;
 use crate::seat::Seat;
 use crate::unserved::Unserved;
 use mdl_context::{Acquire, Context, ContextError, Mark, Request, Resume};
@@ -19,7 +19,7 @@ use mdl_key::{Duration, Key, Mode};
 use mdl_space::{CoreSpace, LockSpace, TicketId};
 use std::alloc::Global;
 
-impl Manager {
+impl ServedSpace {
     /// Begins a context, which keeps the session's tickets from now on.
     pub fn begin_context(&mut self, alloc: Global, who: u16) -> Result<(), Unserved>
         ensures { MatchResult result

@@ -7,12 +7,12 @@ ghost use Rattle.mdl_core.specs.Words.{SpeaksFor};
 ghost use Rattle.mdl_c_calls.specs.Listings.{TellsSettled, has_settled_wait, keyed_book};
 ghost use Rattle.mdl_c_calls.specs.Managers.{IsOutside, JoinsFor};
 
-use super::Manager;
+use super::ServedSpace;
 use mdl_book::Book;
 use mdl_key::MOST_SESSIONS;
 use mdl_space::{CoreSpace, Held, LockSpace, Place, Poll, SpaceError};
 
-impl Manager {
+impl ServedSpace {
     /// Returns the sessions whose waits are settled and not ended, one bit each. The lowest bit is that of session 1.
     pub fn settled(&mut self) -> u64
         ensures told { TellsSettled self.old result }

@@ -5,7 +5,7 @@ ghost use Rattle.mdl_context.specs.Contexts.{Attends, LeavesOthers, place_known}
 ghost use Rattle.mdl_context.specs.Requests.{acquiring, acquiring_at, finding, LearnsAtMost, WaitsAfter};
 ghost use Rattle.mdl_context.specs.Wishes.{wish_of};
 
-use crate::asking::{Got, gain};
+use crate::asking::{AskResult, gain};
 use crate::{Acquire, Context, ContextError, Request};
 use mdl_space::{LockSpace, Place, SpaceError};
 
@@ -89,11 +89,11 @@ impl<S: LockSpace> Context<S> {
         }
         let ticket = self.holdings.sufficient(place, &request);
         match gain(space, self.who, ticket, place, request.mode) {
-            Ok(Got::Granted(id)) => {
+            Ok(AskResult::Granted(id)) => {
                 self.holdings.keep(request.kept(id, place));
                 Ok(Acquire::Acquired(id))
             }
-            Ok(Got::Waits(number, searched)) => {
+            Ok(AskResult::Waits(number, searched)) => {
                 self.holdings.begin_wait(request.wanted(place, searched));
                 Ok(Acquire::MustWait(number))
             }

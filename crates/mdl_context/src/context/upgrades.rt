@@ -11,7 +11,7 @@ ghost use Rattle.mdl_context.specs.Requests.{WaitsAfter};
 ghost use Rattle.mdl_context.specs.Releases.{release_fault};
 ghost use Rattle.mdl_context.specs.Upgrades.{with_mode, merging, is_merge_refusal, HasSecond, upgrading, waiting_to_upgrade, downgrading};
 
-use crate::asking::{Got, wait_at};
+use crate::asking::{AskResult, wait_at};
 use crate::merging::merge;
 use crate::{Acquire, Context, ContextError, Wanted};
 use mdl_key::Mode;
@@ -109,11 +109,11 @@ impl<S: LockSpace> Context<S> {
             return Err(ContextError::Space(SpaceError::OutOfMemory));
         }
         match wait_at(space, self.who, wanted.place, wanted.mode) {
-            Ok(Got::Granted(new)) => match self.merge_ticket(space, id, new, wanted.mode) {
+            Ok(AskResult::Granted(new)) => match self.merge_ticket(space, id, new, wanted.mode) {
                 Ok(()) => Ok(Acquire::Acquired(id)),
                 Err(refusal) => Err(ContextError::Space(refusal)),
             },
-            Ok(Got::Waits(number, searched)) => {
+            Ok(AskResult::Waits(number, searched)) => {
                 self.holdings.begin_wait(Wanted { searched, ..wanted });
                 Ok(Acquire::MustWait(number))
             }

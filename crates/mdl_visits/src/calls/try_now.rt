@@ -2,7 +2,7 @@
 ghost use Rattle.std.specs.Prelude.{◌≡◌, true, Ok, IfErr};
 ghost use Rattle.mdl_key.specs.Words.{is_obtrusive};
 ghost use Rattle.mdl_steps.specs.declared.deed.Deed.TheVariants.{Gain};
-ghost use Rattle.mdl_visits.specs.declared.calls.try_now.Tried.TheVariants.{Granted, Blocked};
+ghost use Rattle.mdl_visits.specs.declared.calls.try_now.TryOutcome.TheVariants.{Granted, Blocked};
 ghost use Rattle.mdl_visits.specs.Visits.{HasWish, IsVisit, MayVisit, WasBlocked, WasGranted, WasRefusedWish};
 
 use crate::enter_and_leave::{enter, gain, lower_flags_and_put};
@@ -13,7 +13,7 @@ use std::sync::Wait;
 
 /// The result of a request for a lock that isn't waited for.
 #[derive(Clone, Copy, Debug, PartialEq, Eq)]
-pub enum Tried {
+pub enum TryOutcome {
     /// The session has the ticket.
     Granted,
     /// The request can't be granted now. Nothing has changed.
@@ -30,7 +30,7 @@ pub fn try_now<R: Wait>(
     kind: Kind,
     number: u64,
     mode: Mode,
-) -> Result<Tried, BookError>
+) -> Result<TryOutcome, BookError>
     requires at { MayVisit place seat.old }
     requires wish { HasWish place kind mode seat.old.me.0 }
     requires number { number ≡ seat.old.me.0.next }
@@ -42,10 +42,10 @@ pub fn try_now<R: Wait>(
     let (latch, word, can) = enter(rt, seat, place, mode, is_obtrusive(kind, mode));
     if !can {
         lower_flags_and_put(seat, latch, &[]);
-        return Ok(Tried::Blocked);
+        return Ok(TryOutcome::Blocked);
     }
     if let Err(cause) = gain(seat, latch, number, mode, word) {
         return Err(cause);
     }
-    Ok(Tried::Granted)
+    Ok(TryOutcome::Granted)
 }

@@ -3,12 +3,12 @@ ghost use Rattle.std.specs.Prelude.{◌≡◌, true};
 ghost use Rattle.mdl_key.specs.declared.namespace.Kind.{Kind};
 ghost use Rattle.mdl_key.specs.Words.{is_obtrusive};
 ghost use Rattle.mdl_steps.specs.declared.deed.Deed.TheVariants.{Alter};
-ghost use Rattle.mdl_visits.specs.declared.calls.try_now.Tried.TheVariants.{Granted, Blocked};
+ghost use Rattle.mdl_visits.specs.declared.calls.try_now.TryOutcome.TheVariants.{Granted, Blocked};
 ghost use Rattle.mdl_visits.specs.Coverings.{MayRise};
 ghost use Rattle.mdl_visits.specs.Visits.{HasWish, IsVisit, MayVisit, WasBlocked, WasGranted};
 ghost use Rattle.mdl_visits.specs.Leavings.{HasTicket};
 
-use crate::calls::try_now::Tried;
+use crate::calls::try_now::TryOutcome;
 use crate::enter_and_leave::{enter, lower_flags_and_put};
 use mdl_key::Mode;
 use mdl_steps::{Deed, TableSeat};
@@ -23,7 +23,7 @@ pub fn upgrade_now<R: Wait>(
     place: usize,
     number: u64,
     mode: Mode,
-) -> Tried
+) -> TryOutcome
     requires at { MayVisit place seat.old }
     requires wish { (kind : Kind) × HasWish place kind mode seat.old.me.0 × (is_obtrusive kind mode ≡ true) }
     requires held { MayRise place number mode seat.old.me.0 }
@@ -34,9 +34,9 @@ pub fn upgrade_now<R: Wait>(
     let (latch, word, can) = enter(rt, seat, place, mode, true);
     if !can {
         lower_flags_and_put(seat, latch, &[]);
-        return Tried::Blocked;
+        return TryOutcome::Blocked;
     }
     let _altered = seat.write_mode(&latch, number, mode, word);
     seat.put_latch(latch, &[Deed::Alter(number, mode)]);
-    Tried::Granted
+    TryOutcome::Granted
 }

@@ -14,7 +14,7 @@ use crate::shared::steps::rows::{Answer, Deed};
 use mdl_key::{Key, Kind, Mode};
 use mdl_steps::{Ask, Loss, Maker, Own, OwnedTable, TableSeat, WaitWord};
 use mdl_visits::{
-    FastTried, Queued, Tried, begin_wait, end_lost_wait, materialise, release, release_fast,
+    FastTried, Queued, TryOutcome, begin_wait, end_lost_wait, materialise, release, release_fast,
     reschedule, resolve, try_fast, try_now,
 };
 use mdl_word::Word;
@@ -127,7 +127,7 @@ impl Visitor {
         }
         let (place, number) = (self.place, self.next);
         match try_now(rt, &mut self.seat, place, self.kind, number, mode) {
-            Ok(Tried::Granted) => {
+            Ok(TryOutcome::Granted) => {
                 self.slow = Some(Own {
                     number,
                     place,
@@ -137,7 +137,7 @@ impl Visitor {
                 self.next += 1;
                 Answer::Granted
             }
-            Ok(Tried::Blocked) => Answer::WouldWait,
+            Ok(TryOutcome::Blocked) => Answer::WouldWait,
             Err(_) => Answer::Refused,
         }
     }

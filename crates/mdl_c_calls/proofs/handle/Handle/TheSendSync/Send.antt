@@ -12,14 +12,14 @@ use Rattle.std.proofs.Crossing as heap
 use Rattle.std_alloc.proofs.SendSync.{quiet, lies}
 use Rattle.std_heap.proofs.Global.TheSendSync as allocator
 use Rattle.mdl_c_calls.specs.Handles.{keeps}
-use Rattle.mdl_c_calls.specs.contracts.manager.Manager as Manager
-use Rattle.mdl_c_calls.proofs.manager.Manager.TheSendSync.{the_send}
+use Rattle.mdl_c_calls.specs.contracts.manager.ServedSpace as ServedSpace
+use Rattle.mdl_c_calls.proofs.manager.ServedSpace.TheSendSync.{the_send}
 use Rattle.mdl_c_calls.specs.contracts.handle.Handle.{the_row, the_type}
 
 -- what a handle keeps names no thread
-keyless : (alloc : Global) (at : Ptr) (kept : Option Manager.the_row.Denot) → Keyless (keeps alloc Manager.the_row at kept)
+keyless : (alloc : Global) (at : Ptr) (kept : Option ServedSpace.the_row.Denot) → Keyless (keeps alloc ServedSpace.the_row at kept)
 keyless alloc at None = tt
-keyless alloc at (Some core) = (lies Manager.the_row the_send at core, heap.frees.frees alloc (raw (lone Manager.the_row.mir)) at)
+keyless alloc at (Some core) = (lies ServedSpace.the_row the_send at core, heap.frees.frees alloc (raw (lone ServedSpace.the_row.mir)) at)
 
 pub send : IsSend the_row
 send =

@@ -2,7 +2,7 @@
 use Rattle.std.proofs.Common.{subst}
 use Rattle.mdl_context.specs.Contexts.{ContextView}
 use Rattle.mdl_context.specs.Wishes.{wish_of}
-use Rattle.mdl_stmt.specs.declared.got.Got.TheVariants.{Had, Ends}
+use Rattle.mdl_stmt.specs.declared.got.LockResult.TheVariants.{Had, Ends}
 use Rattle.mdl_stmt.specs.Gets.{IsGot}
 use Rattle.mdl_stmt.specs.Players.{PlayerView, player_of}
 use Rattle.mdl_stmt.proofs.RunLemmas.{got-had, got-error, got-told}

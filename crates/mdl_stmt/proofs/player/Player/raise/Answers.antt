@@ -1,7 +1,7 @@
 -- A stronger mode that is asked for is had, waited for, or missed.
 use Rattle.std.proofs.Common.{subst}
 use Rattle.mdl_context.specs.Contexts.{ContextView}
-use Rattle.mdl_stmt.specs.declared.got.Got.TheVariants.{Had, Ends}
+use Rattle.mdl_stmt.specs.declared.got.LockResult.TheVariants.{Had, Ends}
 use Rattle.mdl_stmt.specs.Gets.{IsRaised}
 use Rattle.mdl_stmt.specs.Players.{PlayerView, player_of}
 use Rattle.mdl_stmt.proofs.RunLemmas.{raised-had, raised-error, raised-told}

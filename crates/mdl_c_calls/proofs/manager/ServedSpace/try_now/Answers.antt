@@ -1,0 +1,16 @@
+-- The space goes on to serve each session, and the contexts of the others.
+use Rattle.std.proofs.Common.{◌≡◌, None, refl, sym, subst}
+use Rattle.mdl_calls.specs.Words.{Try_now, attempted}
+use Rattle.mdl_c_calls.specs.Managers.{direct_fault, seat_of}
+use Rattle.mdl_c_calls.proofs.ManagerLemmas.{direct-speaks, serves-direct}
+use Rattle.mdl_c_calls.proofs.manager.ServedSpace.try_now.Goals as goal
+
+pub try_now-requires : goal.try_now-requires
+try_now-requires c =
+    let direct = subst (λ m. direct_fault (seat_of c.args.who m) ≡ None) (sym c.self.view_is) c.in_ok-check_direct.ensures in
+    direct-speaks _ c.args.who c.self.inside.sessions c.self.inside.seats.items direct c.self.invariant
+
+pub invariant_of-self : goal.invariant_of-self
+invariant_of-self c =
+    let direct = subst (λ m. direct_fault (seat_of c.args.who m) ≡ None) (sym c.self.view_is) c.in_ok-check_direct.ensures in
+    serves-direct _ c.try_now.new.self (Try_now c.args.who c.args.place c.args.mode) (attempted c.try_now.result) c.args.who c.self.inside.sessions c.self.inside.seats.items refl direct c.self.invariant c.try_now.ensures
