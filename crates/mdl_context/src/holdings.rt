@@ -213,7 +213,7 @@ impl Holdings {
         ensures here { result ≡ position (is_ticket id) self.now.kept }
         ensures has { is_some result ≡ has_number self.now.kept id }
     {
-        place_of(&self.tickets, id)
+        index_of(&self.tickets, id)
     }
 
     /// The wait by which the ticket of a number is upgraded, if there is one. No search for deadlocks was made for it yet.
@@ -232,7 +232,7 @@ impl Holdings {
         ensures known { self.new.known ≡ self.old.known }
         ensures wait { self.new.wait ≡ self.old.wait }
     {
-        if let Some(at) = place_of(&self.tickets, id) {
+        if let Some(at) = index_of(&self.tickets, id) {
             self.tickets[at].mode = mode;
         }
     }
@@ -244,7 +244,7 @@ impl Holdings {
         ensures known { self.new.known ≡ self.old.known }
         ensures wait { self.new.wait ≡ self.old.wait }
     {
-        if let Some(at) = place_of(&self.tickets, id) {
+        if let Some(at) = index_of(&self.tickets, id) {
             let ticket = &mut self.tickets[at];
             if !covers(ticket.mode, mode) {
                 ticket.mode = mode;
@@ -356,7 +356,7 @@ impl Holdings {
 }
 
 // The index of the ticket with a number, among tickets whose numbers rise.
-fn place_of(tickets: &[Kept], id: TicketId) -> Option<usize>
+fn index_of(tickets: &[Kept], id: TicketId) -> Option<usize>
     requires { AreRising tickets.now }
     ensures { result ≡ position (is_ticket id) tickets.now }
 {
@@ -368,7 +368,7 @@ fn numbered(tickets: &[Kept], id: TicketId) -> Option<&Kept>
     requires { AreRising tickets.now }
     ensures { option_copied result ≡ find (is_ticket id) tickets.now }
 {
-    let at = place_of(tickets, id)?;
+    let at = index_of(tickets, id)?;
     Some(&tickets[at])
 }
 

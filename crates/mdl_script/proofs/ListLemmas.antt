@@ -7,7 +7,7 @@ use Rattle.std.proofs.Math.Dec.{eqb, leb}
 use Rattle.std.proofs.lemmas.Bool.{le-ltb, lt-ltb}
 use Rattle.std.proofs.lemmas.Bool.Decides.{eqb_tells, leb_tells}
 use Rattle.std.proofs.lemmas.List.Sums.{prefix_len-le-length}
-use Rattle.mdl_script.specs.Plays.{place_of}
+use Rattle.mdl_script.specs.Plays.{insertion_index}
 use Rattle.std.proofs.lemmas.List.Elements.{All-nil, All-cons, All-head, All-tail}
 
 -- two tests that say the same of each number
@@ -19,25 +19,25 @@ filter-same p q a (suc n) same =
     rw (here, rest)
 
 -- numbers from a greater one on have it before all of them
-place-first : (p : ℕ → Bool) (who a n : ℕ) → who < a → place_of who (filter p (range_with_len a n)) ≡ 0
+place-first : (p : ℕ → Bool) (who a n : ℕ) → who < a → insertion_index who (filter p (range_with_len a n)) ≡ 0
 place-first p who a zero less = refl
 place-first p who a (suc n) less =
     let later = place-first p who (a + 1) n (omega (arith, less)) in
     let greater = lt-ltb who a less in
-    elim (p a) as (λ b. place_of who (cond b (a ∷ filter p (range_with_len (a + 1) n)) (filter p (range_with_len (a + 1) n))) ≡ 0) [
+    elim (p a) as (λ b. insertion_index who (cond b (a ∷ filter p (range_with_len (a + 1) n)) (filter p (range_with_len (a + 1) n))) ≡ 0) [
       | true ↦ rw greater refl
       | false ↦ later
     ]
 
 -- one number more passes: it stands in its place
 pub filter-noted : (p q : ℕ → Bool) (who a n : ℕ) → ((k : ℕ) → a ≤ k → k ≢ who → q k ≡ p k) → p who ≡ false → q who ≡ true → a ≤ who → who < a + n
-    → filter q (range_with_len a n) ≡ insert (filter p (range_with_len a n)) (place_of who (filter p (range_with_len a n))) who
+    → filter q (range_with_len a n) ≡ insert (filter p (range_with_len a n)) (insertion_index who (filter p (range_with_len a n))) who
 filter-noted p q who a zero same before now least most = absurd (omega (arith, least, most))
 filter-noted p q who a (suc n) same before now least most =
     by (λ above. filter-noted p q who (a + 1) n (λ k least. same k (omega (arith, least))) before now above (omega (arith, most))) (eqb_tells a who) where
-      by : (a + 1 ≤ who → filter q (range_with_len (a + 1) n) ≡ insert (filter p (range_with_len (a + 1) n)) (place_of who (filter p (range_with_len (a + 1) n))) who)
+      by : (a + 1 ≤ who → filter q (range_with_len (a + 1) n) ≡ insert (filter p (range_with_len (a + 1) n)) (insertion_index who (filter p (range_with_len (a + 1) n))) who)
           → ((eqb a who ≡ true) × (a ≡ who)) ⊎ ((eqb a who ≡ false) × (a ≢ who))
-          → filter q (range_with_len a (suc n)) ≡ insert (filter p (range_with_len a (suc n))) (place_of who (filter p (range_with_len a (suc n)))) who
+          → filter q (range_with_len a (suc n)) ≡ insert (filter p (range_with_len a (suc n))) (insertion_index who (filter p (range_with_len a (suc n)))) who
       by later (inl here) =
           let passed : p a ≡ false = subst (λ k. p k ≡ false) (sym here.1) before in
           let passes : q a ≡ true = subst (λ k. q k ≡ true) (sym here.1) now in
@@ -47,10 +47,10 @@ filter-noted p q who a (suc n) same before now least most =
       by later (inr other) =
           let rest = later (omega (arith, least, other.1)) in
           let lower = le-ltb who a (omega (arith, least)) in
-          let one : 1 + place_of who (filter p (range_with_len (a + 1) n)) ≡ suc (place_of who (filter p (range_with_len (a + 1) n))) = omega arith in
+          let one : 1 + insertion_index who (filter p (range_with_len (a + 1) n)) ≡ suc (insertion_index who (filter p (range_with_len (a + 1) n))) = omega arith in
           let as_before = same a (omega arith) other.1 in
           rw as_before (elim (p a) as (λ b. cond b (a ∷ filter q (range_with_len (a + 1) n)) (filter q (range_with_len (a + 1) n))
-          ≡ insert (cond b (a ∷ filter p (range_with_len (a + 1) n)) (filter p (range_with_len (a + 1) n))) (place_of who (cond b (a ∷ filter p (range_with_len (a + 1) n)) (filter p (range_with_len (a + 1) n)))) who) [
+          ≡ insert (cond b (a ∷ filter p (range_with_len (a + 1) n)) (filter p (range_with_len (a + 1) n))) (insertion_index who (cond b (a ∷ filter p (range_with_len (a + 1) n)) (filter p (range_with_len (a + 1) n)))) who) [
             | true ↦ rw (lower, one) (ap (λ xs. a ∷ xs) rest)
             | false ↦ rest
           ])

@@ -23,7 +23,7 @@ use Rattle.mdl_syntax.specs.declared.script.Line.{Line}
 use Rattle.mdl_work.proofs.WorkLemmas.{attends-with}
 use Rattle.mdl_script.specs.declared.play.Play.{Play}
 use Rattle.mdl_script.specs.declared.play.Player as kept
-use Rattle.mdl_script.specs.Plays.{AreSeated, IsManned, place_of, player_of, world_of}
+use Rattle.mdl_script.specs.Plays.{AreSeated, IsManned, insertion_index, player_of, world_of}
 use Rattle.mdl_script.specs.Worlds.{Player, World, came, going, is_waiting, newcomer, player_at, sessions, started, waiting_in}
 use Rattle.mdl_script.proofs.ListLemmas.{All-filter_range, filter-noted, filter-same, filter-struck}
 
@@ -110,7 +110,7 @@ waiting-same line who so world after session left alike = filter-same (is_waitin
 
 -- it begins to wait: it is noted in its place
 pub waiting-noted : (line who : ℕ) (so : Pause × Core) (world after : World) → IsScriptSession who → after ≡ (came line who so world).world
-    → is_waiting world who ≡ false → is_waiting after who ≡ true → waiting_in after ≡ insert (waiting_in world) (place_of who (waiting_in world)) who
+    → is_waiting world who ≡ false → is_waiting after who ≡ true → waiting_in after ≡ insert (waiting_in world) (insertion_index who (waiting_in world)) who
 unfolding sessions
 waiting-noted line who so world after session left before now =
     filter-noted (is_waiting world) (is_waiting after) who 1 64 (λ w least other. ap (λ v. is_waiting v w) left ∙ others-wait line who so world w session.0 least other)
@@ -147,7 +147,7 @@ manned-again play then_ spaces players all seated waiting = record {
 -- a session began to wait with its statement
 pub noted-starting : (line : Line) (world after : World) → IsScriptSession line.session → after ≡ (started line world).world
     → is_waiting world line.session ≡ false → is_waiting after line.session ≡ true
-    → insert (waiting_in world) (place_of line.session (waiting_in world)) line.session ≡ waiting_in after
+    → insert (waiting_in world) (insertion_index line.session (waiting_in world)) line.session ≡ waiting_in after
 noted-starting line world after session left before now =
     sym (waiting-noted line.number line.session (outcome_of outcome (starting line.statement (player_at line.session world).session) world.core) world after session left before now)
 

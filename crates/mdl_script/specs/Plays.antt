@@ -41,8 +41,8 @@ AreSeated core who (player ∷ players) =
     (player.runner.context.who ≡ who) × AttendsWith core_space core player.runner.context player.runner.cache × AreSeated core (who + 1) players
 
 -- where a session belongs among others in rising order: at the first greater one, or at the end
-abbrev pub place_of : ℕ → List ℕ → ℕ
-place_of who others = position_or_len (λ other. nat_lt who other) others
+abbrev pub insertion_index : ℕ → List ℕ → ℕ
+insertion_index who others = position_or_len (λ other. nat_lt who other) others
 
 -- the play has all sessions, and its list of waiting sessions is right
 pub record IsManned (play : Play) : Type 0 where

@@ -4,7 +4,7 @@ ghost use Rattle.mdl_key.specs.Words.{most_sessions};
 ghost use Rattle.mdl_core.specs.CoreCalls.{has_settled};
 ghost use Rattle.mdl_core.specs.CoreJoins.{SpeaksFor};
 ghost use Rattle.mdl_lines.specs.Sessions.{IsScriptSession};
-ghost use Rattle.mdl_script.specs.Plays.{AreSeated, IsManned, new_player, place_of, world_of};
+ghost use Rattle.mdl_script.specs.Plays.{AreSeated, IsManned, insertion_index, new_player, world_of};
 ghost use Rattle.mdl_script.specs.Worlds.{asked, asked_waiting, first_settled, first_world, going, is_waiting, line_played, most_turns, sessions, settling, started, timed_out, told_of, turn_of, waiting_in};
 ghost use Rattle.mdl_stmt.specs.Gets.{paused};
 ghost use Rattle.mdl_rows.specs.Sessions.{Session};
@@ -252,11 +252,11 @@ impl<'s> Play<'s> {
 
     // Adds a session to the list of those that wait, in its place in rising order.
     fn note(&mut self, who: u16) -> Result<(), AllocError>
-        ensures noted { OnOk result (self.new.waiting.items ≡ insert self.old.waiting.items (place_of who self.old.waiting.items) who) }
+        ensures noted { OnOk result (self.new.waiting.items ≡ insert self.old.waiting.items (insertion_index who self.old.waiting.items) who) }
         ensures space { self.new.space ≡ self.old.space }
         ensures players { self.new.players.items ≡ self.old.players.items }
     {
-        let place = place_of(&self.waiting, who);
+        let place = index_of(&self.waiting, who);
         self.waiting.insert(place, who)?;
         Ok(())
     }
@@ -279,8 +279,8 @@ fn leave_others(waiting: &mut Vec<u16>, who: u16)
 }
 
 // Returns where a session belongs among others in rising order.
-fn place_of(waiting: &[u16], who: u16) -> usize
-    ensures place { result ≡ place_of who waiting.now }
+fn index_of(waiting: &[u16], who: u16) -> usize
+    ensures place { result ≡ insertion_index who waiting.now }
     ensures inside { result ≤ length waiting.now }
 {
     first_greater(waiting, who).unwrap_or(waiting.len())

@@ -58,14 +58,14 @@ fn take(passes: &mut Vec<Pass>, who: u16) -> Pass
     ensures number { pass_number result ≡ who }
     ensures rest { IsPermutation passes.old.items (result ∷ passes.new.items) }
 {
-    match place_of(passes, who) {
+    match index_of(passes, who) {
         Some(place) => passes.swap_remove(place),
         None => unreachable!(),
     }
 }
 
 /// Returns where the pass of a session is.
-fn place_of(passes: &[Pass], who: u16) -> Option<usize>
+fn index_of(passes: &[Pass], who: u16) -> Option<usize>
     ensures { result ≡ position (λ pass. pass_number pass == who) passes.now }
 {
     passes.iter().position(|pass| pass.number() == who)

@@ -61,7 +61,7 @@ impl LockList {
     pub fn ticket_of(&self, key: &Key) -> TicketId
         ensures { result ≡ ticket_of key.now self.now.keys self.now.tickets }
     {
-        let Some(at) = place_of(&self.keys, key) else {
+        let Some(at) = index_of(&self.keys, key) else {
             return 0;
         };
         match self.tickets.get(at) {
@@ -102,7 +102,7 @@ pub enum Locking<'s> {
 }
 
 // The index of a key.
-fn place_of(keys: &[Key], key: &Key) -> Option<usize>
+fn index_of(keys: &[Key], key: &Key) -> Option<usize>
     ensures { result ≡ position (key_eq key.now) keys.now }
 {
     keys.iter().position(|other| key == other)

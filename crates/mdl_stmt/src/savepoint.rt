@@ -59,7 +59,7 @@ impl Savepoints {
         ensures found { result ≡ savepoint_mark name.now self.old }
         ensures kept { self.new ≡ up_to name.now self.old }
     {
-        let at = place_of(&self.list, name)?;
+        let at = index_of(&self.list, name)?;
         let mark = self.list[at].mark;
         self.list.truncate(at + 1);
         Some(mark)
@@ -83,7 +83,7 @@ fn leave_others(list: &mut Vec<Savepoint>, name: &Name)
 }
 
 // The index of the first savepoint of a name.
-fn place_of(list: &[Savepoint], name: &Name) -> Option<usize>
+fn index_of(list: &[Savepoint], name: &Name) -> Option<usize>
     ensures { result ≡ position (is_named name.now) list.now }
 {
     list.iter().position(|savepoint| is_named(savepoint, name))

@@ -3,7 +3,7 @@ use Rattle.std.proofs.Common.{nat_lt, not, ap, ◌∙◌, length, subst, ◌≤�
 use Rattle.std.specs.Option.{unwrap_or}
 use Rattle.std.proofs.lemmas.List.Sums.{prefix_len-le-length}
 use Rattle.mdl_script.proofs.ListLemmas.{first-or-len}
-use Rattle.mdl_script.proofs.play.place_of.Goals as goal
+use Rattle.mdl_script.proofs.play.index_of.Goals as goal
 
 pub returns-clause-place : goal.returns-clause-place
 returns-clause-place c =

@@ -2,7 +2,7 @@
 use Rattle.std.proofs.Common.{rules, ◌∙◌}
 use Rattle.std.proofs.lemmas.List.Sorted.{answers_always}
 use Rattle.mdl_context.proofs.SearchLemmas.{searched}
-use Rattle.mdl_context.proofs.holdings.place_of.Goals as goal
+use Rattle.mdl_context.proofs.holdings.index_of.Goals as goal
 
 pub returns : goal.returns
 returns c =
