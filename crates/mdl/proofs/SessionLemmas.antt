@@ -3,7 +3,7 @@ use Rattle.std.proofs.Common.{◌≡◌, ◌≢◌, ℕ, [], None, refl}
 use Rattle.std.proofs.lemmas.List.Elements.{All-nil}
 use Rattle.mdl_defs.specs.Caches.{CacheView}
 use Rattle.mdl_calls.specs.Words.{Answer, Call}
-use Rattle.mdl_core.specs.Words.{Core, SpeaksFor, own_at}
+use Rattle.mdl_core.specs.Words.{Core, SpeaksFor, locks_at}
 use Rattle.mdl_space.specs.CoreMembers.{core_space}
 use Rattle.mdl_core.specs.CoreJoins.{Joins}
 use Rattle.mdl_core.proofs.CallLaws.{core-keeps}
@@ -20,7 +20,7 @@ still_speaks = core-keeps calls_keep-sound
 
 -- the space attends to a new context of a session that has nothing
 pub attends_new : (space : Core) (who : ℕ) (x : ContextView) → x ≡ record { who = who; kept = []; known = []; wait = None } → SpeaksFor space who
-    → own_at space who ≡ record { held = []; wait = None } → Attends core_space space x
+    → locks_at space who ≡ record { held = []; wait = None } → Attends core_space space x
 attends_new space who x new speaks nothing =
     rw new (record { speaks = speaks; serves = rw nothing (record { held = refl; wait = refl }); known = All-nil _; places = All-nil _; wish = tt })
 

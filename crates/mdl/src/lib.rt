@@ -12,7 +12,7 @@
 //!
 //! ```
 //! ghost use Rattle.std.specs.Prelude.{◌≡◌, [], None};
-//! ghost use Rattle.mdl.specs.mdl_shared.Passes.{pass_table, table_of};
+//! ghost use Rattle.mdl.specs.mdl_shared.Passes.{pass_table, manager_table};
 //! ghost use Rattle.mdl.specs.mdl_shared.SessionViews.{data_of};
 //!
 //! use crate::requests::Request;
@@ -32,7 +32,7 @@
 //!     pass: Pass,
 //!     requests: &[Request<'_>],
 //! ) -> Result<String, AllocError>
-//!     requires { pass_table pass ≡ table_of manager.now }
+//!     requires { pass_table pass ≡ manager_table manager.now }
 //! {
 //!     let mut text = String::new(alloc);
 //!     let mut session = Session::open(rt, manager, pass);

@@ -1,7 +1,7 @@
 //! A session's calls through its context: in the table that threads share, and in a space of one thread.
 ghost use Rattle.std.specs.Prelude.{◌≡◌};
 ghost use Rattle.mdl_context.specs.Contexts.{Attends};
-ghost use Rattle.mdl_shared.specs.Passes.{table_of, pass_table};
+ghost use Rattle.mdl_shared.specs.Passes.{manager_table, pass_table};
 
 use crate::failure::Failure;
 use crate::lap::spent_since;
@@ -59,7 +59,7 @@ fn time_pass<R: Wait + Clock, W: Wait + Drop>(
     tickets: u16,
     turns: u32,
 ) -> Result<time::Duration, Failure>
-    requires { pass_table pass ≡ table_of manager.now }
+    requires { pass_table pass ≡ manager_table manager.now }
 {
     let mut session = Session::open(wait, manager, pass);
     let mut context = Context::new(alloc, session.number());

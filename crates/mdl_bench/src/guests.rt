@@ -1,6 +1,6 @@
 //! The sessions of a new table that threads share. Each is closed when it is dropped.
 ghost use Rattle.std.specs.Prelude.{◌≡◌};
-ghost use Rattle.mdl_shared.specs.Passes.{ArePasses, table_of, pass_table};
+ghost use Rattle.mdl_shared.specs.Passes.{ArePasses, manager_table, pass_table};
 
 use crate::failure::Failure;
 use crate::seat::close;
@@ -42,7 +42,7 @@ fn admit<'r, R: Wait>(
     passes: Vec<Pass>,
     guests: &mut Vec<Guest<'r, R>>,
 ) -> bool
-    requires { ArePasses (table_of manager.now) passes.items }
+    requires { ArePasses (manager_table manager.now) passes.items }
 {
     let mut all = true;
     for pass in passes {
@@ -54,7 +54,7 @@ fn admit<'r, R: Wait>(
 
 // Opens the session of a pass.
 fn open<'r, R: Wait>(rt: &'r R, manager: &Manager, pass: Pass) -> Guest<'r, R>
-    requires { pass_table pass ≡ table_of manager.now }
+    requires { pass_table pass ≡ manager_table manager.now }
 {
     let session = Session::open(rt, manager, pass);
     Guest { rt, session }

@@ -3,8 +3,8 @@ ghost use Rattle.std.specs.Prelude.{◌≡◌};
 ghost use Rattle.std.specs.Str.{IsUtf8};
 ghost use Rattle.mdl_key.specs.Keys.{commit_key, global_key, name_fault, schema_key, table_fault, table_key};
 ghost use Rattle.mdl_calls.specs.Words.{Resolve};
-ghost use Rattle.mdl_c_calls.specs.Exports.{Number, Serves, Tells};
-ghost use Rattle.mdl_c_calls.specs.Names.{Named};
+ghost use Rattle.mdl_c_calls.specs.Exports.{Number, ServesCall, Tells};
+ghost use Rattle.mdl_c_calls.specs.Names.{MakesKey};
 
 use mdl_c_calls::MdlSpace;
 use std::alloc::Global;
@@ -19,8 +19,8 @@ pub extern "C" fn mdl_table(
     table: &[u8],
     place: &mut u16,
 ) -> u32
-    ensures { Named (IsUtf8 schema.now × IsUtf8 table.now) (table_fault schema.now table.now)
-        (Serves who (Resolve who (table_key schema.now table.now)) space.old.handle.manager result space.new.handle.manager (Number place.old place.new))
+    ensures { MakesKey (IsUtf8 schema.now × IsUtf8 table.now) (table_fault schema.now table.now)
+        (ServesCall who (Resolve who (table_key schema.now table.now)) space.old.handle.manager result space.new.handle.manager (Number place.old place.new))
         (λ wrong. Tells wrong space.old.handle.manager result space.new.handle.manager × (place.new ≡ place.old)) }
 {
     mdl_c_calls::mdl_table(alloc, space, who, schema, table, place)
@@ -35,8 +35,8 @@ pub extern "C" fn mdl_schema(
     schema: &[u8],
     place: &mut u16,
 ) -> u32
-    ensures { Named (IsUtf8 schema.now) (name_fault schema.now)
-        (Serves who (Resolve who (schema_key schema.now)) space.old.handle.manager result space.new.handle.manager (Number place.old place.new))
+    ensures { MakesKey (IsUtf8 schema.now) (name_fault schema.now)
+        (ServesCall who (Resolve who (schema_key schema.now)) space.old.handle.manager result space.new.handle.manager (Number place.old place.new))
         (λ wrong. Tells wrong space.old.handle.manager result space.new.handle.manager × (place.new ≡ place.old)) }
 {
     mdl_c_calls::mdl_schema(alloc, space, who, schema, place)
@@ -45,7 +45,7 @@ pub extern "C" fn mdl_schema(
 /// Writes the place of the key of the global read lock.
 #[unsafe(no_mangle)]
 pub extern "C" fn mdl_global(alloc: Global, space: &mut MdlSpace, who: u16, place: &mut u16) -> u32
-    ensures { Serves who (Resolve who global_key) space.old.handle.manager result space.new.handle.manager (Number place.old place.new) }
+    ensures { ServesCall who (Resolve who global_key) space.old.handle.manager result space.new.handle.manager (Number place.old place.new) }
 {
     mdl_c_calls::mdl_global(alloc, space, who, place)
 }
@@ -53,7 +53,7 @@ pub extern "C" fn mdl_global(alloc: Global, space: &mut MdlSpace, who: u16, plac
 /// Writes the place of the key that commits take.
 #[unsafe(no_mangle)]
 pub extern "C" fn mdl_commit(alloc: Global, space: &mut MdlSpace, who: u16, place: &mut u16) -> u32
-    ensures { Serves who (Resolve who commit_key) space.old.handle.manager result space.new.handle.manager (Number place.old place.new) }
+    ensures { ServesCall who (Resolve who commit_key) space.old.handle.manager result space.new.handle.manager (Number place.old place.new) }
 {
     mdl_c_calls::mdl_commit(alloc, space, who, place)
 }

@@ -2,8 +2,8 @@
 ghost use Rattle.std.specs.Prelude.{◌≡◌, length};
 ghost use Rattle.mdl_key.specs.Keys.{namespace_rank};
 ghost use Rattle.mdl_calls.specs.Words.{List_held};
-ghost use Rattle.mdl_c_calls.specs.Exports.{Serves};
-ghost use Rattle.mdl_c_calls.specs.Listings.{HeldTold, IsKept, IsTold, Shows, ShowsLock, TellsSettled, lock_rows};
+ghost use Rattle.mdl_c_calls.specs.Exports.{ServesCall};
+ghost use Rattle.mdl_c_calls.specs.Listings.{HeldTold, IsKept, IsListWritten, ShowsLock, ShowsManager, TellsSettled, lock_rows};
 
 use mdl_c_calls::{HeldRow, LockRow, MdlSpace};
 use std::alloc::Global;
@@ -11,7 +11,7 @@ use std::alloc::Global;
 /// Writes which sessions have waits that are settled and not ended, one bit each. The lowest bit is that of session 1.
 #[unsafe(no_mangle)]
 pub extern "C" fn mdl_settled(alloc: Global, space: &mut MdlSpace, sessions: &mut u64) -> u32
-    ensures { Shows space.old.handle.manager result space.new.handle.manager (sessions.new ≡ sessions.old) (λ m. (result ≡ 0) × TellsSettled m sessions.new) }
+    ensures { ShowsManager space.old.handle.manager result space.new.handle.manager (sessions.new ≡ sessions.old) (λ m. (result ≡ 0) × TellsSettled m sessions.new) }
 {
     mdl_c_calls::mdl_settled(alloc, space, sessions)
 }
@@ -25,7 +25,7 @@ pub extern "C" fn mdl_held(
     room: &mut [HeldRow],
     count: &mut usize,
 ) -> u32
-    ensures { Serves who (List_held who) space.old.handle.manager result space.new.handle.manager (HeldTold room.old room.new count.old count.new) }
+    ensures { ServesCall who (List_held who) space.old.handle.manager result space.new.handle.manager (HeldTold room.old room.new count.old count.new) }
 {
     mdl_c_calls::mdl_held(alloc, space, who, room, count)
 }
@@ -33,7 +33,7 @@ pub extern "C" fn mdl_held(
 /// Writes how many places have keys. They are those from 1 to this number.
 #[unsafe(no_mangle)]
 pub extern "C" fn mdl_places(alloc: Global, space: &mut MdlSpace, count: &mut usize) -> u32
-    ensures { Shows space.old.handle.manager result space.new.handle.manager (count.new ≡ count.old) (λ m. (result ≡ 0) × (count.new ≡ length m.space.books)) }
+    ensures { ShowsManager space.old.handle.manager result space.new.handle.manager (count.new ≡ count.old) (λ m. (result ≡ 0) × (count.new ≡ length m.space.books)) }
 {
     mdl_c_calls::mdl_places(alloc, space, count)
 }
@@ -53,7 +53,7 @@ pub extern "C" fn mdl_key_of(
     ensures { ShowsLock place space.old.handle.manager result space.new.handle.manager
         ((namespace.new ≡ namespace.old) × IsKept schema.old schema.new schema_count.old schema_count.new × IsKept table.old table.new table_count.old table_count.new)
         (λ book. (namespace.new ≡ namespace_rank book.key.namespace)
-        × IsTold book.key.schema schema.old schema.new schema_count.new × IsTold book.key.table table.old table.new table_count.new) }
+        × IsListWritten book.key.schema schema.old schema.new schema_count.new × IsListWritten book.key.table table.old table.new table_count.new) }
 {
     mdl_c_calls::mdl_key_of(
         alloc,
@@ -77,7 +77,7 @@ pub extern "C" fn mdl_locks(
     count: &mut usize,
 ) -> u32
     ensures { ShowsLock place space.old.handle.manager result space.new.handle.manager
-        (IsKept room.old room.new count.old count.new) (λ book. IsTold (lock_rows book) room.old room.new count.new) }
+        (IsKept room.old room.new count.old count.new) (λ book. IsListWritten (lock_rows book) room.old room.new count.new) }
 {
     mdl_c_calls::mdl_locks(alloc, space, place, room, count)
 }

@@ -1,7 +1,7 @@
 //! The calls that begin, settle, end and observe waits.
 ghost use Rattle.mdl_calls.specs.Words.{Begin_wait, End_wait, Kill, Poll_wait, Search, Settle_timeout};
 ghost use Rattle.mdl_c_calls.specs.Codes.{mode_at, no_mode};
-ghost use Rattle.mdl_c_calls.specs.Exports.{Nothing, Number, Serves, ServesAnybody, ServesDirect, ServesDirectWish};
+ghost use Rattle.mdl_c_calls.specs.Exports.{Nothing, Number, ServesAnybody, ServesCall, ServesDirect, ServesDirectWish};
 
 use mdl_c_calls::MdlSpace;
 use std::alloc::Global;
@@ -32,7 +32,7 @@ pub extern "C" fn mdl_search(alloc: Global, space: &mut MdlSpace, who: u16, vict
 /// Returns the state of a session's wait.
 #[unsafe(no_mangle)]
 pub extern "C" fn mdl_poll(alloc: Global, space: &mut MdlSpace, who: u16) -> u32
-    ensures { Serves who (Poll_wait who) space.old.handle.manager result space.new.handle.manager Nothing }
+    ensures { ServesCall who (Poll_wait who) space.old.handle.manager result space.new.handle.manager Nothing }
 {
     mdl_c_calls::mdl_poll(alloc, space, who)
 }
@@ -48,7 +48,7 @@ pub extern "C" fn mdl_end(alloc: Global, space: &mut MdlSpace, who: u16, ticket:
 /// Settles a session's wait as a timeout, unless it is settled already. Returns how it is settled then.
 #[unsafe(no_mangle)]
 pub extern "C" fn mdl_time_out(alloc: Global, space: &mut MdlSpace, who: u16) -> u32
-    ensures { Serves who (Settle_timeout who) space.old.handle.manager result space.new.handle.manager Nothing }
+    ensures { ServesCall who (Settle_timeout who) space.old.handle.manager result space.new.handle.manager Nothing }
 {
     mdl_c_calls::mdl_time_out(alloc, space, who)
 }

@@ -7,7 +7,7 @@ use Rattle.mdl_key.specs.Keys.{KeyName}
 use Rattle.mdl_calls.specs.Words.{Answer, Call, caller, SessionLocks, own_after}
 use Rattle.mdl_core.specs.CoreCalls.{has_call}
 use Rattle.mdl_core.specs.CoreJoins.{Joins}
-use Rattle.mdl_core.specs.Words.{Core, Knows, SpeaksFor, own_at}
+use Rattle.mdl_core.specs.Words.{Core, Knows, SpeaksFor, locks_at}
 use Rattle.mdl_core.proofs.CallLaws.{core-changes, core-keeps, core-others, core-remembers}
 use Rattle.mdl_core.proofs.CoreSound.{calls_keep-sound}
 use Rattle.mdl_context.proofs.AttendLemmas.{attends-same}
@@ -18,7 +18,7 @@ use Rattle.mdl_c_calls.specs.declared.seat.Seat.TheVariants.{Direct, Kept}
 -- the space goes on to speak for a session, and nothing changes for it
 abbrev pub IsSpared : Core → Core → ℕ → Type 0
 IsSpared a b w =
-    SpeaksFor a w → SpeaksFor b w × (own_at b w ≡ own_at a w) × ((place : ℕ) (key : KeyName) → Knows a w place key → Knows b w place key)
+    SpeaksFor a w → SpeaksFor b w × (locks_at b w ≡ locks_at a w) × ((place : ℕ) (key : KeyName) → Knows a w place key → Knows b w place key)
 
 -- ---- calls
 
@@ -44,10 +44,10 @@ spared-still a b call answer w still joined speaks = (
   remembered a b call answer w joined speaks,
 )
   where
-    same : (o : Option ℕ) → caller call ≡ o → own_at b w ≡ own_at a w
+    same : (o : Option ℕ) → caller call ≡ o → locks_at b w ≡ locks_at a w
     same None nobody = core-others a b call answer w speaks (λ mine. let no = sym nobody ∙ mine in cc) joined
     same (Some v) theirs = elim (eqb_tells w v) [
-      | inl is ↦ core-changes a b call answer w (theirs ∙ ap Some (sym is.1)) joined ∙ still (own_at a w)
+      | inl is ↦ core-changes a b call answer w (theirs ∙ ap Some (sym is.1)) joined ∙ still (locks_at a w)
       | inr not ↦ core-others a b call answer w speaks (λ mine. let no = sym theirs ∙ mine in not.1 (cc)) joined
     ]
 

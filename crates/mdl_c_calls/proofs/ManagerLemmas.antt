@@ -9,7 +9,7 @@ use Rattle.std.proofs.lemmas.Bool.Decides.{nat_tests}
 use Rattle.std.proofs.lemmas.Option.{get_or_from_slice_get, slice_get_read, slice_get_within}
 use Rattle.mdl_calls.specs.declared.answers.Held.{Held}
 use Rattle.mdl_calls.specs.Words.{Answer, Call, caller, SessionLocks, Wait, own_after}
-use Rattle.mdl_core.specs.Words.{Core, SpeaksFor, own_at}
+use Rattle.mdl_core.specs.Words.{Core, SpeaksFor, locks_at}
 use Rattle.mdl_core.proofs.CallLaws.{core-keeps}
 use Rattle.mdl_core.proofs.CoreSound.{calls_keep-sound}
 use Rattle.mdl_space.specs.CoreMembers.{core_space}
@@ -105,8 +105,8 @@ nothing (ticket ∷ tickets) wait is =
     let some : (length (ticket ∷ tickets) == 0) ≡ false = grind (arith, nat_tests) in absurd (false≢true (ap (λ b. b && not (is_some wait)) (sym some) ∙ is))
 
 -- one that can have a context makes calls by itself, and has nothing
-begun : (who : ℕ) (manager : Managed) → begin_fault who manager ≡ None → (direct_fault (seat_of who manager) ≡ None) × (has_nothing (own_at manager.space who) ≡ true)
-begun who manager none = by (direct_fault (seat_of who manager)) (has_nothing (own_at manager.space who)) none where
+begun : (who : ℕ) (manager : Managed) → begin_fault who manager ≡ None → (direct_fault (seat_of who manager) ≡ None) × (has_nothing (locks_at manager.space who) ≡ true)
+begun who manager none = by (direct_fault (seat_of who manager)) (has_nothing (locks_at manager.space who)) none where
   by : (fault : Option Unserved) (free : Bool) → option_or fault (if free then None else Some InUse) ≡ None → (fault ≡ None) × (free ≡ true)
   by None true e = (refl, refl)
   by None false e = cc
@@ -118,7 +118,7 @@ pub serves-begun : (space : Core) (who sessions : ℕ) (seats : List Seat) (cont
 serves-begun space who sessions seats context none new serves =
     let can = begun who (record { space = space; seats = seats }) none in
     let seat = direct-seat who (record { space = space; seats = seats }) can.0 in
-    let has = nothing (own_at space who).held (own_at space who).wait can.1 in
+    let has = nothing (locks_at space who).held (locks_at space who).wait can.1 in
     let attends : Attends core_space space (new_context who) =
     record {
       speaks = direct-speaks space who sessions seats can.0 serves;

@@ -12,8 +12,8 @@ use Rattle.mdl_key.specs.declared.mode.Mode.{Mode}
 use Rattle.mdl_context.specs.Wishes.{Wish}
 use Rattle.mdl_c_calls.specs.Codes.{mode_at, name_code, no_mode}
 use Rattle.mdl_c_calls.specs.ContextCodes.{duration_at, namespace_at, no_duration}
-use Rattle.mdl_c_calls.specs.Names.{IsNameCode, Named, NamedIn}
-use Rattle.mdl_c_calls.specs.Transactions.{Given, Wishes}
+use Rattle.mdl_c_calls.specs.Names.{IsNameCode, MakesKey, NamedIn}
+use Rattle.mdl_c_calls.specs.Transactions.{Given, MakesWish}
 
 -- the error of a result, or another where there is none
 abbrev error_or : (T : Type 0) → KeyError → Result T KeyError → KeyError
@@ -28,12 +28,12 @@ name-code T are_text (Some fault) why text refused = inr (text, ap name_code (ap
 -- ---- what is done with a key, or with the code of why there is none
 
 named-so : {are_text : Type 0} {fault : Option KeyError} {key name : KeyName} (Done : KeyName → Type 0) (Refused : ℕ → Type 0)
-    → Named are_text fault (key ≡ name) (λ _. ⊥) → Done key → Named are_text fault (Done name) Refused
+    → MakesKey are_text fault (key ≡ name) (λ _. ⊥) → Done key → MakesKey are_text fault (Done name) Refused
 named-so Done Refused (inl (text, none, is)) done = inl (text, none, subst Done is done)
 named-so Done Refused (inr (code, why, never)) done = absurd never
 
 unnamed-so : {are_text : Type 0} {fault : Option KeyError} {code : ℕ} (Done : Type 0) (Refused : ℕ → Type 0)
-    → Named are_text fault ⊥ (λ wrong. code ≡ wrong) → Refused code → Named are_text fault Done Refused
+    → MakesKey are_text fault ⊥ (λ wrong. code ≡ wrong) → Refused code → MakesKey are_text fault Done Refused
 unnamed-so Done Refused (inl (text, none, never)) refused = absurd never
 unnamed-so Done Refused (inr (wrong, why, is)) refused = inr (wrong, why, subst Refused is refused)
 
@@ -62,7 +62,7 @@ named-refused (Some UserLevelLock) schema table code Done Refused named refused 
 wish-given : (namespace : ℕ) (schema table : List ℕ) (number length : ℕ) (mode : Mode) (duration : Duration) (Done : Wish → Type 0) (Refused : ℕ → Type 0)
     → mode_at number ≡ Some mode → duration_at length ≡ Some duration
     → NamedIn (namespace_at namespace) schema table (λ key. Done (record { key = key; mode = mode; duration = duration })) Refused
-    → Wishes namespace schema table number length Done Refused
+    → MakesWish namespace schema table number length Done Refused
 wish-given namespace schema table number length mode duration Done Refused is_mode is_duration named =
     let named_in = λ (m : Mode) (d : Duration). NamedIn (namespace_at namespace) schema table (λ key. Done (record { key = key; mode = m; duration = d })) Refused in
     subst (λ o. Given no_mode o (λ m. Given no_duration (duration_at length) (λ d. named_in m d) Refused) Refused) (sym is_mode)
@@ -71,7 +71,7 @@ wish-given namespace schema table number length mode duration Done Refused is_mo
 -- a lock is wished for
 pub wished : (namespace : ℕ) (schema table : List ℕ) (number length : ℕ) (mode : Mode) (duration : Duration) (key : KeyName) (Done : Wish → Type 0) (Refused : ℕ → Type 0)
     → mode_at number ≡ Some mode → duration_at length ≡ Some duration → NamedIn (namespace_at namespace) schema table (λ name. key ≡ name) (λ _. ⊥)
-    → Done (record { key = key; mode = mode; duration = duration }) → Wishes namespace schema table number length Done Refused
+    → Done (record { key = key; mode = mode; duration = duration }) → MakesWish namespace schema table number length Done Refused
 wished namespace schema table number length mode duration key Done Refused is_mode is_duration named done =
     wish-given namespace schema table number length mode duration Done Refused is_mode is_duration
     (named-done (namespace_at namespace) schema table key (λ name. Done (record { key = name; mode = mode; duration = duration })) Refused named done)
@@ -79,7 +79,7 @@ wished namespace schema table number length mode duration key Done Refused is_mo
 -- none is, since no key is named
 pub unwished : (namespace : ℕ) (schema table : List ℕ) (number length : ℕ) (mode : Mode) (duration : Duration) (code : ℕ) (Done : Wish → Type 0) (Refused : ℕ → Type 0)
     → mode_at number ≡ Some mode → duration_at length ≡ Some duration → NamedIn (namespace_at namespace) schema table (λ _. ⊥) (λ wrong. code ≡ wrong)
-    → Refused code → Wishes namespace schema table number length Done Refused
+    → Refused code → MakesWish namespace schema table number length Done Refused
 unwished namespace schema table number length mode duration code Done Refused is_mode is_duration named refused =
     wish-given namespace schema table number length mode duration Done Refused is_mode is_duration
     (named-refused (namespace_at namespace) schema table code (λ name. Done (record { key = name; mode = mode; duration = duration })) Refused named refused)

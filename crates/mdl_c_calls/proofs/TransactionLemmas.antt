@@ -11,7 +11,7 @@ use Rattle.mdl_context.specs.Contexts.{Attends, ContextView, LeavesOthers}
 use Rattle.mdl_context.specs.Releases.{unless}
 use Rattle.mdl_context.specs.Requests.{Outcome}
 use Rattle.mdl_c_calls.specs.Managers.{Asks, IsAttended, Managed, ServesAll, context_fault, seat_of}
-use Rattle.mdl_c_calls.specs.Transactions.{Leaves, RunsFor, leaving_from, seating}
+use Rattle.mdl_c_calls.specs.Transactions.{EndsContext, RunsFor, ending_from, with_seat}
 use Rattle.mdl_c_calls.specs.declared.seat.Seat.{Seat}
 use Rattle.mdl_c_calls.specs.declared.seat.Seat.TheVariants.{Direct, Kept}
 use Rattle.mdl_c_calls.specs.declared.unserved.Unserved.TheVariants.{NoContext}
@@ -41,7 +41,7 @@ module _ (manager : Managed) (who i : ℕ) (seat : Seat) (is : IsSeat who i mana
   has context kept = there ∙ ap Some kept
 
   -- with another seat for it
-  seated : (space : Core) (other : Seat) → record { space = space; seats = set manager.seats i other } ≡ seating who other (record manager { space = space })
+  seated : (space : Core) (other : Seat) → record { space = space; seats = set manager.seats i other } ≡ with_seat who other (record manager { space = space })
   seated space other = let index : i ≡ who - 1 = omega (arith, is.0) in ap (λ n. record { space = space; seats = set manager.seats n other }) index
 
   -- no context keeps its tickets
@@ -84,8 +84,8 @@ module _ (manager : Managed) (who i : ℕ) (seat : Seat) (is : IsSeat who i mana
 
   -- it ends
   pub leaves-seat : (context next : ContextView) (space : Core) (seats : List Seat) → seats ≡ set manager.seats i Direct → seat ≡ Kept context
-      → Runs core_space.joins manager.space (leaving_from context.wait context) (Ok tt, next) space → next.kept ≡ [] → next.wait ≡ None
-      → Asks (context_fault (seat_of who manager)) (λ r. Leaves who r manager (record { space = space; seats = seats })) (Ok tt) manager (record { space = space; seats = seats })
+      → Runs core_space.joins manager.space (ending_from context.wait context) (Ok tt, next) space → next.kept ≡ [] → next.wait ≡ None
+      → Asks (context_fault (seat_of who manager)) (λ r. EndsContext who r manager (record { space = space; seats = seats })) (Ok tt) manager (record { space = space; seats = seats })
   leaves-seat context next space seats ended kept run gone idle = (
     ap context_fault (has context kept),
     (context, next, space, has context kept, run, gone, idle, ap (λ seats. record { space = space; seats = seats }) ended ∙ seated space Direct),

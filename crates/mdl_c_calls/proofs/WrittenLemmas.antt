@@ -2,10 +2,10 @@
 use Rattle.std.proofs.Common.{◌≡◌, ◌∙◌, ℕ, zero, suc, ◌+◌, ◌-◌, ◌<◌, min, List, [], ◌∷◌, ◌++◌, length, map, take, drop, get_or, refl, sym, ap, append_assoc, arith}
 use Rattle.std.proofs.Math.ListN.{set}
 use Rattle.std.proofs.lemmas.List.{append-nil, drop_all, drop_min, drop_more, length-drop, length-map, length-take-le, map-append, set_at, take-map, take_all, take_min, take_more, take_rest}
-use Rattle.mdl_c_calls.specs.Listings.{written}
+use Rattle.mdl_c_calls.specs.Listings.{room_written}
 
 -- what fits, where that much is written
-pub written-fits : {T : Type 0} (items room : List T) (n : ℕ) → n ≡ min (length items) (length room) → take n items ++ drop n room ≡ written items room
+pub written-fits : {T : Type 0} (items room : List T) (n : ℕ) → n ≡ min (length items) (length room) → take n items ++ drop n room ≡ room_written items room
 written-fits items room n fits =
     let turned : n ≡ min (length room) (length items) = omega arith in
     ap (λ (k : ℕ). take k items ++ drop n room) turned
@@ -28,7 +28,7 @@ written-more f items room now at default result within fits written there =
 
 -- all items that fit are written
 pub written-all : {A B : Type 0} (f : A → B) (all items : List A) (room : List B) (n : ℕ) → n ≡ min (length all) (length room) → items ≡ take n all
-    → map f (take (length items) items) ++ drop (length items) room ≡ written (map f all) room
+    → map f (take (length items) items) ++ drop (length items) room ≡ room_written (map f all) room
 written-all f all items room n fits cut =
     let long : length items ≡ n = ap length cut ∙ length-take-le n all (omega arith) in
     let same : min (length (map f all)) (length room) ≡ n = ap (λ (k : ℕ). min k (length room)) (length-map all f) ∙ sym fits in
@@ -39,33 +39,33 @@ written-all f all items room n fits cut =
     ∙ written-fits (map f all) room n (sym same)
 
 -- no items
-written-none : {T : Type 0} (room : List T) → written [] room ≡ room
+written-none : {T : Type 0} (room : List T) → room_written [] room ≡ room
 written-none [] = refl
 written-none (x ∷ room) = refl
 
 -- no room
-written-nowhere : {T : Type 0} (items : List T) → written items [] ≡ []
+written-nowhere : {T : Type 0} (items : List T) → room_written items [] ≡ []
 written-nowhere [] = refl
 written-nowhere (x ∷ items) = refl
 
 -- items behind others, in the room that these leave
 pub written-behind : {T : Type 0} (first second room : List T) (n : ℕ) → n ≡ min (length first) (length room)
-    → take n (written first room) ++ written second (drop n (written first room)) ≡ written (first ++ second) room
+    → take n (room_written first room) ++ room_written second (drop n (room_written first room)) ≡ room_written (first ++ second) room
 written-behind [] second room n fits =
     let none : n ≡ 0 = omega arith in
     rw (none, written-none room) refl
 written-behind (x ∷ first) second [] n fits =
     let none : n ≡ 0 = omega arith in
-    rw none (ap (written second) (written-nowhere (x ∷ first)) ∙ written-nowhere second)
+    rw none (ap (room_written second) (written-nowhere (x ∷ first)) ∙ written-nowhere second)
 written-behind (x ∷ first) second (y ∷ room) zero fits = absurd (omega arith)
 written-behind (x ∷ first) second (y ∷ room) (suc n) fits = ap (λ (xs : List _). x ∷ xs) (written-behind first second room n (omega arith))
 
 -- the same, where the second list is written into the part of the room that the first one left
-pub written-both : {T : Type 0} (first second room front back : List T) (n : ℕ) → n ≡ min (length first) (length room) → front ≡ written first room
-    → back ≡ written second (take (length front - n) (drop n front)) → take n front ++ (back ++ drop (length front - n) (drop n front)) ≡ written (first ++ second) room
+pub written-both : {T : Type 0} (first second room front back : List T) (n : ℕ) → n ≡ min (length first) (length room) → front ≡ room_written first room
+    → back ≡ room_written second (take (length front - n) (drop n front)) → take n front ++ (back ++ drop (length front - n) (drop n front)) ≡ room_written (first ++ second) room
 written-both first second room front back n fits begun put =
     let nothing : drop (length front - n) (drop n front) ≡ [] = drop_all (length front - n) (drop n front) (omega (arith, length-drop n front)) in
     ap (λ (rest : List _). take n front ++ (back ++ rest)) nothing
-    ∙ ap (λ (rest : List _). take n front ++ rest) (append-nil back ∙ put ∙ ap (written second) (take_rest front n))
-    ∙ ap (λ (xs : List _). take n xs ++ written second (drop n xs)) begun
+    ∙ ap (λ (rest : List _). take n front ++ rest) (append-nil back ∙ put ∙ ap (room_written second) (take_rest front n))
+    ∙ ap (λ (xs : List _). take n xs ++ room_written second (drop n xs)) begun
     ∙ written-behind first second room n fits

@@ -107,12 +107,12 @@ code_of (Has_killed false) = 6
 code_of _ = 0
 
 -- the number that is written with an answer: a place, a ticket, a wait or a session. If the answer has none, the old number stays.
-abbrev pub told : Answer → ℕ → ℕ
-told (At_place place) old = place
-told (Granted id) old = id
-told (Waits number) old = number
-told (Victim_is session) old = session
-told _ old = old
+abbrev pub number_told : Answer → ℕ → ℕ
+number_told (At_place place) old = place
+number_told (Granted id) old = id
+number_told (Waits number) old = number
+number_told (Victim_is session) old = session
+number_told _ old = old
 
 -- the code and the number written, when there may be no such session
 abbrev pub code_at : Option Answer → ℕ
@@ -121,4 +121,4 @@ code_at (Some answer) = code_of answer
 
 abbrev pub told_at : Option Answer → ℕ → ℕ
 told_at None old = old
-told_at (Some answer) old = told answer old
+told_at (Some answer) old = number_told answer old

@@ -18,12 +18,12 @@ use Rattle.mdl_c_calls.specs.Managers.{Managed, has_member}
 -- ---- lists in the caller's memory
 
 -- the room after a list is written: as many entries as fit, and behind them what was there before
-abbrev pub written : {T : Type 0} → List T → List T → List T
-written items room = take (length room) items ++ drop (length items) room
+abbrev pub room_written : {T : Type 0} → List T → List T → List T
+room_written items room = take (length room) items ++ drop (length items) room
 
 -- a list is written as far as there is room, and the count is the length of the whole list
-abbrev pub IsTold : {T : Type 0} → List T → List T → List T → ℕ → Type 0
-IsTold items before after count = (after ≡ written items before) × (count ≡ length items)
+abbrev pub IsListWritten : {T : Type 0} → List T → List T → List T → ℕ → Type 0
+IsListWritten items before after count = (after ≡ room_written items before) × (count ≡ length items)
 
 -- no list is written: room and count are unchanged
 abbrev pub IsKept : {T : Type 0} → List T → List T → ℕ → ℕ → Type 0
@@ -32,9 +32,9 @@ IsKept before after old_count count = (after ≡ before) × (count ≡ old_count
 -- ---- what is shown
 
 -- a call shows the manager and doesn't change it. If there is none, it returns the code for that and writes nothing
-abbrev pub Shows : Option Managed → ℕ → Option Managed → Type 0 → (Managed → Type 0) → Type 0
-Shows None code after Kept Shown = Tells closed None code after × Kept
-Shows (Some manager) code after Kept Shown = (after ≡ Some manager) × Shown manager
+abbrev pub ShowsManager : Option Managed → ℕ → Option Managed → Type 0 → (Managed → Type 0) → Type 0
+ShowsManager None code after Kept Shown = Tells closed None code after × Kept
+ShowsManager (Some manager) code after Kept Shown = (after ≡ Some manager) × Shown manager
 
 -- the book of a place, if the place has a key
 abbrev pub keyed_book : ℕ → Core → Option BookView
@@ -43,7 +43,7 @@ keyed_book place space = if has_key place space then Some (book_at place space) 
 -- a call shows the lock of a place. If the place has no key, it returns the code for that and writes nothing
 abbrev pub ShowsLock : ℕ → Option Managed → ℕ → Option Managed → Type 0 → (BookView → Type 0) → Type 0
 ShowsLock place before code after Kept Shown =
-    Shows before code after Kept (λ manager.
+    ShowsManager before code after Kept (λ manager.
     MatchOption (keyed_book place manager.space) ((code ≡ no_place) × Kept) (λ book. (code ≡ 0) × Shown book))
 
 -- ---- settled waits
@@ -65,7 +65,7 @@ held_row held = record { ticket = held.id; place = held.place; mode = mode_rank 
 
 -- the tickets that an answer lists are written, in the order in which the session got them. If the answer is no list, nothing is written
 abbrev pub HeldTold : List HeldRow → List HeldRow → ℕ → ℕ → Beside
-HeldTold before after old_count count (Some (Holds tickets)) = IsTold (map held_row tickets) before after count
+HeldTold before after old_count count (Some (Holds tickets)) = IsListWritten (map held_row tickets) before after count
 HeldTold before after old_count count _ = IsKept before after old_count count
 
 -- the status of a ticket in a book: granted, or waiting, which the Performance Schema calls pending

@@ -15,8 +15,8 @@ pub record Managed : Type 0 where
   pub seats : List Seat
 
 -- the number of a manager's sessions
-abbrev pub sessions_of : Managed → ℕ
-sessions_of manager = length manager.seats
+abbrev pub session_count_of : Managed → ℕ
+session_count_of manager = length manager.seats
 
 -- a manager before its first call
 abbrev pub new_manager : ℕ → ℕ → Managed
@@ -24,7 +24,7 @@ new_manager places sessions = record { space = empty_core places sessions; seats
 
 -- whether a manager has a session of this number
 abbrev pub has_member : ℕ → Managed → Bool
-has_member who manager = is_within (sessions_of manager) who
+has_member who manager = is_within (session_count_of manager) who
 
 -- the seat of a session, if it has one of this number
 abbrev pub seat_of : ℕ → Managed → Option Seat
@@ -52,12 +52,12 @@ Asks fault Made (Err why) before after = (fault ≡ Some why) × (after ≡ befo
 -- ---- calls
 
 -- the space makes this call with this answer. The seats are unchanged
-abbrev pub Joins : Call → Answer → Managed → Managed → Type 0
-Joins call answer before after = core_space.joins before.space call answer after.space × (after.seats ≡ before.seats)
+abbrev pub JoinsManaged : Call → Answer → Managed → Managed → Type 0
+JoinsManaged call answer before after = core_space.joins before.space call answer after.space × (after.seats ≡ before.seats)
 
 -- the space makes this call, and the manager has this session
 abbrev pub JoinsFor : ℕ → Call → Answer → Managed → Managed → Type 0
-JoinsFor who call answer before after = (has_member who before ≡ true) × Joins call answer before after
+JoinsFor who call answer before after = (has_member who before ≡ true) × JoinsManaged call answer before after
 
 -- the manager has no such session, and nothing changes
 abbrev pub IsOutside : ℕ → Managed → Managed → Type 0

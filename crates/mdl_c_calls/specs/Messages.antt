@@ -2,15 +2,15 @@
 use Rattle.std.specs.Prelude.{ℕ, List, [], ◌∷◌, codes, ◌==◌, nat_lt, if◌then◌else◌}
 
 -- a code and its text
-abbrev pub Row : Type 0
-Row = ℕ × List ℕ
+abbrev pub MessageRow : Type 0
+MessageRow = ℕ × List ℕ
 
 -- the text of a number that is no code
-abbrev pub unknown : List ℕ
-unknown = codes "There is no such code."
+abbrev pub unknown_text : List ℕ
+unknown_text = codes "There is no such code."
 
 -- the texts of answers
-abbrev pub answer_rows : List Row
+abbrev pub answer_rows : List MessageRow
 answer_rows =
     (0, codes "The call is done.") ∷
     (1, codes "The lock can't be had now, and nothing has changed.") ∷
@@ -21,7 +21,7 @@ answer_rows =
     (6, codes "No unsettled wait has this number.") ∷ []
 
 -- the texts of refusals before the space is called
-abbrev pub refusal_rows : List Row
+abbrev pub refusal_rows : List MessageRow
 refusal_rows =
     (16, codes "There is no manager.") ∷
     (17, codes "There is a manager already.") ∷
@@ -39,7 +39,7 @@ refusal_rows =
     (29, codes "There is no namespace of this number.") ∷ []
 
 -- the texts of the space's refusals
-abbrev pub cause_rows : List Row
+abbrev pub cause_rows : List MessageRow
 cause_rows =
     (32, codes "The place has no key, or there is no place for one more key.") ∷
     (33, codes "The session holds no ticket of this number.") ∷
@@ -58,15 +58,15 @@ cause_rows =
     (46, codes "The session has a ticket or a wait at this place.") ∷ []
 
 -- the texts of a context's refusals
-abbrev pub context_rows : List Row
+abbrev pub context_rows : List MessageRow
 context_rows =
     (48, codes "The context keeps fewer tickets than the mark counted.") ∷
     (49, codes "The context keeps no ticket of this number.") ∷
     (50, codes "The context has a wait that it hasn't ended.") ∷ []
 
 -- the text of a code in a table
-abbrev pub text_in : List Row → ℕ → List ℕ
-text_in [] code = unknown
+abbrev pub text_in : List MessageRow → ℕ → List ℕ
+text_in [] code = unknown_text
 text_in (row ∷ rows) code = if code == row.0 then row.1 else text_in rows code
 
 -- the text of a code. Codes below 16 are answers, those from 32 on refusals of the space, and those from 48 on refusals of a context

@@ -18,15 +18,15 @@ abbrev pub IsNameCode : Type 0 → Option KeyError → ℕ → Type 0
 IsNameCode are_text fault code = ((are_text → ⊥) × (code ≡ bad_byte)) ⊎ (are_text × IsKeyCode fault code)
 
 -- a key is made of names and `Done` holds, or none is made and `Refused` holds of the code
-abbrev pub Named : Type 0 → Option KeyError → Type 0 → (ℕ → Type 0) → Type 0
-Named are_text fault Done Refused = (are_text × (fault ≡ None) × Done) ⊎ ((code : ℕ) × IsNameCode are_text fault code × Refused code)
+abbrev pub MakesKey : Type 0 → Option KeyError → Type 0 → (ℕ → Type 0) → Type 0
+MakesKey are_text fault Done Refused = (are_text × (fault ≡ None) × Done) ⊎ ((code : ℕ) × IsNameCode are_text fault code × Refused code)
 
 -- `Done` holds of the key in this namespace with these names, or `Refused` of a code. Only the names that keys of the namespace have are read
 abbrev pub NamedIn : Option Namespace → List ℕ → List ℕ → (KeyName → Type 0) → (ℕ → Type 0) → Type 0
 NamedIn None schema table Done Refused = Refused no_namespace
 NamedIn (Some Global) schema table Done Refused = Done global_key
-NamedIn (Some Schema) schema table Done Refused = Named (IsUtf8 schema) (name_fault schema) (Done (schema_key schema)) Refused
+NamedIn (Some Schema) schema table Done Refused = MakesKey (IsUtf8 schema) (name_fault schema) (Done (schema_key schema)) Refused
 NamedIn (Some Table) schema table Done Refused =
-    Named (IsUtf8 schema × IsUtf8 table) (table_fault schema table) (Done (table_key schema table)) Refused
+    MakesKey (IsUtf8 schema × IsUtf8 table) (table_fault schema table) (Done (table_key schema table)) Refused
 NamedIn (Some Commit) schema table Done Refused = Done commit_key
-NamedIn (Some UserLevelLock) schema table Done Refused = Named (IsUtf8 schema) (name_fault schema) (Done (user_lock_key schema)) Refused
+NamedIn (Some UserLevelLock) schema table Done Refused = MakesKey (IsUtf8 schema) (name_fault schema) (Done (user_lock_key schema)) Refused

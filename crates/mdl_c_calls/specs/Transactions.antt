@@ -4,12 +4,12 @@ use Rattle.std.specs.Prelude.{◌≡◌, ◌⊎◌, ℕ, ◌-◌, Bool, not, ◌
 use Rattle.std.specs.Option.{option_or}
 use Rattle.mdl_key.specs.declared.mode.Duration.TheVariants.{Explicit}
 use Rattle.mdl_calls.specs.Words.{SessionLocks, Program, Give, ◌>>=◌, Runs}
-use Rattle.mdl_core.specs.Words.{Core, own_at}
+use Rattle.mdl_core.specs.Words.{Core, locks_at}
 use Rattle.mdl_space.specs.CoreMembers.{core_space}
 use Rattle.mdl_context.specs.declared.context_error.ContextError.{ContextError}
 use Rattle.mdl_context.specs.declared.kept.Wanted.{Wanted}
 use Rattle.mdl_context.specs.declared.request.Mark.{Mark}
-use Rattle.mdl_context.specs.Contexts.{ContextView, mark_of}
+use Rattle.mdl_context.specs.Contexts.{ContextView, current_mark}
 use Rattle.mdl_context.specs.Holdings.{kept_for, transactional}
 use Rattle.mdl_context.specs.Releases.{giving_up_all, unless, waiting_fault}
 use Rattle.mdl_context.specs.Requests.{Outcome}
@@ -26,8 +26,8 @@ use Rattle.mdl_c_calls.specs.declared.unserved.Unserved.{Unserved}
 use Rattle.mdl_c_calls.specs.declared.unserved.Unserved.TheVariants.{InUse}
 
 -- the manager with another seat for a session
-abbrev pub seating : ℕ → Seat → Managed → Managed
-seating who seat manager = record manager { seats = slice_set manager.seats (who - 1) seat }
+abbrev pub with_seat : ℕ → Seat → Managed → Managed
+with_seat who seat manager = record manager { seats = slice_set manager.seats (who - 1) seat }
 
 -- ---- calls of contexts that make no call of the space
 
@@ -47,11 +47,11 @@ abbrev pub RunsFor : {A : Type 0} → ℕ → (ContextView → Program (Outcome 
 RunsFor who program result before after =
     (context : ContextView) × (next : ContextView) × (space : Core) × (seat_of who before ≡ Some (Kept context))
     × Runs core_space.joins before.space (program context) (result, next) space
-    × (after ≡ seating who (Kept next) (record before { space = space }))
+    × (after ≡ with_seat who (Kept next) (record before { space = space }))
 
 -- the context returns a mark of its tickets, and nothing changes
 abbrev pub Marks : ℕ → Mark → Managed → Managed → Type 0
-Marks who mark before after = (context : ContextView) × (seat_of who before ≡ Some (Kept context)) × (mark ≡ mark_of context.kept) × (after ≡ before)
+Marks who mark before after = (context : ContextView) × (seat_of who before ≡ Some (Kept context)) × (mark ≡ current_mark context.kept) × (after ≡ before)
 
 -- a call of a session's context, or its refusal if the session has none
 abbrev pub ServesContext : {A : Type 0} → ℕ → (ContextView → Program (Outcome A)) → (Result A ContextError → ℕ) → Option Managed → ℕ → Option Managed
@@ -74,8 +74,8 @@ Given wrong None Done Refused = Refused wrong
 Given wrong (Some wish) Done Refused = Done wish
 
 -- `Done` holds of the wish (a request) with these numbers of mode and duration, and this number and names of the key, or `Refused` of a code
-abbrev pub Wishes : ℕ → List ℕ → List ℕ → ℕ → ℕ → (Wish → Type 0) → (ℕ → Type 0) → Type 0
-Wishes namespace schema table mode duration Done Refused =
+abbrev pub MakesWish : ℕ → List ℕ → List ℕ → ℕ → ℕ → (Wish → Type 0) → (ℕ → Type 0) → Type 0
+MakesWish namespace schema table mode duration Done Refused =
     Given no_mode (mode_at mode) (λ mode. Given no_duration (duration_at duration) (λ duration.
     NamedIn (namespace_at namespace) schema table (λ key. Done (record { key = key; mode = mode; duration = duration })) Refused) Refused) Refused
 
@@ -92,27 +92,27 @@ has_nothing own = length own.held == 0 && not (is_some own.wait)
 -- why a context can't begin: there is no such session, it has a context, or it holds a ticket or has a wait
 abbrev pub begin_fault : ℕ → Managed → Option Unserved
 begin_fault who manager =
-    option_or (direct_fault (seat_of who manager)) (if has_nothing (own_at manager.space who) then None else Some InUse)
+    option_or (direct_fault (seat_of who manager)) (if has_nothing (locks_at manager.space who) then None else Some InUse)
 
 -- a context begins for a session. Listing what the session holds may run out of memory
 abbrev pub Begins : ℕ → Option Managed → ℕ → Option Managed → Type 0
 Begins who None code after = Tells closed None code after
 Begins who (Some manager) code after =
-    MatchOption (begin_fault who manager) ((code ≡ 0) × (after ≡ Some (seating who (Kept (new_context who)) manager)))
+    MatchOption (begin_fault who manager) ((code ≡ 0) × (after ≡ Some (with_seat who (Kept (new_context who)) manager)))
     (λ (why : Unserved). Tells (unserved_code why) (Some manager) code after)
     ⊎ ((direct_fault (seat_of who manager) ≡ None) × Tells no_memory (Some manager) code after)
 
 -- a context gives up this wait, if there is one, and then releases all tickets
-abbrev pub leaving_from : Option Wanted → ContextView → Program (Outcome (Unit {0}))
-leaving_from None context = giving_up_all context
-leaving_from (Some wanted) context = giving_up_wait context >>= (λ outcome. giving_up_all outcome.1)
+abbrev pub ending_from : Option Wanted → ContextView → Program (Outcome (Unit {0}))
+ending_from None context = giving_up_all context
+ending_from (Some wanted) context = giving_up_wait context >>= (λ outcome. giving_up_all outcome.1)
 
 -- a session's context gives up its wait and releases its tickets, and the session has no context any more
-abbrev pub Leaves : ℕ → Unit {0} → Managed → Managed → Type 0
-Leaves who done before after =
+abbrev pub EndsContext : ℕ → Unit {0} → Managed → Managed → Type 0
+EndsContext who done before after =
     (context : ContextView) × (next : ContextView) × (space : Core) × (seat_of who before ≡ Some (Kept context))
-    × Runs core_space.joins before.space (leaving_from context.wait context) (Ok tt, next) space
-    × (next.kept ≡ []) × (next.wait ≡ None) × (after ≡ seating who Direct (record before { space = space }))
+    × Runs core_space.joins before.space (ending_from context.wait context) (Ok tt, next) space
+    × (next.kept ≡ []) × (next.wait ≡ None) × (after ≡ with_seat who Direct (record before { space = space }))
 
 abbrev pub Ends : ℕ → Option Managed → ℕ → Option Managed → Type 0
-Ends who before code after = Replies context_fault who (Leaves who) (λ _. 0) Untold before code after
+Ends who before code after = Replies context_fault who (EndsContext who) (λ _. 0) Untold before code after

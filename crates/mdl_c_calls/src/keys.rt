@@ -3,8 +3,8 @@ ghost use Rattle.std.specs.Prelude.{◌≡◌};
 ghost use Rattle.std.specs.Str.{IsUtf8};
 ghost use Rattle.mdl_key.specs.Keys.{commit_key, global_key, name_fault, schema_key, table_fault, table_key};
 ghost use Rattle.mdl_calls.specs.Words.{Resolve};
-ghost use Rattle.mdl_c_calls.specs.Exports.{Number, Serves, Tells};
-ghost use Rattle.mdl_c_calls.specs.Names.{Named};
+ghost use Rattle.mdl_c_calls.specs.Exports.{Number, ServesCall, Tells};
+ghost use Rattle.mdl_c_calls.specs.Names.{MakesKey};
 
 use crate::codes::{CLOSED, place_code};
 use crate::handle::MdlSpace;
@@ -14,7 +14,7 @@ use std::alloc::Global;
 
 // Writes the place of a key.
 fn resolve(alloc: Global, space: &mut MdlSpace, who: u16, key: &Key, place: &mut u16) -> u32
-    ensures { Serves who (Resolve who key.now) space.old.handle.manager result space.new.handle.manager (Number place.old place.new) }
+    ensures { ServesCall who (Resolve who key.now) space.old.handle.manager result space.new.handle.manager (Number place.old place.new) }
 {
     let Some(mut manager) = space.take(alloc) else {
         return CLOSED;
@@ -33,8 +33,8 @@ pub fn mdl_table(
     table: &[u8],
     place: &mut u16,
 ) -> u32
-    ensures { Named (IsUtf8 schema.now × IsUtf8 table.now) (table_fault schema.now table.now)
-        (Serves who (Resolve who (table_key schema.now table.now)) space.old.handle.manager result space.new.handle.manager (Number place.old place.new))
+    ensures { MakesKey (IsUtf8 schema.now × IsUtf8 table.now) (table_fault schema.now table.now)
+        (ServesCall who (Resolve who (table_key schema.now table.now)) space.old.handle.manager result space.new.handle.manager (Number place.old place.new))
         (λ wrong. Tells wrong space.old.handle.manager result space.new.handle.manager × (place.new ≡ place.old)) }
 {
     match table_of(alloc, schema, table) {
@@ -51,8 +51,8 @@ pub fn mdl_schema(
     schema: &[u8],
     place: &mut u16,
 ) -> u32
-    ensures { Named (IsUtf8 schema.now) (name_fault schema.now)
-        (Serves who (Resolve who (schema_key schema.now)) space.old.handle.manager result space.new.handle.manager (Number place.old place.new))
+    ensures { MakesKey (IsUtf8 schema.now) (name_fault schema.now)
+        (ServesCall who (Resolve who (schema_key schema.now)) space.old.handle.manager result space.new.handle.manager (Number place.old place.new))
         (λ wrong. Tells wrong space.old.handle.manager result space.new.handle.manager × (place.new ≡ place.old)) }
 {
     match schema_of(alloc, schema) {
@@ -63,14 +63,14 @@ pub fn mdl_schema(
 
 /// Writes the place of the key of the global read lock.
 pub fn mdl_global(alloc: Global, space: &mut MdlSpace, who: u16, place: &mut u16) -> u32
-    ensures { Serves who (Resolve who global_key) space.old.handle.manager result space.new.handle.manager (Number place.old place.new) }
+    ensures { ServesCall who (Resolve who global_key) space.old.handle.manager result space.new.handle.manager (Number place.old place.new) }
 {
     resolve(alloc, space, who, &Key::global(alloc), place)
 }
 
 /// Writes the place of the key that commits take.
 pub fn mdl_commit(alloc: Global, space: &mut MdlSpace, who: u16, place: &mut u16) -> u32
-    ensures { Serves who (Resolve who commit_key) space.old.handle.manager result space.new.handle.manager (Number place.old place.new) }
+    ensures { ServesCall who (Resolve who commit_key) space.old.handle.manager result space.new.handle.manager (Number place.old place.new) }
 {
     resolve(alloc, space, who, &Key::commit(alloc), place)
 }

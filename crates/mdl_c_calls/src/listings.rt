@@ -4,8 +4,8 @@ ghost use Rattle.std.specs.Option.{option_copied, option_map};
 ghost use Rattle.mdl_key.specs.Keys.{namespace_rank};
 ghost use Rattle.mdl_calls.specs.Words.{List_held, listed};
 ghost use Rattle.mdl_c_calls.specs.Codes.{code_at, no_place};
-ghost use Rattle.mdl_c_calls.specs.Exports.{Serves};
-ghost use Rattle.mdl_c_calls.specs.Listings.{HeldTold, IsKept, IsTold, Shows, ShowsLock, TellsSettled, lock_rows};
+ghost use Rattle.mdl_c_calls.specs.Exports.{ServesCall};
+ghost use Rattle.mdl_c_calls.specs.Listings.{HeldTold, IsKept, IsListWritten, ShowsLock, ShowsManager, TellsSettled, lock_rows};
 
 use crate::codes::{CLOSED, DONE, NO_PLACE, NO_SESSION, cause_code};
 use crate::handle::MdlSpace;
@@ -16,7 +16,7 @@ use std::alloc::Global;
 
 /// Writes which sessions have waits that are settled and not ended, one bit each. The lowest bit is that of session 1.
 pub fn mdl_settled(alloc: Global, space: &mut MdlSpace, sessions: &mut u64) -> u32
-    ensures { Shows space.old.handle.manager result space.new.handle.manager (sessions.new ≡ sessions.old) (λ m. (result ≡ 0) × TellsSettled m sessions.new) }
+    ensures { ShowsManager space.old.handle.manager result space.new.handle.manager (sessions.new ≡ sessions.old) (λ m. (result ≡ 0) × TellsSettled m sessions.new) }
 {
     let Some(mut manager) = space.take(alloc) else {
         return CLOSED;
@@ -34,7 +34,7 @@ pub fn mdl_held(
     room: &mut [HeldRow],
     count: &mut usize,
 ) -> u32
-    ensures { Serves who (List_held who) space.old.handle.manager result space.new.handle.manager (HeldTold room.old room.new count.old count.new) }
+    ensures { ServesCall who (List_held who) space.old.handle.manager result space.new.handle.manager (HeldTold room.old room.new count.old count.new) }
 {
     let Some(manager) = space.take(alloc) else {
         return CLOSED;
@@ -46,7 +46,7 @@ pub fn mdl_held(
 
 /// Writes how many places have keys. They are those from 1 to this number.
 pub fn mdl_places(alloc: Global, space: &mut MdlSpace, count: &mut usize) -> u32
-    ensures { Shows space.old.handle.manager result space.new.handle.manager (count.new ≡ count.old) (λ m. (result ≡ 0) × (count.new ≡ length m.space.books)) }
+    ensures { ShowsManager space.old.handle.manager result space.new.handle.manager (count.new ≡ count.old) (λ m. (result ≡ 0) × (count.new ≡ length m.space.books)) }
 {
     let Some(manager) = space.take(alloc) else {
         return CLOSED;
@@ -70,7 +70,7 @@ pub fn mdl_key_of(
     ensures { ShowsLock place space.old.handle.manager result space.new.handle.manager
         ((namespace.new ≡ namespace.old) × IsKept schema.old schema.new schema_count.old schema_count.new × IsKept table.old table.new table_count.old table_count.new)
         (λ book. (namespace.new ≡ namespace_rank book.key.namespace)
-        × IsTold book.key.schema schema.old schema.new schema_count.new × IsTold book.key.table table.old table.new table_count.new) }
+        × IsListWritten book.key.schema schema.old schema.new schema_count.new × IsListWritten book.key.table table.old table.new table_count.new) }
 {
     let Some(manager) = space.take(alloc) else {
         return CLOSED;
@@ -90,7 +90,7 @@ pub fn mdl_locks(
     count: &mut usize,
 ) -> u32
     ensures { ShowsLock place space.old.handle.manager result space.new.handle.manager
-        (IsKept room.old room.new count.old count.new) (λ book. IsTold (lock_rows book) room.old room.new count.new) }
+        (IsKept room.old room.new count.old count.new) (λ book. IsListWritten (lock_rows book) room.old room.new count.new) }
 {
     let Some(manager) = space.take(alloc) else {
         return CLOSED;
@@ -131,7 +131,7 @@ fn key_code(
     ensures { MatchOption (option_copied book.entry)
         ((result ≡ no_place) × (namespace.new ≡ namespace.old) × IsKept schema.old schema.new schema_count.old schema_count.new × IsKept table.old table.new table_count.old table_count.new)
         (λ b. (result ≡ 0) × (namespace.new ≡ namespace_rank b.key.namespace)
-        × IsTold b.key.schema schema.old schema.new schema_count.new × IsTold b.key.table table.old table.new table_count.new) }
+        × IsListWritten b.key.schema schema.old schema.new schema_count.new × IsListWritten b.key.table table.old table.new table_count.new) }
 {
     let Some(book) = book else {
         return NO_PLACE;
@@ -147,7 +147,7 @@ fn key_code(
 fn lock_code(book: Option<&Book>, room: &mut [LockRow], count: &mut usize) -> u32
     ensures { MatchOption (option_copied book.entry)
         ((result ≡ no_place) × IsKept room.old room.new count.old count.new)
-        (λ b. (result ≡ 0) × IsTold (lock_rows b) room.old room.new count.new) }
+        (λ b. (result ≡ 0) × IsListWritten (lock_rows b) room.old room.new count.new) }
 {
     let Some(book) = book else {
         return NO_PLACE;

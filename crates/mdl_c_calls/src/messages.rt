@@ -1,6 +1,6 @@
 //! The text of each code.
 ghost use Rattle.std.specs.Prelude.{◌≡◌, ◌≤◌};
-ghost use Rattle.mdl_c_calls.specs.Listings.{IsTold};
+ghost use Rattle.mdl_c_calls.specs.Listings.{IsListWritten};
 ghost use Rattle.mdl_c_calls.specs.Messages.{answer_rows, cause_rows, context_rows, message_of, refusal_rows, text_in};
 
 use crate::codes::DONE;
@@ -11,7 +11,7 @@ const UNKNOWN: &str = "There is no such code.";
 /// Writes the text of a code. A number that is no code has a text, too.
 pub fn mdl_message(code: u32, room: &mut [u8], count: &mut usize) -> u32
     ensures code { result ≡ 0 }
-    ensures told { IsTold (message_of code) room.old room.new count.new }
+    ensures told { IsListWritten (message_of code) room.old room.new count.new }
     ensures short { count.new ≤ 80 }
 {
     tell_text(message_of(code), room, count);

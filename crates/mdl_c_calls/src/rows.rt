@@ -3,7 +3,7 @@ ghost use Rattle.std.specs.Prelude.{◌≡◌, Some, map};
 ghost use Rattle.mdl_key.specs.declared.mode.Mode.{Mode};
 ghost use Rattle.mdl_key.specs.Words.{mode_rank};
 ghost use Rattle.mdl_c_calls.specs.Codes.{mode_at};
-ghost use Rattle.mdl_c_calls.specs.Listings.{IsTold, held_row, lock_row, lock_rows, written};
+ghost use Rattle.mdl_c_calls.specs.Listings.{IsListWritten, held_row, lock_row, lock_rows, room_written};
 
 use mdl_book::{Book, Ticket};
 use mdl_key::Mode;
@@ -71,7 +71,7 @@ fn number_of(mode: Mode) -> u8
 
 /// Writes as many bytes of a text as there is room for. `count` gets the length of the whole text.
 pub fn tell_text(text: &str, room: &mut [u8], count: &mut usize)
-    ensures { IsTold text.now room.old room.new count.new }
+    ensures { IsListWritten text.now room.old room.new count.new }
 {
     let fits = text.len().min(room.len());
     room[..fits].copy_from_slice(&text.as_bytes()[..fits]);
@@ -80,7 +80,7 @@ pub fn tell_text(text: &str, room: &mut [u8], count: &mut usize)
 
 /// Writes as many held tickets as there is room for. `count` gets the number of all.
 pub fn tell_held(tickets: &[Held], room: &mut [HeldRow], count: &mut usize)
-    ensures { IsTold (map held_row tickets.now) room.old room.new count.new }
+    ensures { IsListWritten (map held_row tickets.now) room.old room.new count.new }
 {
     let fitting = &tickets[..tickets.len().min(room.len())];
     for (at, ticket) in fitting.iter().enumerate() {
@@ -91,7 +91,7 @@ pub fn tell_held(tickets: &[Held], room: &mut [HeldRow], count: &mut usize)
 
 /// Writes as many tickets of a lock as there is room for, the granted ones first. `count` gets the number of all.
 pub fn tell_lock(book: &Book, room: &mut [LockRow], count: &mut usize)
-    ensures { IsTold (lock_rows book.now) room.old room.new count.new }
+    ensures { IsListWritten (lock_rows book.now) room.old room.new count.new }
 {
     let granted = book.granted();
     let waiting = book.waiting();
@@ -103,7 +103,7 @@ pub fn tell_lock(book: &Book, room: &mut [LockRow], count: &mut usize)
 
 // Writes as many of these tickets as there is room for, with this status.
 fn write_tickets(tickets: &[Ticket], status: u8, room: &mut [LockRow])
-    ensures { room.new ≡ written (map (lock_row status) tickets.now) room.old }
+    ensures { room.new ≡ room_written (map (lock_row status) tickets.now) room.old }
 {
     let fitting = &tickets[..tickets.len().min(room.len())];
     for (at, ticket) in fitting.iter().enumerate() {

@@ -9,7 +9,7 @@ ghost use Rattle.mdl_c_calls.specs.ContextCodes.{acquire_code, acquire_told, don
 ghost use Rattle.mdl_c_calls.specs.Exports.{Replies, Tells};
 ghost use Rattle.mdl_c_calls.specs.Managers.{context_fault};
 ghost use Rattle.mdl_c_calls.specs.Names.{NamedIn};
-ghost use Rattle.mdl_c_calls.specs.Transactions.{making_explicit, making_transactional, Begins, Ends, Given, Marks, ServesContext, Reports, Untold, Wishes};
+ghost use Rattle.mdl_c_calls.specs.Transactions.{making_explicit, making_transactional, Begins, Ends, Given, Marks, ServesContext, Reports, Untold, MakesWish};
 
 use crate::codes::{CLOSED, NO_MODE, mode_of};
 use crate::context_codes::{
@@ -77,7 +77,7 @@ pub fn mdl_acquire(
     duration: u8,
     number: &mut u64,
 ) -> u32
-    ensures { Wishes namespace schema.now table.now mode duration
+    ensures { MakesWish namespace schema.now table.now mode duration
         (λ wish. ServesContext who (acquiring wish) acquire_code space.old.handle.manager result space.new.handle.manager (Reports acquire_told number.old number.new))
         (λ wrong. Tells wrong space.old.handle.manager result space.new.handle.manager × (number.new ≡ number.old)) }
 {

@@ -2,7 +2,7 @@
 ghost use Rattle.std.specs.Prelude.{◌≡◌};
 ghost use Rattle.mdl_calls.specs.Words.{Begin_wait, End_wait, Kill, Poll_wait, Search, Settle_timeout};
 ghost use Rattle.mdl_c_calls.specs.Codes.{mode_at, no_mode};
-ghost use Rattle.mdl_c_calls.specs.Exports.{Nothing, Number, Serves, ServesAnybody, ServesDirect, ServesDirectWish};
+ghost use Rattle.mdl_c_calls.specs.Exports.{Nothing, Number, ServesAnybody, ServesCall, ServesDirect, ServesDirectWish};
 
 use crate::codes::{
     CLOSED, NO_MODE, begun_code, end_code, kill_code, mode_of, poll_code, search_code, timeout_code,
@@ -46,7 +46,7 @@ pub fn mdl_search(alloc: Global, space: &mut MdlSpace, who: u16, victim: &mut u1
 
 /// Returns the state of a session's wait.
 pub fn mdl_poll(alloc: Global, space: &mut MdlSpace, who: u16) -> u32
-    ensures { Serves who (Poll_wait who) space.old.handle.manager result space.new.handle.manager Nothing }
+    ensures { ServesCall who (Poll_wait who) space.old.handle.manager result space.new.handle.manager Nothing }
 {
     let Some(mut manager) = space.take(alloc) else {
         return CLOSED;
@@ -70,7 +70,7 @@ pub fn mdl_end(alloc: Global, space: &mut MdlSpace, who: u16, ticket: &mut u64) 
 
 /// Settles a session's wait as a timeout, unless it is settled already. Returns how it is settled then.
 pub fn mdl_time_out(alloc: Global, space: &mut MdlSpace, who: u16) -> u32
-    ensures { Serves who (Settle_timeout who) space.old.handle.manager result space.new.handle.manager Nothing }
+    ensures { ServesCall who (Settle_timeout who) space.old.handle.manager result space.new.handle.manager Nothing }
 {
     let Some(mut manager) = space.take(alloc) else {
         return CLOSED;

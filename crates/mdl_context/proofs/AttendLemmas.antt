@@ -17,7 +17,7 @@ use Rattle.mdl_context.specs.declared.kept.Wanted.{Wanted}
 use Rattle.mdl_context.specs.Contexts.{ContextView, Attends, IsAwaited, Serves, held_of, place_known, is_known_place}
 use Rattle.mdl_context.specs.Holdings.{with_wanted}
 use Rattle.mdl_context.specs.Wishes.{Wish}
-use Rattle.mdl_context.specs.Requests.{remembering, keeping, awaiting}
+use Rattle.mdl_context.specs.Requests.{remembering, keeping_ticket, awaiting}
 use Rattle.mdl_context.specs.Waits.{without_wait}
 use Rattle.mdl_context.proofs.ServingLemmas.{serves-changed, serves-gaining, serves-waiting, serves-ending, serves-winning}
 
@@ -144,9 +144,9 @@ module _ {S : Type 0} {members : Ghosts S} where
   -- a ticket at a known place is gained
   pub attends-granted : (a b : S) (before after : ContextView) (id place : ℕ) (request : Wish) → Attends members a before
       → ((at : ℕ) (key : KeyName) → members.knows a before.who at key → members.knows b before.who at key) → members.speaks_for b before.who → members.own b before.who ≡ gaining id place request.mode (members.own a before.who)
-      → is_known_place before.known place ≡ true → is_some before.wait ≡ false → after ≡ keeping id place request before → Attends members b after
+      → is_known_place before.known place ≡ true → is_some before.wait ≡ false → after ≡ keeping_ticket id place request before → Attends members b after
   attends-granted a b before after id place request attends still speaks gains there idle is =
-      let then_after = keeping id place request before in
+      let then_after = keeping_ticket id place request before in
       subst (Attends members b) (sym is)
       (attends-over a b before then_after attends still speaks (serves-gaining _ _ before then_after id place request attends.serves gains refl refl) refl refl
       (placed-push before.known before.kept then_after.kept _ refl attends.places there) (awaited-idle before.known then_after.kept before.wait idle))

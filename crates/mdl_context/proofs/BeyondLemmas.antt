@@ -14,7 +14,7 @@ use Rattle.mdl_context.specs.declared.kept.Wanted.{Wanted}
 use Rattle.mdl_context.specs.declared.request.Mark.{Mark}
 use Rattle.mdl_context.specs.declared.going.Going.TheVariants.{From}
 use Rattle.mdl_context.specs.Goings.{goes}
-use Rattle.mdl_context.specs.Contexts.{ContextView, held_of, lasts, held_for, beyond, beyond_mark, has_number, without, AreRising, Serves, wish_there, wish_here}
+use Rattle.mdl_context.specs.Contexts.{ContextView, held_of, lasts, tickets_for, beyond, beyond_mark, has_number, without_tickets, AreRising, Serves, wish_there, wish_here}
 use Rattle.mdl_context.specs.Holdings.{without_number}
 use Rattle.mdl_context.specs.Releases as releases
 use Rattle.mdl_context.specs.Requests.{Outcome}
@@ -31,10 +31,10 @@ front-none q [] = refl
 front-none q (t ∷ ts) = grind (arith, front-none q ts)
 
 -- to keep those that don't pass is to be without those that do
-pub others-without : (q : Kept → Bool) (kept : List Kept) → AreRising kept → filter (λ t. not (q t)) kept ≡ without (filter q kept) kept
+pub others-without : (q : Kept → Bool) (kept : List Kept) → AreRising kept → filter (λ t. not (q t)) kept ≡ without_tickets (filter q kept) kept
 others-without q kept rising = sym (left-beyond q 0 kept rising ∙ front-none q kept)
 
-pub without-none : (kept : List Kept) → without [] kept ≡ kept
+pub without-none : (kept : List Kept) → without_tickets [] kept ≡ kept
 without-none [] = refl
 without-none (t ∷ ts) = ap (λ xs. t ∷ xs) (without-none ts)
 
@@ -63,17 +63,17 @@ none-nth (x ∷ xs) zero none = cc
 none-nth (x ∷ xs) (suc m) none = none-nth xs m none
 
 -- by the number that a context finds
-pub gone-beyond : (d : Duration) (m first : ℕ) (kept : List Kept) (nth : Option ℕ) → AreRising kept → nth ≡ option_map (λ t. t.id) (slice_get (held_for d kept) m) → nth ≡ Some first
+pub gone-beyond : (d : Duration) (m first : ℕ) (kept : List Kept) (nth : Option ℕ) → AreRising kept → nth ≡ option_map (λ t. t.id) (slice_get (tickets_for d kept) m) → nth ≡ Some first
     → filter (goes (From d first)) kept ≡ beyond d m kept
 gone-beyond d m first kept nth rising found is = from-nth (lasts d) m first kept rising (sym found ∙ is)
 
-pub kept-beyond : (d : Duration) (m first : ℕ) (kept : List Kept) (nth : Option ℕ) → AreRising kept → nth ≡ option_map (λ t. t.id) (slice_get (held_for d kept) m) → nth ≡ Some first
-    → filter (λ t. not (goes (From d first) t)) kept ≡ without (beyond d m kept) kept
+pub kept-beyond : (d : Duration) (m first : ℕ) (kept : List Kept) (nth : Option ℕ) → AreRising kept → nth ≡ option_map (λ t. t.id) (slice_get (tickets_for d kept) m) → nth ≡ Some first
+    → filter (λ t. not (goes (From d first) t)) kept ≡ without_tickets (beyond d m kept) kept
 kept-beyond d m first kept nth rising found is =
-    others-without (goes (From d first)) kept rising ∙ ap (λ gone. without gone kept) (gone-beyond d m first kept nth rising found is)
+    others-without (goes (From d first)) kept rising ∙ ap (λ gone. without_tickets gone kept) (gone-beyond d m first kept nth rising found is)
 
-pub none-beyond : (d : Duration) (m : ℕ) (kept : List Kept) (nth : Option ℕ) → nth ≡ option_map (λ t. t.id) (slice_get (held_for d kept) m) → nth ≡ None → beyond d m kept ≡ []
-none-beyond d m kept nth found is = none-nth (held_for d kept) m (sym found ∙ is)
+pub none-beyond : (d : Duration) (m : ℕ) (kept : List Kept) (nth : Option ℕ) → nth ≡ option_map (λ t. t.id) (slice_get (tickets_for d kept) m) → nth ≡ None → beyond d m kept ≡ []
+none-beyond d m kept nth found is = none-nth (tickets_for d kept) m (sym found ∙ is)
 
 -- a context is who, what, which places and which wait
 pub same-context : (who : ℕ) (kept left : List Kept) (known knew : List (KeyName × ℕ)) (wait still : Option Wanted) → kept ≡ left → known ≡ knew → wait ≡ still →
@@ -118,9 +118,9 @@ module _ {S : Type 0} (joins : S → Call → Answer → S → Type 0) where
 
   -- and then the context keeps the others
   pub run-given-up : (gone : List Kept) (before after : ContextView) (a b : S) → Runs joins a (releases.releasing_all before.who gone) tt b
-      → after ≡ record before { kept = without gone before.kept } → Runs joins a (releases.giving_up gone before) (Ok tt, after) b
+      → after ≡ record before { kept = without_tickets gone before.kept } → Runs joins a (releases.releasing_tickets gone before) (Ok tt, after) b
   run-given-up gone before after a b run left =
-      runs_bind joins (releases.releasing_all before.who gone) (λ _. Give (Ok tt, record before { kept = without gone before.kept })) a b b tt (Ok tt, after) run
+      runs_bind joins (releases.releasing_all before.who gone) (λ _. Give (Ok tt, record before { kept = without_tickets gone before.kept })) a b b tt (Ok tt, after) run
       (ap (λ context. (Ok tt, context)) (sym left), refl)
 
   -- the same as tickets behind so many
@@ -134,20 +134,20 @@ module _ {S : Type 0} (joins : S → Call → Answer → S → Type 0) where
   -- of the statement, and then of the transaction
   pub run-since : (mark : Mark) (before between after : ContextView) (a mid b : S) → AreRising before.kept
       → Runs joins a (releases.releasing_all before.who (beyond Statement mark.statement before.kept)) tt mid
-      → between ≡ record before { kept = without (beyond Statement mark.statement before.kept) before.kept }
+      → between ≡ record before { kept = without_tickets (beyond Statement mark.statement before.kept) before.kept }
       → Runs joins mid (releases.releasing_all between.who (beyond Transaction mark.transaction between.kept)) tt b
-      → after ≡ record between { kept = without (beyond Transaction mark.transaction between.kept) between.kept }
-      → Runs joins a (releases.giving_up (beyond_mark mark before.kept) before) (Ok tt, after) b
+      → after ≡ record between { kept = without_tickets (beyond Transaction mark.transaction between.kept) between.kept }
+      → Runs joins a (releases.releasing_tickets (beyond_mark mark before.kept) before) (Ok tt, after) b
   run-since mark before between after a mid b rising first left_first second left_second =
       let gone = beyond Statement mark.statement before.kept in
       let then_gone = beyond Transaction mark.transaction before.kept in
-      let left = without gone before.kept in
+      let left = without_tickets gone before.kept in
       let same : beyond Transaction mark.transaction left ≡ then_gone = ap (drop mark.transaction) (statement-gone mark.statement before.kept rising) in
       let second_run : Runs joins mid (releases.releasing_all before.who (beyond Transaction mark.transaction left)) tt b = rw left_first at second in
-      let end : after ≡ record before { kept = without (beyond Transaction mark.transaction left) left } = rw left_first at left_second in
+      let end : after ≡ record before { kept = without_tickets (beyond Transaction mark.transaction left) left } = rw left_first at left_second in
       run-given-up (gone ++ then_gone) before after a b
       (run-both before.who gone then_gone a mid b first (run-as before.who _ then_gone mid b same second_run))
-      (end ∙ ap (λ (kept : List Kept). let context : ContextView = record before { kept = kept } in context) (ap (λ xs. without xs left) same ∙ sym (without-append gone then_gone before.kept)))
+      (end ∙ ap (λ (kept : List Kept). let context : ContextView = record before { kept = kept } in context) (ap (λ xs. without_tickets xs left) same ∙ sym (without-append gone then_gone before.kept)))
 
   -- what isn't refused is done
   pub run-unless : {A : Type 0} (fault : Option ContextError) (context : ContextView) (program : Program (Outcome A)) (a b : S) (reply : Outcome A) → fault ≡ None

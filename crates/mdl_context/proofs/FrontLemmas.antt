@@ -7,7 +7,7 @@ use Rattle.mdl_key.specs.declared.mode.Duration.{Duration}
 use Rattle.mdl_key.specs.declared.mode.Duration.TheVariants.{Statement, Transaction, Explicit}
 use Rattle.mdl_context.specs.declared.kept.Kept.{Kept}
 use Rattle.mdl_context.specs.declared.request.Mark.{Mark}
-use Rattle.mdl_context.specs.Contexts.{lasts, duration_rank, held_for, beyond_mark, has_number, without, held_of, AreRising}
+use Rattle.mdl_context.specs.Contexts.{lasts, duration_rank, tickets_for, beyond_mark, has_number, without_tickets, held_of, AreRising}
 
 -- all tickets have greater numbers
 abbrev pub Above : ℕ → List Kept → Type 0
@@ -32,7 +32,7 @@ absent n [] above = refl
 absent n (x ∷ gone) above = grind (arith, nat_tests, absent n gone)
 
 -- to take a ticket of a lower number too changes nothing
-pub without-lower : (t : Kept) (gone xs : List Kept) → Above t.id xs → without (t ∷ gone) xs ≡ without gone xs
+pub without-lower : (t : Kept) (gone xs : List Kept) → Above t.id xs → without_tickets (t ∷ gone) xs ≡ without_tickets gone xs
 without-lower t gone [] above = refl
 without-lower t gone (x ∷ xs) above = grind (arith, nat_tests, without-lower t gone xs)
 
@@ -42,7 +42,7 @@ front q m [] = []
 front q zero (t ∷ ts) = if q t then front q zero ts else t ∷ front q zero ts
 front q (suc m) (t ∷ ts) = t ∷ (if q t then front q m ts else front q (suc m) ts)
 
-pub left-beyond : (q : Kept → Bool) (m : ℕ) (kept : List Kept) → AreRising kept → without (drop m (filter q kept)) kept ≡ front q m kept
+pub left-beyond : (q : Kept → Bool) (m : ℕ) (kept : List Kept) → AreRising kept → without_tickets (drop m (filter q kept)) kept ≡ front q m kept
 left-beyond q zero [] rising = refl
 left-beyond q (suc m) [] rising = refl
 left-beyond q zero (t ∷ ts) rising =
@@ -77,7 +77,7 @@ has_number-append : (a b : List Kept) (n : ℕ) → has_number (a ++ b) n ≡ (h
 has_number-append [] b n = refl
 has_number-append (y ∷ ys) b n = grind (arith, has_number-append ys b n)
 
-pub without-append : (a b xs : List Kept) → without (a ++ b) xs ≡ without b (without a xs)
+pub without-append : (a b xs : List Kept) → without_tickets (a ++ b) xs ≡ without_tickets b (without_tickets a xs)
 without-append a b [] = refl
 without-append a b (x ∷ xs) = grind (arith, without-append a b xs, has_number-append a b x.id)
 
@@ -85,54 +85,54 @@ without-append a b (x ∷ xs) = grind (arith, without-append a b xs, has_number-
 pub apart : (d e : Duration) (different : (duration_rank d ≡ duration_rank e) → ⊥) (t : Kept) → lasts e t ≡ true → lasts d t ≡ false
 apart d e different t same = grind (arith, nat_tests)
 
-statement_apart : (e : Duration) (different : (duration_rank Statement ≡ duration_rank e) → ⊥) (m : ℕ) (kept : List Kept) → held_for e (front (lasts Statement) m kept) ≡ held_for e kept
+statement_apart : (e : Duration) (different : (duration_rank Statement ≡ duration_rank e) → ⊥) (m : ℕ) (kept : List Kept) → tickets_for e (front (lasts Statement) m kept) ≡ tickets_for e kept
 statement_apart e different m kept = front-other (lasts Statement) (lasts e) (apart Statement e different) m kept
 
-transaction_apart : (e : Duration) (different : (duration_rank Transaction ≡ duration_rank e) → ⊥) (m : ℕ) (kept : List Kept) → held_for e (front (lasts Transaction) m kept) ≡ held_for e kept
+transaction_apart : (e : Duration) (different : (duration_rank Transaction ≡ duration_rank e) → ⊥) (m : ℕ) (kept : List Kept) → tickets_for e (front (lasts Transaction) m kept) ≡ tickets_for e kept
 transaction_apart e different m kept = front-other (lasts Transaction) (lasts e) (apart Transaction e different) m kept
 
 -- the tickets of the transaction are the same once those of the statement are gone
-pub statement-gone : (m : ℕ) (kept : List Kept) → AreRising kept → held_for Transaction (without (drop m (held_for Statement kept)) kept) ≡ held_for Transaction kept
-statement-gone m kept rising = ap (held_for Transaction) (left-beyond (lasts Statement) m kept rising) ∙ statement_apart Transaction (λ e. cc) m kept
+pub statement-gone : (m : ℕ) (kept : List Kept) → AreRising kept → tickets_for Transaction (without_tickets (drop m (tickets_for Statement kept)) kept) ≡ tickets_for Transaction kept
+statement-gone m kept rising = ap (tickets_for Transaction) (left-beyond (lasts Statement) m kept rising) ∙ statement_apart Transaction (λ e. cc) m kept
 
 -- what stays where the session goes back
 pub left-since : (mark : Mark) (kept : List Kept) → AreRising kept
-    → without (beyond_mark mark kept) kept ≡ front (lasts Transaction) mark.transaction (front (lasts Statement) mark.statement kept)
+    → without_tickets (beyond_mark mark kept) kept ≡ front (lasts Transaction) mark.transaction (front (lasts Statement) mark.statement kept)
 left-since mark kept rising =
     let m = mark.statement in
     let n = mark.transaction in
     let first = left-beyond (lasts Statement) m kept rising in
-    let rising_then : AreRising (front (lasts Statement) m kept) = subst AreRising first (rising-filter (λ t. not (has_number (drop m (held_for Statement kept)) t.id)) kept rising) in
-    without-append (drop m (held_for Statement kept)) (drop n (held_for Transaction kept)) kept
-    ∙ ap (without (drop n (held_for Transaction kept))) first
-    ∙ ap (λ gone. without (drop n gone) (front (lasts Statement) m kept)) (sym (statement_apart Transaction (λ e. cc) m kept))
+    let rising_then : AreRising (front (lasts Statement) m kept) = subst AreRising first (rising-filter (λ t. not (has_number (drop m (tickets_for Statement kept)) t.id)) kept rising) in
+    without-append (drop m (tickets_for Statement kept)) (drop n (tickets_for Transaction kept)) kept
+    ∙ ap (without_tickets (drop n (tickets_for Transaction kept))) first
+    ∙ ap (λ gone. without_tickets (drop n gone) (front (lasts Statement) m kept)) (sym (statement_apart Transaction (λ e. cc) m kept))
     ∙ left-beyond (lasts Transaction) n (front (lasts Statement) m kept) rising_then
 
-pub since-statement : (mark : Mark) (kept : List Kept) → AreRising kept → held_for Statement (without (beyond_mark mark kept) kept) ≡ take mark.statement (held_for Statement kept)
+pub since-statement : (mark : Mark) (kept : List Kept) → AreRising kept → tickets_for Statement (without_tickets (beyond_mark mark kept) kept) ≡ take mark.statement (tickets_for Statement kept)
 since-statement mark kept rising =
-    ap (held_for Statement) (left-since mark kept rising)
+    ap (tickets_for Statement) (left-since mark kept rising)
     ∙ transaction_apart Statement (λ e. cc) mark.transaction (front (lasts Statement) mark.statement kept)
     ∙ front-same (lasts Statement) mark.statement kept
 
-pub since-transaction : (mark : Mark) (kept : List Kept) → AreRising kept → held_for Transaction (without (beyond_mark mark kept) kept) ≡ take mark.transaction (held_for Transaction kept)
+pub since-transaction : (mark : Mark) (kept : List Kept) → AreRising kept → tickets_for Transaction (without_tickets (beyond_mark mark kept) kept) ≡ take mark.transaction (tickets_for Transaction kept)
 since-transaction mark kept rising =
-    ap (held_for Transaction) (left-since mark kept rising)
+    ap (tickets_for Transaction) (left-since mark kept rising)
     ∙ front-same (lasts Transaction) mark.transaction (front (lasts Statement) mark.statement kept)
     ∙ ap (take mark.transaction) (statement_apart Transaction (λ e. cc) mark.statement kept)
 
-pub since-explicit : (mark : Mark) (kept : List Kept) → AreRising kept → held_for Explicit (without (beyond_mark mark kept) kept) ≡ held_for Explicit kept
+pub since-explicit : (mark : Mark) (kept : List Kept) → AreRising kept → tickets_for Explicit (without_tickets (beyond_mark mark kept) kept) ≡ tickets_for Explicit kept
 since-explicit mark kept rising =
-    ap (held_for Explicit) (left-since mark kept rising)
+    ap (tickets_for Explicit) (left-since mark kept rising)
     ∙ transaction_apart Explicit (λ e. cc) mark.transaction (front (lasts Statement) mark.statement kept)
     ∙ statement_apart Explicit (λ e. cc) mark.statement kept
 
 -- what stays where a statement ends
-pub ending-same : (kept : List Kept) → AreRising kept → held_for Statement (without (held_for Statement kept) kept) ≡ []
-ending-same kept rising = ap (held_for Statement) (left-beyond (lasts Statement) 0 kept rising) ∙ front-same (lasts Statement) 0 kept
+pub ending-same : (kept : List Kept) → AreRising kept → tickets_for Statement (without_tickets (tickets_for Statement kept) kept) ≡ []
+ending-same kept rising = ap (tickets_for Statement) (left-beyond (lasts Statement) 0 kept rising) ∙ front-same (lasts Statement) 0 kept
 
 pub ending-other : (e : Duration) (different : (duration_rank Statement ≡ duration_rank e) → ⊥) (kept : List Kept) → AreRising kept
-    → held_for e (without (held_for Statement kept) kept) ≡ held_for e kept
-ending-other e different kept rising = ap (held_for e) (left-beyond (lasts Statement) 0 kept rising) ∙ statement_apart e different 0 kept
+    → tickets_for e (without_tickets (tickets_for Statement kept) kept) ≡ tickets_for e kept
+ending-other e different kept rising = ap (tickets_for e) (left-beyond (lasts Statement) 0 kept rising) ∙ statement_apart e different 0 kept
 
 lasting : (d : Duration) (t : Kept) (ts us : List Kept) → us ≡ ts →
     (if duration_rank d == 0 then us else (if duration_rank d == 1 then us else t ∷ us)) ≡ (if duration_rank d == 2 then t ∷ ts else ts)
@@ -141,6 +141,6 @@ lasting Transaction t ts us same = same
 lasting Explicit t ts us same = ap (λ xs. t ∷ xs) same
 
 -- without those of a statement and of a transaction, just the explicit ones are left
-pub only-explicit : (kept : List Kept) → front (lasts Transaction) 0 (front (lasts Statement) 0 kept) ≡ held_for Explicit kept
+pub only-explicit : (kept : List Kept) → front (lasts Transaction) 0 (front (lasts Statement) 0 kept) ≡ tickets_for Explicit kept
 only-explicit [] = refl
-only-explicit (t ∷ ts) = grind (arith, nat_tests, lasting t.duration t (held_for Explicit ts) (front (lasts Transaction) 0 (front (lasts Statement) 0 ts)) (only-explicit ts))
+only-explicit (t ∷ ts) = grind (arith, nat_tests, lasting t.duration t (tickets_for Explicit ts) (front (lasts Transaction) 0 (front (lasts Statement) 0 ts)) (only-explicit ts))

@@ -15,7 +15,7 @@ use Rattle.mdl_context.specs.declared.request.Tried.{Tried}
 use Rattle.mdl_context.specs.declared.context_error.ContextError.TheVariants.{Space}
 use Rattle.mdl_calls.specs.declared.space_error.SpaceError.TheVariants.{OutOfMemory}
 use Rattle.mdl_context.specs.Contexts.{ContextView, Serves, wish_there, wish_here}
-use Rattle.mdl_context.specs.Holdings.{earliest, is_at}
+use Rattle.mdl_context.specs.Holdings.{earliest, is_kept_at}
 use Rattle.mdl_context.specs.Requests.{Outcome, suffices, is_reusable, outcome_got, acquiring_at, outcome_tried, trying_at}
 use Rattle.mdl_context.proofs.PlaceLemmas.{suffices-at, equal}
 use Rattle.mdl_context.proofs.ServingLemmas.{earliest-held}
@@ -44,7 +44,7 @@ pub idle-there : (own : SessionLocks) (context : ContextView) → Serves own con
 idle-there own context serves none = idle-wait own.wait context.wait serves.wait none
 
 -- what is found at a place is there
-found-place : (p : Kept → Bool) (place : ℕ) (kept : List Kept) (held : Held) → ((t : Kept) → p t ≡ true → is_at place t ≡ true) → earliest p kept ≡ Some held → held.place ≡ place
+found-place : (p : Kept → Bool) (place : ℕ) (kept : List Kept) (held : Held) → ((t : Kept) → p t ≡ true → is_kept_at place t ≡ true) → earliest p kept ≡ Some held → held.place ≡ place
 found-place p place [] held there found = cc
 found-place p place (x ∷ xs) held there found = go (p x) refl (found-place p place xs held there) where
   go : (b : Bool) → p x ≡ b → (earliest p xs ≡ Some held → held.place ≡ place) → held.place ≡ place

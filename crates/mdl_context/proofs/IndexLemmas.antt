@@ -7,7 +7,7 @@ use Rattle.std.specs.Ordering.{nat_cmp}
 use Rattle.std.proofs.lemmas.Bool.Decides.{nat_tests}
 use Rattle.std.proofs.lemmas.List.Sorted.{searched}
 use Rattle.smallvec.specs.SmallVec.{SmallVec}
-use Rattle.mdl_context.specs.Indexes.{Index, numbers_of, rises, without_one}
+use Rattle.mdl_context.specs.Indexes.{Index, rises, ticket_numbers, without_one}
 
 -- ---- a number among numbers that rise
 
@@ -58,7 +58,7 @@ missed_stays ns id (Err gap) rising told none =
     not_among id ns (λ k below same. grind (arith, nat_tests, parted.1 k, parted.2 k))
 
 -- a list without numbers more changes none
-pub one_empty_more : (index : Index) (list : SmallVec ℕ) (place : ℕ) → list.items ≡ [] → numbers_of place (index ++ list ∷ []) ≡ numbers_of place index
+pub one_empty_more : (index : Index) (list : SmallVec ℕ) (place : ℕ) → list.items ≡ [] → ticket_numbers place (index ++ list ∷ []) ≡ ticket_numbers place index
 one_empty_more [] list zero none = none
 one_empty_more [] list (suc place) none = refl
 one_empty_more (x ∷ xs) list zero none = refl

@@ -6,8 +6,8 @@ use Rattle.mdl_calls.specs.Words.{Answer, Call, Runs, Give, ◌>>◌}
 use Rattle.mdl_calls.proofs.RunLemmas.{runs_bind}
 use Rattle.mdl_context.specs.declared.kept.Kept.{Kept}
 use Rattle.mdl_context.specs.declared.request.Mark.{Mark}
-use Rattle.mdl_context.specs.Contexts.{ContextView, AreRising, beyond, held_for, lasts, of_transaction, without}
-use Rattle.mdl_context.specs.Releases.{releasing_all, giving_up, giving_up_all}
+use Rattle.mdl_context.specs.Contexts.{ContextView, AreRising, beyond, tickets_for, lasts, of_transaction, without_tickets}
+use Rattle.mdl_context.specs.Releases.{releasing_all, releasing_tickets, giving_up_all}
 use Rattle.mdl_context.specs.Requests.{Outcome}
 use Rattle.mdl_context.proofs.FrontLemmas.{left-since, only-explicit, rising-filter}
 use Rattle.mdl_context.proofs.BeyondLemmas.{others-without, run-as, run-given-up}
@@ -23,20 +23,20 @@ filter-none q [] = refl
 filter-none q (x ∷ xs) = grind (arith, filter-none q xs)
 
 -- without what ends with the transaction only explicit tickets are left
-pub left-explicit : (kept : List Kept) → AreRising kept → without (of_transaction kept) kept ≡ held_for Explicit kept
+pub left-explicit : (kept : List Kept) → AreRising kept → without_tickets (of_transaction kept) kept ≡ tickets_for Explicit kept
 left-explicit kept rising =
     let start : Mark = record { statement = 0; transaction = 0 } in
     left-since start kept rising ∙ only-explicit kept
 
 -- all of those are explicit
-pub all-explicit : (kept left : List Kept) → left ≡ held_for Explicit kept → beyond Explicit 0 left ≡ left
-all-explicit kept left is = ap (held_for Explicit) is ∙ filter-twice (lasts Explicit) kept ∙ sym is
+pub all-explicit : (kept left : List Kept) → left ≡ tickets_for Explicit kept → beyond Explicit 0 left ≡ left
+all-explicit kept left is = ap (tickets_for Explicit) is ∙ filter-twice (lasts Explicit) kept ∙ sym is
 
 -- and without them nothing is left
-pub none-left : (kept left : List Kept) → AreRising kept → left ≡ held_for Explicit kept → without (beyond Explicit 0 left) left ≡ []
+pub none-left : (kept left : List Kept) → AreRising kept → left ≡ tickets_for Explicit kept → without_tickets (beyond Explicit 0 left) left ≡ []
 none-left kept left rising is =
-    ap (λ (xs : List Kept). without (beyond Explicit 0 xs) xs) is
-    ∙ sym (others-without (lasts Explicit) (held_for Explicit kept) (rising-filter (lasts Explicit) kept rising))
+    ap (λ (xs : List Kept). without_tickets (beyond Explicit 0 xs) xs) is
+    ∙ sym (others-without (lasts Explicit) (tickets_for Explicit kept) (rising-filter (lasts Explicit) kept rising))
     ∙ filter-none (lasts Explicit) kept
 
 -- ---- runs
@@ -47,26 +47,26 @@ module _ {S : Type 0} (joins : S → Call → Answer → S → Type 0) where
   released-gives who (t ∷ ts) x reply a b (answer, mid, step, run) = released-gives who ts x reply mid b run
 
   -- a context that gave tickets up keeps the others
-  pub gave-up : (gone : List Kept) (before after : ContextView) (a b : S) → Runs joins a (giving_up gone before) (Ok tt, after) b
-      → after ≡ record before { kept = without gone before.kept }
+  pub gave-up : (gone : List Kept) (before after : ContextView) (a b : S) → Runs joins a (releasing_tickets gone before) (Ok tt, after) b
+      → after ≡ record before { kept = without_tickets gone before.kept }
   gave-up gone before after a b run =
-      let left : ContextView = record before { kept = without gone before.kept } in
+      let left : ContextView = record before { kept = without_tickets gone before.kept } in
       sym (ap (λ (outcome : Outcome (Unit {0})). outcome.1) (released-gives before.who gone (Ok tt, left) (Ok tt, after) a b run))
 
   -- what ends with the transaction goes first, and then all that is left
-  pub run-all : (before mid after : ContextView) (a between b : S) → AreRising before.kept → Runs joins a (giving_up (of_transaction before.kept) before) (Ok tt, mid) between
-      → Runs joins between (releasing_all mid.who (beyond Explicit 0 mid.kept)) tt b → after ≡ record mid { kept = without (beyond Explicit 0 mid.kept) mid.kept }
+  pub run-all : (before mid after : ContextView) (a between b : S) → AreRising before.kept → Runs joins a (releasing_tickets (of_transaction before.kept) before) (Ok tt, mid) between
+      → Runs joins between (releasing_all mid.who (beyond Explicit 0 mid.kept)) tt b → after ≡ record mid { kept = without_tickets (beyond Explicit 0 mid.kept) mid.kept }
       → Runs joins a (giving_up_all before) (Ok tt, after) b
   run-all before mid after a between b rising first second left =
       let stays = ap (λ (c : ContextView). c.kept) (gave-up (of_transaction before.kept) before mid a between first) ∙ left-explicit before.kept rising in
       let same = all-explicit before.kept mid.kept stays in
-      runs_bind joins (giving_up (of_transaction before.kept) before) (λ outcome. giving_up outcome.1.kept outcome.1) a between b (Ok tt, mid) (Ok tt, after) first
+      runs_bind joins (releasing_tickets (of_transaction before.kept) before) (λ outcome. releasing_tickets outcome.1.kept outcome.1) a between b (Ok tt, mid) (Ok tt, after) first
       (run-given-up joins mid.kept mid after between b (run-as joins mid.who _ mid.kept between b same second)
-      (left ∙ ap (λ (kept : List Kept). let context : ContextView = record mid { kept = kept } in context) (ap (λ gone. without gone mid.kept) same)))
+      (left ∙ ap (λ (kept : List Kept). let context : ContextView = record mid { kept = kept } in context) (ap (λ gone. without_tickets gone mid.kept) same)))
 
   -- and nothing is kept then
-  pub nothing-kept : (before mid after : ContextView) (a between : S) → AreRising before.kept → Runs joins a (giving_up (of_transaction before.kept) before) (Ok tt, mid) between
-      → after ≡ record mid { kept = without (beyond Explicit 0 mid.kept) mid.kept } → after.kept ≡ []
+  pub nothing-kept : (before mid after : ContextView) (a between : S) → AreRising before.kept → Runs joins a (releasing_tickets (of_transaction before.kept) before) (Ok tt, mid) between
+      → after ≡ record mid { kept = without_tickets (beyond Explicit 0 mid.kept) mid.kept } → after.kept ≡ []
   nothing-kept before mid after a between rising first left =
       let stays = ap (λ (c : ContextView). c.kept) (gave-up (of_transaction before.kept) before mid a between first) ∙ left-explicit before.kept rising in
       ap (λ (c : ContextView). c.kept) left ∙ none-left before.kept mid.kept rising stays

@@ -19,9 +19,9 @@ use Rattle.mdl_context.specs.declared.request.Tried.{Tried}
 use Rattle.mdl_context.specs.Wishes.{Wish}
 use Rattle.mdl_context.specs.declared.request.Resume.{Resume}
 use Rattle.mdl_context.specs.declared.request.Resume.TheVariants as resume_as
-use Rattle.mdl_context.specs.Contexts.{ContextView, ticket_kept, without, place_known}
+use Rattle.mdl_context.specs.Contexts.{ContextView, ticket_kept, without_tickets, place_known}
 use Rattle.mdl_context.specs.Gains as gains
-use Rattle.mdl_context.specs.Holdings.{earliest, upgrade_of, without_number}
+use Rattle.mdl_context.specs.Holdings.{awaited_upgrade, earliest, without_number}
 use Rattle.mdl_context.specs.MemoryLaws.{IsStarved}
 use Rattle.mdl_context.specs.Releases as releases
 use Rattle.mdl_context.specs.Requests as requests
@@ -41,33 +41,33 @@ frugal_abandoning who reply =
     frugal_bind {A = Unit {0}} (gains.abandoning who) (λ _. Give reply) (refl, λ _. (refl, frugal_unwanted who)) (λ _. tt)
 
 -- the end of a wait that upgrades no ticket
-frugal_end : (context : ContextView) → upgrade_of context.wait ≡ None → (answer : Answer) → IsFrugal (waits.end_answered context answer)
+frugal_end : (context : ContextView) → awaited_upgrade context.wait ≡ None → (answer : Answer) → IsFrugal (waits.end_answered context answer)
 frugal_end context none (Granted id) = subst (λ upgrade. IsFrugal (waits.wait_won upgrade id context)) (sym none) tt
 frugal_end context none (Lost how) = tt
 frugal_end context none _ = tt
 
-frugal_poll : (context : ContextView) → upgrade_of context.wait ≡ None → (answer : Answer) → IsFrugal (waits.poll_answered context answer)
+frugal_poll : (context : ContextView) → awaited_upgrade context.wait ≡ None → (answer : Answer) → IsFrugal (waits.poll_answered context answer)
 frugal_poll context none Pending = tt
 frugal_poll context none (Is_settled how) = (refl, frugal_end context none)
 frugal_poll context none _ = tt
 
 -- a wait for which the searches are over goes on
-pub frugal_resuming : (context : ContextView) → waits.is_searched context.wait ≡ Some true → upgrade_of context.wait ≡ None → IsFrugal (waits.resuming context)
-frugal_resuming context over none = subst (λ searched. IsFrugal (waits.going_on searched context)) (sym over) (refl, frugal_poll context none)
+pub frugal_resuming : (context : ContextView) → waits.is_searched context.wait ≡ Some true → awaited_upgrade context.wait ≡ None → IsFrugal (waits.resuming context)
+frugal_resuming context over none = subst (λ searched. IsFrugal (waits.continuing_wait searched context)) (sym over) (refl, frugal_poll context none)
 
-pub frugal_giving_up_wait : (context : ContextView) → upgrade_of context.wait ≡ None → IsFrugal (waits.giving_up_wait context)
+pub frugal_giving_up_wait : (context : ContextView) → awaited_upgrade context.wait ≡ None → IsFrugal (waits.giving_up_wait context)
 frugal_giving_up_wait context none =
-    either {A = Outcome Resume} IsFrugal (is_some context.wait) (Ask (Settle_timeout context.who) (λ _. waits.ending context))
+    either {A = Outcome Resume} IsFrugal (is_some context.wait) (Ask (Settle_timeout context.who) (λ _. waits.ending_wait context))
     (Give (Err (Space NoWait), context)) (refl, λ _. (refl, frugal_end context none)) tt
 
 frugal_all : (who : ℕ) (gone : List Kept) → IsFrugal (releases.releasing_all who gone)
 frugal_all who [] = tt
 frugal_all who (ticket ∷ tickets) = (refl, λ _. frugal_all who tickets)
 
-pub frugal_giving_up : (gone : List Kept) (context : ContextView) → IsFrugal (releases.giving_up gone context)
+pub frugal_giving_up : (gone : List Kept) (context : ContextView) → IsFrugal (releases.releasing_tickets gone context)
 frugal_giving_up gone context =
     frugal_bind {A = Unit {0}} {B = Outcome (Unit {0})} (releases.releasing_all context.who gone)
-    (λ _. Give (Ok tt, record context { kept = without gone context.kept })) (frugal_all context.who gone) (λ _. tt)
+    (λ _. Give (Ok tt, record context { kept = without_tickets gone context.kept })) (frugal_all context.who gone) (λ _. tt)
 
 -- so does what may be refused first
 pub frugal_unless : {A : Type 0} (fault : Option ContextError) (context : ContextView) (program : Program (Outcome A)) → IsFrugal program → IsFrugal (releases.unless fault context program)
@@ -203,7 +203,7 @@ faithful_merge : (who new : ℕ) (answer : Answer) → IsFaithful IsStarvedMerge
 faithful_merge who new Done = tt
 faithful_merge who new _ = (λ takes. cc, λ _. tt)
 
-faithful_merging : (who id new : ℕ) → IsFaithful IsStarvedMerge (upgrades.merging who id new)
+faithful_merging : (who id new : ℕ) → IsFaithful IsStarvedMerge (upgrades.merging_new who id new)
 faithful_merging who id new = (λ _ answer. refl, faithful_merge who new)
 
 -- ---- waits that go on
@@ -211,16 +211,16 @@ faithful_merging who id new = (λ _ answer. refl, faithful_merge who new)
 faithful_won : (upgrade : Option (ℕ × Mode)) (new : ℕ) (context : ContextView) → IsFaithful IsStarved (waits.wait_won upgrade new context)
 faithful_won None new context = tt
 faithful_won (Some (id, mode)) new context =
-    faithful_bind {A = Result (Unit {0}) SpaceError} {B = Outcome Resume} IsStarvedMerge IsStarved (upgrades.merging context.who id new)
+    faithful_bind {A = Result (Unit {0}) SpaceError} {B = Outcome Resume} IsStarvedMerge IsStarved (upgrades.merging_new context.who id new)
     (λ end. Give (upgrades.merged (resume_as.Acquired id) id mode (waits.without_wait context) end)) (faithful_merging context.who id new)
     (λ end e. ap (λ x. (upgrades.merged (resume_as.Acquired id) id mode (waits.without_wait context) x).0) e) (λ _. tt)
 
 faithful_end : (context : ContextView) (answer : Answer) → IsFaithful IsStarved (waits.end_answered context answer)
-faithful_end context (Granted id) = faithful_won (upgrade_of context.wait) id context
+faithful_end context (Granted id) = faithful_won (awaited_upgrade context.wait) id context
 faithful_end context (Lost how) = tt
 faithful_end context _ = tt
 
-faithful_ending : (context : ContextView) → IsFaithful IsStarved (waits.ending context)
+faithful_ending : (context : ContextView) → IsFaithful IsStarved (waits.ending_wait context)
 faithful_ending context = (λ takes. cc, faithful_end context)
 
 faithful_poll : (context : ContextView) (answer : Answer) → IsFaithful IsStarved (waits.poll_answered context answer)
@@ -232,7 +232,7 @@ faithful_looking : (context : ContextView) → IsFaithful IsStarved (waits.looki
 faithful_looking context = (λ takes. cc, faithful_poll context)
 
 faithful_wait_sought : (context : ContextView) (end : SearchEnd) → IsFaithful IsStarved (waits.wait_sought context end)
-faithful_wait_sought context Over = faithful_looking (waits.searched context)
+faithful_wait_sought context Over = faithful_looking (waits.searches_over context)
 faithful_wait_sought context Cut_off = faithful_looking context
 faithful_wait_sought context (Failed refusal) =
     let reply : Outcome Resume = (Err (Space refusal), waits.without_wait context) in
@@ -252,7 +252,7 @@ faithful_cut_off context Pending =
 faithful_cut_off context (Is_settled how) = faithful_ending context
 faithful_cut_off context _ = tt
 
-faithful_going_on : (searched : Option Bool) (context : ContextView) → IsFaithful IsStarved (waits.going_on searched context)
+faithful_going_on : (searched : Option Bool) (context : ContextView) → IsFaithful IsStarved (waits.continuing_wait searched context)
 faithful_going_on None context = tt
 faithful_going_on (Some true) context = faithful_looking context
 faithful_going_on (Some false) context = (λ takes. cc, faithful_cut_off context)
@@ -262,14 +262,14 @@ faithful_resuming context = faithful_going_on (waits.is_searched context.wait) c
 
 pub faithful_giving_up_wait : (context : ContextView) → IsFaithful IsStarved (waits.giving_up_wait context)
 faithful_giving_up_wait context =
-    either {A = Outcome Resume} (IsFaithful IsStarved) (is_some context.wait) (Ask (Settle_timeout context.who) (λ _. waits.ending context))
+    either {A = Outcome Resume} (IsFaithful IsStarved) (is_some context.wait) (Ask (Settle_timeout context.who) (λ _. waits.ending_wait context))
     (Give (Err (Space NoWait), context)) (λ takes. cc, λ _. faithful_ending context) tt
 
 -- ---- upgrades
 
 faithful_second : (ticket : Kept) (mode : Mode) (context : ContextView) (end : Result AskResult SpaceError) → IsFaithful IsStarved (upgrades.second_got ticket mode context end)
 faithful_second ticket mode context (Ok (got.Granted new)) =
-    faithful_bind {A = Result (Unit {0}) SpaceError} {B = Outcome Acquire} IsStarvedMerge IsStarved (upgrades.merging context.who ticket.id new)
+    faithful_bind {A = Result (Unit {0}) SpaceError} {B = Outcome Acquire} IsStarvedMerge IsStarved (upgrades.merging_new context.who ticket.id new)
     (λ end. Give (upgrades.merged (Acquired ticket.id) ticket.id mode context end)) (faithful_merging context.who ticket.id new)
     (λ end e. ap (λ x. (upgrades.merged (Acquired ticket.id) ticket.id mode context x).0) e) (λ _. tt)
 faithful_second ticket mode context (Ok (got.Waits number searched)) = tt

@@ -7,8 +7,8 @@ use Rattle.mdl_system.proofs.Deciding.{key-Decides}
 use Rattle.mdl_calls.specs.declared.lock_space.LockSpace.{Ghosts}
 use Rattle.mdl_calls.specs.MemberLaws.{LawsOf}
 use Rattle.mdl_context.specs.declared.kept.Kept.{Kept}
-use Rattle.mdl_context.specs.Contexts.{AreRising, place_known, is_known_place, without}
-use Rattle.mdl_context.specs.Holdings.{is_at}
+use Rattle.mdl_context.specs.Contexts.{AreRising, place_known, is_known_place, without_tickets}
+use Rattle.mdl_context.specs.Holdings.{is_kept_at}
 use Rattle.mdl_context.specs.NameLaws.{NamesAreGivenUp}
 use Rattle.mdl_context.specs.Releases.{at_known_place}
 use Rattle.mdl_context.proofs.BeyondLemmas.{rising-kept, others-without, without-none}
@@ -50,10 +50,10 @@ module _ {S : Type 0} (members : Ghosts S) (laws : LawsOf members) where
           let rest : is_known_place es place ≡ false = later (grind (arith, none, same)) in
           grind (arith, here, rest)
 
-  none-at : (known : List (KeyName × ℕ)) (place : ℕ) (kept : List Kept) → All (λ (t : Kept). is_known_place known t.place ≡ true) kept → is_known_place known place ≡ false → filter (is_at place) kept ≡ []
+  none-at : (known : List (KeyName × ℕ)) (place : ℕ) (kept : List Kept) → All (λ (t : Kept). is_known_place known t.place ≡ true) kept → is_known_place known place ≡ false → filter (is_kept_at place) kept ≡ []
   none-at known place [] all none = refl
   none-at known place (t ∷ ts) all none = go (t.place == place) refl (none-at known place ts (All-tail (λ (x : Kept). is_known_place known x.place ≡ true) t ts all) none) where
-    go : (b : Bool) → (t.place == place) ≡ b → filter (is_at place) ts ≡ [] → filter (is_at place) (t ∷ ts) ≡ []
+    go : (b : Bool) → (t.place == place) ≡ b → filter (is_kept_at place) ts ≡ [] → filter (is_kept_at place) (t ∷ ts) ≡ []
     go true same rest =
         let there : is_known_place known place ≡ true = subst (λ p. is_known_place known p ≡ true) (equal t.place place same) (All-head (λ (x : Kept). is_known_place known x.place ≡ true) t ts all) in
         absurd (grind (arith, none, there))
@@ -61,12 +61,12 @@ module _ {S : Type 0} (members : Ghosts S) (laws : LawsOf members) where
 
   pub names-given-up : NamesAreGivenUp members
   names-given-up space context key place attends knew = go (place_known key context.known) refl where
-    go : (o : Option ℕ) → place_known key context.known ≡ o → filter (is_at place) (without (at_known_place o context.kept) context.kept) ≡ []
+    go : (o : Option ℕ) → place_known key context.known ≡ o → filter (is_kept_at place) (without_tickets (at_known_place o context.kept) context.kept) ≡ []
     go None none =
-        ap (filter (is_at place)) (without-none context.kept)
+        ap (filter (is_kept_at place)) (without-none context.kept)
         ∙ none-at context.known place context.kept attends.places (not-there space context.who attends.speaks key context.known place attends.known knew none)
     go (Some there) found =
         let same : place ≡ there = laws.one_place space context.who place there key attends.speaks knew (knows-there space context.who attends.speaks key context.known there attends.known found) in
         let rises : AreRising context.kept = rising-kept _ context (laws.rising space context.who attends.speaks) attends.serves in
-        subst (λ p. filter (is_at p) (without (filter (is_at there) context.kept) context.kept) ≡ []) (sym same)
-        (ap (filter (is_at there)) (sym (others-without (is_at there) context.kept rises)) ∙ none-pass (is_at there) context.kept)
+        subst (λ p. filter (is_kept_at p) (without_tickets (filter (is_kept_at there) context.kept) context.kept) ≡ []) (sym same)
+        (ap (filter (is_kept_at there)) (sym (others-without (is_kept_at there) context.kept rises)) ∙ none-pass (is_kept_at there) context.kept)

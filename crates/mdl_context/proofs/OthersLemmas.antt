@@ -87,8 +87,8 @@ pub for_trying_found : (place : Option ℕ) (request : Wish) (context : ContextV
 for_trying_found place request context =
     for_own {A = Outcome Tried} context.who (requests.trying_found place request context) (own_trying_found place request context)
 
-pub for_ending : (context : ContextView) → IsFor context.who (waits.ending context)
-for_ending context = for_own {A = Outcome Resume} context.who (waits.ending context) (own_ending context)
+pub for_ending : (context : ContextView) → IsFor context.who (waits.ending_wait context)
+for_ending context = for_own {A = Outcome Resume} context.who (waits.ending_wait context) (own_ending context)
 
 pub for_looking : (context : ContextView) → IsFor context.who (waits.looking context)
 for_looking context = for_own {A = Outcome Resume} context.who (waits.looking context) (own_looking context)

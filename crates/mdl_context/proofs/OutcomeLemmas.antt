@@ -23,12 +23,12 @@ use Rattle.mdl_context.specs.declared.request.Resume.{Resume}
 use Rattle.mdl_context.specs.declared.request.Resume.TheVariants as resume_as
 use Rattle.mdl_context.specs.Contexts.{ContextView, ticket_kept}
 use Rattle.mdl_context.specs.Gains.{waiting_at, abandoning}
-use Rattle.mdl_context.specs.Holdings.{search_over, upgrade_of, with_wanted}
+use Rattle.mdl_context.specs.Holdings.{awaited_upgrade, search_over, with_wanted}
 use Rattle.mdl_context.specs.Outcomes.{IsRaised, UpgradeComesTo, IsWon, WaitComesTo}
 use Rattle.mdl_context.specs.Releases.{unless, waiting_fault}
 use Rattle.mdl_context.specs.Requests.{Outcome}
-use Rattle.mdl_context.specs.Upgrades.{with_mode, merging, merged, waiting_to_upgrade, second_got, upgrade_answered, upgrading_ticket, upgrading}
-use Rattle.mdl_context.specs.Waits.{without_wait, taking_up, searched, wait_won, end_answered, ending, poll_answered, looking, wait_sought, searching_on, cut_off_answered, going_on, is_searched, resuming, giving_up_wait}
+use Rattle.mdl_context.specs.Upgrades.{with_ticket_mode, merging_new, merged, waiting_to_upgrade, second_got, upgrade_answered, upgrading_ticket, upgrading}
+use Rattle.mdl_context.specs.Waits.{without_wait, taking_up, searches_over, wait_won, end_answered, ending_wait, poll_answered, looking, wait_sought, searching_on, cut_off_answered, continuing_wait, is_searched, resuming, giving_up_wait}
 use Rattle.mdl_context.proofs.WishLemmas.{covers-itself}
 
 -- ---- upgrades
@@ -45,8 +45,8 @@ module _ (id : ℕ) (mode : Mode) (before : ContextView) (ticket : Kept) (kept :
   number = eqb-true ticket.id id (find-passes (λ (t : Kept). t.id == id) before.kept ticket kept)
 
   raised_by : (change : Mode → Mode) → ((held : Mode) → covers (change held) mode ≡ true)
-      → IsRaised id mode before (with_mode ticket.id change before)
-  raised_by change strong = (change, strong, ap (λ n. with_mode n change before) number)
+      → IsRaised id mode before (with_ticket_mode ticket.id change before)
+  raised_by change strong = (change, strong, ap (λ n. with_ticket_mode n change before) number)
 
   raised_merged : (end : Result (Unit {0}) SpaceError) → UpgradeComesTo id mode before (merged (Acquired ticket.id) ticket.id mode before end)
   raised_merged (Ok done) = (number, raised_by (λ _. mode) (λ held. covers-itself mode))
@@ -54,7 +54,7 @@ module _ (id : ℕ) (mode : Mode) (before : ContextView) (ticket : Kept) (kept :
 
   raised_got : (end : Result AskResult SpaceError) → Each (UpgradeComesTo id mode before) (second_got ticket mode before end)
   raised_got (Ok (got.Granted new)) =
-      each_then {A = Result (Unit {0}) SpaceError} {B = Outcome Acquire} (UpgradeComesTo id mode before) (merging before.who ticket.id new)
+      each_then {A = Result (Unit {0}) SpaceError} {B = Outcome Acquire} (UpgradeComesTo id mode before) (merging_new before.who ticket.id new)
       (λ end. Give (merged (Acquired ticket.id) ticket.id mode before end)) raised_merged
   raised_got (Ok (got.Waits wait searched)) = (ticket, searched, kept, refl)
   raised_got (Err refusal) = refl
@@ -87,27 +87,27 @@ raised_upgrading id mode context = by (ticket_kept id context.kept) refl where
 
 -- ---- waits
 
-module _ (before context : ContextView) (same : without_wait context ≡ without_wait before) (wish : upgrade_of context.wait ≡ upgrade_of before.wait)
+module _ (before context : ContextView) (same : without_wait context ≡ without_wait before) (wish : awaited_upgrade context.wait ≡ awaited_upgrade before.wait)
     (taken : (id : ℕ) → taking_up id context ≡ taking_up id before) where
-  won_merged : (told : ℕ) (mode : Mode) → upgrade_of before.wait ≡ Some (told, mode) → (end : Result (Unit {0}) SpaceError)
+  won_merged : (told : ℕ) (mode : Mode) → awaited_upgrade before.wait ≡ Some (told, mode) → (end : Result (Unit {0}) SpaceError)
       → WaitComesTo before (merged (resume_as.Acquired told) told mode (without_wait context) end)
   won_merged told mode e (Ok done) =
-      subst (λ (w : Option (ℕ × Mode)). IsWon w told before (with_mode told (λ _. mode) (without_wait context))) (sym e)
-      (refl, ap (with_mode told (λ _. mode)) same)
+      subst (λ (w : Option (ℕ × Mode)). IsWon w told before (with_ticket_mode told (λ _. mode) (without_wait context))) (sym e)
+      (refl, ap (with_ticket_mode told (λ _. mode)) same)
   won_merged told mode e (Err refusal) = same
 
-  won : (wanted : Option (ℕ × Mode)) → upgrade_of before.wait ≡ wanted → (id : ℕ) → Each (WaitComesTo before) (wait_won wanted id context)
+  won : (wanted : Option (ℕ × Mode)) → awaited_upgrade before.wait ≡ wanted → (id : ℕ) → Each (WaitComesTo before) (wait_won wanted id context)
   won None e id = subst (λ (w : Option (ℕ × Mode)). IsWon w id before (taking_up id context)) (sym e) (taken id)
   won (Some (told, mode)) e id =
-      each_then {A = Result (Unit {0}) SpaceError} {B = Outcome Resume} (WaitComesTo before) (merging context.who told id)
+      each_then {A = Result (Unit {0}) SpaceError} {B = Outcome Resume} (WaitComesTo before) (merging_new context.who told id)
       (λ end. Give (merged (resume_as.Acquired told) told mode (without_wait context) end)) (won_merged told mode e)
 
   ended : (answer : Answer) → Each (WaitComesTo before) (end_answered context answer)
-  ended (Granted id) = won (upgrade_of context.wait) (sym wish) id
+  ended (Granted id) = won (awaited_upgrade context.wait) (sym wish) id
   ended (Lost how) = same
   ended _ = same
 
-  pub comes_ending : Each (WaitComesTo before) (ending context)
+  pub comes_ending : Each (WaitComesTo before) (ending_wait context)
   comes_ending = ended
 
   polled : (answer : Answer) → Each (WaitComesTo before) (poll_answered context answer)
@@ -119,7 +119,7 @@ module _ (before context : ContextView) (same : without_wait context ≡ without
   comes_looking = polled
 
 -- what is searched for deadlocks on, is the same wait
-same_wish : (wait : Option Wanted) → upgrade_of (option_map search_over wait) ≡ upgrade_of wait
+same_wish : (wait : Option Wanted) → awaited_upgrade (option_map search_over wait) ≡ awaited_upgrade wait
 same_wish None = refl
 same_wish (Some wanted) = refl
 
@@ -131,12 +131,12 @@ module _ (context : ContextView) where
   pub looks : Each (WaitComesTo context) (looking context)
   looks = comes_looking context context refl refl (λ id. refl)
 
-  pub ends : Each (WaitComesTo context) (ending context)
+  pub ends : Each (WaitComesTo context) (ending_wait context)
   ends = comes_ending context context refl refl (λ id. refl)
 
   sought : (end : SearchEnd) → Each (WaitComesTo context) (wait_sought context end)
   sought Over =
-      comes_looking context (searched context) refl (same_wish context.wait)
+      comes_looking context (searches_over context) refl (same_wish context.wait)
       (λ id. ap (λ (kept : List Kept). record context { kept = kept; wait = None }) (same_ticket id context.wait context.kept))
   sought Cut_off = looks
   sought (Failed refusal) =
@@ -151,7 +151,7 @@ module _ (context : ContextView) where
   cut_off (Is_settled how) = ends
   cut_off _ = refl
 
-  goes_on : (state : Option Bool) → Each (WaitComesTo context) (going_on state context)
+  goes_on : (state : Option Bool) → Each (WaitComesTo context) (continuing_wait state context)
   goes_on None = refl
   goes_on (Some true) = looks
   goes_on (Some false) = cut_off
@@ -161,5 +161,5 @@ module _ (context : ContextView) where
 
   pub gives_up : Each (WaitComesTo context) (giving_up_wait context)
   gives_up =
-      either {A = Outcome Resume} (Each (WaitComesTo context)) (is_some context.wait) (Ask (Settle_timeout context.who) (λ _. ending context))
+      either {A = Outcome Resume} (Each (WaitComesTo context)) (is_some context.wait) (Ask (Settle_timeout context.who) (λ _. ending_wait context))
       (Give (Err (Space NoWait), context)) (λ _. ends) refl

@@ -21,9 +21,9 @@ use Rattle.mdl_context.specs.declared.request.Tried.{Tried}
 use Rattle.mdl_context.specs.Wishes.{Wish}
 use Rattle.mdl_context.specs.declared.request.Resume.{Resume}
 use Rattle.mdl_context.specs.declared.request.Resume.TheVariants as resume_as
-use Rattle.mdl_context.specs.Contexts.{ContextView, ticket_kept, without, place_known}
+use Rattle.mdl_context.specs.Contexts.{ContextView, ticket_kept, without_tickets, place_known}
 use Rattle.mdl_context.specs.Gains as gains
-use Rattle.mdl_context.specs.Holdings.{earliest, upgrade_of, without_number}
+use Rattle.mdl_context.specs.Holdings.{awaited_upgrade, earliest, without_number}
 use Rattle.mdl_context.specs.MemoryLaws.{IsOwnCall}
 use Rattle.mdl_context.specs.Releases as releases
 use Rattle.mdl_context.specs.Requests as requests
@@ -143,7 +143,7 @@ own_merge : (who new : ℕ) (answer : Answer) → AreOwn who (upgrades.merge_ans
 own_merge who new Done = tt
 own_merge who new _ = ((refl, refl, refl), λ _. tt)
 
-pub own_merging : (who id new : ℕ) → AreOwn who (upgrades.merging who id new)
+pub own_merging : (who id new : ℕ) → AreOwn who (upgrades.merging_new who id new)
 own_merging who id new = ((refl, refl, refl), own_merge who new)
 
 -- ---- waits
@@ -151,15 +151,15 @@ own_merging who id new = ((refl, refl, refl), own_merge who new)
 pub own_won : (upgrade : Option (ℕ × Mode)) (new : ℕ) (context : ContextView) → AreOwn context.who (waits.wait_won upgrade new context)
 own_won None new context = tt
 own_won (Some (id, mode)) new context =
-    calls_bind {A = Result (Unit {0}) SpaceError} {B = Outcome Resume} (IsOwnCall context.who) (upgrades.merging context.who id new)
+    calls_bind {A = Result (Unit {0}) SpaceError} {B = Outcome Resume} (IsOwnCall context.who) (upgrades.merging_new context.who id new)
     (λ end. Give (upgrades.merged (resume_as.Acquired id) id mode (waits.without_wait context) end)) (own_merging context.who id new) (λ _. tt)
 
 own_end : (context : ContextView) (answer : Answer) → AreOwn context.who (waits.end_answered context answer)
-own_end context (Granted id) = own_won (upgrade_of context.wait) id context
+own_end context (Granted id) = own_won (awaited_upgrade context.wait) id context
 own_end context (Lost how) = tt
 own_end context _ = tt
 
-pub own_ending : (context : ContextView) → AreOwn context.who (waits.ending context)
+pub own_ending : (context : ContextView) → AreOwn context.who (waits.ending_wait context)
 own_ending context = ((refl, refl, refl), own_end context)
 
 own_poll : (context : ContextView) (answer : Answer) → AreOwn context.who (waits.poll_answered context answer)
@@ -171,7 +171,7 @@ pub own_looking : (context : ContextView) → AreOwn context.who (waits.looking 
 own_looking context = ((refl, refl, refl), own_poll context)
 
 own_wait_sought : (context : ContextView) (end : SearchEnd) → AreOwn context.who (waits.wait_sought context end)
-own_wait_sought context Over = own_looking (waits.searched context)
+own_wait_sought context Over = own_looking (waits.searches_over context)
 own_wait_sought context Cut_off = own_looking context
 own_wait_sought context (Failed refusal) = own_abandoning {A = Outcome Resume} context.who (Err (Space refusal), waits.without_wait context)
 
@@ -185,7 +185,7 @@ own_cut_off context Pending = own_searching_on context
 own_cut_off context (Is_settled how) = own_ending context
 own_cut_off context _ = tt
 
-own_going_on : (searched : Option Bool) (context : ContextView) → AreOwn context.who (waits.going_on searched context)
+own_going_on : (searched : Option Bool) (context : ContextView) → AreOwn context.who (waits.continuing_wait searched context)
 own_going_on None context = tt
 own_going_on (Some true) context = own_looking context
 own_going_on (Some false) context = ((refl, refl, refl), own_cut_off context)
@@ -195,7 +195,7 @@ own_resuming context = own_going_on (waits.is_searched context.wait) context
 
 pub own_giving_up_wait : (context : ContextView) → EachCall (IsOwnCall context.who) (waits.giving_up_wait context)
 own_giving_up_wait context =
-    either {A = Outcome Resume} (AreOwn context.who) (is_some context.wait) (Ask (Settle_timeout context.who) (λ _. waits.ending context))
+    either {A = Outcome Resume} (AreOwn context.who) (is_some context.wait) (Ask (Settle_timeout context.who) (λ _. waits.ending_wait context))
     (Give (Err (Space NoWait), context)) ((refl, refl, refl), λ _. ((refl, refl, refl), own_end context)) tt
 
 -- ---- releases
@@ -204,10 +204,10 @@ pub own_all : (who : ℕ) (gone : List Kept) → AreOwn who (releases.releasing_
 own_all who [] = tt
 own_all who (ticket ∷ tickets) = ((refl, refl, refl), λ _. own_all who tickets)
 
-pub own_giving_up : (gone : List Kept) (context : ContextView) → EachCall (IsOwnCall context.who) (releases.giving_up gone context)
+pub own_giving_up : (gone : List Kept) (context : ContextView) → EachCall (IsOwnCall context.who) (releases.releasing_tickets gone context)
 own_giving_up gone context =
     calls_bind {A = Unit {0}} {B = Outcome (Unit {0})} (IsOwnCall context.who) (releases.releasing_all context.who gone)
-    (λ _. Give (Ok tt, record context { kept = without gone context.kept })) (own_all context.who gone) (λ _. tt)
+    (λ _. Give (Ok tt, record context { kept = without_tickets gone context.kept })) (own_all context.who gone) (λ _. tt)
 
 pub own_unless : {A : Type 0} (fault : Option ContextError) (context : ContextView) (program : Program (Outcome A)) →
     EachCall (IsOwnCall context.who) program → EachCall (IsOwnCall context.who) (releases.unless fault context program)
@@ -226,7 +226,7 @@ own_waiting_at who place mode = ((refl, refl, refl), own_wish who)
 
 own_second : (ticket : Kept) (mode : Mode) (context : ContextView) (end : Result AskResult SpaceError) → AreOwn context.who (upgrades.second_got ticket mode context end)
 own_second ticket mode context (Ok (got.Granted new)) =
-    calls_bind {A = Result (Unit {0}) SpaceError} {B = Outcome Acquire} (IsOwnCall context.who) (upgrades.merging context.who ticket.id new)
+    calls_bind {A = Result (Unit {0}) SpaceError} {B = Outcome Acquire} (IsOwnCall context.who) (upgrades.merging_new context.who ticket.id new)
     (λ end. Give (upgrades.merged (Acquired ticket.id) ticket.id mode context end)) (own_merging context.who ticket.id new) (λ _. tt)
 own_second ticket mode context (Ok (got.Waits number searched)) = tt
 own_second ticket mode context (Err refusal) = tt

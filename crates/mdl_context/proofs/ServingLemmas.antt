@@ -11,7 +11,7 @@ use Rattle.mdl_context.specs.declared.kept.Kept.{Kept}
 use Rattle.mdl_context.specs.declared.kept.Wanted.{Wanted}
 use Rattle.mdl_context.specs.Wishes.{Wish}
 use Rattle.mdl_context.specs.Contexts.{ContextView, Serves, AreRising, held_of, wish_here, wish_there}
-use Rattle.mdl_context.specs.Holdings.{earliest, kept_of, wanted_of, with_wanted}
+use Rattle.mdl_context.specs.Holdings.{earliest, kept_ticket, wanted_of, with_wanted}
 use Rattle.mdl_context.specs.Waits.{is_searched}
 use Rattle.mdl_context.proofs.FrontLemmas.{Above}
 
@@ -33,10 +33,10 @@ serves-changed f same own before after kept wait serves = record {
 
 -- a ticket is gained
 pub serves-gaining : (own after : SessionLocks) (before then : ContextView) (id place : ℕ) (request : Wish) → Serves own before → after ≡ gaining id place request.mode own
-    → then.kept ≡ before.kept ++ kept_of id place request ∷ [] → then.wait ≡ before.wait → Serves after then
+    → then.kept ≡ before.kept ++ kept_ticket id place request ∷ [] → then.wait ≡ before.wait → Serves after then
 serves-gaining own after before then id place request serves gain kept wait = record {
-  held = ap (λ (o : SessionLocks). o.held) gain ∙ ap (λ hs. hs ++ held_of (kept_of id place request) ∷ []) serves.held
-      ∙ sym (map-append held_of before.kept (kept_of id place request ∷ [])) ∙ sym (ap (map held_of) kept);
+  held = ap (λ (o : SessionLocks). o.held) gain ∙ ap (λ hs. hs ++ held_of (kept_ticket id place request) ∷ []) serves.held
+      ∙ sym (map-append held_of before.kept (kept_ticket id place request ∷ [])) ∙ sym (ap (map held_of) kept);
   wait = ap (λ (o : SessionLocks). option_map wish_there o.wait) gain ∙ serves.wait ∙ sym (ap (option_map wish_here) wait);
 }
 

@@ -9,11 +9,11 @@ use Rattle.mdl_context.specs.declared.kept.Kept.{Kept}
 use Rattle.mdl_context.specs.declared.request.Acquire.{Acquire}
 use Rattle.mdl_context.specs.declared.request.Resume.{Resume}
 use Rattle.mdl_context.specs.declared.request.Tried.{Tried}
-use Rattle.mdl_context.specs.Contexts.{ContextView, held_for, beyond_mark, of_transaction, place_known}
+use Rattle.mdl_context.specs.Contexts.{ContextView, tickets_for, beyond_mark, of_transaction, place_known}
 use Rattle.mdl_context.specs.MemoryLaws.{IsStarved, IsOwnCall, EachEnding, EndingsTakeNoMemory, ContextsCallForTheirSession, IsSure, SureWishes, SureUpgrades, SureWaits, SureEndings}
-use Rattle.mdl_context.specs.Releases.{at_known_place, giving_up, releasing, unless, waiting_fault, rollback_fault}
+use Rattle.mdl_context.specs.Releases.{at_known_place, releasing_tickets, releasing, unless, waiting_fault, rollback_fault}
 use Rattle.mdl_context.specs.Requests.{Outcome, acquiring, trying}
-use Rattle.mdl_context.specs.Holdings.{upgrade_of}
+use Rattle.mdl_context.specs.Holdings.{awaited_upgrade}
 use Rattle.mdl_context.specs.Upgrades.{upgrading, downgrading}
 use Rattle.mdl_context.specs.Waits.{giving_up_wait, resuming}
 use Rattle.mdl_context.proofs.MemoryLemmas.{faithful_acquiring, faithful_trying, faithful_upgrading, faithful_resuming, faithful_giving_up_wait, frugal_giving_up_wait, frugal_giving_up, frugal_releasing, frugal_downgrading, frugal_unless}
@@ -22,17 +22,17 @@ use Rattle.mdl_context.proofs.OwnCallLemmas.{own_acquiring, own_trying, own_resu
 -- what is so of the giving up of a wait, of one release and of any releases, and stays so where a refusal comes first, is so of
 -- all that gives something up
 each_ending : (P : (A : Type 0) → Program A → Type 0) (context : ContextView) →
-    (upgrade_of context.wait ≡ None → P (Outcome Resume) (giving_up_wait context)) → ((id : ℕ) → P (Outcome (Unit {0})) (releasing id context)) →
-    ((gone : List Kept) → P (Outcome (Unit {0})) (giving_up gone context)) → ((id : ℕ) (mode : Mode) → P (Outcome (Unit {0})) (downgrading id mode context)) →
+    (awaited_upgrade context.wait ≡ None → P (Outcome Resume) (giving_up_wait context)) → ((id : ℕ) → P (Outcome (Unit {0})) (releasing id context)) →
+    ((gone : List Kept) → P (Outcome (Unit {0})) (releasing_tickets gone context)) → ((id : ℕ) (mode : Mode) → P (Outcome (Unit {0})) (downgrading id mode context)) →
     ((fault : Option ContextError) (program : Program (Outcome (Unit {0}))) → P (Outcome (Unit {0})) program → P (Outcome (Unit {0})) (unless fault context program)) →
     EachEnding P context
 each_ending P context waits one all weaker refused =
-    let may_wait = λ (gone : List Kept). refused (waiting_fault context) (giving_up gone context) (all gone) in (
+    let may_wait = λ (gone : List Kept). refused (waiting_fault context) (releasing_tickets gone context) (all gone) in (
       waits,
       one,
       λ key. may_wait (at_known_place (place_known key context.known) context.kept),
-      λ mark. refused (rollback_fault mark context) (giving_up (beyond_mark mark context.kept) context) (all (beyond_mark mark context.kept)),
-      may_wait (held_for Statement context.kept),
+      λ mark. refused (rollback_fault mark context) (releasing_tickets (beyond_mark mark context.kept) context) (all (beyond_mark mark context.kept)),
+      may_wait (tickets_for Statement context.kept),
       may_wait (of_transaction context.kept),
       all,
       weaker,

@@ -18,9 +18,9 @@ use Rattle.mdl_context.specs.declared.request.Resume.{Resume}
 use Rattle.mdl_context.specs.declared.request.Resume.TheVariants as resume_as
 use Rattle.mdl_context.specs.declared.request.Tried.{Tried}
 use Rattle.mdl_context.specs.declared.request.Tried.TheVariants as try_as
-use Rattle.mdl_context.specs.Contexts.{ContextView, ticket_kept, without, place_known}
+use Rattle.mdl_context.specs.Contexts.{ContextView, ticket_kept, without_tickets, place_known}
 use Rattle.mdl_context.specs.Gains as gains
-use Rattle.mdl_context.specs.Holdings.{earliest, upgrade_of, without_number}
+use Rattle.mdl_context.specs.Holdings.{awaited_upgrade, earliest, without_number}
 use Rattle.mdl_context.specs.Releases as releases
 use Rattle.mdl_context.specs.Requests as requests
 use Rattle.mdl_context.specs.Requests.{Outcome}
@@ -114,12 +114,12 @@ of_merged answer id mode context (Err refusal) = refl
 of_won : (upgrade : Option (ℕ × Mode)) (new : ℕ) (context : ContextView) → StaysOf {A = Resume} context.who (waits.wait_won upgrade new context)
 of_won None new context = refl
 of_won (Some (id, mode)) new context =
-    each_then {A = Result (Unit {0}) SpaceError} {B = Outcome Resume} (IsOf context.who) (upgrades.merging context.who id new)
+    each_then {A = Result (Unit {0}) SpaceError} {B = Outcome Resume} (IsOf context.who) (upgrades.merging_new context.who id new)
     (λ end. Give (upgrades.merged (resume_as.Acquired id) id mode (waits.without_wait context) end))
     (of_merged {A = Resume} (resume_as.Acquired id) id mode (waits.without_wait context))
 
 of_end : (context : ContextView) (answer : Answer) → StaysOf {A = Resume} context.who (waits.end_answered context answer)
-of_end context (Granted id) = of_won (upgrade_of context.wait) id context
+of_end context (Granted id) = of_won (awaited_upgrade context.wait) id context
 of_end context (Lost how) = refl
 of_end context _ = refl
 
@@ -129,7 +129,7 @@ of_poll context (Is_settled how) = of_end context
 of_poll context _ = refl
 
 of_sought : (context : ContextView) (end : SearchEnd) → StaysOf {A = Resume} context.who (waits.wait_sought context end)
-of_sought context Over = of_poll (waits.searched context)
+of_sought context Over = of_poll (waits.searches_over context)
 of_sought context Cut_off = of_poll context
 of_sought context (Failed refusal) =
     each_then {A = Unit {0}} {B = Outcome Resume} (IsOf context.who) (gains.abandoning context.who)
@@ -141,7 +141,7 @@ of_cut_off context Pending =
 of_cut_off context (Is_settled how) = of_end context
 of_cut_off context _ = refl
 
-of_going_on : (searched : Option Bool) (context : ContextView) → StaysOf {A = Resume} context.who (waits.going_on searched context)
+of_going_on : (searched : Option Bool) (context : ContextView) → StaysOf {A = Resume} context.who (waits.continuing_wait searched context)
 of_going_on None context = refl
 of_going_on (Some true) context = of_poll context
 of_going_on (Some false) context = of_cut_off context
@@ -151,15 +151,15 @@ of_resuming context = of_going_on (waits.is_searched context.wait) context
 
 pub of_giving_up_wait : (context : ContextView) → StaysOf {A = Resume} context.who (waits.giving_up_wait context)
 of_giving_up_wait context =
-    either {A = Outcome Resume} (StaysOf context.who) (is_some context.wait) (Ask (Settle_timeout context.who) (λ _. waits.ending context))
+    either {A = Outcome Resume} (StaysOf context.who) (is_some context.wait) (Ask (Settle_timeout context.who) (λ _. waits.ending_wait context))
     (Give (Err (Space NoWait), context)) (λ _. of_end context) refl
 
 -- ---- releases
 
-pub of_giving_up : (gone : List Kept) (context : ContextView) → StaysOf {A = Unit {0}} context.who (releases.giving_up gone context)
+pub of_giving_up : (gone : List Kept) (context : ContextView) → StaysOf {A = Unit {0}} context.who (releases.releasing_tickets gone context)
 of_giving_up gone context =
     each_then {A = Unit {0}} {B = Outcome (Unit {0})} (IsOf context.who) (releases.releasing_all context.who gone)
-    (λ _. Give (Ok tt, record context { kept = without gone context.kept })) (λ _. refl)
+    (λ _. Give (Ok tt, record context { kept = without_tickets gone context.kept })) (λ _. refl)
 
 of_unless : {A : Type 0} (fault : Option ContextError) (context : ContextView) (program : Program (Outcome A)) →
     StaysOf {A = A} context.who program → StaysOf {A = A} context.who (releases.unless fault context program)
@@ -175,7 +175,7 @@ of_releasing id context =
 
 of_second : (ticket : Kept) (mode : Mode) (context : ContextView) (end : Result AskResult SpaceError) → StaysOf {A = Acquire} context.who (upgrades.second_got ticket mode context end)
 of_second ticket mode context (Ok (got.Granted new)) =
-    each_then {A = Result (Unit {0}) SpaceError} {B = Outcome Acquire} (IsOf context.who) (upgrades.merging context.who ticket.id new)
+    each_then {A = Result (Unit {0}) SpaceError} {B = Outcome Acquire} (IsOf context.who) (upgrades.merging_new context.who ticket.id new)
     (λ end. Give (upgrades.merged (Acquired ticket.id) ticket.id mode context end)) (of_merged {A = Acquire} (Acquired ticket.id) ticket.id mode context)
 of_second ticket mode context (Ok (got.Waits number searched)) = refl
 of_second ticket mode context (Err refusal) = refl

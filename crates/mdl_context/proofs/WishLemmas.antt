@@ -26,7 +26,7 @@ use Rattle.mdl_context.specs.declared.request.Tried.TheVariants as try_as
 use Rattle.mdl_context.specs.Wishes.{Wish}
 use Rattle.mdl_context.specs.Contexts.{ContextView, lasts, place_known, held_of}
 use Rattle.mdl_context.specs.Gains.{gaining_from, trying_from}
-use Rattle.mdl_context.specs.Holdings.{earliest, is_at, kept_of}
+use Rattle.mdl_context.specs.Holdings.{earliest, is_kept_at, kept_ticket}
 use Rattle.mdl_context.specs.Requests.{Outcome, acquiring_at, finding, is_reusable, outcome_got, outcome_tried, place_answered, remembering, reusing, suffices, trying_again, trying_at, trying_found, trying_placed}
 use Rattle.mdl_context.specs.Requests as requests
 use Rattle.mdl_context.specs.WishLaws.{IsAsWished, IsMet, IsMetAtOnce, GainsATicket, GainsAtOnce}
@@ -41,8 +41,8 @@ reusable_wished place request t passes =
     let parts = and_parts (suffices place request t && lasts request.duration t) (not (lasts Explicit t)) passes in
     let first = and_parts (suffices place request t) (lasts request.duration t) parts.0 in
     let legal = is_mode_of (kind_of request.key.namespace) request.mode in
-    let serves = and_parts (is_at place t && covers t.mode request.mode) legal first.0 in
-    let there = and_parts (is_at place t) (covers t.mode request.mode) serves.0 in
+    let serves = and_parts (is_kept_at place t && covers t.mode request.mode) legal first.0 in
+    let there = and_parts (is_kept_at place t) (covers t.mode request.mode) serves.0 in
     (eqb-true t.place place there.0, there.1, first.1)
 
 module _ (request : Wish) (before context : ContextView) (place : ℕ) (known : place_known request.key context.known ≡ Some place)
@@ -59,7 +59,7 @@ module _ (request : Wish) (before context : ContextView) (place : ℕ) (known : 
 
   met_got : (end : Result AskResult SpaceError) → IsMet request before (outcome_got place request context end)
   met_got (Ok (got.Granted id)) =
-      let ticket = kept_of id place request in (
+      let ticket = kept_ticket id place request in (
         place,
         ticket,
         known,
@@ -155,7 +155,7 @@ never_again place request t explicit passes =
 
 module _ (request : Wish) (before context : ContextView) (place : ℕ) (explicit : request.duration ≡ Explicit) (kept : context.kept ≡ before.kept) where
   gains_got : (end : Result AskResult SpaceError) → GainsATicket request before (outcome_got place request context end)
-  gains_got (Ok (got.Granted id)) = (place, ap (λ tickets. tickets ++ kept_of id place request ∷ []) kept)
+  gains_got (Ok (got.Granted id)) = (place, ap (λ tickets. tickets ++ kept_ticket id place request ∷ []) kept)
   gains_got (Ok (got.Waits number searched)) = tt
   gains_got (Err refusal) = tt
 
@@ -175,7 +175,7 @@ module _ (request : Wish) (before context : ContextView) (place : ℕ) (explicit
 
   -- the same for a wish that isn't waited for
   gains_tried : (end : Result Tried SpaceError) → GainsAtOnce request before (outcome_tried place request context end)
-  gains_tried (Ok (try_as.Acquired id)) = (place, ap (λ tickets. tickets ++ kept_of id place request ∷ []) kept)
+  gains_tried (Ok (try_as.Acquired id)) = (place, ap (λ tickets. tickets ++ kept_ticket id place request ∷ []) kept)
   gains_tried (Ok try_as.WouldWait) = tt
   gains_tried (Err refusal) = tt
 

@@ -39,20 +39,20 @@ abbrev pub lasts : Duration → Kept → Bool
 lasts duration ticket = duration_rank ticket.duration == duration_rank duration
 
 -- the tickets of a duration, in rising number
-abbrev pub held_for : Duration → List Kept → List Kept
-held_for duration kept = filter (lasts duration) kept
+abbrev pub tickets_for : Duration → List Kept → List Kept
+tickets_for duration kept = filter (lasts duration) kept
 
 -- the session's current mark: how many tickets of the statement and of the transaction it keeps
-abbrev pub mark_of : List Kept → Mark
-mark_of kept = record { statement = length (held_for Statement kept); transaction = length (held_for Transaction kept) }
+abbrev pub current_mark : List Kept → Mark
+current_mark kept = record { statement = length (tickets_for Statement kept); transaction = length (tickets_for Transaction kept) }
 
 -- whether a mark is stale: fewer tickets of the statement or of the transaction are kept than it counted
 abbrev pub is_stale : Mark → List Kept → Bool
-is_stale mark kept = nat_lt (length (held_for Statement kept)) mark.statement || nat_lt (length (held_for Transaction kept)) mark.transaction
+is_stale mark kept = nat_lt (length (tickets_for Statement kept)) mark.statement || nat_lt (length (tickets_for Transaction kept)) mark.transaction
 
 -- the tickets of a duration after the first `most`
 abbrev pub beyond : Duration → ℕ → List Kept → List Kept
-beyond duration most kept = drop most (held_for duration kept)
+beyond duration most kept = drop most (tickets_for duration kept)
 
 -- the tickets beyond the counts of a mark, those of the statement first. Unless tickets have become transactional since the
 -- mark, these are the ones that were gained since
@@ -61,7 +61,7 @@ beyond_mark mark kept = beyond Statement mark.statement kept ++ beyond Transacti
 
 -- the tickets that end with a transaction, those of the statement first
 abbrev pub of_transaction : List Kept → List Kept
-of_transaction kept = held_for Statement kept ++ held_for Transaction kept
+of_transaction kept = tickets_for Statement kept ++ tickets_for Transaction kept
 
 -- whether one of the tickets has this number
 abbrev pub has_number : List Kept → ℕ → Bool
@@ -72,8 +72,8 @@ abbrev pub ticket_kept : ℕ → List Kept → Option Kept
 ticket_kept id kept = find (λ ticket. ticket.id == id) kept
 
 -- the tickets of a list whose numbers don't occur in another list
-abbrev pub without : List Kept → List Kept → List Kept
-without gone kept = filter (λ ticket. not (has_number gone ticket.id)) kept
+abbrev pub without_tickets : List Kept → List Kept → List Kept
+without_tickets gone kept = filter (λ ticket. not (has_number gone ticket.id)) kept
 
 -- the place of a key, if it is known
 abbrev pub place_known : KeyName → List (KeyName × ℕ) → Option ℕ
@@ -147,8 +147,8 @@ pub record Attends {S : Type 0} (members : Ghosts S) (space : S) (context : Cont
   pub wish : IfSome context.wait (IsAwaited context.known context.kept)
 
 -- a session's wait is settled, in one way or another
-abbrev pub IsSettled : {S : Type 0} → (S → ℕ → Settled → Type 0) → S → ℕ → Type 0
-IsSettled is_settled space who = (how : Settled) × is_settled space who how
+abbrev pub HasSettledWait : {S : Type 0} → (S → ℕ → Settled → Type 0) → S → ℕ → Type 0
+HasSettledWait is_settled space who = (how : Settled) × is_settled space who how
 
 -- a lock space still speaks for each of its sessions, and the standings that a session has met stay met
 abbrev pub KeepsMet : {S : Type 0} → Ghosts S → S → S → Type 0

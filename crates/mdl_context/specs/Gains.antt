@@ -14,9 +14,9 @@ use Rattle.mdl_context.specs.declared.request.Tried.{Tried}
 use Rattle.mdl_context.specs.declared.request.Tried.TheVariants as try_as
 
 -- the refusal that an answer is. It is only applied to refusals
-abbrev pub refusal_of : Answer → SpaceError
-refusal_of (Refused refusal) = refusal
-refusal_of _ = WrongKind
+abbrev pub refusal_answered : Answer → SpaceError
+refusal_answered (Refused refusal) = refusal
+refusal_answered _ = WrongKind
 
 -- the rest of giving up a wait, once its end is answered: a ticket that it gained is released
 abbrev pub unwanted_end_answered : ℕ → Answer → Program (Unit {0})
@@ -30,7 +30,7 @@ abandoning who = Ask (Settle_timeout who) (λ _. Ask (End_wait who) (unwanted_en
 -- the result of cloning a ticket, from what the space answered
 abbrev pub copy_answered : Answer → Program (Result AskResult SpaceError)
 copy_answered (Granted id) = Give (Ok (got.Granted id))
-copy_answered answer = Give (Err (refusal_of answer))
+copy_answered answer = Give (Err (refusal_answered answer))
 
 -- the result of the searches that follow the start of a wait. If a search was refused, the wait is given up
 abbrev pub wish_sought : ℕ → ℕ → SearchEnd → Program (Result AskResult SpaceError)
@@ -46,7 +46,7 @@ waiting_on who number = seeking most_searches who >>= wish_sought who number
 abbrev pub wish_answered : ℕ → Answer → Program (Result AskResult SpaceError)
 wish_answered who (Granted id) = Give (Ok (got.Granted id))
 wish_answered who (Waits number) = waiting_on who number
-wish_answered who answer = Give (Err (refusal_of answer))
+wish_answered who answer = Give (Err (refusal_answered answer))
 
 -- a ticket is requested, and waited for if it can't be granted at once
 abbrev pub waiting_at : ℕ → ℕ → Mode → Program (Result AskResult SpaceError)
@@ -57,22 +57,22 @@ waiting_at who place mode = Ask (Begin_wait who place mode) (wish_answered who)
 abbrev pub try_answered : ℕ → ℕ → Mode → Answer → Program (Result AskResult SpaceError)
 try_answered who place mode (Granted id) = Give (Ok (got.Granted id))
 try_answered who place mode Would_wait = waiting_at who place mode
-try_answered who place mode answer = Give (Err (refusal_of answer))
+try_answered who place mode answer = Give (Err (refusal_answered answer))
 
 -- a ticket is requested, at first without waiting: this call is where a space has its fast path
-abbrev pub asking_at : ℕ → ℕ → Mode → Program (Result AskResult SpaceError)
-asking_at who place mode = Ask (Try_now who place mode) (try_answered who place mode)
+abbrev pub requesting_at : ℕ → ℕ → Mode → Program (Result AskResult SpaceError)
+requesting_at who place mode = Ask (Try_now who place mode) (try_answered who place mode)
 
 -- a given ticket is cloned. If there is none, a new one is requested
 abbrev pub gaining_from : Option Held → ℕ → ℕ → Mode → Program (Result AskResult SpaceError)
 gaining_from (Some ticket) who place mode = Ask (Clone_ticket who ticket.id mode) copy_answered
-gaining_from None who place mode = asking_at who place mode
+gaining_from None who place mode = requesting_at who place mode
 
 -- the result of a request that doesn't wait, from what the space answered
 abbrev pub tried_answered : Answer → Program (Result Tried SpaceError)
 tried_answered (Granted id) = Give (Ok (try_as.Acquired id))
 tried_answered Would_wait = Give (Ok try_as.WouldWait)
-tried_answered answer = Give (Err (refusal_of answer))
+tried_answered answer = Give (Err (refusal_answered answer))
 
 -- a given ticket is cloned. If there is none, a new one is requested, and not waited for
 abbrev pub trying_from : Option Held → ℕ → ℕ → Mode → Program (Result Tried SpaceError)

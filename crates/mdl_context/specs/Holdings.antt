@@ -10,7 +10,7 @@ use Rattle.mdl_context.specs.declared.kept.Kept.{Kept}
 use Rattle.mdl_context.specs.declared.kept.Wanted.{Wanted}
 use Rattle.mdl_context.specs.Wishes.{Wish}
 use Rattle.mdl_context.specs.Contexts.{ContextView, held_of, is_user_lock}
-use Rattle.mdl_context.specs.Indexes.{Index, numbers_of, has_room_for}
+use Rattle.mdl_context.specs.Indexes.{Index, ticket_numbers, has_room_for}
 
 -- the kept tickets in the order in which the session got them, the known places, the tickets' numbers by place, the wait, and
 -- whether the list has room for one more ticket
@@ -26,28 +26,28 @@ abbrev pub context_of : ℕ → HoldingsView → ContextView
 context_of who holdings = record { who = who; kept = holdings.kept; known = holdings.known; wait = holdings.wait }
 
 -- whether a ticket has this number
-abbrev pub is_ticket : ℕ → Kept → Bool
-is_ticket id ticket = ticket.id == id
+abbrev pub is_kept_ticket : ℕ → Kept → Bool
+is_kept_ticket id ticket = ticket.id == id
 
 -- the tickets without that of a number
 abbrev pub without_number : ℕ → List Kept → List Kept
-without_number id kept = filter (λ ticket. not (is_ticket id ticket)) kept
+without_number id kept = filter (λ ticket. not (is_kept_ticket id ticket)) kept
 
 -- the tickets, with the mode of the one with this number changed
-abbrev pub in_mode : ℕ → (Mode → Mode) → List Kept → List Kept
-in_mode id change kept = map (λ ticket. if is_ticket id ticket then record ticket { mode = change ticket.mode } else ticket) kept
+abbrev pub kept_in_mode : ℕ → (Mode → Mode) → List Kept → List Kept
+kept_in_mode id change kept = map (λ ticket. if is_kept_ticket id ticket then record ticket { mode = change ticket.mode } else ticket) kept
 
 -- whether a ticket is at this place
-abbrev pub is_at : ℕ → Kept → Bool
-is_at place ticket = ticket.place == place
+abbrev pub is_kept_at : ℕ → Kept → Bool
+is_kept_at place ticket = ticket.place == place
 
 -- the numbers of a place's tickets, in the order in which the session got them
 abbrev pub numbers_among : ℕ → List Kept → List ℕ
-numbers_among place kept = map (λ ticket. ticket.id) (filter (is_at place) kept)
+numbers_among place kept = map (λ ticket. ticket.id) (filter (is_kept_at place) kept)
 
 -- an index has exactly the tickets' numbers, at their places
 abbrev pub IsIndexOf : List Kept → Index → Type 0
-IsIndexOf kept index = (place : ℕ) → numbers_of place index ≡ numbers_among place kept
+IsIndexOf kept index = (place : ℕ) → ticket_numbers place index ≡ numbers_among place kept
 
 -- whether there is room for one more ticket at a place
 abbrev pub has_room : ℕ → HoldingsView → Bool
@@ -72,8 +72,8 @@ transactional known ticket =
     if is_user_lock known ticket.place then ticket else kept_for (in_transaction ticket.duration) ticket
 
 -- the ticket that a request gets
-abbrev pub kept_of : ℕ → ℕ → Wish → Kept
-kept_of id place request = record { id = id; place = place; mode = request.mode; duration = request.duration }
+abbrev pub kept_ticket : ℕ → ℕ → Wish → Kept
+kept_ticket id place request = record { id = id; place = place; mode = request.mode; duration = request.duration }
 
 -- the ticket that a request waits for, and whether the searches for deadlocks are over
 abbrev pub wanted_of : ℕ → Wish → Bool → Wanted
@@ -85,9 +85,9 @@ wanted_upgrade ticket mode searched =
     record { place = ticket.place; mode = mode; duration = ticket.duration; upgrades = Some ticket.id; searched = searched }
 
 -- the ticket that a wait is to upgrade, and the new mode, if the wait is for an upgrade
-abbrev pub upgrade_of : Option Wanted → Option (ℕ × Mode)
-upgrade_of None = None
-upgrade_of (Some wanted) = option_map (λ id. (id, wanted.mode)) wanted.upgrades
+abbrev pub awaited_upgrade : Option Wanted → Option (ℕ × Mode)
+awaited_upgrade None = None
+awaited_upgrade (Some wanted) = option_map (λ id. (id, wanted.mode)) wanted.upgrades
 
 -- the same wait, noting that its searches are over
 abbrev pub search_over : Wanted → Wanted

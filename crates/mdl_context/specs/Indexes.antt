@@ -8,13 +8,13 @@ abbrev pub Index : Type 0
 Index = List (SmallVec ℕ)
 
 -- the numbers in a list, if there is one
-abbrev pub listed : Option (SmallVec ℕ) → List ℕ
-listed None = []
-listed (Some list) = list.items
+abbrev pub listed_numbers : Option (SmallVec ℕ) → List ℕ
+listed_numbers None = []
+listed_numbers (Some list) = list.items
 
 -- the numbers at a place
-abbrev pub numbers_of : ℕ → Index → List ℕ
-numbers_of place index = listed (slice_get index place)
+abbrev pub ticket_numbers : ℕ → Index → List ℕ
+ticket_numbers place index = listed_numbers (slice_get index place)
 
 -- whether there is a list with room for one more number
 abbrev pub has_place : Option (SmallVec ℕ) → Bool

@@ -14,8 +14,8 @@ use Rattle.mdl_context.specs.declared.kept.Kept.{Kept}
 use Rattle.mdl_context.specs.declared.request.Mark.{Mark}
 use Rattle.mdl_context.specs.Wishes.{Wish}
 use Rattle.mdl_context.specs.Contexts.{ContextView}
-use Rattle.mdl_context.specs.Holdings.{upgrade_of}
-use Rattle.mdl_context.specs.Releases.{giving_up, releasing, releasing_name, rolling_back, ending_statement, ending_transaction}
+use Rattle.mdl_context.specs.Holdings.{awaited_upgrade}
+use Rattle.mdl_context.specs.Releases.{releasing_tickets, releasing, releasing_name, rolling_back, ending_statement, ending_transaction}
 use Rattle.mdl_context.specs.Requests.{Outcome, acquiring, trying}
 use Rattle.mdl_context.specs.Upgrades.{upgrading, downgrading}
 use Rattle.mdl_context.specs.Waits.{is_searched, resuming, giving_up_wait}
@@ -28,13 +28,13 @@ IsStarved outcome = outcome.0 ≡ Err (Space OutOfMemory)
 -- then), releases tickets, whether it may be refused or not, or weakens one
 abbrev pub EachEnding : ((A : Type 0) → Program A → Type 0) → ContextView → Type 0
 EachEnding P context =
-    (upgrade_of context.wait ≡ None → P _ (giving_up_wait context))
+    (awaited_upgrade context.wait ≡ None → P _ (giving_up_wait context))
     × ((id : ℕ) → P _ (releasing id context))
     × ((key : KeyName) → P _ (releasing_name key context))
     × ((mark : Mark) → P _ (rolling_back mark context))
     × P _ (ending_statement context)
     × P _ (ending_transaction context)
-    × ((gone : List Kept) → P _ (giving_up gone context))
+    × ((gone : List Kept) → P _ (releasing_tickets gone context))
     × ((id : ℕ) (mode : Mode) → P _ (downgrading id mode context))
 
 -- a request for a lock that runs out of memory reports that, whether it waits or not
@@ -52,7 +52,7 @@ abbrev pub WaitsTellOfWant : Type 0
 WaitsTellOfWant =
     (context : ContextView) →
     IsFaithful IsStarved (resuming context) × IsFaithful IsStarved (giving_up_wait context)
-    × (is_searched context.wait ≡ Some true → upgrade_of context.wait ≡ None → IsFrugal (resuming context))
+    × (is_searched context.wait ≡ Some true → awaited_upgrade context.wait ≡ None → IsFrugal (resuming context))
 
 -- giving up a wait that isn't for an upgrade, releasing tickets and weakening them take no memory
 abbrev pub EndingsTakeNoMemory : Type 0

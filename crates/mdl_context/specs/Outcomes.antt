@@ -10,15 +10,15 @@ use Rattle.mdl_context.specs.declared.request.Acquire.TheVariants.{Acquired, Mus
 use Rattle.mdl_context.specs.declared.request.Resume.{Resume}
 use Rattle.mdl_context.specs.declared.request.Resume.TheVariants as resume_as
 use Rattle.mdl_context.specs.Contexts.{ContextView, ticket_kept}
-use Rattle.mdl_context.specs.Holdings.{upgrade_of}
+use Rattle.mdl_context.specs.Holdings.{awaited_upgrade}
 use Rattle.mdl_context.specs.Requests.{Outcome}
-use Rattle.mdl_context.specs.Upgrades.{with_mode, awaiting_upgrade, upgrading}
+use Rattle.mdl_context.specs.Upgrades.{with_ticket_mode, awaiting_upgrade, upgrading}
 use Rattle.mdl_context.specs.Waits.{without_wait, taking_up, resuming, giving_up_wait}
 
 -- one ticket has a mode at least as strong as this one, and nothing else changed: it keeps its number and its duration
 abbrev pub IsRaised : ℕ → Mode → ContextView → ContextView → Type 0
 IsRaised id mode before after =
-    (change : Mode → Mode) × ((held : Mode) → covers (change held) mode ≡ true) × (after ≡ with_mode id change before)
+    (change : Mode → Mode) × ((held : Mode) → covers (change held) mode ≡ true) × (after ≡ with_ticket_mode id change before)
 
 -- the result of an upgrade: the ticket is as strong as the request asks, or the session waits for that, and nothing else changed, or the
 -- upgrade is refused, and nothing changed at all
@@ -32,13 +32,13 @@ UpgradeComesTo id mode before (Err error, after) = after ≡ before
 -- changed
 abbrev pub IsWon : Option (ℕ × Mode) → ℕ → ContextView → ContextView → Type 0
 IsWon None told before after = after ≡ taking_up told before
-IsWon (Some (id, mode)) told before after = (told ≡ id) × (after ≡ with_mode id (λ _. mode) (without_wait before))
+IsWon (Some (id, mode)) told before after = (told ≡ id) × (after ≡ with_ticket_mode id (λ _. mode) (without_wait before))
 
 -- the result of a wait: while it isn't settled, and if it is lost or fails, all tickets and their durations are unchanged. If it is
 -- granted, `IsWon` says what changed
 abbrev pub WaitComesTo : ContextView → Outcome Resume → Type 0
 WaitComesTo before (Ok resume_as.Waiting, after) = without_wait after ≡ without_wait before
-WaitComesTo before (Ok (resume_as.Acquired told), after) = IsWon (upgrade_of before.wait) told before after
+WaitComesTo before (Ok (resume_as.Acquired told), after) = IsWon (awaited_upgrade before.wait) told before after
 WaitComesTo before (Ok (resume_as.Lost how), after) = after ≡ without_wait before
 WaitComesTo before (Err error, after) = without_wait after ≡ without_wait before
 

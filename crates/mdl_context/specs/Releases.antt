@@ -11,8 +11,8 @@ use Rattle.mdl_context.specs.declared.context_error.ContextError.{ContextError}
 use Rattle.mdl_context.specs.declared.context_error.ContextError.TheVariants.{StaleSavepoint, NotHeld, Waiting}
 use Rattle.mdl_context.specs.declared.kept.Kept.{Kept}
 use Rattle.mdl_context.specs.declared.request.Mark.{Mark}
-use Rattle.mdl_context.specs.Contexts.{ContextView, held_for, is_stale, beyond_mark, of_transaction, has_number, without, place_known}
-use Rattle.mdl_context.specs.Holdings.{is_at, without_number}
+use Rattle.mdl_context.specs.Contexts.{ContextView, tickets_for, is_stale, beyond_mark, of_transaction, has_number, without_tickets, place_known}
+use Rattle.mdl_context.specs.Holdings.{is_kept_at, without_number}
 use Rattle.mdl_context.specs.Requests.{Outcome}
 
 -- the program that releases tickets, one after the other
@@ -21,8 +21,8 @@ releasing_all who [] = Give tt
 releasing_all who (ticket ∷ tickets) = Ask (Release who ticket.id) (λ _. releasing_all who tickets)
 
 -- the program by which a context releases tickets and keeps the others
-abbrev pub giving_up : List Kept → ContextView → Program (Outcome (Unit {0}))
-giving_up gone context = releasing_all context.who gone >> Give (Ok tt, record context { kept = without gone context.kept })
+abbrev pub releasing_tickets : List Kept → ContextView → Program (Outcome (Unit {0}))
+releasing_tickets gone context = releasing_all context.who gone >> Give (Ok tt, record context { kept = without_tickets gone context.kept })
 
 -- a program, or if there is a fault, a refusal for it
 abbrev pub unless : {A : Type 0} → Option ContextError → ContextView → Program (Outcome A) → Program (Outcome A)
@@ -50,24 +50,24 @@ releasing id context =
 -- the tickets at the place of a key, none if the place isn't known
 abbrev pub at_known_place : Option ℕ → List Kept → List Kept
 at_known_place None kept = []
-at_known_place (Some place) kept = filter (is_at place) kept
+at_known_place (Some place) kept = filter (is_kept_at place) kept
 
 -- the program that releases all tickets of a key
 abbrev pub releasing_name : KeyName → ContextView → Program (Outcome (Unit {0}))
-releasing_name key context = unless (waiting_fault context) context (giving_up (at_known_place (place_known key context.known) context.kept) context)
+releasing_name key context = unless (waiting_fault context) context (releasing_tickets (at_known_place (place_known key context.known) context.kept) context)
 
 -- the program that goes back to a mark
 abbrev pub rolling_back : Mark → ContextView → Program (Outcome (Unit {0}))
-rolling_back mark context = unless (rollback_fault mark context) context (giving_up (beyond_mark mark context.kept) context)
+rolling_back mark context = unless (rollback_fault mark context) context (releasing_tickets (beyond_mark mark context.kept) context)
 
 -- the program that ends a statement
 abbrev pub ending_statement : ContextView → Program (Outcome (Unit {0}))
-ending_statement context = unless (waiting_fault context) context (giving_up (held_for Statement context.kept) context)
+ending_statement context = unless (waiting_fault context) context (releasing_tickets (tickets_for Statement context.kept) context)
 
 -- the program that ends a transaction
 abbrev pub ending_transaction : ContextView → Program (Outcome (Unit {0}))
-ending_transaction context = unless (waiting_fault context) context (giving_up (of_transaction context.kept) context)
+ending_transaction context = unless (waiting_fault context) context (releasing_tickets (of_transaction context.kept) context)
 
 -- the program that releases all tickets: those that end with the transaction first, and then the others
 abbrev pub giving_up_all : ContextView → Program (Outcome (Unit {0}))
-giving_up_all context = giving_up (of_transaction context.kept) context >>= (λ outcome. giving_up outcome.1.kept outcome.1)
+giving_up_all context = releasing_tickets (of_transaction context.kept) context >>= (λ outcome. releasing_tickets outcome.1.kept outcome.1)

@@ -22,8 +22,8 @@ use Rattle.mdl_context.specs.declared.request.Acquire.TheVariants.{Acquired, Mus
 use Rattle.mdl_context.specs.declared.request.Tried.{Tried}
 use Rattle.mdl_context.specs.declared.request.Tried.TheVariants as try_as
 use Rattle.mdl_context.specs.Contexts.{ContextView, lasts, place_known}
-use Rattle.mdl_context.specs.Gains.{refusal_of, gaining_from, trying_from}
-use Rattle.mdl_context.specs.Holdings.{is_at, earliest, kept_of, wanted_of}
+use Rattle.mdl_context.specs.Gains.{refusal_answered, gaining_from, trying_from}
+use Rattle.mdl_context.specs.Holdings.{is_kept_at, earliest, kept_ticket, wanted_of}
 
 -- the outcome of a call of a context: its answer, and the context after it
 abbrev pub Outcome : Type 0 → Type 0
@@ -36,15 +36,15 @@ starved context = Give (Err (Space OutOfMemory), context)
 -- whether a ticket suffices for a request: it is at the place of the key, in a mode at least as strong as the requested one, and
 -- that is a mode of the key's kind
 abbrev pub suffices : ℕ → Wish → Kept → Bool
-suffices place request ticket = is_at place ticket && covers ticket.mode request.mode && is_mode_of (kind_of request.key.namespace) request.mode
+suffices place request ticket = is_kept_at place ticket && covers ticket.mode request.mode && is_mode_of (kind_of request.key.namespace) request.mode
 
 -- whether a ticket can be used again for a request: it suffices and has the requested duration, which isn't explicit
 abbrev pub is_reusable : ℕ → Wish → Kept → Bool
 is_reusable place request ticket = suffices place request ticket && lasts request.duration ticket && not (lasts Explicit ticket)
 
 -- the context with the requested ticket added
-abbrev pub keeping : ℕ → ℕ → Wish → ContextView → ContextView
-keeping id place request context = record context { kept = context.kept ++ kept_of id place request ∷ [] }
+abbrev pub keeping_ticket : ℕ → ℕ → Wish → ContextView → ContextView
+keeping_ticket id place request context = record context { kept = context.kept ++ kept_ticket id place request ∷ [] }
 
 -- the context with a wait for the requested ticket, which says whether the searches for deadlocks are over
 abbrev pub awaiting : ℕ → Wish → Bool → ContextView → ContextView
@@ -56,7 +56,7 @@ remembering key place context = record context { known = context.known ++ (key, 
 
 -- the outcome of a request, from what the space answered
 abbrev pub outcome_got : ℕ → Wish → ContextView → Result AskResult SpaceError → Outcome Acquire
-outcome_got place request context (Ok (got.Granted id)) = (Ok (Acquired id), keeping id place request context)
+outcome_got place request context (Ok (got.Granted id)) = (Ok (Acquired id), keeping_ticket id place request context)
 outcome_got place request context (Ok (got.Waits number searched)) = (Ok (MustWait number), awaiting place request searched context)
 outcome_got place request context (Err refusal) = (Err (Space refusal), context)
 
@@ -75,7 +75,7 @@ acquiring_at place request context = reusing (earliest (is_reusable place reques
 -- the rest of a request once the space has answered the key's place: the place is remembered, which takes memory
 abbrev pub place_answered : Wish → ContextView → Answer → Program (Outcome Acquire)
 place_answered request context (At_place place) = Grow (starved context) (acquiring_at place request (remembering request.key place context))
-place_answered request context answer = Give (Err (Space (refusal_of answer)), context)
+place_answered request context answer = Give (Err (Space (refusal_answered answer)), context)
 
 -- a request whose key's place is known, or else looked up in the space
 abbrev pub finding : Option ℕ → Wish → ContextView → Program (Outcome Acquire)
@@ -91,7 +91,7 @@ acquiring request context =
 
 -- the outcome of a request that doesn't wait, from what the space answered
 abbrev pub outcome_tried : ℕ → Wish → ContextView → Result Tried SpaceError → Outcome Tried
-outcome_tried place request context (Ok (try_as.Acquired id)) = (Ok (try_as.Acquired id), keeping id place request context)
+outcome_tried place request context (Ok (try_as.Acquired id)) = (Ok (try_as.Acquired id), keeping_ticket id place request context)
 outcome_tried place request context (Ok try_as.WouldWait) = (Ok try_as.WouldWait, context)
 outcome_tried place request context (Err refusal) = (Err (Space refusal), context)
 
@@ -110,7 +110,7 @@ trying_at place request context = trying_again (earliest (is_reusable place requ
 -- the rest of a request that doesn't wait, once the space has answered the key's place, which is remembered
 abbrev pub trying_placed : Wish → ContextView → Answer → Program (Outcome Tried)
 trying_placed request context (At_place place) = Grow (starved context) (trying_at place request (remembering request.key place context))
-trying_placed request context answer = Give (Err (Space (refusal_of answer)), context)
+trying_placed request context answer = Give (Err (Space (refusal_answered answer)), context)
 
 -- a request whose key's place is known, or else looked up in the space
 abbrev pub trying_found : Option ℕ → Wish → ContextView → Program (Outcome Tried)

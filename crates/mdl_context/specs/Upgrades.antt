@@ -18,8 +18,8 @@ use Rattle.mdl_context.specs.declared.request.Acquire.{Acquire}
 use Rattle.mdl_context.specs.declared.request.Acquire.TheVariants.{Acquired, MustWait}
 use Rattle.mdl_system.specs.Strength.{covers}
 use Rattle.mdl_context.specs.Contexts.{ContextView, Attends, ticket_kept}
-use Rattle.mdl_context.specs.Gains.{refusal_of, waiting_at}
-use Rattle.mdl_context.specs.Holdings.{in_mode, wanted_upgrade}
+use Rattle.mdl_context.specs.Gains.{refusal_answered, waiting_at}
+use Rattle.mdl_context.specs.Holdings.{kept_in_mode, wanted_upgrade}
 use Rattle.mdl_context.specs.Releases.{unless, waiting_fault, release_fault}
 use Rattle.mdl_context.specs.Requests.{Outcome, starved}
 
@@ -28,23 +28,23 @@ abbrev pub with_ticket : Kept → ContextView → ContextView
 with_ticket ticket context = record context { kept = context.kept ++ ticket ∷ [] }
 
 -- the context with the mode of one ticket changed
-abbrev pub with_mode : ℕ → (Mode → Mode) → ContextView → ContextView
-with_mode id change context = record context { kept = in_mode id change context.kept }
+abbrev pub with_ticket_mode : ℕ → (Mode → Mode) → ContextView → ContextView
+with_ticket_mode id change context = record context { kept = kept_in_mode id change context.kept }
 
 -- ---- merges
 
 -- the rest of a merge once the space has answered: if it was refused, the new ticket is released
 abbrev pub merge_answered : ℕ → ℕ → Answer → Program (Result (Unit {0}) SpaceError)
 merge_answered who new Done = Give (Ok tt)
-merge_answered who new answer = Ask (Release who new) (λ _. Give (Err (refusal_of answer)))
+merge_answered who new answer = Ask (Release who new) (λ _. Give (Err (refusal_answered answer)))
 
 -- a new ticket is merged into a held one of its place: the held one gets its mode, and the new one is removed
-abbrev pub merging : ℕ → ℕ → ℕ → Program (Result (Unit {0}) SpaceError)
-merging who id new = Ask (Merge who id new) (merge_answered who new)
+abbrev pub merging_new : ℕ → ℕ → ℕ → Program (Result (Unit {0}) SpaceError)
+merging_new who id new = Ask (Merge who id new) (merge_answered who new)
 
 -- the outcome of a merge: an answer and the ticket in its new mode, or a refusal and all tickets unchanged
 abbrev pub merged : {A : Type 0} → A → ℕ → Mode → ContextView → Result (Unit {0}) SpaceError → Outcome A
-merged answer id mode context (Ok _) = (Ok answer, with_mode id (λ _. mode) context)
+merged answer id mode context (Ok _) = (Ok answer, with_ticket_mode id (λ _. mode) context)
 merged answer id mode context (Err refusal) = (Err (Space refusal), context)
 
 -- what the session has in the space after a merge
@@ -91,7 +91,7 @@ awaiting_upgrade ticket mode searched context = record context { wait = Some (wa
 -- into the first
 abbrev pub second_got : Kept → Mode → ContextView → Result AskResult SpaceError → Program (Outcome Acquire)
 second_got ticket mode context (Ok (got.Granted new)) =
-    merging context.who ticket.id new >>= (λ end. Give (merged (Acquired ticket.id) ticket.id mode context end))
+    merging_new context.who ticket.id new >>= (λ end. Give (merged (Acquired ticket.id) ticket.id mode context end))
 second_got ticket mode context (Ok (got.Waits number searched)) = Give (Ok (MustWait number), awaiting_upgrade ticket mode searched context)
 second_got ticket mode context (Err refusal) = Give (Err (Space refusal), context)
 
@@ -101,9 +101,9 @@ waiting_to_upgrade ticket mode context = Grow (starved context) (waiting_at cont
 
 -- the rest of an upgrade once the space has answered whether it can be granted at once
 abbrev pub upgrade_answered : Kept → Mode → ContextView → Answer → Program (Outcome Acquire)
-upgrade_answered ticket mode context Upgraded = Give (Ok (Acquired ticket.id), with_mode ticket.id (upgraded mode) context)
+upgrade_answered ticket mode context Upgraded = Give (Ok (Acquired ticket.id), with_ticket_mode ticket.id (upgraded mode) context)
 upgrade_answered ticket mode context Would_wait = waiting_to_upgrade ticket mode context
-upgrade_answered ticket mode context answer = Give (Err (Space (refusal_of answer)), context)
+upgrade_answered ticket mode context answer = Give (Err (Space (refusal_answered answer)), context)
 
 -- a given ticket is upgraded, unless the session waits. Without one, the call fails
 abbrev pub upgrading_ticket : Option Kept → Mode → ContextView → Program (Outcome Acquire)
@@ -119,8 +119,8 @@ upgrading id mode context = upgrading_ticket (ticket_kept id context.kept) mode 
 
 -- the outcome of a downgrade, from what the space answered
 abbrev pub downgrade_answered : ℕ → Mode → ContextView → Answer → Program (Outcome (Unit {0}))
-downgrade_answered id mode context Done = Give (Ok tt, with_mode id (λ _. mode) context)
-downgrade_answered id mode context answer = Give (Err (Space (refusal_of answer)), context)
+downgrade_answered id mode context Done = Give (Ok tt, with_ticket_mode id (λ _. mode) context)
+downgrade_answered id mode context answer = Give (Err (Space (refusal_answered answer)), context)
 
 -- the program that downgrades a ticket, unless it isn't kept or the session waits
 abbrev pub downgrading : ℕ → Mode → ContextView → Program (Outcome (Unit {0}))

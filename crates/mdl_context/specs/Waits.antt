@@ -11,10 +11,10 @@ use Rattle.mdl_context.specs.declared.kept.Wanted.{Wanted}
 use Rattle.mdl_context.specs.declared.request.Resume.{Resume}
 use Rattle.mdl_context.specs.declared.request.Resume.TheVariants as resume_as
 use Rattle.mdl_context.specs.Contexts.{ContextView}
-use Rattle.mdl_context.specs.Gains.{refusal_of, abandoning}
-use Rattle.mdl_context.specs.Holdings.{with_wanted, search_over, upgrade_of}
+use Rattle.mdl_context.specs.Gains.{refusal_answered, abandoning}
+use Rattle.mdl_context.specs.Holdings.{with_wanted, search_over, awaited_upgrade}
 use Rattle.mdl_context.specs.Requests.{Outcome}
-use Rattle.mdl_context.specs.Upgrades.{merging, merged}
+use Rattle.mdl_context.specs.Upgrades.{merging_new, merged}
 
 -- the context without a wait
 abbrev pub without_wait : ContextView → ContextView
@@ -28,35 +28,35 @@ taking_up id context = record context { kept = with_wanted id context.wait conte
 abbrev pub wait_won : Option (ℕ × Mode) → ℕ → ContextView → Program (Outcome Resume)
 wait_won None new context = Give (Ok (resume_as.Acquired new), taking_up new context)
 wait_won (Some (id, mode)) new context =
-    merging context.who id new >>= (λ end. Give (merged (resume_as.Acquired id) id mode (without_wait context) end))
+    merging_new context.who id new >>= (λ end. Give (merged (resume_as.Acquired id) id mode (without_wait context) end))
 
 -- the outcome of ending a wait, from what the space answered
 abbrev pub end_answered : ContextView → Answer → Program (Outcome Resume)
-end_answered context (Granted id) = wait_won (upgrade_of context.wait) id context
+end_answered context (Granted id) = wait_won (awaited_upgrade context.wait) id context
 end_answered context (Lost how) = Give (Ok (resume_as.Lost how), without_wait context)
-end_answered context answer = Give (Err (Space (refusal_of answer)), context)
+end_answered context answer = Give (Err (Space (refusal_answered answer)), context)
 
 -- the program that ends the session's wait
-abbrev pub ending : ContextView → Program (Outcome Resume)
-ending context = Ask (End_wait context.who) (end_answered context)
+abbrev pub ending_wait : ContextView → Program (Outcome Resume)
+ending_wait context = Ask (End_wait context.who) (end_answered context)
 
 -- the rest of a look at a wait once the space has answered its state: a settled wait is ended
 abbrev pub poll_answered : ContextView → Answer → Program (Outcome Resume)
 poll_answered context Pending = Give (Ok resume_as.Waiting, context)
-poll_answered context (Is_settled how) = ending context
-poll_answered context answer = Give (Err (Space (refusal_of answer)), context)
+poll_answered context (Is_settled how) = ending_wait context
+poll_answered context answer = Give (Err (Space (refusal_answered answer)), context)
 
 -- the program that asks for the state of the wait, and ends it if it is settled
 abbrev pub looking : ContextView → Program (Outcome Resume)
 looking context = Ask (Poll_wait context.who) (poll_answered context)
 
 -- the context, noting that the searches for its wait are over
-abbrev pub searched : ContextView → ContextView
-searched context = record context { wait = option_map search_over context.wait }
+abbrev pub searches_over : ContextView → ContextView
+searches_over context = record context { wait = option_map search_over context.wait }
 
 -- the rest of a wait after its searches for deadlocks: a look at it. If a search was refused, the wait is given up instead
 abbrev pub wait_sought : ContextView → SearchEnd → Program (Outcome Resume)
-wait_sought context Over = looking (searched context)
+wait_sought context Over = looking (searches_over context)
 wait_sought context Cut_off = looking context
 wait_sought context (Failed refusal) = abandoning context.who >> Give (Err (Space refusal), without_wait context)
 
@@ -70,10 +70,10 @@ cut_off_answered context Pending = searching_on context
 cut_off_answered context answer = poll_answered context answer
 
 -- a wait goes on, if there is one, depending on whether its searches are over
-abbrev pub going_on : Option Bool → ContextView → Program (Outcome Resume)
-going_on None context = Give (Err (Space NoWait), context)
-going_on (Some true) context = looking context
-going_on (Some false) context = Ask (Poll_wait context.who) (cut_off_answered context)
+abbrev pub continuing_wait : Option Bool → ContextView → Program (Outcome Resume)
+continuing_wait None context = Give (Err (Space NoWait), context)
+continuing_wait (Some true) context = looking context
+continuing_wait (Some false) context = Ask (Poll_wait context.who) (cut_off_answered context)
 
 -- whether the searches for the wait are over, if there is a wait
 abbrev pub is_searched : Option Wanted → Option Bool
@@ -81,12 +81,12 @@ is_searched wait = option_map (λ wanted. wanted.searched) wait
 
 -- the program of a call that goes on with a wait
 abbrev pub resuming : ContextView → Program (Outcome Resume)
-resuming context = going_on (is_searched context.wait) context
+resuming context = continuing_wait (is_searched context.wait) context
 
 -- the program that gives up a wait, unless it is settled already, and ends it
 abbrev pub giving_up_wait : ContextView → Program (Outcome Resume)
 giving_up_wait context =
-    if is_some context.wait then Ask (Settle_timeout context.who) (λ _. ending context) else Give (Err (Space NoWait), context)
+    if is_some context.wait then Ask (Settle_timeout context.who) (λ _. ending_wait context) else Give (Err (Space NoWait), context)
 
 -- why a call about a wait is refused: there is none
 abbrev pub no_wait_fault : ContextView → Option ContextError

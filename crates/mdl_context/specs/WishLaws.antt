@@ -9,7 +9,7 @@ use Rattle.mdl_context.specs.declared.kept.Kept.{Kept}
 use Rattle.mdl_context.specs.declared.request.Acquire.TheVariants.{Acquired, MustWait}
 use Rattle.mdl_context.specs.Wishes.{Wish}
 use Rattle.mdl_context.specs.Contexts.{ContextView, lasts, place_known}
-use Rattle.mdl_context.specs.Holdings.{earliest, kept_of, wanted_of}
+use Rattle.mdl_context.specs.Holdings.{earliest, kept_ticket, wanted_of}
 use Rattle.mdl_context.specs.declared.request.Acquire.{Acquire}
 use Rattle.mdl_context.specs.declared.request.Tried.{Tried}
 use Rattle.mdl_context.specs.declared.request.Tried.TheVariants as try_as
@@ -48,12 +48,12 @@ WishesAreMet =
 
 -- the returned ticket, if there is one, is new, and is after all others
 abbrev pub GainsATicket : Wish → ContextView → Outcome Acquire → Type 0
-GainsATicket request before (Ok (Acquired id), after) = (place : ℕ) × (after.kept ≡ before.kept ++ kept_of id place request ∷ [])
+GainsATicket request before (Ok (Acquired id), after) = (place : ℕ) × (after.kept ≡ before.kept ++ kept_ticket id place request ∷ [])
 GainsATicket request before _ = Unit {0}
 
 -- the same for a request that doesn't wait
 abbrev pub GainsAtOnce : Wish → ContextView → Outcome Tried → Type 0
-GainsAtOnce request before (Ok (try_as.Acquired id), after) = (place : ℕ) × (after.kept ≡ before.kept ++ kept_of id place request ∷ [])
+GainsAtOnce request before (Ok (try_as.Acquired id), after) = (place : ℕ) × (after.kept ≡ before.kept ++ kept_ticket id place request ∷ [])
 GainsAtOnce request before _ = Unit {0}
 
 -- a request with explicit duration gets a new ticket of its own

@@ -11,5 +11,5 @@ pub record Wish : Type 0 where
   pub duration : Duration
 
 -- the wish of a request
-abbrev pub wish_of : Request → Wish
-wish_of request = record { key = request.key.now; mode = request.mode; duration = request.duration }
+abbrev pub wish_of_request : Request → Wish
+wish_of_request request = record { key = request.key.now; mode = request.mode; duration = request.duration }

@@ -3,7 +3,7 @@ ghost use Rattle.std.specs.Prelude.{◌≡◌, ℕ, Some, None, true};
 ghost use Rattle.std.specs.Option.{IfSome};
 ghost use Rattle.mdl_key.specs.Keys.{KeyName};
 ghost use Rattle.mdl_calls.specs.Words.{is_waiting, ticket_held, Runs};
-ghost use Rattle.mdl_context.specs.Gains.{gaining_from, asking_at, trying_from, waiting_at, waiting_on, own_got, own_tried, OwnWaited};
+ghost use Rattle.mdl_context.specs.Gains.{gaining_from, requesting_at, trying_from, waiting_at, waiting_on, own_got, own_tried, OwnWaited};
 
 use crate::Tried;
 use crate::searches::{abandon, seek};
@@ -97,7 +97,7 @@ fn ask<S: LockSpace>(
 ) -> Result<AskResult, SpaceError>
     requires speaks { S.speaks_for space.old who }
     requires idle { (S.own space.old who).wait ≡ None }
-    ensures run { Runs S.joins space.old (asking_at who place mode) result space.new }
+    ensures run { Runs S.joins space.old (requesting_at who place mode) result space.new }
     ensures speaks { S.speaks_for space.new who }
     ensures remembers { (at : ℕ) (key : KeyName) → S.knows space.old who at key → S.knows space.new who at key }
     ensures own { S.own space.new who ≡ own_got place mode result (S.own space.old who) }

@@ -1,6 +1,6 @@
 //! The numbers of a session's tickets, found by place.
 ghost use Rattle.std.specs.Prelude.{◌≡◌, ℕ, true, Some, [], ◌∷◌, ◌++◌, ◌==◌, OnOk, IsTrue, if◌then◌else◌};
-ghost use Rattle.mdl_context.specs.Indexes.{numbers_of, has_place, has_room_for, rises, without_one};
+ghost use Rattle.mdl_context.specs.Indexes.{ticket_numbers, has_place, has_room_for, rises, without_one};
 
 use mdl_space::{Place, TicketId};
 use smallvec::SmallVec;
@@ -35,7 +35,7 @@ impl ByPlace {
 
     /// The numbers at a place.
     pub(crate) fn numbers(&self, place: Place) -> &[TicketId]
-        ensures { result.now ≡ numbers_of place self.now }
+        ensures { result.now ≡ ticket_numbers place self.now }
     {
         match self.lists.get(usize::from(place)) {
             Some(list) => list.as_slice(),
@@ -46,7 +46,7 @@ impl ByPlace {
     /// Makes room for one more number at a place.
     pub(crate) fn reserve(&mut self, place: Place) -> Result<(), AllocError>
         ensures room { OnOk result (has_room_for place self.new ≡ true) }
-        ensures numbers { (q : ℕ) → numbers_of q self.new ≡ numbers_of q self.old }
+        ensures numbers { (q : ℕ) → ticket_numbers q self.new ≡ ticket_numbers q self.old }
     {
         let at = usize::from(place);
         list_up_to(&mut self.lists, place, self.alloc)?;
@@ -59,7 +59,7 @@ impl ByPlace {
     /// Adds a number after those at a place. Takes no memory.
     pub(crate) fn push(&mut self, place: Place, id: TicketId)
         requires { has_room_for place self.old ≡ true }
-        ensures { (q : ℕ) → numbers_of q self.new ≡ (if place == q then numbers_of place self.old ++ id ∷ [] else numbers_of q self.old) }
+        ensures { (q : ℕ) → ticket_numbers q self.new ≡ (if place == q then ticket_numbers place self.old ++ id ∷ [] else ticket_numbers q self.old) }
     {
         if let Some(list) = self.lists.get_mut(usize::from(place)) {
             list.push_reserved(id);
@@ -68,8 +68,8 @@ impl ByPlace {
 
     /// Removes a number from those at a place. Takes no memory.
     pub(crate) fn remove(&mut self, place: Place, id: TicketId)
-        requires { IsTrue (rises (numbers_of place self.old)) }
-        ensures numbers { (q : ℕ) → numbers_of q self.new ≡ (if place == q then without_one id (numbers_of place self.old) else numbers_of q self.old) }
+        requires { IsTrue (rises (ticket_numbers place self.old)) }
+        ensures numbers { (q : ℕ) → ticket_numbers q self.new ≡ (if place == q then without_one id (ticket_numbers place self.old) else ticket_numbers q self.old) }
         ensures stays { (q : ℕ) → has_room_for q self.old ≡ true → has_room_for q self.new ≡ true }
     {
         if let Some(list) = self.lists.get_mut(usize::from(place)) {
@@ -84,7 +84,7 @@ fn list_up_to(
     place: Place,
     alloc: Global,
 ) -> Result<(), AllocError>
-    ensures { (q : ℕ) → numbers_of q lists.new.items ≡ numbers_of q lists.old.items }
+    ensures { (q : ℕ) → ticket_numbers q lists.new.items ≡ ticket_numbers q lists.old.items }
 {
     for _list in lists.len()..usize::from(place) + 1 {
         if lists.push(SmallVec::new(alloc)).is_err() {

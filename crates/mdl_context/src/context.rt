@@ -2,7 +2,7 @@
 ghost use Rattle.std.specs.Prelude.{◌≡◌, None, [], map, OnOk, OnErr};
 ghost use Rattle.mdl_key.specs.declared.mode.Duration.TheVariants.{Explicit};
 ghost use Rattle.mdl_key.specs.Refusals.{RefusesJust};
-ghost use Rattle.mdl_context.specs.Contexts.{mark_of, waits_for_user_lock, last_ticket, Attends};
+ghost use Rattle.mdl_context.specs.Contexts.{current_mark, waits_for_user_lock, last_ticket, Attends};
 ghost use Rattle.mdl_context.specs.Holdings.{kept_for, transactional};
 ghost use Rattle.mdl_context.specs.Releases.{waiting_fault};
 
@@ -99,7 +99,7 @@ impl<S: LockSpace> Context<S> {
     ///
     /// After MySQL 5.7, `MDL_context::mdl_savepoint` of `sql/mdl.h`.
     pub fn savepoint(&self) -> Mark
-        ensures { result ≡ mark_of self.now.kept }
+        ensures { result ≡ current_mark self.now.kept }
     {
         Mark {
             statement: self.holdings.count(Duration::Statement),

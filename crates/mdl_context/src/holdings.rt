@@ -4,13 +4,13 @@ ghost use Rattle.std.specs.Vec.{vec_capacity};
 ghost use Rattle.std.specs.Option.{option_copied, option_map};
 ghost use Rattle.mdl_key.specs.declared.mode.Duration.TheVariants.{Explicit};
 ghost use Rattle.mdl_calls.specs.SessionLocks.{upgraded};
-ghost use Rattle.mdl_context.specs.Contexts.{AreRising, lasts, held_for, has_number, held_of, is_user_lock, last_at, place_known, ticket_kept};
+ghost use Rattle.mdl_context.specs.Contexts.{AreRising, lasts, tickets_for, has_number, held_of, is_user_lock, last_at, place_known, ticket_kept};
 ghost use Rattle.mdl_context.specs.Goings.{goes};
-ghost use Rattle.mdl_context.specs.Holdings.{without_number, is_at, is_ticket, IsIndexOf, has_room, earliest, kept_for, in_transaction, transactional, kept_of, wanted_of, wanted_upgrade, upgrade_of, in_mode, with_wanted, search_over};
+ghost use Rattle.mdl_context.specs.Holdings.{without_number, is_kept_at, is_kept_ticket, IsIndexOf, has_room, earliest, kept_for, in_transaction, transactional, kept_ticket, wanted_of, wanted_upgrade, awaited_upgrade, kept_in_mode, with_wanted, search_over};
 ghost use Rattle.mdl_context.specs.Indexes.{has_room_for};
 ghost use Rattle.mdl_context.specs.Waits.{is_searched};
 ghost use Rattle.mdl_context.specs.Requests.{suffices, is_reusable};
-ghost use Rattle.mdl_context.specs.Wishes.{wish_of};
+ghost use Rattle.mdl_context.specs.Wishes.{wish_of_request};
 
 use crate::by_place::ByPlace;
 use crate::going::Going;
@@ -95,7 +95,7 @@ impl Holdings {
 
     /// The ticket that the wait is to upgrade, and the new mode, if there is a wait for an upgrade.
     pub(crate) fn upgrade(&self) -> Option<(TicketId, Mode)>
-        ensures { result ≡ upgrade_of self.now.wait }
+        ensures { result ≡ awaited_upgrade self.now.wait }
     {
         let wanted = self.wait?;
         let id = wanted.upgrades?;
@@ -210,7 +210,7 @@ impl Holdings {
     /// The index of the ticket with a number, if there is one.
     pub(crate) fn position(&self, id: TicketId) -> Option<usize>
         requires { AreRising self.now.kept }
-        ensures here { result ≡ position (is_ticket id) self.now.kept }
+        ensures here { result ≡ position (is_kept_ticket id) self.now.kept }
         ensures has { is_some result ≡ has_number self.now.kept id }
     {
         index_of(&self.tickets, id)
@@ -228,7 +228,7 @@ impl Holdings {
     /// Sets the mode of the ticket of a number, if there is one. Takes no memory.
     pub(crate) fn set_mode(&mut self, id: TicketId, mode: Mode)
         requires { AreRising self.old.kept }
-        ensures kept { self.new.kept ≡ in_mode id (λ _. mode) self.old.kept }
+        ensures kept { self.new.kept ≡ kept_in_mode id (λ _. mode) self.old.kept }
         ensures known { self.new.known ≡ self.old.known }
         ensures wait { self.new.wait ≡ self.old.wait }
     {
@@ -240,7 +240,7 @@ impl Holdings {
     /// Sets the mode of the ticket of a number, if there is one and its own mode isn't at least as strong.
     pub(crate) fn strengthen(&mut self, id: TicketId, mode: Mode)
         requires { AreRising self.old.kept }
-        ensures kept { self.new.kept ≡ in_mode id (upgraded mode) self.old.kept }
+        ensures kept { self.new.kept ≡ kept_in_mode id (upgraded mode) self.old.kept }
         ensures known { self.new.known ≡ self.old.known }
         ensures wait { self.new.wait ≡ self.old.wait }
     {
@@ -254,7 +254,7 @@ impl Holdings {
 
     /// The number of tickets of a duration.
     pub(crate) fn count(&self, duration: Duration) -> usize
-        ensures { result ≡ length (held_for duration self.now.kept) }
+        ensures { result ≡ length (tickets_for duration self.now.kept) }
     {
         self.tickets
             .iter()
@@ -264,7 +264,7 @@ impl Holdings {
 
     /// The number of the ticket after the first `most` of a duration, if there is one.
     pub(crate) fn nth_for(&self, duration: Duration, most: usize) -> Option<TicketId>
-        ensures { result ≡ option_map (λ ticket. ticket.id) (slice_get (held_for duration self.now.kept) most) }
+        ensures { result ≡ option_map (λ ticket. ticket.id) (slice_get (tickets_for duration self.now.kept) most) }
     {
         let mut left = most;
         for ticket in &self.tickets {
@@ -281,7 +281,7 @@ impl Holdings {
     /// Removes the ticket of a number, which is at index `at`. Takes no memory.
     pub(crate) fn remove(&mut self, at: usize, id: TicketId)
         requires rising { AreRising self.old.kept }
-        requires here { position (is_ticket id) self.old.kept ≡ Some at }
+        requires here { position (is_kept_ticket id) self.old.kept ≡ Some at }
         ensures kept { self.new.kept ≡ without_number id self.old.kept }
         ensures known { self.new.known ≡ self.old.known }
         ensures wait { self.new.wait ≡ self.old.wait }
@@ -329,7 +329,7 @@ impl Holdings {
     /// The earliest ticket at a place that a request can use again.
     pub(crate) fn reusable(&self, place: Place, request: &Request<'_>) -> Option<Held>
         requires { AreRising self.now.kept }
-        ensures { result ≡ earliest (is_reusable place (wish_of request.now)) self.now.kept }
+        ensures { result ≡ earliest (is_reusable place (wish_of_request request.now)) self.now.kept }
     {
         for id in self.by_place.numbers(place) {
             let ticket = numbered(&self.tickets, *id)?;
@@ -343,7 +343,7 @@ impl Holdings {
     /// The earliest ticket at a place that suffices for a request.
     pub(crate) fn sufficient(&self, place: Place, request: &Request<'_>) -> Option<Held>
         requires { AreRising self.now.kept }
-        ensures { result ≡ earliest (suffices place (wish_of request.now)) self.now.kept }
+        ensures { result ≡ earliest (suffices place (wish_of_request request.now)) self.now.kept }
     {
         for id in self.by_place.numbers(place) {
             let ticket = numbered(&self.tickets, *id)?;
@@ -358,7 +358,7 @@ impl Holdings {
 // The index of the ticket with a number, among tickets whose numbers rise.
 fn index_of(tickets: &[Kept], id: TicketId) -> Option<usize>
     requires { AreRising tickets.now }
-    ensures { result ≡ position (is_ticket id) tickets.now }
+    ensures { result ≡ position (is_kept_ticket id) tickets.now }
 {
     tickets.binary_search_by_key(&id, |ticket| ticket.id).ok()
 }
@@ -366,7 +366,7 @@ fn index_of(tickets: &[Kept], id: TicketId) -> Option<usize>
 // The ticket with a number, among tickets whose numbers rise.
 fn numbered(tickets: &[Kept], id: TicketId) -> Option<&Kept>
     requires { AreRising tickets.now }
-    ensures { option_copied result ≡ find (is_ticket id) tickets.now }
+    ensures { option_copied result ≡ find (is_kept_ticket id) tickets.now }
 {
     let at = index_of(tickets, id)?;
     Some(&tickets[at])

@@ -3,7 +3,7 @@ ghost use Rattle.std.specs.Prelude.{◌≡◌, ℕ, true, false, IfErr};
 ghost use Rattle.mdl_key.specs.Keys.{KeyName};
 ghost use Rattle.mdl_calls.specs.Causes.{Mergeable};
 ghost use Rattle.mdl_calls.specs.Words.{is_waiting, Runs};
-ghost use Rattle.mdl_context.specs.Upgrades.{merging, own_merged, is_merge_refusal};
+ghost use Rattle.mdl_context.specs.Upgrades.{merging_new, own_merged, is_merge_refusal};
 
 use crate::releasing::release;
 use mdl_space::{LockSpace, SpaceError, TicketId};
@@ -20,7 +20,7 @@ pub(crate) fn merge<S: LockSpace>(
     requires idle { is_waiting (S.own space.old who) ≡ false }
     requires mergeable { Mergeable true id new (S.own space.old who) }
     ensures refused { IfErr result (λ refusal. is_merge_refusal refusal ≡ true) }
-    ensures run { Runs S.joins space.old (merging who id new) result space.new }
+    ensures run { Runs S.joins space.old (merging_new who id new) result space.new }
     ensures speaks { S.speaks_for space.new who }
     ensures remembers { (place : ℕ) (key : KeyName) → S.knows space.old who place key → S.knows space.new who place key }
     ensures own { S.own space.new who ≡ own_merged id new result (S.own space.old who) }

@@ -1,9 +1,9 @@
 //! Which tickets a request (a wish) can use, and which it gets.
 ghost use Rattle.std.specs.Prelude.{◌≡◌};
 ghost use Rattle.mdl_system.specs.Strength.{covers};
-ghost use Rattle.mdl_context.specs.Holdings.{kept_of, wanted_of};
+ghost use Rattle.mdl_context.specs.Holdings.{kept_ticket, wanted_of};
 ghost use Rattle.mdl_context.specs.Requests.{suffices, is_reusable};
-ghost use Rattle.mdl_context.specs.Wishes.{wish_of};
+ghost use Rattle.mdl_context.specs.Wishes.{wish_of_request};
 
 use crate::{Kept, Request, Wanted};
 use mdl_key::{Duration, Kind, Mode, at_least};
@@ -12,7 +12,7 @@ use mdl_space::{Place, TicketId};
 impl Request<'_> {
     /// Whether a ticket suffices for the request. The request's key is at this place.
     pub(crate) fn is_met_by(&self, place: Place, ticket: &Kept) -> bool
-        ensures { result ≡ suffices place (wish_of self.now) ticket.now }
+        ensures { result ≡ suffices place (wish_of_request self.now) ticket.now }
     {
         ticket.place == place
             && covers(ticket.mode, self.mode)
@@ -21,7 +21,7 @@ impl Request<'_> {
 
     /// Whether a ticket can be used again for the request. The request's key is at this place.
     pub(crate) fn can_reuse(&self, place: Place, ticket: &Kept) -> bool
-        ensures { result ≡ is_reusable place (wish_of self.now) ticket.now }
+        ensures { result ≡ is_reusable place (wish_of_request self.now) ticket.now }
     {
         self.is_met_by(place, ticket)
             && ticket.lasts(self.duration)
@@ -30,7 +30,7 @@ impl Request<'_> {
 
     /// The ticket that the request gets.
     pub(crate) fn kept(&self, id: TicketId, place: Place) -> Kept
-        ensures { result ≡ kept_of id place (wish_of self.now) }
+        ensures { result ≡ kept_ticket id place (wish_of_request self.now) }
     {
         Kept {
             id,
@@ -42,7 +42,7 @@ impl Request<'_> {
 
     /// The ticket that the request waits for, and whether the searches for deadlocks are over.
     pub(crate) fn wanted(&self, place: Place, searched: bool) -> Wanted
-        ensures { result ≡ wanted_of place (wish_of self.now) searched }
+        ensures { result ≡ wanted_of place (wish_of_request self.now) searched }
     {
         Wanted {
             place,

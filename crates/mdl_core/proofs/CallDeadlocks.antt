@@ -10,10 +10,10 @@ use Rattle.mdl_core.specs.CoreJoins.{Joins, SpeaksFor}
 use Rattle.mdl_core.specs.CoreLaws.{IsEventOf, GrantsInOrder}
 use Rattle.mdl_core.specs.Cores.{Core}
 use Rattle.mdl_core.specs.CoreSystems.{applies, system_of}
-use Rattle.mdl_core.specs.SearchLaws.{begins_wait, OnlyNewWaitsMakeDeadlocks, SearchingEndsDeadlocks, WaitingLeavesNoDeadlock}
+use Rattle.mdl_core.specs.SearchLaws.{call_begins_wait, OnlyNewWaitsMakeDeadlocks, SearchingEndsDeadlocks, WaitingLeavesNoDeadlock}
 use Rattle.mdl_system.specs.DeadlockLaws as events
 use Rattle.mdl_system.specs.Words.{DeadlocksGoThrough, Event, Run, System}
-use Rattle.mdl_core.specs.Ties.{IsSound}
+use Rattle.mdl_core.specs.Ties.{IsSoundCore}
 use Rattle.mdl_core.proofs.CoreSound.{calls_are-events, calls_keep-sound}
 use Rattle.mdl_core.proofs.CoreNumbered.{sound-well_numbered}
 use Rattle.mdl_system.proofs.DeadlockCauses.{through-more, run-through, debts-end}
@@ -23,7 +23,7 @@ use Rattle.mdl_core.proofs.SearchRuns.{over-whole, none-joined, over-cut, search
 
 -- by the event that a call is, a session begins to wait where it does by the call
 of-call : (a : Core) (call : Call) (answer : Answer) (event : Event Change) → IsEventOf a call answer event
-    → (session : ℕ) → events.begins_wait event session ≡ begins_wait call answer session
+    → (session : ℕ) → events.begins_wait event session ≡ call_begins_wait call answer session
 of-call a (Try_now who place mode) (Granted id) event is session = ap (λ e. events.begins_wait e session) is
 of-call a (Begin_wait who place mode) (Granted id) event is session = ap (λ e. events.begins_wait e session) is
 of-call a (Begin_wait who place mode) (Waits number) event (id, is) session = ap (λ e. events.begins_wait e session) is
@@ -51,9 +51,9 @@ grants-run apply key (event ∷ grants) a b (waiter, between, is, first, happens
 -- ---- whatever is called
 
 -- the events of a call, by which a session begins to wait where it does by the call
-call-run : (a b : Core) (call : Call) (answer : Answer) → IsSound a → Joins a call answer b
+call-run : (a b : Core) (call : Call) (answer : Answer) → IsSoundCore a → Joins a call answer b
     → (all : List (Event Change)) × Run applies all (system_of a) (system_of b)
-    × ((session : ℕ) → events.begins_to_wait all session ≡ true → begins_wait call answer session ≡ true)
+    × ((session : ℕ) → events.begins_to_wait all session ≡ true → call_begins_wait call answer session ≡ true)
 call-run a b call answer sound joins = elim (calls_are-events a b call answer sound joins) [
   | inl same ↦ ([], same.1, λ session e. absurd (false≢true e))
   | inr (event, grants, between, key, is, about, happens, order) ↦ (
@@ -69,8 +69,8 @@ call-run a b call answer sound joins = elim (calls_are-events a b call answer so
 pub only-new_waits : OnlyNewWaitsMakeDeadlocks
 only-new_waits a b call answer sessions sound joins through =
     let all = call-run a b call answer sound joins in
-    through-more (system_of b) (λ session. sessions session || events.begins_to_wait all.0 session) (λ session. sessions session || begins_wait call answer session)
-    (λ session. or-more (sessions session) (events.begins_to_wait all.0 session) (begins_wait call answer session) (all.2 session))
+    through-more (system_of b) (λ session. sessions session || events.begins_to_wait all.0 session) (λ session. sessions session || call_begins_wait call answer session)
+    (λ session. or-more (sessions session) (events.begins_to_wait all.0 session) (call_begins_wait call answer session) (all.2 session))
     (run-through applies all.0 (system_of a) (system_of b) sessions (sound-well_numbered a sound) all.1 through)
   where
     or-more : (p q r : Bool) → (q ≡ true → r ≡ true) → (p || q) ≡ true → (p || r) ≡ true
@@ -80,7 +80,7 @@ only-new_waits a b call answer sessions sound joins through =
 -- ---- searches
 
 -- a search begins no wait
-searched-through : (a b : Core) (who victim : ℕ) (sessions : ℕ → Bool) → IsSound a → Joins a (Search who) (Victim_is victim) b
+searched-through : (a b : Core) (who victim : ℕ) (sessions : ℕ → Bool) → IsSoundCore a → Joins a (Search who) (Victim_is victim) b
     → DeadlocksGoThrough sessions (system_of a) → DeadlocksGoThrough sessions (system_of b)
 searched-through a b who victim sessions sound joins through =
     through-more (system_of b) (λ session. sessions session || false) sessions (λ session e. sym (or-false (sessions session)) ∙ e)

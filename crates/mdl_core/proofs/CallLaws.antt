@@ -11,12 +11,12 @@ use Rattle.mdl_calls.specs.declared.answers.TimedOut.TheVariants.{ByThisCall, Al
 use Rattle.mdl_calls.specs.declared.space_error.SpaceError.TheVariants.{OutOfMemory}
 use Rattle.mdl_calls.specs.Words.{Answer, Refused, Done, At_place, Would_wait, Upgraded, Is_settled, Timed_out, Has_wait, Has_killed, Victim_is, Key_is, Tables, Holds, is_answer_of, Call, Resolve, Search, Poll_wait, Settle_timeout, End_wait, Wait_of, Kill, Release, Upgrade_now, Downgrade, Change_definition, Key_of, Tables_of, List_held, Unpin, caller, takes_memory, AreTablesOf, IsCause, IsExplained, own_after, wait_number, is_waiting, IsRising, Draws, ticket_held, told, IsToldOf}
 use Rattle.mdl_core.specs.declared.pending.Pending.{Pending}
-use Rattle.mdl_core.specs.Changes.{Change, Settle, seat_after, changing, losing}
+use Rattle.mdl_core.specs.Changes.{Change, Settle, seat_after, after_change, losing}
 use Rattle.mdl_core.specs.CoreCalls.{outcome, Makes, wait_at, is_open_wait}
-use Rattle.mdl_core.specs.CoreJoins.{SpeaksFor, own_at, numbers_at, Knows, IsSettledAs, Joins}
+use Rattle.mdl_core.specs.CoreJoins.{SpeaksFor, locks_at, numbers_at, Knows, IsSettledAs, Joins}
 use Rattle.mdl_core.specs.CoreLaws.{CallsKeepSound, UpgradesWhatIsGrantable}
-use Rattle.mdl_core.specs.Cores.{Core, seat_at, has_session, tables_in}
-use Rattle.mdl_core.specs.Seats.{own_of, numbers_of}
+use Rattle.mdl_core.specs.Cores.{Core, seat_at, has_session, table_places}
+use Rattle.mdl_core.specs.Seats.{locks_of_seat, numbers_of_seat}
 use Rattle.mdl_core.specs.SessionLaws.{RefusesForCause}
 use Rattle.mdl_core.specs.Ties.{IsTied}
 use Rattle.mdl_system.specs.Words.{covers}
@@ -39,7 +39,7 @@ some_caller _ takes = (_, refl)
 
 -- and want of memory is a cause of its own
 memory-told : (a : Core) (call : Call) (who : ℕ) → takes_memory call ≡ true
-    → IsCause (Knows a who) call OutOfMemory (own_at a who) × ((how : Settled) → IsToldOf how call (Refused OutOfMemory))
+    → IsCause (Knows a who) call OutOfMemory (locks_at a who) × ((how : Settled) → IsToldOf how call (Refused OutOfMemory))
 memory-told a (Change_definition _ _ _) who takes = (takes, λ how. tt)
 memory-told a (Poll_wait _) who takes = cc
 memory-told a (Settle_timeout _) who takes = cc
@@ -73,8 +73,8 @@ joins-comes a b call answer tied (speaks, has, makes) = by makes
 record IsLeft (a : Core) (call : Call) (way : Way) (b : Core) : Type 0 where
   sessions : (w : ℕ) → has_session w b ≡ has_session w a
   keys : (w place : ℕ) (key : KeyName) → Knows a w place key → Knows b w place key
-  own : (w : ℕ) → has_session w a ≡ true → caller call ≡ Some w → (own_at b w ≡ own_of (seat_by way w a)) × (numbers_at b w ≡ numbers_of (seat_by way w a))
-  others : (w : ℕ) → has_session w a ≡ true → (caller call ≡ Some w → ⊥) → (own_at b w ≡ own_at a w) × (numbers_at b w ≡ numbers_at a w)
+  own : (w : ℕ) → has_session w a ≡ true → caller call ≡ Some w → (locks_at b w ≡ locks_of_seat (seat_by way w a)) × (numbers_at b w ≡ numbers_of_seat (seat_by way w a))
+  others : (w : ℕ) → has_session w a ≡ true → (caller call ≡ Some w → ⊥) → (locks_at b w ≡ locks_at a w) × (numbers_at b w ≡ numbers_at a w)
   settled : (w : ℕ) (how : Settled) → has_session w a ≡ true → (call ≡ End_wait w → ⊥) → HasSettled (seat_at w a) how → HasSettled (seat_at w b) how
 
 -- a way by which all have what they had
@@ -82,7 +82,7 @@ left-spared : (a : Core) (call : Call) (way : Way) → ((w : ℕ) → seat_by wa
 left-spared a call way same spares = record {
   sessions = spares.sessions;
   keys = spares.keys;
-  own = λ w is mine. ((spares.seats w is).own ∙ ap own_of (sym (same w)), (spares.seats w is).numbers ∙ ap numbers_of (sym (same w)));
+  own = λ w is mine. ((spares.seats w is).own ∙ ap locks_of_seat (sym (same w)), (spares.seats w is).numbers ∙ ap numbers_of_seat (sym (same w)));
   others = λ w is other. ((spares.seats w is).own, (spares.seats w is).numbers);
   settled = λ w how is apart has. (spares.seats w is).settled how has;
 }
@@ -100,16 +100,16 @@ module _ (a : Core) (call : Call) (answer : Answer) (tied : IsTied a) where
         let same : who ≡ w = (let e = sym mine ∙ called in cc) in
         let seat = subst (λ v. seat_at v mid ≡ seat_after place change (seat_at v a)) same (seat-changed a who place change made.may) in
         let h = late.seats w (there w is) in
-        (h.own ∙ ap own_of seat, h.numbers ∙ ap numbers_of seat));
+        (h.own ∙ ap locks_of_seat seat, h.numbers ∙ ap numbers_of_seat seat));
     others = λ w is other. (
         let seat = seat-other a who place change made.may w is (λ e. other (mine ∙ ap Some (sym e))) in
         let h = late.seats w (there w is) in
-        (h.own ∙ ap own_of seat, h.numbers ∙ ap numbers_of seat));
+        (h.own ∙ ap locks_of_seat seat, h.numbers ∙ ap numbers_of_seat seat));
     settled = λ w how is apart has. (late.seats w (there w is)).settled how (stays w how is apart has);
   }
     where
       mid : Core
-      mid = changing who place change a
+      mid = after_change who place change a
 
       there : (w : ℕ) → has_session w a ≡ true → has_session w mid ≡ true
       there w is = sessions-changed a who place change made.may w ∙ is
@@ -168,9 +168,9 @@ record IsCalled (a b : Core) (call : Call) (answer : Answer) (who : ℕ) : Type 
   speaks : SpeaksFor a who
   after : has_session who b ≡ true
   so : IsSo a call answer b
-  own : own_at b who ≡ own_after call answer (own_at a who)
+  own : locks_at b who ≡ own_after call answer (locks_at a who)
   draws : Draws call answer (numbers_at a who) (numbers_at b who)
-  explained : IsExplained (Knows a who) call answer (own_at a who)
+  explained : IsExplained (Knows a who) call answer (locks_at a who)
   agrees : (how : Settled) → HasSettled (seat_at who a) how → IsToldOf how call answer
 
 called : (a b : Core) (call : Call) (answer : Answer) (who : ℕ) → caller call ≡ Some who → Joins a call answer b → IsCalled a b call answer who
@@ -202,12 +202,12 @@ core-keeps sound a b call answer w speaks joins =
 
 -- what a call and its answer do to the caller
 pub core-changes : (a b : Core) (call : Call) (answer : Answer) (who : ℕ) → caller call ≡ Some who → Joins a call answer b
-    → own_at b who ≡ own_after call answer (own_at a who)
+    → locks_at b who ≡ own_after call answer (locks_at a who)
 core-changes a b call answer who mine joins = (called a b call answer who mine joins).own
 
 -- nothing changes for the others
 pub core-others : (a b : Core) (call : Call) (answer : Answer) (w : ℕ) → SpeaksFor a w → (caller call ≡ Some w → ⊥) → Joins a call answer b
-    → own_at b w ≡ own_at a w
+    → locks_at b w ≡ locks_at a w
 core-others a b call answer w speaks other joins = ((joined a b call answer speaks.1.tied joins).left.others w speaks.0 other).0
 
 -- which numbers a call gives its caller
@@ -221,7 +221,7 @@ pub core-others_draw : (a b : Core) (call : Call) (answer : Answer) (w : ℕ) �
 core-others_draw a b call answer w speaks other joins = ((joined a b call answer speaks.1.tied joins).left.others w speaks.0 other).1
 
 -- the numbers of held tickets rise
-pub core-rising : (a : Core) (w : ℕ) → SpeaksFor a w → IsRising (own_at a w)
+pub core-rising : (a : Core) (w : ℕ) → SpeaksFor a w → IsRising (locks_at a w)
 core-rising a w speaks = (speaks.1.tied.numbered w speaks.0).rising
 
 -- ---- answers
@@ -242,7 +242,7 @@ core-fits a b call answer joins = (joined a b call answer joins.0.1.tied joins).
 
 -- a refusal has its cause, and where there is a cause the call is refused
 pub core-explains : (a b : Core) (call : Call) (answer : Answer) (who : ℕ) → caller call ≡ Some who → Joins a call answer b
-    → IsExplained (Knows a who) call answer (own_at a who)
+    → IsExplained (Knows a who) call answer (locks_at a who)
 core-explains a b call answer who mine joins = (called a b call answer who mine joins).explained
 
 -- no call is refused by a limit that isn't met
@@ -252,7 +252,7 @@ refuses-caused a b (Kill target number) refusal joins = let e = core-fits a b (K
 refuses-caused a b call refusal joins = (joined a b call (Refused refusal) joins.0.1.tied joins).so
 
 -- what is listed is what is held
-pub core-lists : (a b : Core) (who : ℕ) (tickets : List Held) → Joins a (List_held who) (Holds tickets) b → tickets ≡ (own_at a who).held
+pub core-lists : (a b : Core) (who : ℕ) (tickets : List Held) → Joins a (List_held who) (Holds tickets) b → tickets ≡ (locks_at a who).held
 core-lists a b who tickets joins = (called a b (List_held who) (Holds tickets) who refl joins).so
 
 -- a held ticket has another mode at once exactly where that can be
@@ -263,7 +263,7 @@ upgrades-grantable a b who id mode ticket its = (
 )
 
 -- an upgrade to a mode that the held one covers doesn't wait
-pub core-upgrades : (a b : Core) (who id : ℕ) (mode : Mode) (ticket : Held) → ticket_held id (own_at a who) ≡ Some ticket → covers ticket.mode mode ≡ true
+pub core-upgrades : (a b : Core) (who id : ℕ) (mode : Mode) (ticket : Held) → ticket_held id (locks_at a who) ≡ Some ticket → covers ticket.mode mode ≡ true
     → Joins a (Upgrade_now who id mode) Would_wait b → ⊥
 core-upgrades a b who id mode ticket its covered joins = false≢true (sym ((upgrades-grantable a b who id mode ticket its).1 joins).0 ∙ covered)
 
@@ -283,7 +283,7 @@ pub core-tells_tables : (a b : Core) (who : ℕ) (schema places : List ℕ) → 
 core-tells_tables a b who schema places joins =
     let so = (called a b (Tables_of who schema) (Tables places) who refl joins).so in
     subst (AreTablesOf (Knows b who) schema) (sym so.0)
-    (subst (λ c. AreTablesOf (Knows c who) schema (tables_in schema a)) (sym so.1) (are-tables a schema joins.0.1.tied who))
+    (subst (λ c. AreTablesOf (Knows c who) schema (table_places schema a)) (sym so.1) (are-tables a schema joins.0.1.tied who))
 
 -- a place keeps its key, for all who know it
 pub core-remembers : (a b : Core) (call : Call) (answer : Answer) (w place : ℕ) (key : KeyName) → SpeaksFor a w
@@ -293,9 +293,9 @@ core-remembers a b call answer w place key speaks stays joins = (joined a b call
 -- ---- waits
 
 -- only a wait is settled
-pub core-waits_settled : (a : Core) (w : ℕ) (how : Settled) → SpeaksFor a w → IsSettledAs a w how → is_waiting (own_at a w) ≡ true
+pub core-waits_settled : (a : Core) (w : ℕ) (how : Settled) → SpeaksFor a w → IsSettledAs a w how → is_waiting (locks_at a w) ≡ true
 core-waits_settled a w how speaks settled =
-    elim (seat_at w a).wait as (λ o. IsSettledWait how o → is_waiting (own_of (record (seat_at w a) { wait = o })) ≡ true) [
+    elim (seat_at w a).wait as (λ o. IsSettledWait how o → is_waiting (locks_of_seat (record (seat_at w a) { wait = o })) ≡ true) [
       | None ↦ λ none. absurd none
       | Some wait ↦ λ _. refl
     ] (settled-seat a w how speaks.0 settled)
@@ -347,7 +347,7 @@ core-victims a b who victim speaks joins =
     seat-settled b victim settled_as.Victim (h.left.sessions victim ∙ speaks.0) h.so
 
 -- the number of a wait is told truly
-pub core-counts : (a b : Core) (w : ℕ) (number : Option ℕ) → SpeaksFor a w → Joins a (Wait_of w) (Has_wait number) b → number ≡ wait_number (own_at a w)
+pub core-counts : (a b : Core) (w : ℕ) (number : Option ℕ) → SpeaksFor a w → Joins a (Wait_of w) (Has_wait number) b → number ≡ wait_number (locks_at a w)
 core-counts a b w number speaks joins =
     (joined a b (Wait_of w) (Has_wait number) speaks.1.tied joins).so
     ∙ ap (λ (o : Option Pending). option_map (λ (wait : Pending). wait.number) o) (wait-of_session a w speaks.0)
@@ -355,7 +355,7 @@ core-counts a b w number speaks joins =
 
 -- only the wait of the number that was named is killed
 pub core-kills : (a b : Core) (w number : ℕ) → SpeaksFor a w → Joins a (Kill w number) (Has_killed true) b
-    → (wait_number (own_at a w) ≡ Some number) × IsSettledAs b w settled_as.Killed
+    → (wait_number (locks_at a w) ≡ Some number) × IsSettledAs b w settled_as.Killed
 core-kills a b w number speaks joins =
     let h = joined a b (Kill w number) (Has_killed true) speaks.1.tied joins in
     (h.so.0, seat-settled b w settled_as.Killed (h.left.sessions w ∙ speaks.0) h.so.1)
@@ -377,7 +377,7 @@ shut-settled number (Some wait) e shut = at wait.settled refl
 
 -- a kill that kills nothing found no wait of the number that was named, or a settled one
 pub core-kills_or_settled : (a b : Core) (w number : ℕ) → SpeaksFor a w → Joins a (Kill w number) (Has_killed false) b
-    → wait_number (own_at a w) ≡ Some number → (how : Settled) × IsSettledAs b w how
+    → wait_number (locks_at a w) ≡ Some number → (how : Settled) × IsSettledAs b w how
 core-kills_or_settled a b w number speaks joins waits =
     let h = joined a b (Kill w number) (Has_killed false) speaks.1.tied joins in
     let wait : wait_at w a ≡ (seat_at w a).wait = wait-of_session a w speaks.0 in

@@ -20,9 +20,9 @@ use Rattle.mdl_calls.specs.declared.answers.Settled.TheVariants as settled_as
 use Rattle.mdl_core.specs.declared.pending.Pending.{Pending}
 use Rattle.mdl_core.specs.Changes.{Change, Gain, Lose, Queue, Admit, Settle, Leave, Take_up, Alter, Fold, Redefine, seat_after, Allows, May}
 use Rattle.mdl_core.specs.Cores.{Core, book_at, seat_at}
-use Rattle.mdl_core.specs.CoreSystems.{waiter_of, unended_at, unended_of}
-use Rattle.mdl_core.specs.Seats.{SeatView, without_ticket, held_in, with_ticket_in, ticket_of_wait}
-use Rattle.mdl_core.specs.Ties.{Has, Awaits, in_book_of, IsNumbered, IsTied}
+use Rattle.mdl_core.specs.CoreSystems.{system_waiter, unended_at, unended_of}
+use Rattle.mdl_core.specs.Seats.{SeatView, without_ticket, held_in_mode, with_ticket_in, ticket_of_wait}
+use Rattle.mdl_core.specs.Ties.{HasGrantedTicket, Awaits, in_book_of, HasRisingNumbers, IsTied}
 use Rattle.mdl_core.proofs.CoreUnended.{not_granted}
 use Rattle.mdl_core.proofs.Effects.{Effect, Stays, Comes, Goes, Turns, Unites, Becomes, InOrder, Each, same, through, either, order-members, order-pairs, Joins, after-all, after-beside}
 use Rattle.mdl_core.proofs.PairLemmas.{below, pairs-others, split-at, filter-all, map-same, pairs-from_rising, rising-from_pairs}
@@ -46,8 +46,8 @@ abbrev pub has_effect : ℕ → Change → SeatView → Effect Held
 has_effect place (Gain mode) seat = Comes (new_held place mode seat)
 has_effect place (Lose ticket) seat = Goes ticket
 has_effect place (Admit ticket) seat = Comes (held_at place ticket)
-has_effect place (Alter ticket mode) seat = Turns ticket (held_in mode ticket)
-has_effect place (Fold old new) seat = Unites new old (held_in new.mode old)
+has_effect place (Alter ticket mode) seat = Turns ticket (held_in_mode mode ticket)
+has_effect place (Fold old new) seat = Unites new old (held_in_mode new.mode old)
 has_effect place _ seat = Stays
 
 -- and on the one that waits
@@ -60,7 +60,7 @@ wait_effect place _ seat = Stays
 
 -- and on its granted wait that isn't ended
 abbrev pub unended_effect : ℕ → ℕ → Change → SeatView → Effect GrantedWait
-unended_effect who place (Admit ticket) seat = Comes (granted_wait (waiter_of (in_book_of who (held_at place ticket)) seat.wait))
+unended_effect who place (Admit ticket) seat = Comes (granted_wait (system_waiter (in_book_of who (held_at place ticket)) seat.wait))
 unended_effect who place (Take_up wait) seat = Goes (record { session = who; wait = wait.number; ticket = wait.id })
 unended_effect who place _ seat = Stays
 
@@ -86,17 +86,17 @@ pub record Makes {N : Type 0} (name : Ticket → N) (who place : ℕ) (fits : He
 
 -- it is the session's, or in a mode of the lock's kind
 abbrev pub Fitting : Kind → SeatView → Held → Type 0
-Fitting kind seat ticket = (Has seat ticket ⊎ Awaits seat ticket) ⊎ IsTrue (is_mode_of kind ticket.mode)
+Fitting kind seat ticket = (HasGrantedTicket seat ticket ⊎ Awaits seat ticket) ⊎ IsTrue (is_mode_of kind ticket.mode)
 
 -- what a change makes of a seat
 pub record SeatMade (who place : ℕ) (kind : Kind) (change : Change) (seat : SeatView) : Type 0 where
-  pub has : Makes ticket_id who place (Fitting kind seat) (has_effect place change seat) (Has seat) (Has (seat_after place change seat))
+  pub has : Makes ticket_id who place (Fitting kind seat) (has_effect place change seat) (HasGrantedTicket seat) (HasGrantedTicket (seat_after place change seat))
   pub waits : Makes (λ (ticket : Ticket). ticket.session) who place (Fitting kind seat) (wait_effect place change seat) (Awaits seat) (Awaits (seat_after place change seat))
   pub unended : Becomes (unended_effect who place change seat) (Unended who seat) (Unended who (seat_after place change seat))
   pub own : Each (λ (wait : GrantedWait). wait.session ≡ who) (unended_effect who place change seat)
   -- where another ticket waits, the wait stays as it is
   pub keeps : (ticket : Held) → Awaits seat ticket → Each (λ other. ticket ≢ other) (wait_effect place change seat) → (seat_after place change seat).wait ≡ seat.wait
-  pub numbered : IsNumbered (seat_after place change seat)
+  pub numbered : HasRisingNumbers (seat_after place change seat)
 
 stays : {N : Type 0} {name : Ticket → N} {who place : ℕ} {fits had has : Held → Type 0} → Becomes Stays had has → Makes name who place fits Stays had has
 stays becomes = record { becomes = becomes; at = tt; may = tt }
@@ -136,7 +136,7 @@ module _ (effect : Effect Held) (old now : List Held) (order : InOrder effect ol
 
   held-numbered : (wait : Option Pending) (n m : ℕ) → Joins below effect old → ((ticket : Held) → Contains old ticket → ticket.id ≤ n) → Each (λ (h : Held). h.id ≤ n) effect
       → MatchOption wait (Unit {0}) (λ w. WaitNumbered old n m w × Each (λ (h : Held). h.id < w.id) effect)
-      → IsNumbered (record { held = now; wait = wait; last_ticket = n; last_wait = m })
+      → HasRisingNumbers (record { held = now; wait = wait; last_ticket = n; last_wait = m })
   held-numbered wait n m joins most each waits = record {
     rising = rising-from_pairs now (order-pairs below effect old now joins (pairs-from_rising old rising) order);
     held = λ ticket among. after-all (λ h. h.id ≤ n) effect ticket (Contains old ticket) (most ticket) each ((members ticket).0 among);
@@ -184,17 +184,17 @@ left-out x held apart among =
 
 -- and the ticket of a number gets another mode
 in-turn : (x : Held) (mode : Mode) (held : List Held) → AreApart (λ (h : Held). h.id) held → Contains held x
-    → TakesTurn x (held_in mode x) held (map (λ ticket. if is_number x.id ticket then held_in mode ticket else ticket) held)
+    → TakesTurn x (held_in_mode mode x) held (map (λ ticket. if is_number x.id ticket then held_in_mode mode ticket else ticket) held)
 in-turn x mode held apart among =
     let round = round-number x held apart among in
-    let change : Held → Held = λ ticket. if is_number x.id ticket then held_in mode ticket else ticket in
-    let other : (t : Held) → Contains (round.0 ++ round.1) t → change t ≡ t = λ t there i. if round.4 t there i then held_in mode t else t in (
+    let change : Held → Held = λ ticket. if is_number x.id ticket then held_in_mode mode ticket else ticket in
+    let other : (t : Held) → Contains (round.0 ++ round.1) t → change t ≡ t = λ t there i. if round.4 t there i then held_in_mode mode t else t in (
       round.0,
       round.1,
       round.2,
       ap (map change) round.2 ∙ map-append change round.0 (x ∷ round.1)
           ∙ (λ i. map-same change round.0 (λ t there. other t (Contains-append_left round.0 round.1 t there)) i
-          ++ (if round.3 i then held_in mode x else x) ∷ map-same change round.1 (λ t there. other t (Contains-append_right round.0 round.1 t there)) i),
+          ++ (if round.3 i then held_in_mode mode x else x) ∷ map-same change round.1 (λ t there. other t (Contains-append_right round.0 round.1 t there)) i),
     )
 
 -- ---- by cases
@@ -208,7 +208,7 @@ no-granted settled e f = cc
 
 module _ (who place : ℕ) (kind : Kind) (seat : SeatView) where
   abbrev Made : Change → Option Pending → Type 0
-  Made change wait = IsNumbered (with_wait seat wait) → SeatMade who place kind change (with_wait seat wait)
+  Made change wait = HasRisingNumbers (with_wait seat wait) → SeatMade who place kind change (with_wait seat wait)
 
   gain : (mode : Mode) → IsTrue (is_mode_of kind mode) → Made (Gain mode) None
   gain mode fits numbered =
@@ -279,14 +279,14 @@ module _ (who place : ℕ) (kind : Kind) (seat : SeatView) where
   -- and with another mode it has still
   under_both : (x : Held) (mode : Mode) → Contains seat.held x → (wait : Option Pending)
       → MatchOption wait (Unit {0}) (WaitNumbered seat.held seat.last_ticket seat.last_wait)
-      → MatchOption wait (Unit {0}) (λ w. WaitNumbered seat.held seat.last_ticket seat.last_wait w × Each (λ (h : Held). h.id < w.id) (Turns x (held_in mode x)))
+      → MatchOption wait (Unit {0}) (λ w. WaitNumbered seat.held seat.last_ticket seat.last_wait w × Each (λ (h : Held). h.id < w.id) (Turns x (held_in_mode mode x)))
   under_both x mode held None q = tt
   under_both x mode held (Some w) q = (q, (q.2 x held, q.2 x held))
 
   alter : (x : Held) (mode : Mode) (wait : Option Pending) → Contains seat.held x → x.place ≡ place → IsTrue (is_mode_of kind mode) → Made (Alter x mode) wait
   alter x mode wait held at fits numbered =
       let order = in-turn x mode seat.held (by-id seat.held numbered.rising) held in
-      let effect = Turns x (held_in mode x) in
+      let effect = Turns x (held_in_mode mode x) in
       let now = (with_ticket_in x.id mode seat).held in
       let other : (ticket : Held) → Won wait ticket → ticket.id ≢ x.id = λ ticket won.
       won-other seat.held wait seat.last_ticket seat.last_wait numbered.wait x held ticket won in
@@ -313,7 +313,7 @@ module _ (who place : ℕ) (kind : Kind) (seat : SeatView) where
       let stays_held = (order-members (λ (h : Held). h.id) (Goes new) seat.held mid.held (by-id seat.held numbered.rising) left old).1
       (held, λ e. two (ap (λ (h : Held). h.id) e)) in
       let rising = (lose new None going there numbered).numbered.rising in
-      let effect = Unites new old (held_in new.mode old) in
+      let effect = Unites new old (held_in_mode new.mode old) in
       let now = (with_ticket_in old.id new.mode mid).held in
       let order : InOrder effect seat.held now = (mid.held, left, in-turn old new.mode mid.held (by-id mid.held rising) stays_held) in
       record {

@@ -7,9 +7,9 @@ use Rattle.mdl_book.specs.declared.book_view.BookView.{BookView}
 use Rattle.mdl_book.specs.declared.ticket.Ticket.{Ticket}
 use Rattle.mdl_calls.specs.declared.answers.Held.{Held}
 use Rattle.mdl_core.specs.declared.pending.Pending.{Pending}
-use Rattle.mdl_core.specs.Changes.{Change, seat_after, book_after, changing, May}
+use Rattle.mdl_core.specs.Changes.{Change, seat_after, book_after, after_change, May}
 use Rattle.mdl_core.specs.Cores.{Core, book_at, seat_at, key_at, has_key, has_session, seating}
-use Rattle.mdl_core.specs.CoreSystems.{book_of, waiter_of, waiter_in, defined_in, system_of}
+use Rattle.mdl_core.specs.CoreSystems.{book_of, system_waiter, waiter_in, defined_in, system_of}
 use Rattle.mdl_core.specs.Seats.{SeatView}
 use Rattle.mdl_core.specs.Ties.{Awaits, in_book_of, IsTied}
 use Rattle.mdl_core.proofs.ChangeSeats.{has_effect, wait_effect, unended_effect, Unended}
@@ -29,7 +29,7 @@ use Rattle.mdl_core.proofs.TiedWrites.{held_at, waiting-own, written, had_key, a
 
 -- a ticket of a session with this wait, as a waiter
 abbrev pub waits_as : ℕ → Option Pending → Held → Waiter
-waits_as who wait ticket = waiter_of (in_book_of who ticket) wait
+waits_as who wait ticket = system_waiter (in_book_of who ticket) wait
 
 module _ (core : Core) (who place : ℕ) (seat : SeatView) (book : BookView) (tied : IsTied core) (session : has_session who core ≡ true) (key : has_key place core ≡ true)
     (same_key : book.key ≡ key_at place core) (after : IsTied (written core who place book seat session key)) where
@@ -110,7 +110,7 @@ module _ (core : Core) (who place : ℕ) (seat : SeatView) (book : BookView) (ti
     -- a ticket waits as before, but for the one that comes, goes or is settled
     waiter-kept : (p : ℕ) (ticket : Ticket) → has_key p core ≡ true → Contains (book_at p core).waiting ticket
         → (ticket.session ≡ who → Each (λ other. held_at p ticket ≢ other) effect) → waiter_in now ticket ≡ waiter_in core ticket
-    waiter-kept p ticket has among apart = ap (waiter_of ticket)
+    waiter-kept p ticket has among apart = ap (system_waiter ticket)
         (at_session core who place book seat session key (λ w (s : SeatView). w ≡ ticket.session → s.wait ≡ (seat_at w core).wait)
         (λ own. keeps (held_at p ticket) (waiting-own core who p tied session has ticket (sym own) among) (apart (sym own))) (λ _ _ _ _. refl)
         ticket.session (tied.waiting_by p has ticket among).0 refl)
@@ -152,7 +152,7 @@ pub record SystemMade (core : Core) (who place : ℕ) (change : Change) (seat : 
 
 -- a change that may be made does that to the system
 pub system-made : (core : Core) (who place : ℕ) (change : Change) → IsTied core → May who place change core
-    → SystemMade core who place change (seat_at who core) (changing who place change core)
+    → SystemMade core who place change (seat_at who core) (after_change who place change core)
 system-made core who place change tied may =
     let old = seat_at who core in
     let seat = seat_after place change old in

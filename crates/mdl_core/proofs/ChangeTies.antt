@@ -14,10 +14,10 @@ use Rattle.mdl_book.specs.Tickets.{is_ticket, ticket_id, ticket_of, without, in_
 use Rattle.mdl_defs.specs.Standings.{MayStand}
 use Rattle.mdl_defs.proofs.StandingLemmas.{changes-keep_standing}
 use Rattle.mdl_calls.specs.declared.answers.Held.{Held}
-use Rattle.mdl_core.specs.Changes.{Change, Gain, Lose, Queue, Admit, Settle, Leave, Take_up, Alter, Fold, Redefine, seat_after, book_after, changing, Allows, May}
+use Rattle.mdl_core.specs.Changes.{Change, Gain, Lose, Queue, Admit, Settle, Leave, Take_up, Alter, Fold, Redefine, seat_after, book_after, after_change, Allows, May}
 use Rattle.mdl_core.specs.Cores.{Core, book_at, seat_at, key_at, standing_at, booking, seating}
-use Rattle.mdl_core.specs.Seats.{SeatView, held_in, ticket_of_wait}
-use Rattle.mdl_core.specs.Ties.{Has, Awaits, in_book_of, IsTied, AllMayStand}
+use Rattle.mdl_core.specs.Seats.{SeatView, held_in_mode, ticket_of_wait}
+use Rattle.mdl_core.specs.Ties.{HasGrantedTicket, Awaits, in_book_of, IsTied, AllMayStand}
 use Rattle.mdl_core.proofs.ChangeSeats.{wait_turned, has_effect, wait_effect, MayBe, Makes, Fitting, SeatMade, merged_numbers, seat-made}
 use Rattle.mdl_core.proofs.Effects.{Effect, Stays, Comes, Goes, Turns, Unites, Becomes, InOrder, Each, mapped, through, back, each-also, each-mapped, after-other, after-mapped, Joins, order-members, order-pairs}
 use Rattle.mdl_core.proofs.PairLemmas.{split-at}
@@ -130,7 +130,7 @@ by-session one other e = e.0
 
 -- what a change makes of the book
 pub record BookMade (core : Core) (who place : ℕ) (change : Change) (seat : SeatView) (old new : BookView) : Type 0 where
-  pub written : changing who place change core ≡ booking place new (seating who (seat_after place change seat) core)
+  pub written : after_change who place change core ≡ booking place new (seating who (seat_after place change seat) core)
   pub key : new.key ≡ old.key
   pub granted : InOrder (mapped (in_book_of who) (has_effect place change seat)) old.granted new.granted
   pub waiting : InOrder (mapped (in_book_of who) (wait_effect place change seat)) old.waiting new.waiting
@@ -151,12 +151,12 @@ module _ (core : Core) (who place : ℕ) (tied : IsTied core) where
   book-made change may seats = made change may.allows seats
     where
       -- a ticket that the session has, or waits for
-      gives_up : (ticket : Held) → ticket.place ≡ place → Has seat ticket → LeavesOrder (in_book_of who ticket) book.granted (without who ticket.id book.granted)
+      gives_up : (ticket : Held) → ticket.place ≡ place → HasGrantedTicket seat ticket → LeavesOrder (in_book_of who ticket) book.granted (without who ticket.id book.granted)
       gives_up ticket at has = leaves ticket_id by-number book.granted (tied.granted_once place may.key) (in_book_of who ticket)
           ((granted-here core who place tied may.session may.key ticket at).1 has)
 
-      turns_there : (ticket : Held) (mode : Mode) → ticket.place ≡ place → Has seat ticket
-          → TakesTurn (in_book_of who ticket) (in_book_of who (held_in mode ticket)) book.granted (with_mode who ticket.id mode book.granted)
+      turns_there : (ticket : Held) (mode : Mode) → ticket.place ≡ place → HasGrantedTicket seat ticket
+          → TakesTurn (in_book_of who ticket) (in_book_of who (held_in_mode mode ticket)) book.granted (with_mode who ticket.id mode book.granted)
       turns_there ticket mode at has = turns ticket_id by-number book.granted (tied.granted_once place may.key) (in_book_of who ticket)
           ((granted-here core who place tied may.session may.key ticket at).1 has) mode
 
@@ -208,7 +208,7 @@ module _ (core : Core) (who place : ℕ) (tied : IsTied core) where
 pub record Made (core : Core) (who place : ℕ) (change : Change) (seat : SeatView) (old new : BookView) : Type 0 where
   pub seats : SeatMade who place (lock_kind old) change seat
   pub books : BookMade core who place change seat old new
-  pub granted : ListMade ticket_id who place (Fitting (lock_kind old) seat) (has_effect place change seat) old.granted new.granted (Has seat) (Has (seat_after place change seat))
+  pub granted : ListMade ticket_id who place (Fitting (lock_kind old) seat) (has_effect place change seat) old.granted new.granted (HasGrantedTicket seat) (HasGrantedTicket (seat_after place change seat))
   pub waiting : ListMade session_of who place (Fitting (lock_kind old) seat) (wait_effect place change seat) old.waiting new.waiting (Awaits seat) (Awaits (seat_after place change seat))
 
 -- a change that may be made does all that
@@ -227,7 +227,7 @@ made core who place change tied may =
     }
 
 -- what is tied stays so
-pub tied-changing : (core : Core) (who place : ℕ) (change : Change) → IsTied core → May who place change core → IsTied (changing who place change core)
+pub tied-changing : (core : Core) (who place : ℕ) (change : Change) → IsTied core → May who place change core → IsTied (after_change who place change core)
 tied-changing core who place change tied may =
     let is = made core who place change tied may in
     let seat = seat_at who core in
@@ -246,7 +246,7 @@ tied-changing core who place change tied may =
     }))
 
 -- and what stands under a key may stand there
-pub stands-changing : (core : Core) (who place : ℕ) (change : Change) → IsTied core → May who place change core → AllMayStand core → AllMayStand (changing who place change core)
+pub stands-changing : (core : Core) (who place : ℕ) (change : Change) → IsTied core → May who place change core → AllMayStand core → AllMayStand (after_change who place change core)
 stands-changing core who place change tied may stand =
     let is = made core who place change tied may in
     let seat = seat_after place change (seat_at who core) in

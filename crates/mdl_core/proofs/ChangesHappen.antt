@@ -12,11 +12,11 @@ use Rattle.mdl_defs.specs.declared.change.Change.{Change as Redefinition}
 use Rattle.mdl_defs.specs.declared.definition.Definition.{Definition}
 use Rattle.mdl_defs.proofs.StandingLemmas.{applied-changed}
 use Rattle.mdl_core.specs.declared.pending.Pending.{Pending}
-use Rattle.mdl_core.specs.ChangeEvents.{holding_of, waiting_ticket, IsChangeEvent}
-use Rattle.mdl_core.specs.Changes.{Change, Gain, Lose, Queue, Admit, Settle, Leave, Take_up, Alter, Fold, Redefine, book_after, changing, Allows, May}
-use Rattle.mdl_core.specs.CoreSystems.{state_of, waiter_of, waiter_in, unended_at, unended_of, defined_in, applies, system_of}
+use Rattle.mdl_core.specs.ChangeEvents.{holding_of, ticket_of_wait, IsChangeEvent}
+use Rattle.mdl_core.specs.Changes.{Change, Gain, Lose, Queue, Admit, Settle, Leave, Take_up, Alter, Fold, Redefine, book_after, after_change, Allows, May}
+use Rattle.mdl_core.specs.CoreSystems.{wait_state_of, system_waiter, waiter_in, unended_at, unended_of, defined_in, applies, system_of}
 use Rattle.mdl_core.specs.Cores.{Core, book_at, seat_at, key_at, standing_at, has_session}
-use Rattle.mdl_core.specs.Seats.{SeatView, held_in}
+use Rattle.mdl_core.specs.Seats.{SeatView, held_in_mode}
 use Rattle.mdl_core.specs.Ties.{in_book_of, IsTied}
 use Rattle.mdl_core.proofs.ChangeSeats.{wait_turned, merged_numbers, merged_mode}
 use Rattle.mdl_core.proofs.ChangeSystems.{waits_as, SystemMade, system-made, same-at}
@@ -42,7 +42,7 @@ same_system a = record {
 }
 
 -- a lost wait isn't open
-not_unsettled : (settled : Option Settled) → settled ≢ None → settled ≢ Some settled_as.Granted → state_of settled ≢ Unsettled
+not_unsettled : (settled : Option Settled) → settled ≢ None → settled ≢ Some settled_as.Granted → wait_state_of settled ≢ Unsettled
 not_unsettled None none granted = absurd (none refl)
 not_unsettled (Some settled_as.Granted) none granted = absurd (granted refl)
 not_unsettled (Some settled_as.Victim) none granted = λ e. cc
@@ -62,13 +62,13 @@ module _ (core : Core) (who place : ℕ) (tied : IsTied core) (session : has_ses
   a = system_of core
 
   abbrev after : Change → System Definition
-  after change = system_of (changing who place change core)
+  after change = system_of (after_change who place change core)
 
   abbrev Leads : Change → Event Redefinition → Type 0
   Leads change event = Happens applies event a (after change)
 
   abbrev Made : Change → Type 0
-  Made change = SystemMade core who place change seat (changing who place change core)
+  Made change = SystemMade core who place change seat (after_change who place change core)
 
   -- where the book's standing is as it was, all is defined as before
   defined : (change : Change) → Made change → defined_in (book_after who seat change (book_at place core)) ≡ defined_in (book_at place core)
@@ -84,7 +84,7 @@ module _ (core : Core) (who place : ℕ) (tied : IsTied core) (session : has_ses
 
   -- a ticket is in another mode among those that are granted
   altered : (ticket : Held) (mode : Mode) → ticket.place ≡ place → Made (Alter ticket mode)
-      → Replaces (holding_of who ticket core) (holding_of who (held_in mode ticket) core) a.granted (after (Alter ticket mode)).granted
+      → Replaces (holding_of who ticket core) (holding_of who (held_in_mode mode ticket) core) a.granted (after (Alter ticket mode)).granted
   altered ticket mode at made =
       subst (λ p. Replaces (record { session = who; number = ticket.id; key = key_at p core; mode = ticket.mode })
       (record { session = who; number = ticket.id; key = key_at p core; mode = mode }) a.granted (after (Alter ticket mode)).granted) (sym at) made.granted
@@ -92,13 +92,13 @@ module _ (core : Core) (who place : ℕ) (tied : IsTied core) (session : has_ses
   -- of two tickets the one is there in the mode of the other, which is gone
   folded : (old new : Held) → old.place ≡ place → new.place ≡ place → Made (Fold old new) → (x : Holding)
       → Contains (after (Fold old new)).granted x
-      ↔ ((Contains a.granted x × (x ≢ holding_of who old core) × (x ≢ holding_of who new core)) ⊎ (x ≡ holding_of who (held_in new.mode old) core))
+      ↔ ((Contains a.granted x × (x ≢ holding_of who old core) × (x ≢ holding_of who new core)) ⊎ (x ≡ holding_of who (held_in_mode new.mode old) core))
   folded old new at there made x =
       let here : ℕ → Held → Holding = λ p ticket. record { session = who; number = ticket.id; key = key_at p core; mode = ticket.mode } in
       subst (λ p. Contains (after (Fold old new)).granted x
-      ↔ ((Contains a.granted x × (x ≢ here p old) × (x ≢ holding_of who new core)) ⊎ (x ≡ here p (held_in new.mode old)))) (sym at)
+      ↔ ((Contains a.granted x × (x ≢ here p old) × (x ≢ holding_of who new core)) ⊎ (x ≡ here p (held_in_mode new.mode old)))) (sym at)
       (subst (λ p. Contains (after (Fold old new)).granted x
-      ↔ ((Contains a.granted x × (x ≢ here place old) × (x ≢ here p new)) ⊎ (x ≡ here place (held_in new.mode old)))) (sym there)
+      ↔ ((Contains a.granted x × (x ≢ here place old) × (x ≢ here p new)) ⊎ (x ≡ here place (held_in_mode new.mode old)))) (sym there)
       (through (made.granted x) (either (λ h. (h.0.0, h.1, h.0.1)) (λ e. e), either (λ h. ((h.0, h.2), h.1)) (λ e. e))))
 
   -- a held ticket is in a mode of its lock's kind
@@ -144,23 +144,23 @@ module _ (core : Core) (who place : ℕ) (tied : IsTied core) (session : has_ses
   happens (Admit ticket) event allows made is =
       let wait = allows.2 in
       let own : Ticket = in_book_of who (held_at place ticket) in
-      let waiter : Waiter = waiter_of own (Some wait.0) in
+      let waiter : Waiter = system_waiter own (Some wait.0) in
       let same : waiter_in core ticket ≡ waiter =
-      (λ i. waiter_of (record { session = allows.1 i; number = ticket.number; mode = ticket.mode }) (seat_at (allows.1 i) core).wait) ∙ ap (waiter_of own) wait.1 in
+      (λ i. system_waiter (record { session = allows.1 i; number = ticket.number; mode = ticket.mode }) (seat_at (allows.1 i) core).wait) ∙ ap (system_waiter own) wait.1 in
       subst (Leads (Admit ticket)) (sym (is.0 ∙ ap (GrantWaiter key) same)) (record {
-        unsettled = ap state_of wait.2;
+        unsettled = ap wait_state_of wait.2;
         grantable = is.1;
-        leaves = subst (λ o. LeavesOrder (waiter_of own o) (a.waiting key) ((after (Admit ticket)).waiting key)) wait.1 made.waiting;
+        leaves = subst (λ o. LeavesOrder (system_waiter own o) (a.waiting key) ((after (Admit ticket)).waiting key)) wait.1 made.waiting;
         elsewhere = made.elsewhere;
         granted = made.granted;
-        unended = subst (λ o. Gains (granted_wait (waiter_of own o)) a.unended (after (Admit ticket)).unended) wait.1 made.unended;
+        unended = subst (λ o. Gains (granted_wait (system_waiter own o)) a.unended (after (Admit ticket)).unended) wait.1 made.unended;
         definitions = defined (Admit ticket) made refl;
       })
   happens (Settle how) event allows made is =
       let wait : Pending = is.0 in
       let open_still : wait.settled ≡ None = let w = allows.0 in let e = w.1 in let f = w.2 in let g = is.1 in let same : w.0 ≡ wait = cc in ap (λ (p : Pending). p.settled) (sym same) ∙ f in
       subst (Leads (Settle how)) (sym is.2) (record {
-        unsettled = ap state_of open_still;
+        unsettled = ap wait_state_of open_still;
         lost = not_unsettled (Some how) (λ e. cc) (λ e. allows.1 (cc));
         settled = subst (λ o. InOrder (turned (waits_as who o) (waits_as who (option_map (λ (w : Pending). record w { settled = Some how }) o)) (wait_turned o))
             (a.waiting key) ((after (Settle how)).waiting key)) is.1 made.waiting;
@@ -171,7 +171,7 @@ module _ (core : Core) (who place : ℕ) (tied : IsTied core) (session : has_ses
       })
   happens (Leave wait) event allows made is = subst (Leads (Leave wait)) (sym is.0) (record {
     settled = not_unsettled wait.settled is.1 allows.1;
-    leaves = subst (λ o. LeavesOrder (waiter_of (waiting_ticket who wait) o) (a.waiting key) ((after (Leave wait)).waiting key)) allows.0 made.waiting;
+    leaves = subst (λ o. LeavesOrder (system_waiter (ticket_of_wait who wait) o) (a.waiting key) ((after (Leave wait)).waiting key)) allows.0 made.waiting;
     elsewhere = made.elsewhere;
     granted = made.granted;
     unended = made.unended;
@@ -228,6 +228,6 @@ module _ (core : Core) (who place : ℕ) (tied : IsTied core) (session : has_ses
 
 -- a change that may be made happens in the system as its event
 pub change-happens : (core : Core) (who place : ℕ) (change : Change) (event : Event Redefinition)
-    → IsTied core → May who place change core → IsChangeEvent who place change core event → Happens applies event (system_of core) (system_of (changing who place change core))
+    → IsTied core → May who place change core → IsChangeEvent who place change core event → Happens applies event (system_of core) (system_of (after_change who place change core))
 change-happens core who place change event tied may is =
     happens core who place tied may.session change event may.allows (system-made core who place change tied may) is

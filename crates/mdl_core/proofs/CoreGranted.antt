@@ -11,11 +11,11 @@ use Rattle.mdl_calls.specs.declared.answers.Held.{Held}
 use Rattle.mdl_calls.specs.declared.answers.Settled.TheVariants as settled_as
 use Rattle.mdl_core.specs.declared.pending.Pending.{Pending}
 use Rattle.mdl_system.specs.Words.{in_book, of_lock, IsGrantedByLists, IsNewNumber, Holding, Waiter, Held as Holds, lock_kind, IsGrantable}
-use Rattle.mdl_core.specs.Cores.{Core, book_at, seat_at, key_at, has_key, has_session, index_of, is_free}
+use Rattle.mdl_core.specs.Cores.{Core, book_at, seat_at, key_at, has_key, has_session, index_of, is_free_for}
 use Rattle.mdl_core.specs.ChangeEvents.{holding_of}
 use Rattle.mdl_core.specs.CoreSystems.{granted_in, book_found, book_of, waiter_in, system_of}
 use Rattle.mdl_core.specs.Seats.{SeatView, ticket_of_wait}
-use Rattle.mdl_core.specs.Ties.{IsTied, IsNumbered, Has, in_book_of}
+use Rattle.mdl_core.specs.Ties.{IsTied, HasRisingNumbers, HasGrantedTicket, in_book_of}
 use Rattle.mdl_system.proofs.BookLemmas.{grantable-by_lists}
 use Rattle.mdl_core.proofs.CoreReads.{within, of_within, found}
 use Rattle.mdl_core.proofs.CoreUnended.{not_unended}
@@ -78,13 +78,13 @@ waiting-tickets core [] = refl
 waiting-tickets core (ticket ∷ tickets) = λ i. ticket_of-waiter ticket (seat_at ticket.session core).wait i ∷ waiting-tickets core tickets i
 
 pub free-grantable : (core : Core) (who place : ℕ) (mode : Mode) → IsTied core → has_key place core ≡ true
-    → (is_free who place mode core ≡ true) ↔ IsGrantable (system_of core) who (key_at place core) mode
+    → (is_free_for who place mode core ≡ true) ↔ IsGrantable (system_of core) who (key_at place core) mode
 free-grantable core who place mode tied has =
     let by = grantable-by_lists (system_of core) (λ key. (book_of key core).granted) (by_lists core tied) who (key_at place core) mode in
     let here = book_of-at core place tied has in
     let same : book.is_grantable (lock_kind (key_at place core)) (book_of (key_at place core) core).granted
     (map (λ (waiter : Waiter). waiter.ticket) (map (waiter_in core) (book_of (key_at place core) core).waiting)) who mode
-    ≡ is_free who place mode core =
+    ≡ is_free_for who place mode core =
     ap (λ ts. book.is_grantable (lock_kind (key_at place core)) (book_of (key_at place core) core).granted ts who mode) (waiting-tickets core (book_of (key_at place core) core).waiting)
     ∙ ap (λ (b : BookView). book.is_grantable (lock_kind (key_at place core)) b.granted b.waiting who mode) here in
     ((λ free. by.1 (same ∙ free)), λ grantable. sym same ∙ by.0 grantable)
@@ -104,7 +104,7 @@ held-in core who ticket tied has among =
     (granted-of_held core who ticket tied has among, refl, λ wait stands same. not_unended core who ticket tied has among wait stands same)
 
 -- what a session has is numbered up to its last ticket
-has-numbered : (seat : SeatView) (ticket : Held) → IsNumbered seat → Has seat ticket → ticket.id ≤ seat.last_ticket
+has-numbered : (seat : SeatView) (ticket : Held) → HasRisingNumbers seat → HasGrantedTicket seat ticket → ticket.id ≤ seat.last_ticket
 has-numbered seat ticket numbered (inl held) = numbered.held ticket held
 has-numbered seat ticket numbered (inr wait) = waited seat.wait numbered.wait wait
   where

@@ -12,8 +12,8 @@ use Rattle.mdl_core.specs.ChangeEvents.{holding_of}
 use Rattle.mdl_core.specs.Cores.{Core, book_at, seat_at, key_at, has_session}
 use Rattle.mdl_core.specs.CoreSystems.{waiter_in, system_of}
 use Rattle.mdl_core.specs.Seats.{SeatView, ticket_of_wait}
-use Rattle.mdl_core.specs.SessionLaws.{HasWon, WaitsAt, HasWhatTheSystemSays, HasNothing}
-use Rattle.mdl_core.specs.Ties.{Has, IsNumbered, IsSound}
+use Rattle.mdl_core.specs.SessionLaws.{HasWon, WaitsAt, HasWhatTheSystemSays, HasNothingInSystem}
+use Rattle.mdl_core.specs.Ties.{HasGrantedTicket, HasRisingNumbers, IsSoundCore}
 use Rattle.mdl_core.proofs.CoreGranted.{granted-place, granted-from_place}
 use Rattle.mdl_core.proofs.CoreUnended.{unended-members}
 use Rattle.mdl_core.proofs.CoreWaiting.{place_told, book-there, book-nowhere}
@@ -28,7 +28,7 @@ use Rattle.mdl_system.specs.Words.{in_book, IsWellNumbered, Holding, Waiter, Gra
 abbrev Won : SeatView → Held → Type 0
 Won seat ticket = (wait : Pending) × (seat.wait ≡ Some wait) × (wait.settled ≡ Some settled_as.Granted) × (ticket ≡ ticket_of_wait wait)
 
-has-cases : (seat : SeatView) (ticket : Held) → Has seat ticket → Contains seat.held ticket ⊎ Won seat ticket
+has-cases : (seat : SeatView) (ticket : Held) → HasGrantedTicket seat ticket → Contains seat.held ticket ⊎ Won seat ticket
 has-cases seat ticket (inl held) = inl held
 has-cases seat ticket (inr its) = inr (go seat.wait refl its)
   where
@@ -41,13 +41,13 @@ one_of : (seat : SeatView) (wait other : Pending) → seat.wait ≡ Some wait �
 one_of seat wait other e f = let same : Some wait ≡ Some other = sym e ∙ f in cc
 
 -- each held ticket has a smaller number than that of the wait
-held-below : (seat : SeatView) (wait : Pending) → IsNumbered seat → seat.wait ≡ Some wait → (ticket : Held) → Contains seat.held ticket → ticket.id < wait.id
+held-below : (seat : SeatView) (wait : Pending) → HasRisingNumbers seat → seat.wait ≡ Some wait → (ticket : Held) → Contains seat.held ticket → ticket.id < wait.id
 held-below seat wait numbered is =
     (subst (λ o. MatchOption o (Unit {0}) (λ (w : Pending).
     (w.id ≡ seat.last_ticket) × (w.number ≤ seat.last_wait) × ((ticket : Held) → Contains seat.held ticket → ticket.id < w.id))) is numbered.wait).2
 
 -- two tickets of one number are one
-has-one : (seat : SeatView) (t u : Held) → IsNumbered seat → Has seat t → Has seat u → t.id ≡ u.id → t ≡ u
+has-one : (seat : SeatView) (t u : Held) → HasRisingNumbers seat → HasGrantedTicket seat t → HasGrantedTicket seat u → t.id ≡ u.id → t ≡ u
 has-one seat t u numbered one other e = go (has-cases seat t one) (has-cases seat u other)
   where
     apart : (held won : Held) → Contains seat.held held → Won seat won → held.id ≢ won.id
@@ -77,9 +77,9 @@ waiters-apart core tickets apart i j d lt inside same =
 
 -- ---- the system
 
-module _ (core : Core) (sound : IsSound core) where
+module _ (core : Core) (sound : IsSoundCore core) where
   -- whoever has something is a session
-  what : (who : ℕ) → (HasNothing (system_of core) who → ⊥) → HasWhatTheSystemSays core who
+  what : (who : ℕ) → (HasNothingInSystem (system_of core) who → ⊥) → HasWhatTheSystemSays core who
   what who some = go (has_session who core) refl
     where
       go : (b : Bool) → has_session who core ≡ b → HasWhatTheSystemSays core who
@@ -96,7 +96,7 @@ module _ (core : Core) (sound : IsSound core) where
 
   -- a session has each granted ticket that is its own
   has : (held : Holding) → Contains (system_of core).granted held
-      → (ticket : Held) × Has (seat_at held.session core) ticket × (has_session held.session core ≡ true) × (holding_of held.session ticket core ≡ held)
+      → (ticket : Held) × HasGrantedTicket (seat_at held.session core) ticket × (has_session held.session core ≡ true) × (holding_of held.session ticket core ≡ held)
   has held among =
       let at = granted-place core held among in
       let ticket : Held = record { id = held.number; place = at.0; mode = held.mode } in
@@ -108,7 +108,7 @@ module _ (core : Core) (sound : IsSound core) where
   granted-once one other p q s n =
       let t = has one p in
       let u = has other q in
-      let mine : Has (seat_at one.session core) u.0 = subst (λ w. Has (seat_at w core) u.0) (sym s) u.1 in
+      let mine : HasGrantedTicket (seat_at one.session core) u.0 = subst (λ w. HasGrantedTicket (seat_at w core) u.0) (sym s) u.1 in
       let number : t.0.id ≡ u.0.id = ap (λ (h : Holding). h.number) t.3 ∙ n ∙ sym (ap (λ (h : Holding). h.number) u.3) in
       let same : t.0 ≡ u.0 = has-one (seat_at one.session core) t.0 u.0 (sound.tied.numbered one.session t.2) t.1 mine number in
       sym t.3 ∙ (λ i. holding_of (s i) (same i) core) ∙ u.3
@@ -161,7 +161,7 @@ module _ (core : Core) (sound : IsSound core) where
   stands wait among =
       let w = won wait.session wait among refl in
       let ticket = ticket_of_wait w.0 in
-      let mine : Has (seat_at wait.session core) ticket =
+      let mine : HasGrantedTicket (seat_at wait.session core) ticket =
       inr (subst (λ o. MatchOption o ⊥ (λ (p : Pending). (p.settled ≡ Some settled_as.Granted) × (ticket ≡ ticket_of_wait p))) (sym w.1) (w.2, refl)) in
       let own = ((unended-members core wait).0 among).0 in
       let there = sound.tied.placed wait.session ticket own (inl mine) in

@@ -11,9 +11,9 @@ use Rattle.mdl_book.proofs.TicketLemmas.{find-passes}
 use Rattle.mdl_calls.specs.declared.answers.Settled.TheVariants as settled_as
 use Rattle.mdl_system.specs.Words.{IsGrantAt, Event, GrantWaiter, Happens, LeavesOrder, IsGrantable, NoneForgottenAt, Unsettled, Waiter}
 use Rattle.mdl_core.specs.CoreLaws.{IsFirst, GrantsInOrder}
-use Rattle.mdl_core.specs.Cores.{Core, book_at, seat_at, key_at, has_key, is_free}
+use Rattle.mdl_core.specs.Cores.{Core, book_at, seat_at, key_at, has_key, is_free_for}
 use Rattle.mdl_core.specs.CoreSystems.{system_of, book_of, waiter_in, applies}
-use Rattle.mdl_core.specs.Changes.{Admit, May, admitting_at, admitting_if, admitting_up_to, is_ready, is_unsettled, next_ready, serving}
+use Rattle.mdl_core.specs.Changes.{Admit, May, admitting_at, admitting_if, admitting_up_to, has_unsettled_wait, is_ready_waiter, next_ready, serving}
 use Rattle.mdl_core.specs.Ties.{IsTied, AllMayStand}
 use Rattle.mdl_core.proofs.ChangesHappen.{change-happens}
 use Rattle.mdl_core.proofs.ChangeTies.{tied-changing, stands-changing}
@@ -74,12 +74,12 @@ shorter x old new leaves =
 
 -- a waiter that isn't ready isn't forgotten
 not_ready : (core : Core) (place : ℕ) → IsTied core → has_key place core ≡ true → (waiter : Waiter) → Contains ((system_of core).waiting (key_at place core)) waiter
-    → is_ready place core waiter.ticket ≡ false → waiter.state ≡ Unsettled → IsGrantable (system_of core) waiter.ticket.session (key_at place core) waiter.ticket.mode → ⊥
+    → is_ready_waiter place core waiter.ticket ≡ false → waiter.state ≡ Unsettled → IsGrantable (system_of core) waiter.ticket.session (key_at place core) waiter.ticket.mode → ⊥
 not_ready core place tied key waiter among unready unsettled grantable =
-    let unended : is_unsettled waiter.ticket.session core ≡ true = unsettled-found core place waiter tied key among unsettled in
-    let free : is_free waiter.ticket.session place waiter.ticket.mode core ≡ true =
+    let unended : has_unsettled_wait waiter.ticket.session core ≡ true = unsettled-found core place waiter tied key among unsettled in
+    let free : is_free_for waiter.ticket.session place waiter.ticket.mode core ≡ true =
     (free-grantable core waiter.ticket.session place waiter.ticket.mode tied key).1 grantable in
-    let ready : is_ready place core waiter.ticket ≡ true = ap (λ b. b && is_free waiter.ticket.session place waiter.ticket.mode core) unended ∙ free in
+    let ready : is_ready_waiter place core waiter.ticket ≡ true = ap (λ b. b && is_free_for waiter.ticket.session place waiter.ticket.mode core) unended ∙ free in
     false≢true (sym unready ∙ ready)
 
 -- where none is ready nobody is forgotten
@@ -87,20 +87,20 @@ pub none_ready : (core : Core) (place : ℕ) → IsTied core → has_key place c
     → NoneForgottenAt (system_of core) (key_at place core)
 none_ready core place tied key idle waiter among unsettled grantable =
     let found = waiter-found core place waiter tied key among in
-    let unready : is_ready place core waiter.ticket ≡ false = found-none (is_ready place core) (book_at place core).waiting waiter.ticket idle found.0 in
+    let unready : is_ready_waiter place core waiter.ticket ≡ false = found-none (is_ready_waiter place core) (book_at place core).waiting waiter.ticket idle found.0 in
     not_ready core place tied key waiter among unready unsettled grantable
 
 -- the next that is ready is the first of the waiters that can be granted
 first-ready : (core : Core) (place : ℕ) (ticket : Ticket) → IsTied core → has_key place core ≡ true → next_ready place core ≡ Some ticket
     → IsFirst (system_of core) (key_at place core) (waiter_in core ticket)
 first-ready core place ticket tied key ready =
-    let parted = found-parted (is_ready place core) (book_at place core).waiting ticket ready in
+    let parted = found-parted (is_ready_waiter place core) (book_at place core).waiting ticket ready in
     let waiters : (system_of core).waiting (key_at place core) ≡ map (waiter_in core) parted.0 ++ waiter_in core ticket ∷ map (waiter_in core) parted.1 =
     ap (λ (book : BookView). map (waiter_in core) book.waiting) (book_of-at core place tied key) ∙ ap (map (waiter_in core)) parted.2
     ∙ map-append (waiter_in core) parted.0 (ticket ∷ parted.1) in
-    let earlier : (waiter : Waiter) → Contains (map (waiter_in core) parted.0) waiter → is_ready place core waiter.ticket ≡ false = λ waiter among.
+    let earlier : (waiter : Waiter) → Contains (map (waiter_in core) parted.0) waiter → is_ready_waiter place core waiter.ticket ≡ false = λ waiter among.
     let from = Contains-map_from (waiter_in core) parted.0 waiter among in
-    ap (λ (w : Waiter). is_ready place core w.ticket) from.2 ∙ ap (is_ready place core) (ticket_of-waiter from.0 (seat_at from.0.session core).wait) ∙ parted.3 from.0 from.1 in
+    ap (λ (w : Waiter). is_ready_waiter place core w.ticket) from.2 ∙ ap (is_ready_waiter place core) (ticket_of-waiter from.0 (seat_at from.0.session core).wait) ∙ parted.3 from.0 from.1 in
     let there : (waiter : Waiter) → Contains (map (waiter_in core) parted.0) waiter → Contains ((system_of core).waiting (key_at place core)) waiter = λ waiter among.
     subst (λ ws. Contains ws waiter) (sym waiters) (Contains-append_left (map (waiter_in core) parted.0) (waiter_in core ticket ∷ map (waiter_in core) parted.1) waiter among) in
     (map (waiter_in core) parted.0, map (waiter_in core) parted.1, waiters, λ waiter among. not_ready core place tied key waiter (there waiter among) (earlier waiter among))
@@ -143,8 +143,8 @@ module _ (place : ℕ) (a : Core) (ticket : Ticket) (tied : IsTied a) (key : has
   abbrev granted : Event Redefinition
   granted = GrantWaiter (key_at place a) (waiter_in a ticket)
 
-  found : Contains (book_at place a).waiting ticket × (is_ready place a ticket ≡ true)
-  found = found-first (is_ready place a) (book_at place a).waiting ticket ready
+  found : Contains (book_at place a).waiting ticket × (is_ready_waiter place a ticket ≡ true)
+  found = found-first (is_ready_waiter place a) (book_at place a).waiting ticket ready
 
   may-next : May ticket.session place (Admit ticket) a
   may-next =

@@ -13,13 +13,13 @@ use Rattle.mdl_calls.specs.declared.answers.Held.{Held}
 use Rattle.mdl_calls.specs.Words.{Answer, Granted, Would_wait, Waits, Call, Try_now, Begin_wait}
 use Rattle.mdl_system.specs.Words.{IsAbout, FreesNothing, Event, Grant, Happens, SameSystem, GrantsNew, System, empty_system, IsGrantable, IsLawful, NoneForgotten, lock_kind, may_upgrade, may_downgrade}
 use Rattle.mdl_core.specs.ChangeEvents.{IsChangeEvent}
-use Rattle.mdl_core.specs.Changes.{Change, Gain, Lose, Queue, Admit, Settle, Leave, Take_up, Alter, Fold, Redefine, May, changing, opening}
+use Rattle.mdl_core.specs.Changes.{Change, Gain, Lose, Queue, Admit, Settle, Leave, Take_up, Alter, Fold, Redefine, May, after_change, opening}
 use Rattle.mdl_core.specs.CoreJoins.{Joins}
 use Rattle.mdl_core.specs.CoreLaws.{is_change, IsEventOf, CallsAreEvents, CallsKeepSound, GrantsWhatIsGrantable, GrantsInOrder, CallsLeadByEvents, Joined}
 use Rattle.mdl_core.specs.Cores.{Core, empty_core, key_at, has_key, index_of}
 use Rattle.mdl_core.specs.CoreSystems.{applies, system_of, granted_in, unended_from}
 use Rattle.mdl_core.specs.Seats.{empty_seat}
-use Rattle.mdl_core.specs.Ties.{in_book_of, IsTied, IsSound, AllMayStand}
+use Rattle.mdl_core.specs.Ties.{in_book_of, IsTied, IsSoundCore, AllMayStand}
 use Rattle.mdl_core.proofs.CallLaws.{joins-comes}
 use Rattle.mdl_core.proofs.ChangesHappen.{change-happens}
 use Rattle.mdl_core.proofs.ChangeTies.{tied-changing, stands-changing}
@@ -87,14 +87,14 @@ opening-same core key tied none = λ i. record {
 
 -- what a call with this answer has led to: it changed nothing, or it was an event, and then waiters were granted
 record Follows (a : Core) (call : Call) (answer : Answer) (b : Core) : Type 0 where
-  sound : IsSound b
+  sound : IsSoundCore b
   leads : (events : List (Event Redefinition)) × Leads applies events (system_of a) (system_of b)
   how : ((is_change a call answer ≡ false) × SameSystem (system_of a) (system_of b))
       ⊎ ((event : Event Redefinition) × (grants : List (Event Redefinition)) × (between : System Definition) × (key : KeyName)
       × IsEventOf a call answer event × ((other : KeyName) → IsAbout event other → other ≡ key)
       × Happens applies event (system_of a) between × GrantsInOrder applies key grants between (system_of b))
 
-module _ (a : Core) (call : Call) (answer : Answer) (sound : IsSound a) where
+module _ (a : Core) (call : Call) (answer : Answer) (sound : IsSoundCore a) where
   -- nothing has changed in the system
   follows-calm : (b : Core) → IsTied b → AllMayStand b → system_of a ≡ system_of b → is_change a call answer ≡ false → Follows a call answer b
   follows-calm b tied stand same calm = record {
@@ -105,11 +105,11 @@ module _ (a : Core) (call : Call) (answer : Answer) (sound : IsSound a) where
 
   -- a change was made, and where it made room waiters were granted
   follows-made : (who place : ℕ) (change : Change) → IsMade a call answer who place change
-      → Follows a call answer (served_if (makes_room change) place (changing who place change a))
+      → Follows a call answer (served_if (makes_room change) place (after_change who place change a))
   follows-made who place change made = by (makes_room change) refl
     where
       mid : Core
-      mid = changing who place change a
+      mid = after_change who place change a
 
       tied : IsTied mid
       tied = tied-changing a who place change sound.tied made.may
@@ -167,7 +167,7 @@ module _ (a : Core) (call : Call) (answer : Answer) (sound : IsSound a) where
   follows-way (Make who place change) made = follows-made who place change made.is_way.0
 
 -- any call
-calls-follow : (a b : Core) (call : Call) (answer : Answer) → IsSound a → Joins a call answer b → Follows a call answer b
+calls-follow : (a b : Core) (call : Call) (answer : Answer) → IsSoundCore a → Joins a call answer b → Follows a call answer b
 calls-follow a b call answer sound joins =
     let h = joins-comes a b call answer sound.tied joins in
     subst (Follows a call answer) h.leads (follows-way a call answer sound h.way h.is)
@@ -181,7 +181,7 @@ calls_keep-sound a b call answer sound joins = (calls-follow a b call answer sou
 -- ---- what is granted at once
 
 -- a call that changes something has happened as its event
-happened : (a b : Core) (call : Call) (answer : Answer) → is_change a call answer ≡ true → IsSound a → Joins a call answer b
+happened : (a b : Core) (call : Call) (answer : Answer) → is_change a call answer ≡ true → IsSoundCore a → Joins a call answer b
     → (event : Event Redefinition) × (between : System Definition) × IsEventOf a call answer event × Happens applies event (system_of a) between
 happened a b call answer changes sound joins = elim (calls_are-events a b call answer sound joins) [
   | inl calm ↦ (let e = sym changes ∙ calm.0 in cc)
@@ -219,7 +219,7 @@ empty-same places sessions = λ i. record {
   definitions = λ _. record { version = 0; definition = None };
 }
 
-pub empty-sound : (places sessions : ℕ) → IsSound (empty_core places sessions)
+pub empty-sound : (places sessions : ℕ) → IsSoundCore (empty_core places sessions)
 empty-sound places sessions = record {
   tied = tied-empty places sessions;
   standing = stands-empty places sessions;
@@ -231,7 +231,7 @@ empty-sound places sessions = record {
 
 -- what is so after each call
 abbrev IsReached : Core → Type 0
-IsReached core = IsSound core × ((events : List (Event Redefinition)) × Leads applies events empty_system (system_of core))
+IsReached core = IsSoundCore core × ((events : List (Event Redefinition)) × Leads applies events empty_system (system_of core))
 
 -- one call after another
 all-reached : (calls : List (Call × Answer)) (a b : Core) → IsReached a → Joined calls a b → IsReached b

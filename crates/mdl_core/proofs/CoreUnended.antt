@@ -12,7 +12,7 @@ use Rattle.mdl_core.specs.Cores.{Core, seat_at, has_session, seating}
 use Rattle.mdl_core.specs.CoreSystems.{unended_at, unended_of, unended_from, system_of}
 use Rattle.mdl_core.specs.Seats.{SeatView, empty_seat}
 use Rattle.mdl_system.specs.Systems.{GrantedWait}
-use Rattle.mdl_core.specs.Ties.{IsNumbered, IsTied}
+use Rattle.mdl_core.specs.Ties.{HasRisingNumbers, IsTied}
 use Rattle.mdl_core.proofs.CoreReads.{within, of_within, seated-same, seated-other, has_session-seating}
 use Rattle.mdl_system.proofs.OrderLemmas.{Contains-here}
 
@@ -121,7 +121,7 @@ own-unended core who wait has own = (
 )
 
 -- a held ticket has a smaller number than the one that is waited for
-held_below : (seat : SeatView) (pending : Pending) (ticket : Held) → seat.wait ≡ Some pending → IsNumbered seat → Contains seat.held ticket → ticket.id < pending.id
+held_below : (seat : SeatView) (pending : Pending) (ticket : Held) → seat.wait ≡ Some pending → HasRisingNumbers seat → Contains seat.held ticket → ticket.id < pending.id
 held_below seat pending ticket is numbered among =
     let h = subst (λ o. MatchOption o (Unit {0}) (λ (wait : Pending).
     (wait.id ≡ seat.last_ticket) × (wait.number ≤ seat.last_wait) × ((ticket : Held) → Contains seat.held ticket → ticket.id < wait.id))) is numbered.wait in

@@ -10,9 +10,9 @@ use Rattle.mdl_calls.specs.declared.answers.Settled.{Settled}
 use Rattle.mdl_calls.specs.declared.answers.Settled.TheVariants as settled_as
 use Rattle.mdl_core.specs.declared.pending.Pending.{Pending}
 use Rattle.mdl_core.specs.Cores.{Core, book_at, seat_at, key_at, has_key, has_session, index_of}
-use Rattle.mdl_core.specs.CoreSystems.{book_found, book_of, state_of, waiter_of, waiter_in, system_of}
-use Rattle.mdl_core.specs.Changes.{is_unsettled}
-use Rattle.mdl_core.specs.Seats.{SeatView, is_open, ticket_of_wait}
+use Rattle.mdl_core.specs.CoreSystems.{book_found, book_of, wait_state_of, system_waiter, waiter_in, system_of}
+use Rattle.mdl_core.specs.Changes.{has_unsettled_wait}
+use Rattle.mdl_core.specs.Seats.{SeatView, is_unsettled_wait, ticket_of_wait}
 use Rattle.mdl_system.specs.Systems.{Unsettled, Waiter, GrantedWait, HasNoWait}
 use Rattle.mdl_core.specs.Ties.{Awaits, in_book_of, IsTied}
 use Rattle.mdl_core.proofs.CoreReads.{within, found-at, found}
@@ -112,7 +112,7 @@ none-waiting core who place ticket tied none has among own =
 -- ---- waiters
 
 -- a waiter is that of its ticket, whatever its session's wait is
-pub ticket_of-waiter : (ticket : Ticket) (wait : Option Pending) → (waiter_of ticket wait).ticket ≡ ticket
+pub ticket_of-waiter : (ticket : Ticket) (wait : Option Pending) → (system_waiter ticket wait).ticket ≡ ticket
 ticket_of-waiter ticket None = refl
 ticket_of-waiter ticket (Some wait) = refl
 
@@ -124,7 +124,7 @@ waiter-found core place waiter tied has among =
     let own : waiter.ticket ≡ h.0 = ap (λ (w : Waiter). w.ticket) h.2 ∙ ticket_of-waiter h.0 (seat_at h.0.session core).wait in
     (subst (λ t. Contains (book_at place core).waiting t) (sym own) h.1, h.2 ∙ ap (waiter_in core) (sym own))
 
-unsettled-open : (settled : Option Settled) → state_of settled ≡ Unsettled → settled ≢ Some settled_as.Granted → not (is_some settled) ≡ true
+unsettled-open : (settled : Option Settled) → wait_state_of settled ≡ Unsettled → settled ≢ Some settled_as.Granted → not (is_some settled) ≡ true
 unsettled-open None e other = refl
 unsettled-open (Some settled_as.Granted) e other = absurd (other refl)
 unsettled-open (Some settled_as.Victim) e other = cc
@@ -132,13 +132,13 @@ unsettled-open (Some settled_as.Timeout) e other = cc
 unsettled-open (Some settled_as.Killed) e other = cc
 
 pub unsettled-found : (core : Core) (place : ℕ) (waiter : Waiter) → IsTied core → has_key place core ≡ true
-    → Contains ((system_of core).waiting (key_at place core)) waiter → waiter.state ≡ Unsettled → is_unsettled waiter.ticket.session core ≡ true
+    → Contains ((system_of core).waiting (key_at place core)) waiter → waiter.state ≡ Unsettled → has_unsettled_wait waiter.ticket.session core ≡ true
 unsettled-found core place waiter tied has among unsettled =
     let there = waiter-found core place waiter tied has among in
     let h = wait-at core place waiter.ticket tied has there.0 in
-    let is : waiter ≡ waiter_of waiter.ticket (Some h.0) = there.1 ∙ ap (waiter_of waiter.ticket) h.1.waits in
-    let state : state_of h.0.settled ≡ Unsettled = sym (ap (λ (w : Waiter). w.state) is) ∙ unsettled in
-    (λ i. h.1.has i && is_open (h.1.waits i)) ∙ unsettled-open h.0.settled state h.1.not_granted
+    let is : waiter ≡ system_waiter waiter.ticket (Some h.0) = there.1 ∙ ap (system_waiter waiter.ticket) h.1.waits in
+    let state : wait_state_of h.0.settled ≡ Unsettled = sym (ap (λ (w : Waiter). w.state) is) ∙ unsettled in
+    (λ i. h.1.has i && is_unsettled_wait (h.1.waits i)) ∙ unsettled-open h.0.settled state h.1.not_granted
 
 pub no_wait : (core : Core) (who : ℕ) → IsTied core → has_session who core ≡ true → (seat_at who core).wait ≡ None → HasNoWait (system_of core) who
 no_wait core who tied has none = (waits_nowhere, unended_none)

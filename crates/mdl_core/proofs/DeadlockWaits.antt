@@ -15,8 +15,8 @@ use Rattle.mdl_core.specs.declared.pending.Pending.{Pending}
 use Rattle.mdl_system.specs.Words.{in_book, of_lock, Wishes, HoldsAgainst, WaitsAhead, WaitsFor, Unsettled, Waiter, lock_kind}
 use Rattle.mdl_core.specs.CoreCalls.{has_settled}
 use Rattle.mdl_core.specs.Cores.{Core, book_at, seat_at, key_at, has_key, has_session}
-use Rattle.mdl_core.specs.CoreSystems.{state_of, waiter_of, waiter_in, system_of}
-use Rattle.mdl_core.specs.Seats.{is_open, is_closed}
+use Rattle.mdl_core.specs.CoreSystems.{wait_state_of, system_waiter, waiter_in, system_of}
+use Rattle.mdl_core.specs.Seats.{is_unsettled_wait, is_settled_wait}
 use Rattle.mdl_core.specs.Ties.{IsTied}
 use Rattle.mdl_core.proofs.CoreGranted.{granted-place, granted-from_place}
 use Rattle.mdl_core.proofs.CoreReads.{within, of_within}
@@ -56,13 +56,13 @@ any-from_place core test place has passes =
 -- of a session with a waiting ticket
 pub settled-of : (core : Core) (place : ℕ) (ticket : Ticket) (wait : Pending) → IsWaitAt core place ticket wait
     → has_settled core ticket.session ≡ is_some wait.settled
-settled-of core place ticket wait at = λ i. is_closed (cond (at.has i) (at.waits i) None)
+settled-of core place ticket wait at = λ i. is_settled_wait (cond (at.has i) (at.waits i) None)
 
-state-unsettled : (settled : Option Settled) → is_some settled ≡ false → state_of settled ≡ Unsettled
+state-unsettled : (settled : Option Settled) → is_some settled ≡ false → wait_state_of settled ≡ Unsettled
 state-unsettled None e = refl
 state-unsettled (Some how) e = absurd (false≢true (sym e))
 
-open-unsettled : (has : Bool) (wait : Option Pending) → (has && is_open wait) ≡ true → is_closed (cond has wait None) ≡ false
+open-unsettled : (has : Bool) (wait : Option Pending) → (has && is_unsettled_wait wait) ≡ true → is_settled_wait (cond has wait None) ≡ false
 open-unsettled false wait e = refl
 open-unsettled true None e = refl
 open-unsettled true (Some wait) e = opposite (is_some wait.settled) e
@@ -74,7 +74,7 @@ open-unsettled true (Some wait) e = opposite (is_some wait.settled) e
 pub waiter-ticket : (core : Core) (ticket : Ticket) → (waiter_in core ticket).ticket ≡ ticket
 waiter-ticket core ticket = go (seat_at ticket.session core).wait
   where
-    go : (o : Option Pending) → (waiter_of ticket o).ticket ≡ ticket
+    go : (o : Option Pending) → (system_waiter ticket o).ticket ≡ ticket
     go None = refl
     go (Some wait) = refl
 
@@ -90,7 +90,7 @@ module _ (core : Core) (tied : IsTied core) where
         subst (λ (b : BookView). Contains (map (waiter_in core) b.waiting) (waiter_in core ticket)) (sym (book-there core place (key_at place core) tied.keys has refl))
             (Contains-map (waiter_in core) (book_at place core).waiting ticket among),
         ap (λ (t : Ticket). t.session) (waiter-ticket core ticket) ∙ own,
-        ap (λ o. (waiter_of ticket o).state) h.1.waits ∙ state-unsettled h.0.settled still,
+        ap (λ o. (system_waiter ticket o).state) h.1.waits ∙ state-unsettled h.0.settled still,
       )
 
   -- and the waiting ticket of a wish

@@ -21,12 +21,12 @@ use Rattle.mdl_core.specs.declared.pending.Pending.{Pending}
 use Rattle.mdl_core.specs.ChangeEvents.{holding_of}
 use Rattle.mdl_core.specs.CoreCalls.{has_call, outcome, refused_or, first_cause, request_causes, clone_causes, granted_unless_full, queued_unless_full, cloning_of, upgrade_causes, upgraded_if_free, upgrading_of, is_lower, downgrading_of, merge_causes, merging_of, held_ticket, releasing_of, poll_answer, polling_of, timing_out_at, timing_out_of, ending_at, ending_of, wait_at, is_open_wait, wait_of_outcome, kill_outcome, searching_of, search_outcome, victim_at, reading_of, redefining_of, redefining_fault, redefined_unless}
 use Rattle.mdl_core.specs.CoreJoins.{SpeaksFor, numbers_at}
-use Rattle.mdl_core.specs.Cores.{Core, book_at, seat_at, key_at, standing_at, has_key, has_session, is_free}
+use Rattle.mdl_core.specs.Cores.{Core, book_at, seat_at, key_at, standing_at, has_key, has_session, is_free_for}
 use Rattle.mdl_core.specs.Changes.{altering, folding, serving}
 use Rattle.mdl_core.specs.CoreSystems.{defined_in, system_of}
-use Rattle.mdl_core.specs.Determined.{Right, Only, Where, Needs, places_of, ToAsk, ToGrant, ToClone, ToUpgrade, ToDowngrade, ToMerge, ToRead, ToChange, OfTicket, OfWait, to_poll, to_time_out, to_end, ToSearch, Determines, AnswersAreDetermined}
+use Rattle.mdl_core.specs.Determined.{Right, Only, Where, Requires, places_of, ToAsk, ToGrant, ToClone, ToUpgrade, ToDowngrade, ToMerge, ToRead, ToChange, OfHolding, OfWait, to_poll, to_time_out, to_end, ToSearch, Determines, AnswersAreDetermined}
 use Rattle.mdl_core.specs.SessionLaws.{HasWhatTheSystemSays, WaitsSomewhere}
-use Rattle.mdl_core.specs.Ties.{IsTied, IsSound}
+use Rattle.mdl_core.specs.Ties.{IsTied, IsSoundCore}
 use Rattle.mdl_system.specs.Words.{Holding, HasNoWait, IsGrantable, IsChosenDeadlock, IsVictimOf, covers}
 use Rattle.mdl_core.proofs.CallCases.{test_cases, option_cases, cause_cases, not_false, not_true, exclusive-is}
 use Rattle.mdl_core.proofs.ChangeSeats.{merged_numbers, merged_place, merged_mode}
@@ -113,7 +113,7 @@ changes a place change =
     (nat_le 1000000 (standing_at place a).version) _ _
     (λ full. unmet _ VersionFull _ (at_limit 1000000 (standing_at place a).version full))
     (λ few. met _ VersionFull _ _ (below_limit 1000000 (standing_at place a).version few)
-    (test_cases (λ why. IsAnswer (Needs (suits (key_at place a).namespace change ≡ true) WrongKind by_fault) (redefined_unless why place change a).0)
+    (test_cases (λ why. IsAnswer (Requires (suits (key_at place a).namespace change ≡ true) WrongKind by_fault) (redefined_unless why place change a).0)
     (not (suits (key_at place a).namespace change)) _ _
     (λ unfit. unmet _ WrongKind _ (not-so _ unfit))
     (λ fits. met _ WrongKind _ _ (not_false _ fits)
@@ -127,7 +127,7 @@ changes a place change =
 
 -- ---- calls of a session
 
-module _ (a : Core) (who : ℕ) (sound : IsSound a) (has : has_session who a ≡ true) where
+module _ (a : Core) (who : ℕ) (sound : IsSoundCore a) (has : has_session who a ≡ true) where
   says : HasWhatTheSystemSays a who
   says = (sessions-have a who sound).0 has
 
@@ -144,11 +144,11 @@ module _ (a : Core) (who : ℕ) (sound : IsSound a) (has : has_session who a ≡
 
   granted-or : (place : ℕ) (mode : Mode) (Otherwise : KeyName → Right) (otherwise : Answer × Core) → has_key place a ≡ true
       → IsAnswer (Otherwise (key_at place a)) otherwise.0
-      → IsAnswer (OrElse place mode Otherwise) (if not (is_free who place mode a) then otherwise else granted_unless_full who place mode a).0
+      → IsAnswer (OrElse place mode Otherwise) (if not (is_free_for who place mode a) then otherwise else granted_unless_full who place mode a).0
   granted-or place mode Otherwise otherwise key other =
       let free = free-grantable a who place mode sound.tied key in
       test_cases (λ (r : Answer × Core). IsAnswer (OrElse place mode Otherwise) r.0)
-      (not (is_free who place mode a)) otherwise (granted_unless_full who place mode a)
+      (not (is_free_for who place mode a)) otherwise (granted_unless_full who place mode a)
       (λ kept. where-not _ _ (Otherwise (key_at place a)) otherwise.0 (λ grantable. not-so _ kept (free.1 grantable)) other)
       (λ may. where-so _ (ToGrant (system_of a) (numbers_at a who) (key_at place a)) _ _ (free.0 (not_false _ may)) (grants a sound.tied place key who mode))
 
@@ -156,10 +156,10 @@ module _ (a : Core) (who : ℕ) (sound : IsSound a) (has : has_session who a ≡
   asks : (place : ℕ) (mode : Mode) (Otherwise : KeyName → Right) (otherwise : Answer × Core)
       → (has_key place a ≡ true → IsAnswer (Otherwise (key_at place a)) otherwise.0)
       → IsAnswer (ToAsk (system_of a) (places_of a) (numbers_at a who) who place mode Otherwise)
-      (refused_or (first_cause (request_causes who place mode a)) a (if not (is_free who place mode a) then otherwise else granted_unless_full who place mode a)).0
+      (refused_or (first_cause (request_causes who place mode a)) a (if not (is_free_for who place mode a) then otherwise else granted_unless_full who place mode a)).0
   asks place mode Otherwise otherwise other =
       cause_cases (λ (r : Answer × Core). IsAnswer (ToAsk (system_of a) (places_of a) (numbers_at a who) who place mode Otherwise) r.0) a
-      (if not (is_free who place mode a) then otherwise else granted_unless_full who place mode a) (request_causes who place mode a) (
+      (if not (is_free_for who place mode a) then otherwise else granted_unless_full who place mode a) (request_causes who place mode a) (
         (λ absent. at-nowhere a place _ (not_true _ absent)),
         λ there. (let key : has_key place a ≡ true = not_false _ there in (
           (λ waits. at-place a place _ _ key (unmet _ AlreadyWaiting _ (waiting-so waits))),
@@ -214,12 +214,12 @@ module _ (a : Core) (who : ℕ) (sound : IsSound a) (has : has_session who a ≡
           test_cases (λ (r : Answer × Core). IsAnswer (Where Had (Only Upgraded) (Only Would_wait)) r.0) (covers ticket.mode mode) (Upgraded, a) _
           (λ strong. where-so _ _ (Only Would_wait) Upgraded (inl strong) (only Upgraded))
           (λ weak. test_cases (λ (r : Answer × Core). IsAnswer (Where Had (Only Upgraded) (Only Would_wait)) r.0)
-          (not (is_free who ticket.place mode a)) (Would_wait, a) (Upgraded, altering who ticket mode a)
+          (not (is_free_for who ticket.place mode a)) (Would_wait, a) (Upgraded, altering who ticket mode a)
           (λ busy. where-not _ (Only Upgraded) _ Would_wait
           (λ had. elim had [ inl strong ↦ false≢true (sym weak ∙ strong) | inr grantable ↦ not-so _ busy (free.1 grantable) ]) (only Would_wait))
           (λ may. where-so _ _ (Only Would_wait) Upgraded (inr (free.0 (not_false _ may))) (only Upgraded)))
         where
-          free : (is_free who ticket.place mode a ≡ true) ↔ IsGrantable (system_of a) who (key_at ticket.place a) mode
+          free : (is_free_for who ticket.place mode a ≡ true) ↔ IsGrantable (system_of a) who (key_at ticket.place a) mode
           free = free-grantable a who ticket.place mode sound.tied key
 
   -- and in a weaker one
@@ -256,10 +256,10 @@ module _ (a : Core) (who : ℕ) (sound : IsSound a) (has : has_session who a ≡
   -- by a held ticket, or none
   by-ticket : (id : ℕ) (Then : Holding → Right) (answered : Option Held → Answer × Core) → (answered None).0 ≡ Refused NotHeld
       → ((ticket : Held) → has_key ticket.place a ≡ true → IsAnswer (Then (holding_of who ticket a)) (answered (Some ticket)).0)
-      → IsAnswer (OfTicket (system_of a) who id Then) (answered (held_ticket who id a)).0
+      → IsAnswer (OfHolding (system_of a) who id Then) (answered (held_ticket who id a)).0
   by-ticket id Then answered none each =
-      option_cases (λ o. IsAnswer (OfTicket (system_of a) who id Then) (answered o).0) (held_ticket who id a)
-      (λ lacks. subst (IsAnswer (OfTicket (system_of a) who id Then)) (sym none) (no-ticket a who sound.tied has says id Then lacks))
+      option_cases (λ o. IsAnswer (OfHolding (system_of a) who id Then) (answered o).0) (held_ticket who id a)
+      (λ lacks. subst (IsAnswer (OfHolding (system_of a) who id Then)) (sym none) (no-ticket a who sound.tied has says id Then lacks))
       (λ ticket e. of-ticket a who sound.tied has says id ticket Then _ e (each ticket (held-place a who id ticket sound.tied has e)))
 
   -- by the session's wait, or none
@@ -280,7 +280,7 @@ module _ (a : Core) (who : ℕ) (sound : IsSound a) (has : has_session who a ≡
   -- a change under a held ticket
   abbrev Redefined : Change → Held → Right
   Redefined change ticket =
-      Needs (ticket.mode ≡ X) NotExclusive (ToChange (key_at ticket.place a) change ((system_of a).definitions (key_at ticket.place a)))
+      Requires (ticket.mode ≡ X) NotExclusive (ToChange (key_at ticket.place a) change ((system_of a).definitions (key_at ticket.place a)))
 
   redefines : (change : Change) (ticket : Held) → has_key ticket.place a ≡ true → IsAnswer (Redefined change ticket) (redefining_of (Some ticket) change a).0
   redefines change ticket key =
@@ -294,7 +294,7 @@ module _ (a : Core) (who : ℕ) (sound : IsSound a) (has : has_session who a ≡
 
 -- ---- waits of others
 
-looks : (a : Core) (target : ℕ) → IsSound a
+looks : (a : Core) (target : ℕ) → IsSoundCore a
     → IsAnswer (OfWait (system_of a) target (Only (Has_wait None)) (λ number id settled. Only (Has_wait (Some number)))) (wait_of_outcome target a).0
 looks a target sound = go (has_session target a) refl
   where
@@ -310,7 +310,7 @@ looks a target sound = go (has_session target a) refl
         (Has_wait (option_map (λ (wait : Pending). wait.number) (if b then (seat_at target a).wait else None)))) (sym none)
         (without-wait (system_of a) target _ _ _ ((sessions-have a target sound).1 none).1 (only _))
 
-kills : (a : Core) (target number : ℕ) → IsSound a
+kills : (a : Core) (target number : ℕ) → IsSoundCore a
     → IsAnswer (Where (WaitsSomewhere (system_of a) target number) (Only (Has_killed true)) (Only (Has_killed false))) (kill_outcome target number a).0
 kills a target number sound =
     test_cases (λ (r : Answer × Core). IsAnswer (Where (WaitsSomewhere (system_of a) target number) (Only (Has_killed true)) (Only (Has_killed false))) r.0)
@@ -322,7 +322,7 @@ kills a target number sound =
 
 -- ---- all calls
 
-determined : (a : Core) (call : Call) → IsSound a → IfSome (caller call) (SpeaksFor a) → has_call call ≡ true
+determined : (a : Core) (call : Call) → IsSoundCore a → IfSome (caller call) (SpeaksFor a) → has_call call ≡ true
     → IsAnswer (Determines (system_of a) (places_of a) (numbers_at a) call) (outcome call a).0
 determined a (Resolve who key) sound speaks has = resolves a sound.tied key
 determined a (Try_now who place mode) sound speaks has = asks a who sound speaks.0 place mode _ (Would_wait, a) (λ key. only Would_wait)
@@ -343,7 +343,7 @@ determined a (Clone_ticket who id mode) sound speaks has =
 determined a (Upgrade_now who id mode) sound speaks has =
     by-ticket a who sound speaks.0 id _ (λ o. upgrading_of who mode o a) refl (upgrades a who sound speaks.0 mode)
 determined a (Merge who old new) sound speaks has =
-    by-ticket a who sound speaks.0 old (λ kept. OfTicket (system_of a) who new (ToMerge (system_of a) who kept)) (λ o. merging_of who o (held_ticket who new a) a) refl
+    by-ticket a who sound speaks.0 old (λ kept. OfHolding (system_of a) who new (ToMerge (system_of a) who kept)) (λ o. merging_of who o (held_ticket who new a) a) refl
     (λ kept here. by-ticket a who sound speaks.0 new _ (λ o. merging_of who (Some kept) o a) refl (λ gone there. merges a who sound speaks.0 kept gone here there))
 determined a (Downgrade who id mode) sound speaks has =
     by-ticket a who sound speaks.0 id _ (λ o. downgrading_of who mode o a) refl (λ ticket key. downgrades_to a who sound speaks.0 mode ticket)

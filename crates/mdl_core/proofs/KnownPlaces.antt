@@ -15,10 +15,10 @@ use Rattle.mdl_calls.specs.declared.answers.Settled.TheVariants as settled_as
 use Rattle.mdl_calls.specs.SessionLocks.{Wait}
 use Rattle.mdl_core.specs.declared.pending.Pending.{Pending}
 use Rattle.mdl_core.specs.Changes.{opening}
-use Rattle.mdl_core.specs.CoreJoins.{SpeaksFor, own_at, Knows}
+use Rattle.mdl_core.specs.CoreJoins.{SpeaksFor, locks_at, Knows}
 use Rattle.mdl_core.specs.Cores.{Core, seat_at, key_at, has_key, has_session, index_of}
 use Rattle.mdl_core.specs.Seats.{SeatView, ticket_of_wait}
-use Rattle.mdl_core.specs.Ties.{IsTied, Has, Awaits}
+use Rattle.mdl_core.specs.Ties.{IsTied, HasGrantedTicket, Awaits}
 use Rattle.mdl_core.proofs.CoreReads.{within}
 use Rattle.mdl_core.proofs.SparedSeats.{Spares, as_wait}
 use Rattle.mdl_system.proofs.Deciding.{key-Decides}
@@ -71,7 +71,7 @@ module _ (a : Core) (key : KeyName) where
 -- ---- the places of tickets and waits
 
 -- the ticket of a wait is had or waited for
-waits-ticket : (seat : SeatView) (wait : Pending) → seat.wait ≡ Some wait → Has seat (ticket_of_wait wait) ⊎ Awaits seat (ticket_of_wait wait)
+waits-ticket : (seat : SeatView) (wait : Pending) → seat.wait ≡ Some wait → HasGrantedTicket seat (ticket_of_wait wait) ⊎ Awaits seat (ticket_of_wait wait)
 waits-ticket seat wait its = go wait.settled refl
   where
     at : (P : Pending → Type 0) → P wait → MatchOption seat.wait ⊥ P
@@ -80,7 +80,7 @@ waits-ticket seat wait its = go wait.settled refl
     other : (s : Option Settled) → wait.settled ≡ s → s ≢ Some settled_as.Granted → Awaits seat (ticket_of_wait wait)
     other s e apart = at _ ((λ f. apart (sym e ∙ f)), refl)
 
-    go : (s : Option Settled) → wait.settled ≡ s → Has seat (ticket_of_wait wait) ⊎ Awaits seat (ticket_of_wait wait)
+    go : (s : Option Settled) → wait.settled ≡ s → HasGrantedTicket seat (ticket_of_wait wait) ⊎ Awaits seat (ticket_of_wait wait)
     go (Some settled_as.Granted) e = inl (inr (at _ (e, refl)))
     go s e = inr (other s e (λ f. cc))
 
@@ -99,12 +99,12 @@ pub core-one_place : (a : Core) (w place other : ℕ) (key : KeyName) → Speaks
 core-one_place a w place other key speaks one two = speaks.1.tied.keys place other one.0 two.0 (one.1 ∙ sym two.1)
 
 -- whoever holds a ticket knows the key of its place
-pub core-held_places : (a : Core) (w : ℕ) (ticket : Held) → SpeaksFor a w → Contains (own_at a w).held ticket
+pub core-held_places : (a : Core) (w : ℕ) (ticket : Held) → SpeaksFor a w → Contains (locks_at a w).held ticket
     → (key : KeyName) × Knows a w ticket.place key
 core-held_places a w ticket speaks holds = (key_at ticket.place a, (speaks.1.tied.placed w ticket speaks.0 (inl (inl holds)), refl))
 
 -- whoever waits knows the key of the place that is waited for
-pub core-wait_place : (a : Core) (w : ℕ) (wait : Wait) → SpeaksFor a w → (own_at a w).wait ≡ Some wait
+pub core-wait_place : (a : Core) (w : ℕ) (wait : Wait) → SpeaksFor a w → (locks_at a w).wait ≡ Some wait
     → (key : KeyName) × Knows a w wait.place key
 core-wait_place a w wait speaks = go (seat_at w a).wait refl
   where

@@ -20,17 +20,17 @@ use Rattle.mdl_calls.specs.declared.space_error.SpaceError.TheVariants.{NoPlace,
 use Rattle.mdl_calls.specs.Words.{Answer, Refused, Granted, Is_settled, Done, Timed_out, Lost, Changed, Upgraded, is_answer_of, Call, Resolve, Try_now, Begin_wait, Search, Poll_wait, Settle_timeout, End_wait, Wait_of, Kill, Release, Clone_ticket, Upgrade_now, Merge, Downgrade, Read_definition, Read_kept, Change_definition, Key_of, Tables_of, List_held, caller, OfHeld, IsFit, IsUnfit, IsUnknown, MayClone, MayNotClone, MayUpgrade, MayNotUpgrade, MayDowngrade, MayNotDowngrade, Mergeable, may_merge, IsCause, IsExplained, SessionLocks, Numbers, is_number, is_waiting, wait_number, own_after, winning, cloning as cloning_own, holds, giving_up, Draws, IsEndOf, IsToldOf, cause_of}
 use Rattle.mdl_calls.specs.SessionLocks.{changing as changing_own, merging as merging_own, upgraded}
 use Rattle.mdl_core.specs.declared.pending.Pending.{Pending}
-use Rattle.mdl_core.specs.ChangeEvents.{holding_of, waiting_ticket, IsChangeEvent}
-use Rattle.mdl_core.specs.Changes.{Change, Gain, Lose, Queue, Leave, Take_up, Alter, Fold, Redefine, May, next_ticket, losing, leaving, altering, serving}
+use Rattle.mdl_core.specs.ChangeEvents.{holding_of, ticket_of_wait, IsChangeEvent}
+use Rattle.mdl_core.specs.Changes.{Change, Gain, Lose, Queue, Leave, Take_up, Alter, Fold, Redefine, May, next_ticket, losing, ending_lost, altering, serving}
 use Rattle.mdl_core.specs.CoreCalls.{has_call, outcome, refused_or, first_cause, placing, request_causes, clone_causes, cloning_of, upgrade_causes, upgraded_if_free, upgrading_of, is_lower, downgrading_of, merge_causes, merging_of, held_ticket, releasing_of, poll_answer, polling_of, timing_out_at, timing_out_of, ending_at, ending_of, wait_at, is_open_wait, victim_at, searching_of, reading_of, redefining_fault, redefined_unless, redefining_of}
-use Rattle.mdl_core.specs.CoreJoins.{own_at, numbers_at, Knows}
+use Rattle.mdl_core.specs.CoreJoins.{locks_at, numbers_at, Knows}
 use Rattle.mdl_core.specs.CoreLaws.{is_weaker, is_change, IsEventOf}
-use Rattle.mdl_core.specs.Cores.{Core, book_at, seat_at, key_at, standing_at, has_key, has_session, index_of, is_free, booking}
-use Rattle.mdl_core.specs.CoreSystems.{system_of, state_of, waiter_of}
+use Rattle.mdl_core.specs.Cores.{Core, book_at, seat_at, key_at, standing_at, has_key, has_session, index_of, is_free_for, booking}
+use Rattle.mdl_core.specs.CoreSystems.{system_of, system_waiter, wait_state_of}
 use Rattle.mdl_system.specs.Words.{WaitsForCause, Event, Grant, Clone, BeginWait, SettleLost, EndGrantedWait, EndLostWait, Release as Give_up, Upgrade as Raise, Merge as Unite, Downgrade as Lower, ChangeDefinition, covers, may_upgrade, may_downgrade, Unsettled, IsGrantable}
-use Rattle.mdl_core.specs.Seats.{SeatView, without_ticket, with_ticket_in, own_of, numbers_of, settling, with_ticket_of}
+use Rattle.mdl_core.specs.Seats.{SeatView, without_ticket, with_ticket_in, locks_of_seat, numbers_of_seat, with_settled_wait, with_ticket_of}
 use Rattle.mdl_core.specs.SessionLaws.{MeetsLimit}
-use Rattle.mdl_core.specs.Ties.{IsTied, IsNumbered, in_book_of}
+use Rattle.mdl_core.specs.Ties.{IsTied, HasRisingNumbers, in_book_of}
 use Rattle.mdl_core.proofs.CallCases.{Through, test_cases, option_cases, not_false, not_true, exclusive-is, cause_cases}
 use Rattle.mdl_core.proofs.ChangeSeats.{merged_place}
 use Rattle.mdl_core.proofs.CoreGranted.{free-grantable}
@@ -55,18 +55,18 @@ none_there None e = refl
 none_there (Some x) e = cc
 
 -- a session waits where its seat has a wait
-waiting-same : (seat : SeatView) → is_waiting (own_of seat) ≡ is_some seat.wait
-waiting-same seat = elim seat.wait as (λ o. is_waiting (own_of (record seat { wait = o })) ≡ is_some o) [ None ↦ refl | Some wait ↦ refl ]
+waiting-same : (seat : SeatView) → is_waiting (locks_of_seat seat) ≡ is_some seat.wait
+waiting-same seat = elim seat.wait as (λ o. is_waiting (locks_of_seat (record seat { wait = o })) ≡ is_some o) [ None ↦ refl | Some wait ↦ refl ]
 
 -- the number of a wait, as its session has it
-pub number-same : (seat : SeatView) → option_map (λ (wait : Pending). wait.number) seat.wait ≡ wait_number (own_of seat)
-number-same seat = elim seat.wait as (λ o. option_map (λ (wait : Pending). wait.number) o ≡ wait_number (own_of (record seat { wait = o }))) [
+pub number-same : (seat : SeatView) → option_map (λ (wait : Pending). wait.number) seat.wait ≡ wait_number (locks_of_seat seat)
+number-same seat = elim seat.wait as (λ o. option_map (λ (wait : Pending). wait.number) o ≡ wait_number (locks_of_seat (record seat { wait = o }))) [
   | None ↦ refl
   | Some wait ↦ refl
 ]
 
 -- the ticket that is waited for was given the last number
-last-waits : (seat : SeatView) (wait : Pending) → IsNumbered seat → seat.wait ≡ Some wait → wait.id ≡ seat.last_ticket
+last-waits : (seat : SeatView) (wait : Pending) → HasRisingNumbers seat → seat.wait ≡ Some wait → wait.id ≡ seat.last_ticket
 last-waits seat wait numbers its =
     let h = subst
     (λ (o : Option Pending). MatchOption o (Unit {0}) (λ (w : Pending).
@@ -102,8 +102,8 @@ module _ (seat : SeatView) (rising : AllPairs below seat.held) (id : ℕ) (ticke
   that-one t among e = same-number seat.held rising t ticket among held (eqb-true _ _ e ∙ sym its)
 
   -- the mode that it has already
-  own-kept : f ticket.mode ≡ ticket.mode → changing_own id f (own_of seat) ≡ own_of seat
-  own-kept stays = λ i. record (own_of seat) { held = map-same _ seat.held (λ t among. by t among (is_number id t) refl) i }
+  own-kept : f ticket.mode ≡ ticket.mode → changing_own id f (locks_of_seat seat) ≡ locks_of_seat seat
+  own-kept stays = λ i. record (locks_of_seat seat) { held = map-same _ seat.held (λ t among. by t among (is_number id t) refl) i }
     where
       by : (t : Held) → Contains seat.held t → (b : Bool) → is_number id t ≡ b → (if b then record t { mode = f t.mode } else t) ≡ t
       by t among true e =
@@ -113,10 +113,10 @@ module _ (seat : SeatView) (rising : AllPairs below seat.held) (id : ℕ) (ticke
       by t among false e = refl
 
   -- another
-  own-changed : (mode : Mode) → f ticket.mode ≡ mode → own_of (with_ticket_in ticket.id mode seat) ≡ changing_own id f (own_of seat)
+  own-changed : (mode : Mode) → f ticket.mode ≡ mode → locks_of_seat (with_ticket_in ticket.id mode seat) ≡ changing_own id f (locks_of_seat seat)
   own-changed mode is =
-      ap (λ n. own_of (with_ticket_in n mode seat)) its
-      ∙ (λ i. record (own_of seat) { held = map-agree _ _ seat.held (λ t among. by t among (is_number id t) refl) i })
+      ap (λ n. locks_of_seat (with_ticket_in n mode seat)) its
+      ∙ (λ i. record (locks_of_seat seat) { held = map-agree _ _ seat.held (λ t among. by t among (is_number id t) refl) i })
     where
       by : (t : Held) → Contains seat.held t → (b : Bool) → is_number id t ≡ b
           → (if b then record t { mode = mode } else t) ≡ (if b then record t { mode = f t.mode } else t)
@@ -138,7 +138,7 @@ module _ (a : Core) where
 
   module _ (who : ℕ) where
     -- whether it waits
-    waits_so : (answer : Bool) → is_some (seat_at who a).wait ≡ answer → is_waiting (own_at a who) ≡ answer
+    waits_so : (answer : Bool) → is_some (seat_at who a).wait ≡ answer → is_waiting (locks_at a who) ≡ answer
     waits_so answer e = waiting-same (seat_at who a) ∙ e
 
     -- whether a mode is of the kind of the key that it knows at a place
@@ -153,7 +153,7 @@ module _ (a : Core) where
     unknown place e key knows = let f = knows.0 in cc
 
     -- a ticket that it holds
-    of_held : (id : ℕ) (ticket : Held) (P : Held → Type 0) → held_ticket who id a ≡ Some ticket → P ticket → OfHeld id (own_at a who) P
+    of_held : (id : ℕ) (ticket : Held) (P : Held → Type 0) → held_ticket who id a ≡ Some ticket → P ticket → OfHeld id (locks_at a who) P
     of_held id ticket P e p = subst (λ (o : Option Held). MatchOption o ⊥ P) (sym e) p
 
     in_hand : (id : ℕ) (ticket : Held) → held_ticket who id a ≡ Some ticket → Contains (seat_at who a).held ticket × (ticket.id ≡ id)
@@ -185,11 +185,11 @@ module _ (a : Core) where
         ]
 
     -- by its wait
-    idle_so : (seat_at who a).wait ≡ None → (is_waiting (own_at a who) ≡ false) × ((how : Settled) → HasSettled (seat_at who a) how → ⊥)
+    idle_so : (seat_at who a).wait ≡ None → (is_waiting (locks_at a who) ≡ false) × ((how : Settled) → HasSettled (seat_at who a) how → ⊥)
     idle_so none = (waits_so false (ap is_some none), λ how has. none_settled (seat_at who a) how none has)
 
     module _ (wait : Pending) (its : (seat_at who a).wait ≡ Some wait) where
-      waiting_so : is_waiting (own_at a who) ≡ true
+      waiting_so : is_waiting (locks_at a who) ≡ true
       waiting_so = waits_so true (ap is_some its)
 
       not_so : wait.settled ≡ None → (how : Settled) → HasSettled (seat_at who a) how → ⊥
@@ -204,8 +204,8 @@ module _ (a : Core) where
   F = Comes a
 
   -- what a call does to its caller, and tells it
-  tells : {call : Call} {answer : Answer} {way : Way} {who : ℕ} → own_of (seat_by way who a) ≡ own_after call answer (own_at a who)
-      → Draws call answer (numbers_at a who) (numbers_of (seat_by way who a)) → IsExplained (Knows a who) call answer (own_at a who)
+  tells : {call : Call} {answer : Answer} {way : Way} {who : ℕ} → locks_of_seat (seat_by way who a) ≡ own_after call answer (locks_at a who)
+      → Draws call answer (numbers_at a who) (numbers_of_seat (seat_by way who a)) → IsExplained (Knows a who) call answer (locks_at a who)
       → ((how : Settled) → HasSettled (seat_at who a) how → IsToldOf how call answer) → ServesCaller a call answer way who
   tells own draws explained agrees = record { own = own; draws = draws; explained = explained; agrees = agrees }
 
@@ -219,12 +219,12 @@ module _ (a : Core) where
   stays fits calm so caller = record { way = Stay; is = record { fits = fits; is_way = calm; so = so; caller = caller }; leads = refl }
 
   -- refused by this cause
-  pub refused : {call : Call} (who : ℕ) (refusal : SpaceError) → caller call ≡ Some who → IsCause (Knows a who) call refusal (own_at a who)
+  pub refused : {call : Call} (who : ℕ) (refusal : SpaceError) → caller call ≡ Some who → IsCause (Knows a who) call refusal (locks_at a who)
       → ((how : Settled) → HasSettled (seat_at who a) how → IsToldOf how call (Refused refusal)) → MeetsLimit a call refusal → F call (Refused refusal, a)
   refused {call} who refusal mine cause agrees limit =
       let plain = refusal-plain a call who refusal mine in
       stays plain.0 plain.1 limit
-      (subst (λ o. IfSome o (ServesCaller a call (Refused refusal) Stay)) (sym mine) (tells (plain.2 (own_at a who)) (plain.3 (numbers_at a who)) cause agrees))
+      (subst (λ o. IfSome o (ServesCaller a call (Refused refusal) Stay)) (sym mine) (tells (plain.2 (locks_at a who)) (plain.3 (numbers_at a who)) cause agrees))
 
   -- the caller makes a change
   makes : {call : Call} {answer : Answer} (who place : ℕ) (change : Change) → May who place change a → (event : Event Redefinition)
@@ -246,7 +246,7 @@ module _ (a : Core) where
   -- a wait is lost, and is settled so then
   loses : {call : Call} {answer : Answer} (who : ℕ) (how : Settled) (wait : Pending) → has_key wait.place a ≡ true → has_session who a ≡ true
       → (seat_at who a).wait ≡ Some wait → wait.settled ≡ None → how ≢ settled_as.Granted
-      → IsEventOf a call answer (SettleLost (key_at wait.place a) (waiter_of (waiting_ticket who wait) (Some wait)) (state_of (Some how)))
+      → IsEventOf a call answer (SettleLost (key_at wait.place a) (system_waiter (ticket_of_wait who wait) (Some wait)) (wait_state_of (Some how)))
       → is_answer_of call answer ≡ true → (HasSettled (seat_at who (losing who how a)) how → IsSo a call answer (losing who how a))
       → IfSome (caller call) (ServesCaller a call answer (Settle_wait who wait.place how)) → F call (answer, losing who how a)
   loses who how wait key is its free other call_is fits so caller = record {
@@ -255,13 +255,13 @@ module _ (a : Core) where
       fits = fits;
       is_way = record {
         may = record { session = is; key = key; allows = ((wait, its, free, refl), other) };
-        event = SettleLost (key_at wait.place a) (waiter_of (waiting_ticket who wait) (Some wait)) (state_of (Some how));
+        event = SettleLost (key_at wait.place a) (system_waiter (ticket_of_wait who wait) (Some wait)) (wait_state_of (Some how));
         change_is = (wait, its, refl);
         call_is = call_is;
         cause = tt;
       };
-      so = so (subst (λ s. HasSettled s how) (sym (seated-same a who (settling how (seat_at who a)) is))
-          (settled_at (settling how (seat_at who a)) (record wait { settled = Some how }) how
+      so = so (subst (λ s. HasSettled s how) (sym (seated-same a who (with_settled_wait how (seat_at who a)) is))
+          (settled_at (with_settled_wait how (seat_at who a)) (record wait { settled = Some how }) how
           (ap (λ (o : Option Pending). option_map (λ (w : Pending). record w { settled = Some how }) o) its) refl));
       caller = caller;
     };
@@ -272,20 +272,20 @@ module _ (a : Core) where
     -- a lock that may be asked for, and is free or not
     record IsAskable (who place : ℕ) (mode : Mode) : Type 0 where
       may : May who place (Gain mode) a
-      clear : (is_waiting (own_at a who) ≡ false) × IsFit (Knows a who) place mode
-      free : is_free who place mode a ≡ true → IsGrantable (system_of a) who (key_at place a) mode
-      busy : not (is_free who place mode a) ≡ true → IsGrantable (system_of a) who (key_at place a) mode → ⊥
+      clear : (is_waiting (locks_at a who) ≡ false) × IsFit (Knows a who) place mode
+      free : is_free_for who place mode a ≡ true → IsGrantable (system_of a) who (key_at place a) mode
+      busy : not (is_free_for who place mode a) ≡ true → IsGrantable (system_of a) who (key_at place a) mode → ⊥
 
     -- it is asked for by a call that is refused as trying is
     asked : {call : Call} {outcome : Answer × Core} (who place : ℕ) (mode : Mode) → has_session who a ≡ true
-        → ((refusal : SpaceError) → IsCause (Knows a who) (Try_now who place mode) refusal (own_at a who) → MeetsLimit a (Try_now who place mode) refusal
+        → ((refusal : SpaceError) → IsCause (Knows a who) (Try_now who place mode) refusal (locks_at a who) → MeetsLimit a (Try_now who place mode) refusal
         → F call (Refused refusal, a))
         → (IsAskable who place mode → F call outcome) → F call (refused_or (first_cause (request_causes who place mode a)) a outcome)
     asked {call} {outcome} who place mode is refuse other =
         cause_cases (F call) a outcome (request_causes who place mode a) ((λ e. refuse NoPlace (unknown who place (not_true _ e)) (not_true _ e)), by)
       where
         clear : is_some (seat_at who a).wait ≡ false → not (is_mode_of (lock_kind (book_at place a)) mode) ≡ false
-            → (is_waiting (own_at a who) ≡ false) × IsFit (Knows a who) place mode
+            → (is_waiting (locks_at a who) ≡ false) × IsFit (Knows a who) place mode
         clear idle fits = (waits_so who false idle, fit who place mode (not_false _ fits))
 
         by : not (has_key place a) ≡ false → Through (F call) a outcome (drop 1 (request_causes who place mode a))
@@ -333,7 +333,7 @@ module _ (a : Core) where
         (λ _. makes who place (Gain mode) ask.may (Grant (record { session = who; number = _; key = key_at place a; mode = mode }))
         (inl (refl, ask.free (not_false _ free)), refl, tt) (refl, λ e. cc) refl tt (tells refl (refl, refl) ask.clear (λ _ _. tt)))))
       where
-        refuse : (refusal : SpaceError) → IsCause (Knows a who) (Try_now who place mode) refusal (own_at a who) → MeetsLimit a (Try_now who place mode) refusal
+        refuse : (refusal : SpaceError) → IsCause (Knows a who) (Try_now who place mode) refusal (locks_at a who) → MeetsLimit a (Try_now who place mode) refusal
             → F (Begin_wait who place mode) (Refused refusal, a)
         refuse NoPlace cause limit = refused who NoPlace refl cause (λ _ _. tt) limit
         refuse _ cause limit = refused who _ refl cause (λ _ _. tt) limit
@@ -364,12 +364,12 @@ module _ (a : Core) where
         (λ wait its. at wait its wait.settled refl)
       where
         left : (wait : Pending) → (seat_at who a).wait ≡ Some wait → (how : Settled) → wait.settled ≡ Some how → how ≢ settled_as.Granted
-            → is_answer_of (End_wait who) (Lost how) ≡ true → IsEndOf how (Lost how) → F (End_wait who) (Lost how, serving wait.place (leaving who wait a))
+            → is_answer_of (End_wait who) (Lost how) ≡ true → IsEndOf how (Lost how) → F (End_wait who) (Lost how, serving wait.place (ending_lost who wait a))
         left wait its how settled other fits end =
             makes who wait.place (Leave wait)
             (record { session = is; key = wait_placed a who wait tied is its; allows = (its, (λ e. other (let f = sym settled ∙ e in cc)), refl) })
-            (EndLostWait (key_at wait.place a) (waiter_of (waiting_ticket who wait) (Some wait)))
-            ((refl, λ e. (let f = sym settled ∙ e in cc)), (_, _, refl, ap state_of settled, refl), tt) (refl, λ e. refl) fits tt
+            (EndLostWait (key_at wait.place a) (system_waiter (ticket_of_wait who wait) (Some wait)))
+            ((refl, λ e. (let f = sym settled ∙ e in cc)), (_, _, refl, ap wait_state_of settled, refl), tt) (refl, λ e. refl) fits tt
             (tells refl refl (waiting_so who wait its) (λ h has. subst (λ g. IsEndOf g (Lost how)) (same_settled who wait its how h settled has) end))
 
         at : (wait : Pending) → (seat_at who a).wait ≡ Some wait → (s : Option Settled) → wait.settled ≡ s → F (End_wait who) (ending_at who wait s a)
@@ -378,7 +378,7 @@ module _ (a : Core) where
             makes who wait.place (Take_up wait)
             (record { session = is; key = wait_placed a who wait tied is its; allows = (its, won, refl) })
             (EndGrantedWait (record { session = who; wait = wait.number; ticket = wait.id })) (refl, (wait.number, refl), tt) (refl, λ e. refl) refl tt
-            (tells (subst (λ (o : Option Pending). own_of (with_ticket_of wait (seat_at who a)) ≡ winning wait.id (option_map as_wait o) (own_at a who)) (sym its) refl)
+            (tells (subst (λ (o : Option Pending). locks_of_seat (with_ticket_of wait (seat_at who a)) ≡ winning wait.id (option_map as_wait o) (locks_at a who)) (sym its) refl)
             (last-waits (seat_at who a) wait (tied.numbered who is) its, refl) (waiting_so who wait its)
             (λ h has. subst (λ g. IsEndOf g (Granted wait.id)) (same_settled who wait its settled_as.Granted h won has) (wait.id, refl)))
         at wait its (Some settled_as.Victim) e = left wait its settled_as.Victim e (λ x. cc) refl refl
@@ -396,7 +396,7 @@ module _ (a : Core) where
         (λ ticket e. (let mine = in_hand who id ticket e in
         makes who ticket.place (Lose ticket)
         (record { session = is; key = tied.placed who ticket is (inl (inl mine.0)); allows = (mine.0, refl) }) (Give_up (holding_of who ticket a))
-        (refl, (_, refl, mine.1, refl), tt) (refl, λ f. cc) refl tt (tells (ap (λ n. giving_up n (own_at a who)) mine.1) refl (ap is_some e) (λ _ _. tt))))
+        (refl, (_, refl, mine.1, refl), tt) (refl, λ f. cc) refl tt (tells (ap (λ n. giving_up n (locks_at a who)) mine.1) refl (ap is_some e) (λ _ _. tt))))
     made (Clone_ticket who id mode) has is =
         option_cases (λ o. F (Clone_ticket who id mode) (cloning_of who mode o a)) (held_ticket who id a)
         (λ none. refused who NotHeld refl (ap is_some none) (λ _ _. tt) tt)
@@ -406,7 +406,7 @@ module _ (a : Core) where
             (λ f. refused who BadMode refl (waits_so who false idle, of_held who id ticket (MayNotClone (Knows a who) mode) e (not_clonable who mode ticket (not_true _ f))) (λ _ _. tt) tt),
             λ may. (
                 let able = and_parts (covers ticket.mode mode) (is_mode_of (lock_kind (book_at ticket.place a)) mode) (not_false _ may) in
-                let clear : (is_waiting (own_at a who) ≡ false) × OfHeld id (own_at a who) (MayClone (Knows a who) mode) =
+                let clear : (is_waiting (locks_at a who) ≡ false) × OfHeld id (locks_at a who) (MayClone (Knows a who) mode) =
                 (waits_so who false idle, of_held who id ticket (MayClone (Knows a who) mode) e (able.0, fit who ticket.place mode able.1)) in
                 let mine = in_hand who id ticket e in
                 let key : has_key ticket.place a ≡ true = tied.placed who ticket is (inl (inl mine.0)) in
@@ -417,7 +417,7 @@ module _ (a : Core) where
                       (Clone (holding_of who ticket a) (record { session = who; number = _; key = key_at ticket.place a; mode = mode }))
                       (inr (ticket, mine.0, refl, covers-at_least (lock_kind (book_at ticket.place a)) ticket.mode mode legal able.1 able.0, refl), (_, refl, mine.1, refl), tt)
                       (refl, λ f. cc) refl tt
-                      (tells (ap (λ o. cloning_own ((seat_at who a).last_ticket + 1) mode o (own_at a who)) (sym e)) (refl, refl) clear (λ _ _. tt))),
+                      (tells (ap (λ o. cloning_own ((seat_at who a).last_ticket + 1) mode o (locks_at a who)) (sym e)) (refl, refl) clear (λ _ _. tt))),
                 )),
           ),
         ))
@@ -428,7 +428,7 @@ module _ (a : Core) where
           (λ f. refused who NotUpgradable refl (of_held who id ticket (MayNotUpgrade (Knows a who) mode) e (not_upgradable who mode ticket (not_true _ f))) (λ _ _. tt) tt),
           λ may. (
               let able = and_parts (covers ticket.mode mode || may_upgrade ticket.mode mode) (is_mode_of (lock_kind (book_at ticket.place a)) mode) (not_false _ may) in
-              let clear : OfHeld id (own_at a who) (MayUpgrade (Knows a who) mode) =
+              let clear : OfHeld id (locks_at a who) (MayUpgrade (Knows a who) mode) =
               of_held who id ticket (MayUpgrade (Knows a who) mode) e (able.0, fit who ticket.place mode able.1) in (
                 (λ f. refused who AlreadyWaiting refl (waits_so who true f, clear) (λ _ _. tt) tt),
                 λ idle. under ticket e idle able.0 able.1 clear,
@@ -437,10 +437,10 @@ module _ (a : Core) where
       where
         under : (ticket : Held) → held_ticket who id a ≡ Some ticket → is_some (seat_at who a).wait ≡ false
             → (covers ticket.mode mode || may_upgrade ticket.mode mode) ≡ true → is_mode_of (lock_kind (book_at ticket.place a)) mode ≡ true
-            → OfHeld id (own_at a who) (MayUpgrade (Knows a who) mode) → F (Upgrade_now who id mode) (upgraded_if_free who mode ticket a)
+            → OfHeld id (locks_at a who) (MayUpgrade (Knows a who) mode) → F (Upgrade_now who id mode) (upgraded_if_free who mode ticket a)
         under ticket e idle able fits may =
             let mine = in_hand who id ticket e in
-            let clear : (is_waiting (own_at a who) ≡ false) × OfHeld id (own_at a who) (MayUpgrade (Knows a who) mode) = (waits_so who false idle, may) in
+            let clear : (is_waiting (locks_at a who) ≡ false) × OfHeld id (locks_at a who) (MayUpgrade (Knows a who) mode) = (waits_so who false idle, may) in
             let rising = pairs-from_rising (seat_at who a).held (tied.numbered who is).rising in
             let key : has_key ticket.place a ≡ true = tied.placed who ticket is (inl (inl mine.0)) in
             let free = free-grantable a who ticket.place mode tied key in
@@ -457,7 +457,7 @@ module _ (a : Core) where
             (tells (own-changed (seat_at who a) rising id ticket mine.0 mine.1 (upgraded mode) mode (ap (λ b. if b then ticket.mode else mode) weak)) refl clear (λ _ _. tt))))))
     made (Merge who old new) has is =
         option_cases (λ o. F (Merge who old new) (merging_of who o (held_ticket who new a) a)) (held_ticket who old a)
-        (λ none. refused who NotHeld refl (ap (λ (o : Option Held). is_some o && holds new (own_at a who)) none) (λ _ _. tt) tt)
+        (λ none. refused who NotHeld refl (ap (λ (o : Option Held). is_some o && holds new (locks_at a who)) none) (λ _ _. tt) tt)
         (λ kept e. option_cases (λ o. F (Merge who old new) (merging_of who (Some kept) o a)) (held_ticket who new a)
         (λ none. refused who NotHeld refl (λ i. is_some (e i) && is_some (none i)) (λ _ _. tt) tt)
         (λ gone g. cause_cases (F (Merge who old new)) a _ (merge_causes who kept gone a) (
@@ -473,19 +473,19 @@ module _ (a : Core) where
                   key = tied.placed who kept is (inl (inl mine.0));
                   allows = (none_there _ idle, mine.0, other.0, refl, sym (merged_place kept gone fits), fits);
                 }) (Unite (holding_of who kept a) (holding_of who gone a)) (refl, (_, _, refl, mine.1, refl, other.1, refl), tt) (refl, λ f. cc) refl tt
-                (tells (own-merged kept gone mine.1 other.1 ∙ ap (λ o. merging_own old new o (own_at a who)) (sym g)) refl
+                (tells (own-merged kept gone mine.1 other.1 ∙ ap (λ o. merging_own old new o (locks_at a who)) (sym g)) refl
                 (waits_so who false idle, both kept gone e g true fits) (λ _ _. tt))),
           ),
         )))
       where
         both : (kept gone : Held) → held_ticket who old a ≡ Some kept → held_ticket who new a ≡ Some gone → (answer : Bool) → may_merge kept gone ≡ answer
-            → Mergeable answer old new (own_at a who)
-        both kept gone e g answer is = of_held who old kept (λ k. OfHeld new (own_at a who) (λ h. may_merge k h ≡ answer)) e
+            → Mergeable answer old new (locks_at a who)
+        both kept gone e g answer is = of_held who old kept (λ k. OfHeld new (locks_at a who) (λ h. may_merge k h ≡ answer)) e
             (of_held who new gone (λ h. may_merge kept h ≡ answer) g is)
 
         own-merged : (kept gone : Held) → kept.id ≡ old → gone.id ≡ new
-            → own_of (with_ticket_in kept.id gone.mode (without_ticket gone.id (seat_at who a))) ≡ changing_own old (λ _. gone.mode) (giving_up new (own_at a who))
-        own-merged kept gone one other = λ i. changing_own (one i) (λ _. gone.mode) (giving_up (other i) (own_at a who))
+            → locks_of_seat (with_ticket_in kept.id gone.mode (without_ticket gone.id (seat_at who a))) ≡ changing_own old (λ _. gone.mode) (giving_up new (locks_at a who))
+        own-merged kept gone one other = λ i. changing_own (one i) (λ _. gone.mode) (giving_up (other i) (locks_at a who))
     made (Downgrade who id mode) has is =
         option_cases (λ o. F (Downgrade who id mode) (downgrading_of who mode o a)) (held_ticket who id a)
         (λ none. refused who NotHeld refl (ap is_some none) (λ _ _. tt) tt)
@@ -497,7 +497,7 @@ module _ (a : Core) where
         (makes who ticket.place (Alter ticket mode)
         (record { session = is; key = tied.placed who ticket is (inl (inl mine.0)); allows = (mine.0, refl, able.1) }) (Lower (holding_of who ticket a) mode)
         (inr (refl, able.0), (_, refl, mine.1, refl), tt) (refl, λ g. cc) refl tt
-        (tells (ap (λ n. changing_own n (λ _. mode) (own_at a who)) mine.1) refl
+        (tells (ap (λ n. changing_own n (λ _. mode) (locks_at a who)) mine.1) refl
         (of_held who id ticket (MayDowngrade (Knows a who) mode) e (able.0, fit who ticket.place mode able.1)) (λ _ _. tt))))))
     made (Read_definition who id) has is =
         option_cases (λ o. F (Read_definition who id) (reading_of o a)) (held_ticket who id a)
@@ -515,8 +515,8 @@ module _ (a : Core) where
         (λ exclusive. under_x ticket e (not_false _ exclusive)))
       where
         -- memory isn't wanting for what stands
-        own_cause : (why : DefError) → why ≢ fault.OutOfMemory → OfHeld id (own_at a who) (λ t. same_mode t.mode X ≡ true)
-            → IsCause (Knows a who) (Change_definition who id change) (Def why) (own_at a who)
+        own_cause : (why : DefError) → why ≢ fault.OutOfMemory → OfHeld id (locks_at a who) (λ t. same_mode t.mode X ≡ true)
+            → IsCause (Knows a who) (Change_definition who id change) (Def why) (locks_at a who)
         own_cause fault.OutOfMemory apart clear = absurd (apart refl)
         own_cause _ apart clear = clear
 

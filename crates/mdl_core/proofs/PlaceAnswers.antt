@@ -18,7 +18,7 @@ use Rattle.mdl_core.specs.CoreCalls.{is_full, placing, resolve_outcome, key_of_o
 use Rattle.mdl_core.specs.CoreJoins.{numbers_at}
 use Rattle.mdl_core.specs.Cores.{Core, book_at, seat_at, key_at, has_key, index_of}
 use Rattle.mdl_core.specs.CoreSystems.{granted_in, book_of, waiter_in, system_of}
-use Rattle.mdl_core.specs.Determined.{Right, Only, Needs, key_of, AtPlace, ToResolve, HasRoom, ToGrant, ToWait, places_of}
+use Rattle.mdl_core.specs.Determined.{Right, Only, Requires, key_of_place, AtPlace, ToResolve, LockHasRoom, ToGrant, ToWait, places_of}
 use Rattle.mdl_core.specs.Ties.{IsTied}
 use Rattle.mdl_system.specs.Words.{in_book, of_lock, Holding}
 use Rattle.mdl_core.proofs.CallCases.{test_cases, option_cases, not_false, not_true}
@@ -32,7 +32,7 @@ use Rattle.mdl_system.proofs.MemberLemmas.{Contains-map, Contains-map_from}
 -- ---- the key of a place
 
 module _ (core : Core) where
-  pub key_of-place : (place : ℕ) → has_key place core ≡ true → key_of (places_of core) place ≡ Some (key_at place core)
+  pub key_of-place : (place : ℕ) → has_key place core ≡ true → key_of_place (places_of core) place ≡ Some (key_at place core)
   key_of-place zero has = cc
   key_of-place (suc index) has =
       let fits = within (suc index) (length core.books) has in
@@ -41,14 +41,14 @@ module _ (core : Core) where
       ∙ ap (option_map (λ (book : BookView). book.key)) (slice_get-get_or core.books index (empty_book global_key) (omega arith))
       ∙ ap (λ n. Some (slice_index_or core.books n (empty_book global_key)).key) (sym here)
 
-  pub key_of-nowhere : (place : ℕ) → has_key place core ≡ false → key_of (places_of core) place ≡ None
+  pub key_of-nowhere : (place : ℕ) → has_key place core ≡ false → key_of_place (places_of core) place ≡ None
   key_of-nowhere zero absent = refl
   key_of-nowhere (suc index) absent =
       let past : length core.books ≤ index = grind (arith, nat_tests) in
       slice_get-map (λ (book : BookView). book.key) core.books index
       ∙ ap (option_map (λ (book : BookView). book.key)) (slice_get_past core.books index past)
 
-  pub place-of_key : (place : ℕ) (key : KeyName) → key_of (places_of core) place ≡ Some key → (has_key place core ≡ true) × (key_at place core ≡ key)
+  pub place-of_key : (place : ℕ) (key : KeyName) → key_of_place (places_of core) place ≡ Some key → (has_key place core ≡ true) × (key_at place core ≡ key)
   place-of_key place key is = go (has_key place core) refl
     where
       go : (b : Bool) → has_key place core ≡ b → (has_key place core ≡ true) × (key_at place core ≡ key)
@@ -109,7 +109,7 @@ module _ (core : Core) where
           there (inr (nowhere, rest)) = absurd (nowhere (subst (Contains (places_of core).keys) at.1 (listed (index + 1) at.0)))
 
       nowhere-else : (x : Answer) → index_of key core.books ≡ None
-          → IsAnswer (Needs (length (places_of core).keys < core.places) NoPlace (Only (At_place (length (places_of core).keys + 1)))) x
+          → IsAnswer (Requires (length (places_of core).keys < core.places) NoPlace (Only (At_place (length (places_of core).keys + 1)))) x
           → IsAnswer (ToResolve (places_of core) key) x
       nowhere-else x none its y = (there, λ is. inr (unlisted tied key none, (its y).1 is))
         where
@@ -139,7 +139,7 @@ module _ (core : Core) where
         ∙ ap (λ (book : BookView). length book.waiting) (book_of-at core place tied has)
 
     -- distinct granted tickets of the key are no more than stand in its book
-    pub room : is_full place core ≡ false → HasRoom (system_of core) (key_at place core)
+    pub room : is_full place core ≡ false → LockHasRoom (system_of core) (key_at place core)
     room some tickets distinct among =
         let book = book_at place core in
         let in_list : (ticket : Holding) → Contains tickets ticket → Contains (granted_in book) ticket = λ ticket its.
@@ -155,7 +155,7 @@ module _ (core : Core) where
         grind (arith, nat_tests)
 
     -- and all that stand there are distinct
-    pub no-room : is_full place core ≡ true → HasRoom (system_of core) (key_at place core) → ⊥
+    pub no-room : is_full place core ≡ true → LockHasRoom (system_of core) (key_at place core) → ⊥
     no-room full some =
         let book = book_at place core in
         let distinct : AllPairs (λ (one other : Holding). one ≢ other) (granted_in book) =

@@ -18,10 +18,10 @@ use Rattle.mdl_calls.specs.declared.space_error.SpaceError.{SpaceError}
 use Rattle.mdl_calls.specs.declared.space_error.SpaceError.TheVariants.{OutOfMemory}
 use Rattle.mdl_calls.specs.Words.{Answer, Refused, takes_memory, Call, Resolve, Try_now, Begin_wait, Search, Poll_wait, Settle_timeout, End_wait, Wait_of, Kill, Release, Clone_ticket, Upgrade_now, Merge, Downgrade, Read_definition, Read_kept, Change_definition, Key_of, Tables_of, List_held}
 use Rattle.mdl_core.specs.declared.pending.Pending.{Pending}
-use Rattle.mdl_core.specs.Changes.{Change, Gain, Lose, Queue, Admit, Settle, Leave, Take_up, Alter, Fold, Redefine, seat_after, book_after, is_of_book, booked_if, changing, next_ready, admitting_if, serving}
+use Rattle.mdl_core.specs.Changes.{Change, Gain, Lose, Queue, Admit, Settle, Leave, Take_up, Alter, Fold, Redefine, seat_after, book_after, is_of_book, booked_if, after_change, next_ready, admitting_if, serving}
 unfoldable use Rattle.mdl_core.specs.Changes.{admitting_up_to}
 use Rattle.mdl_core.specs.CoreCalls.{has_call, outcome, Makes, placing, resolve_outcome, refused_or, is_full, granted_unless_full, queued_unless_full, cloning_of, upgrading_of, is_lower, downgrading_of, merging_of, held_ticket, releasing_of, polling_of, timing_out_at, timing_out_of, ending_at, ending_of, is_open_wait, wait_at, searching_of, victim_at, reading_of, redefining_of, redefining_fault, redefined_unless}
-use Rattle.mdl_core.specs.Cores.{Core, book_at, seat_at, index_of, is_free, has_key}
+use Rattle.mdl_core.specs.Cores.{Core, book_at, seat_at, index_of, is_free_for, has_key}
 use Rattle.mdl_core.specs.Determined.{Places, places_of, PlacesAfter, PlacesAndNumbersFollow}
 use Rattle.mdl_core.specs.Seats.{SeatView}
 use Rattle.mdl_core.specs.Ties.{IsTied}
@@ -63,7 +63,7 @@ module _ (place : ℕ) where
   keeps-booking core book seats same =
       λ i. record { keys = keys-set core.books (place - 1) book (empty_book global_key) same i; most = core.places }
 
-  keeps-changing : (who : ℕ) (change : Change) (core : Core) → Keeps core (changing who place change core)
+  keeps-changing : (who : ℕ) (change : Change) (core : Core) → Keeps core (after_change who place change core)
   keeps-changing who change core = go (is_of_book change)
     where
       go : (b : Bool) → Keeps core (booked_if b place (book_after who (seat_at who core) change (book_at place core))
@@ -112,23 +112,23 @@ module _ (a : Core) where
   release-keeps : (who : ℕ) (o : Option Held) → Stays (releasing_of who o a)
   release-keeps who None = refl
   release-keeps who (Some ticket) =
-      keeps-serving ticket.place (changing who ticket.place (Lose ticket) a) ∙ keeps-changing ticket.place who (Lose ticket) a
+      keeps-serving ticket.place (after_change who ticket.place (Lose ticket) a) ∙ keeps-changing ticket.place who (Lose ticket) a
 
   upgrade-keeps : (who : ℕ) (mode : Mode) (o : Option Held) → Stays (upgrading_of who mode o a)
   upgrade-keeps who mode None = refl
   upgrade-keeps who mode (Some ticket) = unless-refused _ _ (either (covers ticket.mode mode) _ _ refl
-      (either (not (is_free who ticket.place mode a)) _ _ refl (keeps-changing ticket.place who (Alter ticket mode) a)))
+      (either (not (is_free_for who ticket.place mode a)) _ _ refl (keeps-changing ticket.place who (Alter ticket mode) a)))
 
   downgrade-keeps : (who : ℕ) (mode : Mode) (o : Option Held) → Stays (downgrading_of who mode o a)
   downgrade-keeps who mode None = refl
   downgrade-keeps who mode (Some ticket) = either (not (is_lower mode ticket a)) _ _ refl
-      (keeps-serving ticket.place (changing who ticket.place (Alter ticket mode) a) ∙ keeps-changing ticket.place who (Alter ticket mode) a)
+      (keeps-serving ticket.place (after_change who ticket.place (Alter ticket mode) a) ∙ keeps-changing ticket.place who (Alter ticket mode) a)
 
   merge-keeps : (who : ℕ) (o p : Option Held) → Stays (merging_of who o p a)
   merge-keeps who None p = refl
   merge-keeps who (Some old) None = refl
   merge-keeps who (Some old) (Some new) =
-      unless-refused _ _ (keeps-serving old.place (changing who old.place (Fold old new) a) ∙ keeps-changing old.place who (Fold old new) a)
+      unless-refused _ _ (keeps-serving old.place (after_change who old.place (Fold old new) a) ∙ keeps-changing old.place who (Fold old new) a)
 
   poll-keeps : (o : Option Pending) → Stays (polling_of o a)
   poll-keeps None = refl
@@ -146,8 +146,8 @@ module _ (a : Core) where
   end-keeps who None = refl
   end-keeps who (Some wait) = at wait.settled
     where
-      lost : Keeps a (serving wait.place (changing who wait.place (Leave wait) a))
-      lost = keeps-serving wait.place (changing who wait.place (Leave wait) a) ∙ keeps-changing wait.place who (Leave wait) a
+      lost : Keeps a (serving wait.place (after_change who wait.place (Leave wait) a))
+      lost = keeps-serving wait.place (after_change who wait.place (Leave wait) a) ∙ keeps-changing wait.place who (Leave wait) a
 
       at : (settled : Option Settled) → Stays (ending_at who wait settled a)
       at None = refl
@@ -180,9 +180,9 @@ is_resolve _ = false
 -- no other call changes the places
 pub places-kept : (a : Core) (call : Call) → is_resolve call ≡ false → has_call call ≡ true → places_of (outcome call a).1 ≡ places_of a
 places-kept a (Resolve who key) other has = cc
-places-kept a (Try_now who place mode) other has = unless-refused a _ _ (either a (not (is_free who place mode a)) _ _ refl (grant-keeps a who place mode))
+places-kept a (Try_now who place mode) other has = unless-refused a _ _ (either a (not (is_free_for who place mode a)) _ _ refl (grant-keeps a who place mode))
 places-kept a (Begin_wait who place mode) other has =
-    unless-refused a _ _ (either a (not (is_free who place mode a)) _ _ (queue-keeps a who place mode) (grant-keeps a who place mode))
+    unless-refused a _ _ (either a (not (is_free_for who place mode a)) _ _ (queue-keeps a who place mode) (grant-keeps a who place mode))
 places-kept a (Search who) other has = search-keeps a (victim_at who a)
 places-kept a (Poll_wait who) other has = poll-keeps a (seat_at who a).wait
 places-kept a (Settle_timeout who) other has = time_out-keeps a who (seat_at who a).wait

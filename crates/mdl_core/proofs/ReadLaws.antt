@@ -16,9 +16,9 @@ use Rattle.mdl_calls.specs.declared.answers.Held.{Held}
 use Rattle.mdl_calls.specs.declared.space_error.SpaceError.TheVariants.{NotExclusive}
 use Rattle.mdl_calls.specs.declared.answers.TimedOut.TheVariants.{ByThisCall}
 use Rattle.mdl_calls.specs.Words.{Answer, Granted, Waits, Victim_is, Timed_out, Lost, Has_killed, Done, Refused, Reads, Changed, Upgraded, Call, Try_now, Begin_wait, Search, Settle_timeout, End_wait, Kill, Release, Clone_ticket, Upgrade_now, Merge, Downgrade, Unpin, Read_definition, Read_kept, Change_definition, caller, HoldsAt, IsChangeOf, cause_of, is_number, ticket_held, read_under, redefined_place}
-use Rattle.mdl_core.specs.CoreJoins.{SpeaksFor, own_at, Knows, HasRead, HasSeen, Pins, Joins}
+use Rattle.mdl_core.specs.CoreJoins.{SpeaksFor, locks_at, Knows, HasRead, HasSeen, Pins, Joins}
 use Rattle.mdl_core.specs.Ties.{IsTied, in_book_of}
-use Rattle.mdl_core.specs.Changes.{Change, Gain, Lose, Queue, Admit, Settle, Leave, Take_up, Alter, Fold, Redefine, changing, book_after, redefining_at, admitting_if, admitting_up_to, next_ready}
+use Rattle.mdl_core.specs.Changes.{Change, Gain, Lose, Queue, Admit, Settle, Leave, Take_up, Alter, Fold, Redefine, after_change, book_after, redefining_at, admitting_if, admitting_up_to, next_ready}
 use Rattle.mdl_core.specs.CoreCalls.{held_ticket, redefining_fault, redefined_unless, redefining_of}
 use Rattle.mdl_core.specs.Cores.{Core, book_at, seat_at, key_at, standing_at, has_key, has_session, booking}
 use Rattle.mdl_core.proofs.CoreReads.{within, has_key-booking, booked-same, booked-other}
@@ -38,7 +38,7 @@ use Rattle.mdl_core.proofs.CoreStandings.{held-place, read-of, read-leaves, IsRe
 -- ---- reads
 
 -- a ticket of a number is held at its place
-held-there : (a : Core) (who id : ℕ) (ticket : Held) → held_ticket who id a ≡ Some ticket → HoldsAt ticket.place (own_at a who)
+held-there : (a : Core) (who id : ℕ) (ticket : Held) → held_ticket who id a ≡ Some ticket → HoldsAt ticket.place (locks_at a who)
 held-there a who id ticket e = (ticket, (found-first (is_number id) (seat_at who a).held ticket e).0, refl)
 
 same_ticket : (o : Option Held) (one other : Held) → o ≡ Some one → o ≡ Some other → one ≡ other
@@ -61,7 +61,7 @@ read-there a b who id version definition ticket its (speaks, has, inr made) =
 
 -- whoever reads under a ticket has read what stands at its place
 pub core-reads : (a b : Core) (call : Call) (who id version : ℕ) (definition : Option Definition) (ticket : Held)
-    → caller call ≡ Some who → read_under call ≡ Some id → ticket_held id (own_at a who) ≡ Some ticket → Joins a call (Reads version definition) b
+    → caller call ≡ Some who → read_under call ≡ Some id → ticket_held id (locks_at a who) ≡ Some ticket → Joins a call (Reads version definition) b
     → HasRead b who ticket.place (record { version = version; definition = definition })
 core-reads a b (Read_definition w n) who id version definition ticket mine under its joins =
     let one : w ≡ who = cc in
@@ -92,7 +92,7 @@ redefined-there a b who id version change ticket speaks its is =
     )
 
 -- whoever changes what stands there knows what stands there then
-pub core-redefines : (a b : Core) (who id version : ℕ) (change : Redefinition) (ticket : Held) → ticket_held id (own_at a who) ≡ Some ticket
+pub core-redefines : (a b : Core) (who id version : ℕ) (change : Redefinition) (ticket : Held) → ticket_held id (locks_at a who) ≡ Some ticket
     → Joins a (Change_definition who id change) (Changed version) b
     → (definition : Option Definition) × HasRead b who ticket.place (record { version = version; definition = definition })
 core-redefines a b who id version change ticket its (speaks, has, inl none) = let e = none.1 in cc
@@ -108,7 +108,7 @@ core-redefines a b who id version change ticket its (speaks, has, inr made) =
 
 -- it is what the change makes of what stood there, or the change is refused for that
 pub core-redefines_so : (a b : Core) (who id : ℕ) (change : Redefinition) (answer : Answer) (ticket : Held) (key : KeyName) (standing : Standing)
-    → ticket_held id (own_at a who) ≡ Some ticket → same_mode ticket.mode X ≡ true → Knows a who ticket.place key → HasRead a who ticket.place standing
+    → ticket_held id (locks_at a who) ≡ Some ticket → same_mode ticket.mode X ≡ true → Knows a who ticket.place key → HasRead a who ticket.place standing
     → Joins a (Change_definition who id change) answer b
     → IsChangeOf key change standing answer
     × ((version : ℕ) → answer ≡ Changed version → HasRead b who ticket.place (standing_after change standing))
@@ -172,7 +172,7 @@ is_redefining (Redefine ticket change) = true
 is_redefining _ = false
 
 keeps-changing : (a : Core) (who place : ℕ) (change : Change) → has_key place a ≡ true → is_redefining change ≡ false
-    → (other : ℕ) → has_key other a ≡ true → Keeps other a (changing who place change a)
+    → (other : ℕ) → has_key other a ≡ true → Keeps other a (after_change who place change a)
 keeps-changing a who place (Gain mode) key apart other has = keeps-booking a place (book_after who (seat_at who a) (Gain mode) (book_at place a)) key refl other has
 keeps-changing a who place (Lose ticket) key apart other has = keeps-booking a place (book_after who (seat_at who a) (Lose ticket) (book_at place a)) key refl other has
 keeps-changing a who place (Queue mode) key apart other has = keeps-booking a place (book_after who (seat_at who a) (Queue mode) (book_at place a)) key refl other has
@@ -238,8 +238,8 @@ keeps-way a call answer (Open key) made apart other has =
     )
 keeps-way a call answer (Settle_wait who place how) made apart other has = (has, refl)
 keeps-way a call answer (Make who place change) made apart other has =
-    keeps-then other a (changing who place change a) (space_by (Make who place change) a) (mid other has)
-    (keeps-serving (makes_room change) place (changing who place change a) (mid place key).0 other (mid other has).0)
+    keeps-then other a (after_change who place change a) (space_by (Make who place change) a) (mid other has)
+    (keeps-serving (makes_room change) place (after_change who place change a) (mid place key).0 other (mid other has).0)
   where
     key : has_key place a ≡ true
     key = made.is_way.0.may.key
@@ -249,7 +249,7 @@ keeps-way a call answer (Make who place change) made apart other has =
         absurd (no_redefinition a call answer (holding_of who ticket a) redefinition apart (subst (IsEventOf a call answer) is made.is_way.0.call_is))
     not_redefining _ is = refl
 
-    mid : (p : ℕ) → has_key p a ≡ true → Keeps p a (changing who place change a)
+    mid : (p : ℕ) → has_key p a ≡ true → Keeps p a (after_change who place change a)
     mid p has = keeps-changing a who place change key (not_redefining change made.is_way.0.change_is) p has
 
 -- a call changed what stands at a place, under its caller's exclusive ticket there
@@ -258,11 +258,11 @@ record IsChanged (a b : Core) (call : Call) (answer : Answer) (place : ℕ) : Ty
   change : Redefinition
   ticket : Held
   mine : caller call ≡ Some who
-  there : redefined_place call answer (own_at a who) ≡ Some place
+  there : redefined_place call answer (locks_at a who) ≡ Some place
   held : Contains (seat_at who a).held ticket
   at : ticket.place ≡ place
   exclusive : ticket.mode ≡ X
-  same : (w : ℕ) → own_at b w ≡ own_at a w
+  same : (w : ℕ) → locks_at b w ≡ locks_at a w
   key : has_key place b ≡ true
   after : standing_at place b ≡ standing_after change (standing_at place a)
 
@@ -283,7 +283,7 @@ changed-at a b who id change version speaks is place has = elim (eqb_tells place
     held = (found-first (is_number id) (seat_at who a).held is.ticket is.held).0;
     at = sym e.1;
     exclusive = is.exclusive;
-    same = λ w. ap (λ c. own_at c w) (sym is.leads);
+    same = λ w. ap (λ c. locks_at c w) (sym is.leads);
     key = ap (has_key place) (sym is.leads) ∙ has_key-booking a is.ticket.place place book ∙ has;
     after = ap (standing_at place) (sym is.leads)
         ∙ subst (λ p. standing_at p (redefining_at is.ticket.place change a) ≡ standing_after change (standing_at p a)) (sym e.1)
@@ -329,14 +329,14 @@ exclusive-alone a w who one other speaks session apart mine theirs here exclusiv
 
 -- what was read stands as long as a ticket is held, unless the session itself changes it
 pub core-stands : (a b : Core) (call : Call) (answer : Answer) (w place : ℕ) (standing : Standing) → SpeaksFor a w
-    → (caller call ≡ Some w → redefined_place call answer (own_at a w) ≡ Some place → ⊥) → HoldsAt place (own_at b w) → Joins a call answer b
+    → (caller call ≡ Some w → redefined_place call answer (locks_at a w) ≡ Some place → ⊥) → HoldsAt place (locks_at b w) → Joins a call answer b
     → HasRead a w place standing → HasRead b w place standing
 core-stands a b call answer w place standing speaks other holds joins read = by (kept a b call answer speaks.1.tied joins place read.1)
   where
     by : Keeps place a b ⊎ IsChanged a b call answer place → HasRead b w place standing
     by (inl same) = (holds, same.0, same.1 ∙ read.2)
     by (inr is) = elim (eqb_tells w is.who) [
-      | inl e ↦ absurd (other (is.mine ∙ ap Some (sym e.1)) (subst (λ v. redefined_place call answer (own_at a v) ≡ Some place) (sym e.1) is.there))
+      | inl e ↦ absurd (other (is.mine ∙ ap Some (sym e.1)) (subst (λ v. redefined_place call answer (locks_at a v) ≡ Some place) (sym e.1) is.there))
       | inr e ↦ absurd (exclusive-alone a w is.who read.0.0 is.ticket speaks
           (subst (λ (o : Option ℕ). IfSome o (SpeaksFor a)) is.mine joins.0).0 e.1 read.0.1 is.held (read.0.2 ∙ sym is.at) is.exclusive)
     ]

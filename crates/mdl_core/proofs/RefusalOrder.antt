@@ -16,7 +16,7 @@ use Rattle.mdl_calls.specs.declared.space_error.SpaceError.TheVariants.{NoPlace,
 use Rattle.mdl_calls.specs.Words.{Answer, Refused, Done, Would_wait, may_merge}
 use Rattle.mdl_core.specs.CoreCalls.{refused_or, first_cause, request_causes, clone_causes, held_ticket, upgrade_causes, upgraded_if_free, is_lower, downgrading_of, merge_causes, merging_of, queued_unless_full, granted_unless_full, is_counted_out, is_full, redefining_fault, redefined_unless, redefining_of}
 use Rattle.mdl_core.specs.Changes.{folding, serving}
-use Rattle.mdl_core.specs.Cores.{Core, seat_at, standing_at, has_key, is_free}
+use Rattle.mdl_core.specs.Cores.{Core, seat_at, standing_at, has_key, is_free_for}
 use Rattle.mdl_core.specs.declared.pending.Pending.{Pending}
 use Rattle.mdl_core.specs.RefusalLaws.{IsIdle, is_mode_at, serves_for, is_upgradable, suits_place, MayChangeThere, RefusesWishesInOrder, RefusesClonesInOrder, RefusesNewModesInOrder, RefusesMergesInOrder, RefusesChangesInOrder}
 use Rattle.mdl_core.specs.SessionLaws.{HasWait, HasNoNumber, HasNoRoom, HasNoVersion}
@@ -93,10 +93,10 @@ refuses-wishes_in_order core who place mode call asks = elim asks [
 ]
   where
     tried : Answer × Core
-    tried = if not (is_free who place mode core) then (Would_wait, core) else granted_unless_full who place mode core
+    tried = if not (is_free_for who place mode core) then (Would_wait, core) else granted_unless_full who place mode core
 
     begun : Answer × Core
-    begun = if not (is_free who place mode core) then queued_unless_full who place mode core else granted_unless_full who place mode core
+    begun = if not (is_free_for who place mode core) then queued_unless_full who place mode core else granted_unless_full who place mode core
 
 -- ---- a second ticket is asked for
 

@@ -23,7 +23,7 @@ use Rattle.mdl_core.specs.CoreSystems.{system_of}
 use Rattle.mdl_core.specs.SearchLaws.{SearchesFindDeadlocks, SearchesSuffice, SearchesLeaveNoDeadlock}
 use Rattle.mdl_system.specs.Words.{Wishes, WaitsFor, IsDeadlock, IsChosenDeadlock, IsVictimOf, Waiter}
 use Rattle.mdl_core.specs.Changes.{losing}
-use Rattle.mdl_core.specs.Seats.{SeatView, empty_seat, is_open, settling}
+use Rattle.mdl_core.specs.Seats.{SeatView, empty_seat, is_unsettled_wait, with_settled_wait}
 use Rattle.mdl_core.specs.Ties.{IsTied}
 use Rattle.mdl_core.proofs.CoreReads.{within, has_session-seating, seated-same}
 use Rattle.mdl_core.proofs.CoreWaiting.{wait-at}
@@ -108,27 +108,27 @@ searches-find a b who = (
 -- ---- a session that wishes has an unsettled wait
 
 pub wishes-open : (core : Core) (session : ℕ) (key : KeyName) (wish : Waiter) → IsTied core → Wishes (system_of core) session key wish
-    → (has_session session core ≡ true) × (is_open (seat_at session core).wait ≡ true)
+    → (has_session session core ≡ true) × (is_unsettled_wait (seat_at session core).wait ≡ true)
 wishes-open core session key wish tied wishes =
     let at = wishes-place core tied session key wish wishes in
     let there = wishes-there core tied at.0 session wish at.1 (subst (λ k. Wishes (system_of core) session k wish) (sym at.2) wishes) in
     let h = wait-at core at.0 wish.ticket tied at.1 there.0 in
     let still : is_some h.0.settled ≡ false = sym (settled-of core at.0 wish.ticket h.0 h.1) ∙ ap (has_settled core) there.1 ∙ there.2 in (
       ap (λ n. has_session n core) (sym there.1) ∙ h.1.has,
-      ap (λ n. is_open (seat_at n core).wait) (sym there.1) ∙ ap is_open h.1.waits ∙ ap not still,
+      ap (λ n. is_unsettled_wait (seat_at n core).wait) (sym there.1) ∙ ap is_unsettled_wait h.1.waits ∙ ap not still,
     )
 
 pub victim-open : (core : Core) (who victim : ℕ) → IsTied core → victim_at who core ≡ Some victim
-    → (has_session victim core ≡ true) × (is_open (seat_at victim core).wait ≡ true)
+    → (has_session victim core ≡ true) × (is_unsettled_wait (seat_at victim core).wait ≡ true)
 victim-open core who victim tied is =
     let h = victim-found core who victim tied is in
     let weighs = h.2.1.1 in
     wishes-open core victim weighs.0 weighs.1 tied weighs.2
 
-settled-closed : (how : Settled) (seat : SeatView) → is_open (settling how seat).wait ≡ false
+settled-closed : (how : Settled) (seat : SeatView) → is_unsettled_wait (with_settled_wait how seat).wait ≡ false
 settled-closed how seat = go seat.wait
   where
-    go : (o : Option Pending) → is_open (option_map (λ (wait : Pending). record wait { settled = Some how }) o) ≡ false
+    go : (o : Option Pending) → is_unsettled_wait (option_map (λ (wait : Pending). record wait { settled = Some how }) o) ≡ false
     go None = refl
     go (Some wait) = refl
 
@@ -140,17 +140,17 @@ one_if b = cond b 1 0
 -- in the seats from a session on
 abbrev open_others : ℕ → ℕ → List SeatView → ℕ
 open_others who from [] = 0
-open_others who from (seat ∷ seats) = one_if (not (from == who) && is_open seat.wait) + open_others who (from + 1) seats
+open_others who from (seat ∷ seats) = one_if (not (from == who) && is_unsettled_wait seat.wait) + open_others who (from + 1) seats
 
 one-fewer : (who from : ℕ) (seats : List SeatView) (k : ℕ) (seat : SeatView) → k < length seats → from + k ≢ who
-    → is_open (slice_index_or seats k empty_seat).wait ≡ true → is_open seat.wait ≡ false
+    → is_unsettled_wait (slice_index_or seats k empty_seat).wait ≡ true → is_unsettled_wait seat.wait ≡ false
     → suc (open_others who from (slice_set seats k seat)) ≡ open_others who from seats
 one-fewer who from [] k seat inside other was is = absurd (omega (arith, inside))
 one-fewer who from (old ∷ seats) zero seat inside other was is = elim (eqb_tells from who) [
   | inl e ↦ absurd (let same : from ≡ who = e.1 in other (omega arith))
   | inr e ↦
-      let now : one_if (not (from == who) && is_open seat.wait) ≡ 0 = λ i. one_if (not (e.0 i) && is i) in
-      let before : one_if (not (from == who) && is_open old.wait) ≡ 1 = λ i. one_if (not (e.0 i) && was i) in
+      let now : one_if (not (from == who) && is_unsettled_wait seat.wait) ≡ 0 = λ i. one_if (not (e.0 i) && is i) in
+      let before : one_if (not (from == who) && is_unsettled_wait old.wait) ≡ 1 = λ i. one_if (not (e.0 i) && was i) in
       omega (arith, now, before)
 ]
 one-fewer who from (old ∷ seats) (suc k) seat inside other was is =
@@ -171,18 +171,18 @@ at-most : (who from : ℕ) (seats : List SeatView) → open_others who from seat
 at-most who from [] = omega arith
 at-most who from (seat ∷ seats) =
     let rest = at-most who (from + 1) seats in
-    let one : one_if (not (from == who) && is_open seat.wait) ≤ 1 = bit-most (not (from == who) && is_open seat.wait) in
+    let one : one_if (not (from == who) && is_unsettled_wait seat.wait) ≤ 1 = bit-most (not (from == who) && is_unsettled_wait seat.wait) in
     omega (arith, rest, one)
 
 fewer : (who from : ℕ) (seats : List SeatView) → from ≤ who → who < from + length seats → open_others who from seats < length seats
 fewer who from [] least most = absurd (omega (arith, least, most))
 fewer who from (seat ∷ seats) least most = elim (eqb_tells from who) [
   | inl e ↦
-      let none : one_if (not (from == who) && is_open seat.wait) ≡ 0 = ap (λ b. one_if (not b && is_open seat.wait)) e.0 in
+      let none : one_if (not (from == who) && is_unsettled_wait seat.wait) ≡ 0 = ap (λ b. one_if (not b && is_unsettled_wait seat.wait)) e.0 in
       let rest = at-most who (from + 1) seats in
       omega (arith, none, rest)
   | inr e ↦
-      let one : one_if (not (from == who) && is_open seat.wait) ≤ 1 = bit-most (not (from == who) && is_open seat.wait) in
+      let one : one_if (not (from == who) && is_unsettled_wait seat.wait) ≤ 1 = bit-most (not (from == who) && is_unsettled_wait seat.wait) in
       let rest = fewer who (from + 1) seats (above from who least e.1) (omega (arith, most)) in
       omega (arith, one, rest)
 ]
@@ -192,11 +192,11 @@ abbrev others_open : ℕ → Core → ℕ
 others_open who core = open_others who 1 core.seats
 
 -- a victim's is one less
-one-lost : (core : Core) (who victim : ℕ) → has_session victim core ≡ true → victim ≢ who → is_open (seat_at victim core).wait ≡ true
+one-lost : (core : Core) (who victim : ℕ) → has_session victim core ≡ true → victim ≢ who → is_unsettled_wait (seat_at victim core).wait ≡ true
     → suc (others_open who (losing victim settled_as.Victim core)) ≡ others_open who core
 one-lost core who victim has other was =
     let fits = within victim (length core.seats) has in
-    one-fewer who 1 core.seats (victim - 1) (settling settled_as.Victim (seat_at victim core)) (omega arith) (λ e. other (omega arith)) was
+    one-fewer who 1 core.seats (victim - 1) (with_settled_wait settled_as.Victim (seat_at victim core)) (omega arith) (λ e. other (omega arith)) was
     (settled-closed settled_as.Victim (seat_at victim core))
 
 -- ---- searches one after another
@@ -253,7 +253,7 @@ searched n end a b who whole (answer, mid, joins, run) = elim (which-joined a mi
 pub speaks-on : CallsKeepSound → (a b : Core) (who victim : ℕ) → SpeaksFor a who → Joins a (Search who) (Victim_is victim) b → SpeaksFor b who
 speaks-on keeps a b who victim speaks joins =
     let is = some-joined a b who victim joins in (
-      ap (has_session who) is.1 ∙ has_session-seating a victim who (settling settled_as.Victim (seat_at victim a)) ∙ speaks.0,
+      ap (has_session who) is.1 ∙ has_session-seating a victim who (with_settled_wait settled_as.Victim (seat_at victim a)) ∙ speaks.0,
       keeps a b (Search who) (Victim_is victim) speaks.1 joins,
     )
 
@@ -286,9 +286,9 @@ module _ (keeps : CallsKeepSound) where
       let is = some-joined a b who who joins in
       let sound = keeps a b (Search who) (Victim_is who) speaks.1 joins in
       let open_still = (wishes-open b who waiting.1.0 waiting.1.1 sound.tied waiting.1.2).1 in
-      let seat : seat_at who b ≡ settling settled_as.Victim (seat_at who a) =
-      ap (seat_at who) is.1 ∙ seated-same a who (settling settled_as.Victim (seat_at who a)) speaks.0 in
-      false≢true (sym (ap (λ (s : SeatView). is_open s.wait) seat ∙ settled-closed settled_as.Victim (seat_at who a)) ∙ open_still)
+      let seat : seat_at who b ≡ with_settled_wait settled_as.Victim (seat_at who a) =
+      ap (seat_at who) is.1 ∙ seated-same a who (with_settled_wait settled_as.Victim (seat_at who a)) speaks.0 in
+      false≢true (sym (ap (λ (s : SeatView). is_unsettled_wait s.wait) seat ∙ settled-closed settled_as.Victim (seat_at who a)) ∙ open_still)
 
   lost-deadlock : (a b : Core) (who : ℕ) → SpeaksFor a who → Joins a (Search who) (Victim_is who) b → (cycle : List ℕ) → IsDeadlock (system_of b) who cycle → ⊥
   lost-deadlock a b who speaks joins cycle ([], same, distinct, leading) = lost-waits a b who who speaks joins leading

@@ -14,8 +14,8 @@ use Rattle.mdl_core.specs.declared.pending.Pending.{Pending}
 use Rattle.mdl_core.specs.ChangeEvents.{holding_of}
 use Rattle.mdl_core.specs.CoreCalls.{held_ticket}
 use Rattle.mdl_core.specs.Cores.{Core, seat_at, key_at, has_key, has_session}
-use Rattle.mdl_core.specs.CoreSystems.{state_of, system_of}
-use Rattle.mdl_core.specs.Determined.{Right, places_of, OfTicket, HasInHand, ToList, IsWait, OfWait}
+use Rattle.mdl_core.specs.CoreSystems.{system_of, wait_state_of}
+use Rattle.mdl_core.specs.Determined.{Right, places_of, OfHolding, HoldsAtPlace, ToList, IsWait, OfWait}
 use Rattle.mdl_core.specs.SessionLaws.{HasWait, waiter_for, HasWhatTheSystemSays}
 use Rattle.mdl_core.specs.Ties.{IsTied}
 use Rattle.mdl_system.specs.Words.{WaitState, Unsettled, Victim, TimedOut, Killed, Holding, Waiter, System, Held as IsHeld, HasNoWait}
@@ -36,7 +36,7 @@ settled_by Victim = Some settled_as.Victim
 settled_by TimedOut = Some settled_as.Timeout
 settled_by Killed = Some settled_as.Killed
 
-settled_by-state : (settled : Option Settled) → settled ≢ Some settled_as.Granted → settled_by (state_of settled) ≡ settled
+settled_by-state : (settled : Option Settled) → settled ≢ Some settled_as.Granted → settled_by (wait_state_of settled) ≡ settled
 unfolding settled_by
 settled_by-state None other = refl
 settled_by-state (Some settled_as.Granted) other = absurd (other refl)
@@ -44,14 +44,14 @@ settled_by-state (Some settled_as.Victim) other = refl
 settled_by-state (Some settled_as.Timeout) other = refl
 settled_by-state (Some settled_as.Killed) other = refl
 
-state-settled : (one other : Option Settled) → one ≢ Some settled_as.Granted → other ≢ Some settled_as.Granted → state_of one ≡ state_of other → one ≡ other
+state-settled : (one other : Option Settled) → one ≢ Some settled_as.Granted → other ≢ Some settled_as.Granted → wait_state_of one ≡ wait_state_of other → one ≡ other
 state-settled one other open_one open_other same = sym (settled_by-state one open_one) ∙ ap settled_by same ∙ settled_by-state other open_other
 
 -- a ticket of a wait that isn't granted waits somewhere
 abbrev StillWaits : {D : Type 0} → System D → ℕ → ℕ → ℕ → Option Settled → Type 0
 StillWaits system who number id settled =
     (key : KeyName) × (mode : Mode)
-    × Contains (system.waiting key) (record { ticket = record { session = who; number = id; mode = mode }; wait = number; state = state_of settled })
+    × Contains (system.waiting key) (record { ticket = record { session = who; number = id; mode = mode }; wait = number; state = wait_state_of settled })
 
 -- as which a wait stands
 module _ {D : Type 0} (system : System D) (who number id : ℕ) where
@@ -135,7 +135,7 @@ module _ (a : Core) (who : ℕ) (tied : IsTied a) (has : has_session who a ≡ t
 
   -- by the ticket of a number
   pub of-ticket : (id : ℕ) (held : Held) (Then : Holding → Right) (x : Answer) → held_ticket who id a ≡ Some held
-      → IsAnswer (Then (holding_of who held a)) x → IsAnswer (OfTicket (system_of a) who id Then) x
+      → IsAnswer (Then (holding_of who held a)) x → IsAnswer (OfHolding (system_of a) who id Then) x
   of-ticket id held Then x found right y = (there, λ is. inl (holding_of who held a, held-in a who held tied has first.0, number, (right y).1 is))
     where
       first : Contains (seat_at who a).held held × (is_number id held ≡ true)
@@ -144,7 +144,7 @@ module _ (a : Core) (who : ℕ) (tied : IsTied a) (has : has_session who a ≡ t
       number : held.id ≡ id
       number = eqb-true _ _ first.1
 
-      there : OfTicket (system_of a) who id Then y → y ≡ x
+      there : OfHolding (system_of a) who id Then y → y ≡ x
       there (inl (ticket, is, named, rest)) =
           let mine = in-hand ticket is in
           let same : mine.0 ≡ held =
@@ -152,7 +152,7 @@ module _ (a : Core) (who : ℕ) (tied : IsTied a) (has : has_session who a ≡ t
           (right y).0 (subst (λ t. Then t y) (mine.2 ∙ ap (λ t. holding_of who t a) same) rest)
       there (inr (none, rest)) = absurd (none (holding_of who held a) (held-in a who held tied has first.0) number)
 
-  pub no-ticket : (id : ℕ) (Then : Holding → Right) → held_ticket who id a ≡ None → IsAnswer (OfTicket (system_of a) who id Then) (Refused NotHeld)
+  pub no-ticket : (id : ℕ) (Then : Holding → Right) → held_ticket who id a ≡ None → IsAnswer (OfHolding (system_of a) who id Then) (Refused NotHeld)
   no-ticket id Then lacks y = (there, λ is. inr (none, is))
     where
       none : (ticket : Holding) → IsHeld (system_of a) who ticket → ticket.number ≢ id
@@ -161,17 +161,17 @@ module _ (a : Core) (who : ℕ) (tied : IsTied a) (has : has_session who a ≡ t
           let number : (mine.0).id ≡ id = sym (ap (λ (h : Holding). h.number) mine.2) ∙ named in
           (none-found (is_number id) (seat_at who a).held).0 lacks mine.0 mine.1 ((Decides-eqb (mine.0).id id).1 number)
 
-      there : OfTicket (system_of a) who id Then y → y ≡ Refused NotHeld
+      there : OfHolding (system_of a) who id Then y → y ≡ Refused NotHeld
       there (inl (ticket, is, named, rest)) = absurd (none ticket is named)
       there (inr (lacking, rest)) = rest
 
   -- ---- all that is held
 
-  hand-to : (held : Held) → Contains (seat_at who a).held held → HasInHand (system_of a) (places_of a) who held
+  hand-to : (held : Held) → Contains (seat_at who a).held held → HoldsAtPlace (system_of a) (places_of a) who held
   hand-to held among =
       (key_at held.place a, key_of-place a held.place (tied.placed who held has (inl (inl among))), held-in a who held tied has among)
 
-  hand-from : (held : Held) → HasInHand (system_of a) (places_of a) who held → Contains (seat_at who a).held held
+  hand-from : (held : Held) → HoldsAtPlace (system_of a) (places_of a) who held → Contains (seat_at who a).held held
   hand-from held (key, there, is) =
       let at = place-of_key a held.place key there in
       let mine = in-hand (record { session = who; number = held.id; key = key; mode = held.mode }) is in

@@ -10,11 +10,11 @@ use Rattle.mdl_calls.specs.declared.answers.Settled.{Settled}
 use Rattle.mdl_calls.specs.declared.answers.Settled.TheVariants as settled_as
 use Rattle.mdl_core.specs.declared.pending.Pending.{Pending}
 use Rattle.mdl_core.specs.Cores.{Core, book_at, seat_at, key_at, has_session}
-use Rattle.mdl_core.specs.CoreSystems.{state_of, unended_at, unended_of, waiter_of, waiter_in, system_of}
+use Rattle.mdl_core.specs.CoreSystems.{wait_state_of, unended_at, unended_of, system_waiter, waiter_in, system_of}
 use Rattle.mdl_core.specs.Seats.{ticket_of_wait}
 use Rattle.mdl_system.specs.Words.{in_book, Unsettled, Holding, Waiter, GrantedWait, Held as Holds, HasNoWait}
-use Rattle.mdl_core.specs.SessionLaws.{holdings_of, HasWait, waiter_for, HasWon, WaitsAt, HasWhatTheSystemSays, HasNothing, SessionsHaveWhatTheSystemSays, WaitsUnsettled, WaitsSomewhere}
-use Rattle.mdl_core.specs.Ties.{IsTied, IsSound, in_book_of}
+use Rattle.mdl_core.specs.SessionLaws.{holdings_of, HasWait, waiter_for, HasWon, WaitsAt, HasWhatTheSystemSays, HasNothingInSystem, SessionsHaveWhatTheSystemSays, WaitsUnsettled, WaitsSomewhere}
+use Rattle.mdl_core.specs.Ties.{IsTied, IsSoundCore, in_book_of}
 use Rattle.mdl_core.proofs.CoreGranted.{held-in, granted-place}
 use Rattle.mdl_core.specs.ChangeEvents.{holding_of}
 use Rattle.mdl_core.proofs.CoreUnended.{own-unended, unended-members, granted_of}
@@ -51,10 +51,10 @@ module _ (core : Core) (who : ℕ) (tied : IsTied core) (has : has_session who c
         let found = waiter-found core at.0 waiter tied at.1 (subst (λ k. Contains ((system_of core).waiting k) waiter) (sym at.2) among) in
         let h = wait-at core at.0 waiter.ticket tied at.1 found.0 in
         let its : (seat_at who core).wait ≡ Some h.0 = subst (λ n. (seat_at n core).wait ≡ Some h.0) own h.1.waits in
-        let there : waiter ≡ waiter_of waiter.ticket (Some h.0) = found.1 ∙ ap (waiter_of waiter.ticket) h.1.waits in
+        let there : waiter ≡ system_waiter waiter.ticket (Some h.0) = found.1 ∙ ap (system_waiter waiter.ticket) h.1.waits in
         let ticket : waiter.ticket ≡ record { session = who; number = h.0.id; mode = h.0.mode } =
         sym h.1.stands ∙ ap (λ n. record { session = n; number = h.0.id; mode = h.0.mode }) own in
-        (h.0, its, h.1.not_granted, ap (λ n. key_at n core) h.1.there ∙ at.2, there ∙ ap (λ t. waiter_of t (Some h.0)) ticket))
+        (h.0, its, h.1.not_granted, ap (λ n. key_at n core) h.1.there ∙ at.2, there ∙ ap (λ t. system_waiter t (Some h.0)) ticket))
     | inr nowhere ↦ absurd (let lt = (subst (λ (b : BookView). Contains (map (waiter_in core) b.waiting) waiter) (book-nowhere core key nowhere) among).1 in omega arith)
   ]
 
@@ -67,7 +67,7 @@ module _ (core : Core) (who : ℕ) (tied : IsTied core) (has : has_session who c
       let book = book-there core wait.place key tied.keys at.0 waiting.3 in
       let mapped : Contains (map (waiter_in core) (book_at wait.place core).waiting) (waiter_in core ticket) =
       Contains-map (waiter_in core) (book_at wait.place core).waiting ticket at.1 in
-      let same : waiter_in core ticket ≡ waiter = ap (waiter_of ticket) waiting.1 ∙ sym waiting.4 in (
+      let same : waiter_in core ticket ≡ waiter = ap (system_waiter ticket) waiting.1 ∙ sym waiting.4 in (
         subst (λ (b : BookView). Contains (map (waiter_in core) b.waiting) waiter) (sym book)
             (subst (Contains (map (waiter_in core) (book_at wait.place core).waiting)) same mapped),
         ap (λ (w : Waiter). w.ticket.session) waiting.4,
@@ -151,7 +151,7 @@ waiter-session core key waiter tied among = elim (place_told core key) [
   | inr nowhere ↦ absurd (let lt = (subst (λ (b : BookView). Contains (map (waiter_in core) b.waiting) waiter) (book-nowhere core key nowhere) among).1 in omega arith)
 ]
 
-has-nothing : (core : Core) (who : ℕ) → IsTied core → has_session who core ≡ false → HasNothing (system_of core) who
+has-nothing : (core : Core) (who : ℕ) → IsTied core → has_session who core ≡ false → HasNothingInSystem (system_of core) who
 has-nothing core who tied none = (
   (λ held among own. (let at = granted-place core held among in no held.session own (tied.granted_by at.0 at.1 (in_book held) at.3).0)),
   (
@@ -180,14 +180,14 @@ sessions-have core who sound = ((λ has. has-what core who sound.tied has), λ n
 -- ---- the unsettled wait
 
 -- that a waiting ticket stands unsettled says that its wait is so
-unsettled : (settled : Option Settled) → settled ≢ Some settled_as.Granted → state_of settled ≡ Unsettled → settled ≡ None
+unsettled : (settled : Option Settled) → settled ≢ Some settled_as.Granted → wait_state_of settled ≡ Unsettled → settled ≡ None
 unsettled None other e = refl
 unsettled (Some settled_as.Granted) other e = absurd (other refl)
 unsettled (Some settled_as.Victim) other e = cc
 unsettled (Some settled_as.Timeout) other e = cc
 unsettled (Some settled_as.Killed) other e = cc
 
-pub waits-somewhere : (core : Core) (target number : ℕ) → IsSound core → WaitsUnsettled core target number ↔ WaitsSomewhere (system_of core) target number
+pub waits-somewhere : (core : Core) (target number : ℕ) → IsSoundCore core → WaitsUnsettled core target number ↔ WaitsSomewhere (system_of core) target number
 waits-somewhere core target number sound = (there, back)
   where
     there : WaitsUnsettled core target number → WaitsSomewhere (system_of core) target number
@@ -196,7 +196,7 @@ waits-somewhere core target number sound = (there, back)
         let open_still : wait.settled ≢ Some settled_as.Granted = λ e. (let no = sym waits.4 ∙ e in cc) in
         let key = key_at wait.place core in
         let h = waits-to core target sound.tied waits.0 key (waiter_for target wait) (wait, waits.2, open_still, refl, refl) in
-        (key, waiter_for target wait, h.0, refl, waits.3, ap state_of waits.4)
+        (key, waiter_for target wait, h.0, refl, waits.3, ap wait_state_of waits.4)
 
     back : WaitsSomewhere (system_of core) target number → WaitsUnsettled core target number
     back waits =

@@ -1,14 +1,14 @@
 -- The space of one thread has the laws of a lock space.
 use Rattle.std.proofs.Common.{refl}
 use Rattle.mdl_calls.specs.SpaceLaws.{SpaceLaws}
-use Rattle.mdl_core.specs.CoreJoins.{SpeaksFor, own_at, Knows, IsSettledAs, numbers_at, HasRead, HasSeen, Pins, Joins}
+use Rattle.mdl_core.specs.CoreJoins.{SpeaksFor, locks_at, Knows, IsSettledAs, numbers_at, HasRead, HasSeen, Pins, Joins}
 use Rattle.mdl_core.proofs.CallLaws.{core-allowed, core-keeps, core-changes, core-others, core-draws, core-others_draw, core-rising, core-fits, core-explains, core-lists, core-resolves, core-tells_key, core-tells_tables, core-remembers, core-waits_settled, core-settled_once, core-tells, core-stays, core-agrees, core-victims, core-counts, core-kills, core-kills_or_settled, core-upgrades}
 use Rattle.mdl_core.proofs.CoreSound.{calls_keep-sound}
 use Rattle.mdl_core.proofs.KnownPlaces.{core-one_key, core-one_place, core-held_places, core-wait_place}
 use Rattle.mdl_core.proofs.ReadLaws.{core-reads, core-redefines, core-redefines_so, core-reads_one, core-stands, core-reads_fit, core-sees, core-seen_stays, core-seen_below, core-pins_stay, has_not}
 
 -- it keeps nothing of what was met, and owes nothing
-pub core-laws : SpaceLaws SpeaksFor own_at Knows IsSettledAs numbers_at HasRead (λ _ _ _ _. Unit {0}) HasSeen Pins (λ _ _ _. ⊥) Joins
+pub core-laws : SpaceLaws SpeaksFor locks_at Knows IsSettledAs numbers_at HasRead (λ _ _ _ _. Unit {0}) HasSeen Pins (λ _ _ _. ⊥) Joins
 core-laws = record {
   allowed = core-allowed;
   keeps = core-keeps calls_keep-sound;

@@ -6,11 +6,11 @@ use Rattle.mdl_key.specs.Keys.{KeyName}
 use Rattle.mdl_calls.specs.declared.answers.Settled.{Settled}
 use Rattle.mdl_calls.specs.SessionLocks.{Wait}
 use Rattle.mdl_core.specs.declared.pending.Pending.{Pending}
-use Rattle.mdl_core.specs.Changes.{Change, Gain, Lose, Queue, Admit, Settle, Leave, Take_up, Alter, Fold, Redefine, May, seat_after, book_after, is_of_book, booked_if, changing}
+use Rattle.mdl_core.specs.Changes.{Change, Gain, Lose, Queue, Admit, Settle, Leave, Take_up, Alter, Fold, Redefine, May, seat_after, book_after, is_of_book, booked_if, after_change}
 use Rattle.mdl_core.specs.CoreCalls.{wait_at}
-use Rattle.mdl_core.specs.CoreJoins.{own_at, numbers_at, Knows, IsSettledAs}
+use Rattle.mdl_core.specs.CoreJoins.{locks_at, numbers_at, Knows, IsSettledAs}
 use Rattle.mdl_core.specs.Cores.{Core, book_at, seat_at, key_at, has_key, has_session, booking, seating}
-use Rattle.mdl_core.specs.Seats.{SeatView, own_of, numbers_of, empty_seat, is_open, settling}
+use Rattle.mdl_core.specs.Seats.{SeatView, locks_of_seat, numbers_of_seat, empty_seat, is_unsettled_wait, with_settled_wait}
 use Rattle.mdl_core.proofs.CoreReads.{has_key-booking, booked-same, booked-other, has_session-seating, seated-same, seated-other}
 
 -- ---- settled waits
@@ -38,7 +38,7 @@ pub not_settled : (seat : SeatView) (wait : Pending) (how : Settled) → seat.wa
 not_settled seat wait how its free settled = let e = sym free ∙ subst (IsSettledWait how) its settled in cc
 
 -- what is open is a wait that isn't settled
-pub open_wait : (o : Option Pending) → is_open o ≡ true → (wait : Pending) × (o ≡ Some wait) × (wait.settled ≡ None)
+pub open_wait : (o : Option Pending) → is_unsettled_wait o ≡ true → (wait : Pending) × (o ≡ Some wait) × (wait.settled ≡ None)
 open_wait None e = cc
 open_wait (Some wait) e = (wait, refl, none wait.settled e)
   where
@@ -60,8 +60,8 @@ seat-settled core who how is settled = subst (IsSettledWait how) (sym (wait-of_s
 
 -- a session has the same by two seats, and a wait that was settled is settled as it was
 pub record IsLike (one other : SeatView) : Type 0 where
-  pub own : own_of other ≡ own_of one
-  pub numbers : numbers_of other ≡ numbers_of one
+  pub own : locks_of_seat other ≡ locks_of_seat one
+  pub numbers : numbers_of_seat other ≡ numbers_of_seat one
   pub settled : (how : Settled) → HasSettled one how → HasSettled other how
 
 -- all sessions have what they had, and all places their keys
@@ -105,15 +105,15 @@ abbrev pub as_wait : Pending → Wait
 as_wait wait = record { number = wait.number; place = wait.place; mode = wait.mode }
 
 -- what a session has isn't changed as its wait is settled
-pub own-settling : (how : Settled) (seat : SeatView) → own_of (settling how seat) ≡ own_of seat
-own-settling how seat = elim seat.wait as (λ o. own_of (settling how (record seat { wait = o })) ≡ own_of (record seat { wait = o })) [
+pub own-settling : (how : Settled) (seat : SeatView) → locks_of_seat (with_settled_wait how seat) ≡ locks_of_seat seat
+own-settling how seat = elim seat.wait as (λ o. locks_of_seat (with_settled_wait how (record seat { wait = o })) ≡ locks_of_seat (record seat { wait = o })) [
   | None ↦ refl
   | Some wait ↦ refl
 ]
 
 module _ (a : Core) (who place : ℕ) (change : Change) (may : May who place change a) where
   abbrev b : Core
-  b = changing who place change a
+  b = after_change who place change a
 
   abbrev seat : SeatView
   seat = seat_after place change (seat_at who a)
@@ -175,7 +175,7 @@ module _ (a : Core) (who place : ℕ) (change : Change) (may : May who place cha
       by (Redefine ticket change) m stays how has = has
 
   -- where its session has the same after it, all do
-  pub spares-changing : is_end change ≡ false → own_of seat ≡ own_at a who → numbers_of seat ≡ numbers_at a who → Spares a b
+  pub spares-changing : is_end change ≡ false → locks_of_seat seat ≡ locks_at a who → numbers_of_seat seat ≡ numbers_at a who → Spares a b
   spares-changing stays same numbers = record {
     sessions = sessions-changed;
     keys = λ w other key knows. (let h = keys-changed other knows.0 in (h.0, h.1 ∙ knows.1));

@@ -16,9 +16,9 @@ use Rattle.mdl_calls.proofs.TableLemmas.{both-left, both-right, of-table, table-
 use Rattle.mdl_calls.specs.Reads.{AreTablesOf, HasTableOf, is_table_of}
 use Rattle.mdl_calls.specs.Words.{Tables}
 use Rattle.mdl_core.specs.CoreJoins.{Knows}
-use Rattle.mdl_core.specs.Cores.{Core, comes_before, has_defined_table, has_key, in_key_order, key_at, put_in_order, standing_at, tables_in}
+use Rattle.mdl_core.specs.Cores.{Core, comes_before, has_defined_table, has_key, key_at, places_in_key_order, put_in_order, standing_at, table_places}
 use Rattle.mdl_core.specs.CoreSystems.{system_of}
-use Rattle.mdl_core.specs.Determined.{ComesBefore, HasDefinedTable, ToTellTables, places_of}
+use Rattle.mdl_core.specs.Determined.{HasDefinedTable, PlaceComesBefore, ToTellTables, places_of}
 use Rattle.mdl_core.specs.Ties.{IsTied}
 use Rattle.mdl_core.proofs.CallCases.{test_cases}
 use Rattle.mdl_core.proofs.CoreGranted.{book_of-at}
@@ -108,27 +108,27 @@ module _ (core : Core) where
       ]))
       (put-sorted place others (λ x among. apart x (Contains-later other others x among)) (pairs-tail Before other others pairs)))
 
-  order-among : (places : List ℕ) (x : ℕ) → Contains (in_key_order core places) x → Contains places x
+  order-among : (places : List ℕ) (x : ℕ) → Contains (places_in_key_order core places) x → Contains places x
   order-among [] x among = among
-  order-among (place ∷ places) x among = elim (put-among place (in_key_order core places) x among) [
+  order-among (place ∷ places) x among = elim (put-among place (places_in_key_order core places) x among) [
     | inl later ↦ Contains-later place places x (order-among places x later)
     | inr here ↦ subst (Contains (place ∷ places)) (sym here) (Contains-here place places)
   ]
 
-  order-keeps : (places : List ℕ) (x : ℕ) → Contains places x → Contains (in_key_order core places) x
+  order-keeps : (places : List ℕ) (x : ℕ) → Contains places x → Contains (places_in_key_order core places) x
   order-keeps [] x among = among
   order-keeps (place ∷ places) x among = elim (Contains-cons_cases place places x among) [
-    | inl later ↦ put-keeps place (in_key_order core places) x (order-keeps places x later)
-    | inr here ↦ subst (Contains (put_in_order core place (in_key_order core places))) (sym here) (put-here place (in_key_order core places))
+    | inl later ↦ put-keeps place (places_in_key_order core places) x (order-keeps places x later)
+    | inr here ↦ subst (Contains (put_in_order core place (places_in_key_order core places))) (sym here) (put-here place (places_in_key_order core places))
   ]
 
   abbrev Differ : ℕ → ℕ → Type 0
   Differ one other = key_at one core ≢ key_at other core
 
-  order-sorted : (places : List ℕ) → AllPairs Differ places → AllPairs Before (in_key_order core places)
+  order-sorted : (places : List ℕ) → AllPairs Differ places → AllPairs Before (places_in_key_order core places)
   order-sorted [] apart = λ i j d lt short. absurd (omega arith)
   order-sorted (place ∷ places) apart =
-      put-sorted place (in_key_order core places)
+      put-sorted place (places_in_key_order core places)
       (λ x among. pairs-head Differ place places apart x (order-among places x among))
       (order-sorted places (pairs-tail Differ place places apart))
 
@@ -161,7 +161,7 @@ to-filter p (y ∷ ys) x among passes = by (λ later. to-filter p ys x later pas
 
 module _ (core : Core) (schema : List ℕ) where
   -- the places that are told are those of the schema's tables that have a definition
-  pub told-table : (place : ℕ) → Contains (tables_in schema core) place → (has_key place core ≡ true) × (has_defined_table schema core place ≡ true)
+  pub told-table : (place : ℕ) → Contains (table_places schema core) place → (has_key place core ≡ true) × (has_defined_table schema core place ≡ true)
   told-table place told =
       let among = order-among core (filter (has_defined_table schema core) (range_with_len 1 (length core.books))) place told in
       let fits = from-range 1 (length core.books) place
@@ -172,7 +172,7 @@ module _ (core : Core) (schema : List ℕ) where
             (filter_passes (has_defined_table schema core) (range_with_len 1 (length core.books))) among,
       )
 
-  pub table-told : (place : ℕ) → has_key place core ≡ true → has_defined_table schema core place ≡ true → Contains (tables_in schema core) place
+  pub table-told : (place : ℕ) → has_key place core ≡ true → has_defined_table schema core place ≡ true → Contains (table_places schema core) place
   table-told place has defined =
       let fits = within place (length core.books) has in
       order-keeps core (filter (has_defined_table schema core) (range_with_len 1 (length core.books))) place
@@ -189,15 +189,15 @@ module _ (core : Core) (schema : List ℕ) where
         (of_within _ (length core.books) (omega (arith, one)) (omega (arith, one))) (of_within _ (length core.books) (omega (arith, other)) (omega (arith, other))) same in
         omega (arith, one, other, there)
 
-    sorted : AllPairs (Before core) (tables_in schema core)
+    sorted : AllPairs (Before core) (table_places schema core)
     sorted =
         order-sorted core (filter (has_defined_table schema core) (range_with_len 1 (length core.books)))
         (AllPairs-filter (Differ core) (has_defined_table schema core) (range_with_len 1 (length core.books)) differ)
 
     -- a session that is told them knows them
-    pub are-tables : (who : ℕ) → AreTablesOf (Knows core who) schema (tables_in schema core)
+    pub are-tables : (who : ℕ) → AreTablesOf (Knows core who) schema (table_places schema core)
     are-tables who = (
-      all-from_members (Before core) (HasTableOf (Knows core who) schema) (tables_in schema core) (λ place told. (
+      all-from_members (Before core) (HasTableOf (Knows core who) schema) (table_places schema core) (λ place told. (
           let its = told-table place told in
           ((key_at place core).table, (its.0, sym (table-of schema (key_at place core) (both-left _ _ its.1)))))),
       λ i j d lt short key later one other. (λ t. key_cmp (sym one.1 t) (sym other.1 t)) ∙ sorted i j d lt short,
@@ -208,7 +208,7 @@ module _ (core : Core) (schema : List ℕ) where
     defined-there : (place : ℕ) → has_key place core ≡ true → is_some (standing_at place core).definition ≡ is_some ((system_of core).definitions (key_at place core)).definition
     defined-there place has = ap (λ (book : BookView). is_some book.standing.definition) (sym (book_of-at core place tied has))
 
-    has-defined : (place : ℕ) → Contains (tables_in schema core) place → HasDefinedTable (system_of core) (places_of core) schema place
+    has-defined : (place : ℕ) → Contains (table_places schema core) place → HasDefinedTable (system_of core) (places_of core) schema place
     has-defined place told =
         let its = told-table place told in
         let key = table-of schema (key_at place core) (both-left _ _ its.1) in (
@@ -217,7 +217,7 @@ module _ (core : Core) (schema : List ℕ) where
           ap (λ k. is_some ((system_of core).definitions k).definition) key ∙ sym (defined-there place its.0) ∙ both-right (is_table_of schema (key_at place core)) _ its.1,
         )
 
-    of-defined : (place : ℕ) → HasDefinedTable (system_of core) (places_of core) schema place → Contains (tables_in schema core) place
+    of-defined : (place : ℕ) → HasDefinedTable (system_of core) (places_of core) schema place → Contains (table_places schema core) place
     of-defined place (table, at, defined) =
         let its = place-of_key core place (table_key schema table) at in
         let is : is_table_of schema (key_at place core) ≡ true = ap (is_table_of schema) its.1 ∙ of-table schema table in
@@ -225,22 +225,22 @@ module _ (core : Core) (schema : List ℕ) where
         defined-there place its.0 ∙ ap (λ k. is_some ((system_of core).definitions k).definition) its.1 ∙ defined in
         table-told place its.0 ((λ t. is t && is_some (standing_at place core).definition) ∙ some)
 
-    before : AllPairs (ComesBefore (places_of core)) (tables_in schema core)
+    before : AllPairs (PlaceComesBefore (places_of core)) (table_places schema core)
     before i j d lt short =
-        let one = told-table _ (Contains-get_or (tables_in schema core) i d (omega arith)) in
-        let other = told-table _ (Contains-get_or (tables_in schema core) j d short) in
+        let one = told-table _ (Contains-get_or (table_places schema core) i d (omega arith)) in
+        let other = told-table _ (Contains-get_or (table_places schema core) j d short) in
         (_, _, key_of-place core _ one.0, key_of-place core _ other.0, sorted i j d lt short)
 
-    pub tells-tables : IsAnswer (ToTellTables (system_of core) (places_of core) schema) (Tables (tables_in schema core))
-    tells-tables y = (there, λ is. (tables_in schema core, is, before, λ place. (has-defined place, of-defined place)))
+    pub tells-tables : IsAnswer (ToTellTables (system_of core) (places_of core) schema) (Tables (table_places schema core))
+    tells-tables y = (there, λ is. (table_places schema core, is, before, λ place. (has-defined place, of-defined place)))
       where
-        never : (one other : ℕ) → ComesBefore (places_of core) one other → ComesBefore (places_of core) other one → ⊥
+        never : (one other : ℕ) → PlaceComesBefore (places_of core) one other → PlaceComesBefore (places_of core) other one → ⊥
         never one other (key, later, at, after, less) (other_later, other_key, again, also, back) =
             let same : key ≡ other_key = (let e : Some key ≡ Some other_key = sym at ∙ also in cc) in
             let same_later : later ≡ other_later = (let e : Some later ≡ Some other_later = sym after ∙ again in cc) in
             never-both key later less ((λ t. key_cmp (same_later t) (same t)) ∙ back)
 
-        there : ToTellTables (system_of core) (places_of core) schema y → y ≡ Tables (tables_in schema core)
+        there : ToTellTables (system_of core) (places_of core) schema y → y ≡ Tables (table_places schema core)
         there (tables, is, pairs, members) =
-            is ∙ ap (λ ts. Tables ts) (same-ordered (ComesBefore (places_of core)) never tables (tables_in schema core) pairs before
+            is ∙ ap (λ ts. Tables ts) (same-ordered (PlaceComesBefore (places_of core)) never tables (table_places schema core) pairs before
             (λ place. ((λ among. of-defined place ((members place).0 among)), λ among. (members place).1 (has-defined place among))))

@@ -18,7 +18,7 @@ use Rattle.mdl_core.specs.Cores.{Core, empty_core, book_at, seat_at, key_at, ind
 use Rattle.mdl_core.specs.CoreSystems.{granted_in, book_of, waiter_in, defined_in, system_of}
 use Rattle.mdl_core.specs.Changes.{opening}
 use Rattle.mdl_core.specs.Seats.{SeatView, empty_seat}
-use Rattle.mdl_core.specs.Ties.{Has, Awaits, in_book_of, IsNumbered, IsTied, AllMayStand}
+use Rattle.mdl_core.specs.Ties.{HasGrantedTicket, Awaits, in_book_of, HasRisingNumbers, IsTied, AllMayStand}
 use Rattle.mdl_core.proofs.CoreReads.{within, of_within, found-at}
 use Rattle.mdl_core.proofs.CoreWaiting.{book-there, place_told, book-nowhere, not_there}
 use Rattle.mdl_core.proofs.PairLemmas.{none-in}
@@ -46,13 +46,13 @@ tied-empty places sessions = record {
   waiting_by = λ place key. absurd (no_key places sessions place key);
   granted = λ who ticket session key. absurd (no_key places sessions ticket.place key);
   waiting = λ who ticket session key. absurd (no_key places sessions ticket.place key);
-  placed = λ who ticket session has. absurd (elim (subst (λ s. Has s ticket ⊎ Awaits s ticket) (tied-nothing places sessions who session) has) [
+  placed = λ who ticket session has. absurd (elim (subst (λ s. HasGrantedTicket s ticket ⊎ Awaits s ticket) (tied-nothing places sessions who session) has) [
     | inl holds ↦ elim holds [ inl held ↦ none-in ticket held | inr none ↦ none ]
     | inr none ↦ none
   ]);
   granted_once = λ place key. absurd (no_key places sessions place key);
   waiting_once = λ place key. absurd (no_key places sessions place key);
-  numbered = λ who session. subst IsNumbered (sym (tied-nothing places sessions who session))
+  numbered = λ who session. subst HasRisingNumbers (sym (tied-nothing places sessions who session))
       (record { rising = refl; held = λ ticket held. absurd (none-in ticket held); wait = tt });
 }
 
@@ -123,7 +123,7 @@ module _ (key : KeyName) (core : Core) (tied : IsTied core) (new : index_of key 
         tied.granted_by (λ ticket among. absurd (none-in ticket among));
     waiting_by = by-place (λ p b. (ticket : Ticket) → Contains b.waiting ticket → (has_session ticket.session core ≡ true) × IsTrue (is_mode_of (lock_kind b) ticket.mode))
         tied.waiting_by (λ ticket among. absurd (none-in ticket among));
-    granted = matches (λ b. b.granted) Has refl tied.granted (λ who ticket session had. tied.placed who ticket session (inl had));
+    granted = matches (λ b. b.granted) HasGrantedTicket refl tied.granted (λ who ticket session had. tied.placed who ticket session (inl had));
     waiting = matches (λ b. b.waiting) Awaits refl tied.waiting (λ who ticket session waits. tied.placed who ticket session (inr waits));
     placed = λ who ticket session has. still ticket.place (tied.placed who ticket session has);
     granted_once = by-place (λ p b. AreApart ticket_id b.granted) tied.granted_once (λ i j d lt short. absurd (omega arith));

@@ -10,7 +10,7 @@ use Rattle.mdl_book.specs.Tickets.{ticket_id}
 use Rattle.mdl_calls.specs.declared.answers.Held.{Held}
 use Rattle.mdl_core.specs.Cores.{Core, book_at, seat_at, key_at, has_key, has_session, booking, seating}
 use Rattle.mdl_core.specs.Seats.{SeatView}
-use Rattle.mdl_core.specs.Ties.{Has, Awaits, in_book_of, IsNumbered, IsTied}
+use Rattle.mdl_core.specs.Ties.{HasGrantedTicket, Awaits, in_book_of, HasRisingNumbers, IsTied}
 use Rattle.mdl_core.proofs.CoreReads.{has_key-booking, has_session-seating, booked-same, booked-other, seated-same, seated-other}
 use Rattle.mdl_core.proofs.Effects.{through, back}
 use Rattle.mdl_system.proofs.Deciding.{nat_told}
@@ -29,9 +29,9 @@ module _ (core : Core) (who place : ℕ) (tied : IsTied core) (session : has_ses
   at-key : (ticket : Held) → ticket.place ≡ place → has_key ticket.place core ≡ true
   at-key ticket here = subst (λ p. has_key p core ≡ true) (sym here) key
 
-  pub granted-here : (ticket : Held) → ticket.place ≡ place → Contains (book_at place core).granted (in_book_of who ticket) ↔ Has (seat_at who core) ticket
+  pub granted-here : (ticket : Held) → ticket.place ≡ place → Contains (book_at place core).granted (in_book_of who ticket) ↔ HasGrantedTicket (seat_at who core) ticket
   granted-here ticket here =
-      subst (λ p. Contains (book_at p core).granted (in_book_of who ticket) ↔ Has (seat_at who core) ticket) here (tied.granted who ticket session (at-key ticket here))
+      subst (λ p. Contains (book_at p core).granted (in_book_of who ticket) ↔ HasGrantedTicket (seat_at who core) ticket) here (tied.granted who ticket session (at-key ticket here))
 
   pub waiting-here : (ticket : Held) → ticket.place ≡ place → Contains (book_at place core).waiting (in_book_of who ticket) ↔ Awaits (seat_at who core) ticket
   waiting-here ticket here =
@@ -51,14 +51,14 @@ pub record Follows (who place : ℕ) (old new : List Ticket) (had has : Held →
 -- a book and a seat that can be written together
 pub record Fits (core : Core) (who place : ℕ) (book : BookView) (seat : SeatView) : Type 0 where
   pub same_key : book.key ≡ key_at place core
-  pub granted : Follows who place (book_at place core).granted book.granted (Has (seat_at who core)) (Has seat)
+  pub granted : Follows who place (book_at place core).granted book.granted (HasGrantedTicket (seat_at who core)) (HasGrantedTicket seat)
   pub waiting : Follows who place (book_at place core).waiting book.waiting (Awaits (seat_at who core)) (Awaits seat)
   -- what is new is in a mode of the lock's kind
-  pub mode : (ticket : Held) → Has seat ticket ⊎ Awaits seat ticket
-      → (Has (seat_at who core) ticket ⊎ Awaits (seat_at who core) ticket) ⊎ IsTrue (is_mode_of (lock_kind (book_at place core)) ticket.mode)
+  pub mode : (ticket : Held) → HasGrantedTicket seat ticket ⊎ Awaits seat ticket
+      → (HasGrantedTicket (seat_at who core) ticket ⊎ Awaits (seat_at who core) ticket) ⊎ IsTrue (is_mode_of (lock_kind (book_at place core)) ticket.mode)
   pub granted_once : AllPairs (λ (one other : Ticket). ticket_id one ≢ ticket_id other) book.granted
   pub waiting_once : AllPairs (λ (one other : Ticket). one.session ≢ other.session) book.waiting
-  pub numbered : IsNumbered seat
+  pub numbered : HasRisingNumbers seat
 
 module _ (core : Core) (who place : ℕ) (book : BookView) (seat : SeatView) (session : has_session who core ≡ true) (key : has_key place core ≡ true) where
   abbrev pub written : Core
@@ -92,7 +92,7 @@ module _ (core : Core) (who place : ℕ) (book : BookView) (seat : SeatView) (se
 
   module _ (tied : IsTied core) (fits : Fits core who place book seat) where
     -- own tickets of this place are of its kind
-    own-mode : (ticket : Held) → ticket.place ≡ place → Has seat ticket ⊎ Awaits seat ticket → IsTrue (is_mode_of (lock_kind (book_at place core)) ticket.mode)
+    own-mode : (ticket : Held) → ticket.place ≡ place → HasGrantedTicket seat ticket ⊎ Awaits seat ticket → IsTrue (is_mode_of (lock_kind (book_at place core)) ticket.mode)
     own-mode ticket here has = elim (fits.mode ticket has) [
       | inl old ↦ elim old [
         | inl had ↦ (tied.granted_by place key (in_book_of who ticket) ((granted-here core who place tied session key ticket here).1 had)).1
@@ -137,7 +137,7 @@ module _ (core : Core) (who place : ℕ) (book : BookView) (seat : SeatView) (se
         ticket.place (had_key ticket.place is_key) w ticket (had_session w is_session) refl
 
     -- what the session has stands at places that have keys
-    own-placed : (ticket : Held) → Has seat ticket ⊎ Awaits seat ticket → has_key ticket.place core ≡ true
+    own-placed : (ticket : Held) → HasGrantedTicket seat ticket ⊎ Awaits seat ticket → has_key ticket.place core ≡ true
     own-placed ticket has = elim (nat_told ticket.place place) [
       | inl here ↦ subst (λ p. has_key p core ≡ true) (sym here) key
       | inr there ↦ tied.placed who ticket session (elim has [
@@ -165,20 +165,20 @@ module _ (core : Core) (who place : ℕ) (book : BookView) (seat : SeatView) (se
           tied.keys one other (had_key one has_one) (had_key other has_other)
           (sym (key-same fits.same_key one (had_key one has_one)) ∙ same ∙ key-same fits.same_key other (had_key other has_other));
       granted_by = by (λ b. b.granted) (at_place (By (λ b. b.granted))
-          (by-own book.granted (book_at place core).granted (Has (seat_at who core)) (Has seat) fits.granted (λ ticket here has. own-mode ticket here (inl has)) (tied.granted_by place key))
+          (by-own book.granted (book_at place core).granted (HasGrantedTicket (seat_at who core)) (HasGrantedTicket seat) fits.granted (λ ticket here has. own-mode ticket here (inl has)) (tied.granted_by place key))
           (λ other has _. tied.granted_by other has));
       waiting_by = by (λ b. b.waiting) (at_place (By (λ b. b.waiting))
           (by-own book.waiting (book_at place core).waiting (Awaits (seat_at who core)) (Awaits seat) fits.waiting (λ ticket here has. own-mode ticket here (inr has)) (tied.waiting_by place key))
           (λ other has _. tied.waiting_by other has));
-      granted = matches (λ b. b.granted) Has fits.granted tied.granted;
+      granted = matches (λ b. b.granted) HasGrantedTicket fits.granted tied.granted;
       waiting = matches (λ b. b.waiting) Awaits fits.waiting tied.waiting;
       placed = λ w ticket has_w has.
           has_key-booking (seating who seat core) place ticket.place book
-          ∙ at_session (λ v s. Has s ticket ⊎ Awaits s ticket → has_key ticket.place core ≡ true) (own-placed ticket)
+          ∙ at_session (λ v s. HasGrantedTicket s ticket ⊎ Awaits s ticket → has_key ticket.place core ≡ true) (own-placed ticket)
           (λ v is_v _. tied.placed v ticket is_v) w (had_session w has_w) has;
       granted_once = λ at has. at_place (λ _ b. AllPairs (λ (one other : Ticket). ticket_id one ≢ ticket_id other) b.granted)
           fits.granted_once (λ other has_other _. tied.granted_once other has_other) at (had_key at has);
       waiting_once = λ at has. at_place (λ _ b. AllPairs (λ (one other : Ticket). one.session ≢ other.session) b.waiting)
           fits.waiting_once (λ other has_other _. tied.waiting_once other has_other) at (had_key at has);
-      numbered = λ w has. at_session (λ _ s. IsNumbered s) fits.numbered (λ v is_v _. tied.numbered v is_v) w (had_session w has);
+      numbered = λ w has. at_session (λ _ s. HasRisingNumbers s) fits.numbered (λ v is_v _. tied.numbered v is_v) w (had_session w has);
     }

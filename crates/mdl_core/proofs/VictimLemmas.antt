@@ -21,7 +21,7 @@ use Rattle.mdl_graph.specs.WaitsFor.{SessionTest, is_unsettled, is_tied, waits_a
 use Rattle.mdl_core.specs.declared.pending.Pending.{Pending}
 use Rattle.mdl_core.specs.CoreCalls.{has_settled, victim_at, wait_at}
 use Rattle.mdl_core.specs.Cores.{Core, book_at, seat_at, has_key, has_session}
-use Rattle.mdl_core.specs.Seats.{is_closed}
+use Rattle.mdl_core.specs.Seats.{is_settled_wait}
 use Rattle.mdl_core.specs.Ties.{IsTied}
 use Rattle.mdl_core.proofs.CoreReads.{of_within}
 use Rattle.mdl_core.proofs.CoreWaiting.{wait-at}
@@ -116,4 +116,4 @@ victim-waits core who victim tied found =
     let is : has_session victim core ≡ true = subst (λ w. has_session w core ≡ true) at.own waits.1.has in
     let its : (seat_at victim core).wait ≡ Some wait = subst (λ w. (seat_at w core).wait ≡ Some wait) at.own waits.1.waits in
     let same : wait_at victim core ≡ Some wait = ap (λ b. if b then (seat_at victim core).wait else None) is ∙ its in
-    (wait, is, its, none_settled wait.settled (sym (ap is_closed same) ∙ at.unsettled))
+    (wait, is, its, none_settled wait.settled (sym (ap is_settled_wait same) ∙ at.unsettled))

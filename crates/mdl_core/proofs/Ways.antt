@@ -10,13 +10,13 @@ use Rattle.mdl_calls.specs.declared.answers.TimedOut.TheVariants.{ByThisCall, Al
 use Rattle.mdl_calls.specs.Words.{Answer, Refused, At_place, Would_wait, Waits, Victim_is, Is_settled, Timed_out, Has_wait, Has_killed, Key_is, Tables, Upgraded, Holds, is_answer_of, Call, Resolve, Try_now, Begin_wait, Search, Poll_wait, Settle_timeout, End_wait, Wait_of, Kill, Upgrade_now, Key_of, Tables_of, List_held, caller, IsExplained, own_after, wait_number, Draws, IsToldOf}
 use Rattle.mdl_core.specs.declared.pending.Pending.{Pending}
 use Rattle.mdl_core.specs.ChangeEvents.{IsChangeEvent}
-use Rattle.mdl_core.specs.Changes.{Change, Lose, Settle, Leave, Alter, Fold, May, seat_after, changing, opening, serving}
+use Rattle.mdl_core.specs.Changes.{Change, Lose, Settle, Leave, Alter, Fold, May, seat_after, after_change, opening, serving}
 use Rattle.mdl_core.specs.CoreCalls.{wait_at, is_open_wait, held_ticket}
-use Rattle.mdl_core.specs.CoreJoins.{own_at, numbers_at, Knows}
+use Rattle.mdl_core.specs.CoreJoins.{locks_at, numbers_at, Knows}
 use Rattle.mdl_core.specs.CoreLaws.{is_change, IsEventOf}
-use Rattle.mdl_core.specs.Cores.{Core, seat_at, key_at, index_of, tables_in}
+use Rattle.mdl_core.specs.Cores.{Core, seat_at, key_at, index_of, table_places}
 use Rattle.mdl_core.specs.CoreSystems.{system_of}
-use Rattle.mdl_core.specs.Seats.{SeatView, own_of, numbers_of}
+use Rattle.mdl_core.specs.Seats.{SeatView, locks_of_seat, numbers_of_seat}
 use Rattle.mdl_core.specs.SessionLaws.{MeetsLimit}
 use Rattle.mdl_system.specs.Words.{WaitsForCause, Event, IsGrantable, covers, may_downgrade}
 use Rattle.mdl_core.proofs.SparedSeats.{HasSettled, is_end}
@@ -46,12 +46,12 @@ served_if false place core = core
 abbrev pub mid_by : Way → Core → Core
 mid_by Stay a = a
 mid_by (Open key) a = opening key a
-mid_by (Settle_wait who place how) a = changing who place (Settle how) a
-mid_by (Make who place change) a = changing who place change a
+mid_by (Settle_wait who place how) a = after_change who place (Settle how) a
+mid_by (Make who place change) a = after_change who place change a
 
 -- and after that
 abbrev pub space_by : Way → Core → Core
-space_by (Make who place change) a = served_if (makes_room change) place (changing who place change a)
+space_by (Make who place change) a = served_if (makes_room change) place (after_change who place change a)
 space_by way a = mid_by way a
 
 -- the caller's seat after it, but for how its wait is settled
@@ -82,18 +82,18 @@ IsSo a (Poll_wait who) (Is_settled how) b = HasSettled (seat_at who b) how
 IsSo a (Settle_timeout who) (Timed_out ByThisCall) b = HasSettled (seat_at who b) settled_as.Timeout
 IsSo a (Settle_timeout who) (Timed_out (Already how)) b = HasSettled (seat_at who b) how
 IsSo a (Wait_of target) (Has_wait number) b = number ≡ option_map (λ (wait : Pending). wait.number) (wait_at target a)
-IsSo a (Kill target number) (Has_killed true) b = (wait_number (own_at a target) ≡ Some number) × HasSettled (seat_at target b) settled_as.Killed
+IsSo a (Kill target number) (Has_killed true) b = (wait_number (locks_at a target) ≡ Some number) × HasSettled (seat_at target b) settled_as.Killed
 IsSo a (Kill target number) (Has_killed false) b = (is_open_wait number (wait_at target a) ≡ false) × (b ≡ a)
 IsSo a (Key_of who place) (Key_is key) b = Knows b who place key
-IsSo a (Tables_of who schema) (Tables places) b = (places ≡ tables_in schema a) × (b ≡ a)
-IsSo a (List_held who) (Holds tickets) b = tickets ≡ (own_at a who).held
+IsSo a (Tables_of who schema) (Tables places) b = (places ≡ table_places schema a) × (b ≡ a)
+IsSo a (List_held who) (Holds tickets) b = tickets ≡ (locks_at a who).held
 IsSo a call answer b = Unit {0}
 
 -- a call with this answer does this to its caller, and tells it what is so
 pub record ServesCaller (a : Core) (call : Call) (answer : Answer) (way : Way) (who : ℕ) : Type 0 where
-  pub own : own_of (seat_by way who a) ≡ own_after call answer (own_at a who)
-  pub draws : Draws call answer (numbers_at a who) (numbers_of (seat_by way who a))
-  pub explained : IsExplained (Knows a who) call answer (own_at a who)
+  pub own : locks_of_seat (seat_by way who a) ≡ own_after call answer (locks_at a who)
+  pub draws : Draws call answer (numbers_at a who) (numbers_of_seat (seat_by way who a))
+  pub explained : IsExplained (Knows a who) call answer (locks_at a who)
   pub agrees : (how : Settled) → HasSettled (seat_at who a) how → IsToldOf how call answer
 
 -- a change may be made, and is the event that the call is

@@ -7,7 +7,7 @@ use Rattle.mdl_calls.specs.declared.answers.Held.{Held}
 use Rattle.mdl_core.specs.declared.pending.Pending.{Pending}
 use Rattle.mdl_core.specs.Changes.{Change, Gain, Lose, Queue, Admit, Settle, Leave, Take_up, Alter, Fold, Redefine, next_ticket}
 use Rattle.mdl_core.specs.Cores.{Core, seat_at, key_at}
-use Rattle.mdl_core.specs.CoreSystems.{system_of, state_of, waiter_of, waiter_in}
+use Rattle.mdl_core.specs.CoreSystems.{system_of, wait_state_of, system_waiter, waiter_in}
 use Rattle.mdl_system.specs.Words.{Event, Grant, Clone, BeginWait, GrantWaiter, SettleLost, EndGrantedWait, EndLostWait, Release, Upgrade, Merge, Downgrade, ChangeDefinition, Unsettled, Holding, lock_kind, IsGrantable, may_upgrade, may_downgrade}
 
 -- a held ticket as a holding in the system
@@ -15,8 +15,8 @@ abbrev pub holding_of : ℕ → Held → Core → Holding
 holding_of who ticket core = record { session = who; number = ticket.id; key = key_at ticket.place core; mode = ticket.mode }
 
 -- the waiting ticket of a wait
-abbrev pub waiting_ticket : ℕ → Pending → Ticket
-waiting_ticket who wait = record { session = who; number = wait.id; mode = wait.mode }
+abbrev pub ticket_of_wait : ℕ → Pending → Ticket
+ticket_of_wait who wait = record { session = who; number = wait.id; mode = wait.mode }
 
 -- the event that a change is, and what the event requires beyond what the change requires: the request for a ticket that is granted is
 -- grantable, or the ticket is new and a clone of a held one that is at least as strong; a wait that ends is settled; and a held ticket
@@ -34,9 +34,9 @@ IsChangeEvent who place (Admit ticket) core event =
     (event ≡ GrantWaiter (key_at place core) (waiter_in core ticket)) × IsGrantable (system_of core) who (key_at place core) ticket.mode
 IsChangeEvent who place (Settle how) core event =
     (wait : Pending) × ((seat_at who core).wait ≡ Some wait)
-    × (event ≡ SettleLost (key_at place core) (waiter_of (waiting_ticket who wait) (Some wait)) (state_of (Some how)))
+    × (event ≡ SettleLost (key_at place core) (system_waiter (ticket_of_wait who wait) (Some wait)) (wait_state_of (Some how)))
 IsChangeEvent who place (Leave wait) core event =
-    (event ≡ EndLostWait (key_at place core) (waiter_of (waiting_ticket who wait) (Some wait))) × (wait.settled ≢ None)
+    (event ≡ EndLostWait (key_at place core) (system_waiter (ticket_of_wait who wait) (Some wait))) × (wait.settled ≢ None)
 IsChangeEvent who place (Take_up wait) core event = event ≡ EndGrantedWait (record { session = who; wait = wait.number; ticket = wait.id })
 IsChangeEvent who place (Alter ticket mode) core event =
     ((event ≡ Upgrade (holding_of who ticket core) mode) × ((seat_at who core).wait ≡ None) × (may_upgrade ticket.mode mode ≡ true)

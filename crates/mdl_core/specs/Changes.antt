@@ -13,8 +13,8 @@ use Rattle.mdl_calls.specs.declared.answers.Settled.{Settled}
 use Rattle.mdl_calls.specs.declared.answers.Settled.TheVariants as settled_as
 use Rattle.mdl_calls.specs.Words.{may_merge}
 use Rattle.mdl_core.specs.declared.pending.Pending.{Pending}
-use Rattle.mdl_core.specs.Seats.{SeatView, holding, without_ticket, beginning_wait, is_open, settling, without_wait, with_ticket_of, with_ticket_in}
-use Rattle.mdl_core.specs.Cores.{Core, book_at, seat_at, has_key, has_session, is_free, booking, seating}
+use Rattle.mdl_core.specs.Seats.{SeatView, holding, without_ticket, beginning_wait, is_unsettled_wait, with_settled_wait, seat_without_wait, with_ticket_of, with_ticket_in}
+use Rattle.mdl_core.specs.Cores.{Core, book_at, seat_at, has_key, has_session, is_free_for, booking, seating}
 
 -- ---- one change
 
@@ -50,9 +50,9 @@ abbrev pub seat_after : ℕ → Change → SeatView → SeatView
 seat_after place (Gain mode) seat = holding place mode seat
 seat_after place (Lose ticket) seat = without_ticket ticket.id seat
 seat_after place (Queue mode) seat = beginning_wait place mode seat
-seat_after place (Admit ticket) seat = settling settled_as.Granted seat
-seat_after place (Settle how) seat = settling how seat
-seat_after place (Leave wait) seat = without_wait seat
+seat_after place (Admit ticket) seat = with_settled_wait settled_as.Granted seat
+seat_after place (Settle how) seat = with_settled_wait how seat
+seat_after place (Leave wait) seat = seat_without_wait seat
 seat_after place (Take_up wait) seat = with_ticket_of wait seat
 seat_after place (Alter ticket mode) seat = with_ticket_in ticket.id mode seat
 seat_after place (Fold old new) seat = with_ticket_in old.id new.mode (without_ticket new.id seat)
@@ -83,8 +83,8 @@ booked_if true place book core = booking place book core
 booked_if false place book core = core
 
 -- the space after a change
-abbrev pub changing : ℕ → ℕ → Change → Core → Core
-changing who place change core =
+abbrev pub after_change : ℕ → ℕ → Change → Core → Core
+after_change who place change core =
     booked_if (is_of_book change) place (book_after who (seat_at who core) change (book_at place core))
     (seating who (seat_after place change (seat_at who core)) core)
 
@@ -126,35 +126,35 @@ opening key core = record core { books = core.books ++ empty_book key ∷ [] }
 
 -- the space with a lock granted to a session
 abbrev pub granting_to : ℕ → ℕ → Mode → Core → Core
-granting_to who place mode core = changing who place (Gain mode) core
+granting_to who place mode core = after_change who place (Gain mode) core
 
 -- the space in which a session has begun to wait for a lock
 abbrev pub queueing : ℕ → ℕ → Mode → Core → Core
-queueing who place mode core = changing who place (Queue mode) core
+queueing who place mode core = after_change who place (Queue mode) core
 
 -- the space in which a session's wait is settled, as lost
 abbrev pub losing : ℕ → Settled → Core → Core
-losing who how core = seating who (settling how (seat_at who core)) core
+losing who how core = seating who (with_settled_wait how (seat_at who core)) core
 
 -- the space in which a session has ended its granted wait, and holds the ticket
-abbrev pub taking_up : ℕ → Pending → Core → Core
-taking_up who wait core = changing who wait.place (Take_up wait) core
+abbrev pub ending_granted : ℕ → Pending → Core → Core
+ending_granted who wait core = after_change who wait.place (Take_up wait) core
 
 -- the space in which a session has ended its lost wait: its ticket is no longer among the waiting ones
-abbrev pub leaving : ℕ → Pending → Core → Core
-leaving who wait core = changing who wait.place (Leave wait) core
+abbrev pub ending_lost : ℕ → Pending → Core → Core
+ending_lost who wait core = after_change who wait.place (Leave wait) core
 
 -- the space in which a session has released a ticket
 abbrev pub freeing : ℕ → Held → Core → Core
-freeing who ticket core = changing who ticket.place (Lose ticket) core
+freeing who ticket core = after_change who ticket.place (Lose ticket) core
 
 -- the space in which a session's ticket has got another mode
 abbrev pub altering : ℕ → Held → Mode → Core → Core
-altering who ticket mode core = changing who ticket.place (Alter ticket mode) core
+altering who ticket mode core = after_change who ticket.place (Alter ticket mode) core
 
 -- the space in which the first of a session's two tickets has got the mode of the second, which is removed
 abbrev pub folding : ℕ → Held → Held → Core → Core
-folding who old new core = changing who old.place (Fold old new) core
+folding who old new core = after_change who old.place (Fold old new) core
 
 -- the space with the definition of a place's key changed
 abbrev pub redefining_at : ℕ → Redefinition → Core → Core
@@ -164,19 +164,19 @@ redefining_at place change core = booking place (redefining change (book_at plac
 
 -- the space with a waiting ticket granted to its session, which hasn't ended its wait yet
 abbrev pub admitting_at : ℕ → Ticket → Core → Core
-admitting_at place ticket core = changing ticket.session place (Admit ticket) core
+admitting_at place ticket core = after_change ticket.session place (Admit ticket) core
 
 -- whether a session has an unsettled wait
-abbrev pub is_unsettled : ℕ → Core → Bool
-is_unsettled who core = has_session who core && is_open (seat_at who core).wait
+abbrev pub has_unsettled_wait : ℕ → Core → Bool
+has_unsettled_wait who core = has_session who core && is_unsettled_wait (seat_at who core).wait
 
 -- whether a waiting ticket's wait is unsettled and the ticket can be granted
-abbrev pub is_ready : ℕ → Core → Ticket → Bool
-is_ready place core ticket = is_unsettled ticket.session core && is_free ticket.session place ticket.mode core
+abbrev pub is_ready_waiter : ℕ → Core → Ticket → Bool
+is_ready_waiter place core ticket = has_unsettled_wait ticket.session core && is_free_for ticket.session place ticket.mode core
 
 -- the first waiting ticket, in order of arrival, whose wait is unsettled and that can be granted
 abbrev pub next_ready : ℕ → Core → Option Ticket
-next_ready place core = find (is_ready place core) (book_at place core).waiting
+next_ready place core = find (is_ready_waiter place core) (book_at place core).waiting
 
 -- the space with this waiting ticket granted, if there is one
 abbrev pub admitting_if : ℕ → Option Ticket → Core → Core

@@ -19,9 +19,9 @@ use Rattle.mdl_calls.specs.declared.answers.Settled.TheVariants as settled_as
 use Rattle.mdl_calls.specs.declared.answers.TimedOut.TheVariants.{ByThisCall, Already}
 use Rattle.mdl_core.specs.declared.pending.Pending.{Pending}
 use Rattle.mdl_calls.specs.Words.{Answer, Refused, Done, At_place, Granted, Would_wait, Waits, No_cycle, Victim_is, Pending as Is_pending, Is_settled, Timed_out, Lost, Has_wait, Has_killed, Holds, Reads, Changed, Key_is, Tables, Upgraded, Call, Resolve, Try_now, Begin_wait, Search, Poll_wait, Settle_timeout, End_wait, Wait_of, Kill, Release, Clone_ticket, Upgrade_now, Merge, Downgrade, Read_definition, Read_kept, Change_definition, Key_of, Tables_of, List_held, is_number, may_merge, cause_of}
-use Rattle.mdl_core.specs.Cores.{Core, book_at, seat_at, key_at, standing_at, has_key, has_session, index_of, is_free, tables_in}
-use Rattle.mdl_core.specs.Changes.{opening, granting_to, queueing, losing, taking_up, leaving, freeing, altering, folding, redefining_at, serving}
-use Rattle.mdl_core.specs.Seats.{is_open, is_closed}
+use Rattle.mdl_core.specs.Cores.{Core, book_at, seat_at, key_at, standing_at, has_key, has_session, index_of, is_free_for, table_places}
+use Rattle.mdl_core.specs.Changes.{opening, granting_to, queueing, losing, ending_granted, ending_lost, freeing, altering, folding, redefining_at, serving}
+use Rattle.mdl_core.specs.Seats.{is_unsettled_wait, is_settled_wait}
 use Rattle.mdl_system.specs.Strength.{covers, may_upgrade, may_downgrade}
 
 -- the error of the first of these causes that holds, if one does
@@ -65,7 +65,7 @@ key_of_outcome place core = if not (has_key place core) then (Refused NoPlace, c
 
 -- the outcome of listing the tables of a schema
 abbrev pub tables_of_outcome : List ℕ → Core → Answer × Core
-tables_of_outcome schema core = (Tables (tables_in schema core), core)
+tables_of_outcome schema core = (Tables (table_places schema core), core)
 
 -- ---- locks
 
@@ -92,13 +92,13 @@ queued_unless_full who place mode core =
 abbrev pub try_now_outcome : ℕ → ℕ → Mode → Core → Answer × Core
 try_now_outcome who place mode core =
     refused_or (first_cause (request_causes who place mode core)) core
-    (if not (is_free who place mode core) then (Would_wait, core) else granted_unless_full who place mode core)
+    (if not (is_free_for who place mode core) then (Would_wait, core) else granted_unless_full who place mode core)
 
 -- the outcome of a request for a lock that waits if it can't be granted
 abbrev pub begin_wait_outcome : ℕ → ℕ → Mode → Core → Answer × Core
 begin_wait_outcome who place mode core =
     refused_or (first_cause (request_causes who place mode core)) core
-    (if not (is_free who place mode core) then queued_unless_full who place mode core else granted_unless_full who place mode core)
+    (if not (is_free_for who place mode core) then queued_unless_full who place mode core else granted_unless_full who place mode core)
 
 -- why cloning a held ticket is refused, in the order in which the causes count
 abbrev pub clone_causes : ℕ → Mode → Held → Core → List (Bool × SpaceError)
@@ -144,7 +144,7 @@ upgrade_causes who mode ticket core =
 abbrev pub upgraded_if_free : ℕ → Mode → Held → Core → Answer × Core
 upgraded_if_free who mode ticket core =
     if covers ticket.mode mode then (Upgraded, core)
-    else (if not (is_free who ticket.place mode core) then (Would_wait, core) else (Upgraded, altering who ticket mode core))
+    else (if not (is_free_for who ticket.place mode core) then (Would_wait, core) else (Upgraded, altering who ticket mode core))
 
 -- the outcome of upgrading this ticket, if it is held
 abbrev pub upgrading_of : ℕ → Mode → Option Held → Core → Answer × Core
@@ -219,8 +219,8 @@ settle_timeout_outcome who core = timing_out_of who (seat_at who core).wait core
 -- the waiting ones, and then waiters of its place are granted
 abbrev pub ending_at : ℕ → Pending → Option Settled → Core → Answer × Core
 ending_at who wait None core = (Refused Unsettled, core)
-ending_at who wait (Some settled_as.Granted) core = (Granted wait.id, taking_up who wait core)
-ending_at who wait (Some how) core = (Lost how, serving wait.place (leaving who wait core))
+ending_at who wait (Some settled_as.Granted) core = (Granted wait.id, ending_granted who wait core)
+ending_at who wait (Some how) core = (Lost how, serving wait.place (ending_lost who wait core))
 
 -- the outcome of ending a session's wait, if there is one
 abbrev pub ending_of : ℕ → Option Pending → Core → Answer × Core
@@ -242,7 +242,7 @@ wait_of_outcome target core = (Has_wait (option_map (λ (wait : Pending). wait.n
 -- whether there is a wait, which is unsettled and has this number
 abbrev pub is_open_wait : ℕ → Option Pending → Bool
 is_open_wait number None = false
-is_open_wait number (Some wait) = wait.number == number && is_open (Some wait)
+is_open_wait number (Some wait) = wait.number == number && is_unsettled_wait (Some wait)
 
 -- the outcome of a kill: an unsettled wait of this number is settled as killed
 abbrev pub kill_outcome : ℕ → ℕ → Core → Answer × Core
@@ -253,7 +253,7 @@ kill_outcome target number core =
 
 -- whether a session's wait is settled
 abbrev pub has_settled : Core → ℕ → Bool
-has_settled core who = is_closed (wait_at who core)
+has_settled core who = is_settled_wait (wait_at who core)
 
 -- the outcome of a search that found this victim: its wait is settled as lost
 abbrev pub searching_of : Option ℕ → Core → Answer × Core

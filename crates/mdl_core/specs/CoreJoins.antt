@@ -8,20 +8,20 @@ use Rattle.mdl_core.specs.declared.pending.Pending.{Pending}
 use Rattle.mdl_calls.specs.Words.{Answer, Call, caller, takes_memory, SessionLocks, Numbers, HoldsAt}
 use Rattle.mdl_core.specs.CoreCalls.{has_call, outcome, Makes, wait_at}
 use Rattle.mdl_core.specs.Cores.{Core, seat_at, has_key, has_session, key_at, standing_at}
-use Rattle.mdl_core.specs.Seats.{own_of, numbers_of}
-use Rattle.mdl_core.specs.Ties.{IsSound}
+use Rattle.mdl_core.specs.Seats.{locks_of_seat, numbers_of_seat}
+use Rattle.mdl_core.specs.Ties.{IsSoundCore}
 
 -- the space speaks for each of its sessions: for any of them a call may be made, and the space is sound
 abbrev pub SpeaksFor : Core → ℕ → Type 0
-SpeaksFor core who = (has_session who core ≡ true) × IsSound core
+SpeaksFor core who = (has_session who core ≡ true) × IsSoundCore core
 
 -- a session's held tickets and its wait
-abbrev pub own_at : Core → ℕ → SessionLocks
-own_at core who = own_of (seat_at who core)
+abbrev pub locks_at : Core → ℕ → SessionLocks
+locks_at core who = locks_of_seat (seat_at who core)
 
 -- the last numbers that were given to a session's tickets and waits
 abbrev pub numbers_at : Core → ℕ → Numbers
-numbers_at core who = numbers_of (seat_at who core)
+numbers_at core who = numbers_of_seat (seat_at who core)
 
 -- every session knows the keys of all places
 abbrev pub Knows : Core → ℕ → ℕ → KeyName → Type 0
@@ -33,7 +33,7 @@ IsSettledAs core who how = MatchOption (wait_at who core) ⊥ (λ (wait : Pendin
 
 -- a place has this version and definition, and the session holds a ticket there
 abbrev pub HasRead : Core → ℕ → ℕ → Standing → Type 0
-HasRead core who place standing = HoldsAt place (own_at core who) × (has_key place core ≡ true) × (standing_at place core ≡ standing)
+HasRead core who place standing = HoldsAt place (locks_at core who) × (has_key place core ≡ true) × (standing_at place core ≡ standing)
 
 -- a place's version is this one or a later one
 abbrev pub HasSeen : Core → ℕ → ℕ → ℕ → Type 0

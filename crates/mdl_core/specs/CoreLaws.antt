@@ -11,8 +11,8 @@ use Rattle.mdl_system.specs.Words.{IsAbout, Event, Grant, Clone, BeginWait, Gran
 use Rattle.mdl_core.specs.CoreCalls.{held_ticket}
 use Rattle.mdl_core.specs.CoreJoins.{Joins}
 use Rattle.mdl_core.specs.Cores.{Core, empty_core, key_at}
-use Rattle.mdl_core.specs.CoreSystems.{system_of, state_of, applies}
-use Rattle.mdl_core.specs.Ties.{IsSound}
+use Rattle.mdl_core.specs.CoreSystems.{system_of, wait_state_of, applies}
+use Rattle.mdl_core.specs.Ties.{IsSoundCore}
 
 -- whether there is a ticket, and it isn't as strong as a mode
 abbrev pub is_weaker : Mode → Option Held → Bool
@@ -52,7 +52,7 @@ IsEventOf a (Settle_timeout who) (Timed_out ByThisCall) event =
 IsEventOf a (End_wait who) (Granted id) event =
     (number : ℕ) × (event ≡ EndGrantedWait (record { session = who; wait = number; ticket = id }))
 IsEventOf a (End_wait who) (Lost how) event =
-    (key : KeyName) × (waiter : Waiter) × (waiter.ticket.session ≡ who) × (waiter.state ≡ state_of (Some how)) × (event ≡ EndLostWait key waiter)
+    (key : KeyName) × (waiter : Waiter) × (waiter.ticket.session ≡ who) × (waiter.state ≡ wait_state_of (Some how)) × (event ≡ EndLostWait key waiter)
 IsEventOf a (Kill target number) (Has_killed true) event =
     (key : KeyName) × (waiter : Waiter) × (waiter.ticket.session ≡ target) × (waiter.wait ≡ number) × (event ≡ SettleLost key waiter Killed)
 IsEventOf a (Release who id) Done event =
@@ -86,7 +86,7 @@ GrantsInOrder {C} {D} apply key (event ∷ events) a b =
 -- a call changes nothing in the system, or it is an event there, and then waiters of the event's key are granted
 abbrev pub CallsAreEvents : Type 0
 CallsAreEvents =
-    (a b : Core) (call : Call) (answer : Answer) → IsSound a → Joins a call answer b →
+    (a b : Core) (call : Call) (answer : Answer) → IsSoundCore a → Joins a call answer b →
     ((is_change a call answer ≡ false) × SameSystem (system_of a) (system_of b))
     ⊎ ((event : Event Change) × (grants : List (Event Change)) × (between : System Definition) × (key : KeyName)
     × IsEventOf a call answer event × ((other : KeyName) → IsAbout event other → other ≡ key)
@@ -95,7 +95,7 @@ CallsAreEvents =
 -- each call keeps the space sound: the books and the seats agree, each key's version and definition are valid for it, the system is
 -- lawful, and no waiter is forgotten
 abbrev pub CallsKeepSound : Type 0
-CallsKeepSound = (a b : Core) (call : Call) (answer : Answer) → IsSound a → Joins a call answer b → IsSound b
+CallsKeepSound = (a b : Core) (call : Call) (answer : Answer) → IsSoundCore a → Joins a call answer b → IsSoundCore b
 
 -- a lock is granted at once exactly if the request for it is grantable
 abbrev pub GrantsWhatIsGrantable : Type 0

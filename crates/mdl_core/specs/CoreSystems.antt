@@ -29,20 +29,20 @@ abbrev pub book_of : KeyName → Core → BookView
 book_of key core = book_found key (index_of key core.books) core
 
 -- the state of a wait whose ticket still waits
-abbrev pub state_of : Option Settled → WaitState
-state_of (Some settled_as.Victim) = Victim
-state_of (Some settled_as.Timeout) = TimedOut
-state_of (Some settled_as.Killed) = Killed
-state_of _ = Unsettled
+abbrev pub wait_state_of : Option Settled → WaitState
+wait_state_of (Some settled_as.Victim) = Victim
+wait_state_of (Some settled_as.Timeout) = TimedOut
+wait_state_of (Some settled_as.Killed) = Killed
+wait_state_of _ = Unsettled
 
 -- the waiter of a waiting ticket and the wait of its session
-abbrev pub waiter_of : Ticket → Option Pending → Waiter
-waiter_of ticket None = record { ticket = ticket; wait = 0; state = Unsettled }
-waiter_of ticket (Some wait) = record { ticket = ticket; wait = wait.number; state = state_of wait.settled }
+abbrev pub system_waiter : Ticket → Option Pending → Waiter
+system_waiter ticket None = record { ticket = ticket; wait = 0; state = Unsettled }
+system_waiter ticket (Some wait) = record { ticket = ticket; wait = wait.number; state = wait_state_of wait.settled }
 
 -- the waiter of a waiting ticket
 abbrev pub waiter_in : Core → Ticket → Waiter
-waiter_in core ticket = waiter_of ticket (seat_at ticket.session core).wait
+waiter_in core ticket = system_waiter ticket (seat_at ticket.session core).wait
 
 -- a session's wait that is granted and not ended
 abbrev pub unended_at : ℕ → Pending → Option Settled → Option GrantedWait

@@ -51,8 +51,8 @@ abbrev pub standing_at : ℕ → Core → Standing
 standing_at place core = (book_at place core).standing
 
 -- whether a session's request for a lock can be granted now
-abbrev pub is_free : ℕ → ℕ → Mode → Core → Bool
-is_free who place mode core =
+abbrev pub is_free_for : ℕ → ℕ → Mode → Core → Bool
+is_free_for who place mode core =
     let book = book_at place core in is_grantable (lock_kind book) book.granted book.waiting who mode
 
 -- whether the key of one place comes before that of another
@@ -66,17 +66,17 @@ put_in_order core place (other ∷ others) =
     if comes_before core place other then place ∷ other ∷ others else other ∷ put_in_order core place others
 
 -- these places in the order of their keys
-abbrev pub in_key_order : Core → List ℕ → List ℕ
-in_key_order core [] = []
-in_key_order core (place ∷ places) = put_in_order core place (in_key_order core places)
+abbrev pub places_in_key_order : Core → List ℕ → List ℕ
+places_in_key_order core [] = []
+places_in_key_order core (place ∷ places) = put_in_order core place (places_in_key_order core places)
 
 -- whether a place's key is that of a table of this schema, and has a definition
 abbrev pub has_defined_table : List ℕ → Core → ℕ → Bool
 has_defined_table schema core place = is_table_of schema (key_at place core) && is_some (standing_at place core).definition
 
 -- the places of a schema's tables that have a definition, in the order of their keys
-abbrev pub tables_in : List ℕ → Core → List ℕ
-tables_in schema core = in_key_order core (filter (has_defined_table schema core) (range_with_len 1 (length core.books)))
+abbrev pub table_places : List ℕ → Core → List ℕ
+table_places schema core = places_in_key_order core (filter (has_defined_table schema core) (range_with_len 1 (length core.books)))
 
 -- the space with another book at a place
 abbrev pub booking : ℕ → BookView → Core → Core

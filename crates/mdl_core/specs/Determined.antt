@@ -20,9 +20,9 @@ use Rattle.mdl_calls.specs.declared.space_error.SpaceError.TheVariants.{NoPlace,
 use Rattle.mdl_calls.specs.Words.{Answer, Refused, Done, At_place, Granted, Would_wait, Waits, No_cycle, Victim_is, Pending, Is_settled, Timed_out, Lost, Has_wait, Has_killed, Holds, Reads, Changed, Key_is, Tables, Upgraded, finds_no_memory, Call, Resolve, Try_now, Begin_wait, Search, Poll_wait, Settle_timeout, End_wait, Wait_of, Kill, Release, Clone_ticket, Upgrade_now, Merge, Downgrade, Read_definition, Read_kept, Change_definition, Key_of, Tables_of, List_held, caller, Numbers, Draws}
 use Rattle.mdl_core.specs.CoreJoins.{Joins, numbers_at}
 use Rattle.mdl_core.specs.Cores.{Core, has_session}
-use Rattle.mdl_core.specs.CoreSystems.{state_of, system_of}
+use Rattle.mdl_core.specs.CoreSystems.{system_of, wait_state_of}
 use Rattle.mdl_core.specs.SessionLaws.{WaitsSomewhere}
-use Rattle.mdl_core.specs.Ties.{IsSound}
+use Rattle.mdl_core.specs.Ties.{IsSoundCore}
 use Rattle.mdl_system.specs.Deadlocks.{IsDeadlock, IsChosenDeadlock, IsVictimOf}
 use Rattle.mdl_system.specs.Strength.{covers, may_upgrade, may_downgrade}
 use Rattle.mdl_system.specs.Systems.{Holding, System, Versioned, Held as IsHeld, HasNoWait, IsGrantable, lock_kind}
@@ -42,8 +42,8 @@ abbrev pub Where : Type 0 → Right → Right → Right
 Where P Then Else answer = (P × Then answer) ⊎ ((P → ⊥) × Else answer)
 
 -- a call requires a condition, and is refused with this error if it doesn't hold. Of nested conditions the first one that fails counts.
-abbrev pub Needs : Type 0 → SpaceError → Right → Right
-Needs P refusal Then = Where P Then (Only (Refused refusal))
+abbrev pub Requires : Type 0 → SpaceError → Right → Right
+Requires P refusal Then = Where P Then (Only (Refused refusal))
 
 -- ---- places
 
@@ -53,73 +53,73 @@ pub record Places : Type 0 where
   pub most : ℕ
 
 -- the key of a place, if it has one
-abbrev pub key_of : Places → ℕ → Option KeyName
-key_of places zero = None
-key_of places (suc index) = slice_get places.keys index
+abbrev pub key_of_place : Places → ℕ → Option KeyName
+key_of_place places zero = None
+key_of_place places (suc index) = slice_get places.keys index
 
 -- the right answers by the key of a place: a refusal if it has none
 abbrev pub AtPlace : Places → ℕ → (KeyName → Right) → Right
-AtPlace places place Then answer = MatchOption (key_of places place) (answer ≡ Refused NoPlace) (λ key. Then key answer)
+AtPlace places place Then answer = MatchOption (key_of_place places place) (answer ≡ Refused NoPlace) (λ key. Then key answer)
 
 -- the right answers to resolving a key: the place that it has, or otherwise the next place, as long as one is left
 abbrev pub ToResolve : Places → KeyName → Right
 ToResolve places key answer =
-    ((place : ℕ) × (key_of places place ≡ Some key) × (answer ≡ At_place place))
-    ⊎ ((Contains places.keys key → ⊥) × Needs (length places.keys < places.most) NoPlace (Only (At_place (length places.keys + 1))) answer)
+    ((place : ℕ) × (key_of_place places place ≡ Some key) × (answer ≡ At_place place))
+    ⊎ ((Contains places.keys key → ⊥) × Requires (length places.keys < places.most) NoPlace (Only (At_place (length places.keys + 1))) answer)
 
 -- the key of the place is that of a table of this schema, and has a definition
 abbrev pub HasDefinedTable : System Definition → Places → List ℕ → ℕ → Type 0
 HasDefinedTable system places schema place =
-    (table : List ℕ) × (key_of places place ≡ Some (table_key schema table)) × IsSome (system.definitions (table_key schema table)).definition
+    (table : List ℕ) × (key_of_place places place ≡ Some (table_key schema table)) × IsSome (system.definitions (table_key schema table)).definition
 
 -- the key of the one place comes before that of the other
-abbrev pub ComesBefore : Places → ℕ → ℕ → Type 0
-ComesBefore places one other =
-    (key later : KeyName) × (key_of places one ≡ Some key) × (key_of places other ≡ Some later) × (key_cmp key later ≡ Less)
+abbrev pub PlaceComesBefore : Places → ℕ → ℕ → Type 0
+PlaceComesBefore places one other =
+    (key later : KeyName) × (key_of_place places one ≡ Some key) × (key_of_place places other ≡ Some later) × (key_cmp key later ≡ Less)
 
 -- the right answer to listing a schema's tables: the places of all that have a definition, in the order of their keys
 abbrev pub ToTellTables : System Definition → Places → List ℕ → Right
 ToTellTables system places schema answer =
     (tables : List ℕ) × (answer ≡ Tables tables)
-    × AllPairs (ComesBefore places) tables
+    × AllPairs (PlaceComesBefore places) tables
     × ((place : ℕ) → Contains tables place ↔ HasDefinedTable system places schema place)
 
 -- ---- locks
 
 -- the lock of a key has room for a ticket: its granted tickets, each counted once, and its waiting ones are together fewer than 65,535
-abbrev pub HasRoom : {D : Type 0} → System D → KeyName → Type 0
-HasRoom system key =
+abbrev pub LockHasRoom : {D : Type 0} → System D → KeyName → Type 0
+LockHasRoom system key =
     (tickets : List Holding) → AllPairs (λ one other. one ≢ other) tickets
     → ((ticket : Holding) → Contains tickets ticket → Contains system.granted ticket × (ticket.key ≡ key))
     → length tickets + length (system.waiting key) < 65535
 
 -- a session has a number left for a ticket
-abbrev pub HasNumber : Numbers → Type 0
-HasNumber numbers = numbers.last_ticket < 2 ^ 60 - 1
+abbrev pub HasNumberLeft : Numbers → Type 0
+HasNumberLeft numbers = numbers.last_ticket < 2 ^ 60 - 1
 
 -- the right answers when a lock is granted: the ticket's number, which is the next one, if there is room
 abbrev pub ToGrant : {D : Type 0} → System D → Numbers → KeyName → Right
-ToGrant system numbers key = Needs (HasRoom system key) Full (Only (Granted (numbers.last_ticket + 1)))
+ToGrant system numbers key = Requires (LockHasRoom system key) Full (Only (Granted (numbers.last_ticket + 1)))
 
 -- the right answers to a request for a lock: at a place that has a key, by a session that has no wait and has a number left, in a
 -- mode of the key's kind. The lock is granted if the request is grantable.
 abbrev pub ToAsk : {D : Type 0} → System D → Places → Numbers → ℕ → ℕ → Mode → (KeyName → Right) → Right
 ToAsk system places numbers who place mode Otherwise =
     AtPlace places place (λ key.
-    Needs (HasNoWait system who) AlreadyWaiting (
-    Needs (is_mode_of (lock_kind key) mode ≡ true) BadMode (
-    Needs (HasNumber numbers) CounterFull (
+    Requires (HasNoWait system who) AlreadyWaiting (
+    Requires (is_mode_of (lock_kind key) mode ≡ true) BadMode (
+    Requires (HasNumberLeft numbers) CounterFull (
     Where (IsGrantable system who key mode) (ToGrant system numbers key) (Otherwise key)))))
 
 -- the right answers when a wait begins: the wait's number, which is the next one, if there is room
 abbrev pub ToWait : {D : Type 0} → System D → Numbers → KeyName → Right
-ToWait system numbers key = Needs (HasRoom system key) Full (Only (Waits (numbers.last_wait + 1)))
+ToWait system numbers key = Requires (LockHasRoom system key) Full (Only (Waits (numbers.last_wait + 1)))
 
 -- ---- held tickets
 
 -- the right answers by the ticket of this number that the session holds: a refusal if it holds none
-abbrev pub OfTicket : {D : Type 0} → System D → ℕ → ℕ → (Holding → Right) → Right
-OfTicket system who id Then answer =
+abbrev pub OfHolding : {D : Type 0} → System D → ℕ → ℕ → (Holding → Right) → Right
+OfHolding system who id Then answer =
     ((ticket : Holding) × IsHeld system who ticket × (ticket.number ≡ id) × Then ticket answer)
     ⊎ (((ticket : Holding) → IsHeld system who ticket → ticket.number ≢ id) × (answer ≡ Refused NotHeld))
 
@@ -127,29 +127,29 @@ OfTicket system who id Then answer =
 -- of the key's kind that the held ticket covers
 abbrev pub ToClone : {D : Type 0} → System D → Numbers → ℕ → Mode → Holding → Right
 ToClone system numbers who mode ticket =
-    Needs (HasNoWait system who) AlreadyWaiting (
-    Needs ((covers ticket.mode mode ≡ true) × (is_mode_of (lock_kind ticket.key) mode ≡ true)) BadMode (
-    Needs (HasNumber numbers) CounterFull (ToGrant system numbers ticket.key)))
+    Requires (HasNoWait system who) AlreadyWaiting (
+    Requires ((covers ticket.mode mode ≡ true) × (is_mode_of (lock_kind ticket.key) mode ≡ true)) BadMode (
+    Requires (HasNumberLeft numbers) CounterFull (ToGrant system numbers ticket.key)))
 
 -- the right answers to an upgrade: to a mode of the key's kind that the ticket covers already or may be upgraded to, by a session that
 -- has no wait. The mode is granted at once if the ticket covers it already or the request for it is grantable.
 abbrev pub ToUpgrade : {D : Type 0} → System D → ℕ → Mode → Holding → Right
 ToUpgrade system who mode ticket =
-    Needs (((covers ticket.mode mode || may_upgrade ticket.mode mode) ≡ true) × (is_mode_of (lock_kind ticket.key) mode ≡ true)) NotUpgradable (
-    Needs (HasNoWait system who) AlreadyWaiting (
+    Requires (((covers ticket.mode mode || may_upgrade ticket.mode mode) ≡ true) × (is_mode_of (lock_kind ticket.key) mode ≡ true)) NotUpgradable (
+    Requires (HasNoWait system who) AlreadyWaiting (
     Where ((covers ticket.mode mode ≡ true) ⊎ IsGrantable system who ticket.key mode) (Only Upgraded) (Only Would_wait)))
 
 -- the right answers to a downgrade: to a mode of the key's kind that the ticket may be downgraded to
 abbrev pub ToDowngrade : Mode → Holding → Right
 ToDowngrade mode ticket =
-    Needs ((may_downgrade ticket.mode mode ≡ true) × (is_mode_of (lock_kind ticket.key) mode ≡ true)) NotUpgradable (Only Done)
+    Requires ((may_downgrade ticket.mode mode ≡ true) × (is_mode_of (lock_kind ticket.key) mode ≡ true)) NotUpgradable (Only Done)
 
 -- the right answers to a merge: by a session that has no wait, of two different tickets of one key, if the one to be released is at
 -- least as strong as the other
 abbrev pub ToMerge : {D : Type 0} → System D → ℕ → Holding → Holding → Right
 ToMerge system who kept gone =
-    Needs (HasNoWait system who) AlreadyWaiting (
-    Needs ((kept.number ≢ gone.number) × (gone.key ≡ kept.key) × (covers gone.mode kept.mode ≡ true)) BadMode (Only Done))
+    Requires (HasNoWait system who) AlreadyWaiting (
+    Requires ((kept.number ≢ gone.number) × (gone.key ≡ kept.key) × (covers gone.mode kept.mode ≡ true)) BadMode (Only Done))
 
 -- the right answer to a read: the key's version and definition
 abbrev pub ToRead : Versioned Definition → Right
@@ -159,14 +159,14 @@ ToRead standing = Only (Reads standing.version standing.definition)
 -- definition that the key has can be changed so
 abbrev pub ToChange : KeyName → Change → Versioned Definition → Right
 ToChange key change standing =
-    Needs (standing.version < 1000000) VersionFull (
-    Needs (suits key.namespace change ≡ true) WrongKind (λ answer.
+    Requires (standing.version < 1000000) VersionFull (
+    Requires (suits key.namespace change ≡ true) WrongKind (λ answer.
     MatchOption (change_fault standing.definition change) (answer ≡ Changed (standing.version + 1)) (λ why. answer ≡ Refused (Def why))))
 
 -- in the system a session holds this ticket, on the key of the ticket's place
-abbrev pub HasInHand : {D : Type 0} → System D → Places → ℕ → Held → Type 0
-HasInHand system places who ticket =
-    (key : KeyName) × (key_of places ticket.place ≡ Some key)
+abbrev pub HoldsAtPlace : {D : Type 0} → System D → Places → ℕ → Held → Type 0
+HoldsAtPlace system places who ticket =
+    (key : KeyName) × (key_of_place places ticket.place ≡ Some key)
     × IsHeld system who (record { session = who; number = ticket.id; key = key; mode = ticket.mode })
 
 -- the right answer to listing a session's tickets: all that it holds, in the order of their numbers
@@ -174,7 +174,7 @@ abbrev pub ToList : {D : Type 0} → System D → Places → ℕ → Right
 ToList system places who answer =
     (tickets : List Held) × (answer ≡ Holds tickets)
     × AllPairs (λ (earlier later : Held). earlier.id < later.id) tickets
-    × ((ticket : Held) → Contains tickets ticket ↔ HasInHand system places who ticket)
+    × ((ticket : Held) → Contains tickets ticket ↔ HoldsAtPlace system places who ticket)
 
 -- ---- waits
 
@@ -184,7 +184,7 @@ abbrev pub IsWait : {D : Type 0} → System D → ℕ → ℕ → ℕ → Option
 IsWait system who number id (Some settled_as.Granted) = Contains system.unended (record { session = who; wait = number; ticket = id })
 IsWait system who number id settled =
     (key : KeyName) × (mode : Mode)
-    × Contains (system.waiting key) (record { ticket = record { session = who; number = id; mode = mode }; wait = number; state = state_of settled })
+    × Contains (system.waiting key) (record { ticket = record { session = who; number = id; mode = mode }; wait = number; state = wait_state_of settled })
 
 -- the right answers by the session's wait, or those for a session that has none
 abbrev pub OfWait : {D : Type 0} → System D → ℕ → Right → (ℕ → ℕ → Option Settled → Right) → Right
@@ -230,15 +230,15 @@ Determines system places numbers (End_wait who) = OfWait system who (Only (Refus
 Determines system places numbers (Wait_of target) =
     OfWait system target (Only (Has_wait None)) (λ number id settled. Only (Has_wait (Some number)))
 Determines system places numbers (Kill target number) = Where (WaitsSomewhere system target number) (Only (Has_killed true)) (Only (Has_killed false))
-Determines system places numbers (Release who id) = OfTicket system who id (λ ticket. Only Done)
-Determines system places numbers (Clone_ticket who id mode) = OfTicket system who id (ToClone system (numbers who) who mode)
-Determines system places numbers (Upgrade_now who id mode) = OfTicket system who id (ToUpgrade system who mode)
-Determines system places numbers (Merge who old new) = OfTicket system who old (λ kept. OfTicket system who new (ToMerge system who kept))
-Determines system places numbers (Downgrade who id mode) = OfTicket system who id (ToDowngrade mode)
-Determines system places numbers (Read_definition who id) = OfTicket system who id (λ ticket. ToRead (system.definitions ticket.key))
-Determines system places numbers (Read_kept who id) = OfTicket system who id (λ ticket. ToRead (system.definitions ticket.key))
+Determines system places numbers (Release who id) = OfHolding system who id (λ ticket. Only Done)
+Determines system places numbers (Clone_ticket who id mode) = OfHolding system who id (ToClone system (numbers who) who mode)
+Determines system places numbers (Upgrade_now who id mode) = OfHolding system who id (ToUpgrade system who mode)
+Determines system places numbers (Merge who old new) = OfHolding system who old (λ kept. OfHolding system who new (ToMerge system who kept))
+Determines system places numbers (Downgrade who id mode) = OfHolding system who id (ToDowngrade mode)
+Determines system places numbers (Read_definition who id) = OfHolding system who id (λ ticket. ToRead (system.definitions ticket.key))
+Determines system places numbers (Read_kept who id) = OfHolding system who id (λ ticket. ToRead (system.definitions ticket.key))
 Determines system places numbers (Change_definition who id change) =
-    OfTicket system who id (λ ticket. Needs (ticket.mode ≡ X) NotExclusive (ToChange ticket.key change (system.definitions ticket.key)))
+    OfHolding system who id (λ ticket. Requires (ticket.mode ≡ X) NotExclusive (ToChange ticket.key change (system.definitions ticket.key)))
 Determines system places numbers (Key_of who place) = AtPlace places place (λ key. Only (Key_is key))
 Determines system places numbers (Tables_of who schema) = ToTellTables system places schema
 Determines system places numbers (List_held who) = ToList system places who
@@ -254,7 +254,7 @@ places_of core = record { keys = map (λ (book : BookView). book.key) core.books
 -- and the last numbers that sessions got, and they determine no other answer
 abbrev pub AnswersAreDetermined : Type 0
 AnswersAreDetermined =
-    (a b : Core) (call : Call) (answer other : Answer) → IsSound a → Joins a call answer b → finds_no_memory answer ≡ false →
+    (a b : Core) (call : Call) (answer other : Answer) → IsSoundCore a → Joins a call answer b → finds_no_memory answer ≡ false →
     Determines (system_of a) (places_of a) (numbers_at a) call other ↔ (other ≡ answer)
 
 -- the places after a call with this answer: a key that was resolved had a place before, or has now got the next one. No other call
@@ -269,7 +269,7 @@ PlacesAfter _ _ before after = after ≡ before
 -- `CallsAreEvents`.
 abbrev pub PlacesAndNumbersFollow : Type 0
 PlacesAndNumbersFollow =
-    (a b : Core) (call : Call) (answer : Answer) → IsSound a → Joins a call answer b →
+    (a b : Core) (call : Call) (answer : Answer) → IsSoundCore a → Joins a call answer b →
     PlacesAfter call answer (places_of a) (places_of b)
     × ((who : ℕ) → has_session who a ≡ true →
     (caller call ≡ Some who → Draws call answer (numbers_at a who) (numbers_at b who))

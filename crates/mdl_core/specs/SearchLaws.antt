@@ -6,7 +6,7 @@ use Rattle.mdl_core.specs.CoreJoins.{Joins, SpeaksFor}
 use Rattle.mdl_core.specs.Cores.{Core}
 use Rattle.mdl_core.specs.CoreSystems.{system_of}
 use Rattle.mdl_system.specs.Deadlocks.{IsDeadlock, IsChosenDeadlock, IsVictimOf, DeadlocksGoThrough, HasNoDeadlock}
-use Rattle.mdl_core.specs.Ties.{IsSound}
+use Rattle.mdl_core.specs.Ties.{IsSoundCore}
 
 -- a search finds no cycle if the session is part of no deadlock, and otherwise it returns the victim of the chosen one. It fails only if
 -- memory runs out. That only the victim then loses its wait is part of `CallsAreEvents`.
@@ -29,17 +29,17 @@ SearchesLeaveNoDeadlock =
     (a b : Core) (who : ℕ) → SpeaksFor a who → Runs Joins a (seeking most_searches who) Over b → (cycle : List ℕ) → IsDeadlock (system_of b) who cycle → ⊥
 
 -- whether a session begins to wait by a call with this answer
-abbrev pub begins_wait : Call → Answer → ℕ → Bool
-begins_wait (Begin_wait who place mode) (Waits number) session = session == who
-begins_wait _ _ session = false
+abbrev pub call_begins_wait : Call → Answer → ℕ → Bool
+call_begins_wait (Begin_wait who place mode) (Waits number) session = session == who
+call_begins_wait _ _ session = false
 
 -- no call makes a deadlock except by a wait that it begins: if all deadlocks go through some set of sessions, then after the call all
 -- go through these or through the session that began to wait by it
 abbrev pub OnlyNewWaitsMakeDeadlocks : Type 0
 OnlyNewWaitsMakeDeadlocks =
-    (a b : Core) (call : Call) (answer : Answer) (sessions : ℕ → Bool) → IsSound a → Joins a call answer b →
+    (a b : Core) (call : Call) (answer : Answer) (sessions : ℕ → Bool) → IsSoundCore a → Joins a call answer b →
     DeadlocksGoThrough sessions (system_of a) →
-    DeadlocksGoThrough (λ session. sessions session || begins_wait call answer session) (system_of b)
+    DeadlocksGoThrough (λ session. sessions session || call_begins_wait call answer session) (system_of b)
 
 -- if all deadlocks go through some set of sessions, then once a session's searches are over all go through the others of the set
 abbrev pub SearchingEndsDeadlocks : Type 0

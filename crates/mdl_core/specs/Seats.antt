@@ -20,15 +20,15 @@ abbrev pub empty_seat : SeatView
 empty_seat = record { held = []; wait = None; last_ticket = 0; last_wait = 0 }
 
 -- the held tickets and the wait, as callers see them
-abbrev pub own_of : SeatView → SessionLocks
-own_of seat = record {
+abbrev pub locks_of_seat : SeatView → SessionLocks
+locks_of_seat seat = record {
   held = seat.held;
   wait = option_map (λ wait. record { number = wait.number; place = wait.place; mode = wait.mode }) seat.wait;
 }
 
 -- the last numbers that were given to the session's tickets and waits
-abbrev pub numbers_of : SeatView → Numbers
-numbers_of seat = record { last_ticket = seat.last_ticket; last_wait = seat.last_wait }
+abbrev pub numbers_of_seat : SeatView → Numbers
+numbers_of_seat seat = record { last_ticket = seat.last_ticket; last_wait = seat.last_wait }
 
 -- the seat with a new ticket
 abbrev pub holding : ℕ → Mode → SeatView → SeatView
@@ -42,13 +42,13 @@ abbrev pub without_ticket : ℕ → SeatView → SeatView
 without_ticket id seat = record seat { held = filter (λ ticket. not (is_number id ticket)) seat.held }
 
 -- a held ticket in another mode
-abbrev pub held_in : Mode → Held → Held
-held_in mode ticket = record ticket { mode = mode }
+abbrev pub held_in_mode : Mode → Held → Held
+held_in_mode mode ticket = record ticket { mode = mode }
 
 -- the seat with the ticket of a number in another mode
 abbrev pub with_ticket_in : ℕ → Mode → SeatView → SeatView
 with_ticket_in id mode seat = record seat {
-  held = map (λ ticket. if is_number id ticket then held_in mode ticket else ticket) seat.held;
+  held = map (λ ticket. if is_number id ticket then held_in_mode mode ticket else ticket) seat.held;
 }
 
 -- the seat with a wait for a new ticket
@@ -60,22 +60,22 @@ beginning_wait place mode seat = record seat {
 }
 
 -- whether there is a wait, and it is unsettled
-abbrev pub is_open : Option Pending → Bool
-is_open None = false
-is_open (Some wait) = not (is_some wait.settled)
+abbrev pub is_unsettled_wait : Option Pending → Bool
+is_unsettled_wait None = false
+is_unsettled_wait (Some wait) = not (is_some wait.settled)
 
 -- whether there is a wait, and it is settled
-abbrev pub is_closed : Option Pending → Bool
-is_closed None = false
-is_closed (Some wait) = is_some wait.settled
+abbrev pub is_settled_wait : Option Pending → Bool
+is_settled_wait None = false
+is_settled_wait (Some wait) = is_some wait.settled
 
 -- the seat with its wait settled in this way
-abbrev pub settling : Settled → SeatView → SeatView
-settling how seat = record seat { wait = option_map (λ (wait : Pending). record wait { settled = Some how }) seat.wait }
+abbrev pub with_settled_wait : Settled → SeatView → SeatView
+with_settled_wait how seat = record seat { wait = option_map (λ (wait : Pending). record wait { settled = Some how }) seat.wait }
 
 -- the seat without its wait
-abbrev pub without_wait : SeatView → SeatView
-without_wait seat = record seat { wait = None }
+abbrev pub seat_without_wait : SeatView → SeatView
+seat_without_wait seat = record seat { wait = None }
 
 -- the ticket that a wait is for
 abbrev pub ticket_of_wait : Pending → Held

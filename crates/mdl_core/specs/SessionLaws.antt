@@ -12,11 +12,11 @@ use Rattle.mdl_calls.specs.declared.space_error.SpaceError.{SpaceError}
 use Rattle.mdl_calls.specs.declared.space_error.SpaceError.TheVariants.{NoPlace, VersionFull, CounterFull, Full}
 use Rattle.mdl_calls.specs.Words.{Answer, Refused, Has_wait, Has_killed, Reads, Changed, Call, Resolve, Try_now, Begin_wait, Wait_of, Kill, Clone_ticket, Read_definition, Change_definition, Key_of, wait_number}
 use Rattle.mdl_core.specs.CoreCalls.{held_ticket}
-use Rattle.mdl_core.specs.CoreJoins.{Joins, own_at}
+use Rattle.mdl_core.specs.CoreJoins.{Joins, locks_at}
 use Rattle.mdl_core.specs.Cores.{Core, book_at, seat_at, key_at, standing_at, has_key, has_session}
-use Rattle.mdl_core.specs.CoreSystems.{system_of, state_of}
+use Rattle.mdl_core.specs.CoreSystems.{system_of, wait_state_of}
 use Rattle.mdl_system.specs.Systems.{Unsettled, Holding, Waiter, System, Held as Holds, ListsHeld, HasNoWait}
-use Rattle.mdl_core.specs.Ties.{IsSound}
+use Rattle.mdl_core.specs.Ties.{IsSoundCore}
 
 -- ---- what a session has
 
@@ -34,7 +34,7 @@ abbrev pub waiter_for : ℕ → Pending → Waiter
 waiter_for who wait = record {
   ticket = record { session = who; number = wait.id; mode = wait.mode };
   wait = wait.number;
-  state = state_of wait.settled;
+  state = wait_state_of wait.settled;
 }
 
 -- a session's wait has this number, is granted, and is for the ticket of this number
@@ -62,14 +62,14 @@ pub record HasWhatTheSystemSays (core : Core) (who : ℕ) : Type 0 where
       → WaitsAt core who key waiter ↔ (Contains ((system_of core).waiting key) waiter × (waiter.ticket.session ≡ who))
 
 -- a number that is no session's has nothing in the system
-abbrev pub HasNothing : {D : Type 0} → System D → ℕ → Type 0
-HasNothing system who = ((held : Holding) → Contains system.granted held → held.session ≢ who) × HasNoWait system who
+abbrev pub HasNothingInSystem : {D : Type 0} → System D → ℕ → Type 0
+HasNothingInSystem system who = ((held : Holding) → Contains system.granted held → held.session ≢ who) × HasNoWait system who
 
 -- each session's seat agrees with the system, and a number that is no session's has nothing there
 abbrev pub SessionsHaveWhatTheSystemSays : Type 0
 SessionsHaveWhatTheSystemSays =
-    (core : Core) (who : ℕ) → IsSound core →
-    (has_session who core ≡ true → HasWhatTheSystemSays core who) × (has_session who core ≡ false → HasNothing (system_of core) who)
+    (core : Core) (who : ℕ) → IsSoundCore core →
+    (has_session who core ≡ true → HasWhatTheSystemSays core who) × (has_session who core ≡ false → HasNothingInSystem (system_of core) who)
 
 -- ---- waits of others
 
@@ -91,9 +91,9 @@ abbrev pub KillsJustThatWait : Type 0
 KillsJustThatWait =
     ((a b : Core) (target number : ℕ) (killed : Bool) → Joins a (Kill target number) (Has_killed killed) b
     → ((killed ≡ true) ↔ WaitsUnsettled a target number) × (killed ≡ false → b ≡ a))
-    × ((a : Core) (target number : ℕ) → IsSound a → WaitsUnsettled a target number ↔ WaitsSomewhere (system_of a) target number)
+    × ((a : Core) (target number : ℕ) → IsSoundCore a → WaitsUnsettled a target number ↔ WaitsSomewhere (system_of a) target number)
     × ((a b : Core) (target : ℕ) (number : Option ℕ) → Joins a (Wait_of target) (Has_wait number) b
-    → (has_session target a ≡ true → number ≡ wait_number (own_at a target)) × (has_session target a ≡ false → number ≡ None))
+    → (has_session target a ≡ true → number ≡ wait_number (locks_at a target)) × (has_session target a ≡ false → number ≡ None))
 
 -- ---- definitions
 
@@ -142,11 +142,11 @@ LacksPlace core (Key_of who place) = has_key place core ≡ false
 LacksPlace core _ = ⊥
 
 -- why the lock is full
-abbrev pub LacksRoom : Core → Call → Type 0
-LacksRoom core (Try_now who place mode) = HasNoRoom core place
-LacksRoom core (Begin_wait who place mode) = HasNoRoom core place
-LacksRoom core (Clone_ticket who id mode) = (ticket : Held) × (held_ticket who id core ≡ Some ticket) × HasNoRoom core ticket.place
-LacksRoom core _ = ⊥
+abbrev pub LockIsFull : Core → Call → Type 0
+LockIsFull core (Try_now who place mode) = HasNoRoom core place
+LockIsFull core (Begin_wait who place mode) = HasNoRoom core place
+LockIsFull core (Clone_ticket who id mode) = (ticket : Held) × (held_ticket who id core ≡ Some ticket) × HasNoRoom core ticket.place
+LockIsFull core _ = ⊥
 
 -- why the session can have no more tickets
 abbrev pub LacksNumber : Core → Call → Type 0
@@ -168,7 +168,7 @@ LacksVersion core _ = ⊥
 -- the limit that an error names is reached
 abbrev pub MeetsLimit : Core → Call → SpaceError → Type 0
 MeetsLimit core call NoPlace = LacksPlace core call
-MeetsLimit core call Full = LacksRoom core call
+MeetsLimit core call Full = LockIsFull core call
 MeetsLimit core call CounterFull = LacksNumber core call
 MeetsLimit core call VersionFull = LacksVersion core call
 MeetsLimit core call _ = Unit {0}

@@ -12,12 +12,12 @@ use Rattle.mdl_defs.specs.Standings.{MayStand}
 use Rattle.mdl_core.specs.Cores.{Core, book_at, seat_at, key_at, standing_at, has_key, has_session}
 use Rattle.mdl_core.specs.CoreSystems.{system_of}
 use Rattle.mdl_calls.specs.SessionLocks.{IsRising}
-use Rattle.mdl_core.specs.Seats.{SeatView, own_of, ticket_of_wait}
+use Rattle.mdl_core.specs.Seats.{SeatView, locks_of_seat, ticket_of_wait}
 use Rattle.mdl_system.specs.Systems.{IsLawful, NoneForgotten}
 
 -- a session has a granted ticket: it holds the ticket, or its wait for the ticket is granted and not ended
-abbrev pub Has : SeatView → Held → Type 0
-Has seat ticket =
+abbrev pub HasGrantedTicket : SeatView → Held → Type 0
+HasGrantedTicket seat ticket =
     Contains seat.held ticket
     ⊎ MatchOption seat.wait ⊥ (λ (wait : Pending). (wait.settled ≡ Some settled_as.Granted) × (ticket ≡ ticket_of_wait wait))
 
@@ -31,8 +31,8 @@ in_book_of who ticket = record { session = who; number = ticket.id; mode = ticke
 
 -- the numbers of a session's tickets and waits: those of held tickets rise, none is above the last number given, and the ticket of
 -- a wait has the last one, which is above those of the held tickets
-pub record IsNumbered (seat : SeatView) : Type 0 where
-  pub rising : IsRising (own_of seat)
+pub record HasRisingNumbers (seat : SeatView) : Type 0 where
+  pub rising : IsRising (locks_of_seat seat)
   pub held : (ticket : Held) → Contains seat.held ticket → ticket.id ≤ seat.last_ticket
   pub wait : MatchOption seat.wait (Unit {0}) (λ (wait : Pending).
       (wait.id ≡ seat.last_ticket) × (wait.number ≤ seat.last_wait) × ((ticket : Held) → Contains seat.held ticket → ticket.id < wait.id))
@@ -48,25 +48,25 @@ pub record IsTied (core : Core) : Type 0 where
       → (has_session ticket.session core ≡ true) × IsTrue (is_mode_of (lock_kind (book_at place core)) ticket.mode)
   -- the granted tickets are those that sessions have, and the waiting ones those that they wait for
   pub granted : (who : ℕ) (ticket : Held) → has_session who core ≡ true → has_key ticket.place core ≡ true
-      → Contains (book_at ticket.place core).granted (in_book_of who ticket) ↔ Has (seat_at who core) ticket
+      → Contains (book_at ticket.place core).granted (in_book_of who ticket) ↔ HasGrantedTicket (seat_at who core) ticket
   pub waiting : (who : ℕ) (ticket : Held) → has_session who core ≡ true → has_key ticket.place core ≡ true
       → Contains (book_at ticket.place core).waiting (in_book_of who ticket) ↔ Awaits (seat_at who core) ticket
   -- the sessions' tickets are at places that have keys
-  pub placed : (who : ℕ) (ticket : Held) → has_session who core ≡ true → Has (seat_at who core) ticket ⊎ Awaits (seat_at who core) ticket
+  pub placed : (who : ℕ) (ticket : Held) → has_session who core ≡ true → HasGrantedTicket (seat_at who core) ticket ⊎ Awaits (seat_at who core) ticket
       → has_key ticket.place core ≡ true
   -- each granted ticket is in a book once, and each session waits at most once in a book
   pub granted_once : (place : ℕ) → has_key place core ≡ true
       → AllPairs (λ (one other : Ticket). ticket_id one ≢ ticket_id other) (book_at place core).granted
   pub waiting_once : (place : ℕ) → has_key place core ≡ true
       → AllPairs (λ (one other : Ticket). one.session ≢ other.session) (book_at place core).waiting
-  pub numbered : (who : ℕ) → has_session who core ≡ true → IsNumbered (seat_at who core)
+  pub numbered : (who : ℕ) → has_session who core ≡ true → HasRisingNumbers (seat_at who core)
 
 -- the version and the definition of each place are valid for its key
 abbrev pub AllMayStand : Core → Type 0
 AllMayStand core = (place : ℕ) → has_key place core ≡ true → MayStand (key_at place core).namespace (standing_at place core)
 
 -- all that always holds of the space
-pub record IsSound (core : Core) : Type 0 where
+pub record IsSoundCore (core : Core) : Type 0 where
   pub tied : IsTied core
   pub standing : AllMayStand core
   pub lawful : IsLawful (system_of core)

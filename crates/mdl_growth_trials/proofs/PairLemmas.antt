@@ -3,7 +3,7 @@ use Rattle.std.proofs.Common.{◌≡◌, ℕ, [], None, refl, ◌∙◌, arith}
 use Rattle.std.proofs.lemmas.List.Elements.{All-nil}
 use Rattle.mdl_defs.specs.Caches.{CacheView}
 use Rattle.mdl_calls.specs.declared.lock_space.LockSpace.{Ghosts}
-use Rattle.mdl_core.specs.Words.{Core, SpeaksFor, own_at}
+use Rattle.mdl_core.specs.Words.{Core, SpeaksFor, locks_at}
 use Rattle.mdl_space.specs.CoreMembers.{core_space}
 use Rattle.mdl_context.specs.Contexts.{ContextView, Attends, LeavesOthers}
 use Rattle.mdl_stmt.specs.Attendance.{AttendsWith}
@@ -39,7 +39,7 @@ second_runs before after first second x c d y two who attends by = record {
 -- neither has anything, and nothing is cached
 pub fresh_runners : (space : Core) (first second : ContextView) (c d : CacheView) → first ≡ record { who = 1; kept = []; known = []; wait = None }
     → second ≡ record { who = 2; kept = []; known = []; wait = None } → c.kept ≡ [] → d.kept ≡ [] → SpeaksFor space 1 → SpeaksFor space 2
-    → own_at space 1 ≡ record { held = []; wait = None } → own_at space 2 ≡ record { held = []; wait = None } → AreRunners space first c second d
+    → locks_at space 1 ≡ record { held = []; wait = None } → locks_at space 2 ≡ record { held = []; wait = None } → AreRunners space first c second d
 fresh_runners space first second c d is_first is_second none nothing speaks_first speaks_second first_own second_own = record {
   one = rw is_first refl;
   two = rw is_second refl;

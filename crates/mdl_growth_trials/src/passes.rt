@@ -1,6 +1,6 @@
 //! Sessions of a space that threads share, which are opened and closed on one thread here.
 ghost use Rattle.std.specs.Prelude.{◌≡◌, length, IfOk};
-ghost use Rattle.mdl_shared.specs.Passes.{ArePasses, table_of};
+ghost use Rattle.mdl_shared.specs.Passes.{ArePasses, manager_table};
 
 use mdl_shared::{CloseError, Manager, NewError, Pass, Session};
 use mdl_space::Place;
@@ -10,7 +10,7 @@ use std::sync::Wait;
 
 /// Returns a space of `places` places and the passes of its three sessions. Tries a second time if memory runs out.
 pub(crate) fn new_passes(alloc: Global, places: u16) -> Result<(Manager, Vec<Pass>), NewError>
-    ensures { IfOk result (λ made. (length made.1.items ≡ 3) × ArePasses (table_of made.0) made.1.items) }
+    ensures { IfOk result (λ made. (length made.1.items ≡ 3) × ArePasses (manager_table made.0) made.1.items) }
 {
     match Manager::new(alloc, places, 3) {
         Err(NewError::OutOfMemory) => Manager::new(alloc, places, 3),

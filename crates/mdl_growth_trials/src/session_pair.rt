@@ -1,6 +1,6 @@
 //! Two sessions of a space that threads share, on one thread, and their statements.
 ghost use Rattle.std.specs.Prelude.{◌≡◌, [], None};
-ghost use Rattle.mdl_shared.specs.Passes.{pass_table, table_of};
+ghost use Rattle.mdl_shared.specs.Passes.{manager_table, pass_table};
 
 use crate::alike::Tickets;
 use crate::outcomes::{Outcome, new_runner, play};
@@ -66,7 +66,7 @@ fn open<'s, 'r, R: Wait>(
     manager: &Manager,
     pass: Pass,
 ) -> Option<Desk<'s, Session<&'r R>>>
-    requires { pass_table pass ≡ table_of manager.now }
+    requires { pass_table pass ≡ manager_table manager.now }
 {
     let session = Session::open(rt, manager, pass);
     let who = session.number();

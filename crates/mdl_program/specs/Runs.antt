@@ -25,23 +25,23 @@ IsRun Replay = ⊤
 
 -- the output of a run on this input, if it is determined and known: the answers to a script of one lock, what becomes of the statements
 -- of a script, or the matrices, which need no input. For threads it isn't determined
-abbrev pub output_of : Run → Option (List ℕ) → Option (List ℕ)
-output_of (Lock kind) input = option_map (lock_output_of kind) input
-output_of Matrix input = Some matrix_text
-output_of Replay input = option_map played.output_of input
-output_of (Threads patience cache) input = None
+abbrev pub run_output : Run → Option (List ℕ) → Option (List ℕ)
+run_output (Lock kind) input = option_map (lock_output_of kind) input
+run_output Matrix input = Some matrix_text
+run_output Replay input = option_map played.output_of input
+run_output (Threads patience cache) input = None
 
 -- how a run may end on this input: a script is refused for its first bad line and no other, and the matrices, which read nothing, fail
 -- only if memory runs out or in writing
-abbrev pub IsEndOf : Run → Option (List ℕ) → Result (Unit {0}) Fault → Type 0
-IsEndOf (Lock kind) input end = IfSome input (λ script. MayEnd (commands.parsed kind script) end)
-IsEndOf Replay input end = IfSome input (λ script. MayEnd (statements.parsed script) end)
-IsEndOf (Threads patience cache) input end = IfSome input (λ script. MayEnd (statements.parsed script) end)
-IsEndOf Matrix input (Ok done) = Unit {0}
-IsEndOf Matrix input (Err (Refused line error)) = ⊥
-IsEndOf Matrix input (Err Memory) = Unit {0}
-IsEndOf Matrix input (Err Read) = ⊥
-IsEndOf Matrix input (Err Write) = Unit {0}
+abbrev pub IsRunEnd : Run → Option (List ℕ) → Result (Unit {0}) Fault → Type 0
+IsRunEnd (Lock kind) input end = IfSome input (λ script. MayEnd (commands.parsed kind script) end)
+IsRunEnd Replay input end = IfSome input (λ script. MayEnd (statements.parsed script) end)
+IsRunEnd (Threads patience cache) input end = IfSome input (λ script. MayEnd (statements.parsed script) end)
+IsRunEnd Matrix input (Ok done) = Unit {0}
+IsRunEnd Matrix input (Err (Refused line error)) = ⊥
+IsRunEnd Matrix input (Err Memory) = Unit {0}
+IsRunEnd Matrix input (Err Read) = ⊥
+IsRunEnd Matrix input (Err Write) = Unit {0}
 
 -- what is written by a run that ends so: all of its output after success, otherwise no more than its fault leaves
 abbrev pub Writes : Result (Unit {0}) Fault → Option (List ℕ) → Option (List ℕ) → List ℕ → Type 0
@@ -49,15 +49,15 @@ Writes (Ok done) old new output = Appends old new output
 Writes (Err fault) old new output = LeavesWritten fault old new output
 
 -- what a run that ends so may leave written: its output, or part of it. On threads it is a text of what the sessions can have done
-abbrev pub Leaves : Run → Option (List ℕ) → Result (Unit {0}) Fault → Option (List ℕ) → Option (List ℕ) → Type 0
-Leaves (Threads patience cache) input end old new = IfSome input (λ script. ThreadsLeave (options_of patience cache) (statements.parsed script) end old new)
-Leaves (Lock kind) input end old new = IfSome (output_of (Lock kind) input) (Writes end old new)
-Leaves Matrix input end old new = IfSome (output_of Matrix input) (Writes end old new)
-Leaves Replay input end old new = IfSome (output_of Replay input) (Writes end old new)
+abbrev pub MayLeaveWritten : Run → Option (List ℕ) → Result (Unit {0}) Fault → Option (List ℕ) → Option (List ℕ) → Type 0
+MayLeaveWritten (Threads patience cache) input end old new = IfSome input (λ script. ThreadsLeave (options_of patience cache) (statements.parsed script) end old new)
+MayLeaveWritten (Lock kind) input end old new = IfSome (run_output (Lock kind) input) (Writes end old new)
+MayLeaveWritten Matrix input end old new = IfSome (run_output Matrix input) (Writes end old new)
+MayLeaveWritten Replay input end old new = IfSome (run_output Replay input) (Writes end old new)
 
 -- a run may end so on this input, and leave this written
 abbrev pub EndsAs : Run → Option (List ℕ) → Option (List ℕ) → Option (List ℕ) → Result (Unit {0}) Fault → Type 0
-EndsAs run input old new end = IsEndOf run input end × Leaves run input end old new
+EndsAs run input old new end = IsRunEnd run input end × MayLeaveWritten run input end old new
 
 -- the exit status of a program whose run ended so
 abbrev pub end_status : Result (Unit {0}) Fault → ℕ

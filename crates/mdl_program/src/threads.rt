@@ -5,7 +5,7 @@ ghost use Rattle.mdl_lines.specs.Words.{IsFaultOf, MayEnd};
 ghost use Rattle.mdl_stmt.specs.Attendance.{IsCapacity};
 ghost use Rattle.mdl_syntax.specs.Scripts.{parsed};
 ghost use Rattle.mdl_script.specs.Answers.{options_of};
-ghost use Rattle.mdl_program.specs.Threads.{IsTold, ThreadsLeave};
+ghost use Rattle.mdl_program.specs.Threads.{IsThreadsText, ThreadsLeave};
 
 use mdl_lines::{Fault, read_all, write_all};
 use mdl_script::{OpenGate, parse, run_threads};
@@ -44,7 +44,7 @@ fn tell<T: Threads + Wait + Sync>(
     text: Vec<u8>,
 ) -> Result<String, Fault>
     requires { IsCapacity cache }
-    ensures told { IfOk result (λ told. IsTold (options_of patience cache) (parsed text.items) (string_bytes told)) }
+    ensures told { IfOk result (λ told. IsThreadsText (options_of patience cache) (parsed text.items) (string_bytes told)) }
     ensures accepted { OnOk result (IsOk (parsed text.items)) }
     ensures fault { IfErr result (IsFaultOf (parsed text.items)) }
 {

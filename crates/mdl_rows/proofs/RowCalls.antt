@@ -11,10 +11,10 @@ use Rattle.mdl_context.specs.declared.request.Resume.{Resume}
 use Rattle.mdl_context.specs.declared.request.Resume.TheVariants as resume
 use Rattle.mdl_context.specs.declared.request.Tried.{Tried}
 use Rattle.mdl_context.specs.declared.request.Tried.TheVariants as try_as
-use Rattle.mdl_context.specs.Contexts.{last_ticket, mark_of, waits_for_user_lock}
-use Rattle.mdl_context.specs.Gains.{refusal_of}
+use Rattle.mdl_context.specs.Contexts.{current_mark, last_ticket, waits_for_user_lock}
+use Rattle.mdl_context.specs.Gains.{refusal_answered}
 use Rattle.mdl_context.specs.MemoryLaws.{IsOwnCall}
-use Rattle.mdl_context.specs.Releases.{giving_up, releasing}
+use Rattle.mdl_context.specs.Releases.{releasing, releasing_tickets}
 use Rattle.mdl_context.specs.Requests.{Outcome, acquiring, trying}
 use Rattle.mdl_context.specs.Upgrades.{upgrading, downgrading}
 use Rattle.mdl_context.specs.Waits.{giving_up_wait, resuming}
@@ -24,8 +24,8 @@ use Rattle.mdl_rows.specs.declared.ending.Ending.{Ending}
 use Rattle.mdl_rows.specs.declared.ending.Ending.TheVariants.{Answers, Misses, Falls, Starves}
 use Rattle.mdl_rows.specs.declared.reply.Reply.{Reply}
 use Rattle.mdl_rows.specs.declared.reply.Reply.TheVariants as reply
-use Rattle.mdl_rows.specs.Endings.{Pause, Begins_to_wait, Waits_on, Faults, closing, ended, ending_of_error, ending_of_loss, ending_of_refusal, gone_at, letting_go, state_after, without_half}
-use Rattle.mdl_rows.specs.MemoryLaws.{session_at, SessionsKeepTheirNumber, StatementsCallForTheirSession}
+use Rattle.mdl_rows.specs.Endings.{Pause, Begins_to_wait, Waits_on, Faults, closing, pause_after, ending_of_error, ending_of_loss, ending_of_refusal, gone_at, letting_go, state_after, without_half}
+use Rattle.mdl_rows.specs.MemoryLaws.{session_of_pause, SessionsKeepTheirNumber, StatementsCallForTheirSession}
 use Rattle.mdl_rows.specs.Playing as playing
 use Rattle.mdl_rows.specs.Playing.{play, with_context}
 use Rattle.mdl_rows.specs.Rows.{Row}
@@ -38,10 +38,10 @@ use Rattle.mdl_context.proofs.WhoLemmas.{StaysOf, of_acquiring, of_trying, of_re
 -- a program is a session's: all its calls are made for it or for nobody, and wherever it pauses, the session has its number
 record IsOwn (who : ℕ) (program : Program Pause) : Type 0 where
   calls : EachCall (IsMadeFor who) program
-  keeps : Each (λ pause. (session_at pause).context.who ≡ who) program
+  keeps : Each (λ pause. (session_of_pause pause).context.who ≡ who) program
 
 -- a pause
-own_give : (pause : Pause) → IsOwn (session_at pause).context.who (Give pause)
+own_give : (pause : Pause) → IsOwn (session_of_pause pause).context.who (Give pause)
 own_give pause = record { calls = tt; keeps = refl }
 
 -- a call, and then what its answer leads to
@@ -66,17 +66,17 @@ own_bind {A} who (Grow refused found) next calls stays later =
 
 -- ---- ends
 
-own_ended : (ending : Ending) (session : Session) → IsOwn session.context.who (Give (ended ending session))
-own_ended (Answers reply) session = own_give (ended (Answers reply) session)
-own_ended (Misses number) session = own_give (ended (Misses number) session)
-own_ended Falls session = own_give (ended Falls session)
-own_ended Starves session = own_give (ended Starves session)
+own_ended : (ending : Ending) (session : Session) → IsOwn session.context.who (Give (pause_after ending session))
+own_ended (Answers reply) session = own_give (pause_after (Answers reply) session)
+own_ended (Misses number) session = own_give (pause_after (Misses number) session)
+own_ended Falls session = own_give (pause_after Falls session)
+own_ended Starves session = own_give (pause_after Starves session)
 
 own_letting_go : (ending : Ending) (mark : Mark) (session : Session) → IsOwn session.context.who (letting_go ending mark session)
 own_letting_go ending mark session =
     let gone = gone_at ending session.state.is_open mark session.context.kept in
     let after : Outcome (Unit {0}) → Session = λ outcome. record { context = outcome.1; state = state_after ending session.state; left = None } in
-    own_bind {A = Unit {0}} session.context.who (giving_up gone session.context) (λ outcome. Give (ended ending (after outcome)))
+    own_bind {A = Unit {0}} session.context.who (releasing_tickets gone session.context) (λ outcome. Give (pause_after ending (after outcome)))
     (own_giving_up gone session.context) (of_giving_up gone session.context) (λ outcome. own_ended ending (after outcome))
 
 own_closing : (ending : Ending) (mark : Mark) (session : Session) → IsOwn session.context.who (closing ending mark session)
@@ -126,24 +126,24 @@ own_read : (mark : Mark) (session : Session) (more : Standing → Program Pause)
     ((standing : Standing) → IsOwn session.context.who (more standing)) →
     (answer : Answer) → IsOwn session.context.who (playing.read_answered mark session more answer)
 own_read mark session more made (Reads version definition) = made (record { version = version; definition = definition })
-own_read mark session more made answer = own_closing (ending_of_refusal (refusal_of answer)) mark session
+own_read mark session more made answer = own_closing (ending_of_refusal (refusal_answered answer)) mark session
 
 own_change : (mark : Mark) (session : Session) (more : Program Pause) → IsOwn session.context.who more →
     (answer : Answer) → IsOwn session.context.who (playing.change_answered mark session more answer)
 own_change mark session more made (Changed version) = made
-own_change mark session more made answer = own_closing (ending_of_refusal (refusal_of answer)) mark session
+own_change mark session more made answer = own_closing (ending_of_refusal (refusal_answered answer)) mark session
 
 own_tables : (mark : Mark) (session : Session) (more : List ℕ → Program Pause) →
     ((places : List ℕ) → IsOwn session.context.who (more places)) →
     (answer : Answer) → IsOwn session.context.who (playing.tables_answered mark session more answer)
 own_tables mark session more made (Tables places) = made places
-own_tables mark session more made answer = own_closing (ending_of_refusal (refusal_of answer)) mark session
+own_tables mark session more made answer = own_closing (ending_of_refusal (refusal_answered answer)) mark session
 
 own_key : (mark : Mark) (session : Session) (more : KeyName → Program Pause) →
     ((key : KeyName) → IsOwn session.context.who (more key)) →
     (answer : Answer) → IsOwn session.context.who (playing.key_answered mark session more answer)
 own_key mark session more made (Key_is key) = made key
-own_key mark session more made answer = own_closing (ending_of_refusal (refusal_of answer)) mark session
+own_key mark session more made answer = own_closing (ending_of_refusal (refusal_answered answer)) mark session
 
 -- ---- kills
 
@@ -161,7 +161,7 @@ own_play (row.Room rest) mark session =
     own_grow session.context.who (closing Starves mark session) (play rest mark session) (own_closing Starves mark session) (own_play rest mark session)
 own_play (row.Look rest) mark session = own_play (rest session.state) mark session
 own_play (row.Set change rest) mark session = own_play rest mark (record session { state = change session.state })
-own_play (row.Here rest) mark session = own_play (rest (mark_of session.context.kept)) mark session
+own_play (row.Here rest) mark session = own_play (rest (current_mark session.context.kept)) mark session
 own_play (row.Acquire wish rest) mark session =
     let more = λ (id : ℕ) (after : Session). play (rest id) mark after in
     own_bind {A = Acquire} session.context.who (acquiring wish session.context) (playing.acquired wish rest mark session more)
@@ -184,7 +184,7 @@ own_play (row.Downgrade id mode rest) mark session =
     (own_downgrading id mode session.context) (of_downgrading id mode session.context) (λ outcome. own_play rest mark (with_context session outcome.1))
 own_play (row.Give_up which rest) mark session =
     let gone = which session.context.kept in
-    own_bind {A = Unit {0}} session.context.who (giving_up gone session.context) (λ outcome. play rest mark (with_context session outcome.1))
+    own_bind {A = Unit {0}} session.context.who (releasing_tickets gone session.context) (λ outcome. play rest mark (with_context session outcome.1))
     (own_giving_up gone session.context) (of_giving_up gone session.context) (λ outcome. own_play rest mark (with_context session outcome.1))
 own_play (row.Release id rest) mark session =
     own_bind {A = Unit {0}} session.context.who (releasing id session.context) (λ outcome. play rest mark (with_context session outcome.1))
@@ -231,13 +231,13 @@ own_going_on (Some left) session =
 pub rows_call : StatementsCallForTheirSession
 rows_call session = (
   λ asked mark. (own_play asked mark session).calls,
-  λ statement. (own_play (row_of statement) (mark_of session.context.kept) session).calls,
+  λ statement. (own_play (row_of statement) (current_mark session.context.kept) session).calls,
   (own_going_on session.left (record session { left = None })).calls,
 )
 
 pub rows_keep_number : SessionsKeepTheirNumber
 rows_keep_number session = (
   λ asked mark. (own_play asked mark session).keeps,
-  λ statement. (own_play (row_of statement) (mark_of session.context.kept) session).keeps,
+  λ statement. (own_play (row_of statement) (current_mark session.context.kept) session).keeps,
   (own_going_on session.left (record session { left = None })).keeps,
 )

@@ -11,10 +11,10 @@ use Rattle.mdl_context.specs.declared.request.Resume.{Resume}
 use Rattle.mdl_context.specs.declared.request.Resume.TheVariants as resume
 use Rattle.mdl_context.specs.declared.request.Tried.{Tried}
 use Rattle.mdl_context.specs.declared.request.Tried.TheVariants as try_as
-use Rattle.mdl_context.specs.Contexts.{last_ticket, mark_of, waits_for_user_lock}
-use Rattle.mdl_context.specs.Gains.{refusal_of}
+use Rattle.mdl_context.specs.Contexts.{current_mark, last_ticket, waits_for_user_lock}
+use Rattle.mdl_context.specs.Gains.{refusal_answered}
 use Rattle.mdl_context.specs.MemoryLaws.{IsStarved}
-use Rattle.mdl_context.specs.Releases.{giving_up, releasing}
+use Rattle.mdl_context.specs.Releases.{releasing, releasing_tickets}
 use Rattle.mdl_context.specs.Requests.{Outcome, acquiring, trying}
 use Rattle.mdl_context.specs.Upgrades.{upgrading, downgrading}
 use Rattle.mdl_context.specs.Waits.{giving_up_wait, resuming}
@@ -24,7 +24,7 @@ use Rattle.mdl_rows.specs.declared.ending.Ending.{Ending}
 use Rattle.mdl_rows.specs.declared.ending.Ending.TheVariants.{Answers, Starves}
 use Rattle.mdl_rows.specs.declared.reply.Reply.{Reply}
 use Rattle.mdl_rows.specs.declared.reply.Reply.TheVariants as reply
-use Rattle.mdl_rows.specs.Endings.{Pause, closing, ended, ending_of_error, ending_of_loss, ending_of_refusal, gone_at, letting_go, state_after, without_half}
+use Rattle.mdl_rows.specs.Endings.{Pause, closing, ending_of_error, ending_of_loss, ending_of_refusal, gone_at, letting_go, pause_after, state_after, without_half}
 use Rattle.mdl_rows.specs.MemoryLaws.{IsFault, StatementsTellOfWant}
 use Rattle.mdl_rows.specs.Playing as playing
 use Rattle.mdl_rows.specs.Playing.{play, with_context}
@@ -46,8 +46,8 @@ frugal_first {A} first next made later =
 faithful_letting_go : (ending : Ending) (mark : Mark) (session : Session) → IsFaithful IsFault (letting_go ending mark session)
 faithful_letting_go ending mark session =
     let gone = gone_at ending session.state.is_open mark session.context.kept in
-    frugal_first {A = Outcome (Unit {0})} (giving_up gone session.context)
-    (λ outcome. Give (ended ending (record { context = outcome.1; state = state_after ending session.state; left = None })))
+    frugal_first {A = Outcome (Unit {0})} (releasing_tickets gone session.context)
+    (λ outcome. Give (pause_after ending (record { context = outcome.1; state = state_after ending session.state; left = None })))
     (frugal_giving_up gone session.context) (λ _. tt)
 
 faithful_closing : (ending : Ending) (mark : Mark) (session : Session) → IsFaithful IsFault (closing ending mark session)
@@ -63,8 +63,8 @@ faithful_closing ending mark session = by (half_lock (state_after ending session
 each_letting_go : (mark : Mark) (session : Session) → Each IsFault (letting_go Starves mark session)
 each_letting_go mark session =
     each_then {A = Outcome (Unit {0})} {B = Pause} IsFault
-    (giving_up (gone_at Starves session.state.is_open mark session.context.kept) session.context)
-    (λ outcome. Give (ended Starves (record { context = outcome.1; state = state_after Starves session.state; left = None }))) (λ _. tt)
+    (releasing_tickets (gone_at Starves session.state.is_open mark session.context.kept) session.context)
+    (λ outcome. Give (pause_after Starves (record { context = outcome.1; state = state_after Starves session.state; left = None }))) (λ _. tt)
 
 each_starves : (mark : Mark) (session : Session) → Each IsFault (closing Starves mark session)
 each_starves mark session = by (half_lock session.state) where
@@ -122,22 +122,22 @@ each_tried mark session more (result, context) e =
 faithful_read : (mark : Mark) (session : Session) (more : Standing → Program Pause) → ((standing : Standing) → IsFaithful IsFault (more standing)) →
     (answer : Answer) → IsFaithful IsFault (playing.read_answered mark session more answer)
 faithful_read mark session more made (Reads version definition) = made (record { version = version; definition = definition })
-faithful_read mark session more made answer = faithful_closing (ending_of_refusal (refusal_of answer)) mark session
+faithful_read mark session more made answer = faithful_closing (ending_of_refusal (refusal_answered answer)) mark session
 
 faithful_change : (mark : Mark) (session : Session) (more : Program Pause) → IsFaithful IsFault more →
     (answer : Answer) → IsFaithful IsFault (playing.change_answered mark session more answer)
 faithful_change mark session more made (Changed version) = made
-faithful_change mark session more made answer = faithful_closing (ending_of_refusal (refusal_of answer)) mark session
+faithful_change mark session more made answer = faithful_closing (ending_of_refusal (refusal_answered answer)) mark session
 
 faithful_tables : (mark : Mark) (session : Session) (more : List ℕ → Program Pause) → ((places : List ℕ) → IsFaithful IsFault (more places)) →
     (answer : Answer) → IsFaithful IsFault (playing.tables_answered mark session more answer)
 faithful_tables mark session more made (Tables places) = made places
-faithful_tables mark session more made answer = faithful_closing (ending_of_refusal (refusal_of answer)) mark session
+faithful_tables mark session more made answer = faithful_closing (ending_of_refusal (refusal_answered answer)) mark session
 
 faithful_key : (mark : Mark) (session : Session) (more : KeyName → Program Pause) → ((key : KeyName) → IsFaithful IsFault (more key)) →
     (answer : Answer) → IsFaithful IsFault (playing.key_answered mark session more answer)
 faithful_key mark session more made (Key_is key) = made key
-faithful_key mark session more made answer = faithful_closing (ending_of_refusal (refusal_of answer)) mark session
+faithful_key mark session more made answer = faithful_closing (ending_of_refusal (refusal_answered answer)) mark session
 
 -- ---- kills
 
@@ -156,7 +156,7 @@ faithful_play (row.Fail number) mark session = faithful_closing (Answers (reply.
 faithful_play (row.Room rest) mark session = (each_starves mark session, faithful_play rest mark session)
 faithful_play (row.Look rest) mark session = faithful_play (rest session.state) mark session
 faithful_play (row.Set change rest) mark session = faithful_play rest mark (record session { state = change session.state })
-faithful_play (row.Here rest) mark session = faithful_play (rest (mark_of session.context.kept)) mark session
+faithful_play (row.Here rest) mark session = faithful_play (rest (current_mark session.context.kept)) mark session
 faithful_play (row.Acquire wish rest) mark session =
     let more = λ (id : ℕ) (after : Session). play (rest id) mark after in
     faithful_bind {A = Outcome Acquire} {B = Pause} IsStarved IsFault (acquiring wish session.context) (playing.acquired wish rest mark session more)
@@ -179,7 +179,7 @@ faithful_play (row.Downgrade id mode rest) mark session =
     (frugal_downgrading id mode session.context) (λ outcome. faithful_play rest mark (with_context session outcome.1))
 faithful_play (row.Give_up which rest) mark session =
     let gone = which session.context.kept in
-    frugal_first {A = Outcome (Unit {0})} (giving_up gone session.context) (λ outcome. play rest mark (with_context session outcome.1))
+    frugal_first {A = Outcome (Unit {0})} (releasing_tickets gone session.context) (λ outcome. play rest mark (with_context session outcome.1))
     (frugal_giving_up gone session.context) (λ outcome. faithful_play rest mark (with_context session outcome.1))
 faithful_play (row.Release id rest) mark session =
     frugal_first {A = Outcome (Unit {0})} (releasing id session.context) (λ outcome. play rest mark (with_context session outcome.1))
@@ -221,6 +221,6 @@ faithful_going_on (Some left) session =
 pub rows_tell : StatementsTellOfWant
 rows_tell session = (
   λ asked mark. faithful_play asked mark session,
-  λ statement. faithful_play (row_of statement) (mark_of session.context.kept) session,
+  λ statement. faithful_play (row_of statement) (current_mark session.context.kept) session,
   faithful_going_on session.left (record session { left = None }),
 )

@@ -14,15 +14,15 @@ use Rattle.mdl_context.specs.declared.context_error.ContextError.{ContextError}
 use Rattle.mdl_context.specs.declared.context_error.ContextError.TheVariants.{Space}
 use Rattle.mdl_context.specs.declared.kept.Kept.{Kept}
 use Rattle.mdl_context.specs.declared.request.Mark.{Mark}
-use Rattle.mdl_context.specs.Contexts.{held_for, beyond_mark, of_transaction}
-use Rattle.mdl_context.specs.Releases.{giving_up, releasing}
+use Rattle.mdl_context.specs.Contexts.{tickets_for, beyond_mark, of_transaction}
+use Rattle.mdl_context.specs.Releases.{releasing, releasing_tickets}
 use Rattle.mdl_rows.specs.declared.ending.Ending.{Ending}
 use Rattle.mdl_rows.specs.declared.ending.Ending.TheVariants.{Answers, Misses, Falls, Starves}
 use Rattle.mdl_rows.specs.declared.error_number.ErrorNumber.TheVariants.{LockWaitTimeout, Deadlock, Interrupted, UserLockDeadlock, NoPlace, Full}
 use Rattle.mdl_rows.specs.declared.reply.Reply.{Reply}
 use Rattle.mdl_rows.specs.declared.reply.Reply.TheVariants as reply
 use Rattle.mdl_rows.specs.Sessions.{Session}
-use Rattle.mdl_rows.specs.States.{State, closed, half_lock, without_read_lock}
+use Rattle.mdl_rows.specs.States.{State, half_lock, without_read_lock, without_transaction}
 
 -- how far a statement comes: it ends with a reply, it begins to wait for a lock of this key in this mode, it still waits, or it ends
 -- because memory ran out
@@ -55,28 +55,28 @@ ending_of_error _ = Misses Full
 -- duration, if it was done or a check failed, and all tickets beyond the mark, if it didn't get a lock or ran out of memory.
 -- Otherwise, and for the victim of a deadlock, all tickets of the statement and the transaction. Explicit tickets stay
 abbrev pub gone_at : Ending → Bool → Mark → List Kept → List Kept
-gone_at (Answers reply) true mark = held_for for.Statement
+gone_at (Answers reply) true mark = tickets_for for.Statement
 gone_at (Misses number) true mark = beyond_mark mark
 gone_at Starves true mark = beyond_mark mark
 gone_at _ _ mark = of_transaction
 
 -- the session's state after the end of a statement: the victim of a deadlock has lost its transaction
 abbrev pub state_after : Ending → State → State
-state_after Falls state = closed state
+state_after Falls state = without_transaction state
 state_after _ state = state
 
 -- how far a statement has come after such an ending
-abbrev pub ended : Ending → Session → Pause
-ended (Answers reply) session = Ends reply session
-ended (Misses number) session = Ends (reply.Error number) session
-ended Falls session = Ends (reply.Error Deadlock) session
-ended Starves session = Faults session
+abbrev pub pause_after : Ending → Session → Pause
+pause_after (Answers reply) session = Ends reply session
+pause_after (Misses number) session = Ends (reply.Error number) session
+pause_after Falls session = Ends (reply.Error Deadlock) session
+pause_after Starves session = Faults session
 
 -- the tickets are released that the end of a statement releases
 abbrev pub letting_go : Ending → Mark → Session → Program Pause
 letting_go ending mark session =
-    giving_up (gone_at ending session.state.is_open mark session.context.kept) session.context
-    >>= λ outcome. Give (ended ending (record { context = outcome.1; state = state_after ending session.state; left = None }))
+    releasing_tickets (gone_at ending session.state.is_open mark session.context.kept) session.context
+    >>= λ outcome. Give (pause_after ending (record { context = outcome.1; state = state_after ending session.state; left = None }))
 
 -- the GLOBAL lock of a half-acquired global read lock, if there is one, is released first
 abbrev pub without_half : Option ℕ → Ending → Mark → Session → Program Pause

@@ -5,24 +5,24 @@ use Rattle.mdl_rows.specs.declared.error_number.ErrorNumber.{ErrorNumber}
 use Rattle.mdl_rows.specs.declared.error_number.ErrorNumber.TheVariants.{SchemaExists, UnknownDatabase, TableExists, DuplicateColumn, CantDropColumn, TableLockedForRead, TableNotLocked, NoSuchTable, ActiveLocks, LockWaitTimeout, Deadlock, ConflictingReadLock, NoSuchSavepoint, Interrupted, UserLockDeadlock, LastColumn, TooManyColumns, VersionLimit, NoPlace, Full}
 
 -- an error's number
-abbrev pub number_of : ErrorNumber → ℕ
-number_of SchemaExists = 1007
-number_of UnknownDatabase = 1049
-number_of TableExists = 1050
-number_of DuplicateColumn = 1060
-number_of CantDropColumn = 1091
-number_of TableLockedForRead = 1099
-number_of TableNotLocked = 1100
-number_of NoSuchTable = 1146
-number_of ActiveLocks = 1192
-number_of LockWaitTimeout = 1205
-number_of Deadlock = 1213
-number_of ConflictingReadLock = 1223
-number_of NoSuchSavepoint = 1305
-number_of Interrupted = 1317
-number_of UserLockDeadlock = 3058
-number_of LastColumn = 9001
-number_of TooManyColumns = 9002
-number_of VersionLimit = 9003
-number_of NoPlace = 9004
-number_of Full = 9005
+abbrev pub error_number : ErrorNumber → ℕ
+error_number SchemaExists = 1007
+error_number UnknownDatabase = 1049
+error_number TableExists = 1050
+error_number DuplicateColumn = 1060
+error_number CantDropColumn = 1091
+error_number TableLockedForRead = 1099
+error_number TableNotLocked = 1100
+error_number NoSuchTable = 1146
+error_number ActiveLocks = 1192
+error_number LockWaitTimeout = 1205
+error_number Deadlock = 1213
+error_number ConflictingReadLock = 1223
+error_number NoSuchSavepoint = 1305
+error_number Interrupted = 1317
+error_number UserLockDeadlock = 3058
+error_number LastColumn = 9001
+error_number TooManyColumns = 9002
+error_number VersionLimit = 9003
+error_number NoPlace = 9004
+error_number Full = 9005

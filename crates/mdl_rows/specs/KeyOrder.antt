@@ -11,14 +11,14 @@ put key Equal other others behind = other ∷ others
 put key Greater other others behind = other ∷ behind
 
 -- a key inserted at its place among ordered keys, unless it is there
-abbrev pub placed : KeyName → List KeyName → List KeyName
-placed key [] = key ∷ []
-placed key (other ∷ others) = put key (key_cmp key other) other others (placed key others)
+abbrev pub inserted_in_order : KeyName → List KeyName → List KeyName
+inserted_in_order key [] = key ∷ []
+inserted_in_order key (other ∷ others) = put key (key_cmp key other) other others (inserted_in_order key others)
 
 -- keys inserted at their places, one after the other
 abbrev pub placed_all : List KeyName → List KeyName → List KeyName
 placed_all [] among = among
-placed_all (key ∷ keys) among = placed_all keys (placed key among)
+placed_all (key ∷ keys) among = placed_all keys (inserted_in_order key among)
 
 -- keys in their order, each once
 abbrev pub in_key_order : List KeyName → List KeyName
@@ -30,5 +30,5 @@ ticket_at None tickets = 0
 ticket_at (Some at) tickets = get_or tickets at 0
 
 -- the ticket of a key, if these keys were locked one after the other with these tickets
-abbrev pub ticket_of : KeyName → List KeyName → List ℕ → ℕ
-ticket_of key keys tickets = ticket_at (position (key_eq key) keys) tickets
+abbrev pub locked_ticket : KeyName → List KeyName → List ℕ → ℕ
+locked_ticket key keys tickets = ticket_at (position (key_eq key) keys) tickets

@@ -6,7 +6,7 @@ use Rattle.mdl_core.specs.CoreCalls.{outcome}
 use Rattle.mdl_core.specs.CoreJoins.{Joins, SpeaksFor}
 use Rattle.mdl_core.specs.Cores.{Core}
 use Rattle.mdl_core.specs.RunLaws.{IsMadeFor}
-use Rattle.mdl_core.specs.Ties.{IsSound}
+use Rattle.mdl_core.specs.Ties.{IsSoundCore}
 use Rattle.mdl_syntax.specs.declared.statement.Statement.{Statement}
 use Rattle.mdl_context.specs.declared.request.Mark.{Mark}
 use Rattle.mdl_context.specs.MemoryLaws.{IsSureUnless}
@@ -22,11 +22,11 @@ IsFault (Faults session) = Unit {0}
 IsFault _ = ⊥
 
 -- the session once a statement has come this far
-abbrev pub session_at : Pause → Session
-session_at (Ends reply session) = session
-session_at (Begins_to_wait key mode session) = session
-session_at (Waits_on session) = session
-session_at (Faults session) = session
+abbrev pub session_of_pause : Pause → Session
+session_of_pause (Ends reply session) = session
+session_of_pause (Begins_to_wait key mode session) = session
+session_of_pause (Waits_on session) = session
+session_of_pause (Faults session) = session
 
 -- a property holds of each program of a session's statements: of each row that is played, of a statement that starts, and of one
 -- that continues
@@ -47,7 +47,7 @@ StatementsCallForTheirSession = EachPlay (λ session program. EachCall (IsMadeFo
 
 -- a session keeps its number, however far its statements come
 abbrev pub SessionsKeepTheirNumber : Type 0
-SessionsKeepTheirNumber = EachPlay (λ session program. Each (λ pause. (session_at pause).context.who ≡ session.context.who) program)
+SessionsKeepTheirNumber = EachPlay (λ session program. Each (λ pause. (session_of_pause pause).context.who ≡ session.context.who) program)
 
 -- over the space of one thread, how far a statement comes, its session and the space after it are the outcome, unless memory ran
 -- out
@@ -60,7 +60,7 @@ abbrev pub KeepsSpaceSound : Session → Program Pause → Type 0
 KeepsSpaceSound session program =
     (a : Core) → SpeaksFor a session.context.who →
     let end = outcome_of outcome program a in
-    Runs Joins a program end.0 end.1 × IsSound end.1 × ((who : ℕ) → SpeaksFor a who → SpeaksFor end.1 who)
+    Runs Joins a program end.0 end.1 × IsSoundCore end.1 × ((who : ℕ) → SpeaksFor a who → SpeaksFor end.1 who)
 
 -- this holds for each program of a session's statements
 abbrev pub StatementsKeepSpaceSound : Type 0

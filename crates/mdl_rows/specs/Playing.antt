@@ -13,10 +13,10 @@ use Rattle.mdl_context.specs.declared.request.Resume.{Resume}
 use Rattle.mdl_context.specs.declared.request.Resume.TheVariants as resume
 use Rattle.mdl_context.specs.declared.request.Tried.{Tried}
 use Rattle.mdl_context.specs.declared.request.Tried.TheVariants as try_as
-use Rattle.mdl_context.specs.Contexts.{ContextView, last_ticket, mark_of, waits_for_user_lock}
-use Rattle.mdl_context.specs.Gains.{refusal_of}
+use Rattle.mdl_context.specs.Contexts.{ContextView, current_mark, last_ticket, waits_for_user_lock}
+use Rattle.mdl_context.specs.Gains.{refusal_answered}
 use Rattle.mdl_context.specs.Holdings.{kept_for}
-use Rattle.mdl_context.specs.Releases.{giving_up, releasing}
+use Rattle.mdl_context.specs.Releases.{releasing, releasing_tickets}
 use Rattle.mdl_context.specs.Requests.{Outcome, acquiring, trying}
 use Rattle.mdl_context.specs.Upgrades.{upgrading, downgrading}
 use Rattle.mdl_context.specs.Waits.{giving_up_wait, resuming}
@@ -76,22 +76,22 @@ upgrade_wish key mode = record { key = key; mode = mode; duration = Transaction 
 -- the rest once the space has answered a read of a definition
 abbrev pub read_answered : Mark → Session → (Standing → Program Pause) → Answer → Program Pause
 read_answered mark session more (Reads version definition) = more (record { version = version; definition = definition })
-read_answered mark session more answer = closing (ending_of_refusal (refusal_of answer)) mark session
+read_answered mark session more answer = closing (ending_of_refusal (refusal_answered answer)) mark session
 
 -- the rest once the space has answered a change of a definition
 abbrev pub change_answered : Mark → Session → Program Pause → Answer → Program Pause
 change_answered mark session more (Changed version) = more
-change_answered mark session more answer = closing (ending_of_refusal (refusal_of answer)) mark session
+change_answered mark session more answer = closing (ending_of_refusal (refusal_answered answer)) mark session
 
 -- the rest once the space has answered which tables a schema has
 abbrev pub tables_answered : Mark → Session → (List ℕ → Program Pause) → Answer → Program Pause
 tables_answered mark session more (Tables places) = more places
-tables_answered mark session more answer = closing (ending_of_refusal (refusal_of answer)) mark session
+tables_answered mark session more answer = closing (ending_of_refusal (refusal_answered answer)) mark session
 
 -- the rest once the space has answered the key of a place
 abbrev pub key_answered : Mark → Session → (KeyName → Program Pause) → Answer → Program Pause
 key_answered mark session more (Key_is key) = more key
-key_answered mark session more answer = closing (ending_of_refusal (refusal_of answer)) mark session
+key_answered mark session more answer = closing (ending_of_refusal (refusal_answered answer)) mark session
 
 -- the rest once the space has answered the number of a session's wait: if there is one, it is killed
 abbrev pub wait_told : ℕ → Answer → Program (Unit {0})
@@ -113,7 +113,7 @@ play (row.Fail number) mark session = closing (Answers (reply.Error number)) mar
 play (row.Room rest) mark session = Grow (closing Starves mark session) (play rest mark session)
 play (row.Look rest) mark session = play (rest session.state) mark session
 play (row.Set change rest) mark session = play rest mark (record session { state = change session.state })
-play (row.Here rest) mark session = play (rest (mark_of session.context.kept)) mark session
+play (row.Here rest) mark session = play (rest (current_mark session.context.kept)) mark session
 play (row.Acquire wish rest) mark session =
     acquiring wish session.context >>= acquired wish rest mark session (λ id after. play (rest id) mark after)
 play (row.Try_acquire wish rest) mark session =
@@ -124,7 +124,7 @@ play (row.Upgrade id key mode rest) mark session =
 play (row.Downgrade id mode rest) mark session =
     downgrading id mode session.context >>= (λ outcome. play rest mark (with_context session outcome.1))
 play (row.Give_up which rest) mark session =
-    giving_up (which session.context.kept) session.context >>= (λ outcome. play rest mark (with_context session outcome.1))
+    releasing_tickets (which session.context.kept) session.context >>= (λ outcome. play rest mark (with_context session outcome.1))
 play (row.Release id rest) mark session = releasing id session.context >>= (λ outcome. play rest mark (with_context session outcome.1))
 play (row.Keep rest) mark session = play rest mark (all_kept session)
 play (row.Read id rest) mark session =
@@ -139,7 +139,7 @@ play (row.Kill target rest) mark session = killing target >> play rest mark sess
 
 -- the program that starts a statement
 abbrev pub starting : Statement → Session → Program Pause
-starting statement session = play (row_of statement) (mark_of session.context.kept) session
+starting statement session = play (row_of statement) (current_mark session.context.kept) session
 
 -- the rest after a look at a statement's wait: it isn't settled, or the lock is held and the row goes on, or the wait is lost or fails
 -- and the statement ends

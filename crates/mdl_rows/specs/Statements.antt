@@ -46,9 +46,9 @@ use Rattle.mdl_rows.specs.declared.state.ReadLock.{ReadLock}
 use Rattle.mdl_rows.specs.declared.reply.Reply.{Reply}
 use Rattle.mdl_rows.specs.declared.reply.Reply.TheVariants as reply
 use Rattle.mdl_rows.specs.declared.reply.TableShown.{TableShown}
-use Rattle.mdl_rows.specs.KeyOrder.{in_key_order, ticket_of}
+use Rattle.mdl_rows.specs.KeyOrder.{in_key_order, locked_ticket}
 use Rattle.mdl_rows.specs.Rows.{Row, Act, Give, Fail, Acquire, ◌>>=◌, ◌>>◌, nothing, room, look, set, here, acquire, try_acquire, last_of, give_up, release, read, redefine, upgrade, downgrade, keep, tables_within, key_of, kill, check, acquire_all, for_each}
-use Rattle.mdl_rows.specs.States.{has_locked, opened, closed, written, unlocked, with_commits_locked, with_savepoint, with_writes_locked, without_read_lock, savepoint_mark, up_to, locking}
+use Rattle.mdl_rows.specs.States.{has_locked, with_open_transaction, without_transaction, after_write, unlocked, with_commits_locked, with_savepoint, with_writes_locked, without_read_lock, savepoint_mark, up_to, locking}
 
 -- ---- transactions
 
@@ -56,7 +56,7 @@ use Rattle.mdl_rows.specs.States.{has_locked, opened, closed, written, unlocked,
 abbrev pub end_transaction : Act
 end_transaction = do
   give_up of_transaction
-  set closed
+  set without_transaction
 
 -- ends the transaction under the COMMIT lock, and then releases that lock
 abbrev pub end_under : ℕ → Act
@@ -125,9 +125,9 @@ abbrev pub has_version_left : Standing → Bool
 has_version_left standing = nat_lt standing.version 1000000
 
 -- the columns of a table's definition
-abbrev pub columns_of : Option Definition → List (List ℕ)
-columns_of (Some (Table columns)) = columns
-columns_of _ = []
+abbrev pub table_columns : Option Definition → List (List ℕ)
+table_columns (Some (Table columns)) = columns
+table_columns _ = []
 
 -- the version and definition of a table, read under its lock. Fails if there is no such table
 abbrev pub exists : ℕ → Row Standing
@@ -142,7 +142,7 @@ exists ticket = do
 abbrev pub begin_after_commit : Row Reply
 begin_after_commit = do
   unlock_tables
-  set opened
+  set with_open_transaction
   Give reply.Ok
 
 -- saves the session's current mark under a name
@@ -180,7 +180,7 @@ abbrev pub show : List TableShown → KeyName → ℕ → Row (List TableShown)
 show shown table ticket = do
   standing ← exists ticket
   room
-  Give (shown ++ record { key = table; version = standing.version; columns = columns_of standing.definition } ∷ [])
+  Give (shown ++ record { key = table; version = standing.version; columns = table_columns standing.definition } ∷ [])
 
 -- locks each of the tables in this way and shows it, before the next one
 abbrev pub show_all : (KeyName → Row ℕ) → List TableShown → List KeyName → Row Reply
@@ -223,7 +223,7 @@ write_mode Low = SWLP
 abbrev pub wrote : Row Reply
 wrote = do
   state ← look
-  if state.is_open then set written else commit_writes
+  if state.is_open then set after_write else commit_writes
   Give reply.Ok
 
 -- writes to a table under its lock
@@ -400,18 +400,18 @@ drop_after_commit tables = do
 -- ---- DROP SCHEMA
 
 -- the keys of places, one after the other, after those already found
-abbrev pub keys_of : List KeyName → List ℕ → Row (List KeyName)
-keys_of told [] = Give told
-keys_of told (place ∷ places) = do
+abbrev pub keys_of_places : List KeyName → List ℕ → Row (List KeyName)
+keys_of_places told [] = Give told
+keys_of_places told (place ∷ places) = do
   key ← key_of place
   room
-  keys_of (told ++ key ∷ []) places
+  keys_of_places (told ++ key ∷ []) places
 
 -- the tables of a schema that have a definition, in key order
 abbrev pub tables_in : List ℕ → Row (List KeyName)
 tables_in name = do
   places ← tables_within name
-  keys_of [] places
+  keys_of_places [] places
 
 -- drops the tables and then the schema, under all their locks, unless one of them can't be changed once more
 abbrev pub drop_with : ℕ → List ℕ → Row Reply
@@ -447,8 +447,8 @@ drop_schema_after_commit name = do
 -- ---- RENAME TABLE
 
 -- checks that there is no table under this lock
-abbrev pub is_free : ℕ → Act
-is_free ticket = do
+abbrev pub check_absent : ℕ → Act
+check_absent ticket = do
   standing ← read ticket
   check (not (is_defined standing)) TableExists
 
@@ -474,7 +474,7 @@ move_definition definition from to = do
 -- renames a table under the locks of both names and of the new name's schema
 abbrev pub rename_under : ℕ → ℕ → ℕ → Row Reply
 rename_under schema from to = do
-  is_free to
+  check_absent to
   definition ← definition_under from
   check_schema schema
   move_definition definition from to
@@ -488,7 +488,7 @@ abbrev pub lock_and_rename : KeyName → KeyName → ℕ → Row Reply
 lock_and_rename from to schema = do
   room
   tickets ← acquire_all (map ddl_lock (both_names from to))
-  rename_under schema (ticket_of from (both_names from to) tickets) (ticket_of to (both_names from to) tickets)
+  rename_under schema (locked_ticket from (both_names from to) tickets) (locked_ticket to (both_names from to) tickets)
 
 -- GLOBAL, and the schemas of both names in key order
 abbrev pub both_scopes : KeyName → KeyName → List KeyName
@@ -499,7 +499,7 @@ abbrev pub rename_after_commit : KeyName → KeyName → Row Reply
 rename_after_commit from to = do
   room
   scopes ← acquire_all (map ddl_lock (both_scopes from to))
-  lock_and_rename from to (ticket_of (schema_of to) (both_scopes from to) scopes)
+  lock_and_rename from to (locked_ticket (schema_of to) (both_scopes from to) scopes)
 
 -- ---- UNLOCK TABLES
 
@@ -568,16 +568,16 @@ fault_number fault.ManyColumns = TooManyColumns
 fault_number _ = NoSuchTable
 
 -- checks that a change has no fault
-abbrev pub unless_fault : Option DefError → Act
-unless_fault None = nothing
-unless_fault (Some fault) = Fail (fault_number fault)
+abbrev pub check_fault : Option DefError → Act
+check_fault None = nothing
+check_fault (Some fault) = Fail (fault_number fault)
 
 -- checks that there is a table to which the change can be made, and that it can be changed once more
 abbrev pub check_change : Change → ℕ → Act
 check_change change table = do
   standing ← read table
   room
-  unless_fault (change_fault standing.definition change)
+  check_fault (change_fault standing.definition change)
   check (has_version_left standing) VersionLimit
 
 -- changes a table under a lock in mode X

@@ -29,17 +29,17 @@ abbrev pub at_first : State
 at_first = record { is_open = false; has_written = false; savepoints = []; locked = []; scopes = []; read_lock = None }
 
 -- the state with an open transaction, and without locked tables. Whether the transaction wrote, and its savepoints, are unchanged:
--- `closed` has cleared them before
-abbrev pub opened : State → State
-opened state = record state { is_open = true; locked = []; scopes = [] }
+-- `without_transaction` has cleared them before
+abbrev pub with_open_transaction : State → State
+with_open_transaction state = record state { is_open = true; locked = []; scopes = [] }
 
 -- the state without a transaction
-abbrev pub closed : State → State
-closed state = record state { is_open = false; has_written = false; savepoints = [] }
+abbrev pub without_transaction : State → State
+without_transaction state = record state { is_open = false; has_written = false; savepoints = [] }
 
 -- the state with a transaction that wrote
-abbrev pub written : State → State
-written state = record state { has_written = true }
+abbrev pub after_write : State → State
+after_write state = record state { has_written = true }
 
 -- the state without locked tables
 abbrev pub unlocked : State → State
@@ -73,21 +73,21 @@ half_lock state = if state.is_open then None else lone_ticket state.read_lock
 
 -- the state with these locked tables and these tickets of their scopes, and without a transaction
 abbrev pub locking : List Locked → List ℕ → State → State
-locking locked scopes state = record (closed state) { locked = locked; scopes = scopes }
+locking locked scopes state = record (without_transaction state) { locked = locked; scopes = scopes }
 
 -- whether a savepoint has this name
-abbrev pub is_named : List ℕ → Savepoint → Bool
-is_named name savepoint = pointwise ◌==◌ savepoint.name name
+abbrev pub is_savepoint_named : List ℕ → Savepoint → Bool
+is_savepoint_named name savepoint = pointwise ◌==◌ savepoint.name name
 
 -- the savepoints with a new one of this name at the end, and without an older one of the name
 abbrev pub with_savepoint : List ℕ → Mark → List Savepoint → List Savepoint
-with_savepoint name mark savepoints = filter (λ savepoint. not (is_named name savepoint)) savepoints ++ record { name = name; mark = mark } ∷ []
+with_savepoint name mark savepoints = filter (λ savepoint. not (is_savepoint_named name savepoint)) savepoints ++ record { name = name; mark = mark } ∷ []
 
 -- the mark of the savepoint of a name, if there is one
 abbrev pub savepoint_mark : List ℕ → List Savepoint → Option Mark
-savepoint_mark name savepoints = option_map (λ savepoint. savepoint.mark) (find (is_named name) savepoints)
+savepoint_mark name savepoints = option_map (λ savepoint. savepoint.mark) (find (is_savepoint_named name) savepoints)
 
 -- the savepoints up to the one of this name, inclusive. All of them if there is none
 abbrev pub up_to : List ℕ → List Savepoint → List Savepoint
 up_to name [] = []
-up_to name (savepoint ∷ savepoints) = savepoint ∷ (if is_named name savepoint then [] else up_to name savepoints)
+up_to name (savepoint ∷ savepoints) = savepoint ∷ (if is_savepoint_named name savepoint then [] else up_to name savepoints)

@@ -1,6 +1,6 @@
 //! The numbers of errors.
 ghost use Rattle.std.specs.Prelude.{◌≡◌};
-ghost use Rattle.mdl_rows.specs.ErrorNumbers.{number_of};
+ghost use Rattle.mdl_rows.specs.ErrorNumbers.{error_number};
 
 /// Why a statement failed: the errors of MySQL 5.7, and from 9001 on those of this project.
 #[derive(Clone, Copy, Debug, PartialEq, Eq)]
@@ -50,7 +50,7 @@ pub enum ErrorNumber {
 impl ErrorNumber {
     /// The error's number.
     pub fn number(self) -> u16
-        ensures { result ≡ number_of self }
+        ensures { result ≡ error_number self }
     {
         match self {
             ErrorNumber::SchemaExists => 1007,

@@ -1,6 +1,6 @@
 //! A second script is played by the sessions of a first one, over the passes that came back.
 ghost use Rattle.std.specs.Prelude.{◌≡◌, ◌≤◌, All, IfOk, length};
-ghost use Rattle.mdl_shared.specs.Passes.{table_of, pass_table};
+ghost use Rattle.mdl_shared.specs.Passes.{manager_table, pass_table};
 
 use crate::playing::{lines, played_on};
 use mdl_key::MOST_PLACES;
@@ -28,9 +28,9 @@ fn played<R: Threads + Wait + Sync>(
     script: &str,
 ) -> Result<Ran, Fail>
     requires some { 1 ≤ length passes.items }
-    requires theirs { All (λ pass. pass_table pass ≡ table_of manager.now) passes.items }
+    requires theirs { All (λ pass. pass_table pass ≡ manager_table manager.now) passes.items }
     ensures some { IfOk result (λ ran. 1 ≤ length ran.passes.items) }
-    ensures theirs { IfOk result (λ ran. All (λ pass. pass_table pass ≡ table_of manager.now) ran.passes.items) }
+    ensures theirs { IfOk result (λ ran. All (λ pass. pass_table pass ≡ manager_table manager.now) ran.passes.items) }
 {
     played_on(
         rt,

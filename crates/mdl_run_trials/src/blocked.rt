@@ -1,6 +1,6 @@
 //! A session outside the script holds a table lock while the script is played over the same lock table.
 ghost use Rattle.std.specs.Prelude.{◌≡◌, ◌≤◌, All, length};
-ghost use Rattle.mdl_shared.specs.Passes.{table_of, pass_table};
+ghost use Rattle.mdl_shared.specs.Passes.{manager_table, pass_table};
 
 use crate::playing::{lines, played_on};
 use mdl_calls::{Attempt, Place, TicketId};
@@ -82,7 +82,7 @@ fn played_beside<R: Threads + Wait + Sync>(
     own: &mut Session<&R>,
 ) -> (Result<Ran, Fail>, bool)
     requires some { 1 ≤ length passes.items }
-    requires theirs { All (λ pass. pass_table pass ≡ table_of manager.now) passes.items }
+    requires theirs { All (λ pass. pass_table pass ≡ manager_table manager.now) passes.items }
 {
     let Some(id) = take(own, alloc, "t", Mode::X) else {
         drop(passes);

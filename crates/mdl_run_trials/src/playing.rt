@@ -1,7 +1,7 @@
 //! Plays scripts on threads, from text to text.
 ghost use Rattle.std.specs.Prelude.{◌≡◌, ◌≤◌, All, IfOk, length};
 ghost use Rattle.std.specs.List.{list_all};
-ghost use Rattle.mdl_shared.specs.Passes.{table_of, pass_table};
+ghost use Rattle.mdl_shared.specs.Passes.{manager_table, pass_table};
 ghost use Rattle.mdl_stmt.specs.Attendance.{IsCapacity};
 ghost use Rattle.mdl_script.specs.Turns.{has_pass};
 
@@ -80,9 +80,9 @@ pub(crate) fn played_on<R: Threads + Wait + Sync, G: Gate + Sync>(
 ) -> Result<Ran, Fail>
     requires capacity { IsCapacity cache }
     requires some { 1 ≤ length passes.items }
-    requires theirs { All (λ pass. pass_table pass ≡ table_of manager.now) passes.items }
+    requires theirs { All (λ pass. pass_table pass ≡ manager_table manager.now) passes.items }
     ensures some { IfOk result (λ ran. 1 ≤ length ran.passes.items) }
-    ensures theirs { IfOk result (λ ran. All (λ pass. pass_table pass ≡ table_of manager.now) ran.passes.items) }
+    ensures theirs { IfOk result (λ ran. All (λ pass. pass_table pass ≡ manager_table manager.now) ran.passes.items) }
 {
     let script = parse(alloc, script.as_bytes())?;
     if !are_there(&passes, &script) {

@@ -1,6 +1,6 @@
 //! A lock space of two sessions, one of which executes its lines.
 ghost use Rattle.std.specs.Prelude.{IfOk};
-ghost use Rattle.mdl_run_trials.specs.Rooms.{IsFree, LeavesFree};
+ghost use Rattle.mdl_run_trials.specs.Rooms.{IsFreeSession, LeavesFree};
 
 use crate::outcomes::Outcome;
 use mdl_space::{CoreSpace, NewError};
@@ -23,8 +23,8 @@ const CACHE: u16 = 64;
 
 /// Creates a space in which no session has asked for anything.
 pub(crate) fn new_space(alloc: Global) -> Result<CoreSpace, NewError>
-    ensures one { IfOk result (λ space. IsFree space 1) }
-    ensures two { IfOk result (λ space. IsFree space 2) }
+    ensures one { IfOk result (λ space. IsFreeSession space 1) }
+    ensures two { IfOk result (λ space. IsFreeSession space 2) }
 {
     CoreSpace::new(alloc, PLACES, SESSIONS)
 }
@@ -39,8 +39,8 @@ pub(crate) fn answers_so<G: Gate>(
     gate: &G,
     want: Answers<'_>,
 ) -> bool
-    requires { IsFree space.old who }
-    ensures free { IsFree space.new who }
+    requires { IsFreeSession space.old who }
+    ensures free { IsFreeSession space.new who }
     ensures others { LeavesFree who space.old space.new }
 {
     let Ok(script) = parse(alloc, text) else {
@@ -66,7 +66,7 @@ fn are_told(answers: Vec<(u64, Reply)>, want: Answers<'_>) -> bool {
 
 /// Whether session 2 executes a statement at once. It keeps what it locks.
 pub(crate) fn holds(alloc: Global, space: &mut CoreSpace, text: &[u8]) -> bool
-    requires { IsFree space.old 2 }
+    requires { IsFreeSession space.old 2 }
     ensures { LeavesFree 2 space.old space.new }
 {
     let Ok(script) = parse(alloc, text) else {
@@ -79,7 +79,7 @@ pub(crate) fn holds(alloc: Global, space: &mut CoreSpace, text: &[u8]) -> bool
 
 // Whether there is only one line, and session 2 executes its statement at once.
 fn makes(alloc: Global, space: &mut CoreSpace, lines: &[Line]) -> bool
-    requires { IsFree space.old 2 }
+    requires { IsFreeSession space.old 2 }
     ensures { LeavesFree 2 space.old space.new }
 {
     let [line] = lines else {

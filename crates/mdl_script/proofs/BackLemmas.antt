@@ -13,8 +13,8 @@ use Rattle.mdl_shared.specs.declared.pass.Pass.{Pass}
 use Rattle.mdl_shared.specs.Passes.{pass_number, pass_table}
 use Rattle.mdl_script.specs.Runs.{ComeBack}
 use Rattle.mdl_script.specs.Answers.{Options}
-use Rattle.mdl_script.specs.RunTexts.{is_named, named_sessions}
-use Rattle.mdl_script.specs.Turns.{IsAbout, IsTurn, pass_sent, passes_sent, sent_to}
+use Rattle.mdl_script.specs.RunTexts.{named_sessions, names_session}
+use Rattle.mdl_script.specs.Turns.{IsAboutLines, IsTurn, pass_sent, passes_sent, sent_to}
 use Rattle.mdl_script.specs.declared.on_thread.Answered.{Answered}
 use Rattle.mdl_script.specs.declared.turns.AnswersOf.{AnswersOf}
 use Rattle.mdl_script.specs.declared.turns.SessionThread.{SessionThread}
@@ -37,7 +37,7 @@ none-within pass among = let within = among.1 in omega (arith, within)
 
 -- the pass that a thread got is of its session
 sent-one : (P : ℕ → Type 0) (options : Options) (lines : List Line) (mine who : ℕ) (thread : Option (PromisedHandle Answered AnswersOf)) → P who →
-    MatchOption thread (who ≡ mine) (λ t. (who ≢ mine) × (pass_number t.promise.pass.value ≡ who) × IsAbout options lines t.promise) →
+    MatchOption thread (who ≡ mine) (λ t. (who ≢ mine) × (pass_number t.promise.pass.value ≡ who) × IsAboutLines options lines t.promise) →
     All (λ (pass : Pass). P (pass_number pass)) (sent_to thread)
 sent-one P options lines mine who None is kept = All-nil (λ (pass : Pass). P (pass_number pass))
 sent-one P options lines mine who (Some t) is kept =
@@ -55,12 +55,12 @@ sent-all P options lines mine (turn ∷ turns) are all =
 
 -- the script names them
 pub sent-named : (options : Options) (lines : List Line) (mine : ℕ) (turns : List SessionThread) → All (IsTurn options lines mine) turns →
-    map (λ (turn : SessionThread). turn.who) turns ≡ named_sessions lines → All (λ (pass : Pass). is_named lines (pass_number pass) ≡ true) (passes_sent turns)
+    map (λ (turn : SessionThread). turn.who) turns ≡ named_sessions lines → All (λ (pass : Pass). names_session lines (pass_number pass) ≡ true) (passes_sent turns)
 unfolding named_sessions
 sent-named options lines mine turns are sessions =
-    sent-all (λ who. is_named lines who ≡ true) options lines mine turns are
-    (all-before (λ (turn : SessionThread). turn.who) (λ who. is_named lines who ≡ true) turns
-    (subst (All (λ who. is_named lines who ≡ true)) (sym sessions) (filter_passes (is_named lines) (range_with_len 1 64))))
+    sent-all (λ who. names_session lines who ≡ true) options lines mine turns are
+    (all-before (λ (turn : SessionThread). turn.who) (λ who. names_session lines who ≡ true) turns
+    (subst (All (λ who. names_session lines who ≡ true)) (sym sessions) (filter_passes (names_session lines) (range_with_len 1 64))))
 
 -- ---- all of them
 
@@ -84,7 +84,7 @@ back-there table given sent left closed same tables theirs =
 
 -- all come back
 pub others-back : (lines : List Line) (mine : ℕ) (given sent left closed : List Pass) → IsPermutation given (sent ++ left) →
-    map pass_number closed ≡ map pass_number sent → All (λ (pass : Pass). is_named lines (pass_number pass) ≡ true) sent →
+    map pass_number closed ≡ map pass_number sent → All (λ (pass : Pass). names_session lines (pass_number pass) ≡ true) sent →
     ComeBack lines mine given (left ++ closed)
 others-back lines mine given sent left closed same numbers named =
     let n = λ (pass : Pass). pass_number pass in
@@ -95,7 +95,7 @@ others-back lines mine given sent left closed same numbers named =
     (subst (IsPermutation (map n closed ++ map n left)) (sym after) (IsPermutation-append_comm (map n closed) (map n left))) in record {
       each = IsPermutation-trans (map n given) (map n (sent ++ left)) (map n (left ++ closed)) (IsPermutation-map n given (sent ++ left) same) turned;
       unnamed = λ pass among unnamed differs. elim (Contains-append_cases sent left pass (Contains-permutation given (sent ++ left) pass same among)) [
-        | inl went ↦ absurd (let is : true ≡ false = sym (All-contains (λ (p : Pass). is_named lines (pass_number p) ≡ true) sent pass named went) ∙ unnamed in cc)
+        | inl went ↦ absurd (let is : true ≡ false = sym (All-contains (λ (p : Pass). names_session lines (pass_number p) ≡ true) sent pass named went) ∙ unnamed in cc)
         | inr stayed ↦ Contains-append_left left closed pass stayed
       ];
     }

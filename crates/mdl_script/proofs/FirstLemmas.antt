@@ -5,15 +5,15 @@ use Rattle.std.specs.List.{range_with_len}
 use Rattle.std.proofs.lemmas.List.Elements.{All-nil}
 use Rattle.std.proofs.lemmas.List.FromFn.{length-map-range_with_len}
 use Rattle.mdl_calls.specs.Words.{SessionLocks}
-use Rattle.mdl_core.specs.Seats.{SeatView, empty_seat, own_of}
+use Rattle.mdl_core.specs.Seats.{SeatView, empty_seat, locks_of_seat}
 use Rattle.mdl_core.specs.Words as core
-use Rattle.mdl_core.specs.Words.{Core, SpeaksFor, own_at}
+use Rattle.mdl_core.specs.Words.{Core, SpeaksFor, locks_at}
 use Rattle.mdl_space.specs.CoreMembers.{core_space}
 use Rattle.mdl_context.specs.Contexts.{Attends}
 use Rattle.mdl_script.specs.declared.play.Play.{Play}
 use Rattle.mdl_script.specs.declared.play.Player as kept
-use Rattle.mdl_script.specs.Plays.{AreSeated, IsManned, new_player, player_of}
-use Rattle.mdl_script.specs.Worlds.{World, first_core, first_world, newcomer, sessions, waiting_in}
+use Rattle.mdl_script.specs.Plays.{AreSeated, IsManned, new_player, numbered_player}
+use Rattle.mdl_script.specs.Worlds.{World, first_core, first_world, sessions, unasked_player, waiting_in}
 use Rattle.mdl_script.proofs.PlayLemmas.{SpeakForAll}
 
 -- ---- players
@@ -42,13 +42,13 @@ nothing = record { held = []; wait = None }
 -- what these have is nothing
 abbrev AreFresh : List SeatView → Type 0
 AreFresh [] = Unit {0}
-AreFresh (seat ∷ seats) = (own_of seat ≡ nothing) × AreFresh seats
+AreFresh (seat ∷ seats) = (locks_of_seat seat ≡ nothing) × AreFresh seats
 
 fresh-replicate : (n : ℕ) → AreFresh (replicate n empty_seat)
 fresh-replicate zero = tt
 fresh-replicate (suc n) = (refl, fresh-replicate n)
 
-fresh-at : (seats : List SeatView) (i : ℕ) → AreFresh seats → own_of (get_or seats i empty_seat) ≡ nothing
+fresh-at : (seats : List SeatView) (i : ℕ) → AreFresh seats → locks_of_seat (get_or seats i empty_seat) ≡ nothing
 fresh-at [] i fresh = refl
 fresh-at (seat ∷ seats) zero fresh = fresh.0
 fresh-at (seat ∷ seats) (suc i) fresh = fresh-at seats i fresh.1
@@ -57,16 +57,16 @@ first-seats : first_core.seats ≡ record { held = []; wait = None; last_ticket 
 unfolding core.admitting_up_to
 first-seats = refl
 
-first-own : (who : ℕ) → own_at first_core who ≡ nothing
+first-own : (who : ℕ) → locks_at first_core who ≡ nothing
 first-own who = fresh-at first_core.seats (who - 1) (subst AreFresh (sym first-seats) (refl, fresh-replicate 63))
 
 -- ---- they are seated
 
-attended-first : (core : Core) (who : ℕ) → SpeaksFor core who → own_at core who ≡ nothing → Attends core_space core (new_player who).runner.context
+attended-first : (core : Core) (who : ℕ) → SpeaksFor core who → locks_at core who ≡ nothing → Attends core_space core (new_player who).runner.context
 attended-first core who speaks has =
     record { speaks = speaks; serves = rw has (record { held = refl; wait = refl }); known = All-nil _; places = All-nil _; wish = tt }
 
-seated-first : (core : Core) (a n : ℕ) → ((who : ℕ) → a ≤ who → who < a + n → SpeaksFor core who) → ((who : ℕ) → own_at core who ≡ nothing) → AreSeated core a (map new_player (range_with_len a n))
+seated-first : (core : Core) (a n : ℕ) → ((who : ℕ) → a ≤ who → who < a + n → SpeaksFor core who) → ((who : ℕ) → locks_at core who ≡ nothing) → AreSeated core a (map new_player (range_with_len a n))
 seated-first core a zero speaks has = tt
 seated-first core a (suc n) speaks has = (
   refl,
@@ -76,16 +76,16 @@ seated-first core a (suc n) speaks has = (
 
 -- ---- the world
 
-players-first : (a n : ℕ) → map player_of (map new_player (range_with_len a n)) ≡ map newcomer (range_with_len a n)
+players-first : (a n : ℕ) → map numbered_player (map new_player (range_with_len a n)) ≡ map unasked_player (range_with_len a n)
 players-first a zero = refl
-players-first a (suc n) = ap (λ xs. newcomer a ∷ xs) (players-first (a + 1) n)
+players-first a (suc n) = ap (λ xs. unasked_player a ∷ xs) (players-first (a + 1) n)
 
 pub first-of : (core : Core) (players : List kept.Player) → core ≡ first_core → players ≡ map new_player sessions
-    → let world : World = record { core = core; players = map player_of players } in world ≡ first_world
+    → let world : World = record { core = core; players = map numbered_player players } in world ≡ first_world
 unfolding sessions
 first-of core players space all = rw (space, all) (ap (λ ps. let world : World = record { core = first_core; players = ps } in world) (players-first 1 64))
 
-nobody-waits : (core : Core) → let world : World = record { core = core; players = map player_of (map new_player sessions) } in waiting_in world ≡ []
+nobody-waits : (core : Core) → let world : World = record { core = core; players = map numbered_player (map new_player sessions) } in waiting_in world ≡ []
 unfolding sessions
 nobody-waits core = refl
 
@@ -93,6 +93,6 @@ pub first-manned : (play : Play) → play.space ≡ first_core → SpeakForAll p
 unfolding sessions
 first-manned play space speaks all none = record {
   all = ap length all ∙ length-map-range_with_len new_player 1 64;
-  seated = subst (AreSeated play.space 1) (sym all) (seated-first play.space 1 64 (λ who least most. speaks who least (omega arith)) (λ who. ap (λ core. own_at core who) space ∙ first-own who));
-  waiting = none ∙ sym (ap (λ ps. let world : World = record { core = play.space; players = map player_of ps } in waiting_in world) all ∙ nobody-waits play.space);
+  seated = subst (AreSeated play.space 1) (sym all) (seated-first play.space 1 64 (λ who least most. speaks who least (omega arith)) (λ who. ap (λ core. locks_at core who) space ∙ first-own who));
+  waiting = none ∙ sym (ap (λ ps. let world : World = record { core = play.space; players = map numbered_player ps } in waiting_in world) all ∙ nobody-waits play.space);
 }

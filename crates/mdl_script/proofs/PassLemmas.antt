@@ -10,7 +10,7 @@ use Rattle.atomic_table.specs.Seated.{TableId}
 use Rattle.mdl_syntax.specs.declared.script.Line.{Line}
 use Rattle.mdl_shared.specs.declared.pass.Pass.{Pass}
 use Rattle.mdl_shared.specs.Passes.{ArePasses, IsPass, pass_number, pass_table}
-use Rattle.mdl_script.specs.RunTexts.{is_named, named_sessions}
+use Rattle.mdl_script.specs.RunTexts.{named_sessions, names_session}
 use Rattle.mdl_script.specs.Turns.{has_pass}
 use Rattle.mdl_script.proofs.TurnLemmas.{passes_left, theirs_left}
 
@@ -41,7 +41,7 @@ pub all-there : (table : TableId) (passes : List Pass) (lines : List Line) → A
 unfolding named_sessions
 all-there table [] lines are many = absurd (cc)
 all-there table (p ∷ ps) lines are many =
-    all-of-range (λ who. has_pass (p ∷ ps) who ≡ true) (is_named lines) 1 64 (λ x least most. pass-there table (p ∷ ps) p x are least (omega (arith, most, many)))
+    all-of-range (λ who. has_pass (p ∷ ps) who ≡ true) (names_session lines) 1 64 (λ x least most. pass-there table (p ∷ ps) p x are least (omega (arith, most, many)))
 
 -- what is found at the first place is the first
 pub first-is : (passes : List Pass) (first : Pass) → 1 ≤ length passes → first ≡ get_or passes 0 first → slice_get passes 0 ≡ Some first

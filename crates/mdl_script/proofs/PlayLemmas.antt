@@ -23,8 +23,8 @@ use Rattle.mdl_syntax.specs.declared.script.Line.{Line}
 use Rattle.mdl_work.proofs.WorkLemmas.{attends-with}
 use Rattle.mdl_script.specs.declared.play.Play.{Play}
 use Rattle.mdl_script.specs.declared.play.Player as kept
-use Rattle.mdl_script.specs.Plays.{AreSeated, IsManned, insertion_index, player_of, world_of}
-use Rattle.mdl_script.specs.Worlds.{Player, World, came, going, is_waiting, newcomer, player_at, sessions, started, waiting_in}
+use Rattle.mdl_script.specs.Plays.{AreSeated, IsManned, insertion_index, numbered_player, world_of}
+use Rattle.mdl_script.specs.Worlds.{Player, World, came, going, player_at, session_waits, sessions, started, unasked_player, waiting_in}
 use Rattle.mdl_script.proofs.ListLemmas.{All-filter_range, filter-noted, filter-same, filter-struck}
 
 -- ---- sessions in their seats
@@ -78,61 +78,61 @@ still-speaks a b call answer speaks step who least most = core-keeps calls_keep-
 
 -- a player of the world
 pub player-at : (core : Core) (players : List kept.Player) (who : ℕ) (d : kept.Player) → 1 ≤ who → who ≤ length players
-    → player_at who (record { core = core; players = map player_of players }) ≡ player_of (get_or players (who - 1) d)
-player-at core players who d least most = get_or-map player_of players (who - 1) d (newcomer who) (omega (arith, least, most))
+    → player_at who (record { core = core; players = map numbered_player players }) ≡ numbered_player (get_or players (who - 1) d)
+player-at core players who d least most = get_or-map numbered_player players (who - 1) d (unasked_player who) (omega (arith, least, most))
 
-is_some-left : (player : kept.Player) → is_some (player_of player).session.left ≡ is_some player.runner.work
-is_some-left player = elim player.runner.work as (λ work. is_some (player_of (record player { runner = record player.runner { work = work } })).session.left ≡ is_some work) [ None ↦ refl | Some work ↦ refl ]
+is_some-left : (player : kept.Player) → is_some (numbered_player player).session.left ≡ is_some player.runner.work
+is_some-left player = elim player.runner.work as (λ work. is_some (numbered_player (record player { runner = record player.runner { work = work } })).session.left ≡ is_some work) [ None ↦ refl | Some work ↦ refl ]
 
 -- it waits where its runner has something left to do
 pub waits-at : (core : Core) (players : List kept.Player) (who : ℕ) (d : kept.Player) → 1 ≤ who → who ≤ length players
-    → is_waiting (record { core = core; players = map player_of players }) who ≡ is_some (get_or players (who - 1) d).runner.work
+    → session_waits (record { core = core; players = map numbered_player players }) who ≡ is_some (get_or players (who - 1) d).runner.work
 waits-at core players who d least most = ap (λ (p : Player). is_some p.session.left) (player-at core players who d least most) ∙ is_some-left (get_or players (who - 1) d)
 
 -- another player, and whether any other session waits
 waits-other : (core after : Core) (players : List Player) (who w : ℕ) (x : Player) → 1 ≤ who → 1 ≤ w → w ≢ who
-    → is_waiting (record { core = after; players = set players (who - 1) x }) w ≡ is_waiting (record { core = core; players = players }) w
+    → session_waits (record { core = after; players = set players (who - 1) x }) w ≡ session_waits (record { core = core; players = players }) w
 waits-other core after players who w x least positive other =
-    ap (λ (p : Player). is_some p.session.left) (get_or-set_other players (who - 1) (w - 1) x (newcomer w) (λ e. other (omega arith)))
+    ap (λ (p : Player). is_some p.session.left) (get_or-set_other players (who - 1) (w - 1) x (unasked_player w) (λ e. other (omega arith)))
 
 -- a statement of a session came so far: whether any other session waits is as before
-others-wait : (line who : ℕ) (so : Pause × Core) (world : World) (w : ℕ) → 1 ≤ who → 1 ≤ w → w ≢ who → is_waiting (came line who so world).world w ≡ is_waiting world w
+others-wait : (line who : ℕ) (so : Pause × Core) (world : World) (w : ℕ) → 1 ≤ who → 1 ≤ w → w ≢ who → session_waits (came line who so world).world w ≡ session_waits world w
 others-wait line who (pause, core) world w least positive other = waits-other world.core core world.players who w _ least positive other
 
 -- it waits as before: the same wait
 pub waiting-same : (line who : ℕ) (so : Pause × Core) (world after : World) → IsScriptSession who → after ≡ (came line who so world).world
-    → is_waiting after who ≡ is_waiting world who → waiting_in after ≡ waiting_in world
+    → session_waits after who ≡ session_waits world who → waiting_in after ≡ waiting_in world
 unfolding sessions
-waiting-same line who so world after session left alike = filter-same (is_waiting after) (is_waiting world) 1 64 (λ w least most. by w least (eqb_tells w who)) where
-  by : (w : ℕ) → 1 ≤ w → ((eqb w who ≡ true) × (w ≡ who)) ⊎ ((eqb w who ≡ false) × (w ≢ who)) → is_waiting after w ≡ is_waiting world w
-  by w least (inl same) = subst (λ k. is_waiting after k ≡ is_waiting world k) (sym same.1) alike
-  by w least (inr other) = ap (λ v. is_waiting v w) left ∙ others-wait line who so world w session.0 least other.1
+waiting-same line who so world after session left alike = filter-same (session_waits after) (session_waits world) 1 64 (λ w least most. by w least (eqb_tells w who)) where
+  by : (w : ℕ) → 1 ≤ w → ((eqb w who ≡ true) × (w ≡ who)) ⊎ ((eqb w who ≡ false) × (w ≢ who)) → session_waits after w ≡ session_waits world w
+  by w least (inl same) = subst (λ k. session_waits after k ≡ session_waits world k) (sym same.1) alike
+  by w least (inr other) = ap (λ v. session_waits v w) left ∙ others-wait line who so world w session.0 least other.1
 
 -- it begins to wait: it is noted in its place
 pub waiting-noted : (line who : ℕ) (so : Pause × Core) (world after : World) → IsScriptSession who → after ≡ (came line who so world).world
-    → is_waiting world who ≡ false → is_waiting after who ≡ true → waiting_in after ≡ insert (waiting_in world) (insertion_index who (waiting_in world)) who
+    → session_waits world who ≡ false → session_waits after who ≡ true → waiting_in after ≡ insert (waiting_in world) (insertion_index who (waiting_in world)) who
 unfolding sessions
 waiting-noted line who so world after session left before now =
-    filter-noted (is_waiting world) (is_waiting after) who 1 64 (λ w least other. ap (λ v. is_waiting v w) left ∙ others-wait line who so world w session.0 least other)
+    filter-noted (session_waits world) (session_waits after) who 1 64 (λ w least other. ap (λ v. session_waits v w) left ∙ others-wait line who so world w session.0 least other)
     before now session.0 (omega (arith, session.1))
 
 -- it waits no more: it is struck
 pub waiting-struck : (line who : ℕ) (so : Pause × Core) (world after : World) → IsScriptSession who → after ≡ (came line who so world).world
-    → is_waiting after who ≡ false → waiting_in after ≡ filter (λ w. not (w == who)) (waiting_in world)
+    → session_waits after who ≡ false → waiting_in after ≡ filter (λ w. not (w == who)) (waiting_in world)
 unfolding sessions
 waiting-struck line who so world after session left now =
-    filter-struck (is_waiting world) (is_waiting after) who 1 64 (λ w least other. ap (λ v. is_waiting v w) left ∙ others-wait line who so world w session.0 least other) now
+    filter-struck (session_waits world) (session_waits after) who 1 64 (λ w least other. ap (λ v. session_waits v w) left ∙ others-wait line who so world w session.0 least other) now
 
 -- whoever waits is one of the sessions
-pub waiting-sessions : (P : ℕ → Type 0) (world : World) → ((who : ℕ) → IsScriptSession who → is_waiting world who ≡ true → P who) → All P (waiting_in world)
+pub waiting-sessions : (P : ℕ → Type 0) (world : World) → ((who : ℕ) → IsScriptSession who → session_waits world who ≡ true → P who) → All P (waiting_in world)
 unfolding sessions
-waiting-sessions P world each = All-filter_range P (is_waiting world) 1 64 (λ k least most waits. each k (least, omega arith) waits)
+waiting-sessions P world each = All-filter_range P (session_waits world) 1 64 (λ k least most waits. each k (least, omega arith) waits)
 
 -- ---- a play after a turn of a session
 
 -- the same space and the same players are the same world
 world-same : (core after : Core) (players then_ : List kept.Player) → after ≡ core → then_ ≡ players
-    → let old : World = record { core = core; players = map player_of players } in let new : World = record { core = after; players = map player_of then_ } in new ≡ old
+    → let old : World = record { core = core; players = map numbered_player players } in let new : World = record { core = after; players = map numbered_player then_ } in new ≡ old
 world-same core after players then_ cores same = rw (cores, same) refl
 
 -- only what is noted has changed, and that tells who waits
@@ -146,13 +146,13 @@ manned-again play then_ spaces players all seated waiting = record {
 
 -- a session began to wait with its statement
 pub noted-starting : (line : Line) (world after : World) → IsScriptSession line.session → after ≡ (started line world).world
-    → is_waiting world line.session ≡ false → is_waiting after line.session ≡ true
+    → session_waits world line.session ≡ false → session_waits after line.session ≡ true
     → insert (waiting_in world) (insertion_index line.session (waiting_in world)) line.session ≡ waiting_in after
 noted-starting line world after session left before now =
     sym (waiting-noted line.number line.session (outcome_of outcome (starting line.statement (player_at line.session world).session) world.core) world after session left before now)
 
 -- a session went on, and waits no more
-pub struck-going : (who : ℕ) (world after : World) → IsScriptSession who → after ≡ (going who world).world → is_waiting after who ≡ false
+pub struck-going : (who : ℕ) (world after : World) → IsScriptSession who → after ≡ (going who world).world → session_waits after who ≡ false
     → filter (λ w. not (w == who)) (waiting_in world) ≡ waiting_in after
 struck-going who world after session left now =
     sym (waiting-struck (player_at who world).line who (outcome_of outcome (going_on (player_at who world).session) world.core) world after session left now)

@@ -8,7 +8,7 @@ use Rattle.std.proofs.lemmas.List.{drop_more}
 use Rattle.mdl_core.specs.CoreCalls.{has_settled}
 use Rattle.mdl_calls.specs.Words.{Answer, SessionLocks, Settle_timeout, own_after}
 use Rattle.mdl_core.specs.CoreJoins.{Joins}
-use Rattle.mdl_core.specs.Words.{Core, SpeaksFor, own_at}
+use Rattle.mdl_core.specs.Words.{Core, SpeaksFor, locks_at}
 use Rattle.mdl_space.specs.CoreMembers.{core_space}
 use Rattle.mdl_core.proofs.CallLaws.{core-changes, core-keeps, core-others, core-remembers}
 use Rattle.mdl_core.proofs.CoreSound.{calls_keep-sound}
@@ -26,7 +26,7 @@ use Rattle.mdl_script.specs.declared.play.Player as kept
 use Rattle.mdl_script.specs.declared.told.Told.{Told}
 use Rattle.mdl_script.specs.Plays.{AreSeated, IsManned, new_player, world_of}
 use Rattle.mdl_script.specs.Texts.{told_line, told_text}
-use Rattle.mdl_script.specs.Worlds.{Scene, World, first_settled, going, is_waiting, line_played, lines_played, settling, silent, turn_of, waiting_in, ◌and_then◌}
+use Rattle.mdl_script.specs.Worlds.{Scene, World, continuing_settled, first_settled, going, line_played, lines_played, session_waits, turn_of, unreported, waiting_in, ◌and_then◌}
 use Rattle.mdl_script.proofs.PlayLemmas.{seated-at, waiting-sessions}
 use Rattle.mdl_script.proofs.ListLemmas.{All-find}
 
@@ -39,27 +39,27 @@ told-append (x ∷ xs) other = ap (λ t. told_line x ++ t) (told-append xs other
 -- ---- settling
 
 -- nothing more comes where no wait is settled
-pub settling-none : (n : ℕ) (world : World) → first_settled world ≡ None → settling n world ≡ silent world
-unfolding settling
+pub settling-none : (n : ℕ) (world : World) → first_settled world ≡ None → continuing_settled n world ≡ unreported world
+unfolding continuing_settled
 settling-none zero world none = refl
 settling-none (suc n) world none = rw none
 
 -- where one is, that goes on
-pub settling-some : (n m : ℕ) (world : World) (who : ℕ) → n ≡ suc m → first_settled world ≡ Some who → settling n world ≡ (going who world and_then settling m)
-unfolding settling
+pub settling-some : (n m : ℕ) (world : World) (who : ℕ) → n ≡ suc m → first_settled world ≡ Some who → continuing_settled n world ≡ (going who world and_then continuing_settled m)
+unfolding continuing_settled
 settling-some n m world who same some = rw (same, some)
 
-pub settling-over : (world : World) → settling zero world ≡ silent world
-unfolding settling
+pub settling-over : (world : World) → continuing_settled zero world ≡ unreported world
+unfolding continuing_settled
 settling-over world = refl
 
 -- ---- text and world, so far and in the end
 
 -- it is the whole where nothing is left to tell
-pub told-end : (rest : Scene) (world : World) (out whole : List Told) → rest ≡ silent world → out ++ rest.told ≡ whole → out ≡ whole
+pub told-end : (rest : Scene) (world : World) (out whole : List Told) → rest ≡ unreported world → out ++ rest.told ≡ whole → out ≡ whole
 told-end rest world out whole silence so = subst (λ (scene : Scene). out ++ scene.told ≡ whole → out ≡ whole) (sym silence) (λ e. sym (append-nil out) ∙ e) so
 
-pub left-end : (rest : Scene) (world whole : World) → rest ≡ silent world → rest.world ≡ whole → world ≡ whole
+pub left-end : (rest : Scene) (world whole : World) → rest ≡ unreported world → rest.world ≡ whole → world ≡ whole
 left-end rest world whole silence so = sym (ap (λ (scene : Scene). scene.world) silence) ∙ so
 
 -- one step is told, and then the rest
@@ -90,9 +90,9 @@ waiting-speak play manned =
     rw manned.waiting (waiting-sessions (SpeaksFor play.space) (world_of play) (λ who session _. play-speaks play manned who session))
 
 -- the session that is found is one that waits
-pub found-waits : (play : Play) (who : ℕ) → IsManned play → first_settled (world_of play) ≡ Some who → IsScriptSession who × (is_waiting (world_of play) who ≡ true)
+pub found-waits : (play : Play) (who : ℕ) → IsManned play → first_settled (world_of play) ≡ Some who → IsScriptSession who × (session_waits (world_of play) who ≡ true)
 found-waits play who manned found =
-    let P : ℕ → Type 0 = λ w. IsScriptSession w × (is_waiting (world_of play) w ≡ true) in
+    let P : ℕ → Type 0 = λ w. IsScriptSession w × (session_waits (world_of play) w ≡ true) in
     All-find P (has_settled play.space) (waiting_in (world_of play)) who (waiting-sessions P (world_of play) (λ w session waits. (session, waits))) found
 
 -- what is found among those that are noted
@@ -105,31 +105,31 @@ found-among play found manned so = ap (λ ws. find (has_settled play.space) ws) 
 turn-some : (world : World) (who : ℕ) → first_settled world ≡ Some who → turn_of (first_settled world) world ≡ going who world
 turn-some world who some = rw some
 
-turn-none : (world : World) → first_settled world ≡ None → turn_of (first_settled world) world ≡ silent world
+turn-none : (world : World) → first_settled world ≡ None → turn_of (first_settled world) world ≡ unreported world
 turn-none world none = rw none
 
 -- one session goes on, and then the rest follows
 pub one-turn : (n m : ℕ) (world after : World) (who : ℕ) (out next whole : List Told) (end : World) → n ≡ suc m → first_settled world ≡ Some who
-    → out ++ (settling n world).told ≡ whole → (settling n world).world ≡ end
+    → out ++ (continuing_settled n world).told ≡ whole → (continuing_settled n world).world ≡ end
     → next ≡ out ++ (turn_of (first_settled world) world).told → after ≡ (turn_of (first_settled world) world).world
-    → (next ++ (settling m after).told ≡ whole) × ((settling m after).world ≡ end)
+    → (next ++ (continuing_settled m after).told ≡ whole) × ((continuing_settled m after).world ≡ end)
 one-turn n m world after who out next whole end fewer some so left now there =
     let step : Scene = going who world in
     let parts = settling-some n m world who fewer some in
     let is = turn-some world who some in
     let told : next ≡ out ++ step.told = now ∙ ap (λ (scene : Scene). out ++ scene.told) is in
     let gone : after ≡ step.world = there ∙ ap (λ (scene : Scene). scene.world) is in
-    subst (λ (w : World). (next ++ (settling m w).told ≡ whole) × ((settling m w).world ≡ end)) (sym gone) (
-      told-more (settling n world) step (settling m step.world) out next whole (ap (λ (scene : Scene). scene.told) parts) so told,
+    subst (λ (w : World). (next ++ (continuing_settled m w).told ≡ whole) × ((continuing_settled m w).world ≡ end)) (sym gone) (
+      told-more (continuing_settled n world) step (continuing_settled m step.world) out next whole (ap (λ (scene : Scene). scene.told) parts) so told,
       sym (ap (λ (scene : Scene). scene.world) parts) ∙ left,
     )
 
 -- no session goes on: that was all
 pub no-turn : (n : ℕ) (world after : World) (out next whole : List Told) (end : World) → first_settled world ≡ None
-    → out ++ (settling n world).told ≡ whole → (settling n world).world ≡ end
+    → out ++ (continuing_settled n world).told ≡ whole → (continuing_settled n world).world ≡ end
     → next ≡ out ++ (turn_of (first_settled world) world).told → after ≡ (turn_of (first_settled world) world).world → (next ≡ whole) × (after ≡ end)
 no-turn n world after out next whole end none so left now there =
-    let is : turn_of (first_settled world) world ≡ settling n world = turn-none world none ∙ sym (settling-none n world none) in
+    let is : turn_of (first_settled world) world ≡ continuing_settled n world = turn-none world none ∙ sym (settling-none n world none) in
     (now ∙ ap (λ (scene : Scene). out ++ scene.told) is ∙ so, there ∙ ap (λ (scene : Scene). scene.world) is ∙ left)
 
 -- ---- a wait that times out
@@ -142,8 +142,8 @@ attended-still : (a b : Core) (who : ℕ) (answer : Answer) (context : ContextVi
 attended-still a b who answer context step attends =
     attends-same a b context attends (λ place key known. core-remembers a b (Settle_timeout who) answer context.who place key attends.speaks (λ e _. cc) step known)
     (core-keeps calls_keep-sound a b (Settle_timeout who) answer context.who attends.speaks step) (by (eqb_tells who context.who)) where
-      by : ((eqb who context.who ≡ true) × (who ≡ context.who)) ⊎ ((eqb who context.who ≡ false) × (who ≢ context.who)) → own_at b context.who ≡ own_at a context.who
-      by (inl same) = core-changes a b (Settle_timeout who) answer context.who (ap Some same.1) step ∙ own-timed_out answer who (own_at a context.who)
+      by : ((eqb who context.who ≡ true) × (who ≡ context.who)) ⊎ ((eqb who context.who ≡ false) × (who ≢ context.who)) → locks_at b context.who ≡ locks_at a context.who
+      by (inl same) = core-changes a b (Settle_timeout who) answer context.who (ap Some same.1) step ∙ own-timed_out answer who (locks_at a context.who)
       by (inr other) = core-others a b (Settle_timeout who) answer context.who attends.speaks (λ e. other.1 (cc)) step
 
 seated-still : (a b : Core) (who : ℕ) (answer : Answer) (first : ℕ) (xs : List kept.Player) → Joins a (Settle_timeout who) answer b → AreSeated a first xs → AreSeated b first xs

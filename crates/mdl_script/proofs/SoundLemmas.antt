@@ -20,7 +20,7 @@ use Rattle.mdl_core.specs.CoreCalls.{has_settled, outcome}
 use Rattle.mdl_core.specs.CoreJoins.{Joins, SpeaksFor}
 use Rattle.mdl_core.specs.Cores.{Core, empty_core}
 use Rattle.mdl_core.specs.RunLaws.{IsMadeFor}
-use Rattle.mdl_core.specs.Ties.{IsSound}
+use Rattle.mdl_core.specs.Ties.{IsSoundCore}
 use Rattle.mdl_core.proofs.CoreSound.{empty-sound}
 use Rattle.mdl_core.proofs.RunOutcomes.{outcomes-are_runs}
 use Rattle.mdl_key.specs.Keys.{KeyName, schema_key}
@@ -30,12 +30,12 @@ use Rattle.mdl_syntax.specs.declared.script.Line.{Line}
 use Rattle.mdl_syntax.specs.declared.statement.Statement.{Statement}
 use Rattle.mdl_syntax.specs.declared.statement.Statement.TheVariants.{Timeout}
 use Rattle.mdl_rows.specs.Endings.{Pause}
-use Rattle.mdl_rows.specs.MemoryLaws.{KeepsSpaceSound, session_at}
+use Rattle.mdl_rows.specs.MemoryLaws.{KeepsSpaceSound, session_of_pause}
 use Rattle.mdl_rows.specs.Playing.{going_on, starting}
 use Rattle.mdl_rows.specs.Sessions.{Session}
 use Rattle.mdl_rows.proofs.RowCalls.{rows_keep_number}
 use Rattle.mdl_rows.proofs.RowOutcomes.{rows_keep_sound}
-use Rattle.mdl_script.specs.Worlds.{Player, Scene, World, asked, asked_waiting, create_at, create_under, creating, first_core, first_settled, first_world, going, going_first, is_waiting, line_played, lines_played, most_turns, newcomer, played, player_at, script_played, sessions, settling, started, timed_out, waiting_in}
+use Rattle.mdl_script.specs.Worlds.{Player, Scene, World, after_timeout, ask_session, asked_waiting, continuing_settled, create_at, create_first_schema, creating, first_core, first_settled, first_world, going, going_first, line_played, lines_played, most_turns, played, player_at, script_played, session_waits, sessions, started, unasked_player, waiting_in}
 use Rattle.mdl_script.proofs.PlayLemmas.{SpeakForAll, waiting-sessions}
 use Rattle.mdl_script.proofs.ListLemmas.{All-find}
 
@@ -50,7 +50,7 @@ pub record IsStaffed (world : World) : Type 0 where
 -- a program of a session leaves all sessions there
 staffed-played : (line who : ℕ) (program : Session → Program Pause) (world : World) → IsScriptSession who
     → ((session : Session) → KeepsSpaceSound session (program session))
-    → ((session : Session) → Each (λ pause. (session_at pause).context.who ≡ session.context.who) (program session))
+    → ((session : Session) → Each (λ pause. (session_of_pause pause).context.who ≡ session.context.who) (program session))
     → IsStaffed world → IsStaffed (played line who (program (player_at who world).session) world).world
 staffed-played line who program world is keeps names staffed = record {
   all = length-set world.players (who - 1) next ∙ staffed.all;
@@ -67,13 +67,13 @@ staffed-played line who program world is keeps names staffed = record {
   end = outcome_of outcome (program session) world.core
 
   next : Player
-  next = record { session = session_at end.0; line = line }
+  next = record { session = session_of_pause end.0; line = line }
 
-  kept : Runs Joins world.core (program session) end.0 end.1 × IsSound end.1 × ((w : ℕ) → SpeaksFor world.core w → SpeaksFor end.1 w)
+  kept : Runs Joins world.core (program session) end.0 end.1 × IsSoundCore end.1 × ((w : ℕ) → SpeaksFor world.core w → SpeaksFor end.1 w)
   kept = keeps session world.core (subst (SpeaksFor world.core) (sym mine) (staffed.speaks who is.0 is.1))
 
-  own : (session_at end.0).context.who ≡ session.context.who
-  own = each_reply Joins (λ pause. (session_at pause).context.who ≡ session.context.who) (program session) world.core end.1 end.0 (names session) kept.0
+  own : (session_of_pause end.0).context.who ≡ session.context.who
+  own = each_reply Joins (λ pause. (session_of_pause pause).context.who ≡ session.context.who) (program session) world.core end.1 end.0 (names session) kept.0
 
   inside : who - 1 < length world.players
   inside = subst (λ n. who - 1 < n) (sym staffed.all) (omega (arith, is.0, is.1))
@@ -82,9 +82,9 @@ staffed-played line who program world is keeps names staffed = record {
       → (player_at w (record { core = end.1; players = set world.players (who - 1) next })).session.context.who ≡ w
   by w there (inl same) =
       let P : ℕ → Type 0 = λ k. (player_at k (record { core = end.1; players = set world.players (who - 1) next })).session.context.who ≡ k in
-      subst P (sym same.1) (ap (λ (p : Player). p.session.context.who) (get_or-set_same world.players (who - 1) next (newcomer who) inside) ∙ own ∙ mine)
+      subst P (sym same.1) (ap (λ (p : Player). p.session.context.who) (get_or-set_same world.players (who - 1) next (unasked_player who) inside) ∙ own ∙ mine)
   by w there (inr other) =
-      ap (λ (p : Player). p.session.context.who) (get_or-set_other world.players (who - 1) (w - 1) next (newcomer w) (λ e. other.1 (omega (arith, e, is.0, there.0)))) ∙ staffed.named w there
+      ap (λ (p : Player). p.session.context.who) (get_or-set_other world.players (who - 1) (w - 1) next (unasked_player w) (λ e. other.1 (omega (arith, e, is.0, there.0)))) ∙ staffed.named w there
 
 pub staffed-started : (line : Line) (world : World) → IsScriptSession line.session → IsStaffed world → IsStaffed (started line world).world
 staffed-started line world is staffed =
@@ -97,7 +97,7 @@ staffed-going who world is staffed =
 
 -- ---- patience that ends
 
-pub staffed-timed_out : (who : ℕ) (world : World) → IsScriptSession who → IsStaffed world → IsStaffed (timed_out who world)
+pub staffed-timed_out : (who : ℕ) (world : World) → IsScriptSession who → IsStaffed world → IsStaffed (after_timeout who world)
 staffed-timed_out who world is staffed =
     let program : Program (Unit {0}) = Ask (Settle_timeout who) (λ _. Give tt) in
     let kept = outcomes-are_runs (Unit {0}) program world.core who (staffed.speaks who is.0 is.1) ((refl, refl), λ _. tt) in
@@ -107,9 +107,9 @@ staffed-waiting : (statement : Statement) (line who : ℕ) (world : World) → I
 staffed-waiting Timeout line who world is staffed = staffed-timed_out who world is staffed
 staffed-waiting _ line who world is staffed = staffed
 
-pub staffed-asked : (line : Line) (world : World) → IsScriptSession line.session → IsStaffed world → IsStaffed (asked line world).world
+pub staffed-asked : (line : Line) (world : World) → IsScriptSession line.session → IsStaffed world → IsStaffed (ask_session line world).world
 staffed-asked line world is staffed =
-    elim (is_waiting world line.session) as (λ waits. IsStaffed (if waits then asked_waiting line.statement line.number line.session world else started line world).world) [
+    elim (session_waits world line.session) as (λ waits. IsStaffed (if waits then asked_waiting line.statement line.number line.session world else started line world).world) [
       | true ↦ staffed-waiting line.statement line.number line.session world is staffed
       | false ↦ staffed-started line world is staffed
     ]
@@ -125,15 +125,15 @@ staffed-first_going : (first : Option ℕ) (world : World) (more : World → Sce
 staffed-first_going None world more found staffed rest = staffed
 staffed-first_going (Some who) world more found staffed rest = rest (going who world).world (staffed-going who world (first-session world who found) staffed)
 
-staffed-settling : (n : ℕ) (world : World) → IsStaffed world → IsStaffed (settling n world).world
-unfolding settling
+staffed-settling : (n : ℕ) (world : World) → IsStaffed world → IsStaffed (continuing_settled n world).world
+unfolding continuing_settled
 staffed-settling zero world staffed = staffed
-staffed-settling (suc n) world staffed = staffed-first_going (first_settled world) world (settling n) refl staffed (λ after there. staffed-settling n after there)
+staffed-settling (suc n) world staffed = staffed-first_going (first_settled world) world (continuing_settled n) refl staffed (λ after there. staffed-settling n after there)
 
 -- ---- lines
 
 staffed-line : (line : Line) (world : World) → IsScriptSession line.session → IsStaffed world → IsStaffed (line_played line world).world
-staffed-line line world is staffed = staffed-settling most_turns (asked line world).world (staffed-asked line world is staffed)
+staffed-line line world is staffed = staffed-settling most_turns (ask_session line world).world (staffed-asked line world is staffed)
 
 staffed-lines : (n : ℕ) (lines : List Line) (world : World) → All (λ line. IsScriptSession line.session) lines → IsStaffed world → IsStaffed (lines_played (take n lines) world).world
 staffed-lines zero lines world is staffed = staffed
@@ -144,7 +144,7 @@ staffed-lines (suc n) (line ∷ lines) world is staffed =
 
 -- ---- the world at first
 
-made-under : (answer : Answer) → EachCall (IsMadeFor 1) (create_under answer)
+made-under : (answer : Answer) → EachCall (IsMadeFor 1) (create_first_schema answer)
 made-under (Granted id) = ((refl, refl), λ _. ((refl, refl), λ _. tt))
 made-under _ = tt
 
@@ -166,15 +166,15 @@ speak-first who least most =
 pub staffed-first : IsStaffed first_world
 unfolding sessions
 staffed-first = record {
-  all = length-map-range_with_len newcomer 1 64;
+  all = length-map-range_with_len unasked_player 1 64;
   named = λ who session. ap (λ (p : Player). p.session.context.who)
-      (get_or-map-range_with_len newcomer 1 64 (who - 1) who (newcomer who) (omega (arith, session.0, session.1)) (omega (arith, session.0)));
+      (get_or-map-range_with_len unasked_player 1 64 (who - 1) who (unasked_player who) (omega (arith, session.0, session.1)) (omega (arith, session.0)));
   speaks = speak-first;
 }
 
 -- ---- scripts
 
-sound_throughout : (lines : List Line) (n : ℕ) → All (λ line. IsScriptSession line.session) lines → IsSound (script_played (take n lines)).world.core
+sound_throughout : (lines : List Line) (n : ℕ) → All (λ line. IsScriptSession line.session) lines → IsSoundCore (script_played (take n lines)).world.core
 sound_throughout lines n is = ((staffed-lines n lines first_world is staffed-first).speaks 1 (omega arith) (omega arith)).1
 
 stays_lawful : (text : List ℕ) → StaysLawful (parsed text)

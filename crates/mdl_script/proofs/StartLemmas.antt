@@ -12,7 +12,7 @@ use Rattle.mdl_shared.specs.declared.pass.Pass.{Pass}
 use Rattle.mdl_shared.specs.Passes.{pass_table}
 use Rattle.mdl_script.specs.declared.turns.SessionThread.{SessionThread}
 use Rattle.mdl_script.specs.Answers.{Options}
-use Rattle.mdl_script.specs.RunTexts.{is_named, named_sessions}
+use Rattle.mdl_script.specs.RunTexts.{named_sessions, names_session}
 use Rattle.mdl_script.specs.Turns.{IsTurn, has_pass, pass_sent, passes_sent}
 
 -- ---- numbers in order
@@ -49,15 +49,15 @@ all-passing P p a (suc n) x all is least most = by (λ later past. all-passing P
     ]
 
 -- what holds of all sessions that are named holds of each
-pub each_named : (P : ℕ → Type 0) (lines : List Line) (who : ℕ) → All P (named_sessions lines) → is_named lines who ≡ true → 1 ≤ who → who < 65 → P who
+pub each_named : (P : ℕ → Type 0) (lines : List Line) (who : ℕ) → All P (named_sessions lines) → names_session lines who ≡ true → 1 ≤ who → who < 65 → P who
 unfolding named_sessions
-each_named P lines who all is least most = all-passing P (is_named lines) 1 64 who all is least (omega (arith, most))
+each_named P lines who all is least most = all-passing P (names_session lines) 1 64 who all is least (omega (arith, most))
 
 -- ---- turns
 
 -- the turns of the sessions below one are started, and the passes of all others are left
 pub record AreStarted (options : Options) (lines : List Line) (mine : ℕ) (table : TableId) (all : List Pass) (who : ℕ) (turns : List SessionThread) (passes : List Pass) : Type 0 where
-  pub sessions : map (λ (turn : SessionThread). turn.who) turns ≡ filter (is_named lines) (range_with_len 1 (who - 1))
+  pub sessions : map (λ (turn : SessionThread). turn.who) turns ≡ filter (names_session lines) (range_with_len 1 (who - 1))
   pub are_turns : All (IsTurn options lines mine) turns
   pub sent : IsPermutation all (passes_sent turns ++ passes)
   pub theirs : All (λ (pass : Pass). pass_table pass ≡ table) passes
@@ -80,7 +80,7 @@ more_sent all turns passes left turn were is =
 
 -- one more is
 pub started_more : (options : Options) (lines : List Line) (mine : ℕ) (table : TableId) (all : List Pass) (who : ℕ) (turns : List SessionThread) (passes left : List Pass) (turn : SessionThread) →
-    AreStarted options lines mine table all who turns passes → 1 ≤ who → is_named lines who ≡ true →
+    AreStarted options lines mine table all who turns passes → 1 ≤ who → names_session lines who ≡ true →
     turn.who ≡ who → IsTurn options lines mine turn → IsPermutation passes (pass_sent turn ++ left) → All (λ (pass : Pass). pass_table pass ≡ table) left →
     ((other : ℕ) → other ≢ who → has_pass left other ≡ has_pass passes other) →
     AreStarted options lines mine table all (who + 1) (turns ++ turn ∷ []) left
@@ -88,8 +88,8 @@ started_more options lines mine table all who turns passes left turn was least n
   sessions =
       map-append (λ (t : SessionThread). t.who) turns (turn ∷ []) ∙ (ap (λ n. map (λ (t : SessionThread). t.who) turns ++ n ∷ []) here
       ∙ (ap (λ xs. xs ++ who ∷ []) was.sessions
-      ∙ (ap (λ xs. filter (is_named lines) (range_with_len 1 (who - 1)) ++ xs) (sym (one-kept (is_named lines) who named))
-      ∙ (sym (filter-append (is_named lines) (range_with_len 1 (who - 1)) (who ∷ [])) ∙ ap (filter (is_named lines)) (ranges-so who least)))));
+      ∙ (ap (λ xs. filter (names_session lines) (range_with_len 1 (who - 1)) ++ xs) (sym (one-kept (names_session lines) who named))
+      ∙ (sym (filter-append (names_session lines) (range_with_len 1 (who - 1)) (who ∷ [])) ∙ ap (filter (names_session lines)) (ranges-so who least)))));
   are_turns = All-append (IsTurn options lines mine) turns (turn ∷ []) was.are_turns (All-cons (IsTurn options lines mine) turn [] is (All-nil _));
   sent = more_sent all turns passes left turn was.sent sent;
   theirs = are;
@@ -98,13 +98,13 @@ started_more options lines mine table all who turns passes left turn was least n
 
 -- one that isn't named has no turn
 pub started_past : (options : Options) (lines : List Line) (mine : ℕ) (table : TableId) (all : List Pass) (who : ℕ) (turns : List SessionThread) (passes : List Pass) →
-    AreStarted options lines mine table all who turns passes → 1 ≤ who → is_named lines who ≡ false →
+    AreStarted options lines mine table all who turns passes → 1 ≤ who → names_session lines who ≡ false →
     AreStarted options lines mine table all (who + 1) turns passes
 started_past options lines mine table all who turns passes was least unnamed = record {
   sessions =
       was.sessions ∙ (sym (append-nil _)
-      ∙ (ap (λ xs. filter (is_named lines) (range_with_len 1 (who - 1)) ++ xs) (sym (one-left (is_named lines) who unnamed))
-      ∙ (sym (filter-append (is_named lines) (range_with_len 1 (who - 1)) (who ∷ [])) ∙ ap (filter (is_named lines)) (ranges-so who least))));
+      ∙ (ap (λ xs. filter (names_session lines) (range_with_len 1 (who - 1)) ++ xs) (sym (one-left (names_session lines) who unnamed))
+      ∙ (sym (filter-append (names_session lines) (range_with_len 1 (who - 1)) (who ∷ [])) ∙ ap (filter (names_session lines)) (ranges-so who least))));
   are_turns = was.are_turns;
   sent = was.sent;
   theirs = was.theirs;
@@ -116,7 +116,7 @@ pub started_all : (options : Options) (lines : List Line) (mine : ℕ) (table : 
     AreStarted options lines mine table all who turns passes → 65 ≤ who → who ≤ 65 → map (λ (turn : SessionThread). turn.who) turns ≡ named_sessions lines
 unfolding named_sessions
 started_all options lines mine table all who turns passes was least most =
-    let count : who - 1 ≡ 64 = omega (arith, least, most) in was.sessions ∙ ap (λ n. filter (is_named lines) (range_with_len 1 n)) count
+    let count : who - 1 ≡ 64 = omega (arith, least, most) in was.sessions ∙ ap (λ n. filter (names_session lines) (range_with_len 1 n)) count
 
 -- the same of what is the same
 pub started_as : (options : Options) (lines : List Line) (mine : ℕ) (table : TableId) (all : List Pass) (who : ℕ) (turns later : List SessionThread) (passes left : List Pass) →

@@ -12,8 +12,8 @@ use Rattle.mdl_shared.specs.Debts.{IsOwed, OwesNoMore}
 use Rattle.mdl_shared.specs.Passes.{pass_number, pass_table, pass_view}
 use Rattle.mdl_shared.specs.SessionViews.{SessionView, data_of}
 use Rattle.mdl_work.specs.Paces.{answers_in}
-use Rattle.mdl_work.specs.Works.{RunsFromEmpty, lines_of, newcomer, working_off}
-use Rattle.mdl_script.specs.Answers.{AreAnswers, CachedSteps, Options, WorksOff, nothing}
+use Rattle.mdl_work.specs.Works.{RunsFromEmpty, lines_of_session, newcomer, working_off}
+use Rattle.mdl_script.specs.Answers.{AreAnswers, CachedSteps, Options, WorksOff, no_locks}
 
 -- a session stays at its table
 table-stays : {A : Type 0} (program : Program A) (a b : SessionView × CacheView) (reply : A) → Runs CachedSteps a program reply b → b.0.table ≡ a.0.table
@@ -39,22 +39,22 @@ still_paid a b less paid = none b.me.0.owes (λ place owed. false≢true (subst 
 
 -- what a session did with its lines, whether memory ran out or not
 abbrev Ends : {Z E : Type 0} → Options → List Line → ℕ → SessionView → Result (Vec (ℕ × Reply) Z) E → SessionView → Type 0
-Ends options lines who a result b = RunsFromEmpty CachedSteps options.capacity a (working_off options.patience (lines_of who lines) (newcomer who)) (answers_in result) b
+Ends options lines who a result b = RunsFromEmpty CachedSteps options.capacity a (working_off options.patience (lines_of_session who lines) (newcomer who)) (answers_in result) b
 
 pub works-there : (options : Options) (lines : List Line) (who : ℕ) (a : SessionView) (answers : List (ℕ × Reply)) (b : SessionView) → WorksOff options lines who a answers b → b.table ≡ a.table
 works-there options lines who a answers b run =
-    table-stays (working_off options.patience (lines_of who lines) (newcomer who)) (a, record { kept = []; capacity = options.capacity }) (b, run.0) (Some answers) run.1
+    table-stays (working_off options.patience (lines_of_session who lines) (newcomer who)) (a, record { kept = []; capacity = options.capacity }) (b, run.0) (Some answers) run.1
 
 pub paid_behind : {Z E : Type 0} (options : Options) (lines : List Line) (who : ℕ) (a b : SessionView) (result : Result (Vec (ℕ × Reply) Z) E) →
     Ends options lines who a result b → a.me.0.owes ≡ [] → b.me.0.owes ≡ []
 paid_behind options lines who a b result run =
     still_paid a b
-    (debts-stay (working_off options.patience (lines_of who lines) (newcomer who)) (a, record { kept = []; capacity = options.capacity }) (b, run.0) (answers_in result) run.1)
+    (debts-stay (working_off options.patience (lines_of_session who lines) (newcomer who)) (a, record { kept = []; capacity = options.capacity }) (b, run.0) (answers_in result) run.1)
 
 -- a session that had nothing, and worked its lines off until it had nothing again, answered so
 pub answers-are : {Z E : Type 0} (options : Options) (lines : List Line) (who : ℕ) (a b : SessionView) (result : Result (Vec (ℕ × Reply) Z) E) →
-    SpeaksFor (data_of a) who → (data_of a).own ≡ nothing → (data_of b).own ≡ nothing → Ends options lines who a result b →
-    IfOk result (λ answers. map (λ (answer : ℕ × Reply). answer.0) answers.items ≡ map (λ (line : Line). line.number) (lines_of who lines)) →
+    SpeaksFor (data_of a) who → (data_of a).own ≡ no_locks → (data_of b).own ≡ no_locks → Ends options lines who a result b →
+    IfOk result (λ answers. map (λ (answer : ℕ × Reply). answer.0) answers.items ≡ map (λ (line : Line). line.number) (lines_of_session who lines)) →
     IfOk result (λ answers. AreAnswers options lines who a answers.items b)
 answers-are options lines who a b (Ok answers) speaks had has run numbers =
     record { speaks = speaks; had_nothing = had; run = run; has_nothing = has; numbers = numbers }
@@ -72,7 +72,7 @@ closed-number who opened closed a b begun ended is speaks =
 pub closed-there : {Z E : Type 0} (options : Options) (lines : List Line) (who : ℕ) (opened closed : Pass) (a b : SessionView) (result : Result (Vec (ℕ × Reply) Z) E) →
     a ≡ pass_view opened → pass_view closed ≡ b → Ends options lines who a result b → pass_table closed ≡ pass_table opened
 closed-there options lines who opened closed a b result begun ended run =
-    let stays = table-stays (working_off options.patience (lines_of who lines) (newcomer who)) (a, record { kept = []; capacity = options.capacity }) (b, run.0)
+    let stays = table-stays (working_off options.patience (lines_of_session who lines) (newcomer who)) (a, record { kept = []; capacity = options.capacity }) (b, run.0)
     (answers_in result) run.1 in
     ap (λ (s : SessionView). s.table) ended ∙ (stays ∙ ap (λ (s : SessionView). s.table) begun)
 

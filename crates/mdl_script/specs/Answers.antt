@@ -12,17 +12,17 @@ use Rattle.mdl_shared.specs.KeptReads.{UsesKept}
 use Rattle.mdl_shared.specs.Passes.{pass_number, pass_view}
 use Rattle.mdl_shared.specs.SessionViews.{SessionView, data_of}
 use Rattle.mdl_shared.specs.AllSteps.{Shows}
-use Rattle.mdl_work.specs.Works.{RunsFromEmpty, lines_of, newcomer, working_off}
+use Rattle.mdl_work.specs.Works.{RunsFromEmpty, lines_of_session, newcomer, working_off}
 
 -- no ticket and no wait
-abbrev pub nothing : SessionLocks
-nothing = record { held = []; wait = None }
+abbrev pub no_locks : SessionLocks
+no_locks = record { held = []; wait = None }
 
 -- a session of this table and with this number that has no ticket and no wait
 pub record IsIdleAt (table : TableId) (who : ℕ) (session : SessionView) : Type 0 where
   pub there : session.table ≡ table
   pub speaks : SpeaksFor (data_of session) who
-  pub has_nothing : (data_of session).own ≡ nothing
+  pub has_nothing : (data_of session).own ≡ no_locks
 
 -- a call takes a session from one state to the next, as far as its tickets and its wait go, and its steps show what the call read and did
 abbrev pub JoinsSteps : SessionView → Call → Answer → SessionView → Type 0
@@ -44,16 +44,16 @@ CachedSteps = with_cache JoinsSteps (λ s _ id answer before after t. UsesKept i
 -- first
 abbrev pub WorksOff : Options → List Line → ℕ → SessionView → List (ℕ × Reply) → SessionView → Type 0
 WorksOff options lines who s answers t =
-    RunsFromEmpty CachedSteps options.capacity s (working_off options.patience (lines_of who lines) (newcomer who)) (Some answers) t
+    RunsFromEmpty CachedSteps options.capacity s (working_off options.patience (lines_of_session who lines) (newcomer who)) (Some answers) t
 
 -- from one state to another a session executed its lines of a script with these options, and gave these answers. In both it had nothing, and each line
 -- has its answer, in order
 pub record AreAnswers (options : Options) (lines : List Line) (who : ℕ) (before : SessionView) (answers : List (ℕ × Reply)) (after : SessionView) : Type 0 where
   pub speaks : SpeaksFor (data_of before) who
-  pub had_nothing : own_of (data_of before) who ≡ nothing
+  pub had_nothing : own_of (data_of before) who ≡ no_locks
   pub run : WorksOff options lines who before answers after
-  pub has_nothing : own_of (data_of after) who ≡ nothing
-  pub numbers : map (λ (answer : ℕ × Reply). answer.0) answers ≡ map (λ (line : Line). line.number) (lines_of who lines)
+  pub has_nothing : own_of (data_of after) who ≡ no_locks
+  pub numbers : map (λ (answer : ℕ × Reply). answer.0) answers ≡ map (λ (line : Line). line.number) (lines_of_session who lines)
 
 -- a session gave these answers between the state of a pass that was given (`opened`) and that of a pass that came back (`closed`)
 pub record IsFromPass (options : Options) (lines : List Line) (given back : List Pass) (who : ℕ) (answers : List (ℕ × Reply)) : Type 0 where

@@ -9,14 +9,14 @@ use Rattle.mdl_visits.specs.declared.audited.Audited.{Audited}
 use Rattle.mdl_script.specs.Texts.{columns_text}
 
 -- what follows the version: a table's columns, nothing for a schema
-abbrev pub shape_text : Definition → List ℕ
-shape_text Schema = []
-shape_text (Table columns) = columns_text columns
+abbrev pub definition_text : Definition → List ℕ
+definition_text Schema = []
+definition_text (Table columns) = columns_text columns
 
 -- the line of a definition: `FINAL SCHEMA s@version` or `FINAL TABLE s.t@version(c1,c2)`
 abbrev pub defined_line : KeyName → ℕ → Definition → List ℕ
 defined_line key version definition =
-    codes "FINAL " ++ key_text key ++ codes "@" ++ decimal version ++ shape_text definition ++ 10 ∷ []
+    codes "FINAL " ++ key_text key ++ codes "@" ++ decimal version ++ definition_text definition ++ 10 ∷ []
 
 -- the line of a key with its version, if it has a definition, otherwise nothing
 abbrev pub final_line : KeyName → ℕ → Option Definition → List ℕ

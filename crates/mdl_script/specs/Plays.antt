@@ -12,11 +12,11 @@ use Rattle.mdl_script.specs.declared.play.Player as kept
 use Rattle.mdl_script.specs.Worlds.{Player, World, waiting_in}
 
 -- the session of a player, with the number of its line
-abbrev pub player_of : kept.Player → Player
-player_of player = record { session = session_of player.runner; line = player.line }
+abbrev pub numbered_player : kept.Player → Player
+numbered_player player = record { session = session_of player.runner; line = player.line }
 
 abbrev pub world_of : Play → World
-world_of play = record { core = play.space; players = map player_of play.players.items }
+world_of play = record { core = play.space; players = map numbered_player play.players.items }
 
 -- how many definitions the cache of each session keeps
 abbrev pub default_cache : ℕ

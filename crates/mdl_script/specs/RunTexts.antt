@@ -10,12 +10,12 @@ use Rattle.mdl_script.specs.Finals.{AreInKeyOrder, finals_text}
 use Rattle.mdl_script.specs.Texts.{told_line}
 
 -- whether a script names a session
-abbrev pub is_named : List Line → ℕ → Bool
-is_named lines who = list_any (λ line. line.session == who) lines
+abbrev pub names_session : List Line → ℕ → Bool
+names_session lines who = list_any (λ line. line.session == who) lines
 
 -- the sessions that a script names, in rising order
 unfoldable pub named_sessions : List Line → List ℕ
-named_sessions lines = filter (is_named lines) (range_with_len 1 most_sessions)
+named_sessions lines = filter (names_session lines) (range_with_len 1 most_sessions)
 
 -- the line of an answer to a session: the number of the line that asked, the session, and the reply
 abbrev pub answer_line : ℕ → ℕ × Reply → List ℕ

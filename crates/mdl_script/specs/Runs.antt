@@ -13,7 +13,7 @@ use Rattle.mdl_shared.specs.SessionViews.{SessionView}
 use Rattle.mdl_visits.specs.declared.audited.Audited.{Audited}
 use Rattle.mdl_script.specs.Answers.{AreAnswers, IsTranscript, Options, WorksOff}
 use Rattle.mdl_script.specs.Books.{AreOfOneAudit}
-use Rattle.mdl_script.specs.RunTexts.{IsRunText, is_named}
+use Rattle.mdl_script.specs.RunTexts.{IsRunText, names_session}
 
 -- the line by which a session asks for the first schema
 abbrev pub first_line : ℕ → Line
@@ -30,7 +30,7 @@ HasMadeFirst options who made = (before : SessionView) × MakesFirst options who
 -- all passes come back, one for each session: unchanged if the script doesn't name the session, and it isn't the asker, session `mine`
 pub record ComeBack (lines : List Line) (mine : ℕ) (given back : List Pass) : Type 0 where
   pub each : IsPermutation (map pass_number given) (map pass_number back)
-  pub unnamed : (pass : Pass) → Contains given pass → is_named lines (pass_number pass) ≡ false → pass_number pass ≢ mine → Contains back pass
+  pub unnamed : (pass : Pass) → Contains given pass → names_session lines (pass_number pass) ≡ false → pass_number pass ≢ mine → Contains back pass
 
 -- a text of a run of a script with these options, by what the asker did between two of its states: it executed the line for the first schema (`first`) and
 -- then its own lines (`turn`), and at last found the books by one audit (`audited`). Each other session that the script names gave its answers between the

@@ -8,7 +8,7 @@ use Rattle.mdl_key.specs.Modes.{mode_name}
 use Rattle.mdl_rows.specs.declared.reply.Reply.{Reply}
 use Rattle.mdl_rows.specs.declared.reply.Reply.TheVariants as reply
 use Rattle.mdl_rows.specs.declared.reply.TableShown.{TableShown}
-use Rattle.mdl_rows.specs.ErrorNumbers.{number_of}
+use Rattle.mdl_rows.specs.ErrorNumbers.{error_number}
 use Rattle.mdl_script.specs.declared.told.News.{News}
 use Rattle.mdl_script.specs.declared.told.News.TheVariants.{Ends, Waits, Busy}
 use Rattle.mdl_script.specs.declared.told.Told.{Told}
@@ -38,7 +38,7 @@ reply_text reply.Ok = codes "OK"
 reply_text (reply.Columns tables) = codes "OK" ++ tables_text tables
 reply_text (reply.Number number) = number_text number
 reply_text reply.Null = codes "OK NULL"
-reply_text (reply.Error error) = error_text (number_of error)
+reply_text (reply.Error error) = error_text (error_number error)
 
 abbrev pub wait_text : KeyName → Mode → List ℕ
 wait_text key mode = codes "WAIT " ++ key_text key ++ codes " " ++ mode_name mode

@@ -24,13 +24,13 @@ pub record CameBack (options : Options) (lines : List Line) (opened : Pass) (bac
   pub answered : IfOk back.answers (λ answers. AreAnswers options lines (pass_number opened) (pass_view opened) answers.items (pass_view back.pass))
 
 -- the promise is about these lines, with these options
-abbrev pub IsAbout : Options → List Line → AnswersOf → Type 0
-IsAbout options lines promise = (promise.script.now ≡ lines) × (options_of promise.patience promise.cache ≡ options)
+abbrev pub IsAboutLines : Options → List Line → AnswersOf → Type 0
+IsAboutLines options lines promise = (promise.script.now ≡ lines) × (options_of promise.patience promise.cache ≡ options)
 
 -- the session is the one that runs in the caller's thread, or a thread got its pass, and keeps a promise about its answers
 abbrev pub IsTurn : Options → List Line → ℕ → SessionThread → Type 0
 IsTurn options lines mine turn = MatchOption turn.thread (turn.who ≡ mine)
-    (λ thread. (turn.who ≢ mine) × (pass_number thread.promise.pass.value ≡ turn.who) × IsAbout options lines thread.promise)
+    (λ thread. (turn.who ≢ mine) × (pass_number thread.promise.pass.value ≡ turn.who) × IsAboutLines options lines thread.promise)
 
 -- the pass that a thread got, if there is one
 abbrev pub sent_to : Option (PromisedHandle Answered AnswersOf) → List Pass

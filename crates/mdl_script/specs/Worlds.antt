@@ -16,7 +16,7 @@ use Rattle.mdl_syntax.specs.declared.statement.Statement.TheVariants.{Timeout}
 use Rattle.mdl_rows.specs.declared.reply.Reply.TheVariants as reply
 use Rattle.mdl_rows.specs.Endings.{Pause}
 use Rattle.mdl_rows.specs.Endings as pause
-use Rattle.mdl_rows.specs.MemoryLaws.{session_at}
+use Rattle.mdl_rows.specs.MemoryLaws.{session_of_pause}
 use Rattle.mdl_rows.specs.Playing.{going_on, starting}
 use Rattle.mdl_rows.specs.Sessions.{Session}
 use Rattle.mdl_rows.specs.States.{at_first}
@@ -40,8 +40,8 @@ pub record Scene : Type 0 where
   pub world : World
 
 -- a scene in which nothing is reported
-abbrev pub silent : World → Scene
-silent world = record { told = []; world = world }
+abbrev pub unreported : World → Scene
+unreported world = record { told = []; world = world }
 
 infixl 20 ◌and_then◌
 -- a scene, and then what follows in its world
@@ -55,17 +55,17 @@ unfoldable pub sessions : List ℕ
 sessions = range_with_len 1 most_sessions
 
 -- a session that has not been asked for anything
-abbrev pub newcomer : ℕ → Player
-newcomer who = record { session = record { context = record { who = who; kept = []; known = []; wait = None }; state = at_first; left = None }; line = 0 }
+abbrev pub unasked_player : ℕ → Player
+unasked_player who = record { session = record { context = record { who = who; kept = []; known = []; wait = None }; state = at_first; left = None }; line = 0 }
 
 -- session 1 creates a schema under its lock, and releases the lock
-abbrev pub create_under : Answer → Program (Unit {0})
-create_under (Granted id) = Ask (Change_definition 1 id (Create Schema)) (λ _. Ask (Release 1 id) (λ _. Give tt))
-create_under _ = Give tt
+abbrev pub create_first_schema : Answer → Program (Unit {0})
+create_first_schema (Granted id) = Ask (Change_definition 1 id (Create Schema)) (λ _. Ask (Release 1 id) (λ _. Give tt))
+create_first_schema _ = Give tt
 
 -- session 1 locks the schema at its place, and creates it
 abbrev pub create_at : Answer → Program (Unit {0})
-create_at (At_place place) = Ask (Try_now 1 place X) create_under
+create_at (At_place place) = Ask (Try_now 1 place X) create_first_schema
 create_at _ = Give tt
 
 abbrev pub creating : KeyName → Program (Unit {0})
@@ -76,33 +76,33 @@ abbrev pub first_core : Core
 first_core = (outcome_of outcome (creating (schema_key (codes "test"))) (empty_core most_places most_sessions)).1
 
 abbrev pub first_world : World
-first_world = record { core = first_core; players = map newcomer sessions }
+first_world = record { core = first_core; players = map unasked_player sessions }
 
 -- ---- statements
 
 abbrev pub player_at : ℕ → World → Player
-player_at who world = slice_index_or world.players (who - 1) (newcomer who)
+player_at who world = slice_index_or world.players (who - 1) (unasked_player who)
 
 -- whether a session waits
-abbrev pub is_waiting : World → ℕ → Bool
-is_waiting world who = is_some (player_at who world).session.left
+abbrev pub session_waits : World → ℕ → Bool
+session_waits world who = is_some (player_at who world).session.left
 
 -- the sessions that wait, in rising order
 abbrev pub waiting_in : World → List ℕ
-waiting_in world = filter (is_waiting world) sessions
+waiting_in world = filter (session_waits world) sessions
 
 -- what is reported of a statement that came so far. Nothing is, if it still waits or if memory ran out, which ends the whole script
-abbrev pub told_of : ℕ → ℕ → Pause → List Told
-told_of line who (pause.Ends reply _) = record { line = line; who = who; news = Ends reply } ∷ []
-told_of line who (pause.Begins_to_wait key mode _) = record { line = line; who = who; news = Waits key mode } ∷ []
-told_of line who (pause.Waits_on _) = []
-told_of line who (pause.Faults _) = []
+abbrev pub reports_of : ℕ → ℕ → Pause → List Told
+reports_of line who (pause.Ends reply _) = record { line = line; who = who; news = Ends reply } ∷ []
+reports_of line who (pause.Begins_to_wait key mode _) = record { line = line; who = who; news = Waits key mode } ∷ []
+reports_of line who (pause.Waits_on _) = []
+reports_of line who (pause.Faults _) = []
 
 -- the statement of a session, asked by this line, came so far
 abbrev pub came : ℕ → ℕ → Pause × Core → World → Scene
 came line who (pause, core) world = record {
-  told = told_of line who pause;
-  world = record { core = core; players = slice_set world.players (who - 1) (record { session = session_at pause; line = line }) };
+  told = reports_of line who pause;
+  world = record { core = core; players = slice_set world.players (who - 1) (record { session = session_of_pause pause; line = line }) };
 }
 
 -- a session plays the statement of a line
@@ -121,18 +121,18 @@ going who world = let player = player_at who world in played player.line who (go
 
 -- a turn: the session continues, if there is one
 abbrev pub turn_of : Option ℕ → World → Scene
-turn_of None world = silent world
+turn_of None world = unreported world
 turn_of (Some who) world = going who world
 
 -- the session continues, if there is one, and then more follows
 abbrev pub going_first : Option ℕ → (World → Scene) → World → Scene
-going_first None more world = silent world
+going_first None more world = unreported world
 going_first (Some who) more world = going who world and_then more
 
 -- at most `turns` times, the session with the least number whose wait is settled continues
-unfoldable pub settling : ℕ → World → Scene
-settling zero world = silent world
-settling (suc turns) world = going_first (first_settled world) (settling turns) world
+unfoldable pub continuing_settled : ℕ → World → Scene
+continuing_settled zero world = unreported world
+continuing_settled (suc turns) world = going_first (first_settled world) (continuing_settled turns) world
 
 -- the most turns that there can be, 16,704: with each, the statement of its session ends, or has one lock less to wait for, and while no new line is
 -- played no other session begins to wait
@@ -142,12 +142,12 @@ most_turns = most_sessions * most_waits
 -- ---- lines
 
 -- a session's wait times out
-abbrev pub timed_out : ℕ → World → World
-timed_out who world = record world { core = (outcome (Settle_timeout who) world.core).1 }
+abbrev pub after_timeout : ℕ → World → World
+after_timeout who world = record world { core = (outcome (Settle_timeout who) world.core).1 }
 
 -- a session is asked while it waits: `TIMEOUT` makes its wait time out, and any other statement finds it busy
 abbrev pub asked_waiting : Statement → ℕ → ℕ → World → Scene
-asked_waiting Timeout line who world = record { told = record { line = line; who = who; news = Ends reply.Ok } ∷ []; world = timed_out who world }
+asked_waiting Timeout line who world = record { told = record { line = line; who = who; news = Ends reply.Ok } ∷ []; world = after_timeout who world }
 asked_waiting _ line who world = record { told = record { line = line; who = who; news = Busy } ∷ []; world = world }
 
 -- a session starts the statement of a line
@@ -155,17 +155,17 @@ abbrev pub started : Line → World → Scene
 started line world = played line.number line.session (starting line.statement (player_at line.session world).session) world
 
 -- the session of a line is asked for its statement
-abbrev pub asked : Line → World → Scene
-asked line world =
-    if is_waiting world line.session then asked_waiting line.statement line.number line.session world else started line world
+abbrev pub ask_session : Line → World → Scene
+ask_session line world =
+    if session_waits world line.session then asked_waiting line.statement line.number line.session world else started line world
 
 -- a line is played, and then the sessions continue whose waits are settled
 abbrev pub line_played : Line → World → Scene
-line_played line world = asked line world and_then settling most_turns
+line_played line world = ask_session line world and_then continuing_settled most_turns
 
 -- lines are played in order
 abbrev pub lines_played : List Line → World → Scene
-lines_played [] world = silent world
+lines_played [] world = unreported world
 lines_played (line ∷ lines) world = line_played line world and_then lines_played lines
 
 -- a script is played, in the first world

@@ -2,7 +2,7 @@
 ghost use Rattle.std.specs.Prelude.{◌≡◌, ◌++◌, List, OnOk};
 ghost use Rattle.std.specs.String.{string_bytes};
 ghost use Rattle.mdl_visits.specs.declared.audited.Audited.{Audited};
-ghost use Rattle.mdl_script.specs.Finals.{AreInKeyOrder, book_line, defined_line, finals_text, shape_text};
+ghost use Rattle.mdl_script.specs.Finals.{AreInKeyOrder, book_line, defined_line, definition_text, finals_text};
 
 use crate::told::push_columns;
 use mdl_defs::Definition;
@@ -65,7 +65,7 @@ fn push_defined(
 
 // Appends what follows the version: a table's columns, nothing for a schema.
 fn push_shape(out: &mut String, definition: &Definition) -> Result<(), AllocError>
-    ensures { OnOk result (string_bytes out.new ≡ string_bytes out.old ++ shape_text definition.now) }
+    ensures { OnOk result (string_bytes out.new ≡ string_bytes out.old ++ definition_text definition.now) }
 {
     match definition {
         Definition::Schema => Ok(()),

@@ -1,9 +1,9 @@
 //! A session on a thread, from its pass to the end.
 ghost use Rattle.std.specs.Prelude.{◌≡◌, []};
-ghost use Rattle.mdl_shared.specs.Passes.{pass_table, pass_view, table_of};
+ghost use Rattle.mdl_shared.specs.Passes.{manager_table, pass_table, pass_view};
 ghost use Rattle.mdl_shared.specs.SessionViews.{data_of};
 ghost use Rattle.mdl_stmt.specs.Attendance.{IsCapacity};
-ghost use Rattle.mdl_script.specs.Answers.{nothing, options_of};
+ghost use Rattle.mdl_script.specs.Answers.{no_locks, options_of};
 ghost use Rattle.mdl_script.specs.Turns.{CameBack};
 
 use mdl_shared::{CloseError, Manager, Pass, Session};
@@ -31,7 +31,7 @@ pub(crate) fn work_pass<R: Wait, G: Gate>(
     cache: u16,
     gate: &G,
 ) -> Answered
-    requires theirs { pass_table pass ≡ table_of manager.now }
+    requires theirs { pass_table pass ≡ manager_table manager.now }
     requires capacity { IsCapacity cache }
     ensures { CameBack (options_of patience cache) script.now pass result }
 {
@@ -44,7 +44,7 @@ pub(crate) fn work_pass<R: Wait, G: Gate>(
 
 /// Closes a session that has no ticket and no wait, and owes no place a reschedule. Returns its pass.
 pub(crate) fn close<R: Drop>(session: Session<R>) -> Pass
-    requires nothing { (data_of session).own ≡ nothing }
+    requires nothing { (data_of session).own ≡ no_locks }
     requires paid { session.me.0.owes ≡ [] }
     ensures { pass_view result ≡ session }
 {

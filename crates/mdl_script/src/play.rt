@@ -5,7 +5,7 @@ ghost use Rattle.mdl_core.specs.CoreCalls.{has_settled};
 ghost use Rattle.mdl_core.specs.CoreJoins.{SpeaksFor};
 ghost use Rattle.mdl_lines.specs.Sessions.{IsScriptSession};
 ghost use Rattle.mdl_script.specs.Plays.{AreSeated, IsManned, insertion_index, new_player, world_of};
-ghost use Rattle.mdl_script.specs.Worlds.{asked, asked_waiting, first_settled, first_world, going, is_waiting, line_played, most_turns, sessions, settling, started, timed_out, told_of, turn_of, waiting_in};
+ghost use Rattle.mdl_script.specs.Worlds.{after_timeout, ask_session, asked_waiting, continuing_settled, first_settled, first_world, going, line_played, most_turns, reports_of, session_waits, sessions, started, turn_of, waiting_in};
 ghost use Rattle.mdl_stmt.specs.Gets.{paused};
 ghost use Rattle.mdl_rows.specs.Sessions.{Session};
 
@@ -75,8 +75,8 @@ impl<'s> Play<'s> {
     pub fn ask(&mut self, line: &'s Line, told: &mut Vec<Told>) -> Result<(), AllocError>
         requires manned { IsManned self.old }
         requires session { IsScriptSession line.now.session }
-        ensures told { OnOk result (told.new.items ≡ told.old.items ++ (asked line.now (world_of self.old)).told) }
-        ensures left { OnOk result (world_of self.new ≡ (asked line.now (world_of self.old)).world) }
+        ensures told { OnOk result (told.new.items ≡ told.old.items ++ (ask_session line.now (world_of self.old)).told) }
+        ensures left { OnOk result (world_of self.new ≡ (ask_session line.now (world_of self.old)).world) }
         ensures manned { OnOk result (IsManned self.new) }
     {
         if self.waits(line.session) {
@@ -89,8 +89,8 @@ impl<'s> Play<'s> {
     /// lines to `told`.
     pub fn settle(&mut self, told: &mut Vec<Told>) -> Result<(), AllocError>
         requires manned { IsManned self.old }
-        ensures told { OnOk result (told.new.items ≡ told.old.items ++ (settling most_turns (world_of self.old)).told) }
-        ensures left { OnOk result (world_of self.new ≡ (settling most_turns (world_of self.old)).world) }
+        ensures told { OnOk result (told.new.items ≡ told.old.items ++ (continuing_settled most_turns (world_of self.old)).told) }
+        ensures left { OnOk result (world_of self.new ≡ (continuing_settled most_turns (world_of self.old)).world) }
         ensures manned { OnOk result (IsManned self.new) }
     {
         for _turn in 0..MOST_TURNS {
@@ -143,7 +143,7 @@ impl<'s> Play<'s> {
     fn waits(&self, who: u16) -> bool
         requires all { length self.now.players.items ≡ most_sessions }
         requires session { IsScriptSession who }
-        ensures { result ≡ is_waiting (world_of self.now) who }
+        ensures { result ≡ session_waits (world_of self.now) who }
     {
         self.players[usize::from(who) - 1].runner.is_waiting()
     }
@@ -169,7 +169,7 @@ impl<'s> Play<'s> {
     fn time_out(&mut self, who: u16)
         requires manned { IsManned self.old }
         requires session { IsScriptSession who }
-        ensures left { world_of self.new ≡ timed_out who (world_of self.old) }
+        ensures left { world_of self.new ≡ after_timeout who (world_of self.old) }
         ensures manned { IsManned self.new }
     {
         let _settled = self.space.settle_timeout(who);
@@ -179,7 +179,7 @@ impl<'s> Play<'s> {
     fn start(&mut self, line: &'s Line, told: &mut Vec<Told>) -> Result<(), AllocError>
         requires manned { IsManned self.old }
         requires session { IsScriptSession line.now.session }
-        requires idle { is_waiting (world_of self.old) line.now.session ≡ false }
+        requires idle { session_waits (world_of self.old) line.now.session ≡ false }
         ensures told { OnOk result (told.new.items ≡ told.old.items ++ (started line.now (world_of self.old)).told) }
         ensures left { OnOk result (world_of self.new ≡ (started line.now (world_of self.old)).world) }
         ensures manned { OnOk result (IsManned self.new) }
@@ -195,7 +195,7 @@ impl<'s> Play<'s> {
     fn begin(&mut self, line: &'s Line, told: &mut Vec<Told>) -> Result<(), AllocError>
         requires manned { IsManned self.old }
         requires session { IsScriptSession line.now.session }
-        requires idle { is_waiting (world_of self.old) line.now.session ≡ false }
+        requires idle { session_waits (world_of self.old) line.now.session ≡ false }
         ensures told { OnOk result (told.new.items ≡ told.old.items ++ (started line.now (world_of self.old)).told) }
         ensures left { OnOk result (world_of self.new ≡ (started line.now (world_of self.old)).world) }
         ensures seated { OnOk result (AreSeated self.new.space 1 self.new.players.items) }
@@ -221,7 +221,7 @@ impl<'s> Play<'s> {
     fn go(&mut self, who: u16, told: &mut Vec<Told>) -> Result<(), AllocError>
         requires manned { IsManned self.old }
         requires session { IsScriptSession who }
-        requires waits { is_waiting (world_of self.old) who ≡ true }
+        requires waits { session_waits (world_of self.old) who ≡ true }
         ensures told { OnOk result (told.new.items ≡ told.old.items ++ (going who (world_of self.old)).told) }
         ensures left { OnOk result (world_of self.new ≡ (going who (world_of self.old)).world) }
         ensures manned { OnOk result (IsManned self.new) }
@@ -237,7 +237,7 @@ impl<'s> Play<'s> {
     fn resume(&mut self, who: u16, told: &mut Vec<Told>) -> Result<(), AllocError>
         requires manned { IsManned self.old }
         requires session { IsScriptSession who }
-        requires waits { is_waiting (world_of self.old) who ≡ true }
+        requires waits { session_waits (world_of self.old) who ≡ true }
         ensures told { OnOk result (told.new.items ≡ told.old.items ++ (going who (world_of self.old)).told) }
         ensures left { OnOk result (world_of self.new ≡ (going who (world_of self.old)).world) }
         ensures seated { OnOk result (AreSeated self.new.space 1 self.new.players.items) }
@@ -337,7 +337,7 @@ fn tell_progress(
     who: u16,
     progress: Progress,
 ) -> Result<(), AllocError>
-    ensures { (session : Session) → OnOk result (told.new.items ≡ told.old.items ++ told_of line who (paused progress session)) }
+    ensures { (session : Session) → OnOk result (told.new.items ≡ told.old.items ++ reports_of line who (paused progress session)) }
 {
     match progress {
         Progress::Done(reply) => tell(told, line, who, News::Ends(reply)),

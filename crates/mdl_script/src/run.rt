@@ -1,6 +1,6 @@
 //! What the sessions of a run share.
 ghost use Rattle.std.specs.Prelude.{◌≡◌};
-ghost use Rattle.mdl_script.specs.RunTexts.{is_named};
+ghost use Rattle.mdl_script.specs.RunTexts.{names_session};
 
 use mdl_shared::Manager;
 use mdl_syntax::Script;
@@ -21,7 +21,7 @@ pub(crate) struct ThreadedRun<'a, R, G> {
 
 /// Whether the script names a session.
 pub(crate) fn is_named(script: &Script, who: u16) -> bool
-    ensures { result ≡ is_named script.now who }
+    ensures { result ≡ names_session script.now who }
 {
     script.lines().iter().any(|line| line.session == who)
 }

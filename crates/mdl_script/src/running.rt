@@ -1,10 +1,10 @@
 //! Plays a script of statements with a thread for each of its sessions.
 ghost use Rattle.std.specs.Prelude.{◌≡◌, ◌≢◌, ◌≤◌, [], ◌∷◌, true, All, IfOk, length};
 ghost use Rattle.std.specs.String.{string_bytes};
-ghost use Rattle.mdl_shared.specs.Passes.{pass_number, pass_table, pass_view, table_of};
+ghost use Rattle.mdl_shared.specs.Passes.{manager_table, pass_number, pass_table, pass_view};
 ghost use Rattle.mdl_shared.specs.SessionViews.{data_of};
 ghost use Rattle.mdl_stmt.specs.Attendance.{IsCapacity};
-ghost use Rattle.mdl_script.specs.Answers.{IsIdleAt, nothing, options_of};
+ghost use Rattle.mdl_script.specs.Answers.{IsIdleAt, no_locks, options_of};
 ghost use Rattle.mdl_script.specs.RunTexts.{named_sessions};
 ghost use Rattle.mdl_script.specs.Runs.{ComeBack, IsRunBetween, IsRunFrom, IsRunOf};
 ghost use Rattle.mdl_script.specs.Turns.{has_pass};
@@ -53,10 +53,10 @@ pub fn run_on<R: Threads + Wait + Sync, G: Gate + Sync>(
 ) -> Result<Ran, AllocError>
     requires capacity { IsCapacity cache }
     requires some { 1 ≤ length passes.items }
-    requires theirs { All (λ pass. pass_table pass ≡ table_of manager.now) passes.items }
+    requires theirs { All (λ pass. pass_table pass ≡ manager_table manager.now) passes.items }
     requires there { All (λ who. has_pass passes.items who ≡ true) (named_sessions script.now) }
     ensures ran { IfOk result (λ ran. IsRunFrom (options_of patience cache) script.now passes.items ran.passes.items (string_bytes ran.text)) }
-    ensures theirs { IfOk result (λ ran. All (λ pass. pass_table pass ≡ table_of manager.now) ran.passes.items) }
+    ensures theirs { IfOk result (λ ran. All (λ pass. pass_table pass ≡ manager_table manager.now) ran.passes.items) }
 {
     let mut others = passes;
     let first = take_first(&mut others);
@@ -64,12 +64,12 @@ pub fn run_on<R: Threads + Wait + Sync, G: Gate + Sync>(
         thread::scope_env(),
         rt,
         move |scope| -> Result<Ran, AllocError>
-            requires first { pass_table first ≡ table_of manager.now }
-            requires theirs { All (λ pass. pass_table pass ≡ table_of manager.now) others.items }
+            requires first { pass_table first ≡ manager_table manager.now }
+            requires theirs { All (λ pass. pass_table pass ≡ manager_table manager.now) others.items }
             requires there { All (λ who. who ≢ pass_number first → has_pass others.items who ≡ true) (named_sessions script.now) }
             requires capacity { IsCapacity cache }
             ensures ran { IfOk result (λ ran. IsRunFrom (options_of patience cache) script.entry.now (first ∷ others.items) ran.passes.items (string_bytes ran.text)) }
-            ensures theirs { IfOk result (λ ran. All (λ pass. pass_table pass ≡ table_of manager.entry.now) ran.passes.items) }
+            ensures theirs { IfOk result (λ ran. All (λ pass. pass_table pass ≡ manager_table manager.entry.now) ran.passes.items) }
         {
             let run = ThreadedRun {
                 rt,
@@ -93,11 +93,11 @@ fn ran_in<'s, E, R: Threads + Wait + Sync, G: Gate + Sync>(
     others: Vec<Pass>,
 ) -> Result<Ran, AllocError>
     requires capacity { IsCapacity run.now.cache }
-    requires first { pass_table first ≡ table_of run.now.manager.now }
-    requires theirs { All (λ pass. pass_table pass ≡ table_of run.now.manager.now) others.items }
+    requires first { pass_table first ≡ manager_table run.now.manager.now }
+    requires theirs { All (λ pass. pass_table pass ≡ manager_table run.now.manager.now) others.items }
     requires there { All (λ who. who ≢ pass_number first → has_pass others.items who ≡ true) (named_sessions run.now.script.now) }
     ensures ran { IfOk result (λ ran. IsRunFrom (options_of run.now.patience run.now.cache) run.now.script.now (first ∷ others.items) ran.passes.items (string_bytes ran.text)) }
-    ensures theirs { IfOk result (λ ran. All (λ pass. pass_table pass ≡ table_of run.now.manager.now) ran.passes.items) }
+    ensures theirs { IfOk result (λ ran. All (λ pass. pass_table pass ≡ manager_table run.now.manager.now) ran.passes.items) }
 {
     let mut asker = Session::open(run.rt, run.manager, first);
     let who = asker.number();
@@ -118,16 +118,16 @@ fn ran_by<'s, E, R: Threads + Wait + Sync, G: Gate + Sync>(
     who: u16,
 ) -> Result<Ran, AllocError>
     requires capacity { IsCapacity run.now.cache }
-    requires theirs { All (λ pass. pass_table pass ≡ table_of run.now.manager.now) others.items }
+    requires theirs { All (λ pass. pass_table pass ≡ manager_table run.now.manager.now) others.items }
     requires there { All (λ other. other ≢ who → has_pass others.items other ≡ true) (named_sessions run.now.script.now) }
-    requires idle { IsIdleAt (table_of run.now.manager.now) who asker.old }
+    requires idle { IsIdleAt (manager_table run.now.manager.now) who asker.old }
     requires paid { asker.old.me.0.owes ≡ [] }
     ensures ran { IfOk result (λ ran. IsRunBetween (options_of run.now.patience run.now.cache) run.now.script.now others.items ran.passes.items asker.old asker.new (string_bytes ran.text)) }
     ensures back { IfOk result (λ ran. ComeBack run.now.script.now who others.items ran.passes.items) }
-    ensures theirs { IfOk result (λ ran. All (λ pass. pass_table pass ≡ table_of run.now.manager.now) ran.passes.items) }
-    ensures there { IfOk result (λ ran. asker.new.table ≡ table_of run.now.manager.now) }
+    ensures theirs { IfOk result (λ ran. All (λ pass. pass_table pass ≡ manager_table run.now.manager.now) ran.passes.items) }
+    ensures there { IfOk result (λ ran. asker.new.table ≡ manager_table run.now.manager.now) }
     ensures number { IfOk result (λ ran. asker.new.me.0.number ≡ who) }
-    ensures nothing { (data_of asker.new).own ≡ nothing }
+    ensures nothing { (data_of asker.new).own ≡ no_locks }
     ensures paid { asker.new.me.0.owes ≡ [] }
 {
     let mut passes = others;

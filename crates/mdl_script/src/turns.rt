@@ -2,12 +2,12 @@
 ghost use Rattle.std.specs.Prelude.{◌≡◌, ◌≢◌, [], ◌∷◌, ◌++◌, ◌==◌, ℕ, Some, true, All, IfOk, OnOk, map, position, slice_get, ◌≤◌, length};
 ghost use Rattle.std.specs.List.Sorted.{IsPermutation};
 ghost use Rattle.std.specs.String.{string_bytes};
-ghost use Rattle.mdl_shared.specs.Passes.{pass_number, pass_table, table_of};
+ghost use Rattle.mdl_shared.specs.Passes.{manager_table, pass_number, pass_table};
 ghost use Rattle.mdl_stmt.specs.Attendance.{IsCapacity};
 ghost use Rattle.mdl_script.specs.Answers.{options_of};
 ghost use Rattle.mdl_script.specs.RunTexts.{named_sessions};
 ghost use Rattle.mdl_script.specs.Runs.{HasMadeFirst};
-ghost use Rattle.mdl_script.specs.Turns.{CameBack, GainsAnswers, IsAbout, IsTurn, has_pass, pass_sent, passes_sent};
+ghost use Rattle.mdl_script.specs.Turns.{CameBack, GainsAnswers, IsAboutLines, IsTurn, has_pass, pass_sent, passes_sent};
 
 use crate::on_thread::{Answered, work_pass};
 use crate::run::{ThreadedRun, is_named};
@@ -77,10 +77,10 @@ fn start_thread<'s, E, R: Threads + Wait + Sync, G: Gate + Sync>(
     run: &ThreadedRun<'s, R, G>,
     pass: Pass,
 ) -> Result<PromisedHandle<Answered, AnswersOf<'s>>, AllocError>
-    requires theirs { pass_table pass ≡ table_of run.now.manager.now }
+    requires theirs { pass_table pass ≡ manager_table run.now.manager.now }
     requires capacity { IsCapacity run.now.cache }
     ensures pass { IfOk result (λ thread. thread.promise.pass.value ≡ pass) }
-    ensures about { IfOk result (λ thread. IsAbout (options_of run.now.patience run.now.cache) run.now.script.now thread.promise) }
+    ensures about { IfOk result (λ thread. IsAboutLines (options_of run.now.patience run.now.cache) run.now.script.now thread.promise) }
 {
     // The closure gets each of these by itself. Of a struct that has them under a lifetime, the proof knows nothing.
     let (rt, gate, manager, script) = (run.rt, run.gate, run.manager, run.script);
@@ -105,13 +105,13 @@ fn start_turn<'s, E, R: Threads + Wait + Sync, G: Gate + Sync>(
     mine: u16,
     who: u16,
 ) -> Result<SessionThread<'s>, AllocError>
-    requires theirs { All (λ pass. pass_table pass ≡ table_of run.now.manager.now) passes.old.items }
+    requires theirs { All (λ pass. pass_table pass ≡ manager_table run.now.manager.now) passes.old.items }
     requires capacity { IsCapacity run.now.cache }
     requires there { who ≢ mine → has_pass passes.old.items who ≡ true }
     ensures who { IfOk result (λ turn. turn.who ≡ who) }
     ensures turn { IfOk result (λ turn. IsTurn (options_of run.now.patience run.now.cache) run.now.script.now mine turn) }
     ensures sent { IfOk result (λ turn. IsPermutation passes.old.items (pass_sent turn ++ passes.new.items)) }
-    ensures theirs { All (λ pass. pass_table pass ≡ table_of run.now.manager.now) passes.new.items }
+    ensures theirs { All (λ pass. pass_table pass ≡ manager_table run.now.manager.now) passes.new.items }
     ensures others { (other : ℕ) → other ≢ who → has_pass passes.new.items other ≡ has_pass passes.old.items other }
 {
     if who == mine {
@@ -133,7 +133,7 @@ pub(crate) fn start_all<'s, E, R: Threads + Wait + Sync, G: Gate + Sync>(
     mine: u16,
     asker: &Session<&R>,
 ) -> Result<Vec<SessionThread<'s>>, AllocError>
-    requires theirs { All (λ pass. pass_table pass ≡ table_of run.now.manager.now) passes.old.items }
+    requires theirs { All (λ pass. pass_table pass ≡ manager_table run.now.manager.now) passes.old.items }
     requires capacity { IsCapacity run.now.cache }
     requires there { All (λ who. who ≢ mine → has_pass passes.old.items who ≡ true) (named_sessions run.now.script.now) }
     requires made { HasMadeFirst (options_of run.now.patience run.now.cache) mine asker.now }

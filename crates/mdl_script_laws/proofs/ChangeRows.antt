@@ -30,12 +30,12 @@ use Rattle.mdl_rows.specs.declared.reply.Reply.{Reply}
 use Rattle.mdl_rows.specs.declared.reply.Reply.TheVariants as reply
 use Rattle.mdl_rows.specs.declared.reply.TableShown.{TableShown}
 use Rattle.mdl_rows.specs.KeyOrder.{in_key_order}
-use Rattle.mdl_rows.specs.KeyOrder.{ticket_of}
+use Rattle.mdl_rows.specs.KeyOrder.{locked_ticket}
 use Rattle.mdl_rows.specs.Rows.{Row, Act, ◌>>=◌, ◌>>◌, check, nothing, acquire_all, for_each}
 use Rattle.mdl_rows.specs.Rows as row
 use Rattle.mdl_rows.specs.Statements as stm
 use Rattle.mdl_rows.specs.Statements.{row_of}
-use Rattle.mdl_rows.specs.States.{State, has_locked, written, savepoint_mark}
+use Rattle.mdl_rows.specs.States.{State, has_locked, after_write, savepoint_mark}
 use Rattle.mdl_script_laws.specs.ChangesLast.{BehindItsChange, ChangesAtMostOnce, ChecksBeforeChanges, OnlyFinishes, OnlyLowers, StatementsCheckBeforeTheyChange}
 use Rattle.mdl_script_laws.specs.Failures.{changes_one}
 
@@ -155,7 +155,7 @@ keeps-check_new_schema schema standing =
     keeps-bind (check (not (stm.is_defined standing)) SchemaExists) (λ _. check (stm.has_version_left standing) VersionLimit)
     (keeps-check (not (stm.is_defined standing)) SchemaExists) (λ _. keeps-check (stm.has_version_left standing) VersionLimit)
 
-keeps-keys : (told : List KeyName) (places : List ℕ) → KeepsDefinitions (stm.keys_of told places)
+keeps-keys : (told : List KeyName) (places : List ℕ) → KeepsDefinitions (stm.keys_of_places told places)
 keeps-keys told [] = tt
 keeps-keys told (place ∷ places) = λ key. keeps-keys (told ++ key ∷ []) places
 
@@ -163,13 +163,13 @@ keeps-definition : (found : Option Definition) → KeepsDefinitions (stm.has_def
 keeps-definition (Some definition) = tt
 keeps-definition None = tt
 
-keeps-fault : (fault : Option DefError) → KeepsDefinitions (stm.unless_fault fault)
+keeps-fault : (fault : Option DefError) → KeepsDefinitions (stm.check_fault fault)
 keeps-fault (Some fault) = tt
 keeps-fault None = tt
 
 keeps-check_change : (change : Change) (table : ℕ) → KeepsDefinitions (stm.check_change change table)
 keeps-check_change change table standing =
-    keeps-bind (stm.unless_fault (change_fault standing.definition change)) (λ _. check (stm.has_version_left standing) VersionLimit)
+    keeps-bind (stm.check_fault (change_fault standing.definition change)) (λ _. check (stm.has_version_left standing) VersionLimit)
     (keeps-fault (change_fault standing.definition change)) (λ _. keeps-check (stm.has_version_left standing) VersionLimit)
 
 -- ---- statements that change none
@@ -205,8 +205,8 @@ keeps-select tables state =
 
 keeps-wrote : KeepsDefinitions stm.wrote
 keeps-wrote state =
-    keeps-bind (if state.is_open then row.set written else stm.commit_writes) (λ _. row.Give reply.Ok)
-    (keeps-either state.is_open (row.set written) stm.commit_writes tt (λ lock. tt)) (λ _. tt)
+    keeps-bind (if state.is_open then row.set after_write else stm.commit_writes) (λ _. row.Give reply.Ok)
+    (keeps-either state.is_open (row.set after_write) stm.commit_writes tt (λ lock. tt)) (λ _. tt)
 
 keeps-write : (table : KeyName) (priority : Priority) → KeepsDefinitions (stm.write table priority)
 keeps-write table priority state =
@@ -402,7 +402,7 @@ checks-drop_schema name = λ global schema.
 checks-rename_under : (schema from to : ℕ) → ChecksBeforeChanges (stm.rename_under schema from to)
 checks-rename_under schema from to =
     let moving : Definition → Row Reply = λ definition. stm.check_schema schema >> stm.move_definition definition from to in
-    behind OnlyFinishes (stm.is_free to) (λ _. stm.definition_under from >>= moving) (λ standing. keeps-check (not (stm.is_defined standing)) TableExists)
+    behind OnlyFinishes (stm.check_absent to) (λ _. stm.definition_under from >>= moving) (λ standing. keeps-check (not (stm.is_defined standing)) TableExists)
     (λ _. behind OnlyFinishes (stm.definition_under from) moving (λ standing. keeps-definition standing.definition)
     (λ definition. behind OnlyFinishes (stm.check_schema schema) (λ _. stm.move_definition definition from to) (keeps-check_schema schema)
     (λ _. behind OnlyFinishes (for_each stm.can_change (to ∷ from ∷ [])) _ (keeps-versions (to ∷ from ∷ [])) (λ _. refl))))
@@ -411,12 +411,12 @@ checks-rename : (from to : KeyName) → ChecksBeforeChanges (stm.rename_after_co
 checks-rename from to =
     let scopes = stm.both_scopes from to in
     let names = stm.both_names from to in
-    behind OnlyFinishes (acquire_all (map stm.ddl_lock scopes)) (λ ids. stm.lock_and_rename from to (ticket_of (stm.schema_of to) scopes ids))
+    behind OnlyFinishes (acquire_all (map stm.ddl_lock scopes)) (λ ids. stm.lock_and_rename from to (locked_ticket (stm.schema_of to) scopes ids))
     (keeps-locks (map stm.ddl_lock scopes))
     (λ ids. behind OnlyFinishes (acquire_all (map stm.ddl_lock names))
-    (λ tickets. stm.rename_under (ticket_of (stm.schema_of to) scopes ids) (ticket_of from names tickets) (ticket_of to names tickets))
+    (λ tickets. stm.rename_under (locked_ticket (stm.schema_of to) scopes ids) (locked_ticket from names tickets) (locked_ticket to names tickets))
     (keeps-locks (map stm.ddl_lock names))
-    (λ tickets. checks-rename_under (ticket_of (stm.schema_of to) scopes ids) (ticket_of from names tickets) (ticket_of to names tickets)))
+    (λ tickets. checks-rename_under (locked_ticket (stm.schema_of to) scopes ids) (locked_ticket from names tickets) (locked_ticket to names tickets)))
 
 -- ---- all statements
 

@@ -17,9 +17,9 @@ use Rattle.mdl_context.specs.declared.context_error.ContextError.TheVariants.{Sp
 use Rattle.mdl_context.specs.declared.kept.Kept.{Kept}
 use Rattle.mdl_context.specs.declared.request.Mark.{Mark}
 use Rattle.mdl_context.specs.declared.request.Resume.{Resume}
-use Rattle.mdl_context.specs.Contexts.{ContextView, mark_of, without}
-use Rattle.mdl_context.specs.Gains.{refusal_of}
-use Rattle.mdl_context.specs.Releases.{giving_up, releasing}
+use Rattle.mdl_context.specs.Contexts.{ContextView, current_mark, without_tickets}
+use Rattle.mdl_context.specs.Gains.{refusal_answered}
+use Rattle.mdl_context.specs.Releases.{releasing, releasing_tickets}
 use Rattle.mdl_context.specs.Requests.{Outcome}
 use Rattle.mdl_context.specs.Waits.{resuming}
 use Rattle.mdl_context.proofs.BeyondLemmas.{without-none}
@@ -27,7 +27,7 @@ use Rattle.mdl_rows.specs.declared.ending.Ending.{Ending}
 use Rattle.mdl_rows.specs.declared.ending.Ending.TheVariants.{Answers, Misses, Falls, Starves}
 use Rattle.mdl_rows.specs.declared.reply.Reply.{Reply}
 use Rattle.mdl_rows.specs.declared.reply.Reply.TheVariants as reply
-use Rattle.mdl_rows.specs.Endings.{Pause, Ends, Begins_to_wait, Waits_on, Faults, closing, ended, ending_of_error, ending_of_loss, ending_of_refusal, gone_at, letting_go, state_after, without_half}
+use Rattle.mdl_rows.specs.Endings.{Pause, Ends, Begins_to_wait, Waits_on, Faults, closing, pause_after, ending_of_error, ending_of_loss, ending_of_refusal, gone_at, letting_go, state_after, without_half}
 use Rattle.mdl_rows.specs.Playing as playing
 use Rattle.mdl_rows.specs.Playing.{play, with_context}
 use Rattle.mdl_rows.specs.Rows.{Row}
@@ -65,7 +65,7 @@ IsLateEnding (Answers reply) = IsLate reply
 IsLateEnding (Misses number) = is_early number ≡ false
 IsLateEnding _ = Unit {0}
 
-late_ended : (ending : Ending) (session : Session) → IsLateEnding ending → IsLatePause (ended ending session)
+late_ended : (ending : Ending) (session : Session) → IsLateEnding ending → IsLatePause (pause_after ending session)
 late_ended (Answers reply) session so = so
 late_ended (Misses number) session so = so
 late_ended Falls session so = refl
@@ -89,8 +89,8 @@ late_loss false _ = tt
 
 late_letting_go : (ending : Ending) (mark : Mark) (session : Session) → IsLateEnding ending → AllLate (letting_go ending mark session)
 late_letting_go ending mark session so =
-    each_then {A = Outcome (Unit {0})} {B = Pause} IsLatePause (giving_up (gone_at ending session.state.is_open mark session.context.kept) session.context)
-    (λ outcome. Give (ended ending (record { context = outcome.1; state = state_after ending session.state; left = None })))
+    each_then {A = Outcome (Unit {0})} {B = Pause} IsLatePause (releasing_tickets (gone_at ending session.state.is_open mark session.context.kept) session.context)
+    (λ outcome. Give (pause_after ending (record { context = outcome.1; state = state_after ending session.state; left = None })))
     (λ outcome. late_ended ending (record { context = outcome.1; state = state_after ending session.state; left = None }) so)
 
 late_closing : (ending : Ending) (mark : Mark) (session : Session) → IsLateEnding ending → AllLate (closing ending mark session)
@@ -161,14 +161,14 @@ answered_tidy : (answer : Reply) (mark : Mark) (session : Session) (a b : Core) 
     → Runs Joins a (closing (Answers answer) mark session) pause b
     → (Ends answer session ≡ pause) × (b ≡ a)
 answered_tidy answer mark session a b pause tidy run =
-    (ap (Ends answer) (sym (same_session session (without [] session.context.kept) tidy.over (without-none session.context.kept))) ∙ done.0, sym done.1)
+    (ap (Ends answer) (sym (same_session session (without_tickets [] session.context.kept) tidy.over (without-none session.context.kept))) ∙ done.0, sym done.1)
   where
     after : ContextView → Session
     after context = record { context = context; state = session.state; left = None }
 
-    done : (Ends answer (after (record session.context { kept = without [] session.context.kept })) ≡ pause) × (a ≡ b)
+    done : (Ends answer (after (record session.context { kept = without_tickets [] session.context.kept })) ≡ pause) × (a ≡ b)
     done =
-        subst (λ gone. Runs Joins a (giving_up gone session.context >>= (λ outcome. Give (Ends answer (after outcome.1)))) pause b)
+        subst (λ gone. Runs Joins a (releasing_tickets gone session.context >>= (λ outcome. Give (Ends answer (after outcome.1)))) pause b)
         (none-gone session.state.is_open answer mark session.context.kept tidy.statement tidy.transaction)
         (subst (λ half. Runs Joins a (without_half half (Answers answer) mark (record session { left = None })) pause b) tidy.whole run)
 
@@ -198,8 +198,8 @@ untouched_read : (mark : Mark) (session : Session) (a b : Core) (pause : Pause) 
     → (answer : Answer) → Runs Joins a (playing.read_answered mark session more answer) pause b → IsUntouched session a pause b
 untouched_read mark session a b pause more made (Reads version definition) run = made (record { version = version; definition = definition }) run
 untouched_read mark session a b pause more made answer run =
-    run_late session (closing (ending_of_refusal (refusal_of answer)) mark session) a b a pause
-    (late_closing (ending_of_refusal (refusal_of answer)) mark session (late_refusal (refusal_of answer))) run
+    run_late session (closing (ending_of_refusal (refusal_answered answer)) mark session) a b a pause
+    (late_closing (ending_of_refusal (refusal_answered answer)) mark session (late_refusal (refusal_answered answer))) run
 
 untouched_play : (asked : Row Reply) (mark : Mark) (session : Session) (a b : Core) (pause : Pause) → IsTidy session → ChecksFirst IsLate IsLate asked
     → Runs Joins a (play asked mark session) pause b → IsUntouched session a pause b
@@ -211,7 +211,7 @@ untouched_play (row.Room rest) mark session a b pause tidy checks (inr run) = un
 untouched_play (row.Look rest) mark session a b pause tidy checks run =
     untouched_play (rest session.state) mark session a b pause tidy (checks session.state) run
 untouched_play (row.Here rest) mark session a b pause tidy checks run =
-    let now = mark_of session.context.kept in untouched_play (rest now) mark session a b pause tidy (checks now) run
+    let now = current_mark session.context.kept in untouched_play (rest now) mark session a b pause tidy (checks now) run
 untouched_play (row.Read id rest) mark session a b pause tidy checks (answer, mid, joins, run) =
     let more = λ (standing : Standing). play (rest standing) mark session in
     subst (λ c. IsUntouched session c pause b) (reads_same a mid session.context.who id answer joins)
@@ -223,7 +223,7 @@ pub statements_untouched : (asked : Statement) (session : Session) (a b : Core) 
     → Runs Joins a (playing.starting asked session) pause b
     → IsUntouched session a pause b
 statements_untouched asked session a b pause tidy run =
-    untouched_play (row_of asked) (mark_of session.context.kept) session a b pause tidy (statements_check asked) run
+    untouched_play (row_of asked) (current_mark session.context.kept) session a b pause tidy (statements_check asked) run
 
 pub early_nothing : EarlyErrorsChangeNothing
 early_nothing asked session after a b number tidy early run = statements_untouched asked session a b (Ends (reply.Error number) after) tidy run early

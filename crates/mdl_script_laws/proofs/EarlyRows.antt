@@ -16,7 +16,7 @@ use Rattle.mdl_rows.specs.declared.reply.Reply.{Reply}
 use Rattle.mdl_rows.specs.declared.reply.Reply.TheVariants as reply
 use Rattle.mdl_rows.specs.declared.reply.TableShown.{TableShown}
 use Rattle.mdl_rows.specs.Rows.{Row, Act, Give, Fail, Room, Look, Here, Read, ◌>>=◌, ◌>>◌, acquire, check, nothing, room, set}
-use Rattle.mdl_rows.specs.States.{State, has_locked, savepoint_mark, written}
+use Rattle.mdl_rows.specs.States.{State, after_write, has_locked, savepoint_mark}
 use Rattle.mdl_rows.specs.Statements as rows
 use Rattle.mdl_rows.specs.Statements.{row_of}
 use Rattle.mdl_script_laws.specs.RefusalsFirst.{is_early}
@@ -101,7 +101,7 @@ checks_exists ticket = λ standing.
 
 -- those that were shown before, and this one
 abbrev with_table : List TableShown → KeyName → Standing → List TableShown
-with_table shown table standing = shown ++ record { key = table; version = standing.version; columns = rows.columns_of standing.definition } ∷ []
+with_table shown table standing = shown ++ record { key = table; version = standing.version; columns = rows.table_columns standing.definition } ∷ []
 
 late_show : (shown : List TableShown) (table : KeyName) (ticket : ℕ) → FailsLate Any (rows.show shown table ticket)
 late_show shown table ticket =
@@ -150,8 +150,8 @@ checks_select false tables = late_first IsLate (rows.show_all rows.lock_to_read 
 
 late_wrote : FailsLate IsLate rows.wrote
 late_wrote = λ state.
-    keeps-bind IsOther Any IsLate (if state.is_open then set written else rows.commit_writes) (λ _. Give reply.Ok)
-    (keeps-either IsOther Any state.is_open (set written) rows.commit_writes ((λ s u. u), tt) (λ _. ((λ s u e. cc), tt))) (λ _ _. tt)
+    keeps-bind IsOther Any IsLate (if state.is_open then set after_write else rows.commit_writes) (λ _. Give reply.Ok)
+    (keeps-either IsOther Any state.is_open (set after_write) rows.commit_writes ((λ s u. u), tt) (λ _. ((λ s u e. cc), tt))) (λ _ _. tt)
 
 late_write : (table : KeyName) (priority : Priority) → FailsLate IsLate (rows.lock_and_write table priority)
 late_write table priority = λ ticket. keeps-bind IsOther Any IsLate (rows.exists ticket) (λ _. rows.wrote) (late_exists ticket) (λ _ _. late_wrote)

@@ -15,9 +15,9 @@ use Rattle.mdl_context.specs.declared.request.Resume.{Resume}
 use Rattle.mdl_context.specs.declared.request.Resume.TheVariants as resume
 use Rattle.mdl_context.specs.declared.request.Tried.{Tried}
 use Rattle.mdl_context.specs.declared.request.Tried.TheVariants as try_as
-use Rattle.mdl_context.specs.Contexts.{last_ticket, mark_of, waits_for_user_lock}
-use Rattle.mdl_context.specs.Gains.{refusal_of}
-use Rattle.mdl_context.specs.Releases.{giving_up, releasing}
+use Rattle.mdl_context.specs.Contexts.{current_mark, last_ticket, waits_for_user_lock}
+use Rattle.mdl_context.specs.Gains.{refusal_answered}
+use Rattle.mdl_context.specs.Releases.{releasing, releasing_tickets}
 use Rattle.mdl_context.specs.Requests.{Outcome, acquiring, trying}
 use Rattle.mdl_context.specs.Upgrades.{upgrading, downgrading}
 use Rattle.mdl_context.specs.Waits.{giving_up_wait, resuming}
@@ -26,8 +26,8 @@ use Rattle.mdl_rows.specs.declared.ending.Ending.{Ending}
 use Rattle.mdl_rows.specs.declared.ending.Ending.TheVariants.{Answers, Misses, Falls, Starves}
 use Rattle.mdl_rows.specs.declared.reply.Reply.{Reply}
 use Rattle.mdl_rows.specs.declared.reply.Reply.TheVariants as reply
-use Rattle.mdl_rows.specs.Endings.{Pause, closing, ended, ending_of_error, ending_of_loss, ending_of_refusal, gone_at, letting_go, state_after, without_half}
-use Rattle.mdl_rows.specs.MemoryLaws.{session_at}
+use Rattle.mdl_rows.specs.Endings.{Pause, closing, ending_of_error, ending_of_loss, ending_of_refusal, gone_at, letting_go, pause_after, state_after, without_half}
+use Rattle.mdl_rows.specs.MemoryLaws.{session_of_pause}
 use Rattle.mdl_rows.specs.Playing as playing
 use Rattle.mdl_rows.specs.Playing.{play, with_context}
 use Rattle.mdl_rows.specs.Rows.{Row}
@@ -56,7 +56,7 @@ session_without session outcome = record { context = outcome.1; state = without_
 still-letting_go : (ending : Ending) (mark : Mark) (session : Session) → AreStill (letting_go ending mark session)
 still-letting_go ending mark session =
     let gone = gone_at ending session.state.is_open mark session.context.kept in
-    calls_bind {A = Outcome (Unit {0})} {B = Pause} IsStill (giving_up gone session.context) (λ outcome. Give (ended ending (session_after ending session outcome)))
+    calls_bind {A = Outcome (Unit {0})} {B = Pause} IsStill (releasing_tickets gone session.context) (λ outcome. Give (pause_after ending (session_after ending session outcome)))
     (still-giving_up gone session.context) (λ _. tt)
 
 still-closing : (ending : Ending) (mark : Mark) (session : Session) → AreStill (closing ending mark session)
@@ -117,19 +117,19 @@ module _ (from b : Core) (pause : Pause) (failed : HasFailed pause) where
       → ((standing : Standing) → Runs Joins a (more standing) pause b → SameDefinitions from b) → (answer : Answer)
       → Runs Joins a (playing.read_answered mark session more answer) pause b → SameDefinitions from b
   kept-read mark session more a at later (Reads version definition) run = later (record { version = version; definition = definition }) run
-  kept-read mark session more a at later answer run = closed (ending_of_refusal (refusal_of answer)) mark session a at run
+  kept-read mark session more a at later answer run = closed (ending_of_refusal (refusal_answered answer)) mark session a at run
 
   kept-tables : (mark : Mark) (session : Session) (more : _ → Program Pause) (a : Core) → At from a
       → ((places : _) → Runs Joins a (more places) pause b → SameDefinitions from b) → (answer : Answer)
       → Runs Joins a (playing.tables_answered mark session more answer) pause b → SameDefinitions from b
   kept-tables mark session more a at later (Tables places) run = later places run
-  kept-tables mark session more a at later answer run = closed (ending_of_refusal (refusal_of answer)) mark session a at run
+  kept-tables mark session more a at later answer run = closed (ending_of_refusal (refusal_answered answer)) mark session a at run
 
   kept-key : (mark : Mark) (session : Session) (more : KeyName → Program Pause) (a : Core) → At from a
       → ((key : KeyName) → Runs Joins a (more key) pause b → SameDefinitions from b) → (answer : Answer)
       → Runs Joins a (playing.key_answered mark session more answer) pause b → SameDefinitions from b
   kept-key mark session more a at later (Key_is key) run = later key run
-  kept-key mark session more a at later answer run = closed (ending_of_refusal (refusal_of answer)) mark session a at run
+  kept-key mark session more a at later answer run = closed (ending_of_refusal (refusal_answered answer)) mark session a at run
 
   -- the change itself: it is made, and the statement doesn't fail; or it is refused, and nothing was changed
   kept-change : (mark : Mark) (session : Session) (id : ℕ) (change : Change) (more : Program Pause) (a mid : Core) → At from a
@@ -138,7 +138,7 @@ module _ (from b : Core) (pause : Pause) (failed : HasFailed pause) where
   kept-change mark session id change more a mid at done (Changed version) joins run =
       absurd (each_reply Joins (λ p. HasFailed p → ⊥) more mid b pause done run failed)
   kept-change mark session id change more a mid at done answer joins run =
-      closed (ending_of_refusal (refusal_of answer)) mark session mid
+      closed (ending_of_refusal (refusal_answered answer)) mark session mid
       (at-answer from a mid (Change_definition session.context.who id change) answer tt at joins) run
 
   kept-play : (asked : Row Reply) (mark : Mark) (session : Session) (a : Core) → At from a → NeverFails OnlyLowers → ChangesAtMostOnce asked
@@ -151,7 +151,7 @@ module _ (from b : Core) (pause : Pause) (failed : HasFailed pause) where
   kept-play (row.Set change rest) mark session a at never so run =
       kept-play rest mark (record session { state = change session.state }) a at never so run
   kept-play (row.Here rest) mark session a at never so run =
-      let here = mark_of session.context.kept in kept-play (rest here) mark session a at never (so here) run
+      let here = current_mark session.context.kept in kept-play (rest here) mark session a at never (so here) run
   kept-play (row.Acquire wish rest) mark session a at never so run =
       let more = λ (id : ℕ) (after : Session). play (rest id) mark after in
       at-then {A = Outcome Acquire} {B = Pause} from (SameDefinitions from b) (acquiring wish session.context) (playing.acquired wish rest mark session more) a b pause
@@ -175,7 +175,7 @@ module _ (from b : Core) (pause : Pause) (failed : HasFailed pause) where
       (λ outcome. play rest mark (with_context session outcome.1)) a b pause (still-downgrading id mode session.context) at
       (λ outcome mid now. kept-play rest mark (with_context session outcome.1) mid now never so) run
   kept-play (row.Give_up which rest) mark session a at never so run =
-      at-then {A = Outcome (Unit {0})} {B = Pause} from (SameDefinitions from b) (giving_up (which session.context.kept) session.context)
+      at-then {A = Outcome (Unit {0})} {B = Pause} from (SameDefinitions from b) (releasing_tickets (which session.context.kept) session.context)
       (λ outcome. play rest mark (with_context session outcome.1)) a b pause (still-giving_up (which session.context.kept) session.context) at
       (λ outcome mid now. kept-play rest mark (with_context session outcome.1) mid now never so) run
   kept-play (row.Release id rest) mark session a at never so run =
@@ -223,12 +223,12 @@ done-closing mark session = by (half_lock session.state) where
   by : (half : Option ℕ) → Each (λ pause. HasFailed pause → ⊥) (without_half half (Answers reply.Ok) mark (record session { left = None }))
   by None =
       each_then {A = Outcome (Unit {0})} {B = Pause} (λ pause. HasFailed pause → ⊥)
-      (giving_up (gone_at (Answers reply.Ok) session.state.is_open mark session.context.kept) session.context) _ (λ _ none. none)
+      (releasing_tickets (gone_at (Answers reply.Ok) session.state.is_open mark session.context.kept) session.context) _ (λ _ none. none)
   by (Some global) =
       each_then {A = Outcome (Unit {0})} {B = Pause} (λ pause. HasFailed pause → ⊥) (releasing global session.context)
       (λ outcome. letting_go (Answers reply.Ok) mark (session_without session outcome))
       (λ outcome. each_then {A = Outcome (Unit {0})} {B = Pause} (λ pause. HasFailed pause → ⊥)
-      (giving_up (gone_at (Answers reply.Ok) session.state.is_open mark outcome.1.kept) outcome.1) _ (λ _ none. none))
+      (releasing_tickets (gone_at (Answers reply.Ok) session.state.is_open mark outcome.1.kept) outcome.1) _ (λ _ none. none))
 
 lowers-never : NeverFails OnlyLowers
 lowers-never (row.Give told) mark session so =
@@ -241,26 +241,26 @@ lowers-never asked mark session so = absurd so
 pub failures-nothing : FailuresChangeNothing
 failures-nothing session a b pause sound failed = (
   (λ asked one.
-      kept-play a b pause failed (row_of asked) (mark_of session.context.kept) session a ((λ _. refl), sound) lowers-never (changes-once asked one)),
+      kept-play a b pause failed (row_of asked) (current_mark session.context.kept) session a ((λ _. refl), sound) lowers-never (changes-once asked one)),
   kept-going a b pause failed session.left (record session { left = None }) a ((λ _. refl), sound) lowers-never,
 )
 
 -- ---- what is left of one that waits
 
 -- a statement that has ended has nothing left
-left-ended : (ending : Ending) (session : Session) → session.left ≡ None → HasOneLeft (session_at (ended ending session))
+left-ended : (ending : Ending) (session : Session) → session.left ≡ None → HasOneLeft (session_of_pause (pause_after ending session))
 left-ended (Answers told) session none = subst (λ left. IfSome left (λ (l : Left). (id : ℕ) → ChangesAtMostOnce (l.rest id))) (sym none) tt
 left-ended (Misses number) session none = subst (λ left. IfSome left (λ (l : Left). (id : ℕ) → ChangesAtMostOnce (l.rest id))) (sym none) tt
 left-ended Falls session none = subst (λ left. IfSome left (λ (l : Left). (id : ℕ) → ChangesAtMostOnce (l.rest id))) (sym none) tt
 left-ended Starves session none = subst (λ left. IfSome left (λ (l : Left). (id : ℕ) → ChangesAtMostOnce (l.rest id))) (sym none) tt
 
 abbrev LeavesOne : Pause → Type 0
-LeavesOne pause = HasOneLeft (session_at pause)
+LeavesOne pause = HasOneLeft (session_of_pause pause)
 
 left-letting_go : (ending : Ending) (mark : Mark) (session : Session) → Each LeavesOne (letting_go ending mark session)
 left-letting_go ending mark session =
-    each_then {A = Outcome (Unit {0})} {B = Pause} LeavesOne (giving_up (gone_at ending session.state.is_open mark session.context.kept) session.context)
-    (λ outcome. Give (ended ending (session_after ending session outcome))) (λ outcome. left-ended ending (session_after ending session outcome) refl)
+    each_then {A = Outcome (Unit {0})} {B = Pause} LeavesOne (releasing_tickets (gone_at ending session.state.is_open mark session.context.kept) session.context)
+    (λ outcome. Give (pause_after ending (session_after ending session outcome))) (λ outcome. left-ended ending (session_after ending session outcome) refl)
 
 left-closing : (ending : Ending) (mark : Mark) (session : Session) → Each LeavesOne (closing ending mark session)
 left-closing ending mark session = by (half_lock (state_after ending session.state)) where
@@ -303,7 +303,7 @@ left-going (Some left) session none so =
 pub waiters-one : WaitersHaveOneLeft
 waiters-one session = (
   (λ asked one.
-      let mark = mark_of session.context.kept in
+      let mark = current_mark session.context.kept in
       by-each (Told AnyTables) LeavesOne (play (row_of asked) mark session) any-told
       (so-play AnyTables LeavesOne mark AnyEnding ChangesAtMostOnce (rules-once mark) (row_of asked) session (changes-once asked one))),
   left-going session.left (record session { left = None }) refl,

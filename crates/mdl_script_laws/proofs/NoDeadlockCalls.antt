@@ -3,13 +3,13 @@ use Rattle.std.proofs.Common.{◌≡◌, ℕ, zero, suc, ◌-◌, ◌≤◌, Boo
 use Rattle.std.proofs.lemmas.Bool.{false≢true}
 use Rattle.std.proofs.lemmas.List.{length-set}
 use Rattle.mdl_calls.specs.Words.{Answer, Call, Begin_wait, takes_memory}
-use Rattle.mdl_core.specs.Changes.{Change, Admit, Settle, is_of_book, admitting_if, admitting_up_to, booked_if, changing, next_ready, seat_after, book_after}
+use Rattle.mdl_core.specs.Changes.{Change, Admit, Settle, is_of_book, admitting_if, admitting_up_to, booked_if, after_change, next_ready, seat_after, book_after}
 use Rattle.mdl_core.specs.CoreCalls.{outcome}
 use Rattle.mdl_core.specs.CoreJoins.{Joins, SpeaksFor}
 use Rattle.mdl_core.specs.CoreSystems.{system_of}
 use Rattle.mdl_core.specs.Cores.{Core, book_at, seat_at, seating}
 use Rattle.mdl_core.specs.RunLaws.{IsMadeFor}
-use Rattle.mdl_core.specs.SearchLaws.{begins_wait}
+use Rattle.mdl_core.specs.SearchLaws.{call_begins_wait}
 use Rattle.mdl_core.specs.Ties.{IsTied}
 use Rattle.mdl_book.specs.declared.ticket.Ticket.{Ticket}
 use Rattle.mdl_core.proofs.CallDeadlocks.{only-new_waits}
@@ -21,7 +21,7 @@ use Rattle.mdl_script_laws.proofs.OutcomeLemmas.{joins-outcome}
 
 -- ---- there are as many sessions after a call as before it
 
-seats-changing : (a : Core) (who place : ℕ) (change : Change) → length (changing who place change a).seats ≡ length a.seats
+seats-changing : (a : Core) (who place : ℕ) (change : Change) → length (after_change who place change a).seats ≡ length a.seats
 seats-changing a who place change = by (is_of_book change) where
   seated : Core
   seated = seating who (seat_after place change (seat_at who a)) a
@@ -49,7 +49,7 @@ seats-by : (a : Core) (way : Way) → length (space_by way a).seats ≡ length a
 seats-by a Stay = refl
 seats-by a (Open key) = refl
 seats-by a (Settle_wait who place how) = seats-changing a who place (Settle how)
-seats-by a (Make who place change) = seats-served (changing who place change a) (makes_room change) place ∙ seats-changing a who place change
+seats-by a (Make who place change) = seats-served (after_change who place change a) (makes_room change) place ∙ seats-changing a who place change
 
 pub seats-joined : (a b : Core) (call : Call) (answer : Answer) → IsTied a → Joins a call answer b → length b.seats ≡ length a.seats
 seats-joined a b call answer tied joins =
@@ -75,7 +75,7 @@ still-managed who a b call answer managed joins = record {
 }
 
 -- a call whose answer begins no wait leaves it so
-pub calm-joined : (who : ℕ) (a b : Core) (call : Call) (answer : Answer) → ((session : ℕ) → begins_wait call answer session ≡ false) → Joins a call answer b
+pub calm-joined : (who : ℕ) (a b : Core) (call : Call) (answer : Answer) → ((session : ℕ) → call_begins_wait call answer session ≡ false) → Joins a call answer b
     → IsCalm who a → IsCalm who b
 calm-joined who a b call answer quiet joins calm = record {
   managed = still-managed who a b call answer calm.managed joins;
@@ -87,7 +87,7 @@ calm-joined who a b call answer quiet joins calm = record {
 
 -- a call that begins no wait, whatever its answer
 abbrev pub IsQuiet : Call → Type 0
-IsQuiet call = (answer : Answer) (session : ℕ) → begins_wait call answer session ≡ false
+IsQuiet call = (answer : Answer) (session : ℕ) → call_begins_wait call answer session ≡ false
 
 pub calm-call : (who : ℕ) (call : Call) (a : Core) → IsMadeFor who call → IsQuiet call → IsCalm who a → IsCalm who (outcome call a).1
 calm-call who call a made quiet calm =

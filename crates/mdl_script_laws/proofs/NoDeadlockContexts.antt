@@ -24,7 +24,7 @@ use Rattle.mdl_context.specs.declared.request.Resume.TheVariants as resume
 use Rattle.mdl_context.specs.declared.request.Tried.{Tried}
 use Rattle.mdl_context.specs.Contexts.{ContextView, place_known, ticket_kept}
 use Rattle.mdl_context.specs.Gains as gains
-use Rattle.mdl_context.specs.Holdings.{earliest, upgrade_of}
+use Rattle.mdl_context.specs.Holdings.{awaited_upgrade, earliest}
 use Rattle.mdl_context.specs.Releases as releases
 use Rattle.mdl_context.specs.Requests as requests
 use Rattle.mdl_context.specs.Requests.{Outcome}
@@ -159,16 +159,16 @@ calm-trying request context =
 calm-merged : (who new : ℕ) (answer : Answer) → LeavesCalm who (upgrades.merge_answered who new answer)
 calm-merged who new Done = λ a calm. calm
 calm-merged who new answer =
-    calm-ask {A = Result (Unit {0}) SpaceError} who (Release who new) (λ _. Give (Err (gains.refusal_of answer))) (refl, refl) (λ answer session. refl)
+    calm-ask {A = Result (Unit {0}) SpaceError} who (Release who new) (λ _. Give (Err (gains.refusal_answered answer))) (refl, refl) (λ answer session. refl)
     (λ _ a calm. calm)
 
-calm-merging : (who id new : ℕ) → LeavesCalm who (upgrades.merging who id new)
+calm-merging : (who id new : ℕ) → LeavesCalm who (upgrades.merging_new who id new)
 calm-merging who id new = calm-ask who (Merge who id new) (upgrades.merge_answered who new) (refl, refl) (λ answer session. refl) (calm-merged who new)
 
 calm-second : (ticket : Kept) (mode : Mode) (context : ContextView) (end : Result AskResult SpaceError)
     → LeavesCalm context.who (upgrades.second_got ticket mode context end)
 calm-second ticket mode context (Ok (got.Granted new)) =
-    calm-bind context.who (upgrades.merging context.who ticket.id new) (λ end. Give (upgrades.merged (Acquired ticket.id) ticket.id mode context end))
+    calm-bind context.who (upgrades.merging_new context.who ticket.id new) (λ end. Give (upgrades.merged (Acquired ticket.id) ticket.id mode context end))
     (calm-merging context.who ticket.id new) (λ end a calm. calm)
 calm-second ticket mode context (Ok (got.Waits number searched)) = λ a calm. calm
 calm-second ticket mode context (Err refusal) = λ a calm. calm
@@ -232,12 +232,12 @@ quiet-merge who new _ = (λ answer session. refl, λ _. tt)
 quiet-won : (upgrade : Option (ℕ × Mode)) (new : ℕ) (context : ContextView) → AreQuiet (waits.wait_won upgrade new context)
 quiet-won None new context = tt
 quiet-won (Some (id, mode)) new context =
-    calls_bind {A = Result (Unit {0}) SpaceError} {B = Outcome Resume} IsQuiet (upgrades.merging context.who id new)
+    calls_bind {A = Result (Unit {0}) SpaceError} {B = Outcome Resume} IsQuiet (upgrades.merging_new context.who id new)
     (λ end. Give (upgrades.merged (resume.Acquired id) id mode (waits.without_wait context) end))
     (λ answer session. refl, quiet-merge context.who new) (λ _. tt)
 
 quiet-end : (context : ContextView) (answer : Answer) → AreQuiet (waits.end_answered context answer)
-quiet-end context (Granted id) = quiet-won (upgrade_of context.wait) id context
+quiet-end context (Granted id) = quiet-won (awaited_upgrade context.wait) id context
 quiet-end context (Lost how) = tt
 quiet-end context _ = tt
 
@@ -250,7 +250,7 @@ quiet-looking : (context : ContextView) → AreQuiet (waits.looking context)
 quiet-looking context = (λ answer session. refl, quiet-poll context)
 
 quiet-sought : (context : ContextView) (end : SearchEnd) → AreQuiet (waits.wait_sought context end)
-quiet-sought context Over = quiet-looking (waits.searched context)
+quiet-sought context Over = quiet-looking (waits.searches_over context)
 quiet-sought context Cut_off = quiet-looking context
 quiet-sought context (Failed refusal) = quiet-abandoning context (Err (Space refusal), waits.without_wait context)
 
@@ -261,7 +261,7 @@ quiet-cut_off context Pending =
 quiet-cut_off context (Is_settled how) = (λ answer session. refl, quiet-end context)
 quiet-cut_off context _ = tt
 
-quiet-going_on : (searched : Option Bool) (context : ContextView) → AreQuiet (waits.going_on searched context)
+quiet-going_on : (searched : Option Bool) (context : ContextView) → AreQuiet (waits.continuing_wait searched context)
 quiet-going_on None context = tt
 quiet-going_on (Some true) context = quiet-looking context
 quiet-going_on (Some false) context = (λ answer session. refl, quiet-cut_off context)
@@ -273,9 +273,9 @@ calm-resuming context =
 
 -- ---- releases
 
-pub calm-giving_up : (gone : List Kept) (context : ContextView) → LeavesCalm context.who (releases.giving_up gone context)
+pub calm-giving_up : (gone : List Kept) (context : ContextView) → LeavesCalm context.who (releases.releasing_tickets gone context)
 calm-giving_up gone context =
-    calm-frugal {A = Outcome (Unit {0})} context.who (releases.giving_up gone context) (own_giving_up gone context) (frugal_giving_up gone context)
+    calm-frugal {A = Outcome (Unit {0})} context.who (releases.releasing_tickets gone context) (own_giving_up gone context) (frugal_giving_up gone context)
 
 pub calm-releasing : (id : ℕ) (context : ContextView) → LeavesCalm context.who (releases.releasing id context)
 calm-releasing id context =

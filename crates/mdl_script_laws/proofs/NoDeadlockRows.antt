@@ -10,9 +10,9 @@ use Rattle.mdl_context.specs.declared.request.Resume.{Resume}
 use Rattle.mdl_context.specs.declared.request.Resume.TheVariants as resume
 use Rattle.mdl_context.specs.declared.request.Tried.{Tried}
 use Rattle.mdl_context.specs.declared.request.Tried.TheVariants as try_as
-use Rattle.mdl_context.specs.Contexts.{last_ticket, mark_of, waits_for_user_lock}
-use Rattle.mdl_context.specs.Gains.{refusal_of}
-use Rattle.mdl_context.specs.Releases.{giving_up, releasing}
+use Rattle.mdl_context.specs.Contexts.{current_mark, last_ticket, waits_for_user_lock}
+use Rattle.mdl_context.specs.Gains.{refusal_answered}
+use Rattle.mdl_context.specs.Releases.{releasing, releasing_tickets}
 use Rattle.mdl_context.specs.Requests.{Outcome, acquiring, trying}
 use Rattle.mdl_context.specs.Upgrades.{upgrading, downgrading}
 use Rattle.mdl_context.specs.Waits.{resuming}
@@ -22,7 +22,7 @@ use Rattle.mdl_rows.specs.declared.ending.Ending.{Ending}
 use Rattle.mdl_rows.specs.declared.ending.Ending.TheVariants.{Answers}
 use Rattle.mdl_rows.specs.declared.reply.Reply.{Reply}
 use Rattle.mdl_rows.specs.declared.reply.Reply.TheVariants as reply
-use Rattle.mdl_rows.specs.Endings.{Pause, closing, ended, ending_of_error, ending_of_loss, ending_of_refusal, gone_at, letting_go, state_after, without_half}
+use Rattle.mdl_rows.specs.Endings.{Pause, closing, ending_of_error, ending_of_loss, ending_of_refusal, gone_at, letting_go, pause_after, state_after, without_half}
 use Rattle.mdl_rows.specs.MemoryLaws.{EachPlay}
 use Rattle.mdl_rows.specs.Playing as playing
 use Rattle.mdl_rows.specs.Playing.{play, with_context}
@@ -43,8 +43,8 @@ IsCalmFor who program = LeavesCalm who program
 calm-letting_go : (ending : Ending) (mark : Mark) (session : Session) → IsCalmFor session.context.who (letting_go ending mark session)
 calm-letting_go ending mark session =
     let gone = gone_at ending session.state.is_open mark session.context.kept in
-    calm-then {A = Unit {0}} {B = Pause} session.context.who (giving_up gone session.context)
-    (λ outcome. Give (ended ending (record { context = outcome.1; state = state_after ending session.state; left = None })))
+    calm-then {A = Unit {0}} {B = Pause} session.context.who (releasing_tickets gone session.context)
+    (λ outcome. Give (pause_after ending (record { context = outcome.1; state = state_after ending session.state; left = None })))
     (calm-giving_up gone session.context) (of_giving_up gone session.context) (λ outcome a calm. calm)
 
 calm-closing : (ending : Ending) (mark : Mark) (session : Session) → IsCalmFor session.context.who (closing ending mark session)
@@ -77,22 +77,22 @@ calm-tried mark session more made (Err error, context) = calm-closing (ending_of
 calm-read : (mark : Mark) (session : Session) (more : Standing → Program Pause) → ((standing : Standing) → IsCalmFor session.context.who (more standing))
     → (answer : Answer) → IsCalmFor session.context.who (playing.read_answered mark session more answer)
 calm-read mark session more made (Reads version definition) = made (record { version = version; definition = definition })
-calm-read mark session more made answer = calm-closing (ending_of_refusal (refusal_of answer)) mark session
+calm-read mark session more made answer = calm-closing (ending_of_refusal (refusal_answered answer)) mark session
 
 calm-change : (mark : Mark) (session : Session) (more : Program Pause) → IsCalmFor session.context.who more
     → (answer : Answer) → IsCalmFor session.context.who (playing.change_answered mark session more answer)
 calm-change mark session more made (Changed version) = made
-calm-change mark session more made answer = calm-closing (ending_of_refusal (refusal_of answer)) mark session
+calm-change mark session more made answer = calm-closing (ending_of_refusal (refusal_answered answer)) mark session
 
 calm-tables : (mark : Mark) (session : Session) (more : List ℕ → Program Pause) → ((tables : List ℕ) → IsCalmFor session.context.who (more tables))
     → (answer : Answer) → IsCalmFor session.context.who (playing.tables_answered mark session more answer)
 calm-tables mark session more made (Tables tables) = made tables
-calm-tables mark session more made answer = calm-closing (ending_of_refusal (refusal_of answer)) mark session
+calm-tables mark session more made answer = calm-closing (ending_of_refusal (refusal_answered answer)) mark session
 
 calm-key : (mark : Mark) (session : Session) (more : KeyName → Program Pause) → ((key : KeyName) → IsCalmFor session.context.who (more key))
     → (answer : Answer) → IsCalmFor session.context.who (playing.key_answered mark session more answer)
 calm-key mark session more made (Key_is key) = made key
-calm-key mark session more made answer = calm-closing (ending_of_refusal (refusal_of answer)) mark session
+calm-key mark session more made answer = calm-closing (ending_of_refusal (refusal_answered answer)) mark session
 
 -- ---- kills
 
@@ -109,7 +109,7 @@ calm-play (row.Fail number) mark session = calm-closing (Answers (reply.Error nu
 calm-play (row.Room rest) mark session = calm-play rest mark session
 calm-play (row.Look rest) mark session = calm-play (rest session.state) mark session
 calm-play (row.Set change rest) mark session = calm-play rest mark (record session { state = change session.state })
-calm-play (row.Here rest) mark session = calm-play (rest (mark_of session.context.kept)) mark session
+calm-play (row.Here rest) mark session = calm-play (rest (current_mark session.context.kept)) mark session
 calm-play (row.Acquire wish rest) mark session =
     let more = λ (id : ℕ) (after : Session). play (rest id) mark after in
     calm-then {A = Acquire} {B = Pause} session.context.who (acquiring wish session.context) (playing.acquired wish rest mark session more)
@@ -132,7 +132,7 @@ calm-play (row.Downgrade id mode rest) mark session =
     (calm-downgrading id mode session.context) (of_downgrading id mode session.context) (λ outcome. calm-play rest mark (with_context session outcome.1))
 calm-play (row.Give_up which rest) mark session =
     let gone = which session.context.kept in
-    calm-then {A = Unit {0}} {B = Pause} session.context.who (giving_up gone session.context) (λ outcome. play rest mark (with_context session outcome.1))
+    calm-then {A = Unit {0}} {B = Pause} session.context.who (releasing_tickets gone session.context) (λ outcome. play rest mark (with_context session outcome.1))
     (calm-giving_up gone session.context) (of_giving_up gone session.context) (λ outcome. calm-play rest mark (with_context session outcome.1))
 calm-play (row.Release id rest) mark session =
     calm-then {A = Unit {0}} {B = Pause} session.context.who (releasing id session.context) (λ outcome. play rest mark (with_context session outcome.1))
@@ -179,6 +179,6 @@ calm-going_on (Some left) session =
 pub rows_calm : EachPlay (λ session program. IsCalmFor session.context.who program)
 rows_calm session = (
   λ asked mark. calm-play asked mark session,
-  λ statement. calm-play (row_of statement) (mark_of session.context.kept) session,
+  λ statement. calm-play (row_of statement) (current_mark session.context.kept) session,
   calm-going_on session.left (record session { left = None }),
 )

@@ -14,7 +14,7 @@ use Rattle.mdl_lines.specs.Sessions.{IsScriptSession}
 use Rattle.mdl_rows.specs.Endings.{Pause}
 use Rattle.mdl_rows.specs.Playing.{going_on, starting}
 use Rattle.mdl_rows.specs.Sessions.{Session}
-use Rattle.mdl_script.specs.Worlds.{World, create_at, create_under, creating, first_world, played, player_at}
+use Rattle.mdl_script.specs.Worlds.{World, create_at, create_first_schema, creating, first_world, played, player_at}
 use Rattle.mdl_script.proofs.PlayLemmas.{SpeakForAll}
 use Rattle.mdl_script.proofs.SettleLemmas.{read-sessions}
 use Rattle.mdl_script.proofs.SoundLemmas.{IsStaffed, first-session, made-creating, speak-empty, staffed-first}
@@ -66,7 +66,7 @@ keeps-calm = record {
 
 -- ---- the world at first
 
-quiet-under : (answer : Answer) → EachCall IsQuiet (create_under answer)
+quiet-under : (answer : Answer) → EachCall IsQuiet (create_first_schema answer)
 quiet-under (Granted id) = (λ answer session. refl, λ _. (λ answer session. refl, λ _. tt))
 quiet-under _ = tt
 

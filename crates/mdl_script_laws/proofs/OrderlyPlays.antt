@@ -5,14 +5,14 @@ use Rattle.mdl_calls.proofs.FaithfulLemmas.{each_bind, each_then}
 use Rattle.mdl_context.specs.declared.kept.Kept.{Kept}
 use Rattle.mdl_context.specs.declared.request.Mark.{Mark}
 use Rattle.mdl_context.specs.declared.request.Resume.{Resume}
-use Rattle.mdl_context.specs.Contexts.{ContextView, mark_of, without}
-use Rattle.mdl_context.specs.Releases.{giving_up, releasing, releasing_all}
+use Rattle.mdl_context.specs.Contexts.{ContextView, current_mark, without_tickets}
+use Rattle.mdl_context.specs.Releases.{releasing, releasing_all, releasing_tickets}
 use Rattle.mdl_context.specs.Requests.{Outcome}
 use Rattle.mdl_context.specs.Waits.{resuming}
 use Rattle.mdl_rows.specs.declared.ending.Ending.{Ending}
 use Rattle.mdl_rows.specs.declared.ending.Ending.TheVariants.{Answers, Misses, Falls, Starves}
 use Rattle.mdl_rows.specs.declared.reply.Reply.{Reply}
-use Rattle.mdl_rows.specs.Endings.{Pause, closing, ended, gone_at, letting_go, state_after, without_half}
+use Rattle.mdl_rows.specs.Endings.{Pause, closing, gone_at, letting_go, pause_after, state_after, without_half}
 use Rattle.mdl_rows.specs.Playing as playing
 use Rattle.mdl_rows.specs.Playing.{play, with_context}
 use Rattle.mdl_rows.specs.Rows.{Row}
@@ -20,14 +20,14 @@ use Rattle.mdl_rows.specs.Rows as row
 use Rattle.mdl_rows.specs.Sessions.{Session}
 use Rattle.mdl_rows.specs.States.{State, half_lock, without_read_lock}
 use Rattle.mdl_rows.specs.Statements.{row_of}
-use Rattle.mdl_script_laws.specs.RefusalsFirst.{IsOrderly, IsTidy, IsUnderway, SessionsStayTidy}
+use Rattle.mdl_script_laws.specs.RefusalsFirst.{EndsTidy, IsTidy, IsUnderway, SessionsStayTidy}
 use Rattle.mdl_script_laws.proofs.RowPauses.{AnyEnding, AnyTables, Follows, Rules, Told, any-endings, any-told, so-play, so-resumed}
 use Rattle.mdl_script_laws.proofs.OutcomeLemmas.{by-each}
 use Rattle.mdl_script_laws.proofs.TidyLemmas.{none-of_statement, none-of_transaction}
 
 -- whatever comes of it
 abbrev AllOrderly : Program Pause → Type 0
-AllOrderly program = Each IsOrderly program
+AllOrderly program = Each EndsTidy program
 
 -- a mark that counts no ticket of a statement
 abbrev IsAtStart : Mark → Type 0
@@ -35,7 +35,7 @@ IsAtStart mark = mark.statement ≡ 0
 
 -- ---- ends
 
-orderly_ended : (ending : Ending) (session : Session) → IsTidy session → IsOrderly (ended ending session)
+orderly_ended : (ending : Ending) (session : Session) → IsTidy session → EndsTidy (pause_after ending session)
 orderly_ended (Answers reply) session tidy = tidy
 orderly_ended (Misses number) session tidy = tidy
 orderly_ended Falls session tidy = tidy
@@ -43,9 +43,9 @@ orderly_ended Starves session tidy = tidy
 
 -- without the tickets that go
 abbrev left_of : List Kept → ContextView → ContextView
-left_of gone context = record context { kept = without gone context.kept }
+left_of gone context = record context { kept = without_tickets gone context.kept }
 
-each_left : (gone : List Kept) (context : ContextView) → Each (λ (outcome : Outcome (Unit {0})). outcome.1 ≡ left_of gone context) (giving_up gone context)
+each_left : (gone : List Kept) (context : ContextView) → Each (λ (outcome : Outcome (Unit {0})). outcome.1 ≡ left_of gone context) (releasing_tickets gone context)
 each_left gone context =
     each_then {A = Unit {0}} {B = Outcome (Unit {0})} (λ outcome. outcome.1 ≡ left_of gone context) (releasing_all context.who gone)
     (λ _. Give (Ok tt, left_of gone context)) (λ _. refl)
@@ -53,8 +53,8 @@ each_left gone context =
 orderly_letting_go : (ending : Ending) (mark : Mark) (session : Session) → IsAtStart mark → half_lock (state_after ending session.state) ≡ None
     → AllOrderly (letting_go ending mark session)
 orderly_letting_go ending mark session start whole =
-    each_bind {A = Outcome (Unit {0})} {B = Pause} (λ outcome. outcome.1 ≡ left_of gone session.context) IsOrderly (giving_up gone session.context)
-    (λ outcome. Give (ended ending (after outcome.1))) (each_left gone session.context)
+    each_bind {A = Outcome (Unit {0})} {B = Pause} (λ outcome. outcome.1 ≡ left_of gone session.context) EndsTidy (releasing_tickets gone session.context)
+    (λ outcome. Give (pause_after ending (after outcome.1))) (each_left gone session.context)
     (λ outcome same. orderly_ended ending (after outcome.1) (subst (λ context. IsTidy (after context)) (sym same) tidy))
   where
     gone : List Kept
@@ -90,7 +90,7 @@ orderly_closing ending mark session start = by (half_lock (state_after ending se
   by None is = orderly_letting_go ending mark (record session { left = None }) start is
   by (Some global) is =
       let after : Outcome (Unit {0}) → Session = λ outcome. record { context = outcome.1; state = without_read_lock session.state; left = None } in
-      each_then {A = Outcome (Unit {0})} {B = Pause} IsOrderly (releasing global session.context) (λ outcome. letting_go ending mark (after outcome))
+      each_then {A = Outcome (Unit {0})} {B = Pause} EndsTidy (releasing global session.context) (λ outcome. letting_go ending mark (after outcome))
       (λ outcome. orderly_letting_go ending mark (after outcome) start (no_half ending session.state))
 
 -- ---- all that may be asked for
@@ -111,7 +111,7 @@ follows_any (row.Tables_of schema rest) = λ tables told. tt
 follows_any (row.Key_of place rest) = λ key. tt
 follows_any _ = tt
 
-rules_orderly : (mark : Mark) → IsAtStart mark → Rules AnyTables IsOrderly mark AnyEnding AnyRow
+rules_orderly : (mark : Mark) → IsAtStart mark → Rules AnyTables EndsTidy mark AnyEnding AnyRow
 rules_orderly mark start = record {
   endings = any-endings;
   closes = λ ending session _. orderly_closing ending mark session start;
@@ -124,15 +124,15 @@ orderly_going_on : (session : Session) → IsUnderway session → AllOrderly (pl
 orderly_going_on session (left, is, start) =
     let resting : Session = record session { left = None } in
     subst (λ some. AllOrderly (playing.going_on_with some resting)) (sym is)
-    (each_then {A = Outcome Resume} {B = Pause} IsOrderly (resuming session.context) (playing.resumed left resting)
-    (λ outcome. by-each (Told AnyTables) IsOrderly (playing.resumed left resting outcome) any-told
-    (so-resumed AnyTables IsOrderly AnyEnding AnyRow left resting (rules_orderly left.mark start) (λ context. (left, refl, start)) (λ id. tt) outcome)))
+    (each_then {A = Outcome Resume} {B = Pause} EndsTidy (resuming session.context) (playing.resumed left resting)
+    (λ outcome. by-each (Told AnyTables) EndsTidy (playing.resumed left resting outcome) any-told
+    (so-resumed AnyTables EndsTidy AnyEnding AnyRow left resting (rules_orderly left.mark start) (λ context. (left, refl, start)) (λ id. tt) outcome)))
 
 pub stay_tidy : SessionsStayTidy
 stay_tidy session = (
   λ statement tidy.
-      let mark = mark_of session.context.kept in
-      by-each (Told AnyTables) IsOrderly (play (row_of statement) mark session) any-told
-      (so-play AnyTables IsOrderly mark AnyEnding AnyRow (rules_orderly mark (ap length tidy.statement)) (row_of statement) session tt),
+      let mark = current_mark session.context.kept in
+      by-each (Told AnyTables) EndsTidy (play (row_of statement) mark session) any-told
+      (so-play AnyTables EndsTidy mark AnyEnding AnyRow (rules_orderly mark (ap length tidy.statement)) (row_of statement) session tt),
   orderly_going_on session,
 )

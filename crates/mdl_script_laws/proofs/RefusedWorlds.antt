@@ -12,18 +12,18 @@ use Rattle.mdl_lines.specs.Sessions.{IsScriptSession}
 use Rattle.mdl_syntax.specs.declared.script.Line.{Line}
 use Rattle.mdl_rows.specs.declared.reply.Reply.TheVariants as reply
 use Rattle.mdl_rows.specs.Endings.{Pause, Ends, Begins_to_wait, Waits_on, Faults}
-use Rattle.mdl_rows.specs.MemoryLaws.{session_at}
+use Rattle.mdl_rows.specs.MemoryLaws.{session_of_pause}
 use Rattle.mdl_rows.specs.Playing.{going_on, going_on_with, starting}
 use Rattle.mdl_rows.specs.Sessions.{Session}
 use Rattle.mdl_rows.proofs.RowOutcomes.{rows_keep_sound}
 use Rattle.mdl_script.specs.declared.told.News.{News}
 use Rattle.mdl_script.specs.declared.told.News.TheVariants.{Busy, Ends as Has_ended}
 use Rattle.mdl_script.specs.declared.told.Told.{Told}
-use Rattle.mdl_script.specs.Worlds.{Player, World, asked, first_settled, first_world, going, is_waiting, line_played, lines_played, most_turns, player_at, script_played, settling, started, timed_out, told_of}
+use Rattle.mdl_script.specs.Worlds.{Player, World, after_timeout, ask_session, continuing_settled, first_settled, first_world, going, line_played, lines_played, most_turns, player_at, reports_of, script_played, session_waits, started}
 use Rattle.mdl_script.proofs.SettleLemmas.{read-sessions}
 use Rattle.mdl_script.proofs.SoundLemmas.{IsStaffed, first-session, staffed-first}
 use Rattle.mdl_script_laws.specs.IdleSessions.{IdleSessionsAreTidy}
-use Rattle.mdl_script_laws.specs.RefusalsFirst.{IsOrderly, IsTidy, IsUnderway}
+use Rattle.mdl_script_laws.specs.RefusalsFirst.{EndsTidy, IsTidy, IsUnderway}
 use Rattle.mdl_script_laws.specs.RefusedLines.{IsSameWorld, RefusedLinesChangeNothing, is_early_refusal}
 use Rattle.mdl_script_laws.proofs.EarlyPlays.{IsLateLeft, IsLatePause, IsUntouched, late_going_on, statements_untouched}
 use Rattle.mdl_script_laws.proofs.OrderlyPlays.{stay_tidy}
@@ -35,13 +35,13 @@ abbrev IsReady : Session → Type 0
 IsReady session = IsTidy session ⊎ (IsUnderway session × IsLateLeft session.left)
 
 -- as a statement has come so far, it is
-ready-at : (pause : Pause) → IsOrderly pause → IsLatePause pause → IsReady (session_at pause)
+ready-at : (pause : Pause) → EndsTidy pause → IsLatePause pause → IsReady (session_of_pause pause)
 ready-at (Ends answer session) orderly late = inl orderly
 ready-at (Begins_to_wait key mode session) orderly late = inr (orderly, late)
 ready-at (Waits_on session) orderly late = inr (orderly, late)
 ready-at (Faults session) orderly late = inl orderly
 
-ready-untouched : (session : Session) (a b : Core) (pause : Pause) → IsOrderly pause → IsUntouched session a pause b → IsReady (session_at pause)
+ready-untouched : (session : Session) (a b : Core) (pause : Pause) → EndsTidy pause → IsUntouched session a pause b → IsReady (session_of_pause pause)
 ready-untouched session a b (Ends answer after) orderly untouched = inl orderly
 ready-untouched session a b (Begins_to_wait key mode after) orderly untouched = inr (orderly, untouched)
 ready-untouched session a b (Waits_on after) orderly untouched = inr (orderly, untouched)
@@ -63,14 +63,14 @@ IsNoRefusal told = is_early_refusal told.news ≡ false
 -- ---- statements that go on
 
 -- what is left of one comes in order, and is never refused early
-goes-late : (session : Session) → IsReady session → Each IsOrderly (going_on session) × Each IsLatePause (going_on session)
+goes-late : (session : Session) → IsReady session → Each EndsTidy (going_on session) × Each IsLatePause (going_on session)
 goes-late session (inr (underway, late)) = ((stay_tidy session).1 underway, late_going_on session.left (record session { left = None }) late)
 goes-late session (inl tidy) =
     let resting : Session = record session { left = None } in
-    subst (λ left. Each IsOrderly (going_on_with left resting) × Each IsLatePause (going_on_with left resting)) (sym tidy.over)
+    subst (λ left. Each EndsTidy (going_on_with left resting) × Each IsLatePause (going_on_with left resting)) (sym tidy.over)
     (record { over = refl; statement = tidy.statement; transaction = tidy.transaction; whole = tidy.whole }, tt)
 
-told-late : (line who : ℕ) (pause : Pause) → IsLatePause pause → All IsNoRefusal (told_of line who pause)
+told-late : (line who : ℕ) (pause : Pause) → IsLatePause pause → All IsNoRefusal (reports_of line who pause)
 told-late line who (Ends reply.Ok session) late = All-cons IsNoRefusal _ [] refl (All-nil IsNoRefusal)
 told-late line who (Ends (reply.Columns tables) session) late = All-cons IsNoRefusal _ [] refl (All-nil IsNoRefusal)
 told-late line who (Ends (reply.Number truth) session) late = All-cons IsNoRefusal _ [] refl (All-nil IsNoRefusal)
@@ -84,7 +84,7 @@ ready-going : (who : ℕ) (world : World) → first_settled world ≡ Some who �
     → AreReady (going who world).world × All IsNoRefusal (going who world).told
 ready-going who world found staffed ready = (
   plays-each player.line who (going_on player.session) world is staffed (λ w p. IsReady p.session)
-      (ready-at end (each-outcome IsOrderly outcome (going_on player.session) world.core orderly.0) late) (λ w there _. ready w there),
+      (ready-at end (each-outcome EndsTidy outcome (going_on player.session) world.core orderly.0) late) (λ w there _. ready w there),
   told-late player.line who end late,
 )
   where
@@ -97,7 +97,7 @@ ready-going who world found staffed ready = (
     end : Pause
     end = (outcome_of outcome (going_on player.session) world.core).0
 
-    orderly : Each IsOrderly (going_on player.session) × Each IsLatePause (going_on player.session)
+    orderly : Each EndsTidy (going_on player.session) × Each IsLatePause (going_on player.session)
     orderly = goes-late player.session (ready who is)
 
     late : IsLatePause end
@@ -110,7 +110,7 @@ abbrev IsOfThisLine : Line → World → World → Told → Type 0
 IsOfThisLine line world after told = IsTrue (is_early_refusal told.news) → (told.line ≡ line.number) × (told.who ≡ line.session) × IsSameWorld world after
 
 told-untouched : (line : Line) (world after : World) (session : Session) (a b : Core) (pause : Pause) → IsUntouched session a pause b
-    → (session_at pause ≡ session → b ≡ a → IsSameWorld world after) → All (IsOfThisLine line world after) (told_of line.number line.session pause)
+    → (session_of_pause pause ≡ session → b ≡ a → IsSameWorld world after) → All (IsOfThisLine line world after) (reports_of line.number line.session pause)
 told-untouched line world after session a b (Ends (reply.Error number) s) untouched same =
     All-cons (IsOfThisLine line world after) _ [] (λ early. let h = untouched early in (refl, refl, same h.0 h.1)) (All-nil (IsOfThisLine line world after))
 told-untouched line world after session a b (Ends reply.Ok s) untouched same =
@@ -126,7 +126,7 @@ told-untouched line world after session a b (Begins_to_wait key mode s) untouche
 told-untouched line world after session a b (Waits_on s) untouched same = All-nil (IsOfThisLine line world after)
 told-untouched line world after session a b (Faults s) untouched same = All-nil (IsOfThisLine line world after)
 
-ready-started : (line : Line) (world : World) → IsScriptSession line.session → is_waiting world line.session ≡ false → IsStaffed world → AreReady world
+ready-started : (line : Line) (world : World) → IsScriptSession line.session → session_waits world line.session ≡ false → IsStaffed world → AreReady world
     → AreReady (started line world).world × All (IsOfThisLine line world (started line world).world) (started line world).told
 ready-started line world is rests staffed ready = (
   each (λ w p. IsReady p.session) (ready-untouched session world.core end.1 end.0 orderly untouched) (λ w there _. ready w there),
@@ -142,7 +142,7 @@ ready-started line world is rests staffed ready = (
   end : Pause × Core
   end = outcome_of outcome program world.core
 
-  each : (P : ℕ → Player → Type 0) → P line.session (record { session = session_at end.0; line = line.number })
+  each : (P : ℕ → Player → Type 0) → P line.session (record { session = session_of_pause end.0; line = line.number })
       → ((w : ℕ) → IsScriptSession w → w ≢ line.session → P w (player_at w world))
       → (w : ℕ) → IsScriptSession w → P w (player_at w (started line world).world)
   each = plays-each line.number line.session program world is staffed
@@ -155,8 +155,8 @@ ready-started line world is rests staffed ready = (
       let speaks = subst (SpeaksFor world.core) (sym (staffed.named line.session is)) (staffed.speaks line.session is.0 is.1) in
       ((rows_keep_sound session).1 line.statement world.core speaks).0
 
-  orderly : IsOrderly end.0
-  orderly = each-outcome IsOrderly outcome program world.core ((stay_tidy session).0 line.statement tidy)
+  orderly : EndsTidy end.0
+  orderly = each-outcome EndsTidy outcome program world.core ((stay_tidy session).0 line.statement tidy)
 
   untouched : IsUntouched session world.core end.0 end.1
   untouched = statements_untouched line.statement session world.core end.1 end.0 tidy run
@@ -171,10 +171,10 @@ keeps-ready = record {
 }
 
 told-asked : (line : Line) (world : World) → IsScriptSession line.session → IsKept AreReady world
-    → All (IsOfThisLine line world (asked line world).world) (asked line world).told
+    → All (IsOfThisLine line world (ask_session line world).world) (ask_session line world).told
 told-asked line world is kept =
     asked-by (λ scene. All (IsOfThisLine line world scene.world) scene.told) line world
-    (none (timed_out line.session world) (Has_ended reply.Ok) refl) (none world Busy refl) (λ e. (ready-started line world is e kept.staffed kept.so).1) where
+    (none (after_timeout line.session world) (Has_ended reply.Ok) refl) (none world Busy refl) (λ e. (ready-started line world is e kept.staffed kept.so).1) where
       -- a session that waits is told no early refusal
       none : (after : World) (news : News) → is_early_refusal news ≡ false → All (IsOfThisLine line world after) (telling line.number line.session news after).told
       none after news is = All-cons (IsOfThisLine line world after) _ [] (λ early. absurd (false≢true (sym is ∙ early))) (All-nil (IsOfThisLine line world after))
@@ -183,7 +183,7 @@ told-asked line world is kept =
 abbrev IsOfLineFrom : List Line → World → Told → Type 0
 IsOfLineFrom lines world told =
     IsTrue (is_early_refusal told.news) → (n : ℕ) × (line : Line) × (more : List Line) × (drop n lines ≡ line ∷ more) × (told.line ≡ line.number)
-    × (told.who ≡ line.session) × (let before = (lines_played (take n lines) world).world in IsSameWorld before (asked line before).world)
+    × (told.who ≡ line.session) × (let before = (lines_played (take n lines) world).world in IsSameWorld before (ask_session line before).world)
 
 -- those that are told as the first line is played, and those that are told later
 told-line : (line : Line) (lines : List Line) (world : World) → IsScriptSession line.session → IsKept AreReady world
@@ -191,21 +191,21 @@ told-line : (line : Line) (lines : List Line) (world : World) → IsScriptSessio
     → All (IsOfLineFrom (line ∷ lines) world) (lines_played (line ∷ lines) world).told
 told-line line lines world here kept others =
     All-append P (line_played line world).told (lines_played lines (line_played line world).world).told
-    (All-append P (asked line world).told (settling most_turns after).told first later) rest
+    (All-append P (ask_session line world).told (continuing_settled most_turns after).told first later) rest
   where
     P : Told → Type 0
     P = IsOfLineFrom (line ∷ lines) world
 
     after : World
-    after = (asked line world).world
+    after = (ask_session line world).world
 
-    first : All P (asked line world).told
+    first : All P (ask_session line world).told
     first k d inside = λ early. let h = told-asked line world here kept k d inside early in (zero, line, lines, refl, h.0, h.1, h.2)
 
-    settled : All IsNoRefusal (settling most_turns after).told
+    settled : All IsNoRefusal (continuing_settled most_turns after).told
     settled = (kept-settling AreReady IsNoRefusal keeps-ready most_turns after (kept-asked AreReady IsNoRefusal keeps-ready line world here kept)).1
 
-    later : All P (settling most_turns after).told
+    later : All P (continuing_settled most_turns after).told
     later k d inside = λ early. absurd (false≢true (sym (settled k d inside) ∙ early))
 
     rest : All P (lines_played lines (line_played line world).world).told

@@ -14,9 +14,9 @@ use Rattle.mdl_context.specs.declared.request.Resume.{Resume}
 use Rattle.mdl_context.specs.declared.request.Resume.TheVariants as resume
 use Rattle.mdl_context.specs.declared.request.Tried.{Tried}
 use Rattle.mdl_context.specs.declared.request.Tried.TheVariants as try_as
-use Rattle.mdl_context.specs.Contexts.{ContextView, last_ticket, mark_of, waits_for_user_lock}
-use Rattle.mdl_context.specs.Gains.{refusal_of}
-use Rattle.mdl_context.specs.Releases.{giving_up, releasing}
+use Rattle.mdl_context.specs.Contexts.{ContextView, current_mark, last_ticket, waits_for_user_lock}
+use Rattle.mdl_context.specs.Gains.{refusal_answered}
+use Rattle.mdl_context.specs.Releases.{releasing, releasing_tickets}
 use Rattle.mdl_context.specs.Requests.{Outcome, acquiring, trying}
 use Rattle.mdl_context.specs.Upgrades.{upgrading, downgrading}
 use Rattle.mdl_context.specs.Waits.{giving_up_wait}
@@ -133,21 +133,21 @@ module _ (These : List ℕ → Type 0) (P : Pause → Type 0) (mark : Mark) (E :
   so-read : (session : Session) (more : Standing → Program Pause) → ((standing : Standing) → So (more standing)) → (answer : Answer)
       → So (playing.read_answered mark session more answer)
   so-read session more made (Reads version definition) = made (record { version = version; definition = definition })
-  so-read session more made answer = so-closing (ending_of_refusal (refusal_of answer)) session (rules.endings.refused (refusal_of answer))
+  so-read session more made answer = so-closing (ending_of_refusal (refusal_answered answer)) session (rules.endings.refused (refusal_answered answer))
 
   so-change : (session : Session) (more : Program Pause) → So more → (answer : Answer) → So (playing.change_answered mark session more answer)
   so-change session more made (Changed version) = made
-  so-change session more made answer = so-closing (ending_of_refusal (refusal_of answer)) session (rules.endings.refused (refusal_of answer))
+  so-change session more made answer = so-closing (ending_of_refusal (refusal_answered answer)) session (rules.endings.refused (refusal_answered answer))
 
   so-tables : (who : ℕ) (schema : List ℕ) (session : Session) (more : List ℕ → Program Pause) → ((tables : List ℕ) → These tables → So (more tables))
       → (answer : Answer) → Told These (Tables_of who schema) answer → So (playing.tables_answered mark session more answer)
   so-tables who schema session more made (Tables tables) told = made tables told
-  so-tables who schema session more made answer told = so-closing (ending_of_refusal (refusal_of answer)) session (rules.endings.refused (refusal_of answer))
+  so-tables who schema session more made answer told = so-closing (ending_of_refusal (refusal_answered answer)) session (rules.endings.refused (refusal_answered answer))
 
   so-key : (session : Session) (more : KeyName → Program Pause) → ((key : KeyName) → So (more key)) → (answer : Answer)
       → So (playing.key_answered mark session more answer)
   so-key session more made (Key_is key) = made key
-  so-key session more made answer = so-closing (ending_of_refusal (refusal_of answer)) session (rules.endings.refused (refusal_of answer))
+  so-key session more made answer = so-closing (ending_of_refusal (refusal_answered answer)) session (rules.endings.refused (refusal_answered answer))
 
   -- all that may be asked for
   pub so-play : (asked : Row Reply) (session : Session) → R asked → So (play asked mark session)
@@ -158,7 +158,7 @@ module _ (These : List ℕ → Type 0) (P : Pause → Type 0) (mark : Mark) (E :
   so-play (row.Set change rest) session so =
       so-play rest (record session { state = change session.state }) (rules.follows (row.Set change rest) so)
   so-play (row.Here rest) session so =
-      let here = mark_of session.context.kept in so-play (rest here) session (rules.follows (row.Here rest) so here)
+      let here = current_mark session.context.kept in so-play (rest here) session (rules.follows (row.Here rest) so here)
   so-play (row.Acquire wish rest) session so =
       let more = λ (id : ℕ) (after : Session). play (rest id) mark after in
       by-then {A = Outcome Acquire} {B = Pause} (Told These) P (acquiring wish session.context) (playing.acquired wish rest mark session more)
@@ -179,7 +179,7 @@ module _ (These : List ℕ → Type 0) (P : Pause → Type 0) (mark : Mark) (E :
       by-then {A = Outcome (Unit {0})} {B = Pause} (Told These) P (downgrading id mode session.context) (λ outcome. play rest mark (with_context session outcome.1))
       (λ outcome. so-play rest (with_context session outcome.1) (rules.follows (row.Downgrade id mode rest) so))
   so-play (row.Give_up which rest) session so =
-      by-then {A = Outcome (Unit {0})} {B = Pause} (Told These) P (giving_up (which session.context.kept) session.context)
+      by-then {A = Outcome (Unit {0})} {B = Pause} (Told These) P (releasing_tickets (which session.context.kept) session.context)
       (λ outcome. play rest mark (with_context session outcome.1))
       (λ outcome. so-play rest (with_context session outcome.1) (rules.follows (row.Give_up which rest) so))
   so-play (row.Release id rest) session so =

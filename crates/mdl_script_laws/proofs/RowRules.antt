@@ -28,8 +28,8 @@ use Rattle.mdl_rows.specs.declared.reply.Reply.{Reply}
 use Rattle.mdl_rows.specs.declared.reply.Reply.TheVariants as reply
 use Rattle.mdl_rows.specs.KeyOrder.{in_key_order}
 use Rattle.mdl_rows.specs.Rows.{Row, Act, Give, Fail, Room, Look, Set, Here, Acquire, Try_acquire, Last, Give_up, Release, Read, Redefine, Tables_of, Key_of, Kill, ◌>>=◌, ◌>>◌, acquire_all, check, for_each, nothing, redefine, release, room, set, Keep, keep, Upgrade, Downgrade}
-use Rattle.mdl_rows.specs.KeyOrder.{ticket_of}
-use Rattle.mdl_rows.specs.States.{State, has_locked, opened, unlocked, without_read_lock, locking}
+use Rattle.mdl_rows.specs.KeyOrder.{locked_ticket}
+use Rattle.mdl_rows.specs.States.{State, has_locked, with_open_transaction, unlocked, without_read_lock, locking}
 use Rattle.mdl_rows.specs.Statements as rows
 use Rattle.mdl_script_laws.specs.RefusalsFirst.{is_early}
 
@@ -161,18 +161,18 @@ module _ (F : ErrorNumber → Type 0) (late : (number : ErrorNumber) → is_earl
       keeps-then F Any (check (not (rows.is_defined standing)) SchemaExists) (check (rows.has_version_left standing) VersionLimit)
       (keeps-check F (not (rows.is_defined standing)) SchemaExists (late SchemaExists refl)) (keeps-version standing)
 
-  keeps-told : (told : List KeyName) (places : List ℕ) → KeepsTo F Any (rows.keys_of told places)
+  keeps-told : (told : List KeyName) (places : List ℕ) → KeepsTo F Any (rows.keys_of_places told places)
   keeps-told told [] = tt
   keeps-told told (place ∷ places) = λ key. keeps-told (told ++ key ∷ []) places
 
-  keeps-free : (ticket : ℕ) → KeepsTo F Any (rows.is_free ticket)
+  keeps-free : (ticket : ℕ) → KeepsTo F Any (rows.check_absent ticket)
   keeps-free ticket = λ standing. keeps-check F (not (rows.is_defined standing)) TableExists (late TableExists refl)
 
   keeps-definition : (found : Option Definition) → KeepsTo F Any (rows.has_definition found)
   keeps-definition (Some definition) = tt
   keeps-definition None = late NoSuchTable refl
 
-  keeps-fault : (fault : Option DefError) → KeepsTo F Any (rows.unless_fault fault)
+  keeps-fault : (fault : Option DefError) → KeepsTo F Any (rows.check_fault fault)
   keeps-fault None = tt
   keeps-fault (Some one) = by one where
     by : (one : DefError) → F (rows.fault_number one)
@@ -185,12 +185,12 @@ module _ (F : ErrorNumber → Type 0) (late : (number : ErrorNumber) → is_earl
   keeps-change : (change : Change) (table : ℕ) → KeepsTo F Any (rows.check_change change table)
   keeps-change change table = λ standing.
       let fault = change_fault standing.definition change in
-      keeps-then F Any (rows.unless_fault fault) (check (rows.has_version_left standing) VersionLimit) (keeps-fault fault) (keeps-version standing)
+      keeps-then F Any (rows.check_fault fault) (check (rows.has_version_left standing) VersionLimit) (keeps-fault fault) (keeps-version standing)
 
   -- those that are told that it is done
   module _ (P : Reply → Type 0) (ok : P reply.Ok) where
     pub keeps-begin : KeepsTo F P rows.begin_after_commit
-    keeps-begin = keeps-then F P rows.unlock_tables (set opened >> Give reply.Ok) keeps-unlock ((λ s u e. refl), ok)
+    keeps-begin = keeps-then F P rows.unlock_tables (set with_open_transaction >> Give reply.Ok) keeps-unlock ((λ s u e. refl), ok)
 
     pub keeps-unlock_all : KeepsTo F P rows.unlock
     keeps-unlock_all =
@@ -253,7 +253,7 @@ module _ (F : ErrorNumber → Type 0) (late : (number : ErrorNumber) → is_earl
     keeps-rename_under : (schema from to : ℕ) → KeepsTo F P (rows.rename_under schema from to)
     keeps-rename_under schema from to =
         let moving : Definition → Row Reply = λ definition. rows.check_schema schema >> rows.move_definition definition from to in
-        keeps-then F P (rows.is_free to) (rows.definition_under from >>= moving) (keeps-free to)
+        keeps-then F P (rows.check_absent to) (rows.definition_under from >>= moving) (keeps-free to)
         (keeps-bind F Any P (rows.definition_under from) moving (λ standing. keeps-definition standing.definition)
         (λ definition _. keeps-then F P (rows.check_schema schema) (rows.move_definition definition from to)
         (λ over. keeps-check F (rows.is_defined over) UnknownDatabase (late UnknownDatabase refl)) (keeps-move definition from to)))
@@ -261,14 +261,14 @@ module _ (F : ErrorNumber → Type 0) (late : (number : ErrorNumber) → is_earl
     keeps-lock_and_rename : (from to : KeyName) (schema : ℕ) → KeepsTo F P (rows.lock_and_rename from to schema)
     keeps-lock_and_rename from to schema =
         let names = rows.both_names from to in
-        keeps-bind F Any P (acquire_all (map rows.ddl_lock names)) (λ tickets. rows.rename_under schema (ticket_of from names tickets) (ticket_of to names tickets))
-        (keeps-locks F (map rows.ddl_lock names)) (λ tickets _. keeps-rename_under schema (ticket_of from names tickets) (ticket_of to names tickets))
+        keeps-bind F Any P (acquire_all (map rows.ddl_lock names)) (λ tickets. rows.rename_under schema (locked_ticket from names tickets) (locked_ticket to names tickets))
+        (keeps-locks F (map rows.ddl_lock names)) (λ tickets _. keeps-rename_under schema (locked_ticket from names tickets) (locked_ticket to names tickets))
 
     pub keeps-rename : (from to : KeyName) → KeepsTo F P (rows.rename_after_commit from to)
     keeps-rename from to =
         let scopes = rows.both_scopes from to in
-        keeps-bind F Any P (acquire_all (map rows.ddl_lock scopes)) (λ tickets. rows.lock_and_rename from to (ticket_of (rows.schema_of to) scopes tickets))
-        (keeps-locks F (map rows.ddl_lock scopes)) (λ tickets _. keeps-lock_and_rename from to (ticket_of (rows.schema_of to) scopes tickets))
+        keeps-bind F Any P (acquire_all (map rows.ddl_lock scopes)) (λ tickets. rows.lock_and_rename from to (locked_ticket (rows.schema_of to) scopes tickets))
+        (keeps-locks F (map rows.ddl_lock scopes)) (λ tickets _. keeps-lock_and_rename from to (locked_ticket (rows.schema_of to) scopes tickets))
 
     keeps-alter_by : (how : Algorithm) (alteration : Alteration) (table : ℕ) → KeepsTo F P (rows.alter_by how alteration table)
     keeps-alter_by Copy alteration table = λ copied alone. ok

@@ -14,11 +14,11 @@ use Rattle.mdl_syntax.specs.declared.statement.Statement.{Statement}
 use Rattle.mdl_syntax.specs.declared.statement.Statement.TheVariants.{Timeout}
 use Rattle.mdl_rows.specs.declared.reply.Reply.TheVariants as reply
 use Rattle.mdl_rows.specs.Endings.{Pause}
-use Rattle.mdl_rows.specs.MemoryLaws.{session_at}
+use Rattle.mdl_rows.specs.MemoryLaws.{session_of_pause}
 use Rattle.mdl_script.specs.declared.told.News.{News}
 use Rattle.mdl_script.specs.declared.told.News.TheVariants.{Busy, Ends}
 use Rattle.mdl_script.specs.declared.told.Told.{Told}
-use Rattle.mdl_script.specs.Worlds.{Player, Scene, World, asked, asked_waiting, first_settled, first_world, going, going_first, is_waiting, line_played, lines_played, most_turns, newcomer, played, player_at, sessions, settling, started, timed_out}
+use Rattle.mdl_script.specs.Worlds.{Player, Scene, World, after_timeout, ask_session, asked_waiting, continuing_settled, first_settled, first_world, going, going_first, line_played, lines_played, most_turns, played, player_at, session_waits, sessions, started, unasked_player}
 use Rattle.mdl_script.proofs.SoundLemmas.{IsStaffed, first-session, staffed-going, staffed-started, staffed-timed_out}
 
 -- ---- a statement is played
@@ -26,15 +26,15 @@ use Rattle.mdl_script.proofs.SoundLemmas.{IsStaffed, first-session, staffed-goin
 module _ (line who : ℕ) (program : Program Pause) (world : World) (is : IsScriptSession who) (staffed : IsStaffed world) where
   -- the session that plays it, as far as it comes
   abbrev next : Player
-  next = record { session = session_at (outcome_of outcome program world.core).0; line = line }
+  next = record { session = session_of_pause (outcome_of outcome program world.core).0; line = line }
 
   pub plays-same : player_at who (played line who program world).world ≡ next
-  plays-same = get_or-set_same world.players (who - 1) next (newcomer who) (subst (λ n. who - 1 < n) (sym staffed.all) (omega (arith, is.0, is.1)))
+  plays-same = get_or-set_same world.players (who - 1) next (unasked_player who) (subst (λ n. who - 1 < n) (sym staffed.all) (omega (arith, is.0, is.1)))
 
   -- and the others are where they were
   pub plays-other : (w : ℕ) → IsScriptSession w → w ≢ who → player_at w (played line who program world).world ≡ player_at w world
   plays-other w there apart =
-      get_or-set_other world.players (who - 1) (w - 1) next (newcomer w) (λ e. apart (omega (arith, e, is.0, there.0)))
+      get_or-set_other world.players (who - 1) (w - 1) next (unasked_player w) (λ e. apart (omega (arith, e, is.0, there.0)))
 
   -- what is so of this one then, and of each other as it was, is so of each
   pub plays-each : (P : ℕ → Player → Type 0) → P who next → ((w : ℕ) → IsScriptSession w → w ≢ who → P w (player_at w world))
@@ -53,14 +53,14 @@ telling line who news world = record { told = record { line = line; who = who; n
 -- what is so as the patience of a session that waits ends, as one that waits is busy, and as one that doesn't wait starts its
 -- statement, is so as a session is asked
 pub asked-by : (P : Scene → Type 0) (line : Line) (world : World)
-    → P (telling line.number line.session (Ends reply.Ok) (timed_out line.session world)) → P (telling line.number line.session Busy world)
-    → (is_waiting world line.session ≡ false → P (started line world)) → P (asked line world)
-asked-by P line world ends busy starts = by (is_waiting world line.session) refl where
+    → P (telling line.number line.session (Ends reply.Ok) (after_timeout line.session world)) → P (telling line.number line.session Busy world)
+    → (session_waits world line.session ≡ false → P (started line world)) → P (ask_session line world)
+asked-by P line world ends busy starts = by (session_waits world line.session) refl where
   waiting : (statement : Statement) → P (asked_waiting statement line.number line.session world)
   waiting Timeout = ends
   waiting _ = busy
 
-  by : (waits : Bool) → is_waiting world line.session ≡ waits
+  by : (waits : Bool) → session_waits world line.session ≡ waits
       → P (if waits then asked_waiting line.statement line.number line.session world else started line world)
   by true e = waiting line.statement
   by false e = starts e
@@ -79,10 +79,10 @@ lines-by L P step (line ∷ lines) world are so =
 -- what is so of a world stays so as a statement starts in a session that doesn't wait, as one whose turn has come goes on, of which only
 -- such things are told, and as the patience of one ends
 pub record Keeps (I : World → Type 0) (T : Told → Type 0) : Type 0 where
-  pub starts : (line : Line) (world : World) → IsScriptSession line.session → is_waiting world line.session ≡ false → IsStaffed world → I world
+  pub starts : (line : Line) (world : World) → IsScriptSession line.session → session_waits world line.session ≡ false → IsStaffed world → I world
       → I (started line world).world
   pub goes : (who : ℕ) (world : World) → first_settled world ≡ Some who → IsStaffed world → I world → I (going who world).world × All T (going who world).told
-  pub ends : (who : ℕ) (world : World) → IsScriptSession who → IsStaffed world → I world → I (timed_out who world)
+  pub ends : (who : ℕ) (world : World) → IsScriptSession who → IsStaffed world → I world → I (after_timeout who world)
 
 -- whatever is told
 abbrev pub Anything : Told → Type 0
@@ -94,7 +94,7 @@ pub record IsKept (I : World → Type 0) (world : World) : Type 0 where
   pub so : I world
 
 module _ (I : World → Type 0) (T : Told → Type 0) (keeps : Keeps I T) where
-  pub kept-asked : (line : Line) (world : World) → IsScriptSession line.session → IsKept I world → IsKept I (asked line world).world
+  pub kept-asked : (line : Line) (world : World) → IsScriptSession line.session → IsKept I world → IsKept I (ask_session line world).world
   kept-asked line world is kept =
       asked-by (λ scene. IsKept I scene.world) line world
       (record { staffed = staffed-timed_out line.session world is kept.staffed; so = keeps.ends line.session world is kept.staffed kept.so }) kept
@@ -114,13 +114,13 @@ module _ (I : World → Type 0) (T : Told → Type 0) (keeps : Keeps I T) where
       let later = rest (going who world).world (record { staffed = staffed; so = gone.0 }) in
       (later.0, All-append T (going who world).told (more (going who world).world).told gone.1 later.1)
 
-  pub kept-settling : (n : ℕ) (world : World) → IsKept I world → IsKeptBy (settling n world)
-  unfolding settling
+  pub kept-settling : (n : ℕ) (world : World) → IsKept I world → IsKeptBy (continuing_settled n world)
+  unfolding continuing_settled
   kept-settling zero world kept = (kept, All-nil T)
-  kept-settling (suc n) world kept = kept-going (first_settled world) world (settling n) refl kept (λ after there. kept-settling n after there)
+  kept-settling (suc n) world kept = kept-going (first_settled world) world (continuing_settled n) refl kept (λ after there. kept-settling n after there)
 
   pub kept-line : (line : Line) (world : World) → IsScriptSession line.session → IsKept I world → IsKept I (line_played line world).world
-  kept-line line world is kept = (kept-settling most_turns (asked line world).world (kept-asked line world is kept)).0
+  kept-line line world is kept = (kept-settling most_turns (ask_session line world).world (kept-asked line world is kept)).0
 
   pub kept-lines : (n : ℕ) (lines : List Line) (world : World) → All (λ line. IsScriptSession line.session) lines → IsKept I world
       → IsKept I (lines_played (take n lines) world).world
@@ -130,6 +130,6 @@ module _ (I : World → Type 0) (T : Told → Type 0) (keeps : Keeps I T) where
 -- ---- the world at first
 
 -- a session that was asked for nothing yet
-pub new-session : (who : ℕ) → IsScriptSession who → player_at who first_world ≡ newcomer who
+pub new-session : (who : ℕ) → IsScriptSession who → player_at who first_world ≡ unasked_player who
 unfolding sessions
-new-session who session = get_or-map-range_with_len newcomer 1 64 (who - 1) who (newcomer who) (omega (arith, session.0, session.1)) (omega (arith, session.0))
+new-session who session = get_or-map-range_with_len unasked_player 1 64 (who - 1) who (unasked_player who) (omega (arith, session.0, session.1)) (omega (arith, session.0))

@@ -11,7 +11,7 @@ use Rattle.mdl_calls.specs.declared.answers.Held.{Held}
 use Rattle.mdl_calls.specs.SessionLocks.{Wait}
 use Rattle.mdl_calls.specs.Words.{Answer, At_place, Granted, Would_wait, Waits, Resolve, Try_now, Begin_wait, Settle_timeout, End_wait, Release, Clone_ticket, SessionLocks, IsRising, is_waiting, ticket_held, is_number, gaining, cloning, winning, Program, Give, Ask, Grow, EachCall, SearchEnd, Over, Cut_off, Failed, seeking, most_searches}
 use Rattle.mdl_calls.proofs.SeekingLemmas.{calls_seeking}
-use Rattle.mdl_core.specs.CoreJoins.{Joins, Knows, SpeaksFor, own_at}
+use Rattle.mdl_core.specs.CoreJoins.{Joins, Knows, SpeaksFor, locks_at}
 use Rattle.mdl_core.specs.Cores.{Core}
 use Rattle.mdl_core.proofs.CallLaws.{core-changes, core-explains, core-resolves, core-rising}
 use Rattle.mdl_core.proofs.CoreServing.{found-first}
@@ -24,7 +24,7 @@ use Rattle.mdl_context.specs.declared.request.Acquire.{Acquire}
 use Rattle.mdl_context.specs.declared.request.Tried.{Tried}
 use Rattle.mdl_context.specs.Contexts.{ContextView, held_of, place_known}
 use Rattle.mdl_context.specs.Gains as gains
-use Rattle.mdl_context.specs.Holdings.{earliest, kept_of, wanted_of}
+use Rattle.mdl_context.specs.Holdings.{earliest, kept_ticket, wanted_of}
 use Rattle.mdl_context.specs.Requests as requests
 use Rattle.mdl_context.specs.Requests.{Outcome}
 use Rattle.mdl_context.proofs.PlaceLemmas.{suffices-at, equal}
@@ -58,17 +58,17 @@ pub record IsGained (a : Core) (who id place : ℕ) (b : Core) : Type 0 where
   pub spares : Spares who none a b
   pub fresh : IsFresh a who id
   pub ticket : Held
-  pub there : Contains (own_at b who).held ticket
+  pub there : Contains (locks_at b who).held ticket
   pub number : ticket.id ≡ id
   pub at : ticket.place ≡ place
 
-pub gained-by : (a b : Core) (who id place : ℕ) (mode : Mode) → Spares who none a b → own_at b who ≡ gaining id place mode (own_at a who)
+pub gained-by : (a b : Core) (who id place : ℕ) (mode : Mode) → Spares who none a b → locks_at b who ≡ gaining id place mode (locks_at a who)
     → IsGained a who id place b
 gained-by a b who id place mode spares own = record {
   spares = spares;
-  fresh = gained-fresh id place mode (own_at a who) (subst IsRising own (core-rising b who spares.speaks));
+  fresh = gained-fresh id place mode (locks_at a who) (subst IsRising own (core-rising b who spares.speaks));
   ticket = record { id = id; place = place; mode = mode };
-  there = subst (λ (o : SessionLocks). Contains o.held (record { id = id; place = place; mode = mode })) (sym own) (gained-there id place mode (own_at a who));
+  there = subst (λ (o : SessionLocks). Contains o.held (record { id = id; place = place; mode = mode })) (sym own) (gained-there id place mode (locks_at a who));
   number = refl;
   at = refl;
 }
@@ -88,28 +88,28 @@ gained-late a b c who id place spares gained = record {
 
 -- it ends with a ticket where the session waited
 pub won-by : (a b : Core) (who id : ℕ) → SpeaksFor a who → Joins a (End_wait who) (Granted id) b
-    → (w : Wait) × ((own_at a who).wait ≡ Some w) × IsGained a who id w.place b
-won-by a b who id speaks joins = go (own_at a who).wait refl
+    → (w : Wait) × ((locks_at a who).wait ≡ Some w) × IsGained a who id w.place b
+won-by a b who id speaks joins = go (locks_at a who).wait refl
   where
     spares : Spares who none a b
     spares = spares-call who none a b (End_wait who) (Granted id) speaks refl tt joins
 
-    waits_there : is_waiting (own_at a who) ≡ true
+    waits_there : is_waiting (locks_at a who) ≡ true
     waits_there = core-explains a b (End_wait who) (Granted id) who refl joins
 
-    go : (o : Option Wait) → (own_at a who).wait ≡ o → (w : Wait) × ((own_at a who).wait ≡ Some w) × IsGained a who id w.place b
+    go : (o : Option Wait) → (locks_at a who).wait ≡ o → (w : Wait) × ((locks_at a who).wait ≡ Some w) × IsGained a who id w.place b
     go None e = let f : false ≡ true = sym (ap is_some e) ∙ waits_there in cc
     go (Some w) e =
-        let own : own_at b who ≡ winning id (Some w) (own_at a who) = core-changes a b (End_wait who) (Granted id) who refl joins
-        ∙ ap (λ o. winning id o (own_at a who)) e in (
+        let own : locks_at b who ≡ winning id (Some w) (locks_at a who) = core-changes a b (End_wait who) (Granted id) who refl joins
+        ∙ ap (λ o. winning id o (locks_at a who)) e in (
           w,
           e,
           record {
             spares = spares;
-            fresh = gained-fresh id w.place w.mode (record { held = (own_at a who).held; wait = None }) (subst IsRising own (core-rising b who spares.speaks));
+            fresh = gained-fresh id w.place w.mode (record { held = (locks_at a who).held; wait = None }) (subst IsRising own (core-rising b who spares.speaks));
             ticket = record { id = id; place = w.place; mode = w.mode };
             there = subst (λ (o : SessionLocks). Contains o.held (record { id = id; place = w.place; mode = w.mode })) (sym own)
-                (gained-there id w.place w.mode (record { held = (own_at a who).held; wait = None }));
+                (gained-there id w.place w.mode (record { held = (locks_at a who).held; wait = None }));
             number = refl;
             at = refl;
           },
@@ -155,17 +155,17 @@ module _ (a : Core) (context : ContextView) (place : ℕ) (request : Wish) (fits
   Asked outcome b = Followed a context b outcome.1
 
   -- a ticket was had
-  asked-gained : (b : Core) (id : ℕ) → IsGained a context.who id place b → Followed a context b (requests.keeping id place request context)
+  asked-gained : (b : Core) (id : ℕ) → IsGained a context.who id place b → Followed a context b (requests.keeping_ticket id place request context)
   asked-gained b id gained = record {
-    fits = subst (λ wait. Fits b (record { who = context.who; kept = context.kept ++ kept_of id place request ∷ []; known = context.known; wait = wait })) (sym idle)
-        (fits-more a b context (kept_of id place request) gained.ticket fits gained.spares gained.fresh gained.there gained.number gained.at);
+    fits = subst (λ wait. Fits b (record { who = context.who; kept = context.kept ++ kept_ticket id place request ∷ []; known = context.known; wait = wait })) (sym idle)
+        (fits-more a b context (kept_ticket id place request) gained.ticket fits gained.spares gained.fresh gained.there gained.number gained.at);
     spares = gained.spares;
     who = refl;
-    grown = inr (kept_of id place request, gained.fresh, refl);
+    grown = inr (kept_ticket id place request, gained.fresh, refl);
   }
 
   -- a wait has begun
-  asked-waits : (b : Core) (searched : Bool) → Spares context.who none a b → ((w : Wait) → (own_at b context.who).wait ≡ Some w → w.place ≡ place)
+  asked-waits : (b : Core) (searched : Bool) → Spares context.who none a b → ((w : Wait) → (locks_at b context.who).wait ≡ Some w → w.place ≡ place)
       → Followed a context b (requests.awaiting place request searched context)
   asked-waits b searched spares at =
       followed-waiting a b context (Some (wanted_of place request searched)) fits spares
@@ -175,7 +175,7 @@ module _ (a : Core) (context : ContextView) (place : ℕ) (request : Wish) (fits
   asked-refused : (b : Core) → Spares context.who none a b → Followed a context b context
   asked-refused b spares = followed-waiting a b context context.wait fits spares (λ wanted w e f. cc)
 
-  asked-sought : (b : Core) (number : ℕ) (end : SearchEnd) → Spares context.who none a b → ((w : Wait) → (own_at b context.who).wait ≡ Some w → w.place ≡ place)
+  asked-sought : (b : Core) (number : ℕ) (end : SearchEnd) → Spares context.who none a b → ((w : Wait) → (locks_at b context.who).wait ≡ Some w → w.place ≡ place)
       → Leads (λ got c. Asked (requests.outcome_got place request context got) c) (gains.wish_sought context.who number end) b
   asked-sought b number Over spares at = asked-waits b true spares at
   asked-sought b number Cut_off spares at = asked-waits b false spares at
@@ -218,16 +218,16 @@ module _ (a : Core) (context : ContextView) (place : ℕ) (request : Wish) (fits
 
   -- a ticket that may be cloned is held at the place
   abbrev IsBacked : Held → Type 0
-  IsBacked ticket = (t : Held) × Contains (own_at a context.who).held t × (t.id ≡ ticket.id) × (t.place ≡ place)
+  IsBacked ticket = (t : Held) × Contains (locks_at a context.who).held t × (t.id ≡ ticket.id) × (t.place ≡ place)
 
   -- a clone of it was had
   asked-cloned : (ticket : Held) (b : Core) (copy : ℕ) → IsBacked ticket → Joins a (Clone_ticket context.who ticket.id request.mode) (Granted copy) b
-      → Followed a context b (requests.keeping copy place request context)
+      → Followed a context b (requests.keeping_ticket copy place request context)
   asked-cloned ticket b copy backed joins =
       let step = spares-call context.who none a b (Clone_ticket context.who ticket.id request.mode) (Granted copy) fits.speaks refl tt joins in
-      let held = held-number (own_at a context.who) backed.0 ticket.id (core-rising a context.who fits.speaks) backed.1 backed.2 in
+      let held = held-number (locks_at a context.who) backed.0 ticket.id (core-rising a context.who fits.speaks) backed.1 backed.2 in
       let own = core-changes a b (Clone_ticket context.who ticket.id request.mode) (Granted copy) context.who refl joins
-      ∙ ap (λ o. cloning copy request.mode o (own_at a context.who)) held in
+      ∙ ap (λ o. cloning copy request.mode o (locks_at a context.who)) held in
       asked-gained b copy (subst (λ p. IsGained a context.who copy p b) backed.3 (gained-by a b context.who copy (backed.0).place request.mode step own))
 
   asked-copy : (ticket : Held) (b : Core) (answer : Answer) → IsBacked ticket → Joins a (Clone_ticket context.who ticket.id request.mode) answer b

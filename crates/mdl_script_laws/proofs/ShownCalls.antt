@@ -9,7 +9,7 @@ use Rattle.mdl_calls.specs.declared.answers.Held.{Held}
 use Rattle.mdl_calls.specs.SessionLocks.{Wait}
 use Rattle.mdl_calls.specs.Words.{Answer, Granted, Lost, Done, Call, caller, Try_now, Begin_wait, End_wait, Release, Clone_ticket, Upgrade_now, Merge, Downgrade, Change_definition, Unpin, SessionLocks, own_after, ticket_held, is_number, cloning, winning, redefined_place, Program, Give, Ask, Grow, ◌>>=◌, Each, EachCall, outcome_of}
 use Rattle.mdl_core.specs.CoreCalls.{outcome}
-use Rattle.mdl_core.specs.CoreJoins.{Joins, Knows, SpeaksFor, own_at}
+use Rattle.mdl_core.specs.CoreJoins.{Joins, Knows, SpeaksFor, locks_at}
 use Rattle.mdl_core.specs.Cores.{Core, has_key, standing_at}
 use Rattle.mdl_core.specs.RunLaws.{IsMadeFor}
 use Rattle.mdl_core.proofs.CallLaws.{core-changes, core-keeps, core-others, core-remembers}
@@ -65,15 +65,15 @@ mild-keeps gone call answer own place mild e = cc
 -- from the one space to the other a session keeps its tickets, but those of these numbers, and what stands under them stands
 pub record Spares (who : ℕ) (gone : ℕ → Type 0) (a b : Core) : Type 0 where
   pub speaks : SpeaksFor b who
-  pub held : (t : Held) → Contains (own_at a who).held t → (gone t.id → ⊥) → Contains (own_at b who).held t
+  pub held : (t : Held) → Contains (locks_at a who).held t → (gone t.id → ⊥) → Contains (locks_at b who).held t
   pub known : (place : ℕ) (key : KeyName) → Knows a who place key → Knows b who place key
-  pub stands : (t : Held) → Contains (own_at a who).held t → (gone t.id → ⊥) → standing_at t.place b ≡ standing_at t.place a
+  pub stands : (t : Held) → Contains (locks_at a who).held t → (gone t.id → ⊥) → standing_at t.place b ≡ standing_at t.place a
 
 -- no number
 abbrev pub none : ℕ → Type 0
 none id = ⊥
 
-pub key-held : (a : Core) (who : ℕ) (t : Held) → SpeaksFor a who → Contains (own_at a who).held t → has_key t.place a ≡ true
+pub key-held : (a : Core) (who : ℕ) (t : Held) → SpeaksFor a who → Contains (locks_at a who).held t → has_key t.place a ≡ true
 key-held a who t speaks among = speaks.1.tied.placed who t speaks.0 (inl (inl among))
 
 pub spares-here : (who : ℕ) (gone : ℕ → Type 0) (a : Core) → SpeaksFor a who → Spares who gone a a
@@ -95,13 +95,13 @@ spares-call who gone a b call answer speaks mine mild joins = record {
   held = held;
   known = λ place key knows. core-remembers a b call answer who place key speaks (λ e done. subst (IsMild gone) e mild) joins knows;
   stands = λ t among stays. (core-stands a b call answer who t.place (standing_at t.place a) speaks
-      (λ called there. mild-keeps gone call answer (own_at a who) t.place mild there) (t, held t among stays, refl) joins
+      (λ called there. mild-keeps gone call answer (locks_at a who) t.place mild there) (t, held t among stays, refl) joins
       ((t, among, refl), key-held a who t speaks among, refl)).2;
 }
   where
-    held : (t : Held) → Contains (own_at a who).held t → (gone t.id → ⊥) → Contains (own_at b who).held t
+    held : (t : Held) → Contains (locks_at a who).held t → (gone t.id → ⊥) → Contains (locks_at b who).held t
     held t among stays =
-        subst (λ (o : SessionLocks). Contains o.held t) (sym (core-changes a b call answer who mine joins)) (held-after gone call answer (own_at a who) t mild stays among)
+        subst (λ (o : SessionLocks). Contains o.held t) (sym (core-changes a b call answer who mine joins)) (held-after gone call answer (locks_at a who) t mild stays among)
 
 -- a call of anybody else
 pub spares-other : (who : ℕ) (gone : ℕ → Type 0) (a b : Core) (call : Call) (answer : Answer) → SpeaksFor a who → (caller call ≡ Some who → ⊥)
@@ -114,7 +114,7 @@ spares-other who gone a b call answer speaks other joins = record {
       (λ called there. other called) (t, held t among stays, refl) joins ((t, among, refl), key-held a who t speaks among, refl)).2;
 }
   where
-    held : (t : Held) → Contains (own_at a who).held t → (gone t.id → ⊥) → Contains (own_at b who).held t
+    held : (t : Held) → Contains (locks_at a who).held t → (gone t.id → ⊥) → Contains (locks_at b who).held t
     held t among stays = subst (λ (o : SessionLocks). Contains o.held t) (sym (core-others a b call answer who speaks other joins)) among
 
 -- ---- the wait of a session
@@ -146,7 +146,7 @@ wait-after gone call answer own w mild begins e = e
 
 -- a session's wait is one that it had
 abbrev pub KeepsWait : ℕ → Core → Core → Type 0
-KeepsWait who a b = (w : Wait) → (own_at b who).wait ≡ Some w → (own_at a who).wait ≡ Some w
+KeepsWait who a b = (w : Wait) → (locks_at b who).wait ≡ Some w → (locks_at a who).wait ≡ Some w
 
 -- the session keeps its tickets but those of these numbers, what stands under them stands, and no wait has come
 abbrev pub Stays : ℕ → (ℕ → Type 0) → Core → Core → Type 0
@@ -166,7 +166,7 @@ pub stays-call : (who : ℕ) (gone : ℕ → Type 0) (a b : Core) (call : Call) 
     → Stays who gone a b
 stays-call who gone a b call answer speaks quiet joins = (
   spares-call who gone a b call answer speaks quiet.0 quiet.1 joins,
-  λ w e. wait-after gone call answer (own_at a who) w quiet.1 quiet.2 (subst (λ (o : SessionLocks). o.wait ≡ Some w) (core-changes a b call answer who quiet.0 joins) e),
+  λ w e. wait-after gone call answer (locks_at a who) w quiet.1 quiet.2 (subst (λ (o : SessionLocks). o.wait ≡ Some w) (core-changes a b call answer who quiet.0 joins) e),
 )
 
 -- a call of anybody else

@@ -12,7 +12,7 @@ use Rattle.mdl_system.proofs.OrderLemmas.{Contains-cons_cases, Contains-here}
 use Rattle.mdl_calls.specs.declared.answers.Held.{Held}
 use Rattle.mdl_calls.specs.SessionLocks.{Wait}
 use Rattle.mdl_calls.specs.Words.{SessionLocks, IsRising, are_rising, gaining}
-use Rattle.mdl_core.specs.CoreJoins.{Knows, SpeaksFor, own_at}
+use Rattle.mdl_core.specs.CoreJoins.{Knows, SpeaksFor, locks_at}
 use Rattle.mdl_core.specs.Cores.{Core}
 use Rattle.mdl_context.specs.declared.kept.Kept.{Kept}
 use Rattle.mdl_context.specs.declared.kept.Wanted.{Wanted}
@@ -39,7 +39,7 @@ below-last (y ∷ ys) x t rising among =
 
 -- a session holds no ticket of this number
 abbrev pub IsFresh : Core → ℕ → ℕ → Type 0
-IsFresh a who id = (t : Held) → Contains (own_at a who).held t → t.id ≢ id
+IsFresh a who id = (t : Held) → Contains (locks_at a who).held t → t.id ≢ id
 
 pub gained-fresh : (id place : ℕ) (mode : Mode) (own : SessionLocks) → IsRising (gaining id place mode own) → (t : Held) → Contains own.held t → t.id ≢ id
 gained-fresh id place mode own rising t among same = let lt = below-last own.held
@@ -54,10 +54,10 @@ gained-there id place mode own = Contains-append_right own.held (_ ∷ []) _ (Co
 -- the session knows the places of known keys, and waits where the context says
 pub record Fits (a : Core) (context : ContextView) : Type 0 where
   pub speaks : SpeaksFor a context.who
-  pub backed : (k : Kept) → Contains context.kept k → (t : Held) × Contains (own_at a context.who).held t × (t.id ≡ k.id) × (t.place ≡ k.place)
+  pub backed : (k : Kept) → Contains context.kept k → (t : Held) × Contains (locks_at a context.who).held t × (t.id ≡ k.id) × (t.place ≡ k.place)
   pub alone : (k other : Kept) → Contains context.kept k → Contains context.kept other → k.id ≡ other.id → k.duration ≡ other.duration
   pub known : (key : KeyName) (place : ℕ) → place_known key context.known ≡ Some place → Knows a context.who place key
-  pub wait : (wanted : Wanted) (w : Wait) → context.wait ≡ Some wanted → (own_at a context.who).wait ≡ Some w → w.place ≡ wanted.place
+  pub wait : (wanted : Wanted) (w : Wait) → context.wait ≡ Some wanted → (locks_at a context.who).wait ≡ Some w → w.place ≡ wanted.place
 
 -- fewer tickets are kept
 pub fits-fewer : (a b : Core) (context : ContextView) (gone : ℕ → Type 0) (p : Kept → Bool) → ((k : Kept) → p k ≡ true → gone k.id → ⊥) → Fits a context
@@ -91,7 +91,7 @@ fits-kept a context fits = record {
 
 -- the same are, with a wait where the session waits
 pub fits-waiting : (a b : Core) (context : ContextView) (wait : Option Wanted) → Fits a context → Spares context.who none a b
-    → ((wanted : Wanted) (w : Wait) → wait ≡ Some wanted → (own_at b context.who).wait ≡ Some w → w.place ≡ wanted.place)
+    → ((wanted : Wanted) (w : Wait) → wait ≡ Some wanted → (locks_at b context.who).wait ≡ Some w → w.place ≡ wanted.place)
     → Fits b (record context { wait = wait })
 fits-waiting a b context wait fits spares at = record {
   speaks = spares.speaks;
@@ -107,7 +107,7 @@ fits-same a b context fits stays = fits-waiting a b context context.wait fits st
 
 -- one more is, of a new number
 pub fits-more : (a b : Core) (context : ContextView) (new : Kept) (t : Held) → Fits a context → Spares context.who none a b → IsFresh a context.who new.id
-    → Contains (own_at b context.who).held t → t.id ≡ new.id → t.place ≡ new.place
+    → Contains (locks_at b context.who).held t → t.id ≡ new.id → t.place ≡ new.place
     → Fits b (record { who = context.who; kept = context.kept ++ new ∷ []; known = context.known; wait = None })
 fits-more a b context new t fits spares fresh there number place = record {
   speaks = spares.speaks;
@@ -147,7 +147,7 @@ pub followed-here : (a : Core) (context : ContextView) → Fits a context → Fo
 followed-here a context fits = record { fits = fits; spares = spares-here context.who none a fits.speaks; who = refl; grown = inl refl }
 
 pub followed-waiting : (a b : Core) (context : ContextView) (wait : Option Wanted) → Fits a context → Spares context.who none a b
-    → ((wanted : Wanted) (w : Wait) → wait ≡ Some wanted → (own_at b context.who).wait ≡ Some w → w.place ≡ wanted.place)
+    → ((wanted : Wanted) (w : Wait) → wait ≡ Some wanted → (locks_at b context.who).wait ≡ Some w → w.place ≡ wanted.place)
     → Followed a context b (record context { wait = wait })
 followed-waiting a b context wait fits spares at =
     record { fits = fits-waiting a b context wait fits spares at; spares = spares; who = refl; grown = inl refl }

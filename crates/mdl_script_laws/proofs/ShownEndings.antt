@@ -15,13 +15,13 @@ use Rattle.mdl_context.specs.declared.context_error.ContextError.{ContextError}
 use Rattle.mdl_context.specs.declared.context_error.ContextError.TheVariants.{Space}
 use Rattle.mdl_context.specs.declared.kept.Kept.{Kept}
 use Rattle.mdl_context.specs.declared.request.Mark.{Mark}
-use Rattle.mdl_context.specs.Contexts.{ContextView, beyond, held_for, lasts}
-use Rattle.mdl_context.specs.Releases.{giving_up, releasing}
+use Rattle.mdl_context.specs.Contexts.{ContextView, beyond, lasts, tickets_for}
+use Rattle.mdl_context.specs.Releases.{releasing, releasing_tickets}
 use Rattle.mdl_context.specs.Requests.{Outcome}
 use Rattle.mdl_rows.specs.declared.ending.Ending.{Ending}
 use Rattle.mdl_rows.specs.declared.ending.Ending.TheVariants.{Answers, Misses, Falls, Starves}
 use Rattle.mdl_rows.specs.declared.reply.TableShown.{TableShown}
-use Rattle.mdl_rows.specs.Endings.{closing, ended, ending_of_error, ending_of_loss, ending_of_refusal, gone_at, letting_go, state_after, without_half}
+use Rattle.mdl_rows.specs.Endings.{closing, ending_of_error, ending_of_loss, ending_of_refusal, gone_at, letting_go, pause_after, state_after, without_half}
 use Rattle.mdl_rows.specs.Sessions.{Session}
 use Rattle.mdl_rows.specs.States.{State, half_lock, lone_ticket, without_read_lock}
 use Rattle.mdl_script_laws.proofs.ListLemmas.{among-filter}
@@ -39,7 +39,7 @@ abbrev pub TellsAt : Ending → TableShown → Type 0
 TellsAt (Answers reply) x = Tells reply x
 TellsAt _ x = ⊥
 
-not_firm : (kept : List Kept) (k : Kept) (id : ℕ) → IsFirm kept id → Contains (held_for Statement kept) k → k.id ≡ id → ⊥
+not_firm : (kept : List Kept) (k : Kept) (id : ℕ) → IsFirm kept id → Contains (tickets_for Statement kept) k → k.id ≡ id → ⊥
 not_firm kept k id firm among e = let h = among-filter (lasts Statement) kept k among in let f = firm k h.0 e in let g = sym h.1 ∙ f in cc
 
 module _ (old : TableShown → Type 0) (live : Bool) (locks : List (ℕ × KeyName)) (seen : List TableShown) (mark : Mark) (a : Core) (session : Session)
@@ -54,12 +54,12 @@ module _ (old : TableShown → Type 0) (live : Bool) (locks : List (ℕ × KeyNa
   old-stays (Answers reply) x stands is opens (k, among, e) = not_firm kept_before k stands.ticket.id stands.firm among e
   old-stays (Misses number) x stands is opens (k, among, e) = elim (Contains-append_cases (beyond Statement mark.statement kept_before)
       (beyond Transaction mark.transaction kept_before) k among) [
-        | inl one ↦ not_firm kept_before k stands.ticket.id stands.firm (drop-within mark.statement (held_for Statement kept_before) k one) e
+        | inl one ↦ not_firm kept_before k stands.ticket.id stands.firm (drop-within mark.statement (tickets_for Statement kept_before) k one) e
         | inr other ↦ is k other e
       ]
   old-stays Starves x stands is opens (k, among, e) = elim (Contains-append_cases (beyond Statement mark.statement kept_before)
       (beyond Transaction mark.transaction kept_before) k among) [
-        | inl one ↦ not_firm kept_before k stands.ticket.id stands.firm (drop-within mark.statement (held_for Statement kept_before) k one) e
+        | inl one ↦ not_firm kept_before k stands.ticket.id stands.firm (drop-within mark.statement (tickets_for Statement kept_before) k one) e
         | inr other ↦ is k other e
       ]
   old-stays Falls x stands is opens among = cc
@@ -79,7 +79,7 @@ module _ (old : TableShown → Type 0) (live : Bool) (locks : List (ℕ × KeyNa
   -- how it ended
   came-to : (ending : Ending) (b : Core) (after : ContextView) → (live ≡ true → (x : TableShown) → TellsAt ending x → Contains seen x)
       → GaveUp a (gone_at ending session.state.is_open mark kept_before) session.context b after
-      → Comes old (ended ending (record { context = after; state = state_after ending session.state; left = None })) b
+      → Comes old (pause_after ending (record { context = after; state = state_after ending session.state; left = None })) b
   came-to ending b after told gave = by ending rests tells
     where
       there : session.state.is_open ≡ true → GaveUp a (gone_at ending true mark kept_before) session.context b after
@@ -103,7 +103,7 @@ module _ (old : TableShown → Type 0) (live : Bool) (locks : List (ℕ × KeyNa
               → TellsAt e x → IsStanding b after x
           at (Answers reply) told gave tell =
               let stands = point.stands x (told x tell) in
-              standing-left a b (held_for Statement kept_before) session.context after x stands point.fits gave
+              standing-left a b (tickets_for Statement kept_before) session.context after x stands point.fits gave
               (λ (k, among, e). not_firm kept_before k stands.ticket.id stands.firm among e)
           at (Misses number) told gave tell = absurd tell
           at Starves told gave tell = absurd tell
@@ -112,7 +112,7 @@ module _ (old : TableShown → Type 0) (live : Bool) (locks : List (ℕ × KeyNa
       by : (e : Ending)
           → Rests old b (record { context = after; state = state_after e session.state; left = None })
           → ((x : TableShown) → TellsAt e x → (state_after e session.state).is_open ≡ true → IsStanding b after x)
-          → Comes old (ended e (record { context = after; state = state_after e session.state; left = None })) b
+          → Comes old (pause_after e (record { context = after; state = state_after e session.state; left = None })) b
       by (Answers reply) rests tells = (rests, tells)
       by (Misses number) rests tells = (rests, tells)
       by Falls rests tells = (rests, tells)
@@ -121,19 +121,19 @@ module _ (old : TableShown → Type 0) (live : Bool) (locks : List (ℕ × KeyNa
   leads-letting_go : (ending : Ending) → (live ≡ true → (x : TableShown) → TellsAt ending x → Contains seen x) → Leads (Comes old) (letting_go ending mark session) a
   leads-letting_go ending told =
       let gone = gone_at ending session.state.is_open mark kept_before in
-      leads-bind (λ (outcome : Outcome (Unit {0})) b. GaveUp a gone session.context b outcome.1) (Comes old) (giving_up gone session.context)
-      (λ outcome. Give (ended ending (record { context = outcome.1; state = state_after ending session.state; left = None }))) a
+      leads-bind (λ (outcome : Outcome (Unit {0})) b. GaveUp a gone session.context b outcome.1) (Comes old) (releasing_tickets gone session.context)
+      (λ outcome. Give (pause_after ending (record { context = outcome.1; state = state_after ending session.state; left = None }))) a
       (leads-giving_up a gone session.context point.fits) (λ outcome b gave. came-to ending b outcome.1 told gave)
 
 -- a statement ended, and no transaction is open
 came-shut : (old : TableShown → Type 0) (ending : Ending) (b : Core) (after : ContextView) (state : State) → Fits b after → IsUnlocked (state_after ending state)
-    → (state_after ending state).is_open ≡ false → Comes old (ended ending (record { context = after; state = state_after ending state; left = None })) b
+    → (state_after ending state).is_open ≡ false → Comes old (pause_after ending (record { context = after; state = state_after ending state; left = None })) b
 came-shut old ending b after state fits unlocked shut = by ending
   where
     rests : Rests old b (record { context = after; state = state_after ending state; left = None })
     rests = record { left = refl; fits = fits; unlocked = unlocked; kept = λ x is opens. absurd (false≢true (sym shut ∙ opens)) }
 
-    by : (e : Ending) → Comes old (ended e (record { context = after; state = state_after ending state; left = None })) b
+    by : (e : Ending) → Comes old (pause_after e (record { context = after; state = state_after ending state; left = None })) b
     by (Answers reply) = (rests, λ x tell opens. absurd (false≢true (sym shut ∙ opens)))
     by (Misses number) = (rests, λ x tell opens. absurd (false≢true (sym shut ∙ opens)))
     by Falls = (rests, λ x tell opens. absurd (false≢true (sym shut ∙ opens)))
@@ -175,8 +175,8 @@ leads-closing old live locks seen mark a session point ending told = by (half_lo
         (releasing global session.context) (λ outcome. letting_go ending mark (after outcome.1)) a (leads-releasing a global session.context point.fits)
         (λ outcome b left. (
         let gone = gone_at ending state.is_open mark outcome.1.kept in
-        leads-bind (λ (next : Outcome (Unit {0})) c. GaveUp b gone outcome.1 c next.1) (Comes old) (giving_up gone outcome.1)
-        (λ next. Give (ended ending (record { context = next.1; state = state_after ending state; left = None }))) b
+        leads-bind (λ (next : Outcome (Unit {0})) c. GaveUp b gone outcome.1 c next.1) (Comes old) (releasing_tickets gone outcome.1)
+        (λ next. Give (pause_after ending (record { context = next.1; state = state_after ending state; left = None }))) b
         (leads-giving_up b gone outcome.1 left.0)
         (λ next c gave. came-shut old ending c next.1 state gave.fits (unlocked-same ending session.state point.unlocked) shut)))
 

@@ -14,10 +14,10 @@ use Rattle.mdl_rows.specs.declared.reply.Reply.TheVariants as reply
 use Rattle.mdl_rows.specs.declared.reply.TableShown.{TableShown}
 use Rattle.mdl_rows.specs.Endings.{Pause, Ends, Begins_to_wait, Waits_on, Faults}
 use Rattle.mdl_rows.specs.Sessions.{Session}
-use Rattle.mdl_rows.specs.Statements.{columns_of}
+use Rattle.mdl_rows.specs.Statements.{table_columns}
 use Rattle.mdl_script.specs.declared.told.News.TheVariants.{Ends as Has_ended, Waits as Has_waits}
 use Rattle.mdl_script.specs.declared.told.Told.{Told}
-use Rattle.mdl_script.specs.Worlds.{Scene, World, asked, first_settled, first_world, going, going_first, line_played, lines_played, most_turns, player_at, script_played, settling, told_of}
+use Rattle.mdl_script.specs.Worlds.{Scene, World, ask_session, continuing_settled, first_settled, first_world, going, going_first, line_played, lines_played, most_turns, player_at, reports_of, script_played}
 use Rattle.mdl_script.proofs.SoundLemmas.{first-session}
 use Rattle.mdl_script_laws.specs.Shown.{AreOfSessions, IsShownTo, LeavesTransaction, StandsAsShown, TransactionsKeepWhatTheySaw, TransactionsSeeOneDefinition, has_transaction}
 use Rattle.mdl_script_laws.proofs.ScriptLemmas.{asked-by}
@@ -36,13 +36,13 @@ IsToldToSession told = IsScriptSession told.who
 told-one : (t : Told) → IsScriptSession t.who → All IsToldToSession (t ∷ [])
 told-one t is = All-cons IsToldToSession t [] is (All-nil IsToldToSession)
 
-told-of : (line s : ℕ) (pause : Pause) → IsScriptSession s → All IsToldToSession (told_of line s pause)
+told-of : (line s : ℕ) (pause : Pause) → IsScriptSession s → All IsToldToSession (reports_of line s pause)
 told-of line s (Ends r session) is = told-one (record { line = line; who = s; news = Has_ended r }) is
 told-of line s (Begins_to_wait key mode session) is = told-one (record { line = line; who = s; news = Has_waits key mode }) is
 told-of line s (Waits_on session) is = All-nil IsToldToSession
 told-of line s (Faults session) is = All-nil IsToldToSession
 
-told-asked : (line : Line) (world : World) → IsScriptSession line.session → All IsToldToSession (asked line world).told
+told-asked : (line : Line) (world : World) → IsScriptSession line.session → All IsToldToSession (ask_session line world).told
 told-asked line world is =
     asked-by (λ scene. All IsToldToSession scene.told) line world (told-one _ is) (told-one _ is) (λ idle. told-of line.number line.session _ is)
 
@@ -53,16 +53,16 @@ told-first (Some s) world more found rest =
     All-append IsToldToSession (going s world).told (more (going s world).world).told
     (told-of (player_at s world).line s _ (first-session world s found)) (rest (going s world).world)
 
-told-settling : (n : ℕ) (world : World) → All IsToldToSession (settling n world).told
-unfolding settling
+told-settling : (n : ℕ) (world : World) → All IsToldToSession (continuing_settled n world).told
+unfolding continuing_settled
 told-settling zero world = All-nil IsToldToSession
-told-settling (suc n) world = told-first (first_settled world) world (settling n) refl (told-settling n)
+told-settling (suc n) world = told-first (first_settled world) world (continuing_settled n) refl (told-settling n)
 
 -- all that is told is told to sessions that there are
 told-line : (line : Line) (world : World) → IsScriptSession line.session → All IsToldToSession (line_played line world).told
 told-line line world is =
-    All-append IsToldToSession (asked line world).told (settling most_turns (asked line world).world).told (told-asked line world is)
-    (told-settling most_turns (asked line world).world)
+    All-append IsToldToSession (ask_session line world).told (continuing_settled most_turns (ask_session line world).world).told (told-asked line world is)
+    (told-settling most_turns (ask_session line world).world)
 
 -- ---- after a line that shows a table
 
@@ -99,7 +99,7 @@ keeps-fits old a session (inr (inr raising)) = raising.point.fits
 -- what stands under a ticket is what the system has under its key
 standing-defined : (a : Core) (context : ContextView) (table : TableShown) → Fits a context → IsStanding a context table
     → let defined = (system_of a).definitions table.key in
-    (is_some defined.definition ≡ true) × (defined.version ≡ table.version) × (columns_of defined.definition ≡ table.columns)
+    (is_some defined.definition ≡ true) × (defined.version ≡ table.version) × (table_columns defined.definition ≡ table.columns)
 standing-defined a context table fits stands =
     let place = stands.ticket.place in
     let key : key_at place a ≡ table.key = ap (λ (x : TableShown). x.key) stands.shown in
@@ -107,7 +107,7 @@ standing-defined a context table fits stands =
     let defined : (system_of a).definitions table.key ≡ defined_in (book_at place a) = ap (system_of a).definitions (sym key) ∙ ap defined_in there in (
       ap (λ (d : Versioned Definition). is_some d.definition) defined ∙ stands.defined,
       ap (λ (d : Versioned Definition). d.version) defined ∙ ap (λ (x : TableShown). x.version) stands.shown,
-      ap (λ (d : Versioned Definition). columns_of d.definition) defined ∙ ap (λ (x : TableShown). x.columns) stands.shown,
+      ap (λ (d : Versioned Definition). table_columns d.definition) defined ∙ ap (λ (x : TableShown). x.columns) stands.shown,
     )
 
 -- after a line by which a table was shown to a session, so it is with that table

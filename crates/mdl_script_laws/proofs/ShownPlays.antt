@@ -9,7 +9,7 @@ use Rattle.mdl_defs.specs.declared.standing.Standing.{Standing}
 use Rattle.mdl_system.proofs.MemberLemmas.{Contains-map_from}
 use Rattle.mdl_calls.specs.declared.answers.Held.{Held}
 use Rattle.mdl_calls.specs.Words.{Answer, Has_wait, Reads, Changed, Change_definition, Kill, Read_kept, Wait_of, SessionLocks, Program, ◌>>=◌, Tables, Key_is, Tables_of, Key_of}
-use Rattle.mdl_core.specs.CoreJoins.{Joins, Knows, SpeaksFor, own_at}
+use Rattle.mdl_core.specs.CoreJoins.{Joins, Knows, SpeaksFor, locks_at}
 use Rattle.mdl_core.specs.Cores.{Core, standing_at}
 use Rattle.mdl_core.proofs.CallLaws.{core-changes, core-keeps, core-remembers, core-rising}
 use Rattle.mdl_core.proofs.CoreSound.{calls_keep-sound}
@@ -21,10 +21,10 @@ use Rattle.mdl_context.specs.declared.request.Resume.{Resume}
 use Rattle.mdl_context.specs.declared.request.Resume.TheVariants as resume
 use Rattle.mdl_context.specs.declared.request.Tried.{Tried}
 use Rattle.mdl_context.specs.declared.request.Tried.TheVariants as try_as
-use Rattle.mdl_context.specs.Contexts.{ContextView, duration_rank, last_ticket, lasts, mark_of, waits_for_user_lock}
-use Rattle.mdl_context.specs.Gains.{refusal_of}
-use Rattle.mdl_context.specs.Holdings.{upgrade_of, wanted_of}
-use Rattle.mdl_context.specs.Releases.{giving_up, releasing}
+use Rattle.mdl_context.specs.Contexts.{ContextView, current_mark, duration_rank, last_ticket, lasts, waits_for_user_lock}
+use Rattle.mdl_context.specs.Gains.{refusal_answered}
+use Rattle.mdl_context.specs.Holdings.{awaited_upgrade, wanted_of}
+use Rattle.mdl_context.specs.Releases.{releasing, releasing_tickets}
 use Rattle.mdl_context.specs.Requests.{Outcome, acquiring, trying}
 use Rattle.mdl_context.specs.Upgrades.{upgrading, downgrading}
 use Rattle.mdl_context.specs.Waits.{resuming}
@@ -171,7 +171,7 @@ module _ (old : TableShown → Type 0) (live : Bool) (locks : List (ℕ × KeyNa
       let lock = among-filter (λ (lock : ℕ × KeyName). lock.0 == id) locks from.0 from.1 in
       let before = point.locked from.0.0 from.0.1 lock.0 in
       let number : before.ticket.id ≡ id = before.number ∙ equal from.0.0 id lock.1 in
-      let held = held-number (own_at a context.who) before.ticket id (core-rising a context.who point.fits.speaks) before.there number in
+      let held = held-number (locks_at a context.who) before.ticket id (core-rising a context.who point.fits.speaks) before.there number in
       let read = core-reads a b (Read_kept context.who id) context.who id version definition before.ticket refl refl held joins in
       let key = core-remembers a b (Read_kept context.who id) (Reads version definition) context.who before.ticket.place from.0.1
       point.fits.speaks (λ e done. cc) joins before.at in
@@ -185,7 +185,7 @@ module _ (old : TableShown → Type 0) (live : Bool) (locks : List (ℕ × KeyNa
     where
       read-there : (a b : Core) (who id version : ℕ) (definition : Option Definition) (t : Held) → SpeaksFor a who
           → Joins a (Read_kept who id) (Reads version definition) b
-          → Contains (own_at a who).held t → Contains (own_at b who).held t
+          → Contains (locks_at a who).held t → Contains (locks_at b who).held t
       read-there a b who id version definition t speaks joins among =
           subst (λ (o : SessionLocks). Contains o.held t) (sym (core-changes a b (Read_kept who id) (Reads version definition) who refl joins)) among
 
@@ -204,7 +204,7 @@ module _ (old : TableShown → Type 0) (live : Bool) (locks : List (ℕ × KeyNa
       leads-closing old live locks seen mark b session
       (point-same old live locks seen mark a session.context session.state point b
       (stays-call session.context.who none a b (Read_kept session.context.who id) answer point.fits.speaks (refl, tt, refl) joins))
-      (ending_of_refusal (refusal_of answer)) (λ lives x tell. absurd (tells_no_refusal (refusal_of answer) x tell))
+      (ending_of_refusal (refusal_answered answer)) (λ lives x tell. absurd (tells_no_refusal (refusal_answered answer) x tell))
 
   -- a change of it
   leads-change : (id : ℕ) (change : Change) (more : Program Pause) (a b : Core) (session : Session) (answer : Answer) → At a session.context session.state
@@ -222,7 +222,7 @@ module _ (old : TableShown → Type 0) (live : Bool) (locks : List (ℕ × KeyNa
 
       by : (r : Answer) → Leads (Comes old) (playing.change_answered mark session more r) b
       by (Changed version) = later now
-      by r = leads-closing old live [] [] mark b session now (ending_of_refusal (refusal_of r)) (λ lives x tell. absurd (tells_no_refusal (refusal_of r) x tell))
+      by r = leads-closing old live [] [] mark b session now (ending_of_refusal (refusal_answered r)) (λ lives x tell. absurd (tells_no_refusal (refusal_answered r) x tell))
 
   -- the tables of a schema, and the key of a place
   leads-tables : (schema : List ℕ) (more : List ℕ → Program Pause) (a b : Core) (session : Session) (answer : Answer) → At a session.context session.state
@@ -237,7 +237,7 @@ module _ (old : TableShown → Type 0) (live : Bool) (locks : List (ℕ × KeyNa
 
       by : (r : Answer) → Leads (Comes old) (playing.tables_answered mark session more r) b
       by (Tables tables) = later tables now
-      by r = leads-closing old live locks seen mark b session now (ending_of_refusal (refusal_of r)) (λ lives x tell. absurd (tells_no_refusal (refusal_of r) x tell))
+      by r = leads-closing old live locks seen mark b session now (ending_of_refusal (refusal_answered r)) (λ lives x tell. absurd (tells_no_refusal (refusal_answered r) x tell))
 
   leads-key : (place : ℕ) (more : KeyName → Program Pause) (a b : Core) (session : Session) (answer : Answer) → At a session.context session.state
       → Joins a (Key_of session.context.who place) answer b
@@ -251,7 +251,7 @@ module _ (old : TableShown → Type 0) (live : Bool) (locks : List (ℕ × KeyNa
 
       by : (r : Answer) → Leads (Comes old) (playing.key_answered mark session more r) b
       by (Key_is key) = later key now
-      by r = leads-closing old live locks seen mark b session now (ending_of_refusal (refusal_of r)) (λ lives x tell. absurd (tells_no_refusal (refusal_of r) x tell))
+      by r = leads-closing old live locks seen mark b session now (ending_of_refusal (refusal_answered r)) (λ lives x tell. absurd (tells_no_refusal (refusal_answered r) x tell))
 
   -- a wait that another session has is killed
   leads-told : (target : ℕ) (more : Program Pause) (a b : Core) (session : Session) (answer : Answer) → At b session.context session.state
@@ -283,7 +283,7 @@ leads-play old live locks seen (row.Set change rest) mark a session fair point =
     (point-set old live locks seen mark a session.context session.state point change (fair.0 session.state) (fair.1 session.state)
     (λ x is lives. fair.2 x is lives session.state))
 leads-play old live locks seen (row.Here rest) mark a session fair point =
-    leads-play old live locks seen (rest (mark_of session.context.kept)) mark a session (fair (mark_of session.context.kept)) point
+    leads-play old live locks seen (rest (current_mark session.context.kept)) mark a session (fair (current_mark session.context.kept)) point
 leads-play old live locks seen (row.Acquire wish rest) mark a session fair point =
     let more = λ (id : ℕ) (after : Session). play (rest id) mark after in
     leads-bind (λ outcome b. IsMet wish session.context outcome × Followed a session.context b outcome.1) (Comes old) (acquiring wish session.context)
@@ -314,7 +314,7 @@ leads-play old live locks seen (row.Downgrade id mode rest) mark a session fair 
     (point-cleared old live locks seen mark a session.context session.state point b outcome.1 left.0 fair.0))
 leads-play old live locks seen (row.Give_up which rest) mark a session fair point =
     let gone = which session.context.kept in
-    leads-bind (λ (outcome : Outcome (Unit {0})) b. GaveUp a gone session.context b outcome.1) (Comes old) (giving_up gone session.context)
+    leads-bind (λ (outcome : Outcome (Unit {0})) b. GaveUp a gone session.context b outcome.1) (Comes old) (releasing_tickets gone session.context)
     (λ outcome. play rest mark (with_context session outcome.1)) a (leads-giving_up a gone session.context point.fits)
     (λ outcome b gave. leads-play old live [] [] rest mark b (with_context session outcome.1) fair.1
     (point-cleared old live locks seen mark a session.context session.state point b outcome.1 gave.fits fair.0))
@@ -399,7 +399,7 @@ leads-resumed old a b session waiting (Ok (resume.Acquired id), context) resumed
     (point-locked old waiting.live waiting.locks waiting.seen waiting.rest.mark b context session.state now waiting.wanted.duration id waiting.key
     (λ lasting. record {
       ticket = had.0;
-      there = subst (λ w. Contains (own_at b w).held had.0) (sym resumed.0.who) had.1;
+      there = subst (λ w. Contains (locks_at b w).held had.0) (sym resumed.0.who) had.1;
       number = had.2;
       at = subst (λ w. Knows b w had.0.place waiting.key) (sym resumed.0.who)
           (subst (λ p. Knows b session.context.who p waiting.key) (sym had.3) (resumed.0.spares.known waiting.wanted.place waiting.key waiting.at));
@@ -453,7 +453,7 @@ leads-going old a session (inl rests) = go session.left rests.left
 leads-going old a session (inr (inl waiting)) =
     subst (λ o. Leads (Comes old) (playing.going_on_with o (record session { left = None })) a) (sym waiting.left)
     (leads-bind (Resumed a session.context) (Comes old) (resuming session.context) (playing.resumed waiting.rest (record session { left = None })) a
-    (leads-resuming a session.context (ap upgrade_of waiting.wait ∙ waiting.gains) waiting.point.fits) (λ outcome b resumed. leads-resumed old a b session waiting outcome resumed))
+    (leads-resuming a session.context (ap awaited_upgrade waiting.wait ∙ waiting.gains) waiting.point.fits) (λ outcome b resumed. leads-resumed old a b session waiting outcome resumed))
 leads-going old a session (inr (inr raising)) =
     subst (λ o. Leads (Comes old) (playing.going_on_with o (record session { left = None })) a) (sym raising.left)
     (leads-bind (Won session.context) (Comes old) (resuming session.context) (playing.resumed raising.rest (record session { left = None })) a

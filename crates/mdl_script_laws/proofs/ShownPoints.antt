@@ -9,13 +9,13 @@ use Rattle.mdl_defs.specs.declared.standing.Standing.{Standing}
 use Rattle.mdl_system.proofs.MemberLemmas.{Contains-none}
 use Rattle.mdl_system.proofs.OrderLemmas.{Contains-later}
 use Rattle.mdl_calls.specs.declared.answers.Held.{Held}
-use Rattle.mdl_core.specs.CoreJoins.{Knows, own_at}
+use Rattle.mdl_core.specs.CoreJoins.{Knows, locks_at}
 use Rattle.mdl_core.specs.Cores.{Core, key_at, standing_at}
 use Rattle.mdl_context.specs.declared.kept.Kept.{Kept}
 use Rattle.mdl_context.specs.declared.request.Mark.{Mark}
-use Rattle.mdl_context.specs.Contexts.{ContextView, beyond, duration_rank, has_number, held_for, lasts, mark_of, without}
+use Rattle.mdl_context.specs.Contexts.{ContextView, beyond, current_mark, duration_rank, has_number, lasts, tickets_for, without_tickets}
 use Rattle.mdl_rows.specs.declared.reply.TableShown.{TableShown}
-use Rattle.mdl_rows.specs.Statements.{columns_of, is_defined}
+use Rattle.mdl_rows.specs.Statements.{is_defined, table_columns}
 use Rattle.mdl_script_laws.proofs.ListLemmas.{among-filter, only-one}
 use Rattle.mdl_script_laws.proofs.ShownCalls.{Spares, key-held, none}
 use Rattle.mdl_script_laws.proofs.ShownContexts.{Fits, Followed, Grown}
@@ -56,8 +56,8 @@ IsFirm kept id = (k : Kept) → Contains kept k → k.id ≡ id → lasts Statem
 abbrev pub IsOld : Mark → List Kept → ℕ → Type 0
 IsOld mark kept id = (k : Kept) → Contains (beyond Transaction mark.transaction kept) k → k.id ≡ id → ⊥
 
-pub old-now : (kept : List Kept) (id : ℕ) → IsOld (mark_of kept) kept id
-old-now kept id k among e = drop-all (held_for Transaction kept) k among
+pub old-now : (kept : List Kept) (id : ℕ) → IsOld (current_mark kept) kept id
+old-now kept id k among e = drop-all (tickets_for Transaction kept) k among
 
 pub lasts-longer : (k : Kept) → lasts Transaction k ≡ true → lasts Statement k ≡ false
 lasts-longer k e = go k.duration e
@@ -67,7 +67,7 @@ lasts-longer k e = go k.duration e
     go Transaction f = refl
     go Explicit f = refl
 
-firm-grown : (a : Core) (who : ℕ) (before after : List Kept) (t : Held) → Grown a who before after → Contains (own_at a who).held t → IsFirm before t.id
+firm-grown : (a : Core) (who : ℕ) (before after : List Kept) (t : Held) → Grown a who before after → Contains (locks_at a who).held t → IsFirm before t.id
     → IsFirm after t.id
 firm-grown a who before after t (inl same) there firm = subst (λ kept. IsFirm kept t.id) (sym same) firm
 firm-grown a who before after t (inr (new, fresh, more)) there firm = λ k among e.
@@ -76,7 +76,7 @@ firm-grown a who before after t (inr (new, fresh, more)) there firm = λ k among
       | inr late ↦ absurd (fresh t there (sym e ∙ ap (λ (x : Kept). x.id) (only-one new k late)))
     ]
 
-old-grown : (mark : Mark) (a : Core) (who : ℕ) (before after : List Kept) (t : Held) → Grown a who before after → Contains (own_at a who).held t
+old-grown : (mark : Mark) (a : Core) (who : ℕ) (before after : List Kept) (t : Held) → Grown a who before after → Contains (locks_at a who).held t
     → IsOld mark before t.id → IsOld mark after t.id
 old-grown mark a who before after t (inl same) there old = subst (λ kept. IsOld mark kept t.id) (sym same) old
 old-grown mark a who before after t (inr (new, fresh, more)) there old = λ k among e.
@@ -85,14 +85,14 @@ old-grown mark a who before after t (inr (new, fresh, more)) there old = λ k am
       | inr same ↦ fresh t there (sym e ∙ ap (λ (x : Kept). x.id) same)
     ]
 
-firm-left : (gone kept : List Kept) (id : ℕ) → IsFirm kept id → IsFirm (without gone kept) id
+firm-left : (gone kept : List Kept) (id : ℕ) → IsFirm kept id → IsFirm (without_tickets gone kept) id
 firm-left gone kept id firm k among e = firm k (among-filter (λ ticket. not (has_number gone ticket.id)) kept k among).0 e
 
 -- ---- what is held, and what was read
 
 -- a table as it is shown where this stands under its key
 abbrev pub shown_as : KeyName → Standing → TableShown
-shown_as key standing = record { key = key; version = standing.version; columns = columns_of standing.definition }
+shown_as key standing = record { key = key; version = standing.version; columns = table_columns standing.definition }
 
 -- what a place shows
 abbrev pub shown_at : ℕ → Core → TableShown
@@ -101,7 +101,7 @@ shown_at place core = shown_as (key_at place core) (standing_at place core)
 -- a lock of a key is held by a ticket of this number, for longer than the statement
 pub record IsLocked (a : Core) (context : ContextView) (id : ℕ) (key : KeyName) : Type 0 where
   pub ticket : Held
-  pub there : Contains (own_at a context.who).held ticket
+  pub there : Contains (locks_at a context.who).held ticket
   pub number : ticket.id ≡ id
   pub at : Knows a context.who ticket.place key
   pub firm : IsFirm context.kept ticket.id
@@ -109,21 +109,21 @@ pub record IsLocked (a : Core) (context : ContextView) (id : ℕ) (key : KeyName
 -- a table is defined as it is shown, under a ticket that is held for longer than the statement
 pub record IsStanding (a : Core) (context : ContextView) (x : TableShown) : Type 0 where
   pub ticket : Held
-  pub there : Contains (own_at a context.who).held ticket
+  pub there : Contains (locks_at a context.who).held ticket
   pub shown : shown_at ticket.place a ≡ x
   pub defined : is_defined (standing_at ticket.place a) ≡ true
   pub firm : IsFirm context.kept ticket.id
 
 shown-spared : (who : ℕ) (gone : ℕ → Type 0) (a b : Core) (context : ContextView) (t : Held) → Fits a context → Spares context.who gone a b
-    → Contains (own_at a context.who).held t → (gone t.id → ⊥) → shown_at t.place b ≡ shown_at t.place a
+    → Contains (locks_at a context.who).held t → (gone t.id → ⊥) → shown_at t.place b ≡ shown_at t.place a
 shown-spared who gone a b context t fits spares there stays =
     let key = (spares.known t.place (key_at t.place a) (key-held a context.who t fits.speaks there, refl)).1 in
     let standing = spares.stands t there stays in
     ap (λ k. shown_as k (standing_at t.place b)) key ∙ ap (shown_as (key_at t.place a)) standing
 
 module _ (a b : Core) (before after : ContextView) (fits : Fits a before) (followed : Followed a before b after) where
-  still-there : (t : Held) → Contains (own_at a before.who).held t → Contains (own_at b after.who).held t
-  still-there t there = subst (λ w. Contains (own_at b w).held t) (sym followed.who) (followed.spares.held t there (λ g. g))
+  still-there : (t : Held) → Contains (locks_at a before.who).held t → Contains (locks_at b after.who).held t
+  still-there t there = subst (λ w. Contains (locks_at b w).held t) (sym followed.who) (followed.spares.held t there (λ g. g))
 
   pub locked-followed : (id : ℕ) (key : KeyName) → IsLocked a before id key → IsLocked b after id key
   locked-followed id key locked = record {
@@ -168,7 +168,7 @@ pub old-released : (a b : Core) (id : ℕ) (before after : ContextView) (mark : 
 old-released a b id before after mark x stands old fits released apart = (
   record {
     ticket = stands.ticket;
-    there = subst (λ w. Contains (own_at b w).held stands.ticket) (sym released.who) (released.spares.held stands.ticket stands.there apart);
+    there = subst (λ w. Contains (locks_at b w).held stands.ticket) (sym released.who) (released.spares.held stands.ticket stands.there apart);
     shown = shown-spared before.who (λ n. n ≡ id) a b before stands.ticket fits released.spares stands.there apart ∙ stands.shown;
     defined = ap is_defined (released.spares.stands stands.ticket stands.there apart) ∙ stands.defined;
     firm = λ k among e. stands.firm k (released.fewer k among) e;

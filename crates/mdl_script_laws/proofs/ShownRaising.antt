@@ -9,7 +9,7 @@ use Rattle.mdl_calls.specs.declared.answers.Held.{Held}
 use Rattle.mdl_calls.specs.declared.space_error.SpaceError.{SpaceError}
 use Rattle.mdl_calls.specs.SessionLocks.{Wait, changing, giving_up, merging, upgraded}
 use Rattle.mdl_calls.specs.Words.{Answer, Done, Granted, Lost, Pending, Is_settled, Upgraded, Would_wait, Waits, Call, caller, Begin_wait, Downgrade, End_wait, Merge, Poll_wait, Release, Upgrade_now, SessionLocks, own_after, ticket_held, is_number, Give, Ask, SearchEnd, Over, Cut_off, Failed, seeking, most_searches}
-use Rattle.mdl_core.specs.CoreJoins.{Joins, Knows, SpeaksFor, own_at}
+use Rattle.mdl_core.specs.CoreJoins.{Joins, Knows, SpeaksFor, locks_at}
 use Rattle.mdl_core.specs.Cores.{Core}
 use Rattle.mdl_core.proofs.CallLaws.{core-changes, core-keeps, core-remembers}
 use Rattle.mdl_core.proofs.CoreSound.{calls_keep-sound}
@@ -24,7 +24,7 @@ use Rattle.mdl_context.specs.declared.request.Resume.{Resume}
 use Rattle.mdl_context.specs.declared.request.Resume.TheVariants as resume
 use Rattle.mdl_context.specs.Contexts.{ContextView, has_number, ticket_kept}
 use Rattle.mdl_context.specs.Gains as gains
-use Rattle.mdl_context.specs.Holdings.{is_ticket, search_over, upgrade_of, wanted_upgrade}
+use Rattle.mdl_context.specs.Holdings.{awaited_upgrade, is_kept_ticket, search_over, wanted_upgrade}
 use Rattle.mdl_context.specs.Releases as releases
 use Rattle.mdl_context.specs.Requests.{Outcome}
 use Rattle.mdl_context.specs.Upgrades as upgrades
@@ -40,13 +40,13 @@ use Rattle.mdl_script_laws.proofs.ShownWaits.{searched-fits}
 -- from the one space to the other a session keeps its tickets at their places, but those of these numbers; their modes may change
 record Places (who : ℕ) (gone : ℕ → Type 0) (a b : Core) : Type 0 where
   speaks : SpeaksFor b who
-  held : (t : Held) → Contains (own_at a who).held t → (gone t.id → ⊥) → (u : Held) × Contains (own_at b who).held u × (u.id ≡ t.id) × (u.place ≡ t.place)
+  held : (t : Held) → Contains (locks_at a who).held t → (gone t.id → ⊥) → (u : Held) × Contains (locks_at b who).held u × (u.id ≡ t.id) × (u.place ≡ t.place)
   known : (place : ℕ) (key : KeyName) → Knows a who place key → Knows b who place key
 
 -- a context that fits still, where none of its tickets is gone, with a wait where the session waits
 fits-placed : (a b : Core) (context : ContextView) (gone : ℕ → Type 0) (wait : Option Wanted) → Fits a context → Places context.who gone a b
     → ((k : Kept) → Contains context.kept k → gone k.id → ⊥)
-    → ((wanted : Wanted) (w : Wait) → wait ≡ Some wanted → (own_at b context.who).wait ≡ Some w → w.place ≡ wanted.place)
+    → ((wanted : Wanted) (w : Wait) → wait ≡ Some wanted → (locks_at b context.who).wait ≡ Some w → w.place ≡ wanted.place)
     → Fits b (record context { wait = wait })
 fits-placed a b context gone wait fits places stay at = record {
   speaks = places.speaks;
@@ -69,18 +69,18 @@ fits-idle a b context gone idle fits places stay =
 -- a ticket in another mode is the same but for that
 module _ (id : ℕ) (change : Mode → Mode) where
   abbrev changed : Kept → Kept
-  changed ticket = if is_ticket id ticket then record ticket { mode = change ticket.mode } else ticket
+  changed ticket = if is_kept_ticket id ticket then record ticket { mode = change ticket.mode } else ticket
 
   same-number : (k : Kept) → (changed k).id ≡ k.id
-  same-number k = elim (is_ticket id k) as (λ t. (if t then record k { mode = change k.mode } else k).id ≡ k.id) [ true ↦ refl | false ↦ refl ]
+  same-number k = elim (is_kept_ticket id k) as (λ t. (if t then record k { mode = change k.mode } else k).id ≡ k.id) [ true ↦ refl | false ↦ refl ]
 
   same-place : (k : Kept) → (changed k).place ≡ k.place
-  same-place k = elim (is_ticket id k) as (λ t. (if t then record k { mode = change k.mode } else k).place ≡ k.place) [ true ↦ refl | false ↦ refl ]
+  same-place k = elim (is_kept_ticket id k) as (λ t. (if t then record k { mode = change k.mode } else k).place ≡ k.place) [ true ↦ refl | false ↦ refl ]
 
   same-duration : (k : Kept) → (changed k).duration ≡ k.duration
-  same-duration k = elim (is_ticket id k) as (λ t. (if t then record k { mode = change k.mode } else k).duration ≡ k.duration) [ true ↦ refl | false ↦ refl ]
+  same-duration k = elim (is_kept_ticket id k) as (λ t. (if t then record k { mode = change k.mode } else k).duration ≡ k.duration) [ true ↦ refl | false ↦ refl ]
 
-  fits-mode : (a : Core) (context : ContextView) → Fits a context → Fits a (upgrades.with_mode id change context)
+  fits-mode : (a : Core) (context : ContextView) → Fits a context → Fits a (upgrades.with_ticket_mode id change context)
   fits-mode a context fits = record {
     speaks = fits.speaks;
     backed = λ k among.
@@ -101,7 +101,7 @@ module _ (id : ℕ) (change : Mode → Mode) where
 places-own : (who : ℕ) (gone : ℕ → Type 0) (a b : Core) (call : Call) (answer : Answer) → SpeaksFor a who → caller call ≡ Some who
     → Joins a call answer b
     → ((place : ℕ) (key : KeyName) → Knows a who place key → Knows b who place key)
-    → ((t : Held) → Contains (own_at a who).held t → (gone t.id → ⊥) → (u : Held) × Contains (own_after call answer (own_at a who)).held u × (u.id ≡ t.id) × (u.place ≡ t.place))
+    → ((t : Held) → Contains (locks_at a who).held t → (gone t.id → ⊥) → (u : Held) × Contains (own_after call answer (locks_at a who)).held u × (u.id ≡ t.id) × (u.place ≡ t.place))
     → Places who gone a b
 places-own who gone a b call answer speaks mine joins remembers held = record {
   speaks = core-keeps calls_keep-sound a b call answer who speaks joins;
@@ -158,9 +158,9 @@ places-upgraded who id mode a b answer speaks joins =
     (λ place key knows. core-remembers a b (Upgrade_now who id mode) answer who place key speaks (λ e done. cc) joins knows)
     (λ t among stays. by answer t among)
   where
-    by : (said : Answer) (t : Held) → Contains (own_at a who).held t
-        → (u : Held) × Contains (own_after (Upgrade_now who id mode) said (own_at a who)).held u × (u.id ≡ t.id) × (u.place ≡ t.place)
-    by Upgraded t among = changed-there id (upgraded mode) (own_at a who) t among
+    by : (said : Answer) (t : Held) → Contains (locks_at a who).held t
+        → (u : Held) × Contains (own_after (Upgrade_now who id mode) said (locks_at a who)).held u × (u.id ≡ t.id) × (u.place ≡ t.place)
+    by Upgraded t among = changed-there id (upgraded mode) (locks_at a who) t among
     by _ t among = (t, among, refl, refl)
 
 places-downgraded : (who id : ℕ) (mode : Mode) (a b : Core) (answer : Answer) → SpeaksFor a who → Joins a (Downgrade who id mode) answer b → Places who none a b
@@ -169,9 +169,9 @@ places-downgraded who id mode a b answer speaks joins =
     (λ place key knows. core-remembers a b (Downgrade who id mode) answer who place key speaks (λ e done. cc) joins knows)
     (λ t among stays. by answer t among)
   where
-    by : (said : Answer) (t : Held) → Contains (own_at a who).held t
-        → (u : Held) × Contains (own_after (Downgrade who id mode) said (own_at a who)).held u × (u.id ≡ t.id) × (u.place ≡ t.place)
-    by Done t among = changed-there id (λ _. mode) (own_at a who) t among
+    by : (said : Answer) (t : Held) → Contains (locks_at a who).held t
+        → (u : Held) × Contains (own_after (Downgrade who id mode) said (locks_at a who)).held u × (u.id ≡ t.id) × (u.place ≡ t.place)
+    by Done t among = changed-there id (λ _. mode) (locks_at a who) t among
     by _ t among = (t, among, refl, refl)
 
 places-merged : (who old new : ℕ) (a b : Core) (answer : Answer) → SpeaksFor a who → Joins a (Merge who old new) answer b → Places who (λ n. n ≡ new) a b
@@ -180,9 +180,9 @@ places-merged who old new a b answer speaks joins =
     (λ place key knows. core-remembers a b (Merge who old new) answer who place key speaks (λ e done. cc) joins knows)
     (λ t among stays. by answer t among stays)
   where
-    by : (said : Answer) (t : Held) → Contains (own_at a who).held t → (t.id ≡ new → ⊥)
-        → (u : Held) × Contains (own_after (Merge who old new) said (own_at a who)).held u × (u.id ≡ t.id) × (u.place ≡ t.place)
-    by Done t among other = merged-there old new (ticket_held new (own_at a who)) (own_at a who) t among other
+    by : (said : Answer) (t : Held) → Contains (locks_at a who).held t → (t.id ≡ new → ⊥)
+        → (u : Held) × Contains (own_after (Merge who old new) said (locks_at a who)).held u × (u.id ≡ t.id) × (u.place ≡ t.place)
+    by Done t among other = merged-there old new (ticket_held new (locks_at a who)) (locks_at a who) t among other
     by _ t among other = (t, among, refl, refl)
 
 -- ---- merges
@@ -201,7 +201,7 @@ beside-gained a b context new place idle fits gained = record {
 
 -- whatever comes of a merge, the context fits
 leads-merging : (a : Core) (context : ContextView) (id new : ℕ) → context.wait ≡ None → HasBeside a context new
-    → Leads (λ end b. Fits b context) (upgrades.merging context.who id new) a
+    → Leads (λ end b. Fits b context) (upgrades.merging_new context.who id new) a
 leads-merging a context id new idle beside = λ answer b joins. by answer b joins
   where
     fits : (answer : Answer) (b : Core) → Joins a (Merge context.who id new) answer b → Fits b context
@@ -223,7 +223,7 @@ leads-merging a context id new idle beside = λ answer b joins. by answer b join
 
 -- the context waits to upgrade a ticket
 abbrev pub IsUpgrading : ContextView → Type 0
-IsUpgrading context = (wanted : Wanted) × (target : ℕ × Mode) × (context.wait ≡ Some wanted) × (upgrade_of (Some wanted) ≡ Some target)
+IsUpgrading context = (wanted : Wanted) × (target : ℕ × Mode) × (context.wait ≡ Some wanted) × (awaited_upgrade (Some wanted) ≡ Some target)
 
 -- what comes of an upgrade: the context fits, and where it has to wait, it waits to upgrade a ticket
 abbrev pub Raised : ContextView → Outcome Acquire → Core → Type 0
@@ -234,10 +234,10 @@ Raised before (Err error, after) b = Fits b after × (after.who ≡ before.who)
 -- a second ticket was asked for at a place: it is had, it is waited for there, or refused
 abbrev GotAt : Core → ℕ → ℕ → Result AskResult SpaceError → Core → Type 0
 GotAt a who place (Ok (got.Granted id)) b = IsGained a who id place b
-GotAt a who place (Ok (got.Waits number searched)) b = Spares who none a b × ((w : Wait) → (own_at b who).wait ≡ Some w → w.place ≡ place)
+GotAt a who place (Ok (got.Waits number searched)) b = Spares who none a b × ((w : Wait) → (locks_at b who).wait ≡ Some w → w.place ≡ place)
 GotAt a who place (Err refusal) b = Spares who none a b
 
-got-sought : (a b : Core) (who place number : ℕ) (end : SearchEnd) → Spares who none a b → ((w : Wait) → (own_at b who).wait ≡ Some w → w.place ≡ place)
+got-sought : (a b : Core) (who place number : ℕ) (end : SearchEnd) → Spares who none a b → ((w : Wait) → (locks_at b who).wait ≡ Some w → w.place ≡ place)
     → Leads (GotAt a who place) (gains.wish_sought who number end) b
 got-sought a b who place number Over spares at = (spares, at)
 got-sought a b who place number Cut_off spares at = (spares, at)
@@ -268,7 +268,7 @@ module _ (ticket : Kept) (mode : Mode) (context : ContextView) (idle : context.w
   raised-second : (a b : Core) (end : Result AskResult SpaceError) → Fits a context → GotAt a context.who ticket.place end b
       → Leads (Raised context) (upgrades.second_got ticket mode context end) b
   raised-second a b (Ok (got.Granted new)) fits gained =
-      leads-bind (λ end c. Fits c context) (Raised context) (upgrades.merging context.who ticket.id new)
+      leads-bind (λ end c. Fits c context) (Raised context) (upgrades.merging_new context.who ticket.id new)
       (λ end. Give (upgrades.merged (acquire.Acquired ticket.id) ticket.id mode context end)) b
       (leads-merging b context ticket.id new idle (beside-gained a b context new ticket.place idle fits gained)) (λ end c fit. raised-by c end fit)
   raised-second a b (Ok (got.Waits number searched)) fits (spares, at) =
@@ -346,8 +346,8 @@ won-ended a b context (Granted new) (wanted, (id, mode), waiting, target) fits j
     let over : ContextView = waits.without_wait context in
     let won = won-by a b context.who new fits.speaks joins in
     let beside = beside-gained a b over new won.0.place refl (fits-over a a context fits (stays-here context.who none a fits.speaks).0) won.2 in
-    subst (λ upgrade. Leads (Won context) (waits.wait_won upgrade new context) b) (sym (ap upgrade_of waiting ∙ target))
-    (leads-bind (λ end c. Fits c over) (Won context) (upgrades.merging context.who id new)
+    subst (λ upgrade. Leads (Won context) (waits.wait_won upgrade new context) b) (sym (ap awaited_upgrade waiting ∙ target))
+    (leads-bind (λ end c. Fits c over) (Won context) (upgrades.merging_new context.who id new)
     (λ end. Give (upgrades.merged (resume.Acquired id) id mode over end)) b (leads-merging b over id new refl beside)
     (λ end c fit. won-merged c context id mode end fit))
 won-ended a b context (Lost how) upgrading fits joins =
@@ -366,10 +366,10 @@ won-looking a context upgrading fits = λ answer b joins.
     won-polled a b context answer upgrading fits (stays-call context.who none a b (Poll_wait context.who) answer fits.speaks (refl, tt, refl) joins)
 
 -- the searches are over
-upgrading-searched : (context : ContextView) → IsUpgrading context → IsUpgrading (waits.searched context)
+upgrading-searched : (context : ContextView) → IsUpgrading context → IsUpgrading (waits.searches_over context)
 upgrading-searched context (wanted, target, waiting, is) = (search_over wanted, target, ap (option_map search_over) waiting, is)
 
-won-searched : (context : ContextView) (outcome : Outcome Resume) (b : Core) → Won (waits.searched context) outcome b → Won context outcome b
+won-searched : (context : ContextView) (outcome : Outcome Resume) (b : Core) → Won (waits.searches_over context) outcome b → Won context outcome b
 won-searched context (Ok resume.Waiting, after) b won = won
 won-searched context (Ok (resume.Acquired id), after) b won = won
 won-searched context (Ok (resume.Lost how), after) b won = won
@@ -378,8 +378,8 @@ won-searched context (Err error, after) b won = won
 won-sought : (a b : Core) (context : ContextView) (end : SearchEnd) → IsUpgrading context → Fits a context → Stays context.who none a b
     → Leads (Won context) (waits.wait_sought context end) b
 won-sought a b context Over upgrading fits stays =
-    leads-map (Won (waits.searched context)) (Won context) (waits.looking (waits.searched context)) b (λ outcome c won. won-searched context outcome c won)
-    (won-looking b (waits.searched context) (upgrading-searched context upgrading) (searched-fits b context (fits-same a b context fits stays)))
+    leads-map (Won (waits.searches_over context)) (Won context) (waits.looking (waits.searches_over context)) b (λ outcome c won. won-searched context outcome c won)
+    (won-looking b (waits.searches_over context) (upgrading-searched context upgrading) (searched-fits b context (fits-same a b context fits stays)))
 won-sought a b context Cut_off upgrading fits stays = won-looking b context upgrading (fits-same a b context fits stays)
 won-sought a b context (Failed refusal) upgrading fits stays =
     leads-bind (λ x c. Spares context.who none a c) (Won context) (gains.abandoning context.who) (λ _. Give (Err (Space refusal), waits.without_wait context)) b
@@ -398,7 +398,7 @@ won-cut_off a b context answer upgrading fits stays = (fits-same a b context fit
 pub leads-winning : (a : Core) (context : ContextView) → IsUpgrading context → Fits a context → Leads (Won context) (waits.resuming context) a
 leads-winning a context upgrading fits = by (waits.is_searched context.wait)
   where
-    by : (searched : Option Bool) → Leads (Won context) (waits.going_on searched context) a
+    by : (searched : Option Bool) → Leads (Won context) (waits.continuing_wait searched context) a
     by None = (fits, refl)
     by (Some true) = won-looking a context upgrading fits
     by (Some false) = λ answer b joins.

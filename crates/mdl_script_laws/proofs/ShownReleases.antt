@@ -19,7 +19,7 @@ use Rattle.mdl_calls.specs.declared.answers.Held.{Held}
 use Rattle.mdl_calls.specs.declared.space_error.SpaceError.{SpaceError}
 use Rattle.mdl_calls.specs.Words.{Answer, At_place, Give, Each}
 use Rattle.mdl_calls.proofs.FaithfulLemmas.{each_then, either}
-use Rattle.mdl_core.specs.CoreJoins.{own_at}
+use Rattle.mdl_core.specs.CoreJoins.{locks_at}
 use Rattle.mdl_core.specs.Cores.{Core, standing_at}
 use Rattle.mdl_core.proofs.CallLaws.{core-rising}
 use Rattle.mdl_core.proofs.PairLemmas.{pairs-from_rising, same-number}
@@ -28,9 +28,9 @@ use Rattle.mdl_context.specs.declared.kept.Kept.{Kept}
 use Rattle.mdl_context.specs.declared.request.Mark.{Mark}
 use Rattle.mdl_context.specs.declared.request.Tried.{Tried}
 use Rattle.mdl_context.specs.declared.request.Tried.TheVariants as try_as
-use Rattle.mdl_context.specs.Contexts.{ContextView, held_of, last_at, last_ticket, lasts, mark_of, place_known}
+use Rattle.mdl_context.specs.Contexts.{ContextView, current_mark, held_of, last_at, last_ticket, lasts, place_known}
 use Rattle.mdl_context.specs.Gains as gains
-use Rattle.mdl_context.specs.Holdings.{earliest, kept_of}
+use Rattle.mdl_context.specs.Holdings.{earliest, kept_ticket}
 use Rattle.mdl_context.specs.Releases.{releasing}
 use Rattle.mdl_context.specs.Requests as requests
 use Rattle.mdl_context.specs.Requests.{Outcome, trying}
@@ -96,7 +96,7 @@ never-defined standing may there = by standing.definition may.fits there
 apart-from : (a : Core) (context : ContextView) (name : List ℕ) (id : ℕ) (x : TableShown) → Fits a context → IsOfKey context (user_lock_key name) id
     → (stands : IsStanding a context x) → stands.ticket.id ≢ id
 apart-from a context name id x fits its stands same =
-    let held = (own_at a context.who).held in
+    let held = (locks_at a context.who).held in
     let there = fits.backed its.ticket its.kept in
     let one : stands.ticket ≡ there.0 =
     same-number held (pairs-from_rising held (core-rising a context.who fits.speaks)) stands.ticket there.0 stands.there there.1
@@ -131,7 +131,7 @@ module _ (request : Wish) (context : ContextView) (place : ℕ) (known : place_k
 
   tried-got : (end : Result Tried SpaceError) → IsTried request.key (requests.outcome_tried place request context end)
   tried-got (Ok (try_as.Acquired id)) =
-      let new = kept_of id place request in
+      let new = kept_ticket id place request in
       record {
         place = place;
         known = known;
@@ -235,5 +235,5 @@ module _ (old : TableShown → Type 0) (live : Bool) (mark : Mark) (name : List 
 pub leads-release_lock : (old : TableShown → Type 0) (name : List ℕ) (a : Core) (session : Session) → Rests old a session
     → Leads (Comes old) (starting (statement.ReleaseLock name) session) a
 leads-release_lock old name a session rests =
-    leads-give_back old session.state.is_open (mark_of session.context.kept) name a session (last_ticket (user_lock_key name) session.context) refl
+    leads-give_back old session.state.is_open (current_mark session.context.kept) name a session (last_ticket (user_lock_key name) session.context) refl
     (point-resting old a session rests)

@@ -20,7 +20,7 @@ use Rattle.mdl_rows.specs.declared.reply.Reply.TheVariants as reply
 use Rattle.mdl_rows.specs.declared.reply.TableShown.{TableShown}
 use Rattle.mdl_rows.specs.Rows.{Row, Act, nothing, set, check, acquire_all, for_each, ◌>>=◌, ◌>>◌}
 use Rattle.mdl_rows.specs.Rows as row
-use Rattle.mdl_rows.specs.States.{State, has_locked, savepoint_mark, written}
+use Rattle.mdl_rows.specs.States.{State, after_write, has_locked, savepoint_mark}
 use Rattle.mdl_rows.specs.Statements as does
 use Rattle.mdl_script_laws.specs.Shown.{leaves_transaction}
 use Rattle.mdl_script_laws.proofs.ListLemmas.{filter-among, only-one}
@@ -107,7 +107,7 @@ module _ (old : TableShown → Type 0) (live : Bool) where
   fair-wrote locks seen = λ state unlocked opens. by state.is_open opens
     where
       by : (opened : Bool) → ((x : TableShown) → old x → live ≡ true → opened ≡ true)
-          → IsFair old live locks seen ((if opened then set written else does.commit_writes) >>= (λ _. row.Give reply.Ok))
+          → IsFair old live locks seen ((if opened then set after_write else does.commit_writes) >>= (λ _. row.Give reply.Ok))
       by true opens = ((λ s u. u), (λ s was e. was e), (λ x is lives s e. e), λ lives x tell. absurd tell)
       by false opens = λ id.
           let closed : (x : TableShown) → old x → live ≡ true → ⊥ = λ x is lives. (let e = opens x is lives in cc) in

@@ -13,8 +13,8 @@ use Rattle.mdl_core.specs.CoreJoins.{Knows}
 use Rattle.mdl_core.specs.Cores.{Core}
 use Rattle.mdl_context.specs.declared.kept.Wanted.{Wanted}
 use Rattle.mdl_context.specs.declared.request.Mark.{Mark}
-use Rattle.mdl_context.specs.Contexts.{ContextView, mark_of}
-use Rattle.mdl_context.specs.Holdings.{upgrade_of}
+use Rattle.mdl_context.specs.Contexts.{ContextView, current_mark}
+use Rattle.mdl_context.specs.Holdings.{awaited_upgrade}
 use Rattle.mdl_rows.specs.declared.reply.Reply.{Reply}
 use Rattle.mdl_rows.specs.declared.reply.Reply.TheVariants as reply
 use Rattle.mdl_rows.specs.declared.reply.TableShown.{TableShown}
@@ -118,7 +118,7 @@ pub record IsWaiting (old : TableShown → Type 0) (a : Core) (session : Session
   pub key : KeyName
   pub wanted : Wanted
   pub wait : session.context.wait ≡ Some wanted
-  pub gains : upgrade_of (Some wanted) ≡ None
+  pub gains : awaited_upgrade (Some wanted) ≡ None
   pub at : Knows a session.context.who wanted.place key
   pub point : Point old live locks seen rest.mark a session.context session.state
   pub fair : (id : ℕ) → IsFair old live (with_lock wanted.duration id key locks) seen (rest.rest id)
@@ -231,7 +231,7 @@ module _ (old : TableShown → Type 0) (live : Bool) (locks : List (ℕ × KeyNa
 
 -- where a statement begins
 pub point-resting : (old : TableShown → Type 0) (a : Core) (session : Session) → Rests old a session
-    → Point old session.state.is_open [] [] (mark_of session.context.kept) a session.context session.state
+    → Point old session.state.is_open [] [] (current_mark session.context.kept) a session.context session.state
 point-resting old a session rests = record {
   fits = rests.fits;
   unlocked = rests.unlocked;

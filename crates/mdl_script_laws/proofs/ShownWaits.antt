@@ -8,7 +8,7 @@ use Rattle.mdl_system.proofs.OrderLemmas.{Contains-cons_cases, Contains-here, Co
 use Rattle.mdl_calls.specs.declared.answers.Held.{Held}
 use Rattle.mdl_calls.specs.SessionLocks.{Wait}
 use Rattle.mdl_calls.specs.Words.{Answer, Granted, Pending, Is_settled, Lost, Poll_wait, End_wait, Release, Program, Give, Ask, EachCall, SearchEnd, Over, Cut_off, Failed, seeking, most_searches}
-use Rattle.mdl_core.specs.CoreJoins.{Joins, own_at}
+use Rattle.mdl_core.specs.CoreJoins.{Joins, locks_at}
 use Rattle.mdl_core.specs.Cores.{Core}
 use Rattle.mdl_context.specs.declared.context_error.ContextError.{ContextError}
 use Rattle.mdl_context.specs.declared.context_error.ContextError.TheVariants.{Space}
@@ -16,9 +16,9 @@ use Rattle.mdl_context.specs.declared.kept.Kept.{Kept}
 use Rattle.mdl_context.specs.declared.kept.Wanted.{Wanted}
 use Rattle.mdl_context.specs.declared.request.Resume.{Resume}
 use Rattle.mdl_context.specs.declared.request.Resume.TheVariants as resume
-use Rattle.mdl_context.specs.Contexts.{ContextView, beyond, has_number, lasts, without}
+use Rattle.mdl_context.specs.Contexts.{ContextView, beyond, has_number, lasts, without_tickets}
 use Rattle.mdl_context.specs.Gains as gains
-use Rattle.mdl_context.specs.Holdings.{search_over, upgrade_of, without_number, is_ticket}
+use Rattle.mdl_context.specs.Holdings.{search_over, awaited_upgrade, without_number, is_kept_ticket}
 use Rattle.mdl_context.specs.Releases as releases
 use Rattle.mdl_context.specs.Requests.{Outcome}
 use Rattle.mdl_context.specs.Waits as waits
@@ -34,9 +34,9 @@ abbrev pub ComesTo : ContextView → Outcome Resume → Core → Type 0
 ComesTo before (Ok resume.Waiting, after) b =
     (wanted : Wanted) → before.wait ≡ Some wanted
     → (still : Wanted) × (after.wait ≡ Some still) × (still.place ≡ wanted.place) × (still.duration ≡ wanted.duration)
-    × (upgrade_of (Some still) ≡ upgrade_of (Some wanted))
+    × (awaited_upgrade (Some still) ≡ awaited_upgrade (Some wanted))
 ComesTo before (Ok (resume.Acquired id), after) b =
-    (wanted : Wanted) → before.wait ≡ Some wanted → (t : Held) × Contains (own_at b before.who).held t × (t.id ≡ id) × (t.place ≡ wanted.place)
+    (wanted : Wanted) → before.wait ≡ Some wanted → (t : Held) × Contains (locks_at b before.who).held t × (t.id ≡ id) × (t.place ≡ wanted.place)
     × ((new : Kept) × Contains after.kept new × (new.id ≡ id) × (new.duration ≡ wanted.duration))
 ComesTo before outcome b = Unit {0}
 
@@ -77,7 +77,7 @@ taken-up a b context id (Some wanted) e fits joins =
 lost-so : (a b : Core) (context : ContextView) → Fits a context → Spares context.who none a b → Followed a context b (waits.without_wait context)
 lost-so a b context fits spares = followed-waiting a b context None fits spares (λ wanted w f g. cc)
 
-ended-so : (a b : Core) (context : ContextView) (answer : Answer) → upgrade_of context.wait ≡ None → Fits a context → Joins a (End_wait context.who) answer b
+ended-so : (a b : Core) (context : ContextView) (answer : Answer) → awaited_upgrade context.wait ≡ None → Fits a context → Joins a (End_wait context.who) answer b
     → Leads (Resumed a context) (waits.end_answered context answer) b
 ended-so a b context (Granted id) plain fits joins =
     subst (λ upgrade. Leads (Resumed a context) (waits.wait_won upgrade id context) b) (sym plain) (taken-up a b context id context.wait refl fits joins)
@@ -98,21 +98,21 @@ resumed-late a b context program spares leads =
       resumed.1,
     )) leads
 
-ending-so : (a : Core) (context : ContextView) → upgrade_of context.wait ≡ None → Fits a context → Leads (Resumed a context) (waits.ending context) a
+ending-so : (a : Core) (context : ContextView) → awaited_upgrade context.wait ≡ None → Fits a context → Leads (Resumed a context) (waits.ending_wait context) a
 ending-so a context plain fits = λ answer b joins. ended-so a b context answer plain fits joins
 
-polled-so : (a b : Core) (context : ContextView) (answer : Answer) → upgrade_of context.wait ≡ None → Fits a context → Stays context.who none a b
+polled-so : (a b : Core) (context : ContextView) (answer : Answer) → awaited_upgrade context.wait ≡ None → Fits a context → Stays context.who none a b
     → Leads (Resumed a context) (waits.poll_answered context answer) b
 polled-so a b context Pending plain fits stays = (followed-same a b context fits stays, λ wanted e. (wanted, e, refl, refl, refl))
-polled-so a b context (Is_settled how) plain fits stays = resumed-late a b context (waits.ending context) stays.0 (ending-so b context plain (fits-same a b context fits stays))
+polled-so a b context (Is_settled how) plain fits stays = resumed-late a b context (waits.ending_wait context) stays.0 (ending-so b context plain (fits-same a b context fits stays))
 polled-so a b context answer plain fits stays = (followed-same a b context fits stays, tt)
 
-looking-so : (a : Core) (context : ContextView) → upgrade_of context.wait ≡ None → Fits a context → Leads (Resumed a context) (waits.looking context) a
+looking-so : (a : Core) (context : ContextView) → awaited_upgrade context.wait ≡ None → Fits a context → Leads (Resumed a context) (waits.looking context) a
 looking-so a context plain fits = λ answer b joins.
     polled-so a b context answer plain fits (stays-call context.who none a b (Poll_wait context.who) answer fits.speaks (refl, tt, refl) joins)
 
 -- its searches are over
-pub searched-fits : (a : Core) (context : ContextView) → Fits a context → Fits a (waits.searched context)
+pub searched-fits : (a : Core) (context : ContextView) → Fits a context → Fits a (waits.searches_over context)
 searched-fits a context fits = record {
   speaks = fits.speaks;
   backed = fits.backed;
@@ -122,37 +122,37 @@ searched-fits a context fits = record {
 }
   where
     at : (o : Option Wanted) → context.wait ≡ o → (wanted : Wanted) (w : Wait) → option_map search_over o ≡ Some wanted
-        → (own_at a context.who).wait ≡ Some w → w.place ≡ wanted.place
+        → (locks_at a context.who).wait ≡ Some w → w.place ≡ wanted.place
     at None here wanted w e f = cc
     at (Some x) here wanted w e f = let g : search_over x ≡ wanted = cc in fits.wait x w here f ∙ ap (λ (y : Wanted). y.place) g
 
 -- and it waits for what it waited for
-pub searched-upgrades : (wait : Option Wanted) → upgrade_of (option_map search_over wait) ≡ upgrade_of wait
+pub searched-upgrades : (wait : Option Wanted) → awaited_upgrade (option_map search_over wait) ≡ awaited_upgrade wait
 searched-upgrades None = refl
 searched-upgrades (Some wanted) = refl
 
-searched-comes : (context : ContextView) (outcome : Outcome Resume) (b : Core) → ComesTo (waits.searched context) outcome b → ComesTo context outcome b
+searched-comes : (context : ContextView) (outcome : Outcome Resume) (b : Core) → ComesTo (waits.searches_over context) outcome b → ComesTo context outcome b
 searched-comes context (Ok resume.Waiting, after) b comes = λ wanted e. comes (search_over wanted) (ap (option_map search_over) e)
 searched-comes context (Ok (resume.Acquired id), after) b comes = λ wanted e. comes (search_over wanted) (ap (option_map search_over) e)
 searched-comes context (Ok (resume.Lost how), after) b comes = tt
 searched-comes context (Err error, after) b comes = tt
 
-sought-so : (a b : Core) (context : ContextView) (end : SearchEnd) → upgrade_of context.wait ≡ None → Fits a context → Stays context.who none a b
+sought-so : (a b : Core) (context : ContextView) (end : SearchEnd) → awaited_upgrade context.wait ≡ None → Fits a context → Stays context.who none a b
     → Leads (Resumed a context) (waits.wait_sought context end) b
 sought-so a b context Over plain fits stays =
-    leads-map (Resumed b (waits.searched context)) (Resumed a context) (waits.looking (waits.searched context)) b
+    leads-map (Resumed b (waits.searches_over context)) (Resumed a context) (waits.looking (waits.searches_over context)) b
     (λ outcome c resumed. (
       followed-late a b c context.who context.kept context.known context.known context.wait (option_map search_over context.wait) outcome.1 stays.0 resumed.0,
       searched-comes context outcome c resumed.1,
     ))
-    (looking-so b (waits.searched context) (searched-upgrades context.wait ∙ plain) (searched-fits b context (fits-same a b context fits stays)))
+    (looking-so b (waits.searches_over context) (searched-upgrades context.wait ∙ plain) (searched-fits b context (fits-same a b context fits stays)))
 sought-so a b context Cut_off plain fits stays = resumed-late a b context (waits.looking context) stays.0 (looking-so b context plain (fits-same a b context fits stays))
 sought-so a b context (Failed refusal) plain fits stays =
     leads-bind (λ x c. Spares context.who none a c) (Resumed a context) (gains.abandoning context.who)
     (λ _. Give (Err (Space refusal), waits.without_wait context)) b
     (leads-abandoning a b context.who stays.0) (λ x c spares. (lost-so a c context fits spares, tt))
 
-cut_off-so : (a b : Core) (context : ContextView) (answer : Answer) → upgrade_of context.wait ≡ None → Fits a context → Stays context.who none a b
+cut_off-so : (a b : Core) (context : ContextView) (answer : Answer) → awaited_upgrade context.wait ≡ None → Fits a context → Stays context.who none a b
     → Leads (Resumed a context) (waits.cut_off_answered context answer) b
 cut_off-so a b context Pending plain fits stays =
     leads-bind (λ x c. Stays context.who none a c) (Resumed a context) (seeking most_searches context.who) (waits.wait_sought context) b
@@ -161,14 +161,14 @@ cut_off-so a b context Pending plain fits stays =
 cut_off-so a b context (Is_settled how) plain fits stays = polled-so a b context (Is_settled how) plain fits stays
 cut_off-so a b context answer plain fits stays = (followed-same a b context fits stays, tt)
 
-going_on-so : (a : Core) (context : ContextView) (searched : Option Bool) → upgrade_of context.wait ≡ None → Fits a context → Leads (Resumed a context) (waits.going_on searched context) a
+going_on-so : (a : Core) (context : ContextView) (searched : Option Bool) → awaited_upgrade context.wait ≡ None → Fits a context → Leads (Resumed a context) (waits.continuing_wait searched context) a
 going_on-so a context None plain fits = (followed-here a context fits, tt)
 going_on-so a context (Some true) plain fits = looking-so a context plain fits
 going_on-so a context (Some false) plain fits = λ answer b joins.
     cut_off-so a b context answer plain fits (stays-call context.who none a b (Poll_wait context.who) answer fits.speaks (refl, tt, refl) joins)
 
 -- a wait for a new ticket goes on
-pub leads-resuming : (a : Core) (context : ContextView) → upgrade_of context.wait ≡ None → Fits a context → Leads (Resumed a context) (waits.resuming context) a
+pub leads-resuming : (a : Core) (context : ContextView) → awaited_upgrade context.wait ≡ None → Fits a context → Leads (Resumed a context) (waits.resuming context) a
 leads-resuming a context plain fits = going_on-so a context (waits.is_searched context.wait) plain fits
 
 -- ---- tickets that are given up
@@ -194,13 +194,13 @@ quiet-releasing who gone (k ∷ ks) each =
 pub record GaveUp (a : Core) (gone : List Kept) (before : ContextView) (b : Core) (after : ContextView) : Type 0 where
   pub fits : Fits b after
   pub spares : Spares before.who (IsAmong gone) a b
-  pub left : after ≡ record before { kept = without gone before.kept }
+  pub left : after ≡ record before { kept = without_tickets gone before.kept }
 
 pub leads-giving_up : (a : Core) (gone : List Kept) (context : ContextView) → Fits a context
-    → Leads (λ (outcome : Outcome (Unit {0})) b. GaveUp a gone context b outcome.1) (releases.giving_up gone context) a
+    → Leads (λ (outcome : Outcome (Unit {0})) b. GaveUp a gone context b outcome.1) (releases.releasing_tickets gone context) a
 leads-giving_up a gone context fits =
     leads-bind (λ x b. Stays context.who (IsAmong gone) a b) (λ (outcome : Outcome (Unit {0})) b. GaveUp a gone context b outcome.1)
-    (releases.releasing_all context.who gone) (λ _. Give (Ok tt, record context { kept = without gone context.kept })) a
+    (releases.releasing_all context.who gone) (λ _. Give (Ok tt, record context { kept = without_tickets gone context.kept })) a
     (leads-quiet (releases.releasing_all context.who gone) a a context.who (IsAmong gone) (stays-here context.who (IsAmong gone) a fits.speaks)
     (quiet-releasing context.who (IsAmong gone) gone (λ k among. (k, among, refl))))
     (λ x b stays. record {
@@ -222,8 +222,8 @@ pub leads-released : (a : Core) (id : ℕ) (context : ContextView) → Fits a co
     → Leads (λ (outcome : Outcome (Unit {0})) b. IsReleased a id context b outcome.1) (releases.releasing id context) a
 leads-released a id context fits = go (releases.release_fault id context)
   where
-    other : (k : Kept) → not (is_ticket id k) ≡ true → k.id ≡ id → ⊥
-    other k stay e = let h : is_ticket id k ≡ true = grind (arith, nat_tests) in let g = ap not h in cc
+    other : (k : Kept) → not (is_kept_ticket id k) ≡ true → k.id ≡ id → ⊥
+    other k stay e = let h : is_kept_ticket id k ≡ true = grind (arith, nat_tests) in let g = ap not h in cc
 
     go : (fault : Option ContextError) → Leads (λ (outcome : Outcome (Unit {0})) b. IsReleased a id context b outcome.1)
         (releases.unless fault context (Ask (Release context.who id) (λ _. Give (Ok tt, record context { kept = without_number id context.kept })))) a
@@ -237,11 +237,11 @@ leads-released a id context fits = go (releases.release_fault id context)
     go None = λ answer b joins. (
         let step = stays-call context.who (λ n. n ≡ id) a b (Release context.who id) answer fits.speaks (refl, refl, refl) joins in
         record {
-          fits = fits-fewer a b context (λ n. n ≡ id) (λ ticket. not (is_ticket id ticket)) other fits step;
+          fits = fits-fewer a b context (λ n. n ≡ id) (λ ticket. not (is_kept_ticket id ticket)) other fits step;
           spares = step.0;
           who = refl;
-          fewer = λ k among. (among-filter (λ ticket. not (is_ticket id ticket)) context.kept k among).0;
-          late = λ most k among. drop-fewer most (lasts Transaction) (λ ticket. not (is_ticket id ticket)) context.kept k among;
+          fewer = λ k among. (among-filter (λ ticket. not (is_kept_ticket id ticket)) context.kept k among).0;
+          late = λ most k among. drop-fewer most (lasts Transaction) (λ ticket. not (is_kept_ticket id ticket)) context.kept k among;
         })
 
 pub leads-releasing : (a : Core) (id : ℕ) (context : ContextView) → Fits a context

@@ -11,7 +11,7 @@ use Rattle.mdl_core.specs.CoreCalls.{outcome}
 use Rattle.mdl_core.specs.CoreJoins.{Joins, SpeaksFor}
 use Rattle.mdl_core.specs.Cores.{Core}
 use Rattle.mdl_core.specs.RunLaws.{IsMadeFor}
-use Rattle.mdl_context.specs.Contexts.{mark_of}
+use Rattle.mdl_context.specs.Contexts.{current_mark}
 use Rattle.mdl_lines.specs.Sessions.{IsScriptSession}
 use Rattle.mdl_syntax.specs.declared.script.Line.{Line}
 use Rattle.mdl_syntax.specs.declared.statement.Statement.{Statement}
@@ -20,7 +20,7 @@ use Rattle.mdl_rows.specs.declared.reply.Reply.{Reply}
 use Rattle.mdl_rows.specs.declared.reply.Reply.TheVariants as reply
 use Rattle.mdl_rows.specs.declared.reply.TableShown.{TableShown}
 use Rattle.mdl_rows.specs.Endings.{Pause, Ends, Begins_to_wait, Waits_on, Faults}
-use Rattle.mdl_rows.specs.MemoryLaws.{session_at}
+use Rattle.mdl_rows.specs.MemoryLaws.{session_of_pause}
 use Rattle.mdl_rows.specs.Playing.{going_on, starting}
 use Rattle.mdl_rows.specs.Sessions.{Session}
 use Rattle.mdl_rows.specs.Statements.{row_of}
@@ -28,7 +28,7 @@ use Rattle.mdl_rows.proofs.RowCalls.{rows_call}
 use Rattle.mdl_script.specs.declared.told.News.{News}
 use Rattle.mdl_script.specs.declared.told.News.TheVariants.{Busy, Ends as Has_ended, Waits as Has_waits}
 use Rattle.mdl_script.specs.declared.told.Told.{Told}
-use Rattle.mdl_script.specs.Worlds.{Player, Scene, World, asked, first_core, first_settled, first_world, going, going_first, is_waiting, line_played, lines_played, most_turns, played, player_at, settling, started, timed_out, told_of, ◌and_then◌}
+use Rattle.mdl_script.specs.Worlds.{Player, Scene, World, after_timeout, ask_session, continuing_settled, first_core, first_settled, first_world, going, going_first, line_played, lines_played, most_turns, played, player_at, reports_of, session_waits, started, ◌and_then◌}
 use Rattle.mdl_script.proofs.SoundLemmas.{IsStaffed, first-session, staffed-first, staffed-going, staffed-started, staffed-timed_out}
 use Rattle.mdl_script_laws.specs.Shown.{AreOfSessions, IsShownTo, LeavesTransaction, leaves_transaction}
 use Rattle.mdl_script_laws.proofs.ListLemmas.{only-one}
@@ -54,8 +54,8 @@ leads-leaving : (old : TableShown → Type 0) (asked : Statement) (a : Core) (se
 leads-leaving old (statement.ReleaseLock name) a session leaves rests = leads-release_lock old name a session rests
 leads-leaving old asked a session leaves rests =
     let live = session.state.is_open in
-    leads-begun old (row_of asked) (mark_of session.context.kept) a session
-    (leads-play old live [] [] (begun (row_of asked) session.state) (mark_of session.context.kept) a session
+    leads-begun old (row_of asked) (current_mark session.context.kept) a session
+    (leads-play old live [] [] (begun (row_of asked) session.state) (current_mark session.context.kept) a session
     (fair-leaving old live asked session.state leaves (λ none. none) rests.unlocked (λ lives. lives)) (point-resting old a session rests))
 
 leads-starting : (old : TableShown → Type 0) (statement : Statement) (a : Core) (session : Session) → MayStart old statement
@@ -65,7 +65,7 @@ leads-starting old statement a session may rests = by (leaves_transaction statem
     by : (leaves : Bool) → leaves_transaction statement ≡ leaves → Leads (Comes old) (starting statement session) a
     by true leaves = leads-leaving old statement a session leaves rests
     by false other =
-        leads-play old true [] [] (row_of statement) (mark_of session.context.kept) a session (fair-any old statement other nothing_old) (record {
+        leads-play old true [] [] (row_of statement) (current_mark session.context.kept) a session (fair-any old statement other nothing_old) (record {
           fits = rests.fits;
           unlocked = rests.unlocked;
           was = λ e. refl;
@@ -158,9 +158,9 @@ told-alone who line s news x shown =
     (ap (λ (t : Told). t.who) same, ap (λ (t : Told). t.news) same)
 
 -- what is told of a statement that came so far
-told-by : (who line s : ℕ) (pause : Pause) (x : TableShown) → IsShownTo who (told_of line s pause) x → (s ≡ who)
-    × ((old : TableShown → Type 0) (b : Core) → Comes old pause b → Rests old b (session_at pause)
-    × ((session_at pause).state.is_open ≡ true → IsStanding b (session_at pause).context x))
+told-by : (who line s : ℕ) (pause : Pause) (x : TableShown) → IsShownTo who (reports_of line s pause) x → (s ≡ who)
+    × ((old : TableShown → Type 0) (b : Core) → Comes old pause b → Rests old b (session_of_pause pause)
+    × ((session_of_pause pause).state.is_open ≡ true → IsStanding b (session_of_pause pause).context x))
 told-by who line s (Ends r session) x shown =
     let told = told-alone who line s (Has_ended r) x shown in
     let is = same_reply (reply.Columns shown.1) r told.1 in
@@ -170,7 +170,7 @@ told-by who line s (Begins_to_wait key mode session) x shown =
 told-by who line s (Waits_on session) x shown = absurd (Contains-none (record { line = shown.0; who = who; news = Has_ended (reply.Columns shown.1) }) shown.2)
 told-by who line s (Faults session) x shown = absurd (Contains-none (record { line = shown.0; who = who; news = Has_ended (reply.Columns shown.1) }) shown.2)
 
-keeps-comes : (old : TableShown → Type 0) (pause : Pause) (b : Core) → Comes old pause b → Keeps old b (session_at pause)
+keeps-comes : (old : TableShown → Type 0) (pause : Pause) (b : Core) → Comes old pause b → Keeps old b (session_of_pause pause)
 keeps-comes old (Ends r session) b comes = inl comes.0
 keeps-comes old (Begins_to_wait key mode session) b comes = inr comes
 keeps-comes old (Waits_on session) b comes = inr comes
@@ -201,7 +201,7 @@ module _ (who : ℕ) (old : TableShown → Type 0) (line s : ℕ) (program : Ses
   abbrev after : World
   after = (played line s (program before) world).world
 
-  mine : (player_at s after).session ≡ session_at end.0
+  mine : (player_at s after).session ≡ session_of_pause end.0
   mine = ap (λ (p : Player). p.session) (plays-same line s (program before) world is good.staffed)
 
   theirs : (w : ℕ) → IsScriptSession w → w ≢ s → (player_at w after).session ≡ (player_at w world).session
@@ -239,7 +239,7 @@ module _ (who : ℕ) (old : TableShown → Type 0) (line s : ℕ) (program : Ses
       staffed = staffed;
       own = subst (λ w. Keeps (with_table old x) after.core (player_at w after).session) same
           (subst (λ session. Keeps (with_table old x) end.1 session) (sym mine)
-          (let h = (told-by who line s end.0 x told).1 old end.1 (came old leads) in inl (rests-with old end.1 (session_at end.0) x h.0 h.1)));
+          (let h = (told-by who line s end.0 x told).1 old end.1 (came old leads) in inl (rests-with old end.1 (session_of_pause end.0) x h.0 h.1)));
       others = others;
     };
   }
@@ -288,7 +288,7 @@ module _ (who : ℕ) (there : IsScriptSession who) where
       staffed = staffed-going s world is good.staffed
 
   scene-started : (old : TableShown → Type 0) (line : Line) (world : World) → IsScriptSession line.session → (line.session ≡ who → MayStart old line.statement)
-      → is_waiting world line.session ≡ false → IsGood who old world → IsGoodScene who old (started line world)
+      → session_waits world line.session ≡ false → IsGood who old world → IsGoodScene who old (started line world)
   scene-started old line world is may idle good = elim (eqb_tells line.session who) [
     | inl same ↦ good-own who old line.number line.session (λ session. starting line.statement session) world is good made staffed same.1
         (leads-starting old line.statement world.core (player_at line.session world).session (may same.1)
@@ -306,7 +306,7 @@ module _ (who : ℕ) (there : IsScriptSession who) where
       staffed = staffed-started line world is good.staffed
 
   -- a session's patience ends
-  good-timed_out : (old : TableShown → Type 0) (s : ℕ) (world : World) → IsScriptSession s → IsGood who old world → IsGood who old (timed_out s world)
+  good-timed_out : (old : TableShown → Type 0) (s : ℕ) (world : World) → IsScriptSession s → IsGood who old world → IsGood who old (after_timeout s world)
   good-timed_out old s world is good = record {
     staffed = staffed-timed_out s world is good.staffed;
     own = still old who there good.own;
@@ -333,7 +333,7 @@ module _ (who : ℕ) (there : IsScriptSession who) where
           (subst (λ v. Stays v none world.core (outcome (Settle_timeout s) world.core).1) (sym (good.staffed.named w session)) (stays w session)) keeps
 
   scene-asked : (old : TableShown → Type 0) (line : Line) (world : World) → IsScriptSession line.session → (line.session ≡ who → MayStart old line.statement)
-      → IsGood who old world → IsGoodScene who old (asked line world)
+      → IsGood who old world → IsGoodScene who old (ask_session line world)
   scene-asked old line world is may good =
       asked-by (IsGoodScene who old) line world (record {
         good = good-timed_out old line.session world is good;
@@ -370,16 +370,16 @@ module _ (who : ℕ) (there : IsScriptSession who) where
   scene-first old (Some s) world more found good rest =
       scene-then old (going s world) more (scene-going old s world (first-session world s found) good) (λ facts there. rest facts (going s world).world there)
 
-  scene-settling : (n : ℕ) (old : TableShown → Type 0) (world : World) → IsGood who old world → IsGoodScene who old (settling n world)
-  unfolding settling
+  scene-settling : (n : ℕ) (old : TableShown → Type 0) (world : World) → IsGood who old world → IsGoodScene who old (continuing_settled n world)
+  unfolding continuing_settled
   scene-settling zero old world good = scene-silent old world good
-  scene-settling (suc n) old world good = scene-first old (first_settled world) world (settling n) refl good (λ facts after kept. scene-settling n facts after kept)
+  scene-settling (suc n) old world good = scene-first old (first_settled world) world (continuing_settled n) refl good (λ facts after kept. scene-settling n facts after kept)
 
   pub scene-line : (old : TableShown → Type 0) (line : Line) (world : World) → IsScriptSession line.session → (line.session ≡ who → MayStart old line.statement)
       → IsGood who old world → IsGoodScene who old (line_played line world)
   scene-line old line world is may good =
-      scene-then old (asked line world) (settling most_turns) (scene-asked old line world is may good)
-      (λ facts kept. scene-settling most_turns facts (asked line world).world kept)
+      scene-then old (ask_session line world) (continuing_settled most_turns) (scene-asked old line world is may good)
+      (λ facts kept. scene-settling most_turns facts (ask_session line world).world kept)
 
   pub scene-lines : (old : TableShown → Type 0) (lines : List Line) (world : World) → AreOfSessions lines → LeavesTransaction who lines → IsGood who old world
       → IsGoodScene who old (lines_played lines world)

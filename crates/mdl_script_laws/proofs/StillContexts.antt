@@ -19,9 +19,9 @@ use Rattle.mdl_context.specs.Wishes.{Wish}
 use Rattle.mdl_context.specs.declared.request.Resume.{Resume}
 use Rattle.mdl_context.specs.declared.request.Resume.TheVariants as resume_as
 use Rattle.mdl_context.specs.declared.request.Tried.{Tried}
-use Rattle.mdl_context.specs.Contexts.{ContextView, ticket_kept, without, place_known}
+use Rattle.mdl_context.specs.Contexts.{ContextView, ticket_kept, without_tickets, place_known}
 use Rattle.mdl_context.specs.Gains as gains
-use Rattle.mdl_context.specs.Holdings.{earliest, upgrade_of, without_number}
+use Rattle.mdl_context.specs.Holdings.{awaited_upgrade, earliest, without_number}
 use Rattle.mdl_context.specs.Releases as releases
 use Rattle.mdl_context.specs.Requests as requests
 use Rattle.mdl_context.specs.Requests.{Outcome}
@@ -147,7 +147,7 @@ still-merge : (who new : ℕ) (answer : Answer) → AreStill (upgrades.merge_ans
 still-merge who new Done = tt
 still-merge who new _ = (tt, λ _. tt)
 
-pub still-merging : (who id new : ℕ) → AreStill (upgrades.merging who id new)
+pub still-merging : (who id new : ℕ) → AreStill (upgrades.merging_new who id new)
 still-merging who id new = (tt, still-merge who new)
 
 -- ---- waits
@@ -155,15 +155,15 @@ still-merging who id new = (tt, still-merge who new)
 pub still-won : (upgrade : Option (ℕ × Mode)) (new : ℕ) (context : ContextView) → AreStill (waits.wait_won upgrade new context)
 still-won None new context = tt
 still-won (Some (id, mode)) new context =
-    calls_bind {A = Result (Unit {0}) SpaceError} {B = Outcome Resume} IsStill (upgrades.merging context.who id new)
+    calls_bind {A = Result (Unit {0}) SpaceError} {B = Outcome Resume} IsStill (upgrades.merging_new context.who id new)
     (λ end. Give (upgrades.merged (resume_as.Acquired id) id mode (waits.without_wait context) end)) (still-merging context.who id new) (λ _. tt)
 
 still-end : (context : ContextView) (answer : Answer) → AreStill (waits.end_answered context answer)
-still-end context (Granted id) = still-won (upgrade_of context.wait) id context
+still-end context (Granted id) = still-won (awaited_upgrade context.wait) id context
 still-end context (Lost how) = tt
 still-end context _ = tt
 
-pub still-ending : (context : ContextView) → AreStill (waits.ending context)
+pub still-ending : (context : ContextView) → AreStill (waits.ending_wait context)
 still-ending context = (tt, still-end context)
 
 still-poll : (context : ContextView) (answer : Answer) → AreStill (waits.poll_answered context answer)
@@ -175,7 +175,7 @@ pub still-looking : (context : ContextView) → AreStill (waits.looking context)
 still-looking context = (tt, still-poll context)
 
 still-wait_sought : (context : ContextView) (end : SearchEnd) → AreStill (waits.wait_sought context end)
-still-wait_sought context Over = still-looking (waits.searched context)
+still-wait_sought context Over = still-looking (waits.searches_over context)
 still-wait_sought context Cut_off = still-looking context
 still-wait_sought context (Failed refusal) = still-abandoning {A = Outcome Resume} context.who (Err (Space refusal), waits.without_wait context)
 
@@ -189,7 +189,7 @@ still-cut_off context Pending = still-searching_on context
 still-cut_off context (Is_settled how) = still-ending context
 still-cut_off context _ = tt
 
-still-going_on : (searched : Option Bool) (context : ContextView) → AreStill (waits.going_on searched context)
+still-going_on : (searched : Option Bool) (context : ContextView) → AreStill (waits.continuing_wait searched context)
 still-going_on None context = tt
 still-going_on (Some true) context = still-looking context
 still-going_on (Some false) context = (tt, still-cut_off context)
@@ -199,7 +199,7 @@ still-resuming context = still-going_on (waits.is_searched context.wait) context
 
 pub still-giving_up_wait : (context : ContextView) → EachCall IsStill (waits.giving_up_wait context)
 still-giving_up_wait context =
-    either {A = Outcome Resume} AreStill (is_some context.wait) (Ask (Settle_timeout context.who) (λ _. waits.ending context))
+    either {A = Outcome Resume} AreStill (is_some context.wait) (Ask (Settle_timeout context.who) (λ _. waits.ending_wait context))
     (Give (Err (Space NoWait), context)) (tt, λ _. (tt, still-end context)) tt
 
 -- ---- releases
@@ -208,10 +208,10 @@ pub still-all : (who : ℕ) (gone : List Kept) → AreStill (releases.releasing_
 still-all who [] = tt
 still-all who (ticket ∷ tickets) = (tt, λ _. still-all who tickets)
 
-pub still-giving_up : (gone : List Kept) (context : ContextView) → EachCall IsStill (releases.giving_up gone context)
+pub still-giving_up : (gone : List Kept) (context : ContextView) → EachCall IsStill (releases.releasing_tickets gone context)
 still-giving_up gone context =
     calls_bind {A = Unit {0}} {B = Outcome (Unit {0})} IsStill (releases.releasing_all context.who gone)
-    (λ _. Give (Ok tt, record context { kept = without gone context.kept })) (still-all context.who gone) (λ _. tt)
+    (λ _. Give (Ok tt, record context { kept = without_tickets gone context.kept })) (still-all context.who gone) (λ _. tt)
 
 pub still-unless : {A : Type 0} (fault : Option ContextError) (context : ContextView) (program : Program (Outcome A)) →
     EachCall IsStill program → EachCall IsStill (releases.unless fault context program)
@@ -230,7 +230,7 @@ still-waiting_at who place mode = (tt, still-wish who)
 
 still-second : (ticket : Kept) (mode : Mode) (context : ContextView) (end : Result AskResult SpaceError) → AreStill (upgrades.second_got ticket mode context end)
 still-second ticket mode context (Ok (got.Granted new)) =
-    calls_bind {A = Result (Unit {0}) SpaceError} {B = Outcome Acquire} IsStill (upgrades.merging context.who ticket.id new)
+    calls_bind {A = Result (Unit {0}) SpaceError} {B = Outcome Acquire} IsStill (upgrades.merging_new context.who ticket.id new)
     (λ end. Give (upgrades.merged (Acquired ticket.id) ticket.id mode context end)) (still-merging context.who ticket.id new) (λ _. tt)
 still-second ticket mode context (Ok (got.Waits number searched)) = tt
 still-second ticket mode context (Err refusal) = tt

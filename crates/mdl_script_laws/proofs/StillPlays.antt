@@ -10,7 +10,7 @@ use Rattle.mdl_core.specs.CoreJoins.{Joins}
 use Rattle.mdl_core.specs.CoreLaws.{GrantsInOrder, IsEventOf}
 use Rattle.mdl_core.specs.CoreSystems.{applies, system_of}
 use Rattle.mdl_core.specs.Cores.{Core}
-use Rattle.mdl_core.specs.Ties.{IsSound}
+use Rattle.mdl_core.specs.Ties.{IsSoundCore}
 use Rattle.mdl_core.proofs.CoreSound.{calls_are-events, calls_keep-sound}
 use Rattle.mdl_script_laws.specs.Failures.{SameDefinitions}
 use Rattle.mdl_script_laws.proofs.StillContexts.{AreStill, IsStill}
@@ -61,7 +61,7 @@ grants-keep key [] a b same = same.definitions
 grants-keep key (event ∷ events) a b (waiter, between, e, first, step, rest) = λ k.
     grants-keep key events between b rest k ∙ event-keeps event a between (subst IsStillEvent (sym e) tt) step k
 
-call-keeps : (a b : Core) (call : Call) (answer : Answer) → IsSound a → IsStillAnswer call answer → Joins a call answer b → SameDefinitions a b
+call-keeps : (a b : Core) (call : Call) (answer : Answer) → IsSoundCore a → IsStillAnswer call answer → Joins a call answer b → SameDefinitions a b
 call-keeps a b call answer sound still joins = elim (calls_are-events a b call answer sound joins) [
   | inl calm ↦ calm.1.definitions
   | inr (event, grants, between, key, is, about, step, rest) ↦ λ k.
@@ -72,7 +72,7 @@ call-keeps a b call answer sound still joins = elim (calls_are-events a b call a
 
 -- nothing is defined otherwise than there
 abbrev pub At : Core → Core → Type 0
-At from a = SameDefinitions from a × IsSound a
+At from a = SameDefinitions from a × IsSoundCore a
 
 pub at-answer : (from a b : Core) (call : Call) (answer : Answer) → IsStillAnswer call answer → At from a → Joins a call answer b → At from b
 at-answer from a b call answer still at joins =

@@ -6,7 +6,7 @@ use Rattle.std.proofs.lemmas.Bool.Decides.{nat_tests}
 use Rattle.mdl_key.specs.declared.mode.Duration.TheVariants.{Statement, Transaction}
 use Rattle.mdl_context.specs.declared.kept.Kept.{Kept}
 use Rattle.mdl_context.specs.declared.request.Mark.{Mark}
-use Rattle.mdl_context.specs.Contexts.{beyond, beyond_mark, has_number, held_for, lasts, of_transaction, without}
+use Rattle.mdl_context.specs.Contexts.{beyond, beyond_mark, has_number, lasts, of_transaction, tickets_for, without_tickets}
 use Rattle.mdl_rows.specs.declared.ending.Ending.{Ending}
 use Rattle.mdl_rows.specs.declared.ending.Ending.TheVariants.{Answers, Misses, Falls, Starves}
 use Rattle.mdl_rows.specs.declared.reply.Reply.{Reply}
@@ -19,7 +19,7 @@ Covers p gone [] = Unit {0}
 Covers p gone (t ∷ ts) = (p t ≡ true → has_number gone t.id ≡ true) × Covers p gone ts
 
 -- then none that passes it is left
-none-left : (p : Kept → Bool) (gone kept : List Kept) → Covers p gone kept → filter p (without gone kept) ≡ []
+none-left : (p : Kept → Bool) (gone kept : List Kept) → Covers p gone kept → filter p (without_tickets gone kept) ≡ []
 none-left p gone [] covers = refl
 none-left p gone (t ∷ ts) covers = grind (arith, covers.0, none-left p gone ts covers.1)
 
@@ -59,10 +59,10 @@ covers-since mark kept none =
     (subst (λ n. Covers (lasts Statement) (beyond Statement n kept) kept) (sym none) (covers-own (lasts Statement) kept))
 
 covers-statement : (kept : List Kept) → Covers (lasts Statement) (of_transaction kept) kept
-covers-statement kept = covers-behind (lasts Statement) (held_for Statement kept) (held_for Transaction kept) kept (covers-own (lasts Statement) kept)
+covers-statement kept = covers-behind (lasts Statement) (tickets_for Statement kept) (tickets_for Transaction kept) kept (covers-own (lasts Statement) kept)
 
 covers-transaction : (kept : List Kept) → Covers (lasts Transaction) (of_transaction kept) kept
-covers-transaction kept = covers-before (lasts Transaction) (held_for Statement kept) (held_for Transaction kept) kept (covers-own (lasts Transaction) kept)
+covers-transaction kept = covers-before (lasts Transaction) (tickets_for Statement kept) (tickets_for Transaction kept) kept (covers-own (lasts Transaction) kept)
 
 -- however it ends, the statement's go
 covers-ending : (ending : Ending) (is_open : Bool) (mark : Mark) (kept : List Kept) → mark.statement ≡ 0
@@ -88,20 +88,20 @@ covers-closed Starves false mark kept state same shut = covers-transaction kept
 covers-closed Falls is_open mark kept state same shut = covers-transaction kept
 
 pub none-of_statement : (ending : Ending) (is_open : Bool) (mark : Mark) (kept : List Kept) → mark.statement ≡ 0
-    → held_for Statement (without (gone_at ending is_open mark kept) kept) ≡ []
+    → tickets_for Statement (without_tickets (gone_at ending is_open mark kept) kept) ≡ []
 none-of_statement ending is_open mark kept none =
     none-left (lasts Statement) (gone_at ending is_open mark kept) kept (covers-ending ending is_open mark kept none)
 
 pub none-of_transaction : (ending : Ending) (mark : Mark) (kept : List Kept) (state : State) → (state_after ending state).is_open ≡ false
-    → held_for Transaction (without (gone_at ending state.is_open mark kept) kept) ≡ []
+    → tickets_for Transaction (without_tickets (gone_at ending state.is_open mark kept) kept) ≡ []
 none-of_transaction ending mark kept state shut =
     none-left (lasts Transaction) (gone_at ending state.is_open mark kept) kept (covers-closed ending state.is_open mark kept state refl shut)
 
 -- ---- a statement that was answered
 
 -- where there is none that has to go, none goes
-pub none-gone : (is_open : Bool) (answer : Reply) (mark : Mark) (kept : List Kept) → held_for Statement kept ≡ []
-    → (is_open ≡ false → held_for Transaction kept ≡ [])
+pub none-gone : (is_open : Bool) (answer : Reply) (mark : Mark) (kept : List Kept) → tickets_for Statement kept ≡ []
+    → (is_open ≡ false → tickets_for Transaction kept ≡ [])
     → gone_at (Answers answer) is_open mark kept ≡ []
 none-gone true answer mark kept statement transaction = statement
-none-gone false answer mark kept statement transaction = ap (λ xs. xs ++ held_for Transaction kept) statement ∙ transaction refl
+none-gone false answer mark kept statement transaction = ap (λ xs. xs ++ tickets_for Transaction kept) statement ∙ transaction refl

@@ -17,18 +17,18 @@ use Rattle.mdl_syntax.specs.declared.script.Line.{Line}
 use Rattle.mdl_syntax.specs.Laws.{IsWithinLimits}
 use Rattle.mdl_syntax.specs.Scripts.{parsed}
 use Rattle.mdl_syntax.proofs.LawLemmas.{lines_say-limited}
-use Rattle.mdl_context.specs.Contexts.{mark_of}
+use Rattle.mdl_context.specs.Contexts.{current_mark}
 use Rattle.mdl_rows.specs.Endings.{Pause}
-use Rattle.mdl_rows.specs.MemoryLaws.{session_at}
+use Rattle.mdl_rows.specs.MemoryLaws.{session_of_pause}
 use Rattle.mdl_rows.specs.Playing.{going_on, starting}
 use Rattle.mdl_rows.specs.Sessions.{Left}
 use Rattle.mdl_rows.specs.Statements.{row_of}
-use Rattle.mdl_script.specs.Worlds.{Player, Scene, World, asked, creating, first_settled, first_world, going, is_waiting, line_played, most_turns, most_waits, played, player_at, script_played, settling, started, timed_out, waiting_in}
+use Rattle.mdl_script.specs.Worlds.{Player, Scene, World, after_timeout, ask_session, continuing_settled, creating, first_settled, first_world, going, line_played, most_turns, most_waits, played, player_at, script_played, session_waits, started, waiting_in}
 use Rattle.mdl_script.proofs.PlayLemmas.{waiting-sessions}
 use Rattle.mdl_script.proofs.ListLemmas.{All-find}
 use Rattle.mdl_script.proofs.SettleLemmas.{settling-none, settling-over, settling-some}
 use Rattle.mdl_script.proofs.SoundLemmas.{IsStaffed, first-session, staffed-first, staffed-going, staffed-started, staffed-timed_out}
-use Rattle.mdl_script_laws.specs.Turns.{AsksForAtMost, MoreTurnsDoNothing, NobodyIsLeftSettled, TurnsSuffice, locks_of, most_locks}
+use Rattle.mdl_script_laws.specs.Turns.{AsksForAtMost, MoreTurnsDoNothing, NobodyIsLeftSettled, TurnsSuffice, most_locks, most_locks_of}
 use Rattle.mdl_script_laws.proofs.ScriptLemmas.{asked-by, lines-by, new-session, plays-each}
 use Rattle.mdl_script_laws.proofs.TurnPlaces.{HasFewPlaces, by-outcome, few-call, few-outcome}
 use Rattle.mdl_script_laws.proofs.TurnPlays.{IsLeftWithin, PausesWithin, left-within, within-going, within-play}
@@ -74,7 +74,7 @@ bounded-played line who n program world dues is most staffed here bounded = reco
   within = λ w session. (each w session).1;
 } where
   next : Player
-  next = record { session = session_at (outcome_of outcome program world.core).0; line = line }
+  next = record { session = session_of_pause (outcome_of outcome program world.core).0; line = line }
 
   new : Due
   new = record { line = line; locks = n }
@@ -96,26 +96,26 @@ bounded-played line who n program world dues is most staffed here bounded = reco
 
 -- how far a statement comes that a session starts
 pub pauses-started : (line : Line) (world : World) → HasFewPlaces world.core
-    → PausesWithin (locks_of line.statement) (outcome_of outcome (starting line.statement (player_at line.session world).session) world.core).0
+    → PausesWithin (most_locks_of line.statement) (outcome_of outcome (starting line.statement (player_at line.session world).session) world.core).0
 pauses-started line world few =
     let session = (player_at line.session world).session in
-    let most = locks_of line.statement in
+    let most = most_locks_of line.statement in
     by-outcome (PausesWithin most) (starting line.statement session) world.core few
-    (within-play most (row_of line.statement) (mark_of session.context.kept) session (few-locks line.statement).0)
+    (within-play most (row_of line.statement) (current_mark session.context.kept) session (few-locks line.statement).0)
 
 pub bounded-started : (line : Line) (world : World) (dues : List Due) → IsRead line → IsBounded dues world
-    → IsBounded (set dues (line.session - 1) (record { line = line.number; locks = locks_of line.statement })) (started line world).world
+    → IsBounded (set dues (line.session - 1) (record { line = line.number; locks = most_locks_of line.statement })) (started line world).world
 bounded-started line world dues read bounded =
-    let few : locks_of line.statement ≤ most_locks = (few-locks line.statement).1 read.1 in
-    bounded-played line.number line.session (locks_of line.statement) (starting line.statement (player_at line.session world).session) world dues read.0
+    let few : most_locks_of line.statement ≤ most_locks = (few-locks line.statement).1 read.1 in
+    bounded-played line.number line.session (most_locks_of line.statement) (starting line.statement (player_at line.session world).session) world dues read.0
     (omega (arith, few)) (staffed-started line world read.0 bounded.staffed) (pauses-started line world bounded.places) bounded
 
 -- ---- turns
 
 -- whoever comes to its turn waits, and its wait is settled
-pub found-waits : (world : World) (who : ℕ) → first_settled world ≡ Some who → is_waiting world who ≡ true
+pub found-waits : (world : World) (who : ℕ) → first_settled world ≡ Some who → session_waits world who ≡ true
 found-waits world who found =
-    let P : ℕ → Type 0 = λ w. is_waiting world w ≡ true in
+    let P : ℕ → Type 0 = λ w. session_waits world w ≡ true in
     All-find P (has_settled world.core) (waiting_in world) who (waiting-sessions P world (λ w session waits. waits)) found
 
 pub found-settled : (world : World) (who : ℕ) → IsStaffed world → first_settled world ≡ Some who
@@ -193,7 +193,7 @@ none-left world dues bounded done = by (first_settled world) refl where
 
 -- one turn, and what follows
 rests-turn : (n : ℕ) (world : World) (dues : List Due) (first : Option ℕ) → first_settled world ≡ first → IsBounded dues world → total dues ≤ suc n
-    → ((after : World) (left : List Due) → IsBounded left after → total left ≤ n → IsAtRest (settling n after).world) → IsAtRest (settling (suc n) world).world
+    → ((after : World) (left : List Due) → IsBounded left after → total left ≤ n → IsAtRest (continuing_settled n after).world) → IsAtRest (continuing_settled (suc n) world).world
 rests-turn n world dues None found bounded less rest =
     let at : IsAtRest world = record { dues = dues; bounded = bounded; none = found } in
     subst (λ (scene : Scene). IsAtRest scene.world) (sym (settling-none (suc n) world found)) at
@@ -205,7 +205,7 @@ rests-turn n world dues (Some who) found bounded less rest =
     (rest (going who world).world next turn.bounded (omega (arith, falls, less)))
 
 -- as many turns as locks may still be asked for are enough
-rests-settling : (n : ℕ) (world : World) (dues : List Due) → IsBounded dues world → total dues ≤ n → IsAtRest (settling n world).world
+rests-settling : (n : ℕ) (world : World) (dues : List Due) → IsBounded dues world → total dues ≤ n → IsAtRest (continuing_settled n world).world
 rests-settling zero world dues bounded less =
     let at : IsAtRest world = record { dues = dues; bounded = bounded; none = none-left world dues bounded less } in
     subst (λ (scene : Scene). IsAtRest scene.world) (sym (settling-over world)) at
@@ -214,7 +214,7 @@ rests-settling (suc n) world dues bounded less =
 
 -- ---- lines
 
-pub bounded-timed_out : (who : ℕ) (world : World) (dues : List Due) → IsScriptSession who → IsBounded dues world → IsBounded dues (timed_out who world)
+pub bounded-timed_out : (who : ℕ) (world : World) (dues : List Due) → IsScriptSession who → IsBounded dues world → IsBounded dues (after_timeout who world)
 bounded-timed_out who world dues is bounded = record {
   staffed = staffed-timed_out who world is bounded.staffed;
   places = few-call (Settle_timeout who) world.core bounded.places;
@@ -224,7 +224,7 @@ bounded-timed_out who world dues is bounded = record {
   within = bounded.within;
 }
 
-bounded-asked : (line : Line) (world : World) (dues : List Due) → IsRead line → IsBounded dues world → (after : List Due) × IsBounded after (asked line world).world
+bounded-asked : (line : Line) (world : World) (dues : List Due) → IsRead line → IsBounded dues world → (after : List Due) × IsBounded after (ask_session line world).world
 bounded-asked line world dues read bounded =
     asked-by (λ scene. (after : List Due) × IsBounded after scene.world) line world (dues, bounded-timed_out line.session world dues read.0 bounded)
     (dues, bounded) (λ free. (_, bounded-started line world dues read bounded))
@@ -235,7 +235,7 @@ rests-line line world read rest =
     let most = sum_by-le (λ (due : Due). due.locks) most_waits begun.0 begun.1.few in
     let all = begun.1.all in
     let count : total begun.0 ≤ most_turns = subst (λ k. total begun.0 ≤ k * most_waits) all most in
-    rests-settling most_turns (asked line world).world begun.0 begun.1 count
+    rests-settling most_turns (ask_session line world).world begun.0 begun.1 count
 
 -- ---- scripts
 

@@ -11,7 +11,7 @@ use Rattle.mdl_book.specs.declared.book_view.BookView.{BookView}
 use Rattle.mdl_book.specs.Books.{empty_book}
 use Rattle.mdl_calls.specs.Words.{Answer, Call, Resolve, Tables_of, Unpin, Program, Give, Ask, Grow, outcome_of}
 use Rattle.mdl_core.specs.CoreCalls.{has_call, outcome, placing}
-use Rattle.mdl_core.specs.Cores.{Core, comes_before, has_defined_table, in_key_order, index_of, put_in_order, tables_in}
+use Rattle.mdl_core.specs.Cores.{Core, comes_before, has_defined_table, index_of, places_in_key_order, put_in_order, table_places}
 use Rattle.mdl_core.specs.Determined.{Places, places_of}
 use Rattle.mdl_core.proofs.CallCases.{option_cases, test_cases}
 use Rattle.mdl_core.proofs.PlacesKept.{is_resolve, places-kept}
@@ -79,11 +79,11 @@ length-put core place (other ∷ others) =
     test_cases (λ l. length l ≡ suc (length (other ∷ others))) (comes_before core place other) (place ∷ other ∷ others) (other ∷ put_in_order core place others)
     (λ _. refl) (λ _. ap suc (length-put core place others))
 
-length-order : (core : Core) (places : List ℕ) → length (in_key_order core places) ≡ length places
+length-order : (core : Core) (places : List ℕ) → length (places_in_key_order core places) ≡ length places
 length-order core [] = refl
-length-order core (place ∷ places) = length-put core place (in_key_order core places) ∙ ap suc (length-order core places)
+length-order core (place ∷ places) = length-put core place (places_in_key_order core places) ∙ ap suc (length-order core places)
 
-few-tables : (schema : List ℕ) (core : Core) → HasFewPlaces core → AreFewTables (tables_in schema core)
+few-tables : (schema : List ℕ) (core : Core) → HasFewPlaces core → AreFewTables (table_places schema core)
 few-tables schema core few =
     let all = range_with_len 1 (length core.books) in
     let told = length-order core (filter (has_defined_table schema core) all) in

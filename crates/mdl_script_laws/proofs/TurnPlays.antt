@@ -10,13 +10,13 @@ use Rattle.mdl_calls.proofs.FaithfulLemmas.{each_then}
 use Rattle.mdl_core.specs.declared.pending.Pending.{Pending}
 use Rattle.mdl_core.specs.CoreCalls.{end_wait_outcome, has_settled, outcome, poll_wait_outcome, polling_of}
 use Rattle.mdl_core.specs.Cores.{Core, has_session, seat_at}
-use Rattle.mdl_core.specs.Seats.{is_closed}
+use Rattle.mdl_core.specs.Seats.{is_settled_wait}
 use Rattle.mdl_context.specs.declared.request.Mark.{Mark}
 use Rattle.mdl_context.specs.declared.request.Resume.{Resume}
 use Rattle.mdl_context.specs.declared.request.Resume.TheVariants as resume
 use Rattle.mdl_context.specs.Contexts.{ContextView, waits_for_user_lock}
-use Rattle.mdl_context.specs.Holdings.{upgrade_of}
-use Rattle.mdl_context.specs.Releases.{giving_up, releasing}
+use Rattle.mdl_context.specs.Holdings.{awaited_upgrade}
+use Rattle.mdl_context.specs.Releases.{releasing, releasing_tickets}
 use Rattle.mdl_context.specs.Requests.{Outcome}
 use Rattle.mdl_context.specs.Upgrades as upgrades
 use Rattle.mdl_context.specs.Waits as waits
@@ -24,8 +24,8 @@ use Rattle.mdl_context.specs.Waits.{giving_up_wait, resuming}
 use Rattle.mdl_rows.specs.declared.ending.Ending.{Ending}
 use Rattle.mdl_rows.specs.declared.ending.Ending.TheVariants.{Answers, Misses, Falls, Starves}
 use Rattle.mdl_rows.specs.declared.reply.Reply.{Reply}
-use Rattle.mdl_rows.specs.Endings.{Pause, Ends, Begins_to_wait, Waits_on, Faults, closing, ended, ending_of_error, ending_of_loss, gone_at, letting_go, state_after, without_half}
-use Rattle.mdl_rows.specs.MemoryLaws.{session_at}
+use Rattle.mdl_rows.specs.Endings.{Pause, Ends, Begins_to_wait, Waits_on, Faults, closing, pause_after, ending_of_error, ending_of_loss, gone_at, letting_go, state_after, without_half}
+use Rattle.mdl_rows.specs.MemoryLaws.{session_of_pause}
 use Rattle.mdl_rows.specs.Playing as playing
 use Rattle.mdl_rows.specs.Playing.{going_on, play, with_context}
 use Rattle.mdl_rows.specs.Rows.{Row}
@@ -46,9 +46,9 @@ IsLeftWithin most (Some left) = (fewer : ℕ) × (most ≡ suc fewer) × ((id : 
 -- and so however far it has come: where it begins to wait there is such a lock
 abbrev pub PausesWithin : ℕ → Pause → Type 0
 PausesWithin most (Begins_to_wait key mode session) = (1 ≤ most) × IsLeftWithin most session.left
-PausesWithin most pause = IsLeftWithin most (session_at pause).left
+PausesWithin most pause = IsLeftWithin most (session_of_pause pause).left
 
-pub left-within : (most : ℕ) (pause : Pause) → PausesWithin most pause → IsLeftWithin most (session_at pause).left
+pub left-within : (most : ℕ) (pause : Pause) → PausesWithin most pause → IsLeftWithin most (session_of_pause pause).left
 left-within most (Begins_to_wait key mode session) is = is.1
 left-within most (Ends reply session) is = is
 left-within most (Waits_on session) is = is
@@ -57,7 +57,7 @@ left-within most (Faults session) is = is
 -- ---- all that may be asked for
 
 within-ended : (most : ℕ) (ending : Ending) (context : ContextView) (state : State)
-    → PausesWithin most (ended ending (record { context = context; state = state; left = None }))
+    → PausesWithin most (pause_after ending (record { context = context; state = state; left = None }))
 within-ended most (Answers reply) context state = tt
 within-ended most (Misses number) context state = tt
 within-ended most Falls context state = tt
@@ -65,9 +65,9 @@ within-ended most Starves context state = tt
 
 within-letting_go : (most : ℕ) (ending : Ending) (mark : Mark) (session : Session) → Each (PausesWithin most) (letting_go ending mark session)
 within-letting_go most ending mark session =
-    each_then {A = Outcome (Unit {0})} {B = Pause} (PausesWithin most) (giving_up
+    each_then {A = Outcome (Unit {0})} {B = Pause} (PausesWithin most) (releasing_tickets
     (gone_at ending session.state.is_open mark session.context.kept) session.context)
-    (λ outcome. Give (ended ending (record { context = outcome.1; state = state_after ending session.state; left = None })))
+    (λ outcome. Give (pause_after ending (record { context = outcome.1; state = state_after ending session.state; left = None })))
     (λ outcome. within-ended most ending outcome.1 (state_after ending session.state))
 
 within-closing : (most : ℕ) (ending : Ending) (mark : Mark) (session : Session) → Each (PausesWithin most) (closing ending mark session)
@@ -129,7 +129,7 @@ within-resumed n left session (Err error, context) is over =
 -- ---- a settled wait
 
 -- the wait, and how it is settled
-pub settled-wait : (here : Bool) (wait : Option Pending) → is_closed (if here then wait else None) ≡ true
+pub settled-wait : (here : Bool) (wait : Option Pending) → is_settled_wait (if here then wait else None) ≡ true
     → (its : Pending) × (how : Settled) × (wait ≡ Some its) × (its.settled ≡ Some how)
 settled-wait true (Some its) settled = by its.settled refl settled where
   by : (how : Option Settled) → its.settled ≡ how → is_some how ≡ true → (one : Pending) × (way : Settled) × (Some its ≡ Some one) × (one.settled ≡ Some way)
@@ -156,12 +156,12 @@ over-merged id mode context (Err refusal) = tt
 over-won : (upgrade : Option (ℕ × Mode)) (new : ℕ) (context : ContextView) → Each IsOver (waits.wait_won upgrade new context)
 over-won None new context = tt
 over-won (Some (id, mode)) new context =
-    each_then {A = Result (Unit {0}) SpaceError} {B = Outcome Resume} IsOver (upgrades.merging context.who id new)
+    each_then {A = Result (Unit {0}) SpaceError} {B = Outcome Resume} IsOver (upgrades.merging_new context.who id new)
     (λ end. Give (upgrades.merged (resume.Acquired id) id mode (waits.without_wait context) end)) (over-merged id mode (waits.without_wait context))
 
 over-ended : (context : ContextView) (answer : Answer) (core : Core) → IsOver (outcome_of outcome (waits.end_answered context answer) core).0
 over-ended context (Granted id) core =
-    each-outcome IsOver outcome (waits.wait_won (upgrade_of context.wait) id context) core (over-won (upgrade_of context.wait) id context)
+    each-outcome IsOver outcome (waits.wait_won (awaited_upgrade context.wait) id context) core (over-won (awaited_upgrade context.wait) id context)
 over-ended context (Lost how) core = tt
 over-ended context answer core = tt
 
@@ -175,7 +175,7 @@ over-looking context core how polls =
     subst (λ (told : Answer × Core). IsOver (outcome_of outcome (waits.poll_answered context told.0) told.1).0) (sym polls) (over-polled context core how)
 
 over-going : (searched : Option Bool) (context : ContextView) (core : Core) (how : Settled) → poll_wait_outcome context.who core ≡ (Is_settled how, core)
-    → IsOver (outcome_of outcome (waits.going_on searched context) core).0
+    → IsOver (outcome_of outcome (waits.continuing_wait searched context) core).0
 over-going None context core how polls = tt
 over-going (Some true) context core how polls = over-looking context core how polls
 over-going (Some false) context core how polls =

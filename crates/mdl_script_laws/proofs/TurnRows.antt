@@ -30,13 +30,13 @@ use Rattle.mdl_rows.specs.declared.state.ReadLock.{ReadLock}
 use Rattle.mdl_rows.specs.declared.reply.Reply.{Reply}
 use Rattle.mdl_rows.specs.declared.reply.Reply.TheVariants as reply
 use Rattle.mdl_rows.specs.declared.reply.TableShown.{TableShown}
-use Rattle.mdl_rows.specs.KeyOrder.{in_key_order, placed, placed_all, put}
-use Rattle.mdl_rows.specs.KeyOrder.{ticket_of}
+use Rattle.mdl_rows.specs.KeyOrder.{in_key_order, inserted_in_order, placed_all, put}
+use Rattle.mdl_rows.specs.KeyOrder.{locked_ticket}
 use Rattle.mdl_rows.specs.Rows.{Row, Act, ◌>>=◌, ◌>>◌, check, nothing, acquire_all, for_each}
 use Rattle.mdl_rows.specs.Rows as row
 use Rattle.mdl_rows.specs.Statements as stm
-use Rattle.mdl_rows.specs.States.{has_locked, written, savepoint_mark}
-use Rattle.mdl_script_laws.specs.Turns.{AsksForAtMost, StatementsAskForFewLocks, locks_of, most_locks}
+use Rattle.mdl_rows.specs.States.{has_locked, after_write, savepoint_mark}
+use Rattle.mdl_script_laws.specs.Turns.{AsksForAtMost, StatementsAskForFewLocks, most_locks, most_locks_of}
 
 -- ---- bounds
 
@@ -225,8 +225,8 @@ few-select tables state =
 
 few-wrote : AsksForAtMost 1 stm.wrote
 few-wrote state =
-    few-then 1 0 1 (if state.is_open then row.set written else stm.commit_writes) (λ _. row.Give reply.Ok) (omega arith)
-    (few-either 1 state.is_open (row.set written) stm.commit_writes tt few-commit_writes) (λ _. tt)
+    few-then 1 0 1 (if state.is_open then row.set after_write else stm.commit_writes) (λ _. row.Give reply.Ok) (omega arith)
+    (few-either 1 state.is_open (row.set after_write) stm.commit_writes tt few-commit_writes) (λ _. tt)
 
 few-write_under : (ticket : ℕ) → AsksForAtMost 1 (stm.write_under ticket)
 few-write_under ticket = few-then 0 1 1 (stm.exists ticket) (λ _. stm.wrote) (omega arith) (few-exists ticket) (λ _. few-wrote)
@@ -295,15 +295,15 @@ length-put key other Less others behind less = omega (arith, less)
 length-put key other Equal others behind less = omega (arith, less)
 length-put key other Greater others behind less = omega (arith, less)
 
-length-placed : (key : KeyName) (keys : List KeyName) → length (placed key keys) ≤ suc (length keys)
+length-placed : (key : KeyName) (keys : List KeyName) → length (inserted_in_order key keys) ≤ suc (length keys)
 length-placed key [] = omega arith
-length-placed key (other ∷ others) = length-put key other (key_cmp key other) others (placed key others) (length-placed key others)
+length-placed key (other ∷ others) = length-put key other (key_cmp key other) others (inserted_in_order key others) (length-placed key others)
 
 length-placed_all : (keys among : List KeyName) → length (placed_all keys among) ≤ length keys + length among
 length-placed_all [] among = omega arith
 length-placed_all (key ∷ keys) among =
     let one = length-placed key among in
-    let rest = length-placed_all keys (placed key among) in
+    let rest = length-placed_all keys (inserted_in_order key among) in
     omega (arith, one, rest)
 
 length-in_order : (keys : List KeyName) → length (in_key_order keys) ≤ length keys
@@ -337,7 +337,7 @@ few-drop_with schema tables =
 
 -- the tables that are told are locked, as many as there are places
 few-keys : (schema : ℕ) (told : List KeyName) (places : List ℕ) (most : ℕ) → length told + length places ≤ most
-    → AsksForAtMost most (stm.keys_of told places >>= (λ tables. row.room >> (acquire_all (map stm.ddl_lock tables) >>= stm.drop_with schema)))
+    → AsksForAtMost most (stm.keys_of_places told places >>= (λ tables. row.room >> (acquire_all (map stm.ddl_lock tables) >>= stm.drop_with schema)))
 few-keys schema told [] most less =
     let wishes = map stm.ddl_lock told in
     let count = length-map told stm.ddl_lock in
@@ -354,7 +354,7 @@ few-drop_schema_under name schema =
 few-drop_schema : (name : List ℕ) → AsksForAtMost (2 + 256) (stm.drop_schema_after_commit name)
 few-drop_schema name = (1 + 256, refl, λ global. (256, refl, λ schema. few-drop_schema_under name schema))
 
-few-free : (ticket : ℕ) → AsksForAtMost 0 (stm.is_free ticket)
+few-free : (ticket : ℕ) → AsksForAtMost 0 (stm.check_absent ticket)
 few-free ticket standing = few-checked (not (stm.is_defined standing)) TableExists
 
 few-definition : (found : Option Definition) → AsksForAtMost 0 (stm.has_definition found)
@@ -368,7 +368,7 @@ few-move definition from to =
 
 few-rename_under : (schema from to : ℕ) → AsksForAtMost 0 (stm.rename_under schema from to)
 few-rename_under schema from to =
-    few-then 0 0 0 (stm.is_free to) _ (omega arith) (few-free to)
+    few-then 0 0 0 (stm.check_absent to) _ (omega arith) (few-free to)
     (λ _. few-then 0 0 0 (stm.definition_under from) _ (omega arith) (λ standing. few-definition standing.definition)
     (λ definition. few-then 0 0 0 (stm.check_schema schema) _ (omega arith) (few-check_schema schema) (λ _. few-move definition from to)))
 
@@ -378,9 +378,9 @@ few-lock_and_rename from to schema =
     let wishes = map stm.ddl_lock names in
     let count = length-map names stm.ddl_lock in
     let most = length-in_order (from ∷ to ∷ []) in
-    few-then (length wishes) 0 2 (acquire_all wishes) (λ tickets. stm.rename_under schema (ticket_of from names tickets) (ticket_of to names tickets))
+    few-then (length wishes) 0 2 (acquire_all wishes) (λ tickets. stm.rename_under schema (locked_ticket from names tickets) (locked_ticket to names tickets))
     (omega (arith, count, most)) (few-acquire_all wishes)
-    (λ tickets. few-rename_under schema (ticket_of from names tickets) (ticket_of to names tickets))
+    (λ tickets. few-rename_under schema (locked_ticket from names tickets) (locked_ticket to names tickets))
 
 few-rename : (from to : KeyName) → AsksForAtMost 5 (stm.rename_after_commit from to)
 few-rename from to =
@@ -388,19 +388,19 @@ few-rename from to =
     let wishes = map stm.ddl_lock scopes in
     let count = length-map scopes stm.ddl_lock in
     let most = length-in_order (map stm.schema_of (from ∷ to ∷ [])) in
-    few-then (length wishes) 2 5 (acquire_all wishes) (λ tickets. stm.lock_and_rename from to (ticket_of (stm.schema_of to) scopes tickets))
+    few-then (length wishes) 2 5 (acquire_all wishes) (λ tickets. stm.lock_and_rename from to (locked_ticket (stm.schema_of to) scopes tickets))
     (omega (arith, count, most)) (few-acquire_all wishes)
-    (λ tickets. few-lock_and_rename from to (ticket_of (stm.schema_of to) scopes tickets))
+    (λ tickets. few-lock_and_rename from to (locked_ticket (stm.schema_of to) scopes tickets))
 
 -- ---- ALTER TABLE
 
-few-fault : (fault : Option DefError) → AsksForAtMost 0 (stm.unless_fault fault)
+few-fault : (fault : Option DefError) → AsksForAtMost 0 (stm.check_fault fault)
 few-fault None = tt
 few-fault (Some fault) = tt
 
 few-check_change : (change : Change) (table : ℕ) → AsksForAtMost 0 (stm.check_change change table)
 few-check_change change table standing =
-    few-then 0 0 0 (stm.unless_fault (change_fault standing.definition change)) (λ _. check (stm.has_version_left standing) VersionLimit) (omega arith)
+    few-then 0 0 0 (stm.check_fault (change_fault standing.definition change)) (λ _. check (stm.has_version_left standing) VersionLimit) (omega arith)
     (few-fault (change_fault standing.definition change)) (λ _. few-checked (stm.has_version_left standing) VersionLimit)
 
 few-raise : (alteration : Alteration) (table : ℕ) → AsksForAtMost 1 (stm.raise_and_change alteration table)
@@ -518,7 +518,7 @@ few-give_back : (lock : KeyName) (held : Option ℕ) → AsksForAtMost 0 (stm.gi
 few-give_back lock (Some ticket) = tt
 few-give_back lock None = λ got. few-given got
 
-few-asked : (asked : Statement) → AsksForAtMost (locks_of asked) (stm.row_of asked)
+few-asked : (asked : Statement) → AsksForAtMost (most_locks_of asked) (stm.row_of asked)
 few-asked statement.Begin = few-commit_first 0 stm.begin_after_commit few-begin
 few-asked statement.Commit = few-commit_first 0 (row.Give reply.Ok) tt
 few-asked statement.Rollback = few-then 0 0 0 stm.rollback (λ _. row.Give reply.Ok) (omega arith) few-rollback (λ _. tt)
@@ -549,7 +549,7 @@ few-asked (statement.GetLock name) = (0, refl, λ id. tt)
 few-asked (statement.ReleaseLock name) = λ held. few-give_back (user_lock_key name) held
 
 -- within the limits of the language
-few-named : (asked : Statement) → IsWithinLimits asked → locks_of asked ≤ most_locks
+few-named : (asked : Statement) → IsWithinLimits asked → most_locks_of asked ≤ most_locks
 few-named (statement.Select tables) within = let n = within.1 in omega (arith, n)
 few-named (statement.DropTables tables) within = let n = within.1 in omega (arith, n)
 few-named (statement.LockTables locks) within =

@@ -15,10 +15,10 @@ use Rattle.mdl_calls.specs.declared.space_error.SpaceError.{SpaceError}
 use Rattle.mdl_calls.specs.Words.{Answer, At_place, Done, Granted, Lost, Is_settled, Call, End_wait, Settle_timeout, SessionLocks, Program, Give, Ask, Grow, ◌>>=◌, EachCall, outcome_of}
 use Rattle.mdl_core.specs.declared.pending.Pending.{Pending}
 use Rattle.mdl_core.specs.CoreCalls.{end_wait_outcome, ending_at, ending_of, has_settled, outcome, poll_wait_outcome}
-use Rattle.mdl_core.specs.CoreJoins.{SpeaksFor, own_at}
+use Rattle.mdl_core.specs.CoreJoins.{SpeaksFor, locks_at}
 use Rattle.mdl_core.specs.Cores.{Core, empty_core, has_session, seat_at}
 use Rattle.mdl_core.specs.RunLaws.{IsMadeFor}
-use Rattle.mdl_core.specs.Seats.{SeatView, empty_seat, is_closed, is_open, own_of}
+use Rattle.mdl_core.specs.Seats.{SeatView, empty_seat, is_settled_wait, is_unsettled_wait, locks_of_seat}
 use Rattle.mdl_core.proofs.CallLaws.{core-keeps, core-others}
 use Rattle.mdl_core.proofs.CoreSound.{calls_keep-sound}
 use Rattle.mdl_core.proofs.RunOutcomes.{outcomes-are_runs}
@@ -27,22 +27,22 @@ use Rattle.mdl_syntax.specs.declared.script.Line.{Line}
 use Rattle.mdl_context.specs.declared.kept.Wanted.{Wanted}
 use Rattle.mdl_context.specs.declared.request.Resume.{Resume}
 use Rattle.mdl_context.specs.declared.request.Resume.TheVariants as resume
-use Rattle.mdl_context.specs.Contexts.{ContextView, mark_of, waits_for_user_lock}
+use Rattle.mdl_context.specs.Contexts.{ContextView, current_mark, waits_for_user_lock}
 use Rattle.mdl_context.specs.Requests.{Outcome}
-use Rattle.mdl_context.specs.Holdings.{upgrade_of}
+use Rattle.mdl_context.specs.Holdings.{awaited_upgrade}
 use Rattle.mdl_context.specs.MemoryLaws.{IsOwnCall}
 use Rattle.mdl_context.specs.Upgrades as upgrades
 use Rattle.mdl_context.specs.Waits as waits
 use Rattle.mdl_context.specs.Waits.{resuming}
 use Rattle.mdl_context.proofs.OwnCallLemmas.{calls_weaker, own_made, own_won}
 use Rattle.mdl_rows.specs.Endings.{Pause, closing, ending_of_error, ending_of_loss}
-use Rattle.mdl_rows.specs.MemoryLaws.{session_at}
+use Rattle.mdl_rows.specs.MemoryLaws.{session_of_pause}
 use Rattle.mdl_rows.specs.Playing as playing
 use Rattle.mdl_rows.specs.Playing.{going_on, play, starting, with_context}
 use Rattle.mdl_rows.specs.Sessions.{Left, Session}
 use Rattle.mdl_rows.specs.Statements.{row_of}
 use Rattle.mdl_rows.proofs.RowCalls.{rows_call}
-use Rattle.mdl_script.specs.Worlds.{Player, World, create_at, create_under, creating, first_core, first_settled, first_world, going, is_waiting, played, player_at, script_played, sessions, started, timed_out, waiting_in}
+use Rattle.mdl_script.specs.Worlds.{Player, World, after_timeout, create_at, create_first_schema, creating, first_core, first_settled, first_world, going, played, player_at, script_played, session_waits, sessions, started, waiting_in}
 use Rattle.mdl_script.proofs.SettleLemmas.{read-sessions}
 use Rattle.mdl_script.proofs.SoundLemmas.{IsStaffed, first-session, made-creating, speak-empty, staffed-first}
 use Rattle.mdl_script_laws.specs.Turns.{StatementsWaitInTheSpace}
@@ -109,7 +109,7 @@ tracks-merge who new _ = λ answer is. refl
 tracks-won : (upgrade : Option (ℕ × Mode)) (new : ℕ) (context : ContextView) → Tracks IsEnded (waits.wait_won upgrade new context) false
 tracks-won None new context = refl
 tracks-won (Some (id, mode)) new context =
-    tracks-then {A = Result (Unit {0}) SpaceError} {B = Outcome Resume} (λ end waits. waits ≡ false) IsEnded (upgrades.merging context.who id new)
+    tracks-then {A = Result (Unit {0}) SpaceError} {B = Outcome Resume} (λ end waits. waits ≡ false) IsEnded (upgrades.merging_new context.who id new)
     (λ end. Give (upgrades.merged (resume.Acquired id) id mode (waits.without_wait context) end)) false (λ answer is. tracks-merge context.who new answer)
     (ended-merged id mode (waits.without_wait context))
 
@@ -118,20 +118,20 @@ ended-answered : (context : ContextView) (answer : Answer) (core : Core) (before
     → is_some (own_at core context.who).wait ≡ wait_after (End_wait context.who) answer before
     → let end = outcome_of outcome (waits.end_answered context answer) core in IsEnded end.0 (is_some (own_at end.1 context.who).wait)
 ended-answered context (Granted id) core before speaks is e =
-    let program = waits.wait_won (upgrade_of context.wait) id context in
+    let program = waits.wait_won (awaited_upgrade context.wait) id context in
     tracks-outcome IsEnded program core context.who speaks
-    (calls_weaker {A = Outcome Resume} (IsOwnCall context.who) (IsMadeFor context.who) (own_made context.who) program (own_won (upgrade_of context.wait) id context))
-    (subst (Tracks IsEnded program) (sym e) (tracks-won (upgrade_of context.wait) id context))
+    (calls_weaker {A = Outcome Resume} (IsOwnCall context.who) (IsMadeFor context.who) (own_made context.who) program (own_won (awaited_upgrade context.wait) id context))
+    (subst (Tracks IsEnded program) (sym e) (tracks-won (awaited_upgrade context.wait) id context))
 ended-answered context (Lost how) core before speaks is e = e
 ended-answered context _ core before speaks is e = absurd is
 
 -- what a program comes to is so, with whether the session has a wait then
 abbrev Ends : ContextView → Program (Outcome Resume) → Core → Type 0
-Ends context program core = let end = outcome_of outcome program core in IsEnded end.0 (is_some (own_at end.1 context.who).wait)
+Ends context program core = let end = outcome_of outcome program core in IsEnded end.0 (is_some (locks_at end.1 context.who).wait)
 
-ended-ending : (context : ContextView) (core : Core) → SpeaksFor core context.who → has_settled core context.who ≡ true → Ends context (waits.ending context) core
+ended-ending : (context : ContextView) (core : Core) → SpeaksFor core context.who → has_settled core context.who ≡ true → Ends context (waits.ending_wait context) core
 ended-ending context core speaks settled =
-    ended-answered context (end_wait_outcome context.who core).0 (end_wait_outcome context.who core).1 (is_some (own_at core context.who).wait)
+    ended-answered context (end_wait_outcome context.who core).0 (end_wait_outcome context.who core).1 (is_some (locks_at core context.who).wait)
     (core-keeps calls_keep-sound core (end_wait_outcome context.who core).1 (End_wait context.who) (end_wait_outcome context.who core).0 context.who speaks
     (joins-outcome context.who core (End_wait context.who) speaks (refl, refl)))
     (ends-settled context.who core settled)
@@ -139,7 +139,7 @@ ended-ending context core speaks settled =
 
 ended-going : (searched : Option Bool) (context : ContextView) (core : Core) (how : Settled) → is_some searched ≡ true
     → poll_wait_outcome context.who core ≡ (Is_settled how, core)
-    → Ends context (waits.ending context) core → Ends context (waits.going_on searched context) core
+    → Ends context (waits.ending_wait context) core → Ends context (waits.continuing_wait searched context) core
 ended-going None context core how some polls ends = cc
 ended-going (Some true) context core how some polls ends =
     subst (λ (told : Answer × Core). Ends context (waits.poll_answered context told.0) told.1) (sym polls) ends
@@ -173,18 +173,18 @@ tied-resumed left session (Err error, context) waits is =
 
 -- what a program of a session comes to is tied to whether the session has a wait then
 abbrev ComesTied : ℕ → Program Pause → Core → Type 0
-ComesTied who program core = let end = outcome_of outcome program core in IsTied (session_at end.0) (is_some (own_at end.1 who).wait)
+ComesTied who program core = let end = outcome_of outcome program core in IsTied (session_of_pause end.0) (is_some (locks_at end.1 who).wait)
 
 tied-going_on : (session : Session) (left : Left) (core : Core) → session.left ≡ Some left → SpeaksFor core session.context.who
     → is_some session.context.wait ≡ true
     → has_settled core session.context.who ≡ true → ComesTied session.context.who (going_on session) core
 tied-going_on session left core same speaks some settled =
     subst (λ (its : Option Left). ComesTied who (playing.going_on_with its bare) core) (sym same)
-    (subst (λ (end : Pause × Core). IsTied (session_at end.0) (is_some (own_at end.1 who).wait)) (sym (outcome-then outcome (resuming session.context) rest core))
+    (subst (λ (end : Pause × Core). IsTied (session_of_pause end.0) (is_some (locks_at end.1 who).wait)) (sym (outcome-then outcome (resuming session.context) rest core))
     (tracks-outcome PausesTied (rest end.0) end.1 who ((outcomes-are_runs (Outcome Resume) (resuming session.context) core who speaks
     (calls-first (IsMadeFor who) (resuming session.context) rest calls)).1 who speaks)
     (calls-next (IsMadeFor who) outcome (resuming session.context) rest core calls)
-    (tied-resumed left bare end.0 (is_some (own_at end.1 who).wait) (ended-resuming session.context core speaks some settled)))) where
+    (tied-resumed left bare end.0 (is_some (locks_at end.1 who).wait) (ended-resuming session.context core speaks some settled)))) where
       who : ℕ
       who = session.context.who
 
@@ -204,21 +204,21 @@ tied-going_on session left core same speaks some settled =
 
 -- each session's statement waits where the session has a wait
 abbrev IsSeen : World → Type 0
-IsSeen world = (who : ℕ) → IsScriptSession who → IsTied (player_at who world).session (is_some (own_at world.core who).wait)
+IsSeen world = (who : ℕ) → IsScriptSession who → IsTied (player_at who world).session (is_some (locks_at world.core who).wait)
 
 -- a program of a session is played
 seen-played : (line who : ℕ) (program : Program Pause) (world : World) → IsScriptSession who → EachCall (IsMadeFor who) program → IsStaffed world
     → ComesTied who program world.core → IsSeen world → IsSeen (played line who program world).world
 seen-played line who program world is made staffed tied seen =
-    plays-each line who program world is staffed (λ w player. IsTied player.session (is_some (own_at after w).wait)) tied
+    plays-each line who program world is staffed (λ w player. IsTied player.session (is_some (locks_at after w).wait)) tied
     (λ w there apart.
-    let own : own_at after w ≡ own_at world.core w =
+    let own : locks_at after w ≡ locks_at world.core w =
     others-outcome program world.core who w (staffed.speaks who is.0 is.1) (staffed.speaks w there.0 there.1) apart made in
     subst (λ (has : SessionLocks). IsTied (player_at w world).session (is_some has.wait)) (sym own) (seen w there)) where
       after : Core
       after = (outcome_of outcome program world.core).1
 
-seen-started : (line : Line) (world : World) → IsScriptSession line.session → is_waiting world line.session ≡ false → IsStaffed world → IsSeen world
+seen-started : (line : Line) (world : World) → IsScriptSession line.session → session_waits world line.session ≡ false → IsStaffed world → IsSeen world
     → IsSeen (started line world).world
 seen-started line world is free staffed seen =
     seen-played line.number line.session program world is made staffed
@@ -232,10 +232,10 @@ seen-started line world is free staffed seen =
       made : EachCall (IsMadeFor line.session) program
       made = subst (λ k. EachCall (IsMadeFor k) program) (staffed.named line.session is) ((rows_call session).1 line.statement)
 
-      tracks : Tracks PausesTied program (is_some (own_at world.core line.session).wait)
+      tracks : Tracks PausesTied program (is_some (locks_at world.core line.session).wait)
       tracks =
-          let none : is_some (own_at world.core line.session).wait ≡ false = sym (seen line.session is).left ∙ free in
-          subst (λ w. Tracks PausesTied program w) (sym none) (tied-play (row_of line.statement) (mark_of session.context.kept) session)
+          let none : is_some (locks_at world.core line.session).wait ≡ false = sym (seen line.session is).left ∙ free in
+          subst (λ w. Tracks PausesTied program w) (sym none) (tied-play (row_of line.statement) (current_mark session.context.kept) session)
 
 -- who has something left
 left-some : (left : Option Left) → is_some left ≡ true → (its : Left) × (left ≡ Some its)
@@ -271,7 +271,7 @@ seen-going who world found staffed seen =
 
 -- ---- lines
 
-seen-timed_out : (who : ℕ) (world : World) → IsScriptSession who → IsStaffed world → IsSeen world → IsSeen (timed_out who world)
+seen-timed_out : (who : ℕ) (world : World) → IsScriptSession who → IsStaffed world → IsSeen world → IsSeen (after_timeout who world)
 seen-timed_out who world is staffed seen w session = by w session (eqb_tells w who) where
   speaks : SpeaksFor world.core who
   speaks = staffed.speaks who is.0 is.1
@@ -280,14 +280,14 @@ seen-timed_out who world is staffed seen w session = by w session (eqb_tells w w
   after = (outcome (Settle_timeout who) world.core).1
 
   by : (w : ℕ) → IsScriptSession w → ((eqb w who ≡ true) × (w ≡ who)) ⊎ ((eqb w who ≡ false) × (w ≢ who))
-      → IsTied (player_at w world).session (is_some (own_at after w).wait)
+      → IsTied (player_at w world).session (is_some (locks_at after w).wait)
   by w there (inl same) =
-      let own : is_some (own_at after who).wait ≡ is_some (own_at world.core who).wait = call-waits who world.core (Settle_timeout who) speaks (refl, refl) in
-      subst (λ k. IsTied (player_at k world).session (is_some (own_at after k).wait)) (sym same.1)
+      let own : is_some (locks_at after who).wait ≡ is_some (locks_at world.core who).wait = call-waits who world.core (Settle_timeout who) speaks (refl, refl) in
+      subst (λ k. IsTied (player_at k world).session (is_some (locks_at after k).wait)) (sym same.1)
       (subst (λ waits. IsTied (player_at who world).session waits) (sym own) (seen who is))
   by w there (inr other) =
       let joins = joins-outcome who world.core (Settle_timeout who) speaks (refl, refl) in
-      let own : own_at after w ≡ own_at world.core w =
+      let own : locks_at after w ≡ locks_at world.core w =
       core-others world.core after (Settle_timeout who) (outcome (Settle_timeout who) world.core).0 w (staffed.speaks w there.0 there.1)
       (λ e. other.1 (cc)) joins in
       subst (λ (has : SessionLocks). IsTied (player_at w world).session (is_some has.wait)) (sym own) (seen w there)
@@ -305,7 +305,7 @@ keeps-seen = record {
 abbrev HasNone : {A : Type 0} → A → Bool → Type 0
 HasNone x waits = waits ≡ false
 
-none-under : (answer : Answer) → Tracks (HasNone {A = Unit {0}}) (create_under answer) false
+none-under : (answer : Answer) → Tracks (HasNone {A = Unit {0}}) (create_first_schema answer) false
 none-under (Granted id) = λ one is other its. refl
 none-under _ = refl
 
@@ -314,11 +314,11 @@ none-at (At_place place) = λ answer is. none-under answer
 none-at _ = refl
 
 -- nobody has a wait in a space to which nothing was done
-none-empty : (who : ℕ) → IsScriptSession who → own_at (empty_core 256 64) who ≡ own_of empty_seat
-none-empty who is = ap own_of (get_or-replicate 64 (who - 1) empty_seat empty_seat (omega (arith, is.0, is.1)))
+none-empty : (who : ℕ) → IsScriptSession who → locks_at (empty_core 256 64) who ≡ locks_of_seat empty_seat
+none-empty who is = ap locks_of_seat (get_or-replicate 64 (who - 1) empty_seat empty_seat (omega (arith, is.0, is.1)))
 
 -- nor in the first one
-none-first : (who : ℕ) → IsScriptSession who → is_some (own_at first_core who).wait ≡ false
+none-first : (who : ℕ) → IsScriptSession who → is_some (locks_at first_core who).wait ≡ false
 none-first who is = by (eqb_tells who 1) where
   test : KeyName
   test = schema_key (codes "test")
@@ -326,11 +326,11 @@ none-first who is = by (eqb_tells who 1) where
   one : IsScriptSession 1
   one = (omega arith, omega arith)
 
-  by : ((eqb who 1 ≡ true) × (who ≡ 1)) ⊎ ((eqb who 1 ≡ false) × (who ≢ 1)) → is_some (own_at first_core who).wait ≡ false
+  by : ((eqb who 1 ≡ true) × (who ≡ 1)) ⊎ ((eqb who 1 ≡ false) × (who ≢ 1)) → is_some (locks_at first_core who).wait ≡ false
   by (inl same) =
-      let tracks : Tracks HasNone (creating test) (is_some (own_at (empty_core 256 64) 1).wait) =
+      let tracks : Tracks HasNone (creating test) (is_some (locks_at (empty_core 256 64) 1).wait) =
       subst (λ (has : SessionLocks). Tracks HasNone (creating test) (is_some has.wait)) (sym (none-empty 1 one)) (λ answer is. none-at answer) in
-      subst (λ k. is_some (own_at first_core k).wait ≡ false) (sym same.1)
+      subst (λ k. is_some (locks_at first_core k).wait ≡ false) (sym same.1)
       (tracks-outcome HasNone (creating test) (empty_core 256 64) 1 (speak-empty 1 one.0 one.1) (made-creating test) tracks)
   by (inr other) =
       ap (λ (has : SessionLocks). is_some has.wait)
@@ -339,35 +339,35 @@ none-first who is = by (eqb_tells who 1) where
 
 seen-first : IsSeen first_world
 seen-first who is =
-    subst (λ (p : Player). IsTied p.session (is_some (own_at first_core who).wait)) (sym (new-session who is))
+    subst (λ (p : Player). IsTied p.session (is_some (locks_at first_core who).wait)) (sym (new-session who is))
     (record { left = sym (none-first who is); wait = λ some. let none = none-first who is in cc })
 
 -- ---- scripts
 
-is_some-own : (seat : SeatView) → is_some (own_of seat).wait ≡ is_some seat.wait
-is_some-own seat = elim seat.wait as (λ wait. is_some (own_of (record seat { wait = wait })).wait ≡ is_some wait) [ None ↦ refl | Some wait ↦ refl ]
+is_some-own : (seat : SeatView) → is_some (locks_of_seat seat).wait ≡ is_some seat.wait
+is_some-own seat = elim seat.wait as (λ wait. is_some (locks_of_seat (record seat { wait = wait })).wait ≡ is_some wait) [ None ↦ refl | Some wait ↦ refl ]
 
-open-wait : (wait : Option Pending) (waits : Bool) → waits ≡ is_some wait → (waits ≡ true → is_closed wait ≡ false) → waits ≡ is_open wait
+open-wait : (wait : Option Pending) (waits : Bool) → waits ≡ is_some wait → (waits ≡ true → is_settled_wait wait ≡ false) → waits ≡ is_unsettled_wait wait
 open-wait None waits tied unsettled = tied
 open-wait (Some its) waits tied unsettled = tied ∙ sym (ap not (unsettled tied))
 
 -- a wait that isn't settled, or none
-open-same : (here : Bool) (seat : SeatView) (waits : Bool) → here ≡ true → waits ≡ is_some (own_of seat).wait
-    → (waits ≡ true → is_closed (if here then seat.wait else None) ≡ false) → waits ≡ is_open (if here then seat.wait else None)
+open-same : (here : Bool) (seat : SeatView) (waits : Bool) → here ≡ true → waits ≡ is_some (locks_of_seat seat).wait
+    → (waits ≡ true → is_settled_wait (if here then seat.wait else None) ≡ false) → waits ≡ is_unsettled_wait (if here then seat.wait else None)
 open-same here seat waits is tied unsettled =
-    subst (λ h. waits ≡ is_open (if h then seat.wait else None)) (sym is)
-    (open-wait seat.wait waits (tied ∙ is_some-own seat) (subst (λ h. waits ≡ true → is_closed (if h then seat.wait else None) ≡ false) is unsettled))
+    subst (λ h. waits ≡ is_unsettled_wait (if h then seat.wait else None)) (sym is)
+    (open-wait seat.wait waits (tied ∙ is_some-own seat) (subst (λ h. waits ≡ true → is_settled_wait (if h then seat.wait else None) ≡ false) is unsettled))
 
 -- who waits is among those who do
-waits-among : (world : World) (who : ℕ) → IsScriptSession who → is_waiting world who ≡ true → Contains (waiting_in world) who
+waits-among : (world : World) (who : ℕ) → IsScriptSession who → session_waits world who ≡ true → Contains (waiting_in world) who
 unfolding sessions
 waits-among world who is waits =
-    filter-among (is_waiting world) (range_with_len 1 64) who waits (Contains-from_at (range_with_len 1 64) who
+    filter-among (session_waits world) (range_with_len 1 64) who waits (Contains-from_at (range_with_len 1 64) who
     (who - 1, omega (arith, is.0, is.1, length-range_with_len 1 64), λ d. get_or-range_with_len 1 64 (who - 1) d (omega (arith, is.0, is.1)) ∙ omega (arith, is.0)))
 
 -- a statement waits exactly where the session has a wait that isn't settled
 pub waits-in-space : StatementsWaitInTheSpace
-waits-in-space text lines read n who is = open-same (has_session who world.core) (seat_at who world.core) (is_waiting world who) (speaks.0) tied unsettled where
+waits-in-space text lines read n who is = open-same (has_session who world.core) (seat_at who world.core) (session_waits world who) (speaks.0) tied unsettled where
   world : World
   world = (script_played (take n lines)).world
 
@@ -378,9 +378,9 @@ waits-in-space text lines read n who is = open-same (has_session who world.core)
   speaks : SpeaksFor world.core who
   speaks = kept.staffed.speaks who is.0 is.1
 
-  tied : is_waiting world who ≡ is_some (own_at world.core who).wait
+  tied : session_waits world who ≡ is_some (locks_at world.core who).wait
   tied = (kept.so who is).left
 
-  unsettled : is_waiting world who ≡ true → has_settled world.core who ≡ false
+  unsettled : session_waits world who ≡ true → has_settled world.core who ≡ false
   unsettled waits =
       All-contains (λ w. has_settled world.core w ≡ false) (waiting_in world) who (nobody-left text lines read n) (waits-among world who is waits)

@@ -17,9 +17,9 @@ use Rattle.mdl_context.specs.declared.request.Acquire.TheVariants as acquire
 use Rattle.mdl_context.specs.declared.request.Mark.{Mark}
 use Rattle.mdl_context.specs.declared.request.Tried.{Tried}
 use Rattle.mdl_context.specs.declared.request.Tried.TheVariants as try_as
-use Rattle.mdl_context.specs.Contexts.{ContextView, last_ticket, mark_of, place_known, ticket_kept, without}
+use Rattle.mdl_context.specs.Contexts.{ContextView, current_mark, last_ticket, place_known, ticket_kept, without_tickets}
 use Rattle.mdl_context.specs.Gains as gains
-use Rattle.mdl_context.specs.Gains.{refusal_of}
+use Rattle.mdl_context.specs.Gains.{refusal_answered}
 use Rattle.mdl_context.specs.Holdings.{earliest, without_number}
 use Rattle.mdl_context.specs.Releases as releases
 use Rattle.mdl_context.specs.Requests as requests
@@ -30,8 +30,8 @@ use Rattle.mdl_rows.specs.declared.ending.Ending.{Ending}
 use Rattle.mdl_rows.specs.declared.ending.Ending.TheVariants.{Answers, Misses, Falls, Starves}
 use Rattle.mdl_rows.specs.declared.reply.Reply.{Reply}
 use Rattle.mdl_rows.specs.declared.reply.Reply.TheVariants as reply
-use Rattle.mdl_rows.specs.Endings.{Pause, closing, ended, ending_of_error, ending_of_refusal, gone_at, letting_go, state_after, without_half}
-use Rattle.mdl_rows.specs.MemoryLaws.{session_at}
+use Rattle.mdl_rows.specs.Endings.{Pause, closing, ending_of_error, ending_of_refusal, gone_at, letting_go, pause_after, state_after, without_half}
+use Rattle.mdl_rows.specs.MemoryLaws.{session_of_pause}
 use Rattle.mdl_rows.specs.Playing as playing
 use Rattle.mdl_rows.specs.Playing.{play, with_context}
 use Rattle.mdl_rows.specs.Rows.{Row}
@@ -46,7 +46,7 @@ pub record IsTied (session : Session) (waits : Bool) : Type 0 where
   pub wait : waits ≡ true → is_some session.context.wait ≡ true
 
 abbrev pub PausesTied : Pause → Bool → Type 0
-PausesTied pause waits = IsTied (session_at pause) waits
+PausesTied pause waits = IsTied (session_of_pause pause) waits
 
 -- nothing that a session does here changes whether it has a wait
 abbrev Stays : {A : Type 0} → Bool → A → Bool → Type 0
@@ -59,10 +59,10 @@ stays-releasing who [] waits = refl
 stays-releasing who (ticket ∷ tickets) waits = λ answer is. stays-releasing who tickets waits
 
 stays-giving_up : (gone : List Kept) (context : ContextView) (waits : Bool)
-    → Tracks (Stays {A = Outcome (Unit {0})} waits) (releases.giving_up gone context) waits
+    → Tracks (Stays {A = Outcome (Unit {0})} waits) (releases.releasing_tickets gone context) waits
 stays-giving_up gone context waits =
     tracks-then {A = Unit {0}} {B = Outcome (Unit {0})} (Stays waits) (Stays waits) (releases.releasing_all context.who gone)
-    (λ _. Give (Ok tt, record context { kept = without gone context.kept })) waits (stays-releasing context.who gone waits) (λ x after same. same)
+    (λ _. Give (Ok tt, record context { kept = without_tickets gone context.kept })) waits (stays-releasing context.who gone waits) (λ x after same. same)
 
 stays-released : (id : ℕ) (context : ContextView) (waits : Bool) → Tracks (Stays {A = Outcome (Unit {0})} waits) (releases.releasing id context) waits
 stays-released id context waits = by (releases.release_fault id context) where
@@ -72,7 +72,7 @@ stays-released id context waits = by (releases.release_fault id context) where
   by None = λ answer is. refl
 
 tied-ended : (ending : Ending) (context : ContextView) (state : State) (waits : Bool) → waits ≡ false
-    → PausesTied (ended ending (record { context = context; state = state; left = None })) waits
+    → PausesTied (pause_after ending (record { context = context; state = state; left = None })) waits
 tied-ended (Answers reply) context state waits none = record { left = sym none; wait = λ some. cc }
 tied-ended (Misses number) context state waits none = record { left = sym none; wait = λ some. cc }
 tied-ended Falls context state waits none = record { left = sym none; wait = λ some. cc }
@@ -81,8 +81,8 @@ tied-ended Starves context state waits none = record { left = sym none; wait = �
 tied-letting_go : (ending : Ending) (mark : Mark) (session : Session) → Tracks PausesTied (letting_go ending mark session) false
 tied-letting_go ending mark session =
     let gone = gone_at ending session.state.is_open mark session.context.kept in
-    tracks-then {A = Outcome (Unit {0})} {B = Pause} (Stays false) PausesTied (releases.giving_up gone session.context)
-    (λ outcome. Give (ended ending (record { context = outcome.1; state = state_after ending session.state; left = None }))) false
+    tracks-then {A = Outcome (Unit {0})} {B = Pause} (Stays false) PausesTied (releases.releasing_tickets gone session.context)
+    (λ outcome. Give (pause_after ending (record { context = outcome.1; state = state_after ending session.state; left = None }))) false
     (stays-giving_up gone session.context false) (λ outcome waits none. tied-ended ending outcome.1 (state_after ending session.state) waits none)
 
 pub tied-closing : (ending : Ending) (mark : Mark) (session : Session) → Tracks PausesTied (closing ending mark session) false
@@ -254,7 +254,7 @@ tied-merged id mode context (Err refusal) waits none = none
 tied-second : (ticket : Kept) (mode : Mode) (context : ContextView) (end : Result AskResult SpaceError) (waits : Bool) → IsGotTied end waits
     → Tracks IsAskedTied (upgrades.second_got ticket mode context end) waits
 tied-second ticket mode context (Ok (got.Granted new)) waits none =
-    tracks-then {A = Result (Unit {0}) SpaceError} {B = Outcome Acquire} (Stays waits) IsAskedTied (upgrades.merging context.who ticket.id new)
+    tracks-then {A = Result (Unit {0}) SpaceError} {B = Outcome Acquire} (Stays waits) IsAskedTied (upgrades.merging_new context.who ticket.id new)
     (λ end. Give (upgrades.merged (acquire.Acquired ticket.id) ticket.id mode context end)) waits
     (λ answer is. stays-merged context.who new answer waits) (λ end after same. tied-merged ticket.id mode context end after (same ∙ none))
 tied-second ticket mode context (Ok (got.Waits number searched)) waits is = (is, refl)
@@ -321,22 +321,22 @@ tied-attempted mark session more made (Err error, context) waits none =
 tied-read : (mark : Mark) (session : Session) (more : Standing → Program Pause) → ((standing : Standing) → Tracks PausesTied (more standing) false)
     → (answer : Answer) → Tracks PausesTied (playing.read_answered mark session more answer) false
 tied-read mark session more made (Reads version definition) = made (record { version = version; definition = definition })
-tied-read mark session more made answer = tied-closing (ending_of_refusal (refusal_of answer)) mark session
+tied-read mark session more made answer = tied-closing (ending_of_refusal (refusal_answered answer)) mark session
 
 tied-change : (mark : Mark) (session : Session) (more : Program Pause) → Tracks PausesTied more false
     → (answer : Answer) → Tracks PausesTied (playing.change_answered mark session more answer) false
 tied-change mark session more made (Changed version) = made
-tied-change mark session more made answer = tied-closing (ending_of_refusal (refusal_of answer)) mark session
+tied-change mark session more made answer = tied-closing (ending_of_refusal (refusal_answered answer)) mark session
 
 tied-tables : (mark : Mark) (session : Session) (more : List ℕ → Program Pause) → ((tables : List ℕ) → Tracks PausesTied (more tables) false)
     → (answer : Answer) → Tracks PausesTied (playing.tables_answered mark session more answer) false
 tied-tables mark session more made (Tables tables) = made tables
-tied-tables mark session more made answer = tied-closing (ending_of_refusal (refusal_of answer)) mark session
+tied-tables mark session more made answer = tied-closing (ending_of_refusal (refusal_answered answer)) mark session
 
 tied-key : (mark : Mark) (session : Session) (more : KeyName → Program Pause) → ((key : KeyName) → Tracks PausesTied (more key) false)
     → (answer : Answer) → Tracks PausesTied (playing.key_answered mark session more answer) false
 tied-key mark session more made (Key_is key) = made key
-tied-key mark session more made answer = tied-closing (ending_of_refusal (refusal_of answer)) mark session
+tied-key mark session more made answer = tied-closing (ending_of_refusal (refusal_answered answer)) mark session
 
 tied-told : (target : ℕ) (more : Program Pause) → Tracks PausesTied more false → (answer : Answer)
     → Tracks PausesTied (playing.wait_told target answer >>= (λ _. more)) false
@@ -349,7 +349,7 @@ tied-play (row.Fail number) mark session = tied-closing (Answers (reply.Error nu
 tied-play (row.Room rest) mark session = tied-play rest mark session
 tied-play (row.Look rest) mark session = tied-play (rest session.state) mark session
 tied-play (row.Set change rest) mark session = tied-play rest mark (record session { state = change session.state })
-tied-play (row.Here rest) mark session = tied-play (rest (mark_of session.context.kept)) mark session
+tied-play (row.Here rest) mark session = tied-play (rest (current_mark session.context.kept)) mark session
 tied-play (row.Acquire wish rest) mark session =
     let more : ℕ → Session → Program Pause = λ id after. play (rest id) mark after in
     tracks-then {A = Outcome Acquire} {B = Pause} IsAskedTied PausesTied (requests.acquiring wish session.context)
@@ -373,7 +373,7 @@ tied-play (row.Downgrade id mode rest) mark session =
     (λ outcome waits none. tied-at (more outcome) waits none (tied-play rest mark (with_context session outcome.1)))
 tied-play (row.Give_up which rest) mark session =
     let more : Outcome (Unit {0}) → Program Pause = λ outcome. play rest mark (with_context session outcome.1) in
-    tracks-then {A = Outcome (Unit {0})} {B = Pause} (Stays false) PausesTied (releases.giving_up (which session.context.kept) session.context) more false
+    tracks-then {A = Outcome (Unit {0})} {B = Pause} (Stays false) PausesTied (releases.releasing_tickets (which session.context.kept) session.context) more false
     (stays-giving_up (which session.context.kept) session.context false)
     (λ outcome waits none. tied-at (more outcome) waits none (tied-play rest mark (with_context session outcome.1)))
 tied-play (row.Release id rest) mark session =

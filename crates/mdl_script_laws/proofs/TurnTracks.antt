@@ -5,7 +5,7 @@ use Rattle.mdl_calls.specs.SessionLocks.{SessionLocks, ticket_held}
 use Rattle.mdl_calls.specs.SessionLocks as own
 use Rattle.mdl_calls.specs.Words.{Answer, Refused, Done, Granted, Waits, Lost, Upgraded, Call, caller, Try_now, Begin_wait, Search, End_wait, Release, Clone_ticket, Upgrade_now, Merge, Downgrade, Program, Give, Ask, Grow, ◌>>=◌, EachCall, outcome_of, own_after}
 use Rattle.mdl_core.specs.CoreCalls.{outcome, searching_of, victim_at}
-use Rattle.mdl_core.specs.CoreJoins.{Joins, SpeaksFor, own_at}
+use Rattle.mdl_core.specs.CoreJoins.{Joins, SpeaksFor, locks_at}
 use Rattle.mdl_core.specs.Cores.{Core}
 use Rattle.mdl_core.specs.RunLaws.{IsMadeFor}
 use Rattle.mdl_core.proofs.CallLaws.{core-changes, core-keeps, core-others}
@@ -51,7 +51,7 @@ nobody-waits (End_wait who) answer waits nobody = cc
 nobody-waits _ answer waits nobody = refl
 
 pub call-waits : (who : ℕ) (core : Core) (call : Call) → SpeaksFor core who → IsMadeFor who call
-    → is_some (own_at (outcome call core).1 who).wait ≡ wait_after call (outcome call core).0 (is_some (own_at core who).wait)
+    → is_some (locks_at (outcome call core).1 who).wait ≡ wait_after call (outcome call core).0 (is_some (locks_at core who).wait)
 call-waits who core call speaks made = by (caller call) refl made.1 where
   answer : Answer
   answer = (outcome call core).0
@@ -63,13 +63,13 @@ call-waits who core call speaks made = by (caller call) refl made.1 where
   joins = joins-outcome who core call speaks made
 
   by : (maker : Option ℕ) → caller call ≡ maker → IfSome maker (λ w. w ≡ who)
-      → is_some (own_at after who).wait ≡ wait_after call answer (is_some (own_at core who).wait)
+      → is_some (locks_at after who).wait ≡ wait_after call answer (is_some (locks_at core who).wait)
   by None e same =
       ap (λ (has : SessionLocks). is_some has.wait) (core-others core after call answer who speaks (λ its. cc) joins)
-      ∙ sym (nobody-waits call answer (is_some (own_at core who).wait) e)
+      ∙ sym (nobody-waits call answer (is_some (locks_at core who).wait) e)
   by (Some w) e same =
       ap (λ (has : SessionLocks). is_some has.wait) (core-changes core after call answer who (e ∙ ap Some same) joins)
-      ∙ own-wait call answer (own_at core who)
+      ∙ own-wait call answer (locks_at core who)
 
 -- ---- programs
 
@@ -88,7 +88,7 @@ tracks-then P Q (Grow refused found) next waits tracks rest = tracks-then P Q fo
 
 -- the outcome is so
 pub tracks-outcome : {A : Type 0} (P : A → Bool → Type 0) (program : Program A) (core : Core) (who : ℕ) → SpeaksFor core who → EachCall (IsMadeFor who) program
-    → Tracks P program (is_some (own_at core who).wait) → P (outcome_of outcome program core).0 (is_some (own_at (outcome_of outcome program core).1 who).wait)
+    → Tracks P program (is_some (locks_at core who).wait) → P (outcome_of outcome program core).0 (is_some (locks_at (outcome_of outcome program core).1 who).wait)
 tracks-outcome P (Give x) core who speaks made tracks = tracks
 tracks-outcome P (Ask call next) core who speaks made tracks =
     let answer = (outcome call core).0 in
@@ -101,7 +101,7 @@ tracks-outcome P (Grow refused found) core who speaks made tracks = tracks-outco
 -- nothing changes for another session
 pub others-outcome : {A : Type 0} (program : Program A) (core : Core) (who w : ℕ) → SpeaksFor core who → SpeaksFor core w → w ≢ who
     → EachCall (IsMadeFor who) program
-    → own_at (outcome_of outcome program core).1 w ≡ own_at core w
+    → locks_at (outcome_of outcome program core).1 w ≡ locks_at core w
 others-outcome (Give x) core who w speaks there other made = refl
 others-outcome (Ask call next) core who w speaks there other made =
     let answer = (outcome call core).0 in

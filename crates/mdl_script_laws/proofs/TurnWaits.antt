@@ -18,9 +18,9 @@ use Rattle.mdl_rows.specs.Endings.{Pause, Ends, Begins_to_wait, Waits_on, Faults
 use Rattle.mdl_script.specs.declared.told.News.{News}
 use Rattle.mdl_script.specs.declared.told.News.TheVariants.{Busy, Ends as Has_ended}
 use Rattle.mdl_script.specs.declared.told.Told.{Told}
-use Rattle.mdl_script.specs.Worlds.{Scene, World, ◌and_then◌, asked, first_settled, first_world, going, line_played, lines_played, most_turns, player_at, settling, started, timed_out, told_of}
+use Rattle.mdl_script.specs.Worlds.{Scene, World, ◌and_then◌, ask_session, first_settled, first_world, going, line_played, lines_played, most_turns, player_at, continuing_settled, started, after_timeout, reports_of}
 use Rattle.mdl_script.proofs.SettleLemmas.{settling-none, settling-over, settling-some}
-use Rattle.mdl_script_laws.specs.Turns.{StatementsTellOfFewWaits, is_wait, is_wait_of, locks_of, waits_told}
+use Rattle.mdl_script_laws.specs.Turns.{StatementsTellOfFewWaits, is_wait_news, is_wait_of, most_locks_of, waits_told}
 use Rattle.mdl_script_laws.proofs.ScriptLemmas.{asked-by, telling}
 use Rattle.mdl_script_laws.proofs.TurnLemmas.{Due, IsBounded, IsRead, Turn, bounded-first, bounded-started, bounded-timed_out, nothing_due, pauses-started, read-limits, turn-going}
 use Rattle.mdl_script_laws.proofs.TurnPlays.{PausesWithin}
@@ -40,10 +40,10 @@ waits-append number one other =
 
 -- what is told once a statement came so far, and what is owed then
 waits-told : (number line who most : ℕ) (pause : Pause) → PausesWithin most pause
-    → waits_told number (told_of line who pause) + owed_at number (record { line = line; locks = most }) ≤ cond (eqb line number) most 0
+    → waits_told number (reports_of line who pause) + owed_at number (record { line = line; locks = most }) ≤ cond (eqb line number) most 0
 waits-told number line who most pause is = by pause (eqb line number) refl is where
   by : (pause : Pause) (same : Bool) → eqb line number ≡ same → PausesWithin most pause
-      → waits_told number (told_of line who pause) + owed_at number (record { line = line; locks = most }) ≤ cond (eqb line number) most 0
+      → waits_told number (reports_of line who pause) + owed_at number (record { line = line; locks = most }) ≤ cond (eqb line number) most 0
   by (Begins_to_wait key mode session) true e is = rw e (omega (arith, is.0))
   by (Begins_to_wait key mode session) false e is = rw e (omega arith)
   by (Ends reply session) true e is = rw e (omega arith)
@@ -93,7 +93,7 @@ paid-then dues between after one other first second number =
 
 -- one turn, and what follows
 paid-turn : (n : ℕ) (world : World) (dues : List Due) (first : Option ℕ) → first_settled world ≡ first → IsBounded dues world
-    → ((after : World) (left : List Due) → IsBounded left after → IsPaid left (settling n after)) → IsPaid dues (settling (suc n) world)
+    → ((after : World) (left : List Due) → IsBounded left after → IsPaid left (continuing_settled n after)) → IsPaid dues (continuing_settled (suc n) world)
 paid-turn n world dues None found bounded rest = subst (λ (scene : Scene). IsPaid dues scene) (sym (settling-none (suc n) world found))
     (paid-silent world dues bounded)
 paid-turn n world dues (Some who) found bounded rest =
@@ -101,14 +101,14 @@ paid-turn n world dues (Some who) found bounded rest =
     let next = set dues (who - 1) (record { line = (player_at who world).line; locks = turn.fewer }) in
     let step = going who world in
     let more = rest step.world next turn.bounded in
-    let paid : IsPaid dues (step and_then settling n) = record {
+    let paid : IsPaid dues (step and_then continuing_settled n) = record {
       after = more.after;
       bounded = more.bounded;
-      waits = paid-then dues next more.after step.told (settling n step.world).told (waits-going world dues who turn) more.waits;
+      waits = paid-then dues next more.after step.told (continuing_settled n step.world).told (waits-going world dues who turn) more.waits;
     } in
     subst (λ (scene : Scene). IsPaid dues scene) (sym (settling-some (suc n) n world who refl found)) paid
 
-paid-settling : (n : ℕ) (world : World) (dues : List Due) → IsBounded dues world → IsPaid dues (settling n world)
+paid-settling : (n : ℕ) (world : World) (dues : List Due) → IsBounded dues world → IsPaid dues (continuing_settled n world)
 paid-settling zero world dues bounded = subst (λ (scene : Scene). IsPaid dues scene) (sym (settling-over world)) (paid-silent world dues bounded)
 paid-settling (suc n) world dues bounded = paid-turn n world dues (first_settled world) refl bounded (λ after left there. paid-settling n after left there)
 
@@ -119,10 +119,10 @@ record IsBegun (dues : List Due) (line : Line) (scene : Scene) : Type 0 where
   after : List Due
   bounded : IsBounded after scene.world
   others : (number : ℕ) → number ≢ line.number → waits_told number scene.told + owed number after ≤ owed number dues
-  its : owed line.number dues ≡ 0 → waits_told line.number scene.told + owed line.number after ≤ locks_of line.statement
+  its : owed line.number dues ≡ 0 → waits_told line.number scene.told + owed line.number after ≤ most_locks_of line.statement
 
 -- a session that waits is told of no wait, and starts nothing
-begun-waiting : (line : Line) (news : News) (world : World) (dues : List Due) → is_wait news ≡ false → IsBounded dues world
+begun-waiting : (line : Line) (news : News) (world : World) (dues : List Due) → is_wait_news news ≡ false → IsBounded dues world
     → IsBegun dues line (telling line.number line.session news world)
 begun-waiting line news world dues silent bounded = record {
   after = dues;
@@ -147,15 +147,15 @@ begun-started line world dues read bounded = record {
       omega (arith, here, sums, most, nothing);
 } where
   new : Due
-  new = record { line = line.number; locks = locks_of line.statement }
+  new = record { line = line.number; locks = most_locks_of line.statement }
 
   among : line.session - 1 < length dues
   among = let all = bounded.all in let is = read.0 in omega (arith, is.0, is.1, all)
 
-  told : (number : ℕ) → waits_told number (started line world).told + owed_at number new ≤ cond (eqb line.number number) (locks_of line.statement) 0
-  told number = waits-told number line.number line.session (locks_of line.statement) _ (pauses-started line world bounded.places)
+  told : (number : ℕ) → waits_told number (started line world).told + owed_at number new ≤ cond (eqb line.number number) (most_locks_of line.statement) 0
+  told number = waits-told number line.number line.session (most_locks_of line.statement) _ (pauses-started line world bounded.places)
 
-  least : (same : Bool) → cond same (locks_of line.statement) 0 ≤ locks_of line.statement
+  least : (same : Bool) → cond same (most_locks_of line.statement) 0 ≤ most_locks_of line.statement
   least true = omega arith
   least false = omega arith
 
@@ -167,22 +167,22 @@ begun-started line world dues read bounded = record {
   by number (inl same) other sums = absurd (other (sym same.1))
   by number (inr apart) other sums =
       let here : waits_told number (started line world).told + owed_at number new ≤ 0 =
-      subst (λ b. waits_told number (started line world).told + owed_at number new ≤ cond b (locks_of line.statement) 0) apart.0 (told number) in
+      subst (λ b. waits_told number (started line world).told + owed_at number new ≤ cond b (most_locks_of line.statement) 0) apart.0 (told number) in
       omega (arith, here, sums)
 
-begun-asked : (line : Line) (world : World) (dues : List Due) → IsRead line → IsBounded dues world → IsBegun dues line (asked line world)
+begun-asked : (line : Line) (world : World) (dues : List Due) → IsRead line → IsBounded dues world → IsBegun dues line (ask_session line world)
 begun-asked line world dues read bounded =
     asked-by (IsBegun dues line) line world
-    (begun-waiting line (Has_ended reply.Ok) (timed_out line.session world) dues refl (bounded-timed_out line.session world dues read.0 bounded))
+    (begun-waiting line (Has_ended reply.Ok) (after_timeout line.session world) dues refl (bounded-timed_out line.session world dues read.0 bounded))
     (begun-waiting line Busy world dues refl bounded) (λ free. begun-started line world dues read bounded)
 
 -- a line, and all turns after it
 begun-line : (line : Line) (world : World) (dues : List Due) → IsRead line → IsBounded dues world → IsBegun dues line (line_played line world)
 begun-line line world dues read bounded =
     let first = begun-asked line world dues read bounded in
-    let begun = (asked line world).world in
+    let begun = (ask_session line world).world in
     let rest = paid-settling most_turns begun first.after first.bounded in
-    let told = λ (number : ℕ). waits-append number (asked line world).told (settling most_turns begun).told in record {
+    let told = λ (number : ℕ). waits-append number (ask_session line world).told (continuing_settled most_turns begun).told in record {
       after = rest.after;
       bounded = rest.bounded;
       others = λ number other.
@@ -201,13 +201,13 @@ rise-all number (line ∷ lines) rise =
 -- what is told of lines: of those before no more than was owed, and of each no more than it asks for locks
 record IsToldWithin (number : ℕ) (dues : List Due) (lines : List Line) (told : List Told) : Type 0 where
   before : (earlier : ℕ) → earlier < number → waits_told earlier told ≤ owed earlier dues
-  each : All (λ line. waits_told line.number told ≤ locks_of line.statement) lines
+  each : All (λ line. waits_told line.number told ≤ most_locks_of line.statement) lines
 
 told-lines : (number : ℕ) (lines : List Line) (world : World) (dues : List Due) → All IsRead lines
     → RiseFrom number lines → IsBounded dues world → ((later : ℕ) → number ≤ later → owed later dues ≡ 0)
     → IsToldWithin number dues lines (lines_played lines world).told
 told-lines number [] world dues are rise bounded none =
-    record { before = λ earlier less. omega arith; each = All-nil (λ (line : Line). waits_told line.number [] ≤ locks_of line.statement) }
+    record { before = λ earlier less. omega arith; each = All-nil (λ (line : Line). waits_told line.number [] ≤ most_locks_of line.statement) }
 told-lines number (line ∷ lines) world dues are rise bounded none =
     let first = begun-line line world dues (All-head IsRead line lines are) bounded in
     let step = line_played line world in
@@ -218,7 +218,7 @@ told-lines number (line ∷ lines) world dues are rise bounded none =
     omega (arith, here, nothing) in
     let rest = told-lines (line.number + 1) lines step.world first.after (All-tail IsRead line lines are) rise.1 first.bounded later in
     let sum = λ (earlier : ℕ). waits-append earlier step.told more in
-    let Few : Line → Type 0 = λ one. waits_told one.number (step.told ++ more) ≤ locks_of one.statement in record {
+    let Few : Line → Type 0 = λ one. waits_told one.number (step.told ++ more) ≤ most_locks_of one.statement in record {
       before = λ earlier less.
           let all = sum earlier in
           let here = first.others earlier (λ e. omega (arith, e, less, rise.0)) in

@@ -4,14 +4,14 @@ use Rattle.std.specs.Option.{IfSome}
 use Rattle.mdl_core.specs.CoreJoins.{Joins}
 use Rattle.mdl_core.specs.CoreSystems.{system_of}
 use Rattle.mdl_core.specs.Cores.{Core}
-use Rattle.mdl_core.specs.Ties.{IsSound}
+use Rattle.mdl_core.specs.Ties.{IsSoundCore}
 use Rattle.mdl_system.specs.Words.{SameAt}
 use Rattle.mdl_calls.specs.Words.{Each, Runs}
 use Rattle.mdl_syntax.specs.declared.statement.Statement.{Statement}
 use Rattle.mdl_syntax.specs.declared.statement.Statement.TheVariants.{DropTables, DropSchema, RenameTable}
 use Rattle.mdl_rows.specs.declared.reply.Reply.TheVariants as reply
 use Rattle.mdl_rows.specs.Endings.{Pause, Ends, Faults}
-use Rattle.mdl_rows.specs.MemoryLaws.{session_at}
+use Rattle.mdl_rows.specs.MemoryLaws.{session_of_pause}
 use Rattle.mdl_rows.specs.Playing.{starting, going_on}
 use Rattle.mdl_rows.specs.Sessions.{Left, Session}
 use Rattle.mdl_script_laws.specs.ChangesLast.{ChangesAtMostOnce}
@@ -40,7 +40,7 @@ HasOneLeft session = IfSome session.left (λ (left : Left). (id : ℕ) → Chang
 -- a statement that changes at most one definition, and fails, has changed none: as it starts, or, if it has waited, as it goes on
 abbrev pub FailuresChangeNothing : Type 0
 FailuresChangeNothing =
-    (session : Session) (a b : Core) (pause : Pause) → IsSound a → HasFailed pause →
+    (session : Session) (a b : Core) (pause : Pause) → IsSoundCore a → HasFailed pause →
     ((statement : Statement) → changes_one statement ≡ true → Runs Joins a (starting statement session) pause b → SameDefinitions a b)
     × (HasOneLeft session → Runs Joins a (going_on session) pause b → SameDefinitions a b)
 
@@ -48,5 +48,5 @@ FailuresChangeNothing =
 abbrev pub WaitersHaveOneLeft : Type 0
 WaitersHaveOneLeft =
     (session : Session) →
-    ((statement : Statement) → changes_one statement ≡ true → Each (λ pause. HasOneLeft (session_at pause)) (starting statement session))
-    × (HasOneLeft session → Each (λ pause. HasOneLeft (session_at pause)) (going_on session))
+    ((statement : Statement) → changes_one statement ≡ true → Each (λ pause. HasOneLeft (session_of_pause pause)) (starting statement session))
+    × (HasOneLeft session → Each (λ pause. HasOneLeft (session_of_pause pause)) (going_on session))

@@ -4,7 +4,7 @@ use Rattle.std.specs.Prelude.{◌≡◌, ℕ, false, List, Ok, take}
 use Rattle.mdl_lines.specs.Sessions.{IsScriptSession}
 use Rattle.mdl_syntax.specs.declared.script.Line.{Line}
 use Rattle.mdl_syntax.specs.Scripts.{parsed}
-use Rattle.mdl_script.specs.Worlds.{is_waiting, player_at, script_played}
+use Rattle.mdl_script.specs.Worlds.{player_at, script_played, session_waits}
 use Rattle.mdl_script_laws.specs.RefusalsFirst.{IsTidy}
 
 -- after any number of a script's lines, each session that doesn't wait keeps no ticket for a statement. Unless a transaction is open, it
@@ -12,4 +12,4 @@ use Rattle.mdl_script_laws.specs.RefusalsFirst.{IsTidy}
 abbrev pub IdleSessionsAreTidy : Type 0
 IdleSessionsAreTidy =
     (text : List ℕ) (lines : List Line) → parsed text ≡ Ok lines → (n who : ℕ) → IsScriptSession who →
-    let world = (script_played (take n lines)).world in is_waiting world who ≡ false → IsTidy (player_at who world).session
+    let world = (script_played (take n lines)).world in session_waits world who ≡ false → IsTidy (player_at who world).session

@@ -5,10 +5,10 @@ use Rattle.mdl_key.specs.Keys.{KeyName, key_cmp}
 use Rattle.mdl_rows.specs.KeyOrder.{in_key_order}
 
 -- one key comes before another
-abbrev pub ComesBefore : KeyName → KeyName → Type 0
-ComesBefore key later = key_cmp key later ≡ Less
+abbrev pub KeyComesBefore : KeyName → KeyName → Type 0
+KeyComesBefore key later = key_cmp key later ≡ Less
 
 -- keys in key order are the same keys, each before all that follow it, and so each once
 abbrev pub KeysStandInOrder : Type 0
 KeysStandInOrder =
-    (keys : List KeyName) → AllPairs ComesBefore (in_key_order keys) × ((key : KeyName) → Contains (in_key_order keys) key ↔ Contains keys key)
+    (keys : List KeyName) → AllPairs KeyComesBefore (in_key_order keys) × ((key : KeyName) → Contains (in_key_order keys) key ↔ Contains keys key)

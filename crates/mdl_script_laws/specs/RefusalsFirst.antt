@@ -6,7 +6,7 @@ use Rattle.mdl_key.specs.declared.mode.Duration.TheVariants as for
 use Rattle.mdl_calls.specs.Words.{Each, Runs}
 use Rattle.mdl_core.specs.CoreJoins.{Joins}
 use Rattle.mdl_core.specs.Cores.{Core}
-use Rattle.mdl_context.specs.Contexts.{held_for}
+use Rattle.mdl_context.specs.Contexts.{tickets_for}
 use Rattle.mdl_syntax.specs.declared.statement.Statement.{Statement}
 use Rattle.mdl_rows.specs.declared.error_number.ErrorNumber.{ErrorNumber}
 use Rattle.mdl_rows.specs.declared.error_number.ErrorNumber.TheVariants.{TableLockedForRead, TableNotLocked, ActiveLocks, ConflictingReadLock, NoSuchSavepoint}
@@ -30,8 +30,8 @@ is_early _ = false
 -- it keeps none for a transaction, and has both tickets of the global read lock or none
 pub record IsTidy (session : Session) : Type 0 where
   pub over : session.left ≡ None
-  pub statement : held_for for.Statement session.context.kept ≡ []
-  pub transaction : session.state.is_open ≡ false → held_for for.Transaction session.context.kept ≡ []
+  pub statement : tickets_for for.Statement session.context.kept ≡ []
+  pub transaction : session.state.is_open ≡ false → tickets_for for.Transaction session.context.kept ≡ []
   pub whole : half_lock session.state ≡ None
 
 -- a session in the middle of a statement: it has something left to do, and kept no ticket for a statement when that began
@@ -39,11 +39,11 @@ abbrev pub IsUnderway : Session → Type 0
 IsUnderway session = (left : Left) × (session.left ≡ Some left) × (left.mark.statement ≡ 0)
 
 -- however far a statement comes, its session is tidy once it has ended, and underway until then
-abbrev pub IsOrderly : Pause → Type 0
-IsOrderly (Ends reply session) = IsTidy session
-IsOrderly (Begins_to_wait key mode session) = IsUnderway session
-IsOrderly (Waits_on session) = IsUnderway session
-IsOrderly (Faults session) = IsTidy session
+abbrev pub EndsTidy : Pause → Type 0
+EndsTidy (Ends reply session) = IsTidy session
+EndsTidy (Begins_to_wait key mode session) = IsUnderway session
+EndsTidy (Waits_on session) = IsUnderway session
+EndsTidy (Faults session) = IsTidy session
 
 -- a statement that starts in a tidy session, and ends with such an error, has changed nothing: the session is unchanged, and so is the
 -- space
@@ -56,5 +56,5 @@ EarlyErrorsChangeNothing =
 abbrev pub SessionsStayTidy : Type 0
 SessionsStayTidy =
     (session : Session) →
-    ((statement : Statement) → IsTidy session → Each IsOrderly (starting statement session))
-    × (IsUnderway session → Each IsOrderly (going_on session))
+    ((statement : Statement) → IsTidy session → Each EndsTidy (starting statement session))
+    × (IsUnderway session → Each EndsTidy (going_on session))

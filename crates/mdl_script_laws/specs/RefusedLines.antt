@@ -7,7 +7,7 @@ use Rattle.mdl_rows.specs.declared.reply.Reply.TheVariants as reply
 use Rattle.mdl_script.specs.declared.told.News.{News}
 use Rattle.mdl_script.specs.declared.told.News.TheVariants.{Ends}
 use Rattle.mdl_script.specs.declared.told.Told.{Told}
-use Rattle.mdl_script.specs.Worlds.{World, asked, player_at, script_played}
+use Rattle.mdl_script.specs.Worlds.{World, ask_session, player_at, script_played}
 use Rattle.mdl_script_laws.specs.RefusalsFirst.{is_early}
 
 -- whether a statement is reported as refused before its first lock
@@ -24,7 +24,7 @@ pub record IsSameWorld (before after : World) : Type 0 where
 abbrev pub IsOfLineThatChangedNothing : List Line → Told → Type 0
 IsOfLineThatChangedNothing lines told =
     (n : ℕ) × (line : Line) × (more : List Line) × (drop n lines ≡ line ∷ more) × (told.line ≡ line.number) × (told.who ≡ line.session)
-    × (let before = (script_played (take n lines)).world in IsSameWorld before (asked line before).world)
+    × (let before = (script_played (take n lines)).world in IsSameWorld before (ask_session line before).world)
 
 -- each early refusal that a script reports is the answer to a line that changed nothing
 abbrev pub RefusedLinesChangeNothing : Type 0

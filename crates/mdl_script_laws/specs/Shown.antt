@@ -9,7 +9,7 @@ use Rattle.mdl_syntax.specs.declared.statement.Statement.{Statement}
 use Rattle.mdl_syntax.specs.declared.statement.Statement.TheVariants as statement
 use Rattle.mdl_rows.specs.declared.reply.Reply.TheVariants.{Columns}
 use Rattle.mdl_rows.specs.declared.reply.TableShown.{TableShown}
-use Rattle.mdl_rows.specs.Statements.{columns_of}
+use Rattle.mdl_rows.specs.Statements.{table_columns}
 use Rattle.mdl_script.specs.declared.told.News.TheVariants.{Ends}
 use Rattle.mdl_script.specs.declared.told.Told.{Told}
 use Rattle.mdl_script.specs.Worlds.{World, line_played, lines_played, player_at, script_played}
@@ -58,7 +58,7 @@ TransactionsSeeOneDefinition =
 abbrev pub StandsAsShown : World → TableShown → Type 0
 StandsAsShown world table =
     let defined = (system_of world.core).definitions table.key in
-    (is_some defined.definition ≡ true) × (defined.version ≡ table.version) × (columns_of defined.definition ≡ table.columns)
+    (is_some defined.definition ≡ true) × (defined.version ≡ table.version) × (table_columns defined.definition ≡ table.columns)
 
 -- a table that was shown to a session is defined as it was shown, as long as the session's transaction is open and it is asked only for
 -- such statements: no other session has changed or dropped it

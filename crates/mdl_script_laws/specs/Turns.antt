@@ -4,7 +4,7 @@ use Rattle.std.specs.Prelude.{◌≡◌, ℕ, suc, ◌+◌, ◌*◌, ◌≤◌, 
 use Rattle.std.specs.List.{All}
 use Rattle.mdl_key.specs.Words.{KeyName, most_places}
 use Rattle.mdl_core.specs.CoreCalls.{has_settled, wait_at}
-use Rattle.mdl_core.specs.Seats.{is_open}
+use Rattle.mdl_core.specs.Seats.{is_unsettled_wait}
 use Rattle.mdl_lines.specs.Sessions.{IsScriptSession}
 use Rattle.mdl_context.specs.declared.request.Mark.{Mark}
 use Rattle.mdl_defs.specs.declared.standing.Standing.{Standing}
@@ -20,7 +20,7 @@ use Rattle.mdl_rows.specs.Statements.{row_of}
 use Rattle.mdl_script.specs.declared.told.News.{News}
 use Rattle.mdl_script.specs.declared.told.News.TheVariants.{Waits}
 use Rattle.mdl_script.specs.declared.told.Told.{Told}
-use Rattle.mdl_script.specs.Worlds.{World, first_settled, is_waiting, script_played, settling, silent, waiting_in}
+use Rattle.mdl_script.specs.Worlds.{World, continuing_settled, first_settled, script_played, session_waits, unreported, waiting_in}
 
 -- a schema has no more tables than a space has places
 abbrev pub AreFewTables : List ℕ → Type 0
@@ -53,30 +53,30 @@ AsksForAtMost most (row.Kill target rest) = AsksForAtMost most rest
 -- the tables or the schema that it names, with the tables' schemas if these are created, dropped, renamed, altered or locked for writing,
 -- and with the schema's tables if it is dropped. For the global read lock these are the global lock and once more the COMMIT lock. A
 -- table that is altered is locked up to three times, each time more strongly. A user-level lock is requested alone
-abbrev pub locks_of : Statement → ℕ
-locks_of Begin = 1
-locks_of Commit = 1
-locks_of (Select tables) = length tables
-locks_of (Write table priority) = 3
-locks_of (CreateTable table columns) = 4
-locks_of (CreateSchema name) = 3
-locks_of (DropTables tables) = 2 + 2 * length tables
-locks_of (DropSchema name) = 3 + most_places
-locks_of (RenameTable from to) = 6
-locks_of FlushTablesWithReadLock = 3
-locks_of (AlterTable alteration) = 6
-locks_of (LockTables locks) = 2 + 2 * length locks
-locks_of (GetLock name) = 1
-locks_of _ = 0
+abbrev pub most_locks_of : Statement → ℕ
+most_locks_of Begin = 1
+most_locks_of Commit = 1
+most_locks_of (Select tables) = length tables
+most_locks_of (Write table priority) = 3
+most_locks_of (CreateTable table columns) = 4
+most_locks_of (CreateSchema name) = 3
+most_locks_of (DropTables tables) = 2 + 2 * length tables
+most_locks_of (DropSchema name) = 3 + most_places
+most_locks_of (RenameTable from to) = 6
+most_locks_of FlushTablesWithReadLock = 3
+most_locks_of (AlterTable alteration) = 6
+most_locks_of (LockTables locks) = 2 + 2 * length locks
+most_locks_of (GetLock name) = 1
+most_locks_of _ = 0
 
 -- the most locks that a statement of the language asks for: those of a DROP SCHEMA
 abbrev pub most_locks : ℕ
 most_locks = 3 + most_places
 
--- no statement asks for more locks than `locks_of` says, and within the limits of the language for no more than `most_locks`
+-- no statement asks for more locks than `most_locks_of` says, and within the limits of the language for no more than `most_locks`
 abbrev pub StatementsAskForFewLocks : Type 0
 StatementsAskForFewLocks =
-    (statement : Statement) → AsksForAtMost (locks_of statement) (row_of statement) × (IsWithinLimits statement → locks_of statement ≤ most_locks)
+    (statement : Statement) → AsksForAtMost (most_locks_of statement) (row_of statement) × (IsWithinLimits statement → most_locks_of statement ≤ most_locks)
 
 -- each session that waits has a wait that isn't settled
 abbrev pub WaitersAreUnsettled : World → Type 0
@@ -90,7 +90,7 @@ TurnsSuffice = (text : List ℕ) (lines : List Line) → parsed text ≡ Ok line
 abbrev pub MoreTurnsDoNothing : Type 0
 MoreTurnsDoNothing =
     (text : List ℕ) (lines : List Line) → parsed text ≡ Ok lines → (n turns : ℕ) →
-    let world = (script_played (take n lines)).world in settling turns world ≡ silent world
+    let world = (script_played (take n lines)).world in continuing_settled turns world ≡ unreported world
 
 -- after each line of a script, each session that waits has a wait that isn't settled
 abbrev pub NobodyIsLeftSettled : Type 0
@@ -99,20 +99,20 @@ NobodyIsLeftSettled =
 
 -- a session's statement waits exactly if the session has a wait in the lock space that isn't settled
 abbrev pub WaitsInTheSpace : World → Type 0
-WaitsInTheSpace world = (who : ℕ) → IsScriptSession who → is_waiting world who ≡ is_open (wait_at who world.core)
+WaitsInTheSpace world = (who : ℕ) → IsScriptSession who → session_waits world who ≡ is_unsettled_wait (wait_at who world.core)
 
 -- after each line of a script, each session's statement waits exactly if the session has such a wait
 abbrev pub StatementsWaitInTheSpace : Type 0
 StatementsWaitInTheSpace = (text : List ℕ) (lines : List Line) → parsed text ≡ Ok lines → (n : ℕ) → WaitsInTheSpace (script_played (take n lines)).world
 
 -- whether a statement is reported to wait
-abbrev pub is_wait : News → Bool
-is_wait (Waits key mode) = true
-is_wait _ = false
+abbrev pub is_wait_news : News → Bool
+is_wait_news (Waits key mode) = true
+is_wait_news _ = false
 
 -- whether the statement of the line of this number is reported to wait
 abbrev pub is_wait_of : ℕ → Told → Bool
-is_wait_of number told = told.line == number && is_wait told.news
+is_wait_of number told = told.line == number && is_wait_news told.news
 
 -- how many waits of that statement are reported
 abbrev pub waits_told : ℕ → List Told → ℕ
@@ -121,4 +121,4 @@ waits_told number told = length (filter (is_wait_of number) told)
 -- a whole script reports no more waits of a statement than the statement asks for locks
 abbrev pub StatementsTellOfFewWaits : Type 0
 StatementsTellOfFewWaits =
-    (text : List ℕ) (lines : List Line) → parsed text ≡ Ok lines → All (λ line. waits_told line.number (script_played lines).told ≤ locks_of line.statement) lines
+    (text : List ℕ) (lines : List Line) → parsed text ≡ Ok lines → All (λ line. waits_told line.number (script_played lines).told ≤ most_locks_of line.statement) lines

@@ -4,14 +4,14 @@ use Rattle.std.specs.Prelude.{replicate}
 use Rattle.std.specs.List.{range_with_len}
 use Rattle.std.proofs.lemmas.List.Elements.{All-nil}
 use Rattle.mdl_calls.specs.Words.{SessionLocks}
-use Rattle.mdl_core.specs.Seats.{SeatView, empty_seat, own_of}
-use Rattle.mdl_core.specs.Words.{Core, SpeaksFor, empty_core, own_at}
+use Rattle.mdl_core.specs.Seats.{SeatView, empty_seat, locks_of_seat}
+use Rattle.mdl_core.specs.Words.{Core, SpeaksFor, empty_core, locks_at}
 use Rattle.mdl_space.specs.CoreMembers.{core_space}
 use Rattle.mdl_context.specs.Contexts.{LeavesOthers}
 use Rattle.mdl_stmt.specs.Attendance.{AttendsWith}
 use Rattle.mdl_stmt.proofs.AttendanceLemmas.{attends-besides, attends-empty}
 use Rattle.mdl_stmt.specs.KeptStages.{OwnedView}
-use Rattle.mdl_server_example.specs.Servers.{AreServed, newcomer}
+use Rattle.mdl_server_example.specs.Servers.{AreServed, new_session}
 
 -- ---- one of them makes calls
 
@@ -76,10 +76,10 @@ map-more f a zero m same = let here : m ≡ a = omega (arith, same) in ap (λ k.
 map-more f a (suc n) m same = ap (λ xs. f a ∷ xs) (map-more f (a + 1) n m (omega (arith, same)))
 
 -- one more session
-pub new-more : (xs : List OwnedView) (n : ℕ) → xs ≡ map newcomer (range_with_len 1 n) → xs ++ newcomer (n + 1) ∷ [] ≡ map newcomer (range_with_len 1 (n + 1))
+pub new-more : (xs : List OwnedView) (n : ℕ) → xs ≡ map new_session (range_with_len 1 n) → xs ++ new_session (n + 1) ∷ [] ≡ map new_session (range_with_len 1 (n + 1))
 new-more xs n so =
     let count : suc n ≡ n + 1 = omega arith in
-    ap (λ ys. ys ++ newcomer (n + 1) ∷ []) so ∙ map-more newcomer 1 n (n + 1) (omega arith) ∙ ap (λ k. map newcomer (range_with_len 1 k)) count
+    ap (λ ys. ys ++ new_session (n + 1) ∷ []) so ∙ map-more new_session 1 n (n + 1) (omega arith) ∙ ap (λ k. map new_session (range_with_len 1 k)) count
 
 abbrev nothing : SessionLocks
 nothing = record { held = []; wait = None }
@@ -87,32 +87,32 @@ nothing = record { held = []; wait = None }
 -- what these have is nothing
 abbrev AreFresh : List SeatView → Type 0
 AreFresh [] = Unit {0}
-AreFresh (seat ∷ seats) = (own_of seat ≡ nothing) × AreFresh seats
+AreFresh (seat ∷ seats) = (locks_of_seat seat ≡ nothing) × AreFresh seats
 
 fresh-replicate : (n : ℕ) → AreFresh (replicate n empty_seat)
 fresh-replicate zero = tt
 fresh-replicate (suc n) = (refl, fresh-replicate n)
 
-fresh-at : (seats : List SeatView) (i : ℕ) → AreFresh seats → own_of (get_or seats i empty_seat) ≡ nothing
+fresh-at : (seats : List SeatView) (i : ℕ) → AreFresh seats → locks_of_seat (get_or seats i empty_seat) ≡ nothing
 fresh-at [] i fresh = refl
 fresh-at (seat ∷ seats) zero fresh = fresh.0
 fresh-at (seat ∷ seats) (suc i) fresh = fresh-at seats i fresh.1
 
-attended-new : (space : Core) (who : ℕ) → SpeaksFor space who → own_at space who ≡ nothing → AttendsWith core_space space (newcomer who).context (newcomer who).cache
+attended-new : (space : Core) (who : ℕ) → SpeaksFor space who → locks_at space who ≡ nothing → AttendsWith core_space space (new_session who).context (new_session who).cache
 attended-new space who speaks has =
-    attends-empty core_space space (newcomer who).context (newcomer who).cache refl
+    attends-empty core_space space (new_session who).context (new_session who).cache refl
     (record { speaks = speaks; serves = rw has (record { held = refl; wait = refl }); known = All-nil _; places = All-nil _; wish = tt })
 
-served-new : (space : Core) (a n : ℕ) → ((who : ℕ) → a ≤ who → who < a + n → SpeaksFor space who) → ((who : ℕ) → own_at space who ≡ nothing)
-    → AreServed space a (map newcomer (range_with_len a n))
+served-new : (space : Core) (a n : ℕ) → ((who : ℕ) → a ≤ who → who < a + n → SpeaksFor space who) → ((who : ℕ) → locks_at space who ≡ nothing)
+    → AreServed space a (map new_session (range_with_len a n))
 served-new space a zero speaks has = tt
 served-new space a (suc n) speaks has =
     (refl, attended-new space a (speaks a (omega arith) (omega arith)) (has a), served-new space (a + 1) n (λ who least most. speaks who (omega (arith, least)) (omega (arith, most))) has)
 
 -- a new space serves new sessions
 pub served-first : (space : Core) (places n : ℕ) (xs : List OwnedView) → space ≡ empty_core places n → ((who : ℕ) → 1 ≤ who → who ≤ n → SpeaksFor space who)
-    → xs ≡ map newcomer (range_with_len 1 n) → AreServed space 1 xs
+    → xs ≡ map new_session (range_with_len 1 n) → AreServed space 1 xs
 served-first space places n xs made speaks new =
     subst (AreServed space 1) (sym new)
     (served-new space 1 n (λ who least most. speaks who least (omega (arith, most)))
-    (λ who. ap (λ (core : Core). own_at core who) made ∙ fresh-at (replicate n empty_seat) (who - 1) (fresh-replicate n)))
+    (λ who. ap (λ (core : Core). locks_at core who) made ∙ fresh-at (replicate n empty_seat) (who - 1) (fresh-replicate n)))

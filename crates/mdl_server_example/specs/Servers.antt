@@ -11,8 +11,8 @@ abbrev pub cache_size : ℕ
 cache_size = 64
 
 -- a session that has done nothing
-abbrev pub newcomer : ℕ → OwnedView
-newcomer who = record {
+abbrev pub new_session : ℕ → OwnedView
+new_session who = record {
   context = record { who = who; kept = []; known = []; wait = None };
   state = at_first;
   work = None;

@@ -4,7 +4,7 @@ ghost use Rattle.std.specs.List.{range_with_len};
 ghost use Rattle.mdl_space.specs.CoreMembers.{core_space};
 ghost use Rattle.mdl_context.specs.Contexts.{LeavesOthers};
 ghost use Rattle.mdl_stmt.specs.Attendance.{AttendsWith};
-ghost use Rattle.mdl_server_example.specs.Servers.{AreServed, newcomer};
+ghost use Rattle.mdl_server_example.specs.Servers.{AreServed, new_session};
 
 use mdl_key::MOST_PLACES;
 use mdl_space::{CoreSpace, NewError};
@@ -101,7 +101,7 @@ fn index_of(runners: &[OwnedRunner<CoreSpace>], who: u16) -> Option<usize>
 
 // The runners of the sessions from 1 to this number.
 fn new_runners(alloc: Global, sessions: u16) -> Result<Vec<OwnedRunner<CoreSpace>>, AllocError>
-    ensures { IfOk result (λ runners. runners.items ≡ map newcomer (range_with_len 1 sessions)) }
+    ensures { IfOk result (λ runners. runners.items ≡ map new_session (range_with_len 1 sessions)) }
 {
     let mut runners = Vec::new(alloc);
     for index in 0..sessions {

@@ -4,7 +4,7 @@ use Rattle.mdl_key.specs.Words.{KeyName}
 use Rattle.mdl_calls.specs.Words.{Answer, At_place, Tables, Call, Resolve, Tables_of}
 use Rattle.mdl_calls.specs.Learning.{LearnsPlace}
 use Rattle.mdl_calls.specs.SessionData.{KnownKey, key_known, is_known, place_known, are_apart}
-use Rattle.mdl_session_laws.specs.SessionJoins.{Learns}
+use Rattle.mdl_session_laws.specs.SessionJoins.{LearnsKeys}
 use Rattle.mdl_session_laws.proofs.KeyLists.{keeps-known, stays-known, apart-last}
 
 same-grows : (before after : List KnownKey) → after ≡ before → (more : List KnownKey) × (after ≡ before ++ more)
@@ -15,14 +15,14 @@ place-grows : (key : KeyName) (place : ℕ) (o : Option ℕ) (before after : Lis
 place-grows key place (Some known) before after learns = same-grows before after learns.1
 place-grows key place None before after learns = (_, learns.1)
 
-pub known-grows : (call : Call) (answer : Answer) (before after : List KnownKey) → Learns call answer before after
+pub known-grows : (call : Call) (answer : Answer) (before after : List KnownKey) → LearnsKeys call answer before after
     → (more : List KnownKey) × (after ≡ before ++ more)
 known-grows (Resolve who key) (At_place place) before after learns = place-grows key place (place_known key before) before after learns
 known-grows (Tables_of who schema) (Tables places) before after learns = (learns.more, learns.grown)
 known-grows _ _ before after learns = same-grows before after learns
 
 -- no key twice, and no place
-pub known-apart : (call : Call) (answer : Answer) (before after : List KnownKey) → Learns call answer before after → are_apart before ≡ true → are_apart after ≡ true
+pub known-apart : (call : Call) (answer : Answer) (before after : List KnownKey) → LearnsKeys call answer before after → are_apart before ≡ true → are_apart after ≡ true
 known-apart (Resolve who key) (At_place place) before after learns apart = by (place_known key before) refl learns
   where
     by : (o : Option ℕ) → place_known key before ≡ o → LearnsPlace key place o before after → are_apart after ≡ true
@@ -32,13 +32,13 @@ known-apart (Tables_of who schema) (Tables places) before after learns apart = l
 known-apart _ _ before after learns apart = ap are_apart learns ∙ apart
 
 -- a key that was known is known
-pub knows-on : (call : Call) (answer : Answer) (before after : List KnownKey) → Learns call answer before after
+pub knows-on : (call : Call) (answer : Answer) (before after : List KnownKey) → LearnsKeys call answer before after
     → (place : ℕ) (key : KeyName) → key_known place before ≡ Some key → key_known place after ≡ Some key
 knows-on call answer before after learns place key e =
     let h = known-grows call answer before after learns in ap (key_known place) h.1 ∙ keeps-known before h.0 place key e
 
 -- and so is a place
-pub known-on : (call : Call) (answer : Answer) (before after : List KnownKey) → Learns call answer before after
+pub known-on : (call : Call) (answer : Answer) (before after : List KnownKey) → LearnsKeys call answer before after
     → (place : ℕ) → is_known place before ≡ true → is_known place after ≡ true
 known-on call answer before after learns place is =
     let h = known-grows call answer before after learns in ap (is_known place) h.1 ∙ stays-known before h.0 place is

@@ -6,7 +6,7 @@ use Rattle.mdl_calls.specs.Words.{Refused, Call, Resolve, Try_now, Read_definiti
 use Rattle.mdl_calls.specs.Learning.{KeepsSettled}
 use Rattle.mdl_calls.specs.Meetings.{ReadsNothing}
 use Rattle.mdl_calls.specs.SessionData.{SessionData, SpeaksFor, Knows, is_known, noted_at}
-use Rattle.mdl_session_laws.specs.SessionJoins.{Joins, Learns, LetsRead, TellsTruly, ends_wait, gained_at, has_call, met}
+use Rattle.mdl_session_laws.specs.SessionJoins.{Joins, LearnsKeys, LetsRead, TellsTruly, ends_wait, gained_at, session_has_call, wait_met}
 
 -- all is the same but how the wait is settled, which may have been learnt
 pub record KeepsAll (a b : SessionData) : Type 0 where
@@ -38,7 +38,7 @@ refused-gains : (known : ℕ → Type 0) (call : Call) (why : SpaceError) → If
 refused-gains known (Try_now who place mode) why = tt
 refused-gains known _ why = tt
 
-refused-learns : (call : Call) (why : SpaceError) (a b : SessionData) → b.known ≡ a.known → Learns call (Refused why) a.known b.known
+refused-learns : (call : Call) (why : SpaceError) (a b : SessionData) → b.known ≡ a.known → LearnsKeys call (Refused why) a.known b.known
 refused-learns (Resolve who key) why a b e = e
 refused-learns _ why a b e = e
 
@@ -55,9 +55,9 @@ refused-reads (Read_definition who id) why a b nothing = nothing
 refused-reads (Read_kept who id) why a b nothing = inl nothing
 refused-reads _ why a b nothing = nothing
 
-pub refused-joins : (a b : SessionData) (call : Call) (why : SpaceError) → IfSome (caller call) (SpeaksFor a) → has_call call ≡ true
+pub refused-joins : (a b : SessionData) (call : Call) (why : SpaceError) → IfSome (caller call) (SpeaksFor a) → session_has_call call ≡ true
     → is_answer_of call (Refused why) ≡ true → KeepsAll a b → IsCause (Knows a a.number) call why a.own
-    → ((state : Option Settled) (how : Settled) → met call (Refused why) ≡ Some state → a.settled ≡ Some how → state ≡ Some how)
+    → ((state : Option Settled) (how : Settled) → wait_met call (Refused why) ≡ Some state → a.settled ≡ Some how → state ≡ Some how)
     → TellsTruly call (Refused why) a b → Joins a call (Refused why) b
 refused-joins a b call why mine has fits same cause agreed truly = record {
   mine = mine;

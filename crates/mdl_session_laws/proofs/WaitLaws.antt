@@ -7,7 +7,7 @@ use Rattle.mdl_calls.specs.declared.space_error.SpaceError.TheVariants.{NoWait, 
 use Rattle.mdl_calls.specs.Words.{Answer, Refused, Done, Granted, Upgraded, Waits, Victim_is, Pending, Is_settled, Timed_out, Lost, Has_wait, Has_killed, is_answer_of, Begin_wait, Call, Clone_ticket, Downgrade, Merge, Release, Search, Try_now, Upgrade_now, Poll_wait, Settle_timeout, End_wait, Wait_of, Kill, caller, IsEndOf, IsExplained, IsToldOf, told, wait_number, is_waiting}
 use Rattle.mdl_calls.specs.Learning.{KeepsSettled}
 use Rattle.mdl_calls.specs.SessionData.{SessionData, SpeaksFor, IsSettledAs, Knows, own_of}
-use Rattle.mdl_session_laws.specs.SessionJoins.{Joins, ends_wait, met}
+use Rattle.mdl_session_laws.specs.SessionJoins.{Joins, ends_wait, wait_met}
 use Rattle.mdl_session_laws.proofs.CallLaws.{speaks}
 
 -- an answer that tells how the caller's wait is settled is true
@@ -55,7 +55,7 @@ lost-end _ who fits = refl
 
 -- who is told what, where a settled wait is met as it is settled
 told-so : (a : SessionData) (call : Call) (answer : Answer) (how : Settled) → is_waiting a.own ≡ true → is_answer_of call answer ≡ true
-    → IsExplained (Knows a a.number) call answer a.own → ((state : Option Settled) → met call answer ≡ Some state → state ≡ Some how) → IsToldOf how call answer
+    → IsExplained (Knows a a.number) call answer a.own → ((state : Option Settled) → wait_met call answer ≡ Some state → state ≡ Some how) → IsToldOf how call answer
 told-so a (Poll_wait who) Pending how waits fits clear agreed = let no = agreed None refl in cc
 told-so a (Poll_wait who) (Is_settled one) how waits fits clear agreed = let same = agreed (Some one) refl in cc
 told-so a (Poll_wait who) (Refused NoWait) how waits fits clear agreed = cc

@@ -12,20 +12,20 @@ abbrev pub Joins : SessionData → Call → Answer → SessionData → Type 0
 Joins a call answer b = Transition (spec_of call) answer a b
 
 -- whether a session has the call: there is no way yet to give up a place
-abbrev pub has_call : Call → Bool
-has_call call = (spec_of call).has
+abbrev pub session_has_call : Call → Bool
+session_has_call call = (spec_of call).has
 
 -- the place that the call named, if this answer gave the caller a ticket or a wait there
 abbrev pub gained_at : Call → Answer → Option ℕ
 gained_at call answer = place_of ((spec_of call).effect answer)
 
 -- the keys that the session knows after a call with this answer
-abbrev pub Learns : Call → Answer → List KnownKey → List KnownKey → Type 0
-Learns call answer before after = (spec_of call).learns answer before after
+abbrev pub LearnsKeys : Call → Answer → List KnownKey → List KnownKey → Type 0
+LearnsKeys call answer before after = (spec_of call).learns answer before after
 
 -- the state in which the call met the caller's wait, if the answer says that: not settled, or settled in this way
-abbrev pub met : Call → Answer → Option (Option Settled)
-met call answer = (spec_of call).met answer
+abbrev pub wait_met : Call → Answer → Option (Option Settled)
+wait_met call answer = (spec_of call).met answer
 
 -- whether a call with this answer ended its caller's wait
 abbrev pub ends_wait : Call → Answer → Bool

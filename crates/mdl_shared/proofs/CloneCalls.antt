@@ -19,7 +19,7 @@ use Rattle.mdl_shared.specs.DeedsDone.{DoesQuietly}
 use Rattle.mdl_shared.specs.FastWishes.{BecomesSlow, GainsFast}
 use Rattle.mdl_shared.specs.Members.{IsMember}
 use Rattle.mdl_shared.specs.Modes.{clone_fault}
-use Rattle.mdl_shared.specs.OwnLists.{told_of}
+use Rattle.mdl_shared.specs.OwnLists.{as_held}
 use Rattle.mdl_shared.specs.SessionViews.{SessionView, data_of, tickets_seen}
 use Rattle.mdl_shared.specs.AllSteps.{Shows}
 use Rattle.mdl_shared.specs.Steps.{MeetsTicket, ShowsStep}
@@ -28,7 +28,7 @@ use Rattle.mdl_shared.specs.TicketLists.{KeepsRoom}
 use Rattle.mdl_shared.proofs.FastWishing.{by-latch, number-slow}
 use Rattle.mdl_shared.proofs.FastWishShows.{full-fast, full-one, wish-lack}
 use Rattle.mdl_shared.proofs.MemberFacts.{speaks}
-use Rattle.mdl_shared.proofs.Members.{HasDone, done-nothing}
+use Rattle.mdl_shared.proofs.Members.{DidDeeds, done-nothing}
 use Rattle.mdl_shared.proofs.QuietDeeds.{quiet-shows, quiet-then}
 use Rattle.mdl_shared.proofs.Rooms.{keeps-before}
 use Rattle.mdl_shared.proofs.SameSpace.{Stays, refused, same-stays, waits-asks}
@@ -58,11 +58,11 @@ module _ {s : SessionView} (is : IsMember s) (id : ℕ) (mode : Mode) where
         (λ state how is. cc) tt
 
     module _ (t : Own) (its : numbered id (tickets_seen s.me.0) ≡ Some t) where
-      pub clone-joins : {s′ : SessionView} {new : ℕ} → new ≡ s.me.0.next → HasDone t.place (Gain new mode ∷ []) s s′
+      pub clone-joins : {s′ : SessionView} {new : ℕ} → new ≡ s.me.0.next → DidDeeds t.place (Gain new mode ∷ []) s s′
           → Joins (data_of s) (Clone_ticket s.me.0.number id mode) (Granted new) (data_of s′)
       clone-joins {s′} {new} first done =
           gain-joins is first done (Clone_ticket s.me.0.number id mode) (speaks is) refl refl
-          (ap (λ o. cloning new mode o (data_of s).own) (ticket-told id (tickets_seen s.me.0) ∙ ap (option_map told_of) its)) (λ d. d)
+          (ap (λ o. cloning new mode o (data_of s).own) (ticket-told id (tickets_seen s.me.0) ∙ ap (option_map as_held) its)) (λ d. d)
           may-clone tt refl (λ state how is. cc) (λ how is. cc) refl (λ r. r) tt
 
       clone-shows : {s′ : SessionView} {new : ℕ} → DoesQuietly t.place (Gain new mode ∷ []) s s′

@@ -4,9 +4,9 @@ use Rattle.mdl_steps.specs.declared.view.Ask.{Ask}
 use Rattle.mdl_steps.specs.declared.view.Own.{Own}
 use Rattle.mdl_steps.specs.Interleavings.{interleaved}
 use Rattle.mdl_shared.specs.declared.member.Member.{Member}
-use Rattle.mdl_shared.specs.Closings.{HasNothing}
+use Rattle.mdl_shared.specs.Closings.{HasNoLocks}
 use Rattle.mdl_shared.specs.Passes.{view_of}
-use Rattle.mdl_shared.specs.SessionViews.{Lists, tickets_of}
+use Rattle.mdl_shared.specs.SessionViews.{Lists, all_tickets}
 use Rattle.mdl_shared.proofs.SameSpace.{own_by}
 
 none-left : (tickets : List Own) → length tickets ≡ 0 → tickets ≡ []
@@ -18,7 +18,7 @@ none-asked None idle = refl
 none-asked (Some a) idle = absurd (cc)
 
 -- where its own lists have no ticket and no wait
-pub has-nothing : (m : Member) → length (interleaved m.tickets.slow m.tickets.fast) ≡ 0 → is_some m.asks ≡ false → HasNothing (view_of m)
+pub has-nothing : (m : Member) → length (interleaved m.tickets.slow m.tickets.fast) ≡ 0 → is_some m.asks ≡ false → HasNoLocks (view_of m)
 has-nothing m none idle =
-    ap (λ (l : Lists). own_by (tickets_of l) l.asks l.waits) (sym m.lists)
+    ap (λ (l : Lists). own_by (all_tickets l) l.asks l.waits) (sym m.lists)
     ∙ (λ i. own_by (none-left (interleaved m.tickets.slow m.tickets.fast) none i) (none-asked m.asks idle i) m.waits)

@@ -20,15 +20,15 @@ use Rattle.mdl_steps.specs.Interleavings.{interleaved}
 use Rattle.mdl_steps.specs.WaitStates.{IsLost}
 use Rattle.mdl_session_laws.specs.SessionJoins.{Joins}
 use Rattle.mdl_visits.specs.Numbers.{is_ask_apart, is_no_number}
-use Rattle.mdl_visits.specs.Polls.{state_of}
+use Rattle.mdl_visits.specs.Polls.{settled_state}
 use Rattle.mdl_shared.specs.Debts.{IsOwed, OwesNoMore}
 use Rattle.mdl_shared.specs.Endings.{lost_end}
 use Rattle.mdl_shared.specs.Members.{IsMember}
-use Rattle.mdl_shared.specs.OwnLists.{told_of}
+use Rattle.mdl_shared.specs.OwnLists.{as_held}
 use Rattle.mdl_shared.specs.Rememberings.{AreAlike}
 use Rattle.mdl_shared.specs.SessionViews.{SessionView, data_of, tickets_seen}
 use Rattle.mdl_shared.specs.TicketLists.{Room}
-use Rattle.mdl_shared.specs.Waitings.{are_below}
+use Rattle.mdl_shared.specs.Waitings.{are_below_next}
 use Rattle.mdl_shared.proofs.Alike.{alike_done}
 use Rattle.mdl_shared.proofs.MemberFacts.{apart, ask-last, below, speaks}
 use Rattle.mdl_shared.proofs.Members.{StaysInOrder}
@@ -42,7 +42,7 @@ use Rattle.mdl_shared.proofs.TicketOrder.{DoesSlow, does-alone}
 
 -- lost, unless it was granted
 pub lost-so : (who : ℕ) (how : Settled) (over : Ended) → lost_end how ≡ Some over
-    → (ended (Ok over) ≡ Lost how) × (is_answer_of (End_wait who) (Lost how) ≡ true) × IsLost (state_of how)
+    → (ended (Ok over) ≡ Lost how) × (is_answer_of (End_wait who) (Lost how) ≡ true) × IsLost (settled_state how)
 lost-so who settled_as.Granted over e = cc
 lost-so who settled_as.Victim over e = let is : over ≡ ended_as.Victim = cc in (ap (λ (x : Ended). ended (Ok x)) is, refl, omega arith)
 lost-so who settled_as.Timeout over e = let is : over ≡ ended_as.Timeout = cc in (ap (λ (x : Ended). ended (Ok x)) is, refl, omega arith)
@@ -87,11 +87,11 @@ pub asks-nothing : (P : Ask → Type 0) (a : Ask) → ◌≡◌ {A = Option Ask}
 asks-nothing P a e = cc
 
 -- the ticket that it asks for is above all that it has
-below-asked : (next number : ℕ) (tickets : List Own) → number + 1 ≡ next → is_no_number number tickets ≡ true → are_below next tickets ≡ true → are_below number tickets ≡ true
+below-asked : (next number : ℕ) (tickets : List Own) → number + 1 ≡ next → is_no_number number tickets ≡ true → are_below_next next tickets ≡ true → are_below_next number tickets ≡ true
 below-asked next number [] last apart all = refl
 below-asked next number (t ∷ ts) last apart all = grind (arith, nat_tests, below-asked next number ts)
 
-pub asked-below : {s : SessionView} (is : IsMember s) (a : Ask) → s.me.0.asks ≡ Some a → are_below a.number (tickets_seen s.me.0) ≡ true
+pub asked-below : {s : SessionView} (is : IsMember s) (a : Ask) → s.me.0.asks ≡ Some a → are_below_next a.number (tickets_seen s.me.0) ≡ true
 asked-below {s} is a asks =
     let none = and_parts _ (is_no_number a.number (tickets_seen s.me.0)) (ap (is_ask_apart s.me.0.next (tickets_seen s.me.0)) (sym asks) ∙ apart is) in
     below-asked s.me.0.next a.number (tickets_seen s.me.0) (ask-last is a asks) none.1 (below is)
@@ -136,7 +136,7 @@ module _ {s s′ : SessionView} (is : IsMember s) where
           has = refl;
           fits = refl;
           number = refl;
-          own = ap (λ (ts : List Own). own_of (map told_of ts) None) (gains is a asks)
+          own = ap (λ (ts : List Own). own_of (map as_held ts) None) (gains is a asks)
               ∙ ap (λ held. own_of held None) (told-last (tickets_seen s.me.0) (record { number = a.number; place = a.place; mode = a.mode; noted = note_at a.place (tickets_seen s.me.0) }))
               ∙ sym (ap (λ (o : Option Ask). winning a.number (wait_by s.me.0.waits o) (data_of s).own) asks);
           numbers = (id, refl);

@@ -17,9 +17,9 @@ use Rattle.mdl_steps.specs.WaitPlays.{TellsOwn, ended_granted, taken_over}
 use Rattle.mdl_steps.specs.WaitStates.{granted_state, wait_in, wait_state}
 use Rattle.mdl_session_laws.specs.SessionJoins.{Joins}
 use Rattle.mdl_visits.specs.Grantings.{HasRescheduled, all_but}
-use Rattle.mdl_visits.specs.Polls.{EndsWait, state_of}
+use Rattle.mdl_visits.specs.Polls.{EndsWait, settled_state}
 use Rattle.mdl_visits.specs.Visits.{Does, VisitsOnce}
-use Rattle.mdl_visits.specs.WaitEndings.{EndsLost, idle, without_wait}
+use Rattle.mdl_visits.specs.WaitEndings.{EndsLost, idle, mine_without_wait}
 use Rattle.mdl_visits.proofs.Rescheduling.{rescheduled_after}
 use Rattle.mdl_visits.proofs.Steps.{does_then, goes_by, step_after}
 use Rattle.mdl_shared.specs.Debts.{Pays}
@@ -55,8 +55,8 @@ module _ {s mid : SessionView} (is : IsMember s) (a : Ask) (asks : s.me.0.asks �
         so,
       )
 
-  there : (one : Settled) → settled_of (wait_state found) ≡ Some one → found ≡ wait_in s.me.0.waits (state_of one)
-  there one some = in-state is waiting session found mine own (state_of one) (settled-is (wait_state found) one some)
+  there : (one : Settled) → settled_of (wait_state found) ≡ Some one → found ≡ wait_in s.me.0.waits (settled_state one)
+  there one some = in-state is waiting session found mine own (settled_state one) (settled-is (wait_state found) one some)
 
   -- ---- it is not settled
 
@@ -91,7 +91,7 @@ module _ {s mid : SessionView} (is : IsMember s) (a : Ask) (asks : s.me.0.asks �
     agreed how knows = let e : Some one ≡ Some how = polled.0.agreed (Some one) how refl knows in cc
 
     -- the session knows that then
-    pub told-end : mid.me.0.told ≡ Some (state_of one)
+    pub told-end : mid.me.0.told ≡ Some (settled_state one)
     told-end =
         let its = settled-is (wait_state found) one some in
         told-own ReadWait session found found s.me.0.settles s mid now mine (settled-more (wait_state found) one its) ∙ ap Some its
@@ -100,18 +100,18 @@ module _ {s mid : SessionView} (is : IsMember s) (a : Ask) (asks : s.me.0.asks �
     did s′ ends = does_then [] [] s.me mid.me s′.me polled.1.did ends
 
     -- the step that ends it comes after the one that read it
-    met : (s′ : SessionView) → ShowsStep mid s′ (EndsWait mid.table.slots mid.me.0.number mid.me.0.waits (state_of one)) → EndsOwnWait (state_of one) (lists_seen s.me.0) s s′
+    met : (s′ : SessionView) → ShowsStep mid s′ (EndsWait mid.table.slots mid.me.0.number mid.me.0.waits (settled_state one)) → EndsOwnWait (settled_state one) (lists_seen s.me.0) s s′
     met s′ shown =
         let read = polled.1.met.0 in (
           shown.0,
           step_after s.me mid.me s′.me (goes_by s.me mid.me read.0 read.1) shown.0 shown.1,
-          subst (λ (x : SessionView). EndsWait x.table.slots x.me.0.number x.me.0.waits (state_of one) shown.0) now shown.2,
+          subst (λ (x : SessionView). EndsWait x.table.slots x.me.0.number x.me.0.waits (settled_state one) shown.0) now shown.2,
         )
 
     -- ---- it was lost
 
-    pub lost-end : {s′ : SessionView} → Does [] mid.me s′.me → ShowsStep mid s′ (EndsWait mid.table.slots mid.me.0.number mid.me.0.waits (state_of one)) → is_answer_of (End_wait s.me.0.number) (Lost one) ≡ true → HasEnded s.me.0.slow s s′
-        → HasRescheduled mid.table a.place (without_wait mid.me) s′.me → VisitsOnce a.place mid.me s′.me → Pays a.place s.me s′.me
+    pub lost-end : {s′ : SessionView} → Does [] mid.me s′.me → ShowsStep mid s′ (EndsWait mid.table.slots mid.me.0.number mid.me.0.waits (settled_state one)) → is_answer_of (End_wait s.me.0.number) (Lost one) ≡ true → HasEnded s.me.0.slow s s′
+        → HasRescheduled mid.table a.place (mine_without_wait mid.me) s′.me → VisitsOnce a.place mid.me s′.me → Pays a.place s.me s′.me
         → KeepsRoom 0 s.room s′.room
         → Joins (data_of s) (End_wait s.me.0.number) (Lost one) (data_of s′) × Shows (End_wait s.me.0.number) (Lost one) s s′
     lost-end {s′} ends shows fits ended rescheduled once pays keeps =
@@ -130,10 +130,10 @@ module _ {s mid : SessionView} (is : IsMember s) (a : Ask) (asks : s.me.0.asks �
               (
                 a,
                 asks,
-                rescheduled_after s.table a.place (without_wait s.me) (without_wait mid.me) s′.me (stayed.0, stayed.1, stayed.2) shown.settled refl
+                rescheduled_after s.table a.place (mine_without_wait s.me) (mine_without_wait mid.me) s′.me (stayed.0, stayed.1, stayed.2) shown.settled refl
                     (ap (λ (x : SessionView). x.me.0.number) now) refl
-                    (subst (λ (id : TableId). HasRescheduled id a.place (without_wait mid.me) s′.me) shown.table rescheduled),
-                looks (state_of one) (there one some) (λ (m : Mine). VisitsOnce a.place m s′.me) once,
+                    (subst (λ (id : TableId). HasRescheduled id a.place (mine_without_wait mid.me) s′.me) shown.table rescheduled),
+                looks (settled_state one) (there one some) (λ (m : Mine). VisitsOnce a.place m s′.me) once,
                 pays,
               ),
             );
@@ -158,7 +158,7 @@ module _ {s mid : SessionView} (is : IsMember s) (a : Ask) (asks : s.me.0.asks �
         did = did s′ ends;
         settled = ap (λ (x : SessionView). x.me.0.settles) ended.now ∙ settles;
         told = tt;
-        met = looks granted_state (there one some ∙ ap (λ (how : Settled). wait_in s.me.0.waits (state_of how)) granted) (EndsByOneStep granted_state (lists_seen s.me.0) s s′)
+        met = looks granted_state (there one some ∙ ap (λ (how : Settled). wait_in s.me.0.waits (settled_state how)) granted) (EndsByOneStep granted_state (lists_seen s.me.0) s s′)
             (last.0, last.1, subst (λ (x : SessionView). EndsWait x.table.slots x.me.0.number x.me.0.waits granted_state last.0) now last.2);
         room = keeps;
         debts = ended-debts ended;

@@ -11,8 +11,8 @@ use Rattle.mdl_visits.specs.FastTries.{ReleasesFast}
 use Rattle.mdl_visits.specs.Grantings.{HasRescheduled, VisitsAndReschedules, all_but}
 use Rattle.mdl_visits.specs.Visits.{VisitsOnce}
 use Rattle.mdl_shared.specs.Debts.{IsOwed, OwesNoMore, but_owing}
-use Rattle.mdl_shared.specs.DeedsDone.{HasDone, StaysFast}
-use Rattle.mdl_shared.specs.Members.{IsMember, is_known_place}
+use Rattle.mdl_shared.specs.DeedsDone.{DidDeeds, StaysFast}
+use Rattle.mdl_shared.specs.Members.{IsMember, is_place_looked_up}
 use Rattle.mdl_shared.specs.SessionViews.{SessionView, session_at, tickets_seen}
 use Rattle.mdl_shared.specs.Steps.{GivesUpFast}
 use Rattle.mdl_shared.proofs.Debts.{paid-off, released-due, released-owes, released-quiet, rescheduled-owes}
@@ -20,8 +20,8 @@ use Rattle.mdl_shared.proofs.Debts.{paid-off, released-due, released-owes, relea
 -- ---- two parts of a call
 
 -- deeds with none after them are these deeds. What is owed between the two is left out
-pub done-before : {at place : ℕ} {ds : List Deed} {a b c : SessionView} → HasDone place ds a (but_owing a b) → HasDone at [] b c → OwesNoMore a c
-    → HasDone place ds a c
+pub done-before : {at place : ℕ} {ds : List Deed} {a b c : SessionView} → DidDeeds place ds a (but_owing a b) → DidDeeds at [] b c → OwesNoMore a c
+    → DidDeeds place ds a c
 done-before {at} {place} {ds} {a} {b} {c} first later less =
     let b-is = first.now in record {
       slow = later.slow;
@@ -58,13 +58,13 @@ module _ (a b : SessionView) (t : Own) (owes : Bool) (released : ReleasesFast t.
   gives-up quiet = (b.me, owes, released, (λ due. absurd (false≢true (sym quiet ∙ due))), (λ none. refl))
 
   -- nothing else is owed then, either
-  pub gone-quiet : {place : ℕ} {ds : List Deed} → HasDone place ds a (but_owing a b) → owes ≡ false → HasDone place ds a b
+  pub gone-quiet : {place : ℕ} {ds : List Deed} → DidDeeds place ds a (but_owing a b) → owes ≡ false → DidDeeds place ds a b
   gone-quiet {place} {ds} lost quiet =
-      subst (λ (x : SessionView). HasDone place ds a x)
+      subst (λ (x : SessionView). DidDeeds place ds a x)
       (λ i. record b { me = (record b.me.0 { owes = sym (released-quiet released quiet) i }, b.me.1) }) lost
 
   -- and where it is the place was rescheduled then
-  pub gives-up_after : {at : ℕ} {ds : List Deed} {seat : SeatState} → HasDone at ds a (but_owing a b) → owes ≡ true
+  pub gives-up_after : {at : ℕ} {ds : List Deed} {seat : SeatState} → DidDeeds at ds a (but_owing a b) → owes ≡ true
       → AtItsTable (record { table = b.table; me = b.me }) seat (VisitsAndReschedules b.table t.place []) → VisitsOnce t.place b.me seat.me
       → GivesUpFast t.number a (session_at seat b.sessions b.room) t
   gives-up_after {seat = seat} lost due visit once = (
@@ -82,12 +82,12 @@ module _ (a b : SessionView) (t : Own) (owes : Bool) (released : ReleasesFast t.
       paid-off q t.place a.me.0.owes (subst (IsOwed q) (ap (λ (m : Mine). m.0.owes) visit.1.now ∙ ap (all_but t.place) (released-due released due)) owed)
 
   -- a place that is owed a reschedule then is one that the session knows
-  pub owed-known : IsMember a → is_known_place a.me.0.known t.place ≡ true → (q : ℕ) → IsOwed q b.me.0.owes → is_known_place b.me.0.known q ≡ true
-  owed-known is here q owed = ap (λ (m : Mine). is_known_place m.0.known q) released.now ∙ by owes (subst (IsOwed q) (released-owes released) owed)
+  pub owed-known : IsMember a → is_place_looked_up a.me.0.known t.place ≡ true → (q : ℕ) → IsOwed q b.me.0.owes → is_place_looked_up b.me.0.known q ≡ true
+  owed-known is here q owed = ap (λ (m : Mine). is_place_looked_up m.0.known q) released.now ∙ by owes (subst (IsOwed q) (released-owes released) owed)
     where
-      by : (o : Bool) → IsOwed q (if o then t.place ∷ a.me.0.owes else a.me.0.owes) → is_known_place a.me.0.known q ≡ true
+      by : (o : Bool) → IsOwed q (if o then t.place ∷ a.me.0.owes else a.me.0.owes) → is_place_looked_up a.me.0.known q ≡ true
       by false its = is.owed q its
       by true its =
           by_bool (t.place == q)
-          (λ same. ap (is_known_place a.me.0.known) (sym (eqb-true t.place q same)) ∙ here)
+          (λ same. ap (is_place_looked_up a.me.0.known) (sym (eqb-true t.place q same)) ∙ here)
           (λ apart. is.owed q (rw apart at its))

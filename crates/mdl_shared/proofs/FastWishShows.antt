@@ -16,7 +16,7 @@ use Rattle.mdl_steps.specs.Plays.{Mine}
 use Rattle.mdl_calls.specs.SessionData.{SessionData}
 use Rattle.mdl_session_laws.specs.SessionJoins.{Joins}
 use Rattle.mdl_visits.specs.Visits.{AreStepsOf, IsVisit, MeetsBlocked, MeetsFull, MeetsFullWish, MeetsGrantable}
-use Rattle.mdl_visits.specs.WaitOpenings.{MeetsOpening, awaiting}
+use Rattle.mdl_visits.specs.WaitOpenings.{MeetsOpening, view_awaiting}
 use Rattle.mdl_visits.proofs.Steps.{does_then}
 use Rattle.mdl_shared.specs.DeedsDone.{DoesQuietly}
 use Rattle.mdl_shared.specs.FastWishes.{BecomesSlow, BeginsToWait, GainsFast, GainsSlow, HasBegun, HasTried}
@@ -135,7 +135,7 @@ module _ {a : SessionView} (is : IsMember a) (place : ℕ) (mode : Mode) (clear 
     waits-joins : {number : ℕ} → BeginsToWait place mode number b c → Joins (data_of a) (Begin_wait a.me.0.number place mode) (Waits number) (data_of c)
     waits-joins {number} begins =
         let still = ap (λ (x : SessionView). wish_fault (kind_known place x.me.0.known) x.me.0.asks mode x.me.0.next) slow.quiet.done.now ∙ clear in
-        let now : c ≡ record b { me = (record (awaiting place mode b.me.0) { log = b.me.0.log ++ begins.opens.made }, b.me.1); room = c.room }
+        let now : c ≡ record b { me = (record (view_awaiting place mode b.me.0) { log = b.me.0.log ++ begins.opens.made }, b.me.1); room = c.room }
         = λ i. record { table = begins.table i; sessions = begins.sessions i; me = begins.opens.now i; room = c.room } in
         let joins = begun-joins (still-member slow.quiet.done is) still now begins.next in
         let by = subst (λ (n : ℕ). Joins (data_of b) (Begin_wait n place mode) (Waits number) (data_of c)) (number-slow slow) joins in

@@ -24,7 +24,7 @@ use Rattle.mdl_shared.specs.declared.member.Member.{Member}
 use Rattle.mdl_shared.specs.KeptReads.{MayKeep, kept_standing}
 use Rattle.mdl_shared.specs.Members.{IsMember, holding_fault}
 use Rattle.mdl_shared.specs.Passes.{view_of}
-use Rattle.mdl_shared.specs.SessionViews.{Lists, SessionView, data_of, lists_seen, session_at, tickets_of, tickets_seen}
+use Rattle.mdl_shared.specs.SessionViews.{Lists, SessionView, all_tickets, data_of, lists_seen, session_at, tickets_seen}
 use Rattle.mdl_shared.specs.AllSteps.{Shows}
 use Rattle.mdl_shared.specs.ReadSteps.{FindsVersion, MissesVersion, ReadsByLatch, VisitsInVain}
 use Rattle.mdl_shared.specs.Steps.{OfTicket}
@@ -116,7 +116,7 @@ module _ (s : SessionView) (id : ℕ) (t : Own) (its : numbered id (tickets_seen
   module _ (mid s′ : SessionView) {found : ℕ} (reads : MissesVersion t.place found s mid) where
     miss-ticket : (u : Own) → numbered id (tickets_seen mid.me.0) ≡ Some u → t ≡ u
     miss-ticket u other =
-        let same : ◌≡◌ {A = Option Own} (Some t) (Some u) = sym its ∙ ap (λ (l : Lists). numbered id (tickets_of l)) (sym (read-lists reads)) ∙ other in
+        let same : ◌≡◌ {A = Option Own} (Some t) (Some u) = sym its ∙ ap (λ (l : Lists). numbered id (all_tickets l)) (sym (read-lists reads)) ∙ other in
         cc
 
     pub miss-joins : (version : ℕ) (definition : Option Definition) → Joins (data_of mid) (Read_definition mid.me.0.number id) (Reads version definition) (data_of s′)
@@ -153,7 +153,7 @@ module _ (s : SessionView) (id : ℕ) (t : Own) (its : numbered id (tickets_seen
         by : (holding_fault id (tickets_seen mid.me.0) ≡ Some why) ⊎ ((why ≡ OutOfMemory) × OfTicket id (lists_seen mid.me.0) (λ u. VisitsInVain u.place mid s′))
             → (why ≡ OutOfMemory) × VisitsInVain t.place mid s′
         by (inl fault) =
-            let none : ◌≡◌ {A = Option SpaceError} None (Some why) = sym clear ∙ ap (λ (l : Lists). holding_fault id (tickets_of l)) (sym (read-lists reads)) ∙ fault in
+            let none : ◌≡◌ {A = Option SpaceError} None (Some why) = sym clear ∙ ap (λ (l : Lists). holding_fault id (all_tickets l)) (sym (read-lists reads)) ∙ fault in
             cc
         by (inr met) = (met.0, subst (λ (u : Own). VisitsInVain u.place mid s′) (sym (miss-ticket met.1.0 met.1.1)) met.1.2)
 

@@ -25,8 +25,8 @@ use Rattle.mdl_calls.specs.SessionData.{KnownKey, key_known as key_known_in}
 use Rattle.mdl_session_laws.specs.SessionJoins.{Joins}
 use Rattle.mdl_session_laws.proofs.KeyLists.{place-of_key}
 use Rattle.mdl_session_laws.proofs.RefusedCalls.{reads-nothing}
-use Rattle.mdl_visits.specs.Lookups.{IsAnswer, TookDirectory, knowing}
-use Rattle.mdl_visits.specs.Tables.{AreTables, AreWithin, Asked, HasAsked, IsTable, knowing_all, told as asked_places}
+use Rattle.mdl_visits.specs.Lookups.{IsLookupAnswer, TookDirectory, knowing_key}
+use Rattle.mdl_visits.specs.Tables.{AreAllTables, AreWithin, Asked, HasAsked, IsKnownTable, defined_places as asked_places, knowing_all}
 use Rattle.mdl_visits.specs.Visits.{MakesSteps, StaysQuiet, and_made}
 use Rattle.mdl_visits.proofs.Asking.{asked_after, goes_on}
 use Rattle.mdl_visits.proofs.Doing.{does_steps}
@@ -34,8 +34,8 @@ use Rattle.mdl_visits.proofs.Listing.{took_earlier}
 use Rattle.mdl_visits.proofs.Lookups.{no_record}
 use Rattle.mdl_visits.proofs.Steps.{does_then, none_then}
 use Rattle.mdl_shared.specs.declared.member.Member.{Member}
-use Rattle.mdl_shared.specs.Members.{AreLearnt, IsMember, are_apart, is_known_place, place_known}
-use Rattle.mdl_shared.specs.OwnLists.{key_known}
+use Rattle.mdl_shared.specs.Members.{AreLearnt, IsMember, are_keys_apart, is_place_looked_up, place_looked_up}
+use Rattle.mdl_shared.specs.OwnLists.{key_looked_up}
 use Rattle.mdl_shared.specs.Passes.{view_of}
 use Rattle.mdl_shared.specs.SessionViews.{Lists, SessionView, data_of, lists_seen, session_at}
 use Rattle.mdl_shared.specs.AllSteps.{Shows}
@@ -43,7 +43,7 @@ use Rattle.mdl_shared.specs.TicketLists.{KeepsRoom, Room}
 use Rattle.mdl_shared.proofs.Debts.{same-debts}
 use Rattle.mdl_shared.proofs.KnownKeys.{all_learnt, apart_and, new_place}
 use Rattle.mdl_shared.proofs.MemberFacts.{keys-apart, speaks}
-use Rattle.mdl_shared.proofs.Members.{HasDone, StaysInOrder, visited}
+use Rattle.mdl_shared.proofs.Members.{DidDeeds, StaysInOrder, visited}
 use Rattle.mdl_shared.proofs.Membership.{counted_and, still_known, within_and}
 use Rattle.mdl_shared.proofs.SameSpace.{Stays, joins-still, keeps-settled, refused, same-stays, sees-same}
 use Rattle.mdl_shared.proofs.SpaceLists.{apart-told, key-told, known-told, known_of, place-told}
@@ -83,7 +83,7 @@ learnt-order {more} {s} {s′} learnt is within = subst (λ (x : SessionView). S
 
 -- steps alone
 pub stepped : (seat seat′ : SeatState) (sessions : ℕ) {room room′ : Room} → seat′.table ≡ seat.table → MakesSteps seat.me seat′.me
-    → HasDone 0 [] (session_at seat sessions room) (session_at seat′ sessions room′)
+    → DidDeeds 0 [] (session_at seat sessions room) (session_at seat′ sessions room′)
 stepped seat seat′ sessions table steps = visited seat seat′ sessions refl (table, record { made = steps.0; now = steps.1; did = steps.2 })
 
 -- what is owed is the same
@@ -105,15 +105,15 @@ lists-learnt m {more} {known} {s} learnt same =
 
 module _ {s : SessionView} (is : IsMember s) (key : KeyName) where
   -- that it knows
-  pub known-joins : (place : ℕ) → place_known key s.me.0.known ≡ Some place → Joins (data_of s) (Resolve s.me.0.number key) (At_place place) (data_of s)
+  pub known-joins : (place : ℕ) → place_looked_up key s.me.0.known ≡ Some place → Joins (data_of s) (Resolve s.me.0.number key) (At_place place) (data_of s)
   known-joins place found =
       joins-still s s (Resolve s.me.0.number key) (At_place place) (same-stays s) (speaks is) refl refl refl refl tt tt
       (subst (λ (o : Option ℕ). LearnsAt key place o (map known_of s.me.0.known) (map known_of s.me.0.known)) (sym (place-told key s.me.0.known ∙ found)) (refl, refl))
       (λ state how met. cc) (λ how told. cc) refl (λ r. r) tt
 
-  module _ (none : place_known key s.me.0.known ≡ None) where
+  module _ (none : place_looked_up key s.me.0.known ≡ None) where
     -- that it learns
-    pub resolve-joins : {s′ : SessionView} (place : ℕ) → is_known_place s.me.0.known place ≡ false → HasLearnt (record { key = key; place = place } ∷ []) s s′
+    pub resolve-joins : {s′ : SessionView} (place : ℕ) → is_place_looked_up s.me.0.known place ≡ false → HasLearnt (record { key = key; place = place } ∷ []) s s′
         → Joins (data_of s) (Resolve s.me.0.number key) (At_place place) (data_of s′)
     resolve-joins {s′} place new learnt =
         let one : Known = record { key = key; place = place } in
@@ -146,11 +146,11 @@ module _ {s : SessionView} (is : IsMember s) (key : KeyName) where
         (λ state how met. cc) tt
 
 -- what the directory answers of a key that it doesn't know
-pub resolved : (seat seat′ : SeatState) (sessions place : ℕ) {room room′ : Room} (key : KeyName) → place_known key seat.me.0.known ≡ None
-    → ((0 < place) × (place < seat.table.slots) × MakesSteps (knowing (record { key = key; place = place }) seat.me) seat′.me)
-    → ((k left : Keys) × AtItsTable seat seat′ (TookDirectory seat.table.slots k left) × IsAnswer seat.table.slots key k left (Ok place))
+pub resolved : (seat seat′ : SeatState) (sessions place : ℕ) {room room′ : Room} (key : KeyName) → place_looked_up key seat.me.0.known ≡ None
+    → ((0 < place) × (place < seat.table.slots) × MakesSteps (knowing_key (record { key = key; place = place }) seat.me) seat′.me)
+    → ((k left : Keys) × AtItsTable seat seat′ (TookDirectory seat.table.slots k left) × IsLookupAnswer seat.table.slots key k left (Ok place))
     → HasLearnt (record { key = key; place = place } ∷ []) (session_at seat sessions room) (session_at seat′ sessions room′)
-    × AreWithin seat.table.slots (record { key = key; place = place } ∷ []) × (is_known_place seat.me.0.known place ≡ false)
+    × AreWithin seat.table.slots (record { key = key; place = place } ∷ []) × (is_place_looked_up seat.me.0.known place ≡ false)
 resolved seat seat′ sessions place key none knows answer =
     let one : Known = record { key = key; place = place } in
     let inside : Known → Type 0 = λ k. (0 < k.place) × (k.place < seat.table.slots) in (
@@ -162,8 +162,8 @@ resolved seat seat′ sessions place key none knows answer =
 -- ---- tables
 
 -- those that had a definition are learnt, in the order of their keys
-tables-learnt : (schema : List ℕ) (k : Keys) (before after tables more : List Known) (asked : List Asked) (places : List ℕ) → AreTables schema k tables
-    → map (λ (a : Asked). a.table) asked ≡ tables → places ≡ asked_places asked → after ≡ before ++ more → AreLearnt tables after → are_apart after ≡ true
+tables-learnt : (schema : List ℕ) (k : Keys) (before after tables more : List Known) (asked : List Asked) (places : List ℕ) → AreAllTables schema k tables
+    → map (λ (a : Asked). a.table) asked ≡ tables → places ≡ asked_places asked → after ≡ before ++ more → AreLearnt tables after → are_keys_apart after ≡ true
     → LearnsTables schema places (map known_of before) (map known_of after)
 tables-learnt schema k before after tables more asked places are same those grown learnt apart = record {
   more = map known_of more;
@@ -175,12 +175,12 @@ tables-learnt schema k before after tables more asked places are same those grow
       (All-filter (λ (a : Asked). a.defined) (λ (a : Asked). is_table_told schema a.table.key ≡ true) asked
       (of-asked (λ (t : Known). is_table_told schema t.key ≡ true) asked
       (subst (All (λ (t : Known). is_table_told schema t.key ≡ true)) (sym same)
-      (All-weaker (IsTable schema k) (λ (t : Known). is_table_told schema t.key ≡ true) (λ t h. table-told t.key ∙ h.2) tables are.each))));
+      (All-weaker (IsKnownTable schema k) (λ (t : Known). is_table_told schema t.key ≡ true) (λ t h. table-told t.key ∙ h.2) tables are.each))));
   learnt = All-map (λ (t : KnownKey). key_known_in t.place (map known_of after) ≡ Some t.key) (λ (a : Asked). known_of a.table) (filter (λ (a : Asked). a.defined) asked)
       (All-filter (λ (a : Asked). a.defined) (λ (a : Asked). key_known_in a.table.place (map known_of after) ≡ Some a.table.key) asked
       (of-asked (λ (t : Known). key_known_in t.place (map known_of after) ≡ Some t.key) asked
       (subst (All (λ (t : Known). key_known_in t.place (map known_of after) ≡ Some t.key)) (sym same)
-      (All-weaker (λ (t : Known). key_known t.place after ≡ Some t.key) (λ (t : Known). key_known_in t.place (map known_of after) ≡ Some t.key) (λ t h. key-told t.place after ∙ h) tables learnt))));
+      (All-weaker (λ (t : Known). key_looked_up t.place after ≡ Some t.key) (λ (t : Known). key_known_in t.place (map known_of after) ≡ Some t.key) (λ t h. key-told t.place after ∙ h) tables learnt))));
   in_order = pairs-map (λ (one other : Asked). key_cmp one.table.key other.table.key ≡ Less) (λ (one other : KnownKey). key_cmp one.key other.key ≡ Less)
       (λ (a : Asked). known_of a.table) (λ one other h. h) (filter (λ (a : Asked). a.defined) asked)
       (AllPairs-filter (λ (one other : Asked). key_cmp one.table.key other.table.key ≡ Less) (λ (a : Asked). a.defined) asked
@@ -217,9 +217,9 @@ tables-learnt schema k before after tables more asked places are same those grow
 
 -- ---- the tables of a schema
 
-pub tables-joins : {s s′ : SessionView} → IsMember s → (schema : List ℕ) (k : Keys) (tables : List Known) (places : List ℕ) → AreTables schema k tables
+pub tables-joins : {s s′ : SessionView} → IsMember s → (schema : List ℕ) (k : Keys) (tables : List Known) (places : List ℕ) → AreAllTables schema k tables
     → HasAsked s.me.0.number tables places s.me s′.me → HasLearnt (unknown s.me.0.known tables) s s′
-    → AreLearnt tables (s.me.0.known ++ unknown s.me.0.known tables) → are_apart (s.me.0.known ++ unknown s.me.0.known tables) ≡ true
+    → AreLearnt tables (s.me.0.known ++ unknown s.me.0.known tables) → are_keys_apart (s.me.0.known ++ unknown s.me.0.known tables) ≡ true
     → Joins (data_of s) (Tables_of s.me.0.number schema) (Tables places) (data_of s′)
 tables-joins {s} {s′} is schema k tables places are asked learnt all apart =
     let more : List Known = unknown s.me.0.known tables in
@@ -254,7 +254,7 @@ steps-then m m′ m″ first second = (
 
 -- what the directory tells of them, and then the place of each
 module _ (seat mid seat′ : SeatState) (sessions : ℕ) {room : Room} (schema : List ℕ) (k : Keys) (tables : List Known) (is : IsMember (session_at seat sessions room))
-    (took : AtItsTable seat mid (TookDirectory seat.table.slots k k)) (are : AreTables schema k tables) (knows : MakesSteps (knowing_all tables seat.me) mid.me)
+    (took : AtItsTable seat mid (TookDirectory seat.table.slots k k)) (are : AreAllTables schema k tables) (knows : MakesSteps (knowing_all tables seat.me) mid.me)
     (steps : AtItsTable mid seat′ MakesSteps) where
   abbrev all : List Known
   all = seat.me.0.known ++ unknown seat.me.0.known tables
@@ -262,7 +262,7 @@ module _ (seat mid seat′ : SeatState) (sessions : ℕ) {room : Room} (schema :
   pub learnt-all : {room′ : Room} → HasLearnt (unknown seat.me.0.known tables) (session_at seat sessions room) (session_at seat′ sessions room′)
   learnt-all = learnt-by seat seat′ sessions (unknown seat.me.0.known tables) (steps.0 ∙ took.0) (steps-then (knowing_all tables seat.me) mid.me seat′.me knows steps.1)
 
-  pub all-apart : are_apart all ≡ true
+  pub all-apart : are_keys_apart all ≡ true
   all-apart = apart_and schema k seat.me.0 tables took.1.recorded.known are (keys-apart is)
 
   pub told-tables : {room′ : Room} (places : List ℕ) → StaysQuiet mid.me seat′.me → HasAsked mid.me.0.number tables places mid.me seat′.me

@@ -22,8 +22,8 @@ use Rattle.mdl_steps.proofs.Views.{by_bool}
 use Rattle.mdl_calls.specs.SessionData.{HasMet, Reading, last_read, was_read}
 use Rattle.mdl_session_laws.proofs.ReadLists.{last-among, newest-above}
 use Rattle.mdl_visits.specs.Numbers.{numbered}
-use Rattle.mdl_shared.specs.Members.{IsMember, are_apart, are_two}
-use Rattle.mdl_shared.specs.OwnLists.{key_known}
+use Rattle.mdl_shared.specs.Members.{IsMember, are_keys_apart, are_two_keys}
+use Rattle.mdl_shared.specs.OwnLists.{key_looked_up}
 use Rattle.mdl_shared.specs.SessionViews.{SessionView, data_of, tickets_seen}
 use Rattle.mdl_shared.proofs.Alike.{all_noted}
 use Rattle.mdl_shared.proofs.MemberFacts.{keys-apart}
@@ -86,20 +86,20 @@ each-among P (y ∷ ys) all x among = elim (Contains-cons_cases y ys x among) [
 
 -- ---- a key that is known
 
-two-at : (x : Known) (known : List Known) → list_all (are_two x) known ≡ true → (i : ℕ) (k : Known) → get_elem? known i ≡ some k → are_two x k ≡ true
+two-at : (x : Known) (known : List Known) → list_all (are_two_keys x) known ≡ true → (i : ℕ) (k : Known) → get_elem? known i ≡ some k → are_two_keys x k ≡ true
 two-at x [] all i k there = absurd (some-ne-none k (sym there))
 two-at x (y ∷ ys) all zero k there =
-    ap (are_two x) (sym (some-injective y k there)) ∙ (and_parts (are_two x y) (list_all (are_two x) ys) all).0
-two-at x (y ∷ ys) all (suc i) k there = two-at x ys (and_parts (are_two x y) (list_all (are_two x) ys) all).1 i k there
+    ap (are_two_keys x) (sym (some-injective y k there)) ∙ (and_parts (are_two_keys x y) (list_all (are_two_keys x) ys) all).0
+two-at x (y ∷ ys) all (suc i) k there = two-at x ys (and_parts (are_two_keys x y) (list_all (are_two_keys x) ys) all).1 i k there
 
 -- it is that of its place, wherever it stands in the list
-key-at : (known : List Known) → are_apart known ≡ true → (i : ℕ) (k : Known) → get_elem? known i ≡ some k → key_known k.place known ≡ Some k.key
+key-at : (known : List Known) → are_keys_apart known ≡ true → (i : ℕ) (k : Known) → get_elem? known i ≡ some k → key_looked_up k.place known ≡ Some k.key
 key-at [] apart i k there = absurd (some-ne-none k (sym there))
 key-at (x ∷ xs) apart zero k there =
     let hit = eq-eqb x.place x.place refl in
-    subst (λ (y : Known). key_known y.place (x ∷ xs) ≡ Some y.key) (some-injective x k there) (rw hit refl)
+    subst (λ (y : Known). key_looked_up y.place (x ∷ xs) ≡ Some y.key) (some-injective x k there) (rw hit refl)
 key-at (x ∷ xs) apart (suc i) k there =
-    let parts = and_parts (list_all (are_two x) xs) (are_apart xs) apart in
+    let parts = and_parts (list_all (are_two_keys x) xs) (are_keys_apart xs) apart in
     let two = and_parts (not (key_eq x.key k.key)) (not (x.place == k.place)) (two-at x xs parts.0 i k there) in
     by_bool (x.place == k.place)
     (λ hit. let no = rw hit at two.1 in cc)
@@ -158,7 +158,7 @@ module _ {s : SessionView} (is : IsMember s) (id : ℕ) (t : Own) (its : numbere
       sym (ap (option_map (λ (x : Standing). x.version)) is-last) ∙ is.sound.noted t.place v noted in
       cc
 
-  may-stand : (key : KeyName) → key_known t.place s.me.0.known ≡ Some key → MayStand key.namespace standing
+  may-stand : (key : KeyName) → key_looked_up t.place s.me.0.known ≡ Some key → MayStand key.namespace standing
   may-stand key known =
       subst (λ (o : Option KeyName). MatchOption o ⊥ (λ (k : KeyName). MayStand k.namespace standing)) (key-told t.place s.me.0.known ∙ known)
       (is.sound.fits t.place standing is-last)
@@ -169,7 +169,7 @@ module _ {s : SessionView} (is : IsMember s) (id : ℕ) (t : Own) (its : numbere
       let all = each-uninterleaved _ s.me.0.slow s.me.0.fast (all_noted t.place (tickets_seen s.me.0) is.alike) in
       record {
         reads = after (reads_at t.place s.me.0.reads) (λ r among. among) newest;
-        fits = λ i k known here. may-stand k.key (ap (λ (p : ℕ). key_known p s.me.0.known) (sym here) ∙ key-at s.me.0.known (keys-apart is) i k known);
+        fits = λ i k known here. may-stand k.key (ap (λ (p : ℕ). key_looked_up p s.me.0.known) (sym here) ∙ key-at s.me.0.known (keys-apart is) i k known);
         noted = each-noted t.place standing.version _ s.me.0.slow all.0 marked;
         fast_noted = each-noted t.place standing.version _ s.me.0.fast all.1 marked;
       }

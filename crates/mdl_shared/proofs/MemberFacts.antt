@@ -23,10 +23,10 @@ use Rattle.mdl_visits.specs.Leavings.{HasTicket}
 use Rattle.mdl_visits.specs.Visits.{MayVisit}
 use Rattle.mdl_visits.specs.Numbers.{all_numbers, is_ask_apart, is_no_number, numbered}
 use Rattle.mdl_visits.proofs.Numbers.{not_waited}
-use Rattle.mdl_shared.specs.Members.{IsMember, are_apart, is_known_place}
-use Rattle.mdl_shared.specs.OwnLists.{told_of}
+use Rattle.mdl_shared.specs.Members.{IsMember, are_keys_apart, is_place_looked_up}
+use Rattle.mdl_shared.specs.OwnLists.{as_held}
 use Rattle.mdl_shared.specs.SessionViews.{SessionView, data_of, tickets_seen}
-use Rattle.mdl_shared.specs.Waitings.{are_below, is_ask_last, is_ask_told}
+use Rattle.mdl_shared.specs.Waitings.{are_below_next, is_ask_last, is_ask_told}
 use Rattle.mdl_shared.proofs.Membership.{are_placed, has_numbered, known_within, placed_at, some_key}
 use Rattle.mdl_shared.proofs.SameSpace.{numbers_by, wait_by}
 use Rattle.mdl_shared.proofs.SpaceLists.{apart-told, known-told, known_of}
@@ -42,11 +42,11 @@ weaker test other (t ∷ ts) follows all =
     and_from _ _ (follows t.number parts.0) (weaker test other ts follows parts.1)
 
 -- with one number more that is given out
-below_more : (next : ℕ) (tickets : List Own) → are_below next tickets ≡ true → are_below (next + 1) tickets ≡ true
+below_more : (next : ℕ) (tickets : List Own) → are_below_next next tickets ≡ true → are_below_next (next + 1) tickets ≡ true
 below_more next tickets all = weaker (λ n. nat_lt n next) (λ n. nat_lt n (next + 1)) tickets (λ n e. let less = ltb-true n next e in lt-ltb n (next + 1) (omega arith)) all
 
 -- the next number is none of theirs
-next_apart : (next : ℕ) (tickets : List Own) → are_below next tickets ≡ true → is_no_number next tickets ≡ true
+next_apart : (next : ℕ) (tickets : List Own) → are_below_next next tickets ≡ true → is_no_number next tickets ≡ true
 next_apart next tickets all = weaker (λ n. nat_lt n next) (λ n. not (n == next)) tickets other all
   where
     other : (n : ℕ) → nat_lt n next ≡ true → not (n == next) ≡ true
@@ -55,15 +55,15 @@ next_apart next tickets all = weaker (λ n. nat_lt n next) (λ n. not (n == next
 -- ---- its lists, as they are told
 
 -- numbers below one
-below-told : (number : ℕ) (tickets : List Own) → are_below_told number (map told_of tickets) ≡ are_below number tickets
-below-told number tickets = list_all-map (λ (h : Held). nat_lt h.id number) told_of tickets
+below-told : (number : ℕ) (tickets : List Own) → are_below_told number (map as_held tickets) ≡ are_below_next number tickets
+below-told number tickets = list_all-map (λ (h : Held). nat_lt h.id number) as_held tickets
 
 -- places that are known
-placed-told : (known : List Known) (tickets : List Own) → are_placed_told (map known_of known) (map told_of tickets) ≡ are_placed known tickets
+placed-told : (known : List Known) (tickets : List Own) → are_placed_told (map known_of known) (map as_held tickets) ≡ are_placed known tickets
 placed-told known [] = refl
 placed-told known (t ∷ ts) =
-    ap (λ b. b && are_placed_told (map known_of known) (map told_of ts)) (known-told t.place known)
-    ∙ ap (λ b. is_known_place known t.place && b) (placed-told known ts)
+    ap (λ b. b && are_placed_told (map known_of known) (map as_held ts)) (known-told t.place known)
+    ∙ ap (λ b. is_place_looked_up known t.place && b) (placed-told known ts)
 
 -- ---- look-ups in two lists
 
@@ -100,21 +100,21 @@ module _ {s : SessionView} (is : IsMember s) where
   pub next-some : 0 < s.me.0.next
   next-some = let fewer = is.fewer.0 in omega arith
 
-  below-free : (asks : Option Ask) → s.me.0.asks ≡ asks → (are_below s.me.0.next (tickets_seen s.me.0) ≡ true) × (is_ask_apart s.me.0.next (tickets_seen s.me.0) asks ≡ true)
+  below-free : (asks : Option Ask) → s.me.0.asks ≡ asks → (are_below_next s.me.0.next (tickets_seen s.me.0) ≡ true) × (is_ask_apart s.me.0.next (tickets_seen s.me.0) asks ≡ true)
   below-free None asks =
       let all : (s.me.0.next - 1) + 1 ≡ s.me.0.next = (let some = next-some in omega arith) in
-      let free = subst (λ (o : Option Ask). are_below_told (first_free (is_some (wait_by s.me.0.waits o)) (numbers_by s.me.0.next s.me.0.waits)) (map told_of (tickets_seen s.me.0)) ≡ true) asks is.sound.below in
-      (sym (ap (λ (n : ℕ). are_below_told n (map told_of (tickets_seen s.me.0))) all ∙ below-told s.me.0.next (tickets_seen s.me.0)) ∙ free, refl)
+      let free = subst (λ (o : Option Ask). are_below_told (first_free (is_some (wait_by s.me.0.waits o)) (numbers_by s.me.0.next s.me.0.waits)) (map as_held (tickets_seen s.me.0)) ≡ true) asks is.sound.below in
+      (sym (ap (λ (n : ℕ). are_below_told n (map as_held (tickets_seen s.me.0))) all ∙ below-told s.me.0.next (tickets_seen s.me.0)) ∙ free, refl)
   below-free (Some a) asks =
       let last = ask-last a asks in
       let number : s.me.0.next - 1 ≡ a.number = omega arith in
-      let free = subst (λ (o : Option Ask). are_below_told (first_free (is_some (wait_by s.me.0.waits o)) (numbers_by s.me.0.next s.me.0.waits)) (map told_of (tickets_seen s.me.0)) ≡ true) asks is.sound.below in
-      let below : are_below a.number (tickets_seen s.me.0) ≡ true = sym (ap (λ (n : ℕ). are_below_told n (map told_of (tickets_seen s.me.0))) number ∙ below-told a.number (tickets_seen s.me.0)) ∙ free in (
-        subst (λ (n : ℕ). are_below n (tickets_seen s.me.0) ≡ true) last (below_more a.number (tickets_seen s.me.0) below),
+      let free = subst (λ (o : Option Ask). are_below_told (first_free (is_some (wait_by s.me.0.waits o)) (numbers_by s.me.0.next s.me.0.waits)) (map as_held (tickets_seen s.me.0)) ≡ true) asks is.sound.below in
+      let below : are_below_next a.number (tickets_seen s.me.0) ≡ true = sym (ap (λ (n : ℕ). are_below_told n (map as_held (tickets_seen s.me.0))) number ∙ below-told a.number (tickets_seen s.me.0)) ∙ free in (
+        subst (λ (n : ℕ). are_below_next n (tickets_seen s.me.0) ≡ true) last (below_more a.number (tickets_seen s.me.0) below),
         and_from _ _ (lt-ltb a.number s.me.0.next (omega arith)) (next_apart a.number (tickets_seen s.me.0) below),
       )
 
-  pub below : are_below s.me.0.next (tickets_seen s.me.0) ≡ true
+  pub below : are_below_next s.me.0.next (tickets_seen s.me.0) ≡ true
   below = (below-free s.me.0.asks refl).0
 
   -- none of them is waited for
@@ -129,7 +129,7 @@ module _ {s : SessionView} (is : IsMember s) where
   placed = sym (placed-told s.me.0.known (tickets_seen s.me.0)) ∙ is.sound.placed
 
   -- so is the one that it waits for
-  pub awaited : (a : Ask) → s.me.0.asks ≡ Some a → is_known_place s.me.0.known a.place ≡ true
+  pub awaited : (a : Ask) → s.me.0.asks ≡ Some a → is_place_looked_up s.me.0.known a.place ≡ true
   awaited a asks =
       sym (known-told a.place s.me.0.known)
       ∙ subst (λ (o : Option Ask). IfSome (wait_by s.me.0.waits o) (λ (w : Wait). is_known_in w.place (map known_of s.me.0.known) ≡ true)) asks is.sound.awaited
@@ -137,14 +137,14 @@ module _ {s : SessionView} (is : IsMember s) where
   -- ---- its places
 
   -- no key is known twice, and no place
-  pub keys-apart : are_apart s.me.0.known ≡ true
+  pub keys-apart : are_keys_apart s.me.0.known ≡ true
   keys-apart = sym (apart-told s.me.0.known) ∙ is.sound.apart
 
   -- a known place is one of the table's, and that of a key
-  pub place-within : (place : ℕ) → is_known_place s.me.0.known place ≡ true → IsPlace s.table place
+  pub place-within : (place : ℕ) → is_place_looked_up s.me.0.known place ≡ true → IsPlace s.table place
   place-within place known = known_within s.table.slots place s.me.0.known is.within known
 
-  pub place-known : (place : ℕ) → is_known_place s.me.0.known place ≡ true → KnowsPlace s.me.0 place
+  pub place-known : (place : ℕ) → is_place_looked_up s.me.0.known place ≡ true → KnowsPlace s.me.0 place
   place-known place known = some_key place s.me.0.known known
 
   -- its latch may be taken
@@ -156,7 +156,7 @@ module _ {s : SessionView} (is : IsMember s) where
       by (h ∷ hs) none = absurd (omega arith)
 
   -- so it may go to a place that it knows
-  pub may-visit : (place : ℕ) → is_known_place s.me.0.known place ≡ true → MayVisit place (record { table = s.table; me = s.me })
+  pub may-visit : (place : ℕ) → is_place_looked_up s.me.0.known place ≡ true → MayVisit place (record { table = s.table; me = s.me })
   may-visit place known = record { is_place = place-within place known; rising = may-latch place }
 
   -- ---- a ticket of its
@@ -167,7 +167,7 @@ module _ {s : SessionView} (is : IsMember s) where
   pub slow-there : (id : ℕ) (t : Own) → numbered id s.me.0.slow ≡ Some t → HasTicket t.place id s.me.0.slow
   slow-there id t its = has_numbered t.place id s.me.0.slow (ap (option_map (λ (x : Own). x.place)) its)
 
-  pub ticket-known : (id : ℕ) (t : Own) → numbered id (tickets_seen s.me.0) ≡ Some t → is_known_place s.me.0.known t.place ≡ true
+  pub ticket-known : (id : ℕ) (t : Own) → numbered id (tickets_seen s.me.0) ≡ Some t → is_place_looked_up s.me.0.known t.place ≡ true
   ticket-known id t its = placed_at s.me.0.known (tickets_seen s.me.0) t.place id placed (ticket-there id t its)
 
   -- ---- while it has no fast ticket
@@ -207,7 +207,7 @@ module _ {s : SessionView} (is : IsMember s) where
   -- by cases: a new one is the next at a place without fast ones, and a slow one changes, or goes
   pub gains-slow : (place number : ℕ) (mode : Mode) → number ≡ s.me.0.next → own_at place s.me.0.fast ≡ [] → DoesSlow place (Gain number mode ∷ []) s.me.0
   gains-slow place number mode first none =
-      does-slow place (Gain number mode ∷ []) ((none, ap (λ (n : ℕ). are_below n (tickets_seen s.me.0)) first ∙ below), tt)
+      does-slow place (Gain number mode ∷ []) ((none, ap (λ (n : ℕ). are_below_next n (tickets_seen s.me.0)) first ∙ below), tt)
 
   pub alters-slow : (place id : ℕ) (mode : Mode) (t : Own) → numbered id s.me.0.slow ≡ Some t → DoesSlow place (Alter id mode ∷ []) s.me.0
   alters-slow place id mode t its = does-slow place (Alter id mode ∷ []) (spared id t its, tt)

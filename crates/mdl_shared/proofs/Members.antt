@@ -1,5 +1,5 @@
 -- What is always so of a session between two calls is so after each call.
-pub use Rattle.mdl_shared.specs.DeedsDone.{HasDone, StaysFast}
+pub use Rattle.mdl_shared.specs.DeedsDone.{DidDeeds, StaysFast}
 use Rattle.std.proofs.Common.{◌≡◌, ◌⊎◌, inl, inr, ℕ, ◌+◌, ◌≤◌, ◌<◌, ◌==◌, ◌||◌, Bool, true, false, List, [], ◌∷◌, Option, Some, None, refl, sym, ap, subst, ◌∙◌, arith}
 use Rattle.std.specs.List.{list_any}
 use Rattle.atomic_table.specs.Seated.{TableId}
@@ -20,15 +20,15 @@ use Rattle.mdl_calls.specs.SessionData.{IsSound}
 use Rattle.mdl_session_laws.specs.SessionJoins.{Joins}
 use Rattle.mdl_session_laws.proofs.KeptSound.{keeps-sound}
 use Rattle.mdl_visits.specs.Grantings.{StaysTold, VisitsAndReschedules, all_but}
-use Rattle.mdl_visits.specs.Idle.{IsIdle}
+use Rattle.mdl_visits.specs.Idle.{HoldsNoLatch}
 use Rattle.mdl_visits.specs.Visits.{Visits}
 use Rattle.mdl_visits.specs.Numbers.{is_no_number, numbered}
 use Rattle.mdl_shared.specs.declared.member.Member.{Member}
 use Rattle.mdl_shared.specs.AllSteps.{steps_of}
 use Rattle.mdl_shared.specs.Debts.{IsOwed, OwesNoMore, but_owing}
-use Rattle.mdl_shared.specs.Members.{IsMember, are_counted, are_within, is_known_place, most_numbers, without_at}
+use Rattle.mdl_shared.specs.Members.{IsMember, are_counted, are_within, is_place_looked_up, most_numbers, without_at}
 use Rattle.mdl_shared.specs.Rememberings.{AreAlike}
-use Rattle.mdl_shared.specs.SessionViews.{Lists, SessionView, data_of, lists_seen, session_at, tickets_of, tickets_seen}
+use Rattle.mdl_shared.specs.SessionViews.{Lists, SessionView, all_tickets, data_of, lists_seen, session_at, tickets_seen}
 use Rattle.mdl_shared.specs.TicketLists.{HasRoom, KeepsRoom, Room, TicketList}
 use Rattle.mdl_shared.specs.Waitings.{is_ask_last, is_ask_told}
 use Rattle.mdl_shared.proofs.Alike.{alike_done}
@@ -39,7 +39,7 @@ use Rattle.mdl_shared.proofs.TicketOrder.{DoesSlow, none-numbered, none-struck}
 pub record StaysInOrder (s s′ : SessionView) : Type 0 where
   pub table : s′.table ≡ s.table
   pub sessions : s′.sessions ≡ s.sessions
-  pub idle : IsIdle s′.me
+  pub idle : HoldsNoLatch s′.me
   pub unfast : (a : Ask) → s′.me.0.asks ≡ Some a → s′.me.0.fast ≡ []
   pub plain : are_counted s′.me.0.known s′.me.0.fast ≡ true
   pub within : are_within s.table.slots s′.me.0.known ≡ true
@@ -47,7 +47,7 @@ pub record StaysInOrder (s s′ : SessionView) : Type 0 where
   pub last : is_ask_last s′.me.0.next s′.me.0.asks ≡ true
   pub told : is_ask_told s′.me.0.asks s′.me.0.told ≡ true
   pub fewer : (s′.me.0.waits < s′.me.0.next) × (s′.me.0.waits < most_numbers)
-  pub owed : (place : ℕ) → IsOwed place s′.me.0.owes → is_known_place s′.me.0.known place ≡ true
+  pub owed : (place : ℕ) → IsOwed place s′.me.0.owes → is_place_looked_up s′.me.0.known place ≡ true
 
 -- and it is sound as a lock space
 pub in-order : {s s′ : SessionView} → IsMember s → StaysInOrder s s′ → s′.me.0.number ≡ s.me.0.number → IsSound (data_of s′) → IsMember s′
@@ -91,7 +91,7 @@ member-room is r = record {
 }
 
 -- and whatever it owes, if it has looked up those places
-pub member-owing : (a b : SessionView) → IsMember (but_owing a b) → ((q : ℕ) → IsOwed q b.me.0.owes → is_known_place b.me.0.known q ≡ true) → IsMember b
+pub member-owing : (a b : SessionView) → IsMember (but_owing a b) → ((q : ℕ) → IsOwed q b.me.0.owes → is_place_looked_up b.me.0.known q ≡ true) → IsMember b
 member-owing a b is owed = record {
   sound = is.sound;
   idle = is.idle;
@@ -120,7 +120,7 @@ pub seat-changed : (seat seat′ : SeatState) (sessions : ℕ) {room : Room} →
 seat-changed seat seat′ sessions {room} table m me = λ i. record { table = table i; sessions = sessions; me = me i; room = room }
 
 pub visited : {place : ℕ} {ds : List Deed} (seat seat′ : SeatState) (sessions : ℕ) {room room′ : Room} → DoesSlow place ds seat.me.0 → AtItsTable seat seat′ (Visits place ds)
-    → HasDone place ds (session_at seat sessions room) (session_at seat′ sessions room′)
+    → DidDeeds place ds (session_at seat sessions room) (session_at seat′ sessions room′)
 visited {place} {ds} seat seat′ sessions {room} {room′} same visits = record {
   slow = all_owned place ds seat.me.0.slow;
   fast = seat.me.0.fast;
@@ -154,7 +154,7 @@ owed-still p place (q ∷ qs) owed = by_bool (q == place)
     or-either false b c e more = more e
 
 pub rescheduled : {place : ℕ} {ds : List Deed} (seat seat′ : SeatState) (sessions : ℕ) {room room′ : Room} → DoesSlow place ds seat.me.0 → AtItsTable seat seat′ (VisitsAndReschedules seat.table place ds)
-    → HasDone place ds (session_at seat sessions room) (session_at seat′ sessions room′)
+    → DidDeeds place ds (session_at seat sessions room) (session_at seat′ sessions room′)
 rescheduled {place} {ds} seat seat′ sessions {room} {room′} same visits =
     let told : seat′.me.0.told ≡ visits.1.told = ap (λ (m : Mine). m.0.told) visits.1.now in
     record {
@@ -191,7 +191,7 @@ last-none next next′ None which last = refl
 last-none next next′ (Some a) (inl none) last = cc
 last-none next next′ (Some a) (inr same) last = ap (λ (n : ℕ). is_ask_last n (Some a)) same ∙ last
 
-module _ {place : ℕ} {ds : List Deed} {s s′ : SessionView} (done : HasDone place ds s s′) where
+module _ {place : ℕ} {ds : List Deed} {s s′ : SessionView} (done : DidDeeds place ds s s′) where
   -- where it waits it was given no number
   pub done-order : IsMember s → (s.me.0.asks ≡ None) ⊎ (all_next ds s.me.0.next ≡ s.me.0.next) → StaysInOrder s s′
   done-order is which =
@@ -228,11 +228,11 @@ module _ {place : ℕ} {ds : List Deed} {s s′ : SessionView} (done : HasDone p
   done-reads = ap (λ (x : SessionView). x.me.0.reads) done.now
 
 -- nothing is owed that wasn't before
-pub done-debts : {place : ℕ} {ds : List Deed} {s s′ : SessionView} → HasDone place ds s s′ → OwesNoMore s s′
+pub done-debts : {place : ℕ} {ds : List Deed} {s s′ : SessionView} → DidDeeds place ds s s′ → OwesNoMore s s′
 done-debts done p owed = done.owed p (subst (λ (x : SessionView). IsOwed p x.me.0.owes) done.now owed)
 
 -- without a deed all else stays
-pub done-nothing : {place : ℕ} {s s′ : SessionView} → HasDone place [] s s′ → Stays s s′
+pub done-nothing : {place : ℕ} {s s′ : SessionView} → DidDeeds place [] s s′ → Stays s s′
 done-nothing done =
     let rest = done-rest done in record {
       number = rest.number;
@@ -244,7 +244,7 @@ done-nothing done =
     }
 
 -- deeds after none are these deeds
-pub done-then : {at place : ℕ} {ds : List Deed} {a b c : SessionView} → HasDone at [] a b → HasDone place ds b c → HasDone place ds a c
+pub done-then : {at place : ℕ} {ds : List Deed} {a b c : SessionView} → DidDeeds at [] a b → DidDeeds place ds b c → DidDeeds place ds a c
 done-then {at} {place} {ds} {a} {b} {c} first later =
     let b-is = first.now in record {
       slow = later.slow;
@@ -312,7 +312,7 @@ room-kept {place} list list′ more room = (omega (arith, more.0, room.0), omega
 
 -- a ticket of its own list is one of its view
 pub held-seen : (m : Member) (id : ℕ) (o : Option Own) → o ≡ numbered id (interleaved m.tickets.slow m.tickets.fast) → numbered id (tickets_seen m.seat.me.0) ≡ o
-held-seen m id o found = ap (λ (l : Lists). numbered id (tickets_of l)) (sym m.lists) ∙ sym found
+held-seen m id o found = ap (λ (l : Lists). numbered id (all_tickets l)) (sym m.lists) ∙ sym found
 
 -- a fault by its own lists is one of its view
 pub fault-seen : (m : Member) (call : Call) (o : Option SpaceError)

@@ -17,7 +17,7 @@ use Rattle.mdl_steps.specs.declared.view.View.{View}
 use Rattle.mdl_steps.specs.FastPlays.{IsCounted}
 use Rattle.mdl_steps.proofs.Views.{by_bool}
 use Rattle.mdl_visits.specs.Leavings.{HasTicket}
-use Rattle.mdl_shared.specs.Members.{are_counted, are_within, increment_at, is_known_place, kind_known, place_known}
+use Rattle.mdl_shared.specs.Members.{are_counted, are_within, increment_at, is_place_looked_up, kind_known, place_looked_up}
 use Rattle.mdl_visits.specs.Numbers.{numbered}
 use Rattle.mdl_visits.specs.Tables.{AreWithin}
 
@@ -30,7 +30,7 @@ has_numbered place number (t ∷ ts) e =
     (λ miss. let later = has_numbered place number ts (rw miss at e) in (suc later.0, later.1, later.2, later.3, later.4))
 
 -- a place that is known is that of a key
-pub some_key : (place : ℕ) (known : List Known) → is_known_place known place ≡ true → (i : ℕ) × (k : Known) × (get_elem? known i ≡ some k) × (k.place ≡ place)
+pub some_key : (place : ℕ) (known : List Known) → is_place_looked_up known place ≡ true → (i : ℕ) × (k : Known) × (get_elem? known i ≡ some k) × (k.place ≡ place)
 some_key place [] e = absurd (cc)
 some_key place (k ∷ ks) e =
     by_bool (k.place == place)
@@ -38,7 +38,7 @@ some_key place (k ∷ ks) e =
     (λ miss. let later = some_key place ks (rw miss at e) in (suc later.0, later.1, later.2, later.3))
 
 -- and it is a place of the table
-pub known_within : (slots place : ℕ) (known : List Known) → are_within slots known ≡ true → is_known_place known place ≡ true → (0 < place) × (place < slots)
+pub known_within : (slots place : ℕ) (known : List Known) → are_within slots known ≡ true → is_place_looked_up known place ≡ true → (0 < place) × (place < slots)
 known_within slots place [] all e = absurd (cc)
 known_within slots place (k ∷ ks) all e =
     let parts = and_parts (nat_lt 0 k.place && nat_lt k.place slots) (are_within slots ks) all in
@@ -51,18 +51,18 @@ known_within slots place (k ∷ ks) all e =
 
 -- each ticket is of a place whose key the session has looked up
 abbrev pub are_placed : List Known → List Own → Bool
-are_placed known tickets = list_all (λ t. is_known_place known t.place) tickets
+are_placed known tickets = list_all (λ t. is_place_looked_up known t.place) tickets
 
 -- so is one that stands in the list
-pub placed_at : (known : List Known) (tickets : List Own) (place number : ℕ) → are_placed known tickets ≡ true → HasTicket place number tickets → is_known_place known place ≡ true
+pub placed_at : (known : List Known) (tickets : List Own) (place number : ℕ) → are_placed known tickets ≡ true → HasTicket place number tickets → is_place_looked_up known place ≡ true
 placed_at known tickets place number all has = at tickets all has.0 has.1 has.2 has.3
   where
-    at : (ts : List Own) → are_placed known ts ≡ true → (k : ℕ) (t : Own) → get_elem? ts k ≡ some t → t.place ≡ place → is_known_place known place ≡ true
+    at : (ts : List Own) → are_placed known ts ≡ true → (k : ℕ) (t : Own) → get_elem? ts k ≡ some t → t.place ≡ place → is_place_looked_up known place ≡ true
     at [] all k t there here = absurd (some-ne-none t (sym there))
     at (x ∷ xs) all zero t there here =
         let is = some-injective x t there in
-        ap (is_known_place known) (sym (ap (λ (o : Own). o.place) is ∙ here)) ∙ (and_parts (is_known_place known x.place) (are_placed known xs) all).0
-    at (x ∷ xs) all (suc k) t there here = at xs (and_parts (is_known_place known x.place) (are_placed known xs) all).1 k t there here
+        ap (is_place_looked_up known) (sym (ap (λ (o : Own). o.place) is ∙ here)) ∙ (and_parts (is_place_looked_up known x.place) (are_placed known xs) all).0
+    at (x ∷ xs) all (suc k) t there here = at xs (and_parts (is_place_looked_up known x.place) (are_placed known xs) all).1 k t there here
 
 -- a known kind is that of a key that the session has looked up
 pub kind_there : (place : ℕ) (kind : Kind) (known : List Known) → kind_known place known ≡ Some kind
@@ -73,13 +73,13 @@ kind_there place kind (k ∷ ks) e =
     (λ hit. let here = rw hit at e in let is : kind_of k.key.namespace ≡ kind = cc in (zero, k, refl, eqb-true k.place place hit, is))
     (λ miss. let later = kind_there place kind ks (rw miss at e) in (suc later.0, later.1, later.2, later.3, later.4))
 
-pub kind_place : (place : ℕ) (kind : Kind) (known : List Known) → kind_known place known ≡ Some kind → is_known_place known place ≡ true
+pub kind_place : (place : ℕ) (kind : Kind) (known : List Known) → kind_known place known ≡ Some kind → is_place_looked_up known place ≡ true
 kind_place place kind [] e = absurd (cc)
 kind_place place kind (k ∷ ks) e = by_bool (k.place == place) (λ hit. rw hit refl) (λ miss. rw miss (kind_place place kind ks (rw miss at e)))
 
 -- ---- with keys more that the session knows
 
-pub still_known : (known more : List Known) (place : ℕ) → is_known_place known place ≡ true → is_known_place (known ++ more) place ≡ true
+pub still_known : (known more : List Known) (place : ℕ) → is_place_looked_up known place ≡ true → is_place_looked_up (known ++ more) place ≡ true
 still_known [] more place e = absurd (cc)
 still_known (k ∷ ks) more place e =
     by_bool (k.place == place) (λ hit. rw hit refl) (λ miss. rw miss (still_known ks more place (rw miss at e)))
@@ -91,7 +91,7 @@ within_more slots (k ∷ ks) one all here =
     and_from _ _ parts.0 (within_more slots ks one parts.1 here)
 
 -- the place of a key that the session has looked up is one of the table's
-pub place_within : (slots place : ℕ) (key : KeyName) (known : List Known) → are_within slots known ≡ true → place_known key known ≡ Some place → (0 < place) × (place < slots)
+pub place_within : (slots place : ℕ) (key : KeyName) (known : List Known) → are_within slots known ≡ true → place_looked_up key known ≡ Some place → (0 < place) × (place < slots)
 place_within slots place key [] all e = absurd (cc)
 place_within slots place key (k ∷ ks) all e =
     let parts = and_parts (nat_lt 0 k.place && nat_lt k.place slots) (are_within slots ks) all in

@@ -15,7 +15,7 @@ use Rattle.mdl_steps.specs.Rule.{WaitOk}
 use Rattle.mdl_steps.specs.WaitPlays.{TellsOwn}
 use Rattle.mdl_steps.specs.WaitStates.{IsSettled, wait_in, wait_state}
 use Rattle.mdl_session_laws.specs.SessionJoins.{Joins}
-use Rattle.mdl_visits.specs.Polls.{state_of}
+use Rattle.mdl_visits.specs.Polls.{settled_state}
 use Rattle.mdl_shared.specs.Members.{IsMember}
 use Rattle.mdl_shared.specs.SessionViews.{SessionView, data_of, lists_seen, settled_of}
 use Rattle.mdl_shared.specs.AllSteps.{Shows}
@@ -29,7 +29,7 @@ use Rattle.mdl_shared.proofs.WaitSteps.{Watches, met-word, shows, stays-once, to
 
 -- ---- how a wait is settled, by the state of its word
 
-pub settled-is : (state : ℕ) (how : Settled) → settled_of state ≡ Some how → state ≡ state_of how
+pub settled-is : (state : ℕ) (how : Settled) → settled_of state ≡ Some how → state ≡ settled_state how
 settled-is state Granted e = grind (arith, nat_tests)
 settled-is state Victim e = grind (arith, nat_tests)
 settled-is state Timeout e = grind (arith, nat_tests)
@@ -49,7 +49,7 @@ settled-some state more most = by (settled_of state) refl
         let busy : state ≢ 0 = λ none. omega (arith, more, none) in
         let one = unsettled-is state e busy most in absurd (omega (arith, more, one))
 
-pub settled-more : (state : ℕ) (how : Settled) → state ≡ state_of how → IsSettled state
+pub settled-more : (state : ℕ) (how : Settled) → state ≡ settled_state how → IsSettled state
 settled-more state Granted is = omega (arith, is)
 settled-more state Victim is = omega (arith, is)
 settled-more state Timeout is = omega (arith, is)
@@ -125,9 +125,9 @@ module _ {s : SessionView} (is : IsMember s) (waiting : is_some s.me.0.asks ≡ 
           joins-still s s′ (Poll_wait s.me.0.number) (Is_settled one) (done-nothing polls.done) (speaks is) refl refl refl refl
               (waits-asks s.me.0.asks s.me.0.waits ∙ waiting) tt refl
               (λ state how met knows. let e : Some one ≡ state = cc in sym e ∙ agreed (Some one) some how knows)
-              (λ how tells. let e : one ≡ how = cc in told-settled s′.me.0.told how (told ∙ ap (λ (x : Settled). Some (state_of x)) e)) refl (λ r. r) tt,
+              (λ how tells. let e : one ≡ how = cc in told-settled s′.me.0.told how (told ∙ ap (λ (x : Settled). Some (settled_state x)) e)) refl (λ r. r) tt,
           shows polls (if-clear _ (wait_fault s.me.0.asks) (clear-wait s.me.0.asks waiting)) polls.did (ap (λ (x : SessionView). x.me.0.settles) now) tt (λ owes searches. (owes, searches))
-              (polls-own (state_of one) its),
+              (polls-own (settled_state one) its),
         )
 
   -- ---- timeouts
@@ -151,7 +151,7 @@ module _ {s : SessionView} (is : IsMember s) (waiting : is_some s.me.0.asks ≡ 
           joins-still s s′ (Settle_timeout s.me.0.number) (Timed_out ByThisCall) (done-nothing did.done) (speaks is) refl refl refl refl
               (waits-asks s.me.0.asks s.me.0.waits ∙ waiting) tt refl
               (λ state how met knows. let e : None ≡ state = cc in sym e ∙ agreed None none how knows)
-              (λ how tells. let e : Timeout ≡ how = cc in told-settled s′.me.0.told how (told ∙ ap (λ (x : Settled). Some (state_of x)) e)) refl (λ r. r) tt,
+              (λ how tells. let e : Timeout ≡ how = cc in told-settled s′.me.0.told how (told ∙ ap (λ (x : Settled). Some (settled_state x)) e)) refl (λ r. r) tt,
           shows did (if-clear _ (wait_fault s.me.0.asks) (clear-wait s.me.0.asks waiting)) did.did (ap (λ (x : SessionView). x.me.0.settles) now ∙ ap (λ (n : ℕ). s.me.0.settles ++ record { session = n; wait = wait; state = 4 } ∷ []) mine
               ∙ ap (λ (w : ℕ). s.me.0.settles ++ record { session = s.me.0.number; wait = w; state = 4 } ∷ []) last) tt
               (λ owes searches. (owes, searches)) (
@@ -173,10 +173,10 @@ module _ {s : SessionView} (is : IsMember s) (waiting : is_some s.me.0.asks ≡ 
           joins-still s s′ (Settle_timeout s.me.0.number) (Timed_out (Already one)) (done-nothing did.done) (speaks is) refl refl refl refl
               (waits-asks s.me.0.asks s.me.0.waits ∙ waiting) tt refl
               (λ state how met knows. let e : Some one ≡ state = cc in sym e ∙ agreed (Some one) some how knows)
-              (λ how tells. let e : one ≡ how = cc in told-settled s′.me.0.told how (told ∙ ap (λ (x : Settled). Some (state_of x)) e)) refl (λ r. r) tt,
+              (λ how tells. let e : one ≡ how = cc in told-settled s′.me.0.told how (told ∙ ap (λ (x : Settled). Some (settled_state x)) e)) refl (λ r. r) tt,
           shows did (if-clear _ (wait_fault s.me.0.asks) (clear-wait s.me.0.asks waiting)) did.did (ap (λ (x : SessionView). x.me.0.settles) now) tt
               (λ owes searches. (owes, searches)) (
-                (met.0, met.1, record { word = met.2.word_is ∙ ap (wait_word s.table.slots) mine; found = met.2.found ∙ in-state (state_of one) its }),
+                (met.0, met.1, record { word = met.2.word_is ∙ ap (wait_word s.table.slots) mine; found = met.2.found ∙ in-state (settled_state one) its }),
                 stays-once MissWait session found found s.me.0.settles s s′ now refl refl,
               ),
         )

@@ -21,10 +21,10 @@ use Rattle.mdl_steps.specs.declared.view.Own.{Own}
 use Rattle.mdl_steps.specs.Layout.{word_count}
 use Rattle.mdl_steps.specs.Lists.{Each}
 use Rattle.mdl_calls.specs.SessionData.{FitsKey, IsNoted, IsSound, SessionData, are_apart, are_below, are_placed, first_free, is_known, is_newest, key_known, last_read, noted_at}
-use Rattle.mdl_visits.specs.Idle.{IsIdle}
+use Rattle.mdl_visits.specs.Idle.{HoldsNoLatch}
 use Rattle.mdl_shared.specs.declared.member.Member.{Member}
 use Rattle.mdl_shared.specs.Debts.{IsOwed}
-use Rattle.mdl_shared.specs.Members.{IsMember, are_counted, are_within, is_known_place, most_numbers}
+use Rattle.mdl_shared.specs.Members.{IsMember, are_counted, are_within, is_place_looked_up, most_numbers}
 use Rattle.mdl_shared.specs.Passes.{view_of}
 use Rattle.mdl_shared.specs.Rememberings.{AreAlike}
 use Rattle.mdl_shared.specs.SessionViews.{SessionView, tickets_seen}
@@ -109,14 +109,14 @@ IsSound-prop a x y =
 
 IsMember-prop : (s : SessionView) → IsProp (IsMember s)
 IsMember-prop s x y =
-    let idle_prop : IsProp (IsIdle s.me) = hlevel props in
+    let idle_prop : IsProp (HoldsNoLatch s.me) = hlevel props in
     let unfast_prop : IsProp ((a : Ask) → s.me.0.asks ≡ Some a → s.me.0.fast ≡ []) = Π_prop (λ a. Π_prop (λ e. tickets-set s.me.0.fast [])) in
     let plain_prop : IsProp (are_counted s.me.0.known s.me.0.fast ≡ true) = hlevel props in
     let within_prop : IsProp (are_within s.table.slots s.me.0.known ≡ true) = hlevel props in
     let last_prop : IsProp (is_ask_last s.me.0.next s.me.0.asks ≡ true) = hlevel props in
     let told_prop : IsProp (is_ask_told s.me.0.asks s.me.0.told ≡ true) = hlevel props in
     let fewer_prop : IsProp ((s.me.0.waits < s.me.0.next) × (s.me.0.waits < most_numbers)) = hlevel props in
-    let owed_prop : IsProp ((place : ℕ) → IsOwed place s.me.0.owes → is_known_place s.me.0.known place ≡ true) = hlevel props in
+    let owed_prop : IsProp ((place : ℕ) → IsOwed place s.me.0.owes → is_place_looked_up s.me.0.known place ≡ true) = hlevel props in
     let counted_prop : IsProp ((0 < s.me.0.number) × (s.me.0.number ≤ s.sessions)) = hlevel props in
     let narrow_prop : IsProp ((0 < s.table.slots) × (s.table.slots ≤ 65536)) = hlevel props in
     let words_prop : IsProp (s.table.words ≡ word_count s.table.slots s.sessions) = hlevel props in

@@ -9,9 +9,9 @@ use Rattle.mdl_visits.specs.Polls.{SettlesNothing}
 use Rattle.mdl_visits.specs.Visits.{Does, MakesMoreSteps, MakesSteps, Visits}
 use Rattle.mdl_visits.proofs.Steps.{does_then, step_after, step_before}
 use Rattle.mdl_shared.specs.declared.member.Member.{Member}
-use Rattle.mdl_shared.specs.DeedsDone.{DoesQuietly, HasDone}
+use Rattle.mdl_shared.specs.DeedsDone.{DidDeeds, DoesQuietly}
 use Rattle.mdl_shared.specs.Passes.{view_of}
-use Rattle.mdl_shared.specs.SessionViews.{Lists, SessionView, lists_seen, session_at, tickets_of, tickets_seen}
+use Rattle.mdl_shared.specs.SessionViews.{Lists, SessionView, all_tickets, lists_seen, session_at, tickets_seen}
 use Rattle.mdl_shared.specs.StepSpec.{StepSpec, TakesSteps, gained_by}
 use Rattle.mdl_shared.specs.Steps.{ShowsStep}
 use Rattle.mdl_shared.specs.TicketLists.{KeepsRoom, Room}
@@ -102,7 +102,7 @@ pub steps-visited : {place : ℕ} (seat seat′ : SeatState) → AtItsTable seat
 steps-visited seat seat′ went = (went.0, (went.1.made, went.1.now, went.1.did))
 
 -- a visit that granted nothing to others
-pub quiet-visit : {place : ℕ} {ds : List Deed} {s s′ : SessionView} → HasDone place ds s s′ → Visits place ds s.me s′.me → DoesQuietly place ds s s′
+pub quiet-visit : {place : ℕ} {ds : List Deed} {s s′ : SessionView} → DidDeeds place ds s s′ → Visits place ds s.me s′.me → DoesQuietly place ds s s′
 quiet-visit done went = record {
   done = done;
   did = (went.made, ap (λ (m : Mine). m.0.log) went.now, went.did);
@@ -139,17 +139,17 @@ lists-made m seat′ made = m.lists ∙ sym (ap (λ (x : Mine). lists_seen x.0) 
 
 -- all but which tickets are slow is the same
 pub record HasSameLists (m m′ : Member) : Type 0 where
-  pub tickets : tickets_of (record { slow = m′.tickets.slow; fast = m′.tickets.fast; known = m′.known.known; next = m′.next; asks = m′.asks; waits = m′.waits })
-      ≡ tickets_of (record { slow = m.tickets.slow; fast = m.tickets.fast; known = m.known.known; next = m.next; asks = m.asks; waits = m.waits })
+  pub tickets : all_tickets (record { slow = m′.tickets.slow; fast = m′.tickets.fast; known = m′.known.known; next = m′.next; asks = m′.asks; waits = m′.waits })
+      ≡ all_tickets (record { slow = m.tickets.slow; fast = m.tickets.fast; known = m.known.known; next = m.next; asks = m.asks; waits = m.waits })
   pub known : m′.known.known ≡ m.known.known
   pub next : m′.next ≡ m.next
   pub asks : m′.asks ≡ m.asks
   pub waits : m′.waits ≡ m.waits
 
-pub same-lists : {place : ℕ} (m m′ : Member) → HasDone place [] (view_of m) (view_of m′) → HasSameLists m m′
+pub same-lists : {place : ℕ} (m m′ : Member) → DidDeeds place [] (view_of m) (view_of m′) → HasSameLists m m′
 same-lists m m′ done =
     let lists : lists_seen m′.seat.me.0 ≡ record (lists_seen m.seat.me.0) { slow = done.slow; fast = done.fast } = ap (λ (x : SessionView). lists_seen x.me.0) done.now in record {
-      tickets = ap tickets_of m′.lists ∙ ap tickets_of lists ∙ done.tickets ∙ sym (ap tickets_of m.lists);
+      tickets = ap all_tickets m′.lists ∙ ap all_tickets lists ∙ done.tickets ∙ sym (ap all_tickets m.lists);
       known = ap (λ (l : Lists). l.known) m′.lists ∙ ap (λ (l : Lists). l.known) lists ∙ sym (ap (λ (l : Lists). l.known) m.lists);
       next = ap (λ (l : Lists). l.next) m′.lists ∙ ap (λ (l : Lists). l.next) lists ∙ sym (ap (λ (l : Lists). l.next) m.lists);
       asks = ap (λ (l : Lists). l.asks) m′.lists ∙ ap (λ (l : Lists). l.asks) lists ∙ sym (ap (λ (l : Lists). l.asks) m.lists);

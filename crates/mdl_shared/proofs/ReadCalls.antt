@@ -28,12 +28,12 @@ use Rattle.mdl_session_laws.specs.SessionJoins.{Joins, TellsTruly}
 use Rattle.mdl_visits.specs.Leavings.{Learns, MeetsStanding}
 use Rattle.mdl_visits.specs.Numbers.{numbered}
 use Rattle.mdl_visits.specs.Readings.{WasHeld}
-use Rattle.mdl_visits.specs.Redefinitions.{IsNamed, IsRefusedFor, Redefines, exclusive_fault}
+use Rattle.mdl_visits.specs.Redefinitions.{IsNamed, Redefines, RefusesChange, exclusive_fault}
 use Rattle.mdl_visits.specs.Visits.{Does, StaysQuiet, Visits, VisitsOnce}
 use Rattle.mdl_visits.proofs.Doing.{does_visits}
 use Rattle.mdl_shared.specs.declared.member.Member.{Member}
 use Rattle.mdl_shared.specs.Members.{IsMember, holding_fault}
-use Rattle.mdl_shared.specs.OwnLists.{told_of}
+use Rattle.mdl_shared.specs.OwnLists.{as_held}
 use Rattle.mdl_shared.specs.Passes.{view_of}
 use Rattle.mdl_shared.specs.Rememberings.{AreAlike}
 use Rattle.mdl_shared.specs.SessionViews.{Lists, SessionView, data_of, lists_seen, session_at, tickets_seen}
@@ -136,15 +136,15 @@ unfit-joins {s} is id change why fault =
         let none : why ≡ NotHeld = cc in (
           subst (λ w. IsCause (Knows (data_of s) s.me.0.number) (Change_definition s.me.0.number id change) w (data_of s).own) (sym none)
               (holds-told id (tickets_seen s.me.0) false (ap is_some its)),
-          λ ticket held exclusive. let e = sym held ∙ ticket-told id (tickets_seen s.me.0) ∙ ap (option_map told_of) its in cc,
+          λ ticket held exclusive. let e = sym held ∙ ticket-told id (tickets_seen s.me.0) ∙ ap (option_map as_held) its in cc,
         )
     by (Some t) its e =
         let b = test-failed (same_mode t.mode X) NotExclusive why e in (
           subst (λ w. IsCause (Knows (data_of s) s.me.0.number) (Change_definition s.me.0.number id change) w (data_of s).own) (sym b.1)
               (of-held id (tickets_seen s.me.0) t (λ (h : Held). same_mode h.mode X ≡ false) its b.0),
           λ ticket held exclusive.
-              let same : Some ticket ≡ Some (told_of t) = sym held ∙ ticket-told id (tickets_seen s.me.0) ∙ ap (option_map told_of) its in
-              let one : ticket ≡ told_of t = cc in
+              let same : Some ticket ≡ Some (as_held t) = sym held ∙ ticket-told id (tickets_seen s.me.0) ∙ ap (option_map as_held) its in
+              let one : ticket ≡ as_held t = cc in
               absurd (false≢true (sym b.0 ∙ ap (λ (h : Held). same_mode h.mode X) (sym one) ∙ exclusive)),
         )
 
@@ -156,8 +156,8 @@ module _ {s : SessionView} (is : IsMember s) (id : ℕ) (t : Own) (its : numbere
       → IsLast t.place standing (data_of s).reads (data_of s′).reads
       → Joins (data_of s) (Read_definition s.me.0.number id) (Reads standing.version standing.definition) (data_of s′)
   last-joins {s′} standing noted follows last =
-      joins-held s s′ (Read_definition s.me.0.number id) (Reads standing.version standing.definition) (map told_of (tickets_seen s.me.0)) (noted-rest noted) (speaks is) refl refl
-      (ap (map told_of) (noted-tickets noted) ∙ noting-told t.place standing.version (tickets_seen s.me.0)) refl (noted-drawn noted) (holds-told id (tickets_seen s.me.0) true (ap is_some its)) tt refl
+      joins-held s s′ (Read_definition s.me.0.number id) (Reads standing.version standing.definition) (map as_held (tickets_seen s.me.0)) (noted-rest noted) (speaks is) refl refl
+      (ap (map as_held) (noted-tickets noted) ∙ noting-told t.place standing.version (tickets_seen s.me.0)) refl (noted-drawn noted) (holds-told id (tickets_seen s.me.0) true (ap is_some its)) tt refl
       (λ state how met. cc) (λ how told. cc) refl
       (of-held id (tickets_seen s.me.0) t (λ (h : Held). Read_so standing (data_of s) (data_of s′) h.place) its
       (meets-there s t.place standing follows, notes-there s s′ id t.place t standing its refl (noted-tickets noted) last))
@@ -209,8 +209,8 @@ module _ {s : SessionView} (is : IsMember s) (id : ℕ) (t : Own) (its : numbere
       named there.0 there.1 there.2 there.3 ∙ there.4
 
   -- of the ticket that is held
-  told-one : (ticket : Held) → ticket_held id (data_of s).own ≡ Some ticket → ticket ≡ told_of t
-  told-one ticket held = let e : Some ticket ≡ Some (told_of t) = sym held ∙ ticket-told id (tickets_seen s.me.0) ∙ ap (option_map told_of) its in cc
+  told-one : (ticket : Held) → ticket_held id (data_of s).own ≡ Some ticket → ticket ≡ as_held t
+  told-one ticket held = let e : Some ticket ≡ Some (as_held t) = sym held ∙ ticket-told id (tickets_seen s.me.0) ∙ ap (option_map as_held) its in cc
 
   -- changes
   module _ (s′ : SessionView) (change : Change) (exclusive : same_mode t.mode X ≡ true) where
@@ -219,8 +219,8 @@ module _ {s : SessionView} (is : IsMember s) (id : ℕ) (t : Own) (its : numbere
     change-joins standing version noted same redefines =
         let stood = redefines.meets.latch.book.standing in
         let newer = redefines.meets.newer in
-        joins-held s s′ (Change_definition s.me.0.number id change) (Changed version) (map told_of (tickets_seen s.me.0)) (noted-rest noted) (speaks is) refl refl
-        (ap (map told_of) (noted-tickets noted) ∙ noting-told t.place standing.version (tickets_seen s.me.0)) refl (noted-drawn noted)
+        joins-held s s′ (Change_definition s.me.0.number id change) (Changed version) (map as_held (tickets_seen s.me.0)) (noted-rest noted) (speaks is) refl refl
+        (ap (map as_held) (noted-tickets noted) ∙ noting-told t.place standing.version (tickets_seen s.me.0)) refl (noted-drawn noted)
         (of-held id (tickets_seen s.me.0) t (λ (h : Held). same_mode h.mode X ≡ true) its exclusive) tt refl
         (λ state how met. cc) (λ how told. cc) refl
         (of-held id (tickets_seen s.me.0) t (λ (h : Held). ChangesThere change version (data_of s) (data_of s′) h.place) its (record {
@@ -240,7 +240,7 @@ module _ {s : SessionView} (is : IsMember s) (id : ℕ) (t : Own) (its : numbere
         × TellsTruly (Change_definition s.me.0.number id change) (Refused w) (data_of s) (data_of s′)
 
     -- refused for what was met, or since memory ran out
-    refused-so : (w : ChangeError) → IsRefusedFor t.place s.me.0.number change w s.me s′.me → IsToldSo (cause_of w)
+    refused-so : (w : ChangeError) → RefusesChange t.place s.me.0.number change w s.me s′.me → IsToldSo (cause_of w)
     refused-so w (inl met) =
         let fault = met.2.fault in
         let latch = met.2.latch in (
@@ -280,13 +280,13 @@ module _ {s : SessionView} (is : IsMember s) (id : ℕ) (t : Own) (its : numbere
         takes Drop apart = absurd (apart refl)
         takes _ apart = refl
 
-    pub unchanged-joins : Stays s s′ → (w : ChangeError) → IsRefusedFor t.place s.me.0.number change w s.me s′.me
+    pub unchanged-joins : Stays s s′ → (w : ChangeError) → RefusesChange t.place s.me.0.number change w s.me s′.me
         → Joins (data_of s) (Change_definition s.me.0.number id change) (Refused (cause_of w)) (data_of s′)
     unchanged-joins stays w why =
         let told = refused-so w why in
         refused s s′ (Change_definition s.me.0.number id change) (cause_of w) stays (speaks is) refl refl told.0 (λ state how met. cc) told.1
 
-    pub unchanged-shows : s′.table ≡ s.table → s′.sessions ≡ s.sessions → Visits t.place [] s.me s′.me → (w : ChangeError) → IsRefusedFor t.place s.me.0.number change w s.me s′.me
+    pub unchanged-shows : s′.table ≡ s.table → s′.sessions ≡ s.sessions → Visits t.place [] s.me s′.me → (w : ChangeError) → RefusesChange t.place s.me.0.number change w s.me s′.me
         → VisitsOnce t.place s.me s′.me → KeepsRoom 0 s.room s′.room → Shows (Change_definition s.me.0.number id change) (Refused (cause_of w)) s s′
     unchanged-shows table sessions visit w why once keeps = record {
       table = table;

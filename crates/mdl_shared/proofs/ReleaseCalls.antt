@@ -13,7 +13,7 @@ use Rattle.mdl_visits.specs.Numbers.{numbered}
 use Rattle.mdl_visits.specs.Visits.{Does, VisitsOnce}
 use Rattle.mdl_visits.proofs.Doing.{does_reschedule}
 use Rattle.mdl_visits.proofs.Numbers.{has_number}
-use Rattle.mdl_shared.specs.DeedsDone.{HasDone}
+use Rattle.mdl_shared.specs.DeedsDone.{DidDeeds}
 use Rattle.mdl_shared.specs.Members.{IsMember, holding_fault}
 use Rattle.mdl_shared.specs.SessionViews.{SessionView, data_of, session_at, tickets_seen}
 use Rattle.mdl_shared.specs.AllSteps.{Shows}
@@ -27,7 +27,7 @@ use Rattle.mdl_shared.proofs.SlowOrFast.{fast-only}
 use Rattle.mdl_shared.proofs.TicketCalls.{release-joins}
 
 -- what the call comes to, by which of its tickets it gives up
-release-shows : {a b : SessionView} (id : ℕ) (t : Own) → numbered id (tickets_seen a.me.0) ≡ Some t → HasDone t.place (Lose id ∷ []) a b → Does (Lose id ∷ []) a.me b.me
+release-shows : {a b : SessionView} (id : ℕ) (t : Own) → numbered id (tickets_seen a.me.0) ≡ Some t → DidDeeds t.place (Lose id ∷ []) a b → Does (Lose id ∷ []) a.me b.me
     → (numbered id a.me.0.slow ≡ Some t → GivesUpSlow id a b t) × (numbered id a.me.0.fast ≡ Some t → GivesUpFast id a b t)
     → b.me.0.searches ≡ a.me.0.searches → KeepsRoom 0 a.room b.room → Shows (Release a.me.0.number id) Done a b
 release-shows {a} {b} id t its done did met searches keeps = record {
@@ -59,14 +59,14 @@ released-slow seat seat′ sessions id {room} {room′} t is its slow none visit
     )
 
 -- a fast one
-pub released-fast : {a b : SessionView} (id : ℕ) (t : Own) → IsMember a → numbered id a.me.0.fast ≡ Some t → HasDone t.place (Lose t.number ∷ []) a b
+pub released-fast : {a b : SessionView} (id : ℕ) (t : Own) → IsMember a → numbered id a.me.0.fast ≡ Some t → DidDeeds t.place (Lose t.number ∷ []) a b
     → Does (Lose t.number ∷ []) a.me b.me → GivesUpFast t.number a b t → b.me.0.searches ≡ a.me.0.searches → KeepsRoom 0 a.room b.room
     → Joins (data_of a) (Release a.me.0.number id) Done (data_of b) × Shows (Release a.me.0.number id) Done a b
 released-fast {a} {b} id t is fast done did way searches keeps =
     let number = has_number id t a.me.0.fast fast in
     let its = fast-held is id t fast in
     let never : numbered id a.me.0.slow ≡ Some t → ⊥ = λ slow. (let no : ◌≡◌ {A = Option Own} None (Some t) = sym (fast-only is id t fast) ∙ slow in absurd (cc)) in
-    let done : HasDone t.place (Lose id ∷ []) a b = subst (λ (n : ℕ). HasDone t.place (Lose n ∷ []) a b) number done in (
+    let done : DidDeeds t.place (Lose id ∷ []) a b = subst (λ (n : ℕ). DidDeeds t.place (Lose n ∷ []) a b) number done in (
       release-joins is id t its done,
       release-shows id t its done (subst (λ (n : ℕ). Does (Lose n ∷ []) a.me b.me) number did)
           ((λ its_slow. absurd (never its_slow)), (λ its_fast. subst (λ (n : ℕ). GivesUpFast n a b t) number way)) searches keeps,

@@ -13,12 +13,12 @@ use Rattle.mdl_steps.specs.declared.view.Read.{Read}
 use Rattle.mdl_calls.specs.Learning.{KeepsSettled}
 use Rattle.mdl_calls.specs.Meetings.{ReadsNothing}
 use Rattle.mdl_calls.specs.SessionData.{Reading, SpeaksFor, Knows, is_known}
-use Rattle.mdl_session_laws.specs.SessionJoins.{Joins, Learns, LetsRead, TellsTruly, ends_wait, gained_at, has_call, met}
+use Rattle.mdl_session_laws.specs.SessionJoins.{Joins, LearnsKeys, LetsRead, TellsTruly, ends_wait, gained_at, session_has_call, wait_met}
 use Rattle.mdl_session_laws.proofs.RefusedCalls.{KeepsAll, reads-nothing, refused-joins}
 use Rattle.mdl_visits.specs.Grantings.{StaysTold}
-use Rattle.mdl_visits.specs.Polls.{state_of}
-use Rattle.mdl_visits.specs.Readings.{ReadsNothing as ReadNothing}
-use Rattle.mdl_shared.specs.OwnLists.{told_of}
+use Rattle.mdl_visits.specs.Polls.{settled_state}
+use Rattle.mdl_visits.specs.Readings.{SeatReadsNothing as ReadNothing}
+use Rattle.mdl_shared.specs.OwnLists.{as_held}
 use Rattle.mdl_shared.specs.SessionViews.{SessionView, data_of, note_of, settled_of, settled_told, tickets_seen}
 use Rattle.mdl_shared.proofs.SpaceLists.{known_of}
 
@@ -36,7 +36,7 @@ own_of held wait = record { held = held; wait = wait }
 
 -- by its tickets and its wait
 abbrev pub own_by : List Own → Option Ask → ℕ → SessionLocks
-own_by tickets asks waits = record { held = map told_of tickets; wait = wait_by waits asks }
+own_by tickets asks waits = record { held = map as_held tickets; wait = wait_by waits asks }
 
 -- and the last numbers that it gave
 abbrev pub numbers_by : ℕ → ℕ → Numbers
@@ -61,14 +61,14 @@ own-with held held′ asks asks′ waits waits′ h a w =
 -- ---- how its wait is settled
 
 -- a wait in the state of a settlement is settled so
-pub settled-state : (how : Settled) → settled_of (state_of how) ≡ Some how
+pub settled-state : (how : Settled) → settled_of (settled_state how) ≡ Some how
 settled-state settled_as.Granted = refl
 settled-state settled_as.Victim = refl
 settled-state settled_as.Timeout = refl
 settled-state settled_as.Killed = refl
 
 -- who was told that knows it so
-pub told-settled : (told : Option ℕ) (how : Settled) → told ≡ Some (state_of how) → settled_told told ≡ Some how
+pub told-settled : (told : Option ℕ) (how : Settled) → told ≡ Some (settled_state how) → settled_told told ≡ Some how
 told-settled told how is = ap settled_told is ∙ settled-state how
 
 -- who knows it was told the state
@@ -146,21 +146,21 @@ keeps-all m m′ stays = record {
 }
 
 -- a refused call joins the two
-pub refused : (m m′ : SessionView) (call : Call) (why : SpaceError) → Stays m m′ → IfSome (caller call) (SpeaksFor (data_of m)) → has_call call ≡ true
+pub refused : (m m′ : SessionView) (call : Call) (why : SpaceError) → Stays m m′ → IfSome (caller call) (SpeaksFor (data_of m)) → session_has_call call ≡ true
     → is_answer_of call (Refused why) ≡ true → IsCause (Knows (data_of m) m.me.0.number) call why (data_of m).own
-    → ((state : Option Settled) (how : Settled) → met call (Refused why) ≡ Some state → (data_of m).settled ≡ Some how → state ≡ Some how)
+    → ((state : Option Settled) (how : Settled) → wait_met call (Refused why) ≡ Some state → (data_of m).settled ≡ Some how → state ≡ Some how)
     → TellsTruly call (Refused why) (data_of m) (data_of m′) → Joins (data_of m) call (Refused why) (data_of m′)
 refused m m′ call why stays mine has fits cause agreed truly =
     refused-joins (data_of m) (data_of m′) call why mine has fits (keeps-all m m′ stays) cause agreed truly
 
 -- and so does any that leaves its caller what it has
-pub joins-still : (m m′ : SessionView) (call : Call) (answer : Answer) → Stays m m′ → IfSome (caller call) (SpeaksFor (data_of m)) → has_call call ≡ true
+pub joins-still : (m m′ : SessionView) (call : Call) (answer : Answer) → Stays m m′ → IfSome (caller call) (SpeaksFor (data_of m)) → session_has_call call ≡ true
     → is_answer_of call answer ≡ true → own_after call answer (data_of m).own ≡ (data_of m).own
     → Draws call answer (data_of m).numbers (data_of m).numbers
     → IsExplained (Knows (data_of m) m.me.0.number) call answer (data_of m).own
     → IfSome (gained_at call answer) (λ place. is_known place (data_of m).known ≡ true)
-    → Learns call answer (data_of m).known (data_of m).known
-    → ((state : Option Settled) (how : Settled) → met call answer ≡ Some state → (data_of m).settled ≡ Some how → state ≡ Some how)
+    → LearnsKeys call answer (data_of m).known (data_of m).known
+    → ((state : Option Settled) (how : Settled) → wait_met call answer ≡ Some state → (data_of m).settled ≡ Some how → state ≡ Some how)
     → ((how : Settled) → told call answer ≡ Some how → (data_of m′).settled ≡ Some how)
     → ends_wait call answer ≡ false
     → (ReadsNothing (data_of m) (data_of m′) → LetsRead call answer (data_of m) (data_of m′))
@@ -177,7 +177,7 @@ joins-still m m′ call answer stays mine has fits own draws explained gained le
       numbers = subst (Draws call answer a.numbers) (sym same.numbers) draws;
       explained = explained;
       gained = gained;
-      learns = subst (Learns call answer a.known) (sym same.known) learns;
+      learns = subst (LearnsKeys call answer a.known) (sym same.known) learns;
       agreed = agreed;
       told = tells;
       settled = subst (λ (e : Bool). KeepsSettled e a b) (sym ends) same.settled;
@@ -187,13 +187,13 @@ joins-still m m′ call answer stays mine has fits own draws explained gained le
 
 -- and one that leaves it other tickets, and the wait as it is
 pub joins-held : (m m′ : SessionView) (call : Call) (answer : Answer) (held : List Held) → KeepsRest m m′ → IfSome (caller call) (SpeaksFor (data_of m))
-    → has_call call ≡ true → is_answer_of call answer ≡ true → map told_of (tickets_seen m′.me.0) ≡ held
+    → session_has_call call ≡ true → is_answer_of call answer ≡ true → map as_held (tickets_seen m′.me.0) ≡ held
     → own_after call answer (data_of m).own ≡ own_of held (wait_by m.me.0.waits m.me.0.asks)
     → Draws call answer (data_of m).numbers (data_of m′).numbers
     → IsExplained (Knows (data_of m) m.me.0.number) call answer (data_of m).own
     → IfSome (gained_at call answer) (λ place. is_known place (data_of m).known ≡ true)
-    → Learns call answer (data_of m).known (data_of m).known
-    → ((state : Option Settled) (how : Settled) → met call answer ≡ Some state → (data_of m).settled ≡ Some how → state ≡ Some how)
+    → LearnsKeys call answer (data_of m).known (data_of m).known
+    → ((state : Option Settled) (how : Settled) → wait_met call answer ≡ Some state → (data_of m).settled ≡ Some how → state ≡ Some how)
     → ((how : Settled) → told call answer ≡ Some how → (data_of m′).settled ≡ Some how)
     → ends_wait call answer ≡ false → LetsRead call answer (data_of m) (data_of m′)
     → TellsTruly call answer (data_of m) (data_of m′) → Joins (data_of m) call answer (data_of m′)
@@ -202,11 +202,11 @@ joins-held m m′ call answer held rest mine has fits its own draws explained ga
   has = has;
   fits = fits;
   number = rest.number;
-  own = own-with held (map told_of (tickets_seen m′.me.0)) m.me.0.asks m′.me.0.asks m.me.0.waits m′.me.0.waits its rest.wait.asks rest.wait.waits ∙ sym own;
+  own = own-with held (map as_held (tickets_seen m′.me.0)) m.me.0.asks m′.me.0.asks m.me.0.waits m′.me.0.waits its rest.wait.asks rest.wait.waits ∙ sym own;
   numbers = draws;
   explained = explained;
   gained = gained;
-  learns = subst (Learns call answer (data_of m).known) (sym (ap (map known_of) rest.known)) learns;
+  learns = subst (LearnsKeys call answer (data_of m).known) (sym (ap (map known_of) rest.known)) learns;
   agreed = agreed;
   told = tells;
   settled = subst (λ (e : Bool). KeepsSettled e (data_of m) (data_of m′)) (sym ends) (keeps-settled m m′ rest.wait);

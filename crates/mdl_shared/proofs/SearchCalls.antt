@@ -13,11 +13,11 @@ use Rattle.mdl_steps.specs.WaitPlays.{TellsOwn}
 use Rattle.mdl_steps.specs.WaitStates.{wait_in, wait_state}
 use Rattle.mdl_calls.specs.SessionData.{Knows}
 use Rattle.mdl_session_laws.specs.SessionJoins.{Joins}
-use Rattle.mdl_visits.specs.Polls.{SettlesNothing, state_of}
+use Rattle.mdl_visits.specs.Polls.{SettlesNothing, settled_state}
 use Rattle.mdl_visits.specs.Searches.{KnowsVictim}
 use Rattle.mdl_visits.specs.Visits.{Does}
 use Rattle.mdl_visits.proofs.Steps.{does_then}
-use Rattle.mdl_shared.specs.DeedsDone.{HasDone}
+use Rattle.mdl_shared.specs.DeedsDone.{DidDeeds}
 use Rattle.mdl_shared.specs.Members.{IsMember}
 use Rattle.mdl_shared.specs.SessionViews.{SessionView, data_of, lists_seen, settled_of}
 use Rattle.mdl_shared.specs.AllSteps.{Shows}
@@ -74,7 +74,7 @@ module _ {s mid : SessionView} (is : IsMember s) (waiting : is_some s.me.0.asks 
       let watched = polls is waiting session word mine own now in (
         search-joins is (done-nothing watched.done) (Ok found.NoCycle) tt tt,
         shows watched tt watched.did tt tt (λ owes searches. owes)
-            (asked s waiting, λ asks. inl (one, ap (λ (x : SessionView). x.me) (reads (state_of one) (in-state is waiting session word mine own (state_of one) its)), told)),
+            (asked s waiting, λ asks. inl (one, ap (λ (x : SessionView). x.me) (reads (settled_state one) (in-state is waiting session word mine own (settled_state one) its)), told)),
       )
 
   -- ---- it isn't
@@ -97,8 +97,8 @@ module _ {s mid : SessionView} (is : IsMember s) (waiting : is_some s.me.0.asks 
     opens : (fact : SessionView → Type 0) → fact mid → ReadsUnsettled (lists_seen s.me.0) s fact
     opens fact so = (untold, subst fact (reads 1 open_word) so)
 
-    module _ {s′ : SessionView} (done : HasDone 0 [] mid s′) (did : Does [] mid.me s′.me) (keeps : KeepsRoom 0 mid.room s′.room) (debts : s′.me.0.owes ≡ mid.me.0.owes) where
-      both : HasDone 0 [] s s′
+    module _ {s′ : SessionView} (done : DidDeeds 0 [] mid s′) (did : Does [] mid.me s′.me) (keeps : KeepsRoom 0 mid.room s′.room) (debts : s′.me.0.owes ≡ mid.me.0.owes) where
+      both : DidDeeds 0 [] s s′
       both = done-then (polls is waiting session word mine own now).done done
 
       shown : (answer : Answer) → Does [] s.me s′.me → search_deadlock.settled answer (lists_seen s.me.0) s s′

@@ -18,7 +18,7 @@ use Rattle.mdl_visits.specs.Numbers.{numbered}
 use Rattle.mdl_visits.specs.Visits.{IsStepOf, IsVisit, MeetsBlocked, MeetsGrantable, VisitsOnce}
 use Rattle.mdl_visits.proofs.Numbers.{has_number}
 use Rattle.mdl_shared.specs.declared.member.Member.{Member}
-use Rattle.mdl_shared.specs.DeedsDone.{DoesQuietly, HasDone}
+use Rattle.mdl_shared.specs.DeedsDone.{DidDeeds, DoesQuietly}
 use Rattle.mdl_shared.specs.Doings.{merge_deeds, rise_deeds, upgrade_deeds}
 use Rattle.mdl_shared.specs.FastWishes.{BecomesSlow}
 use Rattle.mdl_shared.specs.Members.{IsMember}
@@ -50,7 +50,7 @@ pub becomes-slow : (m m′ : Member) → DoesQuietly 0 [] (view_of m) (view_of m
 becomes-slow m m′ quiet made keeps = record { quiet = quiet; unfast = unfast-seen m′ made.0; made = made.1; room = keeps }
 
 -- so each ticket that the session had is a slow one
-pub slow-then : {place : ℕ} (m m′ : Member) → HasDone place [] (view_of m) (view_of m′) → m′.tickets.fast ≡ [] → (id : ℕ) (t : Own)
+pub slow-then : {place : ℕ} (m m′ : Member) → DidDeeds place [] (view_of m) (view_of m′) → m′.tickets.fast ≡ [] → (id : ℕ) (t : Own)
     → numbered id (interleaved m.tickets.slow m.tickets.fast) ≡ Some t → numbered t.number m′.tickets.slow ≡ Some t
 slow-then m m′ done none id t found =
     let its = ap (numbered id) (same-lists m m′ done).tickets ∙ found in

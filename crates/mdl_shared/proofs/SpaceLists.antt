@@ -11,9 +11,9 @@ use Rattle.mdl_steps.specs.declared.view.Own.{Own}
 use Rattle.mdl_calls.specs.SessionData.{KnownKey, are_apart as are_apart_in, are_two as are_two_in, is_known as is_known_in, key_known as key_known_in, place_known as place_known_in}
 use Rattle.mdl_steps.proofs.Views.{by_bool}
 use Rattle.mdl_visits.specs.Numbers.{numbered}
-use Rattle.mdl_shared.specs.Members.{are_apart, are_two, is_known_place, kind_known, place_known}
+use Rattle.mdl_shared.specs.Members.{are_keys_apart, are_two_keys, is_place_looked_up, kind_known, place_looked_up}
 use Rattle.mdl_shared.specs.Modes.{is_fit}
-use Rattle.mdl_shared.specs.OwnLists.{told_of, key_known}
+use Rattle.mdl_shared.specs.OwnLists.{as_held, key_looked_up}
 
 -- what is found among the images of a list is the image of what is found in it
 pub find-told : {A B : Type 0} (f : A → B) (test : B → Bool) (xs : List A) → find test (map f xs) ≡ option_map f (find (λ x. test (f x)) xs)
@@ -26,8 +26,8 @@ find-told f test (x ∷ xs) =
 -- ---- tickets
 
 -- the ticket of a number, as it is told
-pub ticket-told : (id : ℕ) (tickets : List Own) → find (is_number id) (map told_of tickets) ≡ option_map told_of (numbered id tickets)
-ticket-told id tickets = find-told told_of (is_number id) tickets
+pub ticket-told : (id : ℕ) (tickets : List Own) → find (is_number id) (map as_held tickets) ≡ option_map as_held (numbered id tickets)
+ticket-told id tickets = find-told as_held (is_number id) tickets
 
 -- ---- keys
 
@@ -39,26 +39,26 @@ option_map-map f g None = refl
 option_map-map f g (Some x) = refl
 
 -- the key of a place
-pub key-told : (place : ℕ) (known : List Known) → key_known_in place (map known_of known) ≡ key_known place known
+pub key-told : (place : ℕ) (known : List Known) → key_known_in place (map known_of known) ≡ key_looked_up place known
 key-told place known =
     ap (option_map (λ (k : KnownKey). k.key)) (find-told known_of (λ (k : KnownKey). k.place == place) known)
     ∙ option_map-map known_of (λ (k : KnownKey). k.key) (find (λ (k : Known). k.place == place) known)
 
 -- the place of a key
-pub place-told : (key : KeyName) (known : List Known) → place_known_in key (map known_of known) ≡ place_known key known
+pub place-told : (key : KeyName) (known : List Known) → place_known_in key (map known_of known) ≡ place_looked_up key known
 place-told key known =
     ap (option_map (λ (k : KnownKey). k.place)) (find-told known_of (λ (k : KnownKey). key_eq k.key key) known)
     ∙ option_map-map known_of (λ (k : KnownKey). k.place) (find (λ (k : Known). key_eq k.key key) known)
 
 -- its kind is that of the key
-pub kind-key : (place : ℕ) (known : List Known) → kind_known place known ≡ option_map (λ (key : KeyName). kind_of key.namespace) (key_known place known)
+pub kind-key : (place : ℕ) (known : List Known) → kind_known place known ≡ option_map (λ (key : KeyName). kind_of key.namespace) (key_looked_up place known)
 kind-key place known =
     sym (option_map-map (λ (k : Known). k.key) (λ (key : KeyName). kind_of key.namespace) (find (λ (k : Known). k.place == place) known))
 
 -- a place whose kind is known is known
 pub kind-is_known : (place : ℕ) (kind : Kind) (known : List Known) → kind_known place known ≡ Some kind → is_known_in place (map known_of known) ≡ true
 kind-is_known place kind known is =
-    ap is_some (key-told place known) ∙ by (key_known place known) (sym (kind-key place known) ∙ is)
+    ap is_some (key-told place known) ∙ by (key_looked_up place known) (sym (kind-key place known) ∙ is)
   where
     by : (o : Option KeyName) → option_map (λ (key : KeyName). kind_of key.namespace) o ≡ Some kind → is_some o ≡ true
     by None e = cc
@@ -90,21 +90,21 @@ of-kind place known kind mode b is fits key knows =
 
 -- ---- whether a place is known, and whether keys and places differ
 
-pub known-told : (place : ℕ) (known : List Known) → is_known_in place (map known_of known) ≡ is_known_place known place
+pub known-told : (place : ℕ) (known : List Known) → is_known_in place (map known_of known) ≡ is_place_looked_up known place
 known-told place [] = refl
 known-told place (k ∷ ks) = by (k.place == place) (known-told place ks)
   where
-    by : (b : Bool) → is_known_in place (map known_of ks) ≡ is_known_place ks place
+    by : (b : Bool) → is_known_in place (map known_of ks) ≡ is_place_looked_up ks place
         → is_some (option_map (λ (x : KnownKey). x.key) (if b then Some (known_of k) else find (λ (x : KnownKey). x.place == place) (map known_of ks)))
-        ≡ (b || is_known_place ks place)
+        ≡ (b || is_place_looked_up ks place)
     by true later = refl
     by false later = later
 
 -- whether keys and places differ
-pub apart-told : (known : List Known) → are_apart_in (map known_of known) ≡ are_apart known
+pub apart-told : (known : List Known) → are_apart_in (map known_of known) ≡ are_keys_apart known
 apart-told [] = refl
-apart-told (k ∷ ks) = ap (λ b. b && are_apart_in (map known_of ks)) (two-told ks) ∙ ap (λ b. list_all (are_two k) ks && b) (apart-told ks)
+apart-told (k ∷ ks) = ap (λ b. b && are_apart_in (map known_of ks)) (two-told ks) ∙ ap (λ b. list_all (are_two_keys k) ks && b) (apart-told ks)
   where
-    two-told : (later : List Known) → list_all (are_two_in (known_of k)) (map known_of later) ≡ list_all (are_two k) later
+    two-told : (later : List Known) → list_all (are_two_in (known_of k)) (map known_of later) ≡ list_all (are_two_keys k) later
     two-told [] = refl
-    two-told (x ∷ xs) = ap (λ b. are_two k x && b) (two-told xs)
+    two-told (x ∷ xs) = ap (λ b. are_two_keys k x && b) (two-told xs)

@@ -14,9 +14,9 @@ use Rattle.mdl_steps.proofs.Views.{by_bool}
 use Rattle.mdl_calls.specs.Meetings.{ReadsNothing}
 use Rattle.mdl_calls.specs.SessionData.{Note, noted_at}
 use Rattle.mdl_session_laws.proofs.TicketLists.{all-among}
-use Rattle.mdl_visits.specs.Readings.{ReadsNothing as ReadNothing}
+use Rattle.mdl_visits.specs.Readings.{SeatReadsNothing as ReadNothing}
 use Rattle.mdl_shared.specs.Modes.{in_mode_at}
-use Rattle.mdl_shared.specs.OwnLists.{told_of}
+use Rattle.mdl_shared.specs.OwnLists.{as_held}
 use Rattle.mdl_shared.specs.SessionViews.{SessionView, data_of, note_of, tickets_seen}
 use Rattle.mdl_shared.proofs.SameSpace.{reading_of}
 
@@ -63,7 +63,7 @@ noted-in place version mark (t ∷ ts) all e =
 
 -- and that is noted, where there is one
 pub noted-some : (place version : ℕ) (mark : Option ℕ) (tickets : List Own) → AllNoted place mark tickets
-    → list_all (λ (h : Held). not (h.place == place)) (map told_of tickets) ≡ false → mark ≡ Some version → noted_under place tickets ≡ Some version
+    → list_all (λ (h : Held). not (h.place == place)) (map as_held tickets) ≡ false → mark ≡ Some version → noted_under place tickets ≡ Some version
 noted-some place version mark [] all some is = cc
 noted-some place version mark (t ∷ ts) all some is =
     by_bool (t.place == place)
@@ -73,12 +73,12 @@ noted-some place version mark (t ∷ ts) all some is =
     (λ there. note-there place t.place t.noted (filter_map note_of ts) there ∙ noted-some place version mark ts all.1 (rw there at some) is)
 
 pub noted-here : (place version : ℕ) (mark : Option ℕ) (tickets : List Own) → AllNoted place mark tickets
-    → (ticket : Held) × Contains (map told_of tickets) ticket × (ticket.place ≡ place) → mark ≡ Some version → noted_under place tickets ≡ Some version
+    → (ticket : Held) × Contains (map as_held tickets) ticket × (ticket.place ≡ place) → mark ≡ Some version → noted_under place tickets ≡ Some version
 noted-here place version mark tickets all holds is =
-    by_bool (list_all (λ (h : Held). not (h.place == place)) (map told_of tickets))
+    by_bool (list_all (λ (h : Held). not (h.place == place)) (map as_held tickets))
     (λ none.
     absurd (false≢true (sym (not_from_true (holds.0.place == place) (eq-eqb holds.0.place place holds.2))
-    ∙ all-among (λ (h : Held). not (h.place == place)) (map told_of tickets) holds.0 none holds.1)))
+    ∙ all-among (λ (h : Held). not (h.place == place)) (map as_held tickets) holds.0 none holds.1)))
     (λ some. noted-some place version mark tickets all some is)
 
 -- ---- tickets that go, that get another mode, and that come
@@ -148,15 +148,15 @@ noting-all place version (t ∷ ts) =
     (λ there. rw there ((λ e. absurd (false≢true (sym there ∙ eq-eqb t.place place e))), noting-all place version ts))
 
 -- they are told as they were
-pub noting-told : (place version : ℕ) (tickets : List Own) → map told_of (noting_version place version tickets) ≡ map told_of tickets
+pub noting-told : (place version : ℕ) (tickets : List Own) → map as_held (noting_version place version tickets) ≡ map as_held tickets
 noting-told place version [] = refl
 noting-told place version (t ∷ ts) =
     by_bool (t.place == place)
-    (λ here. rw here (ap (λ (held : List Held). told_of t ∷ held) (noting-told place version ts)))
-    (λ there. rw there (ap (λ (held : List Held). told_of t ∷ held) (noting-told place version ts)))
+    (λ here. rw here (ap (λ (held : List Held). as_held t ∷ held) (noting-told place version ts)))
+    (λ there. rw there (ap (λ (held : List Held). as_held t ∷ held) (noting-told place version ts)))
 
 -- it is noted there, where there is a ticket
-pub noting-placed : (place version : ℕ) (tickets : List Own) → list_all (λ (h : Held). not (h.place == place)) (map told_of tickets) ≡ false
+pub noting-placed : (place version : ℕ) (tickets : List Own) → list_all (λ (h : Held). not (h.place == place)) (map as_held tickets) ≡ false
     → noted_under place (noting_version place version tickets) ≡ Some version
 noting-placed place version tickets some =
     noted-some place version (Some version) (noting_version place version tickets) (noting-all place version tickets)

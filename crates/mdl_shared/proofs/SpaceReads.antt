@@ -23,8 +23,8 @@ use Rattle.mdl_steps.proofs.Views.{by_bool}
 use Rattle.mdl_calls.specs.Meetings.{IsLast, Meets, NotesThere}
 use Rattle.mdl_calls.specs.SessionData.{Note, is_newest, last_read, noted_at}
 use Rattle.mdl_visits.specs.Numbers.{numbered}
-use Rattle.mdl_visits.specs.Readings.{ReadsThere}
-use Rattle.mdl_shared.specs.OwnLists.{key_known, told_of}
+use Rattle.mdl_visits.specs.Readings.{SeatReadsThere}
+use Rattle.mdl_shared.specs.OwnLists.{as_held, key_looked_up}
 use Rattle.mdl_shared.specs.SessionViews.{SessionView, data_of, note_of, tickets_seen}
 use Rattle.mdl_shared.proofs.SameSpace.{reading_of}
 use Rattle.mdl_shared.proofs.SpaceLists.{key-told}
@@ -35,14 +35,14 @@ use Rattle.mdl_shared.proofs.TicketOrder.{each-at}
 
 -- it is one of the place's
 pub placed-some : (place id : ℕ) (tickets : List Own) (t : Own) → numbered id tickets ≡ Some t → t.place ≡ place
-    → list_all (λ (h : Held). not (h.place == place)) (map told_of tickets) ≡ false
+    → list_all (λ (h : Held). not (h.place == place)) (map as_held tickets) ≡ false
 placed-some place id [] t its here = cc
 placed-some place id (x ∷ xs) t its here = grind (arith, nat_tests, placed-some place id xs t)
 
 -- ---- a key that is known
 
 -- it stands in the list, at its place
-pub known-there : (place : ℕ) (key : KeyName) (known : List Known) → key_known place known ≡ Some key
+pub known-there : (place : ℕ) (key : KeyName) (known : List Known) → key_looked_up place known ≡ Some key
     → (i : ℕ) × (k : Known) × (get_elem? known i ≡ some k) × (k.place ≡ place) × (k.key ≡ key)
 known-there place key [] e = cc
 known-there place key (k ∷ ks) e =
@@ -124,7 +124,7 @@ meets-there m place standing follows = record {
 }
 
 -- it was read there, after all that was read before
-pub read-last : (m m′ : SessionView) (place : ℕ) (standing : Standing) → ReadsThere place standing m.me m′.me
+pub read-last : (m m′ : SessionView) (place : ℕ) (standing : Standing) → SeatReadsThere place standing m.me m′.me
     → IsLast place standing (data_of m).reads (data_of m′).reads
 read-last m m′ place standing reads = inl (ap (map reading_of) reads ∙ map-append reading_of m.me.0.reads (record { place = place; standing = standing } ∷ []))
 

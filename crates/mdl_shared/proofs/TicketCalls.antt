@@ -25,7 +25,7 @@ use Rattle.mdl_visits.proofs.Doing.{does_reschedule}
 use Rattle.mdl_shared.specs.Doings.{rise_deeds, upgrade_deeds}
 use Rattle.mdl_shared.specs.Members.{IsMember}
 use Rattle.mdl_shared.specs.Modes.{downgrade_fault, merge_fault}
-use Rattle.mdl_shared.specs.OwnLists.{told_of}
+use Rattle.mdl_shared.specs.OwnLists.{as_held}
 use Rattle.mdl_shared.specs.SessionViews.{SessionView, data_of, session_at, tickets_seen}
 use Rattle.mdl_shared.specs.AllSteps.{Shows}
 use Rattle.mdl_shared.specs.TicketLists.{KeepsRoom, Room}
@@ -34,7 +34,7 @@ use Rattle.mdl_shared.proofs.Debts.{rescheduled-owes}
 use Rattle.mdl_shared.proofs.Faults.{if-clear}
 use Rattle.mdl_shared.proofs.HeldTickets.{HoldsTicket}
 use Rattle.mdl_shared.proofs.MemberFacts.{alters-slow, speaks}
-use Rattle.mdl_shared.proofs.Members.{HasDone, done-debts, done-next, done-nothing, done-reads, done-rest, done-tickets, rescheduled}
+use Rattle.mdl_shared.proofs.Members.{DidDeeds, done-debts, done-next, done-nothing, done-reads, done-rest, done-tickets, rescheduled}
 use Rattle.mdl_shared.proofs.NotedOnce.{one-note, one-note_done}
 use Rattle.mdl_shared.proofs.Refusals.{does-nothing}
 use Rattle.mdl_shared.proofs.Rooms.{keeps-same}
@@ -47,7 +47,7 @@ use Rattle.mdl_shared.proofs.TicketFaults.{downgrade-cause, downgrade-clear, kno
 -- ---- a call with one deed
 
 -- reads nothing, and notes nothing
-pub deed-reads : {place : ℕ} {d : Deed} {m m′ : SessionView} → IsMember m → HasDone place (d ∷ []) m m′ → ReadsNothing (data_of m) (data_of m′)
+pub deed-reads : {place : ℕ} {d : Deed} {m m′ : SessionView} → IsMember m → DidDeeds place (d ∷ []) m m′ → ReadsNothing (data_of m) (data_of m′)
 deed-reads {place} {d} {m} {m′} is done =
     nothing-read m m′ (done-reads done) (λ at. subst (AllNoted at (noted_under at (tickets_seen m.me.0))) (sym (done-tickets done)) (one-note_done m is at place d))
 
@@ -57,20 +57,20 @@ module _ {m : SessionView} (is : IsMember m) (id : ℕ) (t : Own) (its : numbere
   here = only-one id (is_here t.place) (tickets_seen m.me.0) t is.sound.rising its (eq-eqb t.place t.place refl)
 
   -- no number was given
-  drawn : {ds : List Deed} {m′ : SessionView} → HasDone t.place ds m m′ → m′.me.0.next ≡ m.me.0.next → (data_of m′).numbers ≡ (data_of m).numbers
+  drawn : {ds : List Deed} {m′ : SessionView} → DidDeeds t.place ds m m′ → m′.me.0.next ≡ m.me.0.next → (data_of m′).numbers ≡ (data_of m).numbers
   drawn {ds} {m′} done next = numbers-same m.me.0.next m′.me.0.next m.me.0.waits m′.me.0.waits next (done-rest done).wait.waits
 
-  pub release-joins : {m′ : SessionView} → HasDone t.place (Lose id ∷ []) m m′ → Joins (data_of m) (Release m.me.0.number id) Done (data_of m′)
+  pub release-joins : {m′ : SessionView} → DidDeeds t.place (Lose id ∷ []) m m′ → Joins (data_of m) (Release m.me.0.number id) Done (data_of m′)
   release-joins {m′} done =
-      joins-held m m′ (Release m.me.0.number id) Done (filter (λ (h : Held). not (is_number id h)) (map told_of (tickets_seen m.me.0))) (done-rest done) (speaks is) refl refl
-      (ap (map told_of) (done-tickets done) ∙ given-up t.place id (tickets_seen m.me.0) here) refl (drawn done (done-next done))
+      joins-held m m′ (Release m.me.0.number id) Done (filter (λ (h : Held). not (is_number id h)) (map as_held (tickets_seen m.me.0))) (done-rest done) (speaks is) refl refl
+      (ap (map as_held) (done-tickets done) ∙ given-up t.place id (tickets_seen m.me.0) here) refl (drawn done (done-next done))
       (holds-told id (tickets_seen m.me.0) true (ap is_some its)) tt refl (λ state how is. cc) (λ how is. cc) refl (deed-reads is done) tt
 
-  downgrade-joins : {m′ : SessionView} (mode : Mode) → downgrade_fault (numbered id (tickets_seen m.me.0)) mode m.me.0.known ≡ None → HasDone t.place (Alter id mode ∷ []) m m′
+  downgrade-joins : {m′ : SessionView} (mode : Mode) → downgrade_fault (numbered id (tickets_seen m.me.0)) mode m.me.0.known ≡ None → DidDeeds t.place (Alter id mode ∷ []) m m′
       → Joins (data_of m) (Downgrade m.me.0.number id mode) Done (data_of m′)
   downgrade-joins {m′} mode clear done =
-      joins-held m m′ (Downgrade m.me.0.number id mode) Done (map (in_mode_told id (λ _. mode)) (map told_of (tickets_seen m.me.0))) (done-rest done) (speaks is) refl refl
-      (ap (map told_of) (done-tickets done) ∙ in-mode t.place id mode (λ _. mode) (is_here t.place) (tickets_seen m.me.0) (λ u there. (there, refl)) here) refl
+      joins-held m m′ (Downgrade m.me.0.number id mode) Done (map (in_mode_told id (λ _. mode)) (map as_held (tickets_seen m.me.0))) (done-rest done) (speaks is) refl refl
+      (ap (map as_held) (done-tickets done) ∙ in-mode t.place id mode (λ _. mode) (is_here t.place) (tickets_seen m.me.0) (λ u there. (there, refl)) here) refl
       (drawn done (done-next done)) (downgrade-clear m id mode t its clear) tt refl
       (λ state how is. cc) (λ how is. cc) refl (deed-reads is done) tt
 
@@ -83,7 +83,7 @@ module _ {m : SessionView} (is : IsMember m) (id : ℕ) (t : Own) (its : numbere
     -- to a mode that its own covers
     pub covered-joins : covers t.mode mode ≡ true → Joins (data_of m) (Upgrade_now m.me.0.number id mode) Upgraded (data_of m)
     covered-joins has =
-        joins-held m m (Upgrade_now m.me.0.number id mode) Upgraded (map (in_mode_told id (upgraded mode)) (map told_of (tickets_seen m.me.0))) (same-rest m) (speaks is) refl refl
+        joins-held m m (Upgrade_now m.me.0.number id mode) Upgraded (map (in_mode_told id (upgraded mode)) (map as_held (tickets_seen m.me.0))) (same-rest m) (speaks is) refl refl
         (same-mode id (upgraded mode) (λ u. covers u.mode mode) (tickets_seen m.me.0) (λ u h. ap (λ b. if b then u.mode else mode) h)
         (only-one id (λ u. covers u.mode mode) (tickets_seen m.me.0) t is.sound.rising its has))
         refl refl may-rise tt refl (λ state how is. cc) (λ how is. cc) refl (nothing-read m m refl (one-note m is)) tt
@@ -106,10 +106,10 @@ module _ {m : SessionView} (is : IsMember m) (id : ℕ) (t : Own) (its : numbere
         }
 
     -- to another
-    pub upgrade-joins : {m′ : SessionView} → covers t.mode mode ≡ false → HasDone t.place (Alter id mode ∷ []) m m′ → Joins (data_of m) (Upgrade_now m.me.0.number id mode) Upgraded (data_of m′)
+    pub upgrade-joins : {m′ : SessionView} → covers t.mode mode ≡ false → DidDeeds t.place (Alter id mode ∷ []) m m′ → Joins (data_of m) (Upgrade_now m.me.0.number id mode) Upgraded (data_of m′)
     upgrade-joins {m′} short done =
-        joins-held m m′ (Upgrade_now m.me.0.number id mode) Upgraded (map (in_mode_told id (upgraded mode)) (map told_of (tickets_seen m.me.0))) (done-rest done) (speaks is) refl refl
-        (ap (map told_of) (done-tickets done) ∙ in-mode t.place id mode (upgraded mode) (λ u. is_here t.place u && not (covers u.mode mode)) (tickets_seen m.me.0)
+        joins-held m m′ (Upgrade_now m.me.0.number id mode) Upgraded (map (in_mode_told id (upgraded mode)) (map as_held (tickets_seen m.me.0))) (done-rest done) (speaks is) refl refl
+        (ap (map as_held) (done-tickets done) ∙ in-mode t.place id mode (upgraded mode) (λ u. is_here t.place u && not (covers u.mode mode)) (tickets_seen m.me.0)
         (λ u h. let parts = and_parts (is_here t.place u) (not (covers u.mode mode)) h in
         (parts.0, ap (λ b. if b then u.mode else mode) (not-true (covers u.mode mode) parts.1)))
         (only-one id (λ u. is_here t.place u && not (covers u.mode mode)) (tickets_seen m.me.0) t is.sound.rising its
@@ -117,7 +117,7 @@ module _ {m : SessionView} (is : IsMember m) (id : ℕ) (t : Own) (its : numbere
         refl (drawn done (done-next done)) may-rise tt refl (λ state how is. cc) (λ how is. cc) refl (deed-reads is done) tt
 
     -- that would have to wait
-    pub blocked-joins : {m′ : SessionView} → covers t.mode mode ≡ false → HasDone t.place [] m m′ → Joins (data_of m) (Upgrade_now m.me.0.number id mode) Would_wait (data_of m′)
+    pub blocked-joins : {m′ : SessionView} → covers t.mode mode ≡ false → DidDeeds t.place [] m m′ → Joins (data_of m) (Upgrade_now m.me.0.number id mode) Would_wait (data_of m′)
     blocked-joins {m′} short done =
         joins-still m m′ (Upgrade_now m.me.0.number id mode) Would_wait (done-nothing done) (speaks is) refl refl refl refl
         may-rise tt refl (λ state how is. cc) (λ how is. cc) refl (λ r. r)
@@ -126,13 +126,13 @@ module _ {m : SessionView} (is : IsMember m) (id : ℕ) (t : Own) (its : numbere
   -- ---- merges, the ticket being kept
 
   pub merge-joins : {m′ : SessionView} (new : ℕ) (gone : Own) → numbered new (tickets_seen m.me.0) ≡ Some gone → merge_fault (Some t) (Some gone) m.me.0.asks ≡ None
-      → HasDone t.place (Alter id gone.mode ∷ Lose new ∷ []) m m′ → Joins (data_of m) (Merge m.me.0.number id new) Done (data_of m′)
+      → DidDeeds t.place (Alter id gone.mode ∷ Lose new ∷ []) m m′ → Joins (data_of m) (Merge m.me.0.number id new) Done (data_of m′)
   merge-joins {m′} new gone other clear done =
-      joins-held m m′ (Merge m.me.0.number id new) Done (map (in_mode_told id (λ _. gone.mode)) (filter (λ (h : Held). not (is_number new h)) (map told_of (tickets_seen m.me.0))))
+      joins-held m m′ (Merge m.me.0.number id new) Done (map (in_mode_told id (λ _. gone.mode)) (filter (λ (h : Held). not (is_number new h)) (map as_held (tickets_seen m.me.0))))
       (done-rest done) (speaks is) refl refl
-      (ap (map told_of) (done-tickets done) ∙ merged-told t.place id new gone.mode (tickets_seen m.me.0) here
+      (ap (map as_held) (done-tickets done) ∙ merged-told t.place id new gone.mode (tickets_seen m.me.0) here
       (only-one new (is_here t.place) (tickets_seen m.me.0) gone is.sound.rising other (merge-here t gone m.me.0.asks clear)))
-      (ap (λ o. merging id new o (data_of m).own) (ticket-told new (tickets_seen m.me.0) ∙ ap (option_map told_of) other)) (drawn done (done-next done))
+      (ap (λ o. merging id new o (data_of m).own) (ticket-told new (tickets_seen m.me.0) ∙ ap (option_map as_held) other)) (drawn done (done-next done))
       (merge-clear m id new t gone its other clear) tt refl (λ state how is. cc) (λ how is. cc) refl
       (nothing-read m m′ (done-reads done) (λ at.
       subst (AllNoted at (noted_under at (tickets_seen m.me.0))) (sym (done-tickets done))

@@ -17,26 +17,26 @@ use Rattle.mdl_steps.proofs.Views.{by_bool}
 use Rattle.mdl_visits.specs.Numbers.{numbered}
 use Rattle.mdl_shared.specs.Members.{without_at}
 use Rattle.mdl_shared.specs.Modes.{in_mode_at}
-use Rattle.mdl_shared.specs.OwnLists.{told_of}
-use Rattle.mdl_shared.specs.Waitings.{are_below}
+use Rattle.mdl_shared.specs.OwnLists.{as_held}
+use Rattle.mdl_shared.specs.Waitings.{are_below_next}
 use Rattle.mdl_shared.specs.declared.tickets.Gained.{Gained}
 use Rattle.mdl_shared.specs.declared.tickets.OfPlace.{OfPlace}
-use Rattle.mdl_shared.specs.OwnTickets.{AreKept, AreRising, StandsAt, counted_at, fast_counted_at, fast_of, is_fast_there, is_there, noted_in, own_of, slow_of, slowed}
+use Rattle.mdl_shared.specs.OwnTickets.{AreGainedRising, AreKept, StandsAt, counted_at, fast_counted_at, fast_of, is_at_place, is_fast_there, noted_in, slow_of, slowed, with_note}
 use Rattle.mdl_shared.proofs.TicketParts.{counted, later_rise, parted, some_of}
 use Rattle.mdl_shared.proofs.TicketSearch.{each_at, nowhere}
 
 -- the first number is below one that stands later
-lower : (id : ℕ) (x : Gained) (xs : List Gained) (at : ℕ) → AreRising (x ∷ xs) → StandsAt id (suc at) (x ∷ xs) → x.id < id
+lower : (id : ℕ) (x : Gained) (xs : List Gained) (at : ℕ) → AreGainedRising (x ∷ xs) → StandsAt id (suc at) (x ∷ xs) → x.id < id
 lower id x xs at rising stands = subst (λ n. x.id < n) (stands.1 x) (rising 0 (suc at) x (omega arith) stands.0)
 
 later_stands : (id : ℕ) (x : Gained) (xs : List Gained) (at : ℕ) → StandsAt id (suc at) (x ∷ xs) → StandsAt id at xs
 later_stands id x xs at stands = (omega (arith, stands.0), stands.1)
 
 -- no later ticket has the number
-apart : (id : ℕ) (x : Gained) (xs : List Gained) (d : Gained) → AreRising (x ∷ xs) → x.id ≡ id → (k : ℕ) → k < length xs → id < (get_or xs k d).id
+apart : (id : ℕ) (x : Gained) (xs : List Gained) (d : Gained) → AreGainedRising (x ∷ xs) → x.id ≡ id → (k : ℕ) → k < length xs → id < (get_or xs k d).id
 apart id x xs d rising is k inside = subst (λ n. n < (get_or xs k d).id) is (rising 0 (suc k) d (omega arith) (omega (arith, inside)))
 
-alone : (id : ℕ) (x : Gained) (xs : List Gained) → AreRising (x ∷ xs) → x.id ≡ id → list_all (λ t. not (t.id == id)) xs ≡ true
+alone : (id : ℕ) (x : Gained) (xs : List Gained) → AreGainedRising (x ∷ xs) → x.id ≡ id → list_all (λ t. not (t.id == id)) xs ≡ true
 alone id x xs rising is = each_at _ x xs (λ k inside. grind (arith, nat_tests, apart id x xs x rising is k inside))
 
 -- what holds of an index holds of each
@@ -53,8 +53,8 @@ find_none id ps p (x ∷ xs) none =
     (λ kept. rw kept (grind (arith, nat_tests, later)))
     (λ left. rw left later)
 
-pub find_at : (id : ℕ) (ps : List OfPlace) (p : Gained → Bool) (xs : List Gained) (at : ℕ) (d : Gained) → AreRising xs → StandsAt id at xs
-    → numbered id (some_of ps p xs) ≡ (if p (get_or xs at d) then Some (own_of ps (get_or xs at d)) else None)
+pub find_at : (id : ℕ) (ps : List OfPlace) (p : Gained → Bool) (xs : List Gained) (at : ℕ) (d : Gained) → AreGainedRising xs → StandsAt id at xs
+    → numbered id (some_of ps p xs) ≡ (if p (get_or xs at d) then Some (with_note ps (get_or xs at d)) else None)
 find_at id ps p [] at d rising stands = absurd (omega (arith, stands.0))
 find_at id ps p (x ∷ xs) zero d rising stands = by_bool (p x)
     (λ kept. rw kept (rw (stands.1 d) (grind (arith, nat_tests))))
@@ -67,46 +67,46 @@ find_at id ps p (x ∷ xs) (suc at) d rising stands =
     (λ left. rw left later)
 
 -- in the whole list
-all_kept : (ps : List OfPlace) (xs : List Gained) → some_of ps (λ t. true) xs ≡ map (own_of ps) xs
+all_kept : (ps : List OfPlace) (xs : List Gained) → some_of ps (λ t. true) xs ≡ map (with_note ps) xs
 all_kept ps [] = refl
-all_kept ps (x ∷ xs) = ap (λ ts. own_of ps x ∷ ts) (all_kept ps xs)
+all_kept ps (x ∷ xs) = ap (λ ts. with_note ps x ∷ ts) (all_kept ps xs)
 
-whole : (ps : List OfPlace) (xs : List Gained) → AreRising xs → interleaved (slow_of ps xs) (fast_of ps xs) ≡ some_of ps (λ t. true) xs
+whole : (ps : List OfPlace) (xs : List Gained) → AreGainedRising xs → interleaved (slow_of ps xs) (fast_of ps xs) ≡ some_of ps (λ t. true) xs
 whole ps xs rising = parted ps xs rising ∙ sym (all_kept ps xs)
 
-pub find_nowhere : (id : ℕ) (ps : List OfPlace) (xs : List Gained) → AreRising xs → list_all (λ t. not (t.id == id)) xs ≡ true → numbered id (interleaved (slow_of ps xs) (fast_of ps xs)) ≡ None
+pub find_nowhere : (id : ℕ) (ps : List OfPlace) (xs : List Gained) → AreGainedRising xs → list_all (λ t. not (t.id == id)) xs ≡ true → numbered id (interleaved (slow_of ps xs) (fast_of ps xs)) ≡ None
 find_nowhere id ps xs rising none = ap (numbered id) (whole ps xs rising) ∙ find_none id ps (λ t. true) xs none
 
-pub find_there : (id : ℕ) (ps : List OfPlace) (xs : List Gained) (at : ℕ) (d : Gained) → AreRising xs → StandsAt id at xs
-    → numbered id (interleaved (slow_of ps xs) (fast_of ps xs)) ≡ Some (own_of ps (get_or xs at d))
+pub find_there : (id : ℕ) (ps : List OfPlace) (xs : List Gained) (at : ℕ) (d : Gained) → AreGainedRising xs → StandsAt id at xs
+    → numbered id (interleaved (slow_of ps xs) (fast_of ps xs)) ≡ Some (with_note ps (get_or xs at d))
 find_there id ps xs at d rising stands = ap (numbered id) (whole ps xs rising) ∙ find_at id ps (λ t. true) xs at d rising stands
 
 -- ---- a ticket is struck
 
-pub strike_none : (place id : ℕ) (ps : List OfPlace) (p : Gained → Bool) (xs : List Gained) → list_all (λ t. not (is_own place id (own_of [] t))) xs ≡ true
+pub strike_none : (place id : ℕ) (ps : List OfPlace) (p : Gained → Bool) (xs : List Gained) → list_all (λ t. not (is_own place id (with_note [] t))) xs ≡ true
     → some_of ps p xs ≡ without_at place id (some_of ps p xs)
 strike_none place id ps p [] none = refl
 strike_none place id ps p (x ∷ xs) none =
-    let later = strike_none place id ps p xs (rest (λ t. not (is_own place id (own_of [] t))) x xs none) in
+    let later = strike_none place id ps p xs (rest (λ t. not (is_own place id (with_note [] t))) x xs none) in
     by_bool (p x)
     (λ kept. rw kept (grind (arith, nat_tests, later)))
     (λ left. rw left later)
 
 -- then none of that number is found at the place
 pub strikes_some : (place id : ℕ) (ps : List OfPlace) (p : Gained → Bool) (xs : List Gained) (u : Own)
-    → list_all (λ t. not (is_own place id (own_of [] t))) xs ≡ true → numbered id (some_of ps p xs) ≡ Some u → u.place ≡ place → ⊥
+    → list_all (λ t. not (is_own place id (with_note [] t))) xs ≡ true → numbered id (some_of ps p xs) ≡ Some u → u.place ≡ place → ⊥
 strikes_some place id ps p [] u none is here = cc
 strikes_some place id ps p (x ∷ xs) u none is here =
-    let later = strikes_some place id ps p xs u (rest (λ t. not (is_own place id (own_of [] t))) x xs none) in
+    let later = strikes_some place id ps p xs u (rest (λ t. not (is_own place id (with_note [] t))) x xs none) in
     by_bool (p x)
     (λ kept. by_bool (x.id == id)
-    (λ its. let first : Some (own_of ps x) ≡ Some u = rw (kept, its) at is in
+    (λ its. let first : Some (with_note ps x) ≡ Some u = rw (kept, its) at is in
     let there : x.place ≡ place = ap (λ (o : Option Own). option_map_or (λ (t : Own). t.place) o 0) first ∙ here in
     grind (arith, nat_tests, none, its, there))
     (λ other. later (rw (kept, other) at is) here))
     (λ left. later (rw left at is) here)
 
-pub strike_at : (place id : ℕ) (ps : List OfPlace) (p : Gained → Bool) (xs : List Gained) (at : ℕ) → AreRising xs → StandsAt id at xs → ((d : Gained) → (get_or xs at d).place ≡ place)
+pub strike_at : (place id : ℕ) (ps : List OfPlace) (p : Gained → Bool) (xs : List Gained) (at : ℕ) → AreGainedRising xs → StandsAt id at xs → ((d : Gained) → (get_or xs at d).place ≡ place)
     → some_of ps p (remove xs at) ≡ without_at place id (some_of ps p xs)
 strike_at place id ps p [] at rising stands there = absurd (omega (arith, stands.0))
 strike_at place id ps p (x ∷ xs) zero rising stands there =
@@ -123,16 +123,16 @@ strike_at place id ps p (x ∷ xs) (suc at) rising stands there =
 
 -- ---- a ticket gets another mode
 
-pub mode_none : (place id : ℕ) (mode : Mode) (ps : List OfPlace) (p : Gained → Bool) (xs : List Gained) → list_all (λ t. not (is_own place id (own_of [] t))) xs ≡ true
+pub mode_none : (place id : ℕ) (mode : Mode) (ps : List OfPlace) (p : Gained → Bool) (xs : List Gained) → list_all (λ t. not (is_own place id (with_note [] t))) xs ≡ true
     → some_of ps p xs ≡ in_mode_at place id mode (some_of ps p xs)
 mode_none place id mode ps p [] none = refl
 mode_none place id mode ps p (x ∷ xs) none =
-    let later = mode_none place id mode ps p xs (rest (λ t. not (is_own place id (own_of [] t))) x xs none) in
+    let later = mode_none place id mode ps p xs (rest (λ t. not (is_own place id (with_note [] t))) x xs none) in
     by_bool (p x)
     (λ kept. rw kept (grind (arith, nat_tests, later)))
     (λ left. rw left later)
 
-pub mode_at : (place id : ℕ) (mode : Mode) (ps : List OfPlace) (p : Gained → Bool) (xs : List Gained) (at : ℕ) (t : Gained) → AreRising xs → StandsAt id at xs → t ≡ get_or xs at t → t.place ≡ place
+pub mode_at : (place id : ℕ) (mode : Mode) (ps : List OfPlace) (p : Gained → Bool) (xs : List Gained) (at : ℕ) (t : Gained) → AreGainedRising xs → StandsAt id at xs → t ≡ get_or xs at t → t.place ≡ place
     → p (record t { mode = mode }) ≡ p t
     → some_of ps p (set xs at (record t { mode = mode })) ≡ in_mode_at place id mode (some_of ps p xs)
 mode_at place id mode ps p [] at t rising stands is there apart = absurd (omega (arith, stands.0))
@@ -165,22 +165,22 @@ more_count p x xs some = let more = counted p x xs in omega (arith, more, some)
 
 -- the notes of tickets are changed as those of their places are
 pub notes : (place version : ℕ) (ps qs : List OfPlace) (p : Gained → Bool) (xs : List Gained)
-    → ((q : ℕ) → 0 < count_by (is_there q) xs → noted_in q qs ≡ (if q == place then Some version else noted_in q ps))
+    → ((q : ℕ) → 0 < count_by (is_at_place q) xs → noted_in q qs ≡ (if q == place then Some version else noted_in q ps))
     → some_of qs p xs ≡ noting_version place version (some_of ps p xs)
 notes place version ps qs p [] noted = refl
 notes place version ps qs p (x ∷ xs) noted =
-    let here : noted_in x.place qs ≡ (if x.place == place then Some version else noted_in x.place ps) = noted x.place (first_counts (is_there x.place) x xs (grind (arith, nat_tests))) in
-    let later = notes place version ps qs p xs (λ q some. noted q (more_count (is_there q) x xs some)) in
+    let here : noted_in x.place qs ≡ (if x.place == place then Some version else noted_in x.place ps) = noted x.place (first_counts (is_at_place x.place) x xs (grind (arith, nat_tests))) in
+    let later = notes place version ps qs p xs (λ q some. noted q (more_count (is_at_place q) x xs some)) in
     by_bool (p x)
     (λ kept. rw kept (grind (arith, nat_tests, here, later)))
     (λ left. rw left later)
 
 -- they are the same where those of places with tickets are
-pub same_notes : (ps qs : List OfPlace) (p : Gained → Bool) (xs : List Gained) → ((q : ℕ) → 0 < count_by (is_there q) xs → noted_in q qs ≡ noted_in q ps) → some_of qs p xs ≡ some_of ps p xs
+pub same_notes : (ps qs : List OfPlace) (p : Gained → Bool) (xs : List Gained) → ((q : ℕ) → 0 < count_by (is_at_place q) xs → noted_in q qs ≡ noted_in q ps) → some_of qs p xs ≡ some_of ps p xs
 same_notes ps qs p [] noted = refl
 same_notes ps qs p (x ∷ xs) noted =
-    let here : noted_in x.place qs ≡ noted_in x.place ps = noted x.place (first_counts (is_there x.place) x xs (grind (arith, nat_tests))) in
-    let later = same_notes ps qs p xs (λ q some. noted q (more_count (is_there q) x xs some)) in
+    let here : noted_in x.place qs ≡ noted_in x.place ps = noted x.place (first_counts (is_at_place x.place) x xs (grind (arith, nat_tests))) in
+    let later = same_notes ps qs p xs (λ q some. noted q (more_count (is_at_place q) x xs some)) in
     by_bool (p x)
     (λ kept. rw kept (λ k. record { number = x.id; place = x.place; mode = x.mode; noted = here k } ∷ later k))
     (λ left. rw left later)
@@ -190,7 +190,7 @@ pub still : (ps qs : List OfPlace) (p : Gained → Bool) (xs : List Gained) → 
 still ps qs p xs noted = same_notes ps qs p xs (λ q some. noted q)
 
 -- a ticket is struck, and the notes stay
-pub struck : (place id : ℕ) (ps qs : List OfPlace) (p : Gained → Bool) (xs ys : List Gained) (at : ℕ) → AreRising xs → StandsAt id at xs → ((d : Gained) → (get_or xs at d).place ≡ place)
+pub struck : (place id : ℕ) (ps qs : List OfPlace) (p : Gained → Bool) (xs ys : List Gained) (at : ℕ) → AreGainedRising xs → StandsAt id at xs → ((d : Gained) → (get_or xs at d).place ≡ place)
     → ys ≡ remove xs at → ((q : ℕ) → noted_in q qs ≡ noted_in q ps) → some_of qs p ys ≡ without_at place id (some_of ps p xs)
 struck place id ps qs p xs ys at rising stands there is noted = still ps qs p ys noted ∙ ap (some_of ps p) is ∙ strike_at place id ps p xs at rising stands there
 
@@ -208,15 +208,15 @@ still_noted place ps qs p xs fast kept noted = same_notes ps qs p xs (λ q some.
 pub ungained : (t : Gained) (ps qs : List OfPlace) (p : Gained → Bool) (xs : List Gained) (fast : ℕ) → AreKept xs ps fast → IsNotedAnew t.place ps qs → p t ≡ false
     → some_of qs p (xs ++ t ∷ []) ≡ some_of ps p xs
 ungained t ps qs p xs fast kept noted left =
-    ap (map (own_of qs)) (filter-append p xs (t ∷ []) ∙ rw left (append-nil (filter p xs))) ∙ still_noted t.place ps qs p xs fast kept noted
+    ap (map (with_note qs)) (filter-append p xs (t ∷ []) ∙ rw left (append-nil (filter p xs))) ∙ still_noted t.place ps qs p xs fast kept noted
 
 -- and is the last of those that it keeps
 pub gained : (t : Gained) (ps qs : List OfPlace) (p : Gained → Bool) (xs : List Gained) (fast : ℕ) (noted : Option ℕ) → AreKept xs ps fast → IsNotedAnew t.place ps qs → p t ≡ true
-    → noted ≡ (if count_by (is_there t.place) xs == 0 then None else noted_in t.place ps)
+    → noted ≡ (if count_by (is_at_place t.place) xs == 0 then None else noted_in t.place ps)
     → some_of qs p (xs ++ t ∷ []) ≡ some_of ps p xs ++ record { number = t.id; place = t.place; mode = t.mode; noted = noted } ∷ []
 gained t ps qs p xs fast note kept noted keeps is =
     let there : noted_in t.place qs ≡ note = noted t.place ∙ grind (arith, nat_tests, kept.counted t.place, is) in
-    ap (map (own_of qs)) (filter-append p xs (t ∷ []) ∙ rw keeps refl) ∙ map_push (own_of qs) (filter p xs) t
+    ap (map (with_note qs)) (filter-append p xs (t ∷ []) ∙ rw keeps refl) ∙ map_push (with_note qs) (filter p xs) t
     ∙ (λ k. still_noted t.place ps qs p xs fast kept noted k ++ record { number = t.id; place = t.place; mode = t.mode; noted = there k } ∷ [])
 
 -- ---- the list and the places fit together
@@ -227,17 +227,17 @@ count_pushed p t xs =
     let more : count_by p (xs ++ t ∷ []) ≡ count_by p xs + (0 + cond (p t) 1 0) = sum_by-append (λ (t : Gained). cond (p t) 1 0) xs (t ∷ []) in
     omega (arith, more)
 
-under : (number : ℕ) (ps : List OfPlace) (xs : List Gained) (i : ℕ) (d : Gained) → are_below number (map (own_of ps) xs) ≡ true → i < length xs → (get_or xs i d).id < number
+under : (number : ℕ) (ps : List OfPlace) (xs : List Gained) (i : ℕ) (d : Gained) → are_below_next number (map (with_note ps) xs) ≡ true → i < length xs → (get_or xs i d).id < number
 under number ps [] i d below inside = absurd (omega arith)
 under number ps (x ∷ xs) zero d below inside = grind (arith, nat_tests)
 under number ps (x ∷ xs) (suc i) d below inside = grind (arith, nat_tests, under number ps xs i d)
 
 -- a number above those of both lists is above all
-pub below_all : (number : ℕ) (ps : List OfPlace) (xs : List Gained) → AreRising xs → are_below number (interleaved (slow_of ps xs) (fast_of ps xs)) ≡ true
-    → are_below number (map (own_of ps) xs) ≡ true
+pub below_all : (number : ℕ) (ps : List OfPlace) (xs : List Gained) → AreGainedRising xs → are_below_next number (interleaved (slow_of ps xs) (fast_of ps xs)) ≡ true
+    → are_below_next number (map (with_note ps) xs) ≡ true
 below_all number ps xs rising below = rw (parted ps xs rising) at below
 
-rise_gained : (t : Gained) (ps : List OfPlace) (xs : List Gained) → are_below t.id (map (own_of ps) xs) ≡ true → AreRising xs → AreRising (xs ++ t ∷ [])
+rise_gained : (t : Gained) (ps : List OfPlace) (xs : List Gained) → are_below_next t.id (map (with_note ps) xs) ≡ true → AreGainedRising xs → AreGainedRising (xs ++ t ∷ [])
 rise_gained t ps xs below rising i j d before within =
     let longer = length_push xs t in
     elim (ltb j (length xs)) as (λ b. ltb j (length xs) ≡ b → (get_or (xs ++ t ∷ []) i d).id < (get_or (xs ++ t ∷ []) j d).id) [
@@ -248,25 +248,25 @@ rise_gained t ps xs below rising i j d before within =
     ] refl
 
 -- a slow ticket is gained
-pub kept_gain : (t : Gained) (ps qs : List OfPlace) (xs : List Gained) (fast : ℕ) → are_below t.id (map (own_of ps) xs) ≡ true → t.fast ≡ false
+pub kept_gain : (t : Gained) (ps qs : List OfPlace) (xs : List Gained) (fast : ℕ) → are_below_next t.id (map (with_note ps) xs) ≡ true → t.fast ≡ false
     → length qs ≡ length ps → ((q : ℕ) → counted_at q qs ≡ counted_at q ps + (if q == t.place then 1 else 0)) → ((q : ℕ) → fast_counted_at q qs ≡ fast_counted_at q ps)
     → AreKept xs ps fast → AreKept (xs ++ t ∷ []) qs fast
 kept_gain t ps qs xs fast below slow long counts fasts kept = record {
   rising = rise_gained t ps xs below kept.rising;
-  counted = λ q. grind (arith, nat_tests, count_pushed (is_there q) t xs, counts q, kept.counted q);
+  counted = λ q. grind (arith, nat_tests, count_pushed (is_at_place q) t xs, counts q, kept.counted q);
   fast_counted = λ q. grind (arith, nat_tests, count_pushed (is_fast_there q) t xs, slow, fasts q, kept.fast_counted q);
   all_fast = grind (arith, nat_tests, count_pushed (λ u. u.fast) t xs, slow, kept.all_fast);
   narrow = rw long kept.narrow;
 }
 
 -- a fast one
-pub kept_gain_fast : (t : Gained) (ps qs : List OfPlace) (xs : List Gained) (fast : ℕ) → are_below t.id (map (own_of ps) xs) ≡ true → t.fast ≡ true
+pub kept_gain_fast : (t : Gained) (ps qs : List OfPlace) (xs : List Gained) (fast : ℕ) → are_below_next t.id (map (with_note ps) xs) ≡ true → t.fast ≡ true
     → length qs ≡ length ps → ((q : ℕ) → counted_at q qs ≡ counted_at q ps + (if q == t.place then 1 else 0))
     → ((q : ℕ) → fast_counted_at q qs ≡ fast_counted_at q ps + (if q == t.place then 1 else 0))
     → AreKept xs ps fast → AreKept (xs ++ t ∷ []) qs (fast + 1)
 kept_gain_fast t ps qs xs fast below is long counts fasts kept = record {
   rising = rise_gained t ps xs below kept.rising;
-  counted = λ q. grind (arith, nat_tests, count_pushed (is_there q) t xs, counts q, kept.counted q);
+  counted = λ q. grind (arith, nat_tests, count_pushed (is_at_place q) t xs, counts q, kept.counted q);
   fast_counted = λ q. grind (arith, nat_tests, count_pushed (is_fast_there q) t xs, is, fasts q, kept.fast_counted q);
   all_fast = grind (arith, nat_tests, count_pushed (λ u. u.fast) t xs, is, kept.all_fast);
   narrow = rw long kept.narrow;
@@ -293,7 +293,7 @@ pub kept_mode : (ps : List OfPlace) (xs : List Gained) (fast : ℕ) (at : ℕ) (
 kept_mode ps xs fast at t mode inside is kept = record {
   rising = λ i j d before within.
       rw (same_id xs at i t d mode is) (rw (same_id xs at j t d mode is) (kept.rising i j d before (rw (length-set xs at (record t { mode = mode })) at within)));
-  counted = λ q. kept.counted q ∙ sym (count_mode (is_there q) xs at t mode inside is refl);
+  counted = λ q. kept.counted q ∙ sym (count_mode (is_at_place q) xs at t mode inside is refl);
   fast_counted = λ q. kept.fast_counted q ∙ sym (count_mode (is_fast_there q) xs at t mode inside is refl);
   all_fast = kept.all_fast ∙ sym (count_mode (λ u. u.fast) xs at t mode inside is refl);
   narrow = kept.narrow;
@@ -307,7 +307,7 @@ count_struck p xs at d inside = sum_by-remove (λ (t : Gained). cond (p t) 1 0) 
 pub has_one : (p : Gained → Bool) (xs : List Gained) (at : ℕ) (d : Gained) → at < length xs → p (get_or xs at d) ≡ true → 0 < count_by p xs
 has_one p xs at d inside is = rw (← count_struck p xs at d inside) (rw is (omega arith))
 
-rise_struck : (xs : List Gained) (at : ℕ) → at < length xs → AreRising xs → AreRising (remove xs at)
+rise_struck : (xs : List Gained) (at : ℕ) → at < length xs → AreGainedRising xs → AreGainedRising (remove xs at)
 rise_struck xs at inside rising i j d before within =
     let shorter = length-remove xs at inside in
     elim (ltb j at) as (λ b. ltb j at ≡ b → (get_or (remove xs at) i d).id < (get_or (remove xs at) j d).id) [
@@ -327,7 +327,7 @@ pub kept_strike : (place : ℕ) (ps qs : List OfPlace) (xs : List Gained) (fast 
     → AreKept xs ps fast → AreKept (remove xs at) qs fast
 kept_strike place ps qs xs fast at d inside there slow long counts fasts kept = record {
   rising = rise_struck xs at inside kept.rising;
-  counted = λ q. grind (arith, nat_tests, count_struck (is_there q) xs at d inside, there, counts q, kept.counted q);
+  counted = λ q. grind (arith, nat_tests, count_struck (is_at_place q) xs at d inside, there, counts q, kept.counted q);
   fast_counted = λ q. grind (arith, nat_tests, count_struck (is_fast_there q) xs at d inside, slow, fasts q, kept.fast_counted q);
   all_fast = grind (arith, nat_tests, count_struck (λ u. u.fast) xs at d inside, slow, kept.all_fast);
   narrow = rw long kept.narrow;
@@ -339,7 +339,7 @@ pub kept_strike_fast : (place : ℕ) (ps qs : List OfPlace) (xs : List Gained) (
     → AreKept xs ps fast → AreKept (remove xs at) qs (fast - 1)
 kept_strike_fast place ps qs xs fast at d inside there is long counts fasts kept = record {
   rising = rise_struck xs at inside kept.rising;
-  counted = λ q. grind (arith, nat_tests, count_struck (is_there q) xs at d inside, there, counts q, kept.counted q);
+  counted = λ q. grind (arith, nat_tests, count_struck (is_at_place q) xs at d inside, there, counts q, kept.counted q);
   fast_counted = λ q. grind (arith, nat_tests, count_struck (is_fast_there q) xs at d inside, there, is, fasts q, kept.fast_counted q);
   all_fast = grind (arith, nat_tests, count_struck (λ u. u.fast) xs at d inside, is, kept.all_fast);
   narrow = rw long kept.narrow;
@@ -347,9 +347,9 @@ kept_strike_fast place ps qs xs fast at d inside there is long counts fasts kept
 
 -- ---- the tickets are told
 
-pub told : (ps : List OfPlace) (xs : List Gained) → map told_of (map (own_of ps) xs) ≡ map (λ t. told_of (own_of [] t)) xs
+pub told : (ps : List OfPlace) (xs : List Gained) → map as_held (map (with_note ps) xs) ≡ map (λ t. as_held (with_note [] t)) xs
 told ps [] = refl
-told ps (x ∷ xs) = ap (λ ts. told_of (own_of [] x) ∷ ts) (told ps xs)
+told ps (x ∷ xs) = ap (λ ts. as_held (with_note [] x) ∷ ts) (told ps xs)
 
 -- ---- tickets are made slow
 
@@ -359,9 +359,9 @@ same_numbers place (x ∷ xs) zero d inside = refl
 same_numbers place (x ∷ xs) (suc i) d inside = same_numbers place xs i d (omega (arith, inside))
 
 -- as many are at each place as before
-count_slowed : (place q : ℕ) (xs : List Gained) → count_by (is_there q) (map (slowed place) xs) ≡ count_by (is_there q) xs
+count_slowed : (place q : ℕ) (xs : List Gained) → count_by (is_at_place q) (map (slowed place) xs) ≡ count_by (is_at_place q) xs
 count_slowed place q [] = refl
-count_slowed place q (x ∷ xs) = counted (is_there q) (slowed place x) (map (slowed place) xs) ∙ ap (λ n. cond (x.place == q) 1 0 + n) (count_slowed place q xs) ∙ sym (counted (is_there q) x xs)
+count_slowed place q (x ∷ xs) = counted (is_at_place q) (slowed place x) (map (slowed place) xs) ∙ ap (λ n. cond (x.place == q) 1 0 + n) (count_slowed place q xs) ∙ sym (counted (is_at_place q) x xs)
 
 -- no fast one at this
 fast_slowed : (place q : ℕ) (xs : List Gained) → count_by (is_fast_there q) xs ≡ count_by (is_fast_there q) (map (slowed place) xs) + (if q == place then count_by (is_fast_there place) xs else 0)

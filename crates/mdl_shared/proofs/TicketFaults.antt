@@ -15,8 +15,8 @@ use Rattle.mdl_steps.specs.declared.view.Own.{Own}
 use Rattle.mdl_calls.specs.SessionData.{Knows}
 use Rattle.mdl_visits.specs.Numbers.{numbered}
 use Rattle.mdl_shared.specs.Members.{kind_known}
-use Rattle.mdl_shared.specs.Modes.{downgrade_fault, is_fit, may_merge, merge_fault}
-use Rattle.mdl_shared.specs.OwnLists.{told_of}
+use Rattle.mdl_shared.specs.Modes.{can_merge, downgrade_fault, is_fit, merge_fault}
+use Rattle.mdl_shared.specs.OwnLists.{as_held}
 use Rattle.mdl_shared.specs.SessionViews.{SessionView, data_of, tickets_seen}
 use Rattle.mdl_shared.specs.Upgrades.{can_have, upgrade_fault}
 use Rattle.mdl_shared.proofs.Faults.{test-failed, test-passed}
@@ -69,7 +69,7 @@ upgrade-kind mode known asks o t its e short =
         (kind, is, parts.1, rises kind t.mode mode (ap (λ b. b || may_upgrade t.mode mode) (sym short) ∙ parts.0), no-asks asks 0 (waits-asks asks 0 ∙ clear.1))
 
 -- whether two tickets may be merged, as they are told
-merge-told : (kept gone : Own) → may_merge_told (told_of kept) (told_of gone) ≡ may_merge kept gone
+merge-told : (kept gone : Own) → may_merge_told (as_held kept) (as_held gone) ≡ can_merge kept gone
 merge-told kept gone = and-same (not (kept.number == gone.number)) (kept.place == gone.place) (covers gone.mode kept.mode)
   where
     and-same : (x y z : Bool) → (x && y && z) ≡ (x && (y && z))
@@ -90,11 +90,11 @@ pub merge-passed : (kept gone : Own) (asks : Option Ask) → merge_fault (Some k
     → (kept.number ≢ gone.number) × (kept.place ≡ gone.place) × (covers gone.mode kept.mode ≡ true)
 merge-passed kept gone asks e = by (is_some asks) e
   where
-    by : (waits : Bool) → (if waits then Some AlreadyWaiting else (if may_merge kept gone then None else Some BadMode)) ≡ None
+    by : (waits : Bool) → (if waits then Some AlreadyWaiting else (if can_merge kept gone then None else Some BadMode)) ≡ None
         → (kept.number ≢ gone.number) × (kept.place ≡ gone.place) × (covers gone.mode kept.mode ≡ true)
     by true e = cc
     by false e =
-        let may = test-passed (may_merge kept gone) BadMode e in
+        let may = test-passed (can_merge kept gone) BadMode e in
         let parts = and_parts (not (kept.number == gone.number)) (kept.place == gone.place && covers gone.mode kept.mode) may in
         let rest = and_parts (kept.place == gone.place) (covers gone.mode kept.mode) parts.1 in
         (λ same. false≢true (ap not (sym (eq-eqb kept.number gone.number same)) ∙ parts.0), eqb-true kept.place gone.place rest.0, rest.1)
@@ -129,7 +129,7 @@ module _ (m : SessionView) where
       fit-known t.place mode m.me.0.known false (other-false (may_downgrade t.mode mode) (is_fit t.place mode m.me.0.known) b.0 may)))
 
   -- an upgrade
-  may-have : (mode : Mode) (t : Own) → can_have mode t (kind_known t.place m.me.0.known) ≡ true → MayUpgrade knows mode (told_of t)
+  may-have : (mode : Mode) (t : Own) → can_have mode t (kind_known t.place m.me.0.known) ≡ true → MayUpgrade knows mode (as_held t)
   may-have mode t can = (
     some-kind (kind_known t.place m.me.0.known) can,
     λ key is. (and_parts (covers t.mode mode || may_upgrade t.mode mode) (is_mode_of (kind_of key.namespace) mode)
@@ -140,7 +140,7 @@ module _ (m : SessionView) where
       some-kind None e = cc
       some-kind (Some kind) e = (and_parts (covers t.mode mode || may_upgrade t.mode mode) (is_mode_of kind mode) e).0
 
-  may-not_have : (mode : Mode) (t : Own) → can_have mode t (kind_known t.place m.me.0.known) ≡ false → MayNotUpgrade knows mode (told_of t)
+  may-not_have : (mode : Mode) (t : Own) → can_have mode t (kind_known t.place m.me.0.known) ≡ false → MayNotUpgrade knows mode (as_held t)
   may-not_have mode t can = λ may key is.
       other-false (covers t.mode mode || may_upgrade t.mode mode) (is_mode_of (kind_of key.namespace) mode)
       (subst (λ o. can_have mode t o ≡ false) (kind-of_key t.place m.me.0.known key is) can) may
@@ -173,19 +173,19 @@ module _ (m : SessionView) where
 
   -- a merge
   mergeable : (old new : ℕ) (kept gone : Own) (b : Bool) → numbered old (tickets_seen m.me.0) ≡ Some kept → numbered new (tickets_seen m.me.0) ≡ Some gone
-      → may_merge kept gone ≡ b → Mergeable b old new own
+      → can_merge kept gone ≡ b → Mergeable b old new own
   mergeable old new kept gone b one other may =
       of-held old (tickets_seen m.me.0) kept (λ k. OfHeld new own (λ g. may_merge_told k g ≡ b)) one
-      (of-held new (tickets_seen m.me.0) gone (λ g. may_merge_told (told_of kept) g ≡ b) other (merge-told kept gone ∙ may))
+      (of-held new (tickets_seen m.me.0) gone (λ g. may_merge_told (as_held kept) g ≡ b) other (merge-told kept gone ∙ may))
 
   pub merge-clear : (old new : ℕ) (kept gone : Own) → numbered old (tickets_seen m.me.0) ≡ Some kept → numbered new (tickets_seen m.me.0) ≡ Some gone
       → merge_fault (Some kept) (Some gone) m.me.0.asks ≡ None → (is_waiting own ≡ false) × Mergeable true old new own
   merge-clear old new kept gone one other e = by (is_some m.me.0.asks) refl e
     where
-      by : (waits : Bool) → is_some m.me.0.asks ≡ waits → (if waits then Some AlreadyWaiting else (if may_merge kept gone then None else Some BadMode)) ≡ None
+      by : (waits : Bool) → is_some m.me.0.asks ≡ waits → (if waits then Some AlreadyWaiting else (if can_merge kept gone then None else Some BadMode)) ≡ None
           → (is_waiting own ≡ false) × Mergeable true old new own
       by true asks e = cc
-      by false asks e = (waits-asks m.me.0.asks m.me.0.waits ∙ asks, mergeable old new kept gone true one other (test-passed (may_merge kept gone) BadMode e))
+      by false asks e = (waits-asks m.me.0.asks m.me.0.waits ∙ asks, mergeable old new kept gone true one other (test-passed (can_merge kept gone) BadMode e))
 
   pub merge-cause : (who old new : ℕ) (why : SpaceError) (o p : Option Own) → numbered old (tickets_seen m.me.0) ≡ o → numbered new (tickets_seen m.me.0) ≡ p
       → merge_fault o p m.me.0.asks ≡ Some why → IsCause knows (Merge who old new) why own
@@ -197,13 +197,13 @@ module _ (m : SessionView) where
       subst (λ w. IsCause knows (Merge who old new) w own) (sym is) (and_right (holds old own) _ (holds-told new (tickets_seen m.me.0) false (ap is_some other)))
   merge-cause who old new why (Some kept) (Some gone) one other e = by (is_some m.me.0.asks) refl e
     where
-      by : (waits : Bool) → is_some m.me.0.asks ≡ waits → (if waits then Some AlreadyWaiting else (if may_merge kept gone then None else Some BadMode)) ≡ Some why
+      by : (waits : Bool) → is_some m.me.0.asks ≡ waits → (if waits then Some AlreadyWaiting else (if can_merge kept gone then None else Some BadMode)) ≡ Some why
           → IsCause knows (Merge who old new) why own
       by true asks e =
           let is : why ≡ AlreadyWaiting = cc in
           subst (λ w. IsCause knows (Merge who old new) w own) (sym is)
           (and_from _ _ (holds-told old (tickets_seen m.me.0) true (ap is_some one)) (holds-told new (tickets_seen m.me.0) true (ap is_some other)), waits-asks m.me.0.asks m.me.0.waits ∙ asks)
       by false asks e =
-          let b = test-failed (may_merge kept gone) BadMode why e in
+          let b = test-failed (can_merge kept gone) BadMode why e in
           subst (λ w. IsCause knows (Merge who old new) w own) (sym b.1)
           (waits-asks m.me.0.asks m.me.0.waits ∙ asks, mergeable old new kept gone false one other b.0)

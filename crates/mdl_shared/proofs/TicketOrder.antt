@@ -22,28 +22,28 @@ use Rattle.mdl_steps.proofs.Views.{by_bool}
 use Rattle.mdl_visits.specs.Numbers.{is_no_number, numbered}
 use Rattle.mdl_shared.specs.Members.{are_counted, increment_at, without_at}
 use Rattle.mdl_shared.specs.Modes.{in_mode_at}
-use Rattle.mdl_shared.specs.OwnLists.{told_of}
+use Rattle.mdl_shared.specs.OwnLists.{as_held}
 use Rattle.mdl_shared.specs.SessionViews.{tickets_seen}
-use Rattle.mdl_shared.specs.Waitings.{are_below}
+use Rattle.mdl_shared.specs.Waitings.{are_below_next}
 
 -- ---- tests of numbers, as they are said of lists
 
-below-each : (number : ℕ) (tickets : List Own) → are_below number tickets ≡ true → Each (λ (t : Own). t.number < number) tickets
+below-each : (number : ℕ) (tickets : List Own) → are_below_next number tickets ≡ true → Each (λ (t : Own). t.number < number) tickets
 below-each number [] all = tt
 below-each number (t ∷ ts) all =
-    let parts = and_parts (nat_lt t.number number) (are_below number ts) all in (ltb-true t.number number parts.0, below-each number ts parts.1)
+    let parts = and_parts (nat_lt t.number number) (are_below_next number ts) all in (ltb-true t.number number parts.0, below-each number ts parts.1)
 
-rising-above : (t : Own) (tickets : List Own) → list_all (λ (h : Held). nat_lt t.number h.id) (map told_of tickets) ≡ true → Each (λ (u : Own). t.number < u.number) tickets
+rising-above : (t : Own) (tickets : List Own) → list_all (λ (h : Held). nat_lt t.number h.id) (map as_held tickets) ≡ true → Each (λ (u : Own). t.number < u.number) tickets
 rising-above t [] all = tt
 rising-above t (u ∷ us) all =
-    let parts = and_parts (nat_lt t.number u.number) (list_all (λ (h : Held). nat_lt t.number h.id) (map told_of us)) all in
+    let parts = and_parts (nat_lt t.number u.number) (list_all (λ (h : Held). nat_lt t.number h.id) (map as_held us)) all in
     (ltb-true t.number u.number parts.0, rising-above t us parts.1)
 
 -- tickets whose numbers rise as they are told
-pub rising-told : (tickets : List Own) → are_rising (map told_of tickets) ≡ true → Rising tickets
+pub rising-told : (tickets : List Own) → are_rising (map as_held tickets) ≡ true → Rising tickets
 rising-told [] rising = tt
 rising-told (t ∷ ts) rising =
-    let parts = and_parts (list_all (λ (h : Held). nat_lt t.number h.id) (map told_of ts)) (are_rising (map told_of ts)) rising in
+    let parts = and_parts (list_all (λ (h : Held). nat_lt t.number h.id) (map as_held ts)) (are_rising (map as_held ts)) rising in
     (rising-above t ts parts.0, rising-told ts parts.1)
 
 -- a ticket among others has none of their numbers
@@ -106,7 +106,7 @@ does-alone place ds v none =
 
 -- where a ticket is gained no fast one is at its place, and its number is above all; one that changes, or goes, has another number than each of the fast ones
 abbrev pub LeavesFast : ℕ → Deed → List Own → List Own → Type 0
-LeavesFast place (Gain number mode) slow fast = (own_at place fast ≡ []) × (are_below number (interleaved slow fast) ≡ true)
+LeavesFast place (Gain number mode) slow fast = (own_at place fast ≡ []) × (are_below_next number (interleaved slow fast) ≡ true)
 LeavesFast place (Alter number mode) slow fast = is_no_number number fast ≡ true
 LeavesFast place (Lose number) slow fast = is_no_number number fast ≡ true
 
@@ -201,7 +201,7 @@ all-owned-slow place (d ∷ ds) slow fast rising leaves =
 -- ---- changes of the fast tickets
 
 -- a new one is the last of all
-pub gained-fast : (t : Own) (slow fast : List Own) → are_below t.number (interleaved slow fast) ≡ true → interleaved slow (fast ++ t ∷ []) ≡ interleaved slow fast ++ t ∷ []
+pub gained-fast : (t : Own) (slow fast : List Own) → are_below_next t.number (interleaved slow fast) ≡ true → interleaved slow (fast ++ t ∷ []) ≡ interleaved slow fast ++ t ∷ []
 gained-fast t slow fast below =
     let parts = each-uninterleaved (λ (u : Own). u.number < t.number) slow fast (below-each t.number (interleaved slow fast) below) in
     interleaved-push_fast t slow fast parts.0 parts.1

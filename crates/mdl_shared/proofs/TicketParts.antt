@@ -17,7 +17,7 @@ use Rattle.mdl_steps.proofs.Interleaving.{inserted-first, interleaved-cons}
 use Rattle.mdl_steps.proofs.Views.{by_bool, other}
 use Rattle.mdl_shared.specs.declared.tickets.Gained.{Gained}
 use Rattle.mdl_shared.specs.declared.tickets.OfPlace.{OfPlace}
-use Rattle.mdl_shared.specs.OwnTickets.{AreKept, AreRising, fast_counted_at, fast_of, has_fast, is_fast_there, is_there, noted_in, own_of, slow_of, slowed}
+use Rattle.mdl_shared.specs.OwnTickets.{AreGainedRising, AreKept, fast_counted_at, fast_of, has_fast, is_at_place, is_fast_there, noted_in, slow_of, slowed, with_note}
 use Rattle.mdl_shared.proofs.TicketSearch.{no_ticket}
 
 abbrev pub no_place : OfPlace
@@ -25,9 +25,9 @@ no_place = record { tickets = 0; fast = 0; noted = None; owes = false }
 
 -- those of the tickets that pass a test, with their notes
 abbrev pub some_of : List OfPlace → (Gained → Bool) → List Gained → List Own
-some_of ps p xs = map (own_of ps) (filter p xs)
+some_of ps p xs = map (with_note ps) (filter p xs)
 
-pub later_rise : (x : Gained) (xs : List Gained) → AreRising (x ∷ xs) → AreRising xs
+pub later_rise : (x : Gained) (xs : List Gained) → AreGainedRising (x ∷ xs) → AreGainedRising xs
 later_rise x xs rising i j d before inside = rising (suc i) (suc j) d (omega (arith, before)) (omega (arith, inside))
 
 -- what each number is above is below the numbers of those that a test keeps
@@ -40,24 +40,24 @@ above_number ps p n (x ∷ xs) each =
     (λ left. rw left later)
 
 -- the later ones have greater numbers than the first
-above : (ps : List OfPlace) (p : Gained → Bool) (x : Gained) (xs : List Gained) → AreRising (x ∷ xs) → Each (λ (u : Own). x.id < u.number) (some_of ps p xs)
+above : (ps : List OfPlace) (p : Gained → Bool) (x : Gained) (xs : List Gained) → AreGainedRising (x ∷ xs) → Each (λ (u : Own). x.id < u.number) (some_of ps p xs)
 above ps p x xs rising = above_number ps p x.id xs (λ k inside. rising 0 (suc k) no_ticket (omega arith) (omega (arith, inside)))
 
 -- a ticket comes before later ones of both lists, whichever it is in
-before_slow : (ps : List OfPlace) (p q : Gained → Bool) (x : Gained) (xs : List Gained) → AreRising (x ∷ xs)
-    → interleaved (own_of ps x ∷ some_of ps p xs) (some_of ps q xs) ≡ own_of ps x ∷ interleaved (some_of ps p xs) (some_of ps q xs)
-before_slow ps p q x xs rising = interleaved-cons (own_of ps x) (some_of ps p xs) (some_of ps q xs) (above ps q x xs rising)
+before_slow : (ps : List OfPlace) (p q : Gained → Bool) (x : Gained) (xs : List Gained) → AreGainedRising (x ∷ xs)
+    → interleaved (with_note ps x ∷ some_of ps p xs) (some_of ps q xs) ≡ with_note ps x ∷ interleaved (some_of ps p xs) (some_of ps q xs)
+before_slow ps p q x xs rising = interleaved-cons (with_note ps x) (some_of ps p xs) (some_of ps q xs) (above ps q x xs rising)
 
-before_fast : (ps : List OfPlace) (p q : Gained → Bool) (x : Gained) (xs : List Gained) → AreRising (x ∷ xs)
-    → interleaved (some_of ps p xs) (own_of ps x ∷ some_of ps q xs) ≡ own_of ps x ∷ interleaved (some_of ps p xs) (some_of ps q xs)
+before_fast : (ps : List OfPlace) (p q : Gained → Bool) (x : Gained) (xs : List Gained) → AreGainedRising (x ∷ xs)
+    → interleaved (some_of ps p xs) (with_note ps x ∷ some_of ps q xs) ≡ with_note ps x ∷ interleaved (some_of ps p xs) (some_of ps q xs)
 before_fast ps p q x xs rising =
-    ap (λ us. interleaved us (some_of ps q xs)) (inserted-first (own_of ps x) (some_of ps p xs) (above ps p x xs rising)) ∙ before_slow ps p q x xs rising
+    ap (λ us. interleaved us (some_of ps q xs)) (inserted-first (with_note ps x) (some_of ps p xs) (above ps p x xs rising)) ∙ before_slow ps p q x xs rising
 
 -- both together are the list
-pub parted : (ps : List OfPlace) (xs : List Gained) → AreRising xs → interleaved (slow_of ps xs) (fast_of ps xs) ≡ map (own_of ps) xs
+pub parted : (ps : List OfPlace) (xs : List Gained) → AreGainedRising xs → interleaved (slow_of ps xs) (fast_of ps xs) ≡ map (with_note ps) xs
 parted ps [] rising = refl
 parted ps (x ∷ xs) rising =
-    let later = ap (λ us. own_of ps x ∷ us) (parted ps xs (later_rise x xs rising)) in
+    let later = ap (λ us. with_note ps x ∷ us) (parted ps xs (later_rise x xs rising)) in
     by_bool x.fast
     (λ fast. rw fast (before_fast ps (λ t. not t.fast) (λ t. t.fast) x xs rising ∙ later))
     (λ slow. rw slow (before_slow ps (λ t. not t.fast) (λ t. t.fast) x xs rising ∙ later))
@@ -71,29 +71,29 @@ counted p x xs =
     omega (arith, both)
 
 -- those at a place are picked by a further test
-pub there : (place : ℕ) (ps : List OfPlace) (p : Gained → Bool) (xs : List Gained) → own_at place (some_of ps p xs) ≡ some_of ps (λ t. p t && is_there place t) xs
+pub there : (place : ℕ) (ps : List OfPlace) (p : Gained → Bool) (xs : List Gained) → own_at place (some_of ps p xs) ≡ some_of ps (λ t. p t && is_at_place place t) xs
 there place ps p [] = refl
 there place ps p (x ∷ xs) = by_bool (p x)
     (λ kept. by_bool (x.place == place)
-    (λ here. rw (kept, here) (ap (λ us. own_of ps x ∷ us) (there place ps p xs)))
+    (λ here. rw (kept, here) (ap (λ us. with_note ps x ∷ us) (there place ps p xs)))
     (λ away. rw (kept, away) (there place ps p xs)))
     (λ left. rw left (there place ps p xs))
 
-count_there : (place : ℕ) (ps : List OfPlace) (p : Gained → Bool) (xs : List Gained) → length (own_at place (some_of ps p xs)) ≡ count_by (λ t. p t && is_there place t) xs
+count_there : (place : ℕ) (ps : List OfPlace) (p : Gained → Bool) (xs : List Gained) → length (own_at place (some_of ps p xs)) ≡ count_by (λ t. p t && is_at_place place t) xs
 count_there place ps p xs =
-    ap length (there place ps p xs) ∙ length-map (filter (λ t. p t && is_there place t) xs) (own_of ps) ∙ length-filter (λ t. p t && is_there place t) xs
+    ap length (there place ps p xs) ∙ length-map (filter (λ t. p t && is_at_place place t) xs) (with_note ps) ∙ length-filter (λ t. p t && is_at_place place t) xs
 
 -- how many fast tickets there are
 pub fast_there : (place : ℕ) (ps : List OfPlace) (xs : List Gained) → length (own_at place (fast_of ps xs)) ≡ count_by (is_fast_there place) xs
 fast_there place ps xs = count_there place ps (λ t. t.fast) xs
 
 -- with the slow ones they are all
-both_there : (place : ℕ) (xs : List Gained) → count_by (is_fast_there place) xs + count_by (λ t. not t.fast && is_there place t) xs ≡ count_by (is_there place) xs
+both_there : (place : ℕ) (xs : List Gained) → count_by (is_fast_there place) xs + count_by (λ t. not t.fast && is_at_place place t) xs ≡ count_by (is_at_place place) xs
 both_there place [] = refl
 both_there place (x ∷ xs) =
-    let more = counted (is_there place) x xs in
+    let more = counted (is_at_place place) x xs in
     let fast = counted (is_fast_there place) x xs in
-    let slow = counted (λ t. not t.fast && is_there place t) x xs in
+    let slow = counted (λ t. not t.fast && is_at_place place t) x xs in
     grind (arith, nat_tests, more, fast, slow, both_there place xs)
 
 -- ---- notes
@@ -126,7 +126,7 @@ first_alike (Some version) (t ∷ ts) alike = rw (alike.0, not_none (length ts))
 
 -- the note of a place, where tickets are
 pub first_there : (place : ℕ) (ps : List OfPlace) (xs : List Gained)
-    → first_note (own_at place (fast_of ps xs) ++ own_at place (slow_of ps xs)) ≡ (if count_by (is_there place) xs == 0 then None else noted_in place ps)
+    → first_note (own_at place (fast_of ps xs) ++ own_at place (slow_of ps xs)) ≡ (if count_by (is_at_place place) xs == 0 then None else noted_in place ps)
 first_there place ps xs =
     let fast : List Own = own_at place (fast_of ps xs) in
     let slow : List Own = own_at place (slow_of ps xs) in
@@ -135,7 +135,7 @@ first_there place ps xs =
     let slows = count_there place ps (λ t. not t.fast) xs in
     let all = both_there place xs in
     let long = length-append fast slow in
-    let same : length (fast ++ slow) ≡ count_by (is_there place) xs = omega (arith, long, fasts, slows, all) in
+    let same : length (fast ++ slow) ≡ count_by (is_at_place place) xs = omega (arith, long, fasts, slows, all) in
     first_alike (noted_in place ps) (fast ++ slow) alike ∙ ap (λ n. if n == 0 then None else noted_in place ps) same
 
 -- the note of the first ticket at a place, where all there have the same one
@@ -148,26 +148,26 @@ note_alike place version (t ∷ ts) alike = by_bool (t.place == place)
 
 -- where no fast ticket is at a place, it is the note under the slow ones
 pub note_slow : (place : ℕ) (ps : List OfPlace) (xs : List Gained) → own_at place (fast_of ps xs) ≡ []
-    → note_at place (slow_of ps xs) ≡ (if count_by (is_there place) xs == 0 then None else noted_in place ps)
+    → note_at place (slow_of ps xs) ≡ (if count_by (is_at_place place) xs == 0 then None else noted_in place ps)
 note_slow place ps xs none =
     let slow : List Own = own_at place (slow_of ps xs) in
     let fasts = sym (fast_there place ps xs) ∙ ap length none in
     let slows = count_there place ps (λ t. not t.fast) xs in
     let all = both_there place xs in
-    let same : length slow ≡ count_by (is_there place) xs = omega (arith, fasts, slows, all) in
+    let same : length slow ≡ count_by (is_at_place place) xs = omega (arith, fasts, slows, all) in
     note_alike place (noted_in place ps) (slow_of ps xs) (noted_there place ps (λ t. not t.fast) xs) ∙ ap (λ n. if n == 0 then None else noted_in place ps) same
 
 -- ---- made slow
 
 -- the fast tickets at a place are put among the slow ones
-pub made_slow : (place : ℕ) (ps : List OfPlace) (xs : List Gained) → AreRising xs
+pub made_slow : (place : ℕ) (ps : List OfPlace) (xs : List Gained) → AreGainedRising xs
     → slow_of ps (map (slowed place) xs) ≡ interleaved (slow_of ps xs) (own_at place (fast_of ps xs))
 made_slow place ps xs rising = slow xs rising ∙ ap (interleaved (slow_of ps xs)) (sym (there place ps (λ t. t.fast) xs))
   where
-    slow : (ts : List Gained) → AreRising ts → slow_of ps (map (slowed place) ts) ≡ interleaved (slow_of ps ts) (some_of ps (is_fast_there place) ts)
+    slow : (ts : List Gained) → AreGainedRising ts → slow_of ps (map (slowed place) ts) ≡ interleaved (slow_of ps ts) (some_of ps (is_fast_there place) ts)
     slow [] rising = refl
     slow (t ∷ ts) rising =
-        let later = ap (λ us. own_of ps t ∷ us) (slow ts (later_rise t ts rising)) in
+        let later = ap (λ us. with_note ps t ∷ us) (slow ts (later_rise t ts rising)) in
         by_bool (t.place == place)
         (λ here. by_bool t.fast
         (λ fast. rw (fast, here) (later ∙ sym (before_fast ps (λ u. not u.fast) (is_fast_there place) t ts rising)))
@@ -184,7 +184,7 @@ stay_fast place ps (x ∷ xs) =
     by_bool x.fast
     (λ fast. by_bool (x.place == place)
     (λ here. rw (fast, here) later)
-    (λ away. rw (fast, away) (ap (λ us. own_of ps x ∷ us) later)))
+    (λ away. rw (fast, away) (ap (λ us. with_note ps x ∷ us) later)))
     (λ slow. rw slow later)
 
 -- ---- none is fast

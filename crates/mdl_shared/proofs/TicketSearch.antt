@@ -10,7 +10,7 @@ use Rattle.std.proofs.lemmas.Bool.Decides.{nat_tests}
 use Rattle.mdl_key.specs.declared.mode.Mode.TheVariants.{IX}
 use Rattle.mdl_shared.specs.declared.tickets.Gained.{Gained}
 use Rattle.mdl_steps.specs.Deeds.{is_own}
-use Rattle.mdl_shared.specs.OwnTickets.{AreRising, StandsAt, own_of}
+use Rattle.mdl_shared.specs.OwnTickets.{AreGainedRising, StandsAt, with_note}
 
 abbrev pub no_ticket : Gained
 no_ticket = record { id = 0; place = 0; mode = IX; fast = false }
@@ -19,7 +19,7 @@ pub each_at : {A : Type 0} (p : A → Bool) (d : A) (xs : List A) → ((k : ℕ)
 each_at p d [] each = refl
 each_at p d (x ∷ xs) each = rw (each 0 (omega arith)) (each_at p d xs (λ k inside. each (suc k) (omega arith)))
 
-module _ (xs : List Gained) (rising : AreRising xs) (id : ℕ) where
+module _ (xs : List Gained) (rising : AreGainedRising xs) (id : ℕ) where
   comparisons_rise : IsNonDecreasingBy (λ ticket. ordering_index (nat_cmp ticket.id id)) xs
   comparisons_rise i j d le inside =
       let numbers_rise : (get_or xs i d).id ≤ (get_or xs j d).id = grind (arith, rising i j d, λ (same : i ≡ j). ap (λ k. (get_or xs k d).id) same) in
@@ -36,13 +36,13 @@ module _ (xs : List Gained) (rising : AreRising xs) (id : ℕ) where
 
   -- the only ticket of the number is elsewhere
   pub elsewhere : (place at : ℕ) (d : Gained) → StandsAt id at xs → ((get_or xs at d).place == place) ≡ false
-      → list_all (λ t. not (is_own place id (own_of [] t))) xs ≡ true
+      → list_all (λ t. not (is_own place id (with_note [] t))) xs ≡ true
   elsewhere place at d stands other = each_at _ d xs (λ k below.
       let one : (get_or xs k d).id ≡ id → k ≡ at = λ same. grind (arith, nat_tests, rising k at d, rising at k d, stands.1 d, stands.0) in
       let there : k ≡ at → ((get_or xs k d).place == place) ≡ false = λ same. subst (λ i. ((get_or xs i d).place == place) ≡ false) (sym same) other in
       grind (arith, nat_tests, one, there))
 
 -- no ticket has the number
-pub nowhere : (place id : ℕ) (xs : List Gained) → list_all (λ t. not (t.id == id)) xs ≡ true → list_all (λ t. not (is_own place id (own_of [] t))) xs ≡ true
+pub nowhere : (place id : ℕ) (xs : List Gained) → list_all (λ t. not (t.id == id)) xs ≡ true → list_all (λ t. not (is_own place id (with_note [] t))) xs ≡ true
 nowhere place id [] none = refl
 nowhere place id (x ∷ xs) none = grind (arith, nat_tests, nowhere place id xs)

@@ -19,12 +19,12 @@ use Rattle.mdl_session_laws.proofs.ReadAfter.{HasLearnt, meets-fits}
 use Rattle.mdl_visits.specs.Numbers.{numbered}
 use Rattle.mdl_visits.specs.Visits.{Does}
 use Rattle.mdl_shared.specs.Members.{IsMember}
-use Rattle.mdl_shared.specs.OwnLists.{told_of}
+use Rattle.mdl_shared.specs.OwnLists.{as_held}
 use Rattle.mdl_shared.specs.SessionViews.{SessionView, data_of, lists_seen, session_at, tickets_seen}
 use Rattle.mdl_shared.specs.ReadSteps.{FindsVersion, MissesVersion, ReadsVersion}
 use Rattle.mdl_shared.specs.TicketLists.{KeepsRoom, Room}
 use Rattle.mdl_shared.proofs.LastReads.{follows-last, is-last, was-read}
-use Rattle.mdl_shared.proofs.Members.{HasDone, in-order}
+use Rattle.mdl_shared.proofs.Members.{DidDeeds, in-order}
 use Rattle.mdl_shared.proofs.ReadCalls.{HasNoted, NotesAll, last-joins, noted-order, noted-tickets}
 use Rattle.mdl_shared.proofs.SpaceNotes.{noted-in, noted_under, noting-all, noting-elsewhere, noting-told}
 use Rattle.mdl_shared.proofs.SpaceReads.{meets-there, read-last}
@@ -44,7 +44,7 @@ pub version-lists : (seat seat′ : SeatState) (place version : ℕ) → seat′
 version-lists seat seat′ place version made = ap (λ (x : SeatState). lists_seen x.me.0) made
 
 module _ (seat seat′ : SeatState) (sessions : ℕ) {room room′ : Room} (place version : ℕ) (made : seat′ ≡ record seat { me = met_version place version seat.me }) where
-  pub version-done : HasDone 0 [] (session_at seat sessions room) (session_at seat′ sessions room′)
+  pub version-done : DidDeeds 0 [] (session_at seat sessions room) (session_at seat′ sessions room′)
   version-done =
       quietly {seat = seat} {seat′ = seat′} {log = _} {told = seat.me.0.told} {settles = seat.me.0.settles} sessions (ap (λ (x : SeatState). x.table) made)
       (ap (λ (x : SeatState). x.me) made) (λ state told. told) (λ none. refl)
@@ -172,8 +172,8 @@ module _ {place version : ℕ} {s s′ : SessionView} (reads : ReadsVersion plac
 
     learnt-rest : data_of s′ ≡ record (data_of s) { notes = (data_of s′).notes; reads = (data_of s′).reads }
     learnt-rest =
-        let held : map told_of (tickets_seen s′.me.0) ≡ map told_of (tickets_seen s.me.0) =
-        ap (map told_of) (noted-tickets learnt-noted) ∙ noting-told place learnt-found.version (tickets_seen s.me.0) in
+        let held : map as_held (tickets_seen s′.me.0) ≡ map as_held (tickets_seen s.me.0) =
+        ap (map as_held) (noted-tickets learnt-noted) ∙ noting-told place learnt-found.version (tickets_seen s.me.0) in
         λ i. record {
           number = ap (λ (x : SessionView). (data_of x).number) learnt-now i;
           own = record { held = held i; wait = ap (λ (x : SessionView). (data_of x).own.wait) learnt-now i };

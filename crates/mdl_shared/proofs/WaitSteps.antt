@@ -16,7 +16,7 @@ use Rattle.mdl_steps.proofs.Views.{by_bool}
 use Rattle.mdl_visits.specs.Grantings.{StaysTold}
 use Rattle.mdl_visits.specs.Polls.{MeetsWord}
 use Rattle.mdl_visits.specs.Searches.{but_searching}
-use Rattle.mdl_visits.specs.Visits.{Does, IsStepOf, StaysOn, StaysThere, gives_back, raises_flags}
+use Rattle.mdl_visits.specs.Visits.{Does, IsStepOf, StaysOn, StaysThere, gives_back, kind_raises_flags}
 use Rattle.mdl_visits.proofs.Steps.{does_then, each_append}
 use Rattle.mdl_shared.specs.declared.member.Member.{Member}
 use Rattle.mdl_shared.specs.Members.{IsMember}
@@ -25,14 +25,14 @@ use Rattle.mdl_shared.specs.StepSpec.{StepSpec, TakesSteps, gained_by}
 use Rattle.mdl_shared.specs.Steps.{MakesNoStep, StaysFor}
 use Rattle.mdl_shared.specs.TicketLists.{KeepsRoom, Room}
 use Rattle.mdl_shared.proofs.MemberFacts.{speaks}
-use Rattle.mdl_shared.proofs.Members.{HasDone, done-debts, done-nothing, done-order, done-then, kept, same-fast}
+use Rattle.mdl_shared.proofs.Members.{DidDeeds, done-debts, done-nothing, done-order, done-then, kept, same-fast}
 use Rattle.mdl_shared.proofs.Rooms.{keeps-before, keeps-equal, keeps-more}
 use Rattle.mdl_shared.proofs.SameSpace.{joins-still}
 
 -- visits without a deed, after which the session may have no search left to make
 pub quietly-searched : {seat seat′ : SeatState} {log : List Met} {told : Option ℕ} {settles : List Settlement} (sessions : ℕ) {room room′ : Room} → seat′.table ≡ seat.table
     → (but_searching seat seat′).me ≡ (record seat.me.0 { told = told; settles = settles; log = log }, seat.me.1) → StaysTold seat.me.0.told told
-    → (seat.me.0.asks ≡ None → told ≡ seat.me.0.told) → HasDone 0 [] (session_at seat sessions room) (session_at seat′ sessions room′)
+    → (seat.me.0.asks ≡ None → told ≡ seat.me.0.told) → DidDeeds 0 [] (session_at seat sessions room) (session_at seat′ sessions room′)
 quietly-searched {seat = seat} {seat′ = seat′} {log = log} {told = told} {settles = settles} sessions {room′ = room′} table me stays unasked = record {
   slow = seat.me.0.slow;
   fast = seat.me.0.fast;
@@ -53,7 +53,7 @@ quietly-searched {seat = seat} {seat′ = seat′} {log = log} {told = told} {se
 -- a visit without a deed
 pub quietly : {seat seat′ : SeatState} {log : List Met} {told : Option ℕ} {settles : List Settlement} (sessions : ℕ) {room room′ : Room} → seat′.table ≡ seat.table
     → seat′.me ≡ (record seat.me.0 { told = told; settles = settles; log = log }, seat.me.1) → StaysTold seat.me.0.told told
-    → (seat.me.0.asks ≡ None → told ≡ seat.me.0.told) → HasDone 0 [] (session_at seat sessions room) (session_at seat′ sessions room′)
+    → (seat.me.0.asks ≡ None → told ≡ seat.me.0.told) → DidDeeds 0 [] (session_at seat sessions room) (session_at seat′ sessions room′)
 quietly {seat = seat} {seat′ = seat′} sessions table me = quietly-searched {seat = seat} {seat′ = seat′} sessions table (λ i. (record (me i).0 { searches = seat.me.0.searches }, (me i).1))
 
 -- of a session that waits what is told of no wait is so
@@ -61,7 +61,7 @@ pub asked : {P : Type 0} (s : SessionView) → is_some s.me.0.asks ≡ true → 
 asked s waiting none = absurd (false≢true (sym (ap is_some none) ∙ waiting))
 
 -- what is always so of a session stays so where it does no deed
-pub still-member : {place : ℕ} {s s′ : SessionView} → HasDone place [] s s′ → IsMember s → IsMember s′
+pub still-member : {place : ℕ} {s s′ : SessionView} → DidDeeds place [] s s′ → IsMember s → IsMember s′
 still-member {s = s} {s′ = s′} done is =
     kept (Search s.me.0.number) {answer = No_cycle} is (done-order done is (inr refl))
     (joins-still s s′ (Search s.me.0.number) No_cycle (done-nothing done) (speaks is) refl refl refl refl tt tt refl (λ state how met. cc) (λ how told. cc) refl (λ r. r) tt)
@@ -78,7 +78,7 @@ waits-seen m b asks = ap (λ (l : Lists). is_some l.asks) (sym m.lists) ∙ asks
 
 -- it did no deed, and gave nothing up
 pub record Watches (s s′ : SessionView) : Type 0 where
-  pub done : HasDone 0 [] s s′
+  pub done : DidDeeds 0 [] s s′
   pub lists : lists_seen s′.me.0 ≡ lists_seen s.me.0
   pub owes : s′.me.0.owes ≡ s.me.0.owes
   pub searches : s′.me.0.searches ≡ s.me.0.searches
@@ -150,7 +150,7 @@ module _ (kind : StepKind) (session found left : ℕ) (settles : List Settlement
       )
 
   -- and it was the only one
-  pub stays-once : gives_back kind ≡ false → raises_flags kind ≡ false → StaysFor 1 s.me s′.me
+  pub stays-once : gives_back kind ≡ false → kind_raises_flags kind ≡ false → StaysFor 1 s.me s′.me
   stays-once keeps quiet =
       let e : Met = record { kind = kind; deeds = []; word = wait_word s.table.slots session; found = found; held = s.me.0.latches; directory = s.me.0.directory } in
       let one : length (e ∷ []) ≤ 1 = omega arith in
@@ -189,7 +189,7 @@ module _ (kind : StepKind) (session found left : ℕ) (settles : List Settlement
         by (inl same) settled idle = let is : wait_state left ≡ 0 = ap wait_state same ∙ idle in omega (arith, settled, is)
         by (inr odd) settled idle = omega (arith, odd, idle)
 
-    pub watches : gives_back kind ≡ false → raises_flags kind ≡ false → Watches s s′
+    pub watches : gives_back kind ≡ false → kind_raises_flags kind ≡ false → Watches s s′
     watches keeps quiet =
         let e : Met = record { kind = kind; deeds = []; word = wait_word s.table.slots session; found = found; held = s.me.0.latches; directory = s.me.0.directory } in
         let log = ap (λ (x : SessionView). x.me.0.log) now in

@@ -14,15 +14,15 @@ use Rattle.mdl_steps.specs.SeatStates.{AtItsTable, SeatState}
 use Rattle.mdl_steps.specs.WaitPlays.{asking}
 use Rattle.mdl_calls.specs.Meetings.{ReadsNothing}
 use Rattle.mdl_calls.specs.SessionData.{SpeaksFor, Knows, is_known}
-use Rattle.mdl_session_laws.specs.SessionJoins.{Joins, Learns, LetsRead, TellsTruly, ends_wait, gained_at, has_call, met}
+use Rattle.mdl_session_laws.specs.SessionJoins.{Joins, LearnsKeys, LetsRead, TellsTruly, ends_wait, gained_at, session_has_call, wait_met}
 use Rattle.mdl_session_laws.proofs.RefusedCalls.{reads-nothing}
-use Rattle.mdl_visits.specs.WaitOpenings.{Opens, awaiting}
+use Rattle.mdl_visits.specs.WaitOpenings.{Opens, view_awaiting}
 use Rattle.mdl_shared.specs.Members.{IsMember, kind_known, wish_fault}
-use Rattle.mdl_shared.specs.OwnLists.{told_of}
+use Rattle.mdl_shared.specs.OwnLists.{as_held}
 use Rattle.mdl_shared.specs.SessionViews.{SessionView, data_of, session_at, settled_told, tickets_seen}
 use Rattle.mdl_shared.specs.TicketLists.{Room}
 use Rattle.mdl_shared.proofs.MemberFacts.{next-some, nothing-told, speaks}
-use Rattle.mdl_shared.proofs.Members.{HasDone, StaysInOrder, done-next, done-rest, done-tickets}
+use Rattle.mdl_shared.proofs.Members.{DidDeeds, StaysInOrder, done-next, done-rest, done-tickets}
 use Rattle.mdl_shared.proofs.SameSpace.{Stays, joins-held, joins-still, no-asks, numbers_by, own_by, refused, same-stays, waits-asks}
 use Rattle.mdl_shared.proofs.SpaceTickets.{told-last}
 use Rattle.mdl_shared.proofs.TicketCalls.{deed-reads}
@@ -44,14 +44,14 @@ numbers-waited next next′ waits waits′ some n w =
 
 -- ---- one ticket more
 
-pub gain-joins : {s s′ : SessionView} (is : IsMember s) {place id : ℕ} {mode : Mode} → id ≡ s.me.0.next → HasDone place (Gain id mode ∷ []) s s′ → (call : Call)
-    → IfSome (caller call) (SpeaksFor (data_of s)) → has_call call ≡ true → is_answer_of call (Granted id) ≡ true
+pub gain-joins : {s s′ : SessionView} (is : IsMember s) {place id : ℕ} {mode : Mode} → id ≡ s.me.0.next → DidDeeds place (Gain id mode ∷ []) s s′ → (call : Call)
+    → IfSome (caller call) (SpeaksFor (data_of s)) → session_has_call call ≡ true → is_answer_of call (Granted id) ≡ true
     → own_after call (Granted id) (data_of s).own ≡ gaining id place mode (data_of s).own
     → (DrawsTicket id (data_of s).numbers (data_of s′).numbers → Draws call (Granted id) (data_of s).numbers (data_of s′).numbers)
     → IsExplained (Knows (data_of s) s.me.0.number) call (Granted id) (data_of s).own
     → IfSome (gained_at call (Granted id)) (λ place. is_known place (data_of s).known ≡ true)
-    → Learns call (Granted id) (data_of s).known (data_of s).known
-    → ((state : Option Settled) (how : Settled) → met call (Granted id) ≡ Some state → (data_of s).settled ≡ Some how → state ≡ Some how)
+    → LearnsKeys call (Granted id) (data_of s).known (data_of s).known
+    → ((state : Option Settled) (how : Settled) → wait_met call (Granted id) ≡ Some state → (data_of s).settled ≡ Some how → state ≡ Some how)
     → ((how : Settled) → told call (Granted id) ≡ Some how → (data_of s′).settled ≡ Some how)
     → ends_wait call (Granted id) ≡ false
     → (ReadsNothing (data_of s) (data_of s′) → LetsRead call (Granted id) (data_of s) (data_of s′))
@@ -59,8 +59,8 @@ pub gain-joins : {s s′ : SessionView} (is : IsMember s) {place id : ℕ} {mode
 gain-joins {s} {s′} is {place} {id} {mode} first done call mine has fits own draws explained at learns agreed tells ends lets truly =
     let some = next-some is in
     let drawn : id ≡ (s.me.0.next - 1) + 1 = omega arith in
-    joins-held s s′ call (Granted id) (map told_of (tickets_seen s.me.0) ++ record { id = id; place = place; mode = mode } ∷ []) (done-rest done) mine has fits
-    (ap (map told_of) (done-tickets done) ∙ told-last (tickets_seen s.me.0) (record { number = id; place = place; mode = mode; noted = note_at place (tickets_seen s.me.0) })) own
+    joins-held s s′ call (Granted id) (map as_held (tickets_seen s.me.0) ++ record { id = id; place = place; mode = mode } ∷ []) (done-rest done) mine has fits
+    (ap (map as_held) (done-tickets done) ∙ told-last (tickets_seen s.me.0) (record { number = id; place = place; mode = mode; noted = note_at place (tickets_seen s.me.0) })) own
     (draws (drawn, numbers-drawn s.me.0.next s′.me.0.next s.me.0.waits s′.me.0.waits some (done-next done) (done-rest done).wait.waits))
     explained at learns agreed tells ends (lets (deed-reads is done)) truly
 
@@ -94,13 +94,13 @@ module _ {s : SessionView} (is : IsMember s) (place : ℕ) (mode : Mode) where
     pub untold-wish : s.me.0.told ≡ None
     untold-wish = nothing-told is (no-asks s.me.0.asks s.me.0.waits clear-wish.0)
 
-    pub try-granted : {s′ : SessionView} {id : ℕ} → id ≡ s.me.0.next → HasDone place (Gain id mode ∷ []) s s′
+    pub try-granted : {s′ : SessionView} {id : ℕ} → id ≡ s.me.0.next → DidDeeds place (Gain id mode ∷ []) s s′
         → Joins (data_of s) (Try_now s.me.0.number place mode) (Granted id) (data_of s′)
     try-granted first done =
         gain-joins is first done (Try_now s.me.0.number place mode) (speaks is) refl refl refl (λ d. d) clear-wish (wish-clear s place mode clear).2 refl
         (λ state how is. cc) (λ how is. cc) refl (λ r. r) tt
 
-    pub begin-granted : {s′ : SessionView} {id : ℕ} → id ≡ s.me.0.next → HasDone place (Gain id mode ∷ []) s s′
+    pub begin-granted : {s′ : SessionView} {id : ℕ} → id ≡ s.me.0.next → DidDeeds place (Gain id mode ∷ []) s s′
         → Joins (data_of s) (Begin_wait s.me.0.number place mode) (Granted id) (data_of s′)
     begin-granted first done =
         gain-joins is first done (Begin_wait s.me.0.number place mode) (speaks is) refl refl refl (λ d. d) clear-wish (wish-clear s place mode clear).2 refl
@@ -130,11 +130,11 @@ module _ {s : SessionView} (is : IsMember s) (place : ℕ) (mode : Mode) where
 
 -- what the visit tells
 pub begun : {place : ℕ} {mode : Mode} (seat seat′ : SeatState) (sessions : ℕ) {room : Room} (opens : AtItsTable seat seat′ (Opens place mode))
-    → session_at seat′ sessions room ≡ record (session_at seat sessions room) { me = (record (awaiting place mode seat.me.0) { log = seat.me.0.log ++ opens.1.made }, seat.me.1) }
+    → session_at seat′ sessions room ≡ record (session_at seat sessions room) { me = (record (view_awaiting place mode seat.me.0) { log = seat.me.0.log ++ opens.1.made }, seat.me.1) }
 begun seat seat′ sessions {room} opens = λ i. record { table = opens.0 i; sessions = sessions; me = opens.1.now i; room = room }
 
 module _ {s s′ : SessionView} (is : IsMember s) {place : ℕ} {mode : Mode} (clear : wish_fault (kind_known place s.me.0.known) s.me.0.asks mode s.me.0.next ≡ None)
-    {log : List Met} {room : Room} (now : s′ ≡ record s { me = (record (awaiting place mode s.me.0) { log = log }, s.me.1); room = room }) where
+    {log : List Met} {room : Room} (now : s′ ≡ record s { me = (record (view_awaiting place mode s.me.0) { log = log }, s.me.1); room = room }) where
   -- without a fast ticket
   pub begun-order : s.me.0.fast ≡ [] → StaysInOrder s s′
   begun-order none =

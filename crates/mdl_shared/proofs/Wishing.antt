@@ -12,17 +12,17 @@ use Rattle.mdl_steps.specs.Cells.{own_at}
 use Rattle.mdl_steps.specs.Interleavings.{interleaved}
 use Rattle.mdl_steps.specs.Plays.{Mine}
 use Rattle.mdl_steps.specs.SeatStates.{AtItsTable, SeatState}
-use Rattle.mdl_visits.specs.Visits.{HasWish, IsVisit, MayVisit, Visits}
-use Rattle.mdl_visits.specs.WaitOpenings.{awaiting}
+use Rattle.mdl_visits.specs.Visits.{IsVisit, MayVisit, RequestsMode, Visits}
+use Rattle.mdl_visits.specs.WaitOpenings.{view_awaiting}
 use Rattle.mdl_shared.specs.declared.member.Member.{Member}
 use Rattle.mdl_shared.specs.Members.{kind_known, most_numbers, obtrudes_at, wish_fault}
 use Rattle.mdl_shared.specs.Passes.{view_of}
-use Rattle.mdl_shared.specs.SessionViews.{Lists, SessionView, lists_seen, session_at, tickets_of}
+use Rattle.mdl_shared.specs.SessionViews.{Lists, SessionView, all_tickets, lists_seen, session_at}
 use Rattle.mdl_shared.specs.TicketLists.{Room}
-use Rattle.mdl_shared.specs.Waitings.{are_below}
+use Rattle.mdl_shared.specs.Waitings.{are_below_next}
 use Rattle.mdl_shared.proofs.MemberFacts.{below, gains-slow, may-visit, none-there}
 use Rattle.mdl_shared.proofs.Membership.{kind_place, kind_there}
-use Rattle.mdl_shared.proofs.Members.{HasDone, fault-seen, visited}
+use Rattle.mdl_shared.proofs.Members.{DidDeeds, fault-seen, visited}
 use Rattle.mdl_shared.proofs.Props.{member}
 use Rattle.mdl_shared.proofs.SameSpace.{no-asks, waits-asks}
 use Rattle.mdl_shared.proofs.WishFaults.{wish-clear, wish-mode}
@@ -31,7 +31,7 @@ use Rattle.mdl_shared.proofs.WishFaults.{wish-clear, wish-mode}
 pub record MayWish (place : ℕ) (kind : Kind) (mode : Mode) (s : SessionView) : Type 0 where
   pub clear : wish_fault (kind_known place s.me.0.known) s.me.0.asks mode s.me.0.next ≡ None
   pub at : MayVisit place (record { table = s.table; me = s.me })
-  pub wish : HasWish place kind mode s.me.0
+  pub wish : RequestsMode place kind mode s.me.0
   pub below : s.me.0.next < most_numbers
 
 pub may-wish : (m : Member) (place : ℕ) (kind : Kind) (mode : Mode) → (kind_known place m.known.known ≡ Some kind) × (wish_fault (Some kind) m.asks mode m.next ≡ None)
@@ -60,9 +60,9 @@ visit-seen m place mode {kind} {a} {b} known visit =
     subst (λ (may : Bool). IsVisit place may a b) (sym is) visit
 
 -- the numbers of its own list are below the next one
-pub below-seen : (m : Member) (slow fast : List Own) → (slow ≡ m.tickets.slow) × (fast ≡ m.tickets.fast) → are_below m.next (interleaved slow fast) ≡ true
+pub below-seen : (m : Member) (slow fast : List Own) → (slow ≡ m.tickets.slow) × (fast ≡ m.tickets.fast) → are_below_next m.next (interleaved slow fast) ≡ true
 below-seen m slow fast same =
-    (λ i. are_below m.next (interleaved (same.0 i) (same.1 i))) ∙ ap (λ (l : Lists). are_below l.next (tickets_of l)) m.lists ∙ below (member m)
+    (λ i. are_below_next m.next (interleaved (same.0 i) (same.1 i))) ∙ ap (λ (l : Lists). are_below_next l.next (all_tickets l)) m.lists ∙ below (member m)
 
 -- no fast one of its own list is at a place, where there is none at all
 pub none-seen : (m : Member) (place : ℕ) (fast : List Own) → m.tickets.fast ≡ [] → fast ≡ m.tickets.fast → own_at place fast ≡ []
@@ -78,7 +78,7 @@ unasked m idle P ask asks = let no = sym asks ∙ ap (λ (l : Lists). l.asks) m.
 
 -- a visit that gained the next ticket did that
 pub gained-by : (m : Member) (seat′ : SeatState) {room : Room} (place : ℕ) (mode : Mode) → m.tickets.fast ≡ []
-    → AtItsTable m.seat seat′ (Visits place (Gain m.next mode ∷ [])) → HasDone place (Gain m.next mode ∷ []) (view_of m) (session_at seat′ m.sessions room)
+    → AtItsTable m.seat seat′ (Visits place (Gain m.next mode ∷ [])) → DidDeeds place (Gain m.next mode ∷ []) (view_of m) (session_at seat′ m.sessions room)
 gained-by m seat′ place mode none visit =
     visited m.seat seat′ m.sessions (gains-slow (member m) place m.next mode (ap (λ (l : Lists). l.next) m.lists) (none-there (member m) (unfast-seen m none) place)) visit
 
@@ -92,6 +92,6 @@ pub waiting-lists : (m : Member) (place : ℕ) (mode : Mode)
       asks = Some (record { number = m.next; place = place; mode = mode });
       waits = m.waits + 1;
     }
-    ≡ lists_seen (awaiting place mode m.seat.me.0)
+    ≡ lists_seen (view_awaiting place mode m.seat.me.0)
 waiting-lists m place mode =
     ap (λ (l : Lists). record l { next = l.next + 1; asks = Some (record { number = l.next; place = place; mode = mode }); waits = l.waits + 1 }) m.lists

@@ -16,17 +16,17 @@ use Rattle.mdl_shared.specs.Steps.{OfTicket}
 
 -- what a lookup by the ticket with this number leaves in the session's cache: a definition that is found comes first, and the rest stays in order. If none
 -- is found, the cache is unchanged
-abbrev pub LeavesOrder : ℕ → Result Cached SpaceError → SessionView → SessionView → CacheView → CacheView → Type 0
-LeavesOrder id (Ok (Hit definition)) a b before after =
+abbrev pub LeavesCacheOrder : ℕ → Result Cached SpaceError → SessionView → SessionView → CacheView → CacheView → Type 0
+LeavesCacheOrder id (Ok (Hit definition)) a b before after =
     OfTicket id (lists_seen a.me.0) (λ t. (version : ℕ) × (kept_of t.place version before.kept ≡ Some definition.now)
     × FindsVersion t.place (kept_standing version definition.now) a b
     × (after ≡ record { kept = looked_at t.place version before.kept; capacity = before.capacity }))
-LeavesOrder id (Ok Stale) a b before after = after ≡ before
-LeavesOrder id (Err why) a b before after = after ≡ before
+LeavesCacheOrder id (Ok Stale) a b before after = after ≡ before
+LeavesCacheOrder id (Err why) a b before after = after ≡ before
 
 -- the cache after such a lookup: it has that order, and the session has met each definition in it
 pub record IsCacheAfter (id : ℕ) (result : Result Cached SpaceError) (a b : SessionView) (before after : CacheView) : Type 0 where
-  pub order : LeavesOrder id result a b before after
+  pub order : LeavesCacheOrder id result a b before after
   pub met : AreMet (HasMet (data_of b) b.me.0.number) after.kept
 
 -- that holds of the cache at the end of the loan

@@ -11,8 +11,8 @@ use Rattle.mdl_shared.specs.Passes.{pass_view}
 use Rattle.mdl_shared.specs.SessionViews.{SessionView, data_of}
 
 -- the session has no ticket and no wait
-abbrev pub HasNothing : SessionView → Type 0
-HasNothing s = (data_of s).own ≡ record { held = []; wait = None }
+abbrev pub HasNoLocks : SessionView → Type 0
+HasNoLocks s = (data_of s).own ≡ record { held = []; wait = None }
 
 -- a place is owed a reschedule, by the list of places that are owed one, and no lesser one is
 abbrev pub IsFirstOwed : ℕ → List ℕ → Type 0
@@ -20,10 +20,10 @@ IsFirstOwed place owes = IsOwed place owes × ((q : ℕ) → q < place → list_
 
 -- the session had nothing and owed nothing, and this is its pass
 abbrev pub HasClosed : Pass → SessionView → Type 0
-HasClosed pass s = HasNothing s × (s.me.0.owes ≡ []) × (pass_view pass ≡ s)
+HasClosed pass s = HasNoLocks s × (s.me.0.owes ≡ []) × (pass_view pass ≡ s)
 
 -- why the session is still open: it has a ticket or a wait, or it has none and owes this place, whose key it knows, a reschedule, but no lesser one. It is
 -- unchanged
 abbrev pub StaysOpen : {R : Type 0} → CloseError R → SessionView → Type 0
 StaysOpen (HoldsTickets session) s = ((0 < length (data_of s).own.held) ⊎ (is_waiting (data_of s).own ≡ true)) × (session ≡ s)
-StaysOpen (Owes session place) s = HasNothing s × IsFirstOwed place s.me.0.owes × (is_known place (data_of s).known ≡ true) × (session ≡ s)
+StaysOpen (Owes session place) s = HasNoLocks s × IsFirstOwed place s.me.0.owes × (is_known place (data_of s).known ≡ true) × (session ≡ s)

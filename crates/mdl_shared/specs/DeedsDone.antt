@@ -25,7 +25,7 @@ pub record StaysFast (known : List Known) (asks : Option Ask) (fast fast′ : Li
 -- the session did these deeds at a place, to slow tickets or to fast ones, and made steps. It may have settled waits, and learnt the state of its own
 -- wait. It owes no place a reschedule that it didn't owe one before. Nothing else changed, except perhaps which tickets are fast, the room for more, and
 -- whether it has yet to search for a deadlock
-pub record HasDone (place : ℕ) (ds : List Deed) (s s′ : SessionView) : Type 0 where
+pub record DidDeeds (place : ℕ) (ds : List Deed) (s s′ : SessionView) : Type 0 where
   pub slow : List Own
   pub fast : List Own
   pub told : Option ℕ
@@ -59,7 +59,7 @@ pub record HasDone (place : ℕ) (ds : List Deed) (s s′ : SessionView) : Type 
 -- the session did these deeds, its steps did just these, and it left all waits alone. It owes the places that it owed before, and has yet to search for a
 -- deadlock if it had before
 pub record DoesQuietly (place : ℕ) (ds : List Deed) (s s′ : SessionView) : Type 0 where
-  pub done : HasDone place ds s s′
+  pub done : DidDeeds place ds s s′
   pub did : Does ds s.me s′.me
   pub settled : SettlesNothing s.me s′.me
   pub told : s′.me.0.told ≡ s.me.0.told

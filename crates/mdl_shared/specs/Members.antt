@@ -1,5 +1,5 @@
 -- What a session keeps in its own lists between two calls.
-pub use Rattle.mdl_visits.specs.KnownLists.{are_apart, are_two, is_known_place, kind_known, place_known}
+pub use Rattle.mdl_visits.specs.KnownLists.{are_keys_apart, are_two_keys, is_place_looked_up, kind_known, place_looked_up}
 use Rattle.std.specs.Prelude.{◌≡◌, ◌<◌, ◌≤◌, ℕ, ◌^◌, Bool, true, false, ◌&&◌, not, nat_le, nat_lt, List, [], All, Option, Some, None, filter, is_some, if◌then◌else◌}
 use Rattle.std.specs.List.{list_all}
 use Rattle.std.specs.Option.{option_and_then, option_map_or}
@@ -15,10 +15,10 @@ use Rattle.mdl_steps.specs.declared.view.Own.{Own}
 use Rattle.mdl_steps.specs.Deeds.{is_own}
 use Rattle.mdl_steps.specs.Layout.{word_count}
 use Rattle.mdl_calls.specs.SessionData.{IsSound}
-use Rattle.mdl_visits.specs.Idle.{IsIdle}
+use Rattle.mdl_visits.specs.Idle.{HoldsNoLatch}
 use Rattle.mdl_visits.specs.Numbers.{numbered}
 use Rattle.mdl_shared.specs.Debts.{IsOwed}
-use Rattle.mdl_shared.specs.OwnLists.{key_known}
+use Rattle.mdl_shared.specs.OwnLists.{key_looked_up}
 use Rattle.mdl_shared.specs.Rememberings.{AreAlike}
 use Rattle.mdl_shared.specs.SessionViews.{SessionView, data_of, tickets_seen}
 use Rattle.mdl_shared.specs.Waitings.{is_ask_last, is_ask_told}
@@ -50,7 +50,7 @@ are_counted known fast = list_all (λ t. is_some (increment_at t.place t.mode kn
 -- table has words
 pub record IsMember (s : SessionView) : Type 0 where
   pub sound : IsSound (data_of s)
-  pub idle : IsIdle s.me
+  pub idle : HoldsNoLatch s.me
   pub unfast : (a : Ask) → s.me.0.asks ≡ Some a → s.me.0.fast ≡ []
   pub plain : are_counted s.me.0.known s.me.0.fast ≡ true
   pub within : are_within s.table.slots s.me.0.known ≡ true
@@ -58,7 +58,7 @@ pub record IsMember (s : SessionView) : Type 0 where
   pub last : is_ask_last s.me.0.next s.me.0.asks ≡ true
   pub told : is_ask_told s.me.0.asks s.me.0.told ≡ true
   pub fewer : (s.me.0.waits < s.me.0.next) × (s.me.0.waits < most_numbers)
-  pub owed : (place : ℕ) → IsOwed place s.me.0.owes → is_known_place s.me.0.known place ≡ true
+  pub owed : (place : ℕ) → IsOwed place s.me.0.owes → is_place_looked_up s.me.0.known place ≡ true
   pub counted : (0 < s.me.0.number) × (s.me.0.number ≤ s.sessions)
   pub narrow : (0 < s.table.slots) × (s.table.slots ≤ 65536)
   pub words : s.table.words ≡ word_count s.table.slots s.sessions
@@ -81,4 +81,4 @@ wish_fault (Some kind) asks mode next =
 
 -- the session knows each of these keys to be at its place
 abbrev pub AreLearnt : List Known → List Known → Type 0
-AreLearnt tables known = All (λ (t : Known). key_known t.place known ≡ Some t.key) tables
+AreLearnt tables known = All (λ (t : Known). key_looked_up t.place known ≡ Some t.key) tables

@@ -34,12 +34,12 @@ clone_fault (Some t) asks mode known next =
     else (if not (covers t.mode mode && is_fit t.place mode known) then Some BadMode else (if nat_le most_numbers next then Some CounterFull else None))
 
 -- whether a ticket may take the mode of another: they are two, at one place, and the other is at least as strong
-abbrev pub may_merge : Own → Own → Bool
-may_merge kept gone = not (kept.number == gone.number) && (kept.place == gone.place && covers gone.mode kept.mode)
+abbrev pub can_merge : Own → Own → Bool
+can_merge kept gone = not (kept.number == gone.number) && (kept.place == gone.place && covers gone.mode kept.mode)
 
 -- why a merge of two tickets is refused, by a session with this wait, or none
 abbrev pub merge_fault : Option Own → Option Own → Option Ask → Option SpaceError
 merge_fault None _ _ = Some NotHeld
 merge_fault (Some kept) None _ = Some NotHeld
 merge_fault (Some kept) (Some gone) asks =
-    if is_some asks then Some AlreadyWaiting else (if may_merge kept gone then None else Some BadMode)
+    if is_some asks then Some AlreadyWaiting else (if can_merge kept gone then None else Some BadMode)

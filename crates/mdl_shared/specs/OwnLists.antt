@@ -1,5 +1,5 @@
 -- What a session returns of its own lists.
-pub use Rattle.mdl_visits.specs.KnownLists.{key_known}
+pub use Rattle.mdl_visits.specs.KnownLists.{key_looked_up}
 use Rattle.std.specs.Prelude.{ℕ, List, Option, Some, None, is_some, if◌then◌else◌}
 use Rattle.mdl_calls.specs.declared.answers.Held.{Held}
 use Rattle.mdl_calls.specs.declared.space_error.SpaceError.{SpaceError}
@@ -8,9 +8,9 @@ use Rattle.mdl_steps.specs.declared.view.Known.{Known}
 use Rattle.mdl_steps.specs.declared.view.Own.{Own}
 
 -- a session's ticket in the form that callers get
-abbrev pub told_of : Own → Held
-told_of t = record { id = t.number; place = t.place; mode = t.mode }
+abbrev pub as_held : Own → Held
+as_held t = record { id = t.number; place = t.place; mode = t.mode }
 
 -- why the session can't return the key of a place: it hasn't looked it up
 abbrev pub naming_fault : ℕ → List Known → Option SpaceError
-naming_fault place known = if is_some (key_known place known) then None else Some NoPlace
+naming_fault place known = if is_some (key_looked_up place known) then None else Some NoPlace

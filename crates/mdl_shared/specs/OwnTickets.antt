@@ -26,20 +26,20 @@ abbrev pub flags_of : List OfPlace → List Bool
 flags_of places = map (λ (p : OfPlace). p.owes) places
 
 -- a ticket with the note of its place
-abbrev pub own_of : List OfPlace → Gained → Own
-own_of places t = record { number = t.id; place = t.place; mode = t.mode; noted = noted_in t.place places }
+abbrev pub with_note : List OfPlace → Gained → Own
+with_note places t = record { number = t.id; place = t.place; mode = t.mode; noted = noted_in t.place places }
 
 -- the slow tickets, with their notes
 abbrev pub slow_of : List OfPlace → List Gained → List Own
-slow_of places tickets = map (own_of places) (filter (λ t. not t.fast) tickets)
+slow_of places tickets = map (with_note places) (filter (λ t. not t.fast) tickets)
 
 -- the fast tickets, with their notes
 abbrev pub fast_of : List OfPlace → List Gained → List Own
-fast_of places tickets = map (own_of places) (filter (λ t. t.fast) tickets)
+fast_of places tickets = map (with_note places) (filter (λ t. t.fast) tickets)
 
 -- whether a ticket is at a place
-abbrev pub is_there : ℕ → Gained → Bool
-is_there place t = t.place == place
+abbrev pub is_at_place : ℕ → Gained → Bool
+is_at_place place t = t.place == place
 
 -- whether a ticket is a fast one at a place
 abbrev pub is_fast_there : ℕ → Gained → Bool
@@ -59,8 +59,8 @@ abbrev pub StandsAt : ℕ → ℕ → List Gained → Type 0
 StandsAt id at tickets = (at < length tickets) × ((d : Gained) → (slice_index_or tickets at d).id ≡ id)
 
 -- the last ticket has this number, is at this place, and is a fast one or not
-abbrev pub IsLast : ℕ → ℕ → Bool → List Gained → Type 0
-IsLast place id fast tickets =
+abbrev pub IsLastGained : ℕ → ℕ → Bool → List Gained → Type 0
+IsLastGained place id fast tickets =
     (0 < length tickets)
     × ((d : Gained) → (slice_index_or tickets (length tickets - 1) d).id ≡ id)
     × ((d : Gained) → (slice_index_or tickets (length tickets - 1) d).place ≡ place)
@@ -71,15 +71,15 @@ abbrev pub fast_found : Option (Own × Bool) → Option Own
 fast_found found = option_and_then (λ (t : Own × Bool). if t.1 then Some t.0 else None) found
 
 -- each ticket has a number below those of all later ones
-abbrev pub AreRising : List Gained → Type 0
-AreRising tickets =
+abbrev pub AreGainedRising : List Gained → Type 0
+AreGainedRising tickets =
     (i j : ℕ) (d : Gained) → i < j → j < length tickets → (slice_index_or tickets i d).id < (slice_index_or tickets j d).id
 
 -- what always holds of the list: the numbers rise, the tickets and the fast ones are counted at each place, the fast ones also in all, and there are at
 -- most as many places as a table can have
 pub record AreKept (tickets : List Gained) (places : List OfPlace) (fast : ℕ) : Type 0 where
-  pub rising : AreRising tickets
-  pub counted : (place : ℕ) → counted_at place places ≡ count_by (is_there place) tickets
+  pub rising : AreGainedRising tickets
+  pub counted : (place : ℕ) → counted_at place places ≡ count_by (is_at_place place) tickets
   pub fast_counted : (place : ℕ) → fast_counted_at place places ≡ count_by (is_fast_there place) tickets
   pub all_fast : fast ≡ count_by (λ t. t.fast) tickets
   pub narrow : length places ≤ 65536

@@ -10,8 +10,8 @@ use Rattle.mdl_shared.specs.declared.pass.Pass.{Pass}
 use Rattle.mdl_shared.specs.SessionViews.{SessionView, session_at}
 
 -- the table of a space
-abbrev pub table_of : Manager → TableId
-table_of manager = (arc_value manager.table).shared.table_id
+abbrev pub manager_table : Manager → TableId
+manager_table manager = (arc_value manager.table).shared.table_id
 
 -- the value of a session, open or not: what it is at the table
 abbrev pub view_of : Member → SessionView

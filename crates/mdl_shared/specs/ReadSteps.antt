@@ -8,7 +8,7 @@ use Rattle.mdl_steps.specs.Lists.{Each}
 use Rattle.mdl_steps.specs.VersionPlays.{Follows, LearnsVersion, met_version, noted_version}
 use Rattle.mdl_visits.specs.Leavings.{MeetsStanding}
 use Rattle.mdl_visits.specs.Numbers.{numbered}
-use Rattle.mdl_visits.specs.Readings.{ReadsThere, WasHeld}
+use Rattle.mdl_visits.specs.Readings.{SeatReadsThere, WasHeld}
 use Rattle.mdl_visits.specs.Visits.{StaysQuiet, Visits, VisitsOnce}
 use Rattle.mdl_shared.specs.SessionViews.{SessionView}
 use Rattle.mdl_shared.specs.TicketLists.{KeepsRoom}
@@ -42,7 +42,7 @@ pub record FindsVersion (place : ℕ) (standing : Standing) (a b : SessionView) 
 abbrev pub ReadsByLatch : ℕ → Own → Standing → SessionView → SessionView → Type 0
 ReadsByLatch id t standing a b =
     Follows t.place standing a.me
-    × ReadsThere t.place standing a.me b.me
+    × SeatReadsThere t.place standing a.me b.me
     × ShowsStep a b (λ e. MeetsStanding t.place a.me.0.number standing e
     × (numbered id a.me.0.slow ≡ Some t → WasHeld t.place a.me.0.number id e))
     × VisitsOnce t.place a.me b.me

@@ -15,7 +15,7 @@ use Rattle.mdl_steps.specs.SeatStates.{SeatState}
 use Rattle.mdl_steps.specs.declared.wait_word.Loss.TheVariants as loss
 use Rattle.mdl_steps.specs.WaitStates.{granted_state, lost_state}
 use Rattle.mdl_calls.specs.SessionData.{SessionData, Note}
-use Rattle.mdl_shared.specs.OwnLists.{told_of}
+use Rattle.mdl_shared.specs.OwnLists.{as_held}
 use Rattle.mdl_shared.specs.TicketLists.{KeepsRoom, Room}
 
 -- how a wait is settled, by the state of its word
@@ -73,12 +73,12 @@ abbrev pub lists_seen : View → Lists
 lists_seen me = record { slow = me.slow; fast = me.fast; known = me.known; next = me.next; asks = me.asks; waits = me.waits }
 
 -- all tickets of the lists, in the order in which the session got them
-abbrev pub tickets_of : Lists → List Own
-tickets_of l = interleaved l.slow l.fast
+abbrev pub all_tickets : Lists → List Own
+all_tickets l = interleaved l.slow l.fast
 
 -- all tickets of a session, by what it has at the table
 abbrev pub tickets_seen : View → List Own
-tickets_seen me = tickets_of (lists_seen me)
+tickets_seen me = all_tickets (lists_seen me)
 
 -- the session has the same number, at the same table of the same space, the same lists and at least the same room, and read nothing
 pub record KeepsLists (a b : SessionView) : Type 0 where
@@ -96,13 +96,13 @@ abbrev pub data_by : ℕ → Lists → Option ℕ → List Read → SessionData
 data_by number lists told reads = record {
   number = number;
   own = record {
-    held = map told_of (tickets_of lists);
+    held = map as_held (all_tickets lists);
     wait = option_map (λ (a : Ask). record { number = lists.waits; place = a.place; mode = a.mode }) lists.asks;
   };
   numbers = record { last_ticket = lists.next - 1; last_wait = lists.waits };
   known = map (λ (k : Known). record { key = k.key; place = k.place }) lists.known;
   settled = settled_told told;
-  notes = filter_map note_of (tickets_of lists);
+  notes = filter_map note_of (all_tickets lists);
   reads = map (λ (r : Read). record { place = r.place; standing = r.standing }) reads;
 }
 

@@ -17,13 +17,13 @@ use Rattle.mdl_visits.specs.declared.resolve_error.ResolveError.{ResolveError}
 use Rattle.mdl_visits.specs.FastTries.{ReleasesFast}
 use Rattle.mdl_visits.specs.Grantings.{HasRescheduled}
 use Rattle.mdl_visits.specs.Leavings.{MeetsOwn}
-use Rattle.mdl_visits.specs.Lookups.{TookDirectory, IsAnswer}
+use Rattle.mdl_visits.specs.Lookups.{TookDirectory, IsLookupAnswer}
 use Rattle.mdl_visits.specs.Numbers.{numbered}
-use Rattle.mdl_visits.specs.Polls.{EndsWait, MeetsWait, state_of}
+use Rattle.mdl_visits.specs.Polls.{EndsWait, MeetsWait, settled_state}
 use Rattle.mdl_visits.specs.Searches.{Searched}
 use Rattle.mdl_visits.specs.Visits.{IsStepOf, StaysThere, VisitsOnce}
 use Rattle.mdl_shared.specs.Debts.{Pays}
-use Rattle.mdl_shared.specs.SessionViews.{Lists, SessionView, tickets_of}
+use Rattle.mdl_shared.specs.SessionViews.{Lists, SessionView, all_tickets}
 
 -- this holds of a step that was made between the two
 abbrev pub ShowsStep : SessionView → SessionView → (Met → Type 0) → Type 0
@@ -31,7 +31,7 @@ ShowsStep a b fact = (e : Met) × IsStepOf a.me b.me e × fact e
 
 -- the session has a ticket with this number, and this holds of it
 abbrev pub OfTicket : ℕ → Lists → (Own → Type 0) → Type 0
-OfTicket id l fact = (t : Own) × (numbered id (tickets_of l) ≡ Some t) × fact t
+OfTicket id l fact = (t : Own) × (numbered id (all_tickets l) ≡ Some t) × fact t
 
 -- no step was made, and what the session knows and has at the table is unchanged
 abbrev pub MakesNoStep : SessionView → SessionView → Type 0
@@ -68,7 +68,7 @@ GivesUpFast id a b t =
 -- the directory was looked at once, and this is its answer for a key
 abbrev pub LooksUp : KeyName → Result ℕ ResolveError → SessionView → SessionView → Type 0
 LooksUp key result a b =
-    (k left : Keys) × TookDirectory a.table.slots k left a.me b.me × IsAnswer a.table.slots key k left result
+    (k left : Keys) × TookDirectory a.table.slots k left a.me b.me × IsLookupAnswer a.table.slots key k left result
 
 -- the directory was looked at once, and it is unchanged
 abbrev pub LooksAtKeys : SessionView → SessionView → Type 0
@@ -87,7 +87,7 @@ own_wait_read state l a = record a { me = met_wait a.table.slots a.me.0.number (
 
 -- the session read that its own wait is settled, and made no other step. It knows that then, and nothing else has changed
 abbrev pub ReadsSettled : Lists → SessionView → SessionView → Type 0
-ReadsSettled l a b = (how : Settled) × (b.me ≡ (own_wait_read (state_of how) l a).me) × (b.me.0.told ≡ Some (state_of how))
+ReadsSettled l a b = (how : Settled) × (b.me ≡ (own_wait_read (settled_state how) l a).me) × (b.me.0.told ≡ Some (settled_state how))
 
 -- the session, which didn't know that its own wait is settled, read first that the wait is unsettled. This holds of what it had then
 abbrev pub ReadsUnsettled : Lists → SessionView → (SessionView → Type 0) → Type 0

@@ -8,8 +8,8 @@ use Rattle.mdl_steps.specs.declared.view.Own.{Own}
 use Rattle.mdl_visits.specs.Numbers.{all_numbers}
 
 -- whether all tickets have numbers below the next one
-abbrev pub are_below : ℕ → List Own → Bool
-are_below next tickets = all_numbers (λ n. nat_lt n next) tickets
+abbrev pub are_below_next : ℕ → List Own → Bool
+are_below_next next tickets = all_numbers (λ n. nat_lt n next) tickets
 
 -- whether the ticket that is waited for, if any, has the last number that was given out
 abbrev pub is_ask_last : ℕ → Option Ask → Bool

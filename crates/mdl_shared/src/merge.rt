@@ -10,7 +10,7 @@ ghost use Rattle.mdl_visits.specs.Leavings.{MergesOwn};
 ghost use Rattle.mdl_visits.specs.Numbers.{numbered};
 ghost use Rattle.mdl_visits.specs.Visits.{VisitsOnce};
 ghost use Rattle.mdl_shared.specs.DeedsDone.{DoesQuietly};
-ghost use Rattle.mdl_shared.specs.Modes.{may_merge, merge_fault};
+ghost use Rattle.mdl_shared.specs.Modes.{can_merge, merge_fault};
 ghost use Rattle.mdl_shared.specs.Passes.{view_of};
 ghost use Rattle.mdl_shared.specs.SessionViews.{data_of};
 ghost use Rattle.mdl_shared.specs.StepSpec.{TakesSteps};
@@ -80,7 +80,7 @@ impl Member {
 
 // Whether a ticket may take the mode of another.
 fn may_merge(kept: Own, gone: Own) -> bool
-    ensures { result ≡ may_merge kept gone }
+    ensures { result ≡ can_merge kept gone }
 {
     kept.number != gone.number && kept.place == gone.place && covers(gone.mode, kept.mode)
 }

@@ -6,7 +6,7 @@ ghost use Rattle.mdl_calls.specs.Words.{done};
 ghost use Rattle.mdl_steps.specs.declared.deed.Deed.TheVariants.{Lose};
 ghost use Rattle.mdl_visits.specs.Numbers.{numbered};
 ghost use Rattle.mdl_visits.specs.Visits.{Does};
-ghost use Rattle.mdl_shared.specs.DeedsDone.{HasDone};
+ghost use Rattle.mdl_shared.specs.DeedsDone.{DidDeeds};
 ghost use Rattle.mdl_shared.specs.Passes.{view_of};
 ghost use Rattle.mdl_shared.specs.SessionViews.{data_of};
 ghost use Rattle.mdl_shared.specs.StepSpec.{TakesSteps};
@@ -47,7 +47,7 @@ impl Member {
     // Releases a fast ticket, and grants the waits at its place if any may have become grantable.
     fn give_up_fast<R: Wait>(&mut self, rt: &R, held: Own)
         requires held { numbered held.number self.old.tickets.fast ≡ Some held }
-        ensures lost { HasDone held.place (Lose held.number ∷ []) (view_of self.old) (view_of self.new) }
+        ensures lost { DidDeeds held.place (Lose held.number ∷ []) (view_of self.old) (view_of self.new) }
         ensures did { Does (Lose held.number ∷ []) self.old.seat.me self.new.seat.me }
         ensures given_up { GivesUpFast held.number (view_of self.old) (view_of self.new) held }
         ensures searches { self.new.seat.me.0.searches ≡ self.old.seat.me.0.searches }

@@ -26,12 +26,12 @@ impl<R> Model for Session<R> {
 impl<R> Session<R> {
     ghost use Rattle.mdl_calls.specs.SessionData.{SpeaksFor};
     ghost use Rattle.mdl_shared.specs.Members.{IsMember};
-    ghost use Rattle.mdl_shared.specs.Passes.{pass_table, pass_view, table_of};
+    ghost use Rattle.mdl_shared.specs.Passes.{manager_table, pass_table, pass_view};
     ghost use Rattle.mdl_shared.specs.SessionViews.{data_of};
 
     /// Opens the session of a pass, which must be a pass of this manager. It takes no memory.
     pub fn open(rt: R, manager: &Manager, pass: Pass) -> Session<R>
-        requires theirs { pass_table pass ≡ table_of manager.now }
+        requires theirs { pass_table pass ≡ manager_table manager.now }
         ensures opened { result ≡ pass_view pass }
         ensures nothing { (data_of result).own ≡ record { held = []; wait = None } }
         ensures paid { result.me.0.owes ≡ [] }

@@ -14,10 +14,10 @@ ghost use Rattle.mdl_visits.specs.Numbers.{numbered};
 ghost use Rattle.mdl_shared.specs.Debts.{owed_in};
 ghost use Rattle.mdl_shared.specs.Members.{without_at};
 ghost use Rattle.mdl_shared.specs.Modes.{in_mode_at};
-ghost use Rattle.mdl_shared.specs.OwnLists.{told_of};
-ghost use Rattle.mdl_shared.specs.Waitings.{are_below};
+ghost use Rattle.mdl_shared.specs.OwnLists.{as_held};
+ghost use Rattle.mdl_shared.specs.Waitings.{are_below_next};
 ghost use Rattle.mdl_shared.specs.TicketLists.{HasRoom, HasRoomFor, KeepsRoom};
-ghost use Rattle.mdl_shared.specs.OwnTickets.{IsLast, StandsAt, counted_at, fast_counted_at, fast_found, flags_of, noted_in, own_of, AreRising, AreAt, has_fast, slowed};
+ghost use Rattle.mdl_shared.specs.OwnTickets.{IsLastGained, StandsAt, counted_at, fast_counted_at, fast_found, flags_of, noted_in, with_note, AreGainedRising, AreAt, has_fast, slowed};
 
 use mdl_calls::{Held, Place, TicketId};
 use mdl_key::Mode;
@@ -224,7 +224,7 @@ impl Tickets {
     /// Adds a new slow ticket at the end, with the note of those at its place. It takes no memory.
     pub(crate) fn push_reserved(&mut self, number: TicketId, place: usize, mode: Mode)
         requires room { HasRoom place self.old.room }
-        requires below { are_below number (interleaved self.old.slow self.old.fast) ≡ true }
+        requires below { are_below_next number (interleaved self.old.slow self.old.fast) ≡ true }
         requires slow { own_at place self.old.fast ≡ [] }
         ensures gained { self.new.slow ≡ self.old.slow ++ record { number = number; place = place; mode = mode; noted = note_at place self.old.slow } ∷ [] }
         ensures same { self.new.fast ≡ self.old.fast }
@@ -239,7 +239,7 @@ impl Tickets {
     /// Adds a new fast ticket at the end, with the note of those at its place. It takes no memory.
     pub(crate) fn push_fast(&mut self, number: TicketId, place: usize, mode: Mode)
         requires room { HasRoom place self.old.room }
-        requires below { are_below number (interleaved self.old.slow self.old.fast) ≡ true }
+        requires below { are_below_next number (interleaved self.old.slow self.old.fast) ≡ true }
         ensures gained { self.new.fast ≡ self.old.fast ++ fast_own number place mode (first_note (own_at place self.old.fast ++ own_at place self.old.slow)) ∷ [] }
         ensures same { self.new.slow ≡ self.old.slow }
         ensures owes { self.new.owes ≡ self.old.owes }
@@ -323,7 +323,7 @@ impl Tickets {
 
     /// Returns the tickets in the form that callers get.
     pub(crate) fn held(&self) -> Result<Vec<Held>, AllocError>
-        ensures { IfOk result (λ held. held.items ≡ map told_of (interleaved self.now.slow self.now.fast)) }
+        ensures { IfOk result (λ held. held.items ≡ map as_held (interleaved self.now.slow self.now.fast)) }
     {
         let mut held = Vec::with_capacity(*self.gained.allocator(), self.gained.len())?;
         for ticket in self.gained.iter() {
@@ -350,7 +350,7 @@ fn new_ticket(number: TicketId, place: usize, mode: Mode, fast: bool) -> Gained
 
 // The index of the ticket with a number, among tickets whose numbers rise.
 fn index_of(tickets: &[Gained], id: TicketId) -> Option<usize>
-    requires { AreRising tickets.now }
+    requires { AreGainedRising tickets.now }
     ensures { MatchOption result (list_all (λ t. not (t.id == id)) tickets.now ≡ true) (λ at. StandsAt id at tickets.now) }
 {
     if let Some(last) = tickets.last() {
@@ -364,7 +364,7 @@ fn index_of(tickets: &[Gained], id: TicketId) -> Option<usize>
 // The same by binary search. It is apart so that the check of the last ticket is inlined.
 #[inline(never)]
 fn search(tickets: &[Gained], id: TicketId) -> Option<usize>
-    requires { AreRising tickets.now }
+    requires { AreGainedRising tickets.now }
     ensures { MatchOption result (list_all (λ t. not (t.id == id)) tickets.now ≡ true) (λ at. StandsAt id at tickets.now) }
 {
     tickets.binary_search_by_key(&id, |ticket| ticket.id).ok()
@@ -372,8 +372,8 @@ fn search(tickets: &[Gained], id: TicketId) -> Option<usize>
 
 // The same, if the ticket is at this place.
 fn index_at(tickets: &[Gained], place: usize, id: TicketId) -> Option<usize>
-    requires { AreRising tickets.now }
-    ensures { MatchOption result (list_all (λ t. not (is_own place id (own_of [] t))) tickets.now ≡ true)
+    requires { AreGainedRising tickets.now }
+    ensures { MatchOption result (list_all (λ t. not (is_own place id (with_note [] t))) tickets.now ≡ true)
         (λ at. StandsAt id at tickets.now × ((d : Gained) → (slice_index_or tickets.now at d).place ≡ place)) }
 {
     let at = index_of(tickets, id)?;
@@ -386,7 +386,7 @@ fn index_at(tickets: &[Gained], place: usize, id: TicketId) -> Option<usize>
 
 // Whether the last ticket is fast, if it has this number and is at this place.
 fn last_at(tickets: &[Gained], place: usize, id: TicketId) -> Option<bool>
-    ensures { IfSome result (λ fast. IsLast place id fast tickets.now) }
+    ensures { IfSome result (λ fast. IsLastGained place id fast tickets.now) }
 {
     let last = tickets.last()?;
     if last.id == id && usize::from(last.place) == place {
@@ -398,7 +398,7 @@ fn last_at(tickets: &[Gained], place: usize, id: TicketId) -> Option<bool>
 
 // A ticket with the note of its place.
 fn own_of(places: &[OfPlace], ticket: Gained) -> Own
-    ensures { result ≡ own_of places.now ticket }
+    ensures { result ≡ with_note places.now ticket }
 {
     let place = usize::from(ticket.place);
     Own {
@@ -411,7 +411,7 @@ fn own_of(places: &[OfPlace], ticket: Gained) -> Own
 
 // A ticket in the form that callers get.
 fn told(ticket: Gained) -> Held
-    ensures { result ≡ told_of (own_of [] ticket) }
+    ensures { result ≡ as_held (with_note [] ticket) }
 {
     Held {
         id: ticket.id,

@@ -17,7 +17,7 @@ use Rattle.mdl_book.proofs.FastLemmas.{can_be_granted-none}
 use Rattle.mdl_book.proofs.TicketLemmas.{find-passes}
 use Rattle.mdl_calls.specs.declared.answers.Settled.TheVariants as settled_as
 use Rattle.mdl_core.specs.declared.pending.Pending.{Pending}
-use Rattle.mdl_core.specs.Words.{SeatView, empty_seat, is_open, settling, Core, book_at, seat_at, has_key, has_session, booking, seating, is_unsettled, is_ready, next_ready, admitting_if, admitting_up_to, serving}
+use Rattle.mdl_core.specs.Words.{SeatView, empty_seat, is_unsettled_wait, with_settled_wait, Core, book_at, seat_at, has_key, has_session, booking, seating, has_unsettled_wait, is_ready_waiter, next_ready, admitting_if, admitting_up_to, serving}
 
 -- where nobody can be granted, nobody is
 pub none_left : (n place : ℕ) (core : Core) → next_ready place core ≡ None → admitting_up_to n place core ≡ core
@@ -68,11 +68,11 @@ find-same p q [] same = refl
 find-same p q (x ∷ xs) same = rw (same x, find-same p q xs same)
 
 -- the book finds the next one, once it knows whose waits are unsettled
-pub next_in_book : (unsettled : set.FinSet nat_cmp) (place : ℕ) (core : Core) → ((who : ℕ) → set.contains unsettled who ≡ is_unsettled who core)
+pub next_in_book : (unsettled : set.FinSet nat_cmp) (place : ℕ) (core : Core) → ((who : ℕ) → set.contains unsettled who ≡ has_unsettled_wait who core)
     → book.next_grantable 0 unsettled (book_at place core) ≡ next_ready place core
 next_in_book unsettled place core tells =
     let lists = book_at place core in
-    find-same (book.is_ready 0 unsettled lists) (is_ready place core) lists.waiting
+    find-same (book.is_ready 0 unsettled lists) (is_ready_waiter place core) lists.waiting
     (λ ticket. rw (tells ticket.session, can_be_granted-none (lock_kind lists) lists.granted lists.waiting ticket.session ticket.mode) refl)
 
 found_is : {X : Type 0} (p q : X → Bool) (xs : List X) (x : X) → find p xs ≡ Some x → q x ≡ true → is_some (find q xs) ≡ true
@@ -87,12 +87,12 @@ found_is p q (y ∷ ys) x found passes =
 pub ready_waits : (place : ℕ) (core : Core) (ticket : Ticket) → next_ready place core ≡ Some ticket
     → is_some (ticket_of ticket.session ticket.number (book_at place core).waiting) ≡ true
 ready_waits place core ticket next =
-    found_is (is_ready place core) (is_ticket ticket.session ticket.number) (book_at place core).waiting ticket next (grind (arith, nat_tests))
+    found_is (is_ready_waiter place core) (is_ticket ticket.session ticket.number) (book_at place core).waiting ticket next (grind (arith, nat_tests))
 
 -- its session has an unsettled wait
-pub ready_unsettled : (place : ℕ) (core : Core) (ticket : Ticket) → next_ready place core ≡ Some ticket → is_unsettled ticket.session core ≡ true
+pub ready_unsettled : (place : ℕ) (core : Core) (ticket : Ticket) → next_ready place core ≡ Some ticket → has_unsettled_wait ticket.session core ≡ true
 ready_unsettled place core ticket next =
-    let ready : is_ready place core ticket ≡ true = find-passes (is_ready place core) (book_at place core).waiting ticket next in
+    let ready : is_ready_waiter place core ticket ≡ true = find-passes (is_ready_waiter place core) (book_at place core).waiting ticket next in
     grind (arith, nat_tests, ready)
 
 -- what holds of the next one holds of its session and its number
@@ -116,20 +116,20 @@ module _ (place who number : ℕ) (core : Core) (next : Some (who, number) ≡ o
   pub next-waits : is_some (ticket_of who number (book_at place core).waiting) ≡ true
   next-waits = by_id (λ w n. is_some (ticket_of w n (book_at place core).waiting) ≡ true) (next_ready place core) who number next (ready_waits place core)
 
-  pub next-unsettled : is_unsettled who core ≡ true
-  next-unsettled = by_id (λ w n. is_unsettled w core ≡ true) (next_ready place core) who number next (ready_unsettled place core)
+  pub next-unsettled : has_unsettled_wait who core ≡ true
+  next-unsettled = by_id (λ w n. has_unsettled_wait w core ≡ true) (next_ready place core) who number next (ready_unsettled place core)
 
   pub next-has_session : has_session who core ≡ true
-  next-has_session = let unsettled : is_unsettled who core ≡ true = next-unsettled in grind (arith, nat_tests)
+  next-has_session = let unsettled : has_unsettled_wait who core ≡ true = next-unsettled in grind (arith, nat_tests)
 
   pub next-is_some : is_some (next_ready place core) ≡ true
   next-is_some = by_id (λ w n. is_some (next_ready place core) ≡ true) (next_ready place core) who number next (λ ticket found. ap is_some found)
 
   pub next-admitted : admitting_if place (next_ready place core) core
-      ≡ booking place (book.admitting who number (book_at place core)) (seating who (settling settled_as.Granted (seat_at who core)) core)
+      ≡ booking place (book.admitting who number (book_at place core)) (seating who (with_settled_wait settled_as.Granted (seat_at who core)) core)
   next-admitted =
       by_id (λ w n. admitting_if place (next_ready place core) core
-      ≡ booking place (book.admitting w n (book_at place core)) (seating w (settling settled_as.Granted (seat_at w core)) core))
+      ≡ booking place (book.admitting w n (book_at place core)) (seating w (with_settled_wait settled_as.Granted (seat_at w core)) core))
       (next_ready place core) who number next (λ ticket found. ap (λ o. admitting_if place o core) found)
 
 -- ---- the set of the sessions whose waits are unsettled
@@ -163,7 +163,7 @@ one_taken who one true true new same other = grind (arith, nat_tests, same, othe
 one_taken who one true false new same other = grind (arith, nat_tests, same, other refl)
 one_taken who one false old new same other = grind (arith, nat_tests)
 
-settled_closed : (wait : Option Pending) → is_open (option_map (λ (wait : Pending). record wait { settled = Some settled_as.Granted }) wait) ≡ false
+settled_closed : (wait : Option Pending) → is_unsettled_wait (option_map (λ (wait : Pending). record wait { settled = Some settled_as.Granted }) wait) ≡ false
 settled_closed None = refl
 settled_closed (Some wait) = refl
 
@@ -203,34 +203,34 @@ written core view place who i j new lists later seat same at is there will = rw 
 
 -- once a wait is granted its session is no longer among them
 module _ (sessions : set.FinSet nat_cmp) (core : Core) (place one : ℕ) (lists : BookView) (has : has_session one core ≡ true)
-    (before : (who : ℕ) → set.contains sessions who ≡ is_unsettled who core) where
+    (before : (who : ℕ) → set.contains sessions who ≡ has_unsettled_wait who core) where
   after : Core
-  after = booking place lists (seating one (settling settled_as.Granted (seat_at one core)) core)
+  after = booking place lists (seating one (with_settled_wait settled_as.Granted (seat_at one core)) core)
 
-  closed_there : is_open (seat_at one after).wait ≡ false
+  closed_there : is_unsettled_wait (seat_at one after).wait ≡ false
   unfolding after
   closed_there =
       let inside : one - 1 < length core.seats = let b = session-bounds one core has in omega arith in
-      ap (λ (s : SeatView). is_open s.wait) (get_or-set_same core.seats (one - 1) (settling settled_as.Granted (seat_at one core)) empty_seat inside)
+      ap (λ (s : SeatView). is_unsettled_wait s.wait) (get_or-set_same core.seats (one - 1) (with_settled_wait settled_as.Granted (seat_at one core)) empty_seat inside)
       ∙ settled_closed (seat_at one core).wait
 
-  same_elsewhere : (who : ℕ) → has_session who core ≡ true → who ≢ one → is_open (seat_at who after).wait ≡ is_open (seat_at who core).wait
+  same_elsewhere : (who : ℕ) → has_session who core ≡ true → who ≢ one → is_unsettled_wait (seat_at who after).wait ≡ is_unsettled_wait (seat_at who core).wait
   unfolding after
   same_elsewhere who is differs =
       let b = session-bounds one core has in
       let w = session-bounds who core is in
       let apart : who - 1 ≢ one - 1 = λ e. differs (omega arith) in
-      ap (λ (s : SeatView). is_open s.wait) (get_or-set_other core.seats (one - 1) (who - 1) (settling settled_as.Granted (seat_at one core)) empty_seat apart)
+      ap (λ (s : SeatView). is_unsettled_wait s.wait) (get_or-set_other core.seats (one - 1) (who - 1) (with_settled_wait settled_as.Granted (seat_at one core)) empty_seat apart)
 
   session_stays : (who : ℕ) → has_session who after ≡ has_session who core
   unfolding after
-  session_stays who = ap (λ n. nat_le 1 who && nat_le who n) (length-set core.seats (one - 1) (settling settled_as.Granted (seat_at one core)))
+  session_stays who = ap (λ n. nat_le 1 who && nat_le who n) (length-set core.seats (one - 1) (with_settled_wait settled_as.Granted (seat_at one core)))
 
-  pub set-granted : (who : ℕ) → set.contains (set.remove sessions one) who ≡ is_unsettled who (booking place lists (seating one (settling settled_as.Granted (seat_at one core)) core))
+  pub set-granted : (who : ℕ) → set.contains (set.remove sessions one) who ≡ has_unsettled_wait who (booking place lists (seating one (with_settled_wait settled_as.Granted (seat_at one core)) core))
   unfolding after
   set-granted who =
       set.contains-remove nat_cmp_total sessions one who
       ∙ rw (unsigned_tied who one, before who)
-      (one_taken who one (has_session who core) (is_open (seat_at who core).wait) (is_open (seat_at who after).wait)
-      (λ same. ap (λ w. is_open (seat_at w after).wait) same ∙ closed_there) (same_elsewhere who))
-      ∙ ap (λ b. b && is_open (seat_at who after).wait) (sym (session_stays who))
+      (one_taken who one (has_session who core) (is_unsettled_wait (seat_at who core).wait) (is_unsettled_wait (seat_at who after).wait)
+      (λ same. ap (λ w. is_unsettled_wait (seat_at w after).wait) same ∙ closed_there) (same_elsewhere who))
+      ∙ ap (λ b. b && is_unsettled_wait (seat_at who after).wait) (sym (session_stays who))

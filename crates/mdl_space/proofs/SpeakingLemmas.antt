@@ -14,7 +14,7 @@ use Rattle.mdl_calls.specs.declared.answers.Settled.{Settled}
 use Rattle.mdl_calls.specs.declared.answers.Settled.TheVariants as settled_as
 use Rattle.mdl_core.specs.declared.pending.Pending.{Pending}
 use Rattle.mdl_calls.specs.SessionLocks.{is_number}
-use Rattle.mdl_core.specs.Words.{SeatView, ticket_of_wait, Core, book_at, seat_at, key_at, has_key, system_of, SpeaksFor, IsTied, Has, Awaits, in_book_of, holding_of}
+use Rattle.mdl_core.specs.Words.{SeatView, ticket_of_wait, Core, book_at, seat_at, key_at, has_key, system_of, SpeaksFor, IsTied, HasGrantedTicket, Awaits, in_book_of, holding_of}
 use Rattle.mdl_system.specs.Words.{of_lock, covers}
 use Rattle.mdl_system.proofs.BookLemmas.{compatible-Decides}
 use Rattle.mdl_core.proofs.CoreGranted.{granted-from_place, granted-of_held}
@@ -46,7 +46,7 @@ itself who ticket = grind (arith, nat_tests)
 
 module _ (core : Core) (who : ℕ) (speaks : SpeaksFor core who) where
   module _ (id : ℕ) (ticket : Held) (found : find (is_number id) (seat_at who core).held ≡ Some ticket) where
-    has_found : Has (seat_at who core) ticket
+    has_found : HasGrantedTicket (seat_at who core) ticket
     has_found = inl (found_among (is_number id) (seat_at who core).held ticket found)
 
     pub held-key : has_key ticket.place core ≡ true

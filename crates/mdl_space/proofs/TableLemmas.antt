@@ -3,20 +3,20 @@ use Rattle.std.proofs.Common.{◌≡◌, ◌+◌, ℕ, suc, Bool, true, false, c
 use Rattle.std.specs.List.{range_with_len}
 use Rattle.std.proofs.lemmas.List.Elements.{All-cons, All-head, All-tail}
 use Rattle.mdl_core.proofs.CallCases.{test_cases}
-use Rattle.mdl_core.specs.Words.{Core, comes_before, has_defined_table, has_key, in_key_order, put_in_order}
+use Rattle.mdl_core.specs.Words.{Core, comes_before, has_defined_table, has_key, places_in_key_order, put_in_order}
 
 module _ (core : Core) where
   -- the place before those that were looked at is listed, if such a table has it
   pub one-more_listed : (schema : List ℕ) (place n : ℕ) (places : List ℕ)
-      → places ≡ in_key_order core (filter (has_defined_table schema core) (range_with_len (place + 1) n))
+      → places ≡ places_in_key_order core (filter (has_defined_table schema core) (range_with_len (place + 1) n))
       → (if has_defined_table schema core place then put_in_order core place places else places)
-      ≡ in_key_order core (filter (has_defined_table schema core) (range_with_len place (suc n)))
+      ≡ places_in_key_order core (filter (has_defined_table schema core) (range_with_len place (suc n)))
   one-more_listed schema place n places so =
       ap (λ (l : List ℕ). if has_defined_table schema core place then put_in_order core place l else l) so
       ∙ by (has_defined_table schema core place) (filter (has_defined_table schema core) (range_with_len (place + 1) n))
     where
       by : (b : Bool) (rest : List ℕ)
-          → (if b then put_in_order core place (in_key_order core rest) else in_key_order core rest) ≡ in_key_order core (cond b (place ∷ rest) rest)
+          → (if b then put_in_order core place (places_in_key_order core rest) else places_in_key_order core rest) ≡ places_in_key_order core (cond b (place ∷ rest) rest)
       by true rest = refl
       by false rest = refl
 

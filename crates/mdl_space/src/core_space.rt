@@ -5,7 +5,7 @@ ghost use Rattle.mdl_book.specs.Books.{lock_kind};
 ghost use Rattle.mdl_book.specs.Granting.{is_compatible};
 ghost use Rattle.mdl_book.specs.Tickets.{ticket_of};
 ghost use Rattle.mdl_system.specs.Strength.{covers};
-ghost use Rattle.mdl_core.specs.Words.{empty_core, book_at, has_key, has_session, seat_at, first_cause, request_causes, clone_causes, held_outcome, key_of_outcome, resolve_outcome, try_now_outcome, begin_wait_outcome, search_outcome, poll_wait_outcome, settle_timeout_outcome, end_wait_outcome, wait_of_outcome, kill_outcome, release_outcome, granted_unless_full, clone_ticket_outcome, Makes, SpeaksFor, leaving, freeing, serving};
+ghost use Rattle.mdl_core.specs.Words.{empty_core, book_at, has_key, has_session, seat_at, first_cause, request_causes, clone_causes, held_outcome, key_of_outcome, resolve_outcome, try_now_outcome, begin_wait_outcome, search_outcome, poll_wait_outcome, settle_timeout_outcome, end_wait_outcome, wait_of_outcome, kill_outcome, release_outcome, granted_unless_full, clone_ticket_outcome, Makes, SpeaksFor, ending_lost, freeing, serving};
 ghost use Rattle.mdl_calls.specs.Words.{are_rising, new_fault, Has_wait, Has_killed, keyed, placed, attempted, begun, searched, polled, timed_out, ended, done, cloned, listed};
 
 use crate::granting::{give, is_free, queue};
@@ -394,7 +394,7 @@ impl CoreSpace {
         requires session { has_session who self.old ≡ true }
         requires key { has_key wait.place self.old ≡ true }
         requires waits { IsSome (ticket_of who wait.id (book_at wait.place self.old).waiting) }
-        ensures { self.new ≡ serving wait.place (leaving who wait self.old) }
+        ensures { self.new ≡ serving wait.place (ending_lost who wait self.old) }
     {
         self.seats[usize::from(who) - 1].drop_wait();
         let book = &mut self.books[usize::from(wait.place) - 1];

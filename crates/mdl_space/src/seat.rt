@@ -2,7 +2,7 @@
 ghost use Rattle.std.specs.Prelude.{◌≡◌, ℕ, ◌+◌, ◌<◌, ◌^◌, find, position, Some, None, IsTrue, OnOk, OnErr, IsOkUnless};
 ghost use Rattle.mdl_key.specs.declared.mode.Mode.{Mode};
 ghost use Rattle.mdl_calls.specs.SessionLocks.{are_rising, is_number};
-ghost use Rattle.mdl_core.specs.Seats.{SeatView, empty_seat, holding, without_ticket, beginning_wait, is_closed, is_open, settling, without_wait, with_ticket_in, with_ticket_of};
+ghost use Rattle.mdl_core.specs.Seats.{SeatView, empty_seat, holding, without_ticket, beginning_wait, is_settled_wait, is_unsettled_wait, with_settled_wait, seat_without_wait, with_ticket_in, with_ticket_of};
 
 use crate::{Held, Place, Settled, SpaceError, TicketId};
 use mdl_core::Pending;
@@ -80,7 +80,7 @@ impl Seat {
 
     /// Whether there is a wait that is settled.
     pub(crate) fn is_settled(&self) -> bool
-        ensures { result ≡ is_closed self.now.wait }
+        ensures { result ≡ is_settled_wait self.now.wait }
     {
         match self.wait {
             Some(wait) => wait.settled.is_some(),
@@ -90,7 +90,7 @@ impl Seat {
 
     /// Whether there is a wait that isn't settled.
     pub(crate) fn is_waiting(&self) -> bool
-        ensures { result ≡ is_open self.now.wait }
+        ensures { result ≡ is_unsettled_wait self.now.wait }
     {
         match self.wait {
             Some(wait) => wait.settled.is_none(),
@@ -157,7 +157,7 @@ impl Seat {
 
     /// Settles the wait, if there is one.
     pub(crate) fn settle(&mut self, how: Settled)
-        ensures { self.new ≡ settling how self.old }
+        ensures { self.new ≡ with_settled_wait how self.old }
     {
         if let Some(wait) = self.wait {
             self.wait = Some(Pending {
@@ -183,7 +183,7 @@ impl Seat {
 
     /// Ends the wait, if there is one, without a ticket.
     pub(crate) fn drop_wait(&mut self)
-        ensures { self.new ≡ without_wait self.old }
+        ensures { self.new ≡ seat_without_wait self.old }
     {
         self.wait = None;
     }

@@ -20,7 +20,7 @@ use Rattle.mdl_rows.specs.Playing.{play}
 use Rattle.mdl_rows.specs.Rows.{Row, check, look, room, ◌>>=◌, ◌>>◌}
 use Rattle.mdl_stmt.specs.Players.{PlayerView}
 use Rattle.mdl_rows.specs.States.{State, has_locked}
-use Rattle.mdl_rows.specs.Statements.{alter_among_locked, alter_first, alter_in_schema, alter_locked, alter_unlocked, among_locked, commit_first, fault_number, unless_fault}
+use Rattle.mdl_rows.specs.Statements.{alter_among_locked, alter_first, alter_in_schema, alter_locked, alter_unlocked, among_locked, check_fault, commit_first, fault_number}
 use Rattle.mdl_stmt.proofs.RowLemmas.{read_lock-so}
 
 -- ---- locked tables
@@ -48,7 +48,7 @@ among-so x table locked rest found may mark =
 
 -- the checks of a change
 abbrev pub checks : Option DefError → Bool → (Unit {0} → Row Reply) → Row Reply
-checks fault last rest = (room >> (unless_fault fault >> check last VersionLimit)) >>= rest
+checks fault last rest = (room >> (check_fault fault >> check last VersionLimit)) >>= rest
 
 -- why a change isn't made
 abbrev pub IsRefusal : Option DefError → Ending → Type 0
@@ -61,12 +61,12 @@ refused-change members a x fault last rest ending (inl starves) = record {
 }
 refused-change members a x fault last rest ending (inr (one, is, fails)) = record {
   so = λ mark pause c run.
-      inr (subst (λ (f : Option DefError). Runs (cached members) (a, x.cache) (play ((unless_fault f >> check last VersionLimit) >>= rest) mark (at_rest x)) pause c) (sym is)
+      inr (subst (λ (f : Option DefError). Runs (cached members) (a, x.cache) (play ((check_fault f >> check last VersionLimit) >>= rest) mark (at_rest x)) pause c) (sym is)
       (subst (λ (e : Ending). Runs (cached members) (a, x.cache) (closing e mark (at_rest x)) pause c) fails run));
 }
 
 -- what comes of a change that can be made: only its number of versions is left to look at
 pub passed-change : (fault : Option DefError) (last test : Bool) (rest : Unit {0} → Row Reply) → fault ≡ None → last ≡ test →
-    (unless_fault fault >> check last VersionLimit) >>= rest ≡ check test VersionLimit >>= rest
+    (check_fault fault >> check last VersionLimit) >>= rest ≡ check test VersionLimit >>= rest
 passed-change fault last test rest none is =
-    ap (λ (f : Option DefError). (unless_fault f >> check last VersionLimit) >>= rest) none ∙ ap (λ (t : Bool). check t VersionLimit >>= rest) is
+    ap (λ (f : Option DefError). (check_fault f >> check last VersionLimit) >>= rest) none ∙ ap (λ (t : Bool). check t VersionLimit >>= rest) is

@@ -13,7 +13,7 @@ use Rattle.mdl_context.specs.declared.request.Resume.{Resume}
 use Rattle.mdl_context.specs.declared.request.Tried.{Tried}
 use Rattle.mdl_context.specs.Contexts.{ContextView, of_transaction}
 use Rattle.mdl_context.specs.MemoryLaws.{IsOwnCall}
-use Rattle.mdl_context.specs.Releases.{giving_up, giving_up_all, releasing}
+use Rattle.mdl_context.specs.Releases.{giving_up_all, releasing, releasing_tickets}
 use Rattle.mdl_context.specs.Requests.{Outcome, acquiring, trying}
 use Rattle.mdl_context.specs.Upgrades.{downgrading, upgrading}
 use Rattle.mdl_context.specs.Waits.{giving_up_wait, resuming}
@@ -38,13 +38,13 @@ run-own members who program own cache a b reply run =
 abbrev IsUnread : Call → Type 0
 IsUnread call = reads_with_cache call ≡ false
 
-none_given_up : (gone : List Kept) (context : ContextView) → ReadsNone (giving_up gone context)
-none_given_up gone context = reads-none {A = Outcome (Unit {0})} context.who (giving_up gone context) (own_giving_up gone context)
+none_given_up : (gone : List Kept) (context : ContextView) → ReadsNone (releasing_tickets gone context)
+none_given_up gone context = reads-none {A = Outcome (Unit {0})} context.who (releasing_tickets gone context) (own_giving_up gone context)
 
 none_all : (context : ContextView) → ReadsNone (giving_up_all context >> Give (tt {0}))
 none_all context =
     calls_bind {A = Outcome (Unit {0})} {B = Unit {0}} IsUnread (giving_up_all context) (λ _. Give (tt {0}))
-    (calls_bind {A = Outcome (Unit {0})} {B = Outcome (Unit {0})} IsUnread (giving_up (of_transaction context.kept) context) (λ outcome. giving_up outcome.1.kept outcome.1)
+    (calls_bind {A = Outcome (Unit {0})} {B = Outcome (Unit {0})} IsUnread (releasing_tickets (of_transaction context.kept) context) (λ outcome. releasing_tickets outcome.1.kept outcome.1)
     (none_given_up (of_transaction context.kept) context) (λ outcome. none_given_up outcome.1.kept outcome.1)) (λ _. tt)
 
 none_leaving_from : (wait : Option Wanted) (context : ContextView) → ReadsNone (leaving_from wait context)
@@ -76,9 +76,9 @@ module _ {S : Type 0} (members : Ghosts S) where
       Runs (cached members) (a, cache) (downgrading id mode context) reply (b, cache)
   downgrades id mode context cache reply a b run = run-own {A = Outcome (Unit {0})} members context.who (downgrading id mode context) (own_downgrading id mode context) cache a b reply run
 
-  pub gives_up : (gone : List Kept) (context : ContextView) (cache : CacheView) (reply : Outcome (Unit {0})) (a b : S) → Runs members.joins a (giving_up gone context) reply b →
-      Runs (cached members) (a, cache) (giving_up gone context) reply (b, cache)
-  gives_up gone context cache reply a b run = run-own {A = Outcome (Unit {0})} members context.who (giving_up gone context) (own_giving_up gone context) cache a b reply run
+  pub gives_up : (gone : List Kept) (context : ContextView) (cache : CacheView) (reply : Outcome (Unit {0})) (a b : S) → Runs members.joins a (releasing_tickets gone context) reply b →
+      Runs (cached members) (a, cache) (releasing_tickets gone context) reply (b, cache)
+  gives_up gone context cache reply a b run = run-own {A = Outcome (Unit {0})} members context.who (releasing_tickets gone context) (own_giving_up gone context) cache a b reply run
 
   pub releases : (id : ℕ) (context : ContextView) (cache : CacheView) (reply : Outcome (Unit {0})) (a b : S) → Runs members.joins a (releasing id context) reply b →
       Runs (cached members) (a, cache) (releasing id context) reply (b, cache)

@@ -9,7 +9,7 @@ use Rattle.mdl_rows.specs.declared.error_number.ErrorNumber.TheVariants.{NoSuchT
 use Rattle.mdl_rows.specs.declared.reply.Reply.TheVariants as reply
 use Rattle.mdl_rows.specs.declared.reply.TableShown.{TableShown}
 use Rattle.mdl_rows.specs.Endings.{closing, ending_of_refusal}
-use Rattle.mdl_rows.specs.Statements.{columns_of, definition_under, exists, has_definition, show}
+use Rattle.mdl_rows.specs.Statements.{definition_under, exists, has_definition, show, table_columns}
 use Rattle.mdl_stmt.proofs.RowLemmas.{bind-assoc}
 use Rattle.mdl_stmt.proofs.RunLemmas.{comes-then}
 use Rattle.std.proofs.Common.{◌≡◌, ◌≢◌, ℕ, refl, Some, None, Result, Ok, Err, ap, sym, subst, inl, inr}
@@ -82,14 +82,14 @@ room-step members act a b x y (Err ending) made = λ rest. record { so = λ mark
 -- a table is shown
 pub show-step : {S : Type 0} (members : Ghosts S) (shown : List TableShown) (table : KeyName) (ticket : ℕ) (a b : S) (x y : PlayerView) (standing : Standing) (result : Result (List TableShown) Ending) →
     IsStep members (exists ticket) a x (Ok standing) b y →
-    MatchResult result (λ more. more ≡ shown ++ record { key = table; version = standing.version; columns = columns_of standing.definition } ∷ []) (λ ending. ending ≡ Starves) →
+    MatchResult result (λ more. more ≡ shown ++ record { key = table; version = standing.version; columns = table_columns standing.definition } ∷ []) (λ ending. ending ≡ Starves) →
     IsStep members (show shown table ticket) a x result b y
 show-step members shown table ticket a b x y standing (Ok more) first e = λ rest.
-    let behind : Standing → Row (List TableShown) = λ s. room >> Give (shown ++ record { key = table; version = s.version; columns = columns_of s.definition } ∷ []) in
+    let behind : Standing → Row (List TableShown) = λ s. room >> Give (shown ++ record { key = table; version = s.version; columns = table_columns s.definition } ∷ []) in
     comes-then (comes-row (show shown table ticket >>= rest) (exists ticket >>= (λ s. behind s >>= rest)) (bind-assoc (exists ticket) behind rest))
     (comes-then (first (λ s. behind s >>= rest)) (record { so = λ mark pause c run. inr (subst (λ (m : List TableShown). Runs (cached members) (b, y.cache) (play (rest m) mark (at_rest y)) pause c) e run) }))
 show-step members shown table ticket a b x y standing (Err ending) first e = λ rest.
-    let behind : Standing → Row (List TableShown) = λ s. room >> Give (shown ++ record { key = table; version = s.version; columns = columns_of s.definition } ∷ []) in
+    let behind : Standing → Row (List TableShown) = λ s. room >> Give (shown ++ record { key = table; version = s.version; columns = table_columns s.definition } ∷ []) in
     comes-then (comes-row (show shown table ticket >>= rest) (exists ticket >>= (λ s. behind s >>= rest)) (bind-assoc (exists ticket) behind rest))
     (comes-then (first (λ s. behind s >>= rest)) (record { so = λ mark pause c run. inl (subst (λ (m : Ending). Runs (cached members) (b, y.cache) (closing m mark (at_rest y)) pause c) e run) }))
 
@@ -97,7 +97,7 @@ show-step members shown table ticket a b x y standing (Err ending) first e = λ 
 pub show-ends : {S : Type 0} (members : Ghosts S) (shown : List TableShown) (table : KeyName) (ticket : ℕ) (a b : S) (x y : PlayerView) (ending : Ending) →
     IsStep members (exists ticket) a x (Err ending) b y → IsStep members (show shown table ticket) a x (Err ending) b y
 show-ends members shown table ticket a b x y ending first = λ rest.
-    let behind : Standing → Row (List TableShown) = λ s. room >> Give (shown ++ record { key = table; version = s.version; columns = columns_of s.definition } ∷ []) in
+    let behind : Standing → Row (List TableShown) = λ s. room >> Give (shown ++ record { key = table; version = s.version; columns = table_columns s.definition } ∷ []) in
     comes-then (comes-row (show shown table ticket >>= rest) (exists ticket >>= (λ s. behind s >>= rest)) (bind-assoc (exists ticket) behind rest)) (first (λ s. behind s >>= rest))
 
 -- a definition is there, or the table is missing

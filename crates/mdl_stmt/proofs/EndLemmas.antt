@@ -10,14 +10,14 @@ use Rattle.mdl_context.specs.declared.request.Resume.{Resume}
 use Rattle.mdl_context.specs.declared.request.Resume.TheVariants as resume
 use Rattle.mdl_calls.specs.declared.answers.Settled.{Settled}
 use Rattle.mdl_context.specs.Contexts.{ContextView, waits_for_user_lock}
-use Rattle.mdl_context.specs.Releases.{giving_up, releasing}
+use Rattle.mdl_context.specs.Releases.{releasing, releasing_tickets}
 use Rattle.mdl_context.specs.Waits.{resuming}
 use Rattle.mdl_rows.specs.declared.ending.Ending.{Ending}
 use Rattle.mdl_stmt.specs.declared.runner.Work.{Work}
-use Rattle.mdl_rows.specs.Endings.{Pause, Waits_on, closing, ended, ending_of_error, ending_of_loss, gone_at, letting_go, state_after, without_half}
+use Rattle.mdl_rows.specs.Endings.{Pause, Waits_on, closing, ending_of_error, ending_of_loss, gone_at, letting_go, pause_after, state_after, without_half}
 use Rattle.mdl_rows.specs.Playing.{going_on, play, resumed}
 use Rattle.mdl_stmt.specs.Players.{PlayerView, RunnerView}
-use Rattle.mdl_stmt.specs.Stages.{left_of, rest_of, session_of}
+use Rattle.mdl_stmt.specs.Stages.{rest_of, session_of, work_left}
 use Rattle.mdl_rows.specs.Sessions.{Session}
 use Rattle.mdl_rows.specs.States.{State, half_lock, without_read_lock}
 use Rattle.mdl_stmt.specs.Attendance.{cached}
@@ -27,21 +27,21 @@ use Rattle.mdl_stmt.proofs.CachedLemmas.{gives_up, releases}
 module _ {S : Type 0} (joins : S → Call → Answer → S → Type 0) where
   -- its tickets go, and what is left is how it ended
   pub closes : (ending : Ending) (mark : Mark) (before after : PlayerView) (a b : S) → after.state ≡ before.state →
-      Runs joins a (giving_up (gone_at ending before.state.is_open mark before.context.kept) before.context) (Ok tt, after.context) b →
-      Runs joins a (letting_go ending mark (at_rest before)) (ended ending (record { context = after.context; state = state_after ending after.state; left = None })) b
+      Runs joins a (releasing_tickets (gone_at ending before.state.is_open mark before.context.kept) before.context) (Ok tt, after.context) b →
+      Runs joins a (letting_go ending mark (at_rest before)) (pause_after ending (record { context = after.context; state = state_after ending after.state; left = None })) b
   closes ending mark before after a b same run =
-      subst (λ (s : State). Runs joins a (letting_go ending mark (at_rest before)) (ended ending (record { context = after.context; state = state_after ending s; left = None })) b) (sym same)
-      (runs_bind joins (giving_up (gone_at ending before.state.is_open mark before.context.kept) before.context)
-      (λ outcome. Give (ended ending (record { context = outcome.1; state = state_after ending before.state; left = None }))) a b b _ _ run (refl, refl))
+      subst (λ (s : State). Runs joins a (letting_go ending mark (at_rest before)) (pause_after ending (record { context = after.context; state = state_after ending s; left = None })) b) (sym same)
+      (runs_bind joins (releasing_tickets (gone_at ending before.state.is_open mark before.context.kept) before.context)
+      (λ outcome. Give (pause_after ending (record { context = outcome.1; state = state_after ending before.state; left = None }))) a b b _ _ run (refl, refl))
 
   -- the wait went on, and then the statement
   pub goes-on : (context after : ContextView) (state : State) (cache : CacheView) (work : Option Work) (result : Result Resume ContextError) (pause : Pause) (a b c : S) → IsSome work →
       Runs joins a (resuming context) (result, after) b →
-      ((some : Work) → work ≡ Some some → Runs joins b (resumed (left_of some) (record { context = context; state = state; left = None }) (result, after)) pause c) →
+      ((some : Work) → work ≡ Some some → Runs joins b (resumed (work_left some) (record { context = context; state = state; left = None }) (result, after)) pause c) →
       Runs joins a (going_on (session_of (record { context = context; state = state; work = work; cache = cache }))) pause c
   goes-on context after state cache None result pause a b c some run rest = cc
   goes-on context after state cache (Some work) result pause a b c some run rest =
-      runs_bind joins (resuming context) (resumed (left_of work) (record { context = context; state = state; left = None })) a b c _ pause run (rest work refl)
+      runs_bind joins (resuming context) (resumed (work_left work) (record { context = context; state = state; left = None })) a b c _ pause run (rest work refl)
 
   -- it waits on
   pub waits-still : (runner : RunnerView) (after : ContextView) (a b : S) → IsSome runner.work → Runs joins a (resuming runner.context) (Ok resume.Waiting, after) b →
@@ -76,11 +76,11 @@ module _ {S : Type 0} (joins : S → Call → Answer → S → Type 0) where
 module _ {S : Type 0} (members : Ghosts S) where
   -- the tickets of a statement go, and the cache stays
   pub closes-so : (ending : Ending) (mark : Mark) (before after : PlayerView) (a b : S) → after.state ≡ before.state → after.cache ≡ before.cache →
-      Runs members.joins a (giving_up (gone_at ending before.state.is_open mark before.context.kept) before.context) (Ok tt, after.context) b →
-      Runs (cached members) (a, before.cache) (letting_go ending mark (at_rest before)) (ended ending (record { context = after.context; state = state_after ending after.state; left = None })) (b, after.cache)
+      Runs members.joins a (releasing_tickets (gone_at ending before.state.is_open mark before.context.kept) before.context) (Ok tt, after.context) b →
+      Runs (cached members) (a, before.cache) (letting_go ending mark (at_rest before)) (pause_after ending (record { context = after.context; state = state_after ending after.state; left = None })) (b, after.cache)
   closes-so ending mark before after a b same kept run =
       let end : Session = record { context = after.context; state = state_after ending after.state; left = None } in
-      subst (λ (cache : CacheView). Runs (cached members) (a, before.cache) (letting_go ending mark (at_rest before)) (ended ending end) (b, cache)) (sym kept)
+      subst (λ (cache : CacheView). Runs (cached members) (a, before.cache) (letting_go ending mark (at_rest before)) (pause_after ending end) (b, cache)) (sym kept)
       (closes (cached members) ending mark before after (a, before.cache) (b, before.cache) same
       (gives_up members (gone_at ending before.state.is_open mark before.context.kept) before.context before.cache _ a b run))
 

@@ -21,7 +21,7 @@ use Rattle.mdl_rows.specs.Endings.{Pause, closing}
 use Rattle.mdl_stmt.specs.Attendance.{cached}
 use Rattle.mdl_stmt.specs.Gets.{IsPlayed, at_rest, ran}
 use Rattle.mdl_rows.specs.Keepings.{going_on_kept, keeping}
-use Rattle.mdl_stmt.specs.Gets.{IsSettled}
+use Rattle.mdl_stmt.specs.Gets.{IsPlayedOut}
 use Rattle.mdl_stmt.specs.KeptStages.{left_of_kept, session_with}
 use Rattle.mdl_rows.specs.Playing.{play, resumed}
 use Rattle.mdl_rows.specs.Rows.{Row}
@@ -54,7 +54,7 @@ module _ {S : Type 0} (joins : S → Call → Answer → S → Type 0) where
 module _ {S : Type 0} (members : Ghosts S) where
   -- a row was played, and then its statement was ended, or what is left of it was copied
   pub settled-so : (row : Row Reply) (mark : Mark) (before middle after : PlayerView) (how : Played) (turn : StartedStatement) (a b c : S) →
-      IsPlayed members row a before how b middle → IsSettled members how mark b middle turn c after →
+      IsPlayed members row a before how b middle → IsPlayedOut members how mark b middle turn c after →
       Runs (cached members) (a, before.cache) (play row mark (at_rest before) >>= keeping) (ran turn.progress (session_with after turn.work)) (c, after.cache)
   settled-so row mark before middle after (played.Ends ending) turn a b c comes (none, run) =
       ended-kept (cached members) (play row mark (at_rest before)) turn after (a, before.cache) (c, after.cache) none
@@ -74,7 +74,7 @@ module _ {S : Type 0} (members : Ghosts S) where
       (a, before.cache) (b, before.cache) c (result, context) pause (resumes members before.context before.cache _ a b run) rest)
 
   -- it was lost, or memory ran out
-  pub ends-kept : (ending : Ending) (mark : Mark) (before after : PlayerView) (turn : StartedStatement) (a b : S) → IsSettled members (played.Ends ending) mark a before turn b after →
+  pub ends-kept : (ending : Ending) (mark : Mark) (before after : PlayerView) (turn : StartedStatement) (a b : S) → IsPlayedOut members (played.Ends ending) mark a before turn b after →
       Runs (cached members) (a, before.cache) (closing ending mark (at_rest before) >>= keeping) (ran turn.progress (session_with after turn.work)) (b, after.cache)
   ends-kept ending mark before after turn a b (none, run) =
       ended-kept (cached members) (closing ending mark (at_rest before)) turn after (a, before.cache) (b, after.cache) none run

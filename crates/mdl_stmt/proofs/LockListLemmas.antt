@@ -21,7 +21,7 @@ use Rattle.mdl_rows.specs.declared.reply.Reply.{Reply}
 use Rattle.mdl_stmt.specs.declared.lock_list.Locking.{Locking}
 use Rattle.mdl_stmt.specs.declared.lock_list.Locking.TheVariants.{Ddl, Tables}
 use Rattle.mdl_stmt.specs.Gets.{Comes, IsGot, IsListedBy}
-use Rattle.mdl_stmt.specs.LockLists.{LockList, with_ticket}
+use Rattle.mdl_stmt.specs.LockLists.{LockList, with_next_ticket}
 use Rattle.mdl_rows.specs.Playing.{play}
 use Rattle.mdl_rows.specs.Rows.{Row, Give, Acquire, acquire_all, ◌>>=◌}
 use Rattle.mdl_stmt.specs.Players.{PlayerView}
@@ -57,7 +57,7 @@ wish-so (Tables locks) key mode duration e f =
     ap (λ m. record { key = key; mode = m; duration = duration }) e ∙ ap (λ d. record { key = key; mode = (table_lock locks.now key).mode; duration = d }) f
 
 -- its keys stay
-pub keys-stay : (ticket : ℕ) (locks : LockList) → (with_ticket ticket locks).keys ≡ locks.keys
+pub keys-stay : (ticket : ℕ) (locks : LockList) → (with_next_ticket ticket locks).keys ≡ locks.keys
 keys-stay ticket locks = by (nat_lt (length locks.tickets) (length locks.keys)) where
   by : (left : Bool) → (if left then record locks { tickets = locks.tickets ++ ticket ∷ [] } else locks).keys ≡ locks.keys
   by true = refl
@@ -65,7 +65,7 @@ keys-stay ticket locks = by (nat_lt (length locks.tickets) (length locks.keys)) 
 
 -- the ticket of the next lock is among the tickets
 pub lock-had : (wish : KeyName → Wish) (locks : LockList) (ticket : ℕ) (rest : List ℕ → Row Reply) → nat_lt (length locks.tickets) (length locks.keys) ≡ true →
-    lock_rest_by wish (with_ticket ticket locks) rest
+    lock_rest_by wish (with_next_ticket ticket locks) rest
     ≡ acquire_all (map wish (drop (suc (length locks.tickets)) locks.keys)) >>= (λ more. rest (locks.tickets ++ ticket ∷ more))
 lock-had wish locks ticket rest e =
     let longer : LockList = record locks { tickets = locks.tickets ++ ticket ∷ [] } in
@@ -77,7 +77,7 @@ lock-had wish locks ticket rest e =
 
 -- the next lock
 pub lock-next : (wish : KeyName → Wish) (locks : LockList) (key : KeyName) (rest : List ℕ → Row Reply) → slice_get locks.keys (length locks.tickets) ≡ Some key →
-    lock_rest_by wish locks rest ≡ Acquire (wish key) (λ ticket. lock_rest_by wish (with_ticket ticket locks) rest)
+    lock_rest_by wish locks rest ≡ Acquire (wish key) (λ ticket. lock_rest_by wish (with_next_ticket ticket locks) rest)
 lock-next wish locks key rest e =
     let within = slice_get_within locks.keys (length locks.tickets) key e in
     let left : nat_lt (length locks.tickets) (length locks.keys) ≡ true = grind (arith, nat_tests) in
@@ -99,26 +99,26 @@ module _ {S : Type 0} (members : Ghosts S) (wish : KeyName → Wish) (first : Lo
 
   -- the next one is asked for
   pub list-next : (locks : LockList) (key : KeyName) (b : S) (y : PlayerView) → slice_get locks.keys (length locks.tickets) ≡ Some key → HadSo locks b y → (rest : List ℕ → Row Reply) →
-      Comes members a x (play (lock_rest_by wish first rest)) b y (play (Acquire (wish key) (λ ticket. lock_rest_by wish (with_ticket ticket locks) rest)))
+      Comes members a x (play (lock_rest_by wish first rest)) b y (play (Acquire (wish key) (λ ticket. lock_rest_by wish (with_next_ticket ticket locks) rest)))
   list-next locks key b y e so rest = comes-then (so rest) (comes-row _ _ (lock-next wish locks key rest e))
 
   -- it is had
   pub list-had : (locks all : LockList) (key : KeyName) (made_by : Wish) (ticket : ℕ) (b c : S) (y z : PlayerView) → slice_get locks.keys (length locks.tickets) ≡ Some key → made_by ≡ wish key →
-      all ≡ with_ticket ticket locks → HadSo locks b y → IsGot members made_by b y (Had ticket) c z → HadSo all c z
+      all ≡ with_next_ticket ticket locks → HadSo locks b y → IsGot members made_by b y (Had ticket) c z → HadSo all c z
   list-had locks all key made_by ticket b c y z e same more so made = subst (λ l. HadSo l c z) (sym more)
-      (λ rest. comes-then (list-next locks key b y e so rest) (subst (λ w. IsGot members w b y (Had ticket) c z) same made (λ ticket. lock_rest_by wish (with_ticket ticket locks) rest)))
+      (λ rest. comes-then (list-next locks key b y e so rest) (subst (λ w. IsGot members w b y (Had ticket) c z) same made (λ ticket. lock_rest_by wish (with_next_ticket ticket locks) rest)))
 
   -- it is waited for
   pub list-waits : (locks : LockList) (key told : KeyName) (made_by : Wish) (b c : S) (y z : PlayerView) → slice_get locks.keys (length locks.tickets) ≡ Some key → made_by ≡ wish key →
       HadSo locks b y → IsGot members made_by b y (got.Waits told) c z → IsListedBy members wish first a x (listed.Waits told made_by.mode locks) c z
   list-waits locks key told made_by b c y z e same so made = subst (λ (w : Wish). IsListedBy members wish first a x (listed.Waits told w.mode locks) c z) (sym same)
-      (λ rest. comes-waits (list-next locks key b y e so rest) (subst (λ w. IsGot members w b y (got.Waits told) c z) same made (λ ticket. lock_rest_by wish (with_ticket ticket locks) rest)))
+      (λ rest. comes-waits (list-next locks key b y e so rest) (subst (λ w. IsGot members w b y (got.Waits told) c z) same made (λ ticket. lock_rest_by wish (with_next_ticket ticket locks) rest)))
 
   -- it ends the statement
   pub list-ends : (locks : LockList) (key : KeyName) (made_by : Wish) (ending : Ending) (b c : S) (y z : PlayerView) → slice_get locks.keys (length locks.tickets) ≡ Some key → made_by ≡ wish key →
       HadSo locks b y → IsGot members made_by b y (got.Ends ending) c z → IsListedBy members wish first a x (listed.Ends ending) c z
   list-ends locks key made_by ending b c y z e same so made = λ rest.
-      comes-then (list-next locks key b y e so rest) (subst (λ w. IsGot members w b y (got.Ends ending) c z) same made (λ ticket. lock_rest_by wish (with_ticket ticket locks) rest))
+      comes-then (list-next locks key b y e so rest) (subst (λ w. IsGot members w b y (got.Ends ending) c z) same made (λ ticket. lock_rest_by wish (with_next_ticket ticket locks) rest))
 
   -- all are had
   pub list-over : (locks : LockList) (b : S) (y : PlayerView) → slice_get locks.keys (length locks.tickets) ≡ None → HadSo locks b y → IsListedBy members wish first a x (listed.Had locks) b y

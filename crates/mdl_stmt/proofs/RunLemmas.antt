@@ -18,7 +18,7 @@ use Rattle.mdl_context.specs.declared.request.Resume.{Resume}
 use Rattle.mdl_context.specs.declared.request.Resume.TheVariants as resume
 use Rattle.mdl_context.specs.declared.request.Tried.TheVariants as try_as
 use Rattle.mdl_context.specs.Contexts.{ContextView, of_transaction, beyond_mark, last_ticket}
-use Rattle.mdl_context.specs.Releases.{giving_up, releasing}
+use Rattle.mdl_context.specs.Releases.{releasing, releasing_tickets}
 use Rattle.mdl_context.specs.Requests.{Outcome, acquiring, trying}
 use Rattle.mdl_context.specs.Upgrades.{upgrading, downgrading}
 use Rattle.mdl_context.specs.Waits.{giving_up_wait}
@@ -37,14 +37,14 @@ use Rattle.mdl_rows.specs.declared.ending.Ending.TheVariants.{Answers, Starves}
 use Rattle.mdl_rows.specs.declared.error_number.ErrorNumber.TheVariants.{NoSuchSavepoint}
 use Rattle.mdl_rows.specs.declared.state.Savepoint.{Savepoint}
 use Rattle.mdl_stmt.specs.Attendance.{cached}
-use Rattle.mdl_stmt.specs.Gets.{Comes, Waits, IsDropped, IsGot, IsRaised, IsStep, IsTold, IsCommitted, IsPlayed, at_rest}
+use Rattle.mdl_stmt.specs.Gets.{Comes, Waits, IsDropped, IsGot, IsUpgradeResult, IsStep, IsReportedWait, IsCommitted, IsPlayed, at_rest}
 use Rattle.mdl_rows.specs.Playing.{play, acquired, tried, upgrade_wish, untold, with_context, with_left}
 use Rattle.mdl_rows.specs.Rows.{Row, Act, Give, ◌>>◌, ◌>>=◌}
 use Rattle.mdl_rows.specs.Rows as row
 use Rattle.mdl_rows.specs.Sessions.{Session}
 use Rattle.mdl_stmt.specs.Players.{PlayerView}
 use Rattle.mdl_rows.specs.Statements.{end_under, end_transaction, commit, commit_writes, rollback, wrote, rollback_to, go_back, give_back, release_lock}
-use Rattle.mdl_rows.specs.States.{written, closed, is_named, savepoint_mark, up_to}
+use Rattle.mdl_rows.specs.States.{after_write, without_transaction, is_savepoint_named, savepoint_mark, up_to}
 use Rattle.mdl_rows.specs.declared.reply.Reply.TheVariants as reply
 use Rattle.mdl_stmt.proofs.CachedLemmas.{acquires, downgrades, gives_up, gives_up_wait, releases, tries, upgrades}
 
@@ -188,7 +188,7 @@ module _ {S : Type 0} (members : Ghosts S) where
 
   pub got-told : (wish : Wish) (before : PlayerView) (number : ℕ) (context : ContextView) (told : LockResult ℕ) (after : PlayerView) (a b c : S) →
       Runs members.joins a (acquiring wish before.context) (Ok (acquire.MustWait number), context) b →
-      IsTold members wish.key b (record before { context = context }) told c after → IsGot members wish a before told c after
+      IsReportedWait members wish.key b (record before { context = context }) told c after → IsGot members wish a before told c after
   got-told wish before number context (Had id) after a b c run told = absurd told
   got-told wish before number context (got.Waits key) after a b c run (same, here, stays) = λ rest. record {
     so = λ mark. told-waits (acquiring wish before.context) wish rest mark before after number context key a b c (acquires members wish before.context before.cache _ a b run) same here stays;
@@ -199,21 +199,21 @@ module _ {S : Type 0} (members : Ghosts S) where
 
   -- a ticket was to be upgraded
   pub raised-had : (id : ℕ) (key : KeyName) (mode : Mode) (before : PlayerView) (new : ℕ) (context : ContextView) (a b : S) →
-      Runs members.joins a (upgrading id mode before.context) (Ok (acquire.Acquired new), context) b → IsRaised members id key mode a before (Had new) b (record before { context = context })
+      Runs members.joins a (upgrading id mode before.context) (Ok (acquire.Acquired new), context) b → IsUpgradeResult members id key mode a before (Had new) b (record before { context = context })
   raised-had id key mode before new context a b run rest = record {
     so = λ mark pause c after. asked-runs (upgrading id mode before.context) (upgrade_wish key mode) rest mark (at_rest before) _ pause (a, before.cache) (b, before.cache) c (upgrades members id mode before.context before.cache _ a b run) after;
   }
 
   pub raised-error : (id : ℕ) (key : KeyName) (mode : Mode) (before : PlayerView) (error : ContextError) (context : ContextView) (a b : S) →
       Runs members.joins a (upgrading id mode before.context) (Err error, context) b →
-      IsRaised members id key mode a before (got.Ends (ending_of_error error)) b (record before { context = context })
+      IsUpgradeResult members id key mode a before (got.Ends (ending_of_error error)) b (record before { context = context })
   raised-error id key mode before error context a b run rest = record {
     so = λ mark pause c after. asked-runs (upgrading id mode before.context) (upgrade_wish key mode) rest mark (at_rest before) _ pause (a, before.cache) (b, before.cache) c (upgrades members id mode before.context before.cache _ a b run) after;
   }
 
   pub raised-told : (id : ℕ) (key : KeyName) (mode : Mode) (before : PlayerView) (number : ℕ) (context : ContextView) (told : LockResult ℕ) (after : PlayerView) (a b c : S) →
       Runs members.joins a (upgrading id mode before.context) (Ok (acquire.MustWait number), context) b →
-      IsTold members key b (record before { context = context }) told c after → IsRaised members id key mode a before told c after
+      IsReportedWait members key b (record before { context = context }) told c after → IsUpgradeResult members id key mode a before told c after
   raised-told id key mode before number context (Had new) after a b c run told = absurd told
   raised-told id key mode before number context (got.Waits told) after a b c run (same, here, stays) = λ rest. record {
     so = λ mark. told-waits (upgrading id mode before.context) (upgrade_wish key mode) rest mark before after number context told a b c (upgrades members id mode before.context before.cache _ a b run) same here stays;
@@ -233,11 +233,11 @@ module _ {S : Type 0} (members : Ghosts S) where
 
   -- tickets go
   pub gave-up : (which : List Kept → List Kept) (before : PlayerView) (context : ContextView) (rest : Row Reply) (a b : S) →
-      Runs members.joins a (giving_up (which before.context.kept) before.context) (Ok tt, context) b →
+      Runs members.joins a (releasing_tickets (which before.context.kept) before.context) (Ok tt, context) b →
       Comes members a before (play (row.Give_up which rest)) b (record before { context = context }) (play rest)
   gave-up which before context rest a b run = record {
     so = λ mark pause c after.
-        runs_bind (cached members) (giving_up (which before.context.kept) before.context) (λ outcome. play rest mark (with_context (at_rest before) outcome.1)) (a, before.cache) (b, before.cache) c _ pause (gives_up members (which before.context.kept) before.context before.cache _ a b run) after;
+        runs_bind (cached members) (releasing_tickets (which before.context.kept) before.context) (λ outcome. play rest mark (with_context (at_rest before) outcome.1)) (a, before.cache) (b, before.cache) c _ pause (gives_up members (which before.context.kept) before.context before.cache _ a b run) after;
   }
 
   pub released : (id : ℕ) (before : PlayerView) (result : Result (Unit {0}) ContextError) (context : ContextView) (rest : Row Reply) (a b : S) →
@@ -287,7 +287,7 @@ module _ {S : Type 0} (members : Ghosts S) where
 
   -- a write in no transaction
   pub wrote-so : (x : PlayerView) → x.state.is_open ≡ false → (mark : Mark) → play (commit_writes >> Give reply.Ok) mark (at_rest x) ≡ play wrote mark (at_rest x)
-  wrote-so x is mark = sym (ap (λ o. play ((if o then row.set written else commit_writes) >> Give reply.Ok) mark (at_rest x)) is)
+  wrote-so x is mark = sym (ap (λ o. play ((if o then row.set after_write else commit_writes) >> Give reply.Ok) mark (at_rest x)) is)
 
   -- a transaction that is rolled back
   pub rolled-so : (x : PlayerView) (is_open : Bool) (rest : Row Reply) → x.state.is_open ≡ is_open → (mark : Mark) →
@@ -296,21 +296,21 @@ module _ {S : Type 0} (members : Ghosts S) where
 
   -- the tickets of a transaction go, and then none is open
   pub closed-then : (before : PlayerView) (context : ContextView) (rest : Row Reply) (a b : S) →
-      Runs members.joins a (giving_up (of_transaction before.context.kept) before.context) (Ok tt, context) b →
-      Comes members a before (play (end_transaction >> rest)) b (record before { context = context; state = closed before.state }) (play rest)
+      Runs members.joins a (releasing_tickets (of_transaction before.context.kept) before.context) (Ok tt, context) b →
+      Comes members a before (play (end_transaction >> rest)) b (record before { context = context; state = without_transaction before.state }) (play rest)
   closed-then before context rest a b run = record {
     so = λ mark pause c after.
-        runs_bind (cached members) (giving_up (of_transaction before.context.kept) before.context) (λ outcome. play (row.Set closed rest) mark (with_context (at_rest before) outcome.1)) (a, before.cache) (b, before.cache) c _ pause (gives_up members (of_transaction before.context.kept) before.context before.cache _ a b run) after;
+        runs_bind (cached members) (releasing_tickets (of_transaction before.context.kept) before.context) (λ outcome. play (row.Set without_transaction rest) mark (with_context (at_rest before) outcome.1)) (a, before.cache) (b, before.cache) c _ pause (gives_up members (of_transaction before.context.kept) before.context before.cache _ a b run) after;
   }
 
   -- the session goes back to a savepoint
   pub went-back : (name : List ℕ) (mark : Mark) (before : PlayerView) (context : ContextView) (a b : S) → savepoint_mark name before.state.savepoints ≡ Some mark →
-      Runs members.joins a (giving_up (beyond_mark mark before.context.kept) before.context) (Ok tt, context) b →
+      Runs members.joins a (releasing_tickets (beyond_mark mark before.context.kept) before.context) (Ok tt, context) b →
       Comes members a before (play (rollback_to name)) b (record before { context = context; state = record before.state { savepoints = up_to name before.state.savepoints } }) (closing (Answers reply.Ok))
   went-back name mark before context a b found run = record {
     so = λ start pause c after.
         subst (λ (o : Option Mark). Runs (cached members) (a, before.cache) (play (go_back name o) start (at_rest before)) pause c) (sym found)
-        (runs_bind (cached members) (giving_up (beyond_mark mark before.context.kept) before.context)
+        (runs_bind (cached members) (releasing_tickets (beyond_mark mark before.context.kept) before.context)
         (λ outcome. play (row.Set (λ state. record state { savepoints = up_to name state.savepoints }) (Give reply.Ok)) start (with_context (at_rest before) outcome.1)) (a, before.cache) (b, before.cache) c _ pause (gives_up members (beyond_mark mark before.context.kept) before.context before.cache _ a b run) after);
   }
 
@@ -327,9 +327,9 @@ some-none e = cc
 -- where there is no savepoint of a name, none goes
 pub all-kept : (name : List ℕ) (savepoints : List Savepoint) → savepoint_mark name savepoints ≡ None → up_to name savepoints ≡ savepoints
 all-kept name [] none = refl
-all-kept name (savepoint ∷ savepoints) none = go (is_named name savepoint) refl (all-kept name savepoints) where
-  go : (b : Bool) → is_named name savepoint ≡ b → (savepoint_mark name savepoints ≡ None → up_to name savepoints ≡ savepoints) → up_to name (savepoint ∷ savepoints) ≡ savepoint ∷ savepoints
-  go true named later = absurd (some-none (sym (ap (λ (t : Bool). option_map (λ (s : Savepoint). s.mark) (if t then Some savepoint else find (is_named name) savepoints)) named) ∙ none))
+all-kept name (savepoint ∷ savepoints) none = go (is_savepoint_named name savepoint) refl (all-kept name savepoints) where
+  go : (b : Bool) → is_savepoint_named name savepoint ≡ b → (savepoint_mark name savepoints ≡ None → up_to name savepoints ≡ savepoints) → up_to name (savepoint ∷ savepoints) ≡ savepoint ∷ savepoints
+  go true named later = absurd (some-none (sym (ap (λ (t : Bool). option_map (λ (s : Savepoint). s.mark) (if t then Some savepoint else find (is_savepoint_named name) savepoints)) named) ∙ none))
   go false named later =
       ap (λ (t : Bool). savepoint ∷ (if t then [] else up_to name savepoints)) named
-      ∙ ap (λ (more : List Savepoint). savepoint ∷ more) (later (sym (ap (λ (t : Bool). option_map (λ (s : Savepoint). s.mark) (if t then Some savepoint else find (is_named name) savepoints)) named) ∙ none))
+      ∙ ap (λ (more : List Savepoint). savepoint ∷ more) (later (sym (ap (λ (t : Bool). option_map (λ (s : Savepoint). s.mark) (if t then Some savepoint else find (is_savepoint_named name) savepoints)) named) ∙ none))

@@ -6,7 +6,7 @@ use Rattle.mdl_calls.specs.Words.{Runs}
 use Rattle.mdl_calls.specs.declared.lock_space.LockSpace.{Ghosts}
 use Rattle.mdl_calls.proofs.CachedRuns.{run-plain}
 use Rattle.mdl_context.specs.declared.request.Mark.{Mark}
-use Rattle.mdl_context.specs.Contexts.{mark_of}
+use Rattle.mdl_context.specs.Contexts.{current_mark}
 use Rattle.mdl_syntax.specs.declared.statement.Statement.{Statement}
 use Rattle.mdl_rows.specs.declared.ending.Ending.{Ending}
 use Rattle.mdl_rows.specs.Endings.{Begins_to_wait, closing}
@@ -33,7 +33,7 @@ owned_of player work = record { context = player.context; state = player.state; 
 module _ {S : Type 0} (members : Ghosts S) where
   -- a statement was started and ended
   pub starts-ended : {E : Type 0} (statement : Statement) (runner : RunnerView) (player middle after : PlayerView) (work : Option Work) (mark : Mark) (ending : Ending) (progress : Result Progress E) (a b c : S) →
-      runner_of player work ≡ runner → work ≡ None → mark ≡ mark_of player.context.kept →
+      runner_of player work ≡ runner → work ≡ None → mark ≡ current_mark player.context.kept →
       Comes members a player (play (row_of statement)) b middle (closing ending) →
       Runs (cached members) (b, middle.cache) (closing ending mark (at_rest middle)) (ran progress (at_rest after)) (c, after.cache) →
       Runs members.joins a (starting statement (session_of runner)) (ran progress (session_of (runner_of after work))) c
@@ -46,7 +46,7 @@ module _ {S : Type 0} (members : Ghosts S) where
 
   -- or it began to wait
   pub starts-waiting : (statement : Statement) (runner : RunnerView) (player after : PlayerView) (work : Option Work) (mark : Mark) (key : KeyName) (mode : Mode) (stage : Stage) (a b : S) →
-      runner_of player work ≡ runner → work ≡ None → mark ≡ mark_of player.context.kept →
+      runner_of player work ≡ runner → work ≡ None → mark ≡ current_mark player.context.kept →
       Waits members a player (play (row_of statement)) key mode (rest_of stage) b after →
       Runs members.joins a (starting statement (session_of runner)) (Begins_to_wait key mode (with_left (at_rest after) (record { rest = rest_of stage; mark = mark }))) b
   starts-waiting statement runner player after work mark key mode stage a b same none is waits =

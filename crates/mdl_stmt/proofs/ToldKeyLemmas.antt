@@ -10,7 +10,7 @@ use Rattle.mdl_stmt.specs.Gets.{Comes, IsStep}
 use Rattle.mdl_rows.specs.Playing.{play}
 use Rattle.mdl_rows.specs.Rows.{Row, Room, key_of, ◌>>=◌}
 use Rattle.mdl_stmt.specs.Players.{PlayerView}
-use Rattle.mdl_rows.specs.Statements.{keys_of}
+use Rattle.mdl_rows.specs.Statements.{keys_of_places}
 use Rattle.mdl_stmt.proofs.CallLemmas.{comes-row, room-found}
 use Rattle.mdl_stmt.proofs.RowLemmas.{bind-assoc}
 use Rattle.mdl_stmt.proofs.RunLemmas.{comes-then}
@@ -34,17 +34,17 @@ module _ {S : Type 0} (members : Ghosts S) (places : List ℕ) (a : S) (x : Play
   -- the keys of the first of them were told
   abbrev pub ToldTo : List KeyName → ℕ → S → PlayerView → Type 0
   ToldTo told index b y =
-      (rest : List KeyName → Row Reply) → Comes members a x (play (keys_of [] places >>= rest)) b y (play (keys_of told (drop index places) >>= rest))
+      (rest : List KeyName → Row Reply) → Comes members a x (play (keys_of_places [] places >>= rest)) b y (play (keys_of_places told (drop index places) >>= rest))
 
   -- what is left once the next one is told
   abbrev pub behind : List KeyName → ℕ → (List KeyName → Row Reply) → KeyName → Row Reply
-  behind told index rest key = Room (keys_of (told ++ key ∷ []) (drop (suc index) places) >>= rest)
+  behind told index rest key = Room (keys_of_places (told ++ key ∷ []) (drop (suc index) places) >>= rest)
 
   -- the next one is asked for
   pub key-next : (told : List KeyName) (index place : ℕ) (b : S) (y : PlayerView) → drop index places ≡ place ∷ drop (suc index) places → ToldTo told index b y →
-      (rest : List KeyName → Row Reply) → Comes members a x (play (keys_of [] places >>= rest)) b y (play (key_of place >>= behind told index rest))
+      (rest : List KeyName → Row Reply) → Comes members a x (play (keys_of_places [] places >>= rest)) b y (play (key_of place >>= behind told index rest))
   key-next told index place b y e so rest =
-      comes-then (so rest) (comes-row (keys_of told (drop index places) >>= rest) (key_of place >>= behind told index rest) (ap (λ l. keys_of told l >>= rest) e))
+      comes-then (so rest) (comes-row (keys_of_places told (drop index places) >>= rest) (key_of place >>= behind told index rest) (ap (λ l. keys_of_places told l >>= rest) e))
 
   -- it is told
   pub key-told : (told : List KeyName) (index place : ℕ) (key : KeyName) (b c : S) (y z : PlayerView) → drop index places ≡ place ∷ drop (suc index) places →
@@ -53,21 +53,21 @@ module _ {S : Type 0} (members : Ghosts S) (places : List ℕ) (a : S) (x : Play
       let up : suc index ≡ index + 1 = grind (arith) in
       subst (λ n. ToldTo (told ++ key ∷ []) n c z) up
       (λ rest. comes-then (comes-then (key-next told index place b y e so rest) (step (behind told index rest)))
-      (room-found (keys_of (told ++ key ∷ []) (drop (suc index) places) >>= rest)))
+      (room-found (keys_of_places (told ++ key ∷ []) (drop (suc index) places) >>= rest)))
 
   -- it ends the statement
   pub key-ends : (told : List KeyName) (index place : ℕ) (b c : S) (y z : PlayerView) (ending : Ending) → drop index places ≡ place ∷ drop (suc index) places →
-      ToldTo told index b y → IsStep members (key_of place) b y (Err ending) c z → IsStep members (keys_of [] places) a x (Err ending) c z
+      ToldTo told index b y → IsStep members (key_of place) b y (Err ending) c z → IsStep members (keys_of_places [] places) a x (Err ending) c z
   key-ends told index place b c y z ending e so step = λ rest. comes-then (key-next told index place b y e so rest) (step (behind told index rest))
 
   -- there is no memory for it
   pub key-starves : (told : List KeyName) (index place : ℕ) (key : KeyName) (b c : S) (y z : PlayerView) → drop index places ≡ place ∷ drop (suc index) places →
-      ToldTo told index b y → IsStep members (key_of place) b y (Ok key) c z → IsStep members (keys_of [] places) a x (Err Starves) c z
+      ToldTo told index b y → IsStep members (key_of place) b y (Ok key) c z → IsStep members (keys_of_places [] places) a x (Err Starves) c z
   key-starves told index place key b c y z e so step = λ rest.
       comes-then (comes-then (key-next told index place b y e so rest) (step (behind told index rest)))
-      (room-missed (keys_of (told ++ key ∷ []) (drop (suc index) places) >>= rest))
+      (room-missed (keys_of_places (told ++ key ∷ []) (drop (suc index) places) >>= rest))
 
   -- all are told
   pub keys-over : (told : List KeyName) (index : ℕ) (b : S) (y : PlayerView) → drop index places ≡ [] → ToldTo told index b y →
-      IsStep members (keys_of [] places) a x (Ok told) b y
-  keys-over told index b y e so = λ rest. comes-then (so rest) (comes-row (keys_of told (drop index places) >>= rest) (rest told) (ap (λ l. keys_of told l >>= rest) e))
+      IsStep members (keys_of_places [] places) a x (Ok told) b y
+  keys-over told index b y e so = λ rest. comes-then (so rest) (comes-row (keys_of_places told (drop index places) >>= rest) (rest told) (ap (λ l. keys_of_places told l >>= rest) e))

@@ -35,7 +35,7 @@ pub record GoesOn {S : Type 0} (members : Ghosts S) (before : S) (old : PlayerVi
   pub capacity : new.cache.capacity ≡ old.cache.capacity
 
 -- a context is ready for a call: it attends to its space, and has no wait
-pub record IsIdle {S : Type 0} (members : Ghosts S) (space : S) (context : ContextView) : Type 0 where
+pub record IsReadyForCall {S : Type 0} (members : Ghosts S) (space : S) (context : ContextView) : Type 0 where
   pub attends : Attends members space context
   pub idle : context.wait ≡ None
 

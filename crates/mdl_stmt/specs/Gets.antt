@@ -29,7 +29,7 @@ use Rattle.mdl_rows.specs.declared.reply.Reply.{Reply}
 use Rattle.mdl_rows.specs.Endings.{Pause, Ends, Begins_to_wait, Waits_on, Faults, closing, letting_go}
 use Rattle.mdl_rows.specs.Keepings.{keeping}
 use Rattle.mdl_stmt.specs.KeptStages.{session_with}
-use Rattle.mdl_stmt.specs.LockLists.{LockList, with_ticket}
+use Rattle.mdl_stmt.specs.LockLists.{LockList, with_next_ticket}
 use Rattle.mdl_rows.specs.Playing.{play, untold, with_left}
 use Rattle.mdl_rows.specs.Rows.{Row, Act, Acquire, Upgrade, ◌>>=◌, ◌>>◌}
 use Rattle.mdl_rows.specs.Sessions.{Session}
@@ -78,10 +78,10 @@ IsGot members wish a before (got.Waits key) b after = (rest : ℕ → Row Reply)
 IsGot members wish a before (got.Ends ending) b after = (rest : ℕ → Row Reply) → Comes members a before (play (Acquire wish rest)) b after (closing ending)
 
 -- the result of an upgrade of a ticket: it is done, or waited for, or the statement is to end
-abbrev pub IsRaised : {S : Type 0} → Ghosts S → ℕ → KeyName → Mode → S → PlayerView → LockResult ℕ → S → PlayerView → Type 0
-IsRaised members id key mode a before (Had new) b after = (rest : ℕ → Row Reply) → Comes members a before (play (Upgrade id key mode rest)) b after (play (rest new))
-IsRaised members id key mode a before (got.Waits told) b after = (rest : ℕ → Row Reply) → Waits members a before (play (Upgrade id key mode rest)) told mode rest b after
-IsRaised members id key mode a before (got.Ends ending) b after = (rest : ℕ → Row Reply) → Comes members a before (play (Upgrade id key mode rest)) b after (closing ending)
+abbrev pub IsUpgradeResult : {S : Type 0} → Ghosts S → ℕ → KeyName → Mode → S → PlayerView → LockResult ℕ → S → PlayerView → Type 0
+IsUpgradeResult members id key mode a before (Had new) b after = (rest : ℕ → Row Reply) → Comes members a before (play (Upgrade id key mode rest)) b after (play (rest new))
+IsUpgradeResult members id key mode a before (got.Waits told) b after = (rest : ℕ → Row Reply) → Waits members a before (play (Upgrade id key mode rest)) told mode rest b after
+IsUpgradeResult members id key mode a before (got.Ends ending) b after = (rest : ℕ → Row Reply) → Comes members a before (play (Upgrade id key mode rest)) b after (closing ending)
 
 -- a row was played to its end, or until it waits
 abbrev pub IsPlayed : {S : Type 0} → Ghosts S → Row Reply → S → PlayerView → Played → S → PlayerView → Type 0
@@ -109,10 +109,10 @@ IsWithoutHalf {S} members ending a before b after =
     (mark : Mark) (pause : Pause) (c : S × CacheView) → Runs (cached members) (b, after.cache) (letting_go ending mark (at_rest after)) pause c → Runs (cached members) (a, before.cache) (closing ending mark (at_rest before)) pause c
 
 -- a wait has begun, and is to be reported: it is, or memory ran out and it was given up
-abbrev pub IsTold : {S : Type 0} → Ghosts S → KeyName → S → PlayerView → LockResult ℕ → S → PlayerView → Type 0
-IsTold {S} members key a before (Had id) b after = ⊥
-IsTold {S} members key a before (got.Waits other) b after = (other ≡ key) × (a ≡ b) × (after ≡ before)
-IsTold {S} members key a before (got.Ends ending) b after = (ending ≡ Starves) × IsDropped members a before b after
+abbrev pub IsReportedWait : {S : Type 0} → Ghosts S → KeyName → S → PlayerView → LockResult ℕ → S → PlayerView → Type 0
+IsReportedWait {S} members key a before (Had id) b after = ⊥
+IsReportedWait {S} members key a before (got.Waits other) b after = (other ≡ key) × (a ≡ b) × (after ≡ before)
+IsReportedWait {S} members key a before (got.Ends ending) b after = (ending ≡ Starves) × IsDropped members a before b after
 
 -- a transaction was to be committed: it is, or its COMMIT lock is waited for, or the statement is to end
 abbrev pub IsCommitted : {S : Type 0} → Ghosts S → Act → S → PlayerView → LockResult (Unit {0}) → S → PlayerView → Type 0
@@ -126,13 +126,13 @@ abbrev pub IsListedBy : {S : Type 0} → Ghosts S → (KeyName → Wish) → Loc
 IsListedBy members wish locks a before (listed.Had all) b after =
     (rest : List ℕ → Row Reply) → Comes members a before (play (lock_rest_by wish locks rest)) b after (play (rest all.tickets))
 IsListedBy members wish locks a before (listed.Waits key mode had) b after =
-    (rest : List ℕ → Row Reply) → Waits members a before (play (lock_rest_by wish locks rest)) key mode (λ ticket. lock_rest_by wish (with_ticket ticket had) rest) b after
+    (rest : List ℕ → Row Reply) → Waits members a before (play (lock_rest_by wish locks rest)) key mode (λ ticket. lock_rest_by wish (with_next_ticket ticket had) rest) b after
 IsListedBy members wish locks a before (listed.Ends ending) b after =
     (rest : List ℕ → Row Reply) → Comes members a before (play (lock_rest_by wish locks rest)) b after (closing ending)
 
 -- the same, for the locks of DDL
-abbrev pub IsListed : {S : Type 0} → Ghosts S → LockList → S → PlayerView → Listed → S → PlayerView → Type 0
-IsListed members = IsListedBy members ddl_lock
+abbrev pub IsListedResult : {S : Type 0} → Ghosts S → LockList → S → PlayerView → Listed → S → PlayerView → Type 0
+IsListedResult members = IsListedBy members ddl_lock
 
 -- the keys of the list are unchanged
 abbrev pub KeepsKeys : LockList → Listed → Type 0
@@ -147,8 +147,8 @@ IdleUnlessListed (listed.Waits key mode had) player = Unit {0}
 IdleUnlessListed (listed.Ends ending) player = player.context.wait ≡ None
 
 -- a row was played up to its end or a wait, and then the statement was ended, or what is left of it was copied
-abbrev pub IsSettled : {S : Type 0} → Ghosts S → Played → Mark → S → PlayerView → StartedStatement → S → PlayerView → Type 0
-IsSettled members (played.Ends ending) mark a before turn b after =
+abbrev pub IsPlayedOut : {S : Type 0} → Ghosts S → Played → Mark → S → PlayerView → StartedStatement → S → PlayerView → Type 0
+IsPlayedOut members (played.Ends ending) mark a before turn b after =
     (turn.work ≡ None) × Runs (cached members) (a, before.cache) (closing ending mark (at_rest before)) (ran turn.progress (at_rest after)) (b, after.cache)
-IsSettled members (played.Waits key mode stage) mark a before turn b after =
+IsPlayedOut members (played.Waits key mode stage) mark a before turn b after =
     Runs (cached members) (a, before.cache) (keeping (Begins_to_wait key mode (with_left (at_rest before) (record { rest = rest_of stage; mark = mark })))) (ran turn.progress (session_with after turn.work)) (b, after.cache)

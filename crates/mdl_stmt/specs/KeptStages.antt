@@ -18,7 +18,7 @@ use Rattle.mdl_stmt.specs.declared.kept_stage.KeptDropping.{KeptDropping}
 use Rattle.mdl_stmt.specs.declared.kept_stage.KeptDropping.TheVariants as dropping
 use Rattle.mdl_stmt.specs.declared.kept_stage.KeptDroppingSchema.{KeptDroppingSchema}
 use Rattle.mdl_stmt.specs.declared.kept_stage.KeptDroppingSchema.TheVariants as dropping_schema
-use Rattle.mdl_stmt.specs.LockLists.{with_ticket}
+use Rattle.mdl_stmt.specs.LockLists.{with_next_ticket}
 use Rattle.mdl_rows.specs.Rows.{Row, Give, ◌>>◌}
 use Rattle.mdl_rows.specs.Sessions.{Left, Session}
 use Rattle.mdl_stmt.specs.Players.{PlayerView}
@@ -45,14 +45,14 @@ rest_of_kept_creating_schema creating_schema.Schema ticket = create_schema_under
 
 -- what is left of DROP TABLE
 abbrev pub rest_of_kept_dropping : KeptDropping → ℕ → Row Reply
-rest_of_kept_dropping (dropping.Scopes tables locks) ticket = lock_rest (with_ticket ticket locks) (λ scopes. lock_and_drop tables)
-rest_of_kept_dropping (dropping.Tables locks) ticket = lock_rest (with_ticket ticket locks) drop_under
+rest_of_kept_dropping (dropping.Scopes tables locks) ticket = lock_rest (with_next_ticket ticket locks) (λ scopes. lock_and_drop tables)
+rest_of_kept_dropping (dropping.Tables locks) ticket = lock_rest (with_next_ticket ticket locks) drop_under
 
 -- what is left of DROP SCHEMA
 abbrev pub rest_of_kept_dropping_schema : KeptDroppingSchema → ℕ → Row Reply
 rest_of_kept_dropping_schema (dropping_schema.Global name) global = lock_and_drop_schema name
 rest_of_kept_dropping_schema (dropping_schema.Schema name) ticket = drop_schema_under name ticket
-rest_of_kept_dropping_schema (dropping_schema.Tables schema locks) ticket = lock_rest (with_ticket ticket locks) (drop_with schema)
+rest_of_kept_dropping_schema (dropping_schema.Tables schema locks) ticket = lock_rest (with_next_ticket ticket locks) (drop_with schema)
 
 -- what is left of a statement
 abbrev pub rest_of_kept : KeptStage → ℕ → Row Reply

@@ -8,5 +8,5 @@ pub record LockList : Type 0 where
   pub tickets : List ℕ
 
 -- the list with the ticket of the next lock, if one is left
-abbrev pub with_ticket : ℕ → LockList → LockList
-with_ticket ticket locks = if nat_lt (length locks.tickets) (length locks.keys) then record locks { tickets = locks.tickets ++ ticket ∷ [] } else locks
+abbrev pub with_next_ticket : ℕ → LockList → LockList
+with_next_ticket ticket locks = if nat_lt (length locks.tickets) (length locks.keys) then record locks { tickets = locks.tickets ++ ticket ∷ [] } else locks

@@ -31,8 +31,8 @@ use Rattle.mdl_stmt.specs.declared.stage.Altering.{Altering}
 use Rattle.mdl_stmt.specs.declared.stage.Altering.TheVariants as altering
 use Rattle.mdl_stmt.specs.declared.stage.LockingTables.{LockingTables}
 use Rattle.mdl_stmt.specs.declared.stage.LockingTables.TheVariants as locking
-use Rattle.mdl_rows.specs.KeyOrder.{ticket_of}
-use Rattle.mdl_stmt.specs.LockLists.{LockList, with_ticket}
+use Rattle.mdl_rows.specs.KeyOrder.{locked_ticket}
+use Rattle.mdl_stmt.specs.LockLists.{LockList, with_next_ticket}
 use Rattle.mdl_rows.specs.Rows.{Row, Give, ◌>>=◌, ◌>>◌, acquire_all}
 use Rattle.mdl_rows.specs.Sessions.{Left, Session}
 use Rattle.mdl_stmt.specs.Players.{RunnerView}
@@ -63,10 +63,10 @@ wish_by (Tables locks) = table_lock locks.now
 
 -- RENAME TABLE: the remaining locks of both names are acquired, and then the table is renamed
 abbrev pub rename_names : KeyName → KeyName → ℕ → LockList → List KeyName → Row Reply
-rename_names from to schema locks keys = lock_rest locks (λ tickets. rename_under schema (ticket_of from keys tickets) (ticket_of to keys tickets))
+rename_names from to schema locks keys = lock_rest locks (λ tickets. rename_under schema (locked_ticket from keys tickets) (locked_ticket to keys tickets))
 
 abbrev pub rename_scopes : KeyName → KeyName → LockList → List KeyName → Row Reply
-rename_scopes from to locks keys = lock_rest locks (λ scopes. lock_and_rename from to (ticket_of (schema_of to) keys scopes))
+rename_scopes from to locks keys = lock_rest locks (λ scopes. lock_and_rename from to (locked_ticket (schema_of to) keys scopes))
 
 -- what is left of INSERT, UPDATE or DELETE
 abbrev pub rest_of_writing : Writing → ℕ → Row Reply
@@ -87,19 +87,19 @@ rest_of_creating_schema creating_schema.Schema ticket = create_schema_under tick
 
 -- what is left of DROP TABLE
 abbrev pub rest_of_dropping : Dropping → ℕ → Row Reply
-rest_of_dropping (dropping.Scopes tables locks) ticket = lock_rest (with_ticket ticket locks) (λ scopes. lock_and_drop tables.now)
-rest_of_dropping (dropping.Tables locks) ticket = lock_rest (with_ticket ticket locks) drop_under
+rest_of_dropping (dropping.Scopes tables locks) ticket = lock_rest (with_next_ticket ticket locks) (λ scopes. lock_and_drop tables.now)
+rest_of_dropping (dropping.Tables locks) ticket = lock_rest (with_next_ticket ticket locks) drop_under
 
 -- what is left of DROP SCHEMA
 abbrev pub rest_of_dropping_schema : DroppingSchema → ℕ → Row Reply
 rest_of_dropping_schema (dropping_schema.Global name) global = lock_and_drop_schema name.now
 rest_of_dropping_schema (dropping_schema.Schema name) ticket = drop_schema_under name.now ticket
-rest_of_dropping_schema (dropping_schema.Tables schema locks) ticket = lock_rest (with_ticket ticket locks) (drop_with schema)
+rest_of_dropping_schema (dropping_schema.Tables schema locks) ticket = lock_rest (with_next_ticket ticket locks) (drop_with schema)
 
 -- what is left of RENAME TABLE
 abbrev pub rest_of_renaming : KeyName → KeyName → Renaming → ℕ → Row Reply
-rest_of_renaming from to (renaming.Scopes locks) ticket = rename_scopes from to (with_ticket ticket locks) locks.keys
-rest_of_renaming from to (renaming.Names schema locks) ticket = rename_names from to schema (with_ticket ticket locks) locks.keys
+rest_of_renaming from to (renaming.Scopes locks) ticket = rename_scopes from to (with_next_ticket ticket locks) locks.keys
+rest_of_renaming from to (renaming.Names schema locks) ticket = rename_names from to schema (with_next_ticket ticket locks) locks.keys
 
 -- what is left of FLUSH TABLES WITH READ LOCK
 abbrev pub rest_of_flushing : Flushing → ℕ → Row Reply
@@ -119,9 +119,9 @@ rest_of_altering alteration altering.ChangeLocked ticket = change_and_lower alte
 
 -- what is left of LOCK TABLES
 abbrev pub rest_of_locking : List TableLock → LockingTables → ℕ → Row Reply
-rest_of_locking tables (locking.Scopes locks) ticket = lock_rest (with_ticket ticket locks) (lock_named tables)
+rest_of_locking tables (locking.Scopes locks) ticket = lock_rest (with_next_ticket ticket locks) (lock_named tables)
 rest_of_locking tables (locking.Tables scopes locks) ticket =
-    lock_rest_by (table_lock tables) (with_ticket ticket locks) (keep_locked tables locks.keys scopes.items)
+    lock_rest_by (table_lock tables) (with_next_ticket ticket locks) (keep_locked tables locks.keys scopes.items)
 
 -- what is left of a statement
 abbrev pub rest_of : Stage → ℕ → Row Reply
@@ -139,9 +139,9 @@ rest_of (Lock tables at) ticket = rest_of_locking tables.now at ticket
 rest_of GetLock ticket = Give (reply.Number true)
 
 -- what is left of a statement, with the session's mark when the statement began
-abbrev pub left_of : Work → Left
-left_of work = record { rest = rest_of work.stage; mark = work.mark }
+abbrev pub work_left : Work → Left
+work_left work = record { rest = rest_of work.stage; mark = work.mark }
 
 -- the session of a runner
 abbrev pub session_of : RunnerView → Session
-session_of runner = record { context = runner.context; state = runner.state; left = option_map left_of runner.work }
+session_of runner = record { context = runner.context; state = runner.state; left = option_map work_left runner.work }

@@ -3,7 +3,7 @@ ghost use Rattle.std.specs.Prelude.{◌≡◌, None, []};
 ghost use Rattle.mdl_stmt.specs.Attendance.{GoesOn, IsReady};
 ghost use Rattle.mdl_stmt.specs.Gets.{IsPlayed, IsStep, IdleUnlessPlayed, items_told};
 ghost use Rattle.mdl_stmt.specs.Stages.{lock_rest, rest_of_dropping_schema};
-ghost use Rattle.mdl_rows.specs.Statements.{drop_schema_after_commit, lock_and_drop_schema, drop_schema_under, drop_with, keys_of, tables_in};
+ghost use Rattle.mdl_rows.specs.Statements.{drop_schema_after_commit, lock_and_drop_schema, drop_schema_under, drop_with, keys_of_places, tables_in};
 
 use crate::Reply;
 use crate::got::{Listed, LockResult, Played};
@@ -109,7 +109,7 @@ impl<S: LockSpace> Player<S> {
     /// The keys of places, in their order.
     fn keys_of(&mut self, space: &mut S, places: &[Place]) -> Result<Vec<Key>, Ending>
         requires ready { IsReady S.LockSpace space.old self.old }
-        ensures run { IsStep S.LockSpace (keys_of [] places.now) space.old self.old (items_told result) space.new self.new }
+        ensures run { IsStep S.LockSpace (keys_of_places [] places.now) space.old self.old (items_told result) space.new self.new }
         ensures goes_on { GoesOn S.LockSpace space.old self.old space.new self.new }
         ensures idle { self.new.context.wait ≡ None }
     {

@@ -6,7 +6,7 @@ ghost use Rattle.mdl_rows.specs.Endings.{Begins_to_wait};
 ghost use Rattle.mdl_stmt.specs.declared.got.Played.TheVariants.{Ends};
 ghost use Rattle.mdl_stmt.specs.Gets.{at_rest, ran, IdleUnlessPlayed};
 ghost use Rattle.mdl_rows.specs.Keepings.{going_on_kept, keeping, play_kept, starting_kept};
-ghost use Rattle.mdl_stmt.specs.Gets.{IsSettled};
+ghost use Rattle.mdl_stmt.specs.Gets.{IsPlayedOut};
 ghost use Rattle.mdl_stmt.specs.KeptStages.{rest_of_kept, rest_of_kept_dropping, rest_of_kept_dropping_schema, session_with};
 ghost use Rattle.mdl_rows.specs.Playing.{with_left};
 ghost use Rattle.mdl_stmt.specs.Stages.{rest_of};
@@ -66,7 +66,7 @@ impl<S: LockSpace> Player<S> {
     // prover follows.
     fn end_kept(&mut self, space: &mut S, ending: Ending, work: KeptWork) -> StartedStatement
         requires ready { IsReady S.LockSpace space.old self.old }
-        ensures run { IsSettled S.LockSpace (Ends ending) work.mark space.old self.old result space.new self.new }
+        ensures run { IsPlayedOut S.LockSpace (Ends ending) work.mark space.old self.old result space.new self.new }
         ensures goes_on { GoesOn S.LockSpace space.old self.old space.new self.new }
         ensures idle { self.new.context.wait ≡ None }
     {
@@ -78,7 +78,7 @@ impl<S: LockSpace> Player<S> {
     // Ends a statement.
     fn end_turn(&mut self, space: &mut S, ending: Ending, mark: Mark) -> StartedStatement
         requires ready { IsReady S.LockSpace space.old self.old }
-        ensures run { IsSettled S.LockSpace (Ends ending) mark space.old self.old result space.new self.new }
+        ensures run { IsPlayedOut S.LockSpace (Ends ending) mark space.old self.old result space.new self.new }
         ensures goes_on { GoesOn S.LockSpace space.old self.old space.new self.new }
         ensures idle { self.new.context.wait ≡ None }
     {
@@ -214,7 +214,7 @@ impl<S: LockSpace> Player<S> {
     ) -> StartedStatement
         requires attends { AttendsWith S.LockSpace space.old self.old.context self.old.cache }
         requires idle { IdleUnlessPlayed played self.old }
-        ensures run { IsSettled S.LockSpace played.entry mark space.old self.old result space.new self.new }
+        ensures run { IsPlayedOut S.LockSpace played.entry mark space.old self.old result space.new self.new }
         ensures goes_on { GoesOn S.LockSpace space.old self.old space.new self.new }
         ensures idle { result.work ≡ None → self.new.context.wait ≡ None }
     {

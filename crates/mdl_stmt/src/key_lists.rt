@@ -1,7 +1,7 @@
 //! Lists of locks in key order.
 ghost use Rattle.std.specs.Prelude.{◌≡◌, [], ◌∷◌, map, IfOk};
 ghost use Rattle.mdl_key.specs.Keys.{global_key};
-ghost use Rattle.mdl_rows.specs.KeyOrder.{placed, in_key_order};
+ghost use Rattle.mdl_rows.specs.KeyOrder.{inserted_in_order, in_key_order};
 ghost use Rattle.mdl_syntax.specs.Forms.{tables_of};
 ghost use Rattle.mdl_rows.specs.Statements.{schema_of, is_write, written_tables, may_write, scopes_around};
 
@@ -15,7 +15,7 @@ use std::cmp::Ordering;
 
 /// Inserts a key at its place among ordered keys, unless it is there.
 fn place(keys: &mut Vec<Key>, key: Key) -> Result<(), AllocError>
-    ensures { IfOk result (λ _. keys.new.items ≡ placed key keys.old.items) }
+    ensures { IfOk result (λ _. keys.new.items ≡ inserted_in_order key keys.old.items) }
 {
     for (at, other) in keys.iter().enumerate() {
         match key.cmp(other) {

@@ -2,8 +2,8 @@
 ghost use Rattle.std.specs.Prelude.{◌≡◌, [], length, position, slice_get, IfOk};
 ghost use Rattle.std.specs.Option.{option_map};
 ghost use Rattle.mdl_key.specs.Keys.{key_eq};
-ghost use Rattle.mdl_rows.specs.KeyOrder.{ticket_of};
-ghost use Rattle.mdl_stmt.specs.LockLists.{with_ticket};
+ghost use Rattle.mdl_rows.specs.KeyOrder.{locked_ticket};
+ghost use Rattle.mdl_stmt.specs.LockLists.{with_next_ticket};
 
 use mdl_key::Key;
 use mdl_space::TicketId;
@@ -49,7 +49,7 @@ impl LockList {
 
     /// The list with the ticket of the next lock, if one is left.
     pub fn with(mut self, ticket: TicketId) -> LockList
-        ensures { result ≡ with_ticket ticket self }
+        ensures { result ≡ with_next_ticket ticket self }
     {
         if self.tickets.len() < self.keys.len() {
             self.tickets.push(ticket).unwrap();
@@ -59,7 +59,7 @@ impl LockList {
 
     /// The ticket of a key, or 0, which is no ticket, if it has none.
     pub fn ticket_of(&self, key: &Key) -> TicketId
-        ensures { result ≡ ticket_of key.now self.now.keys self.now.tickets }
+        ensures { result ≡ locked_ticket key.now self.now.keys self.now.tickets }
     {
         let Some(at) = index_of(&self.keys, key) else {
             return 0;

@@ -1,7 +1,7 @@
 //! Requests for the locks of a list, one after the other.
 ghost use Rattle.std.specs.Prelude.{◌≡◌};
 ghost use Rattle.mdl_stmt.specs.Attendance.{GoesOn, IsReady};
-ghost use Rattle.mdl_stmt.specs.Gets.{IsListed, IsListedBy, IdleUnlessListed, KeepsKeys};
+ghost use Rattle.mdl_stmt.specs.Gets.{IsListedResult, IsListedBy, IdleUnlessListed, KeepsKeys};
 ghost use Rattle.mdl_stmt.specs.Stages.{wish_by};
 ghost use Rattle.mdl_rows.specs.Statements.{ddl_lock};
 
@@ -17,7 +17,7 @@ impl<S: LockSpace> Player<S> {
     /// Gets the remaining locks of a list, for a change of definitions.
     pub(crate) fn lock_all(&mut self, space: &mut S, locks: LockList) -> Listed
         requires ready { IsReady S.LockSpace space.old self.old }
-        ensures run { IsListed S.LockSpace locks space.old self.old result space.new self.new }
+        ensures run { IsListedResult S.LockSpace locks space.old self.old result space.new self.new }
         ensures goes_on { GoesOn S.LockSpace space.old self.old space.new self.new }
         ensures idle { IdleUnlessListed result self.new }
         ensures keys { KeepsKeys locks result }

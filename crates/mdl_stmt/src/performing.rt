@@ -2,7 +2,7 @@
 ghost use Rattle.std.specs.Prelude.{◌≡◌, None, Ok};
 ghost use Rattle.mdl_calls.specs.Words.{Runs};
 ghost use Rattle.mdl_stmt.specs.Attendance.{GoesOn, IsReady, cached};
-ghost use Rattle.mdl_context.specs.Releases.{giving_up};
+ghost use Rattle.mdl_context.specs.Releases.{releasing_tickets};
 ghost use Rattle.mdl_rows.specs.Endings.{closing, gone_at};
 ghost use Rattle.mdl_stmt.specs.Gets.{at_rest, ran, IsPlayed, IdleUnlessPlayed};
 ghost use Rattle.mdl_stmt.specs.Stages.{rest_of};
@@ -136,7 +136,7 @@ impl<S: LockSpace> Player<S> {
     /// Releases the tickets that the end of a statement releases.
     fn let_go(&mut self, space: &mut S, ending: &Ending, mark: Mark)
         requires ready { IsReady S.LockSpace space.old self.old }
-        ensures run { Runs S.joins space.old (giving_up (gone_at ending.now self.old.state.is_open mark self.old.context.kept) self.old.context) (Ok tt, self.new.context) space.new }
+        ensures run { Runs S.joins space.old (releasing_tickets (gone_at ending.now self.old.state.is_open mark self.old.context.kept) self.old.context) (Ok tt, self.new.context) space.new }
         ensures goes_on { GoesOn S.LockSpace space.old self.old space.new self.new }
         ensures idle { self.new.context.wait ≡ None }
         ensures state { self.new.state ≡ self.old.state }

@@ -1,9 +1,9 @@
 //! A session as its statements use it: its locks, its state and its cache.
 ghost use Rattle.std.specs.Prelude.{◌≡◌, None, Ok, IfOk, []};
 ghost use Rattle.mdl_stmt.specs.Attendance.{AttendsWith, GoesOn, IsCapacity, IsReady};
-ghost use Rattle.mdl_context.specs.Wishes.{Wish, wish_of};
+ghost use Rattle.mdl_context.specs.Wishes.{Wish, wish_of_request};
 ghost use Rattle.mdl_rows.specs.Endings.{closing, ending_of_error, ending_of_refusal, ending_of_loss};
-ghost use Rattle.mdl_stmt.specs.Gets.{at_rest, IsDropped, IsGot, IsRaised, IsStep, IsTold, IdleUnlessGot};
+ghost use Rattle.mdl_stmt.specs.Gets.{at_rest, IsDropped, IsGot, IsUpgradeResult, IsStep, IsReportedWait, IdleUnlessGot};
 ghost use Rattle.mdl_rows.specs.Rows.{Give, Try_acquire, downgrade};
 ghost use Rattle.mdl_rows.specs.States.{at_first};
 
@@ -64,7 +64,7 @@ impl<S: LockSpace> Player<S> {
     /// Gets a lock, or begins to wait for it.
     pub(crate) fn get(&mut self, space: &mut S, request: Request<'_>) -> LockResult<TicketId>
         requires ready { IsReady S.LockSpace space.old self.old }
-        ensures run { IsGot S.LockSpace (wish_of request.entry) space.old self.old result space.new self.new }
+        ensures run { IsGot S.LockSpace (wish_of_request request.entry) space.old self.old result space.new self.new }
         ensures goes_on { GoesOn S.LockSpace space.old self.old space.new self.new }
         ensures idle { IdleUnlessGot result self.new }
     {
@@ -82,7 +82,7 @@ impl<S: LockSpace> Player<S> {
         request: Request<'_>,
     ) -> Result<Option<TicketId>, Ending>
         requires ready { IsReady S.LockSpace space.old self.old }
-        ensures run { IsStep S.LockSpace (Try_acquire (wish_of request.entry) Give) space.old self.old result space.new self.new }
+        ensures run { IsStep S.LockSpace (Try_acquire (wish_of_request request.entry) Give) space.old self.old result space.new self.new }
         ensures goes_on { GoesOn S.LockSpace space.old self.old space.new self.new }
         ensures idle { self.new.context.wait ≡ None }
     {
@@ -102,7 +102,7 @@ impl<S: LockSpace> Player<S> {
         mode: Mode,
     ) -> LockResult<TicketId>
         requires ready { IsReady S.LockSpace space.old self.old }
-        ensures run { IsRaised S.LockSpace ticket key.now mode space.old self.old result space.new self.new }
+        ensures run { IsUpgradeResult S.LockSpace ticket key.now mode space.old self.old result space.new self.new }
         ensures goes_on { GoesOn S.LockSpace space.old self.old space.new self.new }
         ensures idle { IdleUnlessGot result self.new }
     {
@@ -126,7 +126,7 @@ impl<S: LockSpace> Player<S> {
     /// Returns that a wait has begun, or gives up the wait if memory runs out for a copy of the key.
     pub(crate) fn tell_wait(&mut self, space: &mut S, key: &Key) -> LockResult<TicketId>
         requires attends { AttendsWith S.LockSpace space.old self.old.context self.old.cache }
-        ensures run { IsTold S.LockSpace key.now space.old self.old result space.new self.new }
+        ensures run { IsReportedWait S.LockSpace key.now space.old self.old result space.new self.new }
         ensures goes_on { GoesOn S.LockSpace space.old self.old space.new self.new }
         ensures idle { IdleUnlessGot result self.new }
     {

@@ -3,7 +3,7 @@ ghost use Rattle.std.specs.Prelude.{◌≡◌, ◌++◌, ◌∷◌, [], None, Ok
 ghost use Rattle.mdl_stmt.specs.Attendance.{GoesOn, IsReady};
 ghost use Rattle.mdl_stmt.specs.Gets.{IsStep, items_told};
 ghost use Rattle.mdl_rows.specs.Rows.{read, redefine, tables_within, key_of, kill};
-ghost use Rattle.mdl_rows.specs.Statements.{columns_of, exists, show};
+ghost use Rattle.mdl_rows.specs.Statements.{exists, show, table_columns};
 ghost use Rattle.mdl_rows.specs.declared.ending.Ending.TheVariants.{Answers, Starves};
 ghost use Rattle.mdl_rows.specs.declared.reply.Reply.TheVariants.{Error};
 
@@ -132,7 +132,7 @@ impl<S: LockSpace> Player<S> {
 
 /// The columns of a table.
 fn columns_of(alloc: Global, definition: Option<Definition>) -> Columns
-    ensures { result ≡ columns_of definition }
+    ensures { result ≡ table_columns definition }
 {
     match definition {
         Some(Definition::Table(columns)) => columns,
@@ -148,7 +148,7 @@ fn shown_behind(
     standing: Standing,
 ) -> Result<TablesShown, Ending>
     ensures { MatchResult result
-        (λ more. more ≡ shown ++ record { key = table.now; version = standing.version; columns = columns_of standing.definition } ∷ [])
+        (λ more. more ≡ shown ++ record { key = table.now; version = standing.version; columns = table_columns standing.definition } ∷ [])
         (λ ending. ending ≡ Starves) }
 {
     let Ok(key) = table.clone() else {

@@ -5,9 +5,9 @@ ghost use Rattle.mdl_stmt.specs.Gets.{IsPlayed, IsStep, IdleUnlessPlayed};
 ghost use Rattle.mdl_rows.specs.declared.ending.Ending.TheVariants.{Answers};
 ghost use Rattle.mdl_rows.specs.declared.error_number.ErrorNumber.TheVariants.{NoSuchTable};
 ghost use Rattle.mdl_rows.specs.declared.reply.Reply.TheVariants.{Error};
-ghost use Rattle.mdl_rows.specs.KeyOrder.{ticket_of};
+ghost use Rattle.mdl_rows.specs.KeyOrder.{locked_ticket};
 ghost use Rattle.mdl_stmt.specs.Stages.{rename_names, rename_scopes, rest_of_renaming};
-ghost use Rattle.mdl_rows.specs.Statements.{rename_after_commit, lock_and_rename, rename_under, move_definition, is_free, definition_under, schema_of};
+ghost use Rattle.mdl_rows.specs.Statements.{rename_after_commit, lock_and_rename, rename_under, move_definition, check_absent, definition_under, schema_of};
 
 use crate::creating::schema_of;
 use crate::got::{Listed, Played};
@@ -72,7 +72,7 @@ impl<S: LockSpace> Player<S> {
         scopes: &LockList,
     ) -> Played<'s>
         requires ready { IsReady S.LockSpace space.old self.old }
-        ensures run { IsPlayed S.LockSpace (lock_and_rename from.now to.now (ticket_of (schema_of to.now) scopes.now.keys scopes.now.tickets)) space.old self.old result space.new self.new }
+        ensures run { IsPlayed S.LockSpace (lock_and_rename from.now to.now (locked_ticket (schema_of to.now) scopes.now.keys scopes.now.tickets)) space.old self.old result space.new self.new }
         ensures goes_on { GoesOn S.LockSpace space.old self.old space.new self.new }
         ensures idle { IdleUnlessPlayed result self.new }
     {
@@ -144,7 +144,7 @@ impl<S: LockSpace> Player<S> {
     /// Checks that there is no table of a name.
     fn is_free(&mut self, space: &mut S, ticket: TicketId) -> Result<(), Ending>
         requires ready { IsReady S.LockSpace space.old self.old }
-        ensures run { IsStep S.LockSpace (is_free ticket) space.old self.old result space.new self.new }
+        ensures run { IsStep S.LockSpace (check_absent ticket) space.old self.old result space.new self.new }
         ensures goes_on { GoesOn S.LockSpace space.old self.old space.new self.new }
         ensures idle { self.new.context.wait ≡ None }
     {

@@ -2,7 +2,7 @@
 ghost use Rattle.std.specs.Prelude.{◌≡◌, ◌≤◌, [], not, filter, OnOk, OnErr};
 ghost use Rattle.std.specs.List.{position};
 ghost use Rattle.std.specs.Vec.{vec_len, vec_capacity};
-ghost use Rattle.mdl_rows.specs.States.{is_named, with_savepoint, savepoint_mark, up_to};
+ghost use Rattle.mdl_rows.specs.States.{is_savepoint_named, with_savepoint, savepoint_mark, up_to};
 
 use mdl_context::Mark;
 use mdl_rows::Savepoint;
@@ -68,14 +68,14 @@ impl Savepoints {
 
 // Whether a savepoint has this name.
 fn is_named(savepoint: &Savepoint, name: &Name) -> bool
-    ensures { result ≡ is_named name.now savepoint.now }
+    ensures { result ≡ is_savepoint_named name.now savepoint.now }
 {
     savepoint.name.as_str() == name.as_str()
 }
 
 // Keeps the savepoints of other names.
 fn leave_others(list: &mut Vec<Savepoint>, name: &Name)
-    ensures kept { list.new.items ≡ filter (λ savepoint. not (is_named name.now savepoint)) list.old.items }
+    ensures kept { list.new.items ≡ filter (λ savepoint. not (is_savepoint_named name.now savepoint)) list.old.items }
     ensures capacity { vec_capacity list.new ≡ vec_capacity list.old }
     ensures bound { vec_len list.new ≤ vec_len list.old }
 {
@@ -84,7 +84,7 @@ fn leave_others(list: &mut Vec<Savepoint>, name: &Name)
 
 // The index of the first savepoint of a name.
 fn index_of(list: &[Savepoint], name: &Name) -> Option<usize>
-    ensures { result ≡ position (is_named name.now) list.now }
+    ensures { result ≡ position (is_savepoint_named name.now) list.now }
 {
     list.iter().position(|savepoint| is_named(savepoint, name))
 }

@@ -1,6 +1,6 @@
 //! UNLOCK TABLES, and the release of other explicit locks.
 ghost use Rattle.std.specs.Prelude.{◌≡◌, [], None, Ok, map};
-ghost use Rattle.mdl_stmt.specs.Attendance.{ContextGoesOn, GoesOn, IsIdle, IsReady};
+ghost use Rattle.mdl_stmt.specs.Attendance.{ContextGoesOn, GoesOn, IsReady, IsReadyForCall};
 ghost use Rattle.mdl_stmt.specs.Gets.{IsPlayed, IsStep};
 ghost use Rattle.mdl_rows.specs.Rows.{for_each, release};
 ghost use Rattle.mdl_rows.specs.Statements.{give_up_read_lock, release_commits, release_read_lock, unlock, unlock_tables};
@@ -89,7 +89,7 @@ impl<S: LockSpace> Player<S> {
 
 // Releases the tickets of locked tables, one after the other.
 fn release_tables<S: LockSpace>(context: &mut Context<S>, space: &mut S, tables: &[Locked])
-    requires ready { IsIdle S.LockSpace space.old context.old }
+    requires ready { IsReadyForCall S.LockSpace space.old context.old }
     ensures run { (player : PlayerView) → IsStep S.LockSpace (for_each release (map (λ table. table.ticket) tables.now)) space.old (record player { context = context.old }) (Ok tt) space.new (record player { context = context.new }) }
     ensures goes_on { ContextGoesOn S.LockSpace space.old context.old space.new context.new }
     ensures idle { context.new.wait ≡ None }
@@ -101,7 +101,7 @@ fn release_tables<S: LockSpace>(context: &mut Context<S>, space: &mut S, tables:
 
 // Releases tickets, one after the other.
 fn release_each<S: LockSpace>(context: &mut Context<S>, space: &mut S, tickets: &[TicketId])
-    requires ready { IsIdle S.LockSpace space.old context.old }
+    requires ready { IsReadyForCall S.LockSpace space.old context.old }
     ensures run { (player : PlayerView) → IsStep S.LockSpace (for_each release tickets.now) space.old (record player { context = context.old }) (Ok tt) space.new (record player { context = context.new }) }
     ensures goes_on { ContextGoesOn S.LockSpace space.old context.old space.new context.new }
     ensures idle { context.new.wait ≡ None }

@@ -1,6 +1,6 @@
 //! A thread for each session that is asked for something.
 ghost use Rattle.std.specs.Prelude.{◌≡◌, All};
-ghost use Rattle.mdl.specs.mdl_shared.Passes.{pass_table, table_of};
+ghost use Rattle.mdl.specs.mdl_shared.Passes.{manager_table, pass_table};
 
 use crate::requests::{Request, is_asked, read_requests};
 use crate::session::serve;
@@ -36,13 +36,13 @@ fn push_all<R: Threads + Wait + Sync>(
     passes: Vec<Pass>,
     requests: &[Request<'_>],
 ) -> Result<(), AllocError>
-    requires { All (λ pass. pass_table pass ≡ table_of manager.now) passes.items }
+    requires { All (λ pass. pass_table pass ≡ manager_table manager.now) passes.items }
 {
     thread::scope(
         thread::scope_env(),
         rt,
         move |scope| -> Result<(), AllocError>
-            requires { All (λ pass. pass_table pass ≡ table_of manager.now) passes.items }
+            requires { All (λ pass. pass_table pass ≡ manager_table manager.now) passes.items }
         {
             let threads = start_all(scope, rt, alloc, manager, passes, requests)?;
             join_all(text, rt, threads)
@@ -61,7 +61,7 @@ fn start_all<'s, E, R: Threads + Wait + Sync>(
     passes: Vec<Pass>,
     requests: &'s [Request<'s>],
 ) -> Result<Vec<Thread>, AllocError>
-    requires { All (λ pass. pass_table pass ≡ table_of manager.now) passes.items }
+    requires { All (λ pass. pass_table pass ≡ manager_table manager.now) passes.items }
 {
     let mut threads = Vec::new(alloc);
     for pass in passes {
@@ -81,11 +81,11 @@ fn start<'s, E, R: Threads + Wait + Sync>(
     pass: Pass,
     requests: &'s [Request<'s>],
 ) -> Result<Thread, AllocError>
-    requires { pass_table pass ≡ table_of manager.now }
+    requires { pass_table pass ≡ manager_table manager.now }
 {
     let thread = scope.spawn(
         move || -> Result<String, AllocError>
-            requires { pass_table pass ≡ table_of manager.now }
+            requires { pass_table pass ≡ manager_table manager.now }
         { serve(rt, alloc, manager, pass, requests) },
     )?;
     Ok(thread)

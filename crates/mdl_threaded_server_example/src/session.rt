@@ -1,6 +1,6 @@
 //! `mdl`: a session of the shared table is opened with its pass, has its statements done, gives all up, and is closed.
 ghost use Rattle.std.specs.Prelude.{◌≡◌, [], None};
-ghost use Rattle.mdl.specs.mdl_shared.Passes.{pass_table, table_of};
+ghost use Rattle.mdl.specs.mdl_shared.Passes.{manager_table, pass_table};
 ghost use Rattle.mdl.specs.mdl_shared.SessionViews.{data_of};
 
 use crate::requests::Request;
@@ -20,7 +20,7 @@ pub fn serve<R: Wait>(
     pass: Pass,
     requests: &[Request<'_>],
 ) -> Result<String, AllocError>
-    requires { pass_table pass ≡ table_of manager.now }
+    requires { pass_table pass ≡ manager_table manager.now }
 {
     let mut text = String::new(alloc);
     let mut session = Session::open(rt, manager, pass);

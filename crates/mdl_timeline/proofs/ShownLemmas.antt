@@ -23,7 +23,7 @@ use Rattle.mdl_script.specs.Worlds.{World, sessions}
 use Rattle.mdl_system.proofs.OrderLemmas.{Contains-cons_cases, Contains-here, Contains-later}
 use Rattle.mdl_system.proofs.MemberLemmas.{Contains-none, Contains-map, Contains-map_from, Contains-flat_map, Contains-flat_map_from}
 use Rattle.mdl_view.specs.ViewLaws.{nobody}
-use Rattle.mdl_timeline.specs.Moments.{event_of, fate_of, held_as, held_at, held_in, in_the_way_of, is_wait, waited_for}
+use Rattle.mdl_timeline.specs.Moments.{event_of, fate_of, held_as, held_in_book, held_in_books, in_the_way_of, is_begun_wait, waited_for}
 use Rattle.mdl_timeline.specs.TimelineLaws.{HasArrowsOf, HoldsThoseOf}
 
 -- ---- sessions
@@ -76,7 +76,7 @@ waited who books other = (from, to) where
   to (session, so) = to-filter waits sessions other (session-to other session) so
 
 -- only an answer that is a wait leaves its statement waiting
-wait-waits : (answer : News) → fate_of answer ≡ fate.Waits → is_wait answer ≡ true
+wait-waits : (answer : News) → fate_of answer ≡ fate.Waits → is_begun_wait answer ≡ true
 wait-waits (news.Waits key mode) is = refl
 wait-waits news.Busy is = cc
 wait-waits (news.Ends (reply.Error error)) is = cc
@@ -85,7 +85,7 @@ wait-waits (news.Ends (reply.Columns tables)) is = cc
 wait-waits (news.Ends (reply.Number number)) is = cc
 wait-waits (news.Ends reply.Null) is = cc
 
-none-else : (answer : News) → fate_of answer ≢ fate.Waits → is_wait answer ≡ false
+none-else : (answer : News) → fate_of answer ≢ fate.Waits → is_begun_wait answer ≡ false
 none-else (news.Waits key mode) isn't = absurd (isn't refl)
 none-else news.Busy isn't = refl
 none-else (news.Ends reply) isn't = refl
@@ -117,15 +117,15 @@ holds statement told world held = (from, to) where
   IsHeld : Type 0
   IsHeld = (book : BookView) × (ticket : Ticket) × Contains books book × Contains book.granted ticket × (held ≡ held_as book.key ticket)
 
-  from : Contains (held_in books) held → IsHeld
+  from : Contains (held_in_books books) held → IsHeld
   from among =
-      let there = Contains-flat_map_from held_at books no_lock held among in
+      let there = Contains-flat_map_from held_in_book books no_lock held among in
       let book = slice_index_or books there.0 no_lock in
       let ticket = Contains-map_from (held_as book.key) book.granted held there.2 in
       (book, ticket.0, Contains-get_or books there.0 no_lock there.1, ticket.1, ticket.2)
 
-  to : IsHeld → Contains (held_in books) held
+  to : IsHeld → Contains (held_in_books books) held
   to (book, ticket, (k, inside, is), granted, so) =
-      subst (Contains (held_in books)) (sym so)
-      (Contains-flat_map held_at books k book (held_as book.key ticket) inside
-      (subst (λ (b : BookView). Contains (held_at b) (held_as book.key ticket)) (sym is) (Contains-map (held_as book.key) book.granted ticket granted)))
+      subst (Contains (held_in_books books)) (sym so)
+      (Contains-flat_map held_in_book books k book (held_as book.key ticket) inside
+      (subst (λ (b : BookView). Contains (held_in_book b) (held_as book.key ticket)) (sym is) (Contains-map (held_as book.key) book.granted ticket granted)))

@@ -15,7 +15,7 @@ use Rattle.mdl_script.specs.declared.told.News.{News}
 use Rattle.mdl_script.specs.declared.told.News.TheVariants as news
 use Rattle.mdl_script.specs.declared.told.Told.{Told}
 use Rattle.mdl_script.specs.Texts.{news_text}
-use Rattle.mdl_script.specs.Worlds.{Scene, World, asked, first_settled, first_world, going, line_played, most_turns, sessions}
+use Rattle.mdl_script.specs.Worlds.{Scene, World, ask_session, first_settled, first_world, going, line_played, most_turns, sessions}
 use Rattle.mdl_syntax.specs.declared.script.Line.{Line}
 use Rattle.mdl_view.specs.ViewLaws.{nobody}
 use Rattle.mdl_timeline.specs.Statements.{statement_at}
@@ -30,13 +30,13 @@ error_note LockWaitTimeout = codes ", timeout"
 error_note Interrupted = codes ", killed"
 error_note error = []
 
-abbrev pub note_of : News → List ℕ
-note_of (news.Ends (reply.Error error)) = error_note error
-note_of other = []
+abbrev pub news_note : News → List ℕ
+news_note (news.Ends (reply.Error error)) = error_note error
+news_note other = []
 
 -- the text that is printed of a statement, with the text after an error
 abbrev pub answer_of : News → List ℕ
-answer_of news = news_text news ++ note_of news
+answer_of news = news_text news ++ news_note news
 
 -- the state in which an answer leaves its statement
 abbrev pub fate_of : News → Fate
@@ -53,13 +53,13 @@ abbrev pub waited_for : ℕ → List BookView → List ℕ
 waited_for who books = filter (waits_for nobody books who) sessions
 
 -- whether an answer is the beginning of a wait
-abbrev pub is_wait : News → Bool
-is_wait (news.Waits key mode) = true
-is_wait other = false
+abbrev pub is_begun_wait : News → Bool
+is_begun_wait (news.Waits key mode) = true
+is_begun_wait other = false
 
 -- the sessions that block the one with this answer at these books, if it begins to wait
 abbrev pub in_the_way_of : List BookView → Told → List ℕ
-in_the_way_of books told = if is_wait told.news then waited_for told.who books else []
+in_the_way_of books told = if is_begun_wait told.news then waited_for told.who books else []
 
 -- ---- locks that are held
 
@@ -68,12 +68,12 @@ abbrev pub held_as : KeyName → Ticket → HeldView
 held_as key ticket = record { session = ticket.session; mode = mode_name ticket.mode; lock = key_text key }
 
 -- the granted tickets of a lock, in their order
-abbrev pub held_at : BookView → List HeldView
-held_at book = map (held_as book.key) book.granted
+abbrev pub held_in_book : BookView → List HeldView
+held_in_book book = map (held_as book.key) book.granted
 
 -- the granted tickets of these locks
-abbrev pub held_in : List BookView → List HeldView
-held_in books = flat_map held_at books
+abbrev pub held_in_books : List BookView → List HeldView
+held_in_books books = flat_map held_in_book books
 
 -- ---- turns
 
@@ -86,13 +86,13 @@ event_of statement books told = record {
   answer = answer_of told.news;
   fate = fate_of told.news;
   in_the_way = in_the_way_of books told;
-  held = held_in books;
+  held = held_in_books books;
 }
 
 -- the events of a turn, at the books right after it. A turn has one answer, and a wait ends the turn in which it begins: after that only deadlocks are
 -- searched, which changes no book. So these are the books as they are when the wait begins
-abbrev pub events_of : List ℕ → Scene → List EventView
-events_of statement turn = map (event_of statement turn.world.core.books) turn.told
+abbrev pub turn_events : List ℕ → Scene → List EventView
+turn_events statement turn = map (event_of statement turn.world.core.books) turn.told
 
 -- the turn of the session that continues, if there is one, and then more turns
 abbrev pub turns_first : Option ℕ → (World → List Scene) → World → List Scene
@@ -111,7 +111,7 @@ abbrev pub moment_of : List ℕ → Line → World → MomentView
 moment_of statement line world = record {
   line = line.number;
   session = line.session;
-  events = events_of statement (asked line world) ++ flat_map (events_of []) (turns_after most_turns (asked line world).world);
+  events = turn_events statement (ask_session line world) ++ flat_map (turn_events []) (turns_after most_turns (ask_session line world).world);
 }
 
 -- the moments of these lines of a text, played one after the other in a world

@@ -7,7 +7,7 @@ use Rattle.mdl_lines.specs.Words.{IsScriptSession}
 use Rattle.mdl_picture.specs.declared.moment.Fate.TheVariants as fate
 use Rattle.mdl_picture.specs.Moments.{EventView, HeldView, MomentView}
 use Rattle.mdl_script.specs.declared.told.Told.{Told}
-use Rattle.mdl_script.specs.Worlds.{Scene, World, asked, first_world, lines_played, most_turns, script_played, settling, ◌and_then◌}
+use Rattle.mdl_script.specs.Worlds.{Scene, World, ask_session, continuing_settled, first_world, lines_played, most_turns, script_played, ◌and_then◌}
 use Rattle.mdl_syntax.specs.declared.script.Line.{Line}
 use Rattle.mdl_view.specs.ViewLaws.{nobody}
 use Rattle.mdl_timeline.specs.Moments.{answer_of, held_as, moments_of}
@@ -29,13 +29,13 @@ abbrev pub shown_by : EventView → Answer
 shown_by event = record { line = event.line; session = event.session; answer = event.answer }
 
 -- an answer that playing a script gives
-abbrev pub given : Told → Answer
-given told = record { line = told.line; session = told.who; answer = answer_of told.news }
+abbrev pub answer_told : Told → Answer
+answer_told told = record { line = told.line; session = told.who; answer = answer_of told.news }
 
 -- the events at the lines of a script show its answers, each once and in their order
 abbrev pub EventsAreAnswers : Type 0
 EventsAreAnswers =
-    (text : List ℕ) (lines : List Line) → map shown_by (events_at text lines) ≡ map given (script_played lines).told
+    (text : List ℕ) (lines : List Line) → map shown_by (events_at text lines) ≡ map answer_told (script_played lines).told
 
 -- ---- turns
 
@@ -43,7 +43,7 @@ EventsAreAnswers =
 -- continue
 abbrev pub after_turns : List Line → Line → ℕ → Scene
 after_turns first line zero = lines_played first first_world
-after_turns first line (suc others) = lines_played first first_world and_then asked line and_then settling others
+after_turns first line (suc others) = lines_played first first_world and_then ask_session line and_then continuing_settled others
 
 -- an event that comes after these others is that of one turn of the script: all answers before the turn are shown by the others, the turn gives the
 -- answer that the event shows, and the event is as `IsSo` says of the world right after the turn
@@ -54,8 +54,8 @@ pub record IsOfTurn (IsSo : EventView → World → Type 0) (lines : List Line) 
   pub turns : ℕ
   pub part : lines ≡ first ++ line ∷ later
   pub counted : turns ≤ most_turns
-  pub before : map given (after_turns first line turns).told ≡ map shown_by earlier
-  pub answered : map given (after_turns first line (suc turns)).told ≡ map shown_by earlier ++ shown_by event ∷ []
+  pub before : map answer_told (after_turns first line turns).told ≡ map shown_by earlier
+  pub answered : map answer_told (after_turns first line (suc turns)).told ≡ map shown_by earlier ++ shown_by event ∷ []
   pub is_so : IsSo event (after_turns first line (suc turns)).world
 
 -- each item of a list is as `IsSo` says of it and of all items before it

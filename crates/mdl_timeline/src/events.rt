@@ -1,6 +1,6 @@
 //! The events of statements.
 ghost use Rattle.std.specs.Prelude.{◌≡◌, ◌++◌, IfOk, OnOk, map};
-ghost use Rattle.mdl_timeline.specs.Moments.{answer_of, error_note, event_of, fate_of, note_of};
+ghost use Rattle.mdl_timeline.specs.Moments.{answer_of, error_note, event_of, fate_of, news_note};
 
 use crate::held::held_in;
 use crate::in_the_way::in_the_way_of;
@@ -58,7 +58,7 @@ fn answer_of(alloc: Global, news: &News) -> Result<Vec<u8>, AllocError>
 
 // The text after an answer that is an error.
 fn note_of(news: &News) -> &'static str
-    ensures { result.now ≡ note_of news.now }
+    ensures { result.now ≡ news_note news.now }
 {
     match news {
         News::Ends(Reply::Error(error)) => error_note(*error),

@@ -1,7 +1,7 @@
 //! The locks that sessions hold.
 ghost use Rattle.std.specs.Prelude.{◌≡◌, ◌++◌, IfOk, OnOk, map};
 ghost use Rattle.mdl_key.specs.Keys.{key_text};
-ghost use Rattle.mdl_timeline.specs.Moments.{held_as, held_in};
+ghost use Rattle.mdl_timeline.specs.Moments.{held_as, held_in_books};
 
 use mdl_book::{Book, Ticket};
 use mdl_key::Key;
@@ -10,7 +10,7 @@ use std::alloc::{AllocError, Global};
 
 /// Returns the locks that sessions hold at these books, in order of the books and of their granted tickets.
 pub(crate) fn held_in(alloc: Global, books: &[Book]) -> Result<Vec<Held>, AllocError>
-    ensures { IfOk result (λ held. held.items ≡ held_in books.now) }
+    ensures { IfOk result (λ held. held.items ≡ held_in_books books.now) }
 {
     let mut held = Vec::new(alloc);
     for book in books {

@@ -2,8 +2,8 @@
 ghost use Rattle.std.specs.Prelude.{◌≡◌, ◌++◌, [], All, IfOk, OnOk, flat_map};
 ghost use Rattle.mdl_lines.specs.Words.{IsScriptSession};
 ghost use Rattle.mdl_script.specs.Plays.{IsManned, world_of};
-ghost use Rattle.mdl_script.specs.Worlds.{asked, first_settled, line_played, most_turns, settling, turn_of};
-ghost use Rattle.mdl_timeline.specs.Moments.{events_of, moment_of, moments_of, turns_after};
+ghost use Rattle.mdl_script.specs.Worlds.{ask_session, continuing_settled, first_settled, line_played, most_turns, turn_of};
+ghost use Rattle.mdl_timeline.specs.Moments.{moment_of, moments_of, turn_events, turns_after};
 
 use crate::events::push_events;
 use crate::statements::statement_at;
@@ -64,8 +64,8 @@ fn ask<'s>(
 ) -> Result<(), AllocError>
     requires manned { IsManned play.old }
     requires session { IsScriptSession line.now.session }
-    ensures events { OnOk result (events.new.items ≡ events.old.items ++ events_of statement.now (asked line.now (world_of play.old))) }
-    ensures left { OnOk result (world_of play.new ≡ (asked line.now (world_of play.old)).world) }
+    ensures events { OnOk result (events.new.items ≡ events.old.items ++ turn_events statement.now (ask_session line.now (world_of play.old))) }
+    ensures left { OnOk result (world_of play.new ≡ (ask_session line.now (world_of play.old)).world) }
     ensures manned { OnOk result (IsManned play.new) }
 {
     let mut told = Vec::new(alloc);
@@ -76,8 +76,8 @@ fn ask<'s>(
 // Continues the sessions whose waits are settled, one after the other, and adds the events of each turn.
 fn settle(alloc: Global, play: &mut Play<'_>, events: &mut Vec<Event>) -> Result<(), AllocError>
     requires manned { IsManned play.old }
-    ensures events { OnOk result (events.new.items ≡ events.old.items ++ flat_map (events_of []) (turns_after most_turns (world_of play.old))) }
-    ensures left { OnOk result (world_of play.new ≡ (settling most_turns (world_of play.old)).world) }
+    ensures events { OnOk result (events.new.items ≡ events.old.items ++ flat_map (turn_events []) (turns_after most_turns (world_of play.old))) }
+    ensures left { OnOk result (world_of play.new ≡ (continuing_settled most_turns (world_of play.old)).world) }
     ensures manned { OnOk result (IsManned play.new) }
 {
     for _turn in 0..MOST_TURNS {
@@ -96,7 +96,7 @@ fn settle_one(
 ) -> Result<Option<u16>, AllocError>
     requires manned { IsManned play.old }
     ensures found { IfOk result (λ found. found ≡ first_settled (world_of play.old)) }
-    ensures events { OnOk result (events.new.items ≡ events.old.items ++ events_of [] (turn_of (first_settled (world_of play.old)) (world_of play.old))) }
+    ensures events { OnOk result (events.new.items ≡ events.old.items ++ turn_events [] (turn_of (first_settled (world_of play.old)) (world_of play.old))) }
     ensures left { OnOk result (world_of play.new ≡ (turn_of (first_settled (world_of play.old)) (world_of play.old)).world) }
     ensures manned { OnOk result (IsManned play.new) }
 {

@@ -1,7 +1,7 @@
 //! The words of statements, as the text of a script has them.
 ghost use Rattle.std.specs.Prelude.{◌≡◌, ◌++◌, IfOk, OnOk, codes, drop, flat_map, map};
 ghost use Rattle.mdl_lines.specs.Words.{line_in, words_of};
-ghost use Rattle.mdl_timeline.specs.Statements.{joined, statement_of};
+ghost use Rattle.mdl_timeline.specs.Statements.{joined, statement_words};
 
 use mdl_lines::{is_blank, line_at};
 use std::alloc::{AllocError, Global};
@@ -12,14 +12,14 @@ pub(crate) fn statement_at(
     lines: &[&[u8]],
     number: u64,
 ) -> Result<Vec<u8>, AllocError>
-    ensures { IfOk result (λ statement. statement.items ≡ statement_of (line_in (map (λ line. line.now) lines.now) number)) }
+    ensures { IfOk result (λ statement. statement.items ≡ statement_words (line_in (map (λ line. line.now) lines.now) number)) }
 {
     statement_of(alloc, line_at(lines, number))
 }
 
 // The statement of a line: its words after that of its session, separated by single blanks.
 fn statement_of(alloc: Global, line: &[u8]) -> Result<Vec<u8>, AllocError>
-    ensures { IfOk result (λ statement. statement.items ≡ statement_of line.now) }
+    ensures { IfOk result (λ statement. statement.items ≡ statement_words line.now) }
 {
     let mut statement = Vec::new(alloc);
     let words = words_of(alloc, line)?;

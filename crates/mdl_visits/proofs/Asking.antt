@@ -6,7 +6,7 @@ use Rattle.std.proofs.lemmas.List.Elements.{All-push, All-weaker, filter-append}
 use Rattle.mdl_steps.specs.declared.view.Known.{Known}
 use Rattle.mdl_steps.specs.declared.view.Met.{Met}
 use Rattle.mdl_steps.specs.Plays.{Mine}
-use Rattle.mdl_visits.specs.Tables.{Asked, HasAsked, WasAsked, told}
+use Rattle.mdl_visits.specs.Tables.{Asked, HasAsked, WasAsked, defined_places}
 use Rattle.mdl_visits.specs.Visits.{MakesMoreSteps, IsStepOf, MakesSteps}
 
 -- ---- steps of a call's parts are steps of the call
@@ -32,16 +32,16 @@ asked_within who a b c d x before was after = (was.0, step_within a b c d was.0 
 
 -- ---- one more table was asked
 
-told_one : (t : Known) (defined : Bool) → told (record { table = t; defined = defined } ∷ []) ≡ cond defined (t.place ∷ []) []
+told_one : (t : Known) (defined : Bool) → defined_places (record { table = t; defined = defined } ∷ []) ≡ cond defined (t.place ∷ []) []
 told_one t true = refl
 told_one t false = refl
 
-told_more : (asked : List Asked) (t : Known) (defined : Bool) → told (asked ++ record { table = t; defined = defined } ∷ []) ≡ told asked ++ cond defined (t.place ∷ []) []
+told_more : (asked : List Asked) (t : Known) (defined : Bool) → defined_places (asked ++ record { table = t; defined = defined } ∷ []) ≡ defined_places asked ++ cond defined (t.place ∷ []) []
 told_more asked t defined =
     let one : Asked = record { table = t; defined = defined } in
     ap (map (λ (a : Asked). a.table.place)) (filter-append (λ (a : Asked). a.defined) asked (one ∷ []))
     ∙ map-append (λ (a : Asked). a.table.place) (filter (λ (a : Asked). a.defined) asked) (filter (λ (a : Asked). a.defined) (one ∷ []))
-    ∙ ap (λ (rest : List ℕ). told asked ++ rest) (told_one t defined)
+    ∙ ap (λ (rest : List ℕ). defined_places asked ++ rest) (told_one t defined)
 
 pub asked_more : (who : ℕ) (tables : List Known) (t : Known) (places more : List ℕ) (defined : Bool) (old mid new : Mine) → HasAsked who tables places old mid → MakesSteps old mid → MakesSteps mid new
     → WasAsked who mid new (record { table = t; defined = defined }) → more ≡ places ++ cond defined (t.place ∷ []) []

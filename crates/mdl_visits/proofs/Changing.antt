@@ -28,9 +28,9 @@ use Rattle.mdl_steps.specs.VersionPlays.{Follows}
 use Rattle.mdl_steps.proofs.Hands.{holds_written, elsewhere-redefined}
 use Rattle.mdl_steps.proofs.Tickets.{and_false}
 use Rattle.mdl_steps.proofs.Views.{by_bool, held_at-first, held_at-changed}
-use Rattle.mdl_visits.specs.Leavings.{Learns, knowing}
+use Rattle.mdl_visits.specs.Leavings.{Learns, knowing_read}
 use Rattle.mdl_visits.specs.Numbers.{numbered, is_ask_apart}
-use Rattle.mdl_visits.specs.Redefinitions.{HasExclusiveAt, IsNamed, IsRefusedFor, MeetsFault, Redefines, redefined_and_put}
+use Rattle.mdl_visits.specs.Redefinitions.{HasExclusiveAt, IsNamed, MeetsChangeFault, Redefines, RefusesChange, redefined_and_put}
 use Rattle.mdl_visits.specs.Visits.{Arrives, AreStepsOf, IsInside, and_made, TakesLatch, VisitsOnce}
 use Rattle.mdl_visits.proofs.Arriving.{went_on}
 use Rattle.mdl_visits.proofs.Gathering.{as_reads, gives_back, holds_there, no_steps}
@@ -96,7 +96,7 @@ module _ (place : ℕ) (standing : Standing) (m m′ m″ : Mine) (put : m″ �
       let others = elsewhere-redefined place standing came ∙ inside.others in
       let log = append_assoc (m.0.log ++ inside.made) (writes ∷ []) (puts ∷ []) ∙ append_assoc m.0.log inside.made (writes ∷ puts ∷ []) in (
         inside.made ++ writes ∷ puts ∷ [],
-        put ∙ ap (redefined_and_put place standing) inside.now ∙ (λ i. (record (knowing place standing m.0) { latches = others i; log = log i }, m.1)),
+        put ∙ ap (redefined_and_put place standing) inside.now ∙ (λ i. (record (knowing_read place standing m.0) { latches = others i; log = log i }, m.1)),
         none_then inside.made (writes ∷ puts ∷ []) [] inside.did refl,
       )
 
@@ -196,11 +196,11 @@ module _ (place q : ℕ) (change : Change) (a b w : SeatState) (at : q ≡ place
 
   -- it was refused, and the latch was given back
   pub refused : (e : SeatState) (table : b.table ≡ a.table) → w ≡ b → e ≡ record w { me = unlatched q [] w.me } → IsRising place a.me → (why : ChangeError) → Refuses {T = ℕ} fault OutOfMemory (Err why)
-      → (change ≡ Drop → RefusesJust {T = ℕ} fault (Err why)) → IsRefusedFor place a.me.0.number change why a.me e.me
+      → (change ≡ Drop → RefusesJust {T = ℕ} fault (Err why)) → RefusesChange place a.me.0.number change why a.me e.me
   refused e table same put rising why told drop = ⊎_elim
       (λ is.
       let shows = gives_back place q a b w at taken table same w (as_reads w w (refl, no_steps w.me)) e put rising
-      (λ x. (met : MeetsFault place a.me.0.number change why x) × Follows place met.latch.book.standing a.me × IsNamed place met.latch.book.key a.me) (
+      (λ x. (met : MeetsChangeFault place a.me.0.number change why x) × Follows place met.latch.book.standing a.me × IsNamed place met.latch.book.key a.me) (
         record { kind = refl; word = refl; freed = refl; latch = taken.0; held = held_at-first place taken.0 a.me.0.latches taken.1.here; fault = is },
         follows taken.1,
         taken.1.named,

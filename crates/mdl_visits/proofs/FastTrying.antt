@@ -13,7 +13,7 @@ use Rattle.mdl_steps.specs.Layout.{lock_word}
 use Rattle.mdl_steps.specs.Lists.{Each}
 use Rattle.mdl_steps.specs.Plays.{Mine}
 use Rattle.mdl_visits.specs.FastTries.{AllMiss, GrantsAtLast, GrantsFast, Misses, MissesAfter, last_found, with_fast}
-use Rattle.mdl_visits.specs.Visits.{StaysOn, StaysThere, and_made, gives_back, raises_flags}
+use Rattle.mdl_visits.specs.Visits.{StaysOn, StaysThere, and_made, gives_back, kind_raises_flags}
 use Rattle.mdl_visits.proofs.Steps.{each_append, none_then}
 
 -- the step that a session with these latches made at a place
@@ -33,7 +33,7 @@ last_push before (x ∷ xs) e = last_push x.found xs e
 
 all_stay : (place before : ℕ) (tries : List Met) → AllMiss place before tries → Each StaysThere tries
 all_stay place before [] all = tt
-all_stay place before (x ∷ xs) all = ((ap gives_back all.0.kind, ap raises_flags all.0.kind), all_stay place x.found xs all.1)
+all_stay place before (x ∷ xs) all = ((ap gives_back all.0.kind, ap kind_raises_flags all.0.kind), all_stay place x.found xs all.1)
 
 -- ---- after so many of them
 
@@ -76,7 +76,7 @@ module _ {place count word : ℕ} {m m′ : Mine} (missed : Misses place count w
       }
 
   stay_there : Each StaysThere (missed.read ∷ missed.tries)
-  stay_there = ((ap gives_back missed.reads.0, ap raises_flags missed.reads.0), all_stay place missed.read.found missed.tries missed.miss)
+  stay_there = ((ap gives_back missed.reads.0, ap kind_raises_flags missed.reads.0), all_stay place missed.read.found missed.tries missed.miss)
 
   pub stays_missed : StaysOn m m′
   stays_missed = (missed.read ∷ missed.tries, ap (λ (x : Mine). x.0.log) missed.now, stay_there)

@@ -17,7 +17,7 @@ use Rattle.mdl_steps.proofs.Hands.{elsewhere-rising}
 use Rattle.mdl_steps.proofs.Views.{held_at-past}
 use Rattle.mdl_visits.specs.declared.audited.Audited.{Audited}
 use Rattle.mdl_visits.specs.Audits.{Gathers, HadLatches, MayTakeAll}
-use Rattle.mdl_visits.specs.Idle.{IsIdle}
+use Rattle.mdl_visits.specs.Idle.{HoldsNoLatch}
 use Rattle.mdl_visits.specs.Searches.{ReadsWaits, ReadsWaitsQuietly, with_waits_read}
 use Rattle.mdl_visits.specs.Visits.{AllQuiet, MakesMoreSteps, HasStep, IsQuiet, MakesQuietSteps, MayVisit, and_made, TakesLatch}
 use Rattle.mdl_visits.proofs.Asking.{step_within}
@@ -56,7 +56,7 @@ quiet_steps_on a b c first second =
     )
 
 -- a session that holds no latch may go to a place, also after steps
-pub may_visit : (place : ℕ) (a b : SeatState) → AtItsTable a b MakesQuietSteps → IsIdle a.me → IsPlace a.table place → MayVisit place b
+pub may_visit : (place : ℕ) (a b : SeatState) → AtItsTable a b MakesQuietSteps → HoldsNoLatch a.me → IsPlace a.table place → MayVisit place b
 may_visit place a b steps idle is_place = record {
   is_place = subst (λ (id : TableId). IsPlace id place) (sym steps.0) is_place;
   rising = subst (IsRising place) (sym steps.1.1) (subst (Each (λ (h : LatchRecord). h.place < place)) (sym (no_latches a.me idle)) tt);

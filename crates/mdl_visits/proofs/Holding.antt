@@ -17,9 +17,9 @@ use Rattle.mdl_steps.specs.SeatStates.{AtItsTable, SeatState}
 use Rattle.mdl_steps.specs.Seats.{HasDirectory, IsRising, MayInform, learnt}
 use Rattle.mdl_visits.specs.declared.audited.Audited.{Audited}
 use Rattle.mdl_visits.specs.Audits.{AreKeyed, AreRecorded, Audits, Gathers, HadLatches, MayAllStand, MayTakeAll}
-use Rattle.mdl_visits.specs.Idle.{IsIdle}
+use Rattle.mdl_visits.specs.Idle.{HoldsNoLatch}
 use Rattle.mdl_visits.specs.Lookups.{HadEither, TookDirectory}
-use Rattle.mdl_visits.specs.Searches.{AreQueuesOf, EndsSearch, Finds, FindsFrom, Judges, KnowsVictim, ReadsWaits, ReadsWaitsQuietly, Searched, Searches, if_waited, with_waits_read}
+use Rattle.mdl_visits.specs.Searches.{AreQueuesOf, EndsSearch, FindsFrom, Judges, KnowsVictim, ReadsWaits, ReadsWaitsQuietly, SearchFinds, Searched, Searches, if_waited, with_waits_read}
 use Rattle.mdl_visits.specs.Visits.{MakesMoreSteps, IsQuiet, IsStepOf, MakesSteps, and_made, TakesLatch, TakesDirectory}
 use Rattle.mdl_visits.proofs.Asking.{step_within}
 use Rattle.mdl_visits.proofs.Gathering.{as_steps, back, gathers_more, gathers_none}
@@ -48,7 +48,7 @@ keys_from before (key ∷ keys) (a ∷ more) place at same keyed =
 
 -- ---- all of it, while the directory's latch is held
 
-module _ (a b c : SeatState) (taken : TakesDirectory a b) (same : c ≡ b) (idle : IsIdle a.me) where
+module _ (a b c : SeatState) (taken : TakesDirectory a b) (same : c ≡ b) (idle : HoldsNoLatch a.me) where
   abbrev made : List Met
   made = taken.0
 
@@ -219,7 +219,7 @@ module _ (place q last : ℕ) (a b c d e : SeatState) (at : q ≡ place) (taken 
   }
 
 -- behind the last place it is looked for
-pub finds_here : (place last : ℕ) (lists : List Queues) (a b : SeatState) (found : Search) → place ≡ last + 1 → Finds lists a b found → FindsFrom place last lists a b found
+pub finds_here : (place last : ℕ) (lists : List Queues) (a b : SeatState) (found : Search) → place ≡ last + 1 → SearchFinds lists a b found → FindsFrom place last lists a b found
 unfolding gathers_none
 finds_here place last lists a b found behind finds = (
   λ copied are. record {
@@ -231,7 +231,7 @@ finds_here place last lists a b found behind finds = (
 )
 
 -- what was found once all latches were taken is what is found
-pub searched : (a b c d e : SeatState) (taken : TakesDirectory a b) (same : c ≡ b) (idle : IsIdle a.me) (reads : AtItsTable c d ReadsWaitsQuietly) (put : e ≡ record d { me = informed (learnt d.me 0) d.me })
+pub searched : (a b c d e : SeatState) (taken : TakesDirectory a b) (same : c ≡ b) (idle : HoldsNoLatch a.me) (reads : AtItsTable c d ReadsWaitsQuietly) (put : e ≡ record d { me = informed (learnt d.me 0) d.me })
     (last : ℕ) → last ≡ length taken.1.keys → (found : Search) → FindsFrom 1 last [] c d found
     → Searched a.table a.me.0.number taken.1 found a.me e.me × KnowsVictim a.me.0.number found e.me
 searched a b c d e taken same idle reads put last count found finds =

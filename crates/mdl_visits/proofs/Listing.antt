@@ -10,16 +10,16 @@ use Rattle.mdl_steps.specs.Layout.{latch_word}
 use Rattle.mdl_steps.specs.Plays.{Mine, IsDirectory, consulted, informed}
 use Rattle.mdl_steps.specs.Rule.{key_at}
 use Rattle.mdl_steps.specs.Schemas.{StandThere, unknown}
-use Rattle.mdl_visits.specs.Idle.{IsIdle}
+use Rattle.mdl_visits.specs.Idle.{HoldsNoLatch}
 use Rattle.mdl_visits.specs.Lookups.{TookDirectory, given_back}
-use Rattle.mdl_visits.specs.Tables.{AreTables, AreWithin, knowing_all}
+use Rattle.mdl_visits.specs.Tables.{AreAllTables, AreWithin, knowing_all}
 use Rattle.mdl_visits.specs.Visits.{AllQuiet, IsQuiet, MakesSteps, StaysQuiet, and_made, deeds_of}
 use Rattle.mdl_visits.proofs.Lookups.{had_none, no_record, some_there}
 use Rattle.mdl_visits.proofs.Steps.{each_append, none_then}
 
 -- ---- the tables stand where the directory says
 
-pub all_stand : (schema : List ℕ) (k : Keys) (tables : List Known) → AreTables schema k tables → StandThere k tables
+pub all_stand : (schema : List ℕ) (k : Keys) (tables : List Known) → AreAllTables schema k tables → StandThere k tables
 all_stand schema k tables are = λ i d short. ((are.each i d short).0, (are.each i d short).1)
 
 pub all_within : (slots : ℕ) (k : Keys) (tables : List Known) → length k.keys < slots → StandThere k tables → AreWithin slots tables
@@ -30,7 +30,7 @@ all_within slots k tables fit stand =
 
 -- ---- the directory's latch is given back
 
-module _ (slots : ℕ) (k : Keys) (made : List Met) (old : Mine) (idle : IsIdle old) (is : IsDirectory slots k (and_made made old))
+module _ (slots : ℕ) (k : Keys) (made : List Met) (old : Mine) (idle : HoldsNoLatch old) (is : IsDirectory slots k (and_made made old))
     (more : List Known) (new : Mine) (e : new ≡ informed more (consulted k (and_made made old))) where
   abbrev took : Met
   took = record { kind = TakeLatch; deeds = []; word = latch_word 0; found = 0; held = old.0.latches; directory = Some k }

@@ -18,8 +18,8 @@ use Rattle.mdl_steps.specs.SeatStates.{AtItsTable, SeatState}
 use Rattle.mdl_steps.specs.Seats.{HasDirectory, MayInform, learnt, place_among, recorded_key}
 use Rattle.mdl_steps.proofs.Looking.{there}
 use Rattle.mdl_visits.specs.declared.resolve_error.ResolveError.{ResolveError}
-use Rattle.mdl_visits.specs.Idle.{IsIdle}
-use Rattle.mdl_visits.specs.Lookups.{TookDirectory, HasLooked, HasNamed, IsAnswer, knowing, relisted}
+use Rattle.mdl_visits.specs.Idle.{HoldsNoLatch}
+use Rattle.mdl_visits.specs.Lookups.{TookDirectory, HasLooked, HasNamed, IsLookupAnswer, knowing_key, relisted}
 use Rattle.mdl_visits.specs.Visits.{AllQuiet, and_made, deeds_of, MakesSteps, TakesDirectory}
 use Rattle.mdl_visits.proofs.Seats.{mine, table_of}
 use Rattle.mdl_visits.proofs.Steps.{none_then}
@@ -31,10 +31,10 @@ pub no_record : (d : Option Keys) → is_some d ≡ false → None ≡ d
 no_record None e = refl
 no_record (Some k) e = absurd (cc)
 
-pub had_none : (m : Mine) → IsIdle m → (made : List Met) → AllQuiet m.0.directory made → AllQuiet None made
+pub had_none : (m : Mine) → HoldsNoLatch m → (made : List Met) → AllQuiet m.0.directory made → AllQuiet None made
 had_none m idle made had = subst (λ (d : Option Keys). AllQuiet d made) (sym (no_record m.0.directory idle.1)) had
 
-pub no_latches : (m : Mine) → IsIdle m → m.0.latches ≡ []
+pub no_latches : (m : Mine) → HoldsNoLatch m → m.0.latches ≡ []
 no_latches m idle = nil_from_length m.0.latches idle.0
 
 -- ---- while the directory is in hand
@@ -67,7 +67,7 @@ found_there key place k a b has fit e same =
     )
 
 -- a new one has none yet
-pub found_nowhere : (key : KeyName) (why : ResolveError) (k : Keys) (a b : SeatState) → HasDirectory k a.me → IsAnswer a.table.slots key k k (Err why) → b ≡ a
+pub found_nowhere : (key : KeyName) (why : ResolveError) (k : Keys) (a b : SeatState) → HasDirectory k a.me → IsLookupAnswer a.table.slots key k k (Err why) → b ≡ a
     → AtItsTable a b (HasLooked a.table.slots key k (Err why))
 found_nowhere key why k a b has is same =
     (table_of same, record { made = []; left = k; seat = mine same ∙ relisted_nothing k a.me has; had = tt; did = refl; answer = is; stands = tt })
@@ -107,7 +107,7 @@ module _ (key : KeyName) (result : Result ℕ ResolveError) (a b c : SeatState) 
   pub may_inform_looked : MayInform c.me
   may_inform_looked = (looked.left, subst (HasDirectory looked.left) (sym looked.seat) (record { recorded = refl; carried = refl }))
 
-  module _ (place : ℕ) (e : SeatState) (put : e ≡ record c { me = informed (learnt c.me place) c.me }) (idle : IsIdle a.me) where
+  module _ (place : ℕ) (e : SeatState) (put : e ≡ record c { me = informed (learnt c.me place) c.me }) (idle : HoldsNoLatch a.me) where
     abbrev took : Met
     took = record { kind = TakeLatch; deeds = []; word = latch_word 0; found = 0; held = a.me.0.latches; directory = Some taken.1 }
 
@@ -129,10 +129,10 @@ module _ (key : KeyName) (result : Result ℕ ResolveError) (a b c : SeatState) 
     did_all : deeds_of all ≡ []
     did_all = none_then taken.0 (took ∷ looked.made ++ gave ∷ []) [] taken.5 (none_then looked.made (gave ∷ []) [] looked.did refl)
 
-    pub idle_then : IsIdle e.me
-    idle_then = subst IsIdle (sym put_is) idle
+    pub idle_then : HoldsNoLatch e.me
+    idle_then = subst HoldsNoLatch (sym put_is) idle
 
-    pub answered : (k left : Keys) × AtItsTable a e (TookDirectory a.table.slots k left) × IsAnswer a.table.slots key k left result
+    pub answered : (k left : Keys) × AtItsTable a e (TookDirectory a.table.slots k left) × IsLookupAnswer a.table.slots key k left result
     answered = (
       taken.1,
       looked.left,
@@ -153,7 +153,7 @@ module _ (key : KeyName) (result : Result ℕ ResolveError) (a b c : SeatState) 
       looked.answer,
     )
 
-    pub knows_one : (0 < place) × (place < a.table.slots) × (key_at looked.left.keys place ≡ Some key) → (0 < place) × (place < a.table.slots) × MakesSteps (knowing (record { key = key; place = place }) a.me) e.me
+    pub knows_one : (0 < place) × (place < a.table.slots) × (key_at looked.left.keys place ≡ Some key) → (0 < place) × (place < a.table.slots) × MakesSteps (knowing_key (record { key = key; place = place }) a.me) e.me
     knows_one stands = (
       stands.0,
       stands.1,

@@ -20,7 +20,7 @@ use Rattle.mdl_steps.specs.Lists.{Each}
 use Rattle.mdl_steps.specs.SeatStates.{AtItsTable, SeatState}
 use Rattle.mdl_steps.specs.Seats.{HasDirectory, IsPlace, IsRising, MayName, rest, written}
 use Rattle.mdl_steps.proofs.Hands.{elsewhere-taken, holds_taken, holds_written}
-use Rattle.mdl_visits.specs.Lookups.{HadEither, HasNamed, IsListed, IsNext}
+use Rattle.mdl_visits.specs.Lookups.{HadEither, HasNamed, IsAddedToDirectory, IsNext}
 use Rattle.mdl_steps.proofs.NewKeys.{none_after}
 use Rattle.mdl_visits.specs.Visits.{AllQuiet, IsQuiet, MayVisit, and_made, deeds_of}
 use Rattle.mdl_visits.proofs.Seats.{mine, table_of}
@@ -35,7 +35,7 @@ pub same_record : (k other : Keys) (m : Mine) → m.0.directory ≡ Some k → m
 same_record k other m this that = cc
 
 -- the latch that was just taken may be given back with the empty book of the new key
-pub may_name : (place : ℕ) (key : KeyName) (k : Keys) (h : LatchRecord) (m : Mine) → IsFresh place h m → IsListed place key k m
+pub may_name : (place : ℕ) (key : KeyName) (k : Keys) (h : LatchRecord) (m : Mine) → IsFresh place h m → IsAddedToDirectory place key k m
     → MayName place key k h (written place (empty_book key) (latched place h m))
 may_name place key k h m fresh is =
     let next = is.next in
@@ -51,7 +51,7 @@ may_name place key k h m fresh is =
     }
 
 -- once it was given back, the key stands in the directory's record, too
-pub named_is : (place : ℕ) (key : KeyName) (k : Keys) (h : LatchRecord) (made : List Met) (old new : Mine) → h.place ≡ place → old.0.latches ≡ [] → IsListed place key k old
+pub named_is : (place : ℕ) (key : KeyName) (k : Keys) (h : LatchRecord) (made : List Met) (old new : Mine) → h.place ≡ place → old.0.latches ≡ [] → IsAddedToDirectory place key k old
     → AllQuiet old.0.directory made → deeds_of made ≡ [] → new ≡ named place key (written place (empty_book key) (latched place h (and_made made old)))
     → HasNamed key k old new
 named_is place key k h made old new here alone is lingered did e =
@@ -88,9 +88,9 @@ module _ (place : ℕ) (asked copy : KeyName) (k : Keys) (a l : SeatState) (is :
         rising = subst (IsRising place) (sym (mine listed)) (subst (Each (λ (h : LatchRecord). h.place < place)) (sym is.holds.alone) tt);
       }
 
-  pub is_listed : (key : KeyName) → copy ≡ asked → key ≡ asked → IsListed place key k l.me
+  pub is_listed : (key : KeyName) → copy ≡ asked → key ≡ asked → IsAddedToDirectory place key k l.me
   is_listed key first second =
-      subst (λ (x : KeyName). IsListed place x k l.me) (sym second) (subst (IsListed place asked k) (sym (mine listed)) (record {
+      subst (λ (x : KeyName). IsAddedToDirectory place x k l.me) (sym second) (subst (IsAddedToDirectory place asked k) (sym (mine listed)) (record {
         recorded = is.holds.has.recorded;
         carried = ap (λ (x : KeyName). (0, slot.Directory (listing x k)) ∷ rest a.me.1) first;
         new = is.new;
@@ -112,13 +112,13 @@ fresh_then place h made m f = record { here = f.here; exact = f.exact; unnoted =
 -- ---- the same along the calls, the held latch being that of the place
 
 module _ (place here : ℕ) (key : KeyName) (k : Keys) (h : LatchRecord) (made : List Met) (old mid next : Mine) (at : here ≡ place) (fresh : IsFresh place h old)
-    (is : IsListed place key k old) (taken : mid ≡ latched place h (and_made made old)) (named_book : next ≡ written here (empty_book key) mid) where
+    (is : IsAddedToDirectory place key k old) (taken : mid ≡ latched place h (and_made made old)) (named_book : next ≡ written here (empty_book key) mid) where
   next_is : next ≡ written place (empty_book key) (latched place h (and_made made old))
   next_is = named_book ∙ ap (λ (x : Mine). written here (empty_book key) x) taken ∙ ap (λ (p : ℕ). written p (empty_book key) (latched place h (and_made made old))) at
 
   pub may_name_at : MayName here key k h next
   may_name_at =
-      let listed : IsListed place key k (and_made made old) = record { recorded = is.recorded; carried = is.carried; new = is.new; next = is.next } in
+      let listed : IsAddedToDirectory place key k (and_made made old) = record { recorded = is.recorded; carried = is.carried; new = is.new; next = is.next } in
       subst (λ (p : ℕ). MayName p key k h next) (sym at) (subst (λ (m : Mine). MayName place key k h m) (sym next_is) (may_name place key k h (and_made made old) (fresh_then place h made old fresh) listed))
 
   pub named_at : (new : Mine) → old.0.latches ≡ [] → AllQuiet old.0.directory made → deeds_of made ≡ [] → new ≡ named here key next → HasNamed key k old new

@@ -25,7 +25,7 @@ use Rattle.mdl_visits.specs.declared.audited.Audited.{Audited}
 use Rattle.mdl_visits.specs.declared.waits_read.WaitRead.{WaitRead}
 use Rattle.mdl_visits.specs.Grantings.{StaysTold}
 use Rattle.mdl_visits.specs.Polls.{SettlesNothing}
-use Rattle.mdl_visits.specs.Searches.{AreQueuesOf, AreRead, Finds, FindsAtOnce, IsOutcome, Judges, KnowsVictim, OnlyReadsWaits, ReadsWaitsQuietly, SettlesVictim, TriesToSettle, WasOther, WasRead, books_of, if_waited, read_of, settled_by}
+use Rattle.mdl_visits.specs.Searches.{AreQueuesOf, AreRead, FindsAtOnce, IsOutcome, Judges, KnowsVictim, OnlyReadsWaits, ReadsWaitsQuietly, SearchFinds, SettlesVictim, TriesToSettle, WasOther, WasRead, books_of, if_waited, read_of, settled_by}
 use Rattle.mdl_visits.specs.Visits.{MakesMoreSteps}
 use Rattle.mdl_visits.proofs.Asking.{goes_nowhere, step_within}
 use Rattle.mdl_visits.proofs.Deadlocks.{same_if_waited}
@@ -176,7 +176,7 @@ knows_on who NoCycle m m′ same knows = tt
 knows_on who (Victim victim) m m′ same knows = λ own. same ∙ knows own
 
 module _ (lists : List Queues) (a b c : SeatState) (first : OnlyReadsWaits a b) where
-  pub finds_after : (found : Search) → Finds lists b c found → Finds lists a c found
+  pub finds_after : (found : Search) → SearchFinds lists b c found → SearchFinds lists a c found
   finds_after found finds = (
     λ audited are.
         judges_within a.table a.me.0.number a.me.0.latches audited found a.me b.me c.me c.me (goes_reading a.me b.me first.0.1) first.1 (goes_nowhere c.me) refl
@@ -190,7 +190,7 @@ module _ (lists : List Queues) (a b c : SeatState) (first : OnlyReadsWaits a b) 
     still : All (WasRead a.table.slots a.me.0.latches a.me c.me) words
     still = all_within a.table.slots a.me.0.latches a.me a.me b.me c.me words (goes_nowhere a.me) (goes_reading b.me c.me then.1) read.1
 
-    pub finds_victim : SettlesVictim b.table.slots victim b.me.0.latches b.me c.me × KnowsVictim b.me.0.number (Victim victim) c.me → Finds lists a c (Victim victim)
+    pub finds_victim : SettlesVictim b.table.slots victim b.me.0.latches b.me c.me × KnowsVictim b.me.0.number (Victim victim) c.me → SearchFinds lists a c (Victim victim)
     finds_victim settled = (
       λ audited are. record {
         words = words;

@@ -27,7 +27,7 @@ use Rattle.mdl_steps.proofs.FastLists.{count-append, length_mapped, one_counted}
 use Rattle.mdl_steps.proofs.Tickets.{without-hit, without-miss}
 use Rattle.mdl_steps.proofs.Views.{by_bool}
 use Rattle.mdl_visits.specs.Materialisings.{AreUngranted, CanStand, LacksRoomIn, Stand, granting_own, with_book}
-use Rattle.mdl_visits.specs.Visits.{HasInHand}
+use Rattle.mdl_visits.specs.Visits.{HasBookInHand}
 use Rattle.mdl_visits.proofs.Trying.{refusal}
 
 -- ---- parts of a list
@@ -196,7 +196,7 @@ first_stand place tickets i book s w can is =
     (record { in_hand = refl; ungranted = each_taken (λ (t : Own). ticket_of s.me.0.number t.number book.granted ≡ None) i tickets can.ungranted })
 
 -- the book that was in hand was written
-pub none_written : (place : ℕ) (book : BookView) (s : SeatState) → HasInHand place book s → with_book place book s ≡ s
+pub none_written : (place : ℕ) (book : BookView) (s : SeatState) → HasBookInHand place book s → with_book place book s ≡ s
 none_written place book s in_hand = λ i. record s { me = (s.me.0, sym in_hand i) }
 
 -- what stands where no ticket does

@@ -11,7 +11,7 @@ use Rattle.mdl_steps.specs.Cells.{held_at}
 use Rattle.mdl_steps.specs.Layout.{latch_word}
 use Rattle.mdl_steps.specs.Plays.{Mine, IsFresh, latched, read_and_put}
 use Rattle.mdl_steps.specs.VersionPlays.{Follows}
-use Rattle.mdl_visits.specs.Leavings.{Learns, MeetsStanding, knowing}
+use Rattle.mdl_visits.specs.Leavings.{Learns, MeetsStanding, knowing_read}
 use Rattle.mdl_visits.specs.Readings.{WasHeld, WereHeld}
 use Rattle.mdl_visits.specs.Visits.{AllQuiet, IsInside, IsStepOf, StaysQuiet, and_made}
 use Rattle.mdl_visits.proofs.Leaving.{own_found}
@@ -37,7 +37,7 @@ module _ (place : ℕ) (standing : Standing) (m m′ m″ : Mine) (inside : IsIn
   learns = (
     inside.made ++ puts ∷ [],
     read ∙ ap (read_and_put place standing) inside.now
-        ∙ (λ i. (record (knowing place standing m.0) { latches = inside.others i; log = append_assoc m.0.log inside.made (puts ∷ []) i }, m.1)),
+        ∙ (λ i. (record (knowing_read place standing m.0) { latches = inside.others i; log = append_assoc m.0.log inside.made (puts ∷ []) i }, m.1)),
     none_then inside.made (puts ∷ []) [] inside.did refl,
   )
 

@@ -16,7 +16,7 @@ use Rattle.mdl_steps.specs.Layout.{latch_word, lock_word}
 use Rattle.mdl_steps.specs.Plays.{Mine, served}
 use Rattle.mdl_steps.specs.Seats.{Holds, elsewhere, rest}
 use Rattle.mdl_steps.proofs.Hands.{elsewhere-settled}
-use Rattle.mdl_visits.specs.Grantings.{ForgetsNobody, IsLowered, ReschedulesAndLeaves, HasRescheduled, Reschedules, VisitsAndReschedules, all_but}
+use Rattle.mdl_visits.specs.Grantings.{ForgetsNobody, IsLowered, ReschedulesAndLeaves, HasRescheduled, GrantsWaits, VisitsAndReschedules, all_but}
 use Rattle.mdl_visits.specs.Visits.{MakesMoreSteps, IsInside, IsStepOf, StaysOn}
 use Rattle.mdl_visits.proofs.Steps.{goes_none, goes_staying, leaves_after, none_then, step_after, step_before}
 use Rattle.mdl_visits.proofs.Way.{granted_within, looked_within, stays_of}
@@ -74,7 +74,7 @@ module _ (id : TableId) (place : ℕ) (h : LatchRecord) (m c : Mine) (has : Hold
 
 -- ---- somebody does: waits were granted, and the latch was given back
 
-module _ (id : TableId) (place : ℕ) (g : LatchRecord) (m b c : Mine) (way : Reschedules id place m m b) (has : Holds place g g.book b) (none : ForgetsNobody id place g m b)
+module _ (id : TableId) (place : ℕ) (g : LatchRecord) (m b c : Mine) (way : GrantsWaits id place m m b) (has : Holds place g g.book b) (none : ForgetsNobody id place g m b)
     (put : c ≡ served place b) where
   abbrev frees : Met
   frees = record { kind = PutLatch; deeds = []; word = latch_word place; found = b.0.number; held = b.0.latches; directory = b.0.directory }

@@ -35,9 +35,9 @@ use Rattle.mdl_system.proofs.MemberLemmas.{Contains-map, Contains-map_from, Cont
 use Rattle.mdl_system.proofs.OrderLemmas.{Contains-cons_cases, middle}
 use Rattle.mdl_visits.specs.declared.audited.Audited.{Audited}
 use Rattle.mdl_visits.specs.declared.waits_read.WaitRead.{WaitRead}
-use Rattle.mdl_visits.specs.Idle.{IsIdle}
+use Rattle.mdl_visits.specs.Idle.{HoldsNoLatch}
 use Rattle.mdl_visits.specs.Lookups.{TookDirectory}
-use Rattle.mdl_visits.specs.Searches.{AddsQueues, AreQueuesOf, EndsSearch, Finds, FindsFrom, HasTaken, IsOutcome, Judges, ReadsWaitsQuietly, Searched, WasRead, books_of, but_searching, found_none, if_waited, put_searching, searches_after, settled_by}
+use Rattle.mdl_visits.specs.Searches.{AddsQueues, AreQueuesOf, EndsSearch, FindsFrom, HasTaken, IsOutcome, Judges, ReadsWaitsQuietly, SearchFinds, Searched, WasRead, books_of, but_searching, found_none, if_waited, put_searching, searches_after, settled_by}
 use Rattle.mdl_visits.specs.Visits.{TakesDirectory, TakesLatch, and_made}
 use Rattle.mdl_visits.proofs.Lookups.{no_latches, some_there}
 use Rattle.mdl_visits.proofs.Seats.{mine}
@@ -147,7 +147,7 @@ lists_added one lists more added =
 
 -- ---- the latches that are held
 
-pub has_taken_none : (last : ℕ) (lists : List Queues) (a b c : SeatState) (taken : TakesDirectory a b) → c ≡ b → IsIdle a.me → last ≡ length taken.1.keys → HasTaken 1 last lists c.me
+pub has_taken_none : (last : ℕ) (lists : List Queues) (a b c : SeatState) (taken : TakesDirectory a b) → c ≡ b → HoldsNoLatch a.me → last ≡ length taken.1.keys → HasTaken 1 last lists c.me
 has_taken_none last lists a b c taken same idle count =
     subst (HasTaken 1 last lists) (sym (mine (same ∙ taken.3))) (record {
       keys = taken.1;
@@ -247,7 +247,7 @@ settled_same : (words : List WaitRead) (session : ℕ) → settled_in (map word_
 settled_same [] session = refl
 settled_same (r ∷ words) session = ap (λ (b : Bool). (r.session == session && not (wait_state r.word.0 == unsettled_state)) || b) (settled_same words session)
 
-module _ (lists : List Queues) (last : ℕ) (c d : SeatState) (held : HasTaken (last + 1) last lists c.me) (reads : AtItsTable c d ReadsWaitsQuietly) (finds : Finds lists c d NoCycle) where
+module _ (lists : List Queues) (last : ℕ) (c d : SeatState) (held : HasTaken (last + 1) last lists c.me) (reads : AtItsTable c d ReadsWaitsQuietly) (finds : SearchFinds lists c d NoCycle) where
   abbrev judged : Judges c.table c.me.0.number c.me.0.latches (books_with lists) NoCycle c.me d.me
   judged = finds.0 (books_with lists) (have_lists lists)
 
@@ -310,12 +310,12 @@ module _ (place q last : ℕ) (a b c d : SeatState) (at : q ≡ place) (taken : 
   same_search = sym (ap (λ (m : Mine). m.0.searches) (mine same ∙ taken.3.1))
 
   -- once all latches are held, and no deadlock was found by the books
-  pub sees_none_here : {E : Type 0} (result : Result Search E) (clear : Bool) → clear ≡ found_none result → (place + 1 ≡ last + 1 → EndsSearch result (Finds more c d) c d)
+  pub sees_none_here : {E : Type 0} (result : Result Search E) (clear : Bool) → clear ≡ found_none result → (place + 1 ≡ last + 1 → EndsSearch result (SearchFinds more c d) c d)
       → (place == last) ≡ true → clear ≡ true → SeesNoDeadlock d.table.slots d.me
   sees_none_here result clear told here last_is clear_is =
       let is : place ≡ last = eqb-true place last last_is in
       let ends = here (omega arith) in
-      let finds : Finds more c d NoCycle = subst (λ r. IfOk r (Finds more c d)) (none_found result (sym told ∙ clear_is)) ends.found in
+      let finds : SearchFinds more c d NoCycle = subst (λ r. IfOk r (SearchFinds more c d)) (none_found result (sym told ∙ clear_is)) ends.found in
       sees_none more last c d (subst (λ (k : ℕ). HasTaken (k + 1) last more c.me) is (has_taken_more place q last lists more a b c taken same held added)) ends.reads finds
 
   pub ended_here : {E : Type 0} (result : Result Search E) (clear : Bool) (e : SeatState) → clear ≡ found_none result → place ≤ last

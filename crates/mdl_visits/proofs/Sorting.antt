@@ -18,7 +18,7 @@ use Rattle.mdl_steps.specs.Schemas.{StandThere, is_table_of, table_at, tables_fr
 use Rattle.mdl_steps.proofs.KeyLemmas.{key-Decides}
 use Rattle.mdl_steps.proofs.SchemaLemmas.{tables_stand}
 use Rattle.mdl_steps.proofs.Views.{by_bool}
-use Rattle.mdl_visits.specs.Tables.{AreListed, AreTables, IsTable}
+use Rattle.mdl_visits.specs.Tables.{AreAllTables, AreListed, IsKnownTable}
 
 -- ---- keys
 
@@ -106,12 +106,12 @@ differ_from schema place (key ∷ keys) distinct =
 
 -- ---- so are the sorted ones
 
-both : (schema : List ℕ) (k : Keys) (ts : List Known) → StandThere k ts → All (λ (t : Known). is_table_of schema t.key ≡ true) ts → All (IsTable schema k) ts
+both : (schema : List ℕ) (k : Keys) (ts : List Known) → StandThere k ts → All (λ (t : Known). is_table_of schema t.key ≡ true) ts → All (IsKnownTable schema k) ts
 both schema k ts stand are = λ i d short. ((stand i d short).0, (stand i d short).1, are i d short)
 
-pub are_tables : (schema : List ℕ) (k : Keys) (tables : List Known) → Distinct k.keys → AreListed schema k tables → AreTables schema k tables
+pub are_tables : (schema : List ℕ) (k : Keys) (tables : List Known) → Distinct k.keys → AreListed schema k tables → AreAllTables schema k tables
 are_tables schema k tables distinct listed = record {
-  each = All-permutation (IsTable schema k) (tables_from schema 1 k.keys) tables listed.all
+  each = All-permutation (IsKnownTable schema k) (tables_from schema 1 k.keys) tables listed.all
       (both schema k (tables_from schema 1 k.keys) (tables_stand schema k) (tables_are schema 1 k.keys));
   every = λ t is. let first = is.0 in
       Contains-permutation (tables_from schema 1 k.keys) tables t listed.all (among schema 1 k.keys t (t.place - 1) (omega arith) is.1 is.2);

@@ -27,7 +27,7 @@ use Rattle.mdl_steps.specs.WaitStates.{IsLost}
 use Rattle.mdl_steps.proofs.Hands.{holds_written}
 use Rattle.mdl_steps.proofs.Tickets.{once-without, without-miss}
 use Rattle.mdl_steps.proofs.Views.{by_bool}
-use Rattle.mdl_visits.specs.WaitEndings.{idle, without_wait}
+use Rattle.mdl_visits.specs.WaitEndings.{idle, mine_without_wait}
 use Rattle.mdl_visits.specs.Grantings.{StandsOnce}
 use Rattle.mdl_visits.specs.Leavings.{HasWorked}
 use Rattle.mdl_visits.specs.Polls.{EndsWait}
@@ -156,7 +156,7 @@ module _ (ask : Ask) {s : SeatState} {q : ℕ} {c : SeatState} (a : Arrives ask.
           )
 
       -- it is as if a session without the wait had come
-      pub came_ended : elsewhere q v.me ≡ elsewhere q w.me → CameTo q (record s { me = without_wait s.me }) v
+      pub came_ended : elsewhere q v.me ≡ elsewhere q w.me → CameTo q (record s { me = mine_without_wait s.me }) v
       came_ended apart =
           let inside = a.came.1 in
           let slots = w.table.slots in

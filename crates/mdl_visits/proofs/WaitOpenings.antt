@@ -24,7 +24,7 @@ use Rattle.mdl_steps.specs.WaitSeats.{MayOpen}
 use Rattle.mdl_steps.specs.WaitStates.{idle_state, wait_in}
 use Rattle.mdl_steps.proofs.Hands.{holds_written, elsewhere-stepped}
 use Rattle.mdl_steps.proofs.Views.{held_at-changed}
-use Rattle.mdl_visits.specs.WaitOpenings.{BeginsWait, MeetsOpening, Opens, awaiting}
+use Rattle.mdl_visits.specs.WaitOpenings.{MeetsOpening, Opens, SeatBeginsWait, view_awaiting}
 use Rattle.mdl_visits.specs.Visits.{AreStepsOf, Enters, HasEntered, IsInside, MeetsBlocked, VisitsOnce}
 use Rattle.mdl_visits.proofs.Seats.{mine, table_of}
 use Rattle.mdl_visits.proofs.Steps.{none_then}
@@ -137,7 +137,7 @@ module _ (slots place : ℕ) (mode : Mode) (m m′ m″ : Mine) (inside : IsInsi
       let is_log = log in record {
         made = inside.made ++ opens_step ∷ puts_step ∷ [];
         now = made ∙ ap (λ (x : Mine). unlatched place [] (opened slots place mode x)) inside.now
-            ∙ (λ i. (record (awaiting place mode m.0) { latches = others i; log = is_log i }, m.1));
+            ∙ (λ i. (record (view_awaiting place mode m.0) { latches = others i; log = is_log i }, m.1));
         did = none_then inside.made (opens_step ∷ puts_step ∷ []) [] inside.did refl;
       }
 
@@ -213,7 +213,7 @@ module _ {place q word : ℕ} {mode : Mode} {s c : SeatState} (has : HasEntered 
       let may = may_queue has unfast in
       may_put q mode latch c.me w.me may wished m (keeps latch _ (holds_wish q mode latch c.me w.me may wished))
 
-  pub begins : (v n : SeatState) → v ≡ record w { me = opened w.table.slots q mode w.me } → n ≡ record v { me = unlatched q [] v.me } → BeginsWait place mode number s n
+  pub begins : (v n : SeatState) → v ≡ record w { me = opened w.table.slots q mode w.me } → n ≡ record v { me = unlatched q [] v.me } → SeatBeginsWait place mode number s n
   begins v n opens_wait puts =
       let slots = s.table.slots in
       let there = table_of wrote ∙ has.entered.0 in

@@ -26,11 +26,11 @@ use Rattle.mdl_steps.specs.Rule.{TellsLists}
 use Rattle.mdl_steps.specs.WaitPlays.{with_admitted}
 use Rattle.mdl_steps.proofs.Tickets.{is_itself, is_passed, without-hit, without-miss, of-without_other, of-without_own, once-without}
 use Rattle.mdl_steps.proofs.Views.{by_bool}
-use Rattle.mdl_visits.specs.Grantings.{IsOrderly, IsGrantableTicket, ahead_of}
+use Rattle.mdl_visits.specs.Grantings.{IsOrderlyLatch, IsGrantableTicket, ahead_of}
 
 -- waits may be granted by a record whose flags tell the lists and this word of the lock, which is noted while the flag OBTRUSIVE is up, and counts exactly
 abbrev pub MayReschedule : ℕ → LatchRecord → Type 0
-MayReschedule word h = IsOrderly h × (h.obtrusive ≡ true → h.noted ≡ Some word) × (h.obtrusive ≡ true → h.exact ≡ true)
+MayReschedule word h = IsOrderlyLatch h × (h.obtrusive ≡ true → h.noted ≡ Some word) × (h.obtrusive ≡ true → h.exact ≡ true)
 
 -- ---- one of the list is taken out
 
@@ -116,7 +116,7 @@ ticketed book e = lt-ltb 0 (length book.granted + length book.waiting) (by_bool 
     (λ none. let some = some_any (λ (t : Ticket). is_obtrusive (lock_kind book) t.mode) book.waiting (sym (ap (λ (b : Bool). b || any_obtrusive (lock_kind book) book.waiting) none) ∙ e) in omega arith))
 
 -- once the word was read, waits may be granted by it
-pub grants_read : (word : ℕ) (h : LatchRecord) → IsOrderly h → MayReschedule word (noting word h)
+pub grants_read : (word : ℕ) (h : LatchRecord) → IsOrderlyLatch h → MayReschedule word (noting word h)
 grants_read word h orderly = (orderly, (λ up. rw up refl), λ up. rw up (orderly.1.0 ∙ ticketed h.book (sym orderly.1.1 ∙ up)))
 
 -- nobody else of its session waits

@@ -21,8 +21,8 @@ use Rattle.mdl_steps.specs.Seats.{Holds, elsewhere, rest, written}
 use Rattle.mdl_steps.specs.WaitPlays.{wait_in, met_wait_by, meeting, settled_granted, with_admitted, TellsOwn}
 use Rattle.mdl_steps.proofs.Hands.{elsewhere-stepped}
 use Rattle.mdl_steps.proofs.Views.{by_bool, held_at-changed}
-use Rattle.mdl_visits.specs.Grantings.{AreGranted, ArePassedOver, HasJustMet, IsLookedThrough, IsGrantableTicket, Reschedules, MeetsGranted, OnlyMeets, StaysTold, WasSettled, ahead_of}
-use Rattle.mdl_visits.specs.Visits.{MakesMoreSteps, IsStepOf, IsStepAfter, StaysHere, StaysOn, StaysThere, StaysWithin, deeds_of, gives_back, raises_flags}
+use Rattle.mdl_visits.specs.Grantings.{AreGranted, ArePassedOver, HasJustMet, IsLookedThrough, IsGrantableTicket, GrantsWaits, MeetsGranted, OnlyMeets, StaysTold, WasSettled, ahead_of}
+use Rattle.mdl_visits.specs.Visits.{MakesMoreSteps, IsStepOf, IsStepAfter, StaysHere, StaysOn, StaysThere, StaysWithin, deeds_of, gives_back, kind_raises_flags}
 use Rattle.mdl_visits.proofs.Steps.{each_append, each_map, goes_none, goes_on, none_then, step_after}
 use Rattle.mdl_visits.proofs.Within.{within_here}
 
@@ -118,7 +118,7 @@ module _ (id : TableId) (place : ℕ) (first start c a b d : Mine) (since : Make
 -- ---- waits are granted
 
 -- who only meets something stays
-only_stays : (kind : StepKind) → OnlyMeets kind → (gives_back kind ≡ false) × (raises_flags kind ≡ false)
+only_stays : (kind : StepKind) → OnlyMeets kind → (gives_back kind ≡ false) × (kind_raises_flags kind ≡ false)
 only_stays kind (inl read) = rw read (refl, refl)
 only_stays kind (inr missed) = rw missed (refl, refl)
 
@@ -126,7 +126,7 @@ module _ (id : TableId) (place : ℕ) (start : Mine) where
   -- nobody is granted
   nobody_granted : (latches : List LatchRecord) (told : Option ℕ) (made : List Met) (book : BookView) (m m′ : Mine)
       → m′ ≡ (record m.0 { latches = latches; told = told; log = m.0.log ++ made }, (place, slot.Place book) ∷ rest m.1) → filter (λ h. not (h.place == place)) latches ≡ elsewhere place m
-      → StaysTold m.0.told told × (m.0.asks ≡ None → told ≡ m.0.told) → deeds_of made ≡ [] → Each (StaysHere m.0.directory) made → Reschedules id place start m m′
+      → StaysTold m.0.told told × (m.0.asks ≡ None → told ≡ m.0.told) → deeds_of made ≡ [] → Each (StaysHere m.0.directory) made → GrantsWaits id place start m m′
   nobody_granted latches told made book m m′ is others tells did kept = record {
     latches = latches;
     told = told;
@@ -143,25 +143,25 @@ module _ (id : TableId) (place : ℕ) (start : Mine) where
   }
 
   -- the book in hand was written
-  pub rescheduled_written : (next : BookView) (m m′ : Mine) → m′ ≡ written place next m → Reschedules id place start m m′
+  pub rescheduled_written : (next : BookView) (m m′ : Mine) → m′ ≡ written place next m → GrantsWaits id place start m m′
   rescheduled_written next m m′ is =
       nobody_granted m.0.latches m.0.told [] next m m′ (is ∙ (λ i. (record m.0 { log = sym (append-nil m.0.log) i }, (place, slot.Place next) ∷ rest m.1))) refl
       ((λ state e. e), (λ none. refl)) refl tt
 
   -- or nothing was done yet
-  pub rescheduled_none : (book : BookView) (m : Mine) → m.1 ≡ (place, slot.Place book) ∷ rest m.1 → Reschedules id place start m m
+  pub rescheduled_none : (book : BookView) (m : Mine) → m.1 ≡ (place, slot.Place book) ∷ rest m.1 → GrantsWaits id place start m m
   rescheduled_none book m carried = rescheduled_written book m m (λ i. (m.0, carried i))
 
   -- a wait's word was met
   pub rescheduled_met : (kind : StepKind) → OnlyMeets kind → (session found : ℕ) (book : BookView) (m m′ : Mine) → m.1 ≡ (place, slot.Place book) ∷ rest m.1 → TellsOwn id.slots session found m.0
-      → m′ ≡ met_wait_by kind id.slots session found m → Reschedules id place start m m′
+      → m′ ≡ met_wait_by kind id.slots session found m → GrantsWaits id place start m m′
   rescheduled_met kind only session found book m m′ carried own is =
       nobody_granted m.0.latches (meeting session found m.0).told
       (record { kind = kind; deeds = []; word = wait_word id.slots session; found = found; held = m.0.latches; directory = m.0.directory } ∷ []) book m m′
       (is ∙ (λ i. ((met_wait_by kind id.slots session found m).0, carried i))) refl (own_told id.slots session found found m.0 own (λ _. refl)) refl ((only_stays kind only, refl), tt)
 
   -- the lock's word was read
-  pub rescheduled_read : (word : ℕ) (book : BookView) (m m′ : Mine) → m.1 ≡ (place, slot.Place book) ∷ rest m.1 → m′ ≡ stepped ReadWord place word (noting word) m → Reschedules id place start m m′
+  pub rescheduled_read : (word : ℕ) (book : BookView) (m m′ : Mine) → m.1 ≡ (place, slot.Place book) ∷ rest m.1 → m′ ≡ stepped ReadWord place word (noting word) m → GrantsWaits id place start m m′
   rescheduled_read word book m m′ carried is =
       let latches = (changed place (noting word) m.0).latches in
       nobody_granted latches m.0.told (record { kind = ReadWord; deeds = []; word = lock_word place; found = word; held = latches; directory = m.0.directory } ∷ []) book m m′
@@ -194,7 +194,7 @@ module _ (id : TableId) (place : ℕ) (start : Mine) where
       earliest = subst (λ (n : ℕ). IsLookedThrough id place h (ahead_of session n h.book.waiting) start m) (sym wish_number) looked;
     }
 
-    pub rescheduled_granted : ready.wish.number ≡ ticket → TellsOwn id.slots session (wait_in number 1) m.0 → Reschedules id place start m m′
+    pub rescheduled_granted : ready.wish.number ≡ ticket → TellsOwn id.slots session (wait_in number 1) m.0 → GrantsWaits id place start m m′
     unfolding grants_it latches_then
     rescheduled_granted wish_number own = let tells = own_told id.slots session (wait_in number 1) (wait_in number 2) m.0 own (λ no. absurd (no (omega arith))) in record {
       latches = latches_then;
@@ -216,20 +216,20 @@ module _ (id : TableId) (place : ℕ) (start : Mine) where
 
   -- ---- one after another
 
-  pub steps_of : (m m′ : Mine) → Reschedules id place start m m′ → MakesMoreSteps m m′
+  pub steps_of : (m m′ : Mine) → GrantsWaits id place start m m′ → MakesMoreSteps m m′
   steps_of m m′ way = (way.made, ap (λ (x : Mine). x.0.log) way.now)
 
-  pub stays_of : (m m′ : Mine) → Reschedules id place start m m′ → StaysOn m m′
+  pub stays_of : (m m′ : Mine) → GrantsWaits id place start m m′ → StaysOn m m′
   stays_of m m′ way = (
     way.made,
     ap (λ (x : Mine). x.0.log) way.now,
     each_map (StaysHere m.0.directory) StaysThere (λ e so. so.0) way.made way.kept,
   )
 
-  pub within_of : (m m′ : Mine) → Reschedules id place start m m′ → StaysWithin false m m′
+  pub within_of : (m m′ : Mine) → GrantsWaits id place start m m′ → StaysWithin false m m′
   within_of m m′ way = within_here false m m′ way.made (ap (λ (x : Mine). x.0.log) way.now) (ap (λ (x : Mine). x.0.directory) way.now) way.kept
 
-  pub rescheduled_then : (a b c : Mine) → Reschedules id place start a b → Reschedules id place start b c → Reschedules id place start a c
+  pub rescheduled_then : (a b c : Mine) → GrantsWaits id place start a b → GrantsWaits id place start b c → GrantsWaits id place start a c
   rescheduled_then a b c x y = record {
     latches = y.latches;
     told = y.told;

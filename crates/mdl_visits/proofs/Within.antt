@@ -13,7 +13,7 @@ use Rattle.mdl_steps.specs.Lists.{Each}
 use Rattle.mdl_steps.specs.Plays.{Mine, latched, served, unlatched}
 use Rattle.mdl_steps.specs.Seats.{written}
 use Rattle.mdl_visits.specs.Grantings.{IsLowered}
-use Rattle.mdl_visits.specs.Visits.{AllQuiet, IsQuiet, IsVisit, IsWithin, StaysHere, StaysThere, StaysWithin, and_made, raises_flags, raises_obtrusive}
+use Rattle.mdl_visits.specs.Visits.{AllQuiet, IsQuiet, IsVisit, IsWithinVisit, StaysHere, StaysThere, StaysWithin, and_made, kind_raises_flags, raises_obtrusive}
 use Rattle.mdl_visits.proofs.Steps.{each_append, each_map}
 
 -- ---- one step
@@ -22,14 +22,14 @@ use Rattle.mdl_visits.proofs.Steps.{each_append, each_map}
 pub plain : (may : Bool) → false ≡ true → may ≡ true
 plain may never = absurd (cc)
 
-no_flag : (k : StepKind) → raises_flags k ≡ false → raises_obtrusive k ≡ false
-no_flag k none = (elim k as (λ k. raises_flags k ≡ false → raises_obtrusive k ≡ false) [
+no_flag : (k : StepKind) → kind_raises_flags k ≡ false → raises_obtrusive k ≡ false
+no_flag k none = (elim k as (λ k. kind_raises_flags k ≡ false → raises_obtrusive k ≡ false) [
   | RaiseFlags slow obtrusive ↦ λ raises. (let never : true ≡ false = raises in absurd (cc))
   | _ ↦ λ raises. refl
 ]) none
 
 -- a step at which the session stayed is within a visit
-stays_within : (may : Bool) (directory : Option Keys) (e : Met) → StaysHere directory e → IsWithin may directory e
+stays_within : (may : Bool) (directory : Option Keys) (e : Met) → StaysHere directory e → IsWithinVisit may directory e
 stays_within may directory e so = (so.0.0, (λ raises. plain may (sym (no_flag e.kind so.0.1) ∙ raises)), so.1)
 
 each_both : {X : Type 0} (P Q R : X → Type 0) → ((x : X) → P x → Q x → R x) → (xs : List X) → Each P xs → Each Q xs → Each R xs
@@ -49,11 +49,11 @@ module _ (may : Bool) (m m′ : Mine) where
   pub within_written : (place : ℕ) (book : BookView) → m′ ≡ written place book m → StaysWithin may m m′
   within_written place book is = within_same (ap (λ (x : Mine). x.0.log) is) (ap (λ (x : Mine). x.0.directory) is)
 
-  pub within_one : (e : Met) → m′.0.log ≡ m.0.log ++ e ∷ [] → m′.0.directory ≡ m.0.directory → IsWithin may m.0.directory e → StaysWithin may m m′
+  pub within_one : (e : Met) → m′.0.log ≡ m.0.log ++ e ∷ [] → m′.0.directory ≡ m.0.directory → IsWithinVisit may m.0.directory e → StaysWithin may m m′
   within_one e log same is = (e ∷ [], log, (is, tt), same)
 
   pub within_here : (made : List Met) → m′.0.log ≡ m.0.log ++ made → m′.0.directory ≡ m.0.directory → Each (StaysHere m.0.directory) made → StaysWithin may m m′
-  within_here made log same all = (made, log, each_map (StaysHere m.0.directory) (IsWithin may m.0.directory) (stays_within may m.0.directory) made all, same)
+  within_here made log same all = (made, log, each_map (StaysHere m.0.directory) (IsWithinVisit may m.0.directory) (stays_within may m.0.directory) made all, same)
 
   -- the latch of a place was taken
   pub within_taken : (place : ℕ) (h : LatchRecord) (made : List Met) → m′ ≡ latched place h (and_made made m) → AllQuiet m.0.directory made → Each StaysThere made
@@ -74,7 +74,7 @@ module _ (may : Bool) (m m′ : Mine) where
   within_any steps = (
     steps.0,
     steps.1,
-    each_map (IsWithin false m.0.directory) (IsWithin may m.0.directory) (λ e so. (so.0, (λ raises. plain may (so.1 raises)), so.2)) steps.0 steps.2,
+    each_map (IsWithinVisit false m.0.directory) (IsWithinVisit may m.0.directory) (λ e so. (so.0, (λ raises. plain may (so.1 raises)), so.2)) steps.0 steps.2,
     steps.3,
   )
 
@@ -83,7 +83,7 @@ module _ (may : Bool) (m m′ : Mine) where
     last = visit.last;
     before = visit.before;
     made = visit.made;
-    within = each_map (IsWithin false m.0.directory) (IsWithin may m.0.directory) (λ e so. (so.0, (λ raises. plain may (so.1 raises)), so.2)) visit.before visit.within;
+    within = each_map (IsWithinVisit false m.0.directory) (IsWithinVisit may m.0.directory) (λ e so. (so.0, (λ raises. plain may (so.1 raises)), so.2)) visit.before visit.within;
     kind = visit.kind;
     word = visit.word;
     alone = visit.alone;
@@ -118,7 +118,7 @@ module _ (may : Bool) (a b c : Mine) (first : StaysWithin may a b) where
   within_then more = (
     first.0 ++ more.0,
     more.1 ∙ ap (λ (log : List Met). log ++ more.0) first.1 ∙ append_assoc a.0.log first.0 more.0,
-    each_append (IsWithin may a.0.directory) first.0 more.0 first.2 (subst (λ (d : Option Keys). Each (IsWithin may d) more.0) first.3 more.2),
+    each_append (IsWithinVisit may a.0.directory) first.0 more.0 first.2 (subst (λ (d : Option Keys). Each (IsWithinVisit may d) more.0) first.3 more.2),
     more.3 ∙ first.3,
   )
 
@@ -128,7 +128,7 @@ module _ (may : Bool) (a b c : Mine) (first : StaysWithin may a b) where
     before = first.0 ++ visit.before;
     made = visit.made ∙ ap (λ (log : List Met). (log ++ visit.before) ++ visit.last ∷ []) first.1
         ∙ ap (λ (log : List Met). log ++ visit.last ∷ []) (append_assoc a.0.log first.0 visit.before);
-    within = each_append (IsWithin may a.0.directory) first.0 visit.before first.2 (subst (λ (d : Option Keys). Each (IsWithin may d) visit.before) first.3 visit.within);
+    within = each_append (IsWithinVisit may a.0.directory) first.0 visit.before first.2 (subst (λ (d : Option Keys). Each (IsWithinVisit may d) visit.before) first.3 visit.within);
     kind = visit.kind;
     word = visit.word;
     alone = visit.alone ∙ first.3;

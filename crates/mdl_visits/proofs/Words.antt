@@ -17,7 +17,7 @@ use Rattle.mdl_steps.specs.WaitPlays.{TellsOwn, meeting, met_wait_by, met_wait}
 use Rattle.mdl_steps.specs.WaitSeats.{IsSession}
 use Rattle.mdl_visits.specs.declared.waits_read.WaitRead.{WaitRead}
 use Rattle.mdl_visits.specs.Searches.{OnlyReadsWaits, ReadsWaitsQuietly, WasRead, sessions_to, with_waits_read}
-use Rattle.mdl_visits.specs.Visits.{AllQuiet, MakesMoreSteps, IsQuiet, raises_flags}
+use Rattle.mdl_visits.specs.Visits.{AllQuiet, MakesMoreSteps, IsQuiet, kind_raises_flags}
 use Rattle.mdl_visits.proofs.Asking.{goes_nowhere, step_within}
 use Rattle.mdl_visits.proofs.Seats.{mine, table_of}
 use Rattle.mdl_visits.proofs.Steps.{each_append, none_then}
@@ -73,7 +73,7 @@ at_first a b reads Is is =
     subst (λ (id : TableId). Is id a.me.0.latches a.me.0.number) reads.0 (subst (λ (m : Mine). Is b.table m.0.latches m.0.number) reads.1.reads.now is)
 
 -- a word was met
-pub reads_word : (kind : StepKind) → raises_flags kind ≡ false → (slots session found : ℕ) (m m′ : Mine) → TellsOwn slots session found m.0 → m′ ≡ met_wait_by kind slots session found m
+pub reads_word : (kind : StepKind) → kind_raises_flags kind ≡ false → (slots session found : ℕ) (m m′ : Mine) → TellsOwn slots session found m.0 → m′ ≡ met_wait_by kind slots session found m
     → ReadsWaitsQuietly m m′
 reads_word kind none slots session found m m′ own met = record {
   reads = record {

@@ -16,7 +16,7 @@ FitsAt v place mode = (i : ℕ) × (k : Known) × (get_elem? v.known i ≡ some 
 
 -- a second ticket, with this number and in this mode, can be made of one: that is a slow one of the session, the number is the next one, the mode fits the
 -- place, and the ticket's own mode covers it
-pub record MayClone (ticket : Own) (number : ℕ) (mode : Mode) (v : View) : Type 0 where
+pub record CanClone (ticket : Own) (number : ℕ) (mode : Mode) (v : View) : Type 0 where
   pub held : numbered ticket.number v.slow ≡ Some ticket
   pub next : number ≡ v.next
   pub fits : FitsAt v ticket.place mode
@@ -31,7 +31,7 @@ pub record MayRise (place number : ℕ) (mode : Mode) (v : View) : Type 0 where
 
 -- a ticket can get the mode of another one, which is released: both are slow tickets of the session, they are two, at one place, and the mode of the one
 -- released covers that of the other
-pub record MayMerge (kept gone : Own) (v : View) : Type 0 where
+pub record CanMerge (kept gone : Own) (v : View) : Type 0 where
   pub held : (numbered kept.number v.slow ≡ Some kept) × (numbered gone.number v.slow ≡ Some gone)
   pub two : kept.number ≢ gone.number
   pub here : kept.place ≡ gone.place

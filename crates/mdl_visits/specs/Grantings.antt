@@ -65,8 +65,8 @@ pub record StandsOnce (waiting : List Ticket) : Type 0 where
   pub single : (session first second : ℕ) (t u : Ticket) → ticket_of session first waiting ≡ Some t → ticket_of session second waiting ≡ Some u → first ≡ second
 
 -- by the record of a latch each session waits at most once, and just those flags are up that the lists need
-abbrev pub IsOrderly : LatchRecord → Type 0
-IsOrderly h = StandsOnce h.book.waiting × TellsLists h.book h.slow h.obtrusive
+abbrev pub IsOrderlyLatch : LatchRecord → Type 0
+IsOrderlyLatch h = StandsOnce h.book.waiting × TellsLists h.book h.slow h.obtrusive
 
 -- by the record of a latch a session's ticket with this number waits, and can be granted
 pub record IsGrantableTicket (session number : ℕ) (h : LatchRecord) : Type 0 where
@@ -105,7 +105,7 @@ AreGranted id place grants start m m′ =
 -- waits were granted under the latch of a place, which the session holds. Nothing else changed except the record of the latch, the book in hand, what the
 -- session knows of its own wait, and its list of steps. These did no deeds, gave no latch back and raised no flag, and the session had the same record of
 -- the directory's latch, or none. The waits that were passed over were met so from a start on
-pub record Reschedules (id : TableId) (place : ℕ) (start m m′ : Mine) : Type 0 where
+pub record GrantsWaits (id : TableId) (place : ℕ) (start m m′ : Mine) : Type 0 where
   pub latches : List LatchRecord
   pub told : Option ℕ
   pub grants : List Settlement
@@ -123,7 +123,7 @@ pub record Reschedules (id : TableId) (place : ℕ) (start m m′ : Mine) : Type
 abbrev pub ReschedulesInTurn : TableId → ℕ → ℕ → ℕ → Mine → Mine → Type 0
 ReschedulesInTurn id place session number m m′ =
     (start : Mine) (h : LatchRecord) → Holds place h h.book m → IsLookedThrough id place h (ahead_of session number h.book.waiting) start m →
-    Reschedules id place start m m′
+    GrantsWaits id place start m m′
 
 -- ---- and the latch is given back
 

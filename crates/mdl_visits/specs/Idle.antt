@@ -3,8 +3,8 @@ use Rattle.std.specs.Prelude.{◌≡◌, false, length, is_some}
 use Rattle.mdl_steps.specs.Plays.{Mine}
 
 -- the session holds no latch, not the directory's either, and has no slot in hand
-abbrev pub IsIdle : Mine → Type 0
-IsIdle m = (length m.0.latches ≡ 0) × (is_some m.0.directory ≡ false) × (length m.1 ≡ 0)
+abbrev pub HoldsNoLatch : Mine → Type 0
+HoldsNoLatch m = (length m.0.latches ≡ 0) × (is_some m.0.directory ≡ false) × (length m.1 ≡ 0)
 
 -- each ticket that the session has is in a book: none is fast
 abbrev pub HasSlowAlone : Mine → Type 0

@@ -49,8 +49,8 @@ abbrev pub DidUnder : ℕ → List Deed → SeatState → Met → Type 0
 DidUnder place ds s e = (e.word ≡ lock_word place) × (e.held ≡ s.me.0.latches) × (e.deeds ≡ ds)
 
 -- the view once the session has read this version and definition at a place: it has noted the version under each ticket that it has there
-abbrev pub knowing : ℕ → Standing → View → View
-knowing place standing v = record v {
+abbrev pub knowing_read : ℕ → Standing → View → View
+knowing_read place standing v = record v {
   fast = noting_version place standing.version v.fast;
   slow = noting_version place standing.version v.slow;
   reads = v.reads ++ record { place = place; standing = standing } ∷ [];
@@ -80,7 +80,7 @@ HasTicket place number tickets = (k : ℕ) × (t : Own) × (get_elem? tickets k 
 -- the session visited a place and read this version and definition there. It knows that, and nothing else changed except its list of steps, which did no
 -- deeds
 abbrev pub Learns : ℕ → Standing → Mine → Mine → Type 0
-Learns place standing m m′ = (made : List Met) × (m′ ≡ and_made made (knowing place standing m.0, m.1)) × (deeds_of made ≡ [])
+Learns place standing m m′ = (made : List Met) × (m′ ≡ and_made made (knowing_read place standing m.0, m.1)) × (deeds_of made ≡ [])
 
 -- a step that gave the latch of a place back, whose record shows that this was the version and definition there
 pub record MeetsStanding (place session : ℕ) (standing : Standing) (e : Met) : Type 0 where

@@ -17,13 +17,13 @@ use Rattle.mdl_visits.specs.declared.resolve_error.ResolveError.TheVariants.{NoP
 use Rattle.mdl_visits.specs.Visits.{AllQuiet, IsQuiet, MakesSteps, and_made, deeds_of}
 
 -- what a session has, with one more key that it knows
-abbrev pub knowing : Known → Mine → Mine
-knowing known m = (record m.0 { known = m.0.known ++ known ∷ [] }, m.1)
+abbrev pub knowing_key : Known → Mine → Mine
+knowing_key known m = (record m.0 { known = m.0.known ++ known ∷ [] }, m.1)
 
 -- the session knows that a key has this place of the table, and nothing else changed, except that steps without deeds were made
-abbrev pub LearnsPlace : KeyName → ℕ → SeatState → SeatState → Type 0
-LearnsPlace key place s s′ =
-    (0 < place) × (place < s.table.slots) × MakesSteps (knowing (record { key = key; place = place }) s.me) s′.me
+abbrev pub LearnsKeyPlace : KeyName → ℕ → SeatState → SeatState → Type 0
+LearnsKeyPlace key place s s′ =
+    (0 < place) × (place < s.table.slots) × MakesSteps (knowing_key (record { key = key; place = place }) s.me) s′.me
 
 -- the step that gives the directory's latch back, by whose record these are the keys
 abbrev pub given_back : Keys → Mine → Met
@@ -51,11 +51,11 @@ AsksDirectory s s′ IsSo = (k : Keys) × TookDirectory s.table.slots k k s.me s
 
 -- the answer by the directory's record, and the record that is left. A key that has a place keeps it, and that takes no memory. A new one gets the place
 -- after all others, if there is one, and nothing else changes
-abbrev pub IsAnswer : ℕ → KeyName → Keys → Keys → Result ℕ ResolveError → Type 0
-IsAnswer slots key k left (Ok place) =
+abbrev pub IsLookupAnswer : ℕ → KeyName → Keys → Keys → Result ℕ ResolveError → Type 0
+IsLookupAnswer slots key k left (Ok place) =
     ((place_among key k.keys ≡ Some place) × (left ≡ k)) ⊎ ((place_among key k.keys ≡ None) × (place ≡ length k.keys + 1) × (left ≡ listing key k))
-IsAnswer slots key k left (Err NoPlace) = (place_among key k.keys ≡ None) × (slots ≤ length k.keys + 1) × (left ≡ k)
-IsAnswer slots key k left (Err OutOfMemory) = (place_among key k.keys ≡ None) × (length k.keys + 1 < slots) × (left ≡ k)
+IsLookupAnswer slots key k left (Err NoPlace) = (place_among key k.keys ≡ None) × (slots ≤ length k.keys + 1) × (left ≡ k)
+IsLookupAnswer slots key k left (Err OutOfMemory) = (place_among key k.keys ≡ None) × (length k.keys + 1 < slots) × (left ≡ k)
 
 -- ---- while the session holds the directory's latch
 
@@ -84,7 +84,7 @@ pub record HasLooked (slots : ℕ) (key : KeyName) (k : Keys) (result : Result �
   pub seat : new ≡ relisted made left old
   pub had : Each (HadEither k left) made
   pub did : deeds_of made ≡ []
-  pub answer : IsAnswer slots key k left result
+  pub answer : IsLookupAnswer slots key k left result
   pub stands : IfOk result (λ place. (0 < place) × (place < slots) × (key_at left.keys place ≡ Some key))
 
 -- the new key was given its place: the seat has the record with it from then on, and at each step before it had one of the two records
@@ -92,7 +92,7 @@ abbrev pub HasNamed : KeyName → Keys → Mine → Mine → Type 0
 HasNamed key k old new = (made : List Met) × (new ≡ relisted made (listing key k) old) × Each (HadEither k (listing key k)) made × (deeds_of made ≡ [])
 
 -- a new key was added to the directory in hand for the next place, which isn't recorded yet
-pub record IsListed (place : ℕ) (key : KeyName) (k : Keys) (m : Mine) : Type 0 where
+pub record IsAddedToDirectory (place : ℕ) (key : KeyName) (k : Keys) (m : Mine) : Type 0 where
   pub recorded : m.0.directory ≡ Some k
   pub carried : m.1 ≡ (0, slot.Directory (listing key k)) ∷ rest m.1
   pub new : place_among key k.keys ≡ None

@@ -21,7 +21,7 @@ use Rattle.mdl_steps.specs.Lists.{Each}
 use Rattle.mdl_steps.specs.Plays.{Mine}
 use Rattle.mdl_steps.specs.SeatStates.{AtItsTable, SeatState}
 use Rattle.mdl_steps.specs.Seats.{written}
-use Rattle.mdl_visits.specs.Visits.{HasInHand, HasStep, Visits, VisitsOnce, and_made, deeds_of}
+use Rattle.mdl_visits.specs.Visits.{HasBookInHand, HasStep, Visits, VisitsOnce, and_made, deeds_of}
 
 -- ---- what the session has then
 
@@ -84,13 +84,13 @@ AreUngranted session tickets book = Each (λ (t : Own). ticket_of session t.numb
 
 -- the session has a book of a place in hand in which none of these tickets of its own is granted, and each is compatible with all that are
 pub record CanStand (place : ℕ) (tickets : List Own) (book : BookView) (s : SeatState) : Type 0 where
-  pub in_hand : HasInHand place book s
+  pub in_hand : HasBookInHand place book s
   pub ungranted : AreUngranted s.me.0.number tickets book
   pub beside : Each (λ (t : Own). is_compatible (lock_kind book) book.granted s.me.0.number t.mode ≡ true) tickets
 
 -- the session has a book of a place in hand in which these tickets of its own are granted last, and only there
 pub record Stand (place : ℕ) (tickets : List Own) (book : BookView) (s : SeatState) : Type 0 where
-  pub in_hand : HasInHand place (granting_own s.me.0.number tickets book) s
+  pub in_hand : HasBookInHand place (granting_own s.me.0.number tickets book) s
   pub ungranted : AreUngranted s.me.0.number tickets book
 
 -- why a book can't take n more tickets: memory ran out, or the book has no room for all of them

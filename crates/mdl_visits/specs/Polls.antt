@@ -10,11 +10,11 @@ use Rattle.mdl_steps.specs.Plays.{Mine}
 use Rattle.mdl_steps.specs.WaitStates.{granted_state, idle_state, lost_state, wait_in, wait_number, wait_state}
 
 -- the state of a wait that is settled in this way
-abbrev pub state_of : Settled → ℕ
-state_of Granted = granted_state
-state_of Victim = lost_state loss.Victim
-state_of Timeout = lost_state loss.Timeout
-state_of Killed = lost_state loss.Killed
+abbrev pub settled_state : Settled → ℕ
+settled_state Granted = granted_state
+settled_state Victim = lost_state loss.Victim
+settled_state Timeout = lost_state loss.Timeout
+settled_state Killed = lost_state loss.Killed
 
 -- a step that met the word of a session's wait: the session's last wait had this number, and was in this state
 pub record MeetsWait (slots session number state : ℕ) (e : Met) : Type 0 where
@@ -27,8 +27,8 @@ pub record EndsWait (slots session number state : ℕ) (e : Met) : Type 0 where
   pub wait : MeetsWait slots session number state e
 
 -- the number of a session's wait, if it has one, by the wait's word
-abbrev pub number_in : ℕ → Option ℕ
-number_in word = if wait_state word == idle_state then None else Some (wait_number word)
+abbrev pub awaited_number : ℕ → Option ℕ
+awaited_number word = if wait_state word == idle_state then None else Some (wait_number word)
 
 -- a step that met this word of a session's wait
 pub record MeetsWord (slots session word : ℕ) (e : Met) : Type 0 where
@@ -38,7 +38,7 @@ pub record MeetsWord (slots session word : ℕ) (e : Met) : Type 0 where
 -- a step that met the word of a session's wait, by which the session had a wait with this number, or none
 pub record MeetsNumber (slots session : ℕ) (number : Option ℕ) (e : Met) : Type 0 where
   pub word : e.word ≡ wait_word slots session
-  pub told : number ≡ number_in e.found
+  pub told : number ≡ awaited_number e.found
 
 -- the session settled no wait between the two
 abbrev pub SettlesNothing : Mine → Mine → Type 0

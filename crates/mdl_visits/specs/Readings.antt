@@ -13,12 +13,12 @@ use Rattle.mdl_visits.specs.Leavings.{HasTicket, Learns, MeetsStanding}
 use Rattle.mdl_visits.specs.Visits.{IsStepOf}
 
 -- the session read nothing
-abbrev pub ReadsNothing : Mine → Mine → Type 0
-ReadsNothing m m′ = m′.0.reads ≡ m.0.reads
+abbrev pub SeatReadsNothing : Mine → Mine → Type 0
+SeatReadsNothing m m′ = m′.0.reads ≡ m.0.reads
 
 -- the session read this version and definition at a place, and nothing else
-abbrev pub ReadsThere : ℕ → Standing → Mine → Mine → Type 0
-ReadsThere place standing m m′ = m′.0.reads ≡ m.0.reads ++ record { place = place; standing = standing } ∷ []
+abbrev pub SeatReadsThere : ℕ → Standing → Mine → Mine → Type 0
+SeatReadsThere place standing m m′ = m′.0.reads ≡ m.0.reads ++ record { place = place; standing = standing } ∷ []
 
 -- by the record of the latch of a place at a step, a session's ticket with this number was granted there
 abbrev pub WasHeld : ℕ → ℕ → ℕ → Met → Type 0

@@ -70,7 +70,7 @@ pub record Redefines (place : ℕ) (change : Change) (version : ℕ) (m m′ : M
   pub learnt : m′.0.reads ≡ m.0.reads ++ record { place = place; standing = standing_after change meets.latch.book.standing } ∷ []
 
 -- a step that gave the latch of a place back, whose record shows why the definition there couldn't be changed so
-pub record MeetsFault (place session : ℕ) (change : Change) (why : ChangeError) (e : Met) : Type 0 where
+pub record MeetsChangeFault (place session : ℕ) (change : Change) (why : ChangeError) (e : Met) : Type 0 where
   pub kind : e.kind ≡ PutLatch
   pub word : e.word ≡ latch_word place
   pub freed : e.found ≡ session
@@ -80,11 +80,11 @@ pub record MeetsFault (place session : ℕ) (change : Change) (why : ChangeError
 
 -- why a session's change at a place was refused: a step met the fault, in a definition that agrees with what the session read and noted there, or memory
 -- ran out, which `Drop` doesn't need
-abbrev pub IsRefusedFor : ℕ → ℕ → Change → ChangeError → Mine → Mine → Type 0
-IsRefusedFor place session change why m m′ =
-    ((e : Met) × IsStepOf m m′ e × (met : MeetsFault place session change why e) × Follows place met.latch.book.standing m
+abbrev pub RefusesChange : ℕ → ℕ → Change → ChangeError → Mine → Mine → Type 0
+RefusesChange place session change why m m′ =
+    ((e : Met) × IsStepOf m m′ e × (met : MeetsChangeFault place session change why e) × Follows place met.latch.book.standing m
     × IsNamed place met.latch.book.key m) ⊎ ((why ≡ OutOfMemory) × (change ≡ Drop → ⊥))
 
 -- the same as an error of a lock space
 abbrev pub IsRefusedAs : ℕ → ℕ → Change → SpaceError → Mine → Mine → Type 0
-IsRefusedAs place session change cause m m′ = (why : ChangeError) × (cause ≡ cause_of why) × IsRefusedFor place session change why m m′
+IsRefusedAs place session change cause m m′ = (why : ChangeError) × (cause ≡ cause_of why) × RefusesChange place session change why m m′

@@ -112,7 +112,7 @@ pub record Judges (id : TableId) (who : ℕ) (latches : List LatchRecord) (audit
 
 -- by the words of all sessions' waits, as steps between the two met them, and by these books this was the victim, but the word of its wait was another one
 -- by then
-pub record Misses (id : TableId) (who : ℕ) (latches : List LatchRecord) (audited : List Audited) (m m′ : Mine) : Type 0 where
+pub record MissesVictim (id : TableId) (who : ℕ) (latches : List LatchRecord) (audited : List Audited) (m m′ : Mine) : Type 0 where
   pub words : List WaitRead
   pub all : AreOfAll id words
   pub read : All (WasRead id.slots latches m m′) words
@@ -217,8 +217,8 @@ pub record EndsSearch {T E : Type 0} (result : Result T E) (Comes : T → Type 0
   pub nothing : OnErr result (SettlesNothing s.me s′.me)
 
 -- this is the outcome by these lists, of whichever books they are
-abbrev pub Finds : List Queues → SeatState → SeatState → Search → Type 0
-Finds lists s s′ found =
+abbrev pub SearchFinds : List Queues → SeatState → SeatState → Search → Type 0
+SearchFinds lists s s′ found =
     ((audited : List Audited) → AreQueuesOf audited lists → Judges s.table s.me.0.number s.me.0.latches audited found s.me s′.me)
     × KnowsVictim s.me.0.number found s′.me
 
@@ -226,8 +226,8 @@ Finds lists s s′ found =
 abbrev pub FindsAtOnce : List Queues → SeatState → SeatState → Option Search → Type 0
 FindsAtOnce lists s s′ tried =
     MatchOption tried
-    (SettlesNothing s.me s′.me × ((audited : List Audited) → AreQueuesOf audited lists → Misses s.table s.me.0.number s.me.0.latches audited s.me s′.me))
-    (Finds lists s s′)
+    (SettlesNothing s.me s′.me × ((audited : List Audited) → AreQueuesOf audited lists → MissesVictim s.table s.me.0.number s.me.0.latches audited s.me s′.me))
+    (SearchFinds lists s s′)
 
 -- this is the outcome by these lists, of whichever books they are, and by the books of the places from one to another
 abbrev pub FindsFrom : ℕ → ℕ → List Queues → SeatState → SeatState → Search → Type 0

@@ -21,13 +21,13 @@ use Rattle.mdl_visits.specs.Visits.{IsStepOf}
 -- ---- which tables there are
 
 -- this is a table of the schema, at its place by the directory's record
-abbrev pub IsTable : List ℕ → Keys → Known → Type 0
-IsTable schema k t = (0 < t.place) × (key_at k.keys t.place ≡ Some t.key) × (is_table_of schema t.key ≡ true)
+abbrev pub IsKnownTable : List ℕ → Keys → Known → Type 0
+IsKnownTable schema k t = (0 < t.place) × (key_at k.keys t.place ≡ Some t.key) × (is_table_of schema t.key ≡ true)
 
 -- all tables of the schema by the directory's record, and nothing else, each once in the order of their keys
-pub record AreTables (schema : List ℕ) (k : Keys) (tables : List Known) : Type 0 where
-  pub each : All (IsTable schema k) tables
-  pub every : (t : Known) → IsTable schema k t → Contains tables t
+pub record AreAllTables (schema : List ℕ) (k : Keys) (tables : List Known) : Type 0 where
+  pub each : All (IsKnownTable schema k) tables
+  pub every : (t : Known) → IsKnownTable schema k t → Contains tables t
   pub in_order : AllPairs (λ (one other : Known). key_cmp one.key other.key ≡ Less) tables
 
 -- no key is less than the one before it
@@ -73,8 +73,8 @@ abbrev pub WasAsked : ℕ → Mine → Mine → Asked → Type 0
 WasAsked session m m′ a = (e : Met) × IsStepOf m m′ e × MeetsDefinition a.table.place session a.defined e
 
 -- the places of the tables that had a definition
-abbrev pub told : List Asked → List ℕ
-told asked = map (λ (a : Asked). a.table.place) (filter (λ (a : Asked). a.defined) asked)
+abbrev pub defined_places : List Asked → List ℕ
+defined_places asked = map (λ (a : Asked). a.table.place) (filter (λ (a : Asked). a.defined) asked)
 
 -- one table's place was looked at, and added to the end of a list if the table had a definition
 abbrev pub AddsIfDefined : ℕ → Known → List ℕ → List ℕ → Mine → Mine → Type 0
@@ -86,4 +86,4 @@ pub record HasAsked (session : ℕ) (tables : List Known) (places : List ℕ) (m
   pub asked : List Asked
   pub each : All (WasAsked session m m′) asked
   pub same : map (λ (a : Asked). a.table) asked ≡ tables
-  pub those : places ≡ told asked
+  pub those : places ≡ defined_places asked

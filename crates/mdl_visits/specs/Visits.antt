@@ -62,9 +62,9 @@ gives_back PutLatch = true
 gives_back _ = false
 
 -- whether a step of this kind raised flags
-abbrev pub raises_flags : StepKind → Bool
-raises_flags (RaiseFlags slow obtrusive) = true
-raises_flags _ = false
+abbrev pub kind_raises_flags : StepKind → Bool
+kind_raises_flags (RaiseFlags slow obtrusive) = true
+kind_raises_flags _ = false
 
 -- whether a step of this kind raised the flag OBTRUSIVE
 abbrev pub raises_obtrusive : StepKind → Bool
@@ -73,7 +73,7 @@ raises_obtrusive _ = false
 
 -- a step that raised no flag, at which the session had this record of the directory's latch, or none
 abbrev pub IsQuiet : Option Keys → Met → Type 0
-IsQuiet directory e = (e.directory ≡ directory) × (raises_flags e.kind ≡ false)
+IsQuiet directory e = (e.directory ≡ directory) × (kind_raises_flags e.kind ≡ false)
 
 -- each of these steps raised no flag, and at each the session had this record of the directory's latch, or none
 abbrev pub AllQuiet : Option Keys → List Met → Type 0
@@ -86,7 +86,7 @@ MakesQuietSteps m m′ = (made : List Met) × (m′ ≡ and_made made m) × (dee
 
 -- a step at which the session stayed: it gave no latch back and raised no flag
 abbrev pub StaysThere : Met → Type 0
-StaysThere e = (gives_back e.kind ≡ false) × (raises_flags e.kind ≡ false)
+StaysThere e = (gives_back e.kind ≡ false) × (kind_raises_flags e.kind ≡ false)
 
 -- likewise, and the session had this record of the directory's latch, or none
 abbrev pub StaysHere : Option Keys → Met → Type 0
@@ -105,13 +105,13 @@ abbrev pub StaysOn : Mine → Mine → Type 0
 StaysOn m m′ = (made : List Met) × (m′.0.log ≡ m.0.log ++ made) × Each StaysThere made
 
 -- a step within a visit: it gave no latch back, and raised the flag OBTRUSIVE only if it may. The session had this record of the directory's latch, or none
-abbrev pub IsWithin : Bool → Option Keys → Met → Type 0
-IsWithin may directory e = (gives_back e.kind ≡ false) × (raises_obtrusive e.kind ≡ true → may ≡ true) × (e.directory ≡ directory)
+abbrev pub IsWithinVisit : Bool → Option Keys → Met → Type 0
+IsWithinVisit may directory e = (gives_back e.kind ≡ false) × (raises_obtrusive e.kind ≡ true → may ≡ true) × (e.directory ≡ directory)
 
 -- the list of steps grew by steps within a visit. The session has the same record of the directory's latch as before, or still none
 abbrev pub StaysWithin : Bool → Mine → Mine → Type 0
 StaysWithin may m m′ =
-    (made : List Met) × (m′.0.log ≡ m.0.log ++ made) × Each (IsWithin may m.0.directory) made × (m′.0.directory ≡ m.0.directory)
+    (made : List Met) × (m′.0.log ≡ m.0.log ++ made) × Each (IsWithinVisit may m.0.directory) made × (m′.0.directory ≡ m.0.directory)
 
 -- a step that was made between the two, with a state (`a`) whose list of steps is the one just before it
 abbrev pub IsStepAfter : Mine → Mine → Mine → Met → Type 0
@@ -128,7 +128,7 @@ pub record IsVisit (place : ℕ) (may : Bool) (m m′ : Mine) : Type 0 where
   pub last : Met
   pub before : List Met
   pub made : m′.0.log ≡ (m.0.log ++ before) ++ last ∷ []
-  pub within : Each (IsWithin may m.0.directory) before
+  pub within : Each (IsWithinVisit may m.0.directory) before
   pub kind : last.kind ≡ PutLatch
   pub word : last.word ≡ latch_word place
   pub alone : last.directory ≡ m.0.directory
@@ -195,12 +195,12 @@ pub record HasLatched (place : ℕ) (s : SeatState) (IsSo : LatchRecord → Type
   pub is_so : IsSo latch
 
 -- the session has this book of a place in hand
-abbrev pub HasInHand : ℕ → BookView → SeatState → Type 0
-HasInHand place book s = s.me.1 ≡ (place, slot.Place book) ∷ rest s.me.1
+abbrev pub HasBookInHand : ℕ → BookView → SeatState → Type 0
+HasBookInHand place book s = s.me.1 ≡ (place, slot.Place book) ∷ rest s.me.1
 
 -- this holds of the book of a place that the session has in hand
 abbrev pub OfBook : ℕ → SeatState → (BookView → Type 0) → Type 0
-OfBook place s IsSo = (book : BookView) → HasInHand place book s → IsSo book
+OfBook place s IsSo = (book : BookView) → HasBookInHand place book s → IsSo book
 
 -- this holds of the record of a place's latch that the session holds
 abbrev pub OfLatch : ℕ → SeatState → (LatchRecord → Type 0) → Type 0
@@ -224,7 +224,7 @@ pub record Enters (place : ℕ) (obtrusive : Bool) (word : ℕ) (mode : Mode) (c
   pub told : can_be_granted (lock_kind found.book) found.book.granted found.book.waiting word m.0.number mode ≡ can
 
 -- a session without a wait requests a mode at a place (its wish): it knows the place's key as one of this kind, which has the mode
-pub record HasWish (place : ℕ) (kind : Kind) (mode : Mode) (v : View) : Type 0 where
+pub record RequestsMode (place : ℕ) (kind : Kind) (mode : Mode) (v : View) : Type 0 where
   pub idle : v.asks ≡ None
   pub knows : KnowsKind v place kind
   pub is_mode : is_mode_of kind mode ≡ true
@@ -235,7 +235,7 @@ pub record HasEntered (place q word : ℕ) (mode : Mode) (can : Bool) (s s′ : 
   pub at : q ≡ place
   pub is_place : IsPlace s′.table q
   pub kind : Kind
-  pub wish : HasWish place kind mode s.me.0
+  pub wish : RequestsMode place kind mode s.me.0
   pub obtrusive : Bool
   pub asks : obtrusive ≡ is_obtrusive kind mode
   pub entered : AtItsTable s s′ (Enters place obtrusive word mode can)

@@ -10,9 +10,9 @@ abbrev pub idle : View → View
 idle v = record v { asks = None; told = None }
 
 -- what a session has, without its wait
-abbrev pub without_wait : Mine → Mine
-without_wait m = (idle m.0, m.1)
+abbrev pub mine_without_wait : Mine → Mine
+mine_without_wait m = (idle m.0, m.1)
 
 -- the session ended its wait at a place, granted the waits there that could be granted without it, and nothing else changed
 abbrev pub EndsLost : TableId → ℕ → Mine → Mine → Type 0
-EndsLost id place m m′ = VisitsAndReschedules id place [] (without_wait m) m′
+EndsLost id place m m′ = VisitsAndReschedules id place [] (mine_without_wait m) m′

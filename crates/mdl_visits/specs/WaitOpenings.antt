@@ -15,8 +15,8 @@ use Rattle.mdl_steps.specs.WaitStates.{idle_state, wait_in}
 use Rattle.mdl_visits.specs.Visits.{AreStepsOf, MeetsBlocked, and_made, deeds_of}
 
 -- the view of a session that has begun to wait for a mode at a place, and has yet to search for a deadlock
-abbrev pub awaiting : ℕ → Mode → View → View
-awaiting place mode v = record v { asks = Some (asking place mode v); next = v.next + 1; waits = v.waits + 1; told = None; searches = true }
+abbrev pub view_awaiting : ℕ → Mode → View → View
+view_awaiting place mode v = record v { asks = Some (asking place mode v); next = v.next + 1; waits = v.waits + 1; told = None; searches = true }
 
 -- a session without fast tickets may begin a wait with this number for a ticket with this number: both are its next numbers
 pub record IsNewWait (number wait : ℕ) (v : View) : Type 0 where
@@ -27,7 +27,7 @@ pub record IsNewWait (number wait : ℕ) (v : View) : Type 0 where
 -- the session visited a place and began to wait for a mode there. Nothing else changed, and its steps did no deeds
 pub record Opens (place : ℕ) (mode : Mode) (m m′ : Mine) : Type 0 where
   pub made : List Met
-  pub now : m′ ≡ and_made made (awaiting place mode m.0, m.1)
+  pub now : m′ ≡ and_made made (view_awaiting place mode m.0, m.1)
   pub did : deeds_of made ≡ []
 
 -- the step that opened a session's wait, after `waits` others: the wait's word was idle, and by the record of the latch the ticket with this number is the
@@ -43,7 +43,7 @@ pub record MeetsOpening (slots place session waits number : ℕ) (mode : Mode) (
 
 -- the session began to wait for a mode at a place, with a ticket with this number: a step shows that its request couldn't be granted, and the next step
 -- opened the wait
-abbrev pub BeginsWait : ℕ → Mode → ℕ → SeatState → SeatState → Type 0
-BeginsWait place mode number s s′ =
+abbrev pub SeatBeginsWait : ℕ → Mode → ℕ → SeatState → SeatState → Type 0
+SeatBeginsWait place mode number s s′ =
     AtItsTable s s′ (Opens place mode)
     × ((e f : Met) × AreStepsOf s.me s′.me e f × MeetsBlocked place s.me.0.number mode e × MeetsOpening s.table.slots place s.me.0.number s.me.0.waits number mode f)

@@ -5,9 +5,9 @@ ghost use Rattle.mdl_key.specs.declared.namespace.Kind.{Kind};
 ghost use Rattle.mdl_key.specs.Words.{is_obtrusive};
 ghost use Rattle.mdl_steps.specs.declared.deed.Deed.TheVariants.{Gain};
 ghost use Rattle.mdl_steps.specs.SeatStates.{AtItsTable, SeatState};
-ghost use Rattle.mdl_visits.specs.Grantings.{IsLowered, IsOrderly};
+ghost use Rattle.mdl_visits.specs.Grantings.{IsLowered, IsOrderlyLatch};
 ghost use Rattle.mdl_visits.specs.Leavings.{DidUnder, HasWorked, IsFreedBy, PutsBack};
-ghost use Rattle.mdl_visits.specs.Visits.{EndsWish, HasEntered, HasLatched, HasStep, HasWish, IsInside, MayVisit, StaysWithin, Visits, VisitsOnce, WasGranted};
+ghost use Rattle.mdl_visits.specs.Visits.{EndsWish, HasEntered, HasLatched, HasStep, IsInside, MayVisit, RequestsMode, StaysWithin, Visits, VisitsOnce, WasGranted};
 
 use crate::latches::await_latch;
 use mdl_book::BookError;
@@ -26,7 +26,7 @@ pub(crate) fn enter<R: Wait>(
     obtrusive: bool,
 ) -> (Latched, Word, bool)
     requires at { MayVisit place seat.old }
-    requires wish { (kind : Kind) × HasWish place kind mode seat.old.me.0 × (obtrusive ≡ is_obtrusive kind mode) }
+    requires wish { (kind : Kind) × RequestsMode place kind mode seat.old.me.0 × (obtrusive ≡ is_obtrusive kind mode) }
     ensures entered { HasEntered place result.0.place result.1.0 mode result.2 seat.old seat.new }
     ensures within { StaysWithin obtrusive seat.old.me seat.new.me }
 {
@@ -75,7 +75,7 @@ pub(crate) fn lower_flags_and_put(seat: &mut TableSeat, latch: Latched, deeds: &
 pub(crate) fn lower_flags(seat: &mut TableSeat, latch: &Latched, deeds: &[Deed])
     requires worked { (freed : Bool) × HasWorked latch.now.place deeds.now freed seat.old }
     ensures lowered { AtItsTable seat.old seat.new (IsLowered latch.now.place deeds.now) }
-    ensures orderly { HasLatched latch.now.place seat.new (λ h. IsOrderly h × IsFreedBy latch.now.place deeds.now seat.old h) }
+    ensures orderly { HasLatched latch.now.place seat.new (λ h. IsOrderlyLatch h × IsFreedBy latch.now.place deeds.now seat.old h) }
 {
     let needs = seat.needs(latch);
     seat.lower_flags(latch, needs.slow, needs.obtrusive, deeds);

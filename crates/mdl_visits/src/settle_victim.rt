@@ -3,7 +3,7 @@ ghost use Rattle.std.specs.Prelude.{◌≡◌, Some, true, All};
 ghost use Rattle.mdl_book.specs.SessionSets.{is_session};
 ghost use Rattle.mdl_steps.specs.WaitSeats.{IsSession};
 ghost use Rattle.mdl_visits.specs.declared.waits_read.WaitRead.{WaitRead};
-ghost use Rattle.mdl_visits.specs.Searches.{EndsSearch, Finds, FindsAtOnce, TriesToSettle, read_of};
+ghost use Rattle.mdl_visits.specs.Searches.{EndsSearch, FindsAtOnce, SearchFinds, TriesToSettle, read_of};
 
 use crate::victim::find_victim;
 use crate::waits_read::{WaitRead, read_waits};
@@ -20,7 +20,7 @@ pub(crate) fn settle_victim<R: Wait>(
     alloc: Global,
     lists: &ListCopies,
 ) -> Result<Search, AllocError>
-    ensures { EndsSearch result (Finds lists.now seat.old seat.new) seat.old seat.new }
+    ensures { EndsSearch result (SearchFinds lists.now seat.old seat.new) seat.old seat.new }
 {
     for _ in rt.forever() {
         if let Some(found) = settle_victim_once(seat, alloc, lists)? {

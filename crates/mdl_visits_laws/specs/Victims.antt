@@ -33,11 +33,11 @@ abbrev pub SettlesAVictim : ℕ → SeatState → SeatState → Type 0
 SettlesAVictim victim old new = AsksDirectory old new (λ k. Searched old.table old.me.0.number k (Victim victim) old.me new.me)
 
 -- what such a search knows: the directory's keys, by the record of its latch, and the words of waits that it judged by
-abbrev pub keys_of : (victim : ℕ) (old new : SeatState) → SettlesAVictim victim old new → Keys
-keys_of victim old new found = found.0
+abbrev pub victim_keys : (victim : ℕ) (old new : SeatState) → SettlesAVictim victim old new → Keys
+victim_keys victim old new found = found.0
 
-abbrev pub words_of : (victim : ℕ) (old new : SeatState) → SettlesAVictim victim old new → List WaitRead
-words_of victim old new found = found.2.judges.words
+abbrev pub victim_words : (victim : ℕ) (old new : SeatState) → SettlesAVictim victim old new → List WaitRead
+victim_words victim old new found = found.2.judges.words
 
 -- and how it settled the victim's wait
 abbrev pub settling_of : (victim : ℕ) (old new : SeatState) → (found : SettlesAVictim victim old new)
@@ -88,5 +88,5 @@ VictimsFallInStandingDeadlocks =
     (victim : ℕ) (old new : SeatState) → (found : SettlesAVictim victim old new) →
     (s t : State Slot View) → Reached s → old.table.slots ≡ length s.homes → (turn : Turn s t) → IsWholeTurn turn →
     (seat : ℕ) → (step : MakesOneStep s t seat (settling_of victim old new found).moment) → (a : System Definition) → IsTold s a →
-    FallsInDeadlock a old.me.0.number victim (settling_of victim old new found).wait (words_of victim old new found)
-    (HasReadAll old.table.slots (keys_of victim old new found) (words_of victim old new found) step.old)
+    FallsInDeadlock a old.me.0.number victim (settling_of victim old new found).wait (victim_words victim old new found)
+    (HasReadAll old.table.slots (victim_keys victim old new found) (victim_words victim old new found) step.old)

@@ -12,9 +12,9 @@ use Rattle.mdl_context.specs.declared.request.Resume.{Resume}
 use Rattle.mdl_context.specs.declared.request.Resume.TheVariants as resume
 use Rattle.mdl_context.specs.declared.request.Tried.{Tried}
 use Rattle.mdl_context.specs.declared.request.Tried.TheVariants as try_as
-use Rattle.mdl_context.specs.Contexts.{last_ticket, mark_of, waits_for_user_lock}
-use Rattle.mdl_context.specs.Gains.{refusal_of}
-use Rattle.mdl_context.specs.Releases.{giving_up, releasing}
+use Rattle.mdl_context.specs.Contexts.{current_mark, last_ticket, waits_for_user_lock}
+use Rattle.mdl_context.specs.Gains.{refusal_answered}
+use Rattle.mdl_context.specs.Releases.{releasing, releasing_tickets}
 use Rattle.mdl_context.specs.Requests.{Outcome, acquiring, trying}
 use Rattle.mdl_context.specs.Upgrades.{upgrading, downgrading}
 use Rattle.mdl_context.specs.Waits.{giving_up_wait, resuming}
@@ -24,7 +24,7 @@ use Rattle.mdl_rows.specs.declared.ending.Ending.{Ending}
 use Rattle.mdl_rows.specs.declared.ending.Ending.TheVariants.{Answers, Misses, Falls, Starves}
 use Rattle.mdl_rows.specs.declared.reply.Reply.{Reply}
 use Rattle.mdl_rows.specs.declared.reply.Reply.TheVariants as reply
-use Rattle.mdl_rows.specs.Endings.{Pause, ended, gone_at, state_after, letting_go, without_half, closing, ending_of_error, ending_of_loss, ending_of_refusal}
+use Rattle.mdl_rows.specs.Endings.{Pause, pause_after, gone_at, state_after, letting_go, without_half, closing, ending_of_error, ending_of_loss, ending_of_refusal}
 use Rattle.mdl_rows.specs.Playing as playing
 use Rattle.mdl_rows.specs.Playing.{play, starting, going_on, with_context}
 use Rattle.mdl_rows.specs.Rows.{Row}
@@ -40,7 +40,7 @@ LeavesWhileWaiting program = Each LeftWhileWaiting program
 
 -- ---- ends
 
-left_ended : (ending : Ending) (session : Session) → LeftWhileWaiting (ended ending (record session { left = None }))
+left_ended : (ending : Ending) (session : Session) → LeftWhileWaiting (pause_after ending (record session { left = None }))
 left_ended (Answers reply) session = refl
 left_ended (Misses number) session = refl
 left_ended Falls session = refl
@@ -49,8 +49,8 @@ left_ended Starves session = tt
 left_letting_go : (ending : Ending) (mark : Mark) (session : Session) → LeavesWhileWaiting (letting_go ending mark session)
 left_letting_go ending mark session =
     let after : Outcome (Unit {0}) → Session = λ outcome. record { context = outcome.1; state = state_after ending session.state; left = None } in
-    each_then {A = Outcome (Unit {0})} LeftWhileWaiting (giving_up (gone_at ending session.state.is_open mark session.context.kept) session.context)
-    (λ outcome. Give (ended ending (after outcome))) (λ outcome. left_ended ending (after outcome))
+    each_then {A = Outcome (Unit {0})} LeftWhileWaiting (releasing_tickets (gone_at ending session.state.is_open mark session.context.kept) session.context)
+    (λ outcome. Give (pause_after ending (after outcome))) (λ outcome. left_ended ending (after outcome))
 
 left_closing : (ending : Ending) (mark : Mark) (session : Session) → LeavesWhileWaiting (closing ending mark session)
 left_closing ending mark session = by (half_lock (state_after ending session.state)) where
@@ -95,22 +95,22 @@ left_tried mark session more made (Err error, context) = left_closing (ending_of
 left_read : (mark : Mark) (session : Session) (more : Standing → Program Pause) → ((standing : Standing) → LeavesWhileWaiting (more standing)) →
     (answer : Answer) → LeavesWhileWaiting (playing.read_answered mark session more answer)
 left_read mark session more made (Reads version definition) = made (record { version = version; definition = definition })
-left_read mark session more made answer = left_closing (ending_of_refusal (refusal_of answer)) mark session
+left_read mark session more made answer = left_closing (ending_of_refusal (refusal_answered answer)) mark session
 
 left_change : (mark : Mark) (session : Session) (more : Program Pause) → LeavesWhileWaiting more →
     (answer : Answer) → LeavesWhileWaiting (playing.change_answered mark session more answer)
 left_change mark session more made (Changed version) = made
-left_change mark session more made answer = left_closing (ending_of_refusal (refusal_of answer)) mark session
+left_change mark session more made answer = left_closing (ending_of_refusal (refusal_answered answer)) mark session
 
 left_tables : (mark : Mark) (session : Session) (more : List ℕ → Program Pause) → ((places : List ℕ) → LeavesWhileWaiting (more places)) →
     (answer : Answer) → LeavesWhileWaiting (playing.tables_answered mark session more answer)
 left_tables mark session more made (Tables places) = made places
-left_tables mark session more made answer = left_closing (ending_of_refusal (refusal_of answer)) mark session
+left_tables mark session more made answer = left_closing (ending_of_refusal (refusal_answered answer)) mark session
 
 left_key : (mark : Mark) (session : Session) (more : KeyName → Program Pause) → ((key : KeyName) → LeavesWhileWaiting (more key)) →
     (answer : Answer) → LeavesWhileWaiting (playing.key_answered mark session more answer)
 left_key mark session more made (Key_is key) = made key
-left_key mark session more made answer = left_closing (ending_of_refusal (refusal_of answer)) mark session
+left_key mark session more made answer = left_closing (ending_of_refusal (refusal_answered answer)) mark session
 
 -- ---- all that may be asked for
 
@@ -120,7 +120,7 @@ left_play (row.Fail number) mark session = left_closing (Answers (reply.Error nu
 left_play (row.Room rest) mark session = (left_closing Starves mark session, left_play rest mark session)
 left_play (row.Look rest) mark session = left_play (rest session.state) mark session
 left_play (row.Set change rest) mark session = left_play rest mark (record session { state = change session.state })
-left_play (row.Here rest) mark session = left_play (rest (mark_of session.context.kept)) mark session
+left_play (row.Here rest) mark session = left_play (rest (current_mark session.context.kept)) mark session
 left_play (row.Acquire wish rest) mark session =
     let more = λ (id : ℕ) (after : Session). play (rest id) mark after in
     each_then {A = Outcome Acquire} LeftWhileWaiting (acquiring wish session.context) (playing.acquired wish rest mark session more)
@@ -139,7 +139,7 @@ left_play (row.Downgrade id mode rest) mark session =
     each_then {A = Outcome (Unit {0})} LeftWhileWaiting (downgrading id mode session.context) (λ outcome. play rest mark (with_context session outcome.1))
     (λ outcome. left_play rest mark (with_context session outcome.1))
 left_play (row.Give_up which rest) mark session =
-    each_then {A = Outcome (Unit {0})} LeftWhileWaiting (giving_up (which session.context.kept) session.context) (λ outcome. play rest mark (with_context session outcome.1))
+    each_then {A = Outcome (Unit {0})} LeftWhileWaiting (releasing_tickets (which session.context.kept) session.context) (λ outcome. play rest mark (with_context session outcome.1))
     (λ outcome. left_play rest mark (with_context session outcome.1))
 left_play (row.Release id rest) mark session =
     each_then {A = Outcome (Unit {0})} LeftWhileWaiting (releasing id session.context) (λ outcome. play rest mark (with_context session outcome.1))
@@ -155,7 +155,7 @@ left_play (row.Kill target rest) mark session =
     each_then {A = Unit {0}} LeftWhileWaiting (playing.killing target) (λ _. play rest mark session) (λ _. left_play rest mark session)
 
 pub left_starting : (statement : Statement) (session : Session) → LeavesWhileWaiting (starting statement session)
-left_starting statement session = left_play (row_of statement) (mark_of session.context.kept) session
+left_starting statement session = left_play (row_of statement) (current_mark session.context.kept) session
 
 -- ---- what is left of a statement
 

@@ -11,14 +11,14 @@ use Rattle.mdl_syntax.specs.declared.statement.Statement.{Statement}
 use Rattle.mdl_rows.specs.declared.reply.Reply.{Reply}
 use Rattle.mdl_rows.specs.Endings.{Pause, Ends, Begins_to_wait, Waits_on, Faults}
 use Rattle.mdl_rows.specs.Leavings.{leaving}
-use Rattle.mdl_rows.specs.MemoryLaws.{session_at}
+use Rattle.mdl_rows.specs.MemoryLaws.{session_of_pause}
 use Rattle.mdl_rows.specs.Playing.{going_on, starting}
 use Rattle.mdl_rows.specs.Sessions.{Session}
 use Rattle.mdl_rows.specs.States.{at_first}
 
 -- the lines of a session
-abbrev pub lines_of : ℕ → List Line → List Line
-lines_of who lines = filter (λ line. line.session == who) lines
+abbrev pub lines_of_session : ℕ → List Line → List Line
+lines_of_session who lines = filter (λ line. line.session == who) lines
 
 -- a session that has not been asked for anything
 abbrev pub newcomer : ℕ → Session
@@ -57,7 +57,7 @@ finishing_from patience more (Faults session) = Give (Faults session)
 -- a statement that still waits is abandoned as if memory had run out. With `most_waits` that never happens
 abbrev pub cut_off : Pause → Pause
 cut_off (Ends reply session) = Ends reply session
-cut_off pause = Faults (session_at pause)
+cut_off pause = Faults (session_of_pause pause)
 
 -- a statement is continued until its end, with at most `waits` waits, and this patience with each
 unfoldable pub finishing : ℕ → ℕ → Pause → Program Pause
@@ -80,13 +80,13 @@ abbrev pub behind : ℕ × Reply → Worked → Worked
 behind answer worked = record { answers = option_map (λ more. answer ∷ more) worked.answers; session = worked.session }
 
 -- memory ran out
-abbrev pub starved : Session → Worked
-starved session = record { answers = None; session = session }
+abbrev pub out_of_memory : Session → Worked
+out_of_memory session = record { answers = None; session = session }
 
 -- the answer is kept, which takes memory, and then more follows
 abbrev pub noted : ℕ → (Session → Program Worked) → Pause → Program Worked
-noted number more (Ends reply session) = Grow (Give (starved session)) (more session >>= (λ worked. Give (behind (number, reply) worked)))
-noted number more pause = Give (starved (session_at pause))
+noted number more (Ends reply session) = Grow (Give (out_of_memory session)) (more session >>= (λ worked. Give (behind (number, reply) worked)))
+noted number more pause = Give (out_of_memory (session_of_pause pause))
 
 -- the statements of lines are executed in order, until memory runs out
 unfoldable pub working : ℕ → List Line → Session → Program Worked

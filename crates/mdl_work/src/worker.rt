@@ -7,7 +7,7 @@ ghost use Rattle.mdl_stmt.specs.Gets.{paused, ran};
 ghost use Rattle.mdl_rows.specs.Leavings.{leaving};
 ghost use Rattle.mdl_stmt.specs.Stages.{session_of};
 ghost use Rattle.mdl_work.specs.Paces.{LeftWhileWaiting, came_to, worked_as};
-ghost use Rattle.mdl_work.specs.Works.{finishing, going_further, lines_of, making, most_waits, newcomer, working};
+ghost use Rattle.mdl_work.specs.Works.{finishing, going_further, lines_of_session, making, most_waits, newcomer, working};
 
 use crate::Gate;
 use crate::waiting::wait_out;
@@ -62,8 +62,8 @@ impl<'s, S: LockSpace> Worker<'s, S> {
         requires attends { AttendsWith S.LockSpace space.old self.old.runner.context self.old.runner.cache }
         requires who { self.old.runner.context.who ≡ self.old.who }
         requires idle { self.old.runner.work ≡ None }
-        ensures run { Runs (cached S.LockSpace) (space.old, self.old.runner.cache) (working self.old.patience (lines_of self.old.who lines.now) (session_of self.old.runner)) (worked_as result (session_of self.new.runner)) (space.new, self.new.runner.cache) }
-        ensures lines { IfOk result (λ answers. map (λ answer. answer.0) answers.items ≡ map (λ line. line.number) (lines_of self.old.who lines.now)) }
+        ensures run { Runs (cached S.LockSpace) (space.old, self.old.runner.cache) (working self.old.patience (lines_of_session self.old.who lines.now) (session_of self.old.runner)) (worked_as result (session_of self.new.runner)) (space.new, self.new.runner.cache) }
+        ensures lines { IfOk result (λ answers. map (λ answer. answer.0) answers.items ≡ map (λ line. line.number) (lines_of_session self.old.who lines.now)) }
         ensures attends { AttendsWith S.LockSpace space.new self.new.runner.context self.new.runner.cache }
         ensures others { LeavesOthers S.LockSpace self.old.who space.old space.new }
         ensures who { self.new.runner.context.who ≡ self.old.who }

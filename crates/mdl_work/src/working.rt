@@ -4,7 +4,7 @@ ghost use Rattle.mdl_calls.specs.Words.{Runs};
 ghost use Rattle.mdl_context.specs.Contexts.{LeavesOthers};
 ghost use Rattle.mdl_stmt.specs.Attendance.{IsCapacity, cached};
 ghost use Rattle.mdl_work.specs.Paces.{answers_in};
-ghost use Rattle.mdl_work.specs.Works.{RunsFromEmpty, lines_of, newcomer, working_off};
+ghost use Rattle.mdl_work.specs.Works.{RunsFromEmpty, lines_of_session, newcomer, working_off};
 
 use crate::Gate;
 use crate::worker::Worker;
@@ -35,10 +35,10 @@ pub fn work<S: LockSpace, G: Gate>(
     requires capacity { IsCapacity cache }
     requires speaks { S.speaks_for space.old who }
     requires nothing { S.own space.old who ≡ record { held = []; wait = None } }
-    ensures answered { IfOk result (λ answers. Runs S.joins space.old (working_off patience (lines_of who script.now) (newcomer who)) (Some answers.items) space.new) }
-    ensures starved { OnErr result (Runs S.joins space.old (working_off patience (lines_of who script.now) (newcomer who)) None space.new) }
-    ensures reads { RunsFromEmpty (cached S.LockSpace) cache space.old (working_off patience (lines_of who script.now) (newcomer who)) (answers_in result) space.new }
-    ensures lines { IfOk result (λ answers. map (λ answer. answer.0) answers.items ≡ map (λ line. line.number) (lines_of who script.now)) }
+    ensures answered { IfOk result (λ answers. Runs S.joins space.old (working_off patience (lines_of_session who script.now) (newcomer who)) (Some answers.items) space.new) }
+    ensures starved { OnErr result (Runs S.joins space.old (working_off patience (lines_of_session who script.now) (newcomer who)) None space.new) }
+    ensures reads { RunsFromEmpty (cached S.LockSpace) cache space.old (working_off patience (lines_of_session who script.now) (newcomer who)) (answers_in result) space.new }
+    ensures lines { IfOk result (λ answers. map (λ answer. answer.0) answers.items ≡ map (λ line. line.number) (lines_of_session who script.now)) }
     ensures nothing { S.own space.new who ≡ record { held = []; wait = None } }
     ensures speaks { S.speaks_for space.new who }
     ensures others { LeavesOthers S.LockSpace who space.old space.new }
@@ -59,10 +59,10 @@ pub fn work_lines<S: LockSpace, G: Gate>(
     requires capacity { IsCapacity cache }
     requires speaks { S.speaks_for space.old who }
     requires nothing { S.own space.old who ≡ record { held = []; wait = None } }
-    ensures answered { IfOk result (λ answers. Runs S.joins space.old (working_off patience (lines_of who lines.now) (newcomer who)) (Some answers.items) space.new) }
-    ensures starved { OnErr result (Runs S.joins space.old (working_off patience (lines_of who lines.now) (newcomer who)) None space.new) }
-    ensures reads { RunsFromEmpty (cached S.LockSpace) cache space.old (working_off patience (lines_of who lines.now) (newcomer who)) (answers_in result) space.new }
-    ensures lines { IfOk result (λ answers. map (λ answer. answer.0) answers.items ≡ map (λ line. line.number) (lines_of who lines.now)) }
+    ensures answered { IfOk result (λ answers. Runs S.joins space.old (working_off patience (lines_of_session who lines.now) (newcomer who)) (Some answers.items) space.new) }
+    ensures starved { OnErr result (Runs S.joins space.old (working_off patience (lines_of_session who lines.now) (newcomer who)) None space.new) }
+    ensures reads { RunsFromEmpty (cached S.LockSpace) cache space.old (working_off patience (lines_of_session who lines.now) (newcomer who)) (answers_in result) space.new }
+    ensures lines { IfOk result (λ answers. map (λ answer. answer.0) answers.items ≡ map (λ line. line.number) (lines_of_session who lines.now)) }
     ensures nothing { S.own space.new who ≡ record { held = []; wait = None } }
     ensures speaks { S.speaks_for space.new who }
     ensures others { LeavesOthers S.LockSpace who space.old space.new }

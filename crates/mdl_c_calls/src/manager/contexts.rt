@@ -8,7 +8,7 @@ ghost use Rattle.mdl_context.specs.Requests.{acquiring};
 ghost use Rattle.mdl_context.specs.Upgrades.{downgrading, upgrading};
 ghost use Rattle.mdl_context.specs.Waits.{giving_up_wait, resuming};
 ghost use Rattle.mdl_c_calls.specs.Managers.{context_fault, direct_fault, seat_of, Asks};
-ghost use Rattle.mdl_c_calls.specs.Transactions.{begin_fault, leaving_from, making_explicit, making_transactional, new_context, seating, Leaves, Marks, RunsFor};
+ghost use Rattle.mdl_c_calls.specs.Transactions.{begin_fault, ending_from, making_explicit, making_transactional, new_context, with_seat, EndsContext, Marks, RunsFor};
 ghost use Rattle.mdl_c_calls.specs.declared.seat.Seat.TheVariants.{Kept};
 
 use super::ServedSpace;
@@ -23,7 +23,7 @@ impl ServedSpace {
     /// Begins a context, which keeps the session's tickets from now on.
     pub fn begin_context(&mut self, alloc: Global, who: u16) -> Result<(), Unserved>
         ensures { MatchResult result
-            (λ _. (begin_fault who self.old ≡ None) × (self.new ≡ seating who (Kept (new_context who)) self.old))
+            (λ _. (begin_fault who self.old ≡ None) × (self.new ≡ with_seat who (Kept (new_context who)) self.old))
             (λ why. ((begin_fault who self.old ≡ Some why) ⊎ ((direct_fault (seat_of who self.old) ≡ None) × (why ≡ Unserved.OutOfMemory))) × (self.new ≡ self.old)) }
     {
         self.check_unused(who)?;
@@ -49,7 +49,7 @@ impl ServedSpace {
 
     /// Ends a session's context, which gives up its wait and releases all its tickets.
     pub fn end_context(&mut self, who: u16) -> Result<(), Unserved>
-        ensures { Asks (context_fault (seat_of who self.old)) (λ done. Leaves who done self.old self.new) result self.old self.new }
+        ensures { Asks (context_fault (seat_of who self.old)) (λ done. EndsContext who done self.old self.new) result self.old self.new }
     {
         let index = self.index_of(who)?;
         match &mut self.seats[index] {
@@ -244,7 +244,7 @@ impl ServedSpace {
 // Gives up the wait of a context, if there is one, and then releases all its tickets.
 fn give_all_up(space: &mut CoreSpace, context: &mut Context<CoreSpace>)
     requires { Attends core_space space.old context.old }
-    ensures run { Runs core_space.joins space.old (leaving_from context.old.wait context.old) (Ok tt, context.new) space.new }
+    ensures run { Runs core_space.joins space.old (ending_from context.old.wait context.old) (Ok tt, context.new) space.new }
     ensures kept { context.new.kept ≡ [] }
     ensures wait { context.new.wait ≡ None }
     ensures attends { Attends core_space space.new context.new }

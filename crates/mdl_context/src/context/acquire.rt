@@ -3,7 +3,7 @@ ghost use Rattle.std.specs.Prelude.{◌≡◌, Some, None, OnErr};
 ghost use Rattle.mdl_calls.specs.Words.{Runs};
 ghost use Rattle.mdl_context.specs.Contexts.{Attends, LeavesOthers, place_known};
 ghost use Rattle.mdl_context.specs.Requests.{acquiring, acquiring_at, finding, LearnsAtMost, WaitsAfter};
-ghost use Rattle.mdl_context.specs.Wishes.{wish_of};
+ghost use Rattle.mdl_context.specs.Wishes.{wish_of_request};
 
 use crate::asking::{AskResult, gain};
 use crate::{Acquire, Context, ContextError, Request};
@@ -25,7 +25,7 @@ impl<S: LockSpace> Context<S> {
     /// After MySQL 5.7, `MDL_context::acquire_lock` of `sql/mdl.cc`.
     pub fn acquire(&mut self, space: &mut S, request: Request<'_>) -> Result<Acquire, ContextError>
         requires { Attends S.LockSpace space.old self.old }
-        ensures run { Runs S.joins space.old (acquiring (wish_of request.entry) self.old) (result, self.new) space.new }
+        ensures run { Runs S.joins space.old (acquiring (wish_of_request request.entry) self.old) (result, self.new) space.new }
         ensures attends { Attends S.LockSpace space.new self.new }
         ensures others { LeavesOthers S.LockSpace self.old.who space.old space.new }
         ensures who { self.new.who ≡ self.old.who }
@@ -47,7 +47,7 @@ impl<S: LockSpace> Context<S> {
         requires attends { Attends S.LockSpace space.old self.old }
         requires idle { self.old.wait ≡ None }
         requires new { place_known request.key.now self.old.known ≡ None }
-        ensures run { Runs S.joins space.old (finding None (wish_of request.entry) self.old) (result, self.new) space.new }
+        ensures run { Runs S.joins space.old (finding None (wish_of_request request.entry) self.old) (result, self.new) space.new }
         ensures attends { Attends S.LockSpace space.new self.new }
         ensures who { self.new.who ≡ self.old.who }
         ensures unchanged { OnErr result (LearnsAtMost request.entry.key.now self.old self.new) }
@@ -74,7 +74,7 @@ impl<S: LockSpace> Context<S> {
         requires attends { Attends S.LockSpace space.old self.old }
         requires idle { self.old.wait ≡ None }
         requires known { place_known request.key.now self.old.known ≡ Some place }
-        ensures run { Runs S.joins space.old (acquiring_at place (wish_of request.entry) self.old) (result, self.new) space.new }
+        ensures run { Runs S.joins space.old (acquiring_at place (wish_of_request request.entry) self.old) (result, self.new) space.new }
         ensures attends { Attends S.LockSpace space.new self.new }
         ensures who { self.new.who ≡ self.old.who }
         ensures unchanged { OnErr result (self.new ≡ self.old) }

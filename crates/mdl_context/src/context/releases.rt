@@ -2,8 +2,8 @@
 ghost use Rattle.std.specs.Prelude.{◌≡◌, [], None, Ok};
 ghost use Rattle.mdl_key.specs.Refusals.{RefusesJust};
 ghost use Rattle.mdl_calls.specs.Words.{Runs};
-ghost use Rattle.mdl_context.specs.Contexts.{beyond, beyond_mark, held_for, of_transaction, without, Attends, LeavesOthers};
-ghost use Rattle.mdl_context.specs.Releases.{releasing_all, giving_up, waiting_fault, release_fault, rollback_fault, releasing, releasing_name, rolling_back, ending_statement, ending_transaction, giving_up_all};
+ghost use Rattle.mdl_context.specs.Contexts.{beyond, beyond_mark, tickets_for, of_transaction, without_tickets, Attends, LeavesOthers};
+ghost use Rattle.mdl_context.specs.Releases.{releasing_all, releasing_tickets, waiting_fault, release_fault, rollback_fault, releasing, releasing_name, rolling_back, ending_statement, ending_transaction, giving_up_all};
 ghost use Rattle.mdl_key.specs.declared.mode.Duration.TheVariants.{Statement};
 
 use crate::going::Going;
@@ -136,7 +136,7 @@ impl<S: LockSpace> Context<S> {
     pub fn return_to(&mut self, space: &mut S, mark: Mark)
         requires attends { Attends S.LockSpace space.old self.old }
         requires idle { self.old.wait ≡ None }
-        ensures run { Runs S.joins space.old (giving_up (beyond_mark mark self.old.kept) self.old) (Ok tt, self.new) space.new }
+        ensures run { Runs S.joins space.old (releasing_tickets (beyond_mark mark self.old.kept) self.old) (Ok tt, self.new) space.new }
         ensures attends { Attends S.LockSpace space.new self.new }
         ensures others { LeavesOthers S.LockSpace self.old.who space.old space.new }
         ensures who { self.new.who ≡ self.old.who }
@@ -150,7 +150,7 @@ impl<S: LockSpace> Context<S> {
     pub fn finish_statement(&mut self, space: &mut S)
         requires attends { Attends S.LockSpace space.old self.old }
         requires idle { self.old.wait ≡ None }
-        ensures run { Runs S.joins space.old (giving_up (held_for Statement self.old.kept) self.old) (Ok tt, self.new) space.new }
+        ensures run { Runs S.joins space.old (releasing_tickets (tickets_for Statement self.old.kept) self.old) (Ok tt, self.new) space.new }
         ensures attends { Attends S.LockSpace space.new self.new }
         ensures others { LeavesOthers S.LockSpace self.old.who space.old space.new }
         ensures who { self.new.who ≡ self.old.who }
@@ -163,7 +163,7 @@ impl<S: LockSpace> Context<S> {
     pub fn finish_transaction(&mut self, space: &mut S)
         requires attends { Attends S.LockSpace space.old self.old }
         requires idle { self.old.wait ≡ None }
-        ensures run { Runs S.joins space.old (giving_up (of_transaction self.old.kept) self.old) (Ok tt, self.new) space.new }
+        ensures run { Runs S.joins space.old (releasing_tickets (of_transaction self.old.kept) self.old) (Ok tt, self.new) space.new }
         ensures attends { Attends S.LockSpace space.new self.new }
         ensures others { LeavesOthers S.LockSpace self.old.who space.old space.new }
         ensures who { self.new.who ≡ self.old.who }
@@ -195,7 +195,7 @@ impl<S: LockSpace> Context<S> {
         requires attends { Attends S.LockSpace space.old self.old }
         requires idle { self.old.wait ≡ None }
         ensures run { Runs S.joins space.old (releasing_all self.old.who (beyond duration most self.old.kept)) tt space.new }
-        ensures kept { self.new ≡ record self.old { kept = without (beyond duration most self.old.kept) self.old.kept } }
+        ensures kept { self.new ≡ record self.old { kept = without_tickets (beyond duration most self.old.kept) self.old.kept } }
         ensures attends { Attends S.LockSpace space.new self.new }
     {
         if let Some(first) = self.holdings.nth_for(duration, most) {

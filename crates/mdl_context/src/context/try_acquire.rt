@@ -3,7 +3,7 @@ ghost use Rattle.std.specs.Prelude.{◌≡◌, Some, None};
 ghost use Rattle.mdl_calls.specs.Words.{Runs};
 ghost use Rattle.mdl_context.specs.Contexts.{Attends, LeavesOthers, place_known};
 ghost use Rattle.mdl_context.specs.Requests.{trying, trying_at, trying_found, LearnsAtMost, UnlessAcquired};
-ghost use Rattle.mdl_context.specs.Wishes.{wish_of};
+ghost use Rattle.mdl_context.specs.Wishes.{wish_of_request};
 
 use crate::asking::try_gain;
 use crate::{Context, ContextError, Request, Tried};
@@ -22,7 +22,7 @@ impl<S: LockSpace> Context<S> {
         request: Request<'_>,
     ) -> Result<Tried, ContextError>
         requires { Attends S.LockSpace space.old self.old }
-        ensures run { Runs S.joins space.old (trying (wish_of request.entry) self.old) (result, self.new) space.new }
+        ensures run { Runs S.joins space.old (trying (wish_of_request request.entry) self.old) (result, self.new) space.new }
         ensures attends { Attends S.LockSpace space.new self.new }
         ensures others { LeavesOthers S.LockSpace self.old.who space.old space.new }
         ensures who { self.new.who ≡ self.old.who }
@@ -48,7 +48,7 @@ impl<S: LockSpace> Context<S> {
         requires attends { Attends S.LockSpace space.old self.old }
         requires idle { self.old.wait ≡ None }
         requires new { place_known request.key.now self.old.known ≡ None }
-        ensures run { Runs S.joins space.old (trying_found None (wish_of request.entry) self.old) (result, self.new) space.new }
+        ensures run { Runs S.joins space.old (trying_found None (wish_of_request request.entry) self.old) (result, self.new) space.new }
         ensures attends { Attends S.LockSpace space.new self.new }
         ensures who { self.new.who ≡ self.old.who }
         ensures unchanged { UnlessAcquired result (LearnsAtMost request.entry.key.now self.old self.new) }
@@ -75,7 +75,7 @@ impl<S: LockSpace> Context<S> {
         requires attends { Attends S.LockSpace space.old self.old }
         requires idle { self.old.wait ≡ None }
         requires known { place_known request.key.now self.old.known ≡ Some place }
-        ensures run { Runs S.joins space.old (trying_at place (wish_of request.entry) self.old) (result, self.new) space.new }
+        ensures run { Runs S.joins space.old (trying_at place (wish_of_request request.entry) self.old) (result, self.new) space.new }
         ensures attends { Attends S.LockSpace space.new self.new }
         ensures who { self.new.who ≡ self.old.who }
         ensures unchanged { UnlessAcquired result (self.new ≡ self.old) }

@@ -9,7 +9,7 @@ ghost use Rattle.mdl_context.specs.Holdings.{wanted_upgrade};
 ghost use Rattle.mdl_context.specs.Outcomes.{UpgradeComesTo};
 ghost use Rattle.mdl_context.specs.Requests.{WaitsAfter};
 ghost use Rattle.mdl_context.specs.Releases.{release_fault};
-ghost use Rattle.mdl_context.specs.Upgrades.{with_mode, merging, is_merge_refusal, HasSecond, upgrading, waiting_to_upgrade, downgrading};
+ghost use Rattle.mdl_context.specs.Upgrades.{with_ticket_mode, merging_new, is_merge_refusal, HasSecond, upgrading, waiting_to_upgrade, downgrading};
 
 use crate::asking::{AskResult, wait_at};
 use crate::merging::merge;
@@ -69,7 +69,7 @@ impl<S: LockSpace> Context<S> {
         ensures attends { Attends S.LockSpace space.new self.new }
         ensures others { LeavesOthers S.LockSpace self.old.who space.old space.new }
         ensures who { self.new.who ≡ self.old.who }
-        ensures done { OnOk result (self.new ≡ with_mode id (λ _. mode) self.old) }
+        ensures done { OnOk result (self.new ≡ with_ticket_mode id (λ _. mode) self.old) }
         ensures unchanged { OnErr result (self.new ≡ self.old) }
         ensures own { OnErr result (S.own space.new self.old.who ≡ S.own space.old self.old.who) }
     {
@@ -132,10 +132,10 @@ impl<S: LockSpace> Context<S> {
         requires idle { self.old.wait ≡ None }
         requires second { HasSecond S.LockSpace id new mode space.old self.old }
         ensures refused { IfErr result (λ refusal. is_merge_refusal refusal ≡ true) }
-        ensures run { Runs S.joins space.old (merging self.old.who id new) result space.new }
+        ensures run { Runs S.joins space.old (merging_new self.old.who id new) result space.new }
         ensures attends { Attends S.LockSpace space.new self.new }
         ensures who { self.new.who ≡ self.old.who }
-        ensures done { OnOk result (self.new ≡ with_mode id (λ _. mode) self.old) }
+        ensures done { OnOk result (self.new ≡ with_ticket_mode id (λ _. mode) self.old) }
         ensures unchanged { OnErr result (self.new ≡ self.old) }
     {
         match merge(space, self.who, id, new) {

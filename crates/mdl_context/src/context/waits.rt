@@ -2,11 +2,11 @@
 ghost use Rattle.std.specs.Prelude.{◌≡◌, true, Some, None, is_some, Err, OnErr};
 ghost use Rattle.std.specs.Option.{IfSome};
 ghost use Rattle.mdl_calls.specs.Words.{Runs};
-ghost use Rattle.mdl_context.specs.Contexts.{Attends, IsAwaited, IsSettled, LeavesOthers};
-ghost use Rattle.mdl_context.specs.Holdings.{upgrade_of};
+ghost use Rattle.mdl_context.specs.Contexts.{Attends, HasSettledWait, IsAwaited, LeavesOthers};
+ghost use Rattle.mdl_context.specs.Holdings.{awaited_upgrade};
 ghost use Rattle.mdl_context.specs.Outcomes.{WaitComesTo};
 ghost use Rattle.mdl_context.specs.Upgrades.{FailsByMerge, FailsByMergeOrWant};
-ghost use Rattle.mdl_context.specs.Waits.{without_wait, taking_up, wait_won, searching_on, is_searched, resuming, giving_up_wait, looking, ending, no_wait_fault, WaitsOn};
+ghost use Rattle.mdl_context.specs.Waits.{without_wait, taking_up, wait_won, searching_on, is_searched, resuming, giving_up_wait, looking, ending_wait, no_wait_fault, WaitsOn};
 
 use crate::searches::{abandon, seek};
 use crate::{Context, ContextError, Resume};
@@ -24,8 +24,8 @@ impl<S: LockSpace> Context<S> {
     pub fn resume(&mut self, space: &mut S) -> Result<Resume, ContextError>
         requires { Attends S.LockSpace space.old self.old }
         ensures refused { IfSome (no_wait_fault self.old) (λ fault. result ≡ Err fault) }
-        ensures fails { is_some self.old.wait ≡ true → FailsByMergeOrWant (upgrade_of self.old.wait) result }
-        ensures searched { is_searched self.old.wait ≡ Some true → FailsByMerge (upgrade_of self.old.wait) result }
+        ensures fails { is_some self.old.wait ≡ true → FailsByMergeOrWant (awaited_upgrade self.old.wait) result }
+        ensures searched { is_searched self.old.wait ≡ Some true → FailsByMerge (awaited_upgrade self.old.wait) result }
         ensures run { Runs S.joins space.old (resuming self.old) (result, self.new) space.new }
         ensures attends { Attends S.LockSpace space.new self.new }
         ensures others { LeavesOthers S.LockSpace self.old.who space.old space.new }
@@ -49,7 +49,7 @@ impl<S: LockSpace> Context<S> {
     pub fn give_up(&mut self, space: &mut S) -> Result<Resume, ContextError>
         requires { Attends S.LockSpace space.old self.old }
         ensures refused { IfSome (no_wait_fault self.old) (λ fault. result ≡ Err fault) }
-        ensures fails { is_some self.old.wait ≡ true → FailsByMerge (upgrade_of self.old.wait) result }
+        ensures fails { is_some self.old.wait ≡ true → FailsByMerge (awaited_upgrade self.old.wait) result }
         ensures run { Runs S.joins space.old (giving_up_wait self.old) (result, self.new) space.new }
         ensures attends { Attends S.LockSpace space.new self.new }
         ensures others { LeavesOthers S.LockSpace self.old.who space.old space.new }
@@ -69,7 +69,7 @@ impl<S: LockSpace> Context<S> {
     fn search_on(&mut self, space: &mut S) -> Result<Resume, ContextError>
         requires attends { Attends S.LockSpace space.old self.old }
         requires waits { is_some self.old.wait ≡ true }
-        ensures fails { FailsByMergeOrWant (upgrade_of self.old.wait) result }
+        ensures fails { FailsByMergeOrWant (awaited_upgrade self.old.wait) result }
         ensures run { Runs S.joins space.old (searching_on self.old) (result, self.new) space.new }
         ensures attends { Attends S.LockSpace space.new self.new }
         ensures who { self.new.who ≡ self.old.who }
@@ -94,7 +94,7 @@ impl<S: LockSpace> Context<S> {
     fn look(&mut self, space: &mut S) -> Result<Resume, ContextError>
         requires attends { Attends S.LockSpace space.old self.old }
         requires waits { is_some self.old.wait ≡ true }
-        ensures fails { FailsByMerge (upgrade_of self.old.wait) result }
+        ensures fails { FailsByMerge (awaited_upgrade self.old.wait) result }
         ensures run { Runs S.joins space.old (looking self.old) (result, self.new) space.new }
         ensures attends { Attends S.LockSpace space.new self.new }
         ensures who { self.new.who ≡ self.old.who }
@@ -110,9 +110,9 @@ impl<S: LockSpace> Context<S> {
     // Ends the wait, which is settled.
     fn end_wait(&mut self, space: &mut S) -> Result<Resume, ContextError>
         requires attends { Attends S.LockSpace space.old self.old }
-        requires settled { IsSettled S.is_settled space.old self.old.who }
-        ensures fails { FailsByMerge (upgrade_of self.old.wait) result }
-        ensures run { Runs S.joins space.old (ending self.old) (result, self.new) space.new }
+        requires settled { HasSettledWait S.is_settled space.old self.old.who }
+        ensures fails { FailsByMerge (awaited_upgrade self.old.wait) result }
+        ensures run { Runs S.joins space.old (ending_wait self.old) (result, self.new) space.new }
         ensures attends { Attends S.LockSpace space.new self.new }
         ensures who { self.new.who ≡ self.old.who }
         ensures ended { self.new.wait ≡ None }
@@ -131,8 +131,8 @@ impl<S: LockSpace> Context<S> {
     fn win(&mut self, space: &mut S, new: TicketId) -> Result<Resume, ContextError>
         requires attends { Attends S.LockSpace space.old (taking_up new self.old) }
         requires awaited { IfSome self.old.wait (IsAwaited self.old.known self.old.kept) }
-        ensures fails { FailsByMerge (upgrade_of self.old.wait) result }
-        ensures run { Runs S.joins space.old (wait_won (upgrade_of self.old.wait) new self.old) (result, self.new) space.new }
+        ensures fails { FailsByMerge (awaited_upgrade self.old.wait) result }
+        ensures run { Runs S.joins space.old (wait_won (awaited_upgrade self.old.wait) new self.old) (result, self.new) space.new }
         ensures attends { Attends S.LockSpace space.new self.new }
         ensures who { self.new.who ≡ self.old.who }
         ensures ended { self.new.wait ≡ None }

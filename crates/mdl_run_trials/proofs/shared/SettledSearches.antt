@@ -16,7 +16,7 @@ use Rattle.mdl_steps.specs.Layout.{wait_word}
 use Rattle.mdl_steps.specs.Lists.{Each}
 use Rattle.mdl_steps.specs.Plays.{Mine}
 use Rattle.mdl_steps.specs.WaitStates.{wait_in}
-use Rattle.mdl_visits.specs.Polls.{state_of}
+use Rattle.mdl_visits.specs.Polls.{settled_state}
 use Rattle.mdl_shared.specs.SessionJoins.{Joins}
 use Rattle.mdl_shared.specs.SessionViews.{SessionView, data_of, settled_told}
 use Rattle.mdl_shared.specs.StepSpec.{TakesSteps}
@@ -49,7 +49,7 @@ settled-search a b (Ok NoCycle) knows shown = (refl, by a.me.0.asks refl)
         ([], ap (λ (m : Mine). m.0.log) (shown.met.0 asks) ∙ sym (append-nil a.me.0.log), none, tt)
     by (Some ask) asks = elim (shown.met.1 (ap is_some asks)) [
       | inl e ↦ (
-          let look : Met = record { kind = ReadWait; deeds = []; word = wait_word a.table.slots a.me.0.number; found = wait_in a.me.0.waits (state_of e.0); held = a.me.0.latches; directory = a.me.0.directory } in
+          let look : Met = record { kind = ReadWait; deeds = []; word = wait_word a.table.slots a.me.0.number; found = wait_in a.me.0.waits (settled_state e.0); held = a.me.0.latches; directory = a.me.0.directory } in
           let one : length (look ∷ []) ≤ 1 = omega arith in
           (look ∷ [], ap (λ (m : Mine). m.0.log) e.1, one, (refl, tt))
           )

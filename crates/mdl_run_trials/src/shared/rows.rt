@@ -1,6 +1,6 @@
 //! Rows of calls of three sessions of one space.
 ghost use Rattle.std.specs.Prelude.{◌≡◌, length, IfOk};
-ghost use Rattle.mdl_shared.specs.Passes.{ArePasses, table_of};
+ghost use Rattle.mdl_shared.specs.Passes.{ArePasses, manager_table};
 
 use crate::shared::acts::{Act, Memory, Reply, make_at_last};
 use crate::shared::sessions::closed;
@@ -87,7 +87,7 @@ impl<R: Drop> Three<R> {
 
 // Returns a space of `places` places and three sessions. Tries a second time if memory runs out.
 fn space(alloc: Global, places: u16) -> Result<(Manager, Vec<Pass>), NewError>
-    ensures { IfOk result (λ made. (length made.1.items ≡ 3) × ArePasses (table_of made.0) made.1.items) }
+    ensures { IfOk result (λ made. (length made.1.items ≡ 3) × ArePasses (manager_table made.0) made.1.items) }
 {
     match Manager::new(alloc, places, 3) {
         Err(NewError::OutOfMemory) => Manager::new(alloc, places, 3),

@@ -1,6 +1,6 @@
 //! Sessions open and close, on two threads.
 ghost use Rattle.std.specs.Prelude.{◌≡◌};
-ghost use Rattle.mdl_shared.specs.Passes.{pass_table, pass_view, table_of};
+ghost use Rattle.mdl_shared.specs.Passes.{manager_table, pass_table, pass_view};
 
 use mdl_shared::{CloseError, Manager, Pass, Session};
 use std::process::Abort;
@@ -18,7 +18,7 @@ pub(crate) fn closed<R: Drop>(rt: &impl Abort, session: Session<R>) -> Pass {
 
 // Opens a pass's session, and closes it. It has no ticket yet.
 fn reopen(manager: &Manager, pass: Pass) -> Pass
-    requires { pass_table pass ≡ table_of manager.now }
+    requires { pass_table pass ≡ manager_table manager.now }
     ensures { pass_view result ≡ pass_view pass }
 {
     let session = Session::open((), manager, pass);
@@ -31,7 +31,7 @@ fn reopen(manager: &Manager, pass: Pass) -> Pass
 
 // Opens and closes a session `times` times, and returns its number.
 fn reopened(manager: &Manager, mut pass: Pass, times: u32) -> u16
-    requires { pass_table pass ≡ table_of manager.now }
+    requires { pass_table pass ≡ manager_table manager.now }
 {
     for _ in 0..times {
         pass = reopen(manager, pass);

@@ -2,7 +2,7 @@
 //! one. In the end each has some fast tickets, and the words of the locks count just these. Each wait was settled once, as the session that
 //! settled it recorded, and many were, some in each way. Each table's version is the number of its changes.
 ghost use Rattle.std.specs.Prelude.{◌≡◌, ◌+◌, ◌<◌, length};
-ghost use Rattle.mdl_shared.specs.Passes.{ArePasses, pass_table, table_of};
+ghost use Rattle.mdl_shared.specs.Passes.{ArePasses, manager_table, pass_table};
 
 use crate::shared::acts::{Act, Reply, make};
 use crate::shared::fast_counts::are_counted;
@@ -39,7 +39,7 @@ struct Part<R> {
 impl<R> Part<R> {
     // Opens the session of a pass. It has done nothing yet.
     fn open(rt: R, alloc: Global, manager: &Manager, pass: Pass, game: Game) -> Part<R>
-        requires { pass_table pass ≡ table_of manager.now }
+        requires { pass_table pass ≡ manager_table manager.now }
     {
         let (tables, _, wanted) = game;
         let player = Player::new(alloc, pass.number(), tables, wanted);
@@ -71,10 +71,10 @@ fn act<R: Wait + Clock>(
 // Removes and returns the pass of the last session.
 fn take_last(_manager: &Manager, passes: &mut Vec<Pass>) -> Pass
     requires some { 0 < length passes.old.items }
-    requires theirs { ArePasses (table_of _manager.now) passes.old.items }
+    requires theirs { ArePasses (manager_table _manager.now) passes.old.items }
     ensures left { length passes.new.items + 1 ≡ length passes.old.items }
-    ensures theirs { ArePasses (table_of _manager.now) passes.new.items }
-    ensures table { pass_table result ≡ table_of _manager.now }
+    ensures theirs { ArePasses (manager_table _manager.now) passes.new.items }
+    ensures table { pass_table result ≡ manager_table _manager.now }
 {
     passes.remove(passes.len() - 1)
 }
@@ -87,7 +87,7 @@ fn open_all<'a, R>(
     mut passes: Vec<Pass>,
     game: Game,
 ) -> Result<Vec<Part<&'a R>>, AllocError>
-    requires theirs { ArePasses (table_of manager.now) passes.items }
+    requires theirs { ArePasses (manager_table manager.now) passes.items }
 {
     let mut parts = Vec::with_capacity(alloc, passes.len())?;
     while !passes.is_empty() {

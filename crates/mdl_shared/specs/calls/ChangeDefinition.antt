@@ -7,13 +7,13 @@ use Rattle.mdl_calls.specs.Words.{Answer, Refused, Changed}
 use Rattle.mdl_visits.specs.Numbers.{numbered}
 use Rattle.mdl_visits.specs.Redefinitions.{IsRefusedAs, Redefines, exclusive_fault}
 use Rattle.mdl_visits.specs.Visits.{VisitsOnce}
-use Rattle.mdl_shared.specs.SessionViews.{Lists, SessionView, tickets_of}
+use Rattle.mdl_shared.specs.SessionViews.{Lists, SessionView, all_tickets}
 use Rattle.mdl_shared.specs.Steps.{OfTicket}
 use Rattle.mdl_shared.specs.StepSpec.{StepSpec, no_steps}
 
 -- why the session's own lists refuse it
 abbrev pub own_fault : ℕ → Lists → Option SpaceError
-own_fault id l = exclusive_fault (numbered id (tickets_of l))
+own_fault id l = exclusive_fault (numbered id (all_tickets l))
 
 -- which steps were made, and what they met
 abbrev pub met : ℕ → Change → Answer → Lists → SessionView → SessionView → Type 0

@@ -9,14 +9,14 @@ use Rattle.mdl_steps.specs.declared.view.Own.{Own}
 use Rattle.mdl_visits.specs.Numbers.{numbered}
 use Rattle.mdl_visits.specs.Visits.{MeetsFull}
 use Rattle.mdl_shared.specs.Modes.{clone_fault}
-use Rattle.mdl_shared.specs.SessionViews.{Lists, SessionView, tickets_of}
+use Rattle.mdl_shared.specs.SessionViews.{Lists, SessionView, all_tickets}
 use Rattle.mdl_shared.specs.Steps.{OfTicket}
 use Rattle.mdl_shared.specs.WishSteps.{IsCloned, LacksRoomForWish}
 use Rattle.mdl_shared.specs.StepSpec.{StepSpec, no_steps}
 
 -- why the session's own lists refuse it
 abbrev pub own_fault : ℕ → Mode → Lists → Option SpaceError
-own_fault id mode l = clone_fault (numbered id (tickets_of l)) l.asks mode l.known l.next
+own_fault id mode l = clone_fault (numbered id (all_tickets l)) l.asks mode l.known l.next
 
 -- the second ticket is gained
 abbrev pub did : Mode → Answer → List Own → List Deed

@@ -10,13 +10,13 @@ use Rattle.mdl_visits.specs.Numbers.{numbered}
 use Rattle.mdl_visits.specs.Polls.{SettlesNothing}
 use Rattle.mdl_shared.specs.Debts.{KeepsDebts}
 use Rattle.mdl_shared.specs.Modes.{downgrade_fault}
-use Rattle.mdl_shared.specs.SessionViews.{Lists, SessionView, tickets_of}
+use Rattle.mdl_shared.specs.SessionViews.{Lists, SessionView, all_tickets}
 use Rattle.mdl_shared.specs.Steps.{OfTicket, MeetsTicket, Reschedules}
 use Rattle.mdl_shared.specs.StepSpec.{StepSpec, no_steps}
 
 -- why the session's own lists refuse it
 abbrev pub own_fault : ℕ → Mode → Lists → Option SpaceError
-own_fault id mode l = downgrade_fault (numbered id (tickets_of l)) mode l.known
+own_fault id mode l = downgrade_fault (numbered id (all_tickets l)) mode l.known
 
 -- the ticket has the mode
 abbrev pub did : ℕ → Mode → Answer → List Own → List Deed

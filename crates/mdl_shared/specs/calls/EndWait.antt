@@ -6,9 +6,9 @@ use Rattle.mdl_calls.specs.Words.{Answer, Refused, Granted, Lost}
 use Rattle.mdl_steps.specs.declared.view.Ask.{Ask}
 use Rattle.mdl_steps.specs.WaitStates.{granted_state, unsettled_state}
 use Rattle.mdl_visits.specs.Grantings.{HasRescheduled}
-use Rattle.mdl_visits.specs.Polls.{SettlesNothing, state_of}
+use Rattle.mdl_visits.specs.Polls.{SettlesNothing, settled_state}
 use Rattle.mdl_visits.specs.Visits.{VisitsOnce}
-use Rattle.mdl_visits.specs.WaitEndings.{without_wait}
+use Rattle.mdl_visits.specs.WaitEndings.{mine_without_wait}
 use Rattle.mdl_shared.specs.Debts.{KeepsDebts, Pays}
 use Rattle.mdl_shared.specs.SessionViews.{Lists, SessionView}
 use Rattle.mdl_shared.specs.Waitings.{wait_fault}
@@ -29,9 +29,9 @@ owes _ a b = KeepsDebts a b
 abbrev pub met : Answer → Lists → SessionView → SessionView → Type 0
 met (Granted id) l a b = LooksThen granted_state l a (EndsByOneStep granted_state l a b)
 met (Lost how) l a b =
-    EndsOwnWait (state_of how) l a b
-    × ((ask : Ask) × (l.asks ≡ Some ask) × HasRescheduled a.table ask.place (without_wait a.me) b.me
-    × LooksThen (state_of how) l a (λ mid. VisitsOnce ask.place mid b.me) × Pays ask.place a.me b.me)
+    EndsOwnWait (settled_state how) l a b
+    × ((ask : Ask) × (l.asks ≡ Some ask) × HasRescheduled a.table ask.place (mine_without_wait a.me) b.me
+    × LooksThen (settled_state how) l a (λ mid. VisitsOnce ask.place mid b.me) × Pays ask.place a.me b.me)
 met (Refused why) l a b = (wait_fault l.asks ≡ Some why) ⊎ ((why ≡ cause.Unsettled) × LooksThen unsettled_state l a (λ mid. b.me ≡ mid))
 met _ l a b = ⊥
 

@@ -9,14 +9,14 @@ use Rattle.mdl_visits.specs.Leavings.{MeetsOwn}
 use Rattle.mdl_visits.specs.Numbers.{numbered}
 use Rattle.mdl_shared.specs.Doings.{merge_deeds}
 use Rattle.mdl_shared.specs.Modes.{merge_fault}
-use Rattle.mdl_shared.specs.SessionViews.{Lists, SessionView, tickets_of}
+use Rattle.mdl_shared.specs.SessionViews.{Lists, SessionView, all_tickets}
 use Rattle.mdl_shared.specs.Steps.{ShowsStep, OfTicket}
 use Rattle.mdl_shared.specs.WishSteps.{StopsSlowing, ByVisit, LacksRoomForFast}
 use Rattle.mdl_shared.specs.StepSpec.{StepSpec, no_steps}
 
 -- why the session's own lists refuse it
 abbrev pub own_fault : ℕ → ℕ → Lists → Option SpaceError
-own_fault old new l = merge_fault (numbered old (tickets_of l)) (numbered new (tickets_of l)) l.asks
+own_fault old new l = merge_fault (numbered old (all_tickets l)) (numbered new (all_tickets l)) l.asks
 
 -- the one ticket has the other one's mode, and the other one is lost
 abbrev pub did : ℕ → ℕ → Answer → List Own → List Deed

@@ -3,7 +3,7 @@ use Rattle.std.specs.Prelude.{◌≡◌, ◌⊎◌, ℕ, Some}
 use Rattle.mdl_calls.specs.declared.space_error.SpaceError.TheVariants as cause
 use Rattle.mdl_calls.specs.Words.{Answer, Refused, Reads}
 use Rattle.mdl_shared.specs.Members.{holding_fault}
-use Rattle.mdl_shared.specs.SessionViews.{Lists, SessionView, tickets_of}
+use Rattle.mdl_shared.specs.SessionViews.{Lists, SessionView, all_tickets}
 use Rattle.mdl_shared.specs.Steps.{OfTicket}
 use Rattle.mdl_shared.specs.ReadSteps.{ReadsByLatch, VisitsInVain}
 use Rattle.mdl_shared.specs.StepSpec.{StepSpec, no_steps}
@@ -12,9 +12,9 @@ use Rattle.mdl_shared.specs.StepSpec.{StepSpec, no_steps}
 abbrev pub met : ℕ → Answer → Lists → SessionView → SessionView → Type 0
 met id (Reads version definition) l a b = OfTicket id l (λ t. ReadsByLatch id t (record { version = version; definition = definition }) a b)
 met id (Refused why) l a b =
-    (holding_fault id (tickets_of l) ≡ Some why) ⊎ ((why ≡ cause.OutOfMemory) × OfTicket id l (λ t. VisitsInVain t.place a b))
+    (holding_fault id (all_tickets l) ≡ Some why) ⊎ ((why ≡ cause.OutOfMemory) × OfTicket id l (λ t. VisitsInVain t.place a b))
 met id _ l a b = ⊥
 
 -- the call
 abbrev pub read_definition : ℕ → StepSpec
-read_definition id = record no_steps { fault = λ l. holding_fault id (tickets_of l); met = met id }
+read_definition id = record no_steps { fault = λ l. holding_fault id (all_tickets l); met = met id }

@@ -5,7 +5,7 @@ use Rattle.mdl_defs.specs.declared.standing.Standing.{Standing}
 use Rattle.mdl_calls.specs.declared.space_error.SpaceError.TheVariants as cause
 use Rattle.mdl_calls.specs.Words.{Answer, Refused, Reads}
 use Rattle.mdl_shared.specs.Members.{holding_fault}
-use Rattle.mdl_shared.specs.SessionViews.{Lists, SessionView, tickets_of}
+use Rattle.mdl_shared.specs.SessionViews.{Lists, SessionView, all_tickets}
 use Rattle.mdl_shared.specs.Steps.{OfTicket}
 use Rattle.mdl_shared.specs.ReadSteps.{MissesVersion, FindsVersion, ReadsByLatch, VisitsInVain}
 use Rattle.mdl_shared.specs.StepSpec.{StepSpec, no_steps}
@@ -16,11 +16,11 @@ met id (Reads version definition) l a b =
     OfTicket id l (λ t. FindsVersion t.place (record { version = version; definition = definition }) a b
     ⊎ ((found : ℕ) × (mid : SessionView) × MissesVersion t.place found a mid × ReadsByLatch id t (record { version = version; definition = definition }) mid b))
 met id (Refused why) l a b =
-    (holding_fault id (tickets_of l) ≡ Some why)
+    (holding_fault id (all_tickets l) ≡ Some why)
     ⊎ ((why ≡ cause.OutOfMemory) × OfTicket id l (λ t. ((standing : Standing) × FindsVersion t.place standing a b)
     ⊎ ((found : ℕ) × (mid : SessionView) × MissesVersion t.place found a mid × VisitsInVain t.place mid b)))
 met id _ l a b = ⊥
 
 -- the call
 abbrev pub read_kept : ℕ → StepSpec
-read_kept id = record no_steps { fault = λ l. holding_fault id (tickets_of l); met = met id }
+read_kept id = record no_steps { fault = λ l. holding_fault id (all_tickets l); met = met id }

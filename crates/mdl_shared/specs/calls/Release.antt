@@ -9,7 +9,7 @@ use Rattle.mdl_visits.specs.Numbers.{numbered}
 use Rattle.mdl_visits.specs.Polls.{SettlesNothing}
 use Rattle.mdl_shared.specs.Debts.{KeepsDebts}
 use Rattle.mdl_shared.specs.Members.{holding_fault}
-use Rattle.mdl_shared.specs.SessionViews.{Lists, SessionView, tickets_of}
+use Rattle.mdl_shared.specs.SessionViews.{Lists, SessionView, all_tickets}
 use Rattle.mdl_shared.specs.Steps.{OfTicket, GivesUpSlow, GivesUpFast}
 use Rattle.mdl_shared.specs.StepSpec.{StepSpec, no_steps}
 
@@ -32,13 +32,13 @@ owes _ a b = KeepsDebts a b
 abbrev pub met : ℕ → Answer → Lists → SessionView → SessionView → Type 0
 met id Done l a b =
     OfTicket id l (λ t. (numbered id l.slow ≡ Some t → GivesUpSlow id a b t) × (numbered id l.fast ≡ Some t → GivesUpFast id a b t))
-met id (Refused why) l a b = holding_fault id (tickets_of l) ≡ Some why
+met id (Refused why) l a b = holding_fault id (all_tickets l) ≡ Some why
 met id _ l a b = ⊥
 
 -- the call. If the session's own wait is at the place, it may learn that it is settled
 abbrev pub release : ℕ → StepSpec
 release id = record no_steps {
-  fault = λ l. holding_fault id (tickets_of l);
+  fault = λ l. holding_fault id (all_tickets l);
   did = did id;
   told = λ a b. Unit {0};
   settled = settled;

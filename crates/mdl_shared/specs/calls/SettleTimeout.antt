@@ -4,7 +4,7 @@ use Rattle.mdl_calls.specs.declared.answers.TimedOut.TheVariants.{ByThisCall, Al
 use Rattle.mdl_calls.specs.Words.{Answer, Refused, Timed_out}
 use Rattle.mdl_steps.specs.declared.wait_word.Loss.TheVariants as loss
 use Rattle.mdl_steps.specs.WaitStates.{lost_state, unsettled_state}
-use Rattle.mdl_visits.specs.Polls.{Settles, SettlesNothing, state_of}
+use Rattle.mdl_visits.specs.Polls.{Settles, SettlesNothing, settled_state}
 use Rattle.mdl_shared.specs.SessionViews.{Lists, SessionView}
 use Rattle.mdl_shared.specs.Waitings.{wait_fault}
 use Rattle.mdl_shared.specs.Steps.{MeetsOwnWait}
@@ -18,7 +18,7 @@ settled _ l a b = SettlesNothing a.me b.me
 -- which step was made, and what it met
 abbrev pub met : Answer → Lists → SessionView → SessionView → Type 0
 met (Timed_out ByThisCall) l a b = MeetsOwnWait unsettled_state l a b
-met (Timed_out (Already how)) l a b = MeetsOwnWait (state_of how) l a b
+met (Timed_out (Already how)) l a b = MeetsOwnWait (settled_state how) l a b
 met (Refused why) l a b = wait_fault l.asks ≡ Some why
 met _ l a b = ⊥
 

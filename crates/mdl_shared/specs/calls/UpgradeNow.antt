@@ -12,7 +12,7 @@ use Rattle.mdl_steps.specs.declared.view.Own.{Own}
 use Rattle.mdl_visits.specs.Numbers.{numbered}
 use Rattle.mdl_visits.specs.Visits.{MeetsBlocked, MeetsGrantable}
 use Rattle.mdl_shared.specs.Doings.{upgrade_deeds}
-use Rattle.mdl_shared.specs.SessionViews.{Lists, SessionView, tickets_of}
+use Rattle.mdl_shared.specs.SessionViews.{Lists, SessionView, all_tickets}
 use Rattle.mdl_shared.specs.Upgrades.{upgrade_fault}
 use Rattle.mdl_shared.specs.Steps.{ShowsStep, OfTicket, MakesNoStep}
 use Rattle.mdl_shared.specs.WishSteps.{StopsSlowing, ByVisit, LacksRoomForFast}
@@ -20,7 +20,7 @@ use Rattle.mdl_shared.specs.StepSpec.{StepSpec, no_steps}
 
 -- why the session's own lists refuse it
 abbrev pub own_fault : ℕ → Mode → Lists → Option SpaceError
-own_fault id mode l = upgrade_fault mode l.known l.asks (numbered id (tickets_of l))
+own_fault id mode l = upgrade_fault mode l.known l.asks (numbered id (all_tickets l))
 
 -- the ticket has the mode, unless its own covered that
 abbrev pub did : ℕ → Mode → Answer → List Own → List Deed

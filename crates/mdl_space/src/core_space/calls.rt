@@ -1,6 +1,6 @@
 //! The space of one thread as a lock space: each call has just one outcome, except that memory may run out.
 ghost use Rattle.std.specs.Prelude.{◌≡◌};
-ghost use Rattle.mdl_core.specs.CoreJoins.{SpeaksFor, own_at, numbers_at, Knows, IsSettledAs, HasRead, HasSeen, Pins, Joins};
+ghost use Rattle.mdl_core.specs.CoreJoins.{SpeaksFor, locks_at, numbers_at, Knows, IsSettledAs, HasRead, HasSeen, Pins, Joins};
 ghost use Rattle.mdl_core.proofs.SpaceLaws.{core-laws};
 
 use super::CoreSpace;
@@ -14,7 +14,7 @@ use mdl_key::{Key, Mode};
 impl LockSpace for CoreSpace {
     ghost speaks_for = { SpeaksFor };
 
-    ghost own = { own_at };
+    ghost own = { locks_at };
 
     ghost knows = { Knows };
 

@@ -5,7 +5,7 @@ ghost use Rattle.mdl_book.specs.Granting.{is_compatible};
 ghost use Rattle.mdl_book.specs.Tickets.{ticket_of};
 ghost use Rattle.mdl_calls.specs.Words.{are_rising, done, upgrade_tried};
 ghost use Rattle.mdl_core.specs.CoreCalls.{is_lower};
-ghost use Rattle.mdl_core.specs.Cores.{is_free};
+ghost use Rattle.mdl_core.specs.Cores.{is_free_for};
 ghost use Rattle.mdl_core.specs.Words.{Makes, SpeaksFor, altering, book_at, downgrade_outcome, first_cause, folding, has_key, has_session, merge_causes, merge_outcome, seat_at, serving, upgrade_causes, upgrade_now_outcome};
 
 use crate::core_space::CoreSpace;
@@ -121,7 +121,7 @@ impl CoreSpace {
         requires key { has_key ticket.place self.old ≡ true }
         requires stands { IsSome (ticket_of who ticket.id (book_at ticket.place self.old).granted) }
         requires rising { IsTrue (are_rising (seat_at who self.old).held) }
-        ensures free { result ≡ is_free who ticket.place mode self.old }
+        ensures free { result ≡ is_free_for who ticket.place mode self.old }
         ensures altered { result ≡ true → self.new ≡ altering who ticket mode self.old }
         ensures unchanged { result ≡ false → self.new ≡ self.old }
     {

@@ -3,7 +3,7 @@ ghost use Rattle.std.specs.Prelude.{◌≡◌, ℕ, is_some, true};
 ghost use Rattle.std.specs.FinSet as set;
 ghost use Rattle.std.specs.Option.{option_map};
 ghost use Rattle.mdl_book.specs.Tickets.{ticket_id};
-ghost use Rattle.mdl_core.specs.Words.{has_key, is_unsettled, next_ready, admitting_if, serving};
+ghost use Rattle.mdl_core.specs.Words.{has_key, has_unsettled_wait, next_ready, admitting_if, serving};
 
 use crate::core_space::CoreSpace;
 use crate::granting::NO_FAST;
@@ -31,10 +31,10 @@ impl CoreSpace {
     /// Grants the first waiter of a place that can be granted. Returns whether there was one.
     fn serve_next(&mut self, place: Place, unsettled: &mut Sessions) -> bool
         requires key { has_key place self.old ≡ true }
-        requires unsettled { (who : ℕ) → set.contains unsettled.old who ≡ is_unsettled who self.old }
+        requires unsettled { (who : ℕ) → set.contains unsettled.old who ≡ has_unsettled_wait who self.old }
         ensures found { result ≡ is_some (next_ready place self.old) }
         ensures served { self.new ≡ admitting_if place (next_ready place self.old) self.old }
-        ensures unsettled { (who : ℕ) → set.contains unsettled.new who ≡ is_unsettled who self.new }
+        ensures unsettled { (who : ℕ) → set.contains unsettled.new who ≡ has_unsettled_wait who self.new }
     {
         let Some((who, number)) = self.next_waiter(place, unsettled) else {
             return false;
@@ -49,7 +49,7 @@ impl CoreSpace {
     /// Returns the first waiter of a place that can be granted, as its session and the number of its ticket.
     fn next_waiter(&self, place: Place, unsettled: &Sessions) -> Option<(u16, u64)>
         requires key { has_key place self.now ≡ true }
-        requires unsettled { (who : ℕ) → set.contains unsettled.now who ≡ is_unsettled who self.now }
+        requires unsettled { (who : ℕ) → set.contains unsettled.now who ≡ has_unsettled_wait who self.now }
         ensures { result ≡ option_map ticket_id (next_ready place self.now) }
     {
         self.books[usize::from(place) - 1].next_grantable(NO_FAST, unsettled)
@@ -57,7 +57,7 @@ impl CoreSpace {
 
     /// Returns the sessions whose waits aren't settled.
     fn unsettled_sessions(&self) -> Sessions
-        ensures { (who : ℕ) → set.contains result who ≡ is_unsettled who self.now }
+        ensures { (who : ℕ) → set.contains result who ≡ has_unsettled_wait who self.now }
     {
         let mut unsettled = Sessions::new();
         for (index, seat) in self.seats.iter().enumerate() {

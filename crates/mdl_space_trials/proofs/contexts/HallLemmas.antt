@@ -1,7 +1,7 @@
 -- Contexts of several sessions over the lock space of one thread.
 use Rattle.std.proofs.Common.{◌≡◌, ◌≢◌, ℕ, zero, suc, ◌<◌, ◌≤◌, ◌+◌, ◌-◌, List, [], ◌∷◌, length, get_or, set, Some, None, refl, sym, ap, ◌∙◌, subst, arith}
 use Rattle.std.proofs.lemmas.List.Elements.{All-nil}
-use Rattle.mdl_core.specs.Words.{Core, SpeaksFor, own_at}
+use Rattle.mdl_core.specs.Words.{Core, SpeaksFor, locks_at}
 use Rattle.mdl_space.specs.CoreMembers.{core_space}
 use Rattle.mdl_calls.specs.Words.{Answer, Call, caller}
 use Rattle.mdl_calls.specs.declared.lock_space.LockSpace.{Ghosts}
@@ -54,7 +54,7 @@ served_then before after first (suc i) (y ∷ ys) x served inside who attends le
 
 -- a new context of a session that has nothing
 pub fresh : (space : Core) (who : ℕ) (x : ContextView) → x ≡ record { who = who; kept = []; known = []; wait = None } → SpeaksFor space who
-    → own_at space who ≡ record { held = []; wait = None } → (x.who ≡ who) × Attends core_space space x
+    → locks_at space who ≡ record { held = []; wait = None } → (x.who ≡ who) × Attends core_space space x
 fresh space who x new speaks nothing =
     rw new (refl, record { speaks = speaks; serves = rw nothing (record { held = refl; wait = refl }); known = All-nil _; places = All-nil _; wish = tt })
 

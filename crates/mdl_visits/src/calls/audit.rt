@@ -3,9 +3,9 @@ ghost use Rattle.std.specs.Prelude.{◌≡◌, ◌<◌, ◌≤◌, [], ◌∷◌
 ghost use Rattle.mdl_book.specs.declared.book_view.BookView.{BookView};
 ghost use Rattle.mdl_steps.specs.SeatStates.{AtItsTable};
 ghost use Rattle.mdl_visits.specs.Audits.{Audits, Gathers, MayTakeAll};
-ghost use Rattle.mdl_visits.specs.Idle.{IsIdle};
+ghost use Rattle.mdl_visits.specs.Idle.{HoldsNoLatch};
 ghost use Rattle.mdl_visits.specs.Lookups.{AsksDirectory};
-ghost use Rattle.mdl_visits.specs.Visits.{HasInHand, MakesQuietSteps, MakesSteps, OfBook};
+ghost use Rattle.mdl_visits.specs.Visits.{HasBookInHand, MakesQuietSteps, MakesSteps, OfBook};
 
 use crate::Audited;
 use crate::latches::{await_directory, await_latch};
@@ -21,7 +21,7 @@ pub fn audit<R: Wait>(
     audited: &mut Vec<Audited>,
 ) -> Result<(), AllocError>
     requires slots { seat.old.table.slots ≤ 65536 }
-    requires idle { IsIdle seat.old.me }
+    requires idle { HoldsNoLatch seat.old.me }
     requires empty { audited.old.items ≡ [] }
     ensures steps { AtItsTable seat.old seat.new MakesSteps }
     ensures told { AsksDirectory seat.old seat.new (λ k. OnOk result (Audits k audited.new.items seat.old.me seat.new.me)) }
@@ -66,7 +66,7 @@ pub(crate) fn add_book(
     audited: &mut Vec<Audited>,
 ) -> Result<(), AllocError>
     requires narrow { latch.now.place < 65536 }
-    requires carried { (book : BookView) × HasInHand latch.now.place book seat.old }
+    requires carried { (book : BookView) × HasBookInHand latch.now.place book seat.old }
     ensures same { seat.new ≡ seat.old }
     ensures added { OfBook latch.now.place seat.old (λ book. OnOk result (audited.new.items ≡ audited.old.items ++ record { place = latch.now.place; book = book } ∷ [])) }
 {

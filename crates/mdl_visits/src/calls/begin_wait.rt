@@ -4,8 +4,8 @@ ghost use Rattle.mdl_key.specs.Words.{is_obtrusive};
 ghost use Rattle.mdl_steps.specs.declared.deed.Deed.TheVariants.{Gain};
 ghost use Rattle.mdl_steps.specs.SeatStates.{SeatState};
 ghost use Rattle.mdl_visits.specs.declared.calls.begin_wait.Queued.TheVariants.{Granted, Waiting};
-ghost use Rattle.mdl_visits.specs.WaitOpenings.{BeginsWait, IsNewWait};
-ghost use Rattle.mdl_visits.specs.Visits.{EndsWish, HasEntered, HasWish, IsVisit, MayVisit, VisitsOnce, WasGranted, WasRefused};
+ghost use Rattle.mdl_visits.specs.WaitOpenings.{IsNewWait, SeatBeginsWait};
+ghost use Rattle.mdl_visits.specs.Visits.{EndsWish, HasEntered, IsVisit, MayVisit, RequestsMode, VisitsOnce, WasGranted, WasRefused};
 
 use crate::enter_and_leave::{enter, gain, lower_flags_and_put};
 use mdl_book::BookError;
@@ -35,12 +35,12 @@ pub fn begin_wait<R: Wait>(
     wait: u64,
 ) -> Result<Queued, BookError>
     requires at { MayVisit place seat.old }
-    requires wish { HasWish place kind mode seat.old.me.0 }
+    requires wish { RequestsMode place kind mode seat.old.me.0 }
     requires unfast { seat.old.me.0.fast ≡ [] }
     requires number { number ≡ seat.old.me.0.next }
     requires wait { (wait ≡ seat.old.me.0.waits + 1) × (wait < 2 ^ 60) }
     ensures granted { result ≡ Ok Granted → WasGranted place mode (Gain number mode) seat.old seat.new }
-    ensures waiting { result ≡ Ok Waiting → BeginsWait place mode number seat.old seat.new }
+    ensures waiting { result ≡ Ok Waiting → SeatBeginsWait place mode number seat.old seat.new }
     ensures once { IsVisit place (is_obtrusive kind mode) seat.old.me seat.new.me }
     ensures refused { IfErr result (λ cause. WasRefused place cause seat.old seat.new) }
 {
@@ -68,7 +68,7 @@ fn enqueue(
 ) -> Result<(), BookError>
     requires entered { (place word : ℕ) × (s : SeatState) × HasEntered place latch.place word mode false s seat.old }
     requires new { IsNewWait number wait seat.old.me.0 }
-    ensures done { (word : ℕ) → EndsWish latch.place word mode false result (λ place s. BeginsWait place mode number s seat.new) seat.old seat.new }
+    ensures done { (word : ℕ) → EndsWish latch.place word mode false result (λ place s. SeatBeginsWait place mode number s seat.new) seat.old seat.new }
     ensures once { VisitsOnce latch.place seat.old.me seat.new.me }
 {
     if let Err(cause) = seat.write_wish(&latch, number, mode) {

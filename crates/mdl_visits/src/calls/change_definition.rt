@@ -4,7 +4,7 @@ ghost use Rattle.mdl_defs.specs.declared.standing.Standing.{Standing};
 ghost use Rattle.mdl_steps.specs.SeatStates.{AtItsTable};
 ghost use Rattle.mdl_visits.specs.Leavings.{Learns};
 ghost use Rattle.mdl_visits.specs.Numbers.{is_ask_apart};
-ghost use Rattle.mdl_visits.specs.Redefinitions.{HasExclusiveAt, IsRefusedFor, Redefines};
+ghost use Rattle.mdl_visits.specs.Redefinitions.{HasExclusiveAt, Redefines, RefusesChange};
 ghost use Rattle.mdl_visits.specs.Visits.{MayVisit, Visits, VisitsOnce};
 
 use crate::latches::await_latch;
@@ -27,7 +27,7 @@ pub fn change_definition<R: Wait>(
         × ((standing : Standing) × (standing.version ≡ version) × Learns place standing seat.old.me seat.new.me)) }
     ensures unchanged { OnErr result (AtItsTable seat.old seat.new (Visits place [])) }
     ensures once { VisitsOnce place seat.old.me seat.new.me }
-    ensures refused { IfErr result (λ why. IsRefusedFor place seat.old.me.0.number change.now why seat.old.me seat.new.me) }
+    ensures refused { IfErr result (λ why. RefusesChange place seat.old.me.0.number change.now why seat.old.me seat.new.me) }
 {
     let latch = await_latch(rt, seat, place);
     match seat.write_change(&latch, change) {

@@ -3,7 +3,7 @@ ghost use Rattle.std.specs.Prelude.{◌≡◌, ◌∷◌, [], None, OnOk, IfErr}
 ghost use Rattle.mdl_steps.specs.declared.deed.Deed.TheVariants.{Gain};
 ghost use Rattle.mdl_steps.specs.declared.view.Met.{Met};
 ghost use Rattle.mdl_steps.specs.SeatStates.{AtItsTable};
-ghost use Rattle.mdl_visits.specs.Coverings.{MayClone};
+ghost use Rattle.mdl_visits.specs.Coverings.{CanClone};
 ghost use Rattle.mdl_visits.specs.Leavings.{MeetsOwn};
 ghost use Rattle.mdl_visits.specs.Visits.{IsStepOf, MayVisit, Visits, VisitsOnce, WasRefused};
 
@@ -26,7 +26,7 @@ pub fn clone_ticket<R: Wait>(
 ) -> Result<(), BookError>
     requires at { MayVisit held.place seat.old }
     requires idle { seat.old.me.0.asks ≡ None }
-    requires may { MayClone held number mode seat.old.me.0 }
+    requires may { CanClone held number mode seat.old.me.0 }
     ensures cloned { OnOk result (AtItsTable seat.old seat.new (Visits held.place (Gain number mode ∷ []))) }
     ensures step { (e : Met) × IsStepOf seat.old.me seat.new.me e × MeetsOwn held.place seat.old.me.0.number held.number e
         × OnOk result (e.deeds ≡ Gain number mode ∷ []) }

@@ -3,7 +3,7 @@ ghost use Rattle.std.specs.Prelude.{◌≡◌, ◌∷◌, [], None};
 ghost use Rattle.mdl_steps.specs.declared.deed.Deed.TheVariants.{Alter, Lose};
 ghost use Rattle.mdl_steps.specs.Deeds.{KnowsPlace};
 ghost use Rattle.mdl_steps.specs.SeatStates.{AtItsTable};
-ghost use Rattle.mdl_visits.specs.Coverings.{MayMerge};
+ghost use Rattle.mdl_visits.specs.Coverings.{CanMerge};
 ghost use Rattle.mdl_visits.specs.Leavings.{MergesOwn};
 ghost use Rattle.mdl_visits.specs.Visits.{MayVisit, Visits, VisitsOnce};
 
@@ -19,7 +19,7 @@ pub fn merge<R: Wait>(rt: &R, seat: &mut TableSeat, kept: Own, gone: Own)
     requires at { MayVisit kept.place seat.old }
     requires known { KnowsPlace seat.old.me.0 kept.place }
     requires idle { seat.old.me.0.asks ≡ None }
-    requires may { MayMerge kept gone seat.old.me.0 }
+    requires may { CanMerge kept gone seat.old.me.0 }
     ensures merged { AtItsTable seat.old seat.new (Visits kept.place (Alter kept.number gone.mode ∷ Lose gone.number ∷ [])) }
     ensures step { MergesOwn kept gone seat.old seat.new }
     ensures once { VisitsOnce kept.place seat.old.me seat.new.me }

@@ -1,7 +1,7 @@
 //! Grants the waits at a place that can be granted, before its latch is given back.
 ghost use Rattle.std.specs.Prelude.{Bool, []};
 ghost use Rattle.mdl_steps.specs.SeatStates.{AtItsTable, SeatState};
-ghost use Rattle.mdl_visits.specs.Grantings.{IsOrderly, ReschedulesAndLeaves, VisitsAndReschedules};
+ghost use Rattle.mdl_visits.specs.Grantings.{IsOrderlyLatch, ReschedulesAndLeaves, VisitsAndReschedules};
 ghost use Rattle.mdl_visits.specs.Leavings.{DidUnder, HasWorked};
 ghost use Rattle.mdl_visits.specs.Visits.{CameTo, HasLatched, HasStep, MayVisit, VisitsOnce};
 
@@ -37,7 +37,7 @@ pub(crate) fn lower_flags_and_reschedule(seat: &mut TableSeat, latch: Latched, d
 
 // Grants the waits at the latched place that can be granted, and gives the latch back, also after something was freed.
 fn reschedule_and_put(seat: &mut TableSeat, latch: Latched)
-    requires here { HasLatched latch.place seat.old IsOrderly }
+    requires here { HasLatched latch.place seat.old IsOrderlyLatch }
     ensures left { AtItsTable seat.old seat.new (ReschedulesAndLeaves seat.old.table latch.place []) }
     ensures once { VisitsOnce latch.place seat.old.me seat.new.me }
 {

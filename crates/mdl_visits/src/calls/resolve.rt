@@ -3,8 +3,8 @@ ghost use Rattle.std.specs.Prelude.{◌≡◌, IfOk, OnOk, OnErr};
 ghost use Rattle.mdl_steps.specs.declared.view.Keys.{Keys};
 ghost use Rattle.mdl_steps.specs.SeatStates.{AtItsTable};
 ghost use Rattle.mdl_steps.specs.Seats.{HasDirectory};
-ghost use Rattle.mdl_visits.specs.Idle.{IsIdle};
-ghost use Rattle.mdl_visits.specs.Lookups.{HasLooked, HasNamed, HoldsKeys, IsAnswer, IsNext, LearnsPlace, TookDirectory};
+ghost use Rattle.mdl_visits.specs.Idle.{HoldsNoLatch};
+ghost use Rattle.mdl_visits.specs.Lookups.{HasLooked, HasNamed, HoldsKeys, IsLookupAnswer, IsNext, LearnsKeyPlace, TookDirectory};
 ghost use Rattle.mdl_visits.specs.Visits.{MakesSteps};
 
 use crate::latches::{await_directory, await_latch};
@@ -22,11 +22,11 @@ pub fn resolve<R: Wait>(
     alloc: Global,
     key: &Key,
 ) -> Result<usize, ResolveError>
-    requires idle { IsIdle seat.old.me }
-    ensures idle { IsIdle seat.new.me }
-    ensures known { IfOk result (λ place. LearnsPlace key.now place seat.old seat.new) }
+    requires idle { HoldsNoLatch seat.old.me }
+    ensures idle { HoldsNoLatch seat.new.me }
+    ensures known { IfOk result (λ place. LearnsKeyPlace key.now place seat.old seat.new) }
     ensures refused { OnErr result (MakesSteps seat.old.me seat.new.me) }
-    ensures answer { (k left : Keys) × AtItsTable seat.old seat.new (TookDirectory seat.old.table.slots k left) × IsAnswer seat.old.table.slots key.now k left result }
+    ensures answer { (k left : Keys) × AtItsTable seat.old seat.new (TookDirectory seat.old.table.slots k left) × IsLookupAnswer seat.old.table.slots key.now k left result }
 {
     let directory = await_directory(rt, seat);
     match place_for(rt, seat, &directory, alloc, key) {

@@ -7,11 +7,11 @@ ghost use Rattle.mdl_steps.specs.SeatStates.{AtItsTable};
 ghost use Rattle.mdl_steps.specs.Seats.{IsPlace, MayPut};
 ghost use Rattle.mdl_steps.specs.Sights.{SeesNoDeadlock};
 ghost use Rattle.mdl_visits.specs.Audits.{MayTakeAll};
-ghost use Rattle.mdl_visits.specs.Idle.{IsIdle};
+ghost use Rattle.mdl_visits.specs.Idle.{HoldsNoLatch};
 ghost use Rattle.mdl_visits.specs.Lookups.{AsksDirectory};
 ghost use Rattle.mdl_visits.specs.Polls.{SettlesNothing};
-ghost use Rattle.mdl_visits.specs.Searches.{AddsQueues, EndsSearch, Finds, FindsFrom, HasTaken, KnowsVictim, ReadsWaits, Searched, but_searching, found_none, if_waited, put_searching, searches_after};
-ghost use Rattle.mdl_visits.specs.Visits.{HasInHand, OfBook};
+ghost use Rattle.mdl_visits.specs.Searches.{AddsQueues, EndsSearch, FindsFrom, HasTaken, KnowsVictim, ReadsWaits, SearchFinds, Searched, but_searching, found_none, if_waited, put_searching, searches_after};
+ghost use Rattle.mdl_visits.specs.Visits.{HasBookInHand, OfBook};
 
 use crate::latches::{await_directory, await_latch};
 use crate::settle_victim::settle_victim;
@@ -30,7 +30,7 @@ pub fn search_deadlock<R: Wait>(
     alloc: Global,
 ) -> Result<Search, AllocError>
     requires slots { seat.old.table.slots ≤ 65536 }
-    requires idle { IsIdle seat.old.me }
+    requires idle { HoldsNoLatch seat.old.me }
     ensures reads { AtItsTable seat.old (but_searching seat.old seat.new) ReadsWaits }
     ensures searched { AsksDirectory seat.old seat.new (λ k. IfOk result (λ found. Searched seat.old.table seat.old.me.0.number k found seat.old.me seat.new.me)) }
     ensures own { IfOk result (λ found. KnowsVictim seat.old.me.0.number found seat.new.me) }
@@ -58,7 +58,7 @@ fn search_from<R: Wait>(
     requires through { MayTakeAll place last seat.old }
     requires taken { HasTaken place last lists.old seat.old.me }
     ensures ends { EndsSearch result (FindsFrom place last lists.old seat.old (but_searching seat.old seat.new)) seat.old (but_searching seat.old seat.new) }
-    ensures here { place ≡ last + 1 → EndsSearch result (Finds lists.old seat.old seat.new) seat.old seat.new }
+    ensures here { place ≡ last + 1 → EndsSearch result (SearchFinds lists.old seat.old seat.new) seat.old seat.new }
     ensures ended { seat.new.me.0.searches ≡ searches_after result (nat_lt place (last + 1)) seat.old.me.0.searches }
 {
     if place > last {
@@ -102,7 +102,7 @@ fn add_if_waited(
     latch: &Latched,
     lists: &mut ListCopies,
 ) -> Result<(), AllocError>
-    requires carried { (book : BookView) × HasInHand latch.now.place book seat.old }
+    requires carried { (book : BookView) × HasBookInHand latch.now.place book seat.old }
     ensures same { seat.new ≡ seat.old }
     ensures added { OfBook latch.now.place seat.old (λ book. OnOk result (AddsQueues (if_waited (record { place = latch.now.place; book = book })) lists.old lists.new)) }
 {

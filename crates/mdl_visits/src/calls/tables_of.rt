@@ -5,9 +5,9 @@ ghost use Rattle.std.specs.Vec.{vec_capacity, vec_len};
 ghost use Rattle.mdl_steps.specs.declared.view.Keys.{Keys};
 ghost use Rattle.mdl_steps.specs.SeatStates.{AtItsTable};
 ghost use Rattle.mdl_steps.specs.Seats.{HasDirectory};
-ghost use Rattle.mdl_visits.specs.Idle.{IsIdle};
+ghost use Rattle.mdl_visits.specs.Idle.{HoldsNoLatch};
 ghost use Rattle.mdl_visits.specs.Lookups.{TookDirectory};
-ghost use Rattle.mdl_visits.specs.Tables.{AddsIfDefined, AreListed, AreSorted, AreTables, AreWithin, HasAsked, HaveRoom, MeetsDefinition, knowing_all};
+ghost use Rattle.mdl_visits.specs.Tables.{AddsIfDefined, AreAllTables, AreListed, AreSorted, AreWithin, HasAsked, HaveRoom, MeetsDefinition, knowing_all};
 ghost use Rattle.mdl_visits.specs.Visits.{HasStep, MakesQuietSteps, MakesSteps, MayVisit, StaysQuiet};
 
 use crate::KnownKeys;
@@ -26,11 +26,11 @@ pub fn find_tables<R: Wait>(
     known: &mut KnownKeys,
     schema: &str,
 ) -> Result<(Vec<Known>, Vec<Place>), AllocError>
-    requires idle { IsIdle seat.old.me }
+    requires idle { HoldsNoLatch seat.old.me }
     requires narrow { seat.old.table.slots ≤ 65536 }
     ensures same { known.new.known ≡ known.old.known }
     ensures found { (k : Keys) × AtItsTable seat.old seat.new (TookDirectory seat.old.table.slots k k)
-        × IfOk result (λ found. AreTables schema.now k found.0.items × MakesSteps (knowing_all found.0.items seat.old.me) seat.new.me) }
+        × IfOk result (λ found. AreAllTables schema.now k found.0.items × MakesSteps (knowing_all found.0.items seat.old.me) seat.new.me) }
     ensures within { IfOk result (λ found. AreWithin seat.old.table.slots found.0.items) }
     ensures room { IfOk result (λ found. HaveRoom known.new seat.old.table.slots found.0.items found.1) }
     ensures unchanged { OnErr result (MakesSteps seat.old.me seat.new.me) }
@@ -110,7 +110,7 @@ pub fn tables_defined<R: Wait>(
     places: &mut Vec<Place>,
 )
     requires within { AreWithin seat.old.table.slots tables.now × (seat.old.table.slots ≤ 65536) }
-    requires idle { IsIdle seat.old.me }
+    requires idle { HoldsNoLatch seat.old.me }
     requires none { places.old.items ≡ [] }
     requires room { vec_len places.old + length tables.now ≤ vec_capacity places.old }
     ensures steps { AtItsTable seat.old seat.new MakesSteps }

@@ -5,7 +5,7 @@ ghost use Rattle.mdl_key.specs.Words.{is_obtrusive};
 ghost use Rattle.mdl_steps.specs.declared.deed.Deed.TheVariants.{Alter};
 ghost use Rattle.mdl_visits.specs.declared.calls.try_now.TryOutcome.TheVariants.{Granted, Blocked};
 ghost use Rattle.mdl_visits.specs.Coverings.{MayRise};
-ghost use Rattle.mdl_visits.specs.Visits.{HasWish, IsVisit, MayVisit, WasBlocked, WasGranted};
+ghost use Rattle.mdl_visits.specs.Visits.{IsVisit, MayVisit, RequestsMode, WasBlocked, WasGranted};
 ghost use Rattle.mdl_visits.specs.Leavings.{HasTicket};
 
 use crate::calls::try_now::TryOutcome;
@@ -25,7 +25,7 @@ pub fn upgrade_now<R: Wait>(
     mode: Mode,
 ) -> TryOutcome
     requires at { MayVisit place seat.old }
-    requires wish { (kind : Kind) × HasWish place kind mode seat.old.me.0 × (is_obtrusive kind mode ≡ true) }
+    requires wish { (kind : Kind) × RequestsMode place kind mode seat.old.me.0 × (is_obtrusive kind mode ≡ true) }
     requires held { MayRise place number mode seat.old.me.0 }
     ensures granted { result ≡ Granted → WasGranted place mode (Alter number mode) seat.old seat.new }
     ensures once { IsVisit place true seat.old.me seat.new.me }

@@ -6,7 +6,7 @@ use Rattle.mdl_steps.specs.declared.view.Own.{Own}
 use Rattle.mdl_steps.specs.FastPlays.{fast_own}
 use Rattle.mdl_steps.specs.SeatStates.{SeatState}
 use Rattle.mdl_steps.specs.Seats.{IsPlace}
-use Rattle.mdl_visits.specs.Idle.{IsIdle}
+use Rattle.mdl_visits.specs.Idle.{HoldsNoLatch}
 use Rattle.mdl_shared.specs.Members.{kind_known}
 
 -- fast tickets at a place in these modes, numbered one after the other
@@ -18,7 +18,7 @@ fast_from place number (mode ∷ modes) = fast_own number place mode None ∷ fa
 pub record HasFastAlone (place : ℕ) (kind : Kind) (number : ℕ) (modes : List Mode) (s : SeatState) : Type 0 where
   pub placed : IsPlace s.table place
   pub known : kind_known place s.me.0.known ≡ Some kind
-  pub idle : IsIdle s.me
+  pub idle : HoldsNoLatch s.me
   pub asks : s.me.0.asks ≡ None
   pub slow : s.me.0.slow ≡ []
   pub fast : s.me.0.fast ≡ fast_from place number modes

@@ -1,6 +1,6 @@
 //! A session of a space that threads share, and its statements.
 ghost use Rattle.std.specs.Prelude.{◌≡◌};
-ghost use Rattle.mdl_shared.specs.Passes.{table_of, pass_table};
+ghost use Rattle.mdl_shared.specs.Passes.{manager_table, pass_table};
 
 use crate::shared::contexts::statements::{CACHE, Outcome, go_on, say};
 use crate::shared::sessions::closed;
@@ -38,7 +38,7 @@ impl<'s, R: Wait> Desk<'s, R> {
         manager: &Manager,
         pass: Pass,
     ) -> Desk<'s, R>
-        requires { pass_table pass ≡ table_of manager.now }
+        requires { pass_table pass ≡ manager_table manager.now }
     {
         let session = Session::open(wait, manager, pass);
         match Runner::new(alloc, session.number(), CACHE) {

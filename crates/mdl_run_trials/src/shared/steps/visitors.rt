@@ -6,7 +6,7 @@ ghost use Rattle.mdl_key.specs.Words.{is_mode_of};
 ghost use Rattle.mdl_steps.specs.FastPlays.{fast_own};
 ghost use Rattle.mdl_steps.specs.Seats.{IsPlace, IsSized};
 ghost use Rattle.mdl_steps.specs.WaitStates.{IsLost, granted_state};
-ghost use Rattle.mdl_visits.specs.Idle.{IsIdle};
+ghost use Rattle.mdl_visits.specs.Idle.{HoldsNoLatch};
 ghost use Rattle.mdl_shared.specs.Members.{kind_known};
 ghost use Rattle.mdl_run_trials.specs.shared.steps.Fast.{HasFastAlone};
 
@@ -38,7 +38,7 @@ pub(crate) struct Visitor {
     fast: Option<Own>,
     ghost placed: { IsPlace seat.table place },
     ghost known: { kind_known place seat.me.0.known ≡ Some kind },
-    ghost idle: { IsIdle seat.me },
+    ghost idle: { HoldsNoLatch seat.me },
     ghost next_is: { next ≡ seat.me.0.next },
     ghost waits_is: { waits ≡ seat.me.0.waits },
     ghost asks_is: { asks ≡ seat.me.0.asks },

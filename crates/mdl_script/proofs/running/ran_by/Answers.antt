@@ -2,7 +2,7 @@
 use Rattle.std.proofs.Common.{◌≡◌, ◌∙◌, ◌∷◌, [], subst, sym, All, ◌++◌}
 use Rattle.std.specs.String.{string_bytes}
 use Rattle.mdl_shared.specs.declared.pass.Pass.{Pass}
-use Rattle.mdl_shared.specs.Passes.{pass_table, table_of}
+use Rattle.mdl_shared.specs.Passes.{manager_table, pass_table}
 use Rattle.mdl_script.specs.Answers.{options_of}
 use Rattle.mdl_script.specs.Runs.{ComeBack, first_line}
 use Rattle.mdl_script.specs.Turns.{GainsAnswers, IsTurn, passes_sent}
@@ -37,7 +37,7 @@ returns-clause-back g c =
 
 pub returns-clause-theirs : goal.returns-clause-theirs
 returns-clause-theirs g c =
-    let gains = c.in_ok-push_turns.ensures in let left = c.start_all.new.passes.items in let table = table_of c.args.run.now.manager.now in
+    let gains = c.in_ok-push_turns.ensures in let left = c.start_all.new.passes.items in let table = manager_table c.args.run.now.manager.now in
     subst (All (λ (pass : Pass). pass_table pass ≡ table)) (sym gains.passes)
     (back-there table c.args.others.items (passes_sent c.in_ok-turns.turns.items) left gains.closed c.in_ok-turns.ensures.sent gains.tables c.requires.theirs)
 

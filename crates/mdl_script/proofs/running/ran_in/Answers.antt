@@ -3,7 +3,7 @@ use Rattle.std.proofs.Common.{◌≡◌, ◌∙◌, ◌∷◌, All, ap, rules}
 use Rattle.std.specs.String.{string_bytes}
 use Rattle.std.proofs.lemmas.List.Elements.{All-cons, All-same}
 use Rattle.mdl_shared.specs.declared.pass.Pass.{Pass}
-use Rattle.mdl_shared.specs.Passes.{pass_table, table_of}
+use Rattle.mdl_shared.specs.Passes.{manager_table, pass_table}
 use Rattle.mdl_shared.specs.SessionViews.{SessionView}
 use Rattle.mdl_script.specs.Answers.{options_of}
 use Rattle.mdl_script.proofs.TextLemmas.{run-asked}
@@ -23,7 +23,7 @@ returns-clause-ran g c =
 
 pub returns-clause-theirs : goal.returns-clause-theirs
 returns-clause-theirs g c =
-    let There = λ (pass : Pass). pass_table pass ≡ table_of c.args.run.now.manager.now in
+    let There = λ (pass : Pass). pass_table pass ≡ manager_table c.args.run.now.manager.now in
     let asker = ap (λ (s : SessionView). s.table) c.close-closed.ensures ∙ c.in_ok-text.ensures.there in
     All-same There c.insert.new.self.items (c.close-closed.result ∷ c.in_ok-text.field-0.passes.items) c.in_ok-insert.ensures.items
     (All-cons There c.close-closed.result c.in_ok-text.field-0.passes.items asker c.in_ok-text.ensures.theirs)

@@ -1,5 +1,5 @@
 -- A new space has a pass for each session.
-use Rattle.mdl_shared.specs.Passes.{table_of}
+use Rattle.mdl_shared.specs.Passes.{manager_table}
 use Rattle.mdl_script.proofs.PassLemmas.{all-there}
 use Rattle.mdl_script.proofs.running.run_threads.Goals as goal
 
@@ -10,7 +10,7 @@ run_on-requires-clause-there g c κs within =
 pub returns : goal.returns
 returns g c =
     let made = c.in-Ok.ensures.made in record {
-      table = table_of c.in-Ok.manager;
+      table = manager_table c.in-Ok.manager;
       slots = made.0;
       words = made.1;
       given = c.in-Ok.passes.items;

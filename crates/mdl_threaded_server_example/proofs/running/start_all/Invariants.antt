@@ -1,8 +1,8 @@
 -- The passes that are left are the manager's.
 use Rattle.std.proofs.Common.{◌≡◌, All}
 use Rattle.std.specs.Vec.Iter.{into_iter_items}
-use Rattle.mdl.specs.mdl_shared.Passes.{pass_table, table_of}
+use Rattle.mdl.specs.mdl_shared.Passes.{manager_table, pass_table}
 use Rattle.mdl_threaded_server_example.proofs.running.start_all.Given as goal
 
 abbrev pub invariant-loop-pass : goal.invariant-loop-pass
-invariant-loop-pass g l = All (λ pass. pass_table pass ≡ table_of l.manager) (into_iter_items l.pass-iterator)
+invariant-loop-pass g l = All (λ pass. pass_table pass ≡ manager_table l.manager) (into_iter_items l.pass-iterator)

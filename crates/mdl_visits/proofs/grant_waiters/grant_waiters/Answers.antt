@@ -5,7 +5,7 @@ use Rattle.std.specs.Ordering.{nat_cmp}
 use Rattle.atomic_table.specs.Seated.{TableId}
 use Rattle.mdl_steps.specs.Plays.{Mine, noting}
 use Rattle.mdl_steps.specs.Seats.{Holds}
-use Rattle.mdl_visits.specs.Grantings.{ForgetsNobody, IsTriedOrGranted, Reschedules, ReschedulesInTurn}
+use Rattle.mdl_visits.specs.Grantings.{ForgetsNobody, GrantsWaits, IsTriedOrGranted, ReschedulesInTurn}
 use Rattle.mdl_visits.proofs.Seats.{mine, place_there, table_of}
 use Rattle.mdl_visits.proofs.Serving.{AreTried, WasRead, fewer_untried, forgets_nobody, looks_ahead, read_before, read_first, tried_first, turn_done}
 use Rattle.mdl_visits.proofs.Waiting.{is_next, grants_read}
@@ -70,7 +70,7 @@ loop-session-preserved c =
     let held = c.loop-session.invariant.held in
     let h = held.0 in
     let has = subst (λ (x : Mine). Holds place h h.book x) (sym same) held.1 in
-    let way : Reschedules id place m m a = subst (Reschedules id place m m) (sym same) c.loop-session.invariant.way in
+    let way : GrantsWaits id place m m a = subst (GrantsWaits id place m m) (sym same) c.loop-session.invariant.way in
     let read : WasRead place word m a = subst (WasRead place word m) (sym same) c.loop-session.invariant.read in
     let tried = subst (λ (x : Mine). AreTried id place untried h m x) (sym same) held.3 in
     let told = c.in-Some.ensures.told h.book held.1.carried in
@@ -104,5 +104,5 @@ returns c =
         holds = subst (λ (x : Mine). Holds place h h.book x) (sym {A = Mine} (mine same)) inv.held.1;
         is_so = (inv.held.2.0, subst (ForgetsNobody id place h m) (sym {A = Mine} (mine same)) forgets, inv.held.2.2);
       };
-      granted = (table_of same ∙ inv.table, subst (Reschedules id place m m) (sym {A = Mine} (mine same)) inv.way);
+      granted = (table_of same ∙ inv.table, subst (GrantsWaits id place m m) (sym {A = Mine} (mine same)) inv.way);
     }

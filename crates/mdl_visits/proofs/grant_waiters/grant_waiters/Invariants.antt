@@ -3,7 +3,7 @@ use Rattle.std.proofs.Common.{◌≡◌}
 use Rattle.std.specs.FinSet as set
 use Rattle.mdl_steps.specs.declared.view.LatchRecord.{LatchRecord}
 use Rattle.mdl_steps.specs.Seats.{Holds}
-use Rattle.mdl_visits.specs.Grantings.{Reschedules}
+use Rattle.mdl_visits.specs.Grantings.{GrantsWaits}
 use Rattle.mdl_visits.proofs.Serving.{AreTried, WasRead}
 use Rattle.mdl_visits.proofs.Waiting.{MayReschedule}
 use Rattle.mdl_visits.proofs.grant_waiters.grant_waiters.Given as goal
@@ -14,7 +14,7 @@ invariant-loop-session l = record {
   held : (h : LatchRecord) × Holds l.latch.place h h.book l.seat.me × MayReschedule l.word.0 h
       × AreTried l.fn.seat.table l.latch.place l.untried h l.fn.seat.me l.seat.me;
   read : WasRead l.latch.place l.word.0 l.fn.seat.me l.seat.me;
-  way : Reschedules l.fn.seat.table l.latch.place l.fn.seat.me l.fn.seat.me l.seat.me;
+  way : GrantsWaits l.fn.seat.table l.latch.place l.fn.seat.me l.fn.seat.me l.seat.me;
 }
 
 abbrev pub decreases-loop-session : goal.decreases-loop-session

@@ -5,7 +5,7 @@ use Rattle.mdl_stmt.specs.Attendance.{cached}
 use Rattle.mdl_stmt.specs.Stages.{session_of}
 use Rattle.mdl_stmt.proofs.CachedLemmas.{none_leaving}
 use Rattle.mdl_calls.proofs.CachedRuns.{run-cached, run-plain}
-use Rattle.mdl_work.specs.Works.{lines_of, newcomer, working_off}
+use Rattle.mdl_work.specs.Works.{lines_of_session, newcomer, working_off}
 use Rattle.mdl_work.proofs.WorkLemmas.{answers-told, worked-off}
 use Rattle.mdl_work.proofs.working.work_lines.Goals as goal
 
@@ -21,12 +21,12 @@ returns-clause-reads g c =
     let after = c.answer_lines-answers.new.self.runner in
     let run = rw (new.session, new.who, new.patience, new.cache) at c.answer_lines-answers.ensures.run in
     let left = run-cached members.joins members.uses_cache (leaving (session_of after)) after.cache _ _ tt (none_leaving (session_of after)) c.leave.ensures.run in
-    (after.cache, worked-off (cached members) c.args.patience (lines_of c.args.who c.args.lines.now) (newcomer c.args.who) (session_of after) c.answer_lines-answers.result _ _ _ run left)
+    (after.cache, worked-off (cached members) c.args.patience (lines_of_session c.args.who c.args.lines.now) (newcomer c.args.who) (session_of after) c.answer_lines-answers.result _ _ _ run left)
 
 pub returns-clause-answered : goal.returns-clause-answered
 returns-clause-answered g c =
     let members = g.S.LockSpace in
-    let program = working_off c.args.patience (lines_of c.args.who c.args.lines.now) (newcomer c.args.who) in
+    let program = working_off c.args.patience (lines_of_session c.args.who c.args.lines.now) (newcomer c.args.who) in
     let whole = returns-clause-reads g c in
     (answers-told members.joins program c.answer_lines-answers.result c.args.space.now c.leave.new.space
     (run-plain members.joins members.uses_cache program (c.args.space.now, record { kept = []; capacity = c.args.cache }) (c.leave.new.space, whole.0) _ whole.1)).0
@@ -34,7 +34,7 @@ returns-clause-answered g c =
 pub returns-clause-starved : goal.returns-clause-starved
 returns-clause-starved g c =
     let members = g.S.LockSpace in
-    let program = working_off c.args.patience (lines_of c.args.who c.args.lines.now) (newcomer c.args.who) in
+    let program = working_off c.args.patience (lines_of_session c.args.who c.args.lines.now) (newcomer c.args.who) in
     let whole = returns-clause-reads g c in
     (answers-told members.joins program c.answer_lines-answers.result c.args.space.now c.leave.new.space
     (run-plain members.joins members.uses_cache program (c.args.space.now, record { kept = []; capacity = c.args.cache }) (c.leave.new.space, whole.0) _ whole.1)).1

@@ -1,5 +1,5 @@
 -- All calls are made for the session.
-use Rattle.mdl_context.specs.Wishes.{wish_of}
+use Rattle.mdl_context.specs.Wishes.{wish_of_request}
 use Rattle.std.proofs.Common.{None}
 use Rattle.mdl_context.specs.Requests.{acquiring_at, finding}
 use Rattle.mdl_context.proofs.OthersLemmas.{leaves, for_reusing, for_finding}
@@ -8,10 +8,10 @@ use Rattle.mdl_context.proofs.context.Context.acquire.Goals as goal
 pub returns-in-Some-clause-others : goal.returns-in-Some-clause-others
 returns-in-Some-clause-others g c =
     let laws = g.met.S.LockSpace.laws in
-    leaves g.S.LockSpace laws c.args.self.now.who (acquiring_at c.in-Some.place (wish_of c.args.request) c.args.self.now) _ _ (c.acquire_at.result, c.acquire_at.new.self) (for_reusing _ _ _ c.args.self.now)
+    leaves g.S.LockSpace laws c.args.self.now.who (acquiring_at c.in-Some.place (wish_of_request c.args.request) c.args.self.now) _ _ (c.acquire_at.result, c.acquire_at.new.self) (for_reusing _ _ _ c.args.self.now)
     c.acquire_at.ensures.run
 
 pub returns-in-None-clause-others : goal.returns-in-None-clause-others
 returns-in-None-clause-others g c =
     let laws = g.met.S.LockSpace.laws in
-    leaves g.S.LockSpace laws c.args.self.now.who (finding None (wish_of c.args.request) c.args.self.now) _ _ (c.look_up.result, c.look_up.new.self) (for_finding None (wish_of c.args.request) c.args.self.now) c.look_up.ensures.run
+    leaves g.S.LockSpace laws c.args.self.now.who (finding None (wish_of_request c.args.request) c.args.self.now) _ _ (c.look_up.result, c.look_up.new.self) (for_finding None (wish_of_request c.args.request) c.args.self.now) c.look_up.ensures.run

@@ -1,5 +1,5 @@
 -- What suffices is held, and what is gained or waited for is at a known place.
-use Rattle.mdl_context.specs.Wishes.{wish_of}
+use Rattle.mdl_context.specs.Wishes.{wish_of_request}
 use Rattle.std.proofs.Common.{◌≡◌, true, List, Some, Ok, Err, [], ◌∷◌, ◌++◌, sym, ap, ◌∙◌}
 use Rattle.std.specs.Prelude.{is_some}
 use Rattle.mdl_context.specs.declared.kept.Kept.{Kept}
@@ -17,41 +17,41 @@ pub gain-requires-clause-held : goal.gain-requires-clause-held
 gain-requires-clause-held g c =
     let before : ContextView = context_of c.self.inside.who c.self.inside.holdings in
     let serves = rw (← c.self.view_is) at c.requires.attends.serves in
-    let enough = c.sufficient-ticket.ensures ∙ ap (earliest (suffices c.args.place (wish_of c.args.request))) c.reserve.ensures.kept in
-    sufficient-held c.args.place (wish_of c.args.request) _ before c.sufficient-ticket.result (g.met.S.LockSpace.laws.rising _ _ (rw (← c.self.view_is) at c.requires.attends.speaks)) serves enough
+    let enough = c.sufficient-ticket.ensures ∙ ap (earliest (suffices c.args.place (wish_of_request c.args.request))) c.reserve.ensures.kept in
+    sufficient-held c.args.place (wish_of_request c.args.request) _ before c.sufficient-ticket.result (g.met.S.LockSpace.laws.rising _ _ (rw (← c.self.view_is) at c.requires.attends.speaks)) serves enough
 
 pub returns-in-Ok-Granted-clause-run : goal.returns-in-Ok-Granted-clause-run
 returns-in-Ok-Granted-clause-run g c =
     let before : ContextView = context_of c.self.inside.who c.self.inside.holdings in
-    let enough = c.sufficient-ticket.ensures ∙ ap (earliest (suffices c.args.place (wish_of c.args.request))) c.reserve.ensures.kept in
+    let enough = c.sufficient-ticket.ensures ∙ ap (earliest (suffices c.args.place (wish_of_request c.args.request))) c.reserve.ensures.kept in
     let after = same-context c.self.inside.who _ _ _ _ _ _ (c.keep.ensures.kept ∙ ap (λ (kept : List Kept). kept ++ c.kept.result ∷ []) c.reserve.ensures.kept ∙ ap (λ (ticket : Kept). c.self.inside.holdings.kept ++ ticket ∷ []) c.kept.ensures) (c.keep.ensures.known ∙ c.reserve.ensures.known) (c.keep.ensures.wait ∙ sym (rw (← c.self.view_is) at c.requires.idle)) in
     rw (← c.self.view_is)
-    (run-gained g.S.LockSpace.joins c.args.place (wish_of c.args.request) before c.reusable.result c.reusable.ensures c.sufficient-ticket.result c.gain.result _ _ _ c.in_default.is enough c.gain.ensures.run
+    (run-gained g.S.LockSpace.joins c.args.place (wish_of_request c.args.request) before c.reusable.result c.reusable.ensures c.sufficient-ticket.result c.gain.result _ _ _ c.in_default.is enough c.gain.ensures.run
     (rw (c.in-Ok-Granted.is, c.in-Ok-Granted.field-0-is) (ap (λ context. (Ok (Acquired c.in-Ok-Granted.id), context)) (sym after))))
 
 pub returns-in-Ok-Waits-clause-run : goal.returns-in-Ok-Waits-clause-run
 returns-in-Ok-Waits-clause-run g c =
     let before : ContextView = context_of c.self.inside.who c.self.inside.holdings in
-    let enough = c.sufficient-ticket.ensures ∙ ap (earliest (suffices c.args.place (wish_of c.args.request))) c.reserve.ensures.kept in
+    let enough = c.sufficient-ticket.ensures ∙ ap (earliest (suffices c.args.place (wish_of_request c.args.request))) c.reserve.ensures.kept in
     let after = same-context c.self.inside.who _ _ _ _ _ _ (c.begin_wait.ensures.kept ∙ c.reserve.ensures.kept) (c.begin_wait.ensures.known ∙ c.reserve.ensures.known) (c.begin_wait.ensures.wait ∙ ap (λ wanted. Some wanted) c.wanted.ensures) in
     rw (← c.self.view_is)
-    (run-gained g.S.LockSpace.joins c.args.place (wish_of c.args.request) before c.reusable.result c.reusable.ensures c.sufficient-ticket.result c.gain.result _ _ _ c.in_default.is enough c.gain.ensures.run
+    (run-gained g.S.LockSpace.joins c.args.place (wish_of_request c.args.request) before c.reusable.result c.reusable.ensures c.sufficient-ticket.result c.gain.result _ _ _ c.in_default.is enough c.gain.ensures.run
     (rw (c.in-Ok-Waits.is, c.in-Ok-Waits.field-0-is) (ap (λ context. (Ok (MustWait c.in-Ok-Waits.number), context)) (sym after))))
 
 pub returns-in-Err-clause-run : goal.returns-in-Err-clause-run
 returns-in-Err-clause-run g c =
     let before : ContextView = context_of c.self.inside.who c.self.inside.holdings in
-    let enough = c.sufficient-ticket.ensures ∙ ap (earliest (suffices c.args.place (wish_of c.args.request))) c.reserve.ensures.kept in
+    let enough = c.sufficient-ticket.ensures ∙ ap (earliest (suffices c.args.place (wish_of_request c.args.request))) c.reserve.ensures.kept in
     let after = same-context c.self.inside.who _ _ _ _ _ _ c.reserve.ensures.kept c.reserve.ensures.known (c.reserve.ensures.wait ∙ sym (rw (← c.self.view_is) at c.requires.idle)) in
     rw (← c.self.view_is)
-    (run-gained g.S.LockSpace.joins c.args.place (wish_of c.args.request) before c.reusable.result c.reusable.ensures c.sufficient-ticket.result c.gain.result _ _ _ c.in_default.is enough c.gain.ensures.run
+    (run-gained g.S.LockSpace.joins c.args.place (wish_of_request c.args.request) before c.reusable.result c.reusable.ensures c.sufficient-ticket.result c.gain.result _ _ _ c.in_default.is enough c.gain.ensures.run
     (rw c.in-Err.is (ap (λ context. (Err (Space c.in-Err.refusal), context)) (sym after))))
 
 pub returns-in-Ok-Granted-clause-attends : goal.returns-in-Ok-Granted-clause-attends
 returns-in-Ok-Granted-clause-attends g c =
     let before : ContextView = context_of c.self.inside.who c.self.inside.holdings in
     let there : is_known_place before.known c.args.place ≡ true = known-place c.args.request.key.now before.known c.args.place (rw (← c.self.view_is) at c.requires.known) in
-    attends-granted _ _ before _ c.in-Ok-Granted.id c.args.place (wish_of c.args.request) (rw (← c.self.view_is) at c.requires.attends) c.gain.ensures.remembers c.gain.ensures.speaks
+    attends-granted _ _ before _ c.in-Ok-Granted.id c.args.place (wish_of_request c.args.request) (rw (← c.self.view_is) at c.requires.attends) c.gain.ensures.remembers c.gain.ensures.speaks
     (rw (c.in-Ok-Granted.is, c.in-Ok-Granted.field-0-is) at c.gain.ensures.own) there (ap is_some (rw (← c.self.view_is) at c.requires.idle))
     (same-context c.self.inside.who _ _ _ _ _ _ (c.keep.ensures.kept ∙ ap (λ (kept : List Kept). kept ++ c.kept.result ∷ []) c.reserve.ensures.kept ∙ ap (λ (ticket : Kept). c.self.inside.holdings.kept ++ ticket ∷ []) c.kept.ensures) (c.keep.ensures.known ∙ c.reserve.ensures.known) (c.keep.ensures.wait ∙ sym (rw (← c.self.view_is) at c.requires.idle)))
 
@@ -59,6 +59,6 @@ pub returns-in-Ok-Waits-clause-attends : goal.returns-in-Ok-Waits-clause-attends
 returns-in-Ok-Waits-clause-attends g c =
     let before : ContextView = context_of c.self.inside.who c.self.inside.holdings in
     let there : is_known_place before.known c.args.place ≡ true = known-place c.args.request.key.now before.known c.args.place (rw (← c.self.view_is) at c.requires.known) in
-    attends-awaiting _ _ before _ c.in-Ok-Waits.number c.args.place (wish_of c.args.request) c.in-Ok-Waits.searched (rw (← c.self.view_is) at c.requires.attends) c.gain.ensures.remembers c.gain.ensures.speaks
+    attends-awaiting _ _ before _ c.in-Ok-Waits.number c.args.place (wish_of_request c.args.request) c.in-Ok-Waits.searched (rw (← c.self.view_is) at c.requires.attends) c.gain.ensures.remembers c.gain.ensures.speaks
     (rw (c.in-Ok-Waits.is, c.in-Ok-Waits.field-0-is) at c.gain.ensures.own) there
     (same-context c.self.inside.who _ _ _ _ _ _ (c.begin_wait.ensures.kept ∙ c.reserve.ensures.kept) (c.begin_wait.ensures.known ∙ c.reserve.ensures.known) (c.begin_wait.ensures.wait ∙ ap (λ wanted. Some wanted) c.wanted.ensures))

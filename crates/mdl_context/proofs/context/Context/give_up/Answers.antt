@@ -6,7 +6,7 @@ use Rattle.mdl_context.proofs.AttendLemmas.{attends-still}
 use Rattle.mdl_context.proofs.ServingLemmas.{waits-there}
 use Rattle.mdl_context.proofs.WaitLemmas.{is_ok-timed_out}
 use Rattle.mdl_calls.specs.Words.{Ask, Settle_timeout}
-use Rattle.mdl_context.specs.Waits.{ending}
+use Rattle.mdl_context.specs.Waits.{ending_wait}
 use Rattle.mdl_context.proofs.OthersLemmas.{leaves, for_ending}
 use Rattle.mdl_context.proofs.context.Context.give_up.Goals as goal
 
@@ -26,5 +26,5 @@ pub returns-clause-others : goal.returns-clause-others
 returns-clause-others g c =
     let same : c.self.inside.who ≡ c.args.self.now.who = ap (λ (v : ContextView). v.who) c.self.view_is in
     let laws = g.met.S.LockSpace.laws in
-    leaves g.S.LockSpace laws c.args.self.now.who (Ask (Settle_timeout c.args.self.now.who) (λ _. ending c.args.self.now)) _ _ (c.end_wait.result, c.end_wait.new.self) (refl, λ _. for_ending c.args.self.now)
+    leaves g.S.LockSpace laws c.args.self.now.who (Ask (Settle_timeout c.args.self.now.who) (λ _. ending_wait c.args.self.now)) _ _ (c.end_wait.result, c.end_wait.new.self) (refl, λ _. for_ending c.args.self.now)
     (_, _, rw same at c.settle_timeout.ensures, c.end_wait.ensures.run)

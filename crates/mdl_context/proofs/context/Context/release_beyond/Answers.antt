@@ -1,7 +1,7 @@
 -- The first ticket that goes tells the others by its number.
 use Rattle.std.proofs.Common.{◌≡◌, [], refl, sym, ap, ◌∙◌}
 use Rattle.std.specs.Prelude.{is_some}
-use Rattle.mdl_context.specs.Contexts.{AreRising, beyond, without}
+use Rattle.mdl_context.specs.Contexts.{AreRising, beyond, without_tickets}
 use Rattle.mdl_context.proofs.BeyondLemmas.{rising-kept, gone-beyond, kept-beyond, none-beyond, without-none, same-context, run-as, run-none}
 use Rattle.mdl_context.proofs.AttendLemmas.{attends-left}
 use Rattle.mdl_context.proofs.ServingLemmas.{serves-left}
@@ -34,7 +34,7 @@ returns-in_default-clause-kept g c =
     let kept = c.self.inside.holdings.kept in
     let none : beyond c.args.duration c.args.most kept ≡ [] = none-beyond c.args.duration c.args.most kept c.nth_for.result c.nth_for.ensures c.in_default.is in
     rw (← c.self.view_is)
-    (same-context c.self.inside.who _ _ _ _ _ _ (sym (ap (λ gone. without gone kept) none ∙ without-none kept)) refl refl)
+    (same-context c.self.inside.who _ _ _ _ _ _ (sym (ap (λ gone. without_tickets gone kept) none ∙ without-none kept)) refl refl)
 
 pub returns-in-Some-clause-attends : goal.returns-in-Some-clause-attends
 returns-in-Some-clause-attends g c =

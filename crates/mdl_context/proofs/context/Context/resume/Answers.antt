@@ -4,7 +4,7 @@ use Rattle.std.specs.Prelude.{is_some}
 use Rattle.mdl_calls.specs.Causes.{Knowledge}
 use Rattle.mdl_context.specs.Contexts.{ContextView}
 use Rattle.mdl_calls.specs.Words.{Ask, Poll_wait}
-use Rattle.mdl_context.specs.Waits.{looking, ending, searching_on}
+use Rattle.mdl_context.specs.Waits.{looking, ending_wait, searching_on}
 use Rattle.mdl_context.proofs.AttendLemmas.{attends-still}
 use Rattle.mdl_context.proofs.OthersLemmas.{leaves, for_looking, for_searching_on, for_ending}
 use Rattle.mdl_context.proofs.ServingLemmas.{waits-there, searched-waits}
@@ -48,7 +48,7 @@ pub returns-in-Settled-clause-others : goal.returns-in-Settled-clause-others
 returns-in-Settled-clause-others g c =
     let same : c.self.inside.who ≡ c.args.self.now.who = ap (λ (v : ContextView). v.who) c.self.view_is in
     let laws = g.met.S.LockSpace.laws in
-    leaves g.S.LockSpace laws c.args.self.now.who (Ask (Poll_wait c.args.self.now.who) (λ _. ending c.args.self.now)) _ _ (c.end_wait.result, c.end_wait.new.self) (refl, λ _. for_ending c.args.self.now)
+    leaves g.S.LockSpace laws c.args.self.now.who (Ask (Poll_wait c.args.self.now.who) (λ _. ending_wait c.args.self.now)) _ _ (c.end_wait.result, c.end_wait.new.self) (refl, λ _. for_ending c.args.self.now)
     (_, _, rw same at c.poll_wait.ensures, c.end_wait.ensures.run)
 
 pub returns-in-Pending-clause-outcome : goal.returns-in-Pending-clause-outcome

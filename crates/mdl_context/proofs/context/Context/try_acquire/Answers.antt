@@ -1,18 +1,18 @@
 -- All calls are made for the session.
 use Rattle.std.proofs.Common.{None}
 use Rattle.mdl_context.specs.Requests.{trying_at, trying_found}
-use Rattle.mdl_context.specs.Wishes.{wish_of}
+use Rattle.mdl_context.specs.Wishes.{wish_of_request}
 use Rattle.mdl_context.proofs.OthersLemmas.{leaves, for_trying_again, for_trying_found}
 use Rattle.mdl_context.proofs.context.Context.try_acquire.Goals as goal
 
 pub returns-in-Some-clause-others : goal.returns-in-Some-clause-others
 returns-in-Some-clause-others g c =
     let laws = g.met.S.LockSpace.laws in
-    leaves g.S.LockSpace laws c.args.self.now.who (trying_at c.in-Some.place (wish_of c.args.request) c.args.self.now) _ _ (c.try_at.result, c.try_at.new.self)
+    leaves g.S.LockSpace laws c.args.self.now.who (trying_at c.in-Some.place (wish_of_request c.args.request) c.args.self.now) _ _ (c.try_at.result, c.try_at.new.self)
     (for_trying_again _ _ _ c.args.self.now) c.try_at.ensures.run
 
 pub returns-in-None-clause-others : goal.returns-in-None-clause-others
 returns-in-None-clause-others g c =
     let laws = g.met.S.LockSpace.laws in
-    leaves g.S.LockSpace laws c.args.self.now.who (trying_found None (wish_of c.args.request) c.args.self.now) _ _ (c.look_up_and_try.result, c.look_up_and_try.new.self)
-    (for_trying_found None (wish_of c.args.request) c.args.self.now) c.look_up_and_try.ensures.run
+    leaves g.S.LockSpace laws c.args.self.now.who (trying_found None (wish_of_request c.args.request) c.args.self.now) _ _ (c.look_up_and_try.result, c.look_up_and_try.new.self)
+    (for_trying_found None (wish_of_request c.args.request) c.args.self.now) c.look_up_and_try.ensures.run

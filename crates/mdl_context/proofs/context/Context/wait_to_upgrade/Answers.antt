@@ -5,7 +5,7 @@ use Rattle.mdl_context.specs.declared.context_error.ContextError.TheVariants.{Sp
 use Rattle.mdl_context.specs.declared.kept.Wanted.{Wanted}
 use Rattle.mdl_context.specs.declared.request.Acquire.TheVariants.{Acquired, MustWait}
 use Rattle.mdl_context.specs.Holdings.{context_of}
-use Rattle.mdl_context.specs.Upgrades.{HasSecond, with_mode}
+use Rattle.mdl_context.specs.Upgrades.{HasSecond, with_ticket_mode}
 use Rattle.mdl_context.proofs.BeyondLemmas.{same-context}
 use Rattle.mdl_context.proofs.UpgradeLemmas.{HasAsked, has-gained, kept-number, attends-to-upgrade, run-united, run-parted, run-awaiting, run-unasked}
 use Rattle.mdl_context.proofs.context.Context.wait_to_upgrade.Goals as goal
@@ -29,7 +29,7 @@ returns-in-Ok-clause-run g c =
     let place : c.args.wanted.place ≡ ticket.place = ap (λ (w : Wanted). w.place) fits.0 in
     run-united g.S.LockSpace.joins ticket c.args.id c.args.wanted.mode _ c.merge_ticket.new.self (kept-number c.args.id c.self.inside.holdings.kept ticket found) c.in-Ok-Granted.new _ _ _
     (rw (place, c.in-Ok-Granted.is, c.in-Ok-Granted.field-0-is) at c.wait_at.ensures.run) (rw c.in-Ok.is at c.merge_ticket.ensures.run)
-    ((rw c.in-Ok.is at c.merge_ticket.ensures.done) ∙ ap (with_mode c.args.id (λ _. c.args.wanted.mode)) same))
+    ((rw c.in-Ok.is at c.merge_ticket.ensures.done) ∙ ap (with_ticket_mode c.args.id (λ _. c.args.wanted.mode)) same))
 
 pub returns-in-Err-merge_ticket-clause-run : goal.returns-in-Err-merge_ticket-clause-run
 returns-in-Err-merge_ticket-clause-run g c =

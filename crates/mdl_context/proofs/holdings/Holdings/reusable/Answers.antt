@@ -1,15 +1,15 @@
 -- Each number at the place is looked at, until its ticket passes.
-use Rattle.mdl_context.specs.Wishes.{wish_of}
+use Rattle.mdl_context.specs.Wishes.{wish_of_request}
 use Rattle.std.proofs.Common.{◌≡◌, get_or, Some, None, sym, ap, ◌∙◌, rules}
 use Rattle.std.specs.Prelude.{find}
 use Rattle.mdl_context.specs.Contexts.{AreRising}
-use Rattle.mdl_context.specs.Holdings.{is_ticket, numbers_among}
+use Rattle.mdl_context.specs.Holdings.{is_kept_ticket, numbers_among}
 use Rattle.mdl_context.specs.Requests.{is_reusable}
 use Rattle.mdl_context.proofs.PlaceLemmas.{reusable-at, from-start, from-end, from-passing, from-failing, number-found}
 use Rattle.mdl_context.proofs.holdings.Holdings.reusable.Goals as goal
 
 pub loop-id-init : goal.loop-id-init
-loop-id-init c = from-start c.self.inside.tickets.items c.args.place (is_reusable c.args.place (wish_of c.args.request.now)) (reusable-at c.args.place (wish_of c.args.request.now))
+loop-id-init c = from-start c.self.inside.tickets.items c.args.place (is_reusable c.args.place (wish_of_request c.args.request.now)) (reusable-at c.args.place (wish_of_request c.args.request.now))
 
 pub returns-in_err-ticket : goal.returns-in_err-ticket
 returns-in_err-ticket c =
@@ -17,8 +17,8 @@ returns-in_err-ticket c =
     let place = c.args.place in
     let rising : AreRising kept = rw (← c.self.view_is) at c.requires in
     let same : c.numbers-id-items.result.now ≡ numbers_among place kept = c.numbers-id-items.ensures ∙ c.self.invariant.0 place in
-    let none : find (is_ticket (get_or c.numbers-id-items.result.now c.loop-id.id-index 0)) kept ≡ None = search rules in
-    absurd (number-found kept place (is_reusable c.args.place (wish_of c.args.request.now)) rising _ same _ c.loop-id-test.true none)
+    let none : find (is_kept_ticket (get_or c.numbers-id-items.result.now c.loop-id.id-index 0)) kept ≡ None = search rules in
+    absurd (number-found kept place (is_reusable c.args.place (wish_of_request c.args.request.now)) rising _ same _ c.loop-id-test.true none)
 
 pub returns-then-can_reuse : goal.returns-then-can_reuse
 returns-then-can_reuse c =
@@ -27,8 +27,8 @@ returns-then-can_reuse c =
     let rising : AreRising kept = rw (← c.self.view_is) at c.requires in
     let same : c.numbers-id-items.result.now ≡ numbers_among place kept = c.numbers-id-items.ensures ∙ c.self.invariant.0 place in
     let t = c.in_ok-ticket.ticket.now in
-    let found : find (is_ticket (get_or c.numbers-id-items.result.now c.loop-id.id-index 0)) kept ≡ Some t = search rules in
-    let first = from-passing kept place (is_reusable c.args.place (wish_of c.args.request.now)) rising _ same _ c.loop-id-test.true t found (sym c.can_reuse.ensures ∙ c.if-can_reuse.true) in
+    let found : find (is_kept_ticket (get_or c.numbers-id-items.result.now c.loop-id.id-index 0)) kept ≡ Some t = search rules in
+    let first = from-passing kept place (is_reusable c.args.place (wish_of_request c.args.request.now)) rising _ same _ c.loop-id-test.true t found (sym c.can_reuse.ensures ∙ c.if-can_reuse.true) in
     rw (← c.self.view_is) (ap (λ held. Some held) c.held.ensures ∙ sym first ∙ c.loop-id.invariant)
 
 pub loop-id-preserved : goal.loop-id-preserved
@@ -38,8 +38,8 @@ loop-id-preserved c =
     let rising : AreRising kept = rw (← c.self.view_is) at c.requires in
     let same : c.numbers-id-items.result.now ≡ numbers_among place kept = c.numbers-id-items.ensures ∙ c.self.invariant.0 place in
     let t = c.in_ok-ticket.ticket.now in
-    let found : find (is_ticket (get_or c.numbers-id-items.result.now c.loop-id.id-index 0)) kept ≡ Some t = search rules in
-    from-failing kept place (is_reusable c.args.place (wish_of c.args.request.now)) rising _ same _ c.loop-id-test.true t found (sym c.can_reuse.ensures ∙ c.if-can_reuse.false) ∙ c.loop-id.invariant
+    let found : find (is_kept_ticket (get_or c.numbers-id-items.result.now c.loop-id.id-index 0)) kept ≡ Some t = search rules in
+    from-failing kept place (is_reusable c.args.place (wish_of_request c.args.request.now)) rising _ same _ c.loop-id-test.true t found (sym c.can_reuse.ensures ∙ c.if-can_reuse.false) ∙ c.loop-id.invariant
 
 pub returns : goal.returns
 returns c =
@@ -47,4 +47,4 @@ returns c =
     let place = c.args.place in
     let rising : AreRising kept = rw (← c.self.view_is) at c.requires in
     let same : c.numbers-id-items.result.now ≡ numbers_among place kept = c.numbers-id-items.ensures ∙ c.self.invariant.0 place in
-    rw (← c.self.view_is) (sym (from-end kept place (is_reusable c.args.place (wish_of c.args.request.now)) rising _ same _ c.loop-id-test.false) ∙ c.loop-id.invariant)
+    rw (← c.self.view_is) (sym (from-end kept place (is_reusable c.args.place (wish_of_request c.args.request.now)) rising _ same _ c.loop-id-test.false) ∙ c.loop-id.invariant)

@@ -1,7 +1,7 @@
 -- Each turn is that of the session that the definition names.
 use Rattle.std.proofs.Common.{◌≡◌, ◌-◌, ◌+◌, ◌∙◌, zero, suc, sym, ap, arith}
 use Rattle.mdl_script.specs.Plays.{world_of}
-use Rattle.mdl_script.specs.Worlds.{most_turns, settling}
+use Rattle.mdl_script.specs.Worlds.{continuing_settled, most_turns}
 use Rattle.mdl_script.proofs.SettleLemmas.{left-end, no-turn, one-turn, settling-over, told-end}
 use Rattle.mdl_script.proofs.play.Play.settle.Goals as goal
 
@@ -31,10 +31,10 @@ pub returns-clause-told : goal.returns-clause-told
 returns-clause-told c =
     let world = world_of c.loop-turn.self in
     let none : most_turns - c.loop-turn._turn ≡ zero = omega arith in
-    told-end (settling (most_turns - c.loop-turn._turn) world) world _ _ (ap (λ n. settling n world) none ∙ settling-over world) c.loop-turn.invariant.told
+    told-end (continuing_settled (most_turns - c.loop-turn._turn) world) world _ _ (ap (λ n. continuing_settled n world) none ∙ settling-over world) c.loop-turn.invariant.told
 
 pub returns-clause-left : goal.returns-clause-left
 returns-clause-left c =
     let world = world_of c.loop-turn.self in
     let none : most_turns - c.loop-turn._turn ≡ zero = omega arith in
-    left-end (settling (most_turns - c.loop-turn._turn) world) world _ (ap (λ n. settling n world) none ∙ settling-over world) c.loop-turn.invariant.left
+    left-end (continuing_settled (most_turns - c.loop-turn._turn) world) world _ (ap (λ n. continuing_settled n world) none ∙ settling-over world) c.loop-turn.invariant.left

@@ -2,7 +2,7 @@
 use Rattle.std.proofs.Common.{ap, sym, ◌∙◌}
 use Rattle.mdl_script.specs.declared.play.Play.{Play}
 use Rattle.mdl_script.specs.Plays.{world_of}
-use Rattle.mdl_script.specs.Worlds.{is_waiting}
+use Rattle.mdl_script.specs.Worlds.{session_waits}
 use Rattle.mdl_script.proofs.SettleLemmas.{found-waits}
 use Rattle.mdl_script.proofs.play.Play.settle_one.Goals as goal
 
@@ -11,5 +11,5 @@ go-requires-clause-session c = (found-waits c.args.self.now c.in-Some.who c.requ
 
 pub go-requires-clause-waits : goal.go-requires-clause-waits
 go-requires-clause-waits c =
-    ap (λ (play : Play). is_waiting (world_of play) c.in-Some.who) c.first_settled.ensures.same
+    ap (λ (play : Play). session_waits (world_of play) c.in-Some.who) c.first_settled.ensures.same
     ∙ (found-waits c.args.self.now c.in-Some.who c.requires.manned (sym c.in-Some.ensures.found)).1

@@ -6,14 +6,14 @@ use Rattle.mdl_steps.specs.Plays.{Mine}
 use Rattle.mdl_visits.specs.Numbers.{numbered}
 use Rattle.mdl_visits.proofs.Doing.{does_reschedule}
 use Rattle.mdl_visits.proofs.Steps.{does_then}
-use Rattle.mdl_shared.specs.Members.{is_known_place}
+use Rattle.mdl_shared.specs.Members.{is_place_looked_up}
 use Rattle.mdl_shared.specs.Passes.{view_of}
 use Rattle.mdl_shared.specs.SessionViews.{Lists, SessionView, session_at}
 use Rattle.mdl_shared.specs.Steps.{GivesUpFast}
 use Rattle.mdl_shared.specs.TicketLists.{KeepsRoom, Room}
 use Rattle.mdl_shared.proofs.FastReleases.{done-before, gives-up, gives-up_after, gone-quiet, paid-after}
 use Rattle.mdl_shared.proofs.MemberFacts.{fast-held, may-visit, ticket-known}
-use Rattle.mdl_shared.proofs.Members.{HasDone, done-rest, rescheduled}
+use Rattle.mdl_shared.proofs.Members.{DidDeeds, done-rest, rescheduled}
 use Rattle.mdl_shared.proofs.Props.{member}
 use Rattle.mdl_shared.proofs.Rooms.{keeps-freed}
 use Rattle.mdl_shared.proofs.member.Member.give_up_fast.Goals as goal
@@ -26,7 +26,7 @@ pay-requires g c =
     let its : numbered t.number m.seat.me.0.fast ≡ Some t = ap (λ (l : Lists). numbered t.number l.fast) (sym m.lists) ∙ c.requires.held in
     let known = ticket-known (member m) t.number t (fast-held (member m) t.number t its) in
     let same = (done-rest c.lose_fast.ensures.lost.done).known in
-    record { at = may-visit (member mid) t.place (ap (λ (ks : List Known). is_known_place ks t.place) same ∙ known) }
+    record { at = may-visit (member mid) t.place (ap (λ (ks : List Known). is_place_looked_up ks t.place) same ∙ known) }
 
 pub returns-then-lose_fast : goal.returns-then-lose_fast
 returns-then-lose_fast g c =
@@ -41,7 +41,7 @@ returns-then-lose_fast g c =
     let later = rescheduled {place = t.place} {ds = []} mid.seat end.seat mid.sessions {room = mid.tickets.room} {room′ = mid.tickets.room} refl visit in
     let less = paid-after (view_of m) (view_of mid) t c.lose_fast.result released c.if-lose_fast.true visit in
     record {
-      lost = subst (λ (s : SessionView). HasDone t.place (Lose t.number ∷ []) (view_of m) s) now (done-before lost.done later less);
+      lost = subst (λ (s : SessionView). DidDeeds t.place (Lose t.number ∷ []) (view_of m) s) now (done-before lost.done later less);
       did = does_then (Lose t.number ∷ []) [] m.seat.me mid.seat.me end.seat.me lost.did (does_reschedule mid.seat.me end.seat.me mid.seat.table t.place [] visit.1);
       given_up = subst (λ (s : SessionView). GivesUpFast t.number (view_of m) s t) now
           (gives-up_after (view_of m) (view_of mid) t c.lose_fast.result released lost.done c.if-lose_fast.true visit c.pay.ensures.once);

@@ -8,10 +8,10 @@ use Rattle.mdl_steps.specs.Plays.{Mine}
 use Rattle.mdl_steps.specs.Seats.{IsPlace, IsRising}
 use Rattle.mdl_steps.specs.SeatStates.{SeatState}
 use Rattle.mdl_visits.specs.Grantings.{all_but}
-use Rattle.mdl_visits.specs.Polls.{state_of}
+use Rattle.mdl_visits.specs.Polls.{settled_state}
 use Rattle.mdl_shared.specs.Passes.{view_of}
-use Rattle.mdl_shared.specs.SessionViews.{Lists, SessionView, lists_seen, session_at, settled_of, tickets_of}
-use Rattle.mdl_shared.specs.Waitings.{are_below}
+use Rattle.mdl_shared.specs.SessionViews.{Lists, SessionView, all_tickets, lists_seen, session_at, settled_of}
+use Rattle.mdl_shared.specs.Waitings.{are_below_next}
 use Rattle.mdl_steps.specs.Cells.{own_at}
 use Rattle.mdl_shared.proofs.Debts.{owed-both, owed-on, owed-paid, rescheduled-owes}
 use Rattle.mdl_shared.proofs.EndCalls.{asked-below, asks-nothing, granted-so, idle-joins, lost-order, lost-so, won-order}
@@ -77,7 +77,7 @@ end_lost_wait-requires g c =
     record {
       at = record { is_place = subst (λ (x : SessionView). IsPlace x.table ask.place) (sym now) at.is_place; rising = subst (λ (x : SessionView). IsRising ask.place x.me) (sym now) at.rising };
       asks = ap (λ (x : SessionView). x.me.0.asks) now ∙ asks;
-      lost = (state_of one, told-end is ask asks c.number-session.result c.read_wait.result.0 c.number-session.ensures c.read_wait.ensures.own now one some, so.2);
+      lost = (settled_state one, told-end is ask asks c.number-session.result c.read_wait.result.0 c.number-session.ensures c.read_wait.ensures.own now one some, so.2);
       wait = (waits ∙ sym (ap (λ (x : SessionView). x.me.0.waits) now), omega (arith, is.fewer.1, waits));
     }
 
@@ -96,7 +96,7 @@ invariant_of-member-in-Some-lost_end g c =
     let pays = rescheduled-owes ends ∙ ap (λ (x : SessionView). all_but ask.place x.me.0.owes) now in
     let so = lost-so m.seat.me.0.number one c.in-Some-lost_end.ended (sym c.lost_end.ensures ∙ c.in-Some-lost_end.is) in
     let h = lost-end is ask asks c.number-session.result c.read_wait.result.0 c.number-session.ensures c.read_wait.ensures.own now one some (ends.1.made, ap (λ (x : Mine). x.0.log) ends.1.now, ends.1.did)
-    (c.end_lost_wait.ensures.met (state_of one) (told-end is ask asks c.number-session.result c.read_wait.result.0 c.number-session.ensures c.read_wait.ensures.own now one some)) so.1 ended ends.1.way c.end_lost_wait.ensures.once pays keeps in
+    (c.end_lost_wait.ensures.met (settled_state one) (told-end is ask asks c.number-session.result c.read_wait.result.0 c.number-session.ensures c.read_wait.ensures.own now one some)) so.1 ended ends.1.way c.end_lost_wait.ensures.once pays keeps in
     record {
       lawful = ∣ kept (End_wait _) is (lost-order is ask asks ended) h.0 ∣₁;
       lists = (λ i. record { slow = c.pay.ensures.same.0 i; fast = c.pay.ensures.same.1 i; known = m.known.known; next = m.next; asks = None; waits = m.waits })
@@ -120,7 +120,7 @@ returns-in-Some-lost_end g c =
     let pays = rescheduled-owes ends ∙ ap (λ (x : SessionView). all_but ask.place x.me.0.owes) now in
     let so = lost-so m.seat.me.0.number one c.in-Some-lost_end.ended (sym c.lost_end.ensures ∙ c.in-Some-lost_end.is) in
     let h = lost-end is ask asks c.number-session.result c.read_wait.result.0 c.number-session.ensures c.read_wait.ensures.own now one some (ends.1.made, ap (λ (x : Mine). x.0.log) ends.1.now, ends.1.did)
-    (c.end_lost_wait.ensures.met (state_of one) (told-end is ask asks c.number-session.result c.read_wait.result.0 c.number-session.ensures c.read_wait.ensures.own now one some)) so.1 ended ends.1.way c.end_lost_wait.ensures.once pays keeps in
+    (c.end_lost_wait.ensures.met (settled_state one) (told-end is ask asks c.number-session.result c.read_wait.result.0 c.number-session.ensures c.read_wait.ensures.own now one some)) so.1 ended ends.1.way c.end_lost_wait.ensures.once pays keeps in
     rw (← c.self.view_is, so.0) (record { joined = h.0; shown = h.1 })
 
 -- ---- it was granted
@@ -136,7 +136,7 @@ end_granted-requires g c =
     let some = sym (ap settled_of c.state.ensures) ∙ sym c.settled_in.ensures ∙ c.in-Some-settled_in.is in
     let waits = ap (λ (l : Lists). l.waits) m.lists in
     record {
-      told = told-end is ask asks c.number-session.result c.read_wait.result.0 c.number-session.ensures c.read_wait.ensures.own now one some ∙ ap (λ (how : Settled). Some (state_of how)) (granted-so one (sym c.lost_end.ensures ∙ c.in_default-lost_end.is));
+      told = told-end is ask asks c.number-session.result c.read_wait.result.0 c.number-session.ensures c.read_wait.ensures.own now one some ∙ ap (λ (how : Settled). Some (settled_state how)) (granted-so one (sym c.lost_end.ensures ∙ c.in_default-lost_end.is));
       wait = (waits ∙ sym (ap (λ (x : SessionView). x.me.0.waits) now), omega (arith, is.fewer.1, waits));
     }
 
@@ -146,7 +146,7 @@ push_reserved-requires g c =
     let ask = c.in-Some.ask in
     record {
       room = m.room ask c.in-Some.is;
-      below = ap (λ (l : Lists). are_below ask.number (tickets_of l)) m.lists ∙ asked-below (member m) ask (ap (λ (l : Lists). l.asks) (sym m.lists) ∙ c.in-Some.is);
+      below = ap (λ (l : Lists). are_below_next ask.number (all_tickets l)) m.lists ∙ asked-below (member m) ask (ap (λ (l : Lists). l.asks) (sym m.lists) ∙ c.in-Some.is);
       slow = ap (λ (l : Lists). own_at ask.place l.fast) m.lists ∙ ap (own_at ask.place) ((member m).unfast ask (ap (λ (l : Lists). l.asks) (sym m.lists) ∙ c.in-Some.is));
     }
 

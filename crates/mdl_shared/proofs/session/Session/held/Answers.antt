@@ -2,9 +2,9 @@
 use Rattle.std.proofs.Common.{map, refl, ap, ◌∙◌}
 use Rattle.mdl_calls.specs.declared.space_error.SpaceError.TheVariants.{OutOfMemory}
 use Rattle.mdl_calls.specs.Words.{Holds, List_held}
-use Rattle.mdl_shared.specs.OwnLists.{told_of}
+use Rattle.mdl_shared.specs.OwnLists.{as_held}
 use Rattle.mdl_shared.specs.Passes.{view_of}
-use Rattle.mdl_shared.specs.SessionViews.{Lists, tickets_of}
+use Rattle.mdl_shared.specs.SessionViews.{Lists, all_tickets}
 use Rattle.mdl_shared.proofs.MemberFacts.{speaks}
 use Rattle.mdl_shared.proofs.Props.{member}
 use Rattle.mdl_shared.proofs.SameSpace.{joins-still, refused, same-stays}
@@ -16,7 +16,7 @@ returns-in-Ok-clause-joined g c =
     let s = view_of m in
     rw (← c.self.view_is)
     (joins-still s s (List_held s.me.0.number) (Holds c.in-Ok.held.items) (same-stays s) (speaks (member m)) refl refl refl refl tt tt refl
-    (λ state how is. cc) (λ how is. cc) refl (λ r. r) (c.in-Ok.ensures ∙ ap (λ (l : Lists). map told_of (tickets_of l)) m.lists))
+    (λ state how is. cc) (λ how is. cc) refl (λ r. r) (c.in-Ok.ensures ∙ ap (λ (l : Lists). map as_held (all_tickets l)) m.lists))
 
 pub returns-in-Err-clause-joined : goal.returns-in-Err-clause-joined
 returns-in-Err-clause-joined g c =

@@ -3,7 +3,7 @@ use Rattle.std.proofs.Common.{◌≡◌, Some, None, refl, sym, ap, ◌∙◌}
 use Rattle.std.specs.Option.{option_copied}
 use Rattle.mdl_calls.specs.declared.space_error.SpaceError.TheVariants.{NoPlace, OutOfMemory}
 use Rattle.mdl_calls.specs.Words.{Key_is, Key_of}
-use Rattle.mdl_shared.specs.OwnLists.{key_known}
+use Rattle.mdl_shared.specs.OwnLists.{key_looked_up}
 use Rattle.mdl_shared.specs.Passes.{view_of}
 use Rattle.mdl_shared.specs.SessionViews.{Lists}
 use Rattle.mdl_shared.proofs.MemberFacts.{speaks}
@@ -17,8 +17,8 @@ pub returns-in_default-clause-joined : goal.returns-in_default-clause-joined
 returns-in_default-clause-joined g c =
     let m = c.self.inside.member in
     let s = view_of m in
-    let none : key_known c.args.place s.me.0.known ≡ None =
-    ap (λ (l : Lists). key_known c.args.place l.known) (sym m.lists) ∙ sym c.key_at.ensures ∙ ap option_copied c.in_default.is in
+    let none : key_looked_up c.args.place s.me.0.known ≡ None =
+    ap (λ (l : Lists). key_looked_up c.args.place l.known) (sym m.lists) ∙ sym c.key_at.ensures ∙ ap option_copied c.in_default.is in
     rw (← c.self.view_is)
     (refused s s (Key_of s.me.0.number c.args.place) NoPlace (same-stays s) (speaks (member m)) refl refl
     (λ key knows. let e = sym none ∙ sym (key-told c.args.place s.me.0.known) ∙ knows in cc) (λ state how is. cc) tt)
@@ -27,8 +27,8 @@ pub returns-clause-joined : goal.returns-clause-joined
 returns-clause-joined g c =
     let m = c.self.inside.member in
     let s = view_of m in
-    let known : key_known c.args.place s.me.0.known ≡ Some c.in-Some.key.now =
-    ap (λ (l : Lists). key_known c.args.place l.known) (sym m.lists) ∙ sym c.key_at.ensures ∙ ap option_copied c.in-Some.is in
+    let known : key_looked_up c.args.place s.me.0.known ≡ Some c.in-Some.key.now =
+    ap (λ (l : Lists). key_looked_up c.args.place l.known) (sym m.lists) ∙ sym c.key_at.ensures ∙ ap option_copied c.in-Some.is in
     rw (← c.self.view_is) (elim c.match-clone.branch [
       | in-Ok w ↦ rw w.result-is (
           joins-still s s (Key_of s.me.0.number c.args.place) (Key_is w.in-Ok.key) (same-stays s) (speaks (member m)) refl refl refl refl tt tt refl

@@ -4,7 +4,7 @@ use Rattle.mdl_key.specs.Words.{KeyName}
 use Rattle.mdl_calls.specs.declared.space_error.SpaceError.TheVariants.{OutOfMemory}
 use Rattle.mdl_calls.specs.Words.{Resolve}
 use Rattle.mdl_steps.specs.declared.view.Known.{Known}
-use Rattle.mdl_shared.specs.Members.{is_known_place, place_known}
+use Rattle.mdl_shared.specs.Members.{is_place_looked_up, place_looked_up}
 use Rattle.mdl_shared.specs.Passes.{view_of}
 use Rattle.mdl_shared.specs.SessionViews.{Lists, session_at}
 use Rattle.mdl_shared.proofs.Debts.{owed-on, owed-stepped}
@@ -52,7 +52,7 @@ returns-in-Err-clause-joined g c =
     let s = view_of m in
     let is = member m in
     let key = c.args.key.now in
-    let none : place_known key s.me.0.known ≡ None = rw (← c.self.view_is) at c.requires.unknown in
+    let none : place_looked_up key s.me.0.known ≡ None = rw (← c.self.view_is) at c.requires.unknown in
     let stays = done-nothing (stepped m.seat c.resolve.new.seat m.sessions {room′ = m.tickets.room} c.in-Err.ensures.answer.2.0 c.in-Err.ensures.refused) in
     rw (← c.self.view_is) (elim c.match-why.branch [
       | in-NoPlace w ↦ rw w.result-is (no_place-joins is key none stays)
@@ -66,12 +66,12 @@ push_reserved-requires-clause-unknown g c =
     let m = c.self.inside.member in
     let key = c.args.key.now in
     let place = c.in-Ok-resolve.place in
-    let none : place_known key m.seat.me.0.known ≡ None = rw (← c.self.view_is) at c.requires.unknown in
-    let own : place_known key m.known.known ≡ None = ap (λ (l : Lists). place_known key l.known) m.lists ∙ none in
+    let none : place_looked_up key m.seat.me.0.known ≡ None = rw (← c.self.view_is) at c.requires.unknown in
+    let own : place_looked_up key m.known.known ≡ None = ap (λ (l : Lists). place_looked_up key l.known) m.lists ∙ none in
     let same = c.reserve.ensures.same in
     let told = resolved m.seat c.resolve.new.seat m.sessions place {room = m.tickets.room} {room′ = m.tickets.room} key none c.in-Ok-resolve.ensures.known c.in-Ok-resolve.ensures.answer in (
-      ap (λ (k : KeyName). place_known k c.reserve.new.self.known) c.in-Ok.ensures.cases ∙ ap (place_known key) same ∙ own,
-      ap (λ (ks : List Known). is_known_place ks place) same ∙ ap (λ (l : Lists). is_known_place l.known place) m.lists ∙ told.2,
+      ap (λ (k : KeyName). place_looked_up k c.reserve.new.self.known) c.in-Ok.ensures.cases ∙ ap (place_looked_up key) same ∙ own,
+      ap (λ (ks : List Known). is_place_looked_up ks place) same ∙ ap (λ (l : Lists). is_place_looked_up l.known place) m.lists ∙ told.2,
     )
 
 pub invariant_of-member-2 : goal.invariant_of-member-2
@@ -80,7 +80,7 @@ invariant_of-member-2 g c =
     let is = member m in
     let key = c.args.key.now in
     let place = c.in-Ok-resolve.place in
-    let none : place_known key m.seat.me.0.known ≡ None = rw (← c.self.view_is) at c.requires.unknown in
+    let none : place_looked_up key m.seat.me.0.known ≡ None = rw (← c.self.view_is) at c.requires.unknown in
     let told = resolved m.seat c.resolve.new.seat m.sessions place key none c.in-Ok-resolve.ensures.known c.in-Ok-resolve.ensures.answer in
     record {
       lawful = ∣ kept (Resolve _ _) is (learnt-order told.0 is told.1) (resolve-joins is key none place told.2 told.0) ∣₁;
@@ -102,6 +102,6 @@ returns-clause-joined g c =
     let m = c.self.inside.member in
     let key = c.args.key.now in
     let place = c.in-Ok-resolve.place in
-    let none : place_known key m.seat.me.0.known ≡ None = rw (← c.self.view_is) at c.requires.unknown in
+    let none : place_looked_up key m.seat.me.0.known ≡ None = rw (← c.self.view_is) at c.requires.unknown in
     let told = resolved m.seat c.resolve.new.seat m.sessions place {room′ = m.tickets.room} key none c.in-Ok-resolve.ensures.known c.in-Ok-resolve.ensures.answer in
     rw (← c.self.view_is) (resolve-joins (member m) key none place told.2 told.0)

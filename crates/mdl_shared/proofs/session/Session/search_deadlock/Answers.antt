@@ -7,7 +7,7 @@ use Rattle.mdl_calls.specs.declared.space_error.SpaceError.TheVariants.{OutOfMem
 use Rattle.mdl_steps.specs.Deeds.{KnowsPlace}
 use Rattle.mdl_steps.specs.Plays.{Mine}
 use Rattle.mdl_steps.specs.SeatStates.{SeatState}
-use Rattle.mdl_visits.specs.Idle.{IsIdle}
+use Rattle.mdl_visits.specs.Idle.{HoldsNoLatch}
 use Rattle.mdl_visits.specs.Searches.{searches_after}
 use Rattle.mdl_visits.specs.Visits.{Does}
 use Rattle.mdl_shared.specs.Passes.{view_of}
@@ -66,7 +66,7 @@ search_deadlock-requires g c =
     let m = c.self.inside.member in
     let is = member m in
     let read = sym c.read_wait-word.ensures.made in
-    record { slots = subst (λ (x : SeatState). x.table.slots ≤ 65536) read is.narrow.1; idle = subst (λ (x : SeatState). IsIdle x.me) read is.idle }
+    record { slots = subst (λ (x : SeatState). x.table.slots ≤ 65536) read is.narrow.1; idle = subst (λ (x : SeatState). HoldsNoLatch x.me) read is.idle }
 
 pub invariant_of-self-inside-2 : goal.invariant_of-self-inside-2
 invariant_of-self-inside-2 g c =

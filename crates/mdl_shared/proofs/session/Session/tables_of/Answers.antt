@@ -5,9 +5,9 @@ use Rattle.atomic_table.specs.Seated.{TableId}
 use Rattle.mdl_calls.specs.Words.{Tables_of}
 use Rattle.mdl_steps.specs.declared.view.Known.{Known}
 use Rattle.mdl_steps.specs.Schemas.{is_known, unknown}
-use Rattle.mdl_visits.specs.Idle.{IsIdle}
+use Rattle.mdl_visits.specs.Idle.{HoldsNoLatch}
 use Rattle.mdl_visits.specs.Tables.{AreWithin, HasAsked}
-use Rattle.mdl_shared.specs.Members.{are_apart}
+use Rattle.mdl_shared.specs.Members.{are_keys_apart}
 use Rattle.mdl_shared.specs.Passes.{view_of}
 use Rattle.mdl_shared.specs.SessionViews.{Lists}
 use Rattle.mdl_shared.proofs.Debts.{owed-on, owed-stepped}
@@ -50,14 +50,14 @@ tables_defined-requires-clause-within g c =
     (subst (λ (ts : List Known). AreWithin m.seat.table.slots ts) (sym c.deref.ensures.value) did.within, narrow.1)
 
 pub tables_defined-requires-clause-idle : goal.tables_defined-requires-clause-idle
-tables_defined-requires-clause-idle g c = subst IsIdle (sym c.in-Ok.ensures.found.2.1.1) (member c.self.inside.member).idle
+tables_defined-requires-clause-idle g c = subst HoldsNoLatch (sym c.in-Ok.ensures.found.2.1.1) (member c.self.inside.member).idle
 
 pub learn-requires-clause-apart : goal.learn-requires-clause-apart
 learn-requires-clause-apart g c =
     let m = c.self.inside.member in
     let did = c.in-Ok.ensures in
     let tables = c.in-Ok.tables.items in
-    ap (λ (ks : List Known). are_apart (ks ++ unknown ks tables)) did.same ∙ ap (λ (l : Lists). are_apart (l.known ++ unknown l.known tables)) m.lists
+    ap (λ (ks : List Known). are_keys_apart (ks ++ unknown ks tables)) did.same ∙ ap (λ (l : Lists). are_keys_apart (l.known ++ unknown l.known tables)) m.lists
     ∙ all-apart m.seat c.find_tables.new.seat c.tables_defined.new.seat m.sessions c.args.schema.now did.found.0 tables (member m) did.found.1 did.found.2.0 did.found.2.1 c.tables_defined.ensures.steps
 
 pub invariant_of-member-2 : goal.invariant_of-member-2

@@ -2,7 +2,7 @@
 use Rattle.std.proofs.Common.{◌∙◌, sym, ap, arith}
 use Rattle.std.specs.Prelude.{map}
 use Rattle.std.proofs.lemmas.List.{take_all}
-use Rattle.mdl_shared.specs.OwnLists.{told_of}
+use Rattle.mdl_shared.specs.OwnLists.{as_held}
 use Rattle.mdl_shared.proofs.TicketEdits.{told}
 use Rattle.mdl_shared.proofs.TicketParts.{parted}
 use Rattle.mdl_shared.proofs.tickets.Tickets.held.Goals as goal
@@ -12,4 +12,4 @@ returns c =
     let ps = c.self.inside.places.items in
     let xs = c.self.inside.gained.items in
     let told_all = rw (take_all c.loop-ticket.ticket-index c.deref-ticket-items.result.now (omega arith), c.deref-ticket-items.ensures.value) at c.loop-ticket.invariant in
-    rw (← c.self.view_is) (told_all ∙ sym (told ps xs) ∙ ap (map told_of) (sym (parted ps xs c.self.invariant.rising)))
+    rw (← c.self.view_is) (told_all ∙ sym (told ps xs) ∙ ap (map as_held) (sym (parted ps xs c.self.invariant.rising)))

@@ -1,11 +1,11 @@
 -- Both together are the list.
 use Rattle.std.proofs.Common.{rules}
 use Rattle.std.proofs.lemmas.List.{length-map}
-use Rattle.mdl_shared.specs.OwnTickets.{own_of}
+use Rattle.mdl_shared.specs.OwnTickets.{with_note}
 use Rattle.mdl_shared.proofs.TicketParts.{parted}
 use Rattle.mdl_shared.proofs.tickets.Tickets.is_empty.Goals as goal
 
 pub returns : goal.returns
 returns c =
     let whole = parted c.self.inside.places.items c.self.inside.gained.items c.self.invariant.rising in
-    rw (← c.self.view_is) (rw (whole, length-map c.self.inside.gained.items (own_of c.self.inside.places.items)) (search rules))
+    rw (← c.self.view_is) (rw (whole, length-map c.self.inside.gained.items (with_note c.self.inside.places.items)) (search rules))

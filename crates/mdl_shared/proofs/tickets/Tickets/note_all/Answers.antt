@@ -1,7 +1,7 @@
 -- The notes of places are changed so.
 use Rattle.std.proofs.Common.{ℕ, ◌<◌}
 use Rattle.std.specs.Prelude.{count_by, not}
-use Rattle.mdl_shared.specs.OwnTickets.{is_there}
+use Rattle.mdl_shared.specs.OwnTickets.{is_at_place}
 use Rattle.mdl_shared.proofs.TicketEdits.{notes}
 use Rattle.mdl_shared.proofs.tickets.Tickets.note_all.Goals as goal
 
@@ -9,7 +9,7 @@ pub returns-clause-noted : goal.returns-clause-noted
 returns-clause-noted c =
     let ps = c.self.inside.places.items in
     let xs = c.self.inside.gained.items in
-    let noted = λ (q : ℕ) (some : 0 < count_by (is_there q) xs). c.note.ensures.noted q (rw (c.self.invariant.counted q) some) in
+    let noted = λ (q : ℕ) (some : 0 < count_by (is_at_place q) xs). c.note.ensures.noted q (rw (c.self.invariant.counted q) some) in
     rw (← c.self.view_is) (
       notes c.args.place c.args.version ps c.note.new.places.items (λ t. not t.fast) xs noted,
       notes c.args.place c.args.version ps c.note.new.places.items (λ t. t.fast) xs noted,

@@ -3,7 +3,7 @@ use Rattle.std.proofs.Common.{ℕ, ◌-◌, ◌<◌, Bool, length, sym, ◌∙�
 use Rattle.std.specs.Prelude.{not}
 use Rattle.std.proofs.lemmas.Bool.Decides.{nat_tests}
 use Rattle.mdl_shared.specs.declared.tickets.Gained.{Gained}
-use Rattle.mdl_shared.specs.OwnTickets.{is_fast_there, is_there}
+use Rattle.mdl_shared.specs.OwnTickets.{is_at_place, is_fast_there}
 use Rattle.mdl_shared.proofs.TicketEdits.{count_struck, kept_strike, kept_strike_fast, struck}
 use Rattle.mdl_shared.proofs.TicketSearch.{no_ticket}
 use Rattle.mdl_shared.proofs.tickets.Tickets.strike.Goals as goal
@@ -14,7 +14,7 @@ uncount_one-requires c =
     let xs = c.self.inside.gained.items in
     let at = length xs - 1 in
     let inside : at < length xs = (let some = last.0 in omega (arith, some)) in
-    record { some = grind (arith, nat_tests, count_struck (is_there c.args.place) xs at no_ticket inside, last.2 no_ticket, c.self.invariant.counted c.args.place) }
+    record { some = grind (arith, nat_tests, count_struck (is_at_place c.args.place) xs at no_ticket inside, last.2 no_ticket, c.self.invariant.counted c.args.place) }
 
 pub uncount_fast-requires : goal.uncount_fast-requires
 uncount_fast-requires c =

@@ -6,7 +6,7 @@ use Rattle.std.specs.Option.{option_map}
 use Rattle.mdl_book.specs.Books as book
 use Rattle.mdl_book.specs.Tickets.{ticket_id}
 use Rattle.mdl_calls.specs.declared.answers.Settled.TheVariants as settled_as
-use Rattle.mdl_core.specs.Words.{settling, Core, has_session, book_at, seat_at, booking, seating, is_unsettled, next_ready, admitting_if}
+use Rattle.mdl_core.specs.Words.{with_settled_wait, Core, has_session, book_at, seat_at, booking, seating, has_unsettled_wait, next_ready, admitting_if}
 use Rattle.mdl_space.proofs.ServingLemmas.{nobody, next-waits, next-has_session, next-is_some, next-admitted, is_ok_found, set-granted, session-bounds, book_here, seat_here, written}
 use Rattle.mdl_space.proofs.core_space.CoreSpace.serve_next.Goals as goal
 use Rattle.mdl_space.proofs.core_space.CoreSpace.serve_next.Goals.{After-remove, After-from-2}
@@ -50,7 +50,7 @@ after c = record {
 
 after_is : (c : After-remove) → after c
     ≡ booking c.args.place (book.admitting c.in-Some.who c.in-Some.number (book_at c.args.place c.args.self.now))
-    (seating c.in-Some.who (settling settled_as.Granted (seat_at c.in-Some.who c.args.self.now)) c.args.self.now)
+    (seating c.in-Some.who (with_settled_wait settled_as.Granted (seat_at c.in-Some.who c.args.self.now)) c.args.self.now)
 unfolding after
 after_is c =
     let core : Core = c.args.self.now in
@@ -61,7 +61,7 @@ after_is c =
     seat_here core _ c.in-Some.who c.from-2.result c.index_mut.result.now (ap (λ (k : Core). k.seats) c.self.view_is) has c.from-2.ensures c.index_mut.ensures.value in
     written core _ c.args.place c.in-Some.who c.from.result c.from-2.result c.admit.new.self _ c.settle.new.self _ c.self.view_is c.from.ensures
     (c.admit.ensures.admitted ∙ ap (book.admitting c.in-Some.who c.in-Some.number) lists) c.from-2.ensures
-    (c.settle.ensures ∙ ap (settling settled_as.Granted) seat)
+    (c.settle.ensures ∙ ap (with_settled_wait settled_as.Granted) seat)
 
 pub returns-clause-served : goal.returns-clause-served
 unfolding after
@@ -75,4 +75,4 @@ returns-clause-unsettled c =
     λ who. ap (λ sessions. set.contains sessions who) c.remove.ensures
     ∙ set-granted c.args.unsettled.now c.args.self.now c.args.place c.in-Some.who
     (book.admitting c.in-Some.who c.in-Some.number (book_at c.args.place c.args.self.now)) has c.requires.unsettled who
-    ∙ ap (is_unsettled who) (sym (after_is c))
+    ∙ ap (has_unsettled_wait who) (sym (after_is c))

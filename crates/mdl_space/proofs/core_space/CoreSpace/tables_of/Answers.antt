@@ -2,7 +2,7 @@
 use Rattle.std.proofs.Common.{◌≡◌, ◌+◌, ◌-◌, ◌∙◌, ℕ, suc, true, All, List, length, filter, sym, ap, subst, arith, rules}
 use Rattle.std.specs.List.{range_with_len}
 use Rattle.mdl_core.proofs.CoreReads.{of_within}
-use Rattle.mdl_core.specs.Words.{Core, has_defined_table, has_key, in_key_order}
+use Rattle.mdl_core.specs.Words.{Core, has_defined_table, has_key, places_in_key_order}
 use Rattle.mdl_space.proofs.TableLemmas.{listed-keys, one-more_listed}
 use Rattle.mdl_space.proofs.core_space.CoreSpace.tables_of.Goals as goal
 
@@ -12,7 +12,7 @@ loop-index-preserved c =
     let schema : List ℕ = c.args.schema.now in
     let index : ℕ = c.loop-index.index in
     let left : ℕ = length core.books - index in
-    let listed : ℕ → ℕ → List ℕ = λ place n. in_key_order core (filter (has_defined_table schema core) (range_with_len place n)) in
+    let listed : ℕ → ℕ → List ℕ = λ place n. places_in_key_order core (filter (has_defined_table schema core) (range_with_len place n)) in
     let counted : c.len-index.result ≡ length core.books = search rules in
     let inside = c.loop-index.auto.index in
     let again : index - 1 + 1 ≡ index = omega (arith, c.loop-index-test.true) in

@@ -1,10 +1,10 @@
 -- The space attends to the session, which has nothing.
 use Rattle.std.proofs.Common.{ap, arith}
-use Rattle.mdl_core.specs.Words.{own_at}
+use Rattle.mdl_core.specs.Words.{locks_at}
 use Rattle.mdl_space_trials.proofs.contexts.HallLemmas.{fresh}
 use Rattle.mdl_space_trials.proofs.examples.context.a_session_goes_back_to_a_savepoint.Goals as goal
 
 pub acquire-acquired-requires : goal.acquire-acquired-requires
 acquire-acquired-requires g c =
     let made = c.in_ok-space.ensures in
-    (fresh c.in_ok-space.space 1 _ c.new-context.ensures (made.speaks 1 (omega arith) (omega arith)) (ap (λ s. own_at s 1) made.made)).1
+    (fresh c.in_ok-space.space 1 _ c.new-context.ensures (made.speaks 1 (omega arith) (omega arith)) (ap (λ s. locks_at s 1) made.made)).1

@@ -6,7 +6,7 @@ use Rattle.mdl_defs.specs.declared.standing.Standing.{Standing}
 use Rattle.mdl_defs.specs.Changes.{change_fault}
 use Rattle.mdl_rows.specs.declared.error_number.ErrorNumber.TheVariants.{VersionLimit}
 use Rattle.mdl_rows.specs.Rows.{check, ◌>>=◌, ◌>>◌}
-use Rattle.mdl_rows.specs.Statements.{has_version_left, unless_fault}
+use Rattle.mdl_rows.specs.Statements.{check_fault, has_version_left}
 use Rattle.mdl_stmt.proofs.AlterLemmas.{checks, passed-change, refused-change}
 use Rattle.mdl_stmt.proofs.CallLemmas.{comes-row, room-found}
 use Rattle.mdl_stmt.proofs.RunLemmas.{comes-then}
@@ -27,7 +27,7 @@ returns-then-standing-ge-MOST_VERSIONS-clause-run g c = λ rest.
     let full : nat_lt c.in-Ok.standing.version 1000000 ≡ false = grind (arith, nat_tests) in
     let last = has_version_left c.in-Ok.standing in
     rw c.failing.ensures (comes-then ((rw c.in-Ok.is at c.read.ensures.run) (λ (s : Standing). checks (change_fault s.definition c.args.change.now) (has_version_left s) rest))
-    (comes-then (room-found ((unless_fault fault >> check last VersionLimit) >>= rest))
+    (comes-then (room-found ((check_fault fault >> check last VersionLimit) >>= rest))
     (comes-row _ (check false VersionLimit >>= rest) (passed-change fault last false rest (rw c.in_default.is at c.can_become.ensures) full))))
 
 pub returns-clause-run : goal.returns-clause-run
@@ -36,5 +36,5 @@ returns-clause-run g c = λ rest.
     let left : nat_lt c.in-Ok.standing.version 1000000 ≡ true = grind (arith, nat_tests) in
     let last = has_version_left c.in-Ok.standing in
     comes-then ((rw c.in-Ok.is at c.read.ensures.run) (λ (s : Standing). checks (change_fault s.definition c.args.change.now) (has_version_left s) rest))
-    (comes-then (room-found ((unless_fault fault >> check last VersionLimit) >>= rest))
+    (comes-then (room-found ((check_fault fault >> check last VersionLimit) >>= rest))
     (comes-row _ (check true VersionLimit >>= rest) (passed-change fault last true rest (rw c.in_default.is at c.can_become.ensures) left)))

@@ -6,12 +6,12 @@ use Rattle.mdl_stmt.specs.Attendance.{GoesOn}
 use Rattle.mdl_stmt.specs.Gets.{Comes}
 use Rattle.mdl_rows.specs.Playing.{play}
 use Rattle.mdl_rows.specs.Rows.{Row, ◌>>=◌}
-use Rattle.mdl_rows.specs.Statements.{keys_of}
+use Rattle.mdl_rows.specs.Statements.{keys_of_places}
 use Rattle.mdl_stmt.proofs.player.Player.keys_of.Given as goal
 
 abbrev pub invariant-loop-place : goal.invariant-loop-place
 invariant-loop-place g l = record {
   idle : l.self.context.wait ≡ None;
   goes_on : GoesOn g.S.LockSpace l.fn.space l.fn.self l.space l.self;
-  run : (rest : List KeyName → Row Reply) → Comes g.S.LockSpace l.fn.space l.fn.self (play (keys_of [] l.places >>= rest)) l.space l.self (play (keys_of l.keys.items (drop l.place-index l.places) >>= rest));
+  run : (rest : List KeyName → Row Reply) → Comes g.S.LockSpace l.fn.space l.fn.self (play (keys_of_places [] l.places >>= rest)) l.space l.self (play (keys_of_places l.keys.items (drop l.place-index l.places) >>= rest));
 }

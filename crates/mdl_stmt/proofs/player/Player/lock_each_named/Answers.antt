@@ -4,7 +4,7 @@ use Rattle.mdl_key.specs.Keys.{KeyName}
 use Rattle.mdl_stmt.specs.declared.got.Played.TheVariants as played
 use Rattle.mdl_rows.specs.declared.reply.Reply.{Reply}
 use Rattle.mdl_stmt.specs.Gets.{IsPlayed, Waits}
-use Rattle.mdl_stmt.specs.LockLists.{with_ticket}
+use Rattle.mdl_stmt.specs.LockLists.{with_next_ticket}
 use Rattle.mdl_rows.specs.Playing.{play}
 use Rattle.mdl_rows.specs.Rows.{Row}
 use Rattle.mdl_stmt.specs.Stages.{lock_rest_by}
@@ -22,5 +22,5 @@ pub returns-in-Waits-clause-run : goal.returns-in-Waits-clause-run
 returns-in-Waits-clause-run g c =
     let rest : List KeyName → List ℕ → Row Reply = λ keys. keep_locked c.args.tables.now keys c.args.scopes.items in
     subst (λ (keys : List KeyName). Waits g.S.LockSpace c.args.space.now c.args.self.now (play (lock_rest_by (table_lock c.args.tables.now) c.args.locks (rest c.args.locks.keys))) c.in-Waits.key c.in-Waits.mode
-    (λ ticket. lock_rest_by (table_lock c.args.tables.now) (with_ticket ticket c.in-Waits.locks) (rest keys)) c.lock_each.new.space c.lock_each.new.self)
+    (λ ticket. lock_rest_by (table_lock c.args.tables.now) (with_next_ticket ticket c.in-Waits.locks) (rest keys)) c.lock_each.new.space c.lock_each.new.self)
     (sym (rw c.in-Waits.is at c.lock_each.ensures.keys)) ((rw c.in-Waits.is at c.lock_each.ensures.run) (rest c.args.locks.keys))

@@ -1,7 +1,7 @@
 -- The ticket is taken out of the list, and flags that told the lists tell them still.
 use Rattle.std.proofs.Common.{ap, false, refl, subst, sym, true, ℕ, ◌∙◌}
 use Rattle.mdl_steps.specs.SeatStates.{AtItsTable, SeatState}
-use Rattle.mdl_visits.specs.WaitEndings.{EndsLost, without_wait}
+use Rattle.mdl_visits.specs.WaitEndings.{EndsLost, mine_without_wait}
 use Rattle.mdl_visits.proofs.Arriving.{went_on}
 use Rattle.mdl_visits.proofs.Seats.{mine, place_there, table_of}
 use Rattle.mdl_visits.proofs.Steps.{goes_by, step_before}
@@ -53,7 +53,7 @@ returns g c =
     let v = c.end_lost.new.self in
     let last = c.lower_flags_and_reschedule.ensures.step in
     record {
-      ended = subst (λ (p : ℕ). AtItsTable s n (EndsLost s.table p)) a.at (c.lower_flags_and_reschedule.ensures.rescheduled (record s { me = without_wait s.me }) there);
+      ended = subst (λ (p : ℕ). AtItsTable s n (EndsLost s.table p)) a.at (c.lower_flags_and_reschedule.ensures.rescheduled (record s { me = mine_without_wait s.me }) there);
       once =
           let came : SeatState = c.await_latch-latch.new.seat in
           let on = within_written false came.me w.me c.await_latch-latch.result.place _ (mine is) in

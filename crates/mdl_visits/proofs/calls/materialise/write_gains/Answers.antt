@@ -9,7 +9,7 @@ use Rattle.mdl_steps.specs.declared.view.Own.{Own}
 use Rattle.mdl_steps.specs.Cells.{ticket_by}
 use Rattle.mdl_steps.specs.SeatStates.{SeatState}
 use Rattle.mdl_visits.specs.Materialisings.{granting_own, with_book}
-use Rattle.mdl_visits.specs.Visits.{HasInHand}
+use Rattle.mdl_visits.specs.Visits.{HasBookInHand}
 use Rattle.mdl_visits.proofs.OwnGrants.{first_stand, granting_more, no_own, no_room_then, none_written}
 use Rattle.mdl_visits.proofs.calls.materialise.write_gains.Goals as goal
 
@@ -19,7 +19,7 @@ write_gain-requires c =
     let place = c.args.latch.now.place in
     let can = c.requires.can in
     let so_far : BookView = granting_own s.me.0.number (take c.loop-at.at c.args.tickets.now) can.0 in
-    record { carried = (so_far, subst (HasInHand place so_far) (sym (c.loop-at.invariant can.0 can.1)) refl) }
+    record { carried = (so_far, subst (HasBookInHand place so_far) (sym (c.loop-at.invariant can.0 can.1)) refl) }
 
 pub write_losses-requires : goal.write_losses-requires
 write_losses-requires c =
@@ -37,7 +37,7 @@ returns-in-Err-clause-refused c = λ book can.
     let t : Own = get_or tickets i no_own in
     let so_far : BookView = granting_own who (take i tickets) book in
     let was = c.loop-at.invariant book can in
-    let refuses = c.in-Err.ensures.refused so_far (subst (HasInHand place so_far) (sym was) refl) in
+    let refuses = c.in-Err.ensures.refused so_far (subst (HasBookInHand place so_far) (sym was) refl) in
     let is = c.in-Err.ensures.unchanged ∙ was in (
       c.write_losses.ensures.written book (first_stand place tickets i book s c.write_gain.new.self can is)
           ∙ ap (λ (x : SeatState). with_book place book x) is
@@ -56,6 +56,6 @@ loop-at-preserved c = λ book can.
     let t : Own = get_or tickets i no_own in
     let so_far : BookView = granting_own who (take i tickets) book in
     let was = c.loop-at.invariant book can in
-    c.in_default.ensures.written so_far (subst (HasInHand place so_far) (sym was) refl)
+    c.in_default.ensures.written so_far (subst (HasBookInHand place so_far) (sym was) refl)
     ∙ ap (λ (x : SeatState). with_book place (granting (ticket_by x.me.0.number t) so_far) x) was
     ∙ ap (λ (b : BookView). with_book place b s) (granting_more who tickets i no_own book c.loop-at-test.true)

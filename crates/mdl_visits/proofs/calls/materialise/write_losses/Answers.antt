@@ -8,7 +8,7 @@ use Rattle.mdl_book.specs.Tickets.{ticket_of}
 use Rattle.mdl_steps.specs.declared.view.Own.{Own}
 use Rattle.mdl_steps.specs.SeatStates.{SeatState}
 use Rattle.mdl_visits.specs.Materialisings.{granting_own, with_book}
-use Rattle.mdl_visits.specs.Visits.{HasInHand}
+use Rattle.mdl_visits.specs.Visits.{HasBookInHand}
 use Rattle.mdl_visits.proofs.Losing.{taken_out}
 use Rattle.mdl_visits.proofs.OwnGrants.{next_found, next_out, no_own}
 use Rattle.mdl_visits.proofs.calls.materialise.write_losses.Goals as goal
@@ -24,7 +24,7 @@ loop-ticket-preserved c = λ book stand.
     let left : BookView = granting_own who (drop i tickets) book in
     let inside = c.loop-ticket-test.true in
     let was : c.loop-ticket.seat ≡ with_book place left s = c.loop-ticket.invariant book stand in
-    let carried = subst (HasInHand place left) (sym was) refl in
+    let carried = subst (HasBookInHand place left) (sym was) refl in
     let there = subst (λ (x : SeatState). is_some (ticket_of x.me.0.number t.number left.granted) ≡ true) (sym was)
     (ap is_some (next_found who tickets i no_own book inside stand.ungranted)) in
     let gone = c.write_loss-gone in

@@ -4,7 +4,7 @@ use Rattle.mdl_steps.specs.Plays.{Mine, served}
 use Rattle.atomic_table.specs.Seated.{TableId}
 use Rattle.mdl_steps.specs.SeatStates.{SeatState}
 use Rattle.mdl_steps.specs.Servings.{MayServe}
-use Rattle.mdl_visits.specs.Grantings.{ForgetsNobody, IsOrderly, Reschedules}
+use Rattle.mdl_visits.specs.Grantings.{ForgetsNobody, GrantsWaits, IsOrderlyLatch}
 use Rattle.mdl_visits.specs.Visits.{HasLatched}
 use Rattle.mdl_visits.proofs.Seats.{mine, place_there, table_of}
 use Rattle.mdl_visits.proofs.Rescheduling.{leaves_none, leaves_rescheduled, nobody_waits}
@@ -16,7 +16,7 @@ use Rattle.mdl_visits.proofs.calls.reschedule.reschedule_and_put.Goals.{then-has
 pub grant_waiters-requires : goal.grant_waiters-requires
 grant_waiters-requires c =
     let here = c.requires.here in
-    record { here = subst (λ (x : SeatState). HasLatched c.args.latch.place x IsOrderly) (sym c.has_waiters.ensures.same) here }
+    record { here = subst (λ (x : SeatState). HasLatched c.args.latch.place x IsOrderlyLatch) (sym c.has_waiters.ensures.same) here }
 
 pub put_latch_served-requires : goal.put_latch_served-requires
 put_latch_served-requires c =
@@ -72,7 +72,7 @@ returns c =
             let way = w.grant_waiters.ensures.granted in
             let forgets = subst (λ (x : SeatState). ForgetsNobody x.table place none.latch x.me b) same none.is_so.1 in (
               table_of put ∙ table_of w.seat-is ∙ way.0 ∙ table_of same,
-              leaves_rescheduled id place none.latch m b out (subst (λ (x : SeatState). Reschedules x.table place x.me x.me b) same way.1) none.holds forgets
+              leaves_rescheduled id place none.latch m b out (subst (λ (x : SeatState). GrantsWaits x.table place x.me x.me b) same way.1) none.holds forgets
                   (mine put ∙ ap (λ (x : SeatState). served place x.me) w.seat-is),
             )
         | else-has_waiters w ↦ (
@@ -84,7 +84,7 @@ returns c =
       once = elim c.if-has_waiters.branch [
         | then-has_waiters w ↦
             let b : Mine = w.grant_waiters.new.seat.me in
-            let way = subst (λ (x : SeatState). Reschedules x.table place x.me x.me b) same w.grant_waiters.ensures.granted.1 in
+            let way = subst (λ (x : SeatState). GrantsWaits x.table place x.me x.me b) same w.grant_waiters.ensures.granted.1 in
             visit_after false m b out (within_of id place m m b way) place
             (visit_served false b out place (mine put ∙ ap (λ (x : SeatState). served place x.me) w.seat-is))
         | else-has_waiters w ↦ visit_served false m out place (mine put ∙ ap (λ (x : SeatState). served place x.me) (w.seat-is ∙ same))

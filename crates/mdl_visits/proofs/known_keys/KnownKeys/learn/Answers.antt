@@ -4,7 +4,7 @@ use Rattle.std.specs.Vec.Iter.{into_iter_items}
 use Rattle.std.proofs.lemmas.List.Elements.{All-filter, All-tail}
 use Rattle.mdl_steps.specs.declared.view.Known.{Known}
 use Rattle.mdl_steps.specs.Schemas.{unknown}
-use Rattle.mdl_visits.specs.KnownLists.{are_apart}
+use Rattle.mdl_visits.specs.KnownLists.{are_keys_apart}
 use Rattle.mdl_visits.specs.Tables.{AreWithin}
 use Rattle.mdl_visits.proofs.KeyLists.{next_new}
 use Rattle.mdl_visits.proofs.known_keys.KnownKeys.learn.Goals as goal
@@ -29,7 +29,7 @@ push_reserved-requires-clause-unknown c =
     let at = c.loop-table in
     let k = c.in-Some.table in
     let steps : into_iter_items at.table-iterator ≡ k ∷ into_iter_items c.next.new.self = c.in-Some.ensures.steps.0 in
-    next_new at.self.known k (into_iter_items c.next.new.self) (ap are_apart (ap (λ (ks : List Known). at.self.known ++ ks) (sym steps) ∙ at.invariant.0) ∙ c.requires.apart)
+    next_new at.self.known k (into_iter_items c.next.new.self) (ap are_keys_apart (ap (λ (ks : List Known). at.self.known ++ ks) (sym steps) ∙ at.invariant.0) ∙ c.requires.apart)
 
 pub loop-table-preserved : goal.loop-table-preserved
 loop-table-preserved c =

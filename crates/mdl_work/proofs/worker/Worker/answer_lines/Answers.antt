@@ -8,7 +8,7 @@ use Rattle.mdl_syntax.specs.declared.script.Line.{Line}
 use Rattle.mdl_rows.specs.Endings.{Ends, Faults}
 use Rattle.mdl_stmt.specs.Attendance.{cached}
 use Rattle.mdl_stmt.specs.Stages.{session_of}
-use Rattle.mdl_work.specs.Works.{lines_of, making}
+use Rattle.mdl_work.specs.Works.{lines_of_session, making}
 use Rattle.mdl_work.proofs.WorkLemmas.{follows-all, follows-answered, follows-starved, follows-unkept, next-other, next-own, numbers-on}
 use Rattle.mdl_work.proofs.worker.Worker.answer_lines.Goals as goal
 use Rattle.mdl_work.proofs.worker.Worker.answer_lines.Goals.{then-line-self+in_ok-reply+in_ok-push, else-line-self}
@@ -86,6 +86,6 @@ returns-clause-run g c =
     let self = c.args.self.now in
     let lines = c.args.lines.now in
     let over : c.loop-line.line-index ≡ length lines = omega (arith, c.loop-line-test.false) in
-    let none = ap (λ (i : ℕ). lines_of self.who (drop i lines)) over ∙ ap (λ (left : List Line). lines_of self.who left) (drop-length lines) in
-    follows-all (cached g.S.LockSpace) self.patience (lines_of self.who (drop c.loop-line.line-index lines)) (session_of c.loop-line.self.runner) c.loop-line.answers.items _ _ _
+    let none = ap (λ (i : ℕ). lines_of_session self.who (drop i lines)) over ∙ ap (λ (left : List Line). lines_of_session self.who left) (drop-length lines) in
+    follows-all (cached g.S.LockSpace) self.patience (lines_of_session self.who (drop c.loop-line.line-index lines)) (session_of c.loop-line.self.runner) c.loop-line.answers.items _ _ _
     none c.loop-line.invariant.run

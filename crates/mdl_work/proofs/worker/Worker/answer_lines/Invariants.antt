@@ -6,15 +6,15 @@ use Rattle.mdl_context.specs.Contexts.{LeavesOthers}
 use Rattle.mdl_syntax.specs.declared.script.Line.{Line}
 use Rattle.mdl_stmt.specs.Attendance.{AttendsWith, cached}
 use Rattle.mdl_stmt.specs.Stages.{session_of}
-use Rattle.mdl_work.specs.Works.{Worked, lines_of, working}
+use Rattle.mdl_work.specs.Works.{Worked, lines_of_session, working}
 use Rattle.mdl_work.proofs.WorkLemmas.{ahead}
 use Rattle.mdl_work.proofs.worker.Worker.answer_lines.Given as goal
 
 abbrev pub invariant-loop-line : goal.invariant-loop-line
 invariant-loop-line g l =
     let session = l.fn.self.who in
-    let rest = lines_of session (drop l.line-index l.lines) in
-    let whole = lines_of session l.lines in
+    let rest = lines_of_session session (drop l.line-index l.lines) in
+    let whole = lines_of_session session l.lines in
     record {
       attends : AttendsWith g.S.LockSpace l.space l.self.runner.context l.self.runner.cache;
       others : LeavesOthers g.S.LockSpace session l.fn.space l.space;

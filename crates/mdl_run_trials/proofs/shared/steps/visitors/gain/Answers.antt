@@ -8,7 +8,7 @@ use Rattle.mdl_steps.specs.declared.view.Own.{Own}
 use Rattle.mdl_steps.specs.FastPlays.{fast_own}
 use Rattle.mdl_steps.specs.Plays.{Mine}
 use Rattle.mdl_steps.specs.Seats.{IsPlace}
-use Rattle.mdl_visits.specs.Idle.{IsIdle}
+use Rattle.mdl_visits.specs.Idle.{HoldsNoLatch}
 use Rattle.mdl_shared.specs.Members.{kind_known}
 use Rattle.mdl_shared.proofs.Membership.{kind_there}
 use Rattle.mdl_run_trials.specs.shared.steps.Fast.{fast_from}
@@ -42,7 +42,7 @@ returns-in-Granted c =
         record {
           placed = subst (λ (id : TableId). IsPlace id place) (sym was.0.0) alone.placed;
           known = ap (λ (x : Mine). kind_known place x.0.known) now ∙ alone.known;
-          idle = subst (λ (x : Mine). IsIdle x) (sym now) alone.idle;
+          idle = subst (λ (x : Mine). HoldsNoLatch x) (sym now) alone.idle;
           asks = ap (λ (x : Mine). x.0.asks) now ∙ alone.asks;
           slow = ap (λ (x : Mine). x.0.slow) now ∙ alone.slow;
           fast = ap (λ (x : Mine). x.0.fast) now ∙ ap (λ (ts : List Own). ts ++ fast_own c.args.seat.now.me.0.next place c.args.mode None ∷ []) alone.fast

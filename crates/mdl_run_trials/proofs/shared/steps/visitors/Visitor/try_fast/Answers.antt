@@ -6,7 +6,7 @@ use Rattle.mdl_key.specs.declared.namespace.Kind.{Kind}
 use Rattle.mdl_word.specs.Words.{increment_of}
 use Rattle.mdl_steps.specs.Plays.{Mine}
 use Rattle.mdl_steps.specs.Seats.{IsPlace}
-use Rattle.mdl_visits.specs.Idle.{IsIdle}
+use Rattle.mdl_visits.specs.Idle.{HoldsNoLatch}
 use Rattle.mdl_shared.specs.Members.{kind_known}
 use Rattle.mdl_shared.proofs.Membership.{kind_there}
 use Rattle.mdl_run_trials.proofs.shared.steps.visitors.Visitor.try_fast.Goals as goal
@@ -35,7 +35,7 @@ invariant_of-self-in-Obtruded-1 c =
     record {
       placed = subst (λ (id : TableId). IsPlace id place) (sym found.0) self.placed;
       known = ap (λ (x : Mine). kind_known place x.0.known) now ∙ self.known;
-      idle = subst (λ (x : Mine). IsIdle x) (sym now) self.idle;
+      idle = subst (λ (x : Mine). HoldsNoLatch x) (sym now) self.idle;
       next_is = self.next_is ∙ sym (ap (λ (x : Mine). x.0.next) now);
       waits_is = self.waits_is ∙ sym (ap (λ (x : Mine). x.0.waits) now);
       asks_is = self.asks_is ∙ sym (ap (λ (x : Mine). x.0.asks) now);
@@ -52,7 +52,7 @@ invariant_of-self-in-Contended-1 c =
     record {
       placed = subst (λ (id : TableId). IsPlace id place) (sym found.0) self.placed;
       known = ap (λ (x : Mine). kind_known place x.0.known) now ∙ self.known;
-      idle = subst (λ (x : Mine). IsIdle x) (sym now) self.idle;
+      idle = subst (λ (x : Mine). HoldsNoLatch x) (sym now) self.idle;
       next_is = self.next_is ∙ sym (ap (λ (x : Mine). x.0.next) now);
       waits_is = self.waits_is ∙ sym (ap (λ (x : Mine). x.0.waits) now);
       asks_is = self.asks_is ∙ sym (ap (λ (x : Mine). x.0.asks) now);
