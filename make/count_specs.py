@@ -11,7 +11,8 @@ parameter or a `λ` binds is no definition's there, nor is the label of a field.
 * Files to read for a call: the files of definitions that have an equation for it, or are its own (`specs/calls/NAME`). An equation that only names what is
   in such files of its own doesn't count: that is a table.
 * Promises of nothing: equations `.. = Unit {0}` for all the rest, in functions by call, and in functions by answer in the files of `specs/calls`.
-* Shared names: of the names of definitions in specs, of all crates, those that definitions in two or more files have.
+* Shared names: of the names of definitions in specs, of all crates, those that definitions in two or more files have. The files of all folders
+  `specs/calls` count as one: there a call, and an aspect of it such as its answers, has the same name in each layer.
 * Clauses: the lines of `requires` and `ensures`, by functions, and the share of those clauses that the same crate has before, word by word.
 
 Usage, at the top of the repository:
@@ -37,7 +38,7 @@ BARS = {
     "functions by call": 2,
     "files to read for a call, the most": 2,
     "promises of nothing": 0,
-    "shared names, % of all": 9.5,
+    "shared names, % of all": 6,
     "clause lines a function, mdl_shared": 2.7,
     "clause lines a function, mdl_visits": 3.5,
     "repeated clauses, mdl_shared, %": 21,
@@ -550,11 +551,11 @@ class Figures:
 
     @functools.cached_property
     def shared_names(self):
-        """The definitions by names that definitions of two or more files have."""
+        """The definitions by names that definitions of two or more files have, of which those of single calls count as one."""
         by_name = collections.defaultdict(set)
         for definition in self.library.items:
             by_name[definition.name].add(definition)
-        return {name: found for name, found in by_name.items() if len(found) > 1}
+        return {name: found for name, found in by_name.items() if len({not is_of_one_call(d) and (d.crate, d.file) for d in found}) > 1}
 
     def clauses(self, crate):
         """Returns the lines of a crate's clauses by its functions, and the share, in hundredths, of clauses that the crate has before."""

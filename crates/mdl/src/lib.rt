@@ -12,7 +12,7 @@
 //!
 //! ```
 //! ghost use Rattle.std.specs.Prelude.{◌≡◌, [], None};
-//! ghost use Rattle.mdl.specs.mdl_shared.Passes.{pass_table, manager_table};
+//! ghost use Rattle.mdl.specs.mdl_shared.Passes.{manager_table, pass_table};
 //! ghost use Rattle.mdl.specs.mdl_shared.SessionViews.{data_of};
 //!
 //! use crate::requests::Request;

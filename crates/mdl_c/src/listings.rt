@@ -3,7 +3,7 @@ ghost use Rattle.std.specs.Prelude.{◌≡◌, length};
 ghost use Rattle.mdl_key.specs.Keys.{namespace_rank};
 ghost use Rattle.mdl_calls.specs.Words.{List_held};
 ghost use Rattle.mdl_c_calls.specs.Exports.{ServesCall};
-ghost use Rattle.mdl_c_calls.specs.Listings.{HeldTold, IsKept, IsListWritten, ShowsLock, ShowsManager, TellsSettled, lock_rows};
+ghost use Rattle.mdl_c_calls.specs.Listings.{HeldTold, IsKept, IsListWritten, ShowsLock, ShowsSpace, TellsSettled, lock_rows};
 
 use mdl_c_calls::{HeldRow, LockRow, MdlSpace};
 use std::alloc::Global;
@@ -11,7 +11,7 @@ use std::alloc::Global;
 /// Writes which sessions have waits that are settled and not ended, one bit each. The lowest bit is that of session 1.
 #[unsafe(no_mangle)]
 pub extern "C" fn mdl_settled(alloc: Global, space: &mut MdlSpace, sessions: &mut u64) -> u32
-    ensures { ShowsManager space.old.handle.manager result space.new.handle.manager (sessions.new ≡ sessions.old) (λ m. (result ≡ 0) × TellsSettled m sessions.new) }
+    ensures { ShowsSpace space.old.handle.manager result space.new.handle.manager (sessions.new ≡ sessions.old) (λ m. (result ≡ 0) × TellsSettled m sessions.new) }
 {
     mdl_c_calls::mdl_settled(alloc, space, sessions)
 }
@@ -33,7 +33,7 @@ pub extern "C" fn mdl_held(
 /// Writes how many places have keys. They are those from 1 to this number.
 #[unsafe(no_mangle)]
 pub extern "C" fn mdl_places(alloc: Global, space: &mut MdlSpace, count: &mut usize) -> u32
-    ensures { ShowsManager space.old.handle.manager result space.new.handle.manager (count.new ≡ count.old) (λ m. (result ≡ 0) × (count.new ≡ length m.space.books)) }
+    ensures { ShowsSpace space.old.handle.manager result space.new.handle.manager (count.new ≡ count.old) (λ m. (result ≡ 0) × (count.new ≡ length m.space.books)) }
 {
     mdl_c_calls::mdl_places(alloc, space, count)
 }

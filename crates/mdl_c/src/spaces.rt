@@ -1,5 +1,5 @@
 //! The calls that make a manager and free it.
-ghost use Rattle.mdl_c_calls.specs.Exports.{Closes, OpensManager};
+ghost use Rattle.mdl_c_calls.specs.Exports.{Closes, OpensSpace};
 
 use mdl_c_calls::MdlSpace;
 use std::alloc::Global;
@@ -7,7 +7,7 @@ use std::alloc::Global;
 /// Makes a manager with this number of places and sessions, if there is none yet.
 #[unsafe(no_mangle)]
 pub extern "C" fn mdl_open(alloc: Global, space: &mut MdlSpace, places: u16, sessions: u16) -> u32
-    ensures { OpensManager places sessions space.old.handle.manager result space.new.handle.manager }
+    ensures { OpensSpace places sessions space.old.handle.manager result space.new.handle.manager }
 {
     mdl_c_calls::mdl_open(alloc, space, places, sessions)
 }

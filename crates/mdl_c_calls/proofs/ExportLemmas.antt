@@ -7,7 +7,7 @@ use Rattle.mdl_calls.specs.Words.{Answer, Call}
 use Rattle.mdl_c_calls.specs.Codes.{code_at, code_of}
 use Rattle.mdl_c_calls.specs.ContextCodes.{answered, served_code}
 use Rattle.mdl_c_calls.specs.Exports.{Beside, Replies, ServesCall, ServesDirect}
-use Rattle.mdl_c_calls.specs.Managers.{Asks, Managed, IsOutside, JoinsManaged, JoinsFor, direct_fault, seat_of}
+use Rattle.mdl_c_calls.specs.Managers.{Asks, Managed, IsOutside, JoinsServed, JoinsFor, direct_fault, seat_of}
 use Rattle.mdl_c_calls.specs.declared.seat.Seat.{Seat}
 use Rattle.mdl_c_calls.specs.declared.unserved.Unserved.{Unserved}
 
@@ -36,14 +36,14 @@ replies fault who made code_for beside m next r code before after taken put aske
     subst (λ b. Replies fault who made code_for beside b code after) (sym taken) (r, next, put, asked, told, besides)
 
 as-answers : {R : Type 0} (fault : Option Unserved) (call : Call) (answer : R → Answer) (m next : Managed) (r : Result R Unserved)
-    → Asks fault (λ x. JoinsManaged call (answer x) m next) r m next → Asks fault (λ x. JoinsManaged call x m next) (answered answer r) m next
+    → Asks fault (λ x. JoinsServed call (answer x) m next) r m next → Asks fault (λ x. JoinsServed call x m next) (answered answer r) m next
 as-answers fault call answer m next (Ok x) asked = asked
 as-answers fault call answer m next (Err why) asked = asked
 
 -- it is asked for one whose tickets no context keeps
 pub serves-direct : {R : Type 0} (who : ℕ) (call : Call) (answer : R → Answer) (m next : Managed) (r : Result R Unserved) (code : ℕ) (before after : Option Managed) (beside : Beside)
-    → before ≡ Some m → after ≡ Some next → Asks (direct_fault (seat_of who m)) (λ x. JoinsManaged call (answer x) m next) r m next
+    → before ≡ Some m → after ≡ Some next → Asks (direct_fault (seat_of who m)) (λ x. JoinsServed call (answer x) m next) r m next
     → code ≡ served_code code_of (answered answer r) → beside (result_ok (answered answer r)) → ServesDirect who call before code after beside
 serves-direct who call answer m next r code before after beside taken put asked told besides =
-    replies direct_fault who (JoinsManaged call) code_of beside m next (answered answer r) code before after taken put
+    replies direct_fault who (JoinsServed call) code_of beside m next (answered answer r) code before after taken put
     (as-answers (direct_fault (seat_of who m)) call answer m next r asked) told besides

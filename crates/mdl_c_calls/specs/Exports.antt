@@ -5,7 +5,7 @@ use Rattle.mdl_calls.specs.declared.new_error.NewError.{NewError}
 use Rattle.mdl_calls.specs.Words.{Answer, Call, new_fault}
 use Rattle.mdl_c_calls.specs.Codes.{closed, code_of, is_open_already, new_code, no_memory, no_session, told_at}
 use Rattle.mdl_c_calls.specs.ContextCodes.{served_code}
-use Rattle.mdl_c_calls.specs.Managers.{Asks, Managed, JoinsManaged, JoinsFor, direct_fault, has_member, new_manager, seat_of}
+use Rattle.mdl_c_calls.specs.Managers.{Asks, Managed, JoinsServed, JoinsFor, direct_fault, has_member, new_manager, seat_of}
 use Rattle.mdl_c_calls.specs.declared.seat.Seat.{Seat}
 use Rattle.mdl_c_calls.specs.declared.unserved.Unserved.{Unserved}
 
@@ -40,7 +40,7 @@ ServesCall who call (Some manager) code after beside =
 -- a call of the space that no session makes
 abbrev pub ServesAnybody : Call → Option Managed → ℕ → Option Managed → Type 0
 ServesAnybody call None code after = Tells closed None code after
-ServesAnybody call (Some manager) code after = Answers (JoinsManaged call) manager code after Nothing
+ServesAnybody call (Some manager) code after = Answers (JoinsServed call) manager code after Nothing
 
 -- a session's call, or a refusal by the manager: then the code says why, and nothing changes
 abbrev pub Replies : {R : Type 0} → (Option Seat → Option Unserved) → ℕ → (R → Managed → Managed → Type 0) → (R → ℕ) → (Option R → Type 0)
@@ -53,7 +53,7 @@ Replies {R} fault who made code_for beside (Some manager) code after =
 
 -- a direct call, which names tickets by their numbers: it is refused if there is no such session, or a context keeps the session's tickets
 abbrev pub ServesDirect : ℕ → Call → Option Managed → ℕ → Option Managed → Beside → Type 0
-ServesDirect who call before code after beside = Replies direct_fault who (JoinsManaged call) code_of beside before code after
+ServesDirect who call before code after beside = Replies direct_fault who (JoinsServed call) code_of beside before code after
 
 -- a direct call with a number that has to name something, such as a mode. If it names nothing, the call is refused with this code before all else
 abbrev pub ServesDirectWish : {W : Type 0} → ℕ → Option W → (W → Call) → ℕ → Option Managed → ℕ → Option Managed → Beside → Type 0
@@ -61,9 +61,9 @@ ServesDirectWish wrong None call who before code after beside = Tells wrong befo
 ServesDirectWish wrong (Some wish) call who before code after beside = ServesDirect who (call wish) before code after beside
 
 -- a manager is made, if there is none
-abbrev pub OpensManager : ℕ → ℕ → Option Managed → ℕ → Option Managed → Type 0
-OpensManager places sessions (Some manager) code after = Tells is_open_already (Some manager) code after
-OpensManager places sessions None code after =
+abbrev pub OpensSpace : ℕ → ℕ → Option Managed → ℕ → Option Managed → Type 0
+OpensSpace places sessions (Some manager) code after = Tells is_open_already (Some manager) code after
+OpensSpace places sessions None code after =
     MatchOption (new_fault places sessions)
     (((code ≡ 0) × (after ≡ Some (new_manager places sessions))) ⊎ Tells no_memory None code after)
     (λ (fault : NewError). Tells (new_code fault) None code after)

@@ -32,9 +32,9 @@ IsKept before after old_count count = (after ≡ before) × (count ≡ old_count
 -- ---- what is shown
 
 -- a call shows the manager and doesn't change it. If there is none, it returns the code for that and writes nothing
-abbrev pub ShowsManager : Option Managed → ℕ → Option Managed → Type 0 → (Managed → Type 0) → Type 0
-ShowsManager None code after Kept Shown = Tells closed None code after × Kept
-ShowsManager (Some manager) code after Kept Shown = (after ≡ Some manager) × Shown manager
+abbrev pub ShowsSpace : Option Managed → ℕ → Option Managed → Type 0 → (Managed → Type 0) → Type 0
+ShowsSpace None code after Kept Shown = Tells closed None code after × Kept
+ShowsSpace (Some manager) code after Kept Shown = (after ≡ Some manager) × Shown manager
 
 -- the book of a place, if the place has a key
 abbrev pub keyed_book : ℕ → Core → Option BookView
@@ -43,7 +43,7 @@ keyed_book place space = if has_key place space then Some (book_at place space) 
 -- a call shows the lock of a place. If the place has no key, it returns the code for that and writes nothing
 abbrev pub ShowsLock : ℕ → Option Managed → ℕ → Option Managed → Type 0 → (BookView → Type 0) → Type 0
 ShowsLock place before code after Kept Shown =
-    ShowsManager before code after Kept (λ manager.
+    ShowsSpace before code after Kept (λ manager.
     MatchOption (keyed_book place manager.space) ((code ≡ no_place) × Kept) (λ book. (code ≡ 0) × Shown book))
 
 -- ---- settled waits

@@ -52,12 +52,12 @@ Asks fault Made (Err why) before after = (fault ≡ Some why) × (after ≡ befo
 -- ---- calls
 
 -- the space makes this call with this answer. The seats are unchanged
-abbrev pub JoinsManaged : Call → Answer → Managed → Managed → Type 0
-JoinsManaged call answer before after = core_space.joins before.space call answer after.space × (after.seats ≡ before.seats)
+abbrev pub JoinsServed : Call → Answer → Managed → Managed → Type 0
+JoinsServed call answer before after = core_space.joins before.space call answer after.space × (after.seats ≡ before.seats)
 
 -- the space makes this call, and the manager has this session
 abbrev pub JoinsFor : ℕ → Call → Answer → Managed → Managed → Type 0
-JoinsFor who call answer before after = (has_member who before ≡ true) × JoinsManaged call answer before after
+JoinsFor who call answer before after = (has_member who before ≡ true) × JoinsServed call answer before after
 
 -- the manager has no such session, and nothing changes
 abbrev pub IsOutside : ℕ → Managed → Managed → Type 0

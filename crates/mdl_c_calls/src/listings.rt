@@ -5,7 +5,7 @@ ghost use Rattle.mdl_key.specs.Keys.{namespace_rank};
 ghost use Rattle.mdl_calls.specs.Words.{List_held, listed};
 ghost use Rattle.mdl_c_calls.specs.Codes.{code_at, no_place};
 ghost use Rattle.mdl_c_calls.specs.Exports.{ServesCall};
-ghost use Rattle.mdl_c_calls.specs.Listings.{HeldTold, IsKept, IsListWritten, ShowsLock, ShowsManager, TellsSettled, lock_rows};
+ghost use Rattle.mdl_c_calls.specs.Listings.{HeldTold, IsKept, IsListWritten, ShowsLock, ShowsSpace, TellsSettled, lock_rows};
 
 use crate::codes::{CLOSED, DONE, NO_PLACE, NO_SESSION, cause_code};
 use crate::handle::MdlSpace;
@@ -16,7 +16,7 @@ use std::alloc::Global;
 
 /// Writes which sessions have waits that are settled and not ended, one bit each. The lowest bit is that of session 1.
 pub fn mdl_settled(alloc: Global, space: &mut MdlSpace, sessions: &mut u64) -> u32
-    ensures { ShowsManager space.old.handle.manager result space.new.handle.manager (sessions.new ≡ sessions.old) (λ m. (result ≡ 0) × TellsSettled m sessions.new) }
+    ensures { ShowsSpace space.old.handle.manager result space.new.handle.manager (sessions.new ≡ sessions.old) (λ m. (result ≡ 0) × TellsSettled m sessions.new) }
 {
     let Some(mut manager) = space.take(alloc) else {
         return CLOSED;
@@ -46,7 +46,7 @@ pub fn mdl_held(
 
 /// Writes how many places have keys. They are those from 1 to this number.
 pub fn mdl_places(alloc: Global, space: &mut MdlSpace, count: &mut usize) -> u32
-    ensures { ShowsManager space.old.handle.manager result space.new.handle.manager (count.new ≡ count.old) (λ m. (result ≡ 0) × (count.new ≡ length m.space.books)) }
+    ensures { ShowsSpace space.old.handle.manager result space.new.handle.manager (count.new ≡ count.old) (λ m. (result ≡ 0) × (count.new ≡ length m.space.books)) }
 {
     let Some(manager) = space.take(alloc) else {
         return CLOSED;

@@ -3,7 +3,7 @@
 ghost use Rattle.std.specs.Prelude.{◌≡◌, ◌≤◌, ◌<◌, ◌+◌, Some, None, length, replicate, MatchOption, MatchResult, IfOk};
 ghost use Rattle.mdl_key.specs.Words.{Refuses};
 ghost use Rattle.mdl_calls.specs.Words.{Begin_wait, Clone_ticket, Downgrade, End_wait, Has_killed, Kill, Merge, Poll_wait, Release, Resolve, Search as Search_by, Settle_timeout, Try_now, Upgrade_now, attempted, begun, cloned, done, ended, new_fault, placed, polled, searched, timed_out, upgrade_tried};
-ghost use Rattle.mdl_c_calls.specs.Managers.{direct_fault, has_member, new_manager, seat_of, Asks, IsOutside, JoinsManaged, JoinsFor};
+ghost use Rattle.mdl_c_calls.specs.Managers.{direct_fault, has_member, new_manager, seat_of, Asks, IsOutside, JoinsServed, JoinsFor};
 ghost use Rattle.mdl_c_calls.specs.declared.seat.Seat.TheVariants.{Direct};
 
 use crate::seat::Seat;
@@ -96,7 +96,7 @@ impl ServedSpace {
         place: Place,
         mode: Mode,
     ) -> Result<Result<Attempt, SpaceError>, Unserved>
-        ensures { Asks (direct_fault (seat_of who self.old)) (λ r. JoinsManaged (Try_now who place mode) (attempted r) self.old self.new) result self.old self.new }
+        ensures { Asks (direct_fault (seat_of who self.old)) (λ r. JoinsServed (Try_now who place mode) (attempted r) self.old self.new) result self.old self.new }
     {
         self.check_direct(who)?;
         Ok(self.space.try_now(who, place, mode))
@@ -108,14 +108,14 @@ impl ServedSpace {
         place: Place,
         mode: Mode,
     ) -> Result<Result<Begun, SpaceError>, Unserved>
-        ensures { Asks (direct_fault (seat_of who self.old)) (λ r. JoinsManaged (Begin_wait who place mode) (begun r) self.old self.new) result self.old self.new }
+        ensures { Asks (direct_fault (seat_of who self.old)) (λ r. JoinsServed (Begin_wait who place mode) (begun r) self.old self.new) result self.old self.new }
     {
         self.check_direct(who)?;
         Ok(self.space.begin_wait(who, place, mode))
     }
 
     pub fn seek(&mut self, who: u16) -> Result<Result<Search, SpaceError>, Unserved>
-        ensures { Asks (direct_fault (seat_of who self.old)) (λ r. JoinsManaged (Search_by who) (searched r) self.old self.new) result self.old self.new }
+        ensures { Asks (direct_fault (seat_of who self.old)) (λ r. JoinsServed (Search_by who) (searched r) self.old self.new) result self.old self.new }
     {
         self.check_direct(who)?;
         Ok(self.space.search(who))
@@ -140,7 +140,7 @@ impl ServedSpace {
     }
 
     pub fn end_wait(&mut self, who: u16) -> Result<Result<Ended, SpaceError>, Unserved>
-        ensures { Asks (direct_fault (seat_of who self.old)) (λ r. JoinsManaged (End_wait who) (ended r) self.old self.new) result self.old self.new }
+        ensures { Asks (direct_fault (seat_of who self.old)) (λ r. JoinsServed (End_wait who) (ended r) self.old self.new) result self.old self.new }
     {
         self.check_direct(who)?;
         Ok(self.space.end_wait(who))
@@ -148,7 +148,7 @@ impl ServedSpace {
 
     /// Settles a session's wait of this number as killed, unless it is settled already or there is none. Returns whether it did.
     pub fn kill(&mut self, target: u16, number: u64) -> bool
-        ensures { JoinsManaged (Kill target number) (Has_killed result) self.old self.new }
+        ensures { JoinsServed (Kill target number) (Has_killed result) self.old self.new }
     {
         self.space.kill(target, number)
     }
@@ -158,7 +158,7 @@ impl ServedSpace {
         who: u16,
         ticket: TicketId,
     ) -> Result<Result<(), SpaceError>, Unserved>
-        ensures { Asks (direct_fault (seat_of who self.old)) (λ r. JoinsManaged (Release who ticket) (done r) self.old self.new) result self.old self.new }
+        ensures { Asks (direct_fault (seat_of who self.old)) (λ r. JoinsServed (Release who ticket) (done r) self.old self.new) result self.old self.new }
     {
         self.check_direct(who)?;
         Ok(self.space.release(who, ticket))
@@ -170,7 +170,7 @@ impl ServedSpace {
         ticket: TicketId,
         mode: Mode,
     ) -> Result<Result<TicketId, SpaceError>, Unserved>
-        ensures { Asks (direct_fault (seat_of who self.old)) (λ r. JoinsManaged (Clone_ticket who ticket mode) (cloned r) self.old self.new) result self.old self.new }
+        ensures { Asks (direct_fault (seat_of who self.old)) (λ r. JoinsServed (Clone_ticket who ticket mode) (cloned r) self.old self.new) result self.old self.new }
     {
         self.check_direct(who)?;
         Ok(self.space.clone_ticket(who, ticket, mode))
@@ -182,7 +182,7 @@ impl ServedSpace {
         ticket: TicketId,
         mode: Mode,
     ) -> Result<Result<Upgrade, SpaceError>, Unserved>
-        ensures { Asks (direct_fault (seat_of who self.old)) (λ r. JoinsManaged (Upgrade_now who ticket mode) (upgrade_tried r) self.old self.new) result self.old self.new }
+        ensures { Asks (direct_fault (seat_of who self.old)) (λ r. JoinsServed (Upgrade_now who ticket mode) (upgrade_tried r) self.old self.new) result self.old self.new }
     {
         self.check_direct(who)?;
         Ok(self.space.upgrade_now(who, ticket, mode))
@@ -194,7 +194,7 @@ impl ServedSpace {
         ticket: TicketId,
         mode: Mode,
     ) -> Result<Result<(), SpaceError>, Unserved>
-        ensures { Asks (direct_fault (seat_of who self.old)) (λ r. JoinsManaged (Downgrade who ticket mode) (done r) self.old self.new) result self.old self.new }
+        ensures { Asks (direct_fault (seat_of who self.old)) (λ r. JoinsServed (Downgrade who ticket mode) (done r) self.old self.new) result self.old self.new }
     {
         self.check_direct(who)?;
         Ok(self.space.downgrade(who, ticket, mode))
@@ -206,7 +206,7 @@ impl ServedSpace {
         kept: TicketId,
         gone: TicketId,
     ) -> Result<Result<(), SpaceError>, Unserved>
-        ensures { Asks (direct_fault (seat_of who self.old)) (λ r. JoinsManaged (Merge who kept gone) (done r) self.old self.new) result self.old self.new }
+        ensures { Asks (direct_fault (seat_of who self.old)) (λ r. JoinsServed (Merge who kept gone) (done r) self.old self.new) result self.old self.new }
     {
         self.check_direct(who)?;
         Ok(self.space.merge(who, kept, gone))

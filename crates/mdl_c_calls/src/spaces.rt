@@ -1,6 +1,6 @@
 //! The calls that make a manager and free it.
 ghost use Rattle.std.specs.Prelude.{◌≡◌};
-ghost use Rattle.mdl_c_calls.specs.Exports.{Closes, OpensManager};
+ghost use Rattle.mdl_c_calls.specs.Exports.{Closes, OpensSpace};
 
 use crate::codes::{CLOSED, DONE, IS_OPEN, NO_MEMORY, new_code};
 use crate::handle::MdlSpace;
@@ -9,7 +9,7 @@ use std::alloc::Global;
 
 /// Makes a manager with this number of places and sessions, if there is none yet.
 pub fn mdl_open(alloc: Global, space: &mut MdlSpace, places: u16, sessions: u16) -> u32
-    ensures { OpensManager places sessions space.old.handle.manager result space.new.handle.manager }
+    ensures { OpensSpace places sessions space.old.handle.manager result space.new.handle.manager }
 {
     if space.is_open() {
         return IS_OPEN;

@@ -115,8 +115,8 @@ tracks-won (Some (id, mode)) new context =
 
 -- what is left then, by the answer
 ended-answered : (context : ContextView) (answer : Answer) (core : Core) (before : Bool) → SpeaksFor core context.who → IsEndAnswer answer
-    → is_some (own_at core context.who).wait ≡ wait_after (End_wait context.who) answer before
-    → let end = outcome_of outcome (waits.end_answered context answer) core in IsEnded end.0 (is_some (own_at end.1 context.who).wait)
+    → is_some (locks_at core context.who).wait ≡ wait_after (End_wait context.who) answer before
+    → let end = outcome_of outcome (waits.end_answered context answer) core in IsEnded end.0 (is_some (locks_at end.1 context.who).wait)
 ended-answered context (Granted id) core before speaks is e =
     let program = waits.wait_won (awaited_upgrade context.wait) id context in
     tracks-outcome IsEnded program core context.who speaks

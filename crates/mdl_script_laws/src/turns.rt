@@ -2,7 +2,7 @@
 //! sessions wait then, and how many waits are reported. Each is proved as the contract of a function that does nothing.
 ghost use Rattle.mdl_script_laws.specs.Turns.{StatementsAskForFewLocks, StatementsTellOfFewWaits, TurnsSuffice, MoreTurnsDoNothing, NobodyIsLeftSettled, StatementsWaitInTheSpace};
 
-/// A statement asks for no more locks than it can need, as `locks_of` of specs/Turns counts them: its tables, with their schemas if
+/// A statement asks for no more locks than it can need, as `most_locks_of` of specs/Turns counts them: its tables, with their schemas if
 /// definitions are changed or tables are locked for writing, the global lock, and the COMMIT lock. Making a lock stronger counts as
 /// one more. A lock that is only tried, and so never waited for, counts for nothing. That is at most 259, for a `DROP SCHEMA` of 256
 /// tables, whatever is defined and whatever its session keeps.

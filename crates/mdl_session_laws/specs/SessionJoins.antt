@@ -11,7 +11,7 @@ use Rattle.mdl_calls.specs.Words.{Answer, Call}
 abbrev pub Joins : SessionData → Call → Answer → SessionData → Type 0
 Joins a call answer b = Transition (spec_of call) answer a b
 
--- whether a session has the call: there is no way yet to give up a place
+-- whether a session has the call: there is no way yet to give up a pin
 abbrev pub session_has_call : Call → Bool
 session_has_call call = (spec_of call).has
 

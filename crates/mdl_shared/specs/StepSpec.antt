@@ -25,11 +25,11 @@ pub record StepSpec : Type 1 where
   -- what the call leaves of what the session owes, by the answer, and of whether it has yet to search for a deadlock. Where waits are granted, `Pays` says
   -- which place isn't owed any more
   pub owes : Answer → SessionView → SessionView → Type 0
-  -- which steps are made and what they meet, by the answer. What is no answer to the call is excluded
+  -- which steps are made and what they meet, by the answer. Where a call has a `met` of its own, what is no answer to it is excluded
   pub met : Answer → Lists → SessionView → SessionView → Type 0
 
--- the call that promises most: the session's lists never refuse it, and it makes no step. Each call says in which aspects it differs from this, so an
--- aspect that is left out promises most
+-- the call without steps: an aspect that a file of `calls` leaves out is as here, which is the most that it can promise. Only `fault` is different: without
+-- one nothing is said of refusals, and the call may still be refused, as `list_held` for lack of memory
 abbrev pub no_steps : StepSpec
 no_steps = record {
   fault = λ l. None;

@@ -1,5 +1,5 @@
--- A lock, or otherwise a wait for it: on the fast path, or, where that is closed, in one visit to the place. If the request is blocked there, the step
--- after the one that found it so opens the wait.
+-- A lock, or otherwise a wait for it: on the fast path, or, where that is closed, in one visit to the place, once all fast tickets of the session are slow
+-- ones. If a step finds the request blocked there, the next step opens the wait.
 use Rattle.std.specs.Prelude.{◌≡◌, ◌⊎◌, ℕ, true, List, [], ◌∷◌, Option, Some}
 use Rattle.mdl_key.specs.declared.mode.Mode.{Mode}
 use Rattle.mdl_calls.specs.declared.space_error.SpaceError.{SpaceError}
@@ -30,7 +30,8 @@ abbrev pub owes : Answer → SessionView → SessionView → Type 0
 owes (Waits number) a b = OwesSame a b × (b.me.0.searches ≡ true)
 owes _ a b = KeepsDebts a b
 
--- which steps were made, and what they met. A request past the fast path is granted, waits or is refused by the book of the place
+-- which steps were made, and what they met. A request past the fast path is granted or waits by the book of the place. It is refused for lack of memory, or
+-- by a full book: there, or where fast tickets were to become slow
 abbrev pub met : ℕ → Mode → Answer → Lists → SessionView → SessionView → Type 0
 met place mode (Granted id) l a b = IsGranted place mode (Gain id mode) a b
 met place mode (Waits number) l a b =

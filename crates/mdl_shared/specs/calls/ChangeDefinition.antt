@@ -1,4 +1,5 @@
--- A change of the definition at the place of a held ticket in mode X: in one visit to the place, which changes it, or finds why it can't be changed.
+-- A change of the definition at the place of a held ticket in mode X: in one visit to the place, at which it is changed, or refused for what stands there
+-- or for lack of memory.
 use Rattle.std.specs.Prelude.{◌≡◌, ◌⊎◌, ℕ, Option, Some}
 use Rattle.mdl_key.specs.declared.mode.Mode.TheVariants.{X}
 use Rattle.mdl_defs.specs.declared.change.Change.{Change}

@@ -1,4 +1,5 @@
--- A second ticket beside a held one: on the fast path, or, where that is closed, in one visit to the place.
+-- A second ticket beside a held one: on the fast path, or, where that is closed, in one visit to the place, once all fast tickets of the session are slow
+-- ones.
 use Rattle.std.specs.Prelude.{◌≡◌, ◌⊎◌, ℕ, false, List, [], ◌∷◌, Option, Some}
 use Rattle.mdl_key.specs.declared.mode.Mode.{Mode}
 use Rattle.mdl_calls.specs.declared.space_error.SpaceError.{SpaceError}
@@ -23,7 +24,7 @@ abbrev pub did : Mode → Answer → List Own → List Deed
 did mode (Granted new) tickets = Gain new mode ∷ []
 did mode _ tickets = []
 
--- which steps were made, and what they met. A clone isn't obtrusive, so no flag OBTRUSIVE is raised
+-- which steps were made, and what they met. No flag OBTRUSIVE is raised: if the mode is obtrusive, so is that of the held ticket, and the flag is up
 abbrev pub met : ℕ → Mode → Answer → Lists → SessionView → SessionView → Type 0
 met id mode (Granted new) l a b = OfTicket id l (λ t. IsCloned t.place mode id (Gain new mode) a b)
 met id mode (Refused why) l a b =

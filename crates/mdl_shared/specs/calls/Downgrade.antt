@@ -18,17 +18,17 @@ use Rattle.mdl_shared.specs.StepSpec.{StepSpec, no_steps}
 abbrev pub own_fault : ℕ → Mode → Lists → Option SpaceError
 own_fault id mode l = downgrade_fault (numbered id (all_tickets l)) mode l.known
 
--- the ticket has the mode
+-- the ticket gets the mode
 abbrev pub did : ℕ → Mode → Answer → List Own → List Deed
 did id mode Done tickets = Alter id mode ∷ []
 did id mode _ tickets = []
 
--- a downgrade may settle waits: `HasRescheduled` says which
+-- a downgrade may settle waits: `HasRescheduled` of mdl_visits/specs/Grantings says which
 abbrev pub settled : Answer → Lists → SessionView → SessionView → Type 0
 settled Done l a b = Unit {0}
 settled _ l a b = SettlesNothing a.me b.me
 
--- what the place is owed is paid: `Pays` says that. A search that the session has yet to make it still has to make
+-- what the place is owed is paid: `Pays` says that. A session that has yet to search still has
 abbrev pub owes : Answer → SessionView → SessionView → Type 0
 owes Done a b = b.me.0.searches ≡ a.me.0.searches
 owes _ a b = KeepsDebts a b

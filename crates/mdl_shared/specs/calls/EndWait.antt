@@ -15,12 +15,12 @@ use Rattle.mdl_shared.specs.Waitings.{wait_fault}
 use Rattle.mdl_shared.specs.Steps.{LooksThen, EndsByOneStep, EndsOwnWait}
 use Rattle.mdl_shared.specs.StepSpec.{StepSpec, no_steps}
 
--- the end of a lost wait may settle waits of others: `HasRescheduled` says which
+-- the end of a lost wait may settle waits of others: `HasRescheduled` of mdl_visits/specs/Grantings says which
 abbrev pub settled : Answer → Lists → SessionView → SessionView → Type 0
 settled (Lost how) l a b = Unit {0}
 settled _ l a b = SettlesNothing a.me b.me
 
--- the end of a lost wait pays what its place is owed: `Pays` says that. Whether the session has yet to search stays
+-- the end of a lost wait pays what its place is owed: `Pays` says that. A session that has yet to search still has
 abbrev pub owes : Answer → SessionView → SessionView → Type 0
 owes (Lost how) a b = b.me.0.searches ≡ a.me.0.searches
 owes _ a b = KeepsDebts a b
@@ -35,6 +35,7 @@ met (Lost how) l a b =
 met (Refused why) l a b = (wait_fault l.asks ≡ Some why) ⊎ ((why ≡ cause.Unsettled) × LooksThen unsettled_state l a (λ mid. b.me ≡ mid))
 met _ l a b = ⊥
 
--- the call. The session learns whether its wait is settled, and has none once that is ended
+-- the call. It does no deed: a granted wait's ticket is in the book already. The session may learn how its wait is settled, and knows nothing of it once it
+-- is ended
 abbrev pub end_wait : StepSpec
 end_wait = record no_steps { fault = λ l. wait_fault l.asks; told = λ a b. Unit {0}; settled = settled; owes = owes; met = met }

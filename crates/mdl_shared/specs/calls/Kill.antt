@@ -1,5 +1,5 @@
--- The kill of a session's wait: one step, which reads the word of that session's wait, and one more if that found the wait with this number unsettled. The
--- second settles it as killed if it is unsettled still. Of a session that the space doesn't have no word is read.
+-- The kill of a session's wait: at most two steps. If it killed the wait, one of them met the wait with this number unsettled; if not, one met another
+-- word. If the space has no such session, no step is made.
 use Rattle.std.specs.Prelude.{◌≡◌, ℕ, true, false}
 use Rattle.mdl_calls.specs.Limits.{is_within}
 use Rattle.mdl_calls.specs.Words.{Answer, Has_killed}

@@ -18,7 +18,7 @@ use Rattle.mdl_shared.specs.StepSpec.{StepSpec, no_steps}
 abbrev pub own_fault : ℕ → ℕ → Lists → Option SpaceError
 own_fault old new l = merge_fault (numbered old (all_tickets l)) (numbered new (all_tickets l)) l.asks
 
--- the one ticket has the other one's mode, and the other one is lost
+-- the old ticket gets the new one's mode, and the new one is lost
 abbrev pub did : ℕ → ℕ → Answer → List Own → List Deed
 did old new Done tickets = merge_deeds old new (Ok tt) (numbered new tickets)
 did old new _ tickets = []

@@ -1,5 +1,5 @@
--- The version and the definition at a held ticket's place, with the session's cache: one step reads the version without the latch. If the cache keeps no
--- definition of that version, the place is visited once after it.
+-- The version and the definition at a held ticket's place, with the session's cache: one step reads the version without the latch. Either that suffices, or
+-- the place is visited once after it. Which of the two, by the cache: `ReadsKept` of `KeptReads`.
 use Rattle.std.specs.Prelude.{◌≡◌, ◌⊎◌, ℕ, Some}
 use Rattle.mdl_defs.specs.declared.standing.Standing.{Standing}
 use Rattle.mdl_calls.specs.declared.space_error.SpaceError.TheVariants as cause

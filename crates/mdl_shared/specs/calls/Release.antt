@@ -18,12 +18,12 @@ abbrev pub did : ℕ → Answer → List Own → List Deed
 did id Done tickets = Lose id ∷ []
 did id _ tickets = []
 
--- a release may settle waits: `HasRescheduled` says which
+-- a release may settle waits: `HasRescheduled` of mdl_visits/specs/Grantings says which
 abbrev pub settled : Answer → Lists → SessionView → SessionView → Type 0
 settled Done l a b = Unit {0}
 settled _ l a b = SettlesNothing a.me b.me
 
--- where waits are granted, what the place is owed is paid: `Pays` says that. A search that the session has yet to make it still has to make
+-- where waits are granted, what the place is owed is paid: `Pays` says that. A session that has yet to search still has
 abbrev pub owes : Answer → SessionView → SessionView → Type 0
 owes Done a b = b.me.0.searches ≡ a.me.0.searches
 owes _ a b = KeepsDebts a b

@@ -10,8 +10,8 @@ use Rattle.mdl_shared.specs.SessionViews.{Lists, SessionView}
 use Rattle.mdl_shared.specs.Steps.{MakesNoStep, LooksUp}
 use Rattle.mdl_shared.specs.StepSpec.{StepSpec, no_steps}
 
--- which steps were made, and what they met. A refusal is for want of a place in the directory, or of memory: before the look, or at it
--- where the directory has a place for one more key
+-- which steps were made, and what they met. The key is refused if the look finds the directory full. Memory may run out before the look, or at a look that
+-- finds a place left for the key
 abbrev pub met : KeyName → Answer → Lists → SessionView → SessionView → Type 0
 met key (At_place place) l a b =
     (0 < place) × (place < a.table.slots)

@@ -9,7 +9,7 @@ use Rattle.mdl_shared.specs.SessionViews.{Lists, SessionView}
 use Rattle.mdl_shared.specs.Steps.{MakesNoStep, LooksAtKeys, SearchesFor, ReadsSettled, ReadsUnsettled}
 use Rattle.mdl_shared.specs.StepSpec.{StepSpec, no_steps}
 
--- a search may settle waits: `Searched` says which
+-- a search may settle the victim's wait: `Searched` of mdl_visits/specs/Searches says whose
 abbrev pub settled : Answer → Lists → SessionView → SessionView → Type 0
 settled No_cycle l a b = Unit {0}
 settled (Victim_is victim) l a b = Unit {0}
@@ -24,6 +24,6 @@ met (Victim_is victim) l a b = (is_some l.asks ≡ true) × ReadsUnsettled l a (
 met (Refused why) l a b = (is_some l.asks ≡ true) × ReadsUnsettled l a (λ mid. LooksAtKeys mid b)
 met _ l a b = ⊥
 
--- the call. The session may learn that its own wait is settled
+-- the call. The session may learn that its own wait is settled. Whether it has yet to search is said only after a search that found no deadlock
 abbrev pub search_deadlock : StepSpec
 search_deadlock = record no_steps { settled = settled; told = λ a b. Unit {0}; owes = λ answer a b. OwesSame a b; met = met }

@@ -22,6 +22,6 @@ met (Timed_out (Already how)) l a b = MeetsOwnWait (settled_state how) l a b
 met (Refused why) l a b = wait_fault l.asks ≡ Some why
 met _ l a b = ⊥
 
--- the call. The session learns that its wait is settled
+-- the call. The session may learn that its wait is settled
 abbrev pub settle_timeout : StepSpec
 settle_timeout = record no_steps { fault = λ l. wait_fault l.asks; told = λ a b. Unit {0}; settled = settled; met = met }

@@ -1,5 +1,5 @@
--- The tables of a schema that have a definition: one look at the directory, after which the session knows the keys of all the schema's tables, and then a
--- look at each table's place.
+-- The tables of a schema that have a definition: one look at the directory, and a look at the place of each of the schema's tables, in any order.
+-- Afterwards the session knows the keys of all these tables.
 use Rattle.std.specs.Prelude.{◌≡◌, ℕ, List, ◌++◌}
 use Rattle.mdl_calls.specs.Words.{Answer, Refused, Tables}
 use Rattle.mdl_steps.specs.declared.view.Keys.{Keys}

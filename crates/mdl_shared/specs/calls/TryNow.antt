@@ -1,4 +1,5 @@
--- A lock, if it can be granted without waiting: on the fast path, or, where that is closed, in one visit to the place.
+-- A lock, if it can be granted without waiting: on the fast path, or, where that is closed, in one visit to the place, once all fast tickets of the session
+-- are slow ones.
 use Rattle.std.specs.Prelude.{◌≡◌, ◌⊎◌, ℕ, true, List, [], ◌∷◌, Option, Some}
 use Rattle.mdl_key.specs.declared.mode.Mode.{Mode}
 use Rattle.mdl_calls.specs.declared.space_error.SpaceError.{SpaceError}
@@ -22,7 +23,8 @@ abbrev pub did : Mode → Answer → List Own → List Deed
 did mode (Granted id) tickets = Gain id mode ∷ []
 did mode _ tickets = []
 
--- which steps were made, and what they met. A request past the fast path is granted, blocked or refused by the book of the place
+-- which steps were made, and what they met. A request past the fast path is granted or blocked by the book of the place. It is refused for lack of memory,
+-- or by a full book: there, or where fast tickets were to become slow
 abbrev pub met : ℕ → Mode → Answer → Lists → SessionView → SessionView → Type 0
 met place mode (Granted id) l a b = IsGranted place mode (Gain id mode) a b
 met place mode Would_wait l a b =

@@ -1,4 +1,4 @@
--- The number of a session's wait: one step, which reads the word of that session's wait. Of a session that the space doesn't have no word is read.
+-- The number of a session's wait: one step, which reads the word of that session's wait. If the space has no such session, no word is read.
 use Rattle.std.specs.Prelude.{◌≡◌, ℕ, true, false, None}
 use Rattle.mdl_calls.specs.Limits.{is_within}
 use Rattle.mdl_calls.specs.Words.{Answer, Has_wait}
