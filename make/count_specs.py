@@ -616,6 +616,9 @@ def print_layout(figures):
 
 def print_figures(figures):
     """Prints the figures that have bars, and returns whether one is above its bar."""
+    if not figures.calls.get("try_now") or not figures.count_by_call(CALL_CRATES)[0]:
+        print("no call of Session was found, or no table of calls: the script misreads the tree", file=sys.stderr)
+        return True
     is_broken = False
     print("figure                                      now     bar")
     for label, figure in figures.measured().items():

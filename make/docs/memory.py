@@ -112,11 +112,13 @@ def may_be_for_memory(error, known):
 
 
 def is_ruled_out_by_causes(name):
-    """Whether the call of `LockSpace` with this name is never refused because memory runs out."""
+    """Whether the call of `LockSpace` with this name is never refused because memory runs out: its causes have equations, none of which allows that."""
     spec = (CALLS / f"{name.title().replace('_', '')}.antt").read_text()
     cause = re.search(r"\bcause = (\w+)", spec)
-    equation = rf"^{cause[1]} .*?OutOfMemory\)? \w+ \w+ = (.*)$" if cause else r"(?!)"
-    return all(it == "⊥" for it in re.findall(equation, spec + SHARED_CAUSES.read_text(), re.MULTILINE))
+    if not cause:
+        return True  # by default a call has no cause
+    equations = re.findall(rf"^{cause[1]} (.*) = (.*)$", spec + SHARED_CAUSES.read_text(), re.MULTILINE)
+    return bool(equations) and all(cause == "⊥" for error, cause in equations if "OutOfMemory" in error or "_" in error.split())
 
 
 def with_faults(clause, defined):
