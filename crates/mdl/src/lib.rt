@@ -92,7 +92,7 @@ pub use mdl_context as context;
 pub use mdl_context::{Acquire, Context, Request, Resume, Tried};
 pub use mdl_defs as defs;
 pub use mdl_defs::{
-    CacheError, Change, Column, Columns, DefCache, Definition, MOST_KEPT, Standing,
+    CacheError, Change, Column, Columns, DefCache, Definition, MOST_KEPT, VersionedDefinition,
 };
 pub use mdl_graph as graph;
 pub use mdl_key as key;

@@ -2,7 +2,7 @@
 use Rattle.std.proofs.Common.{◌≡◌, ◌∙◌, ℕ, true, ap}
 use Rattle.mdl_key.specs.Words.{KeyName}
 use Rattle.mdl_calls.specs.Words.{Answer, At_place, Resolve}
-use Rattle.mdl_calls.specs.SessionData.{is_known}
+use Rattle.mdl_key.specs.KeyLookups.{is_known}
 use Rattle.mdl_session_laws.specs.SessionJoins.{Joins}
 use Rattle.mdl_session_laws.proofs.KeyLaws.{session-resolved_pinned}
 use Rattle.mdl_session_laws.proofs.KnownAfter.{known-on}

@@ -1,6 +1,6 @@
 //! The repeated calls of a session on a thread of its own, beside other sessions.
 ghost use Rattle.std.specs.Prelude.{◌≡◌, true};
-ghost use Rattle.mdl_calls.specs.SessionData.{is_known};
+ghost use Rattle.mdl_key.specs.KeyLookups.{is_known};
 ghost use Rattle.mdl_shared.specs.SessionViews.{data_of};
 
 use crate::failure::Failure;

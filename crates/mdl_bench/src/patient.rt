@@ -1,6 +1,6 @@
 //! Calls of sessions beside sessions of other threads: they try again if the word changed meanwhile, and wait if the lock isn't free.
 ghost use Rattle.std.specs.Prelude.{◌≡◌, true};
-ghost use Rattle.mdl_calls.specs.SessionData.{is_known};
+ghost use Rattle.mdl_key.specs.KeyLookups.{is_known};
 ghost use Rattle.mdl_shared.specs.SessionViews.{data_of};
 
 use crate::failure::Failure;

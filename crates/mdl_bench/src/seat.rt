@@ -1,6 +1,6 @@
 //! Sessions of the table that threads share: how they are closed, and calls after which they still know all keys that they knew.
 ghost use Rattle.std.specs.Prelude.{◌≡◌, ℕ, true, IfOk};
-ghost use Rattle.mdl_calls.specs.SessionData.{is_known};
+ghost use Rattle.mdl_key.specs.KeyLookups.{is_known};
 ghost use Rattle.mdl_shared.specs.SessionViews.{data_of};
 
 use crate::failure::Failure;

@@ -8,7 +8,7 @@ use Rattle.mdl_key.specs.declared.namespace.Kind.{Kind}
 use Rattle.mdl_key.specs.declared.mode.Mode.{Mode}
 use Rattle.mdl_key.specs.Words.{is_obtrusive, KeyName, kind_of}
 use Rattle.mdl_defs.specs.declared.change.Change.{Change}
-use Rattle.mdl_defs.specs.Standings.{nothing_yet, standing_after}
+use Rattle.mdl_defs.specs.VersionedDefinitions.{nothing_yet, standing_after}
 use Rattle.mdl_book.specs.declared.book_error.BookError.{BookError}
 use Rattle.mdl_book.specs.declared.book_error.BookError.TheVariants.{NotHere, WouldConflict, Full}
 use Rattle.mdl_book.specs.declared.book_view.BookView.{BookView}

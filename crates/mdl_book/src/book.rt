@@ -2,7 +2,7 @@
 ghost use Rattle.std.specs.Prelude.{◌≡◌, ◌++◌, [], ◌∷◌, OnOk, OnErr, IfOk, ◌+◌, length, is_ok, if◌then◌else◌, ◌≤◌, nat_le, Some, None, List, IsTrue};
 ghost use Rattle.std.specs.Option.{ok_or, option_map, option_copied};
 ghost use Rattle.mdl_key.specs.Refusals.{Refuses, RefusesJust};
-ghost use Rattle.mdl_defs.specs.Standings.{standing_fault};
+ghost use Rattle.mdl_defs.specs.VersionedDefinitions.{standing_fault};
 ghost use Rattle.mdl_book.specs.Tickets.{ticket_id, ticket_of, without};
 ghost use Rattle.mdl_book.specs.FastTickets.{CountsFastTickets, CoversFastTickets, AreOfOthers, may_stand, can_be_granted};
 ghost use Rattle.mdl_book.specs.Granting.{is_grantable, is_compatible, goes_first, IsGrantable, IsLawful};
@@ -11,7 +11,7 @@ ghost use Rattle.mdl_book.specs.Books.{lock_kind, empty_book, grant_fault, chang
 use crate::kept_standing::KeptStanding;
 use crate::ticket_list::TicketList;
 use crate::{BookError, BookView, Needs, Sessions, Ticket};
-use mdl_defs::{Change, ChangeError, Definition, Standing};
+use mdl_defs::{Change, ChangeError, Definition, VersionedDefinition};
 use mdl_key::{Key, Kind, Mode};
 use mdl_word::Word;
 use std::alloc::{AllocError, Global};
@@ -101,7 +101,7 @@ impl Book {
     }
 
     /// Returns a copy of the key's version and definition.
-    pub fn read(&self) -> Result<Standing, AllocError>
+    pub fn read(&self) -> Result<VersionedDefinition, AllocError>
         ensures { IfOk result (λ standing. standing ≡ self.now.standing) }
     {
         self.standing.read()

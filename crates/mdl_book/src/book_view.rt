@@ -1,6 +1,6 @@
 //! The value of a book in contracts.
 use crate::Ticket;
-use mdl_defs::Standing;
+use mdl_defs::VersionedDefinition;
 use mdl_key::Key;
 
 /// The value of a book in contracts: the lock's key, its two lists of tickets, each in order, and the key's version and
@@ -14,5 +14,5 @@ pub struct BookView {
     /// The waiting tickets, in order of arrival.
     pub waiting: [Ticket; 0],
     /// The key's version and definition.
-    pub standing: Standing,
+    pub standing: VersionedDefinition,
 }

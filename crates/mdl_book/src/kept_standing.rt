@@ -2,9 +2,9 @@
 ghost use Rattle.std.specs.Prelude.{◌≡◌, IfOk, OnErr};
 ghost use Rattle.std.specs.Option.{option_copied};
 ghost use Rattle.mdl_key.specs.Refusals.{Refuses, RefusesJust};
-ghost use Rattle.mdl_defs.specs.Standings.{nothing_yet, standing_fault, standing_after};
+ghost use Rattle.mdl_defs.specs.VersionedDefinitions.{nothing_yet, standing_fault, standing_after};
 
-use mdl_defs::{Change, ChangeError, Definition, Standing};
+use mdl_defs::{Change, ChangeError, Definition, VersionedDefinition};
 use mdl_key::Namespace;
 use std::alloc::{AllocError, Global};
 use std::marker::Model;
@@ -13,14 +13,14 @@ use std::marker::Model;
 #[derive(Drop)]
 pub(crate) struct KeptStanding {
     alloc: Global,
-    standing: Option<Box<Standing>>,
+    standing: Option<Box<VersionedDefinition>>,
 }
 
 impl Model for KeptStanding {
-    ghost use Rattle.mdl_defs.specs.declared.standing.Standing.{Standing};
+    ghost use Rattle.mdl_defs.specs.declared.versioned_definition.VersionedDefinition.{VersionedDefinition};
     ghost use Rattle.mdl_book.specs.KeptStandings.{standing_of};
 
-    ghost Value = { Standing };
+    ghost Value = { VersionedDefinition };
 
     ghost view = { λ kept. standing_of kept.standing };
 }
@@ -57,12 +57,12 @@ impl KeptStanding {
     }
 
     /// Returns a copy of the version and the definition.
-    pub(crate) fn read(&self) -> Result<Standing, AllocError>
+    pub(crate) fn read(&self) -> Result<VersionedDefinition, AllocError>
         ensures { IfOk result (λ standing. standing ≡ self.now) }
     {
         match &self.standing {
             Some(standing) => Ok((**standing).clone()?),
-            None => Ok(Standing::new()),
+            None => Ok(VersionedDefinition::new()),
         }
     }
 
@@ -80,7 +80,7 @@ impl KeptStanding {
         if let Some(standing) = &mut self.standing {
             return standing.change(self.alloc, namespace, change);
         }
-        let mut standing = Standing::new();
+        let mut standing = VersionedDefinition::new();
         let version = standing.change(self.alloc, namespace, change)?;
         match Box::new(self.alloc, standing) {
             Ok(standing) => {

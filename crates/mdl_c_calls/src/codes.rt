@@ -62,7 +62,7 @@ pub fn mode_of(number: u8) -> Option<Mode>
     }
 }
 
-/// Returns the code that says why a manager can't be made.
+/// Returns the code that says why a space can't be made.
 pub fn new_code(why: NewError) -> u32
     ensures { result ≡ new_code why }
 {

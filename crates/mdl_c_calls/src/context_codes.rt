@@ -39,7 +39,7 @@ pub fn namespace_of(number: u8) -> Option<Namespace>
     }
 }
 
-/// Returns the code that says why a manager refuses a session's call.
+/// Returns the code that says why a `ServedSpace` refuses a session's call.
 pub fn unserved_code(why: Unserved) -> u32
     ensures { result ≡ unserved_code why }
 {
@@ -128,7 +128,7 @@ pub fn mark_code(answer: Result<mdl_context::Mark, Unserved>, mark: &mut Mark) -
     }
 }
 
-/// Returns the code of a call that is done, unless the manager refuses it.
+/// Returns the code of a call that is done, unless the `ServedSpace` refuses it.
 pub fn served_code(answer: Result<(), Unserved>) -> u32
     ensures { result ≡ served_code (λ _. 0) answer }
 {

@@ -1,4 +1,4 @@
-//! What the C program's memory holds of a manager: a pointer to its box, or null.
+//! What the C program's memory holds of a `ServedSpace`: a pointer to its box, or null.
 ghost use Rattle.std.specs.Prelude.{◌≡◌, true, None, Some, is_some, Option, MatchOption};
 ghost use Rattle.mdl_c_calls.specs.Handles.{keeps};
 ghost use Rattle.mdl_c_calls.specs.Managers.{Managed};
@@ -10,7 +10,7 @@ use std::alloc::Global;
 use std::marker::Model;
 use std::{mem, ptr};
 
-/// A manager's box, or none.
+/// A pointer to the box of a `ServedSpace`, or null.
 #[derive(Drop)]
 #[repr(C)]
 pub struct Handle {
@@ -57,7 +57,8 @@ impl Handle {
 
 unsafe impl Send for Handle {}
 
-/// A manager, or the room for one, in memory of the C program: `struct mdl_space` of `mdl.h`. All of its bytes are 0 if there is none.
+/// The handle of a `ServedSpace`, or the room for one, in memory of the C program: `struct mdl_space` of `mdl.h`. All of its bytes are 0 if there is no
+/// `ServedSpace`.
 #[derive(Drop)]
 #[repr(C)]
 pub struct MdlSpace {
@@ -67,14 +68,14 @@ pub struct MdlSpace {
 }
 
 impl MdlSpace {
-    /// Whether there is a manager.
+    /// Whether there is a `ServedSpace`.
     pub(crate) fn is_open(&self) -> bool
         ensures { result ≡ is_some self.now.handle.manager }
     {
         self.is_open
     }
 
-    /// Takes the manager out, if there is one.
+    /// Takes the `ServedSpace` out, if there is one.
     pub(crate) fn take(&mut self, alloc: Global) -> Option<Box<ServedSpace, Global>>
         ensures taken { MatchOption result (self.old.handle.manager ≡ None) (λ b. self.old.handle.manager ≡ Some b.value) }
         ensures left { self.new.handle.manager ≡ None }
@@ -93,7 +94,7 @@ impl MdlSpace {
         Some(handle.into_parts().into_box())
     }
 
-    /// Puts a manager in, where there is none: one that is there would never be freed.
+    /// Puts a `ServedSpace` in, where there is none: one that is there would never be freed.
     pub(crate) fn put(&mut self, manager: Box<ServedSpace, Global>)
         requires empty { self.old.handle.manager ≡ None }
         ensures { self.new.handle.manager ≡ Some manager.value }
@@ -107,7 +108,7 @@ impl MdlSpace {
 
 fn crosses<T: Send>() {}
 
-/// A manager may be sent from one thread of the C program to another: a law, proved as the contract of a function that does nothing.
+/// A handle may be sent from one thread of the C program to another: a law, proved as the contract of a function that does nothing.
 pub fn spaces_cross() {
     crosses::<MdlSpace>();
 }

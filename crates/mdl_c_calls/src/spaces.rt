@@ -1,4 +1,4 @@
-//! The calls that make a manager and free it.
+//! The calls that make a space and free it.
 ghost use Rattle.std.specs.Prelude.{◌≡◌};
 ghost use Rattle.mdl_c_calls.specs.Exports.{Closes, OpensSpace};
 
@@ -7,7 +7,7 @@ use crate::handle::MdlSpace;
 use crate::manager::ServedSpace;
 use std::alloc::Global;
 
-/// Makes a manager with this number of places and sessions, if there is none yet.
+/// Makes a space with this number of places and sessions, if the handle has none yet.
 pub fn mdl_open(alloc: Global, space: &mut MdlSpace, places: u16, sessions: u16) -> u32
     ensures { OpensSpace places sessions space.old.handle.manager result space.new.handle.manager }
 {
@@ -27,7 +27,7 @@ pub fn mdl_open(alloc: Global, space: &mut MdlSpace, places: u16, sessions: u16)
     }
 }
 
-/// Frees the manager, with all that its sessions hold and wait for.
+/// Frees the handle's space, with all that its sessions hold and wait for.
 pub fn mdl_close(alloc: Global, space: &mut MdlSpace) -> u32
     ensures { Closes space.old.handle.manager result space.new.handle.manager }
 {

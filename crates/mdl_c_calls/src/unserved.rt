@@ -1,6 +1,6 @@
-//! Why a manager refuses a session's call.
+//! Why a `ServedSpace` refuses a session's call.
 
-/// Why the manager itself, and not its space or a context, refuses a session's call.
+/// Why a `ServedSpace` itself, and not its `CoreSpace` or a context, refuses a session's call.
 #[derive(Clone, Copy)]
 pub enum Unserved {
     /// There is no such session.

@@ -8,9 +8,9 @@ use Rattle.mdl_defs.specs.declared.change_error.ChangeError.TheVariants.{Version
 use Rattle.mdl_defs.specs.declared.change_error.ChangeError.TheVariants as error
 use Rattle.mdl_defs.specs.declared.def_error.DefError.{DefError}
 use Rattle.mdl_defs.specs.declared.def_error.DefError.TheVariants as fault
-use Rattle.mdl_defs.specs.declared.standing.Standing.{Standing}
-use Rattle.mdl_defs.specs.Standings.{standing_fault}
-use Rattle.mdl_defs.proofs.StandingLemmas.{fault-cases}
+use Rattle.mdl_defs.specs.declared.versioned_definition.VersionedDefinition.{VersionedDefinition}
+use Rattle.mdl_defs.specs.VersionedDefinitions.{standing_fault}
+use Rattle.mdl_defs.proofs.VersionedDefinitionLemmas.{fault-cases}
 use Rattle.mdl_key.specs.Keys.{KeyName}
 use Rattle.mdl_key.specs.Refusals.{Refuses, RefusesJust}
 use Rattle.mdl_key.specs.declared.mode.Mode.TheVariants.{X}
@@ -25,12 +25,12 @@ use Rattle.mdl_calls.specs.SessionLocks.{SessionLocks}
 use Rattle.mdl_calls.specs.Reads.{IsChangeOf, cause_of}
 
 -- want of memory is no fault of what is asked
-fault-known : (namespace : Namespace) (change : Change) (standing : Standing) → standing_fault namespace change standing ≡ Some error.OutOfMemory → ⊥
+fault-known : (namespace : Namespace) (change : Change) (standing : VersionedDefinition) → standing_fault namespace change standing ≡ Some error.OutOfMemory → ⊥
 fault-known namespace change standing e =
     fault-cases (λ why. why ≡ error.OutOfMemory → ⊥) namespace change standing (λ _ f. cc) (λ f. cc) (λ why _ f. cc) error.OutOfMemory e refl
 
 -- a change that takes no memory is never refused for want of it
-pub drop-memory : (namespace : Namespace) (change : Change) (standing : Standing) (result : Result ℕ ChangeError)
+pub drop-memory : (namespace : Namespace) (change : Change) (standing : VersionedDefinition) (result : Result ℕ ChangeError)
     → (change ≡ Drop → RefusesJust (standing_fault namespace change standing) result) → result ≡ Err error.OutOfMemory → change_takes_memory change ≡ true
 drop-memory namespace Drop standing result just e =
     by (standing_fault namespace Drop standing) refl (subst (RefusesJust (standing_fault namespace Drop standing)) e (just refl))
@@ -46,7 +46,7 @@ answered (Ok version) = Changed version
 answered (Err why) = Refused (cause_of why)
 
 -- what a space answers to a change, where that is made or refused as books do it
-pub is_change-of : (key : KeyName) (change : Change) (standing : Standing) (result : Result ℕ ChangeError)
+pub is_change-of : (key : KeyName) (change : Change) (standing : VersionedDefinition) (result : Result ℕ ChangeError)
     → Refuses (standing_fault key.namespace change standing) error.OutOfMemory result → IfOk result (λ version. version ≡ standing.version + 1)
     → IsChangeOf key change standing (answered result)
 is_change-of key change standing result refuses next = by (standing_fault key.namespace change standing) result refuses next
@@ -60,7 +60,7 @@ is_change-of key change standing result refuses next = by (standing_fault key.na
     by (Some fault) (Err why) ok e = let same : why ≡ fault = cc in inr (ap (λ w. Refused (cause_of w)) same)
 
 -- each such refusal has its cause, where an exclusive ticket is held
-pub redefined-cause : (knows : Knowledge) (who id : ℕ) (change : Change) (own : SessionLocks) (key : KeyName) (standing : Standing) (refusal : SpaceError)
+pub redefined-cause : (knows : Knowledge) (who id : ℕ) (change : Change) (own : SessionLocks) (key : KeyName) (standing : VersionedDefinition) (refusal : SpaceError)
     → OfHeld id own (λ ticket. same_mode ticket.mode X ≡ true) → IsChangeOf key change standing (Refused refusal)
     → (refusal ≡ OutOfMemory → change_takes_memory change ≡ true) → IsCause knows (Change_definition who id change) refusal own
 redefined-cause knows who id change own key standing refusal exclusive of_change memory = by of_change

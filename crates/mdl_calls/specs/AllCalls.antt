@@ -83,7 +83,7 @@ IsClear knows call own = (spec_of call).clear knows own
 abbrev pub IsCause : Knowledge → Call → SpaceError → SessionLocks → Type 0
 IsCause knows call why own = (spec_of call).cause why knows own
 
--- what an answer says of the caller's tickets and wait: if it is a refusal, its cause; otherwise that there is none
+-- what an answer says of the caller's tickets and wait: if it is a refusal, its cause; otherwise what must hold for the call not to be refused (`IsClear`)
 abbrev pub IsExplained : Knowledge → Call → Answer → SessionLocks → Type 0
 IsExplained knows call answer own = Explains (spec_of call) knows answer own
 
@@ -103,7 +103,7 @@ Draws call answer before after = DrawsBy ((spec_of call).effect answer) before a
 abbrev pub told : Call → Answer → Option Settled
 told call answer = (spec_of call).told answer
 
--- the answer to a call about the caller's wait, if that is settled in this way
+-- the answer to polling, timing out or ending the caller's wait, if that is settled in this way. Of other calls this says nothing.
 abbrev pub IsToldOf : Settled → Call → Answer → Type 0
 IsToldOf how call answer = (spec_of call).told_of how answer
 

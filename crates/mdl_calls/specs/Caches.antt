@@ -1,11 +1,11 @@
 -- Which definitions a session's cache may hold, and what the session's calls do to it.
 use Rattle.std.specs.Prelude.{◌≡◌, ℕ, List, Some, Contains}
-use Rattle.mdl_defs.specs.declared.standing.Standing.{Standing}
+use Rattle.mdl_defs.specs.declared.versioned_definition.VersionedDefinition.{VersionedDefinition}
 use Rattle.mdl_defs.specs.Caches.{CacheView, Kept}
 use Rattle.mdl_calls.specs.Interface.{Answer, Call, Read_kept}
 
 -- each definition in the cache was met at its place, with its version
-abbrev pub AreMet : (ℕ → Standing → Type 0) → List Kept → Type 0
+abbrev pub AreMet : (ℕ → VersionedDefinition → Type 0) → List Kept → Type 0
 AreMet met kept = (one : Kept) → Contains kept one → met one.0.0 (record { version = one.0.1; definition = Some one.1 })
 
 -- what a call does to its session's cache, in a space that uses it so: a read with the cache uses it, and every other call leaves it unchanged

@@ -1,5 +1,7 @@
--- The specification of a call: what every lock space promises of it, and what a session of a shared space then has, knows and has read. Each call has its own,
--- in a file of `calls`.
+-- The specification of a call: what every lock space promises of it, and what a session of a shared space then has, knows and has read. Each call has its
+-- own, in a file of `calls`. When a request is granted, and who is the victim of a deadlock, isn't said here. The matrices of `mdl_key` say which modes
+-- clash. `mdl_system` says by them when a request is grantable (`IsGrantable`), and who is a deadlock's victim (`IsVictimOf`). `mdl_core` says that the
+-- space of one thread answers so (`Determined`).
 use Rattle.std.specs.Prelude.{◌≡◌, ℕ, Bool, true, false, List, Option, Some, None}
 use Rattle.std.specs.Option.{IfSome}
 use Rattle.mdl_key.specs.declared.mode.Mode.{Mode}
@@ -10,7 +12,9 @@ use Rattle.mdl_calls.specs.Interface.{Answer, Refused}
 use Rattle.mdl_calls.specs.SessionLocks.{SessionLocks, holds, is_waiting}
 use Rattle.mdl_calls.specs.Effects.{Effect, Keeps, own_by, DrawsBy, place_of, ends}
 use Rattle.mdl_calls.specs.Causes.{Knowledge, IsUnknown, IsFit, IsUnfit}
-use Rattle.mdl_calls.specs.SessionData.{SessionData, KnownKey, SpeaksFor, Knows, is_known}
+use Rattle.mdl_key.specs.declared.known_key.KnownKey.{KnownKey}
+use Rattle.mdl_key.specs.KeyLookups.{is_known}
+use Rattle.mdl_calls.specs.SessionData.{SessionData, SpeaksFor, Knows}
 use Rattle.mdl_calls.specs.Learning.{KeepsSettled}
 use Rattle.mdl_calls.specs.Meetings.{ReadsNothing}
 
@@ -37,12 +41,13 @@ abbrev pub memory_cause : SpaceError → Knowledge → SessionLocks → Type 0
 memory_cause OutOfMemory knows own = Unit {0}
 memory_cause _ knows own = ⊥
 
--- the caller may request a lock: it has no wait, and the mode is one of the kind of the place's key
+-- the caller may request a lock: it has no wait, and the mode fits the place, as any mode does if the caller doesn't know the place (`IsFit`). That the
+-- caller knows the place is said only where it gets a ticket or a wait there (`gained` of `Transition`), and not where it would have to wait (`Would_wait`).
 abbrev pub MayAsk : ℕ → Mode → Knowledge → SessionLocks → Type 0
 MayAsk place mode knows own = (is_waiting own ≡ false) × IsFit knows place mode
 
 -- why a request is refused: the caller doesn't know the place, or waits already, or the mode doesn't fit, or there is no number or no room left, or memory
--- ran out
+-- ran out. It is refused for want of a number or of room only if it may be made (`MayAsk`).
 abbrev pub wish_cause : ℕ → Mode → SpaceError → Knowledge → SessionLocks → Type 0
 wish_cause place mode NoPlace knows own = IsUnknown knows place
 wish_cause place mode AlreadyWaiting knows own = is_waiting own ≡ true
@@ -89,8 +94,9 @@ pub record CallSpec : Type 1 where
   -- what else the answer says of the session
   pub says : Answer → SessionData → SessionData → Type 0
 
--- a call of this session of which each aspect is the strongest promise: it has no answer and no cause of a refusal, takes no memory, and changes nothing. Its
--- caller learns and reads nothing. Only what must hold for it not to be refused, and what its answers say, are left open.
+-- a call of this session that sessions have, with the other aspects as most calls have them. Some promise the most that they can: it has no answer and no
+-- cause of a refusal, takes no memory, reads without a cache, leaves its caller's tickets and wait as they are, and changes no definition. Its caller learns
+-- and reads nothing. The others say nothing: `clear`, `met`, `told`, `told_of`, `reads_under` and `says`.
 abbrev pub unchanged : ℕ → CallSpec
 unchanged who = record {
   caller = Some who;
@@ -113,16 +119,19 @@ unchanged who = record {
 
 -- ---- what it is to a session
 
--- what an answer says of the caller's tickets and wait: if it is a refusal, its cause; otherwise that there is none
+-- what an answer says of the caller's tickets and wait: if it is a refusal, its cause; otherwise what must hold for the call not to be refused
 abbrev pub Explains : CallSpec → Knowledge → Answer → SessionLocks → Type 0
 Explains call knows (Refused why) own = call.cause why knows own
 Explains call knows _ own = call.clear knows own
 
 -- a call with this answer takes the session from the one state to the other. The caller, if there is one, is the session itself (`mine`). Sessions have such
--- a call (`has`), and it can have such an answer (`fits`). The session has what the call leaves it (`own`, `numbers`), and a refusal has a cause
--- (`explained`). It got a ticket or a wait only at a place that it knows (`gained`), and knows the keys that it learnt (`learns`). If it knew how its wait is
--- settled, the call met the wait settled so (`agreed`). It knows what the answer says of its wait (`told`), and otherwise what it knew or may have learnt
--- (`settled`). It has read what the call lets it read (`reads`), and what the answer says of it is true (`truly`). No clause says anything of other sessions.
+-- a call (`has`), and it can have such an answer (`fits`). The session keeps its number (`number`), and has what the call leaves it (`own`, `numbers`). A
+-- refusal has a cause; with any other answer, what must hold for the call not to be refused holds (`explained`). If the call named a place, and the session
+-- got a ticket or a wait there, it knew the place (`gained`). It knows the keys that it learnt (`learns`). If the answer says in which state the call met the
+-- caller's wait, and the session knew how its wait is settled, that is the state (`agreed`). If the answer says how the wait is settled from then on, the
+-- session knows that afterwards (`told`). If the call ended the wait, the session afterwards knows of no settled wait. Otherwise it still knows what it knew;
+-- what it didn't know it may have learnt, but only if it had a wait (`settled`). It has read what the call lets it read (`reads`), and what else the answer
+-- says of it is true (`truly`). No clause says anything of other sessions.
 pub record Transition (call : CallSpec) (answer : Answer) (a b : SessionData) : Type 0 where
   pub mine : IfSome call.caller (SpeaksFor a)
   pub has : call.has ≡ true

@@ -1,5 +1,6 @@
--- When a lock space refuses a call, as far as the caller's own tickets and wait decide it. Of several causes that they
--- decide, the first in the order of `SpaceError` counts.
+-- When a lock space refuses a call, as far as the caller's own tickets and wait and the keys that it knows decide it. Which of several causes comes first is
+-- said here only in part. `mdl_core` says it of the space of one thread, by the outcome of each call (`CoreCalls`), and `mdl_shared` of the table that
+-- threads share, by its own specification of each call (`calls`).
 use Rattle.std.specs.Prelude.{◌≡◌, ℕ, Bool, true, false, not, ◌&&◌, ◌||◌, ◌==◌, MatchOption}
 use Rattle.mdl_key.specs.declared.mode.Mode.{Mode}
 use Rattle.mdl_key.specs.Words.{KeyName, kind_of, is_mode_of}
@@ -19,11 +20,11 @@ IsUnknown knows place = (key : KeyName) → knows place key → ⊥
 abbrev pub IsUnplaced : Knowledge → KeyName → Type 0
 IsUnplaced knows key = (place : ℕ) → knows place key → ⊥
 
--- the mode is one of the kind of the key that the session knows at the place
+-- the mode is one of the kind of the key that the session knows at the place. Every mode fits a place that it doesn't know.
 abbrev pub IsFit : Knowledge → ℕ → Mode → Type 0
 IsFit knows place mode = (key : KeyName) → knows place key → is_mode_of (kind_of key.namespace) mode ≡ true
 
--- the mode isn't one of that kind
+-- the mode isn't one of that kind. This too holds of every mode, if the session doesn't know the place.
 abbrev pub IsUnfit : Knowledge → ℕ → Mode → Type 0
 IsUnfit knows place mode = (key : KeyName) → knows place key → is_mode_of (kind_of key.namespace) mode ≡ false
 

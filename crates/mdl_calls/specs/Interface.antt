@@ -6,7 +6,7 @@ use Rattle.mdl_key.specs.Keys.{KeyName}
 use Rattle.mdl_defs.specs.declared.change.Change.{Change}
 use Rattle.mdl_defs.specs.declared.change.Change.TheVariants as change
 use Rattle.mdl_defs.specs.declared.definition.Definition.{Definition}
-use Rattle.mdl_defs.specs.declared.standing.Standing.{Standing}
+use Rattle.mdl_defs.specs.declared.versioned_definition.VersionedDefinition.{VersionedDefinition}
 use Rattle.mdl_calls.specs.declared.space_error.SpaceError.{SpaceError}
 use Rattle.mdl_calls.specs.declared.space_error.SpaceError.TheVariants.{OutOfMemory}
 use Rattle.mdl_calls.specs.declared.answers.Held.{Held}
@@ -161,7 +161,7 @@ abbrev pub listed : {Z : Type 0} → Result (Vec Held Z) SpaceError → Answer
 listed (Ok tickets) = Holds tickets.items
 listed (Err refusal) = Refused refusal
 
-abbrev pub read : Result Standing SpaceError → Answer
+abbrev pub read : Result VersionedDefinition SpaceError → Answer
 read (Ok standing) = Reads standing.version standing.definition
 read (Err refusal) = Refused refusal
 

@@ -6,7 +6,9 @@ use Rattle.mdl_key.specs.Words.{KeyName}
 use Rattle.mdl_calls.specs.declared.answers.Settled.{Settled}
 use Rattle.mdl_calls.specs.SessionLocks.{is_waiting}
 use Rattle.mdl_calls.specs.Reads.{is_table_of}
-use Rattle.mdl_calls.specs.SessionData.{SessionData, KnownKey, key_known, is_known, are_apart}
+use Rattle.mdl_key.specs.declared.known_key.KnownKey.{KnownKey}
+use Rattle.mdl_key.specs.KeyLookups.{are_apart, is_known, key_known}
+use Rattle.mdl_calls.specs.SessionData.{SessionData}
 
 -- the session already knew this place of the key; or it knew neither the key's place nor the place's key, and knows them now
 abbrev pub LearnsPlace : KeyName → ℕ → Option ℕ → List KnownKey → List KnownKey → Type 0

@@ -8,8 +8,8 @@ use Rattle.mdl_key.specs.Keys.{KeyName, table_key, key_cmp}
 use Rattle.mdl_defs.specs.declared.change.Change.{Change}
 use Rattle.mdl_defs.specs.declared.change_error.ChangeError.{ChangeError}
 use Rattle.mdl_defs.specs.declared.change_error.ChangeError.TheVariants as fault
-use Rattle.mdl_defs.specs.declared.standing.Standing.{Standing}
-use Rattle.mdl_defs.specs.Standings.{standing_fault}
+use Rattle.mdl_defs.specs.declared.versioned_definition.VersionedDefinition.{VersionedDefinition}
+use Rattle.mdl_defs.specs.VersionedDefinitions.{standing_fault}
 use Rattle.mdl_calls.specs.declared.answers.Held.{Held}
 use Rattle.mdl_calls.specs.declared.space_error.SpaceError.{SpaceError}
 use Rattle.mdl_calls.specs.declared.space_error.SpaceError.TheVariants.{VersionFull, WrongKind, Def, OutOfMemory}
@@ -34,7 +34,7 @@ cause_of fault.OutOfMemory = OutOfMemory
 
 -- the answer to a change of a key that had this version and definition: a refusal for its cause, if there is one, and otherwise
 -- the next version. But memory may run out before that.
-abbrev pub IsChangeOf : KeyName → Change → Standing → Answer → Type 0
+abbrev pub IsChangeOf : KeyName → Change → VersionedDefinition → Answer → Type 0
 IsChangeOf key change standing answer =
     (answer ≡ Refused OutOfMemory)
     ⊎ MatchOption (standing_fault key.namespace change standing) (answer ≡ Changed (standing.version + 1)) (λ why. answer ≡ Refused (cause_of why))

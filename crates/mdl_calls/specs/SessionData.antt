@@ -3,27 +3,20 @@
 use Rattle.std.specs.Prelude.{◌≡◌, ℕ, ◌+◌, Bool, true, false, not, ◌&&◌, ◌||◌, ◌==◌, nat_lt, nat_le, List, [], ◌∷◌, find, Option, Some, None, is_some, MatchOption, Contains, if◌then◌else◌}
 use Rattle.std.specs.List.{list_all, list_any}
 use Rattle.std.specs.Option.{option_map, option_or, IfSome}
-use Rattle.mdl_key.specs.Words.{KeyName, key_eq}
-use Rattle.mdl_defs.specs.declared.standing.Standing.{Standing}
-use Rattle.mdl_defs.specs.Standings.{MayStand}
+use Rattle.mdl_key.specs.declared.known_key.KnownKey.{KnownKey}
+use Rattle.mdl_key.specs.KeyLookups.{are_apart, is_known, key_known}
+use Rattle.mdl_key.specs.Keys.{KeyName}
+use Rattle.mdl_defs.specs.declared.reading.Reading.{Reading}
+use Rattle.mdl_defs.specs.declared.versioned_definition.VersionedDefinition.{VersionedDefinition}
+use Rattle.mdl_defs.specs.VersionedDefinitions.{MayStand}
 use Rattle.mdl_calls.specs.declared.answers.Held.{Held}
 use Rattle.mdl_calls.specs.declared.answers.Settled.{Settled}
 use Rattle.mdl_calls.specs.SessionLocks.{SessionLocks, Numbers, IsRising, is_waiting}
-
--- a key and its place, as the session has looked it up
-pub record KnownKey : Type 0 where
-  pub key : KeyName
-  pub place : ℕ
 
 -- a version that the session has noted under a ticket at a place
 pub record Note : Type 0 where
   pub place : ℕ
   pub version : ℕ
-
--- a version and definition that the session read at a place, or that its own change made there
-pub record Reading : Type 0 where
-  pub place : ℕ
-  pub standing : Standing
 
 -- a session: its number; its held tickets and its wait, and the last numbers that it gave them; the keys that it has looked up; how its wait is
 -- settled, if it has met that; a note for each ticket under which it noted a version; and what it read, the first read first
@@ -38,24 +31,12 @@ pub record SessionData : Type 0 where
 
 -- ---- look-ups
 
--- the key of a place, if it is known
-abbrev pub key_known : ℕ → List KnownKey → Option KeyName
-key_known place known = option_map (λ (k : KnownKey). k.key) (find (λ (k : KnownKey). k.place == place) known)
-
--- whether the key of a place is known
-abbrev pub is_known : ℕ → List KnownKey → Bool
-is_known place known = is_some (key_known place known)
-
--- the place of a key, if it is known
-abbrev pub place_known : KeyName → List KnownKey → Option ℕ
-place_known key known = option_map (λ (k : KnownKey). k.place) (find (λ (k : KnownKey). key_eq k.key key) known)
-
 -- the version that is noted at a place, if there is one
 abbrev pub noted_at : ℕ → List Note → Option ℕ
 noted_at place notes = option_map (λ (n : Note). n.version) (find (λ (n : Note). n.place == place) notes)
 
 -- the version and definition that were read last at a place, if any were
-abbrev pub last_read : ℕ → List Reading → Option Standing
+abbrev pub last_read : ℕ → List Reading → Option VersionedDefinition
 last_read place [] = None
 last_read place (r ∷ later) = option_or (last_read place later) (if r.place == place then Some r.standing else None)
 
@@ -68,15 +49,6 @@ abbrev pub is_newest : ℕ → ℕ → List Reading → Bool
 is_newest place version reads = list_all (λ r. not (r.place == place) || nat_le r.standing.version version) reads
 
 -- ---- invariants
-
--- whether two known keys differ, and their places differ
-abbrev pub are_two : KnownKey → KnownKey → Bool
-are_two one other = not (key_eq one.key other.key) && not (one.place == other.place)
-
--- whether no key is looked up twice, and no place
-abbrev pub are_apart : List KnownKey → Bool
-are_apart [] = true
-are_apart (k ∷ later) = list_all (are_two k) later && are_apart later
 
 -- whether the tickets have numbers below this one
 abbrev pub are_below : ℕ → List Held → Bool
@@ -93,10 +65,10 @@ are_placed known held = list_all (λ (t : Held). is_known t.place known) held
 
 -- this version is that of the last read at the place
 abbrev pub IsNoted : SessionData → ℕ → ℕ → Type 0
-IsNoted a place version = option_map (λ (s : Standing). s.version) (last_read place a.reads) ≡ Some version
+IsNoted a place version = option_map (λ (s : VersionedDefinition). s.version) (last_read place a.reads) ≡ Some version
 
 -- the key of the place is known, and this is a valid version and definition for it
-abbrev pub FitsKey : SessionData → ℕ → Standing → Type 0
+abbrev pub FitsKey : SessionData → ℕ → VersionedDefinition → Type 0
 FitsKey a place standing = MatchOption (key_known place a.known) ⊥ (λ key. MayStand key.namespace standing)
 
 -- what always holds of a session: its tickets have rising numbers, below that of the ticket that it waits for. They and its wait are at places that it
@@ -110,8 +82,8 @@ pub record IsSound (a : SessionData) : Type 0 where
   pub apart : are_apart a.known ≡ true
   pub settled : is_some a.settled ≡ true → is_waiting a.own ≡ true
   pub noted : (place version : ℕ) → noted_at place a.notes ≡ Some version → IsNoted a place version
-  pub newest : (place : ℕ) (standing : Standing) → last_read place a.reads ≡ Some standing → is_newest place standing.version a.reads ≡ true
-  pub fits : (place : ℕ) (standing : Standing) → last_read place a.reads ≡ Some standing → FitsKey a place standing
+  pub newest : (place : ℕ) (standing : VersionedDefinition) → last_read place a.reads ≡ Some standing → is_newest place standing.version a.reads ≡ true
+  pub fits : (place : ℕ) (standing : VersionedDefinition) → last_read place a.reads ≡ Some standing → FitsKey a place standing
 
 -- ---- what it is as a space
 
@@ -136,11 +108,11 @@ abbrev pub IsSettledAs : SessionData → ℕ → Settled → Type 0
 IsSettledAs a who how = a.settled ≡ Some how
 
 -- a place has this version and definition: they are the session's last reading there, and it has noted the version
-abbrev pub HasRead : SessionData → ℕ → ℕ → Standing → Type 0
+abbrev pub HasRead : SessionData → ℕ → ℕ → VersionedDefinition → Type 0
 HasRead a who place standing = (noted_at place a.notes ≡ Some standing.version) × (last_read place a.reads ≡ Some standing)
 
 -- the session has read this version and definition at the place, now or before
-abbrev pub HasMet : SessionData → ℕ → ℕ → Standing → Type 0
+abbrev pub HasMet : SessionData → ℕ → ℕ → VersionedDefinition → Type 0
 HasMet a who place standing = Contains a.reads (record { place = place; standing = standing })
 
 -- the session has read this version at the place, now or before

@@ -7,8 +7,8 @@ use Rattle.mdl_key.specs.declared.mode.Mode.{Mode}
 use Rattle.mdl_key.specs.declared.mode.Mode.TheVariants.{X}
 use Rattle.mdl_defs.specs.declared.change.Change.{Change}
 use Rattle.mdl_defs.specs.declared.definition.Definition.{Definition}
-use Rattle.mdl_defs.specs.declared.standing.Standing.{Standing}
-use Rattle.mdl_defs.specs.Standings.{MayStand, standing_after}
+use Rattle.mdl_defs.specs.declared.versioned_definition.VersionedDefinition.{VersionedDefinition}
+use Rattle.mdl_defs.specs.VersionedDefinitions.{MayStand, standing_after}
 use Rattle.mdl_system.specs.Strength.{covers}
 use Rattle.mdl_calls.specs.declared.answers.Held.{Held}
 use Rattle.mdl_calls.specs.declared.answers.Settled.{Settled}
@@ -19,7 +19,7 @@ use Rattle.mdl_calls.specs.Words.{Answer, Refused, Done, At_place, Would_wait, C
 -- what holds of the ghost members of each lock space, which the trait `LockSpace` describes: the sessions that it speaks for, what they have, know, have
 -- read and owe, and how calls join one space to the next
 pub record SpaceLaws {S : Type 0} (speaks_for : S → ℕ → Type 0) (own : S → ℕ → SessionLocks) (knows : S → ℕ → ℕ → KeyName → Type 0)
-    (is_settled : S → ℕ → Settled → Type 0) (numbers : S → ℕ → Numbers) (has_read has_met : S → ℕ → ℕ → Standing → Type 0)
+    (is_settled : S → ℕ → Settled → Type 0) (numbers : S → ℕ → Numbers) (has_read has_met : S → ℕ → ℕ → VersionedDefinition → Type 0)
     (has_seen : S → ℕ → ℕ → ℕ → Type 0) (pins owes : S → ℕ → ℕ → Type 0) (joins : S → Call → Answer → S → Type 0) : Type 0 where
   -- a call is made for a session that the space speaks for
   pub allowed : (a b : S) (call : Call) (answer : Answer) → joins a call answer b → IfSome (caller call) (speaks_for a)
@@ -37,7 +37,7 @@ pub record SpaceLaws {S : Type 0} (speaks_for : S → ℕ → Type 0) (own : S �
   pub fits : (a b : S) (call : Call) (answer : Answer) → joins a call answer b → is_answer_of call answer ≡ true
   -- the tickets that `held` returns are those that the session holds
   pub lists : (a b : S) (who : ℕ) (tickets : List Held) → joins a (List_held who) (Holds tickets) b → tickets ≡ (own a who).held
-  -- a refused call has a cause for its refusal, and a call that isn't refused has none
+  -- a refused call has a cause for its refusal. If a call isn't refused, what must hold for that holds (`IsClear`).
   pub explains : (a b : S) (call : Call) (answer : Answer) (who : ℕ) → caller call ≡ Some who → joins a call answer b
       → IsExplained (knows a who) call answer (own a who)
   -- a session that resolves a key knows its place
@@ -93,32 +93,32 @@ pub record SpaceLaws {S : Type 0} (speaks_for : S → ℕ → Type 0) (own : S �
       → joins a (Change_definition who id change) (Changed version) b
       → (definition : Option Definition) × has_read b who ticket.place (record { version = version; definition = definition })
   -- if the session had read the definition, a change under a ticket in mode X is applied to that, or is refused because of that or for lack of memory
-  pub redefines_so : (a b : S) (who id : ℕ) (change : Change) (answer : Answer) (ticket : Held) (key : KeyName) (standing : Standing)
+  pub redefines_so : (a b : S) (who id : ℕ) (change : Change) (answer : Answer) (ticket : Held) (key : KeyName) (standing : VersionedDefinition)
       → ticket_held id (own a who) ≡ Some ticket → same_mode ticket.mode X ≡ true → knows a who ticket.place key
       → has_read a who ticket.place standing → joins a (Change_definition who id change) answer b
       → IsChangeOf key change standing answer
       × ((version : ℕ) → answer ≡ Changed version → has_read b who ticket.place (standing_after change standing))
   -- a place has one version and one definition at a time
-  pub reads_one : (a : S) (w place : ℕ) (one other : Standing) → speaks_for a w → has_read a w place one → has_read a w place other → one ≡ other
+  pub reads_one : (a : S) (w place : ℕ) (one other : VersionedDefinition) → speaks_for a w → has_read a w place one → has_read a w place other → one ≡ other
   -- a version and definition that a session has read don't change while it holds a ticket of the place, unless it changes them itself
-  pub stands : (a b : S) (call : Call) (answer : Answer) (w place : ℕ) (standing : Standing) → speaks_for a w
+  pub stands : (a b : S) (call : Call) (answer : Answer) (w place : ℕ) (standing : VersionedDefinition) → speaks_for a w
       → (caller call ≡ Some w → redefined_place call answer (own a w) ≡ Some place → ⊥) → HoldsAt place (own b w) → joins a call answer b
       → has_read a w place standing → has_read b w place standing
   -- what was read is a valid version and definition for the place's key
-  pub reads_fit : (a : S) (w place : ℕ) (key : KeyName) (standing : Standing) → speaks_for a w → knows a w place key
+  pub reads_fit : (a : S) (w place : ℕ) (key : KeyName) (standing : VersionedDefinition) → speaks_for a w → knows a w place key
       → has_read a w place standing → MayStand key.namespace standing
   -- a session has seen each version that it has read
-  pub sees : (a : S) (w place : ℕ) (standing : Standing) → speaks_for a w → has_read a w place standing → has_seen a w place standing.version
+  pub sees : (a : S) (w place : ℕ) (standing : VersionedDefinition) → speaks_for a w → has_read a w place standing → has_seen a w place standing.version
   -- a version that was seen stays seen
   pub seen_stays : (a b : S) (call : Call) (answer : Answer) (w place version : ℕ) → speaks_for a w → joins a call answer b
       → has_seen a w place version → has_seen b w place version
   -- no version that is read is below one that was seen
-  pub seen_below : (a : S) (w place version : ℕ) (standing : Standing) → speaks_for a w → has_seen a w place version
+  pub seen_below : (a : S) (w place version : ℕ) (standing : VersionedDefinition) → speaks_for a w → has_seen a w place version
       → has_read a w place standing → version ≤ standing.version
   -- a session has met what it has read
-  pub meets : (a : S) (w place : ℕ) (standing : Standing) → speaks_for a w → has_read a w place standing → has_met a w place standing
+  pub meets : (a : S) (w place : ℕ) (standing : VersionedDefinition) → speaks_for a w → has_read a w place standing → has_met a w place standing
   -- what was met stays met
-  pub met_stays : (a b : S) (call : Call) (answer : Answer) (w place : ℕ) (standing : Standing) → speaks_for a w → joins a call answer b
+  pub met_stays : (a b : S) (call : Call) (answer : Answer) (w place : ℕ) (standing : VersionedDefinition) → speaks_for a w → joins a call answer b
       → has_met a w place standing → has_met b w place standing
   -- an upgrade to a mode that the held one covers never has to wait
   pub upgrades : (a b : S) (who id : ℕ) (mode : Mode) (ticket : Held) → ticket_held id (own a who) ≡ Some ticket → covers ticket.mode mode ≡ true

@@ -2,7 +2,7 @@
 ghost use Rattle.std.specs.Prelude.{◌≡◌, ℕ};
 ghost use Rattle.mdl_key.specs.Words.{KeyName};
 ghost use Rattle.mdl_defs.specs.Caches.{CacheView};
-ghost use Rattle.mdl_defs.specs.declared.standing.Standing.{Standing};
+ghost use Rattle.mdl_defs.specs.declared.versioned_definition.VersionedDefinition.{VersionedDefinition};
 ghost use Rattle.mdl_calls.specs.declared.answers.Settled.{Settled};
 ghost use Rattle.mdl_calls.specs.SpaceLaws.{SpaceLaws};
 ghost use Rattle.mdl_calls.specs.Words.{AreMet, Call, Resolve, Try_now, Begin_wait, Search as Search_by, Poll_wait, Settle_timeout, End_wait, Wait_of, Kill, Release, Clone_ticket, Upgrade_now, Merge, Downgrade, List_held, Read_definition, Read_kept, Change_definition, Tables_of, Key_of, Answer, Has_wait, Has_killed, placed, attempted, begun, searched, polled, timed_out, ended, done, cloned, upgrade_tried, listed, SessionLocks, Numbers, keyed, read, redefined, tables_told};
@@ -10,7 +10,7 @@ ghost use Rattle.mdl_calls.specs.Words.{AreMet, Call, Resolve, Try_now, Begin_wa
 use crate::{
     Attempt, Begun, Ended, Held, Place, Poll, Search, SpaceError, TicketId, TimedOut, Upgrade,
 };
-use mdl_defs::{Change, DefCache, Standing};
+use mdl_defs::{Change, DefCache, VersionedDefinition};
 use mdl_key::{Key, Mode};
 
 /// A lock space: keys at their places, and the tickets and waits of numbered sessions.
@@ -43,10 +43,10 @@ pub trait LockSpace {
     ghost numbers: { Self → ℕ → Numbers };
 
     // A place's version and definition: a session read them, or its own change made them, and they can't have changed since.
-    ghost has_read: { Self → ℕ → ℕ → Standing → Type 0 };
+    ghost has_read: { Self → ℕ → ℕ → VersionedDefinition → Type 0 };
 
     // A session has met this version and definition at a place, now or before: it read them, or its own change made them.
-    ghost has_met: { Self → ℕ → ℕ → Standing → Type 0 };
+    ghost has_met: { Self → ℕ → ℕ → VersionedDefinition → Type 0 };
 
     // A session has seen that a place's version is at least this one.
     ghost has_seen: { Self → ℕ → ℕ → ℕ → Type 0 };
@@ -158,7 +158,7 @@ pub trait LockSpace {
         ensures { joins self.old (Downgrade who id mode) (done result) self.new };
 
     /// Returns the version of the key at a held ticket's place, and its definition if there is one.
-    fn read_definition(&mut self, who: u16, id: TicketId) -> Result<Standing, SpaceError>
+    fn read_definition(&mut self, who: u16, id: TicketId) -> Result<VersionedDefinition, SpaceError>
         requires { speaks_for self.old who }
         ensures { joins self.old (Read_definition who id) (read result) self.new };
 
@@ -172,7 +172,7 @@ pub trait LockSpace {
         who: u16,
         id: TicketId,
         cache: &mut DefCache,
-    ) -> Result<Standing, SpaceError>
+    ) -> Result<VersionedDefinition, SpaceError>
         requires speaks { speaks_for self.old who }
         requires met { AreMet (has_met self.old who) cache.old.kept }
         ensures joined { joins self.old (Read_kept who id) (read result) self.new }

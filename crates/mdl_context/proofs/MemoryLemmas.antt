@@ -232,7 +232,7 @@ faithful_looking : (context : ContextView) → IsFaithful IsStarved (waits.looki
 faithful_looking context = (λ takes. cc, faithful_poll context)
 
 faithful_wait_sought : (context : ContextView) (end : SearchEnd) → IsFaithful IsStarved (waits.wait_sought context end)
-faithful_wait_sought context Over = faithful_looking (waits.searches_over context)
+faithful_wait_sought context Over = faithful_looking (waits.with_searches_over context)
 faithful_wait_sought context Cut_off = faithful_looking context
 faithful_wait_sought context (Failed refusal) =
     let reply : Outcome Resume = (Err (Space refusal), waits.without_wait context) in

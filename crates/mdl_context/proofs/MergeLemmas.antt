@@ -14,7 +14,7 @@ use Rattle.mdl_calls.specs.Words.{done, Merge, Knowledge, IsCause, IsExplained, 
 use Rattle.mdl_system.specs.Strength.{covers}
 use Rattle.mdl_context.specs.declared.kept.Kept.{Kept}
 use Rattle.mdl_context.specs.Contexts.{ContextView, Serves, AreRising, held_of, ticket_kept, wish_here, wish_there}
-use Rattle.mdl_context.specs.Holdings.{kept_in_mode, without_number}
+use Rattle.mdl_context.specs.Holdings.{with_kept_mode, without_number}
 use Rattle.mdl_context.specs.Upgrades.{with_ticket, is_merge_refusal}
 use Rattle.mdl_context.proofs.BeyondLemmas.{held-without}
 use Rattle.mdl_context.proofs.FrontLemmas.{Above}
@@ -56,13 +56,13 @@ rising-first (x ∷ xs) ys rising = grind (arith, nat_tests, rising-first xs ys,
 -- ---- tickets in another mode
 
 pub held-in_mode : (id : ℕ) (f : Mode → Mode) (xs : List Kept) →
-    map (λ (h : Held). if is_number id h then record h { mode = f h.mode } else h) (map held_of xs) ≡ map held_of (kept_in_mode id f xs)
+    map (λ (h : Held). if is_number id h then record h { mode = f h.mode } else h) (map held_of xs) ≡ map held_of (with_kept_mode id f xs)
 held-in_mode id f [] = refl
 held-in_mode id f (x ∷ xs) = grind (arith, nat_tests, held-in_mode id f xs)
 
 -- the context serves the session as the mode of a ticket is changed
 pub serves-in_mode : (id : ℕ) (f : Mode → Mode) (own now : SessionLocks) (before after : ContextView) → Serves own before → now ≡ changing id f own
-    → after.kept ≡ kept_in_mode id f before.kept → after.wait ≡ before.wait → Serves now after
+    → after.kept ≡ with_kept_mode id f before.kept → after.wait ≡ before.wait → Serves now after
 serves-in_mode id f own now before after serves changed kept wait = record {
   held = ap (λ (o : SessionLocks). o.held) changed ∙ ap (map (λ (h : Held). if is_number id h then record h { mode = f h.mode } else h)) serves.held
       ∙ held-in_mode id f before.kept ∙ sym (ap (map held_of) kept);
@@ -99,7 +99,7 @@ module _ (own : SessionLocks) (context : ContextView) (second : Kept) (rising : 
 
   -- it is merged into another one
   pub serves-merged : (id : ℕ) (now : SessionLocks) (after : ContextView) → now ≡ owned.merging id second.id (ticket_held second.id own) own
-      → after.kept ≡ kept_in_mode id (λ _. second.mode) context.kept → after.wait ≡ context.wait → Serves now after
+      → after.kept ≡ with_kept_mode id (λ _. second.mode) context.kept → after.wait ≡ context.wait → Serves now after
   serves-merged id now after merged kept wait =
       serves-in_mode id (λ _. second.mode) (giving_up second.id own) now context after
       (serves-released (giving_up second.id own) context refl refl refl)

@@ -28,7 +28,7 @@ use Rattle.mdl_context.specs.Outcomes.{IsRaised, UpgradeComesTo, IsWon, WaitCome
 use Rattle.mdl_context.specs.Releases.{unless, waiting_fault}
 use Rattle.mdl_context.specs.Requests.{Outcome}
 use Rattle.mdl_context.specs.Upgrades.{with_ticket_mode, merging_new, merged, waiting_to_upgrade, second_got, upgrade_answered, upgrading_ticket, upgrading}
-use Rattle.mdl_context.specs.Waits.{without_wait, taking_up, searches_over, wait_won, end_answered, ending_wait, poll_answered, looking, wait_sought, searching_on, cut_off_answered, continuing_wait, is_searched, resuming, giving_up_wait}
+use Rattle.mdl_context.specs.Waits.{without_wait, taking_up, with_searches_over, wait_won, end_answered, ending_wait, poll_answered, looking, wait_sought, searching_on, cut_off_answered, continuing_wait, is_searched, resuming, giving_up_wait}
 use Rattle.mdl_context.proofs.WishLemmas.{covers-itself}
 
 -- ---- upgrades
@@ -136,7 +136,7 @@ module _ (context : ContextView) where
 
   sought : (end : SearchEnd) → Each (WaitComesTo context) (wait_sought context end)
   sought Over =
-      comes_looking context (searches_over context) refl (same_wish context.wait)
+      comes_looking context (with_searches_over context) refl (same_wish context.wait)
       (λ id. ap (λ (kept : List Kept). record context { kept = kept; wait = None }) (same_ticket id context.wait context.kept))
   sought Cut_off = looks
   sought (Failed refusal) =

@@ -171,7 +171,7 @@ pub own_looking : (context : ContextView) → AreOwn context.who (waits.looking 
 own_looking context = ((refl, refl, refl), own_poll context)
 
 own_wait_sought : (context : ContextView) (end : SearchEnd) → AreOwn context.who (waits.wait_sought context end)
-own_wait_sought context Over = own_looking (waits.searches_over context)
+own_wait_sought context Over = own_looking (waits.with_searches_over context)
 own_wait_sought context Cut_off = own_looking context
 own_wait_sought context (Failed refusal) = own_abandoning {A = Outcome Resume} context.who (Err (Space refusal), waits.without_wait context)
 

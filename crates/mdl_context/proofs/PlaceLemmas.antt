@@ -14,7 +14,7 @@ use Rattle.mdl_context.specs.declared.kept.Wanted.{Wanted}
 use Rattle.mdl_context.specs.Wishes.{Wish}
 use Rattle.mdl_context.specs.Contexts.{AreRising, held_of, is_user_lock}
 use Rattle.mdl_context.specs.Requests.{suffices, is_reusable}
-use Rattle.mdl_context.specs.Holdings.{is_kept_at, is_kept_ticket, without_number, numbers_among, IsIndexOf, earliest, kept_for, in_transaction, transactional}
+use Rattle.mdl_context.specs.Holdings.{is_kept_at, has_ticket_number, without_number, numbers_among, IsIndexOf, earliest, kept_for, in_transaction, transactional}
 use Rattle.mdl_context.specs.Indexes.{Index, ticket_numbers, has_room_for, rises, without_one}
 use Rattle.mdl_context.proofs.FrontLemmas.{Above, above-filter}
 use Rattle.mdl_context.proofs.IndexLemmas.{AllAbove}
@@ -81,15 +81,16 @@ above_at n (x ∷ xs) zero d above inside = grind (arith, nat_tests)
 above_at n (x ∷ xs) (suc j) d above inside = grind (arith, nat_tests, above_at n xs j d)
 
 -- a ticket of another place
-others_stay : (q : ℕ) (xs : List Kept) (id : ℕ) (t : Kept) → AreRising xs → find (is_kept_ticket id) xs ≡ Some t → (t.place == q) ≡ false → numbers_among q (without_number id xs) ≡ numbers_among q xs
+others_stay : (q : ℕ) (xs : List Kept) (id : ℕ) (t : Kept) → AreRising xs → find (has_ticket_number id) xs ≡ Some t → (t.place == q) ≡ false → numbers_among q (without_number id xs) ≡ numbers_among q xs
 others_stay q [] id t rising found other = refl
 others_stay q (x ∷ xs) id t rising found other = by_test (others_stay q xs id t) (x.id == id) refl where
-  by_test : (AreRising xs → find (is_kept_ticket id) xs ≡ Some t → (t.place == q) ≡ false → numbers_among q (without_number id xs) ≡ numbers_among q xs)
+  by_test : (AreRising xs → find (has_ticket_number id) xs ≡ Some t → (t.place == q) ≡ false → numbers_among q (without_number id xs) ≡ numbers_among q xs)
       → (test : Bool) → (x.id == id) ≡ test → numbers_among q (without_number id (x ∷ xs)) ≡ numbers_among q (x ∷ xs)
   by_test later true e = grind (arith, nat_tests, above_stays id q xs)
   by_test later false e = grind (arith, nat_tests, later)
 
-pub index-less : (kept : List Kept) (id : ℕ) (t : Kept) (before after : Index) → AreRising kept → find (is_kept_ticket id) kept ≡ Some t → IsIndexOf kept before
+pub index-less : (kept : List Kept) (id : ℕ) (t : Kept) (before after : Index) → AreRising kept → find (has_ticket_number id) kept ≡ Some t
+    → IsIndexOf kept before
     → ((q : ℕ) → ticket_numbers q after ≡ (if (t.place == q) then without_one id (ticket_numbers t.place before) else ticket_numbers q before)) → IsIndexOf (without_number id kept) after
 index-less kept id t before after rising found known told q = told q ∙ by_test (t.place == q) refl where
   by_test : (test : Bool) → (t.place == q) ≡ test → (if test then without_one id (ticket_numbers t.place before) else ticket_numbers q before) ≡ numbers_among q (without_number id kept)
@@ -115,7 +116,7 @@ rising-left p (suc i) [] rising = refl
 rising-left p (suc i) (x ∷ xs) rising = grind (arith, nat_tests, above-left x.id p i xs, rising-left p i xs)
 
 -- the next ticket is still there
-pub left-has : (p : Kept → Bool) (xs : List Kept) (i : ℕ) (t : Kept) → AreRising xs → i < length xs → t ≡ get_or xs i t → find (is_kept_ticket t.id) (left p i xs) ≡ Some t
+pub left-has : (p : Kept → Bool) (xs : List Kept) (i : ℕ) (t : Kept) → AreRising xs → i < length xs → t ≡ get_or xs i t → find (has_ticket_number t.id) (left p i xs) ≡ Some t
 left-has p [] i t rising inside here = absurd (omega arith)
 left-has p (x ∷ xs) zero t rising inside here = grind (arith, nat_tests)
 left-has p (x ∷ xs) (suc i) t rising inside here =
@@ -151,20 +152,20 @@ found_none p (x ∷ xs) e = grind (arith, nat_tests, found_none p xs)
 
 -- the ticket of a number among rising tickets
 own_number : (xs : List Kept) (place : ℕ) (i : ℕ) (d : Kept) → AreRising xs → i < length (filter (is_kept_at place) xs)
-    → find (is_kept_ticket (get_or (filter (is_kept_at place) xs) i d).id) xs ≡ Some (get_or (filter (is_kept_at place) xs) i d)
+    → find (has_ticket_number (get_or (filter (is_kept_at place) xs) i d).id) xs ≡ Some (get_or (filter (is_kept_at place) xs) i d)
 own_number [] place i d rising inside = absurd (omega arith)
 own_number (x ∷ xs) place i d rising inside = by_test (λ j. own_number xs place j d (grind (arith, nat_tests))) (is_kept_at place x) refl i inside where
   of_place : List Kept
   of_place = filter (is_kept_at place) xs
 
   Later : ℕ → Type 0
-  Later j = j < length of_place → find (is_kept_ticket (get_or of_place j d).id) xs ≡ Some (get_or of_place j d)
+  Later j = j < length of_place → find (has_ticket_number (get_or of_place j d).id) xs ≡ Some (get_or of_place j d)
 
   greater : (j : ℕ) → j < length of_place → x.id < (get_or of_place j d).id
   greater j below = above_at x.id of_place j d (above-filter x.id (is_kept_at place) xs (grind (arith, nat_tests))) below
 
   by_test : ((j : ℕ) → Later j) → (test : Bool) → is_kept_at place x ≡ test → (i : ℕ) → i < length (filter (is_kept_at place) (x ∷ xs))
-      → find (is_kept_ticket (get_or (filter (is_kept_at place) (x ∷ xs)) i d).id) (x ∷ xs) ≡ Some (get_or (filter (is_kept_at place) (x ∷ xs)) i d)
+      → find (has_ticket_number (get_or (filter (is_kept_at place) (x ∷ xs)) i d).id) (x ∷ xs) ≡ Some (get_or (filter (is_kept_at place) (x ∷ xs)) i d)
   by_test later true e zero below = grind (arith, nat_tests)
   by_test later true e (suc j) below = grind (arith, nat_tests, later j, greater j)
   by_test later false e j below = grind (arith, nat_tests, later j, greater j)
@@ -205,28 +206,29 @@ module _ (xs : List Kept) (place : ℕ) (p : Kept → Bool) where
     from-end past = ap (earliest p) (drop_all i (filter (is_kept_at place) xs) (rw as_many at past))
 
     module _ (inside : i < length numbers) where
-      its_ticket : (d : Kept) → find (is_kept_ticket (get_or numbers i 0)) xs ≡ Some (get_or (filter (is_kept_at place) xs) i d)
+      its_ticket : (d : Kept) → find (has_ticket_number (get_or numbers i 0)) xs ≡ Some (get_or (filter (is_kept_at place) xs) i d)
       its_ticket d =
           let within : i < length (filter (is_kept_at place) xs) = rw as_many at inside in
-          ap (λ id. find (is_kept_ticket id) xs) (ap (λ ns. get_or ns i 0) same ∙ get_or-map (λ (t : Kept). t.id) (filter (is_kept_at place) xs) i d 0 within)
+          ap (λ id. find (has_ticket_number id) xs)
+          (ap (λ ns. get_or ns i 0) same ∙ get_or-map (λ (t : Kept). t.id) (filter (is_kept_at place) xs) i d 0 within)
           ∙ own_number xs place i d rising within
 
-      pub number-found : find (is_kept_ticket (get_or numbers i 0)) xs ≢ None
+      pub number-found : find (has_ticket_number (get_or numbers i 0)) xs ≢ None
       number-found none =
           let found = its_ticket no_ticket in
           grind arith
 
-      next : (t : Kept) → find (is_kept_ticket (get_or numbers i 0)) xs ≡ Some t → drop i (filter (is_kept_at place) xs) ≡ t ∷ drop (i + 1) (filter (is_kept_at place) xs)
+      next : (t : Kept) → find (has_ticket_number (get_or numbers i 0)) xs ≡ Some t → drop i (filter (is_kept_at place) xs) ≡ t ∷ drop (i + 1) (filter (is_kept_at place) xs)
       next t found =
           let within : i < length (filter (is_kept_at place) xs) = rw as_many at inside in
           let mine = its_ticket t in
           let same_ticket : get_or (filter (is_kept_at place) xs) i t ≡ t = grind arith in
           drop_more (filter (is_kept_at place) xs) i t within ∙ ap (λ x. x ∷ drop (i + 1) (filter (is_kept_at place) xs)) same_ticket
 
-      pub from-passing : (t : Kept) → find (is_kept_ticket (get_or numbers i 0)) xs ≡ Some t → p t ≡ true → earliest_from i ≡ Some (held_of t)
+      pub from-passing : (t : Kept) → find (has_ticket_number (get_or numbers i 0)) xs ≡ Some t → p t ≡ true → earliest_from i ≡ Some (held_of t)
       from-passing t found passes = ap (earliest p) (next t found) ∙ grind arith
 
-      pub from-failing : (t : Kept) → find (is_kept_ticket (get_or numbers i 0)) xs ≡ Some t → p t ≡ false → earliest_from (i + 1) ≡ earliest_from i
+      pub from-failing : (t : Kept) → find (has_ticket_number (get_or numbers i 0)) xs ≡ Some t → p t ≡ false → earliest_from (i + 1) ≡ earliest_from i
       from-failing t found fails = sym (ap (earliest p) (next t found) ∙ grind arith)
 
 -- the last number is that behind all others

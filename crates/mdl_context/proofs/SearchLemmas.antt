@@ -13,7 +13,7 @@ use Rattle.mdl_key.specs.declared.mode.Mode.TheVariants.{X}
 use Rattle.mdl_key.specs.declared.mode.Duration.TheVariants.{Explicit}
 use Rattle.mdl_context.specs.declared.kept.Kept.{Kept}
 use Rattle.mdl_context.specs.Contexts.{AreRising, has_number}
-use Rattle.mdl_context.specs.Holdings.{is_kept_ticket, without_number}
+use Rattle.mdl_context.specs.Holdings.{has_ticket_number, without_number}
 use Rattle.mdl_context.proofs.FrontLemmas.{Above}
 
 below_at : (n : ℕ) (xs : List Kept) (j : ℕ) (d : Kept) → Above n xs → j < length xs → n < (get_or xs j d).id
@@ -37,16 +37,16 @@ module _ (xs : List Kept) (rising : AreRising xs) (id : ℕ) where
       let numbers_rise : (get_or xs i d).id ≤ (get_or xs j d).id = grind (arith, rises xs i j d rising, λ (same : i ≡ j). ap (λ k. (get_or xs k d).id) same) in
       grind (arith, nat_tests)
 
-  pub searched : (r : Result ℕ ℕ) → IsSearchInRange r (length xs) → IsBinarySearchResult (λ ticket. nat_cmp ticket.id id) xs r → result_ok r ≡ position (is_kept_ticket id) xs
+  pub searched : (r : Result ℕ ℕ) → IsSearchInRange r (length xs) → IsBinarySearchResult (λ ticket. nat_cmp ticket.id id) xs r → result_ok r ≡ position (has_ticket_number id) xs
   searched (Ok at) inside equal =
       let here : (get_or xs at no_ticket).id ≡ id = ranked _ id _ (sym (equal no_ticket)) in
-      let first : position_or_len (is_kept_ticket id) xs ≡ at =
-      position_or_len_is (is_kept_ticket id) xs at no_ticket (omega (arith, inside)) (λ k below. grind (arith, nat_tests, rises xs k at no_ticket rising)) (λ _. grind (arith, nat_tests)) in
+      let first : position_or_len (has_ticket_number id) xs ≡ at =
+      position_or_len_is (has_ticket_number id) xs at no_ticket (omega (arith, inside)) (λ k below. grind (arith, nat_tests, rises xs k at no_ticket rising)) (λ _. grind (arith, nat_tests)) in
       rw first (grind (arith, nat_tests))
   searched (Err at) inside parted =
-      let none : position_or_len (is_kept_ticket id) xs ≡ length xs =
-      position_or_len_is (is_kept_ticket id) xs (length xs) no_ticket (omega arith) (λ k below.
-      elim (ltb k at) as (λ b. ltb k at ≡ b → is_kept_ticket id (get_or xs k no_ticket) ≡ false) [
+      let none : position_or_len (has_ticket_number id) xs ≡ length xs =
+      position_or_len_is (has_ticket_number id) xs (length xs) no_ticket (omega arith) (λ k below.
+      elim (ltb k at) as (λ b. ltb k at ≡ b → has_ticket_number id (get_or xs k no_ticket) ≡ false) [
         | true ↦ λ e. let smaller : (get_or xs k no_ticket).id < id = ranked _ id _ (sym ((parted comparisons_rise).0 k no_ticket (omega arith) (grind (arith, nat_tests)))) in grind (arith, nat_tests)
         | false ↦ λ e. let greater : id < (get_or xs k no_ticket).id = ranked _ id _ (sym ((parted comparisons_rise).1 k no_ticket (grind (arith, nat_tests)) below)) in grind (arith, nat_tests)
       ] refl) (λ no. absurd (omega arith)) in
@@ -61,8 +61,8 @@ chosen true n = refl
 chosen false n = refl
 
 -- a number has a place just where a ticket has it
-pub placed : (id : ℕ) (xs : List Kept) (place : Option ℕ) → place ≡ position (is_kept_ticket id) xs → is_some place ≡ has_number xs id
-placed id xs place at = ap is_some at ∙ chosen _ _ ∙ inside-any (is_kept_ticket id) xs
+pub placed : (id : ℕ) (xs : List Kept) (place : Option ℕ) → place ≡ position (has_ticket_number id) xs → is_some place ≡ has_number xs id
+placed id xs place at = ap is_some at ∙ chosen _ _ ∙ inside-any (has_ticket_number id) xs
 
 -- ---- without a ticket
 
@@ -79,9 +79,9 @@ taken_at id (x ∷ xs) (suc at) d rising inside here =
     grind (arith, nat_tests, taken_at id xs at d)
 
 -- where a number is, to take the ticket out at its place is to keep those of other numbers
-pub without_at : (id : ℕ) (xs : List Kept) (at : ℕ) → AreRising xs → Some at ≡ position (is_kept_ticket id) xs → without_number id xs ≡ remove xs at
+pub without_at : (id : ℕ) (xs : List Kept) (at : ℕ) → AreRising xs → Some at ≡ position (has_ticket_number id) xs → without_number id xs ≡ remove xs at
 without_at id xs at rising place =
-    let found = position-Some (is_kept_ticket id) xs at no_ticket (sym place) in
+    let found = position-Some (has_ticket_number id) xs at no_ticket (sym place) in
     let here : (get_or xs at no_ticket).id ≡ id = grind (arith, nat_tests, found.1) in
     taken_at id xs at no_ticket rising found.0 here
 
@@ -90,5 +90,5 @@ none_taken id [] none = refl
 none_taken id (x ∷ xs) none = grind (arith, nat_tests, none_taken id xs)
 
 -- where no ticket has a number, all are of others
-pub without_none : (id : ℕ) (xs : List Kept) → None ≡ position (is_kept_ticket id) xs → without_number id xs ≡ xs
+pub without_none : (id : ℕ) (xs : List Kept) → None ≡ position (has_ticket_number id) xs → without_number id xs ≡ xs
 without_none id xs place = none_taken id xs (sym (placed id xs None place))

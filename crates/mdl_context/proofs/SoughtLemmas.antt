@@ -10,7 +10,7 @@ use Rattle.mdl_context.specs.declared.request.Resume.{Resume}
 use Rattle.mdl_context.specs.Contexts.{ContextView}
 use Rattle.mdl_context.specs.Gains.{abandoning, wish_sought, waiting_on}
 use Rattle.mdl_context.specs.Requests.{Outcome}
-use Rattle.mdl_context.specs.Waits.{without_wait, searches_over, looking, wait_sought, searching_on}
+use Rattle.mdl_context.specs.Waits.{without_wait, with_searches_over, looking, wait_sought, searching_on}
 use Rattle.mdl_context.specs.SearchEnds.{sought}
 
 module _ {S : Type 0} (joins : S → Call → Answer → S → Type 0) where
@@ -31,7 +31,7 @@ module _ {S : Type 0} (joins : S → Call → Answer → S → Type 0) where
       (run-abandoned {A = Result AskResult SpaceError} who _ _ mid b abandoned refl)
 
   -- the wait is looked after
-  pub run-over : (before between : ContextView) (reply : Outcome Resume) (a mid b : S) → Runs joins a (seeking most_searches before.who) Over mid → between ≡ searches_over before
+  pub run-over : (before between : ContextView) (reply : Outcome Resume) (a mid b : S) → Runs joins a (seeking most_searches before.who) Over mid → between ≡ with_searches_over before
       → Runs joins mid (looking between) reply b → Runs joins a (searching_on before) reply b
   run-over before between reply a mid b over same looked =
       runs_bind joins (seeking most_searches before.who) (wait_sought before) a mid b Over reply over (subst (λ context. Runs joins mid (looking context) reply b) same looked)

@@ -29,7 +29,7 @@ use Rattle.mdl_context.specs.declared.request.Acquire.{Acquire}
 use Rattle.mdl_context.specs.declared.request.Acquire.TheVariants.{Acquired, MustWait}
 use Rattle.mdl_context.specs.Contexts.{ContextView, Attends, IsAwaited, IsUpgradedBy, Serves, AreRising, held_of, has_number, is_known_place, ticket_kept, wish_here, wish_there}
 use Rattle.mdl_context.specs.Gains.{waiting_at}
-use Rattle.mdl_context.specs.Holdings.{kept_in_mode, wanted_upgrade}
+use Rattle.mdl_context.specs.Holdings.{wanted_upgrade, with_kept_mode}
 use Rattle.mdl_context.specs.Requests.{Outcome}
 use Rattle.mdl_context.specs.Upgrades.{HasSecond, with_ticket_mode, with_ticket, merging_new, merged, awaiting_upgrade, waiting_to_upgrade, second_got, upgrade_answered, upgrading_ticket, upgrading}
 use Rattle.mdl_context.specs.Releases.{release_fault, waiting_fault}
@@ -48,7 +48,7 @@ placed-front known xs ys placed k d inside =
     let bound : k < length (xs ++ ys) = grind (arith, length-append xs ys, inside) in
     ap (λ (t : Kept). is_known_place known t.place) (sym (get_or_append_left xs ys d k inside)) ∙ placed k d bound
 
-pub placed-in_mode : (known : List (KeyName × ℕ)) (id : ℕ) (f : Mode → Mode) (xs : List Kept) → ArePlaced known xs → ArePlaced known (kept_in_mode id f xs)
+pub placed-in_mode : (known : List (KeyName × ℕ)) (id : ℕ) (f : Mode → Mode) (xs : List Kept) → ArePlaced known xs → ArePlaced known (with_kept_mode id f xs)
 placed-in_mode known id f xs placed =
     All-map (λ (t : Kept). is_known_place known t.place ≡ true) (changed id f) xs
     (λ k d inside. ap (is_known_place known) (changed-place id f (slice_index_or xs k d)) ∙ placed k d inside)
@@ -129,7 +129,7 @@ module _ {S : Type 0} {members : Ghosts S} where
   -- it is gone, and tickets may be in other modes
   pub attends-one : (a b : S) (before after : ContextView) (t : Kept) (id : ℕ) (f : Mode → Mode) → Attends members a (with_ticket t before)
       → ((at : ℕ) (key : KeyName) → members.knows a before.who at key → members.knows b before.who at key) → members.speaks_for b before.who → Serves (members.own b before.who) after → after.who ≡ before.who
-      → after.known ≡ before.known → after.kept ≡ kept_in_mode id f before.kept → after.wait ≡ before.wait → is_some before.wait ≡ false → Attends members b after
+      → after.known ≡ before.known → after.kept ≡ with_kept_mode id f before.kept → after.wait ≡ before.wait → is_some before.wait ≡ false → Attends members b after
   attends-one a b before after t id f attends still speaks serves who known kept wait idle =
       attends-over a b (with_ticket t before) after attends still speaks serves who known
       (subst (ArePlaced before.known) (sym kept) (placed-in_mode before.known id f before.kept (placed-front before.known before.kept (t ∷ []) attends.places)))
@@ -158,11 +158,11 @@ module _ {S : Type 0} {members : Ghosts S} where
     -- it is merged into the first one
     pub attends-united : (b : S) (after : ContextView) → ((at : ℕ) (key : KeyName) → members.knows space context.who at key → members.knows b context.who at key) → members.speaks_for b context.who
         → members.own b context.who ≡ owned.merging id new (ticket_held new (members.own space context.who)) (members.own space context.who) → after.who ≡ context.who → after.known ≡ context.known
-        → after.kept ≡ kept_in_mode id (λ _. mode) context.kept → after.wait ≡ context.wait → is_some context.wait ≡ false → Attends members b after
+        → after.kept ≡ with_kept_mode id (λ _. mode) context.kept → after.wait ≡ context.wait → is_some context.wait ≡ false → Attends members b after
     attends-united b after still speaks merged who known kept wait idle =
         let o = members.own space context.who in
         let here = ap (λ n. owned.merging id n (ticket_held n o) o) (sym has.1) in
-        let in_its = ap (λ m. kept_in_mode id (λ _. m) context.kept) (sym has.2) in
+        let in_its = ap (λ m. with_kept_mode id (λ _. m) context.kept) (sym has.2) in
         attends-one space b context after has.0 id (λ _. mode) has.4 still speaks
         (serves-merged o context has.0 rising has.4.serves id (members.own b context.who) after (merged ∙ here) (kept ∙ in_its) wait) who known kept wait idle
 
@@ -181,7 +181,7 @@ module _ {S : Type 0} (members : Ghosts S) (laws : LawsOf members) where
   -- the mode of a ticket is changed
   pub attends-in_mode : (a b : S) (call : Call) (answer : Answer) (id : ℕ) (f : Mode → Mode) (before after : ContextView) → Attends members a before
       → caller call ≡ Some before.who → unpins call ≡ false → members.joins a call answer b → own_after call answer (members.own a before.who) ≡ changing id f (members.own a before.who) → after.who ≡ before.who
-      → after.known ≡ before.known → after.kept ≡ kept_in_mode id f before.kept → after.wait ≡ before.wait → is_some before.wait ≡ false → Attends members b after
+      → after.known ≡ before.known → after.kept ≡ with_kept_mode id f before.kept → after.wait ≡ before.wait → is_some before.wait ≡ false → Attends members b after
   attends-in_mode a b call answer id f before after attends by stays step changed_there who known kept wait idle =
       attends-after members laws a b call answer before after attends by stays step
       (serves-in_mode id f (members.own a before.who) (own_after call answer (members.own a before.who)) before after attends.serves changed_there kept wait) who known

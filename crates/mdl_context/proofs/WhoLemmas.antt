@@ -129,7 +129,7 @@ of_poll context (Is_settled how) = of_end context
 of_poll context _ = refl
 
 of_sought : (context : ContextView) (end : SearchEnd) → StaysOf {A = Resume} context.who (waits.wait_sought context end)
-of_sought context Over = of_poll (waits.searches_over context)
+of_sought context Over = of_poll (waits.with_searches_over context)
 of_sought context Cut_off = of_poll context
 of_sought context (Failed refusal) =
     each_then {A = Unit {0}} {B = Outcome Resume} (IsOf context.who) (gains.abandoning context.who)

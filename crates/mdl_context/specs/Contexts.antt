@@ -10,7 +10,7 @@ use Rattle.mdl_key.specs.declared.mode.Duration.TheVariants.{Statement, Transact
 use Rattle.mdl_key.specs.declared.namespace.Namespace.{Namespace}
 use Rattle.mdl_key.specs.declared.namespace.Namespace.TheVariants.{UserLevelLock}
 use Rattle.mdl_key.specs.Keys.{KeyName, key_eq}
-use Rattle.mdl_defs.specs.declared.standing.Standing.{Standing}
+use Rattle.mdl_defs.specs.declared.versioned_definition.VersionedDefinition.{VersionedDefinition}
 use Rattle.mdl_calls.specs.declared.answers.Held.{Held}
 use Rattle.mdl_calls.specs.declared.answers.Settled.{Settled}
 use Rattle.mdl_calls.specs.SessionLocks.{SessionLocks, Wait, are_rising}
@@ -154,7 +154,7 @@ HasSettledWait is_settled space who = (how : Settled) × is_settled space who ho
 abbrev pub KeepsMet : {S : Type 0} → Ghosts S → S → S → Type 0
 KeepsMet members before after =
     (w : ℕ) → members.speaks_for before w →
-    members.speaks_for after w × ((place : ℕ) (standing : Standing) → members.has_met before w place standing → members.has_met after w place standing)
+    members.speaks_for after w × ((place : ℕ) (standing : VersionedDefinition) → members.has_met before w place standing → members.has_met after w place standing)
 
 -- a lock space still speaks for all sessions except one, and nothing changes for them: each has what it had, and knows what it
 -- knew. The standings that any session has met stay met

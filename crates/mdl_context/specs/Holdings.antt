@@ -26,16 +26,16 @@ abbrev pub context_of : ℕ → HoldingsView → ContextView
 context_of who holdings = record { who = who; kept = holdings.kept; known = holdings.known; wait = holdings.wait }
 
 -- whether a ticket has this number
-abbrev pub is_kept_ticket : ℕ → Kept → Bool
-is_kept_ticket id ticket = ticket.id == id
+abbrev pub has_ticket_number : ℕ → Kept → Bool
+has_ticket_number id ticket = ticket.id == id
 
 -- the tickets without that of a number
 abbrev pub without_number : ℕ → List Kept → List Kept
-without_number id kept = filter (λ ticket. not (is_kept_ticket id ticket)) kept
+without_number id kept = filter (λ ticket. not (has_ticket_number id ticket)) kept
 
 -- the tickets, with the mode of the one with this number changed
-abbrev pub kept_in_mode : ℕ → (Mode → Mode) → List Kept → List Kept
-kept_in_mode id change kept = map (λ ticket. if is_kept_ticket id ticket then record ticket { mode = change ticket.mode } else ticket) kept
+abbrev pub with_kept_mode : ℕ → (Mode → Mode) → List Kept → List Kept
+with_kept_mode id change kept = map (λ ticket. if has_ticket_number id ticket then record ticket { mode = change ticket.mode } else ticket) kept
 
 -- whether a ticket is at this place
 abbrev pub is_kept_at : ℕ → Kept → Bool

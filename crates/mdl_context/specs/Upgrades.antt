@@ -19,7 +19,7 @@ use Rattle.mdl_context.specs.declared.request.Acquire.TheVariants.{Acquired, Mus
 use Rattle.mdl_system.specs.Strength.{covers}
 use Rattle.mdl_context.specs.Contexts.{ContextView, Attends, ticket_kept}
 use Rattle.mdl_context.specs.Gains.{refusal_answered, waiting_at}
-use Rattle.mdl_context.specs.Holdings.{kept_in_mode, wanted_upgrade}
+use Rattle.mdl_context.specs.Holdings.{wanted_upgrade, with_kept_mode}
 use Rattle.mdl_context.specs.Releases.{unless, waiting_fault, release_fault}
 use Rattle.mdl_context.specs.Requests.{Outcome, starved}
 
@@ -29,7 +29,7 @@ with_ticket ticket context = record context { kept = context.kept ++ ticket ∷ 
 
 -- the context with the mode of one ticket changed
 abbrev pub with_ticket_mode : ℕ → (Mode → Mode) → ContextView → ContextView
-with_ticket_mode id change context = record context { kept = kept_in_mode id change context.kept }
+with_ticket_mode id change context = record context { kept = with_kept_mode id change context.kept }
 
 -- ---- merges
 

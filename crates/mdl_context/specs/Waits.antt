@@ -51,12 +51,12 @@ abbrev pub looking : ContextView → Program (Outcome Resume)
 looking context = Ask (Poll_wait context.who) (poll_answered context)
 
 -- the context, noting that the searches for its wait are over
-abbrev pub searches_over : ContextView → ContextView
-searches_over context = record context { wait = option_map search_over context.wait }
+abbrev pub with_searches_over : ContextView → ContextView
+with_searches_over context = record context { wait = option_map search_over context.wait }
 
 -- the rest of a wait after its searches for deadlocks: a look at it. If a search was refused, the wait is given up instead
 abbrev pub wait_sought : ContextView → SearchEnd → Program (Outcome Resume)
-wait_sought context Over = looking (searches_over context)
+wait_sought context Over = looking (with_searches_over context)
 wait_sought context Cut_off = looking context
 wait_sought context (Failed refusal) = abandoning context.who >> Give (Err (Space refusal), without_wait context)
 

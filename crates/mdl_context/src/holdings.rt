@@ -6,7 +6,7 @@ ghost use Rattle.mdl_key.specs.declared.mode.Duration.TheVariants.{Explicit};
 ghost use Rattle.mdl_calls.specs.SessionLocks.{upgraded};
 ghost use Rattle.mdl_context.specs.Contexts.{AreRising, lasts, tickets_for, has_number, held_of, is_user_lock, last_at, place_known, ticket_kept};
 ghost use Rattle.mdl_context.specs.Goings.{goes};
-ghost use Rattle.mdl_context.specs.Holdings.{without_number, is_kept_at, is_kept_ticket, IsIndexOf, has_room, earliest, kept_for, in_transaction, transactional, kept_ticket, wanted_of, wanted_upgrade, awaited_upgrade, kept_in_mode, with_wanted, search_over};
+ghost use Rattle.mdl_context.specs.Holdings.{without_number, is_kept_at, has_ticket_number, IsIndexOf, has_room, earliest, kept_for, in_transaction, transactional, kept_ticket, wanted_of, wanted_upgrade, awaited_upgrade, with_kept_mode, with_wanted, search_over};
 ghost use Rattle.mdl_context.specs.Indexes.{has_room_for};
 ghost use Rattle.mdl_context.specs.Waits.{is_searched};
 ghost use Rattle.mdl_context.specs.Requests.{suffices, is_reusable};
@@ -210,7 +210,7 @@ impl Holdings {
     /// The index of the ticket with a number, if there is one.
     pub(crate) fn position(&self, id: TicketId) -> Option<usize>
         requires { AreRising self.now.kept }
-        ensures here { result ≡ position (is_kept_ticket id) self.now.kept }
+        ensures here { result ≡ position (has_ticket_number id) self.now.kept }
         ensures has { is_some result ≡ has_number self.now.kept id }
     {
         index_of(&self.tickets, id)
@@ -228,7 +228,7 @@ impl Holdings {
     /// Sets the mode of the ticket of a number, if there is one. Takes no memory.
     pub(crate) fn set_mode(&mut self, id: TicketId, mode: Mode)
         requires { AreRising self.old.kept }
-        ensures kept { self.new.kept ≡ kept_in_mode id (λ _. mode) self.old.kept }
+        ensures kept { self.new.kept ≡ with_kept_mode id (λ _. mode) self.old.kept }
         ensures known { self.new.known ≡ self.old.known }
         ensures wait { self.new.wait ≡ self.old.wait }
     {
@@ -240,7 +240,7 @@ impl Holdings {
     /// Sets the mode of the ticket of a number, if there is one and its own mode isn't at least as strong.
     pub(crate) fn strengthen(&mut self, id: TicketId, mode: Mode)
         requires { AreRising self.old.kept }
-        ensures kept { self.new.kept ≡ kept_in_mode id (upgraded mode) self.old.kept }
+        ensures kept { self.new.kept ≡ with_kept_mode id (upgraded mode) self.old.kept }
         ensures known { self.new.known ≡ self.old.known }
         ensures wait { self.new.wait ≡ self.old.wait }
     {
@@ -281,7 +281,7 @@ impl Holdings {
     /// Removes the ticket of a number, which is at index `at`. Takes no memory.
     pub(crate) fn remove(&mut self, at: usize, id: TicketId)
         requires rising { AreRising self.old.kept }
-        requires here { position (is_kept_ticket id) self.old.kept ≡ Some at }
+        requires here { position (has_ticket_number id) self.old.kept ≡ Some at }
         ensures kept { self.new.kept ≡ without_number id self.old.kept }
         ensures known { self.new.known ≡ self.old.known }
         ensures wait { self.new.wait ≡ self.old.wait }
@@ -358,7 +358,7 @@ impl Holdings {
 // The index of the ticket with a number, among tickets whose numbers rise.
 fn index_of(tickets: &[Kept], id: TicketId) -> Option<usize>
     requires { AreRising tickets.now }
-    ensures { result ≡ position (is_kept_ticket id) tickets.now }
+    ensures { result ≡ position (has_ticket_number id) tickets.now }
 {
     tickets.binary_search_by_key(&id, |ticket| ticket.id).ok()
 }
@@ -366,7 +366,7 @@ fn index_of(tickets: &[Kept], id: TicketId) -> Option<usize>
 // The ticket with a number, among tickets whose numbers rise.
 fn numbered(tickets: &[Kept], id: TicketId) -> Option<&Kept>
     requires { AreRising tickets.now }
-    ensures { option_copied result ≡ find (is_kept_ticket id) tickets.now }
+    ensures { option_copied result ≡ find (has_ticket_number id) tickets.now }
 {
     let at = index_of(tickets, id)?;
     Some(&tickets[at])

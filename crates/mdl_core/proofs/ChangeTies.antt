@@ -11,8 +11,8 @@ use Rattle.mdl_book.specs.declared.book_view.BookView.{BookView}
 use Rattle.mdl_book.specs.declared.ticket.Ticket.{Ticket}
 use Rattle.mdl_book.specs.Books.{empty_book, lock_kind}
 use Rattle.mdl_book.specs.Tickets.{is_ticket, ticket_id, ticket_of, without, in_mode, with_mode}
-use Rattle.mdl_defs.specs.Standings.{MayStand}
-use Rattle.mdl_defs.proofs.StandingLemmas.{changes-keep_standing}
+use Rattle.mdl_defs.specs.VersionedDefinitions.{MayStand}
+use Rattle.mdl_defs.proofs.VersionedDefinitionLemmas.{changes-keep_standing}
 use Rattle.mdl_calls.specs.declared.answers.Held.{Held}
 use Rattle.mdl_core.specs.Changes.{Change, Gain, Lose, Queue, Admit, Settle, Leave, Take_up, Alter, Fold, Redefine, seat_after, book_after, after_change, Allows, May}
 use Rattle.mdl_core.specs.Cores.{Core, book_at, seat_at, key_at, standing_at, booking, seating}

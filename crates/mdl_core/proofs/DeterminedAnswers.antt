@@ -11,7 +11,7 @@ use Rattle.mdl_graph.proofs.CycleOrder.{before_same}
 use Rattle.mdl_defs.specs.declared.change.Change.{Change}
 use Rattle.mdl_defs.specs.declared.change_error.ChangeError.TheVariants as why_not
 use Rattle.mdl_defs.specs.Changes.{change_fault}
-use Rattle.mdl_defs.specs.Standings.{suits}
+use Rattle.mdl_defs.specs.VersionedDefinitions.{suits}
 use Rattle.mdl_calls.specs.declared.answers.Held.{Held}
 use Rattle.mdl_calls.specs.declared.answers.Settled.{Settled}
 use Rattle.mdl_calls.specs.declared.answers.Settled.TheVariants as settled_as
@@ -19,12 +19,12 @@ use Rattle.mdl_calls.specs.declared.space_error.SpaceError.TheVariants.{NotHeld,
 use Rattle.mdl_calls.specs.Words.{Answer, Refused, Done, Would_wait, No_cycle, Victim_is, Has_wait, Has_killed, Changed, Upgraded, finds_no_memory, Call, Resolve, Try_now, Begin_wait, Search, Poll_wait, Settle_timeout, End_wait, Wait_of, Kill, Release, Clone_ticket, Upgrade_now, Merge, Downgrade, Read_definition, Read_kept, Change_definition, Key_of, Tables_of, List_held, caller, may_merge}
 use Rattle.mdl_core.specs.declared.pending.Pending.{Pending}
 use Rattle.mdl_core.specs.ChangeEvents.{holding_of}
-use Rattle.mdl_core.specs.CoreCalls.{has_call, outcome, refused_or, first_cause, request_causes, clone_causes, granted_unless_full, queued_unless_full, cloning_of, upgrade_causes, upgraded_if_free, upgrading_of, is_lower, downgrading_of, merge_causes, merging_of, held_ticket, releasing_of, poll_answer, polling_of, timing_out_at, timing_out_of, ending_at, ending_of, wait_at, is_open_wait, wait_of_outcome, kill_outcome, searching_of, search_outcome, victim_at, reading_of, redefining_of, redefining_fault, redefined_unless}
+use Rattle.mdl_core.specs.CoreCalls.{has_call, outcome, refused_or, first_cause, request_causes, clone_causes, granted_unless_full, queued_unless_full, cloning_of, upgrade_causes, upgraded_if_free, upgrading_of, is_lower, downgrading_of, merge_causes, merging_of, held_ticket, releasing_of, poll_answer, polling_of, timing_out_at, timing_out_of, ending_at, ending_of, wait_at, is_open_wait, wait_of_outcome, kill_outcome, searching_of, search_deadlock_outcome, victim_at, reading_of, redefining_of, redefining_fault, redefined_unless}
 use Rattle.mdl_core.specs.CoreJoins.{SpeaksFor, numbers_at}
 use Rattle.mdl_core.specs.Cores.{Core, book_at, seat_at, key_at, standing_at, has_key, has_session, is_free_for}
 use Rattle.mdl_core.specs.Changes.{altering, folding, serving}
 use Rattle.mdl_core.specs.CoreSystems.{defined_in, system_of}
-use Rattle.mdl_core.specs.Determined.{Right, Only, Where, Requires, places_of, ToAsk, ToGrant, ToClone, ToUpgrade, ToDowngrade, ToMerge, ToRead, ToChange, OfHolding, OfWait, to_poll, to_time_out, to_end, ToSearch, Determines, AnswersAreDetermined}
+use Rattle.mdl_core.specs.Determined.{Right, Only, Where, RefusedUnless, places_of, ToAsk, ToGrant, ToClone, ToUpgrade, ToDowngrade, ToMerge, ToRead, ToChange, OfHolding, OfWait, to_poll, to_time_out, to_end, ToSearch, Determines, AnswersAreDetermined}
 use Rattle.mdl_core.specs.SessionLaws.{HasWhatTheSystemSays, WaitsSomewhere}
 use Rattle.mdl_core.specs.Ties.{IsTied, IsSoundCore}
 use Rattle.mdl_system.specs.Words.{Holding, HasNoWait, IsGrantable, IsChosenDeadlock, IsVictimOf, covers}
@@ -86,7 +86,7 @@ one-victim a cycle one other (among, (weight, weighs, least)) (among_too, (heavy
     let second = least_too one weight among weighs in
     grind (arith)
 
-searches : (a : Core) (who : ℕ) → IsTied a → IsAnswer (ToSearch (system_of a) who) (search_outcome who a).0
+searches : (a : Core) (who : ℕ) → IsTied a → IsAnswer (ToSearch (system_of a) who) (search_deadlock_outcome who a).0
 searches a who tied =
     option_cases (λ o. IsAnswer (ToSearch (system_of a) who) (searching_of o a).0) (victim_at who a)
     (λ none. where-not _ _ (Only No_cycle) No_cycle (λ deadlock. nothing-found a who tied none deadlock.0 deadlock.1) (only No_cycle))
@@ -113,7 +113,7 @@ changes a place change =
     (nat_le 1000000 (standing_at place a).version) _ _
     (λ full. unmet _ VersionFull _ (at_limit 1000000 (standing_at place a).version full))
     (λ few. met _ VersionFull _ _ (below_limit 1000000 (standing_at place a).version few)
-    (test_cases (λ why. IsAnswer (Requires (suits (key_at place a).namespace change ≡ true) WrongKind by_fault) (redefined_unless why place change a).0)
+    (test_cases (λ why. IsAnswer (RefusedUnless (suits (key_at place a).namespace change ≡ true) WrongKind by_fault) (redefined_unless why place change a).0)
     (not (suits (key_at place a).namespace change)) _ _
     (λ unfit. unmet _ WrongKind _ (not-so _ unfit))
     (λ fits. met _ WrongKind _ _ (not_false _ fits)
@@ -280,7 +280,7 @@ module _ (a : Core) (who : ℕ) (sound : IsSoundCore a) (has : has_session who a
   -- a change under a held ticket
   abbrev Redefined : Change → Held → Right
   Redefined change ticket =
-      Requires (ticket.mode ≡ X) NotExclusive (ToChange (key_at ticket.place a) change ((system_of a).definitions (key_at ticket.place a)))
+      RefusedUnless (ticket.mode ≡ X) NotExclusive (ToChange (key_at ticket.place a) change ((system_of a).definitions (key_at ticket.place a)))
 
   redefines : (change : Change) (ticket : Held) → has_key ticket.place a ≡ true → IsAnswer (Redefined change ticket) (redefining_of (Some ticket) change a).0
   redefines change ticket key =

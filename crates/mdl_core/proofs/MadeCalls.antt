@@ -10,7 +10,7 @@ use Rattle.mdl_key.specs.Words.{KeyName, kind_of, is_mode_of, same_mode}
 use Rattle.mdl_defs.specs.declared.change.Change.{Change as Redefinition}
 use Rattle.mdl_defs.specs.declared.def_error.DefError.{DefError}
 use Rattle.mdl_defs.specs.declared.def_error.DefError.TheVariants as fault
-use Rattle.mdl_defs.proofs.StandingLemmas.{fault-cases}
+use Rattle.mdl_defs.proofs.VersionedDefinitionLemmas.{fault-cases}
 use Rattle.mdl_calls.specs.declared.answers.Held.{Held}
 use Rattle.mdl_calls.specs.declared.answers.Settled.{Settled}
 use Rattle.mdl_calls.specs.declared.answers.Settled.TheVariants as settled_as

@@ -18,7 +18,7 @@ use Rattle.mdl_core.specs.CoreCalls.{is_full, placing, resolve_outcome, key_of_o
 use Rattle.mdl_core.specs.CoreJoins.{numbers_at}
 use Rattle.mdl_core.specs.Cores.{Core, book_at, seat_at, key_at, has_key, index_of}
 use Rattle.mdl_core.specs.CoreSystems.{granted_in, book_of, waiter_in, system_of}
-use Rattle.mdl_core.specs.Determined.{Right, Only, Requires, key_of_place, AtPlace, ToResolve, LockHasRoom, ToGrant, ToWait, places_of}
+use Rattle.mdl_core.specs.Determined.{Right, Only, RefusedUnless, key_of_place, AtPlace, ToResolve, LockHasRoom, ToGrant, ToWait, places_of}
 use Rattle.mdl_core.specs.Ties.{IsTied}
 use Rattle.mdl_system.specs.Words.{in_book, of_lock, Holding}
 use Rattle.mdl_core.proofs.CallCases.{test_cases, option_cases, not_false, not_true}
@@ -109,7 +109,7 @@ module _ (core : Core) where
           there (inr (nowhere, rest)) = absurd (nowhere (subst (Contains (places_of core).keys) at.1 (listed (index + 1) at.0)))
 
       nowhere-else : (x : Answer) → index_of key core.books ≡ None
-          → IsAnswer (Requires (length (places_of core).keys < core.places) NoPlace (Only (At_place (length (places_of core).keys + 1)))) x
+          → IsAnswer (RefusedUnless (length (places_of core).keys < core.places) NoPlace (Only (At_place (length (places_of core).keys + 1)))) x
           → IsAnswer (ToResolve (places_of core) key) x
       nowhere-else x none its y = (there, λ is. inr (unlisted tied key none, (its y).1 is))
         where

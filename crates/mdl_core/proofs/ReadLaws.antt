@@ -7,8 +7,8 @@ use Rattle.mdl_key.specs.Words.{same_mode}
 use Rattle.mdl_defs.specs.declared.change.Change.{Change as Redefinition}
 use Rattle.mdl_defs.specs.declared.change_error.ChangeError.{ChangeError}
 use Rattle.mdl_defs.specs.declared.definition.Definition.{Definition}
-use Rattle.mdl_defs.specs.declared.standing.Standing.{Standing}
-use Rattle.mdl_defs.specs.Standings.{standing_after, MayStand}
+use Rattle.mdl_defs.specs.declared.versioned_definition.VersionedDefinition.{VersionedDefinition}
+use Rattle.mdl_defs.specs.VersionedDefinitions.{standing_after, MayStand}
 use Rattle.mdl_book.specs.Books.{empty_book, redefining}
 use Rattle.mdl_book.specs.declared.book_view.BookView.{BookView}
 use Rattle.mdl_book.specs.declared.ticket.Ticket.{Ticket}
@@ -107,7 +107,7 @@ core-redefines a b who id version change ticket its (speaks, has, inr made) =
     )
 
 -- it is what the change makes of what stood there, or the change is refused for that
-pub core-redefines_so : (a b : Core) (who id : ℕ) (change : Redefinition) (answer : Answer) (ticket : Held) (key : KeyName) (standing : Standing)
+pub core-redefines_so : (a b : Core) (who id : ℕ) (change : Redefinition) (answer : Answer) (ticket : Held) (key : KeyName) (standing : VersionedDefinition)
     → ticket_held id (locks_at a who) ≡ Some ticket → same_mode ticket.mode X ≡ true → Knows a who ticket.place key → HasRead a who ticket.place standing
     → Joins a (Change_definition who id change) answer b
     → IsChangeOf key change standing answer
@@ -136,11 +136,11 @@ core-redefines_so a b who id change answer ticket key standing its exclusive kno
         inr (by (redefining_fault ticket.place change a) made_so)
 
 -- one thing stands at a place
-pub core-reads_one : (a : Core) (w place : ℕ) (one other : Standing) → SpeaksFor a w → HasRead a w place one → HasRead a w place other → one ≡ other
+pub core-reads_one : (a : Core) (w place : ℕ) (one other : VersionedDefinition) → SpeaksFor a w → HasRead a w place one → HasRead a w place other → one ≡ other
 core-reads_one a w place one other speaks read again = sym read.2 ∙ again.2
 
 -- what stands may stand under its key
-pub core-reads_fit : (a : Core) (w place : ℕ) (key : KeyName) (standing : Standing) → SpeaksFor a w → Knows a w place key → HasRead a w place standing
+pub core-reads_fit : (a : Core) (w place : ℕ) (key : KeyName) (standing : VersionedDefinition) → SpeaksFor a w → Knows a w place key → HasRead a w place standing
     → MayStand key.namespace standing
 core-reads_fit a w place key standing speaks knows read =
     subst (λ k. MayStand k.namespace standing) knows.1 (subst (MayStand (key_at place a).namespace) read.2 (speaks.1.standing place read.1))
@@ -328,7 +328,7 @@ exclusive-alone a w who one other speaks session apart mine theirs here exclusiv
     (ap (λ p. key_at p a) (sym here)) (λ e. apart (sym e)) (subst (λ p. Clashes (lock_kind (key_at p a)) other.mode one.mode) here clash)
 
 -- what was read stands as long as a ticket is held, unless the session itself changes it
-pub core-stands : (a b : Core) (call : Call) (answer : Answer) (w place : ℕ) (standing : Standing) → SpeaksFor a w
+pub core-stands : (a b : Core) (call : Call) (answer : Answer) (w place : ℕ) (standing : VersionedDefinition) → SpeaksFor a w
     → (caller call ≡ Some w → redefined_place call answer (locks_at a w) ≡ Some place → ⊥) → HoldsAt place (locks_at b w) → Joins a call answer b
     → HasRead a w place standing → HasRead b w place standing
 core-stands a b call answer w place standing speaks other holds joins read = by (kept a b call answer speaks.1.tied joins place read.1)
@@ -342,8 +342,8 @@ core-stands a b call answer w place standing speaks other holds joins read = by 
     ]
 
 -- what is read is seen
-pub core-sees : (a : Core) (w place : ℕ) (standing : Standing) → SpeaksFor a w → HasRead a w place standing → HasSeen a w place standing.version
-core-sees a w place standing speaks read = let e = ap (λ (s : Standing). s.version) read.2 in (read.1, omega (arith, e))
+pub core-sees : (a : Core) (w place : ℕ) (standing : VersionedDefinition) → SpeaksFor a w → HasRead a w place standing → HasSeen a w place standing.version
+core-sees a w place standing speaks read = let e = ap (λ (s : VersionedDefinition). s.version) read.2 in (read.1, omega (arith, e))
 
 -- what was seen was seen
 pub core-seen_stays : (a b : Core) (call : Call) (answer : Answer) (w place version : ℕ) → SpeaksFor a w → Joins a call answer b
@@ -351,13 +351,13 @@ pub core-seen_stays : (a b : Core) (call : Call) (answer : Answer) (w place vers
 core-seen_stays a b call answer w place version speaks joins seen = by (kept a b call answer speaks.1.tied joins place seen.0)
   where
     by : Keeps place a b ⊎ IsChanged a b call answer place → HasSeen b w place version
-    by (inl same) = let e = ap (λ (s : Standing). s.version) same.1 in (same.0, omega (arith, e, seen.1))
-    by (inr is) = let e = ap (λ (s : Standing). s.version) is.after in (is.key, omega (arith, e, seen.1))
+    by (inl same) = let e = ap (λ (s : VersionedDefinition). s.version) same.1 in (same.0, omega (arith, e, seen.1))
+    by (inr is) = let e = ap (λ (s : VersionedDefinition). s.version) is.after in (is.key, omega (arith, e, seen.1))
 
 -- no version is read below one that was seen
-pub core-seen_below : (a : Core) (w place version : ℕ) (standing : Standing) → SpeaksFor a w → HasSeen a w place version
+pub core-seen_below : (a : Core) (w place version : ℕ) (standing : VersionedDefinition) → SpeaksFor a w → HasSeen a w place version
     → HasRead a w place standing → version ≤ standing.version
-core-seen_below a w place version standing speaks seen read = let e = ap (λ (s : Standing). s.version) read.2 in omega (arith, e, seen.1)
+core-seen_below a w place version standing speaks seen read = let e = ap (λ (s : VersionedDefinition). s.version) read.2 in omega (arith, e, seen.1)
 
 -- ---- pins
 

@@ -2,7 +2,7 @@
 use Rattle.std.proofs.Common.{◌≡◌, ◌↔◌, inl, inr}
 use Rattle.mdl_calls.specs.declared.space_error.SpaceError.{SpaceError}
 use Rattle.mdl_calls.specs.Words.{Answer, Refused}
-use Rattle.mdl_core.specs.Determined.{Right, Only, Where, Requires}
+use Rattle.mdl_core.specs.Determined.{Right, Only, Where, RefusedUnless}
 
 -- this answer is right, and no other
 abbrev pub IsAnswer : Right → Answer → Type 0
@@ -27,9 +27,9 @@ module _ (P : Type 0) (Then Else : Right) (x : Answer) where
       there (inr h) = (its y).0 h.1
 
 -- what is asked is so
-pub met : (P : Type 0) (refusal : SpaceError) (Then : Right) (x : Answer) → P → IsAnswer Then x → IsAnswer (Requires P refusal Then) x
+pub met : (P : Type 0) (refusal : SpaceError) (Then : Right) (x : Answer) → P → IsAnswer Then x → IsAnswer (RefusedUnless P refusal Then) x
 met P refusal Then x p its = where-so P Then (Only (Refused refusal)) x p its
 
 -- it isn't
-pub unmet : (P : Type 0) (refusal : SpaceError) (Then : Right) → (P → ⊥) → IsAnswer (Requires P refusal Then) (Refused refusal)
+pub unmet : (P : Type 0) (refusal : SpaceError) (Then : Right) → (P → ⊥) → IsAnswer (RefusedUnless P refusal Then) (Refused refusal)
 unmet P refusal Then fails = where-not P Then (Only (Refused refusal)) (Refused refusal) fails (only (Refused refusal))

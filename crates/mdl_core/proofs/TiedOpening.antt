@@ -11,8 +11,8 @@ use Rattle.mdl_book.specs.declared.book_view.BookView.{BookView}
 use Rattle.mdl_book.specs.declared.ticket.Ticket.{Ticket}
 use Rattle.mdl_book.specs.Books.{lock_kind, empty_book}
 use Rattle.mdl_book.specs.Tickets.{ticket_id}
-use Rattle.mdl_defs.specs.Standings.{MayStand}
-use Rattle.mdl_defs.proofs.StandingLemmas.{nothing-stands}
+use Rattle.mdl_defs.specs.VersionedDefinitions.{MayStand}
+use Rattle.mdl_defs.proofs.VersionedDefinitionLemmas.{nothing-stands}
 use Rattle.mdl_calls.specs.declared.answers.Held.{Held}
 use Rattle.mdl_core.specs.Cores.{Core, empty_core, book_at, seat_at, key_at, index_of, has_key, has_session}
 use Rattle.mdl_core.specs.CoreSystems.{granted_in, book_of, waiter_in, defined_in, system_of}

@@ -6,7 +6,7 @@ use Rattle.mdl_key.specs.declared.mode.Mode.TheVariants.{X}
 use Rattle.mdl_key.specs.Words.{KeyName, is_mode_of, same_mode}
 use Rattle.mdl_defs.specs.declared.change.Change.{Change}
 use Rattle.mdl_defs.specs.declared.change_error.ChangeError.{ChangeError}
-use Rattle.mdl_defs.specs.Standings.{standing_fault}
+use Rattle.mdl_defs.specs.VersionedDefinitions.{standing_fault}
 use Rattle.mdl_book.specs.Books.{lock_kind, ticket_count}
 use Rattle.mdl_book.specs.declared.book_error.BookError.{BookError}
 use Rattle.mdl_book.specs.declared.book_error.BookError.TheVariants as book_error
@@ -265,8 +265,8 @@ abbrev pub victim_at : ℕ → Core → Option ℕ
 victim_at who core = victim_in (has_settled core) core.books who
 
 -- the outcome of a search for a deadlock that the session is part of
-abbrev pub search_outcome : ℕ → Core → Answer × Core
-search_outcome who core = searching_of (victim_at who core) core
+abbrev pub search_deadlock_outcome : ℕ → Core → Answer × Core
+search_deadlock_outcome who core = searching_of (victim_at who core) core
 
 -- ---- definitions
 
@@ -276,8 +276,8 @@ reading_of None core = (Refused NotHeld, core)
 reading_of (Some ticket) core = (Reads (standing_at ticket.place core).version (standing_at ticket.place core).definition, core)
 
 -- the outcome of reading under the ticket of a number
-abbrev pub read_outcome : ℕ → ℕ → Core → Answer × Core
-read_outcome who id core = reading_of (held_ticket who id core) core
+abbrev pub read_definition_outcome : ℕ → ℕ → Core → Answer × Core
+read_definition_outcome who id core = reading_of (held_ticket who id core) core
 
 -- why the definition of a place's key can't be changed so, if it can't
 abbrev pub redefining_fault : ℕ → Change → Core → Option ChangeError
@@ -302,8 +302,8 @@ change_definition_outcome who id change core = redefining_of (held_ticket who id
 -- ---- lists
 
 -- the outcome of listing a session's held tickets
-abbrev pub held_outcome : ℕ → Core → Answer × Core
-held_outcome who core = (Holds (seat_at who core).held, core)
+abbrev pub list_held_outcome : ℕ → Core → Answer × Core
+list_held_outcome who core = (Holds (seat_at who core).held, core)
 
 -- ---- all calls
 
@@ -336,7 +336,7 @@ abbrev pub outcome : Call → Core → Answer × Core
 outcome (Resolve who key) core = resolve_outcome key core
 outcome (Try_now who place mode) core = try_now_outcome who place mode core
 outcome (Begin_wait who place mode) core = begin_wait_outcome who place mode core
-outcome (Search who) core = search_outcome who core
+outcome (Search who) core = search_deadlock_outcome who core
 outcome (Poll_wait who) core = poll_wait_outcome who core
 outcome (Settle_timeout who) core = settle_timeout_outcome who core
 outcome (End_wait who) core = end_wait_outcome who core
@@ -347,12 +347,12 @@ outcome (Clone_ticket who id mode) core = clone_ticket_outcome who id mode core
 outcome (Upgrade_now who id mode) core = upgrade_now_outcome who id mode core
 outcome (Merge who old new) core = merge_outcome who old new core
 outcome (Downgrade who id mode) core = downgrade_outcome who id mode core
-outcome (Read_definition who id) core = read_outcome who id core
-outcome (Read_kept who id) core = read_outcome who id core
+outcome (Read_definition who id) core = read_definition_outcome who id core
+outcome (Read_kept who id) core = read_definition_outcome who id core
 outcome (Change_definition who id change) core = change_definition_outcome who id change core
 outcome (Key_of who place) core = key_of_outcome place core
 outcome (Tables_of who schema) core = tables_of_outcome schema core
-outcome (List_held who) core = held_outcome who core
+outcome (List_held who) core = list_held_outcome who core
 outcome _ core = (Refused OutOfMemory, core)
 
 -- a call with this step made the step; or, if it takes memory, it was refused because memory ran out, and changed nothing

@@ -2,7 +2,7 @@
 use Rattle.std.specs.Prelude.{◌≡◌, ◌≤◌, ℕ, true, Some, MatchOption}
 use Rattle.std.specs.Option.{IfSome}
 use Rattle.mdl_key.specs.Keys.{KeyName}
-use Rattle.mdl_defs.specs.declared.standing.Standing.{Standing}
+use Rattle.mdl_defs.specs.declared.versioned_definition.VersionedDefinition.{VersionedDefinition}
 use Rattle.mdl_calls.specs.declared.answers.Settled.{Settled}
 use Rattle.mdl_core.specs.declared.pending.Pending.{Pending}
 use Rattle.mdl_calls.specs.Words.{Answer, Call, caller, takes_memory, SessionLocks, Numbers, HoldsAt}
@@ -32,7 +32,7 @@ abbrev pub IsSettledAs : Core → ℕ → Settled → Type 0
 IsSettledAs core who how = MatchOption (wait_at who core) ⊥ (λ (wait : Pending). wait.settled ≡ Some how)
 
 -- a place has this version and definition, and the session holds a ticket there
-abbrev pub HasRead : Core → ℕ → ℕ → Standing → Type 0
+abbrev pub HasRead : Core → ℕ → ℕ → VersionedDefinition → Type 0
 HasRead core who place standing = HoldsAt place (locks_at core who) × (has_key place core ≡ true) × (standing_at place core ≡ standing)
 
 -- a place's version is this one or a later one

@@ -7,7 +7,7 @@ use Rattle.mdl_key.specs.Keys.{KeyName, key_eq, key_cmp, global_key}
 use Rattle.mdl_book.specs.Books.{lock_kind, empty_book}
 use Rattle.mdl_book.specs.Granting.{is_grantable}
 use Rattle.mdl_book.specs.declared.book_view.BookView.{BookView}
-use Rattle.mdl_defs.specs.declared.standing.Standing.{Standing}
+use Rattle.mdl_defs.specs.declared.versioned_definition.VersionedDefinition.{VersionedDefinition}
 use Rattle.mdl_calls.specs.Reads.{is_table_of}
 use Rattle.mdl_core.specs.Seats.{SeatView, empty_seat}
 
@@ -47,7 +47,7 @@ abbrev pub key_at : ℕ → Core → KeyName
 key_at place core = (book_at place core).key
 
 -- the version and the definition of a place's key
-abbrev pub standing_at : ℕ → Core → Standing
+abbrev pub standing_at : ℕ → Core → VersionedDefinition
 standing_at place core = (book_at place core).standing
 
 -- whether a session's request for a lock can be granted now

@@ -10,7 +10,7 @@ use Rattle.mdl_book.specs.declared.book_view.BookView.{BookView}
 use Rattle.mdl_defs.specs.declared.change.Change.{Change}
 use Rattle.mdl_defs.specs.declared.definition.Definition.{Definition}
 use Rattle.mdl_defs.specs.Changes.{change_fault}
-use Rattle.mdl_defs.specs.Standings.{suits}
+use Rattle.mdl_defs.specs.VersionedDefinitions.{suits}
 use Rattle.mdl_calls.specs.declared.answers.Held.{Held}
 use Rattle.mdl_calls.specs.declared.answers.Settled.{Settled}
 use Rattle.mdl_calls.specs.declared.answers.Settled.TheVariants as settled_as
@@ -41,9 +41,9 @@ Only right answer = answer ≡ right
 abbrev pub Where : Type 0 → Right → Right → Right
 Where P Then Else answer = (P × Then answer) ⊎ ((P → ⊥) × Else answer)
 
--- a call requires a condition, and is refused with this error if it doesn't hold. Of nested conditions the first one that fails counts.
-abbrev pub Requires : Type 0 → SpaceError → Right → Right
-Requires P refusal Then = Where P Then (Only (Refused refusal))
+-- a call is refused with this error unless the condition holds. Of nested conditions the first one that fails counts.
+abbrev pub RefusedUnless : Type 0 → SpaceError → Right → Right
+RefusedUnless P refusal Then = Where P Then (Only (Refused refusal))
 
 -- ---- places
 
@@ -65,7 +65,7 @@ AtPlace places place Then answer = MatchOption (key_of_place places place) (answ
 abbrev pub ToResolve : Places → KeyName → Right
 ToResolve places key answer =
     ((place : ℕ) × (key_of_place places place ≡ Some key) × (answer ≡ At_place place))
-    ⊎ ((Contains places.keys key → ⊥) × Requires (length places.keys < places.most) NoPlace (Only (At_place (length places.keys + 1))) answer)
+    ⊎ ((Contains places.keys key → ⊥) × RefusedUnless (length places.keys < places.most) NoPlace (Only (At_place (length places.keys + 1))) answer)
 
 -- the key of the place is that of a table of this schema, and has a definition
 abbrev pub HasDefinedTable : System Definition → Places → List ℕ → ℕ → Type 0
@@ -99,21 +99,21 @@ HasNumberLeft numbers = numbers.last_ticket < 2 ^ 60 - 1
 
 -- the right answers when a lock is granted: the ticket's number, which is the next one, if there is room
 abbrev pub ToGrant : {D : Type 0} → System D → Numbers → KeyName → Right
-ToGrant system numbers key = Requires (LockHasRoom system key) Full (Only (Granted (numbers.last_ticket + 1)))
+ToGrant system numbers key = RefusedUnless (LockHasRoom system key) Full (Only (Granted (numbers.last_ticket + 1)))
 
 -- the right answers to a request for a lock: at a place that has a key, by a session that has no wait and has a number left, in a
 -- mode of the key's kind. The lock is granted if the request is grantable.
 abbrev pub ToAsk : {D : Type 0} → System D → Places → Numbers → ℕ → ℕ → Mode → (KeyName → Right) → Right
 ToAsk system places numbers who place mode Otherwise =
     AtPlace places place (λ key.
-    Requires (HasNoWait system who) AlreadyWaiting (
-    Requires (is_mode_of (lock_kind key) mode ≡ true) BadMode (
-    Requires (HasNumberLeft numbers) CounterFull (
+    RefusedUnless (HasNoWait system who) AlreadyWaiting (
+    RefusedUnless (is_mode_of (lock_kind key) mode ≡ true) BadMode (
+    RefusedUnless (HasNumberLeft numbers) CounterFull (
     Where (IsGrantable system who key mode) (ToGrant system numbers key) (Otherwise key)))))
 
 -- the right answers when a wait begins: the wait's number, which is the next one, if there is room
 abbrev pub ToWait : {D : Type 0} → System D → Numbers → KeyName → Right
-ToWait system numbers key = Requires (LockHasRoom system key) Full (Only (Waits (numbers.last_wait + 1)))
+ToWait system numbers key = RefusedUnless (LockHasRoom system key) Full (Only (Waits (numbers.last_wait + 1)))
 
 -- ---- held tickets
 
@@ -127,29 +127,29 @@ OfHolding system who id Then answer =
 -- of the key's kind that the held ticket covers
 abbrev pub ToClone : {D : Type 0} → System D → Numbers → ℕ → Mode → Holding → Right
 ToClone system numbers who mode ticket =
-    Requires (HasNoWait system who) AlreadyWaiting (
-    Requires ((covers ticket.mode mode ≡ true) × (is_mode_of (lock_kind ticket.key) mode ≡ true)) BadMode (
-    Requires (HasNumberLeft numbers) CounterFull (ToGrant system numbers ticket.key)))
+    RefusedUnless (HasNoWait system who) AlreadyWaiting (
+    RefusedUnless ((covers ticket.mode mode ≡ true) × (is_mode_of (lock_kind ticket.key) mode ≡ true)) BadMode (
+    RefusedUnless (HasNumberLeft numbers) CounterFull (ToGrant system numbers ticket.key)))
 
 -- the right answers to an upgrade: to a mode of the key's kind that the ticket covers already or may be upgraded to, by a session that
 -- has no wait. The mode is granted at once if the ticket covers it already or the request for it is grantable.
 abbrev pub ToUpgrade : {D : Type 0} → System D → ℕ → Mode → Holding → Right
 ToUpgrade system who mode ticket =
-    Requires (((covers ticket.mode mode || may_upgrade ticket.mode mode) ≡ true) × (is_mode_of (lock_kind ticket.key) mode ≡ true)) NotUpgradable (
-    Requires (HasNoWait system who) AlreadyWaiting (
+    RefusedUnless (((covers ticket.mode mode || may_upgrade ticket.mode mode) ≡ true) × (is_mode_of (lock_kind ticket.key) mode ≡ true)) NotUpgradable (
+    RefusedUnless (HasNoWait system who) AlreadyWaiting (
     Where ((covers ticket.mode mode ≡ true) ⊎ IsGrantable system who ticket.key mode) (Only Upgraded) (Only Would_wait)))
 
 -- the right answers to a downgrade: to a mode of the key's kind that the ticket may be downgraded to
 abbrev pub ToDowngrade : Mode → Holding → Right
 ToDowngrade mode ticket =
-    Requires ((may_downgrade ticket.mode mode ≡ true) × (is_mode_of (lock_kind ticket.key) mode ≡ true)) NotUpgradable (Only Done)
+    RefusedUnless ((may_downgrade ticket.mode mode ≡ true) × (is_mode_of (lock_kind ticket.key) mode ≡ true)) NotUpgradable (Only Done)
 
 -- the right answers to a merge: by a session that has no wait, of two different tickets of one key, if the one to be released is at
 -- least as strong as the other
 abbrev pub ToMerge : {D : Type 0} → System D → ℕ → Holding → Holding → Right
 ToMerge system who kept gone =
-    Requires (HasNoWait system who) AlreadyWaiting (
-    Requires ((kept.number ≢ gone.number) × (gone.key ≡ kept.key) × (covers gone.mode kept.mode ≡ true)) BadMode (Only Done))
+    RefusedUnless (HasNoWait system who) AlreadyWaiting (
+    RefusedUnless ((kept.number ≢ gone.number) × (gone.key ≡ kept.key) × (covers gone.mode kept.mode ≡ true)) BadMode (Only Done))
 
 -- the right answer to a read: the key's version and definition
 abbrev pub ToRead : Versioned Definition → Right
@@ -159,8 +159,8 @@ ToRead standing = Only (Reads standing.version standing.definition)
 -- definition that the key has can be changed so
 abbrev pub ToChange : KeyName → Change → Versioned Definition → Right
 ToChange key change standing =
-    Requires (standing.version < 1000000) VersionFull (
-    Requires (suits key.namespace change ≡ true) WrongKind (λ answer.
+    RefusedUnless (standing.version < 1000000) VersionFull (
+    RefusedUnless (suits key.namespace change ≡ true) WrongKind (λ answer.
     MatchOption (change_fault standing.definition change) (answer ≡ Changed (standing.version + 1)) (λ why. answer ≡ Refused (Def why))))
 
 -- in the system a session holds this ticket, on the key of the ticket's place
@@ -238,7 +238,7 @@ Determines system places numbers (Downgrade who id mode) = OfHolding system who 
 Determines system places numbers (Read_definition who id) = OfHolding system who id (λ ticket. ToRead (system.definitions ticket.key))
 Determines system places numbers (Read_kept who id) = OfHolding system who id (λ ticket. ToRead (system.definitions ticket.key))
 Determines system places numbers (Change_definition who id change) =
-    OfHolding system who id (λ ticket. Requires (ticket.mode ≡ X) NotExclusive (ToChange ticket.key change (system.definitions ticket.key)))
+    OfHolding system who id (λ ticket. RefusedUnless (ticket.mode ≡ X) NotExclusive (ToChange ticket.key change (system.definitions ticket.key)))
 Determines system places numbers (Key_of who place) = AtPlace places place (λ key. Only (Key_is key))
 Determines system places numbers (Tables_of who schema) = ToTellTables system places schema
 Determines system places numbers (List_held who) = ToList system places who

@@ -7,7 +7,7 @@ use Rattle.mdl_key.specs.Words.{kind_of, is_mode_of}
 use Rattle.mdl_defs.specs.declared.change.Change.{Change}
 use Rattle.mdl_defs.specs.declared.def_error.DefError.{DefError}
 use Rattle.mdl_defs.specs.Changes.{change_fault}
-use Rattle.mdl_defs.specs.Standings.{suits}
+use Rattle.mdl_defs.specs.VersionedDefinitions.{suits}
 use Rattle.mdl_calls.specs.declared.answers.Held.{Held}
 use Rattle.mdl_calls.specs.declared.space_error.SpaceError.{SpaceError}
 use Rattle.mdl_calls.specs.declared.space_error.SpaceError.TheVariants.{NoPlace, NotHeld, NotUpgradable, NotExclusive, AlreadyWaiting, BadMode, VersionFull, CounterFull, Full, Def, WrongKind}

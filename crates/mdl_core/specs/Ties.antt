@@ -8,7 +8,7 @@ use Rattle.mdl_book.specs.Tickets.{ticket_id}
 use Rattle.mdl_calls.specs.declared.answers.Held.{Held}
 use Rattle.mdl_calls.specs.declared.answers.Settled.TheVariants as settled_as
 use Rattle.mdl_core.specs.declared.pending.Pending.{Pending}
-use Rattle.mdl_defs.specs.Standings.{MayStand}
+use Rattle.mdl_defs.specs.VersionedDefinitions.{MayStand}
 use Rattle.mdl_core.specs.Cores.{Core, book_at, seat_at, key_at, standing_at, has_key, has_session}
 use Rattle.mdl_core.specs.CoreSystems.{system_of}
 use Rattle.mdl_calls.specs.SessionLocks.{IsRising}

@@ -1,4 +1,4 @@
 pub mod CacheLemmas
 pub mod ChangeLemmas
 pub mod ColumnLemmas
-pub mod StandingLemmas
+pub mod VersionedDefinitionLemmas

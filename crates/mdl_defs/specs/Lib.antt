@@ -4,4 +4,4 @@ pub mod Changes
 pub mod Columns
 pub mod Definitions
 pub mod Laws
-pub mod Standings
+pub mod VersionedDefinitions

@@ -2,7 +2,7 @@
 use crate::DefError;
 use thiserror::Error;
 
-/// Why a key's definition can't be changed. Of several causes [`Standing::change`](crate::Standing::change) returns the first
+/// Why a key's definition can't be changed. Of several causes [`VersionedDefinition::change`](crate::VersionedDefinition::change) returns the first
 /// in this order. A refused call changes nothing.
 #[derive(Clone, Copy, Debug, PartialEq, Eq, Error)]
 pub enum ChangeError {

@@ -1,6 +1,6 @@
 //! Calls of a session of a space that threads share, and their answers.
 ghost use Rattle.std.specs.Prelude.{◌≡◌, true};
-ghost use Rattle.mdl_calls.specs.SessionData.{is_known};
+ghost use Rattle.mdl_key.specs.KeyLookups.{is_known};
 ghost use Rattle.mdl_shared.specs.SessionViews.{data_of};
 
 use mdl_defs::{Change, Column, Columns, Definition};

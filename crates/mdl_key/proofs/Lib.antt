@@ -1,2 +1,3 @@
 pub mod MatrixLemmas
 pub mod ModeLemmas
+pub mod NameLemmas

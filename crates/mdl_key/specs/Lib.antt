@@ -1,5 +1,6 @@
 pub mod BitMaps
 pub mod Classes
+pub mod KeyLookups
 pub mod Keys
 pub mod Laws
 pub mod Limits

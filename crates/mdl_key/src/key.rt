@@ -169,8 +169,8 @@ impl PartialEq for Key {
 
     fn eq(&self, other: &Key) -> bool {
         self.namespace == other.namespace
-            && self.schema_name() == other.schema_name()
-            && self.table_name() == other.table_name()
+            && self.cut == other.cut
+            && self.names.as_str() == other.names.as_str()
     }
 }
 
@@ -205,16 +205,15 @@ impl Ord for Key {
     }
 }
 
-/// Only the bytes of its names are hashed, not the namespace. The two keys without a name have the same hash, and so do a schema and a user-level
-/// lock of one name.
+/// Only the bytes of its names are hashed, one after the other, not the namespace. The two keys without a name have the same hash, and so do a
+/// schema and a user-level lock of one name, and the tables `a.bc` and `ab.c`.
 impl Hash for Key {
-    ghost hash_input = { λ key. fed.str key.schema ++ fed.str key.table };
+    ghost hash_input = { λ key. fed.str (key.schema ++ key.table) };
 
     ghost respects_eq = { Prim.search (hashing, rules) depth 9 };
 
     fn hash<H: Hasher>(&self, state: &mut H) {
-        self.schema_name().hash(state);
-        self.table_name().hash(state);
+        self.names.as_str().hash(state);
     }
 }
 

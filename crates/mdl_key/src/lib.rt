@@ -24,6 +24,7 @@
 
 mod key;
 mod key_error;
+mod known_key;
 mod laws;
 mod limits;
 mod matrix;
@@ -33,6 +34,7 @@ mod strength;
 
 pub use key::{Key, check_name};
 pub use key_error::KeyError;
+pub use known_key::KnownKey;
 pub use laws::{clashing_is_symmetric, strength_is_a_preorder, waits_only_where_it_clashes};
 pub use limits::{LONGEST_NAME, MOST_PLACES, MOST_SESSIONS};
 pub use matrix::{conflicts_granted, conflicts_waiting, granted_row, waiting_row};

@@ -1,7 +1,7 @@
 -- All calls of statements are made for their session or for nobody, and the session keeps its number.
 use Rattle.std.proofs.Common.{◌≡◌, ℕ, List, Option, Some, None, Ok, Err, refl, subst}
 use Rattle.mdl_key.specs.Keys.{KeyName}
-use Rattle.mdl_defs.specs.declared.standing.Standing.{Standing}
+use Rattle.mdl_defs.specs.declared.versioned_definition.VersionedDefinition.{VersionedDefinition}
 use Rattle.mdl_calls.specs.Words.{Answer, Has_wait, Reads, Changed, Tables, Key_is, Call, Change_definition, Kill, Tables_of, Key_of, Read_kept, Wait_of, Program, Give, Ask, Grow, ◌>>=◌, Each, EachCall}
 use Rattle.mdl_core.specs.RunLaws.{IsMadeFor}
 use Rattle.mdl_context.specs.declared.request.Acquire.{Acquire}
@@ -122,8 +122,8 @@ own_tried mark session more made (Err error, context) = own_closing (ending_of_e
 
 -- ---- what stands
 
-own_read : (mark : Mark) (session : Session) (more : Standing → Program Pause) →
-    ((standing : Standing) → IsOwn session.context.who (more standing)) →
+own_read : (mark : Mark) (session : Session) (more : VersionedDefinition → Program Pause) →
+    ((standing : VersionedDefinition) → IsOwn session.context.who (more standing)) →
     (answer : Answer) → IsOwn session.context.who (playing.read_answered mark session more answer)
 own_read mark session more made (Reads version definition) = made (record { version = version; definition = definition })
 own_read mark session more made answer = own_closing (ending_of_refusal (refusal_answered answer)) mark session
@@ -191,7 +191,7 @@ own_play (row.Release id rest) mark session =
     (own_releasing id session.context) (of_releasing id session.context) (λ outcome. own_play rest mark (with_context session outcome.1))
 own_play (row.Keep rest) mark session = own_play rest mark (playing.all_kept session)
 own_play (row.Read id rest) mark session =
-    let more = λ (standing : Standing). play (rest standing) mark session in
+    let more = λ (standing : VersionedDefinition). play (rest standing) mark session in
     own_ask session.context.who (Read_kept session.context.who id) (playing.read_answered mark session more) (refl, refl)
     (own_read mark session more (λ standing. own_play (rest standing) mark session))
 own_play (row.Redefine id change rest) mark session =

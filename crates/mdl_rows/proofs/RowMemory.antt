@@ -1,7 +1,7 @@
 -- Statements where memory is wanting: that all they can come to then is that they end for want of it.
 use Rattle.std.proofs.Common.{ℕ, List, Option, Some, None, Ok, Err, refl, sym, subst}
 use Rattle.mdl_key.specs.Keys.{KeyName}
-use Rattle.mdl_defs.specs.declared.standing.Standing.{Standing}
+use Rattle.mdl_defs.specs.declared.versioned_definition.VersionedDefinition.{VersionedDefinition}
 use Rattle.mdl_calls.specs.Words.{Answer, Has_wait, Reads, Changed, Tables, Key_is, Program, Give, Each, IsFaithful, IsFrugal, ◌>>=◌}
 use Rattle.mdl_calls.proofs.FaithfulLemmas.{each_then, faithful_bind, frugal_faithful}
 use Rattle.mdl_context.specs.declared.request.Acquire.{Acquire}
@@ -119,7 +119,7 @@ each_tried mark session more (result, context) e =
 
 -- ---- what stands
 
-faithful_read : (mark : Mark) (session : Session) (more : Standing → Program Pause) → ((standing : Standing) → IsFaithful IsFault (more standing)) →
+faithful_read : (mark : Mark) (session : Session) (more : VersionedDefinition → Program Pause) → ((standing : VersionedDefinition) → IsFaithful IsFault (more standing)) →
     (answer : Answer) → IsFaithful IsFault (playing.read_answered mark session more answer)
 faithful_read mark session more made (Reads version definition) = made (record { version = version; definition = definition })
 faithful_read mark session more made answer = faithful_closing (ending_of_refusal (refusal_answered answer)) mark session
@@ -186,7 +186,7 @@ faithful_play (row.Release id rest) mark session =
     (frugal_releasing id session.context) (λ outcome. faithful_play rest mark (with_context session outcome.1))
 faithful_play (row.Keep rest) mark session = faithful_play rest mark (playing.all_kept session)
 faithful_play (row.Read id rest) mark session =
-    let more = λ (standing : Standing). play (rest standing) mark session in
+    let more = λ (standing : VersionedDefinition). play (rest standing) mark session in
     (λ takes. each_starves mark session, faithful_read mark session more (λ standing. faithful_play (rest standing) mark session))
 faithful_play (row.Redefine id change rest) mark session =
     (λ takes. each_starves mark session, faithful_change mark session (play rest mark session) (faithful_play rest mark session))

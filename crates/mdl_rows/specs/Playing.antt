@@ -3,7 +3,7 @@ use Rattle.std.specs.Prelude.{ℕ, Option, Some, None, Ok, Err, map, List}
 use Rattle.mdl_key.specs.declared.mode.Mode.{Mode}
 use Rattle.mdl_key.specs.declared.mode.Duration.TheVariants.{Transaction, Explicit}
 use Rattle.mdl_key.specs.Keys.{KeyName}
-use Rattle.mdl_defs.specs.declared.standing.Standing.{Standing}
+use Rattle.mdl_defs.specs.declared.versioned_definition.VersionedDefinition.{VersionedDefinition}
 use Rattle.mdl_calls.specs.Words.{Answer, Has_wait, Reads, Changed, Tables, Key_is, Read_kept, Change_definition, Tables_of, Key_of, Wait_of, Program, Give, Ask, Grow, ◌>>=◌, ◌>>◌}
 use Rattle.mdl_calls.specs.Words as call
 use Rattle.mdl_context.specs.declared.request.Acquire.{Acquire}
@@ -74,7 +74,7 @@ abbrev pub upgrade_wish : KeyName → Mode → Wish
 upgrade_wish key mode = record { key = key; mode = mode; duration = Transaction }
 
 -- the rest once the space has answered a read of a definition
-abbrev pub read_answered : Mark → Session → (Standing → Program Pause) → Answer → Program Pause
+abbrev pub read_answered : Mark → Session → (VersionedDefinition → Program Pause) → Answer → Program Pause
 read_answered mark session more (Reads version definition) = more (record { version = version; definition = definition })
 read_answered mark session more answer = closing (ending_of_refusal (refusal_answered answer)) mark session
 

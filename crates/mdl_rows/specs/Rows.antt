@@ -5,7 +5,7 @@ use Rattle.mdl_key.specs.declared.mode.Mode.{Mode}
 use Rattle.mdl_key.specs.declared.mode.Duration.{Duration}
 use Rattle.mdl_key.specs.Keys.{KeyName}
 use Rattle.mdl_defs.specs.declared.change.Change.{Change}
-use Rattle.mdl_defs.specs.declared.standing.Standing.{Standing}
+use Rattle.mdl_defs.specs.declared.versioned_definition.VersionedDefinition.{VersionedDefinition}
 use Rattle.mdl_context.specs.declared.kept.Kept.{Kept}
 use Rattle.mdl_context.specs.declared.request.Mark.{Mark}
 use Rattle.mdl_context.specs.Wishes.{Wish}
@@ -42,7 +42,7 @@ pub data Row (A : Type 0) : Type 0 where
   -- makes all the session's tickets explicit
   Keep : Row A → Row A
   -- reads the version and definition of a ticket's key
-  Read : (id : ℕ) → (Standing → Row A) → Row A
+  Read : (id : ℕ) → (VersionedDefinition → Row A) → Row A
   -- changes the definition of a ticket's key
   Redefine : (id : ℕ) → Change → Row A → Row A
   -- reads the places of a schema's tables that have a definition
@@ -125,7 +125,7 @@ release id = Release id nothing
 abbrev pub keep : Act
 keep = Keep nothing
 
-abbrev pub read : ℕ → Row Standing
+abbrev pub read : ℕ → Row VersionedDefinition
 read id = Read id Give
 
 abbrev pub redefine : ℕ → Change → Act

@@ -22,7 +22,7 @@ use Rattle.mdl_defs.specs.declared.def_error.DefError.{DefError}
 use Rattle.mdl_defs.specs.declared.def_error.DefError.TheVariants as fault
 use Rattle.mdl_defs.specs.declared.definition.Definition.{Definition}
 use Rattle.mdl_defs.specs.declared.definition.Definition.TheVariants.{Schema, Table}
-use Rattle.mdl_defs.specs.declared.standing.Standing.{Standing}
+use Rattle.mdl_defs.specs.declared.versioned_definition.VersionedDefinition.{VersionedDefinition}
 use Rattle.mdl_defs.specs.Changes.{change_fault}
 use Rattle.mdl_defs.specs.Columns.{names_twice}
 use Rattle.mdl_syntax.specs.declared.statement.Algorithm.{Algorithm}
@@ -117,11 +117,11 @@ held_lock table = do
 -- ---- definitions of keys
 
 -- whether a key has a definition
-abbrev pub is_defined : Standing → Bool
+abbrev pub is_defined : VersionedDefinition → Bool
 is_defined standing = is_some standing.definition
 
 -- whether a definition can be changed once more, before the limit of 1,000,000 versions
-abbrev pub has_version_left : Standing → Bool
+abbrev pub has_version_left : VersionedDefinition → Bool
 has_version_left standing = nat_lt standing.version 1000000
 
 -- the columns of a table's definition
@@ -130,7 +130,7 @@ table_columns (Some (Table columns)) = columns
 table_columns _ = []
 
 -- the version and definition of a table, read under its lock. Fails if there is no such table
-abbrev pub exists : ℕ → Row Standing
+abbrev pub exists : ℕ → Row VersionedDefinition
 exists ticket = do
   standing ← read ticket
   check (is_defined standing) NoSuchTable

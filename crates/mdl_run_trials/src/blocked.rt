@@ -4,7 +4,7 @@ ghost use Rattle.mdl_shared.specs.Passes.{manager_table, pass_table};
 
 use crate::playing::{lines, played_on};
 use mdl_calls::{Attempt, Place, TicketId};
-use mdl_defs::{Column, Definition, Standing};
+use mdl_defs::{Column, Definition, VersionedDefinition};
 use mdl_key::{Key, MOST_PLACES, MOST_SESSIONS, Mode};
 use mdl_script::{DEFAULT_CACHE, OpenGate, Ran};
 use mdl_shared::{CloseError, Manager, Pass, Session};
@@ -53,7 +53,7 @@ fn sees_new<R: Wait>(session: &mut Session<R>, alloc: Global, table: &str) -> bo
 }
 
 // Whether this is the first version of a table with the one column x.
-fn is_new_table(standing: Standing) -> bool {
+fn is_new_table(standing: VersionedDefinition) -> bool {
     let is_new = match &standing.definition {
         Some(Definition::Table(columns)) => {
             standing.version == 1 && are_only_x(columns.as_slice())

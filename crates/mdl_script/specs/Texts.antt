@@ -48,6 +48,11 @@ news_text (Ends reply) = reply_text reply
 news_text (Waits key mode) = wait_text key mode
 news_text Busy = codes "BUSY"
 
+-- whether what became of a line is that its statement began to wait
+abbrev pub is_wait_news : News → Bool
+is_wait_news (Waits key mode) = true
+is_wait_news _ = false
+
 -- the numbers of a line and of its session, each with a space after it
 abbrev pub heading : ℕ → ℕ → List ℕ
 heading line who = decimal line ++ codes " " ++ decimal who ++ codes " "

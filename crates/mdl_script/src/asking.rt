@@ -8,7 +8,7 @@ ghost use Rattle.mdl_script.specs.Answers.{AreAnswers, no_locks, options_of};
 ghost use Rattle.mdl_script.specs.Books.{AreOfOneAudit};
 ghost use Rattle.mdl_script.specs.Runs.{HasMadeFirst, MakesFirst};
 
-use crate::run::ThreadedRun;
+use crate::run::SharedRun;
 use crate::turns::Transcript;
 use mdl_shared::{Audited, Session};
 use mdl_syntax::{Line, Name, Statement};
@@ -21,7 +21,7 @@ const FIRST_SCHEMA: &str = "test";
 
 /// Creates the first schema, unless it is there already. The answer is dropped.
 pub(crate) fn make_first_schema<R: Wait, G>(
-    run: &ThreadedRun<R, G>,
+    run: &SharedRun<R, G>,
     asker: &mut Session<&R>,
     who: u16,
 ) -> Result<(), AllocError>
@@ -57,7 +57,7 @@ pub(crate) fn make_first_schema<R: Wait, G>(
 
 /// Executes the asker's own lines, if it has any.
 pub(crate) fn take_turn<R: Wait, G: Gate>(
-    run: &ThreadedRun<R, G>,
+    run: &SharedRun<R, G>,
     asker: &mut Session<&R>,
     who: u16,
 ) -> Result<Transcript, AllocError>

@@ -9,7 +9,7 @@ use std::alloc::Global;
 /// What the sessions of a run share: the runtime by which they wait, the allocator, the table, the script, how often a session looks at a
 /// wait before it times out, how many definitions the cache of each keeps, and the gate that is called around each statement.
 #[derive(Drop)]
-pub(crate) struct ThreadedRun<'a, R, G> {
+pub(crate) struct SharedRun<'a, R, G> {
     pub(crate) rt: &'a R,
     pub(crate) alloc: Global,
     pub(crate) manager: &'a Manager,

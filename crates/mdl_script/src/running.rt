@@ -12,7 +12,7 @@ ghost use Rattle.mdl_script.specs.Turns.{has_pass};
 use crate::asking::{books, make_first_schema, take_turn};
 use crate::finals::push_finals;
 use crate::on_thread::close;
-use crate::run::ThreadedRun;
+use crate::run::SharedRun;
 use crate::turns::{push_turns, start_all, take_first};
 use mdl_key::{MOST_PLACES, MOST_SESSIONS};
 use mdl_shared::{Manager, Pass, Session};
@@ -71,7 +71,7 @@ pub fn run_on<R: Threads + Wait + Sync, G: Gate + Sync>(
             ensures ran { IfOk result (λ ran. IsRunFrom (options_of patience cache) script.entry.now (first ∷ others.items) ran.passes.items (string_bytes ran.text)) }
             ensures theirs { IfOk result (λ ran. All (λ pass. pass_table pass ≡ manager_table manager.entry.now) ran.passes.items) }
         {
-            let run = ThreadedRun {
+            let run = SharedRun {
                 rt,
                 alloc,
                 manager,
@@ -88,7 +88,7 @@ pub fn run_on<R: Threads + Wait + Sync, G: Gate + Sync>(
 // Runs. The session of the first pass runs here, the others on threads of the scope.
 fn ran_in<'s, E, R: Threads + Wait + Sync, G: Gate + Sync>(
     scope: &Scope<'s, E>,
-    run: &ThreadedRun<'s, R, G>,
+    run: &SharedRun<'s, R, G>,
     first: Pass,
     others: Vec<Pass>,
 ) -> Result<Ran, AllocError>
@@ -112,7 +112,7 @@ fn ran_in<'s, E, R: Threads + Wait + Sync, G: Gate + Sync>(
 // The passes are those of the others.
 fn ran_by<'s, E, R: Threads + Wait + Sync, G: Gate + Sync>(
     scope: &Scope<'s, E>,
-    run: &ThreadedRun<'s, R, G>,
+    run: &SharedRun<'s, R, G>,
     others: Vec<Pass>,
     asker: &mut Session<&R>,
     who: u16,

@@ -10,7 +10,7 @@ ghost use Rattle.mdl_script.specs.Runs.{HasMadeFirst};
 ghost use Rattle.mdl_script.specs.Turns.{CameBack, GainsAnswers, IsAboutLines, IsTurn, has_pass, pass_sent, passes_sent};
 
 use crate::on_thread::{Answered, work_pass};
-use crate::run::{ThreadedRun, is_named};
+use crate::run::{SharedRun, is_named};
 use crate::told::push_answers;
 use mdl_key::MOST_SESSIONS;
 use mdl_shared::{Pass, Session};
@@ -74,7 +74,7 @@ fn index_of(passes: &[Pass], who: u16) -> Option<usize>
 /// Starts the session of a pass on a thread of its own.
 fn start_thread<'s, E, R: Threads + Wait + Sync, G: Gate + Sync>(
     scope: &Scope<'s, E>,
-    run: &ThreadedRun<'s, R, G>,
+    run: &SharedRun<'s, R, G>,
     pass: Pass,
 ) -> Result<PromisedHandle<Answered, AnswersOf<'s>>, AllocError>
     requires theirs { pass_table pass ≡ manager_table run.now.manager.now }
@@ -100,7 +100,7 @@ fn start_thread<'s, E, R: Threads + Wait + Sync, G: Gate + Sync>(
 /// Starts the turn of a session, on a thread unless the session is `mine`.
 fn start_turn<'s, E, R: Threads + Wait + Sync, G: Gate + Sync>(
     scope: &Scope<'s, E>,
-    run: &ThreadedRun<'s, R, G>,
+    run: &SharedRun<'s, R, G>,
     passes: &mut Vec<Pass>,
     mine: u16,
     who: u16,
@@ -128,7 +128,7 @@ fn start_turn<'s, E, R: Threads + Wait + Sync, G: Gate + Sync>(
 /// Starts the turns of all sessions that the script names, except that `mine` runs in this thread. The asker has made the first schema.
 pub(crate) fn start_all<'s, E, R: Threads + Wait + Sync, G: Gate + Sync>(
     scope: &Scope<'s, E>,
-    run: &ThreadedRun<'s, R, G>,
+    run: &SharedRun<'s, R, G>,
     passes: &mut Vec<Pass>,
     mine: u16,
     asker: &Session<&R>,
@@ -163,7 +163,7 @@ pub(crate) struct Transcript {
 fn push_turn<R: Threads, G>(
     out: &mut String,
     passes: &mut Vec<Pass>,
-    run: &ThreadedRun<R, G>,
+    run: &SharedRun<R, G>,
     turn: SessionThread<'_>,
     own: &Transcript,
 ) -> Result<(), AllocError>
@@ -185,7 +185,7 @@ fn push_turn<R: Threads, G>(
 pub(crate) fn push_turns<R: Threads, G>(
     out: &mut String,
     passes: &mut Vec<Pass>,
-    run: &ThreadedRun<R, G>,
+    run: &SharedRun<R, G>,
     turns: Vec<SessionThread<'_>>,
     own: &Transcript,
 ) -> Result<(), AllocError>

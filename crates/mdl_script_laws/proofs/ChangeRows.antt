@@ -11,7 +11,7 @@ use Rattle.mdl_defs.specs.Changes.{change_fault}
 use Rattle.mdl_defs.specs.Columns.{names_twice}
 use Rattle.mdl_defs.specs.declared.definition.Definition.{Definition}
 use Rattle.mdl_defs.specs.declared.definition.Definition.TheVariants.{Schema}
-use Rattle.mdl_defs.specs.declared.standing.Standing.{Standing}
+use Rattle.mdl_defs.specs.declared.versioned_definition.VersionedDefinition.{VersionedDefinition}
 use Rattle.mdl_context.specs.declared.request.Mark.{Mark}
 use Rattle.mdl_context.specs.Wishes.{Wish}
 use Rattle.mdl_syntax.specs.declared.statement.Algorithm.{Algorithm}
@@ -55,7 +55,7 @@ KeepsDefinitions (row.Downgrade id mode rest) = KeepsDefinitions rest
 KeepsDefinitions (row.Give_up which rest) = KeepsDefinitions rest
 KeepsDefinitions (row.Release id rest) = KeepsDefinitions rest
 KeepsDefinitions (row.Keep rest) = KeepsDefinitions rest
-KeepsDefinitions (row.Read id rest) = (standing : Standing) → KeepsDefinitions (rest standing)
+KeepsDefinitions (row.Read id rest) = (standing : VersionedDefinition) → KeepsDefinitions (rest standing)
 KeepsDefinitions (row.Redefine id change rest) = ⊥
 KeepsDefinitions (row.Tables_of schema rest) = (tables : List ℕ) → KeepsDefinitions (rest tables)
 KeepsDefinitions (row.Key_of place rest) = (key : KeyName) → KeepsDefinitions (rest key)

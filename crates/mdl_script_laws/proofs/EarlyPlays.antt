@@ -1,7 +1,7 @@
 -- A statement that ends by an early error has changed nothing, and none that has waited ends so.
 use Rattle.std.proofs.Common.{◌≡◌, ℕ, Bool, true, false, Option, Some, None, List, [], inl, inr, refl, sym, ap, subst, ◌∙◌}
 use Rattle.std.proofs.lemmas.Bool.{false≢true}
-use Rattle.mdl_defs.specs.declared.standing.Standing.{Standing}
+use Rattle.mdl_defs.specs.declared.versioned_definition.VersionedDefinition.{VersionedDefinition}
 use Rattle.mdl_calls.specs.Words.{Answer, Reads, Program, Give, ◌>>=◌, Each, Read_kept, Runs}
 use Rattle.mdl_calls.specs.declared.answers.Held.{Held}
 use Rattle.mdl_calls.specs.declared.answers.Settled.{Settled}
@@ -193,8 +193,8 @@ reads_same a b who id answer (speaks, has, inr made) = by (held_ticket who id a)
   by None e = sym (ap (λ (x : Answer × Core). x.1) e)
   by (Some ticket) e = sym (ap (λ (x : Answer × Core). x.1) e)
 
-untouched_read : (mark : Mark) (session : Session) (a b : Core) (pause : Pause) (more : Standing → Program Pause)
-    → ((standing : Standing) → Runs Joins a (more standing) pause b → IsUntouched session a pause b)
+untouched_read : (mark : Mark) (session : Session) (a b : Core) (pause : Pause) (more : VersionedDefinition → Program Pause)
+    → ((standing : VersionedDefinition) → Runs Joins a (more standing) pause b → IsUntouched session a pause b)
     → (answer : Answer) → Runs Joins a (playing.read_answered mark session more answer) pause b → IsUntouched session a pause b
 untouched_read mark session a b pause more made (Reads version definition) run = made (record { version = version; definition = definition }) run
 untouched_read mark session a b pause more made answer run =
@@ -213,7 +213,7 @@ untouched_play (row.Look rest) mark session a b pause tidy checks run =
 untouched_play (row.Here rest) mark session a b pause tidy checks run =
     let now = current_mark session.context.kept in untouched_play (rest now) mark session a b pause tidy (checks now) run
 untouched_play (row.Read id rest) mark session a b pause tidy checks (answer, mid, joins, run) =
-    let more = λ (standing : Standing). play (rest standing) mark session in
+    let more = λ (standing : VersionedDefinition). play (rest standing) mark session in
     subst (λ c. IsUntouched session c pause b) (reads_same a mid session.context.who id answer joins)
     (untouched_read mark session mid b pause more (λ standing there. untouched_play (rest standing) mark session mid b pause tidy (checks standing) there) answer run)
 untouched_play asked mark session a b pause tidy checks run =

@@ -4,7 +4,7 @@ use Rattle.std.specs.Prelude.{if◌then◌else◌, find, is_some, not, ◌++◌}
 use Rattle.mdl_key.specs.declared.mode.Duration.TheVariants as for
 use Rattle.mdl_key.specs.declared.mode.Mode.TheVariants.{IX}
 use Rattle.mdl_key.specs.Keys.{KeyName, global_key, key_eq}
-use Rattle.mdl_defs.specs.declared.standing.Standing.{Standing}
+use Rattle.mdl_defs.specs.declared.versioned_definition.VersionedDefinition.{VersionedDefinition}
 use Rattle.mdl_syntax.specs.declared.statement.Priority.{Priority}
 use Rattle.mdl_syntax.specs.declared.statement.Statement.{Statement}
 use Rattle.mdl_syntax.specs.declared.statement.Statement.TheVariants as statement
@@ -37,7 +37,7 @@ ChecksFirst P Q (Fail number) = Unit {0}
 ChecksFirst P Q (Room rest) = ChecksFirst P Q rest
 ChecksFirst P Q (Look rest) = (state : State) → ChecksFirst P Q (rest state)
 ChecksFirst P Q (Here rest) = (mark : Mark) → ChecksFirst P Q (rest mark)
-ChecksFirst P Q (Read id rest) = (standing : Standing) → ChecksFirst P Q (rest standing)
+ChecksFirst P Q (Read id rest) = (standing : VersionedDefinition) → ChecksFirst P Q (rest standing)
 ChecksFirst P Q row = FailsLate Q row
 
 -- nothing may be given
@@ -100,7 +100,7 @@ checks_exists ticket = λ standing.
 -- ---- SELECT
 
 -- those that were shown before, and this one
-abbrev with_table : List TableShown → KeyName → Standing → List TableShown
+abbrev with_table : List TableShown → KeyName → VersionedDefinition → List TableShown
 with_table shown table standing = shown ++ record { key = table; version = standing.version; columns = rows.table_columns standing.definition } ∷ []
 
 late_show : (shown : List TableShown) (table : KeyName) (ticket : ℕ) → FailsLate Any (rows.show shown table ticket)

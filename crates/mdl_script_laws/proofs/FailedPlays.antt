@@ -3,7 +3,7 @@ use Rattle.std.proofs.Common.{◌≡◌, ℕ, Option, Some, None, Ok, Err, inl, 
 use Rattle.std.specs.Option.{IfSome}
 use Rattle.mdl_key.specs.Keys.{KeyName}
 use Rattle.mdl_defs.specs.declared.change.Change.{Change}
-use Rattle.mdl_defs.specs.declared.standing.Standing.{Standing}
+use Rattle.mdl_defs.specs.declared.versioned_definition.VersionedDefinition.{VersionedDefinition}
 use Rattle.mdl_calls.specs.Words.{Answer, Reads, Changed, Tables, Key_is, Has_wait, Read_kept, Change_definition, Tables_of, Key_of, Program, Give, Each, Runs}
 use Rattle.mdl_calls.proofs.FaithfulLemmas.{calls_bind, each_reply, each_then}
 use Rattle.mdl_core.specs.CoreJoins.{Joins}
@@ -113,8 +113,8 @@ module _ (from b : Core) (pause : Pause) (failed : HasFailed pause) where
   kept-tried mark session more a at later (Ok try_as.WouldWait, context) run = later None (with_context session context) run
   kept-tried mark session more a at later (Err error, context) run = closed (ending_of_error error) mark (with_context session context) a at run
 
-  kept-read : (mark : Mark) (session : Session) (more : Standing → Program Pause) (a : Core) → At from a
-      → ((standing : Standing) → Runs Joins a (more standing) pause b → SameDefinitions from b) → (answer : Answer)
+  kept-read : (mark : Mark) (session : Session) (more : VersionedDefinition → Program Pause) (a : Core) → At from a
+      → ((standing : VersionedDefinition) → Runs Joins a (more standing) pause b → SameDefinitions from b) → (answer : Answer)
       → Runs Joins a (playing.read_answered mark session more answer) pause b → SameDefinitions from b
   kept-read mark session more a at later (Reads version definition) run = later (record { version = version; definition = definition }) run
   kept-read mark session more a at later answer run = closed (ending_of_refusal (refusal_answered answer)) mark session a at run

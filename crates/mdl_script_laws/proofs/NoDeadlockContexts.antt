@@ -250,7 +250,7 @@ quiet-looking : (context : ContextView) → AreQuiet (waits.looking context)
 quiet-looking context = (λ answer session. refl, quiet-poll context)
 
 quiet-sought : (context : ContextView) (end : SearchEnd) → AreQuiet (waits.wait_sought context end)
-quiet-sought context Over = quiet-looking (waits.searches_over context)
+quiet-sought context Over = quiet-looking (waits.with_searches_over context)
 quiet-sought context Cut_off = quiet-looking context
 quiet-sought context (Failed refusal) = quiet-abandoning context (Err (Space refusal), waits.without_wait context)
 

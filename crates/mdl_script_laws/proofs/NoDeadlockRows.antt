@@ -1,7 +1,7 @@
 -- Each statement leaves a space without a deadlock, however far it comes.
 use Rattle.std.proofs.Common.{ℕ, Option, Some, None, Ok, Err, refl, List}
 use Rattle.mdl_key.specs.Keys.{KeyName}
-use Rattle.mdl_defs.specs.declared.standing.Standing.{Standing}
+use Rattle.mdl_defs.specs.declared.versioned_definition.VersionedDefinition.{VersionedDefinition}
 use Rattle.mdl_calls.specs.Words.{Answer, Has_wait, Reads, Changed, Change_definition, Kill, Read_kept, Wait_of, Program, Give, ◌>>=◌, Tables, Key_is, Tables_of, Key_of}
 use Rattle.mdl_context.specs.declared.request.Acquire.{Acquire}
 use Rattle.mdl_context.specs.declared.request.Acquire.TheVariants as acquire
@@ -74,7 +74,7 @@ calm-tried mark session more made (Err error, context) = calm-closing (ending_of
 
 -- ---- what stands
 
-calm-read : (mark : Mark) (session : Session) (more : Standing → Program Pause) → ((standing : Standing) → IsCalmFor session.context.who (more standing))
+calm-read : (mark : Mark) (session : Session) (more : VersionedDefinition → Program Pause) → ((standing : VersionedDefinition) → IsCalmFor session.context.who (more standing))
     → (answer : Answer) → IsCalmFor session.context.who (playing.read_answered mark session more answer)
 calm-read mark session more made (Reads version definition) = made (record { version = version; definition = definition })
 calm-read mark session more made answer = calm-closing (ending_of_refusal (refusal_answered answer)) mark session
@@ -139,7 +139,7 @@ calm-play (row.Release id rest) mark session =
     (calm-releasing id session.context) (of_releasing id session.context) (λ outcome. calm-play rest mark (with_context session outcome.1))
 calm-play (row.Keep rest) mark session = calm-play rest mark (playing.all_kept session)
 calm-play (row.Read id rest) mark session =
-    let more = λ (standing : Standing). play (rest standing) mark session in
+    let more = λ (standing : VersionedDefinition). play (rest standing) mark session in
     calm-ask {A = Pause} session.context.who (Read_kept session.context.who id) (playing.read_answered mark session more) (refl, refl)
     (λ answer session. refl) (calm-read mark session more (λ standing. calm-play (rest standing) mark session))
 calm-play (row.Redefine id change rest) mark session =

@@ -2,7 +2,7 @@
 use Rattle.std.proofs.Common.{ℕ, Bool, Option, Some, None, Ok, Err, List}
 use Rattle.mdl_key.specs.declared.mode.Mode.{Mode}
 use Rattle.mdl_key.specs.Keys.{KeyName}
-use Rattle.mdl_defs.specs.declared.standing.Standing.{Standing}
+use Rattle.mdl_defs.specs.declared.versioned_definition.VersionedDefinition.{VersionedDefinition}
 use Rattle.mdl_calls.specs.declared.answers.Settled.{Settled}
 use Rattle.mdl_calls.specs.declared.space_error.SpaceError.{SpaceError}
 use Rattle.mdl_calls.specs.Words.{Answer, Reads, Changed, Program, Each, Call, Tables, Key_is, Tables_of}
@@ -66,7 +66,7 @@ Follows These R E (row.Downgrade id mode rest) = R rest
 Follows These R E (row.Give_up which rest) = R rest
 Follows These R E (row.Release id rest) = R rest
 Follows These R E (row.Keep rest) = R rest
-Follows These R E (row.Read id rest) = (standing : Standing) → R (rest standing)
+Follows These R E (row.Read id rest) = (standing : VersionedDefinition) → R (rest standing)
 Follows These R E (row.Redefine id change rest) = R rest
 Follows These R E (row.Tables_of schema rest) = (tables : List ℕ) → These tables → R (rest tables)
 Follows These R E (row.Key_of place rest) = (key : KeyName) → R (rest key)
@@ -130,7 +130,7 @@ module _ (These : List ℕ → Type 0) (P : Pause → Type 0) (mark : Mark) (E :
   so-tried session more made (Ok try_as.WouldWait, context) = made None (with_context session context)
   so-tried session more made (Err error, context) = so-closing (ending_of_error error) (with_context session context) (rules.endings.erred error)
 
-  so-read : (session : Session) (more : Standing → Program Pause) → ((standing : Standing) → So (more standing)) → (answer : Answer)
+  so-read : (session : Session) (more : VersionedDefinition → Program Pause) → ((standing : VersionedDefinition) → So (more standing)) → (answer : Answer)
       → So (playing.read_answered mark session more answer)
   so-read session more made (Reads version definition) = made (record { version = version; definition = definition })
   so-read session more made answer = so-closing (ending_of_refusal (refusal_answered answer)) session (rules.endings.refused (refusal_answered answer))

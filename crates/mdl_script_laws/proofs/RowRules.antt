@@ -12,7 +12,7 @@ use Rattle.mdl_defs.specs.Changes.{change_fault}
 use Rattle.mdl_defs.specs.Columns.{names_twice}
 use Rattle.mdl_defs.specs.declared.definition.Definition.{Definition}
 use Rattle.mdl_defs.specs.declared.definition.Definition.TheVariants.{Schema}
-use Rattle.mdl_defs.specs.declared.standing.Standing.{Standing}
+use Rattle.mdl_defs.specs.declared.versioned_definition.VersionedDefinition.{VersionedDefinition}
 use Rattle.mdl_syntax.specs.declared.statement.Algorithm.{Algorithm}
 use Rattle.mdl_syntax.specs.declared.statement.Algorithm.TheVariants.{Copy, Inplace}
 use Rattle.mdl_syntax.specs.declared.statement.Alteration.{Alteration}
@@ -57,7 +57,7 @@ KeepsTo F P (Downgrade id mode rest) = KeepsTo F P rest
 KeepsTo F P (Give_up which rest) = KeepsTo F P rest
 KeepsTo F P (Release id rest) = KeepsTo F P rest
 KeepsTo F P (Keep rest) = KeepsTo F P rest
-KeepsTo F P (Read id rest) = (standing : Standing) → KeepsTo F P (rest standing)
+KeepsTo F P (Read id rest) = (standing : VersionedDefinition) → KeepsTo F P (rest standing)
 KeepsTo F P (Redefine id change rest) = KeepsTo F P rest
 KeepsTo F P (Tables_of schema rest) = (tables : List ℕ) → KeepsTo F P (rest tables)
 KeepsTo F P (Key_of place rest) = (key : KeyName) → KeepsTo F P (rest key)
@@ -145,7 +145,7 @@ module _ (F : ErrorNumber → Type 0) (late : (number : ErrorNumber) → is_earl
       keeps-bind F Any Any (check (rows.is_defined standing) NoSuchTable) (λ _. Give standing)
       (keeps-check F (rows.is_defined standing) NoSuchTable (late NoSuchTable refl)) (λ _ _. tt)
 
-  keeps-version : (standing : Standing) → KeepsTo F Any (check (rows.has_version_left standing) VersionLimit)
+  keeps-version : (standing : VersionedDefinition) → KeepsTo F Any (check (rows.has_version_left standing) VersionLimit)
   keeps-version standing = keeps-check F (rows.has_version_left standing) VersionLimit (late VersionLimit refl)
 
   keeps-new : (columns : List (List ℕ)) (table : ℕ) → KeepsTo F Any (rows.check_new columns table)

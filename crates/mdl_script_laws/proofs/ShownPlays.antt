@@ -5,7 +5,7 @@ use Rattle.mdl_key.specs.declared.mode.Duration.TheVariants.{Transaction}
 use Rattle.mdl_key.specs.Keys.{KeyName}
 use Rattle.mdl_defs.specs.declared.change.Change.{Change}
 use Rattle.mdl_defs.specs.declared.definition.Definition.{Definition}
-use Rattle.mdl_defs.specs.declared.standing.Standing.{Standing}
+use Rattle.mdl_defs.specs.declared.versioned_definition.VersionedDefinition.{VersionedDefinition}
 use Rattle.mdl_system.proofs.MemberLemmas.{Contains-map_from}
 use Rattle.mdl_calls.specs.declared.answers.Held.{Held}
 use Rattle.mdl_calls.specs.Words.{Answer, Has_wait, Reads, Changed, Change_definition, Kill, Read_kept, Wait_of, SessionLocks, Program, ◌>>=◌, Tables, Key_is, Tables_of, Key_of}
@@ -189,9 +189,9 @@ module _ (old : TableShown → Type 0) (live : Bool) (locks : List (ℕ × KeyNa
       read-there a b who id version definition t speaks joins among =
           subst (λ (o : SessionLocks). Contains o.held t) (sym (core-changes a b (Read_kept who id) (Reads version definition) who refl joins)) among
 
-  leads-read : (id : ℕ) (more : Standing → Program Pause) (a b : Core) (session : Session) (answer : Answer) → At a session.context session.state
+  leads-read : (id : ℕ) (more : VersionedDefinition → Program Pause) (a b : Core) (session : Session) (answer : Answer) → At a session.context session.state
       → Joins a (Read_kept session.context.who id) answer b
-      → ((standing : Standing) → Point old live locks (seen_under id standing locks ++ seen) mark b session.context session.state
+      → ((standing : VersionedDefinition) → Point old live locks (seen_under id standing locks ++ seen) mark b session.context session.state
       → Leads (Comes old) (more standing) b)
       → Leads (Comes old) (playing.read_answered mark session more answer) b
   leads-read id more a b session (Reads version definition) point joins later =

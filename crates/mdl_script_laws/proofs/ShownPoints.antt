@@ -5,7 +5,7 @@ use Rattle.std.proofs.lemmas.List.Elements.{Contains-append_cases, filter-append
 use Rattle.mdl_key.specs.declared.mode.Duration.{Duration}
 use Rattle.mdl_key.specs.declared.mode.Duration.TheVariants.{Statement, Transaction, Explicit}
 use Rattle.mdl_key.specs.Keys.{KeyName}
-use Rattle.mdl_defs.specs.declared.standing.Standing.{Standing}
+use Rattle.mdl_defs.specs.declared.versioned_definition.VersionedDefinition.{VersionedDefinition}
 use Rattle.mdl_system.proofs.MemberLemmas.{Contains-none}
 use Rattle.mdl_system.proofs.OrderLemmas.{Contains-later}
 use Rattle.mdl_calls.specs.declared.answers.Held.{Held}
@@ -91,7 +91,7 @@ firm-left gone kept id firm k among e = firm k (among-filter (λ ticket. not (ha
 -- ---- what is held, and what was read
 
 -- a table as it is shown where this stands under its key
-abbrev pub shown_as : KeyName → Standing → TableShown
+abbrev pub shown_as : KeyName → VersionedDefinition → TableShown
 shown_as key standing = record { key = key; version = standing.version; columns = table_columns standing.definition }
 
 -- what a place shows

@@ -24,7 +24,7 @@ use Rattle.mdl_context.specs.declared.request.Resume.{Resume}
 use Rattle.mdl_context.specs.declared.request.Resume.TheVariants as resume
 use Rattle.mdl_context.specs.Contexts.{ContextView, has_number, ticket_kept}
 use Rattle.mdl_context.specs.Gains as gains
-use Rattle.mdl_context.specs.Holdings.{awaited_upgrade, is_kept_ticket, search_over, wanted_upgrade}
+use Rattle.mdl_context.specs.Holdings.{awaited_upgrade, has_ticket_number, search_over, wanted_upgrade}
 use Rattle.mdl_context.specs.Releases as releases
 use Rattle.mdl_context.specs.Requests.{Outcome}
 use Rattle.mdl_context.specs.Upgrades as upgrades
@@ -69,16 +69,16 @@ fits-idle a b context gone idle fits places stay =
 -- a ticket in another mode is the same but for that
 module _ (id : ℕ) (change : Mode → Mode) where
   abbrev changed : Kept → Kept
-  changed ticket = if is_kept_ticket id ticket then record ticket { mode = change ticket.mode } else ticket
+  changed ticket = if has_ticket_number id ticket then record ticket { mode = change ticket.mode } else ticket
 
   same-number : (k : Kept) → (changed k).id ≡ k.id
-  same-number k = elim (is_kept_ticket id k) as (λ t. (if t then record k { mode = change k.mode } else k).id ≡ k.id) [ true ↦ refl | false ↦ refl ]
+  same-number k = elim (has_ticket_number id k) as (λ t. (if t then record k { mode = change k.mode } else k).id ≡ k.id) [ true ↦ refl | false ↦ refl ]
 
   same-place : (k : Kept) → (changed k).place ≡ k.place
-  same-place k = elim (is_kept_ticket id k) as (λ t. (if t then record k { mode = change k.mode } else k).place ≡ k.place) [ true ↦ refl | false ↦ refl ]
+  same-place k = elim (has_ticket_number id k) as (λ t. (if t then record k { mode = change k.mode } else k).place ≡ k.place) [ true ↦ refl | false ↦ refl ]
 
   same-duration : (k : Kept) → (changed k).duration ≡ k.duration
-  same-duration k = elim (is_kept_ticket id k) as (λ t. (if t then record k { mode = change k.mode } else k).duration ≡ k.duration) [ true ↦ refl | false ↦ refl ]
+  same-duration k = elim (has_ticket_number id k) as (λ t. (if t then record k { mode = change k.mode } else k).duration ≡ k.duration) [ true ↦ refl | false ↦ refl ]
 
   fits-mode : (a : Core) (context : ContextView) → Fits a context → Fits a (upgrades.with_ticket_mode id change context)
   fits-mode a context fits = record {
@@ -366,10 +366,10 @@ won-looking a context upgrading fits = λ answer b joins.
     won-polled a b context answer upgrading fits (stays-call context.who none a b (Poll_wait context.who) answer fits.speaks (refl, tt, refl) joins)
 
 -- the searches are over
-upgrading-searched : (context : ContextView) → IsUpgrading context → IsUpgrading (waits.searches_over context)
+upgrading-searched : (context : ContextView) → IsUpgrading context → IsUpgrading (waits.with_searches_over context)
 upgrading-searched context (wanted, target, waiting, is) = (search_over wanted, target, ap (option_map search_over) waiting, is)
 
-won-searched : (context : ContextView) (outcome : Outcome Resume) (b : Core) → Won (waits.searches_over context) outcome b → Won context outcome b
+won-searched : (context : ContextView) (outcome : Outcome Resume) (b : Core) → Won (waits.with_searches_over context) outcome b → Won context outcome b
 won-searched context (Ok resume.Waiting, after) b won = won
 won-searched context (Ok (resume.Acquired id), after) b won = won
 won-searched context (Ok (resume.Lost how), after) b won = won
@@ -378,8 +378,8 @@ won-searched context (Err error, after) b won = won
 won-sought : (a b : Core) (context : ContextView) (end : SearchEnd) → IsUpgrading context → Fits a context → Stays context.who none a b
     → Leads (Won context) (waits.wait_sought context end) b
 won-sought a b context Over upgrading fits stays =
-    leads-map (Won (waits.searches_over context)) (Won context) (waits.looking (waits.searches_over context)) b (λ outcome c won. won-searched context outcome c won)
-    (won-looking b (waits.searches_over context) (upgrading-searched context upgrading) (searched-fits b context (fits-same a b context fits stays)))
+    leads-map (Won (waits.with_searches_over context)) (Won context) (waits.looking (waits.with_searches_over context)) b (λ outcome c won. won-searched context outcome c won)
+    (won-looking b (waits.with_searches_over context) (upgrading-searched context upgrading) (searched-fits b context (fits-same a b context fits stays)))
 won-sought a b context Cut_off upgrading fits stays = won-looking b context upgrading (fits-same a b context fits stays)
 won-sought a b context (Failed refusal) upgrading fits stays =
     leads-bind (λ x c. Spares context.who none a c) (Won context) (gains.abandoning context.who) (λ _. Give (Err (Space refusal), waits.without_wait context)) b

@@ -9,9 +9,9 @@ use Rattle.mdl_key.specs.declared.mode.Mode.TheVariants.{X}
 use Rattle.mdl_key.specs.declared.namespace.Namespace.TheVariants.{UserLevelLock}
 use Rattle.mdl_key.specs.Keys.{KeyName, user_lock_key}
 use Rattle.mdl_defs.specs.declared.definition.Definition.{Definition}
-use Rattle.mdl_defs.specs.declared.standing.Standing.{Standing}
-use Rattle.mdl_defs.specs.Standings.{MayStand}
-use Rattle.mdl_defs.specs.Standings as standings
+use Rattle.mdl_defs.specs.declared.versioned_definition.VersionedDefinition.{VersionedDefinition}
+use Rattle.mdl_defs.specs.VersionedDefinitions.{MayStand}
+use Rattle.mdl_defs.specs.VersionedDefinitions as standings
 use Rattle.mdl_system.proofs.MemberLemmas.{Contains-map_from, Contains-none}
 use Rattle.mdl_system.proofs.OrderLemmas.{Contains-here}
 use Rattle.mdl_book.proofs.TicketLemmas.{find-contains, find-passes}
@@ -85,7 +85,7 @@ last-of_key key context id e = by (place_known key context.known) refl e
         record { place = place; known = same; ticket = from.0; kept = kept.0; at = equal (from.0).place place kept.1; number = sym from.2 }
 
 -- nothing is ever defined under the key of a user-level lock
-never-defined : (standing : Standing) → MayStand UserLevelLock standing → is_defined standing ≡ true → ⊥
+never-defined : (standing : VersionedDefinition) → MayStand UserLevelLock standing → is_defined standing ≡ true → ⊥
 never-defined standing may there = by standing.definition may.fits there
   where
     by : (definition : Option Definition) → IfSome definition (λ d. standings.fits UserLevelLock d ≡ true) → is_some definition ≡ true → ⊥

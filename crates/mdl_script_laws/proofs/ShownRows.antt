@@ -6,7 +6,7 @@ use Rattle.std.proofs.lemmas.List.Elements.{Contains-append_left, Contains-appen
 use Rattle.mdl_key.specs.declared.mode.Duration.TheVariants as for
 use Rattle.mdl_key.specs.declared.mode.Mode.TheVariants.{IX}
 use Rattle.mdl_key.specs.Keys.{KeyName, global_key, key_eq}
-use Rattle.mdl_defs.specs.declared.standing.Standing.{Standing}
+use Rattle.mdl_defs.specs.declared.versioned_definition.VersionedDefinition.{VersionedDefinition}
 use Rattle.mdl_system.proofs.MemberLemmas.{Contains-map}
 use Rattle.mdl_system.proofs.OrderLemmas.{Contains-here}
 use Rattle.mdl_syntax.specs.declared.statement.Priority.{Priority}
@@ -37,7 +37,7 @@ IsReleaseLock _ = ⊥
 -- ---- SELECT
 
 module _ (old : TableShown → Type 0) (live : Bool) where
-  seen-first : (id : ℕ) (table : KeyName) (standing : Standing) (locks : List (ℕ × KeyName))
+  seen-first : (id : ℕ) (table : KeyName) (standing : VersionedDefinition) (locks : List (ℕ × KeyName))
       → does.is_defined standing ≡ true → Contains (seen_under id standing ((id, table) ∷ locks)) (shown_as table standing)
   seen-first id table standing locks is =
       subst (λ there. Contains (if there then shown_under id standing ((id, table) ∷ locks) else []) (shown_as table standing)) (sym is)
@@ -51,7 +51,7 @@ module _ (old : TableShown → Type 0) (live : Bool) where
       by id standing (does.is_defined standing) refl (λ is.
       fair-show ((id, table) ∷ locks) (seen_under id standing ((id, table) ∷ locks) ++ seen) (shown ++ shown_as table standing ∷ []) tables (more id standing is))
     where
-      more : (id : ℕ) (standing : Standing) → does.is_defined standing ≡ true → (x : TableShown) → Contains (shown ++ shown_as table standing ∷ []) x
+      more : (id : ℕ) (standing : VersionedDefinition) → does.is_defined standing ≡ true → (x : TableShown) → Contains (shown ++ shown_as table standing ∷ []) x
           → Contains (seen_under id standing ((id, table) ∷ locks) ++ seen) x
       more id standing is x among = elim (Contains-append_cases shown (shown_as table standing ∷ []) x among) [
         | inl before ↦ Contains-append_right (seen_under id standing ((id, table) ∷ locks)) seen x (all x before)
@@ -60,7 +60,7 @@ module _ (old : TableShown → Type 0) (live : Bool) where
             (seen-first id table standing locks is))
       ]
 
-      by : (id : ℕ) (standing : Standing) (there : Bool) → does.is_defined standing ≡ there
+      by : (id : ℕ) (standing : VersionedDefinition) (there : Bool) → does.is_defined standing ≡ there
           → (does.is_defined standing ≡ true → IsFair old live ((id, table) ∷ locks) (seen_under id standing ((id, table) ∷ locks) ++ seen)
           (does.show_all does.lock_to_read (shown ++ shown_as table standing ∷ []) tables))
           → IsFair old live ((id, table) ∷ locks) (seen_under id standing ((id, table) ∷ locks) ++ seen)
@@ -79,7 +79,7 @@ module _ (old : TableShown → Type 0) (live : Bool) where
       Rest : Type 0
       Rest = (more_seen more : List TableShown) → IsFair old live locks more_seen (does.show_all does.lock_held more tables)
 
-      at : (ticket : ℕ) (standing : Standing) (there : Bool) → Rest
+      at : (ticket : ℕ) (standing : VersionedDefinition) (there : Bool) → Rest
           → IsFair old live locks (seen_under ticket standing locks ++ seen)
           (((check there NoSuchTable >> row.Give standing) >>= (λ now. row.room >> row.Give (shown ++ shown_as table now ∷ [])))
           >>= (λ more. does.show_all does.lock_held more tables))
@@ -116,7 +116,7 @@ module _ (old : TableShown → Type 0) (live : Bool) where
   fair-under : (locks : List (ℕ × KeyName)) (seen : List TableShown) (id : ℕ) → IsFair old live locks seen (does.write_under id)
   fair-under locks seen id = λ standing. by standing (does.is_defined standing)
     where
-      by : (standing : Standing) (there : Bool)
+      by : (standing : VersionedDefinition) (there : Bool)
           → IsFair old live locks (seen_under id standing locks ++ seen) ((check there NoSuchTable >> row.Give standing) >>= (λ _. does.wrote))
       by standing true = fair-wrote locks (seen_under id standing locks ++ seen)
       by standing false = tt

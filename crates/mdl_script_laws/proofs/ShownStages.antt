@@ -6,7 +6,7 @@ use Rattle.std.proofs.lemmas.List.Elements.{Contains-append_cases}
 use Rattle.mdl_key.specs.declared.mode.Duration.{Duration}
 use Rattle.mdl_key.specs.declared.mode.Duration.TheVariants.{Statement, Transaction, Explicit}
 use Rattle.mdl_key.specs.Keys.{KeyName}
-use Rattle.mdl_defs.specs.declared.standing.Standing.{Standing}
+use Rattle.mdl_defs.specs.declared.versioned_definition.VersionedDefinition.{VersionedDefinition}
 use Rattle.mdl_system.proofs.MemberLemmas.{Contains-none}
 use Rattle.mdl_system.proofs.OrderLemmas.{Contains-cons_cases}
 use Rattle.mdl_core.specs.CoreJoins.{Knows}
@@ -38,14 +38,14 @@ with_lock Transaction id key locks = (id, key) ∷ locks
 with_lock _ id key locks = locks
 
 -- what this shows under the keys of a lock
-abbrev pub shown_under : ℕ → Standing → List (ℕ × KeyName) → List TableShown
+abbrev pub shown_under : ℕ → VersionedDefinition → List (ℕ × KeyName) → List TableShown
 shown_under id standing locks = map (λ lock. shown_as lock.1 standing) (filter (λ lock. lock.0 == id) locks)
 
 -- what was seen by reading this under a lock, where something is defined
-abbrev pub seen_under : ℕ → Standing → List (ℕ × KeyName) → List TableShown
+abbrev pub seen_under : ℕ → VersionedDefinition → List (ℕ × KeyName) → List TableShown
 seen_under id standing locks = if is_defined standing then shown_under id standing locks else []
 
-pub seen-defined : (id : ℕ) (standing : Standing) (locks : List (ℕ × KeyName)) (x : TableShown) → Contains (seen_under id standing locks) x
+pub seen-defined : (id : ℕ) (standing : VersionedDefinition) (locks : List (ℕ × KeyName)) (x : TableShown) → Contains (seen_under id standing locks) x
     → (is_defined standing ≡ true) × Contains (shown_under id standing locks) x
 seen-defined id standing locks x among = by (is_defined standing) refl among
   where
@@ -82,7 +82,7 @@ IsFair old live locks seen (row.Downgrade id mode rest) = ((x : TableShown) → 
 IsFair old live locks seen (row.Give_up which rest) = ((x : TableShown) → old x → live ≡ true → ⊥) × IsFair old live [] [] rest
 IsFair old live locks seen (row.Release id rest) = ((x : TableShown) → old x → live ≡ true → ⊥) × IsFair old live [] [] rest
 IsFair old live locks seen (row.Keep rest) = ((x : TableShown) → old x → live ≡ true → ⊥) × IsFair old live [] [] rest
-IsFair old live locks seen (row.Read id rest) = (standing : Standing) → IsFair old live locks (seen_under id standing locks ++ seen) (rest standing)
+IsFair old live locks seen (row.Read id rest) = (standing : VersionedDefinition) → IsFair old live locks (seen_under id standing locks ++ seen) (rest standing)
 IsFair old live locks seen (row.Redefine id change rest) = ((x : TableShown) → old x → live ≡ true → ⊥) × IsFair old live [] [] rest
 IsFair old live locks seen (row.Tables_of schema rest) = (tables : List ℕ) → IsFair old live locks seen (rest tables)
 IsFair old live locks seen (row.Key_of place rest) = (key : KeyName) → IsFair old live locks seen (rest key)

@@ -18,7 +18,7 @@ use Rattle.mdl_context.specs.declared.request.Resume.{Resume}
 use Rattle.mdl_context.specs.declared.request.Resume.TheVariants as resume
 use Rattle.mdl_context.specs.Contexts.{ContextView, beyond, has_number, lasts, without_tickets}
 use Rattle.mdl_context.specs.Gains as gains
-use Rattle.mdl_context.specs.Holdings.{search_over, awaited_upgrade, without_number, is_kept_ticket}
+use Rattle.mdl_context.specs.Holdings.{search_over, awaited_upgrade, without_number, has_ticket_number}
 use Rattle.mdl_context.specs.Releases as releases
 use Rattle.mdl_context.specs.Requests.{Outcome}
 use Rattle.mdl_context.specs.Waits as waits
@@ -112,7 +112,7 @@ looking-so a context plain fits = λ answer b joins.
     polled-so a b context answer plain fits (stays-call context.who none a b (Poll_wait context.who) answer fits.speaks (refl, tt, refl) joins)
 
 -- its searches are over
-pub searched-fits : (a : Core) (context : ContextView) → Fits a context → Fits a (waits.searches_over context)
+pub searched-fits : (a : Core) (context : ContextView) → Fits a context → Fits a (waits.with_searches_over context)
 searched-fits a context fits = record {
   speaks = fits.speaks;
   backed = fits.backed;
@@ -131,7 +131,8 @@ pub searched-upgrades : (wait : Option Wanted) → awaited_upgrade (option_map s
 searched-upgrades None = refl
 searched-upgrades (Some wanted) = refl
 
-searched-comes : (context : ContextView) (outcome : Outcome Resume) (b : Core) → ComesTo (waits.searches_over context) outcome b → ComesTo context outcome b
+searched-comes : (context : ContextView) (outcome : Outcome Resume) (b : Core) → ComesTo (waits.with_searches_over context) outcome b
+    → ComesTo context outcome b
 searched-comes context (Ok resume.Waiting, after) b comes = λ wanted e. comes (search_over wanted) (ap (option_map search_over) e)
 searched-comes context (Ok (resume.Acquired id), after) b comes = λ wanted e. comes (search_over wanted) (ap (option_map search_over) e)
 searched-comes context (Ok (resume.Lost how), after) b comes = tt
@@ -140,12 +141,12 @@ searched-comes context (Err error, after) b comes = tt
 sought-so : (a b : Core) (context : ContextView) (end : SearchEnd) → awaited_upgrade context.wait ≡ None → Fits a context → Stays context.who none a b
     → Leads (Resumed a context) (waits.wait_sought context end) b
 sought-so a b context Over plain fits stays =
-    leads-map (Resumed b (waits.searches_over context)) (Resumed a context) (waits.looking (waits.searches_over context)) b
+    leads-map (Resumed b (waits.with_searches_over context)) (Resumed a context) (waits.looking (waits.with_searches_over context)) b
     (λ outcome c resumed. (
       followed-late a b c context.who context.kept context.known context.known context.wait (option_map search_over context.wait) outcome.1 stays.0 resumed.0,
       searched-comes context outcome c resumed.1,
     ))
-    (looking-so b (waits.searches_over context) (searched-upgrades context.wait ∙ plain) (searched-fits b context (fits-same a b context fits stays)))
+    (looking-so b (waits.with_searches_over context) (searched-upgrades context.wait ∙ plain) (searched-fits b context (fits-same a b context fits stays)))
 sought-so a b context Cut_off plain fits stays = resumed-late a b context (waits.looking context) stays.0 (looking-so b context plain (fits-same a b context fits stays))
 sought-so a b context (Failed refusal) plain fits stays =
     leads-bind (λ x c. Spares context.who none a c) (Resumed a context) (gains.abandoning context.who)
@@ -222,8 +223,8 @@ pub leads-released : (a : Core) (id : ℕ) (context : ContextView) → Fits a co
     → Leads (λ (outcome : Outcome (Unit {0})) b. IsReleased a id context b outcome.1) (releases.releasing id context) a
 leads-released a id context fits = go (releases.release_fault id context)
   where
-    other : (k : Kept) → not (is_kept_ticket id k) ≡ true → k.id ≡ id → ⊥
-    other k stay e = let h : is_kept_ticket id k ≡ true = grind (arith, nat_tests) in let g = ap not h in cc
+    other : (k : Kept) → not (has_ticket_number id k) ≡ true → k.id ≡ id → ⊥
+    other k stay e = let h : has_ticket_number id k ≡ true = grind (arith, nat_tests) in let g = ap not h in cc
 
     go : (fault : Option ContextError) → Leads (λ (outcome : Outcome (Unit {0})) b. IsReleased a id context b outcome.1)
         (releases.unless fault context (Ask (Release context.who id) (λ _. Give (Ok tt, record context { kept = without_number id context.kept })))) a
@@ -237,11 +238,11 @@ leads-released a id context fits = go (releases.release_fault id context)
     go None = λ answer b joins. (
         let step = stays-call context.who (λ n. n ≡ id) a b (Release context.who id) answer fits.speaks (refl, refl, refl) joins in
         record {
-          fits = fits-fewer a b context (λ n. n ≡ id) (λ ticket. not (is_kept_ticket id ticket)) other fits step;
+          fits = fits-fewer a b context (λ n. n ≡ id) (λ ticket. not (has_ticket_number id ticket)) other fits step;
           spares = step.0;
           who = refl;
-          fewer = λ k among. (among-filter (λ ticket. not (is_kept_ticket id ticket)) context.kept k among).0;
-          late = λ most k among. drop-fewer most (lasts Transaction) (λ ticket. not (is_kept_ticket id ticket)) context.kept k among;
+          fewer = λ k among. (among-filter (λ ticket. not (has_ticket_number id ticket)) context.kept k among).0;
+          late = λ most k among. drop-fewer most (lasts Transaction) (λ ticket. not (has_ticket_number id ticket)) context.kept k among;
         })
 
 pub leads-releasing : (a : Core) (id : ℕ) (context : ContextView) → Fits a context

@@ -175,7 +175,7 @@ pub still-looking : (context : ContextView) → AreStill (waits.looking context)
 still-looking context = (tt, still-poll context)
 
 still-wait_sought : (context : ContextView) (end : SearchEnd) → AreStill (waits.wait_sought context end)
-still-wait_sought context Over = still-looking (waits.searches_over context)
+still-wait_sought context Over = still-looking (waits.with_searches_over context)
 still-wait_sought context Cut_off = still-looking context
 still-wait_sought context (Failed refusal) = still-abandoning {A = Outcome Resume} context.who (Err (Space refusal), waits.without_wait context)
 

@@ -2,7 +2,7 @@
 use Rattle.std.proofs.Common.{◌≡◌, ℕ, zero, suc, Bool, true, false, List, [], ◌∷◌, Option, Some, None, Result, Ok, Err, refl, subst, sym, ◌∙◌}
 use Rattle.mdl_key.specs.Keys.{KeyName}
 use Rattle.std.specs.Prelude.{if◌then◌else◌, is_some, ◌==◌}
-use Rattle.mdl_defs.specs.declared.standing.Standing.{Standing}
+use Rattle.mdl_defs.specs.declared.versioned_definition.VersionedDefinition.{VersionedDefinition}
 use Rattle.mdl_key.specs.declared.mode.Mode.{Mode}
 use Rattle.mdl_calls.specs.declared.answers.Held.{Held}
 use Rattle.mdl_calls.specs.declared.space_error.SpaceError.{SpaceError}
@@ -318,7 +318,7 @@ tied-attempted mark session more made (Err error, context) waits none =
     tied-at (closing (ending_of_error error) mark (with_context session context)) waits none
     (tied-closing (ending_of_error error) mark (with_context session context))
 
-tied-read : (mark : Mark) (session : Session) (more : Standing → Program Pause) → ((standing : Standing) → Tracks PausesTied (more standing) false)
+tied-read : (mark : Mark) (session : Session) (more : VersionedDefinition → Program Pause) → ((standing : VersionedDefinition) → Tracks PausesTied (more standing) false)
     → (answer : Answer) → Tracks PausesTied (playing.read_answered mark session more answer) false
 tied-read mark session more made (Reads version definition) = made (record { version = version; definition = definition })
 tied-read mark session more made answer = tied-closing (ending_of_refusal (refusal_answered answer)) mark session

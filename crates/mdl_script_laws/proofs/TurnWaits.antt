@@ -18,9 +18,10 @@ use Rattle.mdl_rows.specs.Endings.{Pause, Ends, Begins_to_wait, Waits_on, Faults
 use Rattle.mdl_script.specs.declared.told.News.{News}
 use Rattle.mdl_script.specs.declared.told.News.TheVariants.{Busy, Ends as Has_ended}
 use Rattle.mdl_script.specs.declared.told.Told.{Told}
+use Rattle.mdl_script.specs.Texts.{is_wait_news}
 use Rattle.mdl_script.specs.Worlds.{Scene, World, ◌and_then◌, ask_session, first_settled, first_world, going, line_played, lines_played, most_turns, player_at, continuing_settled, started, after_timeout, reports_of}
 use Rattle.mdl_script.proofs.SettleLemmas.{settling-none, settling-over, settling-some}
-use Rattle.mdl_script_laws.specs.Turns.{StatementsTellOfFewWaits, is_wait_news, is_wait_of, most_locks_of, waits_told}
+use Rattle.mdl_script_laws.specs.Turns.{StatementsTellOfFewWaits, is_wait_of, most_locks_of, waits_told}
 use Rattle.mdl_script_laws.proofs.ScriptLemmas.{asked-by, telling}
 use Rattle.mdl_script_laws.proofs.TurnLemmas.{Due, IsBounded, IsRead, Turn, bounded-first, bounded-started, bounded-timed_out, nothing_due, pauses-started, read-limits, turn-going}
 use Rattle.mdl_script_laws.proofs.TurnPlays.{PausesWithin}

@@ -3,7 +3,7 @@ use Rattle.std.specs.Prelude.{◌≡◌, ℕ, List, Option}
 use Rattle.mdl_key.specs.Keys.{KeyName}
 use Rattle.mdl_context.specs.declared.request.Mark.{Mark}
 use Rattle.mdl_defs.specs.declared.change.Change.TheVariants as change
-use Rattle.mdl_defs.specs.declared.standing.Standing.{Standing}
+use Rattle.mdl_defs.specs.declared.versioned_definition.VersionedDefinition.{VersionedDefinition}
 use Rattle.mdl_syntax.specs.declared.statement.Statement.{Statement}
 use Rattle.mdl_rows.specs.declared.reply.Reply.{Reply}
 use Rattle.mdl_rows.specs.declared.reply.Reply.TheVariants as reply
@@ -41,7 +41,7 @@ BehindItsChange P (row.Downgrade id mode rest) = BehindItsChange P rest
 BehindItsChange P (row.Give_up which rest) = BehindItsChange P rest
 BehindItsChange P (row.Release id rest) = BehindItsChange P rest
 BehindItsChange P (row.Keep rest) = BehindItsChange P rest
-BehindItsChange P (row.Read id rest) = (standing : Standing) → BehindItsChange P (rest standing)
+BehindItsChange P (row.Read id rest) = (standing : VersionedDefinition) → BehindItsChange P (rest standing)
 BehindItsChange P (row.Redefine id change rest) = P rest
 BehindItsChange P (row.Tables_of schema rest) = (places : List ℕ) → BehindItsChange P (rest places)
 BehindItsChange P (row.Key_of place rest) = (key : KeyName) → BehindItsChange P (rest key)

@@ -1,13 +1,13 @@
 -- A script's turns come to their end: how many locks a statement asks for, that no session is left whose turn has come, that a statement
 -- waits exactly if its session has an unsettled wait, and how many waits are reported.
-use Rattle.std.specs.Prelude.{◌≡◌, ℕ, suc, ◌+◌, ◌*◌, ◌≤◌, Bool, true, false, ◌&&◌, ◌==◌, List, length, filter, take, Option, None, Ok}
+use Rattle.std.specs.Prelude.{◌≡◌, ℕ, suc, ◌+◌, ◌*◌, ◌≤◌, Bool, false, ◌&&◌, ◌==◌, List, length, filter, take, Option, None, Ok}
 use Rattle.std.specs.List.{All}
 use Rattle.mdl_key.specs.Words.{KeyName, most_places}
 use Rattle.mdl_core.specs.CoreCalls.{has_settled, wait_at}
 use Rattle.mdl_core.specs.Seats.{is_unsettled_wait}
 use Rattle.mdl_lines.specs.Sessions.{IsScriptSession}
 use Rattle.mdl_context.specs.declared.request.Mark.{Mark}
-use Rattle.mdl_defs.specs.declared.standing.Standing.{Standing}
+use Rattle.mdl_defs.specs.declared.versioned_definition.VersionedDefinition.{VersionedDefinition}
 use Rattle.mdl_syntax.specs.declared.script.Line.{Line}
 use Rattle.mdl_syntax.specs.declared.statement.Statement.{Statement}
 use Rattle.mdl_syntax.specs.declared.statement.Statement.TheVariants.{Begin, Commit, Select, Write, CreateTable, CreateSchema, DropTables, RenameTable, FlushTablesWithReadLock, AlterTable, LockTables, DropSchema, GetLock}
@@ -17,9 +17,8 @@ use Rattle.mdl_rows.specs.Rows.{Row}
 use Rattle.mdl_rows.specs.Rows as row
 use Rattle.mdl_rows.specs.States.{State}
 use Rattle.mdl_rows.specs.Statements.{row_of}
-use Rattle.mdl_script.specs.declared.told.News.{News}
-use Rattle.mdl_script.specs.declared.told.News.TheVariants.{Waits}
 use Rattle.mdl_script.specs.declared.told.Told.{Told}
+use Rattle.mdl_script.specs.Texts.{is_wait_news}
 use Rattle.mdl_script.specs.Worlds.{World, continuing_settled, first_settled, script_played, session_waits, unreported, waiting_in}
 
 -- a schema has no more tables than a space has places
@@ -43,7 +42,7 @@ AsksForAtMost most (row.Downgrade id mode rest) = AsksForAtMost most rest
 AsksForAtMost most (row.Give_up which rest) = AsksForAtMost most rest
 AsksForAtMost most (row.Release id rest) = AsksForAtMost most rest
 AsksForAtMost most (row.Keep rest) = AsksForAtMost most rest
-AsksForAtMost most (row.Read id rest) = (standing : Standing) → AsksForAtMost most (rest standing)
+AsksForAtMost most (row.Read id rest) = (standing : VersionedDefinition) → AsksForAtMost most (rest standing)
 AsksForAtMost most (row.Redefine id change rest) = AsksForAtMost most rest
 AsksForAtMost most (row.Tables_of schema rest) = (tables : List ℕ) → AreFewTables tables → AsksForAtMost most (rest tables)
 AsksForAtMost most (row.Key_of place rest) = (key : KeyName) → AsksForAtMost most (rest key)
@@ -104,11 +103,6 @@ WaitsInTheSpace world = (who : ℕ) → IsScriptSession who → session_waits wo
 -- after each line of a script, each session's statement waits exactly if the session has such a wait
 abbrev pub StatementsWaitInTheSpace : Type 0
 StatementsWaitInTheSpace = (text : List ℕ) (lines : List Line) → parsed text ≡ Ok lines → (n : ℕ) → WaitsInTheSpace (script_played (take n lines)).world
-
--- whether a statement is reported to wait
-abbrev pub is_wait_news : News → Bool
-is_wait_news (Waits key mode) = true
-is_wait_news _ = false
 
 -- whether the statement of the line of this number is reported to wait
 abbrev pub is_wait_of : ℕ → Told → Bool

@@ -3,8 +3,8 @@ use Rattle.std.proofs.Common.{◌≡◌, ℕ, ◌+◌, true, false, [], ◌∷�
 use Rattle.std.proofs.lemmas.Bool.Decides.{nat_tests}
 use Rattle.mdl_key.specs.Words.{same_mode}
 use Rattle.mdl_key.specs.declared.mode.Mode.TheVariants.{X}
-use Rattle.mdl_defs.specs.declared.standing.Standing.{Standing}
-use Rattle.mdl_defs.specs.Standings.{standing_after}
+use Rattle.mdl_defs.specs.declared.versioned_definition.VersionedDefinition.{VersionedDefinition}
+use Rattle.mdl_defs.specs.VersionedDefinitions.{standing_after}
 use Rattle.mdl_calls.specs.declared.answers.Held.{Held}
 use Rattle.mdl_calls.specs.declared.answers.Settled.TheVariants.{Victim}
 use Rattle.mdl_calls.specs.declared.space_error.SpaceError.TheVariants.{OutOfMemory}
@@ -129,13 +129,13 @@ held-is : (id : ℕ) (own : SessionLocks) (ticket : Held) → ticket_held id own
 held-is id own ticket its = ap is_some its
 
 -- the session that has read this at a place
-abbrev noting : (place : ℕ) (standing : Standing) (a : SessionData) → SessionData
+abbrev noting : (place : ℕ) (standing : VersionedDefinition) (a : SessionData) → SessionData
 noting place standing a = record a {
   notes = record { place = place; version = standing.version } ∷ a.notes;
   reads = a.reads ++ record { place = place; standing = standing } ∷ [];
 }
 
-notes-there : (place : ℕ) (standing : Standing) (a : SessionData) → NotesThere place standing a (noting place standing a)
+notes-there : (place : ℕ) (standing : VersionedDefinition) (a : SessionData) → NotesThere place standing a (noting place standing a)
 notes-there place standing a = record {
   last = inl refl;
   here = grind (arith, nat_tests);

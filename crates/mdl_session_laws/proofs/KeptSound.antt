@@ -3,7 +3,8 @@ use Rattle.std.proofs.Common.{◌≡◌, ℕ, Bool, true, false, is_some, Option
 use Rattle.mdl_calls.specs.declared.answers.Settled.{Settled}
 use Rattle.mdl_calls.specs.Words.{Answer, Call, IsRising, SessionLocks, Wait, is_waiting, own_after}
 use Rattle.mdl_calls.specs.Learning.{KeepsSettled}
-use Rattle.mdl_calls.specs.SessionData.{SessionData, IsSound, Knows, is_known, are_below, are_placed, first_free}
+use Rattle.mdl_key.specs.KeyLookups.{is_known}
+use Rattle.mdl_calls.specs.SessionData.{SessionData, IsSound, Knows, are_below, are_placed, first_free}
 use Rattle.mdl_session_laws.specs.SessionJoins.{Joins, ends_wait}
 use Rattle.mdl_session_laws.specs.SpaceLaws.{beginning}
 use Rattle.mdl_session_laws.proofs.KnownAfter.{known-apart, knows-on, known-on}

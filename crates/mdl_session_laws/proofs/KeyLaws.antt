@@ -8,7 +8,9 @@ use Rattle.mdl_calls.specs.Reads.{ComesBefore, HasTableOf}
 use Rattle.mdl_calls.specs.Words.{Answer, Refused, Done, At_place, Key_is, Tables, Call, Resolve, Key_of, Tables_of, Unpin, Wait, AreTablesOf, AwaitsAt, HoldsAt}
 use Rattle.mdl_calls.proofs.TableLemmas.{table-of}
 use Rattle.mdl_calls.specs.Learning.{LearnsPlace, LearnsTables}
-use Rattle.mdl_calls.specs.SessionData.{SessionData, KnownKey, SpeaksFor, Knows, Pins, own_of, key_known, is_known, place_known}
+use Rattle.mdl_key.specs.declared.known_key.KnownKey.{KnownKey}
+use Rattle.mdl_key.specs.KeyLookups.{is_known, key_known, place_known}
+use Rattle.mdl_calls.specs.SessionData.{SessionData, SpeaksFor, Knows, Pins, own_of}
 use Rattle.mdl_session_laws.specs.SessionJoins.{Joins}
 use Rattle.mdl_session_laws.proofs.KeyLists.{is-known, known-is, key-of_place, last-known, place-of_key}
 use Rattle.mdl_session_laws.proofs.KnownAfter.{knows-on, known-on}

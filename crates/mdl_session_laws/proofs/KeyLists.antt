@@ -1,11 +1,12 @@
 -- The keys that a session has looked up: they are found again, whichever are looked up later.
-use Rattle.std.proofs.Common.{◌≡◌, ℕ, true, false, ◌==◌, List, [], ◌∷◌, ◌++◌, is_some, Some, None, refl, ap, arith}
+use Rattle.std.proofs.Common.{◌≡◌, ℕ, true, false, ◌==◌, List, [], ◌∷◌, ◌++◌, is_some, Option, Some, None, refl, sym, ap, ◌∙◌, arith}
 use Rattle.std.specs.List.{list_all}
 use Rattle.std.proofs.lemmas.Bool.Decides.{nat_tests}
 use Rattle.std.proofs.lemmas.List.Folds.{list_all-append}
 use Rattle.mdl_key.specs.Words.{KeyName, key_eq}
 use Rattle.mdl_system.proofs.Deciding.{key-Decides}
-use Rattle.mdl_calls.specs.SessionData.{KnownKey, key_known, is_known, place_known, are_two, are_apart}
+use Rattle.mdl_key.specs.declared.known_key.KnownKey.{KnownKey}
+use Rattle.mdl_key.specs.KeyLookups.{are_apart, are_two, is_known, key_known, place_known}
 
 -- ---- look-ups
 
@@ -18,16 +19,22 @@ pub keeps-known : (known more : List KnownKey) (place : ℕ) (key : KeyName) →
 keeps-known [] more place key e = cc
 keeps-known (k ∷ later) more place key e = grind (arith, nat_tests, keeps-known later more place key)
 
+-- a place is known if it has a key
+pub known-some : (known : List KnownKey) (place : ℕ) → is_known place known ≡ is_some (key_known place known)
+known-some [] place = refl
+known-some (k ∷ later) place = grind (arith, nat_tests, known-some later place)
+
 -- a key that is known makes its place known
 pub known-is : (known : List KnownKey) (place : ℕ) (key : KeyName) → key_known place known ≡ Some key → is_known place known ≡ true
-known-is known place key e = ap is_some e
+known-is known place key e = known-some known place ∙ ap is_some e
 
 -- and a known place has a key
 pub is-known : (known : List KnownKey) (place : ℕ) → is_known place known ≡ true → (key : KeyName) × (key_known place known ≡ Some key)
-is-known known place = elim (key_known place known) as (λ o. is_some o ≡ true → (key : KeyName) × (o ≡ Some key)) [
-  | None ↦ λ e. cc
-  | Some key ↦ λ e. (key, refl)
-]
+is-known known place is = by (key_known place known) (sym (known-some known place) ∙ is)
+  where
+    by : (o : Option KeyName) → is_some o ≡ true → (key : KeyName) × (o ≡ Some key)
+    by None e = cc
+    by (Some key) e = (key, refl)
 
 -- a known place stays known
 pub stays-known : (known more : List KnownKey) (place : ℕ) → is_known place known ≡ true → is_known place (known ++ more) ≡ true

@@ -3,7 +3,8 @@ use Rattle.std.proofs.Common.{◌≡◌, ℕ, true, List, [], ◌++◌, Option, 
 use Rattle.mdl_key.specs.Words.{KeyName}
 use Rattle.mdl_calls.specs.Words.{Answer, At_place, Tables, Call, Resolve, Tables_of}
 use Rattle.mdl_calls.specs.Learning.{LearnsPlace}
-use Rattle.mdl_calls.specs.SessionData.{KnownKey, key_known, is_known, place_known, are_apart}
+use Rattle.mdl_key.specs.declared.known_key.KnownKey.{KnownKey}
+use Rattle.mdl_key.specs.KeyLookups.{are_apart, is_known, key_known, place_known}
 use Rattle.mdl_session_laws.specs.SessionJoins.{LearnsKeys}
 use Rattle.mdl_session_laws.proofs.KeyLists.{keeps-known, stays-known, apart-last}
 

@@ -4,7 +4,9 @@ use Rattle.mdl_key.specs.declared.mode.Mode.{Mode}
 use Rattle.mdl_calls.specs.declared.answers.Held.{Held}
 use Rattle.mdl_calls.specs.SessionLocks.{DrawsTicket, DrawsWait, changing, cloning, ending, gaining, merging, upgraded, waiting, winning}
 use Rattle.mdl_calls.specs.Words.{Answer, Granted, Waits, Lost, Done, Upgraded, Call, Try_now, Begin_wait, End_wait, Release, Clone_ticket, Upgrade_now, Merge, Downgrade, Knowledge, IsExplained, MayClone, SessionLocks, Wait, Numbers, Draws, IsRising, giving_up, is_number, is_waiting, own_after, ticket_held}
-use Rattle.mdl_calls.specs.SessionData.{KnownKey, is_known, are_below, are_placed, first_free}
+use Rattle.mdl_key.specs.declared.known_key.KnownKey.{KnownKey}
+use Rattle.mdl_key.specs.KeyLookups.{is_known}
+use Rattle.mdl_calls.specs.SessionData.{are_below, are_placed, first_free}
 use Rattle.mdl_session_laws.specs.SessionJoins.{gained_at, ends_wait}
 use Rattle.mdl_session_laws.proofs.TicketLists.{all-fewer, all-changed, all-last, all-found, rising-fewer, rising-changed, rising-last, below-up}
 

@@ -3,13 +3,15 @@ use Rattle.std.proofs.Common.{◌≡◌, ◌≢◌, ◌⊎◌, ℕ, ◌+◌, tru
 use Rattle.std.proofs.lemmas.Bool.Decides.{eqb_tells}
 use Rattle.mdl_key.specs.Words.{KeyName}
 use Rattle.mdl_defs.specs.declared.change.Change.{Change}
-use Rattle.mdl_defs.specs.declared.standing.Standing.{Standing}
-use Rattle.mdl_defs.specs.Standings.{MayStand, standing_after}
-use Rattle.mdl_defs.proofs.StandingLemmas.{changes-keep_standing}
+use Rattle.mdl_defs.specs.declared.versioned_definition.VersionedDefinition.{VersionedDefinition}
+use Rattle.mdl_defs.specs.VersionedDefinitions.{MayStand, standing_after}
+use Rattle.mdl_defs.proofs.VersionedDefinitionLemmas.{changes-keep_standing}
 use Rattle.mdl_calls.specs.declared.answers.Held.{Held}
 use Rattle.mdl_calls.specs.Words.{Answer, Refused, Reads, Changed, Call, Read_definition, Read_kept, Change_definition, OfHeld, SessionLocks, is_number, ticket_held}
 use Rattle.mdl_calls.specs.Meetings.{IsLast, Meets, NotesThere, ReadsNothing, ReadsThere, ChangesThere}
-use Rattle.mdl_calls.specs.SessionData.{SessionData, Reading, IsSound, IsNoted, FitsKey, key_known, is_known, noted_at, last_read, is_newest, was_read}
+use Rattle.mdl_defs.specs.declared.reading.Reading.{Reading}
+use Rattle.mdl_key.specs.KeyLookups.{is_known, key_known}
+use Rattle.mdl_calls.specs.SessionData.{SessionData, IsSound, IsNoted, FitsKey, noted_at, last_read, is_newest, was_read}
 use Rattle.mdl_session_laws.specs.SessionJoins.{LetsRead}
 use Rattle.mdl_session_laws.proofs.KeyLists.{is-known}
 use Rattle.mdl_session_laws.proofs.ReadLists.{last-here, last-elsewhere, last-keeps, last-stays, last-newest, last-newest_elsewhere, newest-up}
@@ -37,14 +39,14 @@ held-known a id ticket sound e =
 -- ---- what was learnt
 
 -- what is met at a known place may stand there
-pub meets-fits : (a : SessionData) (place : ℕ) (standing : Standing) (key : KeyName) → key_known place a.known ≡ Some key → Meets place standing a → FitsKey a place standing
+pub meets-fits : (a : SessionData) (place : ℕ) (standing : VersionedDefinition) (key : KeyName) → key_known place a.known ≡ Some key → Meets place standing a → FitsKey a place standing
 meets-fits a place standing key its meets =
     subst (λ (o : Option KeyName). MatchOption o ⊥ (λ k. MayStand k.namespace standing)) (sym its) (meets.fits key its)
 
 -- a session has read what may stand there, and nothing newer before. What is noted there is its version
 pub record HasLearnt (a b : SessionData) : Type 0 where
   pub place : ℕ
-  pub standing : Standing
+  pub standing : VersionedDefinition
   pub newest : is_newest place standing.version a.reads ≡ true
   pub fits : FitsKey a place standing
   pub last : IsLast place standing a.reads b.reads
@@ -52,7 +54,7 @@ pub record HasLearnt (a b : SessionData) : Type 0 where
   pub elsewhere : (other : ℕ) → other ≢ place → noted_at other b.notes ≡ noted_at other a.notes
 
 -- as it notes that there
-by-notes : (a b : SessionData) (place : ℕ) (standing : Standing) → is_newest place standing.version a.reads ≡ true → FitsKey a place standing
+by-notes : (a b : SessionData) (place : ℕ) (standing : VersionedDefinition) → is_newest place standing.version a.reads ≡ true → FitsKey a place standing
     → NotesThere place standing a b → HasLearnt a b
 by-notes a b place standing newest fits notes = record {
   place = place;
@@ -64,17 +66,17 @@ by-notes a b place standing newest fits notes = record {
   elsewhere = notes.elsewhere;
 }
 
-learnt-read : (a b : SessionData) (id : ℕ) (standing : Standing) → IsSound a → OfHeld id a.own (λ ticket. ReadsThere standing a b ticket.place) → HasLearnt a b
+learnt-read : (a b : SessionData) (id : ℕ) (standing : VersionedDefinition) → IsSound a → OfHeld id a.own (λ ticket. ReadsThere standing a b ticket.place) → HasLearnt a b
 learnt-read a b id standing sound lets =
     let h = of-held id a.own (λ ticket. ReadsThere standing a b ticket.place) lets in
     let key = held-known a id h.0 sound h.1 in
     by-notes a b h.0.place standing h.2.0.newest (meets-fits a h.0.place standing key.0 key.1 h.2.0) h.2.1
 
 -- also where the call was refused
-learnt-vain : (a b : SessionData) (id : ℕ) → IsSound a → OfHeld id a.own (λ ticket. (standing : Standing) × (b.reads ≡ a.reads) × ReadsThere standing a b ticket.place)
+learnt-vain : (a b : SessionData) (id : ℕ) → IsSound a → OfHeld id a.own (λ ticket. (standing : VersionedDefinition) × (b.reads ≡ a.reads) × ReadsThere standing a b ticket.place)
     → HasLearnt a b
 learnt-vain a b id sound lets =
-    let h = of-held id a.own (λ ticket. (standing : Standing) × (b.reads ≡ a.reads) × ReadsThere standing a b ticket.place) lets in
+    let h = of-held id a.own (λ ticket. (standing : VersionedDefinition) × (b.reads ≡ a.reads) × ReadsThere standing a b ticket.place) lets in
     let key = held-known a id h.0 sound h.1 in
     by-notes a b h.0.place h.2.0 h.2.2.0.newest (meets-fits a h.0.place h.2.0 key.0 key.1 h.2.2.0) h.2.2.1
 
@@ -118,20 +120,20 @@ among-on a b (inr h) r among = last-keeps h.place h.standing a.reads b.reads r h
 -- the version that is noted is that of what was read last
 pub noted-on : (a b : SessionData) → IsSound a → ReadsNothing a b ⊎ HasLearnt a b → (place version : ℕ) → noted_at place b.notes ≡ Some version → IsNoted b place version
 noted-on a b sound (inl nothing) place version is =
-    ap (λ reads. option_map (λ (s : Standing). s.version) (last_read place reads)) nothing.reads ∙ sound.noted place version (nothing.noted place version is)
+    ap (λ reads. option_map (λ (s : VersionedDefinition). s.version) (last_read place reads)) nothing.reads ∙ sound.noted place version (nothing.noted place version is)
 noted-on a b sound (inr h) place version is = elim (eqb_tells place h.place) [
   | inl same ↦ (
       let there : last_read place b.reads ≡ Some h.standing =
       ap (λ p. last_read p b.reads) same.1 ∙ last-here h.place h.standing a.reads b.reads h.last in
       let noted = h.here version (ap (λ p. noted_at p b.notes) (sym same.1) ∙ is) in
-      ap (option_map (λ (s : Standing). s.version)) there ∙ ap (λ (n : ℕ). Some n) noted)
+      ap (option_map (λ (s : VersionedDefinition). s.version)) there ∙ ap (λ (n : ℕ). Some n) noted)
   | inr apart ↦
-      ap (option_map (λ (s : Standing). s.version)) (last-elsewhere h.place place h.standing a.reads b.reads h.last apart.1)
+      ap (option_map (λ (s : VersionedDefinition). s.version)) (last-elsewhere h.place place h.standing a.reads b.reads h.last apart.1)
       ∙ sound.noted place version (sym (h.elsewhere place apart.1) ∙ is)
 ]
 
 -- nothing newer was read there
-pub newest-on : (a b : SessionData) → IsSound a → ReadsNothing a b ⊎ HasLearnt a b → (place : ℕ) (standing : Standing) → last_read place b.reads ≡ Some standing
+pub newest-on : (a b : SessionData) → IsSound a → ReadsNothing a b ⊎ HasLearnt a b → (place : ℕ) (standing : VersionedDefinition) → last_read place b.reads ≡ Some standing
     → is_newest place standing.version b.reads ≡ true
 newest-on a b sound (inl nothing) place standing is =
     ap (is_newest place standing.version) nothing.reads ∙ sound.newest place standing (ap (last_read place) (sym nothing.reads) ∙ is)
@@ -141,14 +143,14 @@ newest-on a b sound (inr h) place standing is = elim (eqb_tells place h.place) [
       sym (last-here h.place h.standing a.reads b.reads h.last) ∙ ap (λ p. last_read p b.reads) (sym same.1) ∙ is in
       let one : h.standing ≡ standing = cc in
       ap (λ p. is_newest p standing.version b.reads) same.1
-      ∙ subst (λ (s : Standing). is_newest h.place s.version b.reads ≡ true) one (last-newest h.place h.standing a.reads b.reads h.last h.newest))
+      ∙ subst (λ (s : VersionedDefinition). is_newest h.place s.version b.reads ≡ true) one (last-newest h.place h.standing a.reads b.reads h.last h.newest))
   | inr apart ↦ last-newest_elsewhere h.place place standing.version h.standing a.reads b.reads h.last apart.1
       (sound.newest place standing (sym (last-elsewhere h.place place h.standing a.reads b.reads h.last apart.1) ∙ is))
 ]
 
 -- and it may stand there, as what is known stays known
 pub fits-on : (a b : SessionData) → IsSound a → ((place : ℕ) (key : KeyName) → key_known place a.known ≡ Some key → key_known place b.known ≡ Some key)
-    → ReadsNothing a b ⊎ HasLearnt a b → (place : ℕ) (standing : Standing) → last_read place b.reads ≡ Some standing → FitsKey b place standing
+    → ReadsNothing a b ⊎ HasLearnt a b → (place : ℕ) (standing : VersionedDefinition) → last_read place b.reads ≡ Some standing → FitsKey b place standing
 fits-on a b sound knows lets place standing is = on (before lets)
   where
     on : FitsKey a place standing → FitsKey b place standing

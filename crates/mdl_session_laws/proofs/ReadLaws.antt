@@ -5,8 +5,8 @@ use Rattle.mdl_key.specs.declared.mode.Mode.TheVariants.{X}
 use Rattle.mdl_key.specs.Words.{KeyName, same_mode}
 use Rattle.mdl_defs.specs.declared.change.Change.{Change}
 use Rattle.mdl_defs.specs.declared.definition.Definition.{Definition}
-use Rattle.mdl_defs.specs.declared.standing.Standing.{Standing}
-use Rattle.mdl_defs.specs.Standings.{MayStand, standing_after, standing_fault}
+use Rattle.mdl_defs.specs.declared.versioned_definition.VersionedDefinition.{VersionedDefinition}
+use Rattle.mdl_defs.specs.VersionedDefinitions.{MayStand, standing_after, standing_fault}
 use Rattle.mdl_calls.specs.declared.answers.Held.{Held}
 use Rattle.mdl_calls.specs.declared.space_error.SpaceError.{SpaceError}
 use Rattle.mdl_calls.specs.declared.space_error.SpaceError.TheVariants.{OutOfMemory}
@@ -20,15 +20,15 @@ use Rattle.mdl_session_laws.proofs.ReadLists.{last-among, last-here, last-elsewh
 -- ---- what was met
 
 -- what is noted and read last at a place is what is met there
-pub meets-read : (a : SessionData) (who place : ℕ) (standing stood : Standing) → HasRead a who place standing → Meets place stood a → standing ≡ stood
+pub meets-read : (a : SessionData) (who place : ℕ) (standing stood : VersionedDefinition) → HasRead a who place standing → Meets place stood a → standing ≡ stood
 meets-read a who place standing stood has meets = meets.same standing has.1 (meets.noted standing.version has.0)
 
 -- what is noted now has been read
-noted-read : (a b : SessionData) (who place : ℕ) (standing : Standing) → NotesThere place standing a b → HasRead b who place standing
+noted-read : (a b : SessionData) (who place : ℕ) (standing : VersionedDefinition) → NotesThere place standing a b → HasRead b who place standing
 noted-read a b who place standing notes = (notes.here, last-here place standing a.reads b.reads notes.last)
 
 -- elsewhere the same is
-noted-elsewhere : (a b : SessionData) (who place other : ℕ) (standing read : Standing) → NotesThere place standing a b → other ≢ place
+noted-elsewhere : (a b : SessionData) (who place other : ℕ) (standing read : VersionedDefinition) → NotesThere place standing a b → other ≢ place
     → HasRead a who other read → HasRead b who other read
 noted-elsewhere a b who place other standing read notes apart has =
     (notes.elsewhere other apart ∙ has.0, last-elsewhere place other standing a.reads b.reads notes.last apart ∙ has.1)
@@ -41,12 +41,12 @@ pub session-reads : (a b : SessionData) (call : Call) (who id version : ℕ) (de
     → HasRead b who ticket.place (record { version = version; definition = definition })
 session-reads a b (Read_definition w n) who id version definition ticket mine under its joins =
     let same : n ≡ id = cc in
-    let standing : Standing = record { version = version; definition = definition } in
+    let standing : VersionedDefinition = record { version = version; definition = definition } in
     noted-read a b who ticket.place standing
     (held-of n a.own (λ (t : Held). ReadsThere standing a b t.place) ticket (ap (λ k. ticket_held k a.own) same ∙ its) joins.reads).1
 session-reads a b (Read_kept w n) who id version definition ticket mine under its joins =
     let same : n ≡ id = cc in
-    let standing : Standing = record { version = version; definition = definition } in
+    let standing : VersionedDefinition = record { version = version; definition = definition } in
     noted-read a b who ticket.place standing
     (held-of n a.own (λ (t : Held). ReadsThere standing a b t.place) ticket (ap (λ k. ticket_held k a.own) same ∙ its) joins.reads).1
 session-reads a b _ who id version definition ticket mine under its joins = cc
@@ -59,13 +59,13 @@ pub session-redefines : (a b : SessionData) (who id version : ℕ) (change : Cha
     → (definition : Option Definition) × HasRead b who ticket.place (record { version = version; definition = definition })
 session-redefines a b who id version change ticket its joins =
     let changes = held-of id a.own (λ (t : Held). ChangesThere change version a b t.place) ticket its joins.reads in
-    let after : Standing = standing_after change changes.stood in (
+    let after : VersionedDefinition = standing_after change changes.stood in (
       after.definition,
       subst (λ n. HasRead b who ticket.place (record { version = n; definition = after.definition })) (sym changes.newer)
           (noted-read a b who ticket.place after changes.notes),
     )
 
-module _ (a b : SessionData) (who id : ℕ) (change : Change) (ticket : Held) (key : KeyName) (standing : Standing) (its : ticket_held id a.own ≡ Some ticket)
+module _ (a b : SessionData) (who id : ℕ) (change : Change) (ticket : Held) (key : KeyName) (standing : VersionedDefinition) (its : ticket_held id a.own ≡ Some ticket)
     (exclusive : same_mode ticket.mode X ≡ true) (knows : Knows a who ticket.place key) (has : HasRead a who ticket.place standing) where
   -- the change was made of what was read
   made : (version : ℕ) → Joins a (Change_definition who id change) (Changed version) b
@@ -75,7 +75,7 @@ module _ (a b : SessionData) (who id : ℕ) (change : Change) (ticket : Held) (k
       let same : changes.stood ≡ standing = sym (meets-read a who ticket.place standing changes.stood has changes.meets) in
       let free : standing_fault key.namespace change standing ≡ None =
       subst (λ s. standing_fault key.namespace change s ≡ None) same (changes.allowed key knows) in
-      let next : version ≡ standing.version + 1 = changes.newer ∙ ap (λ (s : Standing). s.version + 1) same in (
+      let next : version ≡ standing.version + 1 = changes.newer ∙ ap (λ (s : VersionedDefinition). s.version + 1) same in (
         inr (subst (λ o. MatchOption o (Changed version ≡ Changed (standing.version + 1)) (λ why. Changed version ≡ Refused (cause_of why))) (sym free)
             (ap (λ n. Changed n) next)),
         subst (λ s. HasRead b who ticket.place (standing_after change s)) same (noted-read a b who ticket.place (standing_after change changes.stood) changes.notes),
@@ -101,7 +101,7 @@ module _ (a b : SessionData) (who id : ℕ) (change : Change) (ticket : Held) (k
   of_answer _ joins = let no = joins.fits in absurd (cc)
 
 -- it is what the change makes of what was read there, or the change is refused for that
-pub session-redefines_so : (a b : SessionData) (who id : ℕ) (change : Change) (answer : Answer) (ticket : Held) (key : KeyName) (standing : Standing)
+pub session-redefines_so : (a b : SessionData) (who id : ℕ) (change : Change) (answer : Answer) (ticket : Held) (key : KeyName) (standing : VersionedDefinition)
     → ticket_held id (own_of a who) ≡ Some ticket → same_mode ticket.mode X ≡ true → Knows a who ticket.place key → HasRead a who ticket.place standing
     → Joins a (Change_definition who id change) answer b
     → IsChangeOf key change standing answer
@@ -112,12 +112,12 @@ session-redefines_so a b who id change answer ticket key standing its exclusive 
 -- ---- what stands
 
 -- one thing stands at a place
-pub session-reads_one : (a : SessionData) (w place : ℕ) (one other : Standing) → SpeaksFor a w → HasRead a w place one → HasRead a w place other → one ≡ other
+pub session-reads_one : (a : SessionData) (w place : ℕ) (one other : VersionedDefinition) → SpeaksFor a w → HasRead a w place one → HasRead a w place other → one ≡ other
 session-reads_one a w place one other speaks_for read again = let same = sym read.1 ∙ again.1 in cc
 
-module _ (a b : SessionData) (w place : ℕ) (standing : Standing) (has : HasRead a w place standing) where
+module _ (a b : SessionData) (w place : ℕ) (standing : VersionedDefinition) (has : HasRead a w place standing) where
   -- it is read again
-  stands-read : (id : ℕ) (read : Standing) → OfHeld id a.own (λ (t : Held). ReadsThere read a b t.place) → HasRead b w place standing
+  stands-read : (id : ℕ) (read : VersionedDefinition) → OfHeld id a.own (λ (t : Held). ReadsThere read a b t.place) → HasRead b w place standing
   stands-read id read lets =
       let h = of-held id a.own (λ (t : Held). ReadsThere read a b t.place) lets in
       elim (eqb_tells place h.0.place) [
@@ -130,9 +130,9 @@ module _ (a b : SessionData) (w place : ℕ) (standing : Standing) (has : HasRea
       ]
 
   -- or it was met, and the call was refused
-  stands-vain : (id : ℕ) → OfHeld id a.own (λ (t : Held). (read : Standing) × (b.reads ≡ a.reads) × ReadsThere read a b t.place) → HasRead b w place standing
+  stands-vain : (id : ℕ) → OfHeld id a.own (λ (t : Held). (read : VersionedDefinition) × (b.reads ≡ a.reads) × ReadsThere read a b t.place) → HasRead b w place standing
   stands-vain id lets =
-      let h = of-held id a.own (λ (t : Held). (read : Standing) × (b.reads ≡ a.reads) × ReadsThere read a b t.place) lets in
+      let h = of-held id a.own (λ (t : Held). (read : VersionedDefinition) × (b.reads ≡ a.reads) × ReadsThere read a b t.place) lets in
       stands-read id h.2.0 (of-one id h.0 h.1 (λ (t : Held). ReadsThere h.2.0 a b t.place) h.2.2)
     where
       of-one : (n : ℕ) (t : Held) → ticket_held n a.own ≡ Some t → (P : Held → Type 0) → P t → OfHeld n a.own P
@@ -153,7 +153,7 @@ module _ (a b : SessionData) (w place : ℕ) (standing : Standing) (has : HasRea
   stands-on holds nothing = (nothing.carried place standing.version holds has.0, ap (last_read place) nothing.reads ∙ has.1)
 
 -- what was read stands as long as a ticket is held, unless the session itself changes it
-pub session-stands : (a b : SessionData) (call : Call) (answer : Answer) (w place : ℕ) (standing : Standing) → SpeaksFor a w
+pub session-stands : (a b : SessionData) (call : Call) (answer : Answer) (w place : ℕ) (standing : VersionedDefinition) → SpeaksFor a w
     → (caller call ≡ Some w → redefined_place call answer (own_of a w) ≡ Some place → ⊥) → HoldsAt place (own_of b w) → Joins a call answer b
     → HasRead a w place standing → HasRead b w place standing
 session-stands a b (Read_definition who id) (Reads version definition) w place standing speaks_for other holds joins has =
@@ -169,13 +169,13 @@ session-stands a b (Change_definition who id change) (Changed version) w place s
 session-stands a b _ _ w place standing speaks_for other holds joins has = stands-on a b w place standing has holds joins.reads
 
 -- what stands may stand under its key
-pub session-reads_fit : (a : SessionData) (w place : ℕ) (key : KeyName) (standing : Standing) → SpeaksFor a w → Knows a w place key → HasRead a w place standing
+pub session-reads_fit : (a : SessionData) (w place : ℕ) (key : KeyName) (standing : VersionedDefinition) → SpeaksFor a w → Knows a w place key → HasRead a w place standing
     → MayStand key.namespace standing
 session-reads_fit a w place key standing speaks_for knows has =
     subst (λ (o : Option KeyName). MatchOption o ⊥ (λ k. MayStand k.namespace standing)) knows (speaks_for.1.fits place standing has.1)
 
 -- what is read is seen
-pub session-sees : (a : SessionData) (w place : ℕ) (standing : Standing) → SpeaksFor a w → HasRead a w place standing → HasSeen a w place standing.version
+pub session-sees : (a : SessionData) (w place : ℕ) (standing : VersionedDefinition) → SpeaksFor a w → HasRead a w place standing → HasSeen a w place standing.version
 session-sees a w place standing speaks_for has = last-was_read a.reads place standing has.1
 
 -- what was seen was seen
@@ -184,16 +184,16 @@ pub session-seen_stays : (a b : SessionData) (call : Call) (answer : Answer) (w 
 session-seen_stays a b call answer w place version speaks_for joins = was_read-on a b (learnt a b call answer speaks_for.1 joins.reads) place version
 
 -- no version is read below one that was seen
-pub session-seen_below : (a : SessionData) (w place version : ℕ) (standing : Standing) → SpeaksFor a w → HasSeen a w place version
+pub session-seen_below : (a : SessionData) (w place version : ℕ) (standing : VersionedDefinition) → SpeaksFor a w → HasSeen a w place version
     → HasRead a w place standing → version ≤ standing.version
 session-seen_below a w place version standing speaks_for seen has =
     newest-above a.reads place version standing.version seen (speaks_for.1.newest place standing has.1)
 
 -- what is read is met
-pub session-meets : (a : SessionData) (w place : ℕ) (standing : Standing) → SpeaksFor a w → HasRead a w place standing → HasMet a w place standing
+pub session-meets : (a : SessionData) (w place : ℕ) (standing : VersionedDefinition) → SpeaksFor a w → HasRead a w place standing → HasMet a w place standing
 session-meets a w place standing speaks_for has = last-among a.reads place standing has.1
 
 -- what was met was met
-pub session-met_stays : (a b : SessionData) (call : Call) (answer : Answer) (w place : ℕ) (standing : Standing) → SpeaksFor a w → Joins a call answer b
+pub session-met_stays : (a b : SessionData) (call : Call) (answer : Answer) (w place : ℕ) (standing : VersionedDefinition) → SpeaksFor a w → Joins a call answer b
     → HasMet a w place standing → HasMet b w place standing
 session-met_stays a b call answer w place standing speaks_for joins = among-on a b (learnt a b call answer speaks_for.1 joins.reads) _

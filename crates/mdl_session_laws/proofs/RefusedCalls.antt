@@ -5,7 +5,8 @@ use Rattle.mdl_calls.specs.declared.space_error.SpaceError.{SpaceError}
 use Rattle.mdl_calls.specs.Words.{Refused, Call, Resolve, Try_now, Read_definition, Read_kept, Poll_wait, End_wait, caller, is_answer_of, told, IsCause, SessionLocks, Numbers, Draws, own_after}
 use Rattle.mdl_calls.specs.Learning.{KeepsSettled}
 use Rattle.mdl_calls.specs.Meetings.{ReadsNothing}
-use Rattle.mdl_calls.specs.SessionData.{SessionData, SpeaksFor, Knows, is_known, noted_at}
+use Rattle.mdl_key.specs.KeyLookups.{is_known}
+use Rattle.mdl_calls.specs.SessionData.{SessionData, SpeaksFor, Knows, noted_at}
 use Rattle.mdl_session_laws.specs.SessionJoins.{Joins, LearnsKeys, LetsRead, TellsTruly, ends_wait, gained_at, session_has_call, wait_met}
 
 -- all is the same but how the wait is settled, which may have been learnt

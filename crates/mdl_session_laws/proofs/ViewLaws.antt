@@ -2,7 +2,7 @@
 -- Only the debts may be more than the view tells.
 use Rattle.std.proofs.Common.{◌⊎◌, ℕ, inl, inr}
 use Rattle.mdl_key.specs.Words.{KeyName}
-use Rattle.mdl_defs.specs.declared.standing.Standing.{Standing}
+use Rattle.mdl_defs.specs.declared.versioned_definition.VersionedDefinition.{VersionedDefinition}
 use Rattle.mdl_calls.specs.declared.answers.Settled.{Settled}
 use Rattle.mdl_calls.specs.SpaceLaws.{SpaceLaws}
 use Rattle.mdl_calls.specs.Words.{Answer, Call, SessionLocks, Numbers}
@@ -14,7 +14,7 @@ or-owes f (inr (inl b)) = inr (inl b)
 or-owes f (inr (inr c)) = inr (inr (f c))
 
 module _ {S V : Type 0} {speaks_for : V → ℕ → Type 0} {own : V → ℕ → SessionLocks} {knows : V → ℕ → ℕ → KeyName → Type 0} {is_settled : V → ℕ → Settled → Type 0}
-    {numbers : V → ℕ → Numbers} {has_read has_met : V → ℕ → ℕ → Standing → Type 0} {has_seen : V → ℕ → ℕ → ℕ → Type 0} {pins owes : V → ℕ → ℕ → Type 0}
+    {numbers : V → ℕ → Numbers} {has_read has_met : V → ℕ → ℕ → VersionedDefinition → Type 0} {has_seen : V → ℕ → ℕ → ℕ → Type 0} {pins owes : V → ℕ → ℕ → Type 0}
     {joins : V → Call → Answer → V → Type 0} {debts : S → ℕ → ℕ → Type 0} {joined : S → Call → Answer → S → Type 0}
     (view : S → V) (laws : SpaceLaws speaks_for own knows is_settled numbers has_read has_met has_seen pins owes joins)
     (leads : (a b : S) (call : Call) (answer : Answer) → joined a call answer b → joins (view a) call answer (view b))

@@ -5,14 +5,15 @@ use Rattle.mdl_key.specs.declared.mode.Mode.{Mode}
 use Rattle.mdl_key.specs.declared.mode.Mode.TheVariants.{X}
 use Rattle.mdl_key.specs.Words.{KeyName, same_mode}
 use Rattle.mdl_defs.specs.declared.change.Change.{Change}
-use Rattle.mdl_defs.specs.declared.standing.Standing.{Standing}
-use Rattle.mdl_defs.specs.Standings.{standing_fault}
+use Rattle.mdl_defs.specs.declared.versioned_definition.VersionedDefinition.{VersionedDefinition}
+use Rattle.mdl_defs.specs.VersionedDefinitions.{standing_fault}
 use Rattle.mdl_calls.specs.declared.answers.Held.{Held}
 use Rattle.mdl_calls.specs.declared.answers.Settled.TheVariants.{Victim}
 use Rattle.mdl_calls.specs.declared.space_error.SpaceError.TheVariants.{OutOfMemory}
 use Rattle.mdl_calls.specs.Words.{Answer, Refused, At_place, Granted, Waits, Lost, Reads, Changed, Call, Resolve, Try_now, Begin_wait, End_wait, Read_definition, Change_definition, caller, takes_memory, IsFit, is_waiting, ticket_held}
 use Rattle.mdl_calls.specs.Meetings.{Meets}
-use Rattle.mdl_calls.specs.SessionData.{SessionData, IsSound, Knows, key_known, is_known, place_known}
+use Rattle.mdl_key.specs.KeyLookups.{is_known, key_known, place_known}
+use Rattle.mdl_calls.specs.SessionData.{SessionData, IsSound, Knows}
 use Rattle.mdl_session_laws.specs.SessionJoins.{Joins}
 
 -- a session can make this call and get this answer
@@ -44,13 +45,13 @@ WaitsAreLost = (a : SessionData) → IsSound a → a.settled ≡ Some Victim →
 -- the version and definition that a session may meet under a ticket can be read
 abbrev pub StandingsAreRead : Type 0
 StandingsAreRead =
-    (a : SessionData) (id : ℕ) (ticket : Held) (standing : Standing) → IsSound a → ticket_held id a.own ≡ Some ticket → Meets ticket.place standing a →
+    (a : SessionData) (id : ℕ) (ticket : Held) (standing : VersionedDefinition) → IsSound a → ticket_held id a.own ≡ Some ticket → Meets ticket.place standing a →
     CanJoin a (Read_definition a.number id) (Reads standing.version standing.definition)
 
 -- they can be changed under a ticket that is held in mode X, if they allow the change
 abbrev pub StandingsAreChanged : Type 0
 StandingsAreChanged =
-    (a : SessionData) (id : ℕ) (ticket : Held) (stood : Standing) (change : Change) → IsSound a → ticket_held id a.own ≡ Some ticket →
+    (a : SessionData) (id : ℕ) (ticket : Held) (stood : VersionedDefinition) (change : Change) → IsSound a → ticket_held id a.own ≡ Some ticket →
     same_mode ticket.mode X ≡ true → Meets ticket.place stood a →
     ((key : KeyName) → key_known ticket.place a.known ≡ Some key → standing_fault key.namespace change stood ≡ None) →
     CanJoin a (Change_definition a.number id change) (Changed (stood.version + 1))

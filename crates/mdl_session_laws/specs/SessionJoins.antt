@@ -3,7 +3,8 @@ use Rattle.std.specs.Prelude.{ℕ, Bool, List, Option}
 use Rattle.mdl_calls.specs.AllCalls.{spec_of}
 use Rattle.mdl_calls.specs.CallSpec.{Transition}
 use Rattle.mdl_calls.specs.Effects.{ends, place_of}
-use Rattle.mdl_calls.specs.SessionData.{SessionData, KnownKey}
+use Rattle.mdl_key.specs.declared.known_key.KnownKey.{KnownKey}
+use Rattle.mdl_calls.specs.SessionData.{SessionData}
 use Rattle.mdl_calls.specs.declared.answers.Settled.{Settled}
 use Rattle.mdl_calls.specs.Words.{Answer, Call}
 

@@ -3,8 +3,8 @@ use Rattle.std.specs.Prelude.{◌≡◌, ℕ, ◌≤◌, true, [], Some, None}
 use Rattle.mdl_key.specs.declared.mode.Mode.TheVariants.{X}
 use Rattle.mdl_key.specs.Words.{KeyName, same_mode}
 use Rattle.mdl_defs.specs.declared.change.Change.{Change}
-use Rattle.mdl_defs.specs.declared.standing.Standing.{Standing}
-use Rattle.mdl_defs.specs.Standings.{MayStand, standing_after}
+use Rattle.mdl_defs.specs.declared.versioned_definition.VersionedDefinition.{VersionedDefinition}
+use Rattle.mdl_defs.specs.VersionedDefinitions.{MayStand, standing_after}
 use Rattle.mdl_calls.specs.declared.answers.Held.{Held}
 use Rattle.mdl_calls.specs.declared.answers.Settled.{Settled}
 use Rattle.mdl_calls.specs.Words.{Answer, Changed, At_place, Call, Resolve, End_wait, Change_definition, caller, IsRising, IsToldOf, HoldsAt, IsChangeOf, redefined_place, ticket_held}
@@ -81,14 +81,14 @@ SettledWaitsAreToldSo =
 -- the version and definition that were read stay true as long as a ticket of the place is held, unless the session itself changes them
 abbrev pub WhatIsReadStands : Type 0
 WhatIsReadStands =
-    (a b : SessionData) (call : Call) (answer : Answer) (who place : ℕ) (standing : Standing) → SpeaksFor a who →
+    (a b : SessionData) (call : Call) (answer : Answer) (who place : ℕ) (standing : VersionedDefinition) → SpeaksFor a who →
     (caller call ≡ Some who → redefined_place call answer (own_of a who) ≡ Some place → ⊥) → HoldsAt place (own_of b who) → Joins a call answer b →
     HasRead a who place standing → HasRead b who place standing
 
 -- a change under a ticket in mode X is applied to what was read, or is refused because of that or for lack of memory
 abbrev pub ChangesAreOfWhatWasRead : Type 0
 ChangesAreOfWhatWasRead =
-    (a b : SessionData) (who id : ℕ) (change : Change) (answer : Answer) (ticket : Held) (key : KeyName) (standing : Standing) →
+    (a b : SessionData) (who id : ℕ) (change : Change) (answer : Answer) (ticket : Held) (key : KeyName) (standing : VersionedDefinition) →
     ticket_held id (own_of a who) ≡ Some ticket → same_mode ticket.mode X ≡ true → Knows a who ticket.place key → HasRead a who ticket.place standing →
     Joins a (Change_definition who id change) answer b →
     IsChangeOf key change standing answer × ((version : ℕ) → answer ≡ Changed version → HasRead b who ticket.place (standing_after change standing))
@@ -96,5 +96,5 @@ ChangesAreOfWhatWasRead =
 -- the version and definition that were read are valid for the place's key, and no later version was seen there
 abbrev pub WhatIsReadMayStand : Type 0
 WhatIsReadMayStand =
-    (a : SessionData) (who place : ℕ) (key : KeyName) (standing : Standing) → SpeaksFor a who → Knows a who place key → HasRead a who place standing →
+    (a : SessionData) (who place : ℕ) (key : KeyName) (standing : VersionedDefinition) → SpeaksFor a who → Knows a who place key → HasRead a who place standing →
     MayStand key.namespace standing × ((version : ℕ) → HasSeen a who place version → version ≤ standing.version)

@@ -5,13 +5,13 @@ use Rattle.std.specs.Option.{option_map_or}
 use Rattle.lru.proofs.CallerLemmas.{Contains-lookup, Contains-promoted, Contains-remove_entry, Contains-take}
 use Rattle.lru.proofs.Splits.{Contains-cons}
 use Rattle.mdl_defs.specs.declared.definition.Definition.{Definition}
-use Rattle.mdl_defs.specs.declared.standing.Standing.{Standing}
+use Rattle.mdl_defs.specs.declared.versioned_definition.VersionedDefinition.{VersionedDefinition}
 use Rattle.mdl_defs.specs.Caches.{CacheView, Kept, is_of, kept_first, kept_of, looked_at}
 use Rattle.mdl_calls.specs.Words.{AreMet}
 use Rattle.mdl_steps.proofs.Views.{by_bool}
 use Rattle.mdl_shared.specs.KeptReads.{kept_standing}
 
-module _ (met : ℕ → Standing → Type 0) (place version : ℕ) where
+module _ (met : ℕ → VersionedDefinition → Type 0) (place version : ℕ) where
   -- what is kept of a version was met
   pub kept-met : (kept : List Kept) (d : Definition) → AreMet met kept → kept_of place version kept ≡ Some d → met place (kept_standing version d)
   kept-met kept d all its =

@@ -8,7 +8,7 @@ use Rattle.mdl_calls.specs.declared.space_error.SpaceError.TheVariants.{Full, Ou
 use Rattle.mdl_calls.specs.SessionLocks.{cloning}
 use Rattle.mdl_calls.specs.Words.{Clone_ticket, cloned, Granted, IsCause, MayClone, OfHeld, Refused, is_waiting}
 use Rattle.mdl_steps.specs.declared.deed.Deed.TheVariants.{Gain}
-use Rattle.mdl_steps.specs.declared.view.Own.{Own}
+use Rattle.mdl_steps.specs.declared.view.SessionTicket.{SessionTicket}
 use Rattle.mdl_calls.specs.SessionData.{Knows}
 use Rattle.mdl_session_laws.specs.SessionJoins.{Joins}
 use Rattle.mdl_visits.specs.Leavings.{MeetsOwn}
@@ -57,7 +57,7 @@ module _ {s : SessionView} (is : IsMember s) (id : ℕ) (mode : Mode) where
         (by-cause (λ w. IsCause (Knows (data_of s) s.me.0.number) (Clone_ticket s.me.0.number id mode) w (data_of s).own) why tt may-clone causes)
         (λ state how is. cc) tt
 
-    module _ (t : Own) (its : numbered id (tickets_seen s.me.0) ≡ Some t) where
+    module _ (t : SessionTicket) (its : numbered id (tickets_seen s.me.0) ≡ Some t) where
       pub clone-joins : {s′ : SessionView} {new : ℕ} → new ≡ s.me.0.next → DidDeeds t.place (Gain new mode ∷ []) s s′
           → Joins (data_of s) (Clone_ticket s.me.0.number id mode) (Granted new) (data_of s′)
       clone-joins {s′} {new} first done =

@@ -11,8 +11,8 @@ use Rattle.mdl_calls.specs.SessionLocks.{winning}
 use Rattle.mdl_calls.specs.Words.{Granted, Lost, Refused, End_wait, ended, is_answer_of, is_waiting}
 use Rattle.mdl_steps.specs.declared.deed.Deed.TheVariants.{Gain}
 use Rattle.mdl_steps.specs.declared.view.Ask.{Ask}
-use Rattle.mdl_steps.specs.declared.view.Met.{Met}
-use Rattle.mdl_steps.specs.declared.view.Own.{Own}
+use Rattle.mdl_steps.specs.declared.view.StepRecord.{StepRecord}
+use Rattle.mdl_steps.specs.declared.view.SessionTicket.{SessionTicket}
 use Rattle.mdl_steps.specs.declared.view.Settlement.{Settlement}
 use Rattle.mdl_steps.specs.Cells.{note_at}
 use Rattle.mdl_steps.specs.Deeds.{owned}
@@ -57,20 +57,20 @@ granted-so settled_as.Killed e = cc
 -- ---- what the session has then
 
 -- a session that has ended its wait, with these slow tickets, and this room for more, after these steps, which settled these waits, and these debts
-abbrev pub after-end : List Own → List ℕ → List Settlement → List Met → Room → SessionView → SessionView
+abbrev pub after-end : List SessionTicket → List ℕ → List Settlement → List StepRecord → Room → SessionView → SessionView
 after-end slow owes settles log room s =
     record s { me = (record s.me.0 { slow = slow; asks = None; told = None; owes = owes; settles = settles; log = log }, s.me.1); room = room }
 
 -- nothing else changed, and nothing is owed that wasn't before
-pub record HasEnded (slow : List Own) (s s′ : SessionView) : Type 0 where
+pub record HasEnded (slow : List SessionTicket) (s s′ : SessionView) : Type 0 where
   pub owes : List ℕ
   pub settles : List Settlement
-  pub log : List Met
+  pub log : List StepRecord
   pub room : Room
   pub now : s′ ≡ after-end slow owes settles log room s
   pub owed : (q : ℕ) → IsOwed q owes → IsOwed q s.me.0.owes
 
-pub ended-debts : {slow : List Own} {s s′ : SessionView} → HasEnded slow s s′ → OwesNoMore s s′
+pub ended-debts : {slow : List SessionTicket} {s s′ : SessionView} → HasEnded slow s s′ → OwesNoMore s s′
 ended-debts ends q owed = ends.owed q (subst (λ (x : SessionView). IsOwed q x.me.0.owes) ends.now owed)
 
 -- without a wait there is nothing to end
@@ -87,7 +87,7 @@ pub asks-nothing : (P : Ask → Type 0) (a : Ask) → ◌≡◌ {A = Option Ask}
 asks-nothing P a e = cc
 
 -- the ticket that it asks for is above all that it has
-below-asked : (next number : ℕ) (tickets : List Own) → number + 1 ≡ next → is_no_number number tickets ≡ true → are_below_next next tickets ≡ true → are_below_next number tickets ≡ true
+below-asked : (next number : ℕ) (tickets : List SessionTicket) → number + 1 ≡ next → is_no_number number tickets ≡ true → are_below_next next tickets ≡ true → are_below_next number tickets ≡ true
 below-asked next number [] last apart all = refl
 below-asked next number (t ∷ ts) last apart all = grind (arith, nat_tests, below-asked next number ts)
 
@@ -101,7 +101,7 @@ gains : {s : SessionView} (is : IsMember s) (a : Ask) → s.me.0.asks ≡ Some a
 gains {s} is a asks = does-alone a.place (Gain a.number a.mode ∷ []) s.me.0 (is.unfast a asks)
 
 module _ {s s′ : SessionView} (is : IsMember s) where
-  ended-order : {slow : List Own} → HasEnded slow s s′ → AreAlike (interleaved slow s.me.0.fast) → StaysInOrder s s′
+  ended-order : {slow : List SessionTicket} → HasEnded slow s s′ → AreAlike (interleaved slow s.me.0.fast) → StaysInOrder s s′
   ended-order ends alike = subst (λ (x : SessionView). StaysInOrder s x) (sym ends.now) (record {
     table = refl;
     sessions = refl;
@@ -136,7 +136,7 @@ module _ {s s′ : SessionView} (is : IsMember s) where
           has = refl;
           fits = refl;
           number = refl;
-          own = ap (λ (ts : List Own). own_of (map as_held ts) None) (gains is a asks)
+          own = ap (λ (ts : List SessionTicket). own_of (map as_held ts) None) (gains is a asks)
               ∙ ap (λ held. own_of held None) (told-last (tickets_seen s.me.0) (record { number = a.number; place = a.place; mode = a.mode; noted = note_at a.place (tickets_seen s.me.0) }))
               ∙ sym (ap (λ (o : Option Ask). winning a.number (wait_by s.me.0.waits o) (data_of s).own) asks);
           numbers = (id, refl);

@@ -8,7 +8,7 @@ use Rattle.mdl_calls.specs.Words.{Granted, Is_settled, Lost, Poll_wait, Refused,
 use Rattle.mdl_steps.specs.declared.deed.Deed.TheVariants.{Gain}
 use Rattle.mdl_steps.specs.declared.step_kind.StepKind.TheVariants.{EndWait, ReadWait}
 use Rattle.mdl_steps.specs.declared.view.Ask.{Ask}
-use Rattle.mdl_steps.specs.declared.view.Met.{Met}
+use Rattle.mdl_steps.specs.declared.view.StepRecord.{StepRecord}
 use Rattle.mdl_steps.specs.Deeds.{owned}
 use Rattle.mdl_steps.specs.Layout.{wait_word}
 use Rattle.mdl_steps.specs.Plays.{Mine}
@@ -46,7 +46,7 @@ module _ {s mid : SessionView} (is : IsMember s) (a : Ask) (asks : s.me.0.asks �
   -- the first step met the wait in this state
   looks : (state : ℕ) → found ≡ wait_in s.me.0.waits state → (fact : Mine → Type 0) → fact mid.me → LooksThen state (lists_seen s.me.0) s fact
   looks state its fact so =
-      let look : Met = record { kind = ReadWait; deeds = []; word = wait_word s.table.slots session; found = found; held = s.me.0.latches; directory = s.me.0.directory } in (
+      let look : StepRecord = record { kind = ReadWait; deeds = []; word = wait_word s.table.slots session; found = found; held = s.me.0.latches; directory = s.me.0.directory } in (
         mid.me,
         look,
         ap (λ (x : SessionView). x.me.0.log) now,
@@ -146,7 +146,7 @@ module _ {s mid : SessionView} (is : IsMember s) (a : Ask) (asks : s.me.0.asks �
     -- ---- it was granted
 
     pub won-end : one ≡ settled_as.Granted → {s′ : SessionView} → Does [] mid.me s′.me
-        → (e : Met) × (s′.me.0.log ≡ mid.me.0.log ++ e ∷ []) × EndsWait mid.table.slots mid.me.0.number mid.me.0.waits granted_state e → (ended : HasEnded (owned a.place (Gain a.number a.mode) s.me.0.slow) s s′) → ended.settles ≡ s.me.0.settles
+        → (e : StepRecord) × (s′.me.0.log ≡ mid.me.0.log ++ e ∷ []) × EndsWait mid.table.slots mid.me.0.number mid.me.0.waits granted_state e → (ended : HasEnded (owned a.place (Gain a.number a.mode) s.me.0.slow) s s′) → ended.settles ≡ s.me.0.settles
         → ended.owes ≡ s.me.0.owes
         → KeepsRoom 1 s.room s′.room → Joins (data_of s) (End_wait s.me.0.number) (Granted a.number) (data_of s′) × Shows (End_wait s.me.0.number) (Granted a.number) s s′
     won-end granted {s′} ends last ended settles owes keeps = (
@@ -170,9 +170,9 @@ module _ {s mid : SessionView} (is : IsMember s) (a : Ask) (asks : s.me.0.asks �
 
 -- a granted wait ends by one
 pub ends-granted : (mid seat′ : SeatState) → seat′ ≡ record mid { me = ended_granted mid.table.slots mid.me }
-    → (e : Met) × (seat′.me.0.log ≡ mid.me.0.log ++ e ∷ []) × EndsWait mid.table.slots mid.me.0.number mid.me.0.waits granted_state e
+    → (e : StepRecord) × (seat′.me.0.log ≡ mid.me.0.log ++ e ∷ []) × EndsWait mid.table.slots mid.me.0.number mid.me.0.waits granted_state e
 ends-granted mid seat′ made =
-    let e : Met = record { kind = EndWait; deeds = []; word = wait_word mid.table.slots mid.me.0.number; found = wait_in mid.me.0.waits granted_state; held = mid.me.0.latches; directory = mid.me.0.directory } in
+    let e : StepRecord = record { kind = EndWait; deeds = []; word = wait_word mid.table.slots mid.me.0.number; found = wait_in mid.me.0.waits granted_state; held = mid.me.0.latches; directory = mid.me.0.directory } in
     (e, ap (λ (x : SeatState). x.me.0.log) made, record { kind = refl; wait = record { word = refl; found = refl } })
 
 module _ {seat mid seat′ : SeatState} (sessions session found : ℕ) {room : Room}

@@ -3,7 +3,7 @@ use Rattle.std.proofs.Common.{◌≡◌, ◌⊎◌, inl, inr, ℕ, ◌<◌, ◌�
 use Rattle.mdl_key.specs.declared.mode.Mode.{Mode}
 use Rattle.mdl_steps.specs.declared.deed.Deed.TheVariants.{Gain, Lose}
 use Rattle.mdl_steps.specs.declared.view.Ask.{Ask}
-use Rattle.mdl_steps.specs.declared.view.Own.{Own}
+use Rattle.mdl_steps.specs.declared.view.SessionTicket.{SessionTicket}
 use Rattle.mdl_steps.specs.Cells.{own_at}
 use Rattle.mdl_steps.specs.Limits.{most_fast}
 use Rattle.mdl_steps.specs.Lists.{Each}
@@ -17,7 +17,8 @@ use Rattle.mdl_shared.specs.declared.try_fast.Fast.TheVariants.{Granted}
 use Rattle.mdl_shared.specs.Debts.{but_owing}
 use Rattle.mdl_shared.specs.DeedsDone.{DoesQuietly}
 use Rattle.mdl_shared.specs.FastCalls.{GaveUpFast, GetsNothing, HasFewerFast, HasTriedFast}
-use Rattle.mdl_shared.specs.Members.{kind_known, wish_fault}
+use Rattle.mdl_key.specs.KeyLookups.{kind_known}
+use Rattle.mdl_shared.specs.Members.{wish_fault}
 use Rattle.mdl_shared.specs.Passes.{view_of}
 use Rattle.mdl_shared.specs.SessionViews.{Lists, SessionView, StaysSame, lists_seen}
 use Rattle.mdl_shared.specs.Steps.{ShowsStep}
@@ -37,7 +38,7 @@ pub fewer-seen : (m : Member) (list : TicketList) (place : ℕ) {result : Result
     → (result ≡ Err Limit) ⊎ (length (own_at place list.fast) < most_fast) → (result ≡ Err Limit → HasFewerFast place (view_of m)) → HasFewerFast place (view_of m)
 fewer-seen m list place same (inl limit) never = never limit
 fewer-seen m list place same (inr fewer) never =
-    subst (λ (fast : List Own). length (own_at place fast) < most_fast) (same ∙ ap (λ (l : Lists). l.fast) m.lists) fewer
+    subst (λ (fast : List SessionTicket). length (own_at place fast) < most_fast) (same ∙ ap (λ (l : Lists). l.fast) m.lists) fewer
 
 -- before it, room is made in the session's own list, which is this then and tells the tickets that it told
 pub record HasMadeRoom (m : Member) (list : TicketList) : Type 0 where
@@ -97,11 +98,11 @@ tried-limit m m′ {list} made same =
 -- ---- a release
 
 -- the session holds the fast ticket of a number
-pub its-number : (m : Member) (id : ℕ) (t : Own) → numbered id m.tickets.fast ≡ Some t → numbered t.number m.tickets.fast ≡ Some t
+pub its-number : (m : Member) (id : ℕ) (t : SessionTicket) → numbered id m.tickets.fast ≡ Some t → numbered t.number m.tickets.fast ≡ Some t
 its-number m id t held = subst (λ (n : ℕ). numbered n m.tickets.fast ≡ Some t) (sym (has_number id t m.tickets.fast held)) held
 
 -- it was given up
-pub gave-up-fast : (m : Member) (b : SessionView) (id : ℕ) (t : Own) {owes : Bool} → numbered id m.tickets.fast ≡ Some t
+pub gave-up-fast : (m : Member) (b : SessionView) (id : ℕ) (t : SessionTicket) {owes : Bool} → numbered id m.tickets.fast ≡ Some t
     → DoesQuietly t.place (Lose t.number ∷ []) (view_of m) (but_owing (view_of m) b) → ReleasesFast t.place t.number owes m.seat.me b.me
     → (m.tickets.room.spare < b.room.spare) × (m.tickets.room.reach ≤ b.room.reach) → GaveUpFast id owes (view_of m) b
 gave-up-fast m b id t {owes} held quiet released room =
@@ -126,4 +127,4 @@ waits-unfast m waits =
 
 -- where there is none, no step is needed
 pub made-none : (s : SessionView) → s.me.0.fast ≡ [] → AllMadeSlow s s
-made-none s none = subst (λ (fast : List Own). Each (λ (t : Own). ShowsStep s s (MakesSlow t.place)) fast) (sym none) tt
+made-none s none = subst (λ (fast : List SessionTicket). Each (λ (t : SessionTicket). ShowsStep s s (MakesSlow t.place)) fast) (sym none) tt

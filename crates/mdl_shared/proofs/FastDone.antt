@@ -5,8 +5,8 @@ use Rattle.mdl_key.specs.declared.mode.Mode.{Mode}
 use Rattle.mdl_steps.specs.declared.deed.Deed.{Deed}
 use Rattle.mdl_steps.specs.declared.deed.Deed.TheVariants.{Gain, Lose}
 use Rattle.mdl_steps.specs.declared.view.Ask.{Ask}
-use Rattle.mdl_steps.specs.declared.view.Known.{Known}
-use Rattle.mdl_steps.specs.declared.view.Own.{Own}
+use Rattle.mdl_key.specs.declared.known_key.KnownKey.{KnownKey}
+use Rattle.mdl_steps.specs.declared.view.SessionTicket.{SessionTicket}
 use Rattle.mdl_steps.specs.Cells.{note_at, own_at}
 use Rattle.mdl_steps.specs.Deeds.{is_own}
 use Rattle.mdl_steps.specs.FastPlays.{but_at, but_own, fast_own, first_note, noted_at}
@@ -35,14 +35,14 @@ use Rattle.mdl_shared.proofs.TicketOrder.{counted-kept, counted-last, gained-fas
 -- ---- the note of a place
 
 -- it is what all tickets there have
-first-same : (mark : Option ℕ) (tickets : List Own) → (tickets ≡ [] → mark ≡ None) → Each (λ (t : Own). t.noted ≡ mark) tickets → first_note tickets ≡ mark
+first-same : (mark : Option ℕ) (tickets : List SessionTicket) → (tickets ≡ [] → mark ≡ None) → Each (λ (t : SessionTicket). t.noted ≡ mark) tickets → first_note tickets ≡ mark
 first-same mark [] none each = sym (none refl)
 first-same None (t ∷ ts) none each = rw each.0 (first-same None ts (λ e. refl) each.1)
 first-same (Some version) (t ∷ ts) none each = rw each.0 refl
 
 -- of those at a place
-noted-there : (place : ℕ) (mark : Option ℕ) (tickets : List Own) → Each (λ (t : Own). t.place ≡ place → t.noted ≡ mark) tickets
-    → Each (λ (t : Own). t.noted ≡ mark) (own_at place tickets)
+noted-there : (place : ℕ) (mark : Option ℕ) (tickets : List SessionTicket) → Each (λ (t : SessionTicket). t.place ≡ place → t.noted ≡ mark) tickets
+    → Each (λ (t : SessionTicket). t.noted ≡ mark) (own_at place tickets)
 noted-there place mark [] each = tt
 noted-there place mark (t ∷ ts) each =
     by_bool (t.place == place)
@@ -50,7 +50,7 @@ noted-there place mark (t ∷ ts) each =
     (λ there. rw there (noted-there place mark ts each.1))
 
 -- where no ticket is there, none
-none-at : (place : ℕ) (tickets : List Own) → own_at place tickets ≡ [] → note_at place tickets ≡ None
+none-at : (place : ℕ) (tickets : List SessionTicket) → own_at place tickets ≡ [] → note_at place tickets ≡ None
 none-at place [] none = refl
 none-at place (t ∷ ts) none =
     by_bool (t.place == place) (λ here. let no = rw here at none in absurd (cc)) (λ there. rw there (none-at place ts (rw there at none)))
@@ -60,18 +60,18 @@ nil-parts [] ys e = (refl, e)
 nil-parts (x ∷ xs) ys e = absurd (cc)
 
 -- the first version that is noted under the fast tickets or the slow ones is that of the place
-pub one-noted : (place : ℕ) (slow fast : List Own) → AreAlike (interleaved slow fast) → first_note (own_at place fast ++ own_at place slow) ≡ note_at place (interleaved slow fast)
+pub one-noted : (place : ℕ) (slow fast : List SessionTicket) → AreAlike (interleaved slow fast) → first_note (own_at place fast ++ own_at place slow) ≡ note_at place (interleaved slow fast)
 one-noted place slow fast alike =
     let mark = note_at place (interleaved slow fast) in
-    let each = each-uninterleaved (λ (t : Own). t.place ≡ place → t.noted ≡ mark) slow fast (all_noted place (interleaved slow fast) alike) in
+    let each = each-uninterleaved (λ (t : SessionTicket). t.place ≡ place → t.noted ≡ mark) slow fast (all_noted place (interleaved slow fast) alike) in
     first-same mark (own_at place fast ++ own_at place slow)
     (λ none. let parts = nil-parts (own_at place fast) (own_at place slow) none in note-slow place slow fast parts.0 ∙ none-at place slow parts.1)
-    (each_append (λ (t : Own). t.noted ≡ mark) (own_at place fast) (own_at place slow) (noted-there place mark fast each.1) (noted-there place mark slow each.0))
+    (each_append (λ (t : SessionTicket). t.noted ≡ mark) (own_at place fast) (own_at place slow) (noted-there place mark fast each.1) (noted-there place mark slow each.0))
 
 -- ---- the session
 
 -- fewer fast tickets are counted as they were
-fewer-fast : (known : List Known) (asks : Option Ask) (fast : List Own) (keep : Own → Bool) → StaysFast known asks fast (filter keep fast)
+fewer-fast : (known : List KnownKey) (asks : Option Ask) (fast : List SessionTicket) (keep : SessionTicket → Bool) → StaysFast known asks fast (filter keep fast)
 fewer-fast known asks fast keep = record {
   unfast = λ a waits none. ap (filter keep) none;
   plain = counted-kept keep known fast;
@@ -85,7 +85,7 @@ module _ (seat seat′ : SeatState) (sessions : ℕ) {room : Room} (is : IsMembe
   fast-granted {room′} {place} {one} {mode} {noted} idle counted it granted =
       let v = seat.me.0 in
       let its : noted ≡ note_at place (tickets_seen v) = it ∙ one-noted place v.slow v.fast is.alike in
-      let t : Own = fast_own v.next place mode noted in
+      let t : SessionTicket = fast_own v.next place mode noted in
       let now = granted.1.now in record {
         done = record {
           slow = v.slow;
@@ -114,7 +114,7 @@ module _ (seat seat′ : SeatState) (sessions : ℕ) {room : Room} (is : IsMembe
       }
 
   -- one was released. What the session owes then is left out
-  pub fast-released : {room′ : Room} {place number : ℕ} {owes : Bool} {t : Own} → numbered number seat.me.0.fast ≡ Some t → AtItsTable seat seat′ (ReleasesFast place number owes)
+  pub fast-released : {room′ : Room} {place number : ℕ} {owes : Bool} {t : SessionTicket} → numbered number seat.me.0.fast ≡ Some t → AtItsTable seat seat′ (ReleasesFast place number owes)
       → DoesQuietly place (Lose number ∷ []) (session_at seat sessions room) (but_owing (session_at seat sessions room) (session_at seat′ sessions room′))
   fast-released {room′} {place} {number} {owes} {t} its released =
       let v = seat.me.0 in
@@ -173,7 +173,7 @@ module _ (seat seat′ : SeatState) (sessions : ℕ) {room : Room} (is : IsMembe
 -- ---- its own lists
 
 -- they are those of its view still once a fast ticket was granted
-pub lists-granted : (m : Member) (seat′ : SeatState) {place : ℕ} {mode : Mode} {noted : Option ℕ} {slow fast : List Own} → AtItsTable m.seat seat′ (GrantsFast place mode noted)
+pub lists-granted : (m : Member) (seat′ : SeatState) {place : ℕ} {mode : Mode} {noted : Option ℕ} {slow fast : List SessionTicket} → AtItsTable m.seat seat′ (GrantsFast place mode noted)
     → slow ≡ m.tickets.slow → fast ≡ m.tickets.fast ++ fast_own m.next place mode noted ∷ []
     → record { slow = slow; fast = fast; known = m.known.known; next = m.next + 1; asks = m.asks; waits = m.waits } ≡ lists_seen seat′.me.0
 lists-granted m seat′ {place} {mode} {noted} granted slows fasts =
@@ -182,7 +182,7 @@ lists-granted m seat′ {place} {mode} {noted} granted slows fasts =
     ∙ sym (ap (λ (x : Mine). lists_seen x.0) granted.1.now)
 
 -- once one was released
-pub lists-released : (m : Member) (seat′ : SeatState) {place number : ℕ} {owes : Bool} {slow fast : List Own} → AtItsTable m.seat seat′ (ReleasesFast place number owes)
+pub lists-released : (m : Member) (seat′ : SeatState) {place number : ℕ} {owes : Bool} {slow fast : List SessionTicket} → AtItsTable m.seat seat′ (ReleasesFast place number owes)
     → slow ≡ m.tickets.slow → fast ≡ but_own place number m.tickets.fast
     → record { slow = slow; fast = fast; known = m.known.known; next = m.next; asks = m.asks; waits = m.waits } ≡ lists_seen seat′.me.0
 lists-released m seat′ {place} {number} released slows fasts =
@@ -191,7 +191,7 @@ lists-released m seat′ {place} {number} released slows fasts =
     ∙ sym (ap (λ (x : Mine). lists_seen x.0) released.1.now)
 
 -- once those of a place are slow
-pub lists-materialised : (m : Member) (seat′ : SeatState) {place : ℕ} {slow fast : List Own} → AtItsTable m.seat seat′ (Materialises place)
+pub lists-materialised : (m : Member) (seat′ : SeatState) {place : ℕ} {slow fast : List SessionTicket} → AtItsTable m.seat seat′ (Materialises place)
     → slow ≡ interleaved m.tickets.slow (own_at place m.tickets.fast) → fast ≡ but_at place m.tickets.fast
     → record { slow = slow; fast = fast; known = m.known.known; next = m.next; asks = m.asks; waits = m.waits } ≡ lists_seen seat′.me.0
 lists-materialised m seat′ {place} moved slows fasts =

@@ -9,8 +9,8 @@ use Rattle.mdl_key.specs.Words.{is_mode_of}
 use Rattle.mdl_word.specs.Words.{increment_of}
 use Rattle.mdl_book.specs.Tickets.{ticket_of}
 use Rattle.mdl_steps.specs.declared.view.Ask.{Ask}
-use Rattle.mdl_steps.specs.declared.view.Known.{Known}
-use Rattle.mdl_steps.specs.declared.view.Own.{Own}
+use Rattle.mdl_key.specs.declared.known_key.KnownKey.{KnownKey}
+use Rattle.mdl_steps.specs.declared.view.SessionTicket.{SessionTicket}
 use Rattle.mdl_steps.specs.declared.view.LatchRecord.{LatchRecord}
 use Rattle.mdl_steps.specs.Cells.{held_at, own_at, ticket_by}
 use Rattle.mdl_steps.specs.Deeds.{is_own}
@@ -22,7 +22,8 @@ use Rattle.mdl_steps.proofs.Views.{by_bool}
 use Rattle.mdl_visits.specs.Numbers.{is_no_number, numbered}
 use Rattle.mdl_visits.specs.Visits.{KnowsKind, MayVisit}
 use Rattle.mdl_shared.specs.declared.member.Member.{Member}
-use Rattle.mdl_shared.specs.Members.{are_counted, increment_at, kind_known, most_numbers, wish_fault, without_at}
+use Rattle.mdl_key.specs.KeyLookups.{kind_known}
+use Rattle.mdl_shared.specs.Members.{are_counted, increment_at, most_numbers, wish_fault, without_at}
 use Rattle.mdl_shared.specs.Passes.{view_of}
 use Rattle.mdl_shared.specs.SessionViews.{Lists, SessionView}
 use Rattle.mdl_shared.proofs.MemberFacts.{differ, fast-alone, may-visit}
@@ -33,7 +34,7 @@ use Rattle.mdl_shared.proofs.TicketOrder.{none-struck}
 -- ---- modes that the word counts
 
 -- the session has looked up the key of the place, by whose kind the word counts the mode
-kind-counted : (place : ℕ) (mode : Mode) (known : List Known) (one : ℕ) → increment_at place mode known ≡ Some one
+kind-counted : (place : ℕ) (mode : Mode) (known : List KnownKey) (one : ℕ) → increment_at place mode known ≡ Some one
     → (kind : Kind) × (kind_known place known ≡ Some kind) × (increment_of kind mode ≡ Some one)
 kind-counted place mode known one counted = by (kind_known place known) refl counted
   where
@@ -79,23 +80,23 @@ may-ask-fast m place mode one none counts some =
 -- ---- fast tickets that it has
 
 -- each is counted, so the session has looked up the key of its place
-some-kind : (place : ℕ) (mode : Mode) (known : List Known) → is_some (increment_at place mode known) ≡ true → is_some (kind_known place known) ≡ true
+some-kind : (place : ℕ) (mode : Mode) (known : List KnownKey) → is_some (increment_at place mode known) ≡ true → is_some (kind_known place known) ≡ true
 some-kind place mode known counts = by (kind_known place known) counts
   where
     by : (o : Option Kind) → is_some (option_and_then (λ kind. increment_of kind mode) o) ≡ true → is_some o ≡ true
     by None counts = counts
     by (Some kind) counts = refl
 
-pub counted-found : (known : List Known) (id : ℕ) (fast : List Own) (t : Own) → numbered id fast ≡ Some t → are_counted known fast ≡ true
+pub counted-found : (known : List KnownKey) (id : ℕ) (fast : List SessionTicket) (t : SessionTicket) → numbered id fast ≡ Some t → are_counted known fast ≡ true
     → is_some (increment_at t.place t.mode known) ≡ true
 counted-found known id [] t its all = absurd (cc)
 counted-found known id (f ∷ fs) t its all =
     let parts = and_parts (is_some (increment_at f.place f.mode known)) (are_counted known fs) all in
     by_bool (f.number == id)
-    (λ hit. let found = rw hit at its in let is : f ≡ t = cc in ap (λ (u : Own). is_some (increment_at u.place u.mode known)) (sym is) ∙ parts.0)
+    (λ hit. let found = rw hit at its in let is : f ≡ t = cc in ap (λ (u : SessionTicket). is_some (increment_at u.place u.mode known)) (sym is) ∙ parts.0)
     (λ miss. counted-found known id fs t (rw miss at its) parts.1)
 
-kind-fast : (known : List Known) (place : ℕ) (fast : List Own) → 0 < length (own_at place fast) → are_counted known fast ≡ true → is_some (kind_known place known) ≡ true
+kind-fast : (known : List KnownKey) (place : ℕ) (fast : List SessionTicket) → 0 < length (own_at place fast) → are_counted known fast ≡ true → is_some (kind_known place known) ≡ true
 kind-fast known place [] some all = absurd (omega (arith, some))
 kind-fast known place (f ∷ fs) some all =
     let parts = and_parts (is_some (increment_at f.place f.mode known)) (are_counted known fs) all in
@@ -109,22 +110,22 @@ known-kind None some = absurd (cc)
 known-kind (Some kind) some = (kind, refl)
 
 -- one of a number is the only one
-none-own : (place number : ℕ) (t : Own) (fast : List Own) → t.number ≡ number → IsOther t fast → filter (is_own place number) fast ≡ []
+none-own : (place number : ℕ) (t : SessionTicket) (fast : List SessionTicket) → t.number ≡ number → IsOther t fast → filter (is_own place number) fast ≡ []
 none-own place number t [] its other = refl
 none-own place number t (f ∷ fs) its other =
     by_bool (f.number == number)
     (λ same. absurd (other.0 (eqb-true f.number number same ∙ sym its)))
     (λ differ. by_bool (f.place == place) (λ here. rw (here, differ) (none-own place number t fs its other.1)) (λ there. rw there (none-own place number t fs its other.1)))
 
-only-own : (number : ℕ) (t : Own) (fast : List Own) → Differ fast → numbered number fast ≡ Some t → filter (is_own t.place number) fast ≡ t ∷ []
+only-own : (number : ℕ) (t : SessionTicket) (fast : List SessionTicket) → Differ fast → numbered number fast ≡ Some t → filter (is_own t.place number) fast ≡ t ∷ []
 only-own number t [] differ its = absurd (cc)
 only-own number t (f ∷ fs) differ its =
     by_bool (f.number == number)
     (λ hit.
     let found = rw hit at its in
     let is : f ≡ t = cc in
-    let here = eq-eqb f.place t.place (ap (λ (u : Own). u.place) is) in
-    rw (here, hit) (ap (λ (us : List Own). f ∷ us) (none-own t.place number f fs (eqb-true f.number number hit) differ.0) ∙ ap (λ (u : Own). u ∷ []) is))
+    let here = eq-eqb f.place t.place (ap (λ (u : SessionTicket). u.place) is) in
+    rw (here, hit) (ap (λ (us : List SessionTicket). f ∷ us) (none-own t.place number f fs (eqb-true f.number number hit) differ.0) ∙ ap (λ (u : SessionTicket). u ∷ []) is))
     (λ miss. by_bool (f.place == t.place)
     (λ here. rw (here, miss) (only-own number t fs differ.1 (rw miss at its)))
     (λ there. rw there (only-own number t fs differ.1 (rw miss at its))))
@@ -135,7 +136,7 @@ unheld place [] none = refl
 unheld place (h ∷ hs) none = absurd (omega arith)
 
 -- a fast ticket may be released
-pub may-release : (m : Member) (t : Own) (one : ℕ) → numbered t.number m.tickets.fast ≡ Some t → increment_at t.place t.mode m.known.known ≡ Some one
+pub may-release : (m : Member) (t : SessionTicket) (one : ℕ) → numbered t.number m.tickets.fast ≡ Some t → increment_at t.place t.mode m.known.known ≡ Some one
     → MayReleaseFast t.place t.number one m.seat.me
 may-release m t one held counts = record {
   apart = unheld t.place m.seat.me.0.latches (member m).idle.0;
@@ -145,13 +146,13 @@ may-release m t one held counts = record {
 }
 
 -- no slow one goes with it
-pub fast-struck : (m : Member) (t : Own) {slow : List Own} → numbered t.number m.tickets.fast ≡ Some t → slow ≡ without_at t.place t.number m.tickets.slow → slow ≡ m.tickets.slow
+pub fast-struck : (m : Member) (t : SessionTicket) {slow : List SessionTicket} → numbered t.number m.tickets.fast ≡ Some t → slow ≡ without_at t.place t.number m.tickets.slow → slow ≡ m.tickets.slow
 fast-struck m t held struck =
     let none = fast-alone (member m) t.number t (ap (λ (l : Lists). numbered t.number l.fast) (sym m.lists) ∙ held) in
     struck ∙ none-struck t.place t.number m.tickets.slow (ap (λ (l : Lists). is_no_number t.number l.slow) m.lists ∙ none)
 
 -- the session may go to the place of one
-pub fast-place : (m : Member) (t : Own) → numbered t.number m.tickets.fast ≡ Some t → MayVisit t.place m.seat
+pub fast-place : (m : Member) (t : SessionTicket) → numbered t.number m.tickets.fast ≡ Some t → MayVisit t.place m.seat
 fast-place m t held =
     let is = member m in
     let counts = counted-found m.seat.me.0.known t.number m.seat.me.0.fast t (ap (λ (l : Lists). numbered t.number l.fast) (sym m.lists) ∙ held) is.plain in
@@ -167,7 +168,7 @@ counted-by o mode counts = some (option_and_then (λ kind. increment_of kind mod
     some None e = absurd (cc)
     some (Some one) e = refl
 
-pub one-of : (m : Member) (t : Own) → numbered t.number m.tickets.fast ≡ Some t
+pub one-of : (m : Member) (t : SessionTicket) → numbered t.number m.tickets.fast ≡ Some t
     → increment_at t.place t.mode m.known.known ≡ Some (unwrap_or (increment_at t.place t.mode m.known.known) 0)
 one-of m t held =
     counted-by (kind_known t.place m.known.known) t.mode
@@ -180,21 +181,21 @@ pub record MayMakeSlow (place : ℕ) (kind : Kind) (s : SessionView) : Type 0 wh
   pub once : Once (moved place s.me.0)
 
 -- in a book each stands once
-differ-filtered : (keep : Own → Bool) (ts : List Own) → Differ ts → Differ (filter keep ts)
+differ-filtered : (keep : SessionTicket → Bool) (ts : List SessionTicket) → Differ ts → Differ (filter keep ts)
 differ-filtered keep [] differ = tt
 differ-filtered keep (t ∷ ts) differ =
     by_bool (keep t)
-    (λ stays. rw stays (each-filtered (λ (u : Own). u.number ≢ t.number) keep ts differ.0, differ-filtered keep ts differ.1))
+    (λ stays. rw stays (each-filtered (λ (u : SessionTicket). u.number ≢ t.number) keep ts differ.0, differ-filtered keep ts differ.1))
     (λ goes. rw goes (differ-filtered keep ts differ.1))
 
-unlisted : (session : ℕ) (t : Own) (ts : List Own) → IsOther t ts → ticket_of session t.number (map (ticket_by session) ts) ≡ None
+unlisted : (session : ℕ) (t : SessionTicket) (ts : List SessionTicket) → IsOther t ts → ticket_of session t.number (map (ticket_by session) ts) ≡ None
 unlisted session t [] other = refl
 unlisted session t (u ∷ us) other =
     by_bool (u.number == t.number)
     (λ same. absurd (other.0 (eqb-true u.number t.number same)))
     (λ differ. rw (eq-eqb session session refl, differ) (unlisted session t us other.1))
 
-listed-once : (session : ℕ) (ts : List Own) → Differ ts → Once (map (ticket_by session) ts)
+listed-once : (session : ℕ) (ts : List SessionTicket) → Differ ts → Once (map (ticket_by session) ts)
 listed-once session [] apart = tt
 listed-once session (t ∷ ts) apart = (unlisted session t ts apart.0, listed-once session ts apart.1)
 
@@ -204,7 +205,7 @@ may-make-slow m place kind knows =
     let known = ap (λ (l : Lists). kind_known place l.known) (sym m.lists) ∙ knows in record {
       at = may-visit is place (kind_place place kind m.seat.me.0.known known);
       knows = kind_there place kind m.seat.me.0.known known;
-      once = listed-once m.seat.me.0.number (own_at place m.seat.me.0.fast) (differ-filtered (λ (t : Own). t.place == place) m.seat.me.0.fast (differ is));
+      once = listed-once m.seat.me.0.number (own_at place m.seat.me.0.fast) (differ-filtered (λ (t : SessionTicket). t.place == place) m.seat.me.0.fast (differ is));
     }
 
 -- the kind of their place is known
@@ -215,5 +216,5 @@ kind-of-fast m place some = kind-fast m.known.known place m.tickets.fast some (a
 pub some-seen : (m : Member) (place : ℕ) → 0 < length (own_at place m.tickets.fast) → own_at place m.seat.me.0.fast ≢ []
 some-seen m place some none =
     let same = ap (λ (l : Lists). length (own_at place l.fast)) m.lists in
-    let empty = ap (λ (ts : List Own). length ts) none in
+    let empty = ap (λ (ts : List SessionTicket). length ts) none in
     omega (arith, some, same, empty)

@@ -3,7 +3,7 @@ use Rattle.std.proofs.Common.{◌≡◌, ℕ, ◌==◌, true, false, Bool, List,
 use Rattle.std.proofs.lemmas.Bool.{eqb-true, false≢true}
 use Rattle.atomic_table.specs.Seated.{TableId}
 use Rattle.mdl_steps.specs.declared.deed.Deed.{Deed}
-use Rattle.mdl_steps.specs.declared.view.Own.{Own}
+use Rattle.mdl_steps.specs.declared.view.SessionTicket.{SessionTicket}
 use Rattle.mdl_steps.specs.Plays.{Mine}
 use Rattle.mdl_steps.specs.SeatStates.{AtItsTable, SeatState}
 use Rattle.mdl_steps.proofs.Views.{by_bool}
@@ -12,7 +12,8 @@ use Rattle.mdl_visits.specs.Grantings.{HasRescheduled, VisitsAndReschedules, all
 use Rattle.mdl_visits.specs.Visits.{VisitsOnce}
 use Rattle.mdl_shared.specs.Debts.{IsOwed, OwesNoMore, but_owing}
 use Rattle.mdl_shared.specs.DeedsDone.{DidDeeds, StaysFast}
-use Rattle.mdl_shared.specs.Members.{IsMember, is_place_looked_up}
+use Rattle.mdl_key.specs.KeyLookups.{is_known}
+use Rattle.mdl_shared.specs.Members.{IsMember}
 use Rattle.mdl_shared.specs.SessionViews.{SessionView, session_at, tickets_seen}
 use Rattle.mdl_shared.specs.Steps.{GivesUpFast}
 use Rattle.mdl_shared.proofs.Debts.{paid-off, released-due, released-owes, released-quiet, rescheduled-owes}
@@ -52,7 +53,7 @@ done-before {at} {place} {ds} {a} {b} {c} first later less =
 
 -- ---- the release
 
-module _ (a b : SessionView) (t : Own) (owes : Bool) (released : ReleasesFast t.place t.number owes a.me b.me) where
+module _ (a b : SessionView) (t : SessionTicket) (owes : Bool) (released : ReleasesFast t.place t.number owes a.me b.me) where
   -- where nothing is owed, that was all
   pub gives-up : owes ≡ false → GivesUpFast t.number a b t
   gives-up quiet = (b.me, owes, released, (λ due. absurd (false≢true (sym quiet ∙ due))), (λ none. refl))
@@ -82,12 +83,12 @@ module _ (a b : SessionView) (t : Own) (owes : Bool) (released : ReleasesFast t.
       paid-off q t.place a.me.0.owes (subst (IsOwed q) (ap (λ (m : Mine). m.0.owes) visit.1.now ∙ ap (all_but t.place) (released-due released due)) owed)
 
   -- a place that is owed a reschedule then is one that the session knows
-  pub owed-known : IsMember a → is_place_looked_up a.me.0.known t.place ≡ true → (q : ℕ) → IsOwed q b.me.0.owes → is_place_looked_up b.me.0.known q ≡ true
-  owed-known is here q owed = ap (λ (m : Mine). is_place_looked_up m.0.known q) released.now ∙ by owes (subst (IsOwed q) (released-owes released) owed)
+  pub owed-known : IsMember a → is_known t.place a.me.0.known ≡ true → (q : ℕ) → IsOwed q b.me.0.owes → is_known q b.me.0.known ≡ true
+  owed-known is here q owed = ap (λ (m : Mine). is_known q m.0.known) released.now ∙ by owes (subst (IsOwed q) (released-owes released) owed)
     where
-      by : (o : Bool) → IsOwed q (if o then t.place ∷ a.me.0.owes else a.me.0.owes) → is_place_looked_up a.me.0.known q ≡ true
+      by : (o : Bool) → IsOwed q (if o then t.place ∷ a.me.0.owes else a.me.0.owes) → is_known q a.me.0.known ≡ true
       by false its = is.owed q its
       by true its =
           by_bool (t.place == q)
-          (λ same. ap (is_place_looked_up a.me.0.known) (sym (eqb-true t.place q same)) ∙ here)
+          (λ same. ap (λ place. is_known place a.me.0.known) (sym (eqb-true t.place q same)) ∙ here)
           (λ apart. is.owed q (rw apart at its))

@@ -11,7 +11,7 @@ use Rattle.mdl_calls.specs.declared.space_error.SpaceError.TheVariants.{OutOfMem
 use Rattle.mdl_calls.specs.declared.space_error.SpaceError.TheVariants as fault
 use Rattle.mdl_calls.specs.Words.{Begin_wait, Granted, Refused, Try_now, Waits, attempted, begun}
 use Rattle.mdl_steps.specs.declared.deed.Deed.TheVariants.{Gain}
-use Rattle.mdl_steps.specs.declared.view.Met.{Met}
+use Rattle.mdl_steps.specs.declared.view.StepRecord.{StepRecord}
 use Rattle.mdl_steps.specs.Plays.{Mine}
 use Rattle.mdl_calls.specs.SessionData.{SessionData}
 use Rattle.mdl_session_laws.specs.SessionJoins.{Joins}
@@ -20,7 +20,8 @@ use Rattle.mdl_visits.specs.WaitOpenings.{MeetsOpening, view_awaiting}
 use Rattle.mdl_visits.proofs.Steps.{does_then}
 use Rattle.mdl_shared.specs.DeedsDone.{DoesQuietly}
 use Rattle.mdl_shared.specs.FastWishes.{BecomesSlow, BeginsToWait, GainsFast, GainsSlow, HasBegun, HasTried}
-use Rattle.mdl_shared.specs.Members.{IsMember, kind_known, obtrudes_at, wish_fault}
+use Rattle.mdl_key.specs.KeyLookups.{kind_known}
+use Rattle.mdl_shared.specs.Members.{IsMember, obtrudes_at, wish_fault}
 use Rattle.mdl_shared.specs.SessionViews.{SessionView, data_of}
 use Rattle.mdl_shared.specs.AllSteps.{Shows}
 use Rattle.mdl_shared.specs.Steps.{ShowsStep}
@@ -50,7 +51,7 @@ memory-more : (place : ℕ) (mode : Mode) (may : Bool) (a b : SessionView) → L
 memory-more place mode may a b (inl none) = inl none
 memory-more place mode may a b (inr closed) = inr (closed-more place mode StopsSlowing (StopsOrVisits place may) a b b (λ tried stops. inl stops) closed)
 
-module _ {Full : Met → Type 0} (place : ℕ) (mode : Mode) (may : Bool) (a b : SessionView) {why : SpaceError} where
+module _ {Full : StepRecord → Type 0} (place : ℕ) (mode : Mode) (may : Bool) (a b : SessionView) {why : SpaceError} where
   -- there was none for a wish
   pub wish-lack : LacksRoomForWish Full place mode may why a b → (why ≡ OutOfMemory) ⊎ (why ≡ fault.Full)
   wish-lack (inl memory) = inl memory.0
@@ -145,7 +146,7 @@ module _ {a : SessionView} (is : IsMember a) (place : ℕ) (mode : Mode) (clear 
     waits-shows begins =
         let opens = begins.opens in
         let log = ap (λ (m : Mine). m.0.log) opens.now in
-        let met = subst (λ (x : SessionView). (e f : Met) × AreStepsOf b.me c.me e f × MeetsBlocked place x.me.0.number mode e
+        let met = subst (λ (x : SessionView). (e f : StepRecord) × AreStepsOf b.me c.me e f × MeetsBlocked place x.me.0.number mode e
         × MeetsOpening x.table.slots place x.me.0.number x.me.0.waits x.me.0.next mode f) slow.quiet.done.now begins.met in
         shows (begins.table ∙ ap (λ (x : SessionView). x.table) slow.quiet.done.now) (begins.sessions ∙ ap (λ (x : SessionView). x.sessions) slow.quiet.done.now) clear
         (does_then [] [] a.me b.me c.me slow.quiet.did (opens.made, log, opens.did)) (ap (λ (m : Mine). m.0.settles) opens.now ∙ slow.quiet.settled)

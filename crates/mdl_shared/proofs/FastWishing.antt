@@ -5,7 +5,7 @@ use Rattle.mdl_key.specs.declared.mode.Mode.{Mode}
 use Rattle.mdl_calls.specs.declared.space_error.SpaceError.{SpaceError}
 use Rattle.mdl_calls.specs.declared.space_error.SpaceError.TheVariants.{Full, OutOfMemory}
 use Rattle.mdl_steps.specs.declared.deed.Deed.{Deed}
-use Rattle.mdl_steps.specs.declared.view.Own.{Own}
+use Rattle.mdl_steps.specs.declared.view.SessionTicket.{SessionTicket}
 use Rattle.mdl_steps.specs.Cells.{own_at}
 use Rattle.mdl_steps.specs.Lists.{Each}
 use Rattle.mdl_steps.specs.Plays.{Mine}
@@ -21,8 +21,7 @@ use Rattle.mdl_shared.specs.Steps.{ShowsStep}
 use Rattle.mdl_shared.specs.WishSteps.{AllMadeSlow, ByLatch, ByVisit, FindsClosed, FromUnfast, FullForFast, IsClosed, LacksMemory, LacksRoomForFast, MakesSlow, SlowsAll, StopsSlowing}
 use Rattle.mdl_shared.specs.TicketLists.{Room}
 use Rattle.mdl_shared.proofs.QuietDeeds.{quiet-steps, shows-later}
-use Rattle.mdl_shared.proofs.SameSpace.{numbers_by, own_by, reading_of}
-use Rattle.mdl_shared.proofs.SpaceLists.{known_of}
+use Rattle.mdl_shared.proofs.SameSpace.{numbers_by, own_by}
 
 -- ---- as a lock space
 
@@ -30,14 +29,14 @@ use Rattle.mdl_shared.proofs.SpaceLists.{known_of}
 pub same-space : {place : ℕ} {a b : SessionView} → DoesQuietly place [] a b → data_of b ≡ data_of a
 same-space {a = a} quiet =
     let told : quiet.done.told ≡ a.me.0.told = sym (ap (λ (x : SessionView). x.me.0.told) quiet.done.now) ∙ quiet.told in
-    let space : List Own → Option ℕ → SessionData = λ tickets told. record {
+    let space : List SessionTicket → Option ℕ → SessionData = λ tickets told. record {
       number = a.me.0.number;
       own = own_by tickets a.me.0.asks a.me.0.waits;
       numbers = numbers_by a.me.0.next a.me.0.waits;
-      known = map known_of a.me.0.known;
+      known = a.me.0.known;
       settled = settled_told told;
       notes = filter_map note_of tickets;
-      reads = map reading_of a.me.0.reads;
+      reads = a.me.0.reads;
     } in
     ap data_of quiet.done.now ∙ (λ i. space (quiet.done.tickets i) (told i))
 
@@ -106,8 +105,8 @@ module _ {a b : SessionView} (slow : BecomesSlow a b) where
 -- they became slow ones
 pub made-later : (a b c : SessionView) → MakesMoreSteps a.me b.me → b.me.0.fast ≡ a.me.0.fast → AllMadeSlow b c → AllMadeSlow a c
 made-later a b c more same made =
-    each_map (λ (t : Own). ShowsStep b c (MakesSlow t.place)) (λ (t : Own). ShowsStep a c (MakesSlow t.place))
-    (λ t shown. shows-later a b c more shown) a.me.0.fast (subst (λ (fast : List Own). Each (λ (t : Own). ShowsStep b c (MakesSlow t.place)) fast) same made)
+    each_map (λ (t : SessionTicket). ShowsStep b c (MakesSlow t.place)) (λ (t : SessionTicket). ShowsStep a c (MakesSlow t.place))
+    (λ t shown. shows-later a b c more shown) a.me.0.fast (subst (λ (fast : List SessionTicket). Each (λ (t : SessionTicket). ShowsStep b c (MakesSlow t.place)) fast) same made)
 
 -- there was no room for them
 full-later : (a b c : SessionView) → MakesMoreSteps a.me b.me → b.me.0.fast ≡ a.me.0.fast → FullForFast b c → FullForFast a c
@@ -115,9 +114,9 @@ full-later a b c more same full =
     let q = full.0 in
     let shown = shows-later a b c more full.3 in (
       q,
-      subst (λ (fast : List Own). 0 < length (own_at q fast)) same full.1,
-      subst (λ (fast : List Own). own_at q c.me.0.fast ≡ own_at q fast) same full.2,
-      (shown.0, shown.1, subst (λ (fast : List Own). MeetsFullFor (length (own_at q fast)) q shown.0) same shown.2),
+      subst (λ (fast : List SessionTicket). 0 < length (own_at q fast)) same full.1,
+      subst (λ (fast : List SessionTicket). own_at q c.me.0.fast ≡ own_at q fast) same full.2,
+      (shown.0, shown.1, subst (λ (fast : List SessionTicket). MeetsFullFor (length (own_at q fast)) q shown.0) same shown.2),
     )
 
 -- and the fast path was closed before

@@ -1,6 +1,6 @@
 -- A ticket that a session holds, as its calls need it.
 use Rattle.std.proofs.Common.{◌≡◌, ℕ, is_some, Some, sym, ap, subst}
-use Rattle.mdl_steps.specs.declared.view.Own.{Own}
+use Rattle.mdl_steps.specs.declared.view.SessionTicket.{SessionTicket}
 use Rattle.mdl_steps.specs.Deeds.{KnowsPlace, NotWaited}
 use Rattle.mdl_steps.specs.Interleavings.{interleaved}
 use Rattle.mdl_visits.specs.Leavings.{HasTicket}
@@ -15,7 +15,7 @@ use Rattle.mdl_shared.proofs.Members.{held-seen}
 use Rattle.mdl_shared.proofs.Props.{member}
 
 -- the session holds a ticket of this number, and may visit its place
-pub record HoldsTicket (id : ℕ) (t : Own) (s : SessionView) : Type 0 where
+pub record HoldsTicket (id : ℕ) (t : SessionTicket) (s : SessionView) : Type 0 where
   pub its : numbered id (tickets_seen s.me.0) ≡ Some t
   pub number : t.number ≡ id
   pub own : numbered t.number (tickets_seen s.me.0) ≡ Some t
@@ -23,7 +23,7 @@ pub record HoldsTicket (id : ℕ) (t : Own) (s : SessionView) : Type 0 where
   pub at : MayVisit t.place (record { table = s.table; me = s.me })
   pub known : KnowsPlace s.me.0 t.place
 
-pub holds-ticket : (m : Member) (id : ℕ) (t : Own) → numbered id (interleaved m.tickets.slow m.tickets.fast) ≡ Some t → HoldsTicket id t (view_of m)
+pub holds-ticket : (m : Member) (id : ℕ) (t : SessionTicket) → numbered id (interleaved m.tickets.slow m.tickets.fast) ≡ Some t → HoldsTicket id t (view_of m)
 holds-ticket m id t found =
     let is = member m in
     let its = held-seen m id (Some t) (sym found) in
@@ -39,12 +39,12 @@ holds-ticket m id t found =
     }
 
 -- a ticket of this number is one of its slow ones
-pub record HoldsSlow (id : ℕ) (t : Own) (s : SessionView) : Type 0 where
+pub record HoldsSlow (id : ℕ) (t : SessionTicket) (s : SessionView) : Type 0 where
   pub its : numbered id s.me.0.slow ≡ Some t
   pub slow : numbered t.number s.me.0.slow ≡ Some t
   pub there : HasTicket t.place id s.me.0.slow
 
-pub holds-slow : (m : Member) (id : ℕ) (t : Own) → numbered id m.seat.me.0.slow ≡ Some t → HoldsSlow id t (view_of m)
+pub holds-slow : (m : Member) (id : ℕ) (t : SessionTicket) → numbered id m.seat.me.0.slow ≡ Some t → HoldsSlow id t (view_of m)
 holds-slow m id t its = record {
   its = its;
   slow = subst (λ (n : ℕ). numbered n m.seat.me.0.slow ≡ Some t) (sym (has_number id t m.seat.me.0.slow its)) its;

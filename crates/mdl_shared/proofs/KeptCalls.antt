@@ -2,17 +2,16 @@
 use Rattle.std.proofs.Common.{◌≡◌, ◌⊎◌, ℕ, is_some, map, List, [], ◌∷◌, ◌++◌, Contains, MatchOption, Option, Some, None, if◌then◌else◌, inl, inr, refl, sym, ap, subst, ◌∙◌, arith}
 use Rattle.std.proofs.lemmas.Bool.Decides.{nat_tests}
 use Rattle.mdl_defs.specs.declared.definition.Definition.{Definition}
-use Rattle.mdl_defs.specs.declared.standing.Standing.{Standing}
+use Rattle.mdl_defs.specs.declared.versioned_definition.VersionedDefinition.{VersionedDefinition}
 use Rattle.mdl_defs.specs.Caches.{CacheView, Kept, kept_of, looked_at}
 use Rattle.mdl_calls.specs.declared.answers.Held.{Held}
 use Rattle.mdl_calls.specs.declared.space_error.SpaceError.{SpaceError}
 use Rattle.mdl_calls.specs.declared.space_error.SpaceError.TheVariants.{NotHeld, OutOfMemory}
 use Rattle.mdl_calls.specs.Words.{Answer, AreMet, Call, OfHeld, Read_definition, Read_kept, Reads, Refused, SessionLocks, ticket_held}
-use Rattle.mdl_steps.specs.declared.view.Own.{Own}
-use Rattle.mdl_steps.specs.declared.view.Read.{Read}
+use Rattle.mdl_steps.specs.declared.view.SessionTicket.{SessionTicket}
+use Rattle.mdl_defs.specs.declared.reading.Reading.{Reading}
 use Rattle.mdl_steps.specs.SeatStates.{SeatState}
 use Rattle.mdl_steps.specs.VersionPlays.{ReadNoneNewer, ReadOneStanding, met_version, noted_version}
-use Rattle.mdl_system.proofs.MemberLemmas.{Contains-map}
 use Rattle.mdl_system.proofs.OrderLemmas.{middle}
 use Rattle.mdl_calls.specs.Meetings.{ReadsThere as Read_so}
 use Rattle.mdl_calls.specs.SessionData.{HasMet, SessionData}
@@ -36,11 +35,10 @@ use Rattle.mdl_shared.proofs.MemberFacts.{speaks}
 use Rattle.mdl_shared.proofs.Props.{member}
 use Rattle.mdl_shared.proofs.ReadCalls.{noted-owes}
 use Rattle.mdl_shared.proofs.Rooms.{keeps-before, keeps-same}
-use Rattle.mdl_shared.proofs.SameSpace.{reading_of}
 use Rattle.mdl_shared.proofs.VersionCalls.{finds-joins, finds-version, found-does, found-noted, found-now, kept-joins, read-does, read-lists, read-owes, read-searches, read-sessions, read-settles, read-space, read-table, read-told, unkept-joins, version-missed}
 
 -- the number of a ticket
-pub numbered-is : (id : ℕ) (tickets : List Own) (t : Own) → numbered id tickets ≡ Some t → t.number ≡ id
+pub numbered-is : (id : ℕ) (tickets : List SessionTicket) (t : SessionTicket) → numbered id tickets ≡ Some t → t.number ≡ id
 numbered-is id [] t its = cc
 numbered-is id (x ∷ xs) t its = grind (arith, nat_tests, numbered-is id xs t)
 
@@ -51,13 +49,13 @@ map-held id own P Q weaker = elim (ticket_held id own) as (λ o. MatchOption o �
   | Some h ↦ λ so. weaker h so
 ]
 
-module _ (s : SessionView) (id : ℕ) (t : Own) (its : numbered id (tickets_seen s.me.0) ≡ Some t) where
+module _ (s : SessionView) (id : ℕ) (t : SessionTicket) (its : numbered id (tickets_seen s.me.0) ≡ Some t) where
   clear : holding_fault id (tickets_seen s.me.0) ≡ None
-  clear = ap (λ (o : Option Own). if is_some o then None else Some NotHeld) its
+  clear = ap (λ (o : Option SessionTicket). if is_some o then None else Some NotHeld) its
 
   -- ---- what a cache keeps was read
 
-  module _ {s′ : SessionView} (standing : Standing) (finds : FindsVersion t.place standing s s′) where
+  module _ {s′ : SessionView} (standing : VersionedDefinition) (finds : FindsVersion t.place standing s s′) where
     pub hit-shows : Shows (Read_kept s.me.0.number id) (Reads standing.version standing.definition) s s′
     hit-shows = record {
       table = ap (λ (x : SessionView). x.table) (found-now finds);
@@ -105,7 +103,7 @@ module _ (s : SessionView) (id : ℕ) (t : Own) (its : numbered id (tickets_seen
       reads = inr (
         refl,
         map-held id (data_of s).own (λ (h : Held). Read_so standing (data_of s) (data_of s′) h.place)
-            (λ (h : Held). (x : Standing) × ((data_of s′).reads ≡ (data_of s).reads) × Read_so x (data_of s) (data_of s′) h.place)
+            (λ (h : Held). (x : VersionedDefinition) × ((data_of s′).reads ≡ (data_of s).reads) × Read_so x (data_of s) (data_of s′) h.place)
             (λ h there. (standing, ap (λ (x : SessionView). (data_of x).reads) (found-now finds), there)) joins.reads,
       );
       truly = tt;
@@ -114,9 +112,9 @@ module _ (s : SessionView) (id : ℕ) (t : Own) (its : numbered id (tickets_seen
   -- ---- none of the version is kept, and what stands there is read under the latch
 
   module _ (mid s′ : SessionView) {found : ℕ} (reads : MissesVersion t.place found s mid) where
-    miss-ticket : (u : Own) → numbered id (tickets_seen mid.me.0) ≡ Some u → t ≡ u
+    miss-ticket : (u : SessionTicket) → numbered id (tickets_seen mid.me.0) ≡ Some u → t ≡ u
     miss-ticket u other =
-        let same : ◌≡◌ {A = Option Own} (Some t) (Some u) = sym its ∙ ap (λ (l : Lists). numbered id (all_tickets l)) (sym (read-lists reads)) ∙ other in
+        let same : ◌≡◌ {A = Option SessionTicket} (Some t) (Some u) = sym its ∙ ap (λ (l : Lists). numbered id (all_tickets l)) (sym (read-lists reads)) ∙ other in
         cc
 
     pub miss-joins : (version : ℕ) (definition : Option Definition) → Joins (data_of mid) (Read_definition mid.me.0.number id) (Reads version definition) (data_of s′)
@@ -125,12 +123,12 @@ module _ (s : SessionView) (id : ℕ) (t : Own) (its : numbered id (tickets_seen
         kept-joins (data_of s) (data_of s′) s.me.0.number id version definition
         (subst (λ (a : SessionData). Joins a (Read_definition a.number id) (Reads version definition) (data_of s′)) (read-space reads) joins)
 
-    pub miss-latch : (standing : Standing) → Shows (Read_definition mid.me.0.number id) (Reads standing.version standing.definition) mid s′
+    pub miss-latch : (standing : VersionedDefinition) → Shows (Read_definition mid.me.0.number id) (Reads standing.version standing.definition) mid s′
         → ReadsByLatch id t standing mid s′
     miss-latch standing shows =
-        subst (λ (u : Own). ReadsByLatch id u standing mid s′) (sym (miss-ticket shows.met.0 shows.met.1)) shows.met.2
+        subst (λ (u : SessionTicket). ReadsByLatch id u standing mid s′) (sym (miss-ticket shows.met.0 shows.met.1)) shows.met.2
 
-    pub miss-shows : (standing : Standing) → Shows (Read_definition mid.me.0.number id) (Reads standing.version standing.definition) mid s′
+    pub miss-shows : (standing : VersionedDefinition) → Shows (Read_definition mid.me.0.number id) (Reads standing.version standing.definition) mid s′
         → Shows (Read_kept s.me.0.number id) (Reads standing.version standing.definition) s s′
     miss-shows standing shows = record {
       table = shows.table ∙ read-table reads;
@@ -155,7 +153,7 @@ module _ (s : SessionView) (id : ℕ) (t : Own) (its : numbered id (tickets_seen
         by (inl fault) =
             let none : ◌≡◌ {A = Option SpaceError} None (Some why) = sym clear ∙ ap (λ (l : Lists). holding_fault id (all_tickets l)) (sym (read-lists reads)) ∙ fault in
             cc
-        by (inr met) = (met.0, subst (λ (u : Own). VisitsInVain u.place mid s′) (sym (miss-ticket met.1.0 met.1.1)) met.1.2)
+        by (inr met) = (met.0, subst (λ (u : SessionTicket). VisitsInVain u.place mid s′) (sym (miss-ticket met.1.0 met.1.1)) met.1.2)
 
     pub miss-full_joins : Joins (data_of mid) (Read_definition mid.me.0.number id) (Refused OutOfMemory) (data_of s′)
         → Joins (data_of s) (Read_kept s.me.0.number id) (Refused OutOfMemory) (data_of s′)
@@ -187,15 +185,15 @@ met-after {s} is b call answer kept joins all one among =
     session-met_stays (data_of s) b call answer s.me.0.number one.0.0 (kept_standing one.0.1 one.1) (speaks is) joins (all one among)
 
 -- and what it read last
-pub met-read : (a b : SessionView) (place : ℕ) (standing : Standing) → b.me.0.reads ≡ a.me.0.reads ++ record { place = place; standing = standing } ∷ []
+pub met-read : (a b : SessionView) (place : ℕ) (standing : VersionedDefinition) → b.me.0.reads ≡ a.me.0.reads ++ record { place = place; standing = standing } ∷ []
     → HasMet (data_of b) b.me.0.number place standing
 met-read a b place standing reads =
-    subst (λ (l : List Read). Contains (map reading_of l) (record { place = place; standing = standing })) (sym reads)
-    (Contains-map reading_of _ (record { place = place; standing = standing }) (middle a.me.0.reads [] _))
+    subst (λ (l : List Reading). Contains l (record { place = place; standing = standing })) (sym reads)
+    (middle a.me.0.reads [] _)
 
 -- ---- where a definition is kept of the version that a step found
 
-module _ {s s′ : SessionView} (is : IsMember s) (id : ℕ) (t : Own) (its : numbered id (tickets_seen s.me.0) ≡ Some t) (kept : List Kept)
+module _ {s s′ : SessionView} (is : IsMember s) (id : ℕ) (t : SessionTicket) (its : numbered id (tickets_seen s.me.0) ≡ Some t) (kept : List Kept)
     (met : AreMet (HasMet (data_of s) s.me.0.number) kept) (version : ℕ) (d : Definition) (hit : kept_of t.place version kept ≡ Some d)
     (newest : ReadNoneNewer t.place version s.me) (one : ReadOneStanding t.place version s.me)
     (now : s′.me ≡ noted_version t.place version s.me) (same : s′ ≡ record s { me = s′.me; room = s′.room }) (keeps : KeepsRoom 0 s.room s′.room) where
@@ -209,7 +207,7 @@ module _ {s s′ : SessionView} (is : IsMember s) (id : ℕ) (t : Own) (its : nu
   hit-joins = finds-joins is id t its (kept_standing version d) was-met newest one hit-finds
 
 -- where it was found by a session's seat
-module _ (m : Member) (id : ℕ) (t : Own) (its : numbered id (tickets_seen m.seat.me.0) ≡ Some t) (kept : List Kept)
+module _ (m : Member) (id : ℕ) (t : SessionTicket) (its : numbered id (tickets_seen m.seat.me.0) ≡ Some t) (kept : List Kept)
     (met : AreMet (HasMet (data_of (view_of m)) m.seat.me.0.number) kept) (seat′ : SeatState) (version : ℕ) (d : Definition)
     (hit : kept_of t.place version kept ≡ Some d) (newest : ReadNoneNewer t.place version m.seat.me) (one : ReadOneStanding t.place version m.seat.me)
     (made : seat′ ≡ record m.seat { me = noted_version t.place version m.seat.me }) (room′ : Room) (keeps : KeepsRoom 0 m.tickets.room room′) where
@@ -238,7 +236,7 @@ module _ (m : Member) (id : ℕ) (t : Own) (its : numbered id (tickets_seen m.se
   seat-met = met-looked (HasMet (data_of after) seat′.me.0.number) t.place version kept seat-still
 
 -- where none is kept of the version that a session's seat found
-module _ (m : Member) (id : ℕ) (t : Own) (its : numbered id (tickets_seen m.seat.me.0) ≡ Some t) (kept : List Kept)
+module _ (m : Member) (id : ℕ) (t : SessionTicket) (its : numbered id (tickets_seen m.seat.me.0) ≡ Some t) (kept : List Kept)
     (met : AreMet (HasMet (data_of (view_of m)) m.seat.me.0.number) kept) (seat′ : SeatState) (version : ℕ)
     (none : kept_of t.place version kept ≡ None) (newest : ReadNoneNewer t.place version m.seat.me)
     (made : seat′ ≡ record m.seat { me = met_version t.place version m.seat.me }) where
@@ -265,7 +263,7 @@ module _ (m : Member) (id : ℕ) (t : Own) (its : numbered id (tickets_seen m.se
   looked-same before after is now = now ∙ (λ i. record { kept = (none-looked t.place version kept none ∙ sym is) i; capacity = before.capacity })
 
 -- and after one more may be kept, of what was met
-pub kept-still : (has : ℕ → Standing → Type 0) (place : ℕ) (standing : Standing) (before after : CacheView) → MayKeep place standing before after
+pub kept-still : (has : ℕ → VersionedDefinition → Type 0) (place : ℕ) (standing : VersionedDefinition) (before after : CacheView) → MayKeep place standing before after
     → AreMet has before.kept → has place standing → AreMet has after.kept
 kept-still has place standing before after (inl same) all its = subst (λ (x : CacheView). AreMet has x.kept) (sym same) all
 kept-still has place standing before after (inr more) all its =

@@ -3,7 +3,7 @@ use Rattle.std.proofs.Common.{◌≡◌, ℕ, true, false, ◌&&◌, ◌<◌, ge
 use Rattle.std.specs.Prelude.{All, AllPairs}
 use Rattle.std.specs.declared.cmp.Ordering.TheVariants.{Less}
 use Rattle.std.specs.Str.{bytes_eq}
-use Rattle.std.proofs.lemmas.List.{get_or-map, length-map, map-append}
+use Rattle.std.proofs.lemmas.List.{get_or-map, length-map}
 use Rattle.std.proofs.lemmas.List.Elements.{All-cons, All-filter, All-head, All-map, All-nil, All-tail, All-weaker}
 use Rattle.std.proofs.lemmas.List.Kept.{AllPairs-filter}
 use Rattle.mdl_key.specs.declared.namespace.Namespace.{Namespace}
@@ -15,18 +15,17 @@ use Rattle.mdl_calls.specs.Words.{At_place, Refused, Resolve, Tables, Tables_of,
 use Rattle.mdl_calls.specs.Reads.{is_of_tables as is_of_tables_told}
 use Rattle.mdl_calls.proofs.MappedLists.{pairs-map}
 use Rattle.mdl_steps.specs.declared.view.Keys.{Keys}
-use Rattle.mdl_steps.specs.declared.view.Known.{Known}
-use Rattle.mdl_steps.specs.declared.view.Met.{Met}
+use Rattle.mdl_key.specs.declared.known_key.KnownKey.{KnownKey}
+use Rattle.mdl_steps.specs.declared.view.StepRecord.{StepRecord}
 use Rattle.mdl_steps.specs.Schemas.{is_of_tables, is_table_of, unknown}
 use Rattle.mdl_steps.specs.Plays.{Mine}
 use Rattle.mdl_steps.specs.SeatStates.{AtItsTable, SeatState}
 use Rattle.mdl_calls.specs.Learning.{LearnsPlace as LearnsAt, LearnsTables}
-use Rattle.mdl_calls.specs.SessionData.{KnownKey, key_known as key_known_in}
 use Rattle.mdl_session_laws.specs.SessionJoins.{Joins}
 use Rattle.mdl_session_laws.proofs.KeyLists.{place-of_key}
 use Rattle.mdl_session_laws.proofs.RefusedCalls.{reads-nothing}
 use Rattle.mdl_visits.specs.Lookups.{IsLookupAnswer, TookDirectory, knowing_key}
-use Rattle.mdl_visits.specs.Tables.{AreAllTables, AreWithin, Asked, HasAsked, IsKnownTable, defined_places as asked_places, knowing_all}
+use Rattle.mdl_visits.specs.Tables.{AreAllTables, AreWithin, Asked, HasAsked, IsDirectoryTable, defined_places as asked_places, knowing_all}
 use Rattle.mdl_visits.specs.Visits.{MakesSteps, StaysQuiet, and_made}
 use Rattle.mdl_visits.proofs.Asking.{asked_after, goes_on}
 use Rattle.mdl_visits.proofs.Doing.{does_steps}
@@ -34,8 +33,8 @@ use Rattle.mdl_visits.proofs.Listing.{took_earlier}
 use Rattle.mdl_visits.proofs.Lookups.{no_record}
 use Rattle.mdl_visits.proofs.Steps.{does_then, none_then}
 use Rattle.mdl_shared.specs.declared.member.Member.{Member}
-use Rattle.mdl_shared.specs.Members.{AreLearnt, IsMember, are_keys_apart, is_place_looked_up, place_looked_up}
-use Rattle.mdl_shared.specs.OwnLists.{key_looked_up}
+use Rattle.mdl_shared.specs.Members.{AreLearnt, IsMember}
+use Rattle.mdl_key.specs.KeyLookups.{are_apart, is_known, key_known, place_known}
 use Rattle.mdl_shared.specs.Passes.{view_of}
 use Rattle.mdl_shared.specs.SessionViews.{Lists, SessionView, data_of, lists_seen, session_at}
 use Rattle.mdl_shared.specs.AllSteps.{Shows}
@@ -46,18 +45,17 @@ use Rattle.mdl_shared.proofs.MemberFacts.{keys-apart, speaks}
 use Rattle.mdl_shared.proofs.Members.{DidDeeds, StaysInOrder, visited}
 use Rattle.mdl_shared.proofs.Membership.{counted_and, still_known, within_and}
 use Rattle.mdl_shared.proofs.SameSpace.{Stays, joins-still, keeps-settled, refused, same-stays, sees-same}
-use Rattle.mdl_shared.proofs.SpaceLists.{apart-told, key-told, known-told, known_of, place-told}
 
 -- ---- a session that learns keys
 
 -- it knows these keys, too, and made steps; nothing else changed
-pub record HasLearnt (more : List Known) (s s′ : SessionView) : Type 0 where
-  pub log : List Met
+pub record HasLearnt (more : List KnownKey) (s s′ : SessionView) : Type 0 where
+  pub log : List StepRecord
   pub room : Room
   pub now : s′ ≡ record s { me = (record s.me.0 { known = s.me.0.known ++ more; log = log }, s.me.1); room = room }
 
 -- what its seat's visit tells
-pub learnt-by : (seat seat′ : SeatState) (sessions : ℕ) {room room′ : Room} (more : List Known) → seat′.table ≡ seat.table
+pub learnt-by : (seat seat′ : SeatState) (sessions : ℕ) {room room′ : Room} (more : List KnownKey) → seat′.table ≡ seat.table
     → MakesSteps (record seat.me.0 { known = seat.me.0.known ++ more }, seat.me.1) seat′.me
     → HasLearnt more (session_at seat sessions room) (session_at seat′ sessions room′)
 learnt-by seat seat′ sessions {room′ = room′} more table steps = record {
@@ -66,7 +64,7 @@ learnt-by seat seat′ sessions {room′ = room′} more table steps = record {
   now = λ i. record { table = table i; sessions = sessions; me = steps.1 i; room = room′ };
 }
 
-pub learnt-order : {more : List Known} {s s′ : SessionView} → HasLearnt more s s′ → IsMember s → AreWithin s.table.slots more → StaysInOrder s s′
+pub learnt-order : {more : List KnownKey} {s s′ : SessionView} → HasLearnt more s s′ → IsMember s → AreWithin s.table.slots more → StaysInOrder s s′
 learnt-order {more} {s} {s′} learnt is within = subst (λ (x : SessionView). StaysInOrder s x) (sym learnt.now) (record {
   table = refl;
   sessions = refl;
@@ -87,7 +85,7 @@ pub stepped : (seat seat′ : SeatState) (sessions : ℕ) {room room′ : Room} 
 stepped seat seat′ sessions table steps = visited seat seat′ sessions refl (table, record { made = steps.0; now = steps.1; did = steps.2 })
 
 -- what is owed is the same
-pub learnt-owes : {more : List Known} {s s′ : SessionView} → HasLearnt more s s′ → s′.me.0.owes ≡ s.me.0.owes
+pub learnt-owes : {more : List KnownKey} {s s′ : SessionView} → HasLearnt more s s′ → s′.me.0.owes ≡ s.me.0.owes
 learnt-owes learnt = ap (λ (x : SessionView). x.me.0.owes) learnt.now
 
 -- which leave its lists
@@ -95,28 +93,28 @@ pub lists-stepped : (m m′ : Mine) → MakesSteps m m′ → lists_seen m′.0 
 lists-stepped m m′ steps = ap (λ (m : Mine). lists_seen m.0) steps.1
 
 -- its own lists are those of its view still
-pub lists-learnt : (m : Member) {more known : List Known} {s : SessionView} → HasLearnt more (view_of m) s → known ≡ m.known.known ++ more
+pub lists-learnt : (m : Member) {more known : List KnownKey} {s : SessionView} → HasLearnt more (view_of m) s → known ≡ m.known.known ++ more
     → record { slow = m.tickets.slow; fast = m.tickets.fast; known = known; next = m.next; asks = m.asks; waits = m.waits } ≡ lists_seen s.me.0
 lists-learnt m {more} {known} {s} learnt same =
-    ap (λ (ks : List Known). record { slow = m.tickets.slow; fast = m.tickets.fast; known = ks; next = m.next; asks = m.asks; waits = m.waits }) same
+    ap (λ (ks : List KnownKey). record { slow = m.tickets.slow; fast = m.tickets.fast; known = ks; next = m.next; asks = m.asks; waits = m.waits }) same
     ∙ ap (λ (l : Lists). record l { known = l.known ++ more }) m.lists ∙ sym (ap (λ (x : SessionView). lists_seen x.me.0) learnt.now)
 
 -- ---- the place of a key
 
 module _ {s : SessionView} (is : IsMember s) (key : KeyName) where
   -- that it knows
-  pub known-joins : (place : ℕ) → place_looked_up key s.me.0.known ≡ Some place → Joins (data_of s) (Resolve s.me.0.number key) (At_place place) (data_of s)
+  pub known-joins : (place : ℕ) → place_known key s.me.0.known ≡ Some place → Joins (data_of s) (Resolve s.me.0.number key) (At_place place) (data_of s)
   known-joins place found =
       joins-still s s (Resolve s.me.0.number key) (At_place place) (same-stays s) (speaks is) refl refl refl refl tt tt
-      (subst (λ (o : Option ℕ). LearnsAt key place o (map known_of s.me.0.known) (map known_of s.me.0.known)) (sym (place-told key s.me.0.known ∙ found)) (refl, refl))
+      (subst (λ (o : Option ℕ). LearnsAt key place o s.me.0.known s.me.0.known) (sym found) (refl, refl))
       (λ state how met. cc) (λ how told. cc) refl (λ r. r) tt
 
-  module _ (none : place_looked_up key s.me.0.known ≡ None) where
+  module _ (none : place_known key s.me.0.known ≡ None) where
     -- that it learns
-    pub resolve-joins : {s′ : SessionView} (place : ℕ) → is_place_looked_up s.me.0.known place ≡ false → HasLearnt (record { key = key; place = place } ∷ []) s s′
+    pub resolve-joins : {s′ : SessionView} (place : ℕ) → is_known place s.me.0.known ≡ false → HasLearnt (record { key = key; place = place } ∷ []) s s′
         → Joins (data_of s) (Resolve s.me.0.number key) (At_place place) (data_of s′)
     resolve-joins {s′} place new learnt =
-        let one : Known = record { key = key; place = place } in
+        let one : KnownKey = record { key = key; place = place } in
         let x : SessionView = record s { me = (record s.me.0 { known = s.me.0.known ++ one ∷ []; log = learnt.log }, s.me.1); room = learnt.room } in
         subst (λ (t : SessionView). Joins (data_of s) (Resolve s.me.0.number key) (At_place place) (data_of t)) (sym learnt.now) (record {
           mine = speaks is;
@@ -127,8 +125,7 @@ module _ {s : SessionView} (is : IsMember s) (key : KeyName) where
           numbers = refl;
           explained = tt;
           gained = tt;
-          learns = subst (λ (o : Option ℕ). LearnsAt key place o (map known_of s.me.0.known) (map known_of (s.me.0.known ++ one ∷ []))) (sym (place-told key s.me.0.known ∙ none))
-              (known-told place s.me.0.known ∙ new, map-append known_of s.me.0.known (one ∷ []));
+          learns = subst (λ (o : Option ℕ). LearnsAt key place o s.me.0.known (s.me.0.known ++ one ∷ [])) (sym none) (new, refl);
           agreed = λ state how met. cc;
           told = λ how told. cc;
           settled = keeps-settled s x (sees-same s x refl refl refl);
@@ -142,18 +139,18 @@ module _ {s : SessionView} (is : IsMember s) (key : KeyName) where
         refused s s′ (Resolve s.me.0.number key) NoPlace stays (speaks is) refl refl
         (λ place knows.
         let there = place-of_key (data_of s).known place key is.sound.apart knows in
-        let e : Some place ≡ None = sym there ∙ place-told key s.me.0.known ∙ none in cc)
+        let e : Some place ≡ None = sym there ∙ none in cc)
         (λ state how met. cc) tt
 
 -- what the directory answers of a key that it doesn't know
-pub resolved : (seat seat′ : SeatState) (sessions place : ℕ) {room room′ : Room} (key : KeyName) → place_looked_up key seat.me.0.known ≡ None
+pub resolved : (seat seat′ : SeatState) (sessions place : ℕ) {room room′ : Room} (key : KeyName) → place_known key seat.me.0.known ≡ None
     → ((0 < place) × (place < seat.table.slots) × MakesSteps (knowing_key (record { key = key; place = place }) seat.me) seat′.me)
     → ((k left : Keys) × AtItsTable seat seat′ (TookDirectory seat.table.slots k left) × IsLookupAnswer seat.table.slots key k left (Ok place))
     → HasLearnt (record { key = key; place = place } ∷ []) (session_at seat sessions room) (session_at seat′ sessions room′)
-    × AreWithin seat.table.slots (record { key = key; place = place } ∷ []) × (is_place_looked_up seat.me.0.known place ≡ false)
+    × AreWithin seat.table.slots (record { key = key; place = place } ∷ []) × (is_known place seat.me.0.known ≡ false)
 resolved seat seat′ sessions place key none knows answer =
-    let one : Known = record { key = key; place = place } in
-    let inside : Known → Type 0 = λ k. (0 < k.place) × (k.place < seat.table.slots) in (
+    let one : KnownKey = record { key = key; place = place } in
+    let inside : KnownKey → Type 0 = λ k. (0 < k.place) × (k.place < seat.table.slots) in (
       learnt-by seat seat′ sessions (one ∷ []) answer.2.0 knows.2,
       All-cons inside one [] (knows.0, knows.1) (All-nil inside),
       new_place seat.table.slots place key answer.0 answer.1 seat.me.0 answer.2.1.recorded.known answer.3 none,
@@ -162,32 +159,31 @@ resolved seat seat′ sessions place key none knows answer =
 -- ---- tables
 
 -- those that had a definition are learnt, in the order of their keys
-tables-learnt : (schema : List ℕ) (k : Keys) (before after tables more : List Known) (asked : List Asked) (places : List ℕ) → AreAllTables schema k tables
-    → map (λ (a : Asked). a.table) asked ≡ tables → places ≡ asked_places asked → after ≡ before ++ more → AreLearnt tables after → are_keys_apart after ≡ true
-    → LearnsTables schema places (map known_of before) (map known_of after)
+tables-learnt : (schema : List ℕ) (k : Keys) (before after tables more : List KnownKey) (asked : List Asked) (places : List ℕ) → AreAllTables schema k tables
+    → map (λ (a : Asked). a.table) asked ≡ tables → places ≡ asked_places asked → after ≡ before ++ more → AreLearnt tables after → are_apart after ≡ true
+    → LearnsTables schema places before after
 tables-learnt schema k before after tables more asked places are same those grown learnt apart = record {
-  more = map known_of more;
-  grown = ap (map known_of) grown ∙ map-append known_of before more;
-  apart = apart-told after ∙ apart;
-  tables = map (λ (a : Asked). known_of a.table) (filter (λ (a : Asked). a.defined) asked);
+  more = more;
+  grown = grown;
+  apart = apart;
+  tables = map (λ (a : Asked). a.table) (filter (λ (a : Asked). a.defined) asked);
   those = those ∙ sym (map-map (filter (λ (a : Asked). a.defined) asked));
-  of_schema = All-map (λ (t : KnownKey). is_table_told schema t.key ≡ true) (λ (a : Asked). known_of a.table) (filter (λ (a : Asked). a.defined) asked)
+  of_schema = All-map (λ (t : KnownKey). is_table_told schema t.key ≡ true) (λ (a : Asked). a.table) (filter (λ (a : Asked). a.defined) asked)
       (All-filter (λ (a : Asked). a.defined) (λ (a : Asked). is_table_told schema a.table.key ≡ true) asked
-      (of-asked (λ (t : Known). is_table_told schema t.key ≡ true) asked
-      (subst (All (λ (t : Known). is_table_told schema t.key ≡ true)) (sym same)
-      (All-weaker (IsKnownTable schema k) (λ (t : Known). is_table_told schema t.key ≡ true) (λ t h. table-told t.key ∙ h.2) tables are.each))));
-  learnt = All-map (λ (t : KnownKey). key_known_in t.place (map known_of after) ≡ Some t.key) (λ (a : Asked). known_of a.table) (filter (λ (a : Asked). a.defined) asked)
-      (All-filter (λ (a : Asked). a.defined) (λ (a : Asked). key_known_in a.table.place (map known_of after) ≡ Some a.table.key) asked
-      (of-asked (λ (t : Known). key_known_in t.place (map known_of after) ≡ Some t.key) asked
-      (subst (All (λ (t : Known). key_known_in t.place (map known_of after) ≡ Some t.key)) (sym same)
-      (All-weaker (λ (t : Known). key_looked_up t.place after ≡ Some t.key) (λ (t : Known). key_known_in t.place (map known_of after) ≡ Some t.key) (λ t h. key-told t.place after ∙ h) tables learnt))));
+      (of-asked (λ (t : KnownKey). is_table_told schema t.key ≡ true) asked
+      (subst (All (λ (t : KnownKey). is_table_told schema t.key ≡ true)) (sym same)
+      (All-weaker (IsDirectoryTable schema k) (λ (t : KnownKey). is_table_told schema t.key ≡ true) (λ t h. table-told t.key ∙ h.2) tables are.each))));
+  learnt = All-map (λ (t : KnownKey). key_known t.place after ≡ Some t.key) (λ (a : Asked). a.table) (filter (λ (a : Asked). a.defined) asked)
+      (All-filter (λ (a : Asked). a.defined) (λ (a : Asked). key_known a.table.place after ≡ Some a.table.key) asked
+      (of-asked (λ (t : KnownKey). key_known t.place after ≡ Some t.key) asked
+      (subst (All (λ (t : KnownKey). key_known t.place after ≡ Some t.key)) (sym same) learnt)));
   in_order = pairs-map (λ (one other : Asked). key_cmp one.table.key other.table.key ≡ Less) (λ (one other : KnownKey). key_cmp one.key other.key ≡ Less)
-      (λ (a : Asked). known_of a.table) (λ one other h. h) (filter (λ (a : Asked). a.defined) asked)
+      (λ (a : Asked). a.table) (λ one other h. h) (filter (λ (a : Asked). a.defined) asked)
       (AllPairs-filter (λ (one other : Asked). key_cmp one.table.key other.table.key ≡ Less) (λ (a : Asked). a.defined) asked
-      (asked-pairs asked (subst (AllPairs (λ (one other : Known). key_cmp one.key other.key ≡ Less)) (sym same) are.in_order)));
+      (asked-pairs asked (subst (AllPairs (λ (one other : KnownKey). key_cmp one.key other.key ≡ Less)) (sym same) are.in_order)));
 }
   where
-    map-map : (xs : List Asked) → map (λ (t : KnownKey). t.place) (map (λ (a : Asked). known_of a.table) xs) ≡ map (λ (a : Asked). a.table.place) xs
+    map-map : (xs : List Asked) → map (λ (t : KnownKey). t.place) (map (λ (a : Asked). a.table) xs) ≡ map (λ (a : Asked). a.table.place) xs
     map-map [] = refl
     map-map (x ∷ xs) = ap (λ (ps : List ℕ). x.table.place ∷ ps) (map-map xs)
 
@@ -201,28 +197,28 @@ tables-learnt schema k before after tables more asked places are same those grow
     table-told : (key : KeyName) → is_table_told schema key ≡ is_table_of schema key
     table-told key = ap (λ b. b && bytes_eq key.schema schema) (of-tables key.namespace)
 
-    of-asked : (P : Known → Type 0) (xs : List Asked) → All P (map (λ (a : Asked). a.table) xs) → All (λ (a : Asked). P a.table) xs
+    of-asked : (P : KnownKey → Type 0) (xs : List Asked) → All P (map (λ (a : Asked). a.table) xs) → All (λ (a : Asked). P a.table) xs
     of-asked P [] all = All-nil (λ (a : Asked). P a.table)
     of-asked P (x ∷ xs) all =
         All-cons (λ (a : Asked). P a.table) x xs (All-head P x.table (map (λ (a : Asked). a.table) xs) all)
         (of-asked P xs (All-tail P x.table (map (λ (a : Asked). a.table) xs) all))
 
-    asked-pairs : (xs : List Asked) → AllPairs (λ (one other : Known). key_cmp one.key other.key ≡ Less) (map (λ (a : Asked). a.table) xs)
+    asked-pairs : (xs : List Asked) → AllPairs (λ (one other : KnownKey). key_cmp one.key other.key ≡ Less) (map (λ (a : Asked). a.table) xs)
         → AllPairs (λ (one other : Asked). key_cmp one.table.key other.table.key ≡ Less) xs
     asked-pairs xs pairs i j d above within =
         let here = get_or-map (λ (a : Asked). a.table) xs in
-        subst (λ (t : Known). key_cmp t.key (get_or xs j d).table.key ≡ Less) (here i d d.table (omega arith))
-        (subst (λ (t : Known). key_cmp (get_or (map (λ (a : Asked). a.table) xs) i d.table).key t.key ≡ Less) (here j d d.table within)
+        subst (λ (t : KnownKey). key_cmp t.key (get_or xs j d).table.key ≡ Less) (here i d d.table (omega arith))
+        (subst (λ (t : KnownKey). key_cmp (get_or (map (λ (a : Asked). a.table) xs) i d.table).key t.key ≡ Less) (here j d d.table within)
         (pairs i j d.table above (subst (λ n. j < n) (sym (length-map xs (λ (a : Asked). a.table))) within)))
 
 -- ---- the tables of a schema
 
-pub tables-joins : {s s′ : SessionView} → IsMember s → (schema : List ℕ) (k : Keys) (tables : List Known) (places : List ℕ) → AreAllTables schema k tables
+pub tables-joins : {s s′ : SessionView} → IsMember s → (schema : List ℕ) (k : Keys) (tables : List KnownKey) (places : List ℕ) → AreAllTables schema k tables
     → HasAsked s.me.0.number tables places s.me s′.me → HasLearnt (unknown s.me.0.known tables) s s′
-    → AreLearnt tables (s.me.0.known ++ unknown s.me.0.known tables) → are_keys_apart (s.me.0.known ++ unknown s.me.0.known tables) ≡ true
+    → AreLearnt tables (s.me.0.known ++ unknown s.me.0.known tables) → are_apart (s.me.0.known ++ unknown s.me.0.known tables) ≡ true
     → Joins (data_of s) (Tables_of s.me.0.number schema) (Tables places) (data_of s′)
 tables-joins {s} {s′} is schema k tables places are asked learnt all apart =
-    let more : List Known = unknown s.me.0.known tables in
+    let more : List KnownKey = unknown s.me.0.known tables in
     let x : SessionView = record s { me = (record s.me.0 { known = s.me.0.known ++ more; log = learnt.log }, s.me.1); room = learnt.room } in
     subst (λ (t : SessionView). Joins (data_of s) (Tables_of s.me.0.number schema) (Tables places) (data_of t)) (sym learnt.now) (record {
       mine = speaks is;
@@ -253,16 +249,16 @@ steps-then m m′ m″ first second = (
 )
 
 -- what the directory tells of them, and then the place of each
-module _ (seat mid seat′ : SeatState) (sessions : ℕ) {room : Room} (schema : List ℕ) (k : Keys) (tables : List Known) (is : IsMember (session_at seat sessions room))
+module _ (seat mid seat′ : SeatState) (sessions : ℕ) {room : Room} (schema : List ℕ) (k : Keys) (tables : List KnownKey) (is : IsMember (session_at seat sessions room))
     (took : AtItsTable seat mid (TookDirectory seat.table.slots k k)) (are : AreAllTables schema k tables) (knows : MakesSteps (knowing_all tables seat.me) mid.me)
     (steps : AtItsTable mid seat′ MakesSteps) where
-  abbrev all : List Known
+  abbrev all : List KnownKey
   all = seat.me.0.known ++ unknown seat.me.0.known tables
 
   pub learnt-all : {room′ : Room} → HasLearnt (unknown seat.me.0.known tables) (session_at seat sessions room) (session_at seat′ sessions room′)
   learnt-all = learnt-by seat seat′ sessions (unknown seat.me.0.known tables) (steps.0 ∙ took.0) (steps-then (knowing_all tables seat.me) mid.me seat′.me knows steps.1)
 
-  pub all-apart : are_keys_apart all ≡ true
+  pub all-apart : are_apart all ≡ true
   all-apart = apart_and schema k seat.me.0 tables took.1.recorded.known are (keys-apart is)
 
   pub told-tables : {room′ : Room} (places : List ℕ) → StaysQuiet mid.me seat′.me → HasAsked mid.me.0.number tables places mid.me seat′.me

@@ -19,7 +19,7 @@ use Rattle.mdl_steps.specs.WaitSeats.{IsSession}
 use Rattle.mdl_steps.specs.WaitStates.{wait_in, wait_state}
 use Rattle.mdl_steps.proofs.Views.{by_bool}
 use Rattle.mdl_session_laws.specs.SessionJoins.{Joins}
-use Rattle.mdl_visits.specs.Polls.{MeetsOther, MeetsWait, awaited_number}
+use Rattle.mdl_visits.specs.Polls.{MeetsOther, MeetsWait, number_of_wait}
 use Rattle.mdl_visits.proofs.Steps.{goes_staying, step_after}
 use Rattle.mdl_shared.specs.Members.{IsMember}
 use Rattle.mdl_shared.specs.SessionViews.{SessionView, data_of, settled_told}
@@ -61,26 +61,26 @@ module _ {s : SessionView} (is : IsMember s) (target : ℕ) where
 -- ---- the number of a wait
 
 -- its own word has the number of the session's wait
-own-number : (s : SessionView) (found : ℕ) → WaitOk s.table.slots found (waiter_of s.me.0) → awaited_number found ≡ wait_number (data_of s).own
+own-number : (s : SessionView) (found : ℕ) → WaitOk s.table.slots found (waiter_of s.me.0) → number_of_wait found ≡ wait_number (data_of s).own
 own-number s found sound = by s.me.0.asks refl
   where
-    by : (o : Option Ask) → s.me.0.asks ≡ o → awaited_number found ≡ option_map (λ (w : Wait). w.number) (wait_by s.me.0.waits o)
+    by : (o : Option Ask) → s.me.0.asks ≡ o → number_of_wait found ≡ option_map (λ (w : Wait). w.number) (wait_by s.me.0.waits o)
     by None none = rw (eq-eqb (wait_state found) 0 (sound.idle none)) refl
     by (Some a) some = rw (ne_eqb (wait_state found) 0 (sound.asks a some).0) (ap Some sound.number)
 
 pub number-met : {s s′ : SessionView} (target found : ℕ) → is_within s.sessions target ≡ true → TellsOwn s.table.slots target found s.me.0
     → s′ ≡ word-step ReadWait target found found s.me.0.settles s
-    → Watches s s′ × Joins (data_of s) (Wait_of target) (Has_wait (awaited_number found)) (data_of s′) × Shows (Wait_of target) (Has_wait (awaited_number found)) s s′
+    → Watches s s′ × Joins (data_of s) (Wait_of target) (Has_wait (number_of_wait found)) (data_of s′) × Shows (Wait_of target) (Has_wait (number_of_wait found)) s s′
 number-met {s} {s′} target found within own now =
     let did = watches ReadWait target found found s.me.0.settles s s′ now own (inl refl) refl refl in
     let met = met-word ReadWait target found found s.me.0.settles s s′ now in (
       did,
-      joins-still s s′ (Wait_of target) (Has_wait (awaited_number found)) (done-nothing did.done) tt refl refl refl refl tt tt refl (λ state how is. cc) (λ how is. cc) refl (λ r. r)
+      joins-still s s′ (Wait_of target) (Has_wait (number_of_wait found)) (done-nothing did.done) tt refl refl refl refl tt tt refl (λ state how is. cc) (λ how is. cc) refl (λ r. r)
           (λ mine. own-number s found (own mine)),
       shows did tt did.did (ap (λ (x : SessionView). x.me.0.settles) now) tt (λ owes searches. (owes, searches)) (
         (λ beyond. absurd (false≢true (sym beyond ∙ within))),
         (λ w. (
-          (met.0, met.1, record { word = met.2.word_is; told = ap awaited_number (sym met.2.found) }),
+          (met.0, met.1, record { word = met.2.word_is; told = ap number_of_wait (sym met.2.found) }),
           stays-once ReadWait target found found s.me.0.settles s s′ now refl refl,
         )),
       ),
@@ -176,7 +176,7 @@ module _ (s t s′ : SessionView) (target number first found : ℕ) (within : is
       (met.0, step_after s.me t.me s′.me (goes_staying s.me t.me reads.stayed) met.0 met.1, record { word = met.2.word_is ∙ ap (λ (id : TableId). wait_word id.slots target) same-table; found = met.2.found })
       (λ mine.
       let its = mine ∙ sym same-number in
-      let whole : awaited_number found ≡ Some number = (let state : wait_state found ≡ 1 = (let e = is_found in omega arith) in rw state (ap Some (let e = is_found in omega arith))) in
+      let whole : number_of_wait found ≡ Some number = (let state : wait_state found ≡ 1 = (let e = is_found in omega arith) in rw state (ap Some (let e = is_found in omega arith))) in
       (sym same-wait ∙ sym (own-number t found (later its)) ∙ whole, told-own SettleWait target (wait_in number 1) (wait_in number 5) all t s′ made its (omega (arith, five)) ∙ ap Some five)) in (did, told.0, told.1)
 
   pub kill-missed-later : found ≢ wait_in number 1

@@ -11,11 +11,11 @@ use Rattle.std.proofs.lemmas.List.Folds.{list_all-append, list_any-append}
 use Rattle.mdl_key.specs.Words.{KeyName, key_eq}
 use Rattle.mdl_key.specs.Keys.{key_cmp}
 use Rattle.mdl_steps.specs.declared.view.Keys.{Keys}
-use Rattle.mdl_steps.specs.declared.view.Known.{Known}
+use Rattle.mdl_key.specs.declared.known_key.KnownKey.{KnownKey}
 use Rattle.mdl_steps.specs.declared.view.View.{View}
 use Rattle.mdl_steps.specs.Lists.{Distinct, Each}
 use Rattle.mdl_steps.specs.Rule.{KnowsKeys, key_at}
-use Rattle.mdl_steps.specs.Schemas.{is_known, unknown}
+use Rattle.mdl_steps.specs.Schemas.{is_key_known, unknown}
 use Rattle.mdl_steps.proofs.KeyLemmas.{key-Decides}
 use Rattle.mdl_steps.proofs.Looking.{there}
 use Rattle.mdl_steps.proofs.NewKeys.{none_after}
@@ -23,49 +23,49 @@ use Rattle.mdl_steps.proofs.Views.{by_bool}
 use Rattle.mdl_visits.specs.Lookups.{IsLookupAnswer}
 use Rattle.mdl_visits.specs.Tables.{AreAllTables}
 use Rattle.mdl_visits.proofs.Sorting.{key-ties}
-use Rattle.mdl_shared.specs.Members.{AreLearnt, are_keys_apart, are_two_keys, is_place_looked_up, place_looked_up}
-use Rattle.mdl_shared.specs.OwnLists.{key_looked_up}
+use Rattle.mdl_shared.specs.Members.{AreLearnt}
+use Rattle.mdl_key.specs.KeyLookups.{are_apart, are_two, is_known, key_known, place_known}
 
 -- ---- one key more
 
 -- the directory has it at this place
-abbrev IsThere : List KeyName → Known → Type 0
+abbrev IsThere : List KeyName → KnownKey → Type 0
 IsThere keys x = (0 < x.place) × (key_at keys x.place ≡ Some x.key)
 
 -- a place that is known is that of its key in the directory
-known_there : (keys : List KeyName) (known : List Known) (place : ℕ) → Each (IsThere keys) known → is_place_looked_up known place ≡ true
-    → (0 < place) × (k : Known) × (k.place ≡ place) × (key_at keys place ≡ Some k.key) × (is_known known k.key ≡ true)
+known_there : (keys : List KeyName) (known : List KnownKey) (place : ℕ) → Each (IsThere keys) known → is_known place known ≡ true
+    → (0 < place) × (k : KnownKey) × (k.place ≡ place) × (key_at keys place ≡ Some k.key) × (is_key_known known k.key ≡ true)
 known_there keys [] place each e = absurd (cc)
 known_there keys (k ∷ ks) place each e =
     by_bool (k.place == place)
     (λ hit.
     let is = eqb-true k.place place hit in
     let here = subst (λ (p : ℕ). (0 < p) × (key_at keys p ≡ Some k.key)) is each.0 in
-    let own : is_known (k ∷ ks) k.key ≡ true = rw ((key-Decides k.key k.key).1 refl) refl in
+    let own : is_key_known (k ∷ ks) k.key ≡ true = rw ((key-Decides k.key k.key).1 refl) refl in
     (here.0, k, is, here.1, own))
     (λ miss.
     let later = known_there keys ks place each.1 (rw miss at e) in
-    let still : is_known (k ∷ ks) later.1.key ≡ true = by_bool (key_eq k.key later.1.key) (λ same. rw same refl) (λ differ. rw differ later.4) in
+    let still : is_key_known (k ∷ ks) later.1.key ≡ true = by_bool (key_eq k.key later.1.key) (λ same. rw same refl) (λ differ. rw differ later.4) in
     (later.0, later.1, later.2, later.3, still))
 
 -- a key that has a place is known by it
-known_none : (known : List Known) (key : KeyName) → place_looked_up key known ≡ None → is_known known key ≡ false
+known_none : (known : List KnownKey) (key : KeyName) → place_known key known ≡ None → is_key_known known key ≡ false
 known_none [] key e = refl
 known_none (k ∷ ks) key e = by_bool (key_eq k.key key) (λ hit. (let here = rw hit at e in absurd (cc))) (λ miss. rw miss (known_none ks key (rw miss at e)))
 
 -- a new key is at a place that the session didn't know: the directory had that key there, or none
-pub new_place : (slots place : ℕ) (key : KeyName) (k left : Keys) (v : View) → KnowsKeys k.keys v → IsLookupAnswer slots key k left (Ok place) → place_looked_up key v.known ≡ None
-    → is_place_looked_up v.known place ≡ false
+pub new_place : (slots place : ℕ) (key : KeyName) (k left : Keys) (v : View) → KnowsKeys k.keys v → IsLookupAnswer slots key k left (Ok place) → place_known key v.known ≡ None
+    → is_known place v.known ≡ false
 new_place slots place key k left v each answer new =
-    by_bool (is_place_looked_up v.known place)
+    by_bool (is_known place v.known)
     (λ known. absurd (never (known_there k.keys v.known place each known) answer))
     (λ un. un)
   where
-    never : (0 < place) × (x : Known) × (x.place ≡ place) × (key_at k.keys place ≡ Some x.key) × (is_known v.known x.key ≡ true) → IsLookupAnswer slots key k left (Ok place) → ⊥
+    never : (0 < place) × (x : KnownKey) × (x.place ≡ place) × (key_at k.keys place ≡ Some x.key) × (is_key_known v.known x.key ≡ true) → IsLookupAnswer slots key k left (Ok place) → ⊥
     never is (inl old) =
         let at = there key k.keys place old.0 in
         let same : is.1.key ≡ key = (let both = sym is.3 ∙ at.1 in cc) in
-        let known = ap (is_known v.known) (sym same) ∙ is.4 in
+        let known = ap (is_key_known v.known) (sym same) ∙ is.4 in
         let none = known_none v.known key new in
         (let both : true ≡ false = sym known ∙ none in cc)
     never is (inr next) =
@@ -76,7 +76,7 @@ new_place slots place key k left v each answer new =
 -- ---- several keys more
 
 -- two keys that differ have different places
-two_there : (keys : List KeyName) (one other : Known) → IsThere keys one → IsThere keys other → key_eq one.key other.key ≡ false → are_two_keys one other ≡ true
+two_there : (keys : List KeyName) (one other : KnownKey) → IsThere keys one → IsThere keys other → key_eq one.key other.key ≡ false → are_two one other ≡ true
 two_there keys one other here there_is differ =
     by_bool (one.place == other.place)
     (λ same.
@@ -90,7 +90,7 @@ less_differ : (one other : KeyName) → key_cmp one other ≡ Less → key_eq on
 less_differ one other less = key-ties one other ∙ ap is_eq less
 
 -- each of the tables is another one
-tables_apart : (keys : List KeyName) (tables : List Known) → All (IsThere keys) tables → AllPairs (λ (one other : Known). key_cmp one.key other.key ≡ Less) tables → are_keys_apart tables ≡ true
+tables_apart : (keys : List KeyName) (tables : List KnownKey) → All (IsThere keys) tables → AllPairs (λ (one other : KnownKey). key_cmp one.key other.key ≡ Less) tables → are_apart tables ≡ true
 tables_apart keys [] all less = refl
 tables_apart keys (t ∷ ts) all less =
     and_from _ _
@@ -100,61 +100,61 @@ tables_apart keys (t ∷ ts) all less =
     here : IsThere keys t
     here = All-head (IsThere keys) t ts all
 
-    later : (xs : List Known) → All (IsThere keys) xs → All (λ (x : Known). key_cmp t.key x.key ≡ Less) xs → list_all (are_two_keys t) xs ≡ true
+    later : (xs : List KnownKey) → All (IsThere keys) xs → All (λ (x : KnownKey). key_cmp t.key x.key ≡ Less) xs → list_all (are_two t) xs ≡ true
     later [] each less = refl
     later (x ∷ xs) each less =
         and_from _ _
-        (two_there keys t x here (All-head (IsThere keys) x xs each) (less_differ t.key x.key (All-head (λ (y : Known). key_cmp t.key y.key ≡ Less) x xs less)))
-        (later xs (All-tail (IsThere keys) x xs each) (All-tail (λ (y : Known). key_cmp t.key y.key ≡ Less) x xs less))
+        (two_there keys t x here (All-head (IsThere keys) x xs each) (less_differ t.key x.key (All-head (λ (y : KnownKey). key_cmp t.key y.key ≡ Less) x xs less)))
+        (later xs (All-tail (IsThere keys) x xs each) (All-tail (λ (y : KnownKey). key_cmp t.key y.key ≡ Less) x xs less))
 
 -- some of them
-kept_all : (test other : Known → Bool) (xs : List Known) → list_all test xs ≡ true → list_all test (filter other xs) ≡ true
+kept_all : (test other : KnownKey → Bool) (xs : List KnownKey) → list_all test xs ≡ true → list_all test (filter other xs) ≡ true
 kept_all test other [] all = refl
 kept_all test other (x ∷ xs) all = grind (arith, nat_tests, kept_all test other xs)
 
-kept_apart : (test : Known → Bool) (xs : List Known) → are_keys_apart xs ≡ true → are_keys_apart (filter test xs) ≡ true
+kept_apart : (test : KnownKey → Bool) (xs : List KnownKey) → are_apart xs ≡ true → are_apart (filter test xs) ≡ true
 kept_apart test [] all = refl
-kept_apart test (x ∷ xs) all = grind (arith, nat_tests, kept_apart test xs, kept_all (are_two_keys x) test xs)
+kept_apart test (x ∷ xs) all = grind (arith, nat_tests, kept_apart test xs, kept_all (are_two x) test xs)
 
-passed : (test : Known → Bool) (xs : List Known) → list_all test (filter test xs) ≡ true
+passed : (test : KnownKey → Bool) (xs : List KnownKey) → list_all test (filter test xs) ≡ true
 passed test [] = refl
 passed test (x ∷ xs) = grind (arith, nat_tests, passed test xs)
 
-each_of : (P : Known → Type 0) (xs : List Known) → All P xs → Each P xs
+each_of : (P : KnownKey → Type 0) (xs : List KnownKey) → All P xs → Each P xs
 each_of P [] all = tt
 each_of P (x ∷ xs) all = (All-head P x xs all, each_of P xs (All-tail P x xs all))
 
-each_kept : (P : Known → Type 0) (test : Known → Bool) (xs : List Known) → Each P xs → Each P (filter test xs)
+each_kept : (P : KnownKey → Type 0) (test : KnownKey → Bool) (xs : List KnownKey) → Each P xs → Each P (filter test xs)
 each_kept P test [] each = tt
 each_kept P test (x ∷ xs) each = by_bool (test x) (λ kept. rw kept (each.0, each_kept P test xs each.1)) (λ gone. rw gone (each_kept P test xs each.1))
 
-each_and : (P : Known → Type 0) (xs ys : List Known) → Each P xs → Each P ys → Each P (xs ++ ys)
+each_and : (P : KnownKey → Type 0) (xs ys : List KnownKey) → Each P xs → Each P ys → Each P (xs ++ ys)
 each_and P [] ys first second = second
 each_and P (x ∷ xs) ys first second = (first.0, each_and P xs ys first.1 second)
 
 -- known keys and new ones
-across : (keys : List KeyName) (known fresh : List Known) → Each (IsThere keys) known → Each (IsThere keys) fresh → list_all (λ (x : Known). not (is_known known x.key)) fresh ≡ true
-    → list_all (λ k. list_all (are_two_keys k) fresh) known ≡ true
+across : (keys : List KeyName) (known fresh : List KnownKey) → Each (IsThere keys) known → Each (IsThere keys) fresh → list_all (λ (x : KnownKey). not (is_key_known known x.key)) fresh ≡ true
+    → list_all (λ k. list_all (are_two k) fresh) known ≡ true
 across keys [] fresh each new none = refl
 across keys (k ∷ ks) fresh each new none = and_from _ _ (here fresh new none) (across keys ks fresh each.1 new (others fresh none))
   where
-    here : (xs : List Known) → Each (IsThere keys) xs → list_all (λ (x : Known). not (is_known (k ∷ ks) x.key)) xs ≡ true → list_all (are_two_keys k) xs ≡ true
+    here : (xs : List KnownKey) → Each (IsThere keys) xs → list_all (λ (x : KnownKey). not (is_key_known (k ∷ ks) x.key)) xs ≡ true → list_all (are_two k) xs ≡ true
     here [] there_are none = refl
     here (x ∷ xs) there_are none =
-        let parts = and_parts (not (is_known (k ∷ ks) x.key)) (list_all (λ (y : Known). not (is_known (k ∷ ks) y.key)) xs) none in
+        let parts = and_parts (not (is_key_known (k ∷ ks) x.key)) (list_all (λ (y : KnownKey). not (is_key_known (k ∷ ks) y.key)) xs) none in
         let differ : key_eq k.key x.key ≡ false = by_bool (key_eq k.key x.key) (λ same. (let e = rw same at parts.0 in absurd (cc))) (λ no. no) in
         and_from _ _ (two_there keys k x each.0 there_are.0 differ) (here xs there_are.1 parts.1)
 
-    others : (xs : List Known) → list_all (λ (x : Known). not (is_known (k ∷ ks) x.key)) xs ≡ true → list_all (λ (x : Known). not (is_known ks x.key)) xs ≡ true
+    others : (xs : List KnownKey) → list_all (λ (x : KnownKey). not (is_key_known (k ∷ ks) x.key)) xs ≡ true → list_all (λ (x : KnownKey). not (is_key_known ks x.key)) xs ≡ true
     others [] none = refl
     others (x ∷ xs) none =
-        let parts = and_parts (not (is_known (k ∷ ks) x.key)) (list_all (λ (y : Known). not (is_known (k ∷ ks) y.key)) xs) none in
-        let un : not (is_known ks x.key) ≡ true = by_bool (key_eq k.key x.key) (λ same. (let e = rw same at parts.0 in absurd (cc))) (λ no. rw no at parts.0) in
+        let parts = and_parts (not (is_key_known (k ∷ ks) x.key)) (list_all (λ (y : KnownKey). not (is_key_known (k ∷ ks) y.key)) xs) none in
+        let un : not (is_key_known ks x.key) ≡ true = by_bool (key_eq k.key x.key) (λ same. (let e = rw same at parts.0 in absurd (cc))) (λ no. rw no at parts.0) in
         and_from _ _ un (others xs parts.1)
 
-apart_append : (known more : List Known) → are_keys_apart known ≡ true → are_keys_apart more ≡ true → list_all (λ k. list_all (are_two_keys k) more) known ≡ true → are_keys_apart (known ++ more) ≡ true
+apart_append : (known more : List KnownKey) → are_apart known ≡ true → are_apart more ≡ true → list_all (λ k. list_all (are_two k) more) known ≡ true → are_apart (known ++ more) ≡ true
 apart_append [] more one other two = other
-apart_append (k ∷ ks) more one other two = grind (arith, nat_tests, list_all-append (are_two_keys k) ks more, apart_append ks more)
+apart_append (k ∷ ks) more one other two = grind (arith, nat_tests, list_all-append (are_two k) ks more, apart_append ks more)
 
 -- ---- each is known at its place then
 
@@ -171,7 +171,7 @@ one_index (x ∷ xs) zero (suc j) key distinct one other = let is : x ≡ key = 
 one_index (x ∷ xs) (suc i) zero key distinct one other = let is : x ≡ key = cc in absurd (unlike x xs i key distinct.0 is one)
 one_index (x ∷ xs) (suc i) (suc j) key distinct one other = ap suc (one_index xs i j key distinct.1 one other)
 
-one_place : (keys : List KeyName) (one other : Known) → Distinct keys → IsThere keys one → IsThere keys other → one.key ≡ other.key → one.place ≡ other.place
+one_place : (keys : List KeyName) (one other : KnownKey) → Distinct keys → IsThere keys one → IsThere keys other → one.key ≡ other.key → one.place ≡ other.place
 one_place keys one other distinct here there_is same =
     let is = one_index keys (one.place - 1) (other.place - 1) other.key distinct (here.1 ∙ ap Some same) there_is.1 in
     let first = here.0 in
@@ -179,8 +179,8 @@ one_place keys one other distinct here there_is same =
     omega arith
 
 -- a known place has the key that it has in the directory
-key_there : (keys : List KeyName) (known : List Known) (t : Known) → Each (IsThere keys) known → IsThere keys t → is_place_looked_up known t.place ≡ true
-    → key_looked_up t.place known ≡ Some t.key
+key_there : (keys : List KeyName) (known : List KnownKey) (t : KnownKey) → Each (IsThere keys) known → IsThere keys t → is_known t.place known ≡ true
+    → key_known t.place known ≡ Some t.key
 key_there keys [] t each is e = absurd (cc)
 key_there keys (k ∷ ks) t each is e =
     by_bool (k.place == t.place)
@@ -188,58 +188,58 @@ key_there keys (k ∷ ks) t each is e =
     (λ miss. rw miss (key_there keys ks t each.1 is (rw miss at e)))
 
 -- a known key is at its place
-place_there : (keys : List KeyName) (known : List Known) (t : Known) → Distinct keys → Each (IsThere keys) known → IsThere keys t → is_known known t.key ≡ true
-    → is_place_looked_up known t.place ≡ true
+place_there : (keys : List KeyName) (known : List KnownKey) (t : KnownKey) → Distinct keys → Each (IsThere keys) known → IsThere keys t → is_key_known known t.key ≡ true
+    → is_known t.place known ≡ true
 place_there keys [] t distinct each is e = absurd (cc)
 place_there keys (k ∷ ks) t distinct each is e =
     by_bool (key_eq k.key t.key)
     (λ hit. let same = one_place keys k t distinct each.0 is ((key-Decides k.key t.key).0 hit) in rw (eq-eqb k.place t.place same) refl)
     (λ miss. let later = place_there keys ks t distinct each.1 is (rw miss at e) in by_bool (k.place == t.place) (λ here. rw here refl) (λ there_not. rw there_not later))
 
-in_first : (known more : List Known) (place : ℕ) → is_place_looked_up known place ≡ true → is_place_looked_up (known ++ more) place ≡ true
-in_first known more place e = list_any-append (λ (k : Known). k.place == place) known more ∙ ap (λ b. b || is_place_looked_up more place) e
+in_first : (known more : List KnownKey) (place : ℕ) → is_known place known ≡ true → is_known place (known ++ more) ≡ true
+in_first known more place e = list_any-append (λ (k : KnownKey). k.place == place) known more ∙ ap (λ b. b || is_known place more) e
 
-in_second : (known more : List Known) (place : ℕ) → is_place_looked_up more place ≡ true → is_place_looked_up (known ++ more) place ≡ true
+in_second : (known more : List KnownKey) (place : ℕ) → is_known place more ≡ true → is_known place (known ++ more) ≡ true
 in_second known more place e =
-    list_any-append (λ (k : Known). k.place == place) known more ∙ by_bool (is_place_looked_up known place) (λ here. rw here refl) (λ elsewhere. rw elsewhere e)
+    list_any-append (λ (k : KnownKey). k.place == place) known more ∙ by_bool (is_known place known) (λ here. rw here refl) (λ elsewhere. rw elsewhere e)
 
 -- it was known, or it is new
-abbrev IsHeld : List Known → List Known → Known → Type 0
-IsHeld known fresh t = (is_known known t.key ≡ true) ⊎ (is_place_looked_up fresh t.place ≡ true)
+abbrev IsHeld : List KnownKey → List KnownKey → KnownKey → Type 0
+IsHeld known fresh t = (is_key_known known t.key ≡ true) ⊎ (is_known t.place fresh ≡ true)
 
-all_held : (known tables : List Known) → All (IsHeld known (unknown known tables)) tables
+all_held : (known tables : List KnownKey) → All (IsHeld known (unknown known tables)) tables
 all_held known [] = All-nil (IsHeld known [])
 all_held known (t ∷ ts) =
-    by_bool (is_known known t.key)
+    by_bool (is_key_known known t.key)
     (λ old. rw old (All-cons (IsHeld known (unknown known ts)) t ts (inl old) (all_held known ts)))
     (λ new. rw new (All-cons (IsHeld known (t ∷ unknown known ts)) t ts (inr (rw (eq-eqb t.place t.place refl) refl))
     (All-weaker (IsHeld known (unknown known ts)) (IsHeld known (t ∷ unknown known ts)) (λ x held. one_more x held) ts (all_held known ts))))
   where
-    one_more : (x : Known) → IsHeld known (unknown known ts) x → IsHeld known (t ∷ unknown known ts) x
+    one_more : (x : KnownKey) → IsHeld known (unknown known ts) x → IsHeld known (t ∷ unknown known ts) x
     one_more x (inl old) = inl old
     one_more x (inr new) = inr (by_bool (t.place == x.place) (λ here. rw here refl) (λ elsewhere. rw elsewhere new))
 
 -- the session's keys, and the tables that it didn't know
-module _ (schema : List ℕ) (k : Keys) (v : View) (tables : List Known) (knows : KnowsKeys k.keys v) (are : AreAllTables schema k tables) where
+module _ (schema : List ℕ) (k : Keys) (v : View) (tables : List KnownKey) (knows : KnowsKeys k.keys v) (are : AreAllTables schema k tables) where
   all_there : All (IsThere k.keys) tables
   all_there = λ i d short. ((are.each i d short).0, (are.each i d short).1)
 
   new_there : Each (IsThere k.keys) (unknown v.known tables)
-  new_there = each_kept (IsThere k.keys) (λ (x : Known). not (is_known v.known x.key)) tables (each_of (IsThere k.keys) tables all_there)
+  new_there = each_kept (IsThere k.keys) (λ (x : KnownKey). not (is_key_known v.known x.key)) tables (each_of (IsThere k.keys) tables all_there)
 
-  pub apart_and : are_keys_apart v.known ≡ true → are_keys_apart (v.known ++ unknown v.known tables) ≡ true
+  pub apart_and : are_apart v.known ≡ true → are_apart (v.known ++ unknown v.known tables) ≡ true
   apart_and apart =
       apart_append v.known (unknown v.known tables) apart
-      (kept_apart (λ (x : Known). not (is_known v.known x.key)) tables (tables_apart k.keys tables all_there are.in_order))
-      (across k.keys v.known (unknown v.known tables) knows new_there (passed (λ (x : Known). not (is_known v.known x.key)) tables))
+      (kept_apart (λ (x : KnownKey). not (is_key_known v.known x.key)) tables (tables_apart k.keys tables all_there are.in_order))
+      (across k.keys v.known (unknown v.known tables) knows new_there (passed (λ (x : KnownKey). not (is_key_known v.known x.key)) tables))
 
   pub all_learnt : Distinct k.keys → AreLearnt tables (v.known ++ unknown v.known tables)
   all_learnt distinct = λ i d short.
-      let t : Known = get_or tables i d in
+      let t : KnownKey = get_or tables i d in
       let is = all_there i d short in
       key_there k.keys (v.known ++ unknown v.known tables) t (each_and (IsThere k.keys) v.known (unknown v.known tables) knows new_there) is
       (place_then distinct t is (all_held v.known tables i d short))
     where
-      place_then : Distinct k.keys → (t : Known) → IsThere k.keys t → IsHeld v.known (unknown v.known tables) t → is_place_looked_up (v.known ++ unknown v.known tables) t.place ≡ true
+      place_then : Distinct k.keys → (t : KnownKey) → IsThere k.keys t → IsHeld v.known (unknown v.known tables) t → is_known t.place (v.known ++ unknown v.known tables) ≡ true
       place_then distinct t is (inl old) = in_first v.known (unknown v.known tables) t.place (place_there k.keys v.known t distinct knows is old)
       place_then distinct t is (inr new) = in_second v.known (unknown v.known tables) t.place new

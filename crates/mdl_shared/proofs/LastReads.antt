@@ -7,48 +7,46 @@ use Rattle.std.proofs.lemmas.Bool.{and_from, and_parts, eq-eqb, eqb-true, or_lef
 use mathlib.Core.Option.{some, some-injective, some-ne-none}
 use lib.ListN.{get_elem?}
 use Rattle.mdl_key.specs.Words.{KeyName, key_eq}
-use Rattle.mdl_defs.specs.declared.standing.Standing.{Standing}
-use Rattle.mdl_defs.specs.Standings.{MayStand}
-use Rattle.mdl_system.proofs.MemberLemmas.{Contains-map_from, Contains-none}
+use Rattle.mdl_defs.specs.declared.versioned_definition.VersionedDefinition.{VersionedDefinition}
+use Rattle.mdl_defs.specs.VersionedDefinitions.{MayStand}
+use Rattle.mdl_system.proofs.MemberLemmas.{Contains-none}
 use Rattle.mdl_system.proofs.OrderLemmas.{Contains-cons_cases, Contains-here, Contains-later}
-use Rattle.mdl_steps.specs.declared.view.Known.{Known}
-use Rattle.mdl_steps.specs.declared.view.Own.{Own}
-use Rattle.mdl_steps.specs.declared.view.Read.{Read}
+use Rattle.mdl_key.specs.declared.known_key.KnownKey.{KnownKey}
+use Rattle.mdl_steps.specs.declared.view.SessionTicket.{SessionTicket}
+use Rattle.mdl_defs.specs.declared.reading.Reading.{Reading}
 use Rattle.mdl_steps.specs.Cells.{note_at, own_at, reads_at}
 use Rattle.mdl_steps.specs.Lists.{Each}
 use Rattle.mdl_steps.specs.VersionPlays.{Follows, ReadNoneNewer, ReadOneStanding}
 use Rattle.mdl_steps.proofs.Interleaving.{each-uninterleaved}
 use Rattle.mdl_steps.proofs.Views.{by_bool}
-use Rattle.mdl_calls.specs.SessionData.{HasMet, Reading, last_read, was_read}
+use Rattle.mdl_calls.specs.SessionData.{HasMet, last_read, was_read}
 use Rattle.mdl_session_laws.proofs.ReadLists.{last-among, newest-above}
 use Rattle.mdl_visits.specs.Numbers.{numbered}
-use Rattle.mdl_shared.specs.Members.{IsMember, are_keys_apart, are_two_keys}
-use Rattle.mdl_shared.specs.OwnLists.{key_looked_up}
+use Rattle.mdl_shared.specs.Members.{IsMember}
+use Rattle.mdl_key.specs.KeyLookups.{are_apart, are_two, key_known}
 use Rattle.mdl_shared.specs.SessionViews.{SessionView, data_of, tickets_seen}
 use Rattle.mdl_shared.proofs.Alike.{all_noted}
 use Rattle.mdl_shared.proofs.MemberFacts.{keys-apart}
-use Rattle.mdl_shared.proofs.SameSpace.{reading_of}
-use Rattle.mdl_shared.proofs.SpaceLists.{key-told}
 use Rattle.mdl_shared.proofs.SpaceNotes.{AllNoted, noted-some}
 use Rattle.mdl_shared.proofs.SpaceReads.{placed-some}
 
 -- ---- what was read at a place
 
 -- where something was, something was read last
-last-some : (reads : List Reading) (place : ℕ) (standing : Standing) → Contains reads (record { place = place; standing = standing })
-    → (last : Standing) × (last_read place reads ≡ Some last)
+last-some : (reads : List Reading) (place : ℕ) (standing : VersionedDefinition) → Contains reads (record { place = place; standing = standing })
+    → (last : VersionedDefinition) × (last_read place reads ≡ Some last)
 last-some [] place standing among = absurd (Contains-none _ among)
 last-some (r ∷ rs) place standing among = elim (Contains-cons_cases r rs _ among) [
-  | inl later ↦ let is = last-some rs place standing later in (is.0, ap (λ (o : Option Standing). option_or o (if r.place == place then Some r.standing else None)) is.1)
+  | inl later ↦ let is = last-some rs place standing later in (is.0, ap (λ (o : Option VersionedDefinition). option_or o (if r.place == place then Some r.standing else None)) is.1)
   | inr here ↦ at (last_read place rs) (eq-eqb r.place place (sym (ap (λ (x : Reading). x.place) here)))
 ]
   where
-    at : (o : Option Standing) → (r.place == place) ≡ true → (last : Standing) × (option_or o (if r.place == place then Some r.standing else None) ≡ Some last)
+    at : (o : Option VersionedDefinition) → (r.place == place) ≡ true → (last : VersionedDefinition) × (option_or o (if r.place == place then Some r.standing else None) ≡ Some last)
     at None hit = (r.standing, rw hit refl)
     at (Some x) hit = (x, refl)
 
 -- and its version was
-among-read : (reads : List Reading) (place : ℕ) (standing : Standing) → Contains reads (record { place = place; standing = standing })
+among-read : (reads : List Reading) (place : ℕ) (standing : VersionedDefinition) → Contains reads (record { place = place; standing = standing })
     → was_read place standing.version reads ≡ true
 among-read [] place standing among = absurd (Contains-none _ among)
 among-read (r ∷ rs) place standing among = elim (Contains-cons_cases r rs _ among) [
@@ -58,23 +56,14 @@ among-read (r ∷ rs) place standing among = elim (Contains-cons_cases r rs _ am
       (eq-eqb r.standing.version standing.version (sym (ap (λ (x : Reading). x.standing.version) here))))
 ]
 
--- in the session's own list
-pub as-read : (reads : List Read) (place : ℕ) (standing : Standing) → Contains (map reading_of reads) (record { place = place; standing = standing })
-    → Contains reads (record { place = place; standing = standing })
-as-read reads place standing among =
-    let from = Contains-map_from reading_of reads _ among in
-    let same = sym from.2 in
-    let read : from.0 ≡ record { place = place; standing = standing } = λ i. record { place = (same i).place; standing = (same i).standing } in
-    subst (Contains reads) read from.1
-
 -- among those of the place
-at-place : (place : ℕ) (reads : List Read) (r : Read) → (r.place == place) ≡ true → Contains reads r → Contains (reads_at place reads) r
+at-place : (place : ℕ) (reads : List Reading) (r : Reading) → (r.place == place) ≡ true → Contains reads r → Contains (reads_at place reads) r
 at-place place [] r here among = absurd (Contains-none r among)
 at-place place (x ∷ xs) r here among = elim (Contains-cons_cases x xs r among) [
   | inl later ↦ by_bool (x.place == place)
       (λ hit. rw hit (Contains-later x (reads_at place xs) r (at-place place xs r here later)))
       (λ miss. rw miss (at-place place xs r here later))
-  | inr same ↦ subst (λ (y : Read). Contains (reads_at place (y ∷ xs)) r) same (rw here (Contains-here r (reads_at place xs)))
+  | inr same ↦ subst (λ (y : Reading). Contains (reads_at place (y ∷ xs)) r) same (rw here (Contains-here r (reads_at place xs)))
 ]
 
 each-among : {X : Type 0} (P : X → Type 0) (xs : List X) → Each P xs → (x : X) → Contains xs x → P x
@@ -86,20 +75,20 @@ each-among P (y ∷ ys) all x among = elim (Contains-cons_cases y ys x among) [
 
 -- ---- a key that is known
 
-two-at : (x : Known) (known : List Known) → list_all (are_two_keys x) known ≡ true → (i : ℕ) (k : Known) → get_elem? known i ≡ some k → are_two_keys x k ≡ true
+two-at : (x : KnownKey) (known : List KnownKey) → list_all (are_two x) known ≡ true → (i : ℕ) (k : KnownKey) → get_elem? known i ≡ some k → are_two x k ≡ true
 two-at x [] all i k there = absurd (some-ne-none k (sym there))
 two-at x (y ∷ ys) all zero k there =
-    ap (are_two_keys x) (sym (some-injective y k there)) ∙ (and_parts (are_two_keys x y) (list_all (are_two_keys x) ys) all).0
-two-at x (y ∷ ys) all (suc i) k there = two-at x ys (and_parts (are_two_keys x y) (list_all (are_two_keys x) ys) all).1 i k there
+    ap (are_two x) (sym (some-injective y k there)) ∙ (and_parts (are_two x y) (list_all (are_two x) ys) all).0
+two-at x (y ∷ ys) all (suc i) k there = two-at x ys (and_parts (are_two x y) (list_all (are_two x) ys) all).1 i k there
 
 -- it is that of its place, wherever it stands in the list
-key-at : (known : List Known) → are_keys_apart known ≡ true → (i : ℕ) (k : Known) → get_elem? known i ≡ some k → key_looked_up k.place known ≡ Some k.key
+key-at : (known : List KnownKey) → are_apart known ≡ true → (i : ℕ) (k : KnownKey) → get_elem? known i ≡ some k → key_known k.place known ≡ Some k.key
 key-at [] apart i k there = absurd (some-ne-none k (sym there))
 key-at (x ∷ xs) apart zero k there =
     let hit = eq-eqb x.place x.place refl in
-    subst (λ (y : Known). key_looked_up y.place (x ∷ xs) ≡ Some y.key) (some-injective x k there) (rw hit refl)
+    subst (λ (y : KnownKey). key_known y.place (x ∷ xs) ≡ Some y.key) (some-injective x k there) (rw hit refl)
 key-at (x ∷ xs) apart (suc i) k there =
-    let parts = and_parts (list_all (are_two_keys x) xs) (are_keys_apart xs) apart in
+    let parts = and_parts (list_all (are_two x) xs) (are_apart xs) apart in
     let two = and_parts (not (key_eq x.key k.key)) (not (x.place == k.place)) (two-at x xs parts.0 i k there) in
     by_bool (x.place == k.place)
     (λ hit. let no = rw hit at two.1 in cc)
@@ -107,13 +96,13 @@ key-at (x ∷ xs) apart (suc i) k there =
 
 -- ---- what is noted at a place
 
-as-noted : (place : ℕ) (mark : Option ℕ) (tickets : List Own) → Each (λ (x : Own). x.place ≡ place → x.noted ≡ mark) tickets → AllNoted place mark tickets
+as-noted : (place : ℕ) (mark : Option ℕ) (tickets : List SessionTicket) → Each (λ (x : SessionTicket). x.place ≡ place → x.noted ≡ mark) tickets → AllNoted place mark tickets
 as-noted place mark [] all = tt
 as-noted place mark (t ∷ ts) all = (all.0, as-noted place mark ts all.1)
 
 -- under each ticket, what is so of the one note
-each-noted : (place version : ℕ) (mark : Option ℕ) (tickets : List Own) → Each (λ (x : Own). x.place ≡ place → x.noted ≡ mark) tickets
-    → ((v : ℕ) → mark ≡ Some v → v ≡ version) → Each (λ (t : Own). (v : ℕ) → t.noted ≡ Some v → v ≡ version) (own_at place tickets)
+each-noted : (place version : ℕ) (mark : Option ℕ) (tickets : List SessionTicket) → Each (λ (x : SessionTicket). x.place ≡ place → x.noted ≡ mark) tickets
+    → ((v : ℕ) → mark ≡ Some v → v ≡ version) → Each (λ (t : SessionTicket). (v : ℕ) → t.noted ≡ Some v → v ≡ version) (own_at place tickets)
 each-noted place version mark [] all so = tt
 each-noted place version mark (t ∷ ts) all so =
     by_bool (t.place == place)
@@ -122,10 +111,10 @@ each-noted place version mark (t ∷ ts) all so =
 
 -- ---- a version that was read and stands
 
-module _ {s : SessionView} (is : IsMember s) (id : ℕ) (t : Own) (its : numbered id (tickets_seen s.me.0) ≡ Some t) (standing : Standing)
+module _ {s : SessionView} (is : IsMember s) (id : ℕ) (t : SessionTicket) (its : numbered id (tickets_seen s.me.0) ≡ Some t) (standing : VersionedDefinition)
     (met : HasMet (data_of s) s.me.0.number t.place standing) (newest : ReadNoneNewer t.place standing.version s.me) (one : ReadOneStanding t.place standing.version s.me) where
   pub was-read : Contains s.me.0.reads (record { place = t.place; standing = standing })
-  was-read = as-read s.me.0.reads t.place standing met
+  was-read = met
 
   there : Contains (reads_at t.place s.me.0.reads) (record { place = t.place; standing = standing })
   there = at-place t.place s.me.0.reads _ (eq-eqb t.place t.place refl) was-read
@@ -134,16 +123,16 @@ module _ {s : SessionView} (is : IsMember s) (id : ℕ) (t : Own) (its : numbere
   pub is-last : last_read t.place (data_of s).reads ≡ Some standing
   is-last =
       let some = last-some (data_of s).reads t.place standing met in
-      let last = as-read s.me.0.reads t.place some.0 (last-among (data_of s).reads t.place some.0 some.1) in
+      let last = last-among (data_of s).reads t.place some.0 some.1 in
       let last-there = at-place t.place s.me.0.reads _ (eq-eqb t.place t.place refl) last in
-      let below = each-among (λ (r : Read). r.standing.version ≤ standing.version) (reads_at t.place s.me.0.reads) newest _ last-there in
+      let below = each-among (λ (r : Reading). r.standing.version ≤ standing.version) (reads_at t.place s.me.0.reads) newest _ last-there in
       let above = newest-above (data_of s).reads t.place standing.version some.0.version (among-read (data_of s).reads t.place standing met)
       (is.sound.newest t.place some.0 some.1) in
       let same : some.0.version ≡ standing.version = omega (arith, below, above) in
       some.1 ∙ ap Some (one _ _ last-there there same refl)
 
-  after : (xs : List Read) → ((r : Read) → Contains xs r → Contains (reads_at t.place s.me.0.reads) r) → Each (λ (r : Read). r.standing.version ≤ standing.version) xs
-      → Each (λ (r : Read). (r.standing.version ≤ standing.version) × (r.standing.version ≡ standing.version → r.standing ≡ standing)) xs
+  after : (xs : List Reading) → ((r : Reading) → Contains xs r → Contains (reads_at t.place s.me.0.reads) r) → Each (λ (r : Reading). r.standing.version ≤ standing.version) xs
+      → Each (λ (r : Reading). (r.standing.version ≤ standing.version) × (r.standing.version ≡ standing.version → r.standing ≡ standing)) xs
   after [] among all = tt
   after (r ∷ rs) among all = (
     (all.0, λ same. one _ _ (among r (Contains-here r rs)) there same refl),
@@ -155,12 +144,12 @@ module _ {s : SessionView} (is : IsMember s) (id : ℕ) (t : Own) (its : numbere
       let all = as-noted t.place _ (tickets_seen s.me.0) (all_noted t.place (tickets_seen s.me.0) is.alike) in
       let noted = noted-some t.place v _ (tickets_seen s.me.0) all (placed-some t.place id (tickets_seen s.me.0) t its refl) mark in
       let version : ◌≡◌ {A = Option ℕ} (Some standing.version) (Some v) =
-      sym (ap (option_map (λ (x : Standing). x.version)) is-last) ∙ is.sound.noted t.place v noted in
+      sym (ap (option_map (λ (x : VersionedDefinition). x.version)) is-last) ∙ is.sound.noted t.place v noted in
       cc
 
-  may-stand : (key : KeyName) → key_looked_up t.place s.me.0.known ≡ Some key → MayStand key.namespace standing
+  may-stand : (key : KeyName) → key_known t.place s.me.0.known ≡ Some key → MayStand key.namespace standing
   may-stand key known =
-      subst (λ (o : Option KeyName). MatchOption o ⊥ (λ (k : KeyName). MayStand k.namespace standing)) (key-told t.place s.me.0.known ∙ known)
+      subst (λ (o : Option KeyName). MatchOption o ⊥ (λ (k : KeyName). MayStand k.namespace standing)) known
       (is.sound.fits t.place standing is-last)
 
   -- so it follows all that the session knows of the place
@@ -169,7 +158,7 @@ module _ {s : SessionView} (is : IsMember s) (id : ℕ) (t : Own) (its : numbere
       let all = each-uninterleaved _ s.me.0.slow s.me.0.fast (all_noted t.place (tickets_seen s.me.0) is.alike) in
       record {
         reads = after (reads_at t.place s.me.0.reads) (λ r among. among) newest;
-        fits = λ i k known here. may-stand k.key (ap (λ (p : ℕ). key_looked_up p s.me.0.known) (sym here) ∙ key-at s.me.0.known (keys-apart is) i k known);
+        fits = λ i k known here. may-stand k.key (ap (λ (p : ℕ). key_known p s.me.0.known) (sym here) ∙ key-at s.me.0.known (keys-apart is) i k known);
         noted = each-noted t.place standing.version _ s.me.0.slow all.0 marked;
         fast_noted = each-noted t.place standing.version _ s.me.0.fast all.1 marked;
       }

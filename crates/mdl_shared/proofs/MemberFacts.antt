@@ -9,44 +9,44 @@ use Rattle.mdl_key.specs.declared.mode.Mode.{Mode}
 use Rattle.mdl_steps.specs.declared.deed.Deed.{Deed}
 use Rattle.mdl_steps.specs.declared.deed.Deed.TheVariants.{Gain, Alter, Lose}
 use Rattle.mdl_steps.specs.declared.view.Ask.{Ask}
-use Rattle.mdl_steps.specs.declared.view.Known.{Known}
+use Rattle.mdl_key.specs.declared.known_key.KnownKey.{KnownKey}
 use Rattle.mdl_steps.specs.declared.view.LatchRecord.{LatchRecord}
-use Rattle.mdl_steps.specs.declared.view.Own.{Own}
+use Rattle.mdl_steps.specs.declared.view.SessionTicket.{SessionTicket}
 use Rattle.mdl_steps.specs.Cells.{own_at}
 use Rattle.mdl_steps.specs.Deeds.{KnowsPlace, NotWaited}
 use Rattle.mdl_steps.specs.Lists.{Each}
 use Rattle.mdl_steps.specs.Seats.{IsPlace, IsRising}
 use Rattle.mdl_steps.proofs.Interleaving.{Differ, Rising, numbered-interleaved, rising-uninterleaved}
 use Rattle.mdl_steps.proofs.Views.{by_bool}
-use Rattle.mdl_calls.specs.SessionData.{SpeaksFor, are_below as are_below_told, are_placed as are_placed_told, first_free, is_known as is_known_in}
+use Rattle.mdl_calls.specs.SessionData.{SpeaksFor, are_below as are_below_told, are_placed as are_placed_told, first_free}
 use Rattle.mdl_visits.specs.Leavings.{HasTicket}
 use Rattle.mdl_visits.specs.Visits.{MayVisit}
 use Rattle.mdl_visits.specs.Numbers.{all_numbers, is_ask_apart, is_no_number, numbered}
 use Rattle.mdl_visits.proofs.Numbers.{not_waited}
-use Rattle.mdl_shared.specs.Members.{IsMember, are_keys_apart, is_place_looked_up}
+use Rattle.mdl_key.specs.KeyLookups.{are_apart, is_known}
+use Rattle.mdl_shared.specs.Members.{IsMember}
 use Rattle.mdl_shared.specs.OwnLists.{as_held}
 use Rattle.mdl_shared.specs.SessionViews.{SessionView, data_of, tickets_seen}
 use Rattle.mdl_shared.specs.Waitings.{are_below_next, is_ask_last, is_ask_told}
 use Rattle.mdl_shared.proofs.Membership.{are_placed, has_numbered, known_within, placed_at, some_key}
 use Rattle.mdl_shared.proofs.SameSpace.{numbers_by, wait_by}
-use Rattle.mdl_shared.proofs.SpaceLists.{apart-told, known-told, known_of}
 use Rattle.mdl_shared.proofs.TicketOrder.{AllLeaveFast, DoesSlow, all-owned-slow, all-parts, apart-numbers, none-numbered, numbers-apart, rising-told}
 
 -- ---- numbers
 
 -- what passes a test passes a weaker one
-weaker : (test other : ℕ → Bool) (tickets : List Own) → ((n : ℕ) → test n ≡ true → other n ≡ true) → all_numbers test tickets ≡ true → all_numbers other tickets ≡ true
+weaker : (test other : ℕ → Bool) (tickets : List SessionTicket) → ((n : ℕ) → test n ≡ true → other n ≡ true) → all_numbers test tickets ≡ true → all_numbers other tickets ≡ true
 weaker test other [] follows all = refl
 weaker test other (t ∷ ts) follows all =
     let parts = and_parts (test t.number) (all_numbers test ts) all in
     and_from _ _ (follows t.number parts.0) (weaker test other ts follows parts.1)
 
 -- with one number more that is given out
-below_more : (next : ℕ) (tickets : List Own) → are_below_next next tickets ≡ true → are_below_next (next + 1) tickets ≡ true
+below_more : (next : ℕ) (tickets : List SessionTicket) → are_below_next next tickets ≡ true → are_below_next (next + 1) tickets ≡ true
 below_more next tickets all = weaker (λ n. nat_lt n next) (λ n. nat_lt n (next + 1)) tickets (λ n e. let less = ltb-true n next e in lt-ltb n (next + 1) (omega arith)) all
 
 -- the next number is none of theirs
-next_apart : (next : ℕ) (tickets : List Own) → are_below_next next tickets ≡ true → is_no_number next tickets ≡ true
+next_apart : (next : ℕ) (tickets : List SessionTicket) → are_below_next next tickets ≡ true → is_no_number next tickets ≡ true
 next_apart next tickets all = weaker (λ n. nat_lt n next) (λ n. not (n == next)) tickets other all
   where
     other : (n : ℕ) → nat_lt n next ≡ true → not (n == next) ≡ true
@@ -55,15 +55,14 @@ next_apart next tickets all = weaker (λ n. nat_lt n next) (λ n. not (n == next
 -- ---- its lists, as they are told
 
 -- numbers below one
-below-told : (number : ℕ) (tickets : List Own) → are_below_told number (map as_held tickets) ≡ are_below_next number tickets
+below-told : (number : ℕ) (tickets : List SessionTicket) → are_below_told number (map as_held tickets) ≡ are_below_next number tickets
 below-told number tickets = list_all-map (λ (h : Held). nat_lt h.id number) as_held tickets
 
 -- places that are known
-placed-told : (known : List Known) (tickets : List Own) → are_placed_told (map known_of known) (map as_held tickets) ≡ are_placed known tickets
+placed-told : (known : List KnownKey) (tickets : List SessionTicket) → are_placed_told known (map as_held tickets) ≡ are_placed known tickets
 placed-told known [] = refl
 placed-told known (t ∷ ts) =
-    ap (λ b. b && are_placed_told (map known_of known) (map as_held ts)) (known-told t.place known)
-    ∙ ap (λ b. is_place_looked_up known t.place && b) (placed-told known ts)
+    ap (λ b. is_known t.place known && b) (placed-told known ts)
 
 -- ---- look-ups in two lists
 
@@ -129,22 +128,21 @@ module _ {s : SessionView} (is : IsMember s) where
   placed = sym (placed-told s.me.0.known (tickets_seen s.me.0)) ∙ is.sound.placed
 
   -- so is the one that it waits for
-  pub awaited : (a : Ask) → s.me.0.asks ≡ Some a → is_place_looked_up s.me.0.known a.place ≡ true
+  pub awaited : (a : Ask) → s.me.0.asks ≡ Some a → is_known a.place s.me.0.known ≡ true
   awaited a asks =
-      sym (known-told a.place s.me.0.known)
-      ∙ subst (λ (o : Option Ask). IfSome (wait_by s.me.0.waits o) (λ (w : Wait). is_known_in w.place (map known_of s.me.0.known) ≡ true)) asks is.sound.awaited
+      subst (λ (o : Option Ask). IfSome (wait_by s.me.0.waits o) (λ (w : Wait). is_known w.place s.me.0.known ≡ true)) asks is.sound.awaited
 
   -- ---- its places
 
   -- no key is known twice, and no place
-  pub keys-apart : are_keys_apart s.me.0.known ≡ true
-  keys-apart = sym (apart-told s.me.0.known) ∙ is.sound.apart
+  pub keys-apart : are_apart s.me.0.known ≡ true
+  keys-apart = is.sound.apart
 
   -- a known place is one of the table's, and that of a key
-  pub place-within : (place : ℕ) → is_place_looked_up s.me.0.known place ≡ true → IsPlace s.table place
+  pub place-within : (place : ℕ) → is_known place s.me.0.known ≡ true → IsPlace s.table place
   place-within place known = known_within s.table.slots place s.me.0.known is.within known
 
-  pub place-known : (place : ℕ) → is_place_looked_up s.me.0.known place ≡ true → KnowsPlace s.me.0 place
+  pub place-known : (place : ℕ) → is_known place s.me.0.known ≡ true → KnowsPlace s.me.0 place
   place-known place known = some_key place s.me.0.known known
 
   -- its latch may be taken
@@ -156,18 +154,18 @@ module _ {s : SessionView} (is : IsMember s) where
       by (h ∷ hs) none = absurd (omega arith)
 
   -- so it may go to a place that it knows
-  pub may-visit : (place : ℕ) → is_place_looked_up s.me.0.known place ≡ true → MayVisit place (record { table = s.table; me = s.me })
+  pub may-visit : (place : ℕ) → is_known place s.me.0.known ≡ true → MayVisit place (record { table = s.table; me = s.me })
   may-visit place known = record { is_place = place-within place known; rising = may-latch place }
 
   -- ---- a ticket of its
 
-  pub ticket-there : (id : ℕ) (t : Own) → numbered id (tickets_seen s.me.0) ≡ Some t → HasTicket t.place id (tickets_seen s.me.0)
-  ticket-there id t its = has_numbered t.place id (tickets_seen s.me.0) (ap (option_map (λ (x : Own). x.place)) its)
+  pub ticket-there : (id : ℕ) (t : SessionTicket) → numbered id (tickets_seen s.me.0) ≡ Some t → HasTicket t.place id (tickets_seen s.me.0)
+  ticket-there id t its = has_numbered t.place id (tickets_seen s.me.0) (ap (option_map (λ (x : SessionTicket). x.place)) its)
 
-  pub slow-there : (id : ℕ) (t : Own) → numbered id s.me.0.slow ≡ Some t → HasTicket t.place id s.me.0.slow
-  slow-there id t its = has_numbered t.place id s.me.0.slow (ap (option_map (λ (x : Own). x.place)) its)
+  pub slow-there : (id : ℕ) (t : SessionTicket) → numbered id s.me.0.slow ≡ Some t → HasTicket t.place id s.me.0.slow
+  slow-there id t its = has_numbered t.place id s.me.0.slow (ap (option_map (λ (x : SessionTicket). x.place)) its)
 
-  pub ticket-known : (id : ℕ) (t : Own) → numbered id (tickets_seen s.me.0) ≡ Some t → is_place_looked_up s.me.0.known t.place ≡ true
+  pub ticket-known : (id : ℕ) (t : SessionTicket) → numbered id (tickets_seen s.me.0) ≡ Some t → is_known t.place s.me.0.known ≡ true
   ticket-known id t its = placed_at s.me.0.known (tickets_seen s.me.0) t.place id placed (ticket-there id t its)
 
   -- ---- while it has no fast ticket
@@ -187,7 +185,7 @@ module _ {s : SessionView} (is : IsMember s) where
   differ = (rising-uninterleaved s.me.0.slow s.me.0.fast rising).1
 
   -- so none of the fast ones has the number of a slow one
-  pub spared : (id : ℕ) (t : Own) → numbered id s.me.0.slow ≡ Some t → is_no_number id s.me.0.fast ≡ true
+  pub spared : (id : ℕ) (t : SessionTicket) → numbered id s.me.0.slow ≡ Some t → is_no_number id s.me.0.fast ≡ true
   spared id t its = apart-numbers id t s.me.0.slow s.me.0.fast rising its
 
   -- no slow one is waited for
@@ -198,7 +196,7 @@ module _ {s : SessionView} (is : IsMember s) where
       by None all = refl
       by (Some a) all =
           let parts = and_parts (nat_lt a.number s.me.0.next) (is_no_number a.number (tickets_seen s.me.0)) all in
-          and_from _ _ parts.0 (all-parts (λ (t : Own). not (t.number == a.number)) s.me.0.slow s.me.0.fast parts.1).0
+          and_from _ _ parts.0 (all-parts (λ (t : SessionTicket). not (t.number == a.number)) s.me.0.slow s.me.0.fast parts.1).0
 
   -- what is done to the slow ones is done to all
   pub does-slow : (place : ℕ) (ds : List Deed) → AllLeaveFast place ds s.me.0.slow s.me.0.fast → DoesSlow place ds s.me.0
@@ -209,40 +207,40 @@ module _ {s : SessionView} (is : IsMember s) where
   gains-slow place number mode first none =
       does-slow place (Gain number mode ∷ []) ((none, ap (λ (n : ℕ). are_below_next n (tickets_seen s.me.0)) first ∙ below), tt)
 
-  pub alters-slow : (place id : ℕ) (mode : Mode) (t : Own) → numbered id s.me.0.slow ≡ Some t → DoesSlow place (Alter id mode ∷ []) s.me.0
+  pub alters-slow : (place id : ℕ) (mode : Mode) (t : SessionTicket) → numbered id s.me.0.slow ≡ Some t → DoesSlow place (Alter id mode ∷ []) s.me.0
   alters-slow place id mode t its = does-slow place (Alter id mode ∷ []) (spared id t its, tt)
 
-  pub loses-slow : (place id : ℕ) (t : Own) → numbered id s.me.0.slow ≡ Some t → DoesSlow place (Lose id ∷ []) s.me.0
+  pub loses-slow : (place id : ℕ) (t : SessionTicket) → numbered id s.me.0.slow ≡ Some t → DoesSlow place (Lose id ∷ []) s.me.0
   loses-slow place id t its = does-slow place (Lose id ∷ []) (spared id t its, tt)
 
-  pub merges-slow : (place old new : ℕ) (mode : Mode) (kept gone : Own) → numbered old s.me.0.slow ≡ Some kept → numbered new s.me.0.slow ≡ Some gone
+  pub merges-slow : (place old new : ℕ) (mode : Mode) (kept gone : SessionTicket) → numbered old s.me.0.slow ≡ Some kept → numbered new s.me.0.slow ≡ Some gone
       → DoesSlow place (Alter old mode ∷ Lose new ∷ []) s.me.0
   merges-slow place old new mode kept gone one other = does-slow place (Alter old mode ∷ Lose new ∷ []) (spared old kept one, (spared new gone other, tt))
 
   -- ---- a ticket of its is slow or fast
 
   -- a slow one, or a fast one, is one of all
-  pub slow-held : (id : ℕ) (t : Own) → numbered id s.me.0.slow ≡ Some t → numbered id (tickets_seen s.me.0) ≡ Some t
+  pub slow-held : (id : ℕ) (t : SessionTicket) → numbered id s.me.0.slow ≡ Some t → numbered id (tickets_seen s.me.0) ≡ Some t
   slow-held id t its =
-      numbered-interleaved id s.me.0.slow s.me.0.fast differ (inr (none-numbered id s.me.0.fast (spared id t its))) ∙ found-first (λ (u : Own). u.number == id) s.me.0.slow s.me.0.fast t its
+      numbered-interleaved id s.me.0.slow s.me.0.fast differ (inr (none-numbered id s.me.0.fast (spared id t its))) ∙ found-first (λ (u : SessionTicket). u.number == id) s.me.0.slow s.me.0.fast t its
 
-  pub fast-held : (id : ℕ) (t : Own) → numbered id s.me.0.fast ≡ Some t → numbered id (tickets_seen s.me.0) ≡ Some t
+  pub fast-held : (id : ℕ) (t : SessionTicket) → numbered id s.me.0.fast ≡ Some t → numbered id (tickets_seen s.me.0) ≡ Some t
   fast-held id t its =
       let none = none-numbered id s.me.0.slow (numbers-apart id t s.me.0.slow s.me.0.fast rising its) in
-      numbered-interleaved id s.me.0.slow s.me.0.fast differ (inl none) ∙ found-later (λ (u : Own). u.number == id) s.me.0.slow s.me.0.fast none ∙ its
+      numbered-interleaved id s.me.0.slow s.me.0.fast differ (inl none) ∙ found-later (λ (u : SessionTicket). u.number == id) s.me.0.slow s.me.0.fast none ∙ its
 
   -- and each is one of either
-  pub held-either : (id : ℕ) (t : Own) → numbered id (tickets_seen s.me.0) ≡ Some t → (numbered id s.me.0.slow ≡ Some t) ⊎ (numbered id s.me.0.fast ≡ Some t)
+  pub held-either : (id : ℕ) (t : SessionTicket) → numbered id (tickets_seen s.me.0) ≡ Some t → (numbered id s.me.0.slow ≡ Some t) ⊎ (numbered id s.me.0.fast ≡ Some t)
   held-either id t its = by (numbered id s.me.0.slow) refl
     where
-      by : (o : Option Own) → numbered id s.me.0.slow ≡ o → (numbered id s.me.0.slow ≡ Some t) ⊎ (numbered id s.me.0.fast ≡ Some t)
+      by : (o : Option SessionTicket) → numbered id s.me.0.slow ≡ o → (numbered id s.me.0.slow ≡ Some t) ⊎ (numbered id s.me.0.fast ≡ Some t)
       by (Some u) found = inl (found ∙ sym (slow-held id u found) ∙ its)
       by None none =
-          inr (sym (numbered-interleaved id s.me.0.slow s.me.0.fast differ (inl none) ∙ found-later (λ (u : Own). u.number == id) s.me.0.slow s.me.0.fast none) ∙ its)
+          inr (sym (numbered-interleaved id s.me.0.slow s.me.0.fast differ (inl none) ∙ found-later (λ (u : SessionTicket). u.number == id) s.me.0.slow s.me.0.fast none) ∙ its)
 
   -- none is both
-  pub slow-alone : (id : ℕ) (t : Own) → numbered id s.me.0.slow ≡ Some t → numbered id s.me.0.fast ≡ None
+  pub slow-alone : (id : ℕ) (t : SessionTicket) → numbered id s.me.0.slow ≡ Some t → numbered id s.me.0.fast ≡ None
   slow-alone id t its = none-numbered id s.me.0.fast (spared id t its)
 
-  pub fast-alone : (id : ℕ) (t : Own) → numbered id s.me.0.fast ≡ Some t → is_no_number id s.me.0.slow ≡ true
+  pub fast-alone : (id : ℕ) (t : SessionTicket) → numbered id s.me.0.fast ≡ Some t → is_no_number id s.me.0.slow ≡ true
   fast-alone id t its = numbers-apart id t s.me.0.slow s.me.0.fast rising its

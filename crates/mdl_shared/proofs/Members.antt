@@ -8,8 +8,8 @@ use Rattle.mdl_calls.specs.Words.{Answer, Call}
 use Rattle.mdl_steps.specs.declared.deed.Deed.{Deed}
 use Rattle.mdl_steps.specs.declared.deed.Deed.TheVariants.{Gain, Alter, Lose}
 use Rattle.mdl_steps.specs.declared.view.Ask.{Ask}
-use Rattle.mdl_steps.specs.declared.view.Known.{Known}
-use Rattle.mdl_steps.specs.declared.view.Own.{Own}
+use Rattle.mdl_key.specs.declared.known_key.KnownKey.{KnownKey}
+use Rattle.mdl_steps.specs.declared.view.SessionTicket.{SessionTicket}
 use Rattle.mdl_steps.specs.Deeds.{all_next, all_owned}
 use Rattle.mdl_steps.specs.Interleavings.{interleaved}
 use Rattle.mdl_steps.specs.Layout.{word_count}
@@ -26,7 +26,8 @@ use Rattle.mdl_visits.specs.Numbers.{is_no_number, numbered}
 use Rattle.mdl_shared.specs.declared.member.Member.{Member}
 use Rattle.mdl_shared.specs.AllSteps.{steps_of}
 use Rattle.mdl_shared.specs.Debts.{IsOwed, OwesNoMore, but_owing}
-use Rattle.mdl_shared.specs.Members.{IsMember, are_counted, are_within, is_place_looked_up, most_numbers, without_at}
+use Rattle.mdl_key.specs.KeyLookups.{is_known}
+use Rattle.mdl_shared.specs.Members.{IsMember, are_counted, are_within, most_numbers, without_at}
 use Rattle.mdl_shared.specs.Rememberings.{AreAlike}
 use Rattle.mdl_shared.specs.SessionViews.{Lists, SessionView, all_tickets, data_of, lists_seen, session_at, tickets_seen}
 use Rattle.mdl_shared.specs.TicketLists.{HasRoom, KeepsRoom, Room, TicketList}
@@ -47,7 +48,7 @@ pub record StaysInOrder (s s′ : SessionView) : Type 0 where
   pub last : is_ask_last s′.me.0.next s′.me.0.asks ≡ true
   pub told : is_ask_told s′.me.0.asks s′.me.0.told ≡ true
   pub fewer : (s′.me.0.waits < s′.me.0.next) × (s′.me.0.waits < most_numbers)
-  pub owed : (place : ℕ) → IsOwed place s′.me.0.owes → is_place_looked_up s′.me.0.known place ≡ true
+  pub owed : (place : ℕ) → IsOwed place s′.me.0.owes → is_known place s′.me.0.known ≡ true
 
 -- and it is sound as a lock space
 pub in-order : {s s′ : SessionView} → IsMember s → StaysInOrder s s′ → s′.me.0.number ≡ s.me.0.number → IsSound (data_of s′) → IsMember s′
@@ -91,7 +92,7 @@ member-room is r = record {
 }
 
 -- and whatever it owes, if it has looked up those places
-pub member-owing : (a b : SessionView) → IsMember (but_owing a b) → ((q : ℕ) → IsOwed q b.me.0.owes → is_place_looked_up b.me.0.known q ≡ true) → IsMember b
+pub member-owing : (a b : SessionView) → IsMember (but_owing a b) → ((q : ℕ) → IsOwed q b.me.0.owes → is_known q b.me.0.known ≡ true) → IsMember b
 member-owing a b is owed = record {
   sound = is.sound;
   idle = is.idle;
@@ -111,7 +112,7 @@ member-owing a b is owed = record {
 -- ---- calls that do deeds at a place, or none
 
 -- the same fast tickets
-pub same-fast : (known : List Known) (asks : Option Ask) (fast : List Own) → StaysFast known asks fast fast
+pub same-fast : (known : List KnownKey) (asks : Option Ask) (fast : List SessionTicket) → StaysFast known asks fast fast
 same-fast known asks fast = record { unfast = λ a waits e. e; plain = λ e. e }
 
 -- what its seat's visit tells
@@ -291,7 +292,7 @@ pub lists-rescheduled : {place : ℕ} {ds : List Deed} {seat seat′ : SeatState
 lists-rescheduled visits = ap (λ (m : Mine). lists_seen m.0) visits.1.now
 
 -- they are those of its view still, where the deeds were done to its own list of tickets
-pub lists-done : (m : Member) (place : ℕ) (ds : List Deed) {l : Lists} {slow fast : List Own} → l ≡ deeds_listed place ds (lists_seen m.seat.me.0)
+pub lists-done : (m : Member) (place : ℕ) (ds : List Deed) {l : Lists} {slow fast : List SessionTicket} → l ≡ deeds_listed place ds (lists_seen m.seat.me.0)
     → slow ≡ all_owned place ds m.tickets.slow → fast ≡ m.tickets.fast
     → record { slow = slow; fast = fast; known = m.known.known; next = all_next ds m.next; asks = m.asks; waits = m.waits } ≡ l
 lists-done m place ds done slows fasts =
@@ -303,7 +304,7 @@ pub unnumbered : (m : Member) (id : ℕ) → is_no_number id m.seat.me.0.fast �
 unnumbered m id none = ap (λ (l : Lists). numbered id l.fast) m.lists ∙ none-numbered id m.seat.me.0.fast none
 
 -- so that they stay where a slow one is struck
-pub fast-struck : (m : Member) (place id : ℕ) {fast : List Own} → is_no_number id m.seat.me.0.fast ≡ true → fast ≡ without_at place id m.tickets.fast → fast ≡ m.tickets.fast
+pub fast-struck : (m : Member) (place id : ℕ) {fast : List SessionTicket} → is_no_number id m.seat.me.0.fast ≡ true → fast ≡ without_at place id m.tickets.fast → fast ≡ m.tickets.fast
 fast-struck m place id none same = same ∙ none-struck place id m.tickets.fast (ap (λ (l : Lists). is_no_number id l.fast) m.lists ∙ none)
 
 -- and have the room that they had
@@ -311,7 +312,7 @@ pub room-kept : {place : ℕ} (list list′ : TicketList) → KeepsRoom 0 list.r
 room-kept {place} list list′ more room = (omega (arith, more.0, room.0), omega (arith, more.1, room.1))
 
 -- a ticket of its own list is one of its view
-pub held-seen : (m : Member) (id : ℕ) (o : Option Own) → o ≡ numbered id (interleaved m.tickets.slow m.tickets.fast) → numbered id (tickets_seen m.seat.me.0) ≡ o
+pub held-seen : (m : Member) (id : ℕ) (o : Option SessionTicket) → o ≡ numbered id (interleaved m.tickets.slow m.tickets.fast) → numbered id (tickets_seen m.seat.me.0) ≡ o
 held-seen m id o found = ap (λ (l : Lists). numbered id (all_tickets l)) (sym m.lists) ∙ sym found
 
 -- a fault by its own lists is one of its view

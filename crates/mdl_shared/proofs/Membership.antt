@@ -11,18 +11,19 @@ use Rattle.mdl_key.specs.declared.mode.Mode.{Mode}
 use Rattle.mdl_key.specs.declared.namespace.Kind.{Kind}
 use Rattle.mdl_key.specs.Words.{KeyName, key_eq, kind_of}
 use Rattle.mdl_word.specs.Words.{increment_of}
-use Rattle.mdl_steps.specs.declared.view.Known.{Known}
-use Rattle.mdl_steps.specs.declared.view.Own.{Own}
+use Rattle.mdl_key.specs.declared.known_key.KnownKey.{KnownKey}
+use Rattle.mdl_steps.specs.declared.view.SessionTicket.{SessionTicket}
 use Rattle.mdl_steps.specs.declared.view.View.{View}
 use Rattle.mdl_steps.specs.FastPlays.{IsCounted}
 use Rattle.mdl_steps.proofs.Views.{by_bool}
 use Rattle.mdl_visits.specs.Leavings.{HasTicket}
-use Rattle.mdl_shared.specs.Members.{are_counted, are_within, increment_at, is_place_looked_up, kind_known, place_looked_up}
+use Rattle.mdl_key.specs.KeyLookups.{is_known, kind_known, place_known}
+use Rattle.mdl_shared.specs.Members.{are_counted, are_within, increment_at}
 use Rattle.mdl_visits.specs.Numbers.{numbered}
 use Rattle.mdl_visits.specs.Tables.{AreWithin}
 
 -- the ticket of a number stands in the list
-pub has_numbered : (place number : ℕ) (tickets : List Own) → option_map (λ (t : Own). t.place) (numbered number tickets) ≡ Some place → HasTicket place number tickets
+pub has_numbered : (place number : ℕ) (tickets : List SessionTicket) → option_map (λ (t : SessionTicket). t.place) (numbered number tickets) ≡ Some place → HasTicket place number tickets
 has_numbered place number [] e = absurd (cc)
 has_numbered place number (t ∷ ts) e =
     by_bool (t.number == number)
@@ -30,7 +31,7 @@ has_numbered place number (t ∷ ts) e =
     (λ miss. let later = has_numbered place number ts (rw miss at e) in (suc later.0, later.1, later.2, later.3, later.4))
 
 -- a place that is known is that of a key
-pub some_key : (place : ℕ) (known : List Known) → is_place_looked_up known place ≡ true → (i : ℕ) × (k : Known) × (get_elem? known i ≡ some k) × (k.place ≡ place)
+pub some_key : (place : ℕ) (known : List KnownKey) → is_known place known ≡ true → (i : ℕ) × (k : KnownKey) × (get_elem? known i ≡ some k) × (k.place ≡ place)
 some_key place [] e = absurd (cc)
 some_key place (k ∷ ks) e =
     by_bool (k.place == place)
@@ -38,7 +39,7 @@ some_key place (k ∷ ks) e =
     (λ miss. let later = some_key place ks (rw miss at e) in (suc later.0, later.1, later.2, later.3))
 
 -- and it is a place of the table
-pub known_within : (slots place : ℕ) (known : List Known) → are_within slots known ≡ true → is_place_looked_up known place ≡ true → (0 < place) × (place < slots)
+pub known_within : (slots place : ℕ) (known : List KnownKey) → are_within slots known ≡ true → is_known place known ≡ true → (0 < place) × (place < slots)
 known_within slots place [] all e = absurd (cc)
 known_within slots place (k ∷ ks) all e =
     let parts = and_parts (nat_lt 0 k.place && nat_lt k.place slots) (are_within slots ks) all in
@@ -50,48 +51,48 @@ known_within slots place (k ∷ ks) all e =
     (λ miss. known_within slots place ks parts.1 (rw miss at e))
 
 -- each ticket is of a place whose key the session has looked up
-abbrev pub are_placed : List Known → List Own → Bool
-are_placed known tickets = list_all (λ t. is_place_looked_up known t.place) tickets
+abbrev pub are_placed : List KnownKey → List SessionTicket → Bool
+are_placed known tickets = list_all (λ t. is_known t.place known) tickets
 
 -- so is one that stands in the list
-pub placed_at : (known : List Known) (tickets : List Own) (place number : ℕ) → are_placed known tickets ≡ true → HasTicket place number tickets → is_place_looked_up known place ≡ true
+pub placed_at : (known : List KnownKey) (tickets : List SessionTicket) (place number : ℕ) → are_placed known tickets ≡ true → HasTicket place number tickets → is_known place known ≡ true
 placed_at known tickets place number all has = at tickets all has.0 has.1 has.2 has.3
   where
-    at : (ts : List Own) → are_placed known ts ≡ true → (k : ℕ) (t : Own) → get_elem? ts k ≡ some t → t.place ≡ place → is_place_looked_up known place ≡ true
+    at : (ts : List SessionTicket) → are_placed known ts ≡ true → (k : ℕ) (t : SessionTicket) → get_elem? ts k ≡ some t → t.place ≡ place → is_known place known ≡ true
     at [] all k t there here = absurd (some-ne-none t (sym there))
     at (x ∷ xs) all zero t there here =
         let is = some-injective x t there in
-        ap (is_place_looked_up known) (sym (ap (λ (o : Own). o.place) is ∙ here)) ∙ (and_parts (is_place_looked_up known x.place) (are_placed known xs) all).0
-    at (x ∷ xs) all (suc k) t there here = at xs (and_parts (is_place_looked_up known x.place) (are_placed known xs) all).1 k t there here
+        ap (λ place. is_known place known) (sym (ap (λ (o : SessionTicket). o.place) is ∙ here)) ∙ (and_parts (is_known x.place known) (are_placed known xs) all).0
+    at (x ∷ xs) all (suc k) t there here = at xs (and_parts (is_known x.place known) (are_placed known xs) all).1 k t there here
 
 -- a known kind is that of a key that the session has looked up
-pub kind_there : (place : ℕ) (kind : Kind) (known : List Known) → kind_known place known ≡ Some kind
-    → (i : ℕ) × (k : Known) × (get_elem? known i ≡ some k) × (k.place ≡ place) × (kind_of k.key.namespace ≡ kind)
+pub kind_there : (place : ℕ) (kind : Kind) (known : List KnownKey) → kind_known place known ≡ Some kind
+    → (i : ℕ) × (k : KnownKey) × (get_elem? known i ≡ some k) × (k.place ≡ place) × (kind_of k.key.namespace ≡ kind)
 kind_there place kind [] e = absurd (cc)
 kind_there place kind (k ∷ ks) e =
     by_bool (k.place == place)
     (λ hit. let here = rw hit at e in let is : kind_of k.key.namespace ≡ kind = cc in (zero, k, refl, eqb-true k.place place hit, is))
     (λ miss. let later = kind_there place kind ks (rw miss at e) in (suc later.0, later.1, later.2, later.3, later.4))
 
-pub kind_place : (place : ℕ) (kind : Kind) (known : List Known) → kind_known place known ≡ Some kind → is_place_looked_up known place ≡ true
+pub kind_place : (place : ℕ) (kind : Kind) (known : List KnownKey) → kind_known place known ≡ Some kind → is_known place known ≡ true
 kind_place place kind [] e = absurd (cc)
 kind_place place kind (k ∷ ks) e = by_bool (k.place == place) (λ hit. rw hit refl) (λ miss. rw miss (kind_place place kind ks (rw miss at e)))
 
 -- ---- with keys more that the session knows
 
-pub still_known : (known more : List Known) (place : ℕ) → is_place_looked_up known place ≡ true → is_place_looked_up (known ++ more) place ≡ true
+pub still_known : (known more : List KnownKey) (place : ℕ) → is_known place known ≡ true → is_known place (known ++ more) ≡ true
 still_known [] more place e = absurd (cc)
 still_known (k ∷ ks) more place e =
     by_bool (k.place == place) (λ hit. rw hit refl) (λ miss. rw miss (still_known ks more place (rw miss at e)))
 
-pub within_more : (slots : ℕ) (known : List Known) (one : Known) → are_within slots known ≡ true → (0 < one.place) × (one.place < slots) → are_within slots (known ++ one ∷ []) ≡ true
+pub within_more : (slots : ℕ) (known : List KnownKey) (one : KnownKey) → are_within slots known ≡ true → (0 < one.place) × (one.place < slots) → are_within slots (known ++ one ∷ []) ≡ true
 within_more slots [] one all here = and_from _ _ (and_from _ _ (lt-ltb 0 one.place here.0) (lt-ltb one.place slots here.1)) refl
 within_more slots (k ∷ ks) one all here =
     let parts = and_parts (nat_lt 0 k.place && nat_lt k.place slots) (are_within slots ks) all in
     and_from _ _ parts.0 (within_more slots ks one parts.1 here)
 
 -- the place of a key that the session has looked up is one of the table's
-pub place_within : (slots place : ℕ) (key : KeyName) (known : List Known) → are_within slots known ≡ true → place_looked_up key known ≡ Some place → (0 < place) × (place < slots)
+pub place_within : (slots place : ℕ) (key : KeyName) (known : List KnownKey) → are_within slots known ≡ true → place_known key known ≡ Some place → (0 < place) × (place < slots)
 place_within slots place key [] all e = absurd (cc)
 place_within slots place key (k ∷ ks) all e =
     let parts = and_parts (nat_lt 0 k.place && nat_lt k.place slots) (are_within slots ks) all in
@@ -104,13 +105,13 @@ place_within slots place key (k ∷ ks) all e =
     (λ miss. place_within slots place key ks parts.1 (rw miss at e))
 
 -- a kind that is known is known still
-pub kind_still : (place : ℕ) (kind : Kind) (known more : List Known) → kind_known place known ≡ Some kind → kind_known place (known ++ more) ≡ Some kind
+pub kind_still : (place : ℕ) (kind : Kind) (known more : List KnownKey) → kind_known place known ≡ Some kind → kind_known place (known ++ more) ≡ Some kind
 kind_still place kind [] more e = absurd (cc)
 kind_still place kind (k ∷ ks) more e =
     by_bool (k.place == place) (λ hit. rw hit (rw hit at e)) (λ miss. rw miss (kind_still place kind ks more (rw miss at e)))
 
 -- so what is counted is counted still
-still_counted : (place : ℕ) (mode : Mode) (known more : List Known) → is_some (increment_at place mode known) ≡ true → is_some (increment_at place mode (known ++ more)) ≡ true
+still_counted : (place : ℕ) (mode : Mode) (known more : List KnownKey) → is_some (increment_at place mode known) ≡ true → is_some (increment_at place mode (known ++ more)) ≡ true
 still_counted place mode known more counted = by (kind_known place known) refl counted
   where
     by : (o : Option Kind) → kind_known place known ≡ o → is_some (option_and_then (λ kind. increment_of kind mode) o) ≡ true
@@ -118,7 +119,7 @@ still_counted place mode known more counted = by (kind_known place known) refl c
     by None e counts = absurd (cc)
     by (Some kind) e counts = ap (λ (o : Option Kind). is_some (option_and_then (λ k. increment_of k mode) o)) (kind_still place kind known more e) ∙ counts
 
-pub counted_and : (known more : List Known) (fast : List Own) → are_counted known fast ≡ true → are_counted (known ++ more) fast ≡ true
+pub counted_and : (known more : List KnownKey) (fast : List SessionTicket) → are_counted known fast ≡ true → are_counted (known ++ more) fast ≡ true
 counted_and known more [] all = refl
 counted_and known more (t ∷ ts) all =
     let parts = and_parts (is_some (increment_at t.place t.mode known)) (are_counted known ts) all in
@@ -136,9 +137,9 @@ counted_so v place mode one is = by (kind_known place v.known) refl is
 
 -- ---- with several keys more
 
-pub within_and : (slots : ℕ) (known more : List Known) → are_within slots known ≡ true → AreWithin slots more → are_within slots (known ++ more) ≡ true
+pub within_and : (slots : ℕ) (known more : List KnownKey) → are_within slots known ≡ true → AreWithin slots more → are_within slots (known ++ more) ≡ true
 within_and slots known [] all here = ap (are_within slots) (append-nil known) ∙ all
 within_and slots known (x ∷ xs) all here =
-    let inside : Known → Type 0 = λ k. (0 < k.place) × (k.place < slots) in
+    let inside : KnownKey → Type 0 = λ k. (0 < k.place) × (k.place < slots) in
     ap (are_within slots) (sym (append_assoc known (x ∷ []) xs))
     ∙ within_and slots (known ++ x ∷ []) xs (within_more slots known x all (All-head inside x xs here)) (All-tail inside x xs here)

@@ -4,7 +4,7 @@ use Rattle.std.specs.Prelude.{filter_map}
 use Rattle.std.proofs.lemmas.Bool.{eq-eqb, eqb-true, false≢true}
 use Rattle.mdl_steps.specs.declared.deed.Deed.{Deed}
 use Rattle.mdl_steps.specs.declared.deed.Deed.TheVariants.{Gain, Alter, Lose}
-use Rattle.mdl_steps.specs.declared.view.Own.{Own}
+use Rattle.mdl_steps.specs.declared.view.SessionTicket.{SessionTicket}
 use Rattle.mdl_steps.specs.Deeds.{is_own, owned}
 use Rattle.mdl_steps.specs.Lists.{Each}
 use Rattle.mdl_steps.proofs.Views.{by_bool}
@@ -14,7 +14,7 @@ use Rattle.mdl_shared.specs.SessionViews.{SessionView, note_of, tickets_seen}
 use Rattle.mdl_shared.proofs.SpaceNotes.{AllNoted, and_note, note-here, note-there, noted-gained, noted-in, noted-less, noted-moded, noted_under}
 
 -- where no ticket has a note, nothing is noted
-none-noted : (place : ℕ) (tickets : List Own) → AllNoted place None tickets → noted_under place tickets ≡ None
+none-noted : (place : ℕ) (tickets : List SessionTicket) → AllNoted place None tickets → noted_under place tickets ≡ None
 none-noted place tickets all = by (noted_under place tickets) (λ version is. noted-in place version None tickets all is)
   where
     by : (o : Option ℕ) → ((version : ℕ) → o ≡ Some version → None ≡ Some version) → o ≡ None
@@ -22,19 +22,19 @@ none-noted place tickets all = by (noted_under place tickets) (λ version is. no
     by (Some version) none = let e = none version refl in cc
 
 -- each ticket has the note of the first
-alike-first : (t : Own) (place : ℕ) (tickets : List Own) → t.place ≡ place → Each (λ (x : Own). x.place ≡ t.place → x.noted ≡ t.noted) tickets → AllNoted place t.noted tickets
+alike-first : (t : SessionTicket) (place : ℕ) (tickets : List SessionTicket) → t.place ≡ place → Each (λ (x : SessionTicket). x.place ≡ t.place → x.noted ≡ t.noted) tickets → AllNoted place t.noted tickets
 alike-first t place [] here each = tt
 alike-first t place (x ∷ xs) here each = ((λ e. each.0 (e ∙ sym here)), alike-first t place xs here each.1)
 
 -- which is the one that is noted there
-first-under : (t : Own) (place : ℕ) (tickets : List Own) → (t.place == place) ≡ true → AllNoted place t.noted tickets → noted_under place (t ∷ tickets) ≡ t.noted
+first-under : (t : SessionTicket) (place : ℕ) (tickets : List SessionTicket) → (t.place == place) ≡ true → AllNoted place t.noted tickets → noted_under place (t ∷ tickets) ≡ t.noted
 first-under t place tickets here all = by t.noted all
   where
     by : (n : Option ℕ) → AllNoted place n tickets → and_note place t.place n (filter_map note_of tickets) ≡ n
     by None all = none-noted place tickets all
     by (Some version) all = note-here place t.place version (filter_map note_of tickets) here
 
-alike-noted : (place : ℕ) (tickets : List Own) → AreAlike tickets → AllNoted place (noted_under place tickets) tickets
+alike-noted : (place : ℕ) (tickets : List SessionTicket) → AreAlike tickets → AllNoted place (noted_under place tickets) tickets
 alike-noted place [] alike = tt
 alike-noted place (t ∷ ts) alike =
     by_bool (t.place == place)

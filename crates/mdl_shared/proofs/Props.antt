@@ -11,20 +11,21 @@ use Rattle.mdl_key.specs.declared.namespace.Namespace.{Namespace}
 use Rattle.mdl_defs.specs.contracts.definition.Definition as definition
 use Rattle.mdl_defs.specs.declared.definition.Definition.{Definition}
 use Rattle.mdl_defs.specs.declared.definition.Definition.TheVariants.{Schema, Table}
-use Rattle.mdl_defs.specs.declared.standing.Standing.{Standing}
+use Rattle.mdl_defs.specs.declared.versioned_definition.VersionedDefinition.{VersionedDefinition}
 use Rattle.mdl_defs.specs.Definitions.{IsWellFormed}
-use Rattle.mdl_defs.specs.Standings.{MayStand, fits}
+use Rattle.mdl_defs.specs.VersionedDefinitions.{MayStand, fits}
 use Rattle.mdl_calls.specs.Words.{IsRising, Wait, is_waiting}
-use Rattle.mdl_steps.specs.contracts.view.Own as view
+use Rattle.mdl_steps.specs.contracts.view.SessionTicket as view
 use Rattle.mdl_steps.specs.declared.view.Ask.{Ask}
-use Rattle.mdl_steps.specs.declared.view.Own.{Own}
+use Rattle.mdl_steps.specs.declared.view.SessionTicket.{SessionTicket}
 use Rattle.mdl_steps.specs.Layout.{word_count}
 use Rattle.mdl_steps.specs.Lists.{Each}
-use Rattle.mdl_calls.specs.SessionData.{FitsKey, IsNoted, IsSound, SessionData, are_apart, are_below, are_placed, first_free, is_known, is_newest, key_known, last_read, noted_at}
+use Rattle.mdl_calls.specs.SessionData.{FitsKey, IsNoted, IsSound, SessionData, are_below, are_placed, first_free, is_newest, last_read, noted_at}
 use Rattle.mdl_visits.specs.Idle.{HoldsNoLatch}
 use Rattle.mdl_shared.specs.declared.member.Member.{Member}
 use Rattle.mdl_shared.specs.Debts.{IsOwed}
-use Rattle.mdl_shared.specs.Members.{IsMember, are_counted, are_within, is_place_looked_up, most_numbers}
+use Rattle.mdl_key.specs.KeyLookups.{are_apart, is_known, key_known}
+use Rattle.mdl_shared.specs.Members.{IsMember, are_counted, are_within, most_numbers}
 use Rattle.mdl_shared.specs.Passes.{view_of}
 use Rattle.mdl_shared.specs.Rememberings.{AreAlike}
 use Rattle.mdl_shared.specs.SessionViews.{SessionView, tickets_seen}
@@ -40,7 +41,7 @@ IsWellFormed-prop None = Unit-prop
 IsWellFormed-prop (Some Schema) = Unit-prop
 IsWellFormed-prop (Some (Table columns)) = hlevel props
 
-MayStand-prop : (namespace : Namespace) (standing : Standing) → IsProp (MayStand namespace standing)
+MayStand-prop : (namespace : Namespace) (standing : VersionedDefinition) → IsProp (MayStand namespace standing)
 MayStand-prop namespace standing x y =
     let limit_prop : IsProp (standing.version ≤ 1000000) = hlevel props in
     let unchanged_prop : IsProp (standing.version ≡ 0 → standing.definition ≡ None) = hlevel (props, Definition-set) in
@@ -52,7 +53,7 @@ MayStand-prop namespace standing x y =
       fits = fits_prop x.fits y.fits i;
     }
 
-FitsKey-prop : (a : SessionData) (place : ℕ) (standing : Standing) → IsProp (FitsKey a place standing)
+FitsKey-prop : (a : SessionData) (place : ℕ) (standing : VersionedDefinition) → IsProp (FitsKey a place standing)
 FitsKey-prop a place standing = by (key_known place a.known)
   where
     by : (o : Option KeyName) → IsProp (MatchOption o ⊥ (λ (key : KeyName). MayStand key.namespace standing))
@@ -68,11 +69,11 @@ Each-prop P one (x ∷ xs) = ×_prop (one x) (Each-prop P one xs)
 note-prop : (one other : Option ℕ) → IsProp (one ≡ other)
 note-prop one other = hlevel props
 
-AreAlike-prop : (tickets : List Own) → IsProp (AreAlike tickets)
+AreAlike-prop : (tickets : List SessionTicket) → IsProp (AreAlike tickets)
 AreAlike-prop [] = Unit-prop
-AreAlike-prop (t ∷ ts) = ×_prop (Each-prop (λ (x : Own). x.place ≡ t.place → x.noted ≡ t.noted) (λ x. Π_prop (λ e. note-prop x.noted t.noted)) ts) (AreAlike-prop ts)
+AreAlike-prop (t ∷ ts) = ×_prop (Each-prop (λ (x : SessionTicket). x.place ≡ t.place → x.noted ≡ t.noted) (λ x. Π_prop (λ e. note-prop x.noted t.noted)) ts) (AreAlike-prop ts)
 
-tickets-set : IsSet (List Own)
+tickets-set : IsSet (List SessionTicket)
 tickets-set = Coded-set (coded_list view.the_row.coded)
 
 -- ---- what is always so
@@ -92,8 +93,8 @@ IsSound-prop a x y =
     let apart_prop : IsProp (are_apart a.known ≡ true) = hlevel props in
     let settled_prop : IsProp (is_some a.settled ≡ true → is_waiting a.own ≡ true) = hlevel props in
     let noted_prop : IsProp ((place version : ℕ) → noted_at place a.notes ≡ Some version → IsNoted a place version) = hlevel props in
-    let newest_prop : IsProp ((place : ℕ) (standing : Standing) → last_read place a.reads ≡ Some standing → is_newest place standing.version a.reads ≡ true) = hlevel props in
-    let fits_prop : IsProp ((place : ℕ) (standing : Standing) → last_read place a.reads ≡ Some standing → FitsKey a place standing) =
+    let newest_prop : IsProp ((place : ℕ) (standing : VersionedDefinition) → last_read place a.reads ≡ Some standing → is_newest place standing.version a.reads ≡ true) = hlevel props in
+    let fits_prop : IsProp ((place : ℕ) (standing : VersionedDefinition) → last_read place a.reads ≡ Some standing → FitsKey a place standing) =
     Π_prop (λ place. Π_prop (λ standing. Π_prop (λ e. FitsKey-prop a place standing))) in
     λ i. record {
       rising = rising_prop x.rising y.rising i;
@@ -116,7 +117,7 @@ IsMember-prop s x y =
     let last_prop : IsProp (is_ask_last s.me.0.next s.me.0.asks ≡ true) = hlevel props in
     let told_prop : IsProp (is_ask_told s.me.0.asks s.me.0.told ≡ true) = hlevel props in
     let fewer_prop : IsProp ((s.me.0.waits < s.me.0.next) × (s.me.0.waits < most_numbers)) = hlevel props in
-    let owed_prop : IsProp ((place : ℕ) → IsOwed place s.me.0.owes → is_place_looked_up s.me.0.known place ≡ true) = hlevel props in
+    let owed_prop : IsProp ((place : ℕ) → IsOwed place s.me.0.owes → is_known place s.me.0.known ≡ true) = hlevel props in
     let counted_prop : IsProp ((0 < s.me.0.number) × (s.me.0.number ≤ s.sessions)) = hlevel props in
     let narrow_prop : IsProp ((0 < s.table.slots) × (s.table.slots ≤ 65536)) = hlevel props in
     let words_prop : IsProp (s.table.words ≡ word_count s.table.slots s.sessions) = hlevel props in

@@ -2,7 +2,7 @@
 use Rattle.std.proofs.Common.{◌≡◌, ℕ, List, [], None, refl, sym, ap, subst, ◌∙◌, append-nil}
 use Rattle.mdl_calls.specs.Words.{Answer}
 use Rattle.mdl_steps.specs.declared.deed.Deed.{Deed}
-use Rattle.mdl_steps.specs.declared.view.Met.{Met}
+use Rattle.mdl_steps.specs.declared.view.StepRecord.{StepRecord}
 use Rattle.mdl_steps.specs.Plays.{Mine}
 use Rattle.mdl_steps.specs.SeatStates.{AtItsTable, SeatState}
 use Rattle.mdl_visits.specs.Polls.{SettlesNothing}
@@ -21,10 +21,10 @@ use Rattle.mdl_shared.proofs.Members.{done-debts, done-then, same-fast, seat-cha
 -- ---- steps
 
 -- a step of a part of a call is one of the whole
-pub shows-first : (a b c : SessionView) {fact : Met → Type 0} → MakesMoreSteps b.me c.me → ShowsStep a b fact → ShowsStep a c fact
+pub shows-first : (a b c : SessionView) {fact : StepRecord → Type 0} → MakesMoreSteps b.me c.me → ShowsStep a b fact → ShowsStep a c fact
 shows-first a b c more shown = (shown.0, step_before a.me b.me c.me more shown.0 shown.1, shown.2)
 
-pub shows-later : (a b c : SessionView) {fact : Met → Type 0} → MakesMoreSteps a.me b.me → ShowsStep b c fact → ShowsStep a c fact
+pub shows-later : (a b c : SessionView) {fact : StepRecord → Type 0} → MakesMoreSteps a.me b.me → ShowsStep b c fact → ShowsStep a c fact
 shows-later a b c more shown = (shown.0, step_after a.me b.me c.me more shown.0 shown.1, shown.2)
 
 -- ---- parts of a call

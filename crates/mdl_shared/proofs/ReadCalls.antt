@@ -9,26 +9,27 @@ use Rattle.mdl_defs.specs.declared.change.Change.{Change}
 use Rattle.mdl_defs.specs.declared.change.Change.TheVariants.{Drop}
 use Rattle.mdl_defs.specs.declared.change_error.ChangeError.{ChangeError}
 use Rattle.mdl_defs.specs.declared.change_error.ChangeError.TheVariants as error
-use Rattle.mdl_defs.specs.declared.standing.Standing.{Standing}
-use Rattle.mdl_defs.specs.Standings.{standing_after, standing_fault}
+use Rattle.mdl_defs.specs.declared.versioned_definition.VersionedDefinition.{VersionedDefinition}
+use Rattle.mdl_defs.specs.VersionedDefinitions.{standing_after, standing_fault}
 use Rattle.mdl_calls.specs.declared.answers.Held.{Held}
 use Rattle.mdl_calls.specs.declared.space_error.SpaceError.{SpaceError}
 use Rattle.mdl_calls.specs.declared.space_error.SpaceError.TheVariants.{NotExclusive, NotHeld, OutOfMemory}
 use Rattle.mdl_calls.specs.Words.{Changed, Reads, Refused, Change_definition, Read_definition, IsCause, cause_of, change_takes_memory, ticket_held}
 use Rattle.mdl_calls.proofs.StandingLemmas.{drop-memory, redefined-cause}
-use Rattle.mdl_steps.specs.declared.view.Met.{Met}
-use Rattle.mdl_steps.specs.declared.view.Own.{Own}
-use Rattle.mdl_steps.specs.declared.view.Read.{Read}
+use Rattle.mdl_steps.specs.declared.view.StepRecord.{StepRecord}
+use Rattle.mdl_steps.specs.declared.view.SessionTicket.{SessionTicket}
+use Rattle.mdl_defs.specs.declared.reading.Reading.{Reading}
 use Rattle.mdl_steps.specs.Plays.{Mine, noting_version}
 use Rattle.mdl_steps.specs.SeatStates.{SeatState}
 use Rattle.mdl_steps.specs.VersionPlays.{Follows}
 use Rattle.mdl_calls.specs.Meetings.{ChangesThere, IsLast, MeetsFault as Faulty, ReadsThere as Read_so}
-use Rattle.mdl_calls.specs.SessionData.{Knows, key_known as key_known_in}
+use Rattle.mdl_key.specs.KeyLookups.{key_known}
+use Rattle.mdl_calls.specs.SessionData.{Knows}
 use Rattle.mdl_session_laws.specs.SessionJoins.{Joins, TellsTruly}
 use Rattle.mdl_visits.specs.Leavings.{Learns, MeetsStanding}
 use Rattle.mdl_visits.specs.Numbers.{numbered}
 use Rattle.mdl_visits.specs.Readings.{WasHeld}
-use Rattle.mdl_visits.specs.Redefinitions.{IsNamed, Redefines, RefusesChange, exclusive_fault}
+use Rattle.mdl_visits.specs.Redefinitions.{IsChangeRefused, IsNamed, Redefines, exclusive_fault}
 use Rattle.mdl_visits.specs.Visits.{Does, StaysQuiet, Visits, VisitsOnce}
 use Rattle.mdl_visits.proofs.Doing.{does_visits}
 use Rattle.mdl_shared.specs.declared.member.Member.{Member}
@@ -46,7 +47,7 @@ use Rattle.mdl_shared.proofs.MemberFacts.{speaks}
 use Rattle.mdl_shared.proofs.Debts.{same-debts}
 use Rattle.mdl_shared.proofs.Members.{StaysInOrder}
 use Rattle.mdl_shared.proofs.SameSpace.{KeepsRest, Stays, joins-held, refused, same-stays, sees-same}
-use Rattle.mdl_shared.proofs.SpaceLists.{key-told, ticket-told}
+use Rattle.mdl_shared.proofs.SpaceLists.{ticket-told}
 use Rattle.mdl_shared.proofs.SpaceNotes.{noting-told}
 use Rattle.mdl_shared.proofs.SpaceReads.{known-there, meets-there, notes-there, read-last}
 use Rattle.mdl_shared.proofs.SpaceTickets.{holds-told, of-held}
@@ -55,8 +56,8 @@ use Rattle.mdl_shared.proofs.TicketOrder.{counted-noted, noted-both}
 -- ---- a session that reads what stands at a place
 
 -- it has noted a version under each ticket that it has there, has read this in all, and made steps; nothing else changed
-pub record NotesAll (place version : ℕ) (reads : List Read) (s s′ : SessionView) : Type 0 where
-  pub log : List Met
+pub record NotesAll (place version : ℕ) (reads : List Reading) (s s′ : SessionView) : Type 0 where
+  pub log : List StepRecord
   pub room : Room
   pub now : s′ ≡ record s {
     me = (
@@ -72,11 +73,11 @@ pub record NotesAll (place version : ℕ) (reads : List Read) (s s′ : SessionV
   }
 
 -- it has read this, and noted it
-abbrev pub HasNoted : ℕ → Standing → SessionView → SessionView → Type 0
+abbrev pub HasNoted : ℕ → VersionedDefinition → SessionView → SessionView → Type 0
 HasNoted place standing s s′ = NotesAll place standing.version (s.me.0.reads ++ record { place = place; standing = standing } ∷ []) s s′
 
 -- what its seat's visit tells
-pub noted-by : {place : ℕ} (standing : Standing) (seat seat′ : SeatState) (sessions : ℕ) {room room′ : Room} → seat′.table ≡ seat.table → Learns place standing seat.me seat′.me
+pub noted-by : {place : ℕ} (standing : VersionedDefinition) (seat seat′ : SeatState) (sessions : ℕ) {room room′ : Room} → seat′.table ≡ seat.table → Learns place standing seat.me seat′.me
     → HasNoted place standing (session_at seat sessions room) (session_at seat′ sessions room′)
 noted-by standing seat seat′ sessions {room′ = room′} table learns = record {
   log = seat.me.0.log ++ learns.0;
@@ -84,7 +85,7 @@ noted-by standing seat seat′ sessions {room′ = room′} table learns = recor
   now = λ i. record { table = table i; sessions = sessions; me = learns.1 i; room = room′ };
 }
 
-module _ {place version : ℕ} {reads : List Read} {s s′ : SessionView} (noted : NotesAll place version reads s s′) where
+module _ {place version : ℕ} {reads : List Reading} {s s′ : SessionView} (noted : NotesAll place version reads s s′) where
   pub noted-order : IsMember s → StaysInOrder s s′
   noted-order is = subst (λ (x : SessionView). StaysInOrder s x) (sym noted.now) (record {
     table = refl;
@@ -113,7 +114,7 @@ module _ {place version : ℕ} {reads : List Read} {s s′ : SessionView} (noted
   noted-drawn = ap (λ (x : SessionView). (data_of x).numbers) noted.now
 
 -- its own lists are those of its view still
-pub lists-noted : (m : Member) {place found version : ℕ} {reads : List Read} {slow fast : List Own} {s : SessionView} → NotesAll place found reads (view_of m) s → found ≡ version
+pub lists-noted : (m : Member) {place found version : ℕ} {reads : List Reading} {slow fast : List SessionTicket} {s : SessionView} → NotesAll place found reads (view_of m) s → found ≡ version
     → (slow ≡ noting_version place version m.tickets.slow) × (fast ≡ noting_version place version m.tickets.fast)
     → record { slow = slow; fast = fast; known = m.known.known; next = m.next; asks = m.asks; waits = m.waits } ≡ lists_seen s.me.0
 lists-noted m {place} {found} {version} {reads} {slow} {fast} {s} noted is same =
@@ -129,7 +130,7 @@ unfit-joins {s} is id change why fault =
     let told = by (numbered id (tickets_seen s.me.0)) refl fault in
     refused s s (Change_definition s.me.0.number id change) why (same-stays s) (speaks is) refl refl told.0 (λ state how met. cc) told.1
   where
-    by : (o : Option Own) → numbered id (tickets_seen s.me.0) ≡ o → exclusive_fault o ≡ Some why
+    by : (o : Option SessionTicket) → numbered id (tickets_seen s.me.0) ≡ o → exclusive_fault o ≡ Some why
         → IsCause (Knows (data_of s) s.me.0.number) (Change_definition s.me.0.number id change) why (data_of s).own
         × TellsTruly (Change_definition s.me.0.number id change) (Refused why) (data_of s) (data_of s)
     by None its e =
@@ -150,9 +151,9 @@ unfit-joins {s} is id change why fault =
 
 -- ---- under a ticket that it has
 
-module _ {s : SessionView} (is : IsMember s) (id : ℕ) (t : Own) (its : numbered id (tickets_seen s.me.0) ≡ Some t) where
+module _ {s : SessionView} (is : IsMember s) (id : ℕ) (t : SessionTicket) (its : numbered id (tickets_seen s.me.0) ≡ Some t) where
   -- reads
-  pub last-joins : {s′ : SessionView} (standing : Standing) {reads : List Read} → NotesAll t.place standing.version reads s s′ → Follows t.place standing s.me
+  pub last-joins : {s′ : SessionView} (standing : VersionedDefinition) {reads : List Reading} → NotesAll t.place standing.version reads s s′ → Follows t.place standing s.me
       → IsLast t.place standing (data_of s).reads (data_of s′).reads
       → Joins (data_of s) (Read_definition s.me.0.number id) (Reads standing.version standing.definition) (data_of s′)
   last-joins {s′} standing noted follows last =
@@ -163,18 +164,18 @@ module _ {s : SessionView} (is : IsMember s) (id : ℕ) (t : Own) (its : numbere
       (meets-there s t.place standing follows, notes-there s s′ id t.place t standing its refl (noted-tickets noted) last))
       tt
 
-  pub read-joins : {s′ : SessionView} (standing : Standing) → HasNoted t.place standing s s′ → Follows t.place standing s.me
+  pub read-joins : {s′ : SessionView} (standing : VersionedDefinition) → HasNoted t.place standing s s′ → Follows t.place standing s.me
       → Joins (data_of s) (Read_definition s.me.0.number id) (Reads standing.version standing.definition) (data_of s′)
   read-joins {s′} standing noted follows =
       last-joins standing noted follows (read-last s s′ t.place standing (ap (λ (x : SessionView). x.me.0.reads) noted.now))
 
-  pub read-shows : {s′ : SessionView} (standing : Standing) → HasNoted t.place standing s s′ → Follows t.place standing s.me → Does [] s.me s′.me → StaysQuiet s.me s′.me
+  pub read-shows : {s′ : SessionView} (standing : VersionedDefinition) → HasNoted t.place standing s s′ → Follows t.place standing s.me → Does [] s.me s′.me → StaysQuiet s.me s′.me
       → ShowsStep s s′ (λ e. MeetsStanding t.place s.me.0.number standing e × (numbered id s.me.0.slow ≡ Some t → WasHeld t.place s.me.0.number id e))
       → VisitsOnce t.place s.me s′.me → KeepsRoom 0 s.room s′.room → Shows (Read_definition s.me.0.number id) (Reads standing.version standing.definition) s s′
   read-shows {s′} standing noted follows did quiet met once keeps = record {
     table = ap (λ (x : SessionView). x.table) noted.now;
     sessions = ap (λ (x : SessionView). x.sessions) noted.now;
-    refused = if-clear _ (holding_fault id (tickets_seen s.me.0)) (ap (λ (o : Option Own). if is_some o then None else Some NotHeld) its);
+    refused = if-clear _ (holding_fault id (tickets_seen s.me.0)) (ap (λ (o : Option SessionTicket). if is_some o then None else Some NotHeld) its);
     did = did;
     settled = ap (λ (x : SessionView). x.me.0.settles) noted.now;
     told = ap (λ (x : SessionView). x.me.0.told) noted.now;
@@ -192,7 +193,7 @@ module _ {s : SessionView} (is : IsMember s) (id : ℕ) (t : Own) (its : numbere
   unread-shows {s′} table sessions visit quiet once keeps = record {
     table = table;
     sessions = sessions;
-    refused = if-clear _ (holding_fault id (tickets_seen s.me.0)) (ap (λ (o : Option Own). if is_some o then None else Some NotHeld) its);
+    refused = if-clear _ (holding_fault id (tickets_seen s.me.0)) (ap (λ (o : Option SessionTicket). if is_some o then None else Some NotHeld) its);
     did = does_visits s.me _ t.place [] visit;
     settled = ap (λ (m : Mine). m.0.settles) visit.now;
     told = ap (λ (m : Mine). m.0.told) visit.now;
@@ -203,9 +204,9 @@ module _ {s : SessionView} (is : IsMember s) (id : ℕ) (t : Own) (its : numbere
   }
 
   -- the key that the session knows at a place is that of the book which it met
-  named-there : (met key : KeyName) → IsNamed t.place met s.me → key_known_in t.place (data_of s).known ≡ Some key → met ≡ key
+  named-there : (met key : KeyName) → IsNamed t.place met s.me → key_known t.place (data_of s).known ≡ Some key → met ≡ key
   named-there met key named knows =
-      let there = known-there t.place key s.me.0.known (sym (key-told t.place s.me.0.known) ∙ knows) in
+      let there = known-there t.place key s.me.0.known (knows) in
       named there.0 there.1 there.2 there.3 ∙ there.4
 
   -- of the ticket that is held
@@ -214,7 +215,7 @@ module _ {s : SessionView} (is : IsMember s) (id : ℕ) (t : Own) (its : numbere
 
   -- changes
   module _ (s′ : SessionView) (change : Change) (exclusive : same_mode t.mode X ≡ true) where
-    pub change-joins : (standing : Standing) (version : ℕ) → HasNoted t.place standing s s′ → standing.version ≡ version → Redefines t.place change version s.me s′.me
+    pub change-joins : (standing : VersionedDefinition) (version : ℕ) → HasNoted t.place standing s s′ → standing.version ≡ version → Redefines t.place change version s.me s′.me
         → Joins (data_of s) (Change_definition s.me.0.number id change) (Changed version) (data_of s′)
     change-joins standing version noted same redefines =
         let stood = redefines.meets.latch.book.standing in
@@ -240,7 +241,7 @@ module _ {s : SessionView} (is : IsMember s) (id : ℕ) (t : Own) (its : numbere
         × TellsTruly (Change_definition s.me.0.number id change) (Refused w) (data_of s) (data_of s′)
 
     -- refused for what was met, or since memory ran out
-    refused-so : (w : ChangeError) → RefusesChange t.place s.me.0.number change w s.me s′.me → IsToldSo (cause_of w)
+    refused-so : (w : ChangeError) → IsChangeRefused t.place s.me.0.number change w s.me s′.me → IsToldSo (cause_of w)
     refused-so w (inl met) =
         let fault = met.2.fault in
         let latch = met.2.latch in (
@@ -265,7 +266,7 @@ module _ {s : SessionView} (is : IsMember s) (id : ℕ) (t : Own) (its : numbere
         out (error.Def d) e = cc
         out error.OutOfMemory e = refl
 
-        memory-cause : (w : ChangeError) (key : KeyName) (standing : Standing) → standing_fault key.namespace change standing ≡ Some w
+        memory-cause : (w : ChangeError) (key : KeyName) (standing : VersionedDefinition) → standing_fault key.namespace change standing ≡ Some w
             → cause_of w ≡ OutOfMemory → change_takes_memory change ≡ true
         memory-cause w key standing fault e =
             drop-memory key.namespace change standing (Err error.OutOfMemory)
@@ -280,13 +281,13 @@ module _ {s : SessionView} (is : IsMember s) (id : ℕ) (t : Own) (its : numbere
         takes Drop apart = absurd (apart refl)
         takes _ apart = refl
 
-    pub unchanged-joins : Stays s s′ → (w : ChangeError) → RefusesChange t.place s.me.0.number change w s.me s′.me
+    pub unchanged-joins : Stays s s′ → (w : ChangeError) → IsChangeRefused t.place s.me.0.number change w s.me s′.me
         → Joins (data_of s) (Change_definition s.me.0.number id change) (Refused (cause_of w)) (data_of s′)
     unchanged-joins stays w why =
         let told = refused-so w why in
         refused s s′ (Change_definition s.me.0.number id change) (cause_of w) stays (speaks is) refl refl told.0 (λ state how met. cc) told.1
 
-    pub unchanged-shows : s′.table ≡ s.table → s′.sessions ≡ s.sessions → Visits t.place [] s.me s′.me → (w : ChangeError) → RefusesChange t.place s.me.0.number change w s.me s′.me
+    pub unchanged-shows : s′.table ≡ s.table → s′.sessions ≡ s.sessions → Visits t.place [] s.me s′.me → (w : ChangeError) → IsChangeRefused t.place s.me.0.number change w s.me s′.me
         → VisitsOnce t.place s.me s′.me → KeepsRoom 0 s.room s′.room → Shows (Change_definition s.me.0.number id change) (Refused (cause_of w)) s s′
     unchanged-shows table sessions visit w why once keeps = record {
       table = table;

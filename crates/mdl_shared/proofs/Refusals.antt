@@ -3,7 +3,7 @@ use Rattle.std.proofs.Common.{◌≡◌, List, [], Some, IfSome, Option, inl, re
 use Rattle.mdl_calls.specs.declared.space_error.SpaceError.{SpaceError}
 use Rattle.mdl_calls.specs.Words.{Refused, Call, Resolve, Try_now, Begin_wait, Search, Poll_wait, Settle_timeout, End_wait, Wait_of, Kill, Release, Clone_ticket, Upgrade_now, Merge, Downgrade, Read_definition, Read_kept, Change_definition, Tables_of, Key_of}
 use Rattle.mdl_steps.specs.declared.deed.Deed.{Deed}
-use Rattle.mdl_steps.specs.declared.view.Own.{Own}
+use Rattle.mdl_steps.specs.declared.view.SessionTicket.{SessionTicket}
 use Rattle.mdl_steps.specs.Plays.{Mine}
 use Rattle.mdl_visits.specs.Visits.{Does}
 use Rattle.mdl_shared.specs.SessionViews.{Lists, SessionView, lists_seen, tickets_seen}
@@ -16,7 +16,7 @@ pub does-nothing : (m : Mine) → Does [] m m
 does-nothing m = ([], sym (append-nil m.0.log), refl)
 
 -- a refusal does no deed, settles no wait, and changes nothing that is known or owed
-done-refused : (call : Call) (why : SpaceError) (tickets : List Own) → (steps_of call).did (Refused why) tickets ≡ []
+done-refused : (call : Call) (why : SpaceError) (tickets : List SessionTicket) → (steps_of call).did (Refused why) tickets ≡ []
 done-refused (Try_now who place mode) why tickets = refl
 done-refused _ why tickets = refl
 

@@ -8,11 +8,12 @@ use Rattle.mdl_calls.specs.declared.answers.Settled.TheVariants as settled_as
 use Rattle.mdl_calls.specs.declared.space_error.SpaceError.{SpaceError}
 use Rattle.mdl_calls.specs.Words.{Answer, Call, Draws, IsCause, IsExplained, Numbers, Refused, SessionLocks, Wait, caller, is_answer_of, own_after, told}
 use Rattle.mdl_steps.specs.declared.view.Ask.{Ask}
-use Rattle.mdl_steps.specs.declared.view.Own.{Own}
-use Rattle.mdl_steps.specs.declared.view.Read.{Read}
+use Rattle.mdl_steps.specs.declared.view.SessionTicket.{SessionTicket}
+use Rattle.mdl_defs.specs.declared.reading.Reading.{Reading}
 use Rattle.mdl_calls.specs.Learning.{KeepsSettled}
 use Rattle.mdl_calls.specs.Meetings.{ReadsNothing}
-use Rattle.mdl_calls.specs.SessionData.{Reading, SpeaksFor, Knows, is_known}
+use Rattle.mdl_key.specs.KeyLookups.{is_known}
+use Rattle.mdl_calls.specs.SessionData.{SpeaksFor, Knows}
 use Rattle.mdl_session_laws.specs.SessionJoins.{Joins, LearnsKeys, LetsRead, TellsTruly, ends_wait, gained_at, session_has_call, wait_met}
 use Rattle.mdl_session_laws.proofs.RefusedCalls.{KeepsAll, reads-nothing, refused-joins}
 use Rattle.mdl_visits.specs.Grantings.{StaysTold}
@@ -20,12 +21,8 @@ use Rattle.mdl_visits.specs.Polls.{settled_state}
 use Rattle.mdl_visits.specs.Readings.{SeatReadsNothing as ReadNothing}
 use Rattle.mdl_shared.specs.OwnLists.{as_held}
 use Rattle.mdl_shared.specs.SessionViews.{SessionView, data_of, note_of, settled_of, settled_told, tickets_seen}
-use Rattle.mdl_shared.proofs.SpaceLists.{known_of}
 
 -- ---- what a session has
-
-abbrev pub reading_of : Read → Reading
-reading_of r = record { place = r.place; standing = r.standing }
 
 -- its wait, by the ticket that it asks for
 abbrev pub wait_by : ℕ → Option Ask → Option Wait
@@ -35,14 +32,14 @@ abbrev pub own_of : List Held → Option Wait → SessionLocks
 own_of held wait = record { held = held; wait = wait }
 
 -- by its tickets and its wait
-abbrev pub own_by : List Own → Option Ask → ℕ → SessionLocks
+abbrev pub own_by : List SessionTicket → Option Ask → ℕ → SessionLocks
 own_by tickets asks waits = record { held = map as_held tickets; wait = wait_by waits asks }
 
 -- and the last numbers that it gave
 abbrev pub numbers_by : ℕ → ℕ → Numbers
 numbers_by next waits = record { last_ticket = next - 1; last_wait = waits }
 
-pub own-same : (tickets tickets′ : List Own) (asks asks′ : Option Ask) (waits waits′ : ℕ) → tickets′ ≡ tickets → asks′ ≡ asks → waits′ ≡ waits
+pub own-same : (tickets tickets′ : List SessionTicket) (asks asks′ : Option Ask) (waits waits′ : ℕ) → tickets′ ≡ tickets → asks′ ≡ asks → waits′ ≡ waits
     → own_by tickets′ asks′ waits′ ≡ own_by tickets asks waits
 own-same tickets tickets′ asks asks′ waits waits′ t a w =
     ap (λ x. own_by x asks′ waits′) t ∙ ap (λ x. own_by tickets x waits′) a ∙ ap (λ x. own_by tickets asks x) w
@@ -139,10 +136,10 @@ keeps-all m m′ stays = record {
   number = stays.number;
   own = own-same (tickets_seen m.me.0) (tickets_seen m′.me.0) m.me.0.asks m′.me.0.asks m.me.0.waits m′.me.0.waits stays.tickets stays.wait.asks stays.wait.waits;
   numbers = numbers-same m.me.0.next m′.me.0.next m.me.0.waits m′.me.0.waits stays.next stays.wait.waits;
-  known = ap (map known_of) stays.known;
+  known = stays.known;
   settled = keeps-settled m m′ stays.wait;
   notes = ap (filter_map note_of) stays.tickets;
-  reads = ap (map reading_of) stays.reads;
+  reads = stays.reads;
 }
 
 -- a refused call joins the two
@@ -206,7 +203,7 @@ joins-held m m′ call answer held rest mine has fits its own draws explained ga
   numbers = draws;
   explained = explained;
   gained = gained;
-  learns = subst (LearnsKeys call answer (data_of m).known) (sym (ap (map known_of) rest.known)) learns;
+  learns = subst (LearnsKeys call answer (data_of m).known) (sym rest.known) learns;
   agreed = agreed;
   told = tells;
   settled = subst (λ (e : Bool). KeepsSettled e (data_of m) (data_of m′)) (sym ends) (keeps-settled m m′ rest.wait);

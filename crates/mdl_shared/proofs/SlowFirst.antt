@@ -8,8 +8,8 @@ use Rattle.mdl_calls.specs.declared.answers.Upgrade.TheVariants as upgrade
 use Rattle.mdl_calls.specs.declared.space_error.SpaceError.{SpaceError}
 use Rattle.mdl_calls.specs.Words.{Done, IsCause, Merge, Refused, Upgrade_now, Upgraded, Would_wait, upgrade_tried}
 use Rattle.mdl_steps.specs.declared.deed.Deed.TheVariants.{Alter, Lose}
-use Rattle.mdl_steps.specs.declared.view.Met.{Met}
-use Rattle.mdl_steps.specs.declared.view.Own.{Own}
+use Rattle.mdl_steps.specs.declared.view.StepRecord.{StepRecord}
+use Rattle.mdl_steps.specs.declared.view.SessionTicket.{SessionTicket}
 use Rattle.mdl_steps.specs.Interleavings.{interleaved}
 use Rattle.mdl_calls.specs.SessionData.{Knows}
 use Rattle.mdl_session_laws.specs.SessionJoins.{Joins}
@@ -50,16 +50,16 @@ pub becomes-slow : (m m′ : Member) → DoesQuietly 0 [] (view_of m) (view_of m
 becomes-slow m m′ quiet made keeps = record { quiet = quiet; unfast = unfast-seen m′ made.0; made = made.1; room = keeps }
 
 -- so each ticket that the session had is a slow one
-pub slow-then : {place : ℕ} (m m′ : Member) → DidDeeds place [] (view_of m) (view_of m′) → m′.tickets.fast ≡ [] → (id : ℕ) (t : Own)
+pub slow-then : {place : ℕ} (m m′ : Member) → DidDeeds place [] (view_of m) (view_of m′) → m′.tickets.fast ≡ [] → (id : ℕ) (t : SessionTicket)
     → numbered id (interleaved m.tickets.slow m.tickets.fast) ≡ Some t → numbered t.number m′.tickets.slow ≡ Some t
 slow-then m m′ done none id t found =
     let its = ap (numbered id) (same-lists m m′ done).tickets ∙ found in
-    let slow = subst (λ (ts : List Own). numbered id (interleaved m′.tickets.slow ts) ≡ Some t) none its in
+    let slow = subst (λ (ts : List SessionTicket). numbered id (interleaved m′.tickets.slow ts) ≡ Some t) none its in
     subst (λ (n : ℕ). numbered n m′.tickets.slow ≡ Some t) (sym (has_number id t m′.tickets.slow slow)) slow
 
 -- ---- upgrades, to a mode that the ticket's own doesn't cover
 
-module _ {a : SessionView} (is : IsMember a) (id : ℕ) (t : Own) (its : numbered id (tickets_seen a.me.0) ≡ Some t) (mode : Mode)
+module _ {a : SessionView} (is : IsMember a) (id : ℕ) (t : SessionTicket) (its : numbered id (tickets_seen a.me.0) ≡ Some t) (mode : Mode)
     (clear : upgrade_fault mode a.me.0.known a.me.0.asks (numbered id (tickets_seen a.me.0)) ≡ None) where
   -- there was no room for the fast tickets
   pub upgrade-refused : {b : SessionView} {why : SpaceError} → covers t.mode mode ≡ false → DoesQuietly 0 [] a b → LacksRoomForFast why a b → StopsSlowing a.me b.me → KeepsRoom 0 a.room b.room
@@ -112,7 +112,7 @@ module _ {a : SessionView} (is : IsMember a) (id : ℕ) (t : Own) (its : numbere
 
 -- ---- merges
 
-module _ {a : SessionView} (is : IsMember a) (old new : ℕ) (kept gone : Own) (its : numbered old (tickets_seen a.me.0) ≡ Some kept)
+module _ {a : SessionView} (is : IsMember a) (old new : ℕ) (kept gone : SessionTicket) (its : numbered old (tickets_seen a.me.0) ≡ Some kept)
     (other : numbered new (tickets_seen a.me.0) ≡ Some gone)
     (clear : merge_fault (numbered old (tickets_seen a.me.0)) (numbered new (tickets_seen a.me.0)) a.me.0.asks ≡ None) where
   free : merge_fault (Some kept) (Some gone) a.me.0.asks ≡ None
@@ -132,7 +132,7 @@ module _ {a : SessionView} (is : IsMember a) (old new : ℕ) (kept gone : Own) (
   -- the tickets are one
   pub merged-slow : {b c : SessionView} → BecomesSlow a b → SlowsAll a.me b.me → VisitsOnce kept.place b.me c.me → KeepsRoom 0 b.room c.room
       → DoesQuietly kept.place (Alter kept.number gone.mode ∷ Lose gone.number ∷ []) b c
-      → ((e : Met) × IsStepOf b.me c.me e × MeetsOwn kept.place b.me.0.number kept.number e × MeetsOwn kept.place b.me.0.number gone.number e
+      → ((e : StepRecord) × IsStepOf b.me c.me e × MeetsOwn kept.place b.me.0.number kept.number e × MeetsOwn kept.place b.me.0.number gone.number e
       × (e.deeds ≡ Alter kept.number gone.mode ∷ Lose gone.number ∷ []))
       → Joins (data_of a) (Merge a.me.0.number old new) Done (data_of c) × Shows (Merge a.me.0.number old new) Done a c
   merged-slow {b} {c} slow turn once keeps went step =

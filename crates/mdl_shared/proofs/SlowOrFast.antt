@@ -7,11 +7,12 @@ use Rattle.mdl_key.specs.declared.namespace.Kind.{Kind}
 use Rattle.mdl_key.specs.declared.namespace.Kind.TheVariants.{Scoped, Object}
 use Rattle.mdl_word.specs.Words.{increment_of}
 use Rattle.mdl_system.specs.Strength.{may_downgrade}
-use Rattle.mdl_steps.specs.declared.view.Known.{Known}
-use Rattle.mdl_steps.specs.declared.view.Own.{Own}
+use Rattle.mdl_key.specs.declared.known_key.KnownKey.{KnownKey}
+use Rattle.mdl_steps.specs.declared.view.SessionTicket.{SessionTicket}
 use Rattle.mdl_visits.specs.Numbers.{numbered}
 use Rattle.mdl_shared.specs.declared.member.Member.{Member}
-use Rattle.mdl_shared.specs.Members.{IsMember, increment_at, kind_known}
+use Rattle.mdl_key.specs.KeyLookups.{kind_known}
+use Rattle.mdl_shared.specs.Members.{IsMember, increment_at}
 use Rattle.mdl_shared.specs.SessionViews.{Lists, SessionView, tickets_seen}
 use Rattle.mdl_shared.proofs.FastFacts.{counted-found}
 use Rattle.mdl_shared.proofs.MemberFacts.{fast-alone, held-either}
@@ -20,7 +21,7 @@ use Rattle.mdl_shared.proofs.TicketOrder.{none-numbered}
 -- ---- tickets that no word counts
 
 -- a mode that no word counts is counted at no place
-uncounted : (place : ℕ) (held : Mode) (known : List Known) → ((kind : Kind) → increment_of kind held ≡ None) → increment_at place held known ≡ None
+uncounted : (place : ℕ) (held : Mode) (known : List KnownKey) → ((kind : Kind) → increment_of kind held ≡ None) → increment_at place held known ≡ None
 uncounted place held known never = by (kind_known place known)
   where
     by : (o : Option Kind) → option_and_then (λ kind. increment_of kind held) o ≡ None
@@ -41,7 +42,7 @@ weakened-uncounted _ weaker may kind = absurd (cc)
 
 -- ---- a session's ticket
 
-module _ {s : SessionView} (is : IsMember s) (id : ℕ) (t : Own) where
+module _ {s : SessionView} (is : IsMember s) (id : ℕ) (t : SessionTicket) where
   -- a fast one is none of the slow ones
   pub fast-only : numbered id s.me.0.fast ≡ Some t → numbered id s.me.0.slow ≡ None
   fast-only its = none-numbered id s.me.0.slow (fast-alone is id t its)
@@ -50,15 +51,15 @@ module _ {s : SessionView} (is : IsMember s) (id : ℕ) (t : Own) where
   pub slow-else : numbered id s.me.0.fast ≡ None → numbered id (tickets_seen s.me.0) ≡ Some t → numbered id s.me.0.slow ≡ Some t
   slow-else none its = elim (held-either is id t its) [
     | inl slow ↦ slow
-    | inr fast ↦ let never : ◌≡◌ {A = Option Own} None (Some t) = sym none ∙ fast in absurd (cc)
+    | inr fast ↦ let never : ◌≡◌ {A = Option SessionTicket} None (Some t) = sym none ∙ fast in absurd (cc)
   ]
 
 -- one of a session's own list of the fast ones is one of its view, and there is none where that has none
-pub fast-seen : (m : Member) (id : ℕ) (o : Option Own) → o ≡ numbered id m.tickets.fast → numbered id m.seat.me.0.fast ≡ o
+pub fast-seen : (m : Member) (id : ℕ) (o : Option SessionTicket) → o ≡ numbered id m.tickets.fast → numbered id m.seat.me.0.fast ≡ o
 fast-seen m id o found-so = ap (λ (l : Lists). numbered id l.fast) (sym m.lists) ∙ sym found-so
 
 -- one that no word counts is slow
-pub uncounted-slow : {s : SessionView} → IsMember s → (id : ℕ) (t : Own) → numbered id (tickets_seen s.me.0) ≡ Some t → ((kind : Kind) → increment_of kind t.mode ≡ None)
+pub uncounted-slow : {s : SessionView} → IsMember s → (id : ℕ) (t : SessionTicket) → numbered id (tickets_seen s.me.0) ≡ Some t → ((kind : Kind) → increment_of kind t.mode ≡ None)
     → numbered id s.me.0.slow ≡ Some t
 uncounted-slow {s} is id t its never = elim (held-either is id t its) [
   | inl slow ↦ slow
@@ -68,5 +69,5 @@ uncounted-slow {s} is id t its never = elim (held-either is id t its) [
 ]
 
 -- so is an exclusive one
-pub exclusive-slow : {s : SessionView} → IsMember s → (id : ℕ) (t : Own) → numbered id (tickets_seen s.me.0) ≡ Some t → t.mode ≡ mode.X → numbered id s.me.0.slow ≡ Some t
+pub exclusive-slow : {s : SessionView} → IsMember s → (id : ℕ) (t : SessionTicket) → numbered id (tickets_seen s.me.0) ≡ Some t → t.mode ≡ mode.X → numbered id s.me.0.slow ≡ Some t
 exclusive-slow is id t its exclusive = uncounted-slow is id t its (λ kind. ap (increment_of kind) exclusive ∙ exclusive-uncounted kind)

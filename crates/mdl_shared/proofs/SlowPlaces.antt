@@ -4,7 +4,7 @@ use Rattle.std.proofs.lemmas.Bool.{eq-eqb, eqb-true, false≢true}
 use Rattle.std.proofs.lemmas.Bool.Decides.{nat_tests}
 use Rattle.std.specs.Prelude.{nat_lt}
 use Rattle.mdl_calls.specs.declared.space_error.SpaceError.{SpaceError}
-use Rattle.mdl_steps.specs.declared.view.Own.{Own}
+use Rattle.mdl_steps.specs.declared.view.SessionTicket.{SessionTicket}
 use Rattle.mdl_steps.specs.Cells.{own_at}
 use Rattle.mdl_steps.specs.FastPlays.{but_at}
 use Rattle.mdl_steps.specs.Lists.{Each}
@@ -21,14 +21,14 @@ use Rattle.mdl_shared.proofs.QuietDeeds.{shows-first, shows-later}
 
 -- ---- the tickets of one place, without those of another
 
-none-left : (place : ℕ) (tickets : List Own) → own_at place (but_at place tickets) ≡ []
+none-left : (place : ℕ) (tickets : List SessionTicket) → own_at place (but_at place tickets) ≡ []
 none-left place [] = refl
 none-left place (t ∷ ts) =
     by_bool (t.place == place)
     (λ here. rw here (none-left place ts))
     (λ there. rw (there, there) (none-left place ts))
 
-all-left : (place q : ℕ) (tickets : List Own) → (q == place) ≡ false → own_at q (but_at place tickets) ≡ own_at q tickets
+all-left : (place q : ℕ) (tickets : List SessionTicket) → (q == place) ≡ false → own_at q (but_at place tickets) ≡ own_at q tickets
 all-left place q [] apart = refl
 all-left place q (t ∷ ts) apart =
     by_bool (t.place == place)
@@ -36,14 +36,14 @@ all-left place q (t ∷ ts) apart =
     let is : (t.place == q) ≡ false = other t.place q place (eqb-true t.place place here) apart in
     rw (here, is) (all-left place q ts apart))
     (λ there. by_bool (t.place == q)
-    (λ its. rw (there, its) (ap (λ (us : List Own). t ∷ us) (all-left place q ts apart)))
+    (λ its. rw (there, its) (ap (λ (us : List SessionTicket). t ∷ us) (all-left place q ts apart)))
     (λ isnt. rw (there, isnt) (all-left place q ts apart)))
   where
     other : (p q place : ℕ) → p ≡ place → (q == place) ≡ false → (p == q) ≡ false
     other p q place is apart = by_bool (p == q) (λ same. absurd (false≢true (sym apart ∙ eq-eqb q place (sym (eqb-true p q same) ∙ is)))) (λ differ. differ)
 
 -- without those of a place there are fewer, where there is one
-parted : (place : ℕ) (tickets : List Own) → length (but_at place tickets) + length (own_at place tickets) ≡ length tickets
+parted : (place : ℕ) (tickets : List SessionTicket) → length (but_at place tickets) + length (own_at place tickets) ≡ length tickets
 parted place [] = refl
 parted place (t ∷ ts) =
     let more = parted place ts in
@@ -51,7 +51,7 @@ parted place (t ∷ ts) =
     (λ here. rw here (omega arith))
     (λ there. rw there (omega arith))
 
-pub fewer-left : (place : ℕ) (tickets : List Own) → 0 < length (own_at place tickets) → length (but_at place tickets) < length tickets
+pub fewer-left : (place : ℕ) (tickets : List SessionTicket) → 0 < length (own_at place tickets) → length (but_at place tickets) < length tickets
 fewer-left place tickets some = let all = parted place tickets in omega arith
 
 -- ---- one place more
@@ -81,7 +81,7 @@ slow-still a b c later so fast q = same-still a b c q later (ap (own_at q) fast)
 
 -- ---- all places
 
-filled : (t : Own) (before after : List Own) → own_at t.place (before ++ t ∷ after) ≢ []
+filled : (t : SessionTicket) (before after : List SessionTicket) → own_at t.place (before ++ t ∷ after) ≢ []
 filled t [] after none = let no = rw (eq-eqb t.place t.place refl) at none in absurd (cc)
 filled t (u ∷ us) after none = by_bool (u.place == t.place) (λ here. let no = rw here at none in absurd (cc)) (λ there. filled t us after (rw there at none))
 
@@ -94,11 +94,11 @@ all-slow a b so unfast = go [] a.me.0.fast (λ q. each q (so q))
     each q (inl same) = inl (sym same ∙ ap (own_at q) unfast)
     each q (inr made) = inr made.1
 
-    go : (before after : List Own) → ((q : ℕ) → (own_at q (before ++ after) ≡ []) ⊎ ShowsStep a b (MakesSlow q)) → Each (λ (t : Own). ShowsStep a b (MakesSlow t.place)) after
+    go : (before after : List SessionTicket) → ((q : ℕ) → (own_at q (before ++ after) ≡ []) ⊎ ShowsStep a b (MakesSlow q)) → Each (λ (t : SessionTicket). ShowsStep a b (MakesSlow t.place)) after
     go before [] all = tt
     go before (t ∷ ts) all = (
       this (all t.place),
-      go (before ++ t ∷ []) ts (λ q. subst (λ (us : List Own). (own_at q us ≡ []) ⊎ ShowsStep a b (MakesSlow q)) (sym (append_assoc before (t ∷ []) ts)) (all q)),
+      go (before ++ t ∷ []) ts (λ q. subst (λ (us : List SessionTicket). (own_at q us ≡ []) ⊎ ShowsStep a b (MakesSlow q)) (sym (append_assoc before (t ∷ []) ts)) (all q)),
     )
       where
         this : (own_at t.place (before ++ t ∷ ts) ≡ []) ⊎ ShowsStep a b (MakesSlow t.place) → ShowsStep a b (MakesSlow t.place)
@@ -108,7 +108,7 @@ all-slow a b so unfast = go [] a.me.0.fast (λ q. each q (so q))
 -- ---- there was no room
 
 -- the session has none where it has none at any place
-none-anywhere : (fast : List Own) → ((q : ℕ) → own_at q fast ≡ []) → fast ≡ []
+none-anywhere : (fast : List SessionTicket) → ((q : ℕ) → own_at q fast ≡ []) → fast ≡ []
 none-anywhere [] none = refl
 none-anywhere (t ∷ ts) none = absurd (filled t [] ts (none t.place))
 
@@ -130,9 +130,9 @@ full-after : (a b c : SessionView) → MakesMoreSteps a.me b.me → AreSameOrSlo
 full-after a b c first so (q, some, still, shown) =
     let same = same-some a b q some (so q) in (
       q,
-      subst (λ (ts : List Own). 0 < length ts) same some,
+      subst (λ (ts : List SessionTicket). 0 < length ts) same some,
       still ∙ same,
-      subst (λ (ts : List Own). ShowsStep a c (MeetsFullFor (length ts) q)) same (shows-later a b c first shown),
+      subst (λ (ts : List SessionTicket). ShowsStep a c (MeetsFullFor (length ts) q)) same (shows-later a b c first shown),
     )
 
 pub lacks-after : (a b c : SessionView) (why : SpaceError) → MakesMoreSteps a.me b.me → AreSameOrSlow a b → LacksRoomForFast why b c → LacksRoomForFast why a c
@@ -151,7 +151,7 @@ pub before-more : (a b c : SessionView) (place : ℕ) → AreSlowBefore a b → 
     → c.me.0.fast ≡ but_at place b.me.0.fast → AreSlowBefore a c
 before-more a b c place so some first fast =
     let past : so.0 ≤ place = by_bool (nat_lt place so.0)
-    (λ less. absurd (let none = ap (λ (us : List Own). length us) ((so.1 place).0 (grind (arith, nat_tests, less))) in omega (arith, some, none)))
+    (λ less. absurd (let none = ap (λ (us : List SessionTicket). length us) ((so.1 place).0 (grind (arith, nat_tests, less))) in omega (arith, some, none)))
     (λ greater. grind (arith, nat_tests, greater))
     in (
       place + 1,
@@ -170,7 +170,7 @@ before-still a b c so fast = (so.0, λ q. (λ before. ap (own_at q) fast ∙ (so
 -- ---- one visit after another
 
 -- one more
-pub turn-more : (places : List ℕ) (place : ℕ) (fast left : List Own) (a b c : Mine) → SlowsInTurn places fast left a b → IsNextFast place left → VisitsOnce place b c
+pub turn-more : (places : List ℕ) (place : ℕ) (fast left : List SessionTicket) (a b c : Mine) → SlowsInTurn places fast left a b → IsNextFast place left → VisitsOnce place b c
     → SlowsInTurn (places ++ place ∷ []) fast (but_at place left) a c
 turn-more [] place fast left a b c turn next once =
     (subst (IsNextFast place) turn.0 next, c, subst (λ (m : Mine). VisitsOnce place m c) turn.1 once, (ap (but_at place) turn.0, refl))
@@ -178,7 +178,7 @@ turn-more (p ∷ ps) place fast left a b c (first, mid, visit, later) next once 
     (first, mid, visit, turn-more ps place (but_at p fast) left mid b c later next once)
 
 -- or one that was in vain
-pub stops-more : (places : List ℕ) (left : List Own) (a b c : Mine) → SlowsInTurn places a.0.fast left a b → (place : ℕ) → IsNextFast place left
+pub stops-more : (places : List ℕ) (left : List SessionTicket) (a b c : Mine) → SlowsInTurn places a.0.fast left a b → (place : ℕ) → IsNextFast place left
     → (c ≡ b) ⊎ VisitsOnce place b c → StopsSlowing a c
 stops-more places left a b c turn place next (inl same) = (places, left, b, turn, inl same)
 stops-more places left a b c turn place next (inr once) = (places, left, b, turn, inr (place, next, once))

@@ -6,7 +6,7 @@ use Rattle.std.specs.Option.{option_map}
 use Rattle.std.proofs.lemmas.Bool.{eqb-true, eq-eqb, false≢true, ne_eqb, not_from_true}
 use Rattle.mdl_key.specs.declared.mode.Mode.{Mode}
 use Rattle.mdl_calls.specs.declared.answers.Held.{Held}
-use Rattle.mdl_steps.specs.declared.view.Own.{Own}
+use Rattle.mdl_steps.specs.declared.view.SessionTicket.{SessionTicket}
 use Rattle.mdl_steps.specs.Cells.{note_at}
 use Rattle.mdl_steps.specs.Deeds.{is_own}
 use Rattle.mdl_steps.specs.Plays.{noting_version}
@@ -18,14 +18,13 @@ use Rattle.mdl_visits.specs.Readings.{SeatReadsNothing as ReadNothing}
 use Rattle.mdl_shared.specs.Modes.{in_mode_at}
 use Rattle.mdl_shared.specs.OwnLists.{as_held}
 use Rattle.mdl_shared.specs.SessionViews.{SessionView, data_of, note_of, tickets_seen}
-use Rattle.mdl_shared.proofs.SameSpace.{reading_of}
 
 -- the version that is noted at a place
-abbrev pub noted_under : ℕ → List Own → Option ℕ
+abbrev pub noted_under : ℕ → List SessionTicket → Option ℕ
 noted_under place tickets = noted_at place (filter_map note_of tickets)
 
 -- each ticket of the place has this note, or has none
-abbrev pub AllNoted : ℕ → Option ℕ → List Own → Type 0
+abbrev pub AllNoted : ℕ → Option ℕ → List SessionTicket → Type 0
 AllNoted place mark [] = Unit {0}
 AllNoted place mark (t ∷ later) = (t.place ≡ place → t.noted ≡ mark) × AllNoted place mark later
 
@@ -53,7 +52,7 @@ front-noted place at version mark None later same here others e = others e
 front-noted place at version mark (Some v) later same here others e = sym same ∙ sym (note-here place at v later here) ∙ e
 
 -- is the note of each ticket there
-pub noted-in : (place version : ℕ) (mark : Option ℕ) (tickets : List Own) → AllNoted place mark tickets → noted_under place tickets ≡ Some version → mark ≡ Some version
+pub noted-in : (place version : ℕ) (mark : Option ℕ) (tickets : List SessionTicket) → AllNoted place mark tickets → noted_under place tickets ≡ Some version → mark ≡ Some version
 noted-in place version mark [] all e = cc
 noted-in place version mark (t ∷ ts) all e =
     by_bool (t.place == place)
@@ -62,7 +61,7 @@ noted-in place version mark (t ∷ ts) all e =
     (λ there. noted-in place version mark ts all.1 (sym (note-there place t.place t.noted (filter_map note_of ts) there) ∙ e))
 
 -- and that is noted, where there is one
-pub noted-some : (place version : ℕ) (mark : Option ℕ) (tickets : List Own) → AllNoted place mark tickets
+pub noted-some : (place version : ℕ) (mark : Option ℕ) (tickets : List SessionTicket) → AllNoted place mark tickets
     → list_all (λ (h : Held). not (h.place == place)) (map as_held tickets) ≡ false → mark ≡ Some version → noted_under place tickets ≡ Some version
 noted-some place version mark [] all some is = cc
 noted-some place version mark (t ∷ ts) all some is =
@@ -72,7 +71,7 @@ noted-some place version mark (t ∷ ts) all some is =
     subst (λ n. and_note place t.place n (filter_map note_of ts) ≡ Some version) (sym its) (note-here place t.place version (filter_map note_of ts) here))
     (λ there. note-there place t.place t.noted (filter_map note_of ts) there ∙ noted-some place version mark ts all.1 (rw there at some) is)
 
-pub noted-here : (place version : ℕ) (mark : Option ℕ) (tickets : List Own) → AllNoted place mark tickets
+pub noted-here : (place version : ℕ) (mark : Option ℕ) (tickets : List SessionTicket) → AllNoted place mark tickets
     → (ticket : Held) × Contains (map as_held tickets) ticket × (ticket.place ≡ place) → mark ≡ Some version → noted_under place tickets ≡ Some version
 noted-here place version mark tickets all holds is =
     by_bool (list_all (λ (h : Held). not (h.place == place)) (map as_held tickets))
@@ -83,14 +82,14 @@ noted-here place version mark tickets all holds is =
 
 -- ---- tickets that go, that get another mode, and that come
 
-pub noted-less : (place : ℕ) (mark : Option ℕ) (keep : Own → Bool) (tickets : List Own) → AllNoted place mark tickets → AllNoted place mark (filter keep tickets)
+pub noted-less : (place : ℕ) (mark : Option ℕ) (keep : SessionTicket → Bool) (tickets : List SessionTicket) → AllNoted place mark tickets → AllNoted place mark (filter keep tickets)
 noted-less place mark keep [] all = all
 noted-less place mark keep (t ∷ ts) all =
     by_bool (keep t)
     (λ stays. rw stays (all.0, noted-less place mark keep ts all.1))
     (λ goes. rw goes (noted-less place mark keep ts all.1))
 
-pub noted-moded : (place at number : ℕ) (mark : Option ℕ) (mode : Mode) (tickets : List Own) → AllNoted place mark tickets
+pub noted-moded : (place at number : ℕ) (mark : Option ℕ) (mode : Mode) (tickets : List SessionTicket) → AllNoted place mark tickets
     → AllNoted place mark (in_mode_at at number mode tickets)
 noted-moded place at number mark mode [] all = all
 noted-moded place at number mark mode (t ∷ ts) all =
@@ -98,13 +97,13 @@ noted-moded place at number mark mode (t ∷ ts) all =
     (λ own. rw own (all.0, noted-moded place at number mark mode ts all.1))
     (λ other. rw other (all.0, noted-moded place at number mark mode ts all.1))
 
-pub noted-last : (place : ℕ) (mark : Option ℕ) (tickets : List Own) (t : Own) → AllNoted place mark tickets → (t.place ≡ place → t.noted ≡ mark)
+pub noted-last : (place : ℕ) (mark : Option ℕ) (tickets : List SessionTicket) (t : SessionTicket) → AllNoted place mark tickets → (t.place ≡ place → t.noted ≡ mark)
     → AllNoted place mark (tickets ++ t ∷ [])
 noted-last place mark [] t all its = (its, all)
 noted-last place mark (x ∷ xs) t all its = (all.0, noted-last place mark xs t all.1 its)
 
 -- the first ticket of a place has its note
-first-note : (place : ℕ) (mark : Option ℕ) (tickets : List Own) → AllNoted place mark tickets
+first-note : (place : ℕ) (mark : Option ℕ) (tickets : List SessionTicket) → AllNoted place mark tickets
     → (note_at place tickets ≡ mark) ⊎ ((note_at place tickets ≡ None) × (noted_under place tickets ≡ None))
 first-note place mark [] all = inr (refl, refl)
 first-note place mark (t ∷ ts) all =
@@ -117,7 +116,7 @@ first-note place mark (t ∷ ts) all =
     first-there (inr b) left right = inr (right b)
 
 -- a ticket that takes the note of its place
-pub noted-gained : (at id place : ℕ) (mode : Mode) (tickets : List Own) → AllNoted at (noted_under at tickets) tickets
+pub noted-gained : (at id place : ℕ) (mode : Mode) (tickets : List SessionTicket) → AllNoted at (noted_under at tickets) tickets
     → AllNoted at (noted_under at tickets) (tickets ++ record { number = id; place = place; mode = mode; noted = note_at place tickets } ∷ [])
 noted-gained at id place mode tickets all =
     noted-last at (noted_under at tickets) tickets (record { number = id; place = place; mode = mode; noted = note_at place tickets }) all
@@ -132,7 +131,7 @@ noted-gained at id place mode tickets all =
 pub nothing-read : (m m′ : SessionView) → ReadNothing m.me m′.me
     → ((place : ℕ) → AllNoted place (noted_under place (tickets_seen m.me.0)) (tickets_seen m′.me.0)) → ReadsNothing (data_of m) (data_of m′)
 nothing-read m m′ reads all = record {
-  reads = ap (map reading_of) reads;
+  reads = reads;
   noted = λ place version is. noted-in place version (noted_under place (tickets_seen m.me.0)) (tickets_seen m′.me.0) (all place) is;
   carried = λ place version holds is. noted-here place version (noted_under place (tickets_seen m.me.0)) (tickets_seen m′.me.0) (all place) holds is;
 }
@@ -140,7 +139,7 @@ nothing-read m m′ reads all = record {
 -- ---- a version that is noted
 
 -- under each ticket at the place
-pub noting-all : (place version : ℕ) (tickets : List Own) → AllNoted place (Some version) (noting_version place version tickets)
+pub noting-all : (place version : ℕ) (tickets : List SessionTicket) → AllNoted place (Some version) (noting_version place version tickets)
 noting-all place version [] = tt
 noting-all place version (t ∷ ts) =
     by_bool (t.place == place)
@@ -148,7 +147,7 @@ noting-all place version (t ∷ ts) =
     (λ there. rw there ((λ e. absurd (false≢true (sym there ∙ eq-eqb t.place place e))), noting-all place version ts))
 
 -- they are told as they were
-pub noting-told : (place version : ℕ) (tickets : List Own) → map as_held (noting_version place version tickets) ≡ map as_held tickets
+pub noting-told : (place version : ℕ) (tickets : List SessionTicket) → map as_held (noting_version place version tickets) ≡ map as_held tickets
 noting-told place version [] = refl
 noting-told place version (t ∷ ts) =
     by_bool (t.place == place)
@@ -156,7 +155,7 @@ noting-told place version (t ∷ ts) =
     (λ there. rw there (ap (λ (held : List Held). as_held t ∷ held) (noting-told place version ts)))
 
 -- it is noted there, where there is a ticket
-pub noting-placed : (place version : ℕ) (tickets : List Own) → list_all (λ (h : Held). not (h.place == place)) (map as_held tickets) ≡ false
+pub noting-placed : (place version : ℕ) (tickets : List SessionTicket) → list_all (λ (h : Held). not (h.place == place)) (map as_held tickets) ≡ false
     → noted_under place (noting_version place version tickets) ≡ Some version
 noting-placed place version tickets some =
     noted-some place version (Some version) (noting_version place version tickets) (noting-all place version tickets)
@@ -171,7 +170,7 @@ front-same place at (Some version) later other same =
     (λ there. note-there place at (Some version) later there ∙ same ∙ sym (note-there place at (Some version) other there))
 
 -- and nothing else
-pub noting-elsewhere : (place version other : ℕ) (tickets : List Own) → other ≢ place → noted_under other (noting_version place version tickets) ≡ noted_under other tickets
+pub noting-elsewhere : (place version other : ℕ) (tickets : List SessionTicket) → other ≢ place → noted_under other (noting_version place version tickets) ≡ noted_under other tickets
 noting-elsewhere place version other [] apart = refl
 noting-elsewhere place version other (t ∷ ts) apart =
     by_bool (t.place == place)

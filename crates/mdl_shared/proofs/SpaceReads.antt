@@ -5,16 +5,15 @@ use Rattle.std.specs.List.{list_all}
 use Rattle.std.specs.Option.{option_or}
 use Rattle.std.proofs.lemmas.Bool.{and_from, eqb-true, le-leb, or_left, or_right, not_from_false}
 use Rattle.std.proofs.lemmas.Bool.Decides.{nat_tests}
-use Rattle.std.proofs.lemmas.List.{map-append}
 use mathlib.Core.Option.{some}
 use lib.ListN.{get_elem?}
 use Rattle.mdl_key.specs.Words.{KeyName}
-use Rattle.mdl_defs.specs.declared.standing.Standing.{Standing}
-use Rattle.mdl_defs.specs.Standings.{MayStand}
+use Rattle.mdl_defs.specs.declared.versioned_definition.VersionedDefinition.{VersionedDefinition}
+use Rattle.mdl_defs.specs.VersionedDefinitions.{MayStand}
 use Rattle.mdl_calls.specs.declared.answers.Held.{Held}
-use Rattle.mdl_steps.specs.declared.view.Known.{Known}
-use Rattle.mdl_steps.specs.declared.view.Own.{Own}
-use Rattle.mdl_steps.specs.declared.view.Read.{Read}
+use Rattle.mdl_key.specs.declared.known_key.KnownKey.{KnownKey}
+use Rattle.mdl_steps.specs.declared.view.SessionTicket.{SessionTicket}
+use Rattle.mdl_defs.specs.declared.reading.Reading.{Reading}
 use Rattle.mdl_steps.specs.Cells.{own_at, reads_at}
 use Rattle.mdl_steps.specs.Lists.{Each}
 use Rattle.mdl_steps.specs.Plays.{noting_version}
@@ -24,17 +23,16 @@ use Rattle.mdl_calls.specs.Meetings.{IsLast, Meets, NotesThere}
 use Rattle.mdl_calls.specs.SessionData.{Note, is_newest, last_read, noted_at}
 use Rattle.mdl_visits.specs.Numbers.{numbered}
 use Rattle.mdl_visits.specs.Readings.{SeatReadsThere}
-use Rattle.mdl_shared.specs.OwnLists.{as_held, key_looked_up}
+use Rattle.mdl_key.specs.KeyLookups.{key_known}
+use Rattle.mdl_shared.specs.OwnLists.{as_held}
 use Rattle.mdl_shared.specs.SessionViews.{SessionView, data_of, note_of, tickets_seen}
-use Rattle.mdl_shared.proofs.SameSpace.{reading_of}
-use Rattle.mdl_shared.proofs.SpaceLists.{key-told}
 use Rattle.mdl_shared.proofs.SpaceNotes.{and_note, note-here, note-there, noted_under, noting-elsewhere, noting-placed}
 use Rattle.mdl_shared.proofs.TicketOrder.{each-at}
 
 -- ---- a ticket that is held
 
 -- it is one of the place's
-pub placed-some : (place id : ℕ) (tickets : List Own) (t : Own) → numbered id tickets ≡ Some t → t.place ≡ place
+pub placed-some : (place id : ℕ) (tickets : List SessionTicket) (t : SessionTicket) → numbered id tickets ≡ Some t → t.place ≡ place
     → list_all (λ (h : Held). not (h.place == place)) (map as_held tickets) ≡ false
 placed-some place id [] t its here = cc
 placed-some place id (x ∷ xs) t its here = grind (arith, nat_tests, placed-some place id xs t)
@@ -42,8 +40,8 @@ placed-some place id (x ∷ xs) t its here = grind (arith, nat_tests, placed-som
 -- ---- a key that is known
 
 -- it stands in the list, at its place
-pub known-there : (place : ℕ) (key : KeyName) (known : List Known) → key_looked_up place known ≡ Some key
-    → (i : ℕ) × (k : Known) × (get_elem? known i ≡ some k) × (k.place ≡ place) × (k.key ≡ key)
+pub known-there : (place : ℕ) (key : KeyName) (known : List KnownKey) → key_known place known ≡ Some key
+    → (i : ℕ) × (k : KnownKey) × (get_elem? known i ≡ some k) × (k.place ≡ place) × (k.key ≡ key)
 known-there place key [] e = cc
 known-there place key (k ∷ ks) e =
     by_bool (k.place == place)
@@ -58,7 +56,7 @@ front-each P place at version None notes here mine others e = others e
 front-each P place at version (Some v) notes here mine others e = mine version (sym (note-here place at v notes here) ∙ e)
 
 -- what is so of each version that is noted there is so of the first
-pub noted-each : (P : ℕ → Type 0) (place version : ℕ) (tickets : List Own) → Each (λ (t : Own). (v : ℕ) → t.noted ≡ Some v → P v) (own_at place tickets)
+pub noted-each : (P : ℕ → Type 0) (place version : ℕ) (tickets : List SessionTicket) → Each (λ (t : SessionTicket). (v : ℕ) → t.noted ≡ Some v → P v) (own_at place tickets)
     → noted_under place tickets ≡ Some version → P version
 noted-each P place version [] each e = cc
 noted-each P place version (t ∷ ts) each e =
@@ -71,11 +69,11 @@ noted-each P place version (t ∷ ts) each e =
 -- ---- what was read
 
 -- nothing newer than this
-abbrev IsAfter : Standing → Read → Type 0
+abbrev IsAfter : VersionedDefinition → Reading → Type 0
 IsAfter standing r = (r.standing.version ≤ standing.version) × (r.standing.version ≡ standing.version → r.standing ≡ standing)
 
-newest-each : (place : ℕ) (standing : Standing) (reads : List Read) → Each (IsAfter standing) (reads_at place reads)
-    → is_newest place standing.version (map reading_of reads) ≡ true
+newest-each : (place : ℕ) (standing : VersionedDefinition) (reads : List Reading) → Each (IsAfter standing) (reads_at place reads)
+    → is_newest place standing.version reads ≡ true
 newest-each place standing [] each = refl
 newest-each place standing (r ∷ rs) each =
     by_bool (r.place == place)
@@ -85,51 +83,51 @@ newest-each place standing (r ∷ rs) each =
     (λ there. and_from _ _ (or_left _ (nat_le r.standing.version standing.version) (not_from_false (r.place == place) there)) (newest-each place standing rs (rw there at each)))
 
 -- what was read last, where it has the same version
-last-each : (place : ℕ) (standing last : Standing) (reads : List Read) → Each (IsAfter standing) (reads_at place reads)
-    → last_read place (map reading_of reads) ≡ Some last → last.version ≡ standing.version → last ≡ standing
+last-each : (place : ℕ) (standing last : VersionedDefinition) (reads : List Reading) → Each (IsAfter standing) (reads_at place reads)
+    → last_read place reads ≡ Some last → last.version ≡ standing.version → last ≡ standing
 last-each place standing last [] each e same = cc
 last-each place standing last (r ∷ rs) each e same =
     by_bool (r.place == place)
     (λ here.
     let mine = rw here at each in
-    first (last_read place (map reading_of rs)) (λ it. last-each place standing last rs mine.1 it same)
-    (λ it. let is : r.standing ≡ last = cc in sym is ∙ mine.0.1 (ap (λ (x : Standing). x.version) is ∙ same))
-    (subst (λ b. option_or (last_read place (map reading_of rs)) (if b then Some r.standing else None) ≡ Some last) here e))
+    first (last_read place rs) (λ it. last-each place standing last rs mine.1 it same)
+    (λ it. let is : r.standing ≡ last = cc in sym is ∙ mine.0.1 (ap (λ (x : VersionedDefinition). x.version) is ∙ same))
+    (subst (λ b. option_or (last_read place rs) (if b then Some r.standing else None) ≡ Some last) here e))
     (λ there.
     last-each place standing last rs (rw there at each)
-    (sym (or-none (last_read place (map reading_of rs)))
-    ∙ subst (λ b. option_or (last_read place (map reading_of rs)) (if b then Some r.standing else None) ≡ Some last) there e) same)
+    (sym (or-none (last_read place rs))
+    ∙ subst (λ b. option_or (last_read place rs) (if b then Some r.standing else None) ≡ Some last) there e) same)
   where
-    or-none : (o : Option Standing) → option_or o None ≡ o
+    or-none : (o : Option VersionedDefinition) → option_or o None ≡ o
     or-none None = refl
     or-none (Some x) = refl
 
-    first : {P : Type 0} (o : Option Standing) → (o ≡ Some last → P) → (Some r.standing ≡ Some last → P) → option_or o (Some r.standing) ≡ Some last → P
+    first : {P : Type 0} (o : Option VersionedDefinition) → (o ≡ Some last → P) → (Some r.standing ≡ Some last → P) → option_or o (Some r.standing) ≡ Some last → P
     first None later now e = now e
     first (Some x) later now e = later e
 
 -- ---- what is met at a place
 
-pub meets-there : (m : SessionView) (place : ℕ) (standing : Standing) → Follows place standing m.me → Meets place standing (data_of m)
+pub meets-there : (m : SessionView) (place : ℕ) (standing : VersionedDefinition) → Follows place standing m.me → Meets place standing (data_of m)
 meets-there m place standing follows = record {
   fits = λ key knows.
-      let there = known-there place key m.me.0.known (sym (key-told place m.me.0.known) ∙ knows) in
+      let there = known-there place key m.me.0.known (knows) in
       subst (λ (k : KeyName). MayStand k.namespace standing) there.4
       (follows.fits there.0 there.1 there.2 there.3);
   noted = λ version is.
       noted-each (λ v. v ≡ standing.version) place version (tickets_seen m.me.0)
-      (each-at (λ (t : Own). (v : ℕ) → t.noted ≡ Some v → v ≡ standing.version) place m.me.0.slow m.me.0.fast follows.noted follows.fast_noted) is;
+      (each-at (λ (t : SessionTicket). (v : ℕ) → t.noted ≡ Some v → v ≡ standing.version) place m.me.0.slow m.me.0.fast follows.noted follows.fast_noted) is;
   newest = newest-each place standing m.me.0.reads follows.reads;
   same = λ last is same. last-each place standing last m.me.0.reads follows.reads is same;
 }
 
 -- it was read there, after all that was read before
-pub read-last : (m m′ : SessionView) (place : ℕ) (standing : Standing) → SeatReadsThere place standing m.me m′.me
+pub read-last : (m m′ : SessionView) (place : ℕ) (standing : VersionedDefinition) → SeatReadsThere place standing m.me m′.me
     → IsLast place standing (data_of m).reads (data_of m′).reads
-read-last m m′ place standing reads = inl (ap (map reading_of) reads ∙ map-append reading_of m.me.0.reads (record { place = place; standing = standing } ∷ []))
+read-last m m′ place standing reads = inl reads
 
 -- it has been read last, and is noted there
-pub notes-there : (m m′ : SessionView) (id place : ℕ) (t : Own) (standing : Standing) → numbered id (tickets_seen m.me.0) ≡ Some t → t.place ≡ place
+pub notes-there : (m m′ : SessionView) (id place : ℕ) (t : SessionTicket) (standing : VersionedDefinition) → numbered id (tickets_seen m.me.0) ≡ Some t → t.place ≡ place
     → (tickets_seen m′.me.0) ≡ noting_version place standing.version (tickets_seen m.me.0) → IsLast place standing (data_of m).reads (data_of m′).reads
     → NotesThere place standing (data_of m) (data_of m′)
 notes-there m m′ id place t standing its here noted last = record {

@@ -11,9 +11,9 @@ use Rattle.mdl_calls.specs.Words.{Done, Refused, Upgraded, Would_wait, Release, 
 use Rattle.mdl_calls.specs.SessionLocks.{merging, upgraded}
 use Rattle.mdl_steps.specs.declared.deed.Deed.{Deed}
 use Rattle.mdl_steps.specs.declared.deed.Deed.TheVariants.{Alter, Lose}
-use Rattle.mdl_steps.specs.declared.view.Own.{Own}
+use Rattle.mdl_steps.specs.declared.view.SessionTicket.{SessionTicket}
 use Rattle.mdl_steps.specs.Plays.{Mine}
-use Rattle.mdl_steps.specs.declared.view.Met.{Met}
+use Rattle.mdl_steps.specs.declared.view.StepRecord.{StepRecord}
 use Rattle.mdl_steps.specs.SeatStates.{AtItsTable, SeatState}
 use Rattle.mdl_calls.specs.Meetings.{ReadsNothing}
 use Rattle.mdl_session_laws.specs.SessionJoins.{Joins}
@@ -51,7 +51,7 @@ pub deed-reads : {place : ℕ} {d : Deed} {m m′ : SessionView} → IsMember m 
 deed-reads {place} {d} {m} {m′} is done =
     nothing-read m m′ (done-reads done) (λ at. subst (AllNoted at (noted_under at (tickets_seen m.me.0))) (sym (done-tickets done)) (one-note_done m is at place d))
 
-module _ {m : SessionView} (is : IsMember m) (id : ℕ) (t : Own) (its : numbered id (tickets_seen m.me.0) ≡ Some t) where
+module _ {m : SessionView} (is : IsMember m) (id : ℕ) (t : SessionTicket) (its : numbered id (tickets_seen m.me.0) ≡ Some t) where
   -- no other ticket has its number
   here : all_of id (is_here t.place) (tickets_seen m.me.0) ≡ true
   here = only-one id (is_here t.place) (tickets_seen m.me.0) t is.sound.rising its (eq-eqb t.place t.place refl)
@@ -125,7 +125,7 @@ module _ {m : SessionView} (is : IsMember m) (id : ℕ) (t : Own) (its : numbere
 
   -- ---- merges, the ticket being kept
 
-  pub merge-joins : {m′ : SessionView} (new : ℕ) (gone : Own) → numbered new (tickets_seen m.me.0) ≡ Some gone → merge_fault (Some t) (Some gone) m.me.0.asks ≡ None
+  pub merge-joins : {m′ : SessionView} (new : ℕ) (gone : SessionTicket) → numbered new (tickets_seen m.me.0) ≡ Some gone → merge_fault (Some t) (Some gone) m.me.0.asks ≡ None
       → DidDeeds t.place (Alter id gone.mode ∷ Lose new ∷ []) m m′ → Joins (data_of m) (Merge m.me.0.number id new) Done (data_of m′)
   merge-joins {m′} new gone other clear done =
       joins-held m m′ (Merge m.me.0.number id new) Done (map (in_mode_told id (λ _. gone.mode)) (filter (λ (h : Held). not (is_number new h)) (map as_held (tickets_seen m.me.0))))
@@ -162,11 +162,11 @@ module _ {s : SessionView} (is : IsMember s) (why : SpaceError) where
 
 -- ---- what a downgrade comes to
 
-pub downgraded : (seat seat′ : SeatState) (sessions id : ℕ) {room room′ : Room} (mode : Mode) (t : Own) → IsMember (session_at seat sessions room)
+pub downgraded : (seat seat′ : SeatState) (sessions id : ℕ) {room room′ : Room} (mode : Mode) (t : SessionTicket) → IsMember (session_at seat sessions room)
     → HoldsTicket id t (session_at seat sessions room)
     → numbered t.number seat.me.0.slow ≡ Some t → downgrade_fault (numbered id (tickets_seen seat.me.0)) mode seat.me.0.known ≡ None
     → AtItsTable seat seat′ (VisitsAndReschedules seat.table t.place (Alter t.number mode ∷ []))
-    → ((e : Met) × IsStepOf seat.me seat′.me e × MeetsOwn t.place seat.me.0.number t.number e × (e.deeds ≡ Alter t.number mode ∷ []))
+    → ((e : StepRecord) × IsStepOf seat.me seat′.me e × MeetsOwn t.place seat.me.0.number t.number e × (e.deeds ≡ Alter t.number mode ∷ []))
     → VisitsOnce t.place seat.me seat′.me → KeepsRoom 0 room room′
     → Joins (data_of (session_at seat sessions room)) (Downgrade seat.me.0.number id mode) Done (data_of (session_at seat′ sessions room′))
     × Shows (Downgrade seat.me.0.number id mode) Done (session_at seat sessions room) (session_at seat′ sessions room′)

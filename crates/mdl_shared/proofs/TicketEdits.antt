@@ -9,7 +9,7 @@ use Rattle.std.proofs.lemmas.List.{length-map, length-set, length_push, get_or_a
 use Rattle.std.proofs.lemmas.List.Edits.{get_or-remove_above, get_or-remove_below, length-remove}
 use Rattle.std.proofs.lemmas.List.Elements.{filter-append}
 use Rattle.mdl_key.specs.declared.mode.Mode.{Mode}
-use Rattle.mdl_steps.specs.declared.view.Own.{Own}
+use Rattle.mdl_steps.specs.declared.view.SessionTicket.{SessionTicket}
 use Rattle.mdl_steps.specs.Deeds.{is_own}
 use Rattle.mdl_steps.specs.Interleavings.{interleaved}
 use Rattle.mdl_steps.specs.Plays.{noting_version}
@@ -21,22 +21,22 @@ use Rattle.mdl_shared.specs.OwnLists.{as_held}
 use Rattle.mdl_shared.specs.Waitings.{are_below_next}
 use Rattle.mdl_shared.specs.declared.tickets.Gained.{Gained}
 use Rattle.mdl_shared.specs.declared.tickets.OfPlace.{OfPlace}
-use Rattle.mdl_shared.specs.OwnTickets.{AreGainedRising, AreKept, StandsAt, counted_at, fast_counted_at, fast_of, is_at_place, is_fast_there, noted_in, slow_of, slowed, with_note}
+use Rattle.mdl_shared.specs.OwnTickets.{AreKept, HaveRisingNumbers, StandsAt, counted_at, fast_counted_at, fast_of, is_at_place, is_fast_there, noted_in, slow_of, slowed, with_note}
 use Rattle.mdl_shared.proofs.TicketParts.{counted, later_rise, parted, some_of}
 use Rattle.mdl_shared.proofs.TicketSearch.{each_at, nowhere}
 
 -- the first number is below one that stands later
-lower : (id : ℕ) (x : Gained) (xs : List Gained) (at : ℕ) → AreGainedRising (x ∷ xs) → StandsAt id (suc at) (x ∷ xs) → x.id < id
+lower : (id : ℕ) (x : Gained) (xs : List Gained) (at : ℕ) → HaveRisingNumbers (x ∷ xs) → StandsAt id (suc at) (x ∷ xs) → x.id < id
 lower id x xs at rising stands = subst (λ n. x.id < n) (stands.1 x) (rising 0 (suc at) x (omega arith) stands.0)
 
 later_stands : (id : ℕ) (x : Gained) (xs : List Gained) (at : ℕ) → StandsAt id (suc at) (x ∷ xs) → StandsAt id at xs
 later_stands id x xs at stands = (omega (arith, stands.0), stands.1)
 
 -- no later ticket has the number
-apart : (id : ℕ) (x : Gained) (xs : List Gained) (d : Gained) → AreGainedRising (x ∷ xs) → x.id ≡ id → (k : ℕ) → k < length xs → id < (get_or xs k d).id
+apart : (id : ℕ) (x : Gained) (xs : List Gained) (d : Gained) → HaveRisingNumbers (x ∷ xs) → x.id ≡ id → (k : ℕ) → k < length xs → id < (get_or xs k d).id
 apart id x xs d rising is k inside = subst (λ n. n < (get_or xs k d).id) is (rising 0 (suc k) d (omega arith) (omega (arith, inside)))
 
-alone : (id : ℕ) (x : Gained) (xs : List Gained) → AreGainedRising (x ∷ xs) → x.id ≡ id → list_all (λ t. not (t.id == id)) xs ≡ true
+alone : (id : ℕ) (x : Gained) (xs : List Gained) → HaveRisingNumbers (x ∷ xs) → x.id ≡ id → list_all (λ t. not (t.id == id)) xs ≡ true
 alone id x xs rising is = each_at _ x xs (λ k inside. grind (arith, nat_tests, apart id x xs x rising is k inside))
 
 -- what holds of an index holds of each
@@ -53,7 +53,7 @@ find_none id ps p (x ∷ xs) none =
     (λ kept. rw kept (grind (arith, nat_tests, later)))
     (λ left. rw left later)
 
-pub find_at : (id : ℕ) (ps : List OfPlace) (p : Gained → Bool) (xs : List Gained) (at : ℕ) (d : Gained) → AreGainedRising xs → StandsAt id at xs
+pub find_at : (id : ℕ) (ps : List OfPlace) (p : Gained → Bool) (xs : List Gained) (at : ℕ) (d : Gained) → HaveRisingNumbers xs → StandsAt id at xs
     → numbered id (some_of ps p xs) ≡ (if p (get_or xs at d) then Some (with_note ps (get_or xs at d)) else None)
 find_at id ps p [] at d rising stands = absurd (omega (arith, stands.0))
 find_at id ps p (x ∷ xs) zero d rising stands = by_bool (p x)
@@ -71,13 +71,13 @@ all_kept : (ps : List OfPlace) (xs : List Gained) → some_of ps (λ t. true) xs
 all_kept ps [] = refl
 all_kept ps (x ∷ xs) = ap (λ ts. with_note ps x ∷ ts) (all_kept ps xs)
 
-whole : (ps : List OfPlace) (xs : List Gained) → AreGainedRising xs → interleaved (slow_of ps xs) (fast_of ps xs) ≡ some_of ps (λ t. true) xs
+whole : (ps : List OfPlace) (xs : List Gained) → HaveRisingNumbers xs → interleaved (slow_of ps xs) (fast_of ps xs) ≡ some_of ps (λ t. true) xs
 whole ps xs rising = parted ps xs rising ∙ sym (all_kept ps xs)
 
-pub find_nowhere : (id : ℕ) (ps : List OfPlace) (xs : List Gained) → AreGainedRising xs → list_all (λ t. not (t.id == id)) xs ≡ true → numbered id (interleaved (slow_of ps xs) (fast_of ps xs)) ≡ None
+pub find_nowhere : (id : ℕ) (ps : List OfPlace) (xs : List Gained) → HaveRisingNumbers xs → list_all (λ t. not (t.id == id)) xs ≡ true → numbered id (interleaved (slow_of ps xs) (fast_of ps xs)) ≡ None
 find_nowhere id ps xs rising none = ap (numbered id) (whole ps xs rising) ∙ find_none id ps (λ t. true) xs none
 
-pub find_there : (id : ℕ) (ps : List OfPlace) (xs : List Gained) (at : ℕ) (d : Gained) → AreGainedRising xs → StandsAt id at xs
+pub find_there : (id : ℕ) (ps : List OfPlace) (xs : List Gained) (at : ℕ) (d : Gained) → HaveRisingNumbers xs → StandsAt id at xs
     → numbered id (interleaved (slow_of ps xs) (fast_of ps xs)) ≡ Some (with_note ps (get_or xs at d))
 find_there id ps xs at d rising stands = ap (numbered id) (whole ps xs rising) ∙ find_at id ps (λ t. true) xs at d rising stands
 
@@ -93,7 +93,7 @@ strike_none place id ps p (x ∷ xs) none =
     (λ left. rw left later)
 
 -- then none of that number is found at the place
-pub strikes_some : (place id : ℕ) (ps : List OfPlace) (p : Gained → Bool) (xs : List Gained) (u : Own)
+pub strikes_some : (place id : ℕ) (ps : List OfPlace) (p : Gained → Bool) (xs : List Gained) (u : SessionTicket)
     → list_all (λ t. not (is_own place id (with_note [] t))) xs ≡ true → numbered id (some_of ps p xs) ≡ Some u → u.place ≡ place → ⊥
 strikes_some place id ps p [] u none is here = cc
 strikes_some place id ps p (x ∷ xs) u none is here =
@@ -101,12 +101,12 @@ strikes_some place id ps p (x ∷ xs) u none is here =
     by_bool (p x)
     (λ kept. by_bool (x.id == id)
     (λ its. let first : Some (with_note ps x) ≡ Some u = rw (kept, its) at is in
-    let there : x.place ≡ place = ap (λ (o : Option Own). option_map_or (λ (t : Own). t.place) o 0) first ∙ here in
+    let there : x.place ≡ place = ap (λ (o : Option SessionTicket). option_map_or (λ (t : SessionTicket). t.place) o 0) first ∙ here in
     grind (arith, nat_tests, none, its, there))
     (λ other. later (rw (kept, other) at is) here))
     (λ left. later (rw left at is) here)
 
-pub strike_at : (place id : ℕ) (ps : List OfPlace) (p : Gained → Bool) (xs : List Gained) (at : ℕ) → AreGainedRising xs → StandsAt id at xs → ((d : Gained) → (get_or xs at d).place ≡ place)
+pub strike_at : (place id : ℕ) (ps : List OfPlace) (p : Gained → Bool) (xs : List Gained) (at : ℕ) → HaveRisingNumbers xs → StandsAt id at xs → ((d : Gained) → (get_or xs at d).place ≡ place)
     → some_of ps p (remove xs at) ≡ without_at place id (some_of ps p xs)
 strike_at place id ps p [] at rising stands there = absurd (omega (arith, stands.0))
 strike_at place id ps p (x ∷ xs) zero rising stands there =
@@ -132,7 +132,7 @@ mode_none place id mode ps p (x ∷ xs) none =
     (λ kept. rw kept (grind (arith, nat_tests, later)))
     (λ left. rw left later)
 
-pub mode_at : (place id : ℕ) (mode : Mode) (ps : List OfPlace) (p : Gained → Bool) (xs : List Gained) (at : ℕ) (t : Gained) → AreGainedRising xs → StandsAt id at xs → t ≡ get_or xs at t → t.place ≡ place
+pub mode_at : (place id : ℕ) (mode : Mode) (ps : List OfPlace) (p : Gained → Bool) (xs : List Gained) (at : ℕ) (t : Gained) → HaveRisingNumbers xs → StandsAt id at xs → t ≡ get_or xs at t → t.place ≡ place
     → p (record t { mode = mode }) ≡ p t
     → some_of ps p (set xs at (record t { mode = mode })) ≡ in_mode_at place id mode (some_of ps p xs)
 mode_at place id mode ps p [] at t rising stands is there apart = absurd (omega (arith, stands.0))
@@ -150,7 +150,7 @@ mode_at place id mode ps p (x ∷ xs) (suc at) t rising stands is there same =
     (λ left. rw left later)
 
 -- where no ticket has the number, none gets it
-pub mode_nowhere : (place id : ℕ) (mode : Mode) (ts : List Own) → numbered id ts ≡ None → in_mode_at place id mode ts ≡ ts
+pub mode_nowhere : (place id : ℕ) (mode : Mode) (ts : List SessionTicket) → numbered id ts ≡ None → in_mode_at place id mode ts ≡ ts
 mode_nowhere place id mode [] none = refl
 mode_nowhere place id mode (t ∷ ts) none = grind (arith, nat_tests, mode_nowhere place id mode ts)
 
@@ -190,7 +190,7 @@ pub still : (ps qs : List OfPlace) (p : Gained → Bool) (xs : List Gained) → 
 still ps qs p xs noted = same_notes ps qs p xs (λ q some. noted q)
 
 -- a ticket is struck, and the notes stay
-pub struck : (place id : ℕ) (ps qs : List OfPlace) (p : Gained → Bool) (xs ys : List Gained) (at : ℕ) → AreGainedRising xs → StandsAt id at xs → ((d : Gained) → (get_or xs at d).place ≡ place)
+pub struck : (place id : ℕ) (ps qs : List OfPlace) (p : Gained → Bool) (xs ys : List Gained) (at : ℕ) → HaveRisingNumbers xs → StandsAt id at xs → ((d : Gained) → (get_or xs at d).place ≡ place)
     → ys ≡ remove xs at → ((q : ℕ) → noted_in q qs ≡ noted_in q ps) → some_of qs p ys ≡ without_at place id (some_of ps p xs)
 struck place id ps qs p xs ys at rising stands there is noted = still ps qs p ys noted ∙ ap (some_of ps p) is ∙ strike_at place id ps p xs at rising stands there
 
@@ -233,11 +233,11 @@ under number ps (x ∷ xs) zero d below inside = grind (arith, nat_tests)
 under number ps (x ∷ xs) (suc i) d below inside = grind (arith, nat_tests, under number ps xs i d)
 
 -- a number above those of both lists is above all
-pub below_all : (number : ℕ) (ps : List OfPlace) (xs : List Gained) → AreGainedRising xs → are_below_next number (interleaved (slow_of ps xs) (fast_of ps xs)) ≡ true
+pub below_all : (number : ℕ) (ps : List OfPlace) (xs : List Gained) → HaveRisingNumbers xs → are_below_next number (interleaved (slow_of ps xs) (fast_of ps xs)) ≡ true
     → are_below_next number (map (with_note ps) xs) ≡ true
 below_all number ps xs rising below = rw (parted ps xs rising) at below
 
-rise_gained : (t : Gained) (ps : List OfPlace) (xs : List Gained) → are_below_next t.id (map (with_note ps) xs) ≡ true → AreGainedRising xs → AreGainedRising (xs ++ t ∷ [])
+rise_gained : (t : Gained) (ps : List OfPlace) (xs : List Gained) → are_below_next t.id (map (with_note ps) xs) ≡ true → HaveRisingNumbers xs → HaveRisingNumbers (xs ++ t ∷ [])
 rise_gained t ps xs below rising i j d before within =
     let longer = length_push xs t in
     elim (ltb j (length xs)) as (λ b. ltb j (length xs) ≡ b → (get_or (xs ++ t ∷ []) i d).id < (get_or (xs ++ t ∷ []) j d).id) [
@@ -307,7 +307,7 @@ count_struck p xs at d inside = sum_by-remove (λ (t : Gained). cond (p t) 1 0) 
 pub has_one : (p : Gained → Bool) (xs : List Gained) (at : ℕ) (d : Gained) → at < length xs → p (get_or xs at d) ≡ true → 0 < count_by p xs
 has_one p xs at d inside is = rw (← count_struck p xs at d inside) (rw is (omega arith))
 
-rise_struck : (xs : List Gained) (at : ℕ) → at < length xs → AreGainedRising xs → AreGainedRising (remove xs at)
+rise_struck : (xs : List Gained) (at : ℕ) → at < length xs → HaveRisingNumbers xs → HaveRisingNumbers (remove xs at)
 rise_struck xs at inside rising i j d before within =
     let shorter = length-remove xs at inside in
     elim (ltb j at) as (λ b. ltb j at ≡ b → (get_or (remove xs at) i d).id < (get_or (remove xs at) j d).id) [

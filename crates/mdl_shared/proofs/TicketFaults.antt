@@ -10,11 +10,11 @@ use Rattle.mdl_calls.specs.declared.space_error.SpaceError.{SpaceError}
 use Rattle.mdl_calls.specs.declared.space_error.SpaceError.TheVariants.{AlreadyWaiting, BadMode, NotHeld, NotUpgradable}
 use Rattle.mdl_calls.specs.Words.{Downgrade, Upgrade_now, Merge, IsCause, Knowledge, MayDowngrade, MayNotDowngrade, MayUpgrade, MayNotUpgrade, Mergeable, OfHeld, SessionLocks, holds, is_waiting, may_merge as may_merge_told}
 use Rattle.mdl_steps.specs.declared.view.Ask.{Ask}
-use Rattle.mdl_steps.specs.declared.view.Known.{Known}
-use Rattle.mdl_steps.specs.declared.view.Own.{Own}
+use Rattle.mdl_key.specs.declared.known_key.KnownKey.{KnownKey}
+use Rattle.mdl_steps.specs.declared.view.SessionTicket.{SessionTicket}
 use Rattle.mdl_calls.specs.SessionData.{Knows}
 use Rattle.mdl_visits.specs.Numbers.{numbered}
-use Rattle.mdl_shared.specs.Members.{kind_known}
+use Rattle.mdl_key.specs.KeyLookups.{kind_known}
 use Rattle.mdl_shared.specs.Modes.{can_merge, downgrade_fault, is_fit, merge_fault}
 use Rattle.mdl_shared.specs.OwnLists.{as_held}
 use Rattle.mdl_shared.specs.SessionViews.{SessionView, data_of, tickets_seen}
@@ -42,7 +42,7 @@ rises : (kind : Kind) (held mode : Mode) → may_upgrade held mode ≡ true → 
 rises kind held mode may = search rules
 
 -- that of a ticket is to a mode that covers the ticket's own, unless its mode covers the other one
-pub upgrade-covers : (mode : Mode) (known : List Known) (asks : Option Ask) (t : Own) → upgrade_fault mode known asks (Some t) ≡ None → covers t.mode mode ≡ false → covers mode t.mode ≡ true
+pub upgrade-covers : (mode : Mode) (known : List KnownKey) (asks : Option Ask) (t : SessionTicket) → upgrade_fault mode known asks (Some t) ≡ None → covers t.mode mode ≡ false → covers mode t.mode ≡ true
 upgrade-covers mode known asks t e short =
     (upgrade-raises t.mode mode (may (kind_known t.place known) (two-clear (can_have mode t (kind_known t.place known)) (is_some asks) NotUpgradable AlreadyWaiting e).0)).0
   where
@@ -53,7 +53,7 @@ upgrade-covers mode known asks t e short =
         ap (λ b. b || may_upgrade t.mode mode) (sym short) ∙ parts.0
 
 -- and to one of its lock's kind
-pub upgrade-kind : (mode : Mode) (known : List Known) (asks : Option Ask) (o : Option Own) (t : Own) → o ≡ Some t → upgrade_fault mode known asks o ≡ None
+pub upgrade-kind : (mode : Mode) (known : List KnownKey) (asks : Option Ask) (o : Option SessionTicket) (t : SessionTicket) → o ≡ Some t → upgrade_fault mode known asks o ≡ None
     → covers t.mode mode ≡ false → (kind : Kind) × (kind_known t.place known ≡ Some kind) × (is_mode_of kind mode ≡ true) × (is_obtrusive kind mode ≡ true) × (asks ≡ None)
 upgrade-kind mode known asks o t its e short =
     by (kind_known t.place known) refl clear.0
@@ -69,7 +69,7 @@ upgrade-kind mode known asks o t its e short =
         (kind, is, parts.1, rises kind t.mode mode (ap (λ b. b || may_upgrade t.mode mode) (sym short) ∙ parts.0), no-asks asks 0 (waits-asks asks 0 ∙ clear.1))
 
 -- whether two tickets may be merged, as they are told
-merge-told : (kept gone : Own) → may_merge_told (as_held kept) (as_held gone) ≡ can_merge kept gone
+merge-told : (kept gone : SessionTicket) → may_merge_told (as_held kept) (as_held gone) ≡ can_merge kept gone
 merge-told kept gone = and-same (not (kept.number == gone.number)) (kept.place == gone.place) (covers gone.mode kept.mode)
   where
     and-same : (x y z : Bool) → (x && y && z) ≡ (x && (y && z))
@@ -79,14 +79,14 @@ merge-told kept gone = and-same (not (kept.number == gone.number)) (kept.place =
 -- ---- why they are refused
 
 -- a ticket that is downgraded may be, and the mode fits its lock
-pub downgrade-passed : (mode : Mode) (known : List Known) (o : Option Own) (t : Own) → o ≡ Some t → downgrade_fault o mode known ≡ None
+pub downgrade-passed : (mode : Mode) (known : List KnownKey) (o : Option SessionTicket) (t : SessionTicket) → o ≡ Some t → downgrade_fault o mode known ≡ None
     → (may_downgrade t.mode mode ≡ true) × (is_fit t.place mode known ≡ true)
 downgrade-passed mode known o t its e =
     and_parts (may_downgrade t.mode mode) (is_fit t.place mode known)
     (test-passed (may_downgrade t.mode mode && is_fit t.place mode known) NotUpgradable (sym (ap (λ x. downgrade_fault x mode known) its) ∙ e))
 
 -- tickets that are merged are two, of one place, and the mode of the one that goes covers that of the other
-pub merge-passed : (kept gone : Own) (asks : Option Ask) → merge_fault (Some kept) (Some gone) asks ≡ None
+pub merge-passed : (kept gone : SessionTicket) (asks : Option Ask) → merge_fault (Some kept) (Some gone) asks ≡ None
     → (kept.number ≢ gone.number) × (kept.place ≡ gone.place) × (covers gone.mode kept.mode ≡ true)
 merge-passed kept gone asks e = by (is_some asks) e
   where
@@ -100,7 +100,7 @@ merge-passed kept gone asks e = by (is_some asks) e
         (λ same. false≢true (ap not (sym (eq-eqb kept.number gone.number same)) ∙ parts.0), eqb-true kept.place gone.place rest.0, rest.1)
 
 -- so they are at one place
-pub merge-here : (kept gone : Own) (asks : Option Ask) → merge_fault (Some kept) (Some gone) asks ≡ None → is_here kept.place gone ≡ true
+pub merge-here : (kept gone : SessionTicket) (asks : Option Ask) → merge_fault (Some kept) (Some gone) asks ≡ None → is_here kept.place gone ≡ true
 merge-here kept gone asks e = eq-eqb gone.place kept.place (sym (merge-passed kept gone asks e).1)
 
 module _ (m : SessionView) where
@@ -111,13 +111,13 @@ module _ (m : SessionView) where
   own = (data_of m).own
 
   -- a downgrade
-  pub downgrade-clear : (id : ℕ) (mode : Mode) (t : Own) → numbered id (tickets_seen m.me.0) ≡ Some t → downgrade_fault (numbered id (tickets_seen m.me.0)) mode m.me.0.known ≡ None
+  pub downgrade-clear : (id : ℕ) (mode : Mode) (t : SessionTicket) → numbered id (tickets_seen m.me.0) ≡ Some t → downgrade_fault (numbered id (tickets_seen m.me.0)) mode m.me.0.known ≡ None
       → OfHeld id own (MayDowngrade knows mode)
   downgrade-clear id mode t its e =
       let may = downgrade-passed mode m.me.0.known (numbered id (tickets_seen m.me.0)) t its e in
       of-held id (tickets_seen m.me.0) t (MayDowngrade knows mode) its (may.0, fit-known t.place mode m.me.0.known true may.1)
 
-  pub downgrade-cause : (who id : ℕ) (mode : Mode) (why : SpaceError) (o : Option Own) → numbered id (tickets_seen m.me.0) ≡ o → downgrade_fault o mode m.me.0.known ≡ Some why
+  pub downgrade-cause : (who id : ℕ) (mode : Mode) (why : SpaceError) (o : Option SessionTicket) → numbered id (tickets_seen m.me.0) ≡ o → downgrade_fault o mode m.me.0.known ≡ Some why
       → IsCause knows (Downgrade who id mode) why own
   downgrade-cause who id mode why None its e =
       let is : why ≡ NotHeld = cc in
@@ -129,7 +129,7 @@ module _ (m : SessionView) where
       fit-known t.place mode m.me.0.known false (other-false (may_downgrade t.mode mode) (is_fit t.place mode m.me.0.known) b.0 may)))
 
   -- an upgrade
-  may-have : (mode : Mode) (t : Own) → can_have mode t (kind_known t.place m.me.0.known) ≡ true → MayUpgrade knows mode (as_held t)
+  may-have : (mode : Mode) (t : SessionTicket) → can_have mode t (kind_known t.place m.me.0.known) ≡ true → MayUpgrade knows mode (as_held t)
   may-have mode t can = (
     some-kind (kind_known t.place m.me.0.known) can,
     λ key is. (and_parts (covers t.mode mode || may_upgrade t.mode mode) (is_mode_of (kind_of key.namespace) mode)
@@ -140,12 +140,12 @@ module _ (m : SessionView) where
       some-kind None e = cc
       some-kind (Some kind) e = (and_parts (covers t.mode mode || may_upgrade t.mode mode) (is_mode_of kind mode) e).0
 
-  may-not_have : (mode : Mode) (t : Own) → can_have mode t (kind_known t.place m.me.0.known) ≡ false → MayNotUpgrade knows mode (as_held t)
+  may-not_have : (mode : Mode) (t : SessionTicket) → can_have mode t (kind_known t.place m.me.0.known) ≡ false → MayNotUpgrade knows mode (as_held t)
   may-not_have mode t can = λ may key is.
       other-false (covers t.mode mode || may_upgrade t.mode mode) (is_mode_of (kind_of key.namespace) mode)
       (subst (λ o. can_have mode t o ≡ false) (kind-of_key t.place m.me.0.known key is) can) may
 
-  pub upgrade-clear : (id : ℕ) (mode : Mode) (t : Own) → numbered id (tickets_seen m.me.0) ≡ Some t → upgrade_fault mode m.me.0.known m.me.0.asks (Some t) ≡ None
+  pub upgrade-clear : (id : ℕ) (mode : Mode) (t : SessionTicket) → numbered id (tickets_seen m.me.0) ≡ Some t → upgrade_fault mode m.me.0.known m.me.0.asks (Some t) ≡ None
       → (is_waiting own ≡ false) × OfHeld id own (MayUpgrade knows mode)
   upgrade-clear id mode t its e =
       let parts = two-clear (can_have mode t (kind_known t.place m.me.0.known)) (is_some m.me.0.asks) NotUpgradable AlreadyWaiting e in (
@@ -153,7 +153,7 @@ module _ (m : SessionView) where
         of-held id (tickets_seen m.me.0) t (MayUpgrade knows mode) its (may-have mode t parts.0),
       )
 
-  pub upgrade-cause : (who id : ℕ) (mode : Mode) (why : SpaceError) (o : Option Own) → numbered id (tickets_seen m.me.0) ≡ o
+  pub upgrade-cause : (who id : ℕ) (mode : Mode) (why : SpaceError) (o : Option SessionTicket) → numbered id (tickets_seen m.me.0) ≡ o
       → upgrade_fault mode m.me.0.known m.me.0.asks o ≡ Some why → IsCause knows (Upgrade_now who id mode) why own
   upgrade-cause who id mode why None its e =
       let is : why ≡ NotHeld = cc in
@@ -172,13 +172,13 @@ module _ (m : SessionView) where
       by true can false asks e = cc
 
   -- a merge
-  mergeable : (old new : ℕ) (kept gone : Own) (b : Bool) → numbered old (tickets_seen m.me.0) ≡ Some kept → numbered new (tickets_seen m.me.0) ≡ Some gone
+  mergeable : (old new : ℕ) (kept gone : SessionTicket) (b : Bool) → numbered old (tickets_seen m.me.0) ≡ Some kept → numbered new (tickets_seen m.me.0) ≡ Some gone
       → can_merge kept gone ≡ b → Mergeable b old new own
   mergeable old new kept gone b one other may =
       of-held old (tickets_seen m.me.0) kept (λ k. OfHeld new own (λ g. may_merge_told k g ≡ b)) one
       (of-held new (tickets_seen m.me.0) gone (λ g. may_merge_told (as_held kept) g ≡ b) other (merge-told kept gone ∙ may))
 
-  pub merge-clear : (old new : ℕ) (kept gone : Own) → numbered old (tickets_seen m.me.0) ≡ Some kept → numbered new (tickets_seen m.me.0) ≡ Some gone
+  pub merge-clear : (old new : ℕ) (kept gone : SessionTicket) → numbered old (tickets_seen m.me.0) ≡ Some kept → numbered new (tickets_seen m.me.0) ≡ Some gone
       → merge_fault (Some kept) (Some gone) m.me.0.asks ≡ None → (is_waiting own ≡ false) × Mergeable true old new own
   merge-clear old new kept gone one other e = by (is_some m.me.0.asks) refl e
     where
@@ -187,7 +187,7 @@ module _ (m : SessionView) where
       by true asks e = cc
       by false asks e = (waits-asks m.me.0.asks m.me.0.waits ∙ asks, mergeable old new kept gone true one other (test-passed (can_merge kept gone) BadMode e))
 
-  pub merge-cause : (who old new : ℕ) (why : SpaceError) (o p : Option Own) → numbered old (tickets_seen m.me.0) ≡ o → numbered new (tickets_seen m.me.0) ≡ p
+  pub merge-cause : (who old new : ℕ) (why : SpaceError) (o p : Option SessionTicket) → numbered old (tickets_seen m.me.0) ≡ o → numbered new (tickets_seen m.me.0) ≡ p
       → merge_fault o p m.me.0.asks ≡ Some why → IsCause knows (Merge who old new) why own
   merge-cause who old new why None p one other e =
       let is : why ≡ NotHeld = cc in

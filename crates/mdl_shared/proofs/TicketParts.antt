@@ -8,7 +8,7 @@ use Rattle.std.proofs.lemmas.List.{length-append, length-map}
 use Rattle.std.proofs.lemmas.List.Quantifiers.{position-Some}
 use Rattle.std.proofs.lemmas.List.Sums.{fails_before_first, length-filter, sum_by-append}
 use Rattle.std.proofs.lemmas.Option.{slice_get_cases}
-use Rattle.mdl_steps.specs.declared.view.Own.{Own}
+use Rattle.mdl_steps.specs.declared.view.SessionTicket.{SessionTicket}
 use Rattle.mdl_steps.specs.Cells.{note_at, own_at}
 use Rattle.mdl_steps.specs.FastPlays.{but_at, first_note}
 use Rattle.mdl_steps.specs.Interleavings.{interleaved}
@@ -17,21 +17,21 @@ use Rattle.mdl_steps.proofs.Interleaving.{inserted-first, interleaved-cons}
 use Rattle.mdl_steps.proofs.Views.{by_bool, other}
 use Rattle.mdl_shared.specs.declared.tickets.Gained.{Gained}
 use Rattle.mdl_shared.specs.declared.tickets.OfPlace.{OfPlace}
-use Rattle.mdl_shared.specs.OwnTickets.{AreGainedRising, AreKept, fast_counted_at, fast_of, has_fast, is_at_place, is_fast_there, noted_in, slow_of, slowed, with_note}
+use Rattle.mdl_shared.specs.OwnTickets.{AreKept, HaveRisingNumbers, fast_counted_at, fast_of, has_fast, is_at_place, is_fast_there, noted_in, slow_of, slowed, with_note}
 use Rattle.mdl_shared.proofs.TicketSearch.{no_ticket}
 
 abbrev pub no_place : OfPlace
 no_place = record { tickets = 0; fast = 0; noted = None; owes = false }
 
 -- those of the tickets that pass a test, with their notes
-abbrev pub some_of : List OfPlace → (Gained → Bool) → List Gained → List Own
+abbrev pub some_of : List OfPlace → (Gained → Bool) → List Gained → List SessionTicket
 some_of ps p xs = map (with_note ps) (filter p xs)
 
-pub later_rise : (x : Gained) (xs : List Gained) → AreGainedRising (x ∷ xs) → AreGainedRising xs
+pub later_rise : (x : Gained) (xs : List Gained) → HaveRisingNumbers (x ∷ xs) → HaveRisingNumbers xs
 later_rise x xs rising i j d before inside = rising (suc i) (suc j) d (omega (arith, before)) (omega (arith, inside))
 
 -- what each number is above is below the numbers of those that a test keeps
-above_number : (ps : List OfPlace) (p : Gained → Bool) (n : ℕ) (xs : List Gained) → ((k : ℕ) → k < length xs → n < (get_or xs k no_ticket).id) → Each (λ (u : Own). n < u.number) (some_of ps p xs)
+above_number : (ps : List OfPlace) (p : Gained → Bool) (n : ℕ) (xs : List Gained) → ((k : ℕ) → k < length xs → n < (get_or xs k no_ticket).id) → Each (λ (u : SessionTicket). n < u.number) (some_of ps p xs)
 above_number ps p n [] each = tt
 above_number ps p n (x ∷ xs) each =
     let later = above_number ps p n xs (λ k inside. each (suc k) (omega (arith, inside))) in
@@ -40,21 +40,21 @@ above_number ps p n (x ∷ xs) each =
     (λ left. rw left later)
 
 -- the later ones have greater numbers than the first
-above : (ps : List OfPlace) (p : Gained → Bool) (x : Gained) (xs : List Gained) → AreGainedRising (x ∷ xs) → Each (λ (u : Own). x.id < u.number) (some_of ps p xs)
+above : (ps : List OfPlace) (p : Gained → Bool) (x : Gained) (xs : List Gained) → HaveRisingNumbers (x ∷ xs) → Each (λ (u : SessionTicket). x.id < u.number) (some_of ps p xs)
 above ps p x xs rising = above_number ps p x.id xs (λ k inside. rising 0 (suc k) no_ticket (omega arith) (omega (arith, inside)))
 
 -- a ticket comes before later ones of both lists, whichever it is in
-before_slow : (ps : List OfPlace) (p q : Gained → Bool) (x : Gained) (xs : List Gained) → AreGainedRising (x ∷ xs)
+before_slow : (ps : List OfPlace) (p q : Gained → Bool) (x : Gained) (xs : List Gained) → HaveRisingNumbers (x ∷ xs)
     → interleaved (with_note ps x ∷ some_of ps p xs) (some_of ps q xs) ≡ with_note ps x ∷ interleaved (some_of ps p xs) (some_of ps q xs)
 before_slow ps p q x xs rising = interleaved-cons (with_note ps x) (some_of ps p xs) (some_of ps q xs) (above ps q x xs rising)
 
-before_fast : (ps : List OfPlace) (p q : Gained → Bool) (x : Gained) (xs : List Gained) → AreGainedRising (x ∷ xs)
+before_fast : (ps : List OfPlace) (p q : Gained → Bool) (x : Gained) (xs : List Gained) → HaveRisingNumbers (x ∷ xs)
     → interleaved (some_of ps p xs) (with_note ps x ∷ some_of ps q xs) ≡ with_note ps x ∷ interleaved (some_of ps p xs) (some_of ps q xs)
 before_fast ps p q x xs rising =
     ap (λ us. interleaved us (some_of ps q xs)) (inserted-first (with_note ps x) (some_of ps p xs) (above ps p x xs rising)) ∙ before_slow ps p q x xs rising
 
 -- both together are the list
-pub parted : (ps : List OfPlace) (xs : List Gained) → AreGainedRising xs → interleaved (slow_of ps xs) (fast_of ps xs) ≡ map (with_note ps) xs
+pub parted : (ps : List OfPlace) (xs : List Gained) → HaveRisingNumbers xs → interleaved (slow_of ps xs) (fast_of ps xs) ≡ map (with_note ps) xs
 parted ps [] rising = refl
 parted ps (x ∷ xs) rising =
     let later = ap (λ us. with_note ps x ∷ us) (parted ps xs (later_rise x xs rising)) in
@@ -99,7 +99,7 @@ both_there place (x ∷ xs) =
 -- ---- notes
 
 -- the tickets at a place have its note
-noted_there : (place : ℕ) (ps : List OfPlace) (p : Gained → Bool) (xs : List Gained) → Each (λ (t : Own). t.noted ≡ noted_in place ps) (own_at place (some_of ps p xs))
+noted_there : (place : ℕ) (ps : List OfPlace) (p : Gained → Bool) (xs : List Gained) → Each (λ (t : SessionTicket). t.noted ≡ noted_in place ps) (own_at place (some_of ps p xs))
 noted_there place ps p [] = tt
 noted_there place ps p (x ∷ xs) = by_bool (p x)
     (λ kept. by_bool (x.place == place)
@@ -107,7 +107,7 @@ noted_there place ps p (x ∷ xs) = by_bool (p x)
     (λ away. rw (kept, away) (noted_there place ps p xs)))
     (λ left. rw left (noted_there place ps p xs))
 
-each_joined : (P : Own → Type 0) (ts us : List Own) → Each P ts → Each P us → Each P (ts ++ us)
+each_joined : (P : SessionTicket → Type 0) (ts us : List SessionTicket) → Each P ts → Each P us → Each P (ts ++ us)
 each_joined P [] us first second = second
 each_joined P (t ∷ ts) us first second = (first.0, each_joined P ts us first.1 second)
 
@@ -115,11 +115,11 @@ not_none : (n : ℕ) → (suc n == 0) ≡ false
 not_none n = other (suc n) 0 (λ e. omega arith)
 
 -- the first note of tickets that have the same one
-first_alike : (version : Option ℕ) (ts : List Own) → Each (λ (t : Own). t.noted ≡ version) ts → first_note ts ≡ (if length ts == 0 then None else version)
+first_alike : (version : Option ℕ) (ts : List SessionTicket) → Each (λ (t : SessionTicket). t.noted ≡ version) ts → first_note ts ≡ (if length ts == 0 then None else version)
 first_alike _ [] alike = refl
 first_alike None (t ∷ ts) alike = rw (alike.0, not_none (length ts)) (none ts alike.1)
   where
-    none : (us : List Own) → Each (λ (u : Own). u.noted ≡ None) us → first_note us ≡ None
+    none : (us : List SessionTicket) → Each (λ (u : SessionTicket). u.noted ≡ None) us → first_note us ≡ None
     none [] alike = refl
     none (u ∷ us) alike = rw alike.0 (none us alike.1)
 first_alike (Some version) (t ∷ ts) alike = rw (alike.0, not_none (length ts)) refl
@@ -128,9 +128,9 @@ first_alike (Some version) (t ∷ ts) alike = rw (alike.0, not_none (length ts))
 pub first_there : (place : ℕ) (ps : List OfPlace) (xs : List Gained)
     → first_note (own_at place (fast_of ps xs) ++ own_at place (slow_of ps xs)) ≡ (if count_by (is_at_place place) xs == 0 then None else noted_in place ps)
 first_there place ps xs =
-    let fast : List Own = own_at place (fast_of ps xs) in
-    let slow : List Own = own_at place (slow_of ps xs) in
-    let alike = each_joined (λ (t : Own). t.noted ≡ noted_in place ps) fast slow (noted_there place ps (λ t. t.fast) xs) (noted_there place ps (λ t. not t.fast) xs) in
+    let fast : List SessionTicket = own_at place (fast_of ps xs) in
+    let slow : List SessionTicket = own_at place (slow_of ps xs) in
+    let alike = each_joined (λ (t : SessionTicket). t.noted ≡ noted_in place ps) fast slow (noted_there place ps (λ t. t.fast) xs) (noted_there place ps (λ t. not t.fast) xs) in
     let fasts = fast_there place ps xs in
     let slows = count_there place ps (λ t. not t.fast) xs in
     let all = both_there place xs in
@@ -139,7 +139,7 @@ first_there place ps xs =
     first_alike (noted_in place ps) (fast ++ slow) alike ∙ ap (λ n. if n == 0 then None else noted_in place ps) same
 
 -- the note of the first ticket at a place, where all there have the same one
-note_alike : (place : ℕ) (version : Option ℕ) (ts : List Own) → Each (λ (t : Own). t.noted ≡ version) (own_at place ts)
+note_alike : (place : ℕ) (version : Option ℕ) (ts : List SessionTicket) → Each (λ (t : SessionTicket). t.noted ≡ version) (own_at place ts)
     → note_at place ts ≡ (if length (own_at place ts) == 0 then None else version)
 note_alike place version [] alike = refl
 note_alike place version (t ∷ ts) alike = by_bool (t.place == place)
@@ -150,7 +150,7 @@ note_alike place version (t ∷ ts) alike = by_bool (t.place == place)
 pub note_slow : (place : ℕ) (ps : List OfPlace) (xs : List Gained) → own_at place (fast_of ps xs) ≡ []
     → note_at place (slow_of ps xs) ≡ (if count_by (is_at_place place) xs == 0 then None else noted_in place ps)
 note_slow place ps xs none =
-    let slow : List Own = own_at place (slow_of ps xs) in
+    let slow : List SessionTicket = own_at place (slow_of ps xs) in
     let fasts = sym (fast_there place ps xs) ∙ ap length none in
     let slows = count_there place ps (λ t. not t.fast) xs in
     let all = both_there place xs in
@@ -160,11 +160,11 @@ note_slow place ps xs none =
 -- ---- made slow
 
 -- the fast tickets at a place are put among the slow ones
-pub made_slow : (place : ℕ) (ps : List OfPlace) (xs : List Gained) → AreGainedRising xs
+pub made_slow : (place : ℕ) (ps : List OfPlace) (xs : List Gained) → HaveRisingNumbers xs
     → slow_of ps (map (slowed place) xs) ≡ interleaved (slow_of ps xs) (own_at place (fast_of ps xs))
 made_slow place ps xs rising = slow xs rising ∙ ap (interleaved (slow_of ps xs)) (sym (there place ps (λ t. t.fast) xs))
   where
-    slow : (ts : List Gained) → AreGainedRising ts → slow_of ps (map (slowed place) ts) ≡ interleaved (slow_of ps ts) (some_of ps (is_fast_there place) ts)
+    slow : (ts : List Gained) → HaveRisingNumbers ts → slow_of ps (map (slowed place) ts) ≡ interleaved (slow_of ps ts) (some_of ps (is_fast_there place) ts)
     slow [] rising = refl
     slow (t ∷ ts) rising =
         let later = ap (λ us. with_note ps t ∷ us) (slow ts (later_rise t ts rising)) in
@@ -240,7 +240,7 @@ before_counted ps place first q before = elim (slice_get_cases ps q).1 [
   | inr beyond ↦ rw beyond.1 refl
 ]
 
-none_of_them : (us : List Own) → length us ≡ 0 → us ≡ []
+none_of_them : (us : List SessionTicket) → length us ≡ 0 → us ≡ []
 none_of_them [] none = refl
 none_of_them (u ∷ us) none = absurd (omega (arith, none))
 

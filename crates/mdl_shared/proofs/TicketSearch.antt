@@ -10,7 +10,7 @@ use Rattle.std.proofs.lemmas.Bool.Decides.{nat_tests}
 use Rattle.mdl_key.specs.declared.mode.Mode.TheVariants.{IX}
 use Rattle.mdl_shared.specs.declared.tickets.Gained.{Gained}
 use Rattle.mdl_steps.specs.Deeds.{is_own}
-use Rattle.mdl_shared.specs.OwnTickets.{AreGainedRising, StandsAt, with_note}
+use Rattle.mdl_shared.specs.OwnTickets.{HaveRisingNumbers, StandsAt, with_note}
 
 abbrev pub no_ticket : Gained
 no_ticket = record { id = 0; place = 0; mode = IX; fast = false }
@@ -19,7 +19,7 @@ pub each_at : {A : Type 0} (p : A → Bool) (d : A) (xs : List A) → ((k : ℕ)
 each_at p d [] each = refl
 each_at p d (x ∷ xs) each = rw (each 0 (omega arith)) (each_at p d xs (λ k inside. each (suc k) (omega arith)))
 
-module _ (xs : List Gained) (rising : AreGainedRising xs) (id : ℕ) where
+module _ (xs : List Gained) (rising : HaveRisingNumbers xs) (id : ℕ) where
   comparisons_rise : IsNonDecreasingBy (λ ticket. ordering_index (nat_cmp ticket.id id)) xs
   comparisons_rise i j d le inside =
       let numbers_rise : (get_or xs i d).id ≤ (get_or xs j d).id = grind (arith, rising i j d, λ (same : i ≡ j). ap (λ k. (get_or xs k d).id) same) in

@@ -1,17 +1,18 @@
 -- A session's step that reads the version of a place without the latch: the session knows no more than before, or it notes the version of what it read.
 use Rattle.std.proofs.Common.{◌≡◌, ℕ, true, [], ◌∷◌, ◌++◌, map, Option, Some, inl, inr, refl, sym, ap, ◌∙◌}
 use Rattle.mdl_defs.specs.declared.definition.Definition.{Definition}
-use Rattle.mdl_defs.specs.declared.standing.Standing.{Standing}
+use Rattle.mdl_defs.specs.declared.versioned_definition.VersionedDefinition.{VersionedDefinition}
 use Rattle.mdl_calls.specs.declared.space_error.SpaceError.TheVariants.{OutOfMemory}
 use Rattle.mdl_calls.specs.Words.{Read_definition, Read_kept, Reads, Refused}
 use Rattle.mdl_steps.specs.declared.step_kind.StepKind.TheVariants as step
-use Rattle.mdl_steps.specs.declared.view.Met.{Met}
-use Rattle.mdl_steps.specs.declared.view.Own.{Own}
+use Rattle.mdl_steps.specs.declared.view.StepRecord.{StepRecord}
+use Rattle.mdl_steps.specs.declared.view.SessionTicket.{SessionTicket}
 use Rattle.mdl_steps.specs.Layout.{version_word}
 use Rattle.mdl_steps.specs.Plays.{Mine, noting_version}
 use Rattle.mdl_steps.specs.SeatStates.{SeatState}
 use Rattle.mdl_steps.specs.VersionPlays.{LearnsVersion, ReadNoneNewer, ReadOneStanding, learnt_version, met_version, noted_version}
-use Rattle.mdl_calls.specs.SessionData.{HasMet, SessionData, is_known}
+use Rattle.mdl_key.specs.KeyLookups.{is_known}
+use Rattle.mdl_calls.specs.SessionData.{HasMet, SessionData}
 use Rattle.mdl_session_laws.specs.SessionJoins.{Joins}
 use Rattle.mdl_session_laws.proofs.KeptSound.{learns-sound}
 use Rattle.mdl_session_laws.proofs.KeyLists.{is-known}
@@ -31,7 +32,7 @@ use Rattle.mdl_shared.proofs.SpaceReads.{meets-there, read-last}
 use Rattle.mdl_shared.proofs.WaitSteps.{quietly}
 
 -- the step
-abbrev met-at : ℕ → ℕ → SessionView → Met
+abbrev met-at : ℕ → ℕ → SessionView → StepRecord
 met-at place version s =
     record { kind = step.ReadVersion; deeds = []; word = version_word place; found = version; held = s.me.0.latches; directory = s.me.0.directory }
 
@@ -98,7 +99,7 @@ module _ {place version : ℕ} {a b : SessionView} (reads : MissesVersion place 
 -- ---- the version of what was read was met, and is noted
 
 -- what the session has then
-module _ {place : ℕ} {standing : Standing} {a b : SessionView} (finds : FindsVersion place standing a b) where
+module _ {place : ℕ} {standing : VersionedDefinition} {a b : SessionView} (finds : FindsVersion place standing a b) where
   pub found-now : b ≡ record a { me = noted_version place standing.version a.me; room = b.room }
   found-now = finds.same ∙ ap (λ (m : Mine). record a { me = m; room = b.room }) finds.now
 
@@ -111,7 +112,7 @@ module _ {place : ℕ} {standing : Standing} {a b : SessionView} (finds : FindsV
   pub found-does : Does [] a.me b.me
   found-does = (met-at place standing.version a ∷ [], found-log, refl)
 
-module _ {s s′ : SessionView} (is : IsMember s) (id : ℕ) (t : Own) (its : numbered id (tickets_seen s.me.0) ≡ Some t) (standing : Standing)
+module _ {s s′ : SessionView} (is : IsMember s) (id : ℕ) (t : SessionTicket) (its : numbered id (tickets_seen s.me.0) ≡ Some t) (standing : VersionedDefinition)
     (met : HasMet (data_of s) s.me.0.number t.place standing) (newest : ReadNoneNewer t.place standing.version s.me) (one : ReadOneStanding t.place standing.version s.me) where
   pub finds-version : s′.me ≡ noted_version t.place standing.version s.me → s′ ≡ record s { me = s′.me; room = s′.room } → KeepsRoom 0 s.room s′.room
       → FindsVersion t.place standing s s′
@@ -141,7 +142,7 @@ version-reads seat seat′ sessions {room′ = room′} same learns keeps = reco
 }
 
 module _ {place version : ℕ} {s s′ : SessionView} (reads : ReadsVersion place version s s′) where
-  abbrev pub learnt-found : Standing
+  abbrev pub learnt-found : VersionedDefinition
   learnt-found = reads.learnt.standing
 
   learnt-now : s′ ≡ record s { me = learnt_version place learnt-found s.me; room = s′.room }

@@ -4,7 +4,7 @@ use Rattle.std.specs.Prelude.{nat_lt}
 use Rattle.std.proofs.lemmas.Bool.{and_parts, eq-eqb, eqb-true, false≢true, lt-ltb, ltb-true}
 use Rattle.mdl_calls.specs.Words.{Answer, No_cycle, Refused, Search}
 use Rattle.mdl_steps.specs.declared.step_kind.StepKind.{StepKind}
-use Rattle.mdl_steps.specs.declared.view.Met.{Met}
+use Rattle.mdl_steps.specs.declared.view.StepRecord.{StepRecord}
 use Rattle.mdl_steps.specs.declared.view.Settlement.{Settlement}
 use Rattle.mdl_steps.specs.Layout.{wait_word}
 use Rattle.mdl_steps.specs.Plays.{Mine, logged}
@@ -30,7 +30,7 @@ use Rattle.mdl_shared.proofs.Rooms.{keeps-before, keeps-equal, keeps-more}
 use Rattle.mdl_shared.proofs.SameSpace.{joins-still}
 
 -- visits without a deed, after which the session may have no search left to make
-pub quietly-searched : {seat seat′ : SeatState} {log : List Met} {told : Option ℕ} {settles : List Settlement} (sessions : ℕ) {room room′ : Room} → seat′.table ≡ seat.table
+pub quietly-searched : {seat seat′ : SeatState} {log : List StepRecord} {told : Option ℕ} {settles : List Settlement} (sessions : ℕ) {room room′ : Room} → seat′.table ≡ seat.table
     → (but_searching seat seat′).me ≡ (record seat.me.0 { told = told; settles = settles; log = log }, seat.me.1) → StaysTold seat.me.0.told told
     → (seat.me.0.asks ≡ None → told ≡ seat.me.0.told) → DidDeeds 0 [] (session_at seat sessions room) (session_at seat′ sessions room′)
 quietly-searched {seat = seat} {seat′ = seat′} {log = log} {told = told} {settles = settles} sessions {room′ = room′} table me stays unasked = record {
@@ -51,7 +51,7 @@ quietly-searched {seat = seat} {seat′ = seat′} {log = log} {told = told} {se
 }
 
 -- a visit without a deed
-pub quietly : {seat seat′ : SeatState} {log : List Met} {told : Option ℕ} {settles : List Settlement} (sessions : ℕ) {room room′ : Room} → seat′.table ≡ seat.table
+pub quietly : {seat seat′ : SeatState} {log : List StepRecord} {told : Option ℕ} {settles : List Settlement} (sessions : ℕ) {room room′ : Room} → seat′.table ≡ seat.table
     → seat′.me ≡ (record seat.me.0 { told = told; settles = settles; log = log }, seat.me.1) → StaysTold seat.me.0.told told
     → (seat.me.0.asks ≡ None → told ≡ seat.me.0.told) → DidDeeds 0 [] (session_at seat sessions room) (session_at seat′ sessions room′)
 quietly {seat = seat} {seat′ = seat′} sessions table me = quietly-searched {seat = seat} {seat′ = seat′} sessions table (λ i. (record (me i).0 { searches = seat.me.0.searches }, (me i).1))
@@ -113,7 +113,7 @@ watches-then a b c first later = record {
   did = does_then [] [] a.me b.me c.me first.did later.did;
   stayed = (
     first.stayed.0 ++ later.stayed.0,
-    later.stayed.1 ∙ ap (λ (log : List Met). log ++ later.stayed.0) first.stayed.1 ∙ append_assoc a.me.0.log first.stayed.0 later.stayed.0,
+    later.stayed.1 ∙ ap (λ (log : List StepRecord). log ++ later.stayed.0) first.stayed.1 ∙ append_assoc a.me.0.log first.stayed.0 later.stayed.0,
     each_append StaysThere first.stayed.0 later.stayed.0 first.stayed.2 later.stayed.2,
   );
   keeps = keeps-before 0 a.room b.room c.room first.keeps later.keeps;
@@ -127,7 +127,7 @@ pub stays-twice : (a b c : Mine) → StaysFor 1 a b → StaysFor 1 b c → Stays
 stays-twice a b c (made, log, stay, few) (more, longer, still, fewer) =
     let all = length-append made more in (
       made ++ more,
-      longer ∙ ap (λ (log : List Met). log ++ more) log ∙ append_assoc a.0.log made more,
+      longer ∙ ap (λ (log : List StepRecord). log ++ more) log ∙ append_assoc a.0.log made more,
       each_append StaysThere made more stay still,
       omega (arith, all, few, fewer),
     )
@@ -141,18 +141,18 @@ word-step kind session found left settles s =
 
 module _ (kind : StepKind) (session found left : ℕ) (settles : List Settlement) (s s′ : SessionView) (now : s′ ≡ word-step kind session found left settles s) where
   -- the step met the word
-  pub met-word : (e : Met) × IsStepOf s.me s′.me e × MeetsWord s.table.slots session found e
+  pub met-word : (e : StepRecord) × IsStepOf s.me s′.me e × MeetsWord s.table.slots session found e
   met-word =
-      let e : Met = record { kind = kind; deeds = []; word = wait_word s.table.slots session; found = found; held = s.me.0.latches; directory = s.me.0.directory } in (
+      let e : StepRecord = record { kind = kind; deeds = []; word = wait_word s.table.slots session; found = found; held = s.me.0.latches; directory = s.me.0.directory } in (
         e,
-        ([], [], ap (λ (x : SessionView). x.me.0.log) now ∙ ap (λ (log : List Met). log ++ e ∷ []) (sym (append-nil s.me.0.log))),
+        ([], [], ap (λ (x : SessionView). x.me.0.log) now ∙ ap (λ (log : List StepRecord). log ++ e ∷ []) (sym (append-nil s.me.0.log))),
         record { word_is = refl; found = refl },
       )
 
   -- and it was the only one
   pub stays-once : gives_back kind ≡ false → kind_raises_flags kind ≡ false → StaysFor 1 s.me s′.me
   stays-once keeps quiet =
-      let e : Met = record { kind = kind; deeds = []; word = wait_word s.table.slots session; found = found; held = s.me.0.latches; directory = s.me.0.directory } in
+      let e : StepRecord = record { kind = kind; deeds = []; word = wait_word s.table.slots session; found = found; held = s.me.0.latches; directory = s.me.0.directory } in
       let one : length (e ∷ []) ≤ 1 = omega arith in
       (e ∷ [], ap (λ (x : SessionView). x.me.0.log) now, ((keeps, quiet), tt), one)
 
@@ -191,7 +191,7 @@ module _ (kind : StepKind) (session found left : ℕ) (settles : List Settlement
 
     pub watches : gives_back kind ≡ false → kind_raises_flags kind ≡ false → Watches s s′
     watches keeps quiet =
-        let e : Met = record { kind = kind; deeds = []; word = wait_word s.table.slots session; found = found; held = s.me.0.latches; directory = s.me.0.directory } in
+        let e : StepRecord = record { kind = kind; deeds = []; word = wait_word s.table.slots session; found = found; held = s.me.0.latches; directory = s.me.0.directory } in
         let log = ap (λ (x : SessionView). x.me.0.log) now in
         record {
           done = record {

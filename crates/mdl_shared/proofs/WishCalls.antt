@@ -8,16 +8,17 @@ use Rattle.mdl_calls.specs.declared.space_error.SpaceError.TheVariants.{Full, Ou
 use Rattle.mdl_calls.specs.SessionLocks.{DrawsTicket, gaining, ticket_drawn, wait_drawn}
 use Rattle.mdl_calls.specs.Words.{Granted, Refused, Waits, Would_wait, Call, Begin_wait, Try_now, Draws, IsCause, IsExplained, IsFit, caller, is_answer_of, is_waiting, own_after, told}
 use Rattle.mdl_steps.specs.declared.deed.Deed.TheVariants.{Gain}
-use Rattle.mdl_steps.specs.declared.view.Met.{Met}
+use Rattle.mdl_steps.specs.declared.view.StepRecord.{StepRecord}
 use Rattle.mdl_steps.specs.Cells.{note_at}
 use Rattle.mdl_steps.specs.SeatStates.{AtItsTable, SeatState}
 use Rattle.mdl_steps.specs.WaitPlays.{asking}
 use Rattle.mdl_calls.specs.Meetings.{ReadsNothing}
-use Rattle.mdl_calls.specs.SessionData.{SpeaksFor, Knows, is_known}
+use Rattle.mdl_calls.specs.SessionData.{SpeaksFor, Knows}
 use Rattle.mdl_session_laws.specs.SessionJoins.{Joins, LearnsKeys, LetsRead, TellsTruly, ends_wait, gained_at, session_has_call, wait_met}
 use Rattle.mdl_session_laws.proofs.RefusedCalls.{reads-nothing}
 use Rattle.mdl_visits.specs.WaitOpenings.{Opens, view_awaiting}
-use Rattle.mdl_shared.specs.Members.{IsMember, kind_known, wish_fault}
+use Rattle.mdl_key.specs.KeyLookups.{is_known, kind_known}
+use Rattle.mdl_shared.specs.Members.{IsMember, wish_fault}
 use Rattle.mdl_shared.specs.OwnLists.{as_held}
 use Rattle.mdl_shared.specs.SessionViews.{SessionView, data_of, session_at, settled_told, tickets_seen}
 use Rattle.mdl_shared.specs.TicketLists.{Room}
@@ -134,7 +135,7 @@ pub begun : {place : ℕ} {mode : Mode} (seat seat′ : SeatState) (sessions : �
 begun seat seat′ sessions {room} opens = λ i. record { table = opens.0 i; sessions = sessions; me = opens.1.now i; room = room }
 
 module _ {s s′ : SessionView} (is : IsMember s) {place : ℕ} {mode : Mode} (clear : wish_fault (kind_known place s.me.0.known) s.me.0.asks mode s.me.0.next ≡ None)
-    {log : List Met} {room : Room} (now : s′ ≡ record s { me = (record (view_awaiting place mode s.me.0) { log = log }, s.me.1); room = room }) where
+    {log : List StepRecord} {room : Room} (now : s′ ≡ record s { me = (record (view_awaiting place mode s.me.0) { log = log }, s.me.1); room = room }) where
   -- without a fast ticket
   pub begun-order : s.me.0.fast ≡ [] → StaysInOrder s s′
   begun-order none =

@@ -10,11 +10,12 @@ use Rattle.mdl_calls.specs.declared.space_error.SpaceError.{SpaceError}
 use Rattle.mdl_calls.specs.declared.space_error.SpaceError.TheVariants.{AlreadyWaiting, BadMode, CounterFull, NoPlace, NotHeld}
 use Rattle.mdl_calls.specs.Words.{IsFit, IsUnfit, IsUnknown, Knowledge, MayClone, MayNotClone, OfHeld, SessionLocks, holds, is_waiting}
 use Rattle.mdl_steps.specs.declared.view.Ask.{Ask}
-use Rattle.mdl_steps.specs.declared.view.Known.{Known}
-use Rattle.mdl_steps.specs.declared.view.Own.{Own}
-use Rattle.mdl_calls.specs.SessionData.{Knows, is_known}
+use Rattle.mdl_key.specs.declared.known_key.KnownKey.{KnownKey}
+use Rattle.mdl_steps.specs.declared.view.SessionTicket.{SessionTicket}
+use Rattle.mdl_calls.specs.SessionData.{Knows}
 use Rattle.mdl_visits.specs.Numbers.{numbered}
-use Rattle.mdl_shared.specs.Members.{kind_known, most_numbers, wish_fault}
+use Rattle.mdl_key.specs.KeyLookups.{is_known, kind_known}
+use Rattle.mdl_shared.specs.Members.{most_numbers, wish_fault}
 use Rattle.mdl_shared.specs.Modes.{clone_fault, is_fit}
 use Rattle.mdl_shared.specs.SessionViews.{SessionView, data_of, tickets_seen}
 use Rattle.mdl_shared.proofs.SameSpace.{no-asks, waits-asks}
@@ -43,7 +44,7 @@ pub wish-mode : (kind : Kind) (asks : Option Ask) (mode : Mode) (next : ℕ) →
 wish-mode kind asks mode next e = (chain-clear (is_some asks) (is_mode_of kind mode) (nat_le most_numbers next) AlreadyWaiting BadMode CounterFull e).1
 
 -- a session that clones a ticket waits for nothing, the mode fits the ticket's lock, there are numbers left, and the ticket's own mode covers it
-pub clone-passed : (asks : Option Ask) (mode : Mode) (known : List Known) (next : ℕ) (o : Option Own) (t : Own) → o ≡ Some t → clone_fault o asks mode known next ≡ None
+pub clone-passed : (asks : Option Ask) (mode : Mode) (known : List KnownKey) (next : ℕ) (o : Option SessionTicket) (t : SessionTicket) → o ≡ Some t → clone_fault o asks mode known next ≡ None
     → (asks ≡ None) × (is_fit t.place mode known ≡ true) × (next < most_numbers) × (covers t.mode mode ≡ true)
 clone-passed asks mode known next o t its e =
     let clear = chain-clear (is_some asks) (covers t.mode mode && is_fit t.place mode known) (nat_le most_numbers next) AlreadyWaiting BadMode CounterFull
@@ -91,26 +92,26 @@ module _ (m : SessionView) where
 
   -- ---- clones
 
-  may-clone : (id : ℕ) (mode : Mode) (t : Own) → numbered id (tickets_seen m.me.0) ≡ Some t → (covers t.mode mode && is_fit t.place mode m.me.0.known) ≡ true
+  may-clone : (id : ℕ) (mode : Mode) (t : SessionTicket) → numbered id (tickets_seen m.me.0) ≡ Some t → (covers t.mode mode && is_fit t.place mode m.me.0.known) ≡ true
       → OfHeld id own (MayClone knows mode)
   may-clone id mode t its can =
       let parts = and_parts (covers t.mode mode) (is_fit t.place mode m.me.0.known) can in
       of-held id (tickets_seen m.me.0) t (MayClone knows mode) its (parts.0, fit-known t.place mode m.me.0.known true parts.1)
 
-  may-not_clone : (id : ℕ) (mode : Mode) (t : Own) → numbered id (tickets_seen m.me.0) ≡ Some t → (covers t.mode mode && is_fit t.place mode m.me.0.known) ≡ false
+  may-not_clone : (id : ℕ) (mode : Mode) (t : SessionTicket) → numbered id (tickets_seen m.me.0) ≡ Some t → (covers t.mode mode && is_fit t.place mode m.me.0.known) ≡ false
       → OfHeld id own (MayNotClone knows mode)
   may-not_clone id mode t its can =
       of-held id (tickets_seen m.me.0) t (MayNotClone knows mode) its (λ covered.
       fit-known t.place mode m.me.0.known false (other-false (covers t.mode mode) (is_fit t.place mode m.me.0.known) can covered))
 
-  pub clone-clear : (id : ℕ) (mode : Mode) (o : Option Own) → numbered id (tickets_seen m.me.0) ≡ o → clone_fault o m.me.0.asks mode m.me.0.known m.me.0.next ≡ None
+  pub clone-clear : (id : ℕ) (mode : Mode) (o : Option SessionTicket) → numbered id (tickets_seen m.me.0) ≡ o → clone_fault o m.me.0.asks mode m.me.0.known m.me.0.next ≡ None
       → (is_some m.me.0.asks ≡ false) × OfHeld id own (MayClone knows mode)
   clone-clear id mode None its e = cc
   clone-clear id mode (Some t) its e =
       let clear = chain-clear (is_some m.me.0.asks) (covers t.mode mode && is_fit t.place mode m.me.0.known) (nat_le most_numbers m.me.0.next) AlreadyWaiting BadMode CounterFull e in
       (clear.0, may-clone id mode t its clear.1)
 
-  pub clone-cause : (P : SpaceError → Type 0) (id : ℕ) (mode : Mode) (why : SpaceError) (o : Option Own) → numbered id (tickets_seen m.me.0) ≡ o
+  pub clone-cause : (P : SpaceError → Type 0) (id : ℕ) (mode : Mode) (why : SpaceError) (o : Option SessionTicket) → numbered id (tickets_seen m.me.0) ≡ o
       → (holds id own ≡ false → P NotHeld) → ((holds id own ≡ true) × (is_waiting own ≡ true) → P AlreadyWaiting)
       → ((is_waiting own ≡ false) × OfHeld id own (MayNotClone knows mode) → P BadMode)
       → ((is_waiting own ≡ false) × OfHeld id own (MayClone knows mode) → P CounterFull)

@@ -7,7 +7,7 @@ use Rattle.std.specs.Option.{option_map_or}
 use Rattle.mdl_calls.specs.Words.{Try_now}
 use Rattle.mdl_steps.specs.declared.deed.Deed.TheVariants.{Gain}
 use Rattle.mdl_steps.specs.declared.view.Ask.{Ask}
-use Rattle.mdl_steps.specs.declared.view.Own.{Own}
+use Rattle.mdl_steps.specs.declared.view.SessionTicket.{SessionTicket}
 use Rattle.mdl_steps.specs.Cells.{own_at}
 use Rattle.mdl_steps.specs.Interleavings.{interleaved}
 use Rattle.mdl_steps.specs.Plays.{Mine}
@@ -15,7 +15,8 @@ use Rattle.mdl_steps.specs.SeatStates.{AtItsTable, SeatState}
 use Rattle.mdl_visits.specs.Visits.{IsVisit, MayVisit, RequestsMode, Visits}
 use Rattle.mdl_visits.specs.WaitOpenings.{view_awaiting}
 use Rattle.mdl_shared.specs.declared.member.Member.{Member}
-use Rattle.mdl_shared.specs.Members.{kind_known, most_numbers, obtrudes_at, wish_fault}
+use Rattle.mdl_key.specs.KeyLookups.{kind_known}
+use Rattle.mdl_shared.specs.Members.{most_numbers, obtrudes_at, wish_fault}
 use Rattle.mdl_shared.specs.Passes.{view_of}
 use Rattle.mdl_shared.specs.SessionViews.{Lists, SessionView, all_tickets, lists_seen, session_at}
 use Rattle.mdl_shared.specs.TicketLists.{Room}
@@ -60,12 +61,12 @@ visit-seen m place mode {kind} {a} {b} known visit =
     subst (λ (may : Bool). IsVisit place may a b) (sym is) visit
 
 -- the numbers of its own list are below the next one
-pub below-seen : (m : Member) (slow fast : List Own) → (slow ≡ m.tickets.slow) × (fast ≡ m.tickets.fast) → are_below_next m.next (interleaved slow fast) ≡ true
+pub below-seen : (m : Member) (slow fast : List SessionTicket) → (slow ≡ m.tickets.slow) × (fast ≡ m.tickets.fast) → are_below_next m.next (interleaved slow fast) ≡ true
 below-seen m slow fast same =
     (λ i. are_below_next m.next (interleaved (same.0 i) (same.1 i))) ∙ ap (λ (l : Lists). are_below_next l.next (all_tickets l)) m.lists ∙ below (member m)
 
 -- no fast one of its own list is at a place, where there is none at all
-pub none-seen : (m : Member) (place : ℕ) (fast : List Own) → m.tickets.fast ≡ [] → fast ≡ m.tickets.fast → own_at place fast ≡ []
+pub none-seen : (m : Member) (place : ℕ) (fast : List SessionTicket) → m.tickets.fast ≡ [] → fast ≡ m.tickets.fast → own_at place fast ≡ []
 none-seen m place fast none same = ap (own_at place) (same ∙ none)
 
 -- and none of its view

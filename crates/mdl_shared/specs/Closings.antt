@@ -2,7 +2,7 @@
 use Rattle.std.specs.Prelude.{◌≡◌, ◌⊎◌, ℕ, ◌<◌, ◌==◌, true, false, List, [], None, length}
 use Rattle.std.specs.List.{list_any}
 use Rattle.mdl_calls.specs.Words.{is_waiting}
-use Rattle.mdl_calls.specs.SessionData.{is_known}
+use Rattle.mdl_key.specs.KeyLookups.{is_known}
 use Rattle.mdl_shared.specs.declared.close.CloseError.{CloseError}
 use Rattle.mdl_shared.specs.declared.close.CloseError.TheVariants.{HoldsTickets, Owes}
 use Rattle.mdl_shared.specs.declared.pass.Pass.{Pass}

@@ -2,9 +2,9 @@
 use Rattle.std.specs.Prelude.{◌≡◌, ℕ, Bool, true, List, [], Option, Some, None}
 use Rattle.mdl_steps.specs.declared.deed.Deed.{Deed}
 use Rattle.mdl_steps.specs.declared.view.Ask.{Ask}
-use Rattle.mdl_steps.specs.declared.view.Met.{Met}
-use Rattle.mdl_steps.specs.declared.view.Known.{Known}
-use Rattle.mdl_steps.specs.declared.view.Own.{Own}
+use Rattle.mdl_steps.specs.declared.view.StepRecord.{StepRecord}
+use Rattle.mdl_key.specs.declared.known_key.KnownKey.{KnownKey}
+use Rattle.mdl_steps.specs.declared.view.SessionTicket.{SessionTicket}
 use Rattle.mdl_steps.specs.declared.view.Settlement.{Settlement}
 use Rattle.mdl_steps.specs.Deeds.{all_next, all_owned}
 use Rattle.mdl_steps.specs.Interleavings.{interleaved}
@@ -18,7 +18,7 @@ use Rattle.mdl_shared.specs.TicketLists.{Room}
 
 -- the fast tickets before and after, of a session that knows these keys and has this wait, or none. If the words counted all of them, they still do. If
 -- the session waits and had none, it still has none
-pub record StaysFast (known : List Known) (asks : Option Ask) (fast fast′ : List Own) : Type 0 where
+pub record StaysFast (known : List KnownKey) (asks : Option Ask) (fast fast′ : List SessionTicket) : Type 0 where
   pub unfast : (a : Ask) → asks ≡ Some a → fast ≡ [] → fast′ ≡ []
   pub plain : are_counted known fast ≡ true → are_counted known fast′ ≡ true
 
@@ -26,13 +26,13 @@ pub record StaysFast (known : List Known) (asks : Option Ask) (fast fast′ : Li
 -- wait. It owes no place a reschedule that it didn't owe one before. Nothing else changed, except perhaps which tickets are fast, the room for more, and
 -- whether it has yet to search for a deadlock
 pub record DidDeeds (place : ℕ) (ds : List Deed) (s s′ : SessionView) : Type 0 where
-  pub slow : List Own
-  pub fast : List Own
+  pub slow : List SessionTicket
+  pub fast : List SessionTicket
   pub told : Option ℕ
   pub owes : List ℕ
   pub searches : Bool
   pub settles : List Settlement
-  pub log : List Met
+  pub log : List StepRecord
   pub room : Room
   pub now : s′ ≡ record s {
     me = (

@@ -8,7 +8,7 @@ use Rattle.mdl_calls.specs.declared.answers.Upgrade.TheVariants.{Upgraded, Would
 use Rattle.mdl_calls.specs.declared.space_error.SpaceError.{SpaceError}
 use Rattle.mdl_steps.specs.declared.deed.Deed.{Deed}
 use Rattle.mdl_steps.specs.declared.deed.Deed.TheVariants.{Alter, Lose}
-use Rattle.mdl_steps.specs.declared.view.Own.{Own}
+use Rattle.mdl_steps.specs.declared.view.SessionTicket.{SessionTicket}
 
 -- the deeds of an upgrade that was tried: the ticket with this number gets the mode if it was granted
 abbrev pub rise_deeds : ℕ → Mode → Upgrade → List Deed
@@ -16,11 +16,11 @@ rise_deeds id mode Upgraded = Alter id mode ∷ []
 rise_deeds id mode WouldWait = []
 
 -- the deeds of an upgrade of a ticket to a mode: none if the ticket's own mode covers that
-abbrev pub upgrade_deeds : ℕ → Mode → Result Upgrade SpaceError → Option Own → List Deed
+abbrev pub upgrade_deeds : ℕ → Mode → Result Upgrade SpaceError → Option SessionTicket → List Deed
 upgrade_deeds id mode (Ok how) (Some t) = if covers t.mode mode then [] else rise_deeds id mode how
 upgrade_deeds id mode _ _ = []
 
 -- the deeds of a merge: a ticket gets the mode of another one, which is released
-abbrev pub merge_deeds : ℕ → ℕ → Result (Unit {0}) SpaceError → Option Own → List Deed
+abbrev pub merge_deeds : ℕ → ℕ → Result (Unit {0}) SpaceError → Option SessionTicket → List Deed
 merge_deeds old new (Ok _) (Some gone) = Alter old gone.mode ∷ Lose new ∷ []
 merge_deeds old new _ _ = []

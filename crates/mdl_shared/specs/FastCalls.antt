@@ -6,7 +6,7 @@ use Rattle.mdl_calls.specs.Words.{Done, Release, Try_now}
 use Rattle.mdl_calls.specs.Words as calls
 use Rattle.mdl_key.specs.declared.mode.Mode.{Mode}
 use Rattle.mdl_steps.specs.declared.deed.Deed.TheVariants.{Gain, Lose}
-use Rattle.mdl_steps.specs.declared.view.Own.{Own}
+use Rattle.mdl_steps.specs.declared.view.SessionTicket.{SessionTicket}
 use Rattle.mdl_steps.specs.Cells.{own_at}
 use Rattle.mdl_steps.specs.Limits.{most_fast}
 use Rattle.mdl_session_laws.specs.SessionJoins.{Joins}
@@ -16,7 +16,8 @@ use Rattle.mdl_shared.specs.declared.try_fast.Fast.{Fast}
 use Rattle.mdl_shared.specs.declared.try_fast.Fast.TheVariants.{Granted, Obtruded, Contended, Limit}
 use Rattle.mdl_shared.specs.Debts.{but_owing}
 use Rattle.mdl_shared.specs.DeedsDone.{DoesQuietly}
-use Rattle.mdl_shared.specs.Members.{increment_at, kind_known, most_numbers}
+use Rattle.mdl_key.specs.KeyLookups.{kind_known}
+use Rattle.mdl_shared.specs.Members.{increment_at, most_numbers}
 use Rattle.mdl_shared.specs.SessionViews.{KeepsLists, Lists, SessionView, StaysSame, data_of, lists_seen}
 use Rattle.mdl_shared.specs.TicketLists.{HasRoom, KeepsRoom}
 
@@ -62,5 +63,5 @@ RefusesFast place mode why a b =
 abbrev pub GaveUpFast : ℕ → Bool → SessionView → SessionView → Type 0
 GaveUpFast id owes a b =
     Joins (data_of a) (Release a.me.0.number id) Done (data_of b)
-    × ((t : Own) × (numbered id a.me.0.fast ≡ Some t) × DoesQuietly t.place (Lose id ∷ []) a (but_owing a b) × ReleasesFast t.place id owes a.me b.me)
+    × ((t : SessionTicket) × (numbered id a.me.0.fast ≡ Some t) × DoesQuietly t.place (Lose id ∷ []) a (but_owing a b) × ReleasesFast t.place id owes a.me b.me)
     × (a.room.spare < b.room.spare) × (a.room.reach ≤ b.room.reach)

@@ -6,7 +6,7 @@ use Rattle.mdl_calls.specs.declared.answers.Attempt.TheVariants as attempt
 use Rattle.mdl_calls.specs.declared.answers.Begun.{Begun}
 use Rattle.mdl_calls.specs.declared.answers.Begun.TheVariants as begun
 use Rattle.mdl_steps.specs.declared.deed.Deed.TheVariants.{Gain}
-use Rattle.mdl_steps.specs.declared.view.Met.{Met}
+use Rattle.mdl_steps.specs.declared.view.StepRecord.{StepRecord}
 use Rattle.mdl_visits.specs.FastTries.{GrantsAtLast}
 use Rattle.mdl_visits.specs.Visits.{AreStepsOf, MeetsBlocked, MeetsGrantable}
 use Rattle.mdl_visits.specs.WaitOpenings.{MeetsOpening, Opens}
@@ -53,7 +53,7 @@ pub record BeginsToWait (place : ℕ) (mode : Mode) (number : ℕ) (a b : Sessio
   pub table : b.table ≡ a.table
   pub sessions : b.sessions ≡ a.sessions
   pub opens : Opens place mode a.me b.me
-  pub met : (e f : Met) × AreStepsOf a.me b.me e f × MeetsBlocked place a.me.0.number mode e
+  pub met : (e f : StepRecord) × AreStepsOf a.me b.me e f × MeetsBlocked place a.me.0.number mode e
       × MeetsOpening a.table.slots place a.me.0.number a.me.0.waits a.me.0.next mode f
   pub room : KeepsRoom 0 a.room b.room
 

@@ -2,7 +2,7 @@
 -- the latch, too.
 use Rattle.std.specs.Prelude.{◌≡◌, ◌⊎◌, ℕ, List, Some, None, MatchOption}
 use Rattle.mdl_defs.specs.declared.definition.Definition.{Definition}
-use Rattle.mdl_defs.specs.declared.standing.Standing.{Standing}
+use Rattle.mdl_defs.specs.declared.versioned_definition.VersionedDefinition.{VersionedDefinition}
 use Rattle.mdl_defs.specs.Caches.{CacheView, Kept, kept_first, kept_of, looked_at}
 use Rattle.mdl_calls.specs.Words.{Answer, Read_kept, Reads, Refused}
 use Rattle.mdl_session_laws.specs.SessionJoins.{Joins}
@@ -13,7 +13,7 @@ use Rattle.mdl_shared.specs.ReadSteps.{FindsVersion, MissesVersion, ReadsByLatch
 use Rattle.mdl_shared.specs.Steps.{OfTicket}
 
 -- a version with the definition that a cache keeps of it
-abbrev pub kept_standing : ℕ → Definition → Standing
+abbrev pub kept_standing : ℕ → Definition → VersionedDefinition
 kept_standing version definition = record { version = version; definition = Some definition }
 
 -- what a session finds in its cache for the ticket with this number, when the one step of the call has read the version of the ticket's place. Either the
@@ -27,7 +27,7 @@ FindsKept id kept Stale a b =
     OfTicket id (lists_seen a.me.0) (λ t. (version : ℕ) × (kept_of t.place version kept ≡ None) × MissesVersion t.place version a b)
 
 -- the cache is unchanged, or keeps this definition of a place first, if there is one
-abbrev pub MayKeep : ℕ → Standing → CacheView → CacheView → Type 0
+abbrev pub MayKeep : ℕ → VersionedDefinition → CacheView → CacheView → Type 0
 MayKeep place standing before after =
     (after ≡ before)
     ⊎ ((d : Definition) × (standing.definition ≡ Some d)
@@ -36,7 +36,7 @@ MayKeep place standing before after =
 -- how a session reads the version and definition of the key of a ticket's place with a cache, and what the cache keeps then. If it keeps a definition of
 -- the version that a step found first, that is read, and comes first in the cache. Otherwise the definition is read under the latch, and may be kept, if
 -- there is one
-abbrev pub ReadsKept : ℕ → Standing → SessionView → SessionView → CacheView → CacheView → Type 0
+abbrev pub ReadsKept : ℕ → VersionedDefinition → SessionView → SessionView → CacheView → CacheView → Type 0
 ReadsKept id standing a b before after =
     OfTicket id (lists_seen a.me.0) (λ t. (version : ℕ)
     × MatchOption (kept_of t.place version before.kept)

@@ -1,5 +1,4 @@
 -- What a session keeps in its own lists between two calls.
-pub use Rattle.mdl_visits.specs.KnownLists.{are_keys_apart, are_two_keys, is_place_looked_up, kind_known, place_looked_up}
 use Rattle.std.specs.Prelude.{◌≡◌, ◌<◌, ◌≤◌, ℕ, ◌^◌, Bool, true, false, ◌&&◌, not, nat_le, nat_lt, List, [], All, Option, Some, None, filter, is_some, if◌then◌else◌}
 use Rattle.std.specs.List.{list_all}
 use Rattle.std.specs.Option.{option_and_then, option_map_or}
@@ -10,15 +9,15 @@ use Rattle.mdl_word.specs.Words.{increment_of}
 use Rattle.mdl_calls.specs.declared.space_error.SpaceError.{SpaceError}
 use Rattle.mdl_calls.specs.declared.space_error.SpaceError.TheVariants.{NoPlace, NotHeld, AlreadyWaiting, BadMode, CounterFull}
 use Rattle.mdl_steps.specs.declared.view.Ask.{Ask}
-use Rattle.mdl_steps.specs.declared.view.Known.{Known}
-use Rattle.mdl_steps.specs.declared.view.Own.{Own}
+use Rattle.mdl_key.specs.declared.known_key.KnownKey.{KnownKey}
+use Rattle.mdl_key.specs.KeyLookups.{is_known, key_known, kind_known}
+use Rattle.mdl_steps.specs.declared.view.SessionTicket.{SessionTicket}
 use Rattle.mdl_steps.specs.Deeds.{is_own}
 use Rattle.mdl_steps.specs.Layout.{word_count}
 use Rattle.mdl_calls.specs.SessionData.{IsSound}
 use Rattle.mdl_visits.specs.Idle.{HoldsNoLatch}
 use Rattle.mdl_visits.specs.Numbers.{numbered}
 use Rattle.mdl_shared.specs.Debts.{IsOwed}
-use Rattle.mdl_shared.specs.OwnLists.{key_looked_up}
 use Rattle.mdl_shared.specs.Rememberings.{AreAlike}
 use Rattle.mdl_shared.specs.SessionViews.{SessionView, data_of, tickets_seen}
 use Rattle.mdl_shared.specs.Waitings.{is_ask_last, is_ask_told}
@@ -28,19 +27,19 @@ abbrev pub most_numbers : ℕ
 most_numbers = 2 ^ 60
 
 -- whether each place that the session has looked up is one of the table's
-abbrev pub are_within : ℕ → List Known → Bool
+abbrev pub are_within : ℕ → List KnownKey → Bool
 are_within slots known = list_all (λ k. nat_lt 0 k.place && nat_lt k.place slots) known
 
 -- what one fast ticket in a mode adds to the word of a place, if the session has looked up the key there and its word counts the mode
-abbrev pub increment_at : ℕ → Mode → List Known → Option ℕ
+abbrev pub increment_at : ℕ → Mode → List KnownKey → Option ℕ
 increment_at place mode known = option_and_then (λ kind. increment_of kind mode) (kind_known place known)
 
 -- whether a mode is obtrusive at a place, if the session has looked up the key there
-abbrev pub obtrudes_at : ℕ → Mode → List Known → Bool
+abbrev pub obtrudes_at : ℕ → Mode → List KnownKey → Bool
 obtrudes_at place mode known = option_map_or (λ kind. is_obtrusive kind mode) (kind_known place known) false
 
 -- whether each of these tickets is one that the word of its place counts
-abbrev pub are_counted : List Known → List Own → Bool
+abbrev pub are_counted : List KnownKey → List SessionTicket → Bool
 are_counted known fast = list_all (λ t. is_some (increment_at t.place t.mode known)) fast
 
 -- what always holds of a session between two calls. As a lock space it is sound. It holds no latch. While it waits it has no fast ticket, and each fast
@@ -58,17 +57,17 @@ pub record IsMember (s : SessionView) : Type 0 where
   pub last : is_ask_last s.me.0.next s.me.0.asks ≡ true
   pub told : is_ask_told s.me.0.asks s.me.0.told ≡ true
   pub fewer : (s.me.0.waits < s.me.0.next) × (s.me.0.waits < most_numbers)
-  pub owed : (place : ℕ) → IsOwed place s.me.0.owes → is_place_looked_up s.me.0.known place ≡ true
+  pub owed : (place : ℕ) → IsOwed place s.me.0.owes → is_known place s.me.0.known ≡ true
   pub counted : (0 < s.me.0.number) × (s.me.0.number ≤ s.sessions)
   pub narrow : (0 < s.table.slots) × (s.table.slots ≤ 65536)
   pub words : s.table.words ≡ word_count s.table.slots s.sessions
 
 -- the tickets without the one with this number at a place
-abbrev pub without_at : ℕ → ℕ → List Own → List Own
+abbrev pub without_at : ℕ → ℕ → List SessionTicket → List SessionTicket
 without_at place number tickets = filter (λ t. not (is_own place number t)) tickets
 
 -- why a call on the ticket with this number is refused: there is no such ticket
-abbrev pub holding_fault : ℕ → List Own → Option SpaceError
+abbrev pub holding_fault : ℕ → List SessionTicket → Option SpaceError
 holding_fault number tickets = if is_some (numbered number tickets) then None else Some NotHeld
 
 -- why a request for a mode (a wish) isn't even tried, at a place whose key is of this kind, or isn't known, by a session with this wait, or none, whose
@@ -80,5 +79,5 @@ wish_fault (Some kind) asks mode next =
     else (if not (is_mode_of kind mode) then Some BadMode else (if nat_le most_numbers next then Some CounterFull else None))
 
 -- the session knows each of these keys to be at its place
-abbrev pub AreLearnt : List Known → List Known → Type 0
-AreLearnt tables known = All (λ (t : Known). key_looked_up t.place known ≡ Some t.key) tables
+abbrev pub AreLearnt : List KnownKey → List KnownKey → Type 0
+AreLearnt tables known = All (λ (t : KnownKey). key_known t.place known ≡ Some t.key) tables

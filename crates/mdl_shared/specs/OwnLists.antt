@@ -1,16 +1,16 @@
 -- What a session returns of its own lists.
-pub use Rattle.mdl_visits.specs.KnownLists.{key_looked_up}
 use Rattle.std.specs.Prelude.{ℕ, List, Option, Some, None, is_some, if◌then◌else◌}
 use Rattle.mdl_calls.specs.declared.answers.Held.{Held}
 use Rattle.mdl_calls.specs.declared.space_error.SpaceError.{SpaceError}
 use Rattle.mdl_calls.specs.declared.space_error.SpaceError.TheVariants.{NoPlace}
-use Rattle.mdl_steps.specs.declared.view.Known.{Known}
-use Rattle.mdl_steps.specs.declared.view.Own.{Own}
+use Rattle.mdl_key.specs.declared.known_key.KnownKey.{KnownKey}
+use Rattle.mdl_key.specs.KeyLookups.{key_known}
+use Rattle.mdl_steps.specs.declared.view.SessionTicket.{SessionTicket}
 
 -- a session's ticket in the form that callers get
-abbrev pub as_held : Own → Held
+abbrev pub as_held : SessionTicket → Held
 as_held t = record { id = t.number; place = t.place; mode = t.mode }
 
 -- why the session can't return the key of a place: it hasn't looked it up
-abbrev pub naming_fault : ℕ → List Known → Option SpaceError
-naming_fault place known = if is_some (key_looked_up place known) then None else Some NoPlace
+abbrev pub naming_fault : ℕ → List KnownKey → Option SpaceError
+naming_fault place known = if is_some (key_known place known) then None else Some NoPlace

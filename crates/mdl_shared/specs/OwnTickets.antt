@@ -1,7 +1,7 @@
 -- How a session keeps its own list of tickets: the tickets without their notes, and what is kept of each place.
 use Rattle.std.specs.Prelude.{◌≡◌, ℕ, ◌-◌, ◌≤◌, Bool, ◌==◌, ◌&&◌, not, List, count_by, filter, if◌then◌else◌, length, map, nat_lt, slice_get, slice_index_or, ◌<◌, None, Option, Some}
 use Rattle.std.specs.Option.{option_map_or, option_and_then}
-use Rattle.mdl_steps.specs.declared.view.Own.{Own}
+use Rattle.mdl_steps.specs.declared.view.SessionTicket.{SessionTicket}
 use Rattle.mdl_shared.specs.declared.tickets.Gained.{Gained}
 use Rattle.mdl_shared.specs.declared.tickets.OfPlace.{OfPlace}
 
@@ -26,15 +26,15 @@ abbrev pub flags_of : List OfPlace → List Bool
 flags_of places = map (λ (p : OfPlace). p.owes) places
 
 -- a ticket with the note of its place
-abbrev pub with_note : List OfPlace → Gained → Own
+abbrev pub with_note : List OfPlace → Gained → SessionTicket
 with_note places t = record { number = t.id; place = t.place; mode = t.mode; noted = noted_in t.place places }
 
 -- the slow tickets, with their notes
-abbrev pub slow_of : List OfPlace → List Gained → List Own
+abbrev pub slow_of : List OfPlace → List Gained → List SessionTicket
 slow_of places tickets = map (with_note places) (filter (λ t. not t.fast) tickets)
 
 -- the fast tickets, with their notes
-abbrev pub fast_of : List OfPlace → List Gained → List Own
+abbrev pub fast_of : List OfPlace → List Gained → List SessionTicket
 fast_of places tickets = map (with_note places) (filter (λ t. t.fast) tickets)
 
 -- whether a ticket is at a place
@@ -67,18 +67,18 @@ IsLastGained place id fast tickets =
     × ((d : Gained) → (slice_index_or tickets (length tickets - 1) d).fast ≡ fast)
 
 -- the ticket that was found, if it is a fast one
-abbrev pub fast_found : Option (Own × Bool) → Option Own
-fast_found found = option_and_then (λ (t : Own × Bool). if t.1 then Some t.0 else None) found
+abbrev pub fast_found : Option (SessionTicket × Bool) → Option SessionTicket
+fast_found found = option_and_then (λ (t : SessionTicket × Bool). if t.1 then Some t.0 else None) found
 
 -- each ticket has a number below those of all later ones
-abbrev pub AreGainedRising : List Gained → Type 0
-AreGainedRising tickets =
+abbrev pub HaveRisingNumbers : List Gained → Type 0
+HaveRisingNumbers tickets =
     (i j : ℕ) (d : Gained) → i < j → j < length tickets → (slice_index_or tickets i d).id < (slice_index_or tickets j d).id
 
 -- what always holds of the list: the numbers rise, the tickets and the fast ones are counted at each place, the fast ones also in all, and there are at
 -- most as many places as a table can have
 pub record AreKept (tickets : List Gained) (places : List OfPlace) (fast : ℕ) : Type 0 where
-  pub rising : AreGainedRising tickets
+  pub rising : HaveRisingNumbers tickets
   pub counted : (place : ℕ) → counted_at place places ≡ count_by (is_at_place place) tickets
   pub fast_counted : (place : ℕ) → fast_counted_at place places ≡ count_by (is_fast_there place) tickets
   pub all_fast : fast ≡ count_by (λ t. t.fast) tickets

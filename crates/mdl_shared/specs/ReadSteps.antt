@@ -1,8 +1,8 @@
 -- How a session reads the version and the definition of the key of a place: by one step without the latch, or in one visit to the place.
 use Rattle.std.specs.Prelude.{◌≡◌, ℕ, ◌≤◌, Contains, [], Some}
-use Rattle.mdl_defs.specs.declared.standing.Standing.{Standing}
-use Rattle.mdl_steps.specs.declared.view.Own.{Own}
-use Rattle.mdl_steps.specs.declared.view.Read.{Read}
+use Rattle.mdl_defs.specs.declared.versioned_definition.VersionedDefinition.{VersionedDefinition}
+use Rattle.mdl_steps.specs.declared.view.SessionTicket.{SessionTicket}
+use Rattle.mdl_defs.specs.declared.reading.Reading.{Reading}
 use Rattle.mdl_steps.specs.Cells.{reads_at}
 use Rattle.mdl_steps.specs.Lists.{Each}
 use Rattle.mdl_steps.specs.VersionPlays.{Follows, LearnsVersion, met_version, noted_version}
@@ -27,11 +27,11 @@ pub record MissesVersion (place version : ℕ) (a b : SessionView) : Type 0 wher
   pub now : b.me ≡ met_version place version a.me
   pub same : b ≡ record a { me = b.me; room = b.room }
   pub room : KeepsRoom 0 a.room b.room
-  pub newest : Each (λ (r : Read). r.standing.version ≤ version) (reads_at place a.me.0.reads)
+  pub newest : Each (λ (r : Reading). r.standing.version ≤ version) (reads_at place a.me.0.reads)
 
 -- the version of a place was read likewise, and it is that of a definition which the session had read there, and which agrees with all that it knows of
 -- the place. The session notes the version under each ticket that it has there
-pub record FindsVersion (place : ℕ) (standing : Standing) (a b : SessionView) : Type 0 where
+pub record FindsVersion (place : ℕ) (standing : VersionedDefinition) (a b : SessionView) : Type 0 where
   pub now : b.me ≡ noted_version place standing.version a.me
   pub same : b ≡ record a { me = b.me; room = b.room }
   pub room : KeepsRoom 0 a.room b.room
@@ -39,7 +39,7 @@ pub record FindsVersion (place : ℕ) (standing : Standing) (a b : SessionView) 
   pub follows : Follows place standing a.me
 
 -- the version and definition of the key of a ticket's place were read in one visit. It raised no flag, and left the directory alone
-abbrev pub ReadsByLatch : ℕ → Own → Standing → SessionView → SessionView → Type 0
+abbrev pub ReadsByLatch : ℕ → SessionTicket → VersionedDefinition → SessionView → SessionView → Type 0
 ReadsByLatch id t standing a b =
     Follows t.place standing a.me
     × SeatReadsThere t.place standing a.me b.me

@@ -1,9 +1,9 @@
 -- The versions that a session noted under its tickets as it read them.
 use Rattle.std.specs.Prelude.{◌≡◌, List, [], ◌∷◌}
-use Rattle.mdl_steps.specs.declared.view.Own.{Own}
+use Rattle.mdl_steps.specs.declared.view.SessionTicket.{SessionTicket}
 use Rattle.mdl_steps.specs.Lists.{Each}
 
 -- the tickets of a place have the same note
-abbrev pub AreAlike : List Own → Type 0
+abbrev pub AreAlike : List SessionTicket → Type 0
 AreAlike [] = Unit {0}
-AreAlike (t ∷ later) = Each (λ (x : Own). x.place ≡ t.place → x.noted ≡ t.noted) later × AreAlike later
+AreAlike (t ∷ later) = Each (λ (x : SessionTicket). x.place ≡ t.place → x.noted ≡ t.noted) later × AreAlike later

@@ -5,9 +5,9 @@ use Rattle.atomic_table.specs.Seated.{TableId}
 use Rattle.mdl_calls.specs.declared.answers.Settled.{Settled}
 use Rattle.mdl_calls.specs.declared.answers.Settled.TheVariants.{Granted, Victim, Timeout, Killed}
 use Rattle.mdl_steps.specs.declared.view.Ask.{Ask}
-use Rattle.mdl_steps.specs.declared.view.Known.{Known}
-use Rattle.mdl_steps.specs.declared.view.Own.{Own}
-use Rattle.mdl_steps.specs.declared.view.Read.{Read}
+use Rattle.mdl_key.specs.declared.known_key.KnownKey.{KnownKey}
+use Rattle.mdl_steps.specs.declared.view.SessionTicket.{SessionTicket}
+use Rattle.mdl_defs.specs.declared.reading.Reading.{Reading}
 use Rattle.mdl_steps.specs.declared.view.View.{View}
 use Rattle.mdl_steps.specs.Interleavings.{interleaved}
 use Rattle.mdl_steps.specs.Plays.{Mine}
@@ -31,7 +31,7 @@ settled_told None = None
 settled_told (Some state) = settled_of state
 
 -- the version that is noted under a ticket, with the ticket's place
-abbrev pub note_of : Own → Option Note
+abbrev pub note_of : SessionTicket → Option Note
 note_of t = option_map (λ version. record { place = t.place; version = version }) t.noted
 
 -- ---- a session
@@ -61,9 +61,9 @@ RemembersWait a b = (state : ℕ) → a.me.0.told ≡ Some state → b.me.0.told
 -- a session's own lists: its slow tickets and its fast ones, each in the order in which it got them, the keys that it has looked up, the number of its
 -- next ticket, what it waits for, and the number of its last wait
 pub record Lists : Type 0 where
-  pub slow : List Own
-  pub fast : List Own
-  pub known : List Known
+  pub slow : List SessionTicket
+  pub fast : List SessionTicket
+  pub known : List KnownKey
   pub next : ℕ
   pub asks : Option Ask
   pub waits : ℕ
@@ -73,11 +73,11 @@ abbrev pub lists_seen : View → Lists
 lists_seen me = record { slow = me.slow; fast = me.fast; known = me.known; next = me.next; asks = me.asks; waits = me.waits }
 
 -- all tickets of the lists, in the order in which the session got them
-abbrev pub all_tickets : Lists → List Own
+abbrev pub all_tickets : Lists → List SessionTicket
 all_tickets l = interleaved l.slow l.fast
 
 -- all tickets of a session, by what it has at the table
-abbrev pub tickets_seen : View → List Own
+abbrev pub tickets_seen : View → List SessionTicket
 tickets_seen me = all_tickets (lists_seen me)
 
 -- the session has the same number, at the same table of the same space, the same lists and at least the same room, and read nothing
@@ -92,7 +92,7 @@ pub record KeepsLists (a b : SessionView) : Type 0 where
 -- ---- as a lock space
 
 -- the session with this number as a lock space, by its lists, by what it knows of its wait's state, and by what it read
-abbrev pub data_by : ℕ → Lists → Option ℕ → List Read → SessionData
+abbrev pub data_by : ℕ → Lists → Option ℕ → List Reading → SessionData
 data_by number lists told reads = record {
   number = number;
   own = record {
@@ -100,10 +100,10 @@ data_by number lists told reads = record {
     wait = option_map (λ (a : Ask). record { number = lists.waits; place = a.place; mode = a.mode }) lists.asks;
   };
   numbers = record { last_ticket = lists.next - 1; last_wait = lists.waits };
-  known = map (λ (k : Known). record { key = k.key; place = k.place }) lists.known;
+  known = lists.known;
   settled = settled_told told;
   notes = filter_map note_of (all_tickets lists);
-  reads = map (λ (r : Read). record { place = r.place; standing = r.standing }) reads;
+  reads = reads;
 }
 
 -- a session as a lock space: what it has of the space, as plain data

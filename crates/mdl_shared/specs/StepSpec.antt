@@ -4,7 +4,7 @@ use Rattle.std.specs.Prelude.{◌≡◌, ℕ, List, [], Option, None, IfSome}
 use Rattle.mdl_calls.specs.declared.space_error.SpaceError.{SpaceError}
 use Rattle.mdl_calls.specs.Words.{Answer, Refused, Granted}
 use Rattle.mdl_steps.specs.declared.deed.Deed.{Deed}
-use Rattle.mdl_steps.specs.declared.view.Own.{Own}
+use Rattle.mdl_steps.specs.declared.view.SessionTicket.{SessionTicket}
 use Rattle.mdl_visits.specs.Polls.{SettlesNothing}
 use Rattle.mdl_visits.specs.Visits.{Does}
 use Rattle.mdl_shared.specs.Debts.{KeepsDebts, OwesNoMore}
@@ -17,7 +17,7 @@ pub record StepSpec : Type 1 where
   -- why the session's own lists refuse the call, if they do: then no step is made
   pub fault : Lists → Option SpaceError
   -- the deeds, by the answer: what the steps do to the session's own tickets
-  pub did : Answer → List Own → List Deed
+  pub did : Answer → List SessionTicket → List Deed
   -- which waits the steps settle, by the answer. If waits at a place are granted, `HasRescheduled` says which, and for a search `Searched`
   pub settled : Answer → Lists → SessionView → SessionView → Type 0
   -- what becomes of what the session knows of its own wait

@@ -7,8 +7,8 @@ use Rattle.mdl_calls.specs.declared.answers.Settled.{Settled}
 use Rattle.mdl_steps.specs.declared.deed.Deed.{Deed}
 use Rattle.mdl_steps.specs.declared.deed.Deed.TheVariants.{Lose}
 use Rattle.mdl_steps.specs.declared.view.Keys.{Keys}
-use Rattle.mdl_steps.specs.declared.view.Met.{Met}
-use Rattle.mdl_steps.specs.declared.view.Own.{Own}
+use Rattle.mdl_steps.specs.declared.view.StepRecord.{StepRecord}
+use Rattle.mdl_steps.specs.declared.view.SessionTicket.{SessionTicket}
 use Rattle.mdl_steps.specs.Lists.{Each}
 use Rattle.mdl_steps.specs.Plays.{Mine}
 use Rattle.mdl_steps.specs.WaitPlays.{met_wait}
@@ -26,12 +26,12 @@ use Rattle.mdl_shared.specs.Debts.{Pays}
 use Rattle.mdl_shared.specs.SessionViews.{Lists, SessionView, all_tickets}
 
 -- this holds of a step that was made between the two
-abbrev pub ShowsStep : SessionView → SessionView → (Met → Type 0) → Type 0
-ShowsStep a b fact = (e : Met) × IsStepOf a.me b.me e × fact e
+abbrev pub ShowsStep : SessionView → SessionView → (StepRecord → Type 0) → Type 0
+ShowsStep a b fact = (e : StepRecord) × IsStepOf a.me b.me e × fact e
 
 -- the session has a ticket with this number, and this holds of it
-abbrev pub OfTicket : ℕ → Lists → (Own → Type 0) → Type 0
-OfTicket id l fact = (t : Own) × (numbered id (all_tickets l) ≡ Some t) × fact t
+abbrev pub OfTicket : ℕ → Lists → (SessionTicket → Type 0) → Type 0
+OfTicket id l fact = (t : SessionTicket) × (numbered id (all_tickets l) ≡ Some t) × fact t
 
 -- no step was made, and what the session knows and has at the table is unchanged
 abbrev pub MakesNoStep : SessionView → SessionView → Type 0
@@ -39,26 +39,26 @@ MakesNoStep a b = b.me ≡ a.me
 
 -- the list of steps grew by at most so many steps (`most`), which gave no latch back and raised no flag
 abbrev pub StaysFor : ℕ → Mine → Mine → Type 0
-StaysFor most m m′ = (made : List Met) × (m′.0.log ≡ m.0.log ++ made) × Each StaysThere made × (length made ≤ most)
+StaysFor most m m′ = (made : List StepRecord) × (m′.0.log ≡ m.0.log ++ made) × Each StaysThere made × (length made ≤ most)
 
 -- ---- a ticket is given up, or made weaker
 
 -- a step did these deeds while the ticket with this number was in the granted list of its place
-abbrev pub MeetsTicket : ℕ → List Deed → SessionView → SessionView → Own → Type 0
+abbrev pub MeetsTicket : ℕ → List Deed → SessionView → SessionView → SessionTicket → Type 0
 MeetsTicket id ds a b t = ShowsStep a b (λ e. MeetsOwn t.place a.me.0.number id e × (e.deeds ≡ ds))
 
 -- the session visited the ticket's place once and did nothing else, and the waits there that could be granted were granted. The place isn't owed that
 -- any more
-abbrev pub Reschedules : SessionView → SessionView → Own → Type 0
+abbrev pub Reschedules : SessionView → SessionView → SessionTicket → Type 0
 Reschedules a b t = HasRescheduled a.table t.place a.me b.me × VisitsOnce t.place a.me b.me × Pays t.place a.me b.me
 
 -- the slow ticket with this number was released in one visit, and the waits at its place that could be granted were granted
-abbrev pub GivesUpSlow : ℕ → SessionView → SessionView → Own → Type 0
+abbrev pub GivesUpSlow : ℕ → SessionView → SessionView → SessionTicket → Type 0
 GivesUpSlow id a b t = MeetsTicket id (Lose id ∷ []) a b t × Reschedules a b t
 
 -- a fast ticket was released by one step on the word of its place. If that step found the flag SLOW up, the place was visited once, and the waits there
 -- that could be granted then were granted: it isn't owed that any more. Otherwise nothing else was done
-abbrev pub GivesUpFast : ℕ → SessionView → SessionView → Own → Type 0
+abbrev pub GivesUpFast : ℕ → SessionView → SessionView → SessionTicket → Type 0
 GivesUpFast id a b t =
     (mid : Mine) × (owes : Bool) × ReleasesFast t.place id owes a.me mid
     × (owes ≡ true → HasRescheduled a.table t.place mid b.me × VisitsOnce t.place mid b.me × Pays t.place mid b.me) × (owes ≡ false → b.me ≡ mid)
@@ -100,13 +100,13 @@ MeetsOwnWait state l a b = ShowsStep a b (MeetsWait a.table.slots a.me.0.number 
 -- the session's first step met its own wait in this state. This holds of what the session had just after that step
 abbrev pub LooksThen : ℕ → Lists → SessionView → (Mine → Type 0) → Type 0
 LooksThen state l a fact =
-    (mid : Mine) × (look : Met) × (mid.0.log ≡ a.me.0.log ++ look ∷ []) × (mid.0.directory ≡ a.me.0.directory)
+    (mid : Mine) × (look : StepRecord) × (mid.0.log ≡ a.me.0.log ++ look ∷ []) × (mid.0.directory ≡ a.me.0.directory)
     × MeetsWait a.table.slots a.me.0.number l.waits state look × fact mid
 
 -- just one step more was made, and it ended the session's own wait, which was in this state
 abbrev pub EndsByOneStep : ℕ → Lists → SessionView → SessionView → Mine → Type 0
 EndsByOneStep state l a b mid =
-    (e : Met) × (b.me.0.log ≡ mid.0.log ++ e ∷ []) × EndsWait a.table.slots a.me.0.number l.waits state e
+    (e : StepRecord) × (b.me.0.log ≡ mid.0.log ++ e ∷ []) × EndsWait a.table.slots a.me.0.number l.waits state e
 
 -- a step ended the session's own wait, which was in this state
 abbrev pub EndsOwnWait : ℕ → Lists → SessionView → SessionView → Type 0

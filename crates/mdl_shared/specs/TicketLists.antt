@@ -1,6 +1,6 @@
 -- A session's own list of its tickets, as the session's calls see it.
 use Rattle.std.specs.Prelude.{ℕ, ◌+◌, ◌<◌, ◌≤◌, Bool, List}
-use Rattle.mdl_steps.specs.declared.view.Own.{Own}
+use Rattle.mdl_steps.specs.declared.view.SessionTicket.{SessionTicket}
 
 -- the room of a session's list: for how many more tickets there is room, and below which place those may be
 pub record Room : Type 0 where
@@ -22,7 +22,7 @@ KeepsRoom gained room room′ = (room.spare ≤ room′.spare + gained) × (room
 -- the slow tickets and the fast ones, each in the order in which the session got them, whether the places are owed a reschedule, from place 0 on, and the
 -- room for more tickets
 pub record TicketList : Type 0 where
-  pub slow : List Own
-  pub fast : List Own
+  pub slow : List SessionTicket
+  pub fast : List SessionTicket
   pub owes : List Bool
   pub room : Room

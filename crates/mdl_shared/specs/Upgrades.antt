@@ -7,18 +7,18 @@ use Rattle.mdl_system.specs.Strength.{covers, may_upgrade}
 use Rattle.mdl_calls.specs.declared.space_error.SpaceError.{SpaceError}
 use Rattle.mdl_calls.specs.declared.space_error.SpaceError.TheVariants.{NotHeld, NotUpgradable, AlreadyWaiting}
 use Rattle.mdl_steps.specs.declared.view.Ask.{Ask}
-use Rattle.mdl_steps.specs.declared.view.Known.{Known}
-use Rattle.mdl_steps.specs.declared.view.Own.{Own}
-use Rattle.mdl_shared.specs.Members.{kind_known}
+use Rattle.mdl_key.specs.declared.known_key.KnownKey.{KnownKey}
+use Rattle.mdl_steps.specs.declared.view.SessionTicket.{SessionTicket}
+use Rattle.mdl_key.specs.KeyLookups.{kind_known}
 
 -- whether a ticket has a mode or may be upgraded to it, at a place whose key is of this kind, or isn't known: its own mode covers that or may be upgraded
 -- to it, and the mode is one of the kind
-abbrev pub can_have : Mode → Own → Option Kind → Bool
+abbrev pub can_have : Mode → SessionTicket → Option Kind → Bool
 can_have mode t None = false
 can_have mode t (Some kind) = (covers t.mode mode || may_upgrade t.mode mode) && is_mode_of kind mode
 
 -- why an upgrade of a ticket isn't even tried by a session with this wait, or none
-abbrev pub upgrade_fault : Mode → List Known → Option Ask → Option Own → Option SpaceError
+abbrev pub upgrade_fault : Mode → List KnownKey → Option Ask → Option SessionTicket → Option SpaceError
 upgrade_fault mode known asks None = Some NotHeld
 upgrade_fault mode known asks (Some t) =
     if not (can_have mode t (kind_known t.place known)) then Some NotUpgradable else (if is_some asks then Some AlreadyWaiting else None)

@@ -4,11 +4,11 @@ use Rattle.std.specs.Option.{option_map_or}
 use Rattle.mdl_calls.specs.declared.space_error.SpaceError.{SpaceError}
 use Rattle.mdl_calls.specs.declared.space_error.SpaceError.TheVariants.{NoWait}
 use Rattle.mdl_steps.specs.declared.view.Ask.{Ask}
-use Rattle.mdl_steps.specs.declared.view.Own.{Own}
+use Rattle.mdl_steps.specs.declared.view.SessionTicket.{SessionTicket}
 use Rattle.mdl_visits.specs.Numbers.{all_numbers}
 
 -- whether all tickets have numbers below the next one
-abbrev pub are_below_next : ℕ → List Own → Bool
+abbrev pub are_below_next : ℕ → List SessionTicket → Bool
 are_below_next next tickets = all_numbers (λ n. nat_lt n next) tickets
 
 -- whether the ticket that is waited for, if any, has the last number that was given out

@@ -5,8 +5,8 @@ use Rattle.mdl_calls.specs.declared.space_error.SpaceError.{SpaceError}
 use Rattle.mdl_calls.specs.declared.space_error.SpaceError.TheVariants as cause
 use Rattle.mdl_steps.specs.declared.deed.Deed.{Deed}
 use Rattle.mdl_steps.specs.declared.step_kind.StepKind.TheVariants.{Materialise}
-use Rattle.mdl_steps.specs.declared.view.Met.{Met}
-use Rattle.mdl_steps.specs.declared.view.Own.{Own}
+use Rattle.mdl_steps.specs.declared.view.StepRecord.{StepRecord}
+use Rattle.mdl_steps.specs.declared.view.SessionTicket.{SessionTicket}
 use Rattle.mdl_steps.specs.Cells.{own_at}
 use Rattle.mdl_steps.specs.FastPlays.{but_at}
 use Rattle.mdl_steps.specs.Layout.{lock_word}
@@ -25,12 +25,12 @@ use Rattle.mdl_shared.specs.Steps.{ShowsStep, MakesNoStep}
 -- ---- fast tickets become slow
 
 -- a step by which the session's fast tickets at a place became slow
-abbrev pub MakesSlow : ℕ → Met → Type 0
+abbrev pub MakesSlow : ℕ → StepRecord → Type 0
 MakesSlow place e = (e.kind ≡ Materialise) × (e.word ≡ lock_word place)
 
 -- each fast ticket that the session had became slow by a step that was made between the two
 abbrev pub AllMadeSlow : SessionView → SessionView → Type 0
-AllMadeSlow a b = Each (λ (t : Own). ShowsStep a b (MakesSlow t.place)) a.me.0.fast
+AllMadeSlow a b = Each (λ (t : SessionTicket). ShowsStep a b (MakesSlow t.place)) a.me.0.fast
 
 -- this holds from a moment of the call on by which each fast ticket that the session had was made slow. So no word that it met then counted one of its own
 -- tickets
@@ -38,12 +38,12 @@ abbrev pub FromUnfast : SessionView → (SessionView → Type 0) → Type 0
 FromUnfast a fact = (mid : SessionView) × MakesMoreSteps a.me mid.me × AllMadeSlow a mid × fact mid
 
 -- a place is the least one at which there are some of these fast tickets
-abbrev pub IsNextFast : ℕ → List Own → Type 0
+abbrev pub IsNextFast : ℕ → List SessionTicket → Type 0
 IsNextFast place fast = (0 < length (own_at place fast)) × ((q : ℕ) → q < place → own_at q fast ≡ [])
 
 -- the session visited these places one after the other, each once, and made no other step. Each was the least one with a fast ticket of the session, which
 -- had these fast tickets at first (`fast`), and left none of those of the place. Others are left (`left`)
-abbrev pub SlowsInTurn : List ℕ → List Own → List Own → Mine → Mine → Type 0
+abbrev pub SlowsInTurn : List ℕ → List SessionTicket → List SessionTicket → Mine → Mine → Type 0
 SlowsInTurn [] fast left m m′ = (left ≡ fast) × (m′ ≡ m)
 SlowsInTurn (place ∷ later) fast left m m′ =
     IsNextFast place fast × (mid : Mine) × VisitsOnce place m mid × SlowsInTurn later (but_at place fast) left mid m′
@@ -56,7 +56,7 @@ SlowsAll m m′ = (places : List ℕ) × SlowsInTurn places m.0.fast [] m m′
 -- out before. It made no other step
 abbrev pub StopsSlowing : Mine → Mine → Type 0
 StopsSlowing m m′ =
-    (places : List ℕ) × (left : List Own) × (mid : Mine) × SlowsInTurn places m.0.fast left m mid
+    (places : List ℕ) × (left : List SessionTicket) × (mid : Mine) × SlowsInTurn places m.0.fast left m mid
     × ((m′ ≡ mid) ⊎ ((place : ℕ) × IsNextFast place left × VisitsOnce place mid m′))
 
 -- the session made all its fast tickets slow, visited a place once after that, and made no other step. It raised the flag OBTRUSIVE there only if it may
@@ -116,7 +116,7 @@ LacksRoomForFast why a b = (a.me.0.fast ≢ []) × ((why ≡ cause.OutOfMemory) 
 
 -- the fast path was closed to a request for a mode at a place, and a step met a full book: one without room for the session's fast tickets, or, once those
 -- were slow, the book of the place without room for one more ticket (`Full`)
-abbrev pub FullForWish : (Met → Type 0) → ℕ → Mode → Bool → SessionView → SessionView → Type 0
+abbrev pub FullForWish : (StepRecord → Type 0) → ℕ → Mode → Bool → SessionView → SessionView → Type 0
 FullForWish Full place mode may a b =
     ByLatch place mode may a b (λ mid. ShowsStep mid b Full) ⊎ (IsClosed place mode StopsSlowing a b × FullForFast a b)
 
@@ -130,6 +130,6 @@ abbrev pub StopsOrVisits : ℕ → Bool → Mine → Mine → Type 0
 StopsOrVisits place may m m′ = StopsSlowing m m′ ⊎ ((mid : Mine) × SlowsAll m mid × IsVisit place may mid m′)
 
 -- why there was no room for a request: memory ran out, or a step met a book that was full
-abbrev pub LacksRoomForWish : (Met → Type 0) → ℕ → Mode → Bool → SpaceError → SessionView → SessionView → Type 0
+abbrev pub LacksRoomForWish : (StepRecord → Type 0) → ℕ → Mode → Bool → SpaceError → SessionView → SessionView → Type 0
 LacksRoomForWish Full place mode may why a b =
     ((why ≡ cause.OutOfMemory) × LacksMemory place mode (StopsOrVisits place may) a b) ⊎ ((why ≡ cause.Full) × FullForWish Full place mode may a b)

@@ -10,7 +10,7 @@ ghost use Rattle.mdl_steps.specs.Interleavings.{interleaved};
 ghost use Rattle.mdl_visits.specs.Numbers.{numbered};
 ghost use Rattle.mdl_visits.specs.Visits.{MeetsFull, VisitsOnce};
 ghost use Rattle.mdl_shared.specs.DeedsDone.{DoesQuietly};
-ghost use Rattle.mdl_shared.specs.Members.{kind_known};
+ghost use Rattle.mdl_key.specs.KeyLookups.{kind_known};
 ghost use Rattle.mdl_shared.specs.Modes.{clone_fault};
 ghost use Rattle.mdl_shared.specs.Passes.{view_of};
 ghost use Rattle.mdl_shared.specs.SessionViews.{data_of};
@@ -25,7 +25,7 @@ use crate::member::Member;
 use crate::wishes::refusal;
 use mdl_calls::{SpaceError, TicketId};
 use mdl_key::{Kind, Mode};
-use mdl_steps::Own;
+use mdl_steps::SessionTicket;
 use mdl_system::covers;
 use mdl_visits::clone_ticket;
 use std::sync::Wait;
@@ -48,7 +48,7 @@ impl<R: Wait> Session<R> {
 
 impl Member {
     // The ticket with a number, and the kind of its lock, if a second one in a mode may be made of it.
-    fn clonable(&self, id: TicketId, mode: Mode) -> Result<(Own, Kind), SpaceError>
+    fn clonable(&self, id: TicketId, mode: Mode) -> Result<(SessionTicket, Kind), SpaceError>
         ensures found { IfOk result (λ two. (numbered id (interleaved self.now.tickets.slow self.now.tickets.fast) ≡ Some two.0) × (kind_known two.0.place self.now.known.known ≡ Some two.1)) }
         ensures just { RefusesJust (clone_fault (numbered id (interleaved self.now.tickets.slow self.now.tickets.fast)) self.now.asks mode self.now.known.known self.now.next) result }
     {
@@ -75,7 +75,7 @@ impl Member {
     fn clone_by_latch<R: Wait>(
         &mut self,
         rt: &R,
-        held: Own,
+        held: SessionTicket,
         mode: Mode,
     ) -> Result<TicketId, SpaceError>
         requires held { numbered held.number self.old.tickets.slow ≡ Some held }

@@ -15,7 +15,7 @@ use crate::Session;
 use crate::member::Member;
 use mdl_calls::{SpaceError, TicketId};
 use mdl_key::Mode;
-use mdl_steps::Own;
+use mdl_steps::SessionTicket;
 use mdl_system::may_downgrade;
 use mdl_visits::downgrade;
 use std::sync::Wait;
@@ -38,7 +38,7 @@ impl<R: Wait> Session<R> {
 
 impl Member {
     // The ticket with a number, if it may be downgraded to a mode.
-    fn downgradable(&self, id: TicketId, mode: Mode) -> Result<Own, SpaceError>
+    fn downgradable(&self, id: TicketId, mode: Mode) -> Result<SessionTicket, SpaceError>
         ensures found { IfOk result (λ held. numbered id (interleaved self.now.tickets.slow self.now.tickets.fast) ≡ Some held) }
         ensures just { RefusesJust (downgrade_fault (numbered id (interleaved self.now.tickets.slow self.now.tickets.fast)) mode self.now.known.known) result }
     {

@@ -5,7 +5,8 @@ ghost use Rattle.std.specs.Prelude.{◌≡◌, ◌⊎◌, ◌<◌, None, Ok, Som
 ghost use Rattle.mdl_calls.specs.declared.space_error.SpaceError.TheVariants.{Full, OutOfMemory};
 ghost use Rattle.mdl_shared.specs.DeedsDone.{DoesQuietly};
 ghost use Rattle.mdl_shared.specs.FastWishes.{BecomesSlow, GainsFast};
-ghost use Rattle.mdl_shared.specs.Members.{kind_known, most_numbers};
+ghost use Rattle.mdl_key.specs.KeyLookups.{kind_known};
+ghost use Rattle.mdl_shared.specs.Members.{most_numbers};
 ghost use Rattle.mdl_shared.specs.Passes.{view_of};
 ghost use Rattle.mdl_shared.specs.WishSteps.{FindsClosed, FullForFast, IsClosed, LacksMemory, SlowsAll, StopsSlowing};
 ghost use Rattle.mdl_shared.specs.TicketLists.{HasRoom, KeepsRoom};

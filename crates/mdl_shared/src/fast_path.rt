@@ -26,7 +26,7 @@ use crate::member::Member;
 use crate::wishes::refusal;
 use mdl_calls::{SpaceError, TicketId};
 use mdl_key::Mode;
-use mdl_steps::Own;
+use mdl_steps::SessionTicket;
 use mdl_visits::{FastTried, materialise, release_fast, try_fast};
 use mdl_word::Word;
 use std::sync::Wait;
@@ -89,7 +89,7 @@ impl Member {
     /// Releases a fast ticket of the session. Returns whether waits at its place may have become grantable: then the session owes the place a
     /// reschedule. It needs no latch and takes no memory.
     #[inline(always)]
-    pub(crate) fn lose_fast(&mut self, held: Own) -> bool
+    pub(crate) fn lose_fast(&mut self, held: SessionTicket) -> bool
         requires held { numbered held.number self.old.tickets.fast ≡ Some held }
         ensures lost { DoesQuietly held.place (Lose held.number ∷ []) (view_of self.old) (but_owing (view_of self.old) (view_of self.new)) }
         ensures released { ReleasesFast held.place held.number result self.old.seat.me self.new.seat.me }
@@ -151,7 +151,7 @@ impl Member {
     }
 
     // What a fast ticket adds to the word of its place.
-    fn increment(&self, held: Own) -> u64
+    fn increment(&self, held: SessionTicket) -> u64
         requires held { numbered held.number self.now.tickets.fast ≡ Some held }
         ensures { increment_at held.place held.mode self.now.known.known ≡ Some result }
     {

@@ -14,7 +14,7 @@ use mdl_calls::{
     Attempt, Begun, Ended, Held, LockSpace, Place, Poll, Search, SpaceError, TicketId, TimedOut,
     Upgrade,
 };
-use mdl_defs::{Change, DefCache, Standing};
+use mdl_defs::{Change, DefCache, VersionedDefinition};
 use mdl_key::{Key, Mode};
 use std::sync::Wait;
 
@@ -108,7 +108,7 @@ impl<R: Wait> LockSpace for Session<R> {
         Session::downgrade(self, id, mode)
     }
 
-    fn read_definition(&mut self, _who: u16, id: TicketId) -> Result<Standing, SpaceError> {
+    fn read_definition(&mut self, _who: u16, id: TicketId) -> Result<VersionedDefinition, SpaceError> {
         Session::read_definition(self, id)
     }
 
@@ -117,7 +117,7 @@ impl<R: Wait> LockSpace for Session<R> {
         _who: u16,
         id: TicketId,
         cache: &mut DefCache,
-    ) -> Result<Standing, SpaceError> {
+    ) -> Result<VersionedDefinition, SpaceError> {
         Session::read_kept(self, id, cache)
     }
 

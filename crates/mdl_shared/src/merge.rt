@@ -20,7 +20,7 @@ ghost use Rattle.mdl_shared.specs.calls.Merge as steps;
 use crate::Session;
 use crate::member::Member;
 use mdl_calls::{SpaceError, TicketId};
-use mdl_steps::Own;
+use mdl_steps::SessionTicket;
 use mdl_system::covers;
 use mdl_visits::merge;
 use std::sync::Wait;
@@ -42,7 +42,7 @@ impl<R: Wait> Session<R> {
 
 impl Member {
     // The tickets with these two numbers, if the first may take the mode of the second.
-    fn mergeable(&self, old: TicketId, new: TicketId) -> Result<(Own, Own), SpaceError>
+    fn mergeable(&self, old: TicketId, new: TicketId) -> Result<(SessionTicket, SessionTicket), SpaceError>
         ensures found { IfOk result (λ two. (numbered old (interleaved self.now.tickets.slow self.now.tickets.fast) ≡ Some two.0) × (numbered new (interleaved self.now.tickets.slow self.now.tickets.fast) ≡ Some two.1)) }
         ensures just { RefusesJust (merge_fault (numbered old (interleaved self.now.tickets.slow self.now.tickets.fast)) (numbered new (interleaved self.now.tickets.slow self.now.tickets.fast)) self.now.asks) result }
     {
@@ -63,7 +63,7 @@ impl Member {
 
     // Gives a slow ticket the mode of another slow one at its place, and releases the other one, under the latch of the place. The session
     // has no fast ticket.
-    fn merge_by_latch<R: Wait>(&mut self, rt: &R, kept: Own, gone: Own)
+    fn merge_by_latch<R: Wait>(&mut self, rt: &R, kept: SessionTicket, gone: SessionTicket)
         requires held { (numbered kept.number self.old.tickets.slow ≡ Some kept) × (numbered gone.number self.old.tickets.slow ≡ Some gone) }
         requires clear { merge_fault (Some kept) (Some gone) self.old.asks ≡ None }
         requires unfast { self.old.tickets.fast ≡ [] }
@@ -79,7 +79,7 @@ impl Member {
 }
 
 // Whether a ticket may take the mode of another.
-fn may_merge(kept: Own, gone: Own) -> bool
+fn may_merge(kept: SessionTicket, gone: SessionTicket) -> bool
     ensures { result ≡ can_merge kept gone }
 {
     kept.number != gone.number && kept.place == gone.place && covers(gone.mode, kept.mode)

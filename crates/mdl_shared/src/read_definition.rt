@@ -8,13 +8,13 @@ ghost use Rattle.mdl_shared.specs.calls.ReadDefinition as steps;
 
 use crate::Session;
 use mdl_calls::{SpaceError, TicketId};
-use mdl_defs::Standing;
+use mdl_defs::VersionedDefinition;
 use mdl_visits::read_definition;
 use std::sync::Wait;
 
 impl<R: Wait> Session<R> {
     /// Returns the version of the key of a ticket's place, with its definition if there is one.
-    pub fn read_definition(&mut self, id: TicketId) -> Result<Standing, SpaceError>
+    pub fn read_definition(&mut self, id: TicketId) -> Result<VersionedDefinition, SpaceError>
         ensures joined { Transition (call.read_definition self.old.me.0.number id) (read result) (data_of self.old) (data_of self.new) }
         ensures shown { TakesSteps (steps.read_definition id) (read result) self.old self.new }
     {

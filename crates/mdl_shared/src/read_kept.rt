@@ -11,7 +11,7 @@ ghost use Rattle.mdl_shared.specs.calls.ReadKept as steps;
 
 use crate::Session;
 use mdl_calls::{SpaceError, TicketId};
-use mdl_defs::{DefCache, Standing};
+use mdl_defs::{DefCache, VersionedDefinition};
 use std::sync::Wait;
 
 impl<R: Wait> Session<R> {
@@ -19,7 +19,7 @@ impl<R: Wait> Session<R> {
     /// read under the latch is kept in the cache, if there is a definition and memory for it. Each definition in the cache has to be one that
     /// this session read in this space. If memory runs out for a copy of what the cache keeps, the cache is left as it was, and the version is
     /// noted under the ticket nevertheless.
-    pub fn read_kept(&mut self, id: TicketId, cache: &mut DefCache) -> Result<Standing, SpaceError>
+    pub fn read_kept(&mut self, id: TicketId, cache: &mut DefCache) -> Result<VersionedDefinition, SpaceError>
         requires met { AreMet (HasMet (data_of self.old) self.old.me.0.number) cache.old.kept }
         ensures joined { Transition (call.read_kept self.old.me.0.number id) (read result) (data_of self.old) (data_of self.new) }
         ensures shown { TakesSteps (steps.read_kept id) (read result) self.old self.new }
@@ -40,7 +40,7 @@ impl<R: Wait> Session<R> {
                 return Err(SpaceError::OutOfMemory);
             };
             let _first = cache.look(place, version);
-            return Ok(Standing {
+            return Ok(VersionedDefinition {
                 version,
                 definition: Some(definition),
             });
@@ -52,7 +52,7 @@ impl<R: Wait> Session<R> {
 }
 
 // Keeps a copy of the definition of a place in the cache, if there is a definition and memory for it.
-fn keep(cache: &mut DefCache, place: usize, standing: &Standing)
+fn keep(cache: &mut DefCache, place: usize, standing: &VersionedDefinition)
     requires within { place < 65536 }
     ensures kept { MayKeep place standing.now cache.old cache.new }
 {

@@ -17,7 +17,7 @@ ghost use Rattle.mdl_shared.specs.calls.Release as steps;
 use crate::Session;
 use crate::member::Member;
 use mdl_calls::{SpaceError, TicketId};
-use mdl_steps::Own;
+use mdl_steps::SessionTicket;
 use mdl_visits::release;
 use std::sync::Wait;
 
@@ -45,7 +45,7 @@ impl<R: Wait> Session<R> {
 
 impl Member {
     // Releases a fast ticket, and grants the waits at its place if any may have become grantable.
-    fn give_up_fast<R: Wait>(&mut self, rt: &R, held: Own)
+    fn give_up_fast<R: Wait>(&mut self, rt: &R, held: SessionTicket)
         requires held { numbered held.number self.old.tickets.fast ≡ Some held }
         ensures lost { DidDeeds held.place (Lose held.number ∷ []) (view_of self.old) (view_of self.new) }
         ensures did { Does (Lose held.number ∷ []) self.old.seat.me self.new.seat.me }

@@ -3,7 +3,7 @@ ghost use Rattle.std.specs.Prelude.{[], true, ◌≡◌};
 ghost use Rattle.mdl_steps.specs.SeatStates.{AtItsTable};
 ghost use Rattle.mdl_visits.specs.Grantings.{HasRescheduled, VisitsAndReschedules};
 ghost use Rattle.mdl_visits.specs.Visits.{Does, MayVisit, VisitsOnce};
-ghost use Rattle.mdl_calls.specs.SessionData.{is_known};
+ghost use Rattle.mdl_key.specs.KeyLookups.{is_known};
 ghost use Rattle.mdl_shared.specs.Debts.{Pays};
 ghost use Rattle.mdl_shared.specs.SessionViews.{KeepsLists, RemembersWait, data_of};
 

@@ -3,7 +3,7 @@ ghost use Rattle.std.specs.Prelude.{◌≡◌, None};
 ghost use Rattle.mdl_calls.specs.CallSpec.{Transition};
 ghost use Rattle.mdl_calls.specs.calls.Resolve as call;
 ghost use Rattle.mdl_calls.specs.Words.{placed};
-ghost use Rattle.mdl_shared.specs.Members.{place_looked_up};
+ghost use Rattle.mdl_key.specs.KeyLookups.{place_known};
 ghost use Rattle.mdl_shared.specs.SessionViews.{data_of};
 ghost use Rattle.mdl_shared.specs.StepSpec.{TakesSteps};
 ghost use Rattle.mdl_shared.specs.calls.Resolve as steps;
@@ -30,7 +30,7 @@ impl<R: Wait> Session<R> {
     // The same for a key that the session doesn't know. It is apart so that the code for a known key is short.
     #[inline(never)]
     fn look_up(&mut self, key: &Key) -> Result<Place, SpaceError>
-        requires unknown { place_looked_up key.now self.old.me.0.known ≡ None }
+        requires unknown { place_known key.now self.old.me.0.known ≡ None }
         ensures joined { Transition (call.resolve self.old.me.0.number key.now) (placed result) (data_of self.old) (data_of self.new) }
         ensures shown { TakesSteps (steps.resolve key.now) (placed result) self.old self.new }
     {

@@ -5,7 +5,7 @@ ghost use Rattle.std.specs.Option.{option_map};
 ghost use Rattle.std.specs.Vec.{vec_capacity, vec_len};
 ghost use Rattle.mdl_calls.specs.declared.answers.Held.{Held};
 ghost use Rattle.mdl_steps.specs.Cells.{note_at, own_at};
-ghost use Rattle.mdl_steps.specs.declared.view.Own.{Own};
+ghost use Rattle.mdl_steps.specs.declared.view.SessionTicket.{SessionTicket};
 ghost use Rattle.mdl_steps.specs.Deeds.{is_own};
 ghost use Rattle.mdl_steps.specs.FastPlays.{but_at, fast_own, first_note};
 ghost use Rattle.mdl_steps.specs.Interleavings.{interleaved};
@@ -17,11 +17,11 @@ ghost use Rattle.mdl_shared.specs.Modes.{in_mode_at};
 ghost use Rattle.mdl_shared.specs.OwnLists.{as_held};
 ghost use Rattle.mdl_shared.specs.Waitings.{are_below_next};
 ghost use Rattle.mdl_shared.specs.TicketLists.{HasRoom, HasRoomFor, KeepsRoom};
-ghost use Rattle.mdl_shared.specs.OwnTickets.{IsLastGained, StandsAt, counted_at, fast_counted_at, fast_found, flags_of, noted_in, with_note, AreGainedRising, AreAt, has_fast, slowed};
+ghost use Rattle.mdl_shared.specs.OwnTickets.{IsLastGained, StandsAt, counted_at, fast_counted_at, fast_found, flags_of, noted_in, with_note, HaveRisingNumbers, AreAt, has_fast, slowed};
 
 use mdl_calls::{Held, Place, TicketId};
 use mdl_key::Mode;
-use mdl_steps::Own;
+use mdl_steps::SessionTicket;
 use std::alloc::{AllocError, Global};
 use std::marker::Model;
 
@@ -91,7 +91,7 @@ impl Tickets {
     }
 
     /// Returns the ticket with a number.
-    pub(crate) fn get(&self, id: TicketId) -> Option<Own>
+    pub(crate) fn get(&self, id: TicketId) -> Option<SessionTicket>
         ensures found { result ≡ numbered id (interleaved self.now.slow self.now.fast) }
     {
         let at = index_of(&self.gained, id)?;
@@ -99,7 +99,7 @@ impl Tickets {
     }
 
     /// Returns the ticket with a number, and whether it is fast.
-    pub(crate) fn find(&self, id: TicketId) -> Option<(Own, bool)>
+    pub(crate) fn find(&self, id: TicketId) -> Option<(SessionTicket, bool)>
         ensures found { option_map (λ t. t.0) result ≡ numbered id (interleaved self.now.slow self.now.fast) }
         ensures fast { fast_found result ≡ numbered id self.now.fast }
     {
@@ -109,7 +109,7 @@ impl Tickets {
     }
 
     /// Returns the fast ticket with a number.
-    pub(crate) fn get_fast(&self, id: TicketId) -> Option<Own>
+    pub(crate) fn get_fast(&self, id: TicketId) -> Option<SessionTicket>
         ensures found { result ≡ numbered id self.now.fast }
     {
         let at = index_of(&self.gained, id)?;
@@ -147,7 +147,7 @@ impl Tickets {
     }
 
     /// Returns the fast tickets at a place.
-    pub(crate) fn list_fast(&self, place: usize) -> Result<Vec<Own>, AllocError>
+    pub(crate) fn list_fast(&self, place: usize) -> Result<Vec<SessionTicket>, AllocError>
         ensures { IfOk result (λ listed. listed.items ≡ own_at place self.now.fast) }
     {
         let mut listed = Vec::with_capacity(*self.gained.allocator(), self.fast_at(place))?;
@@ -255,7 +255,7 @@ impl Tickets {
     /// Removes the ticket with a number at a place, if there is one.
     pub(crate) fn strike(&mut self, place: usize, id: TicketId)
         ensures struck { (self.new.slow ≡ without_at place id self.old.slow) × (self.new.fast ≡ without_at place id self.old.fast) }
-        ensures freed { (t : Own) → numbered id self.old.fast ≡ Some t → t.place ≡ place → (self.old.room.spare < self.new.room.spare) × (place < self.new.room.reach) }
+        ensures freed { (t : SessionTicket) → numbered id self.old.fast ≡ Some t → t.place ≡ place → (self.old.room.spare < self.new.room.spare) × (place < self.new.room.reach) }
         ensures owes { self.new.owes ≡ self.old.owes }
         ensures room { KeepsRoom 0 self.old.room self.new.room }
     {
@@ -274,7 +274,7 @@ impl Tickets {
     #[inline(never)]
     fn strike_earlier(&mut self, place: usize, id: TicketId)
         ensures struck { (self.new.slow ≡ without_at place id self.old.slow) × (self.new.fast ≡ without_at place id self.old.fast) }
-        ensures freed { (t : Own) → numbered id self.old.fast ≡ Some t → t.place ≡ place → (self.old.room.spare < self.new.room.spare) × (place < self.new.room.reach) }
+        ensures freed { (t : SessionTicket) → numbered id self.old.fast ≡ Some t → t.place ≡ place → (self.old.room.spare < self.new.room.spare) × (place < self.new.room.reach) }
         ensures owes { self.new.owes ≡ self.old.owes }
         ensures room { KeepsRoom 0 self.old.room self.new.room }
     {
@@ -350,7 +350,7 @@ fn new_ticket(number: TicketId, place: usize, mode: Mode, fast: bool) -> Gained
 
 // The index of the ticket with a number, among tickets whose numbers rise.
 fn index_of(tickets: &[Gained], id: TicketId) -> Option<usize>
-    requires { AreGainedRising tickets.now }
+    requires { HaveRisingNumbers tickets.now }
     ensures { MatchOption result (list_all (λ t. not (t.id == id)) tickets.now ≡ true) (λ at. StandsAt id at tickets.now) }
 {
     if let Some(last) = tickets.last() {
@@ -364,7 +364,7 @@ fn index_of(tickets: &[Gained], id: TicketId) -> Option<usize>
 // The same by binary search. It is apart so that the check of the last ticket is inlined.
 #[inline(never)]
 fn search(tickets: &[Gained], id: TicketId) -> Option<usize>
-    requires { AreGainedRising tickets.now }
+    requires { HaveRisingNumbers tickets.now }
     ensures { MatchOption result (list_all (λ t. not (t.id == id)) tickets.now ≡ true) (λ at. StandsAt id at tickets.now) }
 {
     tickets.binary_search_by_key(&id, |ticket| ticket.id).ok()
@@ -372,7 +372,7 @@ fn search(tickets: &[Gained], id: TicketId) -> Option<usize>
 
 // The same, if the ticket is at this place.
 fn index_at(tickets: &[Gained], place: usize, id: TicketId) -> Option<usize>
-    requires { AreGainedRising tickets.now }
+    requires { HaveRisingNumbers tickets.now }
     ensures { MatchOption result (list_all (λ t. not (is_own place id (with_note [] t))) tickets.now ≡ true)
         (λ at. StandsAt id at tickets.now × ((d : Gained) → (slice_index_or tickets.now at d).place ≡ place)) }
 {
@@ -397,11 +397,11 @@ fn last_at(tickets: &[Gained], place: usize, id: TicketId) -> Option<bool>
 }
 
 // A ticket with the note of its place.
-fn own_of(places: &[OfPlace], ticket: Gained) -> Own
+fn own_of(places: &[OfPlace], ticket: Gained) -> SessionTicket
     ensures { result ≡ with_note places.now ticket }
 {
     let place = usize::from(ticket.place);
-    Own {
+    SessionTicket {
         number: ticket.id,
         place,
         mode: ticket.mode,

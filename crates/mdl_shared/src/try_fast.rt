@@ -2,10 +2,10 @@
 //!
 //! After MySQL 5.7, sql/mdl.cc: the fast path of `MDL_context::try_acquire_lock_impl`.
 ghost use Rattle.std.specs.Prelude.{◌≡◌, MatchResult, None, Some, true, IfErr, IfOk};
-ghost use Rattle.mdl_calls.specs.SessionData.{is_known};
 ghost use Rattle.mdl_visits.specs.Visits.{StaysOn};
 ghost use Rattle.mdl_shared.specs.FastCalls.{HasTriedFast, RefusesFast, fast_fault};
-ghost use Rattle.mdl_shared.specs.Members.{increment_at, kind_known, wish_fault};
+ghost use Rattle.mdl_key.specs.KeyLookups.{is_known, kind_known};
+ghost use Rattle.mdl_shared.specs.Members.{increment_at, wish_fault};
 ghost use Rattle.mdl_shared.specs.SessionViews.{data_of, lists_seen};
 
 use crate::Session;

@@ -11,7 +11,7 @@ ghost use Rattle.mdl_steps.specs.Interleavings.{interleaved};
 ghost use Rattle.mdl_visits.specs.Numbers.{numbered};
 ghost use Rattle.mdl_visits.specs.Visits.{IsVisit, MeetsBlocked, MeetsGrantable};
 ghost use Rattle.mdl_shared.specs.DeedsDone.{DoesQuietly};
-ghost use Rattle.mdl_shared.specs.Members.{kind_known};
+ghost use Rattle.mdl_key.specs.KeyLookups.{kind_known};
 ghost use Rattle.mdl_shared.specs.Passes.{view_of};
 ghost use Rattle.mdl_shared.specs.SessionViews.{data_of};
 ghost use Rattle.mdl_shared.specs.StepSpec.{TakesSteps};
@@ -24,7 +24,7 @@ use crate::Session;
 use crate::member::Member;
 use mdl_calls::{SpaceError, TicketId, Upgrade};
 use mdl_key::Mode;
-use mdl_steps::Own;
+use mdl_steps::SessionTicket;
 use mdl_system::{covers, may_upgrade};
 use mdl_visits::{TryOutcome, upgrade_now};
 use std::sync::Wait;
@@ -49,7 +49,7 @@ impl<R: Wait> Session<R> {
 
 impl Member {
     // The ticket with a number, if its mode covers another one or may be upgraded to it.
-    fn upgradable(&self, id: TicketId, mode: Mode) -> Result<Own, SpaceError>
+    fn upgradable(&self, id: TicketId, mode: Mode) -> Result<SessionTicket, SpaceError>
         ensures found { IfOk result (λ held. numbered id (interleaved self.now.tickets.slow self.now.tickets.fast) ≡ Some held) }
         ensures just { RefusesJust (upgrade_fault mode self.now.known.known self.now.asks (numbered id (interleaved self.now.tickets.slow self.now.tickets.fast))) result }
     {
@@ -67,7 +67,7 @@ impl Member {
 
     // Requests a mode for a slow ticket, under the latch of its place. The ticket's mode doesn't cover it, but may be upgraded to it. The
     // session has no fast ticket.
-    fn upgrade_by_latch<R: Wait>(&mut self, rt: &R, held: Own, mode: Mode) -> Upgrade
+    fn upgrade_by_latch<R: Wait>(&mut self, rt: &R, held: SessionTicket, mode: Mode) -> Upgrade
         requires held { numbered held.number self.old.tickets.slow ≡ Some held }
         requires clear { upgrade_fault mode self.old.known.known self.old.asks (Some held) ≡ None }
         requires short { covers held.mode mode ≡ false }
@@ -88,7 +88,7 @@ impl Member {
     }
 
     // Whether a ticket's mode covers a mode or may be upgraded to it, and the mode is one of its lock's kind.
-    fn can_have(&self, held: Own, mode: Mode) -> bool
+    fn can_have(&self, held: SessionTicket, mode: Mode) -> bool
         ensures { result ≡ can_have mode held (kind_known held.place self.now.known.known) }
     {
         match self.known.kind_at(held.place) {

@@ -1,6 +1,6 @@
 //! The number of a wait.
 ghost use Rattle.std.specs.Prelude.{None, Some, ◌<◌, ◌≡◌};
-ghost use Rattle.mdl_visits.specs.Polls.{awaited_number};
+ghost use Rattle.mdl_visits.specs.Polls.{number_of_wait};
 ghost use Rattle.mdl_shared.specs.SessionViews.{data_of};
 ghost use Rattle.mdl_calls.specs.CallSpec.{Transition};
 ghost use Rattle.mdl_calls.specs.calls.WaitOf as call;
@@ -14,7 +14,7 @@ use mdl_steps::WaitWord;
 
 // The number of a session's wait, by the wait's word, if there is a wait.
 fn number_in(word: WaitWord) -> Option<u64>
-    ensures { result ≡ awaited_number word.0 }
+    ensures { result ≡ number_of_wait word.0 }
 {
     if word.state() == WaitWord::IDLE {
         None

@@ -2,7 +2,8 @@
 ghost use Rattle.std.specs.Prelude.{MatchResult, None, Some, ◌≡◌};
 ghost use Rattle.mdl_book.specs.declared.book_error.BookError.TheVariants as book;
 ghost use Rattle.mdl_calls.specs.declared.space_error.SpaceError.TheVariants as space;
-ghost use Rattle.mdl_shared.specs.Members.{kind_known, wish_fault};
+ghost use Rattle.mdl_key.specs.KeyLookups.{kind_known};
+ghost use Rattle.mdl_shared.specs.Members.{wish_fault};
 
 use crate::holdings::MOST_NUMBERS;
 use crate::member::Member;

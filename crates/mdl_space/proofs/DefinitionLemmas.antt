@@ -7,7 +7,7 @@ use Rattle.mdl_defs.specs.declared.change.Change.{Change}
 use Rattle.mdl_defs.specs.declared.change.Change.TheVariants.{Drop}
 use Rattle.mdl_defs.specs.declared.change_error.ChangeError.{ChangeError}
 use Rattle.mdl_defs.specs.declared.change_error.ChangeError.TheVariants.{OutOfMemory}
-use Rattle.mdl_defs.specs.Standings.{standing_fault}
+use Rattle.mdl_defs.specs.VersionedDefinitions.{standing_fault}
 use Rattle.mdl_book.specs.declared.book_view.BookView.{BookView}
 use Rattle.mdl_book.specs.Books.{empty_book, redefining}
 use Rattle.mdl_calls.specs.declared.space_error.SpaceError.{SpaceError}

@@ -5,7 +5,7 @@ ghost use Rattle.mdl_book.specs.Books.{lock_kind};
 ghost use Rattle.mdl_book.specs.Granting.{is_compatible};
 ghost use Rattle.mdl_book.specs.Tickets.{ticket_of};
 ghost use Rattle.mdl_system.specs.Strength.{covers};
-ghost use Rattle.mdl_core.specs.Words.{empty_core, book_at, has_key, has_session, seat_at, first_cause, request_causes, clone_causes, held_outcome, key_of_outcome, resolve_outcome, try_now_outcome, begin_wait_outcome, search_outcome, poll_wait_outcome, settle_timeout_outcome, end_wait_outcome, wait_of_outcome, kill_outcome, release_outcome, granted_unless_full, clone_ticket_outcome, Makes, SpeaksFor, ending_lost, freeing, serving};
+ghost use Rattle.mdl_core.specs.Words.{empty_core, book_at, has_key, has_session, seat_at, first_cause, request_causes, clone_causes, list_held_outcome, key_of_outcome, resolve_outcome, try_now_outcome, begin_wait_outcome, search_deadlock_outcome, poll_wait_outcome, settle_timeout_outcome, end_wait_outcome, wait_of_outcome, kill_outcome, release_outcome, granted_unless_full, clone_ticket_outcome, Makes, SpeaksFor, ending_lost, freeing, serving};
 ghost use Rattle.mdl_calls.specs.Words.{are_rising, new_fault, Has_wait, Has_killed, keyed, placed, attempted, begun, searched, polled, timed_out, ended, done, cloned, listed};
 
 use crate::granting::{give, is_free, queue};
@@ -200,7 +200,7 @@ impl CoreSpace {
     /// Searches for a deadlock that a session is part of, and settles the wait of its victim.
     pub(crate) fn search_deadlock(&mut self, who: u16) -> Result<Search, SpaceError>
         requires { SpeaksFor self.old who }
-        ensures { Makes true (search_outcome who) self.old (searched result) self.new }
+        ensures { Makes true (search_deadlock_outcome who) self.old (searched result) self.new }
     {
         match self.victim_of(who) {
             Ok(Some(victim)) => {
@@ -336,7 +336,7 @@ impl CoreSpace {
     /// Returns the tickets that a session holds.
     pub(crate) fn held(&self, who: u16) -> Result<Vec<Held>, SpaceError>
         requires { has_session who self.now ≡ true }
-        ensures { Makes true (held_outcome who) self.now (listed result) self.now }
+        ensures { Makes true (list_held_outcome who) self.now (listed result) self.now }
     {
         let mut tickets = Vec::new(self.alloc);
         let held = self.seats[usize::from(who) - 1].held();

@@ -2,7 +2,7 @@
 ghost use Rattle.std.specs.Prelude.{ℕ};
 
 use crate::wishes::{Shown, Wish, change_of, what_stands};
-use mdl_defs::{DefCache, Standing};
+use mdl_defs::{DefCache, VersionedDefinition};
 use mdl_key::Mode;
 use mdl_space::{
     Attempt, Begun, Ended, LockSpace, Place, Poll, Search, SpaceError, TicketId, TimedOut, Upgrade,
@@ -118,7 +118,7 @@ fn redefine<S: LockSpace>(
     outcome
 }
 
-fn seen(outcome: Result<Standing, SpaceError>) -> Result<Seen, SpaceError> {
+fn seen(outcome: Result<VersionedDefinition, SpaceError>) -> Result<Seen, SpaceError> {
     match outcome {
         Ok(standing) => {
             let seen = (standing.version, what_stands(&standing));

@@ -1,5 +1,5 @@
 //! Changes that tests ask for (wishes), and the definitions that they look for.
-use mdl_defs::{Change, Column, Columns, Definition, Standing};
+use mdl_defs::{Change, Column, Columns, Definition, VersionedDefinition};
 use std::alloc::Global;
 
 /// A requested change. A table that it makes has the one column `x`.
@@ -25,7 +25,7 @@ pub(crate) enum Shown {
 }
 
 /// Returns what is defined.
-pub(crate) fn what_stands(standing: &Standing) -> Shown {
+pub(crate) fn what_stands(standing: &VersionedDefinition) -> Shown {
     match &standing.definition {
         None => Shown::Nothing,
         Some(Definition::Schema) => Shown::Schema,

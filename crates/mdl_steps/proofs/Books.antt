@@ -14,7 +14,7 @@ use Rattle.mdl_book.specs.Tickets.{without, with_mode}
 use Rattle.mdl_steps.specs.declared.deed.Deed.{Deed}
 use Rattle.mdl_steps.specs.declared.deed.Deed.TheVariants.{Gain, Alter, Lose}
 use Rattle.mdl_steps.specs.declared.view.Ask.{Ask}
-use Rattle.mdl_steps.specs.declared.view.Own.{Own}
+use Rattle.mdl_steps.specs.declared.view.SessionTicket.{SessionTicket}
 use Rattle.mdl_steps.specs.declared.view.View.{View}
 use Rattle.mdl_steps.specs.Cells.{Part, part_at, own_at, due, pending, all_fast}
 use Rattle.mdl_steps.specs.Deeds.{NotWaited, booked, all_booked, done, all_done, owned, next_after}
@@ -29,7 +29,7 @@ use Rattle.mdl_steps.proofs.Views.{at_inside}
 use Rattle.mdl_steps.proofs.Waiting.{waiting_kept}
 
 -- the tickets of its next number are still below the next one
-each_below : (next more : ℕ) (ts : List Own) → next < more + 1 → Each (λ (t : Own). t.number < next) ts → Each (λ (t : Own). t.number < more) ts
+each_below : (next more : ℕ) (ts : List SessionTicket) → next < more + 1 → Each (λ (t : SessionTicket). t.number < next) ts → Each (λ (t : SessionTicket). t.number < more) ts
 each_below next more [] less all = tt
 each_below next more (t ∷ ts) less all = ((let below = all.0 in omega arith), each_below next more ts less all.1)
 
@@ -41,10 +41,10 @@ below_next (Lose number) next = omega arith
 pub numbered_done : (place : ℕ) (v : View) (book : BookView) (noted : Option ℕ) (d : Deed) → Numbered v → May v book noted d → Numbered (done place d v)
 numbered_done place v book noted d numbered may = record {
   fast = each_below v.next (next_after d v.next) v.fast (below_next d v.next) numbered.fast;
-  slow = each-owned (λ (t : Own). t.number < next_after d v.next) place d v.slow (λ t mode below. below) (gained d may) (each_below v.next (next_after d v.next) v.slow (below_next d v.next) numbered.slow);
+  slow = each-owned (λ (t : SessionTicket). t.number < next_after d v.next) place d v.slow (λ t mode below. below) (gained d may) (each_below v.next (next_after d v.next) v.slow (below_next d v.next) numbered.slow);
   unmixed = unmixed_deed place v.next d v.fast v.slow (next_gained d may) numbered.fast numbered.unmixed;
   asks = λ a e. (let below = numbered.asks a e in let less = below_next d v.next in omega arith);
-  apart = λ a e. each-owned (λ (t : Own). t.number ≢ a.number) place d v.slow (λ t mode differs. differs) (apart_gained d may a e) (numbered.apart a e);
+  apart = λ a e. each-owned (λ (t : SessionTicket). t.number ≢ a.number) place d v.slow (λ t mode differs. differs) (apart_gained d may a e) (numbered.apart a e);
   unfast = numbered.unfast;
 }
   where
@@ -130,12 +130,12 @@ module _ (key : Option KeyName) (version : ℕ) (parts : List Part) (book : Book
       waited_below : (t : Ticket) → due (part_at f place v).asks ≡ Some t → t.number < v.next
       waited_below t e = let a = due_asked place v.number (f v.number) v.asks t e in let below = numbered.asks a.0 a.1 in let is = a.2 in omega arith
 
-      noted_there : Each (λ (t : Own). t.place ≡ place → NoteAgrees book t) v.slow
+      noted_there : Each (λ (t : SessionTicket). t.place ≡ place → NoteAgrees book t) v.slow
       noted_there = each-from_at (NoteAgrees book) place v.slow old.versions_agree.slow
 
       notes : (e : Deed) → Each (NoteAgrees book) (own_at place (owned place e v.slow))
       notes e = each-to_at (NoteAgrees book) place (owned place e v.slow)
-          (each-owned (λ (t : Own). t.place ≡ place → NoteAgrees book t) place e v.slow (λ t mode agrees. agrees)
+          (each-owned (λ (t : SessionTicket). t.place ≡ place → NoteAgrees book t) place e v.slow (λ t mode agrees. agrees)
           (λ number mode is here. each-note (λ (version : ℕ). version ≡ book.standing.version) place v.slow noted_there) noted_there)
 
       by_deed : (e : Deed) → May v book noted e → BookOk key version (set parts id (part_at f place (done place e v))) (booked v.number e book)

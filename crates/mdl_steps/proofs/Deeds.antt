@@ -19,7 +19,7 @@ use Rattle.mdl_book.specs.Tickets.{is_ticket, ticket_of, without, with_mode, in_
 use Rattle.mdl_book.proofs.FastLemmas.{may_stand-covered}
 use Rattle.mdl_book.proofs.GrantingLemmas.{lawful_push, lawful_changed-beside, lawful_without-beside}
 use Rattle.mdl_steps.specs.declared.deed.Deed.TheVariants.{Alter, Lose}
-use Rattle.mdl_steps.specs.declared.view.Own.{Own}
+use Rattle.mdl_steps.specs.declared.view.SessionTicket.{SessionTicket}
 use Rattle.mdl_steps.specs.Cells.{Part, note_at, ticket_by, all_fast}
 use Rattle.mdl_steps.specs.Deeds.{MayJoin, owned}
 use Rattle.mdl_steps.specs.Lists.{Each, Once}
@@ -98,7 +98,7 @@ may_join session book fast obtrusive noted mode lawful counts may =
 
 -- ---- what a deed does to the granted list and to the session's own
 
-pub record Deeded (kind : Kind) (fast granted granted′ : List Ticket) (session place : ℕ) (waited : Option Ticket) (slow′ : List Own) : Type 0 where
+pub record Deeded (kind : Kind) (fast granted granted′ : List Ticket) (session place : ℕ) (waited : Option Ticket) (slow′ : List SessionTicket) : Type 0 where
   pub lawful : Lawful kind fast granted′
   pub once : Once granted′
   pub same : (m : ℕ) → ticket_of session m granted′ ≡ ticket_of session m (option_to_list waited ++ shown session place slow′)
@@ -118,7 +118,7 @@ of-push_none a m t (x ∷ ts) is none = by_bool (is_ticket a m x)
     (λ past. rw past (of-push_none a m t ts is (rw past at none)))
 
 -- a ticket with the next number is none of them
-fresh_shown : (session place next : ℕ) (ts : List Own) → Each (λ (t : Own). t.number < next) ts → ticket_of session next (shown session place ts) ≡ None
+fresh_shown : (session place next : ℕ) (ts : List SessionTicket) → Each (λ (t : SessionTicket). t.number < next) ts → ticket_of session next (shown session place ts) ≡ None
 fresh_shown session place next [] all = refl
 fresh_shown session place next (t ∷ ts) all = by_bool (t.place == place)
     (λ here. rw here (rw (of_other_number session next (ticket_by session t) (let below = all.0 in λ e. omega arith)) (fresh_shown session place next ts all.1)))
@@ -131,7 +131,7 @@ differs_number session number m else t is = of_other_number session m t (λ e. e
 differs_session : (session number a m : ℕ) → a ≢ session → (t : Ticket) → is_ticket session number t ≡ true → is_ticket a m t ≡ false
 differs_session session number a m else t is = of_other a m t (λ e. else (sym e ∙ (is_passed session number t is).0))
 
-module _ (kind : Kind) (fast granted : List Ticket) (session place : ℕ) (waited : Option Ticket) (slow : List Own) (lawful : Lawful kind fast granted) (once : Once granted)
+module _ (kind : Kind) (fast granted : List Ticket) (session place : ℕ) (waited : Option Ticket) (slow : List SessionTicket) (lawful : Lawful kind fast granted) (once : Once granted)
     (same : (m : ℕ) → ticket_of session m granted ≡ ticket_of session m (option_to_list waited ++ shown session place slow))
     (apart : (t : Ticket) → waited ≡ Some t → ticket_of session t.number (shown session place slow) ≡ None) where
   modes_here : list_all (λ t. is_mode_of kind t.mode) fast ≡ true
@@ -143,12 +143,12 @@ module _ (kind : Kind) (fast granted : List Ticket) (session place : ℕ) (waite
   modes_of : (granted′ : List Ticket) → list_all (λ t. is_mode_of kind t.mode) granted′ ≡ true → list_all (λ t. is_mode_of kind t.mode) (fast ++ granted′) ≡ true
   modes_of granted′ there = list_all-append (λ t. is_mode_of kind t.mode) fast granted′ ∙ and_from _ _ modes_here there
 
-  pub gains : (number next : ℕ) (mode : Mode) → number ≡ next → Each (λ (t : Own). t.number < next) slow → ((t : Ticket) → waited ≡ Some t → t.number < next)
+  pub gains : (number next : ℕ) (mode : Mode) → number ≡ next → Each (λ (t : SessionTicket). t.number < next) slow → ((t : Ticket) → waited ≡ Some t → t.number < next)
       → is_mode_of kind mode ≡ true → is_compatible kind (fast ++ granted) session mode ≡ true
       → Deeded kind fast granted (granted ++ record { session = session; number = number; mode = mode } ∷ []) session place waited (slow ++ record { number = number; place = place; mode = mode; noted = note_at place slow } ∷ [])
   gains number next mode is below waited_below of_kind compatible =
       let t : Ticket = record { session = session; number = number; mode = mode } in
-      let own : Own = record { number = number; place = place; mode = mode; noted = note_at place slow } in
+      let own : SessionTicket = record { number = number; place = place; mode = mode; noted = note_at place slow } in
       let shown_is = shown-push session place own slow refl in
       let not_waited : (u : Ticket) → waited ≡ Some u → u.number ≢ number = λ u w e. let less = waited_below u w in omega arith in
       let not_shown : ticket_of session number (shown session place slow) ≡ None = subst (λ (m : ℕ). ticket_of session m (shown session place slow) ≡ None) (sym is) (fresh_shown session place next slow below) in

@@ -12,7 +12,7 @@ use Rattle.atomic_table.proofs.Lists.{at_map, at_set, set_else, set_here, exchan
 use Rattle.mdl_key.specs.Words.{KeyName}
 use Rattle.mdl_steps.specs.declared.slot.Slot.TheVariants as slot
 use Rattle.mdl_steps.specs.declared.view.Keys.{Keys}
-use Rattle.mdl_steps.specs.declared.view.Known.{Known}
+use Rattle.mdl_key.specs.declared.known_key.KnownKey.{KnownKey}
 use Rattle.mdl_steps.specs.declared.view.View.{View}
 use Rattle.mdl_steps.specs.Cells.{Desk, Waiter, part_at, holder_at, desk_of, waiter_of, waits, cell}
 use Rattle.mdl_steps.specs.Histories.{ReachedFor}
@@ -21,7 +21,7 @@ use Rattle.mdl_steps.specs.Lists.{Each}
 use Rattle.mdl_steps.specs.Plays.{Mine, consulted, informed, missed_latch, takes_directory, puts_directory}
 use Rattle.mdl_steps.specs.Rule.{Rule, PlaceOk, DirectoryOk, Numbered, KnowsKeys, WaitsAgree, key_at}
 use Rattle.mdl_steps.specs.Seats.{HasDirectory, learnt}
-use Rattle.mdl_steps.specs.Turns.{Makes}
+use Rattle.mdl_steps.specs.TableChanges.{Makes}
 use Rattle.mdl_steps.proofs.Histories.{Shows, goes_on}
 use Rattle.mdl_steps.proofs.Lift.{Table, Homes, after}
 use Rattle.mdl_steps.proofs.Views.{by_bool, map_kept, at_inside, at_unmap}
@@ -97,11 +97,11 @@ each-append P (x ∷ xs) ys first second = (first.0, each-append P xs ys first.1
 
 -- what is learnt of a place is so
 each_learnt : (keys : List KeyName) (place : ℕ) (key : Option KeyName) → key ≡ key_at keys place → 0 < place
-    → Each (λ (x : Known). (0 < x.place) × (key_at keys x.place ≡ Some x.key)) (option_to_list (option_map (λ k. record { key = k; place = place }) key))
+    → Each (λ (x : KnownKey). (0 < x.place) × (key_at keys x.place ≡ Some x.key)) (option_to_list (option_map (λ k. record { key = k; place = place }) key))
 each_learnt keys place None is first = tt
 each_learnt keys place (Some key) is first = ((first, sym is), tt)
 
-pub learnt_known : (k : Keys) (m : Mine) (place : ℕ) → m.0.directory ≡ Some k → Each (λ (x : Known). (0 < x.place) × (key_at k.keys x.place ≡ Some x.key)) (learnt m place)
+pub learnt_known : (k : Keys) (m : Mine) (place : ℕ) → m.0.directory ≡ Some k → Each (λ (x : KnownKey). (0 < x.place) × (key_at k.keys x.place ≡ Some x.key)) (learnt m place)
 learnt_known k m place recorded = rw recorded (by_bool (nat_lt 0 place)
     (λ some. rw some (each_learnt k.keys place (key_at k.keys place) refl (ltb-true 0 place some)))
     (λ none. rw none tt))
@@ -176,7 +176,7 @@ module _ (slots id : ℕ) (me : Mine) (some_number : 0 < me.0.number) where
 
     -- ---- the latch is given back
 
-    put_rule : (k : Keys) (more : List Known) → HasDirectory k me → Each (λ (x : Known). (0 < x.place) × (key_at k.keys x.place ≡ Some x.key)) more
+    put_rule : (k : Keys) (more : List KnownKey) → HasDirectory k me → Each (λ (x : KnownKey). (0 < x.place) × (key_at k.keys x.place ≡ Some x.key)) more
         → Rule (after s (latch_word 0) 0 id (informed more me).0 (set s.homes 0 (some (slot.Directory k))))
     put_rule k more has knows =
         let w : View = (informed more me).0 in
@@ -234,7 +234,7 @@ module _ (slots id : ℕ) (me : Mine) (some_number : 0 < me.0.number) where
         (some_number, (λ free. absurd (taken free)), λ _. (refl, refl)),
       )))
 
-  pub puts_directory_allowed : (k : Keys) (more : List Known) → HasDirectory k me → Each (λ (x : Known). (0 < x.place) × (key_at k.keys x.place ≡ Some x.key)) more
+  pub puts_directory_allowed : (k : Keys) (more : List KnownKey) → HasDirectory k me → Each (λ (x : KnownKey). (0 < x.place) × (key_at k.keys x.place ≡ Some x.key)) more
       → (room : ℕ) → Allows (ReachedFor room) slots id me (latch_word 0) (λ _. 0) (λ _. puts_directory more (step slots (latch_word 0) 0 0 none) me 0)
   puts_directory_allowed k more has knows = goes_on slots id (latch_word 0) 0 0 me (λ _. 0) (λ _. puts_directory more (step slots (latch_word 0) 0 0 none) me 0) (λ s r size seat fits. (
     (informed more me).0,

@@ -10,7 +10,7 @@ use Rattle.mdl_key.specs.Words.{KeyName}
 use Rattle.mdl_book.specs.declared.ticket.Ticket.{Ticket}
 use Rattle.mdl_book.specs.Tickets.{ticket_of}
 use Rattle.mdl_steps.specs.declared.step_kind.StepKind.TheVariants as step_kind
-use Rattle.mdl_steps.specs.declared.view.Met.{Met}
+use Rattle.mdl_steps.specs.declared.view.StepRecord.{StepRecord}
 use Rattle.mdl_steps.specs.declared.view.Spare.{Spare}
 use Rattle.mdl_steps.specs.declared.view.View.{View}
 use Rattle.mdl_steps.specs.Cells.{Part, Holder, Cell, Desk, Waiter, blank, numbers_for, no_numbers, cell, part_at, holder_at, desk_of, waiter_of, waits, pending, all_fast}
@@ -18,7 +18,7 @@ use Rattle.mdl_steps.specs.Histories.{Reached, ReachedFor}
 use Rattle.mdl_steps.specs.Layout.{enrol_word, latch_word, lock_word, version_word}
 use Rattle.mdl_steps.specs.Plays.{Mine, enrols, logged}
 use Rattle.mdl_steps.specs.Rule.{Rule, PlaceOk, PartOk, Owned, WaitOk, WaitsAgree, Numbered, KnowsKeys, key_at}
-use Rattle.mdl_steps.specs.Turns.{Makes, Turn}
+use Rattle.mdl_steps.specs.TableChanges.{Makes, TableChange}
 use Rattle.mdl_steps.proofs.Histories.{goes_on, reached-rule}
 use Rattle.mdl_steps.proofs.Lift.{Table}
 use Rattle.mdl_steps.proofs.Opens.{blank_wait}
@@ -113,12 +113,12 @@ joined key c n ok fresh =
       | Some t ↦ λ e. (let o = owned n m t e in absurd (fresh o.0 o.1 o.2 o.3))
     ] refl
 
-numbered_blank : (number : ℕ) (spare : Spare) (log : List Met) → Numbered (record (blank number spare) { log = log })
+numbered_blank : (number : ℕ) (spare : Spare) (log : List StepRecord) → Numbered (record (blank number spare) { log = log })
 numbered_blank number spare log = record { fast = tt; slow = tt; unmixed = tt; asks = λ a e. absurd (cc); apart = λ a e. absurd (cc); unfast = λ a e. refl }
 
 -- ---- a seat is split off, with the number that was drawn for it
 
-module _ (most given : ℕ) (log : List Met) where
+module _ (most given : ℕ) (log : List StepRecord) where
   abbrev with_number : View
   with_number = record (blank 0 (numbers_for most (given + 1) given)) { log = log }
 
@@ -242,7 +242,7 @@ module _ (most given : ℕ) (log : List Met) where
   pub splits : (room : ℕ) → Splits (ReachedFor room) 0 with_number left right
   splits room s before seat = (
     Reached.Goes s (record { words = s.words; homes = s.homes; views = split_views s.views }) before.0 (split_rule s (reached-rule s before.0) seat)
-        (Turn.Splits with_number left right seat refl refl refl refl) (refl, refl),
+        (TableChange.Splits with_number left right seat refl refl refl refl) (refl, refl),
     before.1,
   )
 

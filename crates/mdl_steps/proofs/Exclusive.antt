@@ -15,7 +15,7 @@ use Rattle.mdl_key.specs.Words.{clashes, is_mode_of}
 use Rattle.mdl_book.specs.declared.ticket.Ticket.{Ticket}
 use Rattle.mdl_book.specs.Granting.{is_compatible, stands_beside}
 use Rattle.mdl_book.specs.Tickets.{is_ticket, ticket_of}
-use Rattle.mdl_steps.specs.declared.view.Own.{Own}
+use Rattle.mdl_steps.specs.declared.view.SessionTicket.{SessionTicket}
 use Rattle.mdl_steps.specs.Cells.{Part, all_fast, due, ticket_by}
 use Rattle.mdl_steps.specs.Rule.{Lawful, SlowHeld}
 use Rattle.mdl_steps.proofs.Tickets.{is_itself, of_other}
@@ -46,21 +46,21 @@ module _ (session a : ℕ) (differs : a ≢ session) where
       let p = and_parts (u.session == session) (all_of session us) all in
       rw (of_other a m u (λ e. differs (sym e ∙ eqb-true _ _ p.0))) (none_of m us p.1)
 
-  none_fast : (ts : List Own) → all_of session (map (ticket_by a) ts) ≡ true → ts ≡ []
+  none_fast : (ts : List SessionTicket) → all_of session (map (ticket_by a) ts) ≡ true → ts ≡ []
   none_fast [] all = refl
   none_fast (t ∷ ts) all = absurd (differs (eqb-true a session (and_parts (a == session) (all_of session (map (ticket_by a) ts)) all).0))
 
 -- a ticket that stands in a list is found, also behind one that is waited for
-stands_found : (session : ℕ) (t : Own) (ts : List Own) → ticket_of session t.number (map (ticket_by session) (t ∷ ts)) ≡ None → ⊥
+stands_found : (session : ℕ) (t : SessionTicket) (ts : List SessionTicket) → ticket_of session t.number (map (ticket_by session) (t ∷ ts)) ≡ None → ⊥
 stands_found session t ts none = let hit = rw (is_itself (ticket_by session t)) at none in absurd (cc)
 
-slow_found : (session : ℕ) (waited : Option Ticket) (t : Own) (ts : List Own) → ticket_of session t.number (option_to_list waited ++ map (ticket_by session) (t ∷ ts)) ≡ None → ⊥
+slow_found : (session : ℕ) (waited : Option Ticket) (t : SessionTicket) (ts : List SessionTicket) → ticket_of session t.number (option_to_list waited ++ map (ticket_by session) (t ∷ ts)) ≡ None → ⊥
 slow_found session None t ts none = stands_found session t ts none
 slow_found session (Some u) t ts none = by_bool (is_ticket session t.number u)
     (λ hit. let first = rw hit at none in absurd (cc))
     (λ miss. stands_found session t ts (rw miss at none))
 
-none_slow : (session : ℕ) (waited : Option Ticket) (ts : List Own) → ((m : ℕ) → ticket_of session m (option_to_list waited ++ map (ticket_by session) ts) ≡ None) → ts ≡ []
+none_slow : (session : ℕ) (waited : Option Ticket) (ts : List SessionTicket) → ((m : ℕ) → ticket_of session m (option_to_list waited ++ map (ticket_by session) ts) ≡ None) → ts ≡ []
 none_slow session waited [] none = refl
 none_slow session waited (t ∷ ts) none = absurd (slow_found session waited t ts (none t.number))
 

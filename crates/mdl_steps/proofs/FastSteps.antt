@@ -28,8 +28,8 @@ use Rattle.mdl_steps.specs.declared.deed.Deed.TheVariants.{Lose}
 use Rattle.mdl_steps.specs.declared.step_kind.StepKind.{StepKind}
 use Rattle.mdl_steps.specs.declared.step_kind.StepKind.TheVariants as step_kind
 use Rattle.mdl_steps.specs.declared.view.LatchRecord.{LatchRecord}
-use Rattle.mdl_steps.specs.declared.view.Known.{Known}
-use Rattle.mdl_steps.specs.declared.view.Own.{Own}
+use Rattle.mdl_key.specs.declared.known_key.KnownKey.{KnownKey}
+use Rattle.mdl_steps.specs.declared.view.SessionTicket.{SessionTicket}
 use Rattle.mdl_steps.specs.declared.view.View.{View}
 use Rattle.mdl_steps.specs.Cells.{Part, Cell, Holder, all_fast, cell, counted, holder_at, own_at, part_at, ticket_by, waits}
 use Rattle.mdl_steps.specs.Deeds.{is_own}
@@ -39,7 +39,7 @@ use Rattle.mdl_steps.specs.Layout.{lock_word}
 use Rattle.mdl_steps.specs.Lists.{Each}
 use Rattle.mdl_steps.specs.Plays.{Mine}
 use Rattle.mdl_steps.specs.Rule.{Rule, PlaceOk, BookOk, ExactCounts, PartOk, Counted, Lawful, NoteAgrees, NotedCounts, Numbered, key_at}
-use Rattle.mdl_steps.specs.Turns.{Makes}
+use Rattle.mdl_steps.specs.TableChanges.{Makes}
 use Rattle.mdl_steps.proofs.Histories.{Shows, goes_on}
 use Rattle.mdl_steps.proofs.Deeds.{unobtrusive_beside}
 use Rattle.mdl_steps.proofs.Desks.{each-append}
@@ -54,7 +54,7 @@ use Rattle.mdl_steps.proofs.WaitEnds.{own_at-push}
 
 -- ---- the place, where the fast tickets of one session change, and what it owes, and the word with them
 
-module _ (key : Option KeyName) (c : Cell) (ok : PlaceOk key c) (id : ℕ) (x : Part) (at : get_elem? c.parts id ≡ some x) (fast : List Own) (owes : Bool) where
+module _ (key : Option KeyName) (c : Cell) (ok : PlaceOk key c) (id : ℕ) (x : Part) (at : get_elem? c.parts id ≡ some x) (fast : List SessionTicket) (owes : Bool) where
   abbrev pub changed_part : Part
   changed_part = record x { fast = fast; owes = owes }
 
@@ -119,7 +119,7 @@ not_false : (b : Bool) → not b ≡ false → b ≡ true
 not_false true e = refl
 not_false false e = cc
 
-shown_push : (session : ℕ) (own : Own) (ts : List Own) → map (ticket_by session) (ts ++ own ∷ []) ≡ map (ticket_by session) ts ++ ticket_by session own ∷ []
+shown_push : (session : ℕ) (own : SessionTicket) (ts : List SessionTicket) → map (ticket_by session) (ts ++ own ∷ []) ≡ map (ticket_by session) ts ++ ticket_by session own ∷ []
 shown_push session own ts = map-append (ticket_by session) ts (own ∷ [])
 
 right_false : (a b : Bool) → (a || b) ≡ false → b ≡ false
@@ -148,7 +148,7 @@ unobtrusive_first kind session mode (t ∷ ts) wish all =
     (rw (never_behind kind mode t.mode wish plain) (by_bool (t.session == session) (λ own. rw own refl) (λ others. rw others refl)))
     (unobtrusive_first kind session mode ts wish p.1)
 
-module _ (key : Option KeyName) (c : Cell) (ok : PlaceOk key c) (id : ℕ) (x : Part) (at : get_elem? c.parts id ≡ some x) (own : Own) (one : ℕ)
+module _ (key : Option KeyName) (c : Cell) (ok : PlaceOk key c) (id : ℕ) (x : Part) (at : get_elem? c.parts id ≡ some x) (own : SessionTicket) (one : ℕ)
     (one_is : increment_of (lock_kind ok.book) own.mode ≡ Some one) (down : ok.obtrusive ≡ false) (few : length x.fast < 1023) (sessions : length c.parts ≤ 1025) where
   abbrev kind : Kind
   kind = lock_kind ok.book
@@ -159,7 +159,7 @@ module _ (key : Option KeyName) (c : Cell) (ok : PlaceOk key c) (id : ℕ) (x : 
   abbrev ticket : Ticket
   ticket = ticket_by x.number own
 
-  abbrev pub gained : List Own
+  abbrev pub gained : List SessionTicket
   gained = x.fast ++ own ∷ []
 
   abbrev then_parts : List Part
@@ -273,14 +273,14 @@ counted_parted {X} test part (x ∷ xs) =
     omega arith)
 
 -- of a ticket's own numbers, those at a place are the place's
-only_here : (place number : ℕ) (ts : List Own) → filter (is_own place number) (own_at place ts) ≡ filter (is_own place number) ts
+only_here : (place number : ℕ) (ts : List SessionTicket) → filter (is_own place number) (own_at place ts) ≡ filter (is_own place number) ts
 only_here place number [] = refl
 only_here place number (u ∷ us) = by_bool (u.place == place)
     (λ here. rw (here, here) (ap (λ xs. cond (u.number == number) (u ∷ xs) xs) (only_here place number us)))
     (λ away. rw away (only_here place number us))
 
 -- the others at the place
-but_here : (place number : ℕ) (ts : List Own) → own_at place (but_own place number ts) ≡ but_own place number (own_at place ts)
+but_here : (place number : ℕ) (ts : List SessionTicket) → own_at place (but_own place number ts) ≡ but_own place number (own_at place ts)
 but_here place number [] = refl
 but_here place number (t ∷ ts) = by_bool (t.place == place)
     (λ here. by_bool (t.number == number)
@@ -289,7 +289,7 @@ but_here place number (t ∷ ts) = by_bool (t.place == place)
     (λ away. rw (away, away) (but_here place number ts))
 
 -- what each ticket passes, each of fewer passes
-all_fewer : (test : Ticket → Bool) (session : ℕ) (part : Own → Bool) (ts : List Own) → list_all test (map (ticket_by session) ts) ≡ true → list_all test (map (ticket_by session) (filter part ts)) ≡ true
+all_fewer : (test : Ticket → Bool) (session : ℕ) (part : SessionTicket → Bool) (ts : List SessionTicket) → list_all test (map (ticket_by session) ts) ≡ true → list_all test (map (ticket_by session) (filter part ts)) ≡ true
 all_fewer test session part [] all = refl
 all_fewer test session part (t ∷ ts) all =
     let p = and_parts (test (ticket_by session t)) (list_all test (map (ticket_by session) ts)) all in
@@ -297,23 +297,23 @@ all_fewer test session part (t ∷ ts) all =
     (λ is. rw is (and_from _ _ p.0 (all_fewer test session part ts p.1)))
     (λ isnt. rw isnt (all_fewer test session part ts p.1))
 
-pub each_fewer : (P : Own → Type 0) (part : Own → Bool) (ts : List Own) → Each P ts → Each P (filter part ts)
+pub each_fewer : (P : SessionTicket → Type 0) (part : SessionTicket → Bool) (ts : List SessionTicket) → Each P ts → Each P (filter part ts)
 each_fewer P part [] of_all = tt
 each_fewer P part (t ∷ ts) of_all = by_bool (part t)
-    (λ is. subst (λ (b : Bool). Each P (cond {A = List Own} b (t ∷ filter part ts) (filter part ts))) (sym is) (of_all.0, each_fewer P part ts of_all.1))
-    (λ isnt. subst (λ (b : Bool). Each P (cond {A = List Own} b (t ∷ filter part ts) (filter part ts))) (sym isnt) (each_fewer P part ts of_all.1))
+    (λ is. subst (λ (b : Bool). Each P (cond {A = List SessionTicket} b (t ∷ filter part ts) (filter part ts))) (sym is) (of_all.0, each_fewer P part ts of_all.1))
+    (λ isnt. subst (λ (b : Bool). Each P (cond {A = List SessionTicket} b (t ∷ filter part ts) (filter part ts))) (sym isnt) (each_fewer P part ts of_all.1))
 
-length_fewer : (part : Own → Bool) (ts : List Own) → length (filter part ts) ≤ length ts
+length_fewer : (part : SessionTicket → Bool) (ts : List SessionTicket) → length (filter part ts) ≤ length ts
 length_fewer part ts = let is = length-filter part ts in let most = count_by-le-length part ts in omega arith
 
 -- what tickets a test counts, of those that a session has
-shown_count : (test : Ticket → Bool) (session : ℕ) (ts : List Own) → count_by test (map (ticket_by session) ts) ≡ count_by (λ (t : Own). test (ticket_by session t)) ts
+shown_count : (test : Ticket → Bool) (session : ℕ) (ts : List SessionTicket) → count_by test (map (ticket_by session) ts) ≡ count_by (λ (t : SessionTicket). test (ticket_by session t)) ts
 shown_count test session [] = refl
 shown_count test session (t ∷ ts) =
     let rest = shown_count test session ts in
     let a = count-append test (ticket_by session t ∷ []) (map (ticket_by session) ts) in
-    let b = count-append (λ (u : Own). test (ticket_by session u)) (t ∷ []) ts in
-    let same : count_by test (ticket_by session t ∷ []) ≡ count_by (λ (u : Own). test (ticket_by session u)) (t ∷ []) = refl in
+    let b = count-append (λ (u : SessionTicket). test (ticket_by session u)) (t ∷ []) ts in
+    let same : count_by test (ticket_by session t ∷ []) ≡ count_by (λ (u : SessionTicket). test (ticket_by session u)) (t ∷ []) = refl in
     omega arith
 
 -- a word that counts at least all of them counts at least fewer
@@ -324,7 +324,7 @@ covers_fewer kind word more fewer passed counts covers = record {
   covered = λ class below. (let less = counts class in let most = covers.covered class below in omega arith);
 }
 
-module _ (key : Option KeyName) (c : Cell) (ok : PlaceOk key c) (id : ℕ) (x : Part) (at : get_elem? c.parts id ≡ some x) (fast : List Own) (owes : Bool)
+module _ (key : Option KeyName) (c : Cell) (ok : PlaceOk key c) (id : ℕ) (x : Part) (at : get_elem? c.parts id ≡ some x) (fast : List SessionTicket) (owes : Bool)
     (fewer : (test : Ticket → Bool) → list_all test (map (ticket_by x.number) x.fast) ≡ true → list_all test (map (ticket_by x.number) fast) ≡ true)
     (less : (test : Ticket → Bool) → count_by test (map (ticket_by x.number) fast) ≤ count_by test (map (ticket_by x.number) x.fast)) where
   abbrev all_then : List Ticket
@@ -363,7 +363,7 @@ bit_small false = omega arith
 pub encoded_small : (word a b c : ℕ) (slow obtrusive : Bool) → Encodes word a b c slow obtrusive → word < 2 ^ 62
 encoded_small word a b c slow obtrusive e = omega (arith, bit_small slow, bit_small obtrusive)
 
-below_next : (next : ℕ) (ts : List Own) → Each (λ (t : Own). t.number < next) ts → Each (λ (t : Own). t.number < next + 1) ts
+below_next : (next : ℕ) (ts : List SessionTicket) → Each (λ (t : SessionTicket). t.number < next) ts → Each (λ (t : SessionTicket). t.number < next + 1) ts
 below_next next [] of_all = tt
 below_next next (t ∷ ts) of_all = ((let below = of_all.0 in omega arith), below_next next ts of_all.1)
 
@@ -401,9 +401,9 @@ module _ (slots id place : ℕ) (me : Mine) (first : 0 < place) (last : place < 
         omega arith
 
     -- the key of the place, where the session knows it
-    key_known : (i : ℕ) (k : Known) → get_elem? me.0.known i ≡ some k → k.place ≡ place → key_at r.keys place ≡ Some k.key
+    key_known : (i : ℕ) (k : KnownKey) → get_elem? me.0.known i ≡ some k → k.place ≡ place → key_at r.keys place ≡ Some k.key
     key_known i k known here =
-        let knows = each_at (λ (x : Known). (0 < x.place) × (key_at r.keys x.place ≡ Some x.key)) me.0.known (r.views id me.0 seat).1 i k known in
+        let knows = each_at (λ (x : KnownKey). (0 < x.place) × (key_at r.keys x.place ≡ Some x.key)) me.0.known (r.views id me.0 seat).1 i k known in
         ap (λ (q : ℕ). key_at r.keys q) (sym here) ∙ knows.1
 
     -- ---- the word is met
@@ -429,7 +429,7 @@ module _ (slots id place : ℕ) (me : Mine) (first : 0 < place) (last : place < 
     -- ---- a ticket is gained
 
     module _ (mode : Mode) (noted : Option ℕ) (one : ℕ) (may : MayGrantFast place mode noted one me) (down : obtrusive_flag found ≡ false) where
-      abbrev own : Own
+      abbrev own : SessionTicket
       own = fast_own me.0.next place mode noted
 
       agrees : NoteAgrees ok.book own
@@ -542,7 +542,7 @@ module _ (slots id place : ℕ) (me : Mine) (first : 0 < place) (last : place < 
     abbrev was : Part
     was = part_at (waits s) place me.0
 
-    abbrev left : List Own
+    abbrev left : List SessionTicket
     left = but_own place number (own_at place me.0.fast)
 
     abbrev owed : Bool
@@ -566,7 +566,7 @@ module _ (slots id place : ℕ) (me : Mine) (first : 0 < place) (last : place < 
 
     key_there : key_at r.keys place ≡ Some may.counted_so.1.key
     key_there = let k = may.counted_so in
-        let knows = each_at (λ (x : Known). (0 < x.place) × (key_at r.keys x.place ≡ Some x.key)) me.0.known (r.views id me.0 seat).1 k.0 k.1 k.2 in
+        let knows = each_at (λ (x : KnownKey). (0 < x.place) × (key_at r.keys x.place ≡ Some x.key)) me.0.known (r.views id me.0 seat).1 k.0 k.1 k.2 in
         ap (λ (q : ℕ). key_at r.keys q) (sym k.3) ∙ knows.1
 
     counts_one : increment_of (lock_kind place_ok.book) may.ticket.mode ≡ Some one
@@ -583,7 +583,7 @@ module _ (slots id place : ℕ) (me : Mine) (first : 0 < place) (last : place < 
     parted : (test : Ticket → Bool) → count_by test (map (ticket_by was.number) was.fast) ≡ count_by test (ticket_by me.0.number may.ticket ∷ []) + count_by test (map (ticket_by was.number) left)
     unfolding is_one
     parted test =
-        let of_own : Own → Bool = λ t. test (ticket_by me.0.number t) in
+        let of_own : SessionTicket → Bool = λ t. test (ticket_by me.0.number t) in
         let before = shown_count test me.0.number (own_at place me.0.fast) in
         let after_ = shown_count test me.0.number left in
         let both = counted_parted of_own (is_own place number) (own_at place me.0.fast) in

@@ -23,7 +23,7 @@ use Rattle.mdl_steps.specs.Histories.{ReachedFor}
 use Rattle.mdl_steps.specs.Layout.{lock_word}
 use Rattle.mdl_steps.specs.Plays.{Mine, stepped, raised, noting, raises_flags, reads_word}
 use Rattle.mdl_steps.specs.Rule.{Rule, Counted, ExactCounts, key_at}
-use Rattle.mdl_steps.specs.Turns.{HasPlace, IsWhole, Makes}
+use Rattle.mdl_steps.specs.TableChanges.{HasPlace, IsWhole, Makes}
 use Rattle.mdl_steps.proofs.Histories.{goes_on}
 use Rattle.mdl_steps.proofs.Views.{by_bool, held_at-changed, held_at-unchanged}
 use Rattle.mdl_steps.proofs.Lift.{Table, after, on_word, parts_again, alone, seat_there}

@@ -2,7 +2,7 @@
 use Rattle.std.proofs.Common.{◌≡◌, ℕ, Bool, not, cond, ◌==◌, List, [], ◌∷◌, map, refl, ap, ◌∙◌, ◌<◌, arith}
 use Rattle.std.specs.List.{filter}
 use Rattle.std.proofs.lemmas.Bool.{eq-eqb}
-use Rattle.mdl_defs.specs.declared.standing.Standing.{Standing}
+use Rattle.mdl_defs.specs.declared.versioned_definition.VersionedDefinition.{VersionedDefinition}
 use Rattle.mdl_book.specs.declared.book_view.BookView.{BookView}
 use Rattle.mdl_steps.specs.declared.deed.Deed.{Deed}
 use Rattle.mdl_steps.specs.declared.step_kind.StepKind.{StepKind}
@@ -63,7 +63,7 @@ pub elsewhere-settled : (place : ℕ) (ds : List Deed) (found : ℕ) (slow obtru
     → elsewhere place (flags_lowered place ds found book slow obtrusive m) ≡ elsewhere place m
 elsewhere-settled place ds found slow obtrusive book m = unmapped place (lowered ds book slow obtrusive) (λ x. refl) m.0.latches
 
-pub elsewhere-redefined : (place : ℕ) (standing : Standing) (m : Mine) → elsewhere place (redefined place standing m) ≡ elsewhere place m
+pub elsewhere-redefined : (place : ℕ) (standing : VersionedDefinition) (m : Mine) → elsewhere place (redefined place standing m) ≡ elsewhere place m
 elsewhere-redefined place standing m = unmapped place (restood standing) (λ x. refl) m.0.latches
 
 -- all of them, where each is of a lower place

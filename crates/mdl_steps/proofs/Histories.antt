@@ -9,7 +9,7 @@ use Rattle.mdl_steps.specs.Histories.{Reached, ReachedFor}
 use Rattle.mdl_steps.specs.Layout.{word_count}
 use Rattle.mdl_steps.specs.Plays.{Mine}
 use Rattle.mdl_steps.specs.Rule.{Rule}
-use Rattle.mdl_steps.specs.Turns.{IsWhole, Makes, Turn}
+use Rattle.mdl_steps.specs.TableChanges.{IsWhole, Makes, TableChange}
 use Rattle.mdl_steps.proofs.Lift.{Table}
 use Rattle.mdl_steps.proofs.Opens.{opens}
 
@@ -51,7 +51,7 @@ module _ (slots id word a b : ℕ) (me : Mine) (f : ℕ → ℕ) (then : ℕ →
         k.2,
         (
           Reached.Goes s (stepped s word (f (get_or s.words word 0)) id me.1 k.0 k.1) before.0 k.3
-              (Turn.Steps id me (k.0, carried_after me.1 k.1) (step slots word a b none) (f (get_or s.words word 0)) k.1 seat (k.5 k.4) refl)
+              (TableChange.Steps id me (k.0, carried_after me.1 k.1) (step slots word a b none) (f (get_or s.words word 0)) k.1 seat (k.5 k.4) refl)
               (sym size, k.2, refl, k.6),
           length-set s.words word (f (get_or s.words word 0)) ∙ before.1 ∙ ap (λ (n : ℕ). word_count n room) (sym (homes_length s.homes me.1 k.1)),
         ),

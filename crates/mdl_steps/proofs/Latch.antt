@@ -21,8 +21,8 @@ use Rattle.mdl_book.proofs.GrantingLemmas.{lawful_part}
 use Rattle.mdl_steps.specs.declared.slot.Slot.TheVariants as slot
 use Rattle.mdl_steps.specs.declared.view.Ask.{Ask}
 use Rattle.mdl_steps.specs.declared.view.LatchRecord.{LatchRecord}
-use Rattle.mdl_steps.specs.declared.view.Known.{Known}
-use Rattle.mdl_steps.specs.declared.view.Own.{Own}
+use Rattle.mdl_key.specs.declared.known_key.KnownKey.{KnownKey}
+use Rattle.mdl_steps.specs.declared.view.SessionTicket.{SessionTicket}
 use Rattle.mdl_steps.specs.declared.view.View.{View}
 use Rattle.mdl_steps.specs.Cells.{Part, part_at, holder_at, desk_of, waiter_of, cell, waits, ticket_by, own_at, asking_at, due, pending, all_fast}
 use Rattle.mdl_steps.specs.Histories.{ReachedFor}
@@ -30,7 +30,7 @@ use Rattle.mdl_steps.specs.Layout.{latch_word}
 use Rattle.mdl_steps.specs.Plays.{Mine, IsFresh, latched, missed_latch, takes_latch}
 use Rattle.mdl_steps.specs.Lists.{Each}
 use Rattle.mdl_steps.specs.Rule.{Rule, PlaceOk, Numbered, key_at}
-use Rattle.mdl_steps.specs.Turns.{Makes}
+use Rattle.mdl_steps.specs.TableChanges.{Makes}
 use Rattle.mdl_steps.proofs.FastLists.{all_fast-own}
 use Rattle.mdl_steps.proofs.Histories.{Shows, goes_on}
 use Rattle.mdl_steps.proofs.Views.{by_bool, held_at-first, held_at-past, each_at, other}
@@ -100,12 +100,12 @@ one_wish n first second t u wish a b =
     some_same v w e = cc
 
 -- what all tickets as they stand in a book pass, each of the session's own does
-each_shown : (test : Ticket → Bool) (n : ℕ) (ts : List Own) → list_all test (map (ticket_by n) ts) ≡ true → Each (λ (t : Own). test (ticket_by n t) ≡ true) ts
+each_shown : (test : Ticket → Bool) (n : ℕ) (ts : List SessionTicket) → list_all test (map (ticket_by n) ts) ≡ true → Each (λ (t : SessionTicket). test (ticket_by n t) ≡ true) ts
 each_shown test n [] all = tt
 each_shown test n (t ∷ ts) all = let p = and_parts (test (ticket_by n t)) (list_all test (map (ticket_by n) ts)) all in (p.0, each_shown test n ts p.1)
 
 -- who stands beside all fast and granted tickets stands beside the granted ones
-each_beside : (kind : Kind) (fast granted : List Ticket) (n : ℕ) (ts : List Own) → Each (λ (t : Own). is_compatible kind (fast ++ granted) n t.mode ≡ true) ts → Each (λ (t : Own). is_compatible kind granted n t.mode ≡ true) ts
+each_beside : (kind : Kind) (fast granted : List Ticket) (n : ℕ) (ts : List SessionTicket) → Each (λ (t : SessionTicket). is_compatible kind (fast ++ granted) n t.mode ≡ true) ts → Each (λ (t : SessionTicket). is_compatible kind granted n t.mode ≡ true) ts
 each_beside kind fast granted n [] all = tt
 each_beside kind fast granted n (t ∷ ts) all = (
   (and_parts (is_compatible kind fast n t.mode) (is_compatible kind granted n t.mode) (sym (list_all-append (stands_beside kind n t.mode) fast granted) ∙ all.0)).1,
@@ -139,7 +139,7 @@ module _ (slots id place : ℕ) (me : Mine) (some_number : 0 < me.0.number) (fir
           ∙ of-unwaited me.0.number number (due (part_at (waits s) place me.0).asks) (map (ticket_by me.0.number) (own_at place me.0.slow))
           (λ t is same. (let a = due_asked place me.0.number (waits s me.0.number) me.0.asks t is in unwaited a.0 a.1 (sym a.2 ∙ same)));
       named = λ i k there here.
-          let knows = each_at (λ (x : Known). (0 < x.place) × (key_at r.keys x.place ≡ Some x.key)) me.0.known (r.views id me.0 seat).1 i k there in
+          let knows = each_at (λ (x : KnownKey). (0 < x.place) × (key_at r.keys x.place ≡ Some x.key)) me.0.known (r.views id me.0 seat).1 i k there in
           ok.book_ok.named.key_is k.key (ap (λ (q : ℕ). key_at r.keys q) (sym here) ∙ knows.1);
       keyed = λ k recorded key there.
           let keys_are = (r.directory_agrees.held id (desk_of me.0) (at_map desk_of s.views id me.0 seat) k recorded).2 in

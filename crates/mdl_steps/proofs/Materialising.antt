@@ -18,8 +18,8 @@ use Rattle.mdl_book.specs.FastTickets.{is_of_class}
 use Rattle.mdl_book.specs.Tickets.{is_ticket, ticket_of}
 use Rattle.mdl_book.proofs.GrantingLemmas.{lawful_part}
 use Rattle.mdl_steps.specs.declared.view.LatchRecord.{LatchRecord}
-use Rattle.mdl_steps.specs.declared.view.Known.{Known}
-use Rattle.mdl_steps.specs.declared.view.Own.{Own}
+use Rattle.mdl_key.specs.declared.known_key.KnownKey.{KnownKey}
+use Rattle.mdl_steps.specs.declared.view.SessionTicket.{SessionTicket}
 use Rattle.mdl_steps.specs.declared.view.View.{View}
 use Rattle.mdl_steps.specs.Cells.{Asking, Part, Cell, all_fast, asking_at, cell, counted, due, holder_at, own_at, part_at, ticket_by, waits}
 use Rattle.mdl_steps.specs.FastPlays.{but_at, granting_all, moved, materialised, materialises, with_granted, MayMaterialise}
@@ -29,7 +29,7 @@ use Rattle.mdl_steps.specs.Layout.{lock_word}
 use Rattle.mdl_steps.specs.Lists.{Each, Once}
 use Rattle.mdl_steps.specs.Plays.{Mine}
 use Rattle.mdl_steps.specs.Rule.{Rule, PlaceOk, BookOk, PartOk, Counted, NoteAgrees, key_at}
-use Rattle.mdl_steps.specs.Turns.{Makes}
+use Rattle.mdl_steps.specs.TableChanges.{Makes}
 use Rattle.mdl_steps.proofs.Histories.{goes_on}
 use Rattle.mdl_steps.proofs.FastSteps.{covers_fewer, each_fewer, encoded_small}
 use Rattle.mdl_steps.proofs.FastLists.{all_fast-all, all_fast-own, counted_set}
@@ -46,7 +46,7 @@ use Rattle.mdl_steps.proofs.Waiting.{owned_set, waiting_kept}
 -- ---- look-ups in two lists
 
 -- of another session nothing is found in the second
-of_front : (a m n : ℕ) → a ≢ n → (xs : List Ticket) (os : List Own) → ticket_of a m (xs ++ map (ticket_by n) os) ≡ ticket_of a m xs
+of_front : (a m n : ℕ) → a ≢ n → (xs : List Ticket) (os : List SessionTicket) → ticket_of a m (xs ++ map (ticket_by n) os) ≡ ticket_of a m xs
 of_front a m n differs [] [] = refl
 of_front a m n differs [] (o ∷ os) = rw (of_other a m (ticket_by n o) (λ e. differs (sym e))) (of_front a m n differs [] os)
 of_front a m n differs (x ∷ xs) os = ap (λ o. cond (is_ticket a m x) (Some x) o) (of_front a m n differs xs os)
@@ -66,11 +66,11 @@ of_both a m xs zs ys same = split xs ∙ ap or_else same ∙ sym (split zs)
         (λ isnt. rw isnt (split us))
 
 -- no ticket stands twice in both where none of the second stands in the first
-once_both : (n : ℕ) (xs : List Ticket) (os : List Own) → Once xs → Once (map (ticket_by n) os) → Each (λ (t : Own). ticket_of n t.number xs ≡ None) os → Once (xs ++ map (ticket_by n) os)
+once_both : (n : ℕ) (xs : List Ticket) (os : List SessionTicket) → Once xs → Once (map (ticket_by n) os) → Each (λ (t : SessionTicket). ticket_of n t.number xs ≡ None) os → Once (xs ++ map (ticket_by n) os)
 once_both n [] os once own apart = own
 once_both n (x ∷ xs) os once own apart = (not_later x os apart, once_both n xs os once.1 own (rest os apart))
   where
-    rest : (us : List Own) → Each (λ (t : Own). ticket_of n t.number (x ∷ xs) ≡ None) us → Each (λ (t : Own). ticket_of n t.number xs ≡ None) us
+    rest : (us : List SessionTicket) → Each (λ (t : SessionTicket). ticket_of n t.number (x ∷ xs) ≡ None) us → Each (λ (t : SessionTicket). ticket_of n t.number xs ≡ None) us
     rest [] none_there = tt
     rest (u ∷ us) none_there = (
       by_bool (is_ticket n u.number x)
@@ -79,7 +79,7 @@ once_both n (x ∷ xs) os once own apart = (not_later x os apart, once_both n xs
       rest us none_there.1,
     )
 
-    not_here : (y : Ticket) (us : List Own) → Each (λ (t : Own). is_ticket n t.number y ≡ false) us → ticket_of y.session y.number (map (ticket_by n) us) ≡ None
+    not_here : (y : Ticket) (us : List SessionTicket) → Each (λ (t : SessionTicket). is_ticket n t.number y ≡ false) us → ticket_of y.session y.number (map (ticket_by n) us) ≡ None
     not_here y [] none_there = refl
     not_here y (u ∷ us) none_there = by_bool (is_ticket y.session y.number (ticket_by n u))
         (λ is.
@@ -89,7 +89,7 @@ once_both n (x ∷ xs) os once own apart = (not_later x os apart, once_both n xs
         absurd (cc))
         (λ isnt. rw isnt (not_here y us none_there.1))
 
-    of_front_own : (us : List Own) → Each (λ (t : Own). ticket_of n t.number (x ∷ xs) ≡ None) us → Each (λ (t : Own). is_ticket n t.number x ≡ false) us
+    of_front_own : (us : List SessionTicket) → Each (λ (t : SessionTicket). ticket_of n t.number (x ∷ xs) ≡ None) us → Each (λ (t : SessionTicket). is_ticket n t.number x ≡ false) us
     of_front_own [] none_there = tt
     of_front_own (u ∷ us) none_there = (
       by_bool (is_ticket n u.number x)
@@ -98,31 +98,31 @@ once_both n (x ∷ xs) os once own apart = (not_later x os apart, once_both n xs
       of_front_own us none_there.1,
     )
 
-    joined_none : (zs : List Ticket) (us : List Own) → ticket_of x.session x.number zs ≡ None → ticket_of x.session x.number (map (ticket_by n) us) ≡ None → ticket_of x.session x.number (zs ++ map (ticket_by n) us) ≡ None
+    joined_none : (zs : List Ticket) (us : List SessionTicket) → ticket_of x.session x.number zs ≡ None → ticket_of x.session x.number (map (ticket_by n) us) ≡ None → ticket_of x.session x.number (zs ++ map (ticket_by n) us) ≡ None
     joined_none [] us first second = second
     joined_none (z ∷ zs) us first second = by_bool (is_ticket x.session x.number z)
         (λ is. (let hit = rw is at first in absurd (cc)))
         (λ isnt. rw isnt (joined_none zs us (rw isnt at first) second))
 
-    not_later : (y : Ticket) (us : List Own) → Each (λ (t : Own). ticket_of n t.number (x ∷ xs) ≡ None) us → ticket_of x.session x.number (xs ++ map (ticket_by n) us) ≡ None
+    not_later : (y : Ticket) (us : List SessionTicket) → Each (λ (t : SessionTicket). ticket_of n t.number (x ∷ xs) ≡ None) us → ticket_of x.session x.number (xs ++ map (ticket_by n) us) ≡ None
     not_later y us none_there = joined_none xs us once.0 (not_here x us (of_front_own us none_there))
 
 -- ---- tickets by places
 
-pub gone_here : (place : ℕ) (ts : List Own) → own_at place (but_at place ts) ≡ []
+pub gone_here : (place : ℕ) (ts : List SessionTicket) → own_at place (but_at place ts) ≡ []
 gone_here place [] = refl
 gone_here place (t ∷ ts) = by_bool (t.place == place)
     (λ here. rw here (gone_here place ts))
     (λ away. rw (away, away) (gone_here place ts))
 
-pub kept_else : (place q : ℕ) (ts : List Own) → q ≢ place → own_at q (but_at place ts) ≡ own_at q ts
+pub kept_else : (place q : ℕ) (ts : List SessionTicket) → q ≢ place → own_at q (but_at place ts) ≡ own_at q ts
 kept_else place q [] else = refl
 kept_else place q (t ∷ ts) else = by_bool (t.place == place)
     (λ here. rw (here, other t.place q (λ e. else (sym e ∙ eqb-true _ _ here))) (kept_else place q ts else))
     (λ away. rw away (ap (λ xs. cond (t.place == q) (t ∷ xs) xs) (kept_else place q ts else)))
 
 -- what holds of each ticket holds of those at a place
-each_anyway : (P : Own → Type 0) (q : ℕ) (ts : List Own) → Each P ts → Each (λ (t : Own). t.place ≡ q → P t) ts
+each_anyway : (P : SessionTicket → Type 0) (q : ℕ) (ts : List SessionTicket) → Each P ts → Each (λ (t : SessionTicket). t.place ≡ q → P t) ts
 each_anyway P q [] all = tt
 each_anyway P q (t ∷ ts) all = (λ _. all.0, each_anyway P q ts all.1)
 
@@ -134,12 +134,12 @@ module _ (key : Option KeyName) (version : ℕ) (parts : List Part) (book : Book
     (some_key : (k : KeyName) × (key ≡ Some k))
     (ok : BookOk key version parts book)
     (idle : v.asks ≡ None) (once : Once (moved place v))
-    (apart : Each (λ (t : Own). ticket_of v.number t.number (map (ticket_by v.number) (own_at place v.slow)) ≡ None) (own_at place v.fast)) where
+    (apart : Each (λ (t : SessionTicket). ticket_of v.number t.number (map (ticket_by v.number) (own_at place v.slow)) ≡ None) (own_at place v.fast)) where
   abbrev was : Part
   was = part_at f place v
 
   -- the slow tickets then
-  abbrev slow : List Own
+  abbrev slow : List SessionTicket
   slow = interleaved v.slow (own_at place v.fast)
 
   abbrev pub then_ : Part
@@ -183,14 +183,14 @@ module _ (key : Option KeyName) (version : ℕ) (parts : List Part) (book : Book
   found_then : (m : ℕ) → ticket_of v.number m (book.granted ++ gone) ≡ ticket_of v.number m (map (ticket_by v.number) (own_at place slow))
   found_then m = of_both v.number m book.granted (map (ticket_by v.number) (own_at place v.slow)) gone (found_slow m) ∙ sym (joined_found v.number place m v.slow v.fast once apart)
 
-  none_found : (os : List Own) → Each (λ (t : Own). ticket_of v.number t.number (map (ticket_by v.number) (own_at place v.slow)) ≡ None) os → Each (λ (t : Own). ticket_of v.number t.number book.granted ≡ None) os
+  none_found : (os : List SessionTicket) → Each (λ (t : SessionTicket). ticket_of v.number t.number (map (ticket_by v.number) (own_at place v.slow)) ≡ None) os → Each (λ (t : SessionTicket). ticket_of v.number t.number book.granted ≡ None) os
   none_found [] all = tt
   none_found (o ∷ os) all = (found_slow o.number ∙ all.0, none_found os all.1)
 
   notes_then : Each (NoteAgrees book) (own_at place slow)
   notes_then =
       each-to_at (NoteAgrees book) place slow
-      (each-interleaved (λ (t : Own). t.place ≡ place → NoteAgrees book t) v.slow (own_at place v.fast)
+      (each-interleaved (λ (t : SessionTicket). t.place ≡ place → NoteAgrees book t) v.slow (own_at place v.fast)
       (each-from_at (NoteAgrees book) place v.slow old.versions_agree.slow)
       (each_anyway (NoteAgrees book) place (own_at place v.fast) old.versions_agree.fast))
 
@@ -263,7 +263,7 @@ module _ (slots id place : ℕ) (me : Mine) (some_number : 0 < me.0.number) (fir
     abbrev h′ : LatchRecord
     h′ = with_granted (moved place me.0) h
 
-    abbrev joined : List Own
+    abbrev joined : List SessionTicket
     joined = interleaved me.0.slow (own_at place me.0.fast)
 
     abbrev w : View
@@ -291,7 +291,7 @@ module _ (slots id place : ℕ) (me : Mine) (some_number : 0 < me.0.number) (fir
 
     key_is : (k : KeyName) × (key_at r.keys place ≡ Some k)
     key_is = let k = may.known in
-        let knows = each_at (λ (x : Known). (0 < x.place) × (key_at r.keys x.place ≡ Some x.key)) me.0.known (r.views id me.0 seat).1 k.0 k.1 k.2 in
+        let knows = each_at (λ (x : KnownKey). (0 < x.place) × (key_at r.keys x.place ≡ Some x.key)) me.0.known (r.views id me.0 seat).1 k.0 k.1 k.2 in
         (k.1.key, ap (λ (q : ℕ). key_at r.keys q) (sym k.3) ∙ knows.1)
 
     abbrev parts′ : List Part
@@ -300,7 +300,7 @@ module _ (slots id place : ℕ) (me : Mine) (some_number : 0 < me.0.number) (fir
     alone_here : (j : ℕ) (x : Part) → get_elem? c.parts j ≡ some x → x.number ≡ me.0.number → j ≡ id
     alone_here = alone_parts s r place id me.0 seat some_number
 
-    apart : Each (λ (t : Own). ticket_of me.0.number t.number (map (ticket_by me.0.number) (own_at place me.0.slow)) ≡ None) (own_at place me.0.fast)
+    apart : Each (λ (t : SessionTicket). ticket_of me.0.number t.number (map (ticket_by me.0.number) (own_at place me.0.slow)) ≡ None) (own_at place me.0.fast)
     apart = unmixed_apart me.0.number place me.0.fast me.0.slow (r.views id me.0 seat).0.unmixed
 
     counts : (class : ℕ) → counted (lock_kind h.book) class (all_fast parts′) + counted (lock_kind h.book) class (moved place me.0) ≡ counted (lock_kind h.book) class (all_fast c.parts)
@@ -351,9 +351,9 @@ module _ (slots id place : ℕ) (me : Mine) (some_number : 0 < me.0.number) (fir
       book_ok = joined_ok key c.version c.parts h.book (waits s) place id me.0 part_there alone_here key_is u.book_ok may.idle may.once apart;
     }
 
-    below : Each (λ (t : Own). t.number < me.0.next) joined
+    below : Each (λ (t : SessionTicket). t.number < me.0.next) joined
     below = let row = (r.views id me.0 seat).0 in
-        each-interleaved (λ (t : Own). t.number < me.0.next) me.0.slow (own_at place me.0.fast) row.slow (each_fewer _ (λ t. t.place == place) me.0.fast row.fast)
+        each-interleaved (λ (t : SessionTicket). t.number < me.0.next) me.0.slow (own_at place me.0.fast) row.slow (each_fewer _ (λ t. t.place == place) me.0.fast row.fast)
 
     pub materialised_rule : Rule (after s (lock_word place) ((found + (2 ^ 64 - weight)) % 2 ^ 64) id w s.homes)
     unfolding ok below

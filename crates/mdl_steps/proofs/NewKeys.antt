@@ -6,8 +6,8 @@ use lib.ListN.{get_elem?}
 use Rattle.atomic_table.specs.Table.{Allows, step, gives, put_back}
 use Rattle.atomic_table.proofs.Lists.{at_map, at_set, set_else, set_here}
 use Rattle.mdl_key.specs.Words.{KeyName}
-use Rattle.mdl_defs.specs.declared.standing.Standing.{Standing}
-use Rattle.mdl_defs.proofs.StandingLemmas.{nothing-stands}
+use Rattle.mdl_defs.specs.declared.versioned_definition.VersionedDefinition.{VersionedDefinition}
+use Rattle.mdl_defs.proofs.VersionedDefinitionLemmas.{nothing-stands}
 use Rattle.mdl_book.specs.declared.book_view.BookView.{BookView}
 use Rattle.mdl_book.specs.declared.ticket.Ticket.{Ticket}
 use Rattle.mdl_book.specs.Books.{empty_book}
@@ -15,7 +15,7 @@ use Rattle.mdl_book.specs.Tickets.{ticket_of}
 use Rattle.mdl_steps.specs.declared.slot.Slot.TheVariants as slot
 use Rattle.mdl_steps.specs.declared.view.LatchRecord.{LatchRecord}
 use Rattle.mdl_steps.specs.declared.view.Keys.{Keys}
-use Rattle.mdl_steps.specs.declared.view.Known.{Known}
+use Rattle.mdl_key.specs.declared.known_key.KnownKey.{KnownKey}
 use Rattle.mdl_steps.specs.declared.view.View.{View}
 use Rattle.mdl_steps.specs.Cells.{Part, Desk, holder_at, desk_of, cell, all_fast}
 use Rattle.mdl_steps.specs.Histories.{ReachedFor}
@@ -24,7 +24,7 @@ use Rattle.mdl_steps.specs.Lists.{Each, Distinct}
 use Rattle.mdl_steps.specs.Plays.{Mine, named, listing, puts_key}
 use Rattle.mdl_steps.specs.Rule.{Rule, BookOk, PartOk, SlowHeld, ReadsAgree, IsUnused, key_at}
 use Rattle.mdl_steps.specs.Seats.{MayName}
-use Rattle.mdl_steps.specs.Turns.{Makes}
+use Rattle.mdl_steps.specs.TableChanges.{Makes}
 use Rattle.mdl_steps.proofs.Histories.{goes_on}
 use Rattle.mdl_steps.proofs.Views.{at_inside, held_at-dropped, held_at-undropped}
 use Rattle.mdl_steps.proofs.Lift.{Table, Homes, Keyed, after, lifted, alone, parts_again, seat_there}
@@ -49,8 +49,8 @@ pub none_after : (keys : List KeyName) → slice_get keys (length keys) ≡ None
 none_after [] = refl
 none_after (x ∷ xs) = none_after xs
 
-known_longer : (keys : List KeyName) (key : KeyName) (known : List Known) → Each (λ (k : Known). (0 < k.place) × (key_at keys k.place ≡ Some k.key)) known
-    → Each (λ (k : Known). (0 < k.place) × (key_at (keys ++ key ∷ []) k.place ≡ Some k.key)) known
+known_longer : (keys : List KeyName) (key : KeyName) (known : List KnownKey) → Each (λ (k : KnownKey). (0 < k.place) × (key_at keys k.place ≡ Some k.key)) known
+    → Each (λ (k : KnownKey). (0 < k.place) × (key_at (keys ++ key ∷ []) k.place ≡ Some k.key)) known
 known_longer keys key [] all = tt
 known_longer keys key (k ∷ ks) all =
     let here = all.0 in (
@@ -76,7 +76,7 @@ exchanged_part book key x unused ok = record {
   versions_agree =
       let was = ok.versions_agree in
       let now : ReadsAgree (record (empty_book key) { standing = book.standing }) x = record { reads = was.reads; fast = was.fast; slow = was.slow } in
-      subst (λ (standing : Standing). ReadsAgree (record (empty_book key) { standing = standing }) x) unused.2 now;
+      subst (λ (standing : VersionedDefinition). ReadsAgree (record (empty_book key) { standing = standing }) x) unused.2 now;
 }
 
 exchanged_book : (version : ℕ) (parts : List Part) (book : BookView) (key : KeyName) → IsUnused book → all_fast parts ≡ [] → BookOk None version parts book
@@ -91,7 +91,7 @@ exchanged_book version parts book key unused no_fast ok = record {
     owned = λ session number t found. absurd (cc);
     same = λ j x there m. ap (ticket_of x.number m) (sym unused.1) ∙ ok.waiting.same j x there m;
   };
-  version_is = ok.version_is ∙ ap (λ (standing : Standing). standing.version) unused.2;
+  version_is = ok.version_is ∙ ap (λ (standing : VersionedDefinition). standing.version) unused.2;
   stands = nothing-stands key.namespace;
   named = record { key_is = λ k is. cc; vacant = λ none. absurd (cc) };
   each = λ j x there. exchanged_part book key x unused (ok.each j x there);

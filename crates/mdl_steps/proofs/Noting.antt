@@ -7,8 +7,8 @@ use mathlib.Core.Option.{some, some-injective}
 use lib.ListN.{get_elem?}
 use Rattle.atomic_table.proofs.Lists.{at_set, set_here, set_else}
 use Rattle.mdl_key.specs.Words.{KeyName}
-use Rattle.mdl_defs.specs.declared.standing.Standing.{Standing}
-use Rattle.mdl_defs.specs.Standings.{nothing_yet, MayStand}
+use Rattle.mdl_defs.specs.declared.versioned_definition.VersionedDefinition.{VersionedDefinition}
+use Rattle.mdl_defs.specs.VersionedDefinitions.{nothing_yet, MayStand}
 use Rattle.mdl_book.specs.declared.book_view.BookView.{BookView}
 use Rattle.mdl_book.specs.Books.{lock_kind}
 use Rattle.mdl_book.specs.Tickets.{ticket_of}
@@ -28,7 +28,7 @@ all_fast-noted (z ∷ zs) zero x y at same = ap (λ ts. ts ++ all_fast zs) same 
 all_fast-noted (z ∷ zs) (suc id) x y at same = ap (λ ts. map (ticket_by z.number) z.fast ++ ts) (all_fast-noted zs id x y at same)
 
 -- the part of the session, with what it knows then
-abbrev pub noted_part : ℕ → Standing → Part → Part
+abbrev pub noted_part : ℕ → VersionedDefinition → Part → Part
 noted_part place standing x = record x {
   fast = map (with_note standing.version) x.fast;
   slow = map (with_note standing.version) x.slow;
@@ -37,7 +37,7 @@ noted_part place standing x = record x {
 
 -- ---- of its view
 
-module _ (place : ℕ) (standing : Standing) (v : View) where
+module _ (place : ℕ) (standing : VersionedDefinition) (v : View) where
   -- with what it knows then
   abbrev pub noted_view : View
   noted_view = record v {
@@ -63,7 +63,7 @@ module _ (place : ℕ) (standing : Standing) (v : View) where
 -- ---- the book and the parts, where this stands under the key
 
 module _ (key : Option KeyName) (version : ℕ) (parts : List Part) (book : BookView) (place id : ℕ) (mine : Part) (at : get_elem? parts id ≡ some mine)
-    (ok : BookOk key version parts book) (standing : Standing) where
+    (ok : BookOk key version parts book) (standing : VersionedDefinition) where
   abbrev new_book : BookView
   new_book = record book { standing = standing }
 

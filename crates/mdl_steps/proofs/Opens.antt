@@ -7,7 +7,7 @@ use Rattle.atomic_table.specs.Table.{opening}
 use Rattle.atomic_table.proofs.Lists.{at_map}
 use Rattle.mdl_key.specs.Words.{KeyName}
 use Rattle.std.specs.Option.{option_to_list}
-use Rattle.mdl_defs.proofs.StandingLemmas.{nothing-stands}
+use Rattle.mdl_defs.proofs.VersionedDefinitionLemmas.{nothing-stands}
 use Rattle.mdl_book.specs.Books.{empty_book}
 use Rattle.mdl_book.specs.Tickets.{ticket_of}
 use Rattle.mdl_steps.specs.declared.slot.Slot.{Slot}

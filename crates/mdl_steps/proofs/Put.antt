@@ -13,8 +13,8 @@ use Rattle.mdl_steps.specs.declared.deed.Deed.{Deed}
 use Rattle.mdl_steps.specs.declared.slot.Slot.{Slot}
 use Rattle.mdl_steps.specs.declared.slot.Slot.TheVariants as slot
 use Rattle.mdl_steps.specs.declared.view.LatchRecord.{LatchRecord}
-use Rattle.mdl_steps.specs.declared.view.Known.{Known}
-use Rattle.mdl_steps.specs.declared.view.Own.{Own}
+use Rattle.mdl_key.specs.declared.known_key.KnownKey.{KnownKey}
+use Rattle.mdl_steps.specs.declared.view.SessionTicket.{SessionTicket}
 use Rattle.mdl_steps.specs.declared.view.View.{View}
 use Rattle.mdl_steps.specs.Cells.{Part, Holder, part_at, holder_at, held_at, own_at, cell, waits, all_fast}
 use Rattle.mdl_steps.specs.Deeds.{FreesNothing, MayDo, MayAct, all_booked, all_done, all_owned, owned}
@@ -23,7 +23,7 @@ use Rattle.mdl_steps.specs.Layout.{latch_word, lock_word}
 use Rattle.mdl_steps.specs.Plays.{Mine, unlatched, flags_lowered, lowered, puts_latch, lowers_flags}
 use Rattle.mdl_steps.specs.Rule.{Rule, PlaceOk, BookOk, Counted, Numbered, TellsLists, Flagged, NotedCounts, key_at}
 use Rattle.mdl_steps.specs.Seats.{HasDone}
-use Rattle.mdl_steps.specs.Turns.{Makes}
+use Rattle.mdl_steps.specs.TableChanges.{Makes}
 use Rattle.mdl_steps.proofs.Histories.{goes_on}
 use Rattle.mdl_steps.proofs.Views.{by_bool, each_at, held_at-changed, held_at-unchanged, held_at-dropped, held_at-undropped}
 use Rattle.mdl_steps.proofs.Lift.{Table, Homes, after, on_latch, on_word, alone, alone_parts, seat_there}
@@ -32,7 +32,7 @@ use Rattle.mdl_steps.proofs.OneEvent.{may_all}
 use Rattle.mdl_steps.proofs.Owns.{owned_else}
 use Rattle.mdl_steps.proofs.Books.{deeds_ok, all_booked_kind}
 
-all_owned_else : (place q : ℕ) (ds : List Deed) (ts : List Own) → q ≢ place → own_at q (all_owned place ds ts) ≡ own_at q ts
+all_owned_else : (place q : ℕ) (ds : List Deed) (ts : List SessionTicket) → q ≢ place → own_at q (all_owned place ds ts) ≡ own_at q ts
 all_owned_else place q [] ts else = refl
 all_owned_else place q (d ∷ ds) ts else = all_owned_else place q ds (owned place d ts) else ∙ owned_else place q d ts else
 
@@ -93,7 +93,7 @@ module _ (slots id place : ℕ) (me : Mine) (some_number : 0 < me.0.number) (fir
     known : ((k : KeyName) × (key_at r.keys place ≡ Some k)) ⊎ (ds ≡ [])
     known = elim act [
       | inl k ↦
-          let knows = each_at (λ (x : Known). (0 < x.place) × (key_at r.keys x.place ≡ Some x.key)) me.0.known (r.views id me.0 seat).1 k.0 k.1 k.2 in
+          let knows = each_at (λ (x : KnownKey). (0 < x.place) × (key_at r.keys x.place ≡ Some x.key)) me.0.known (r.views id me.0 seat).1 k.0 k.1 k.2 in
           inl (k.1.key, ap (λ (q : ℕ). key_at r.keys q) (sym k.3) ∙ knows.1)
       | inr nothing ↦ inr nothing
     ]

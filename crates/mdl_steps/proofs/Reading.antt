@@ -13,7 +13,7 @@ use Rattle.mdl_steps.specs.Layout.{latch_word}
 use Rattle.mdl_steps.specs.Plays.{Mine, read_and_put, dropped, noting_version, puts_reading}
 use Rattle.mdl_steps.specs.Rule.{Rule, TellsLists, key_at}
 use Rattle.mdl_steps.specs.Seats.{Holds}
-use Rattle.mdl_steps.specs.Turns.{Makes}
+use Rattle.mdl_steps.specs.TableChanges.{Makes}
 use Rattle.mdl_steps.proofs.Histories.{goes_on}
 use Rattle.mdl_steps.proofs.Views.{held_at-dropped, held_at-undropped}
 use Rattle.mdl_steps.proofs.Lift.{Table, Homes, after, on_latch, alone, seat_there}

@@ -4,10 +4,10 @@ use Rattle.std.specs.Prelude.{All, slice_get}
 use Rattle.std.proofs.lemmas.List.Elements.{All-append, All-cons, All-filter, All-head, All-nil, All-tail, All-weaker}
 use Rattle.mdl_key.specs.Words.{KeyName}
 use Rattle.mdl_steps.specs.declared.view.Keys.{Keys}
-use Rattle.mdl_steps.specs.declared.view.Known.{Known}
+use Rattle.mdl_key.specs.declared.known_key.KnownKey.{KnownKey}
 use Rattle.mdl_steps.specs.Lists.{Each}
 use Rattle.mdl_steps.specs.Rule.{key_at}
-use Rattle.mdl_steps.specs.Schemas.{StandThere, is_known, is_table_of, table_at, tables_from, unknown}
+use Rattle.mdl_steps.specs.Schemas.{StandThere, is_key_known, is_table_of, table_at, tables_from, unknown}
 use Rattle.mdl_steps.proofs.Views.{by_bool}
 
 -- ---- what the session learns
@@ -17,10 +17,10 @@ each_of P [] all = tt
 each_of P (x ∷ xs) all = (All-head P x xs all, each_of P xs (All-tail P x xs all))
 
 -- those that it doesn't know stand where all of them stand
-pub new_stand : (k : Keys) (known more : List Known) → StandThere k more → Each (λ (x : Known). (0 < x.place) × (key_at k.keys x.place ≡ Some x.key)) (unknown known more)
+pub new_stand : (k : Keys) (known more : List KnownKey) → StandThere k more → Each (λ (x : KnownKey). (0 < x.place) × (key_at k.keys x.place ≡ Some x.key)) (unknown known more)
 new_stand k known more all =
-    each_of (λ (x : Known). (0 < x.place) × (key_at k.keys x.place ≡ Some x.key)) (unknown known more)
-    (All-filter (λ (x : Known). not (is_known known x.key)) (λ (x : Known). (0 < x.place) × (key_at k.keys x.place ≡ Some x.key)) more all)
+    each_of (λ (x : KnownKey). (0 < x.place) × (key_at k.keys x.place ≡ Some x.key)) (unknown known more)
+    (All-filter (λ (x : KnownKey). not (is_key_known known x.key)) (λ (x : KnownKey). (0 < x.place) × (key_at k.keys x.place ≡ Some x.key)) more all)
 
 -- ---- one key more
 
@@ -31,16 +31,16 @@ tables_more schema place [] key =
     append-nil (table_at schema place key) ∙ ap (λ (p : ℕ). table_at schema p key) at
 tables_more schema place (x ∷ xs) key =
     let at : place + 1 + length xs ≡ place + length (x ∷ xs) = omega arith in
-    ap (λ (rest : List Known). table_at schema place x ++ rest) (tables_more schema (place + 1) xs key ∙ ap (λ (p : ℕ). tables_from schema (place + 1) xs ++ table_at schema p key) at)
+    ap (λ (rest : List KnownKey). table_at schema place x ++ rest) (tables_more schema (place + 1) xs key ∙ ap (λ (p : ℕ). tables_from schema (place + 1) xs ++ table_at schema p key) at)
     ∙ sym (append_assoc (table_at schema place x) (tables_from schema (place + 1) xs) (table_at schema (place + length (x ∷ xs)) key))
 
 -- ---- each of the tables stands at its place
 
 -- by keys of which the first has this place
-abbrev StandsFrom : ℕ → List KeyName → Known → Type 0
+abbrev StandsFrom : ℕ → List KeyName → KnownKey → Type 0
 StandsFrom place keys x = (place ≤ x.place) × (slice_get keys (x.place - place) ≡ Some x.key)
 
-later : (place : ℕ) (key : KeyName) (keys : List KeyName) (x : Known) → StandsFrom (place + 1) keys x → StandsFrom place (key ∷ keys) x
+later : (place : ℕ) (key : KeyName) (keys : List KeyName) (x : KnownKey) → StandsFrom (place + 1) keys x → StandsFrom place (key ∷ keys) x
 later place key keys x stands =
     let past = stands.0 in
     let next : x.place - place ≡ suc (x.place - (place + 1)) = omega arith in
@@ -51,7 +51,7 @@ first schema place key keys =
     by_bool (is_table_of schema key)
     (λ is.
     let here : place - place ≡ 0 = omega arith in
-    let one : Known = record { key = key; place = place } in
+    let one : KnownKey = record { key = key; place = place } in
     rw is (All-cons (StandsFrom place (key ∷ keys)) one [] (omega arith, ap (slice_get (key ∷ keys)) here) (All-nil (StandsFrom place (key ∷ keys)))))
     (λ isnt. rw isnt (All-nil (StandsFrom place (key ∷ keys))))
 
@@ -64,5 +64,5 @@ tables_stand_from schema place (key ∷ keys) =
 
 pub tables_stand : (schema : List ℕ) (k : Keys) → StandThere k (tables_from schema 1 k.keys)
 tables_stand schema k =
-    All-weaker (StandsFrom 1 k.keys) (λ (x : Known). (0 < x.place) × (key_at k.keys x.place ≡ Some x.key)) (λ x stands. (let past = stands.0 in omega arith, stands.1))
+    All-weaker (StandsFrom 1 k.keys) (λ (x : KnownKey). (0 < x.place) × (key_at k.keys x.place ≡ Some x.key)) (λ x stands. (let past = stands.0 in omega arith, stands.1))
     (tables_from schema 1 k.keys) (tables_stand_from schema 1 k.keys)

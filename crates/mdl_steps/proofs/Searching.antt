@@ -14,7 +14,7 @@ use Rattle.mdl_steps.specs.Plays.{Mine, searched, puts_searched}
 use Rattle.mdl_steps.specs.Rule.{Rule, key_at}
 use Rattle.mdl_steps.specs.Seats.{MayPut}
 use Rattle.mdl_steps.specs.Sights.{SeesNoDeadlock}
-use Rattle.mdl_steps.specs.Turns.{Makes}
+use Rattle.mdl_steps.specs.TableChanges.{Makes}
 use Rattle.mdl_steps.proofs.Histories.{goes_on}
 use Rattle.mdl_steps.proofs.Views.{held_at-dropped, held_at-undropped}
 use Rattle.mdl_steps.proofs.Lift.{Table, Homes, after, on_latch, alone, parts_again, seat_there}

@@ -22,7 +22,7 @@ use Rattle.mdl_steps.specs.Layout.{latch_word, word_count}
 use Rattle.mdl_steps.specs.Plays.{Mine, puts_served, served}
 use Rattle.mdl_steps.specs.Rule.{BookOk, Lawful, Owned, PartOk, Rule, key_at}
 use Rattle.mdl_steps.specs.Servings.{MayServe}
-use Rattle.mdl_steps.specs.Turns.{Makes}
+use Rattle.mdl_steps.specs.TableChanges.{Makes}
 use Rattle.mdl_steps.proofs.Deeds.{all_fast-set}
 use Rattle.mdl_steps.proofs.Histories.{goes_on_for}
 use Rattle.mdl_steps.proofs.Views.{at_inside, by_bool, held_at-dropped, held_at-undropped, other}

@@ -8,8 +8,8 @@ use Rattle.atomic_table.specs.Table.{State}
 use Rattle.atomic_table.proofs.Lists.{at_map}
 use Rattle.mdl_book.specs.declared.book_view.BookView.{BookView}
 use Rattle.mdl_steps.specs.declared.slot.Slot.{Slot}
-use Rattle.mdl_steps.specs.declared.view.Own.{Own}
-use Rattle.mdl_steps.specs.declared.view.Read.{Read}
+use Rattle.mdl_steps.specs.declared.view.SessionTicket.{SessionTicket}
+use Rattle.mdl_defs.specs.declared.reading.Reading.{Reading}
 use Rattle.mdl_steps.specs.declared.view.View.{View}
 use Rattle.mdl_steps.specs.Cells.{Part, Holder, holder_at, held_at, part_at, reads_at, waits, cell}
 use Rattle.mdl_steps.specs.Lists.{Each}
@@ -53,11 +53,11 @@ either_list (x ∷ xs) ys (suc k) a at = elim (either_list xs ys k a at) [
 ]
 
 -- what holds of each read of a place is what holds of each read, if it is of that place
-each_read : (P : Read → Type 0) (place : ℕ) (rs : List Read) → Each P (reads_at place rs) → Each (λ (r : Read). r.place ≡ place → P r) rs
+each_read : (P : Reading → Type 0) (place : ℕ) (rs : List Reading) → Each P (reads_at place rs) → Each (λ (r : Reading). r.place ≡ place → P r) rs
 each_read P place [] all = tt
 each_read P place (r ∷ rs) all = by_bool (r.place == place)
-    (λ here. let parts = subst (λ (b : Bool). Each P (cond {A = List Read} b (r ∷ reads_at place rs) (reads_at place rs))) here all in ((λ _. parts.0), each_read P place rs parts.1))
-    (λ away. let parts = subst (λ (b : Bool). Each P (cond {A = List Read} b (r ∷ reads_at place rs) (reads_at place rs))) away all in
+    (λ here. let parts = subst (λ (b : Bool). Each P (cond {A = List Reading} b (r ∷ reads_at place rs) (reads_at place rs))) here all in ((λ _. parts.0), each_read P place rs parts.1))
+    (λ away. let parts = subst (λ (b : Bool). Each P (cond {A = List Reading} b (r ∷ reads_at place rs) (reads_at place rs))) away all in
     ((λ e. let at = eq-eqb r.place place e in absurd (cc)), each_read P place rs parts))
 
 module _ (s : State Slot View) (r : Rule s) (place : ℕ) (first : 0 < place) (last : place < length s.homes) where
@@ -68,17 +68,17 @@ module _ (s : State Slot View) (r : Rule s) (place : ℕ) (first : 0 < place) (l
     agrees : ReadsAgree ok.book (part_at (waits s) place v)
     agrees = (ok.book_ok.each i (part_at (waits s) place v) (at_map (part_at (waits s) place) s.views i v seat)).versions_agree
 
-    list_noted : (ts : List Own) → Each (NoteAgrees ok.book) (Rattle.mdl_steps.specs.Cells.own_at place ts) → (k : ℕ) (t : Own) → get_elem? ts k ≡ some t → t.place ≡ place → NoteAgrees ok.book t
-    list_noted ts all k t at here = each_at (λ (u : Own). u.place ≡ place → NoteAgrees ok.book u) ts (each-from_at (NoteAgrees ok.book) place ts all) k t at here
+    list_noted : (ts : List SessionTicket) → Each (NoteAgrees ok.book) (Rattle.mdl_steps.specs.Cells.own_at place ts) → (k : ℕ) (t : SessionTicket) → get_elem? ts k ≡ some t → t.place ≡ place → NoteAgrees ok.book t
+    list_noted ts all k t at here = each_at (λ (u : SessionTicket). u.place ≡ place → NoteAgrees ok.book u) ts (each-from_at (NoteAgrees ok.book) place ts all) k t at here
 
-    noted_here : (k : ℕ) (t : Own) → get_elem? (v.slow ++ v.fast) k ≡ some t → t.place ≡ place → NoteAgrees ok.book t
+    noted_here : (k : ℕ) (t : SessionTicket) → get_elem? (v.slow ++ v.fast) k ≡ some t → t.place ≡ place → NoteAgrees ok.book t
     noted_here k t at here = elim (either_list v.slow v.fast k t at) [
       | inl slow ↦ list_noted v.slow agrees.slow slow.0 t slow.1 here
       | inr fast ↦ list_noted v.fast agrees.fast fast.0 t fast.1 here
     ]
 
-    read_here : (k : ℕ) (x : Read) → get_elem? v.reads k ≡ some x → x.place ≡ place → ReadAgrees ok.book x
-    read_here k x at here = each_at (λ (q : Read). q.place ≡ place → ReadAgrees ok.book q) v.reads (each_read (ReadAgrees ok.book) place v.reads agrees.reads) k x at here
+    read_here : (k : ℕ) (x : Reading) → get_elem? v.reads k ≡ some x → x.place ≡ place → ReadAgrees ok.book x
+    read_here k x at here = each_at (λ (q : Reading). q.place ≡ place → ReadAgrees ok.book q) v.reads (each_read (ReadAgrees ok.book) place v.reads agrees.reads) k x at here
 
 pub noted_told : NotedVersionsStand
 noted_told s r i v seat k t at first last version noted =

@@ -13,12 +13,12 @@ use Rattle.mdl_book.specs.Tickets.{ticket_of}
 use Rattle.mdl_system.proofs.MemberLemmas.{Contains-none}
 use Rattle.mdl_system.proofs.OrderLemmas.{Contains-cons_cases}
 use Rattle.mdl_defs.specs.declared.definition.Definition.{Definition}
-use Rattle.mdl_defs.specs.declared.standing.Standing.{Standing}
+use Rattle.mdl_defs.specs.declared.versioned_definition.VersionedDefinition.{VersionedDefinition}
 use Rattle.mdl_defs.specs.Caches.{Kept, kept_of}
-use Rattle.mdl_defs.specs.Standings.{MayStand}
+use Rattle.mdl_defs.specs.VersionedDefinitions.{MayStand}
 use Rattle.mdl_steps.specs.declared.step_kind.StepKind.TheVariants as step_kind
-use Rattle.mdl_steps.specs.declared.view.Known.{Known}
-use Rattle.mdl_steps.specs.declared.view.Read.{Read}
+use Rattle.mdl_key.specs.declared.known_key.KnownKey.{KnownKey}
+use Rattle.mdl_defs.specs.declared.reading.Reading.{Reading}
 use Rattle.mdl_steps.specs.declared.view.View.{View}
 use Rattle.mdl_steps.specs.Cells.{Part, Cell, all_fast, cell, due, part_at, reads_at, waits}
 use Rattle.mdl_steps.specs.Histories.{ReachedFor}
@@ -27,7 +27,7 @@ use Rattle.mdl_steps.specs.Lists.{Each}
 use Rattle.mdl_steps.specs.Plays.{Mine, logged, noting_version}
 use Rattle.mdl_steps.specs.Rule.{Rule, PlaceOk, BookOk, IsPaidBut, PartOk, ReadAgrees, key_at}
 use Rattle.mdl_steps.specs.VersionPlays.{found_version, learnt_version, met_version, noted_version, noting_found, Follows, LearnsVersion, ReadNoneNewer, ReadOneStanding, finds_version, reads_version}
-use Rattle.mdl_steps.specs.Turns.{Makes}
+use Rattle.mdl_steps.specs.TableChanges.{Makes}
 use Rattle.mdl_steps.proofs.Histories.{Shown, goes_on}
 use Rattle.mdl_steps.proofs.Lift.{Table, after, on_version, holders_again, parts_again}
 use Rattle.mdl_steps.proofs.Notes.{with_note, notes_else, notes_here, notes_shown, notes_length, notes_agree, numbered_notes, apart_notes}
@@ -129,7 +129,7 @@ module _ (key : Option KeyName) (place : ℕ) (c : Cell) (ok : PlaceOk key c) (i
 
 -- ---- what was read there
 
-read_agrees : (book : BookView) (rs : List Read) → Each (ReadAgrees book) rs → (x : Read) → Contains rs x → ReadAgrees book x
+read_agrees : (book : BookView) (rs : List Reading) → Each (ReadAgrees book) rs → (x : Reading) → Contains rs x → ReadAgrees book x
 read_agrees book [] all x among = absurd (Contains-none x among)
 read_agrees book (r ∷ rs) all x among = elim (Contains-cons_cases r rs x among) [
   | inl later ↦ read_agrees book rs all.1 x later
@@ -205,7 +205,7 @@ module _ (slots id place : ℕ) (me : Mine) (first : 0 < place) (last : place < 
         (noted_cell (key_at r.keys place) (cell s place) place_ok id (part_at (waits s) place me.0) there))
 
     -- and what is defined counts as read
-    abbrev pub standing_found : Standing
+    abbrev pub standing_found : VersionedDefinition
     standing_found = place_ok.book.standing
 
     learnt_rule : Rule (after s (version_word place) version_found id (learnt_version place standing_found me).0 s.homes)
@@ -241,14 +241,14 @@ module _ (slots id place : ℕ) (me : Mine) (first : 0 < place) (last : place < 
         record {
           reads = reads_agree;
           fits = λ i k known here.
-              let knows = each_at (λ (x : Known). (0 < x.place) × (key_at r.keys x.place ≡ Some x.key)) me.0.known (r.views id me.0 seat).1 i k known in
+              let knows = each_at (λ (x : KnownKey). (0 < x.place) × (key_at r.keys x.place ≡ Some x.key)) me.0.known (r.views id me.0 seat).1 i k known in
               let key = place_ok.book_ok.named.key_is k.key (ap (λ (q : ℕ). key_at r.keys q) (sym here) ∙ knows.1) in
               subst (λ (x : KeyName). MayStand x.namespace standing_found) key place_ok.book_ok.stands;
           noted = agree.slow;
           fast_noted = agree.fast;
         }
 
-    none_newer : (rs : List Read) → Each (ReadAgrees place_ok.book) rs → Each (λ (x : Read). x.standing.version ≤ version_found) rs
+    none_newer : (rs : List Reading) → Each (ReadAgrees place_ok.book) rs → Each (λ (x : Reading). x.standing.version ≤ version_found) rs
     none_newer [] all = tt
     none_newer (x ∷ rs) all = (let is = place_ok.book_ok.version_is in let below = all.0.0 in omega arith, none_newer rs all.1)
 

@@ -8,9 +8,9 @@ use Rattle.atomic_table.proofs.Lists.{at_map}
 use Rattle.mdl_key.specs.Words.{KeyName}
 use Rattle.mdl_key.specs.declared.mode.Mode.TheVariants.{X}
 use Rattle.mdl_defs.specs.declared.change.Change.{Change}
-use Rattle.mdl_defs.specs.declared.standing.Standing.{Standing}
-use Rattle.mdl_defs.specs.Standings.{standing_after}
-use Rattle.mdl_defs.proofs.StandingLemmas.{changes-keep_standing}
+use Rattle.mdl_defs.specs.declared.versioned_definition.VersionedDefinition.{VersionedDefinition}
+use Rattle.mdl_defs.specs.VersionedDefinitions.{standing_after}
+use Rattle.mdl_defs.proofs.VersionedDefinitionLemmas.{changes-keep_standing}
 use Rattle.mdl_book.specs.declared.book_view.BookView.{BookView}
 use Rattle.mdl_book.specs.declared.ticket.Ticket.{Ticket}
 use Rattle.mdl_book.specs.Books.{lock_kind, redefining}
@@ -22,7 +22,7 @@ use Rattle.mdl_steps.specs.Layout.{version_word}
 use Rattle.mdl_steps.specs.Plays.{Mine, redefined, restood, changed, noting_version, writes_version}
 use Rattle.mdl_steps.specs.Rule.{Rule, BookOk, PartOk, key_at}
 use Rattle.mdl_steps.specs.Seats.{HasRedefined}
-use Rattle.mdl_steps.specs.Turns.{Makes}
+use Rattle.mdl_steps.specs.TableChanges.{Makes}
 use Rattle.mdl_steps.proofs.Histories.{goes_on}
 use Rattle.mdl_steps.proofs.Views.{held_at-changed, held_at-unchanged}
 use Rattle.mdl_steps.proofs.Lift.{Table, after, on_version, alone, alone_parts, seat_there}
@@ -35,7 +35,7 @@ use Rattle.mdl_steps.proofs.Noting.{noted_part, noted_here, noted_away, noted_ok
 use Rattle.mdl_steps.proofs.Exclusive.{others_fast, others_slow}
 
 -- nobody else has a note there, and what others read is older
-other_part : (key : Option KeyName) (version : ℕ) (parts : List Part) (book : BookView) (id number : ℕ) (standing : Standing)
+other_part : (key : Option KeyName) (version : ℕ) (parts : List Part) (book : BookView) (id number : ℕ) (standing : VersionedDefinition)
     → ((j : ℕ) (x : Part) → get_elem? parts j ≡ some x → x.number ≡ number → j ≡ id) → BookOk key version parts book → book.standing.version < standing.version
     → (t : Ticket) → Contains book.granted t → t.session ≡ number → t.mode ≡ X
     → (j : ℕ) (x : Part) → j ≢ id → get_elem? parts j ≡ some x → PartOk (record book { standing = standing }) x
@@ -58,7 +58,7 @@ other_part key version parts book id number standing alone_there ok newer t ther
 
 module _ (slots id place : ℕ) (me : Mine) (some_number : 0 < me.0.number) (first : 0 < place) (last : place < slots)
     (h : LatchRecord) (change : Change) (has : HasRedefined place h change me) where
-  abbrev standing : Standing
+  abbrev standing : VersionedDefinition
   standing = standing_after change h.book.standing
 
   abbrev written : View

@@ -16,7 +16,7 @@ use Rattle.mdl_book.specs.Books.{lock_kind, enqueueing, admitting, cancelling}
 use Rattle.mdl_book.specs.Granting.{is_compatible, is_lawful}
 use Rattle.mdl_book.specs.Tickets.{is_ticket, ticket_of, without}
 use Rattle.mdl_book.proofs.GrantingLemmas.{lawful_push}
-use Rattle.mdl_steps.specs.declared.view.Own.{Own}
+use Rattle.mdl_steps.specs.declared.view.SessionTicket.{SessionTicket}
 use Rattle.mdl_steps.specs.Cells.{Part, ticket_by, due, pending, all_fast}
 use Rattle.mdl_steps.specs.Lists.{Each, Once}
 use Rattle.mdl_steps.specs.Rule.{Lawful, SlowHeld, WaitingOk, NoteAgrees, ReadsAgree, PartOk, BookOk, IsUnused, Named}
@@ -232,7 +232,7 @@ module _ (key : Option KeyName) (version : ℕ) (parts : List Part) (book : Book
 
   -- ---- a granted wait is ended
 
-  pub taken_ok : (t : Ticket) (own : Own) → x.asks ≡ Some (record { ticket = t; state = 2 }) → t ≡ ticket_by x.number own → NoteAgrees book own
+  pub taken_ok : (t : Ticket) (own : SessionTicket) → x.asks ≡ Some (record { ticket = t; state = 2 }) → t ≡ ticket_by x.number own → NoteAgrees book own
       → BookOk key version (set parts id (record x { asks = None; slow = x.slow ++ own ∷ [] })) book
   taken_ok t own e is agrees =
       let y : Part = record x { asks = None; slow = x.slow ++ own ∷ [] } in
@@ -252,7 +252,7 @@ module _ (key : Option KeyName) (version : ℕ) (parts : List Part) (book : Book
       (waiting_kept parts id x (record x { asks = None; slow = x.slow ++ own ∷ [] }) at refl (lock_kind book) book.waiting (sym (ap pending e)) ok.waiting)
       (λ none. let was = (ok.named.vacant none).0 in (was.0, was.1))
     where
-      map_last : (ts : List Own) → map (ticket_by x.number) (ts ++ own ∷ []) ≡ map (ticket_by x.number) ts ++ ticket_by x.number own ∷ []
+      map_last : (ts : List SessionTicket) → map (ticket_by x.number) (ts ++ own ∷ []) ≡ map (ticket_by x.number) ts ++ ticket_by x.number own ∷ []
       map_last [] = refl
       map_last (u ∷ us) = ap (λ xs. ticket_by x.number u ∷ xs) (map_last us)
 

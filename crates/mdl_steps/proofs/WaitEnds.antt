@@ -12,8 +12,8 @@ use Rattle.mdl_book.specs.Books.{lock_kind}
 use Rattle.mdl_steps.specs.declared.deed.Deed.TheVariants.{Gain}
 use Rattle.mdl_steps.specs.declared.view.Ask.{Ask}
 use Rattle.mdl_steps.specs.declared.view.LatchRecord.{LatchRecord}
-use Rattle.mdl_steps.specs.declared.view.Known.{Known}
-use Rattle.mdl_steps.specs.declared.view.Own.{Own}
+use Rattle.mdl_key.specs.declared.known_key.KnownKey.{KnownKey}
+use Rattle.mdl_steps.specs.declared.view.SessionTicket.{SessionTicket}
 use Rattle.mdl_steps.specs.declared.view.View.{View}
 use Rattle.mdl_steps.specs.Cells.{Part, asking_at, part_at, holder_at, held_at, note_at, own_at, waiter_of, waits, cell, all_fast}
 use Rattle.mdl_steps.specs.Histories.{ReachedFor}
@@ -21,7 +21,7 @@ use Rattle.mdl_steps.specs.Layout.{wait_word}
 use Rattle.mdl_steps.specs.Lists.{Each}
 use Rattle.mdl_steps.specs.Plays.{Mine}
 use Rattle.mdl_steps.specs.Rule.{AreUnmixed, Rule, PlaceOk, NoteAgrees, WaitOk, key_at}
-use Rattle.mdl_steps.specs.Turns.{Makes}
+use Rattle.mdl_steps.specs.TableChanges.{Makes}
 use Rattle.mdl_steps.specs.WaitPlays.{wait_in, asking, asked_ticket, opened, taken_over, ended_granted, ended_lost, with_waiting, with_cancelled, opens_wait, ends_granted, ends_lost}
 use Rattle.mdl_steps.specs.WaitSeats.{MayOpen, MayCancel}
 use Rattle.mdl_steps.proofs.Histories.{Shown, Shows, goes_on}
@@ -39,15 +39,15 @@ use Rattle.mdl_steps.proofs.WaitWords.{opened_wait, ended_wait}
 
 -- ---- tickets' numbers
 
-below_more : (next : ℕ) (ts : List Own) → Each (λ (t : Own). t.number < next) ts → Each (λ (t : Own). t.number < next + 1) ts
+below_more : (next : ℕ) (ts : List SessionTicket) → Each (λ (t : SessionTicket). t.number < next) ts → Each (λ (t : SessionTicket). t.number < next + 1) ts
 below_more next [] all = tt
 below_more next (t ∷ ts) all = ((let below = all.0 in omega arith), below_more next ts all.1)
 
-below_apart : (next : ℕ) (ts : List Own) → Each (λ (t : Own). t.number < next) ts → Each (λ (t : Own). t.number ≢ next) ts
+below_apart : (next : ℕ) (ts : List SessionTicket) → Each (λ (t : SessionTicket). t.number < next) ts → Each (λ (t : SessionTicket). t.number ≢ next) ts
 below_apart next [] all = tt
 below_apart next (t ∷ ts) all = ((let below = all.0 in λ e. omega arith), below_apart next ts all.1)
 
-pub own_at-push : (place : ℕ) (t : Own) (ts : List Own) → t.place ≡ place → own_at place (ts ++ t ∷ []) ≡ own_at place ts ++ t ∷ []
+pub own_at-push : (place : ℕ) (t : SessionTicket) (ts : List SessionTicket) → t.place ≡ place → own_at place (ts ++ t ∷ []) ≡ own_at place ts ++ t ∷ []
 own_at-push place t [] here = rw (Rattle.std.proofs.lemmas.Bool.eq-eqb t.place place here) refl
 own_at-push place t (x ∷ xs) here = by_bool (x.place == place)
     (λ at. rw at (ap (λ ys. x ∷ ys) (own_at-push place t xs here)))
@@ -147,7 +147,7 @@ module _ (s : Table) (r : Rule s) (id : ℕ) (me : Mine) (seat : get_elem? s.vie
     some_key : (k : KeyName) × (key_at r.keys place ≡ Some k)
     some_key =
         let k = may.known in
-        let knows = each_at (λ (x : Known). (0 < x.place) × (key_at r.keys x.place ≡ Some x.key)) me.0.known (r.views id me.0 seat).1 k.0 k.1 k.2 in
+        let knows = each_at (λ (x : KnownKey). (0 < x.place) × (key_at r.keys x.place ≡ Some x.key)) me.0.known (r.views id me.0 seat).1 k.0 k.1 k.2 in
         (k.1.key, ap (λ (q : ℕ). key_at r.keys q) (sym k.3) ∙ knows.1)
 
     fast : all_fast (set (cell s place).parts id then_) ≡ all_fast (cell s place).parts
@@ -168,7 +168,7 @@ module _ (s : Table) (r : Rule s) (id : ℕ) (me : Mine) (seat : get_elem? s.vie
             slow = below_more me.0.next me.0.slow row.slow;
             unmixed = row.unmixed;
             asks = λ a e. (let is : asking place mode me.0 ≡ a = cc in let number_is = ap (λ (b : Ask). b.number) is in omega arith);
-            apart = λ a e. (let is : asking place mode me.0 ≡ a = cc in subst (λ (n : ℕ). Each (λ (t : Own). t.number ≢ n) me.0.slow) (ap (λ (b : Ask). b.number) is) (below_apart me.0.next me.0.slow row.slow));
+            apart = λ a e. (let is : asking place mode me.0 ≡ a = cc in subst (λ (n : ℕ). Each (λ (t : SessionTicket). t.number ≢ n) me.0.slow) (ap (λ (b : Ask). b.number) is) (below_apart me.0.next me.0.slow row.slow));
             unfast = λ a e. may.unfast;
           };
           holder_else = λ q else. λ i. record { number = me.0.number; held = held_at-unchanged place (with_waiting ticket) (λ x. refl) q me.0.latches else i };
@@ -204,7 +204,7 @@ module _ (s : Table) (r : Rule s) (id : ℕ) (me : Mine) (seat : get_elem? s.vie
 
     -- granted: the ticket is the session's own
     module _ (granted : state ≡ 2) (a : Ask) (asks : me.0.asks ≡ Some a) where
-      abbrev pub own : Own
+      abbrev pub own : SessionTicket
       own = record { number = a.number; place = a.place; mode = a.mode; noted = note_at a.place me.0.slow }
 
       abbrev pub taken : View
@@ -240,7 +240,7 @@ module _ (s : Table) (r : Rule s) (id : ℕ) (me : Mine) (seat : get_elem? s.vie
             numbered = record {
               fast = row.fast;
               slow = each-append _ me.0.slow (own ∷ []) row.slow (row.asks a asks, tt);
-              unmixed = subst (λ (ts : List Own). AreUnmixed ts (me.0.slow ++ own ∷ [])) (sym (row.unfast a asks)) tt;
+              unmixed = subst (λ (ts : List SessionTicket). AreUnmixed ts (me.0.slow ++ own ∷ [])) (sym (row.unfast a asks)) tt;
               asks = λ b e. absurd (cc);
               apart = λ b e. absurd (cc);
               unfast = λ b e. absurd (cc);

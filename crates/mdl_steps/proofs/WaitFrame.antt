@@ -7,7 +7,7 @@ use mathlib.Core.Option.{some, some-injective, some-ne-none}
 use lib.ListN.{get_elem?}
 use Rattle.atomic_table.proofs.Lists.{at_map, at_set, set_again}
 use Rattle.mdl_steps.specs.declared.view.Ask.{Ask}
-use Rattle.mdl_steps.specs.declared.view.Known.{Known}
+use Rattle.mdl_key.specs.declared.known_key.KnownKey.{KnownKey}
 use Rattle.mdl_steps.specs.declared.view.View.{View}
 use Rattle.mdl_steps.specs.Cells.{Part, Waiter, asking_at, part_at, holder_at, desk_of, waiter_of, waits, cell}
 use Rattle.mdl_steps.specs.Layout.{latch_word, lock_word, version_word, wait_word}
@@ -97,7 +97,7 @@ module _ (s : Table) (r : Rule s) (session n : ℕ) (id : ℕ) (v w : View) wher
     waits_agree = subst (λ (xs : List Waiter). WaitsAgree (length s.homes) r.most (waits new) xs) (sym (map-set waiter_of s.views id w)) agree;
     views = λ j u at. elim (at_set s.views id j w u at) [
       | inl e ↦ subst (λ (x : View). Numbered x × KnowsKeys r.keys x) e.1
-          (moved.numbered, (let knows = (r.views id v moved.seat).1 in subst (λ (ks : List Known). Rattle.mdl_steps.specs.Lists.Each (λ (k : Known). (0 < k.place) × (key_at r.keys k.place ≡ Some k.key)) ks) (sym moved.known) knows))
+          (moved.numbered, (let knows = (r.views id v moved.seat).1 in subst (λ (ks : List KnownKey). Rattle.mdl_steps.specs.Lists.Each (λ (k : KnownKey). (0 < k.place) × (key_at r.keys k.place ≡ Some k.key)) ks) (sym moved.known) knows))
       | inr e ↦ r.views j u e.1
     ];
     places = λ q first last.

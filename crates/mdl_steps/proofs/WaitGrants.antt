@@ -13,7 +13,7 @@ use Rattle.mdl_book.specs.Tickets.{is_ticket, ticket_of}
 use Rattle.mdl_steps.specs.declared.step_kind.StepKind.TheVariants as step_kind
 use Rattle.mdl_steps.specs.declared.view.Ask.{Ask}
 use Rattle.mdl_steps.specs.declared.view.LatchRecord.{LatchRecord}
-use Rattle.mdl_steps.specs.declared.view.Own.{Own}
+use Rattle.mdl_steps.specs.declared.view.SessionTicket.{SessionTicket}
 use Rattle.mdl_steps.specs.declared.view.View.{View}
 use Rattle.mdl_steps.specs.Cells.{Part, pending, asking_at, part_at, holder_at, own_at, ticket_by, waits, cell, all_fast}
 use Rattle.mdl_steps.specs.Histories.{ReachedFor}
@@ -21,7 +21,7 @@ use Rattle.mdl_steps.specs.Layout.{wait_word}
 use Rattle.mdl_steps.specs.Lists.{Each}
 use Rattle.mdl_steps.specs.Plays.{Mine}
 use Rattle.mdl_steps.specs.Rule.{Rule, PlaceOk, BookOk, WaitOk, key_at}
-use Rattle.mdl_steps.specs.Turns.{Makes}
+use Rattle.mdl_steps.specs.TableChanges.{Makes}
 use Rattle.mdl_steps.specs.WaitPlays.{wait_in, missed_wait, settled_granted, with_admitted, TellsOwn, settles_granted}
 use Rattle.mdl_steps.specs.WaitSeats.{MayGrant}
 use Rattle.mdl_steps.proofs.Histories.{Shows, goes_on}
@@ -49,7 +49,7 @@ found_asked place n word m a u e = by_bool (a.place == place)
     (λ away. let found = rw away at e in absurd (cc))
 
 -- a number that none of a session's tickets has isn't found among them
-apart_shown : (n m place : ℕ) (ts : List Own) → Each (λ (t : Own). t.number ≢ m) ts → ticket_of n m (map (ticket_by n) (own_at place ts)) ≡ None
+apart_shown : (n m place : ℕ) (ts : List SessionTicket) → Each (λ (t : SessionTicket). t.number ≢ m) ts → ticket_of n m (map (ticket_by n) (own_at place ts)) ≡ None
 apart_shown n m place [] all = refl
 apart_shown n m place (t ∷ ts) all = by_bool (t.place == place)
     (λ here. rw here (rw (of_other_number n m (ticket_by n t) all.0) (apart_shown n m place ts all.1)))

@@ -20,7 +20,7 @@ use Rattle.mdl_steps.specs.Histories.{ReachedFor}
 use Rattle.mdl_steps.specs.Layout.{wait_word}
 use Rattle.mdl_steps.specs.Plays.{Mine}
 use Rattle.mdl_steps.specs.Rule.{Rule, PlaceOk, BookOk, IsPaidBut, Numbered, WaitOk, WaitsAgree, KnowsKeys, key_at}
-use Rattle.mdl_steps.specs.Turns.{Makes}
+use Rattle.mdl_steps.specs.TableChanges.{Makes}
 use Rattle.mdl_steps.specs.WaitPlays.{wait_in, meeting, met_wait_by, met_wait, missed_wait, settled_lost, TellsOwn, reads_wait, settles_lost}
 use Rattle.mdl_steps.specs.WaitStates.{lost_state}
 use Rattle.mdl_steps.proofs.Histories.{Shows, goes_on}

@@ -14,8 +14,8 @@ use Rattle.mdl_steps.specs.declared.slot.Slot.{Slot}
 use Rattle.mdl_steps.specs.declared.view.Ask.{Ask}
 use Rattle.mdl_steps.specs.declared.view.LatchRecord.{LatchRecord}
 use Rattle.mdl_steps.specs.declared.view.Keys.{Keys}
-use Rattle.mdl_steps.specs.declared.view.Own.{Own}
-use Rattle.mdl_steps.specs.declared.view.Read.{Read}
+use Rattle.mdl_steps.specs.declared.view.SessionTicket.{SessionTicket}
+use Rattle.mdl_defs.specs.declared.reading.Reading.{Reading}
 use Rattle.mdl_steps.specs.declared.view.Spare.{Spare}
 use Rattle.mdl_steps.specs.declared.view.View.{View}
 use Rattle.mdl_steps.specs.Layout.{latch_word, lock_word, version_word, wait_word}
@@ -31,10 +31,10 @@ pub record Asking : Type 0 where
 -- all that a session has and knows at a place, except the record of the place's latch
 pub record Part : Type 0 where
   pub number : ℕ
-  pub fast : List Own
-  pub slow : List Own
+  pub fast : List SessionTicket
+  pub slow : List SessionTicket
   pub asks : Option Asking
-  pub reads : List Read
+  pub reads : List Reading
   pub owes : Bool
 
 -- a session's number, and its record of the latch of a place if it holds that latch
@@ -48,15 +48,15 @@ pub record Desk : Type 0 where
   pub directory : Option Keys
 
 -- those of a session's tickets that are at a place
-abbrev pub own_at : ℕ → List Own → List Own
+abbrev pub own_at : ℕ → List SessionTicket → List SessionTicket
 own_at place tickets = filter (λ t. t.place == place) tickets
 
 -- the version that is noted under the first of these tickets that is at the place, if there is one
-abbrev pub note_at : ℕ → List Own → Option ℕ
-note_at place tickets = option_and_then (λ (t : Own). t.noted) (find (λ (t : Own). t.place == place) tickets)
+abbrev pub note_at : ℕ → List SessionTicket → Option ℕ
+note_at place tickets = option_and_then (λ (t : SessionTicket). t.noted) (find (λ (t : SessionTicket). t.place == place) tickets)
 
 -- what a session read at a place
-abbrev pub reads_at : ℕ → List Read → List Read
+abbrev pub reads_at : ℕ → List Reading → List Reading
 reads_at place reads = filter (λ r. r.place == place) reads
 
 -- the record of the latch of a place, if it is among these
@@ -64,7 +64,7 @@ abbrev pub held_at : ℕ → List LatchRecord → Option LatchRecord
 held_at place latches = find (λ h. h.place == place) latches
 
 -- a ticket of a session, as a book has it
-abbrev pub ticket_by : ℕ → Own → Ticket
+abbrev pub ticket_by : ℕ → SessionTicket → Ticket
 ticket_by session t = record { session = session; number = t.number; mode = t.mode }
 
 -- the ticket that a session waits for, if that is at this place, and the state in the session's wait word `word`

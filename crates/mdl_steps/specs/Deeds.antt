@@ -14,8 +14,8 @@ use Rattle.mdl_book.specs.Tickets.{ticket_of}
 use Rattle.mdl_steps.specs.declared.deed.Deed.{Deed}
 use Rattle.mdl_steps.specs.declared.deed.Deed.TheVariants.{Gain, Alter, Lose}
 use Rattle.mdl_steps.specs.declared.view.Ask.{Ask}
-use Rattle.mdl_steps.specs.declared.view.Known.{Known}
-use Rattle.mdl_steps.specs.declared.view.Own.{Own}
+use Rattle.mdl_key.specs.declared.known_key.KnownKey.{KnownKey}
+use Rattle.mdl_steps.specs.declared.view.SessionTicket.{SessionTicket}
 use Rattle.mdl_steps.specs.declared.view.View.{View}
 use Rattle.mdl_system.specs.Strength.{downgrades}
 use Rattle.mdl_steps.specs.Cells.{note_at}
@@ -34,11 +34,11 @@ all_booked session [] book = book
 all_booked session (d ∷ ds) book = all_booked session ds (booked session d book)
 
 -- whether a session's ticket has this number and is at this place
-abbrev pub is_own : ℕ → ℕ → Own → Bool
+abbrev pub is_own : ℕ → ℕ → SessionTicket → Bool
 is_own place number t = t.place == place && t.number == number
 
 -- a session's slow tickets after a deed at a place. A ticket that it gains has the note of the first one that it had there
-abbrev pub owned : ℕ → Deed → List Own → List Own
+abbrev pub owned : ℕ → Deed → List SessionTicket → List SessionTicket
 owned place (Gain number mode) slow = slow ++ record { number = number; place = place; mode = mode; noted = note_at place slow } ∷ []
 owned place (Alter number mode) slow = map (λ t. if is_own place number t then record t { mode = mode } else t) slow
 owned place (Lose number) slow = filter (λ t. not (is_own place number t)) slow
@@ -53,7 +53,7 @@ abbrev pub done : ℕ → Deed → View → View
 done place d v = record v { slow = owned place d v.slow; next = next_after d v.next }
 
 -- its slow tickets after several deeds
-abbrev pub all_owned : ℕ → List Deed → List Own → List Own
+abbrev pub all_owned : ℕ → List Deed → List SessionTicket → List SessionTicket
 all_owned place [] slow = slow
 all_owned place (d ∷ ds) slow = all_owned place ds (owned place d slow)
 
@@ -154,7 +154,7 @@ MayDo v book noted _ = ⊥
 
 -- the session has looked up the key of this place
 abbrev pub KnowsPlace : View → ℕ → Type 0
-KnowsPlace v place = (i : ℕ) × (k : Known) × (get_elem? v.known i ≡ some k) × (k.place ≡ place)
+KnowsPlace v place = (i : ℕ) × (k : KnownKey) × (get_elem? v.known i ≡ some k) × (k.place ≡ place)
 
 -- the session has looked up the place's key, or does nothing
 abbrev pub MayAct : View → ℕ → List Deed → Type 0

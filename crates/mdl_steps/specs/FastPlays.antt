@@ -18,8 +18,8 @@ use Rattle.mdl_steps.specs.declared.slot.Slot.{Slot}
 use Rattle.mdl_steps.specs.declared.step_kind.StepKind.{StepKind}
 use Rattle.mdl_steps.specs.declared.step_kind.StepKind.TheVariants as step
 use Rattle.mdl_steps.specs.declared.view.LatchRecord.{LatchRecord}
-use Rattle.mdl_steps.specs.declared.view.Known.{Known}
-use Rattle.mdl_steps.specs.declared.view.Own.{Own}
+use Rattle.mdl_key.specs.declared.known_key.KnownKey.{KnownKey}
+use Rattle.mdl_steps.specs.declared.view.SessionTicket.{SessionTicket}
 use Rattle.mdl_steps.specs.declared.view.View.{View}
 use Rattle.mdl_steps.specs.Cells.{counted, held_at, own_at, ticket_by}
 use Rattle.mdl_steps.specs.Deeds.{KnowsPlace, is_own}
@@ -44,7 +44,7 @@ abbrev pub missed_fast : ℕ → ℕ → Mine → Mine
 missed_fast = met_word_by step.MissFast
 
 -- a fast ticket, with the version that is noted under it, if one is
-abbrev pub fast_own : ℕ → ℕ → Mode → Option ℕ → Own
+abbrev pub fast_own : ℕ → ℕ → Mode → Option ℕ → SessionTicket
 fast_own number place mode noted = record { number = number; place = place; mode = mode; noted = noted }
 
 -- a fast ticket with the session's next number was granted
@@ -54,7 +54,7 @@ granted_fast place mode noted found m =
     (logged step.GrantFast (Gain m.0.next mode ∷ []) (lock_word place) found m.0.latches v, m.1)
 
 -- the tickets except the one with this number at a place
-abbrev pub but_own : ℕ → ℕ → List Own → List Own
+abbrev pub but_own : ℕ → ℕ → List SessionTicket → List SessionTicket
 but_own place number tickets = filter (λ t. not (is_own place number t)) tickets
 
 -- the places that a session owes a reschedule after a fast release there found this word. If the flag SLOW was up, tickets may wait
@@ -80,7 +80,7 @@ abbrev pub with_granted : List Ticket → LatchRecord → LatchRecord
 with_granted tickets h = record h { book = granting_all tickets h.book; exact = false }
 
 -- the tickets that aren't at this place
-abbrev pub but_at : ℕ → List Own → List Own
+abbrev pub but_at : ℕ → List SessionTicket → List SessionTicket
 but_at place tickets = filter (λ t. not (t.place == place)) tickets
 
 -- the fast tickets at a place became slow ones, in order of their numbers among the others. The record of the latch has them granted in the book
@@ -93,8 +93,8 @@ materialised place found m =
 -- ---- when it may be done
 
 -- the first version that is noted under these tickets, if any is
-abbrev pub first_note : List Own → Option ℕ
-first_note tickets = option_and_then (λ (t : Own). t.noted) (find (λ (t : Own). is_some t.noted) tickets)
+abbrev pub first_note : List SessionTicket → Option ℕ
+first_note tickets = option_and_then (λ (t : SessionTicket). t.noted) (find (λ (t : SessionTicket). is_some t.noted) tickets)
 
 -- the version that the session noted at a place, under a fast ticket or a slow one
 abbrev pub noted_at : ℕ → View → Option ℕ
@@ -103,7 +103,7 @@ noted_at place v = first_note (own_at place v.fast ++ own_at place v.slow)
 -- the session knows the key of the place, and the word counts a fast ticket in this mode by adding `one`
 abbrev pub IsCounted : View → ℕ → Mode → ℕ → Type 0
 IsCounted v place mode one =
-    (i : ℕ) × (k : Known) × (get_elem? v.known i ≡ some k) × (k.place ≡ place) × (increment_of (kind_of k.key.namespace) mode ≡ Some one)
+    (i : ℕ) × (k : KnownKey) × (get_elem? v.known i ≡ some k) × (k.place ≡ place) × (increment_of (kind_of k.key.namespace) mode ≡ Some one)
 
 -- a fast ticket may be granted, if the flag OBTRUSIVE is down: the session waits for nothing, the word counts the mode by `one`, and the session has
 -- fewer than `most_fast` fast tickets there. If it noted a version there, that is noted under the new ticket, too
@@ -117,7 +117,7 @@ pub record MayGrantFast (place : ℕ) (mode : Mode) (noted : Option ℕ) (one : 
 -- it by `one`
 pub record MayReleaseFast (place number one : ℕ) (m : Mine) : Type 0 where
   pub apart : held_at place m.0.latches ≡ None
-  pub ticket : Own
+  pub ticket : SessionTicket
   pub only : filter (is_own place number) m.0.fast ≡ ticket ∷ []
   pub counted_so : IsCounted m.0 place ticket.mode one
 

@@ -1,4 +1,4 @@
--- The tables that are reached by whole turns from an opening.
+-- The tables that are reached by whole changes from an opening.
 use Rattle.std.specs.Prelude.{◌≡◌, ℕ, List, length}
 use Rattle.atomic_table.specs.Table.{State, opening}
 use Rattle.mdl_steps.specs.declared.slot.Slot.{Slot}
@@ -7,13 +7,13 @@ use Rattle.mdl_steps.specs.Cells.{blank, numbers_for}
 use Rattle.mdl_steps.specs.Layout.{word_count}
 use Rattle.mdl_steps.specs.Openings.{IsOpening}
 use Rattle.mdl_steps.specs.Rule.{Rule}
-use Rattle.mdl_steps.specs.Turns.{IsWholeTurn, Turn}
+use Rattle.mdl_steps.specs.TableChanges.{IsWholeChange, TableChange}
 
--- a table is reached by whole turns from an opening, and the rule holds after each of them
+-- a table is reached by whole changes from an opening, and the rule holds after each of them
 pub data Reached : State Slot View → Type 0 where
   Opens : (sessions : ℕ) (words : List ℕ) (slots : List Slot) → IsOpening sessions words slots →
       Reached (opening words slots (blank 0 (numbers_for sessions 0 0)))
-  Goes : (s t : State Slot View) → Reached s → Rule t → (turn : Turn s t) → IsWholeTurn turn → Reached t
+  Goes : (s t : State Slot View) → Reached s → Rule t → (turn : TableChange s t) → IsWholeChange turn → Reached t
 
 -- such a table with words for this number of sessions
 abbrev pub ReachedFor : ℕ → State Slot View → Type 0

@@ -17,7 +17,7 @@ pub mod SeatStates
 pub mod Seats
 pub mod Servings
 pub mod Sights
-pub mod Turns
+pub mod TableChanges
 pub mod VersionPlays
 pub mod WaitPlays
 pub mod WaitSeats

@@ -9,8 +9,8 @@ use Rattle.std.specs.List.{list_all}
 use Rattle.std.specs.Option.{option_map}
 use Rattle.mdl_key.specs.Words.{KeyName, is_mode_of, is_obtrusive}
 use Rattle.mdl_word.specs.Words.{flags_alone, all_but_flags}
-use Rattle.mdl_defs.specs.declared.standing.Standing.{Standing}
-use Rattle.mdl_defs.specs.Standings.{MayStand}
+use Rattle.mdl_defs.specs.declared.versioned_definition.VersionedDefinition.{VersionedDefinition}
+use Rattle.mdl_defs.specs.VersionedDefinitions.{MayStand}
 use Rattle.mdl_book.specs.declared.book_view.BookView.{BookView}
 use Rattle.mdl_book.specs.declared.ticket.Ticket.{Ticket}
 use Rattle.mdl_book.specs.Tickets.{ticket_of}
@@ -24,8 +24,8 @@ use Rattle.mdl_steps.specs.declared.step_kind.StepKind.TheVariants as step
 use Rattle.mdl_steps.specs.declared.view.Ask.{Ask}
 use Rattle.mdl_steps.specs.declared.view.LatchRecord.{LatchRecord}
 use Rattle.mdl_steps.specs.declared.view.Keys.{Keys}
-use Rattle.mdl_steps.specs.declared.view.Known.{Known}
-use Rattle.mdl_steps.specs.declared.view.Own.{Own}
+use Rattle.mdl_key.specs.declared.known_key.KnownKey.{KnownKey}
+use Rattle.mdl_steps.specs.declared.view.SessionTicket.{SessionTicket}
 use Rattle.mdl_steps.specs.declared.view.View.{View}
 use Rattle.mdl_steps.specs.Cells.{own_at, reads_at, ticket_by}
 use Rattle.mdl_steps.specs.Deeds.{all_done, frees, NotWaited}
@@ -68,7 +68,7 @@ pub record IsFresh (place : ℕ) (h : LatchRecord) (m : Mine) : Type 0 where
   pub modes : list_all (λ t. is_mode_of (lock_kind h.book) t.mode) h.book.granted ≡ true
   pub own : (number : ℕ) → NotWaited m.0 number →
       ticket_of m.0.number number h.book.granted ≡ ticket_of m.0.number number (map (ticket_by m.0.number) (own_at place m.0.slow))
-  pub named : (i : ℕ) (k : Known) → get_elem? m.0.known i ≡ some k → k.place ≡ place → h.book.key ≡ k.key
+  pub named : (i : ℕ) (k : KnownKey) → get_elem? m.0.known i ≡ some k → k.place ≡ place → h.book.key ≡ k.key
   pub keyed : (k : Keys) → m.0.directory ≡ Some k → (key : KeyName) → key_at k.keys place ≡ Some key → h.book.key ≡ key
   pub vacant : (k : Keys) → m.0.directory ≡ Some k → key_at k.keys place ≡ None → IsUnused h.book
   pub once : Once h.book.waiting
@@ -81,8 +81,8 @@ pub record IsFresh (place : ℕ) (h : LatchRecord) (m : Mine) : Type 0 where
   pub noted : Each (NoteAgrees h.book) (own_at place m.0.slow)
   pub fast_noted : Each (NoteAgrees h.book) (own_at place m.0.fast)
   pub fast_few : length (own_at place m.0.fast) ≤ most_fast
-  pub fast_plain : Each (λ (t : Own). not (is_obtrusive (lock_kind h.book) t.mode) ≡ true) (own_at place m.0.fast)
-  pub fast_beside : Each (λ (t : Own). is_compatible (lock_kind h.book) h.book.granted m.0.number t.mode ≡ true) (own_at place m.0.fast)
+  pub fast_plain : Each (λ (t : SessionTicket). not (is_obtrusive (lock_kind h.book) t.mode) ≡ true) (own_at place m.0.fast)
+  pub fast_beside : Each (λ (t : SessionTicket). is_compatible (lock_kind h.book) h.book.granted m.0.number t.mode ≡ true) (own_at place m.0.fast)
   pub unmixed : AreUnmixed m.0.fast m.0.slow
 
 -- the record with the chosen flags raised
@@ -105,14 +105,14 @@ lowered ds book slow obtrusive h = record h {
 }
 
 -- the record with this version and definition of the lock's key
-abbrev pub restood : Standing → LatchRecord → LatchRecord
+abbrev pub restood : VersionedDefinition → LatchRecord → LatchRecord
 restood standing h = record h { book = record h.book { standing = standing } }
 
 -- ---- the session's tickets
 
 -- the tickets with this version noted under each one at a place
-abbrev pub noting_version : ℕ → ℕ → List Own → List Own
-noting_version place version tickets = map (λ (t : Own). if t.place == place then record t { noted = Some version } else t) tickets
+abbrev pub noting_version : ℕ → ℕ → List SessionTicket → List SessionTicket
+noting_version place version tickets = map (λ (t : SessionTicket). if t.place == place then record t { noted = Some version } else t) tickets
 
 -- ---- the view
 
@@ -156,7 +156,7 @@ flags_lowered place ds found book slow obtrusive m =
 
 -- the definition of a place was changed. It counts as read by the session, which has noted its version under each ticket that it has there. The
 -- version's word was one less before
-abbrev pub redefined : ℕ → Standing → Mine → Mine
+abbrev pub redefined : ℕ → VersionedDefinition → Mine → Mine
 redefined place standing m =
     let v = changed place (restood standing) m.0 in
     let known = record v {
@@ -168,7 +168,7 @@ redefined place standing m =
 
 -- the latch of a place was given back with nothing changed. The definition there counts as read, and its version is noted under each ticket of the
 -- session there
-abbrev pub read_and_put : ℕ → Standing → Mine → Mine
+abbrev pub read_and_put : ℕ → VersionedDefinition → Mine → Mine
 read_and_put place standing m =
     let known = record (dropped place m.0) {
       fast = noting_version place standing.version m.0.fast;
@@ -195,7 +195,7 @@ abbrev pub consulted : Keys → Mine → Mine
 consulted k m = (logged step.TakeLatch [] (latch_word 0) 0 m.0.latches (record m.0 { directory = Some k }), (0, slot.Directory k) ∷ m.1)
 
 -- the directory's latch was given back, and the session knows these keys, too. The step in the list has the directory's record
-abbrev pub informed : List Known → Mine → Mine
+abbrev pub informed : List KnownKey → Mine → Mine
 informed more m = (record (logged step.PutLatch [] (latch_word 0) m.0.number m.0.latches m.0) { directory = None; known = m.0.known ++ more }, rest m.1)
 
 -- the directory with one more key, for the place after all others
@@ -219,7 +219,7 @@ takes_directory st m found m′ =
     × (found ≢ 0 → m′ ≡ missed_latch 0 found m))
 
 -- the directory's latch is given back, and the session knows these keys, too
-abbrev pub puts_directory : List Known → Step Slot → Mine → ℕ → Mine → Type 0
+abbrev pub puts_directory : List KnownKey → Step Slot → Mine → ℕ → Mine → Type 0
 puts_directory more st m found m′ = (m′.0.number ≡ m.0.number) × (st.word ≡ latch_word 0 → m′ ≡ informed more m)
 
 -- the latch of a place is taken if it was free, otherwise it is found taken

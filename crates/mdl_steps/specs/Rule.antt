@@ -25,7 +25,7 @@ use Rattle.atomic_table.specs.Table.{State}
 use Rattle.mdl_key.specs.declared.namespace.Kind.{Kind}
 use Rattle.mdl_key.specs.Words.{is_mode_of, is_obtrusive, KeyName}
 use Rattle.mdl_word.specs.Words.{Encodes}
-use Rattle.mdl_defs.specs.Standings.{nothing_yet, MayStand}
+use Rattle.mdl_defs.specs.VersionedDefinitions.{nothing_yet, MayStand}
 use Rattle.mdl_book.specs.declared.book_view.BookView.{BookView}
 use Rattle.mdl_book.specs.declared.ticket.Ticket.{Ticket}
 use Rattle.mdl_book.specs.Books.{lock_kind, has_obtrusive, has_tickets}
@@ -37,9 +37,9 @@ use Rattle.mdl_steps.specs.declared.slot.Slot.TheVariants as slot
 use Rattle.mdl_steps.specs.declared.view.Ask.{Ask}
 use Rattle.mdl_steps.specs.declared.view.LatchRecord.{LatchRecord}
 use Rattle.mdl_steps.specs.declared.view.Keys.{Keys}
-use Rattle.mdl_steps.specs.declared.view.Known.{Known}
-use Rattle.mdl_steps.specs.declared.view.Own.{Own}
-use Rattle.mdl_steps.specs.declared.view.Read.{Read}
+use Rattle.mdl_key.specs.declared.known_key.KnownKey.{KnownKey}
+use Rattle.mdl_steps.specs.declared.view.SessionTicket.{SessionTicket}
+use Rattle.mdl_defs.specs.declared.reading.Reading.{Reading}
 use Rattle.mdl_steps.specs.declared.view.Spare.{Spare}
 use Rattle.mdl_steps.specs.declared.view.View.{View}
 use Rattle.mdl_steps.specs.Cells.{Part, Holder, Desk, Cell, Waiter, ticket_by, desk_of, waiter_of, waits, cell, all_fast, counted, due, pending, slow_tickets}
@@ -91,12 +91,12 @@ pub record WaitingOk (kind : Kind) (parts : List Part) (waiting : List Ticket) :
       ticket_of x.number number waiting ≡ ticket_of x.number number (option_to_list (pending x.asks))
 
 -- a version that was read is no newer than the book's. If it is the book's version, the definition that was read is the book's, too
-abbrev pub ReadAgrees : BookView → Read → Type 0
+abbrev pub ReadAgrees : BookView → Reading → Type 0
 ReadAgrees book r =
     (r.standing.version ≤ book.standing.version) × (r.standing.version ≡ book.standing.version → r.standing ≡ book.standing)
 
 -- a version that is noted under a ticket is the book's version
-abbrev pub NoteAgrees : BookView → Own → Type 0
+abbrev pub NoteAgrees : BookView → SessionTicket → Type 0
 NoteAgrees book t = (version : ℕ) → t.noted ≡ Some version → version ≡ book.standing.version
 
 -- what a session read and noted at a place agrees with the place's book
@@ -200,21 +200,21 @@ pub record WaitsAgree (slots most : ℕ) (waits : ℕ → ℕ) (waiters : List W
   pub unused : (n : ℕ) → n ≤ most → ((j : ℕ) (x : Waiter) → get_elem? waiters j ≡ some x → x.number ≢ n) → waits n ≡ 0
 
 -- two tickets have different numbers if they are at the same place
-abbrev pub IsUnlike : Own → Own → Type 0
+abbrev pub IsUnlike : SessionTicket → SessionTicket → Type 0
 IsUnlike t u = u.place ≡ t.place → u.number ≢ t.number
 
 -- no slow ticket has the number of a fast ticket at the same place
-abbrev pub AreUnmixed : List Own → List Own → Type 0
+abbrev pub AreUnmixed : List SessionTicket → List SessionTicket → Type 0
 AreUnmixed fast slow = Each (λ t. Each (IsUnlike t) slow) fast
 
 -- a session's tickets, and the one that it waits for, have numbers below its next one. No slow ticket has the number of a fast ticket at the same
 -- place, or of the ticket that the session waits for. A session that waits has no fast ticket
 pub record Numbered (v : View) : Type 0 where
-  pub fast : Each (λ (t : Own). t.number < v.next) v.fast
-  pub slow : Each (λ (t : Own). t.number < v.next) v.slow
+  pub fast : Each (λ (t : SessionTicket). t.number < v.next) v.fast
+  pub slow : Each (λ (t : SessionTicket). t.number < v.next) v.slow
   pub unmixed : AreUnmixed v.fast v.slow
   pub asks : (a : Ask) → v.asks ≡ Some a → a.number < v.next
-  pub apart : (a : Ask) → v.asks ≡ Some a → Each (λ (t : Own). t.number ≢ a.number) v.slow
+  pub apart : (a : Ask) → v.asks ≡ Some a → Each (λ (t : SessionTicket). t.number ≢ a.number) v.slow
   pub unfast : (a : Ask) → v.asks ≡ Some a → v.fast ≡ []
 
 -- the key of a place from 1 on, if it has one
@@ -223,7 +223,7 @@ key_at keys place = slice_get keys (place - 1)
 
 -- each key that a session knows is at the place where the session knows it to be
 abbrev pub KnowsKeys : List KeyName → View → Type 0
-KnowsKeys keys v = Each (λ (k : Known). (0 < k.place) × (key_at keys k.place ≡ Some k.key)) v.known
+KnowsKeys keys v = Each (λ (k : KnownKey). (0 < k.place) × (key_at keys k.place ≡ Some k.key)) v.known
 
 -- the directory is in slot 0 while its latch is free, otherwise in the record of the session that holds the latch, whose number the word has
 pub record DirectoryOk (latch : ℕ) (home : Maybe (Maybe Slot)) (desks : List Desk) (keys : List KeyName) : Type 0 where

@@ -12,8 +12,8 @@ use Rattle.mdl_steps.specs.declared.slot.Slot.{Slot}
 use Rattle.mdl_steps.specs.declared.slot.Slot.TheVariants as slot
 use Rattle.mdl_steps.specs.declared.view.Ask.{Ask}
 use Rattle.mdl_steps.specs.declared.view.LatchRecord.{LatchRecord}
-use Rattle.mdl_steps.specs.declared.view.Own.{Own}
-use Rattle.mdl_steps.specs.declared.view.Read.{Read}
+use Rattle.mdl_steps.specs.declared.view.SessionTicket.{SessionTicket}
+use Rattle.mdl_defs.specs.declared.reading.Reading.{Reading}
 use Rattle.mdl_steps.specs.declared.view.View.{View}
 use Rattle.mdl_steps.specs.Cells.{cell, waits, all_fast, held_at}
 use Rattle.mdl_steps.specs.Layout.{latch_word, lock_word, version_word}
@@ -58,7 +58,7 @@ TakenLatchesAreHeld =
 abbrev pub NotedVersionsStand : Type 0
 NotedVersionsStand =
     (s : State Slot View) → Rule s → (i : ℕ) (v : View) → get_elem? s.views i ≡ some v →
-    (k : ℕ) (t : Own) → get_elem? (v.slow ++ v.fast) k ≡ some t → 0 < t.place → t.place < length s.homes →
+    (k : ℕ) (t : SessionTicket) → get_elem? (v.slow ++ v.fast) k ≡ some t → 0 < t.place → t.place < length s.homes →
     (version : ℕ) → t.noted ≡ Some version → slice_index s.words (version_word t.place) ≡ version
 
 -- what a session read in the current version is the key's definition: all its reads of that version are the same, while the latch is free the book
@@ -66,8 +66,8 @@ NotedVersionsStand =
 abbrev pub ReadsAreOfWhatStands : Type 0
 ReadsAreOfWhatStands =
     (s : State Slot View) → Rule s → (i : ℕ) (v : View) → get_elem? s.views i ≡ some v →
-    (k : ℕ) (r : Read) → get_elem? v.reads k ≡ some r → 0 < r.place → r.place < length s.homes → slice_index s.words (version_word r.place) ≡ r.standing.version →
-    ((j : ℕ) (q : Read) → get_elem? v.reads j ≡ some q → q.place ≡ r.place → q.standing.version ≡ r.standing.version → q.standing ≡ r.standing)
+    (k : ℕ) (r : Reading) → get_elem? v.reads k ≡ some r → 0 < r.place → r.place < length s.homes → slice_index s.words (version_word r.place) ≡ r.standing.version →
+    ((j : ℕ) (q : Reading) → get_elem? v.reads j ≡ some q → q.place ≡ r.place → q.standing.version ≡ r.standing.version → q.standing ≡ r.standing)
     × (slice_index s.words (latch_word r.place) ≡ 0 → (book : BookView) × (get_elem? s.homes r.place ≡ some (some (slot.Place book))) × (book.standing ≡ r.standing))
     × ((j : ℕ) (w : View) (h : LatchRecord) → get_elem? s.views j ≡ some w → held_at r.place w.latches ≡ Some h → h.book.standing ≡ r.standing)
 

@@ -6,7 +6,7 @@ use Rattle.mdl_key.specs.declared.namespace.Namespace.{Namespace}
 use Rattle.mdl_key.specs.declared.namespace.Namespace.TheVariants.{Table}
 use Rattle.mdl_key.specs.Words.{KeyName, key_eq}
 use Rattle.mdl_steps.specs.declared.view.Keys.{Keys}
-use Rattle.mdl_steps.specs.declared.view.Known.{Known}
+use Rattle.mdl_key.specs.declared.known_key.KnownKey.{KnownKey}
 use Rattle.mdl_steps.specs.Rule.{key_at}
 
 -- whether the keys of a namespace are keys of tables
@@ -19,22 +19,22 @@ abbrev pub is_table_of : List ℕ → KeyName → Bool
 is_table_of schema key = is_of_tables key.namespace && bytes_eq key.schema schema
 
 -- the key with its place if it is the key of a table of this schema, otherwise nothing
-abbrev pub table_at : List ℕ → ℕ → KeyName → List Known
+abbrev pub table_at : List ℕ → ℕ → KeyName → List KnownKey
 table_at schema place key = if is_table_of schema key then record { key = key; place = place } ∷ [] else []
 
 -- the tables of this schema with their places, given keys of which the first has this place and each other the next one
-abbrev pub tables_from : List ℕ → ℕ → List KeyName → List Known
+abbrev pub tables_from : List ℕ → ℕ → List KeyName → List KnownKey
 tables_from schema place [] = []
 tables_from schema place (key ∷ keys) = table_at schema place key ++ tables_from schema (place + 1) keys
 
 -- each of these keys has its place by the record of the directory
-abbrev pub StandThere : Keys → List Known → Type 0
-StandThere k known = All (λ (x : Known). (0 < x.place) × (key_at k.keys x.place ≡ Some x.key)) known
+abbrev pub StandThere : Keys → List KnownKey → Type 0
+StandThere k known = All (λ (x : KnownKey). (0 < x.place) × (key_at k.keys x.place ≡ Some x.key)) known
 
 -- whether a session that knows these keys knows this one
-abbrev pub is_known : List Known → KeyName → Bool
-is_known known key = list_any (λ (k : Known). key_eq k.key key) known
+abbrev pub is_key_known : List KnownKey → KeyName → Bool
+is_key_known known key = list_any (λ (k : KnownKey). key_eq k.key key) known
 
 -- those of the keys `more` that aren't among the known ones
-abbrev pub unknown : List Known → List Known → List Known
-unknown known more = filter (λ (k : Known). not (is_known known k.key)) more
+abbrev pub unknown : List KnownKey → List KnownKey → List KnownKey
+unknown known more = filter (λ (k : KnownKey). not (is_key_known known k.key)) more

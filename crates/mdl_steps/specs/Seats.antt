@@ -6,7 +6,7 @@ use Rattle.std.specs.Option.{option_map, option_to_list}
 use Rattle.mdl_key.specs.Words.{KeyName, key_eq}
 use Rattle.mdl_key.specs.declared.mode.Mode.TheVariants.{X}
 use Rattle.mdl_defs.specs.declared.change.Change.{Change}
-use Rattle.mdl_defs.specs.Standings.{standing_fault}
+use Rattle.mdl_defs.specs.VersionedDefinitions.{standing_fault}
 use Rattle.mdl_book.specs.declared.book_view.BookView.{BookView}
 use Rattle.mdl_book.specs.declared.ticket.Ticket.{Ticket}
 use Rattle.mdl_book.specs.Books.{empty_book, redefining}
@@ -14,7 +14,7 @@ use Rattle.mdl_steps.specs.declared.deed.Deed.{Deed}
 use Rattle.mdl_steps.specs.declared.slot.Slot.TheVariants as slot
 use Rattle.mdl_steps.specs.declared.view.LatchRecord.{LatchRecord}
 use Rattle.mdl_steps.specs.declared.view.Keys.{Keys}
-use Rattle.mdl_steps.specs.declared.view.Known.{Known}
+use Rattle.mdl_key.specs.declared.known_key.KnownKey.{KnownKey}
 use Rattle.mdl_steps.specs.Cells.{held_at}
 use Rattle.mdl_steps.specs.Deeds.{FreesNothing, MayAct, MayDo, NotWaited, all_booked}
 use Rattle.mdl_steps.specs.Lists.{Each}
@@ -110,7 +110,7 @@ recorded_key None place = None
 recorded_key (Some k) place = if nat_lt 0 place then key_at k.keys place else None
 
 -- the key of a place as the session comes to know it, with the place, if the place has a key
-abbrev pub learnt : Mine → ℕ → List Known
+abbrev pub learnt : Mine → ℕ → List KnownKey
 learnt m place = option_to_list (option_map (λ key. record { key = key; place = place }) (recorded_key m.0.directory place))
 
 -- the seat may give the directory's latch back

@@ -11,7 +11,7 @@ use Rattle.mdl_book.specs.Tickets.{ticket_of}
 use Rattle.mdl_steps.specs.declared.step_kind.StepKind.{StepKind}
 use Rattle.mdl_steps.specs.declared.step_kind.StepKind.TheVariants.{MissWait, ReadWait, ReadWord}
 use Rattle.mdl_steps.specs.declared.view.LatchRecord.{LatchRecord}
-use Rattle.mdl_steps.specs.declared.view.Met.{Met}
+use Rattle.mdl_steps.specs.declared.view.StepRecord.{StepRecord}
 use Rattle.mdl_steps.specs.Cells.{held_at}
 use Rattle.mdl_steps.specs.Layout.{lock_word, wait_word}
 use Rattle.mdl_steps.specs.Plays.{Mine}
@@ -23,8 +23,8 @@ use Rattle.mdl_steps.specs.WaitStates.{unsettled_state, wait_in, wait_number}
 -- ---- what a step met
 
 -- a step that was made between the two
-abbrev pub IsStepOf : Mine → Mine → Met → Type 0
-IsStepOf m m′ e = (before : List Met) × (after : List Met) × (m′.0.log ≡ (m.0.log ++ before) ++ e ∷ after)
+abbrev pub IsStepOf : Mine → Mine → StepRecord → Type 0
+IsStepOf m m′ e = (before : List StepRecord) × (after : List StepRecord) × (m′.0.log ≡ (m.0.log ++ before) ++ e ∷ after)
 
 -- a step that only met a wait's word, as it read it or by an exchange that failed
 abbrev pub OnlyMeets : StepKind → Type 0
@@ -32,7 +32,7 @@ OnlyMeets kind = (kind ≡ ReadWait) ⊎ (kind ≡ MissWait)
 
 -- a step that only met the word of a session's wait, while the session's ticket with this number waited by the record of the place's latch. That wait
 -- can't end as long as the ticket waits, so all words that are met so are of the same wait
-pub record MeetsWaiter (slots place session number : ℕ) (e : Met) : Type 0 where
+pub record MeetsWaiter (slots place session number : ℕ) (e : StepRecord) : Type 0 where
   pub kind : OnlyMeets e.kind
   pub word : e.word ≡ wait_word slots session
   pub latch : LatchRecord
@@ -42,10 +42,10 @@ pub record MeetsWaiter (slots place session number : ℕ) (e : Met) : Type 0 whe
 -- two steps that met the word of a session's wait for a ticket, perhaps the same one: the first shows the number of the wait, and at the second the wait
 -- isn't unsettled
 pub record WasSettled (slots place session number : ℕ) (m m′ : Mine) : Type 0 where
-  pub read : Met
+  pub read : StepRecord
   pub read_then : IsStepOf m m′ read
   pub of_wait : MeetsWaiter slots place session number read
-  pub met : Met
+  pub met : StepRecord
   pub met_then : IsStepOf m m′ met
   pub of_same : MeetsWaiter slots place session number met
   pub settled : met.found ≢ wait_in (wait_number read.found) unsettled_state
@@ -62,7 +62,7 @@ ArePassedOver id place word h tickets m m′ =
 
 -- a step read the lock's word, which was noted while the flag OBTRUSIVE was up, and with it these tickets are passed over
 pub record IsLookedThrough (id : TableId) (place : ℕ) (latch : LatchRecord) (tickets : List Ticket) (m m′ : Mine) : Type 0 where
-  pub read : Met
+  pub read : StepRecord
   pub read_then : IsStepOf m m′ read
   pub kind : read.kind ≡ ReadWord
   pub of_lock : read.word ≡ lock_word place

@@ -5,7 +5,7 @@ use Rattle.mdl_graph.specs.Cycles.{IsCycleThrough}
 use Rattle.mdl_graph.specs.WaitsFor.{SessionTest, waits_for}
 use Rattle.mdl_steps.specs.declared.view.Keys.{Keys}
 use Rattle.mdl_steps.specs.declared.view.LatchRecord.{LatchRecord}
-use Rattle.mdl_steps.specs.declared.view.Met.{Met}
+use Rattle.mdl_steps.specs.declared.view.StepRecord.{StepRecord}
 use Rattle.mdl_steps.specs.Cells.{held_at}
 use Rattle.mdl_steps.specs.Layout.{wait_word}
 use Rattle.mdl_steps.specs.Plays.{Mine}
@@ -19,7 +19,7 @@ settled_in words session = list_any (λ (w : ℕ × ℕ). w.0 == session && not 
 -- a step of the session only met this word of a session's wait, while it had just the records of latches that it has now
 abbrev pub WasMetNow : ℕ → Mine → ℕ × ℕ → Type 0
 WasMetNow slots m w =
-    (e : Met) × Contains m.0.log e × OnlyMeets e.kind × (e.word ≡ wait_word slots w.0) × (e.found ≡ w.1) × (e.held ≡ m.0.latches)
+    (e : StepRecord) × Contains m.0.log e × OnlyMeets e.kind × (e.word ≡ wait_word slots w.0) × (e.found ≡ w.1) × (e.held ≡ m.0.latches)
 
 -- the session holds the directory's latch, and the latches of the places of all its keys. By the books in their records, and by words of waits that it met
 -- under just these latches, it is in no cycle

@@ -7,13 +7,13 @@ use mathlib.Core.Option.{some}
 use lib.ListN.{get_elem?}
 use Rattle.atomic_table.specs.Table.{Step}
 use Rattle.mdl_defs.specs.Caches.{Kept, kept_of}
-use Rattle.mdl_defs.specs.declared.standing.Standing.{Standing}
-use Rattle.mdl_defs.specs.Standings.{MayStand}
+use Rattle.mdl_defs.specs.declared.versioned_definition.VersionedDefinition.{VersionedDefinition}
+use Rattle.mdl_defs.specs.VersionedDefinitions.{MayStand}
 use Rattle.mdl_steps.specs.declared.slot.Slot.{Slot}
 use Rattle.mdl_steps.specs.declared.step_kind.StepKind.TheVariants as step
-use Rattle.mdl_steps.specs.declared.view.Known.{Known}
-use Rattle.mdl_steps.specs.declared.view.Own.{Own}
-use Rattle.mdl_steps.specs.declared.view.Read.{Read}
+use Rattle.mdl_key.specs.declared.known_key.KnownKey.{KnownKey}
+use Rattle.mdl_steps.specs.declared.view.SessionTicket.{SessionTicket}
+use Rattle.mdl_defs.specs.declared.reading.Reading.{Reading}
 use Rattle.mdl_steps.specs.declared.view.View.{View}
 use Rattle.mdl_steps.specs.Cells.{own_at, reads_at}
 use Rattle.mdl_steps.specs.Layout.{version_word}
@@ -27,11 +27,11 @@ abbrev pub noting_found : ℕ → ℕ → View → View
 noting_found place found v = record v { fast = noting_version place found v.fast; slow = noting_version place found v.slow }
 
 -- the view with this version noted under each ticket at a place, and with its definition as read there
-abbrev pub knowing : ℕ → Standing → View → View
+abbrev pub knowing : ℕ → VersionedDefinition → View → View
 knowing place standing v = let w = noting_found place standing.version v in record w { reads = w.reads ++ record { place = place; standing = standing } ∷ [] }
 
 -- the version of a place was read. The session has noted it under each ticket that it has there, and the definition of that version counts as read
-abbrev pub learnt_version : ℕ → Standing → Mine → Mine
+abbrev pub learnt_version : ℕ → VersionedDefinition → Mine → Mine
 learnt_version place standing m = (logged step.ReadVersion [] (version_word place) standing.version m.0.latches (knowing place standing m.0), m.1)
 
 -- the version of a place was read, and nothing else changed
@@ -52,26 +52,26 @@ found_version kept place found m =
 
 -- the session read no newer version at a place
 abbrev pub ReadNoneNewer : ℕ → ℕ → Mine → Type 0
-ReadNoneNewer place version m = Each (λ (r : Read). r.standing.version ≤ version) (reads_at place m.0.reads)
+ReadNoneNewer place version m = Each (λ (r : Reading). r.standing.version ≤ version) (reads_at place m.0.reads)
 
 -- all that the session read of this version at a place is the same
 abbrev pub ReadOneStanding : ℕ → ℕ → Mine → Type 0
 ReadOneStanding place version m =
-    (r q : Read) → Contains (reads_at place m.0.reads) r → Contains (reads_at place m.0.reads) q →
+    (r q : Reading) → Contains (reads_at place m.0.reads) r → Contains (reads_at place m.0.reads) q →
     r.standing.version ≡ version → q.standing.version ≡ version → r.standing ≡ q.standing
 
 -- a version and definition agree with all that the session knows of a place. No version that it read there is newer, what it read of this version is
 -- this definition, and each version that it noted under a ticket there is this one. So what it reads twice under a ticket is the same, unless it
 -- changed that itself. And the definition is valid for each key that the session knows to be there
-pub record Follows (place : ℕ) (standing : Standing) (m : Mine) : Type 0 where
-  pub reads : Each (λ (r : Read). (r.standing.version ≤ standing.version) × (r.standing.version ≡ standing.version → r.standing ≡ standing)) (reads_at place m.0.reads)
-  pub fits : (i : ℕ) (k : Known) → get_elem? m.0.known i ≡ some k → k.place ≡ place → MayStand k.key.namespace standing
-  pub noted : Each (λ (t : Own). (version : ℕ) → t.noted ≡ Some version → version ≡ standing.version) (own_at place m.0.slow)
-  pub fast_noted : Each (λ (t : Own). (version : ℕ) → t.noted ≡ Some version → version ≡ standing.version) (own_at place m.0.fast)
+pub record Follows (place : ℕ) (standing : VersionedDefinition) (m : Mine) : Type 0 where
+  pub reads : Each (λ (r : Reading). (r.standing.version ≤ standing.version) × (r.standing.version ≡ standing.version → r.standing ≡ standing)) (reads_at place m.0.reads)
+  pub fits : (i : ℕ) (k : KnownKey) → get_elem? m.0.known i ≡ some k → k.place ≡ place → MayStand k.key.namespace standing
+  pub noted : Each (λ (t : SessionTicket). (version : ℕ) → t.noted ≡ Some version → version ≡ standing.version) (own_at place m.0.slow)
+  pub fast_noted : Each (λ (t : SessionTicket). (version : ℕ) → t.noted ≡ Some version → version ≡ standing.version) (own_at place m.0.fast)
 
 -- by a step the session has learnt the version of a place, with a definition that agrees with all that it knew
 pub record LearnsVersion (place version : ℕ) (m m′ : Mine) : Type 0 where
-  pub standing : Standing
+  pub standing : VersionedDefinition
   pub found : standing.version ≡ version
   pub follows : Follows place standing m
   pub now : m′ ≡ learnt_version place standing m

@@ -10,7 +10,7 @@ use Rattle.mdl_steps.specs.declared.step_kind.StepKind.{StepKind}
 use Rattle.mdl_steps.specs.declared.step_kind.StepKind.TheVariants as step
 use Rattle.mdl_steps.specs.declared.view.Ask.{Ask}
 use Rattle.mdl_steps.specs.declared.view.LatchRecord.{LatchRecord}
-use Rattle.mdl_steps.specs.declared.view.Own.{Own}
+use Rattle.mdl_steps.specs.declared.view.SessionTicket.{SessionTicket}
 use Rattle.mdl_steps.specs.declared.view.View.{View}
 use Rattle.mdl_steps.specs.Cells.{note_at, waiter_of}
 use Rattle.mdl_steps.specs.Layout.{wait_word}
@@ -87,7 +87,7 @@ settled_granted slots place session ticket number m =
     (logged step.GrantWait [] (wait_word slots session) (wait_in number unsettled_state) v.latches (settling session number granted_state (meeting session (wait_in number granted_state) v)), m.1)
 
 -- the ticket that the session waited for, as the session has it from then on. Its note is that of the first slow ticket that the session had there
-abbrev pub taken_over : Option Ask → List Own → List Own
+abbrev pub taken_over : Option Ask → List SessionTicket → List SessionTicket
 taken_over asks slow =
     option_to_list (option_map (λ a. record { number = a.number; place = a.place; mode = a.mode; noted = note_at a.place slow }) asks)
 

@@ -9,7 +9,7 @@ use crate::hand::book_in_hand;
 use crate::list_copies::ListCopies;
 use crate::table_seat::{Latched, TableSeat};
 use mdl_book::{Book, Ticket};
-use mdl_defs::Standing;
+use mdl_defs::VersionedDefinition;
 use mdl_key::Key;
 use std::alloc::{AllocError, Global};
 use std::marker::Model;
@@ -24,7 +24,7 @@ pub struct BookCopy {
     /// The waiting tickets, in order of arrival.
     pub waiting: Vec<Ticket>,
     /// The key's version (how often its definition was changed), with its definition if there is one.
-    pub standing: Standing,
+    pub standing: VersionedDefinition,
 }
 
 impl Model for BookCopy {

@@ -6,10 +6,10 @@ ghost use Rattle.mdl_steps.specs.Plays.{IsDirectory, consulted, informed, missed
 ghost use Rattle.mdl_steps.specs.Schemas.{StandThere, unknown};
 ghost use Rattle.mdl_steps.specs.Seats.{HasDirectory, MayInform, learnt, rest};
 
-use crate::Known;
 use crate::layout::DIRECTORY_LATCH;
 use crate::plays::{Learning, PutDirectory, TakeDirectory};
 use crate::table_seat::TableSeat;
+use mdl_key::KnownKey;
 use std::marker::Brand;
 
 /// The latch of the directory, which a session holds. It has to be given back: it can't be dropped.
@@ -60,7 +60,7 @@ impl TableSeat {
             .store::<PutDirectory<J>>(&mut self.seat, DIRECTORY_LATCH, 0);
     }
     /// Gives the directory's latch back. From then on the session also knows those of the given keys that it didn't know.
-    pub fn put_directory_telling(&mut self, latch: LatchedDirectory, known: &[Known])
+    pub fn put_directory_telling(&mut self, latch: LatchedDirectory, known: &[KnownKey])
         requires put { (k : Keys) × HasDirectory k self.old.me × StandThere k known.now }
         ensures made { self.new ≡ record self.old { me = informed (unknown self.old.me.0.known known.now) self.old.me } }
     {
@@ -68,7 +68,7 @@ impl TableSeat {
         self.put_directory_after::<Brand>(known);
     }
 
-    fn put_directory_after<J: Learning>(&mut self, _known: &[Known])
+    fn put_directory_after<J: Learning>(&mut self, _known: &[KnownKey])
         requires picked { unknown self.old.me.0.known _known.now ≡ J.learnt }
         requires put { (k : Keys) × HasDirectory k self.old.me × StandThere k _known.now }
         ensures made { self.new ≡ record self.old { me = informed (unknown self.old.me.0.known _known.now) self.old.me } }

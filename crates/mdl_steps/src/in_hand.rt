@@ -2,7 +2,7 @@
 ghost use Rattle.std.specs.Prelude.{◌≡◌, ◌∷◌, is_some, IfOk, OnOk, OnErr};
 ghost use Rattle.std.specs.Option.{ok_or};
 ghost use Rattle.mdl_key.specs.Refusals.{Refuses, RefusesJust};
-ghost use Rattle.mdl_defs.specs.Standings.{standing_fault};
+ghost use Rattle.mdl_defs.specs.VersionedDefinitions.{standing_fault};
 ghost use Rattle.mdl_book.specs.Books.{lock_kind, grant_fault, change_fault, has_obtrusive, has_tickets, redefining};
 ghost use Rattle.mdl_book.specs.FastTickets.{can_be_granted};
 ghost use Rattle.mdl_book.specs.Tickets.{ticket_of};
@@ -15,7 +15,7 @@ ghost use Rattle.mdl_steps.specs.Seats.{rest, written};
 use crate::hand::book_in_hand;
 use crate::table_seat::{Latched, TableSeat};
 use mdl_book::{BookError, Needs, Ticket};
-use mdl_defs::{Change, ChangeError, Standing};
+use mdl_defs::{Change, ChangeError, VersionedDefinition};
 use mdl_key::Mode;
 use mdl_word::Word;
 use std::alloc::AllocError;
@@ -68,7 +68,7 @@ impl TableSeat {
     }
 
     /// Returns a copy of the version and the definition in the book in hand. Nothing changes, even if memory runs out.
-    pub fn standing(&mut self, latch: &Latched) -> Result<Standing, AllocError>
+    pub fn standing(&mut self, latch: &Latched) -> Result<VersionedDefinition, AllocError>
         requires carried { (book : BookView) × (self.old.me.1 ≡ (latch.now.place, slot.Place book) ∷ rest self.old.me.1) }
         ensures same { self.new ≡ self.old }
         ensures told { (book : BookView) → self.old.me.1 ≡ (latch.now.place, slot.Place book) ∷ rest self.old.me.1

@@ -71,5 +71,5 @@ pub use plays::Order;
 pub use slot::{Directory, Slot};
 pub use step_kind::StepKind;
 pub use table_seat::{Latched, LockTable, TableSeat};
-pub use view::{Ask, Keys, Known, LatchRecord, Met, Own, Read, Settlement, Spare, View};
+pub use view::{Ask, Keys, LatchRecord, SessionTicket, Settlement, Spare, StepRecord, View};
 pub use wait_word::{Loss, WaitWord};

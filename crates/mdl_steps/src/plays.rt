@@ -4,7 +4,7 @@ ghost use Rattle.mdl_key.specs.declared.mode.Mode.{Mode};
 ghost use Rattle.mdl_key.specs.declared.mode.Mode.TheVariants.{S};
 ghost use Rattle.mdl_defs.specs.Caches.{Kept};
 ghost use Rattle.mdl_steps.specs.declared.deed.Deed.{Deed};
-ghost use Rattle.mdl_steps.specs.declared.view.Known.{Known};
+ghost use Rattle.mdl_key.specs.declared.known_key.KnownKey.{KnownKey};
 ghost use Rattle.mdl_steps.specs.Cells.{blank, numbers_for, no_numbers};
 ghost use Rattle.mdl_steps.specs.FastPlays.{reads_word_unlatched, grants_fast, releases_fast, materialises};
 ghost use Rattle.mdl_steps.specs.Histories.{ReachedFor};
@@ -135,7 +135,7 @@ impl Play<Slot, View> for TakeDirectory {
 
 /// The keys that a session gets to know by a step.
 pub(crate) trait Learning {
-    ghost learnt: { List Known };
+    ghost learnt: { List KnownKey };
 }
 
 /// Each call picks them.

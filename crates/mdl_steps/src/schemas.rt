@@ -8,13 +8,13 @@ ghost use Rattle.mdl_steps.specs.Seats.{rest};
 use crate::directory::LatchedDirectory;
 use crate::hand::directory_in_hand;
 use crate::table_seat::TableSeat;
-use crate::{Directory, Known};
-use mdl_key::{Key, Namespace};
+use crate::Directory;
+use mdl_key::{Key, KnownKey, Namespace};
 use std::alloc::{AllocError, Global};
 
 impl Directory {
     /// Returns the tables of a schema with their places, in the order of the places. It looks at each key.
-    pub fn tables_of(&self, alloc: Global, schema: &str) -> Result<Vec<Known>, AllocError>
+    pub fn tables_of(&self, alloc: Global, schema: &str) -> Result<Vec<KnownKey>, AllocError>
         ensures { IfOk result (λ tables. tables.items ≡ tables_from schema.now 1 self.now.keys) }
     {
         list_tables(self.keys.as_slice(), alloc, schema)
@@ -22,7 +22,7 @@ impl Directory {
 }
 
 // Does the same for the list of keys.
-fn list_tables(keys: &[Key], alloc: Global, schema: &str) -> Result<Vec<Known>, AllocError>
+fn list_tables(keys: &[Key], alloc: Global, schema: &str) -> Result<Vec<KnownKey>, AllocError>
     ensures { IfOk result (λ tables. tables.items ≡ tables_from schema.now 1 keys.now) }
 {
     let mut tables = Vec::new(alloc);
@@ -34,7 +34,7 @@ fn list_tables(keys: &[Key], alloc: Global, schema: &str) -> Result<Vec<Known>, 
 
 // Appends a key with its place if it is the key of a table of the schema.
 fn list_table(
-    tables: &mut Vec<Known>,
+    tables: &mut Vec<KnownKey>,
     schema: &str,
     key: &Key,
     place: usize,
@@ -43,7 +43,7 @@ fn list_table(
 {
     if is_table_of(key, schema) {
         let key = key.clone()?;
-        tables.push(Known { key, place })?;
+        tables.push(KnownKey { key, place })?;
     }
     Ok(())
 }
@@ -63,7 +63,7 @@ impl TableSeat {
         _latch: &LatchedDirectory,
         alloc: Global,
         schema: &str,
-    ) -> Result<Vec<Known>, AllocError>
+    ) -> Result<Vec<KnownKey>, AllocError>
         requires carried { (k : Keys) × (self.old.me.1 ≡ (0, slot.Directory k) ∷ rest self.old.me.1) }
         ensures same { self.new ≡ self.old }
         ensures told { (k : Keys) → self.old.me.1 ≡ (0, slot.Directory k) ∷ rest self.old.me.1

@@ -1,13 +1,13 @@
 //! A session's view: what it knows of the table, what it has there, and the steps that it made. A view exists in proofs only. Programs
-//! make values of [`Own`], [`Ask`] and [`Known`], too.
+//! make values of [`SessionTicket`] and [`Ask`], too.
 use crate::{Deed, StepKind};
 use mdl_book::BookView;
-use mdl_defs::Standing;
-use mdl_key::{Key, Mode};
+use mdl_defs::Reading;
+use mdl_key::{Key, KnownKey, Mode};
 
 /// A ticket that a session has. It is in a book's granted list, or only counted by a lock's word.
 #[derive(Clone, Copy, Debug, PartialEq, Eq)]
-pub struct Own {
+pub struct SessionTicket {
     /// The number that the session gave it.
     pub number: u64,
     /// The place of its lock.
@@ -56,24 +56,6 @@ pub struct Keys {
     pub keys: [Key; 0],
 }
 
-/// A key's version and definition, as a session read them.
-#[derive(Drop)]
-pub struct Read {
-    /// The place of the lock.
-    pub place: usize,
-    /// The version of the lock's key, with its definition if there was one.
-    pub standing: Standing,
-}
-
-/// A key and its place, which a session looked up.
-#[derive(Drop)]
-pub struct Known {
-    /// The key.
-    pub key: Key,
-    /// Its place.
-    pub place: usize,
-}
-
 /// A wait that a session settled.
 #[derive(Drop)]
 pub struct Settlement {
@@ -87,7 +69,7 @@ pub struct Settlement {
 
 /// A step of a session: what it did, on which word, and what it met there.
 #[derive(Drop)]
-pub struct Met {
+pub struct StepRecord {
     /// What the step did.
     pub kind: StepKind,
     /// What the session did to its own tickets, in order. A step that gave a latch back or lowered flags has the deeds done before
@@ -134,21 +116,21 @@ pub struct View {
     /// The waits that it settled, in order.
     pub settles: [Settlement; 0],
     /// Its fast tickets, which only a word counts.
-    pub fast: [Own; 0],
+    pub fast: [SessionTicket; 0],
     /// Its slow tickets, which are in books.
-    pub slow: [Own; 0],
+    pub slow: [SessionTicket; 0],
     /// The records of the latches that it holds, the latest one first.
     pub latches: [LatchRecord; 0],
     /// The record of the directory's latch, if it holds that latch.
     pub directory: Option<Keys>,
     /// The keys that it looked up, with their places.
-    pub known: [Known; 0],
+    pub known: [KnownKey; 0],
     /// The versions and definitions that it read.
-    pub reads: [Read; 0],
+    pub reads: [Reading; 0],
     /// The places whose waiters it has yet to check.
     pub owes: [u64; 0],
     /// Whether it has yet to search for a deadlock.
     pub searches: bool,
     /// Its steps, in order.
-    pub log: [Met; 0],
+    pub log: [StepRecord; 0],
 }

@@ -20,8 +20,8 @@ use Rattle.mdl_steps.specs.Layout.{version_word}
 use Rattle.mdl_steps.specs.Plays.{Mine, logged}
 use Rattle.mdl_steps.specs.VersionPlays.{noting_found}
 use Rattle.mdl_steps.specs.WaitPlays.{wait_in}
-use Rattle.mdl_steps_laws.specs.EachStep.{IsWhole, IsWholeTurn}
-use Rattle.mdl_steps_laws.specs.SessionSteps.{Makes, Turn}
+use Rattle.mdl_steps_laws.specs.EachStep.{IsWhole, IsWholeChange}
+use Rattle.mdl_steps_laws.specs.SessionSteps.{Makes, TableChange}
 use Rattle.mdl_steps_laws.proofs.Shifts.{shifts}
 use Rattle.mdl_system.proofs.Deciding.{nat_told}
 
@@ -84,15 +84,15 @@ module _ (m : Mine) (a : Ask) where
   asked_by s left act st found m′ (Makes.ReleasesFast q n at play) whole is = kept m′ _ (play.1 q at) refl is
   asked_by s left act st found m′ (Makes.Materialises q weight h may at play) whole is = kept m′ _ (play.1 q at) refl is
 
--- ---- turns
+-- ---- changes
 
 -- each view that asks for a ticket has a number
 abbrev pub AskersAreSessions : List View → Type 0
 AskersAreSessions views = (j : ℕ) (v : View) (a : Ask) → get_elem? views j ≡ some v → v.asks ≡ Some a → 0 < v.number
 
 module _ (s t : State Slot View) (before : AskersAreSessions s.views) (j : ℕ) (w : View) (a : Ask) (at : get_elem? t.views j ≡ some w) (is : w.asks ≡ Some a) where
-  by_turn : (turn : Turn s t) → IsWholeTurn turn → 0 < w.number
-  by_turn (Turn.Steps id m m′ st left act seat made moves) whole =
+  by_turn : (turn : TableChange s t) → IsWholeChange turn → 0 < w.number
+  by_turn (TableChange.Steps id m m′ st left act seat made moves) whole =
       elim (at_set s.views id j m′.0 w (subst (λ (x : State Slot View). get_elem? x.views j ≡ some w) moves at)) [
         | inl mine ↦
             let number_is : m.0.number ≡ w.number = sym (shifts m st (get_or s.words st.word 0) m′ made).number ∙ ap (λ (x : View). x.number) mine.1 in
@@ -103,7 +103,7 @@ module _ (s t : State Slot View) (before : AskersAreSessions s.views) (j : ℕ) 
             ])
         | inr other ↦ before j w a other.1 is
       ]
-  by_turn (Turn.Splits v first more seat fast slow reads moves) whole =
+  by_turn (TableChange.Splits v first more seat fast slow reads moves) whole =
       elim (at_snoc (set s.views 0 first) more w j (subst (λ (x : State Slot View). get_elem? x.views j ≡ some w) moves at)) [
         | inl old ↦ elim (at_set s.views 0 j first w old) [
           | inl mine ↦ subst (λ (x : View). 0 < x.number) mine.1 (subst (λ (n : ℕ). 0 < n) (sym (ap (λ (x : View). x.number) whole.0))

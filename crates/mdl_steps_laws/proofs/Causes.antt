@@ -19,7 +19,7 @@ use Rattle.mdl_book.proofs.FastLemmas.{can_be_granted-fast}
 use Rattle.mdl_defs.specs.declared.definition.Definition.{Definition}
 use Rattle.mdl_steps.specs.declared.slot.Slot.{Slot}
 use Rattle.mdl_steps.specs.declared.view.LatchRecord.{LatchRecord}
-use Rattle.mdl_steps.specs.declared.view.Own.{Own}
+use Rattle.mdl_steps.specs.declared.view.SessionTicket.{SessionTicket}
 use Rattle.mdl_steps.specs.declared.view.View.{View}
 use Rattle.mdl_steps.specs.Cells.{all_fast, held_at, own_at, part_at, ticket_by, waits}
 use Rattle.mdl_steps.specs.Plays.{Mine}
@@ -42,7 +42,7 @@ owner f q [] t among = absurd (Contains-none t among)
 owner f q (v ∷ vs) t among = elim (Contains-append_cases (map (ticket_by v.number) (own_at q v.fast)) (all_fast (map (part_at f q) vs)) t among) [
   | inl mine ↦
       let from = Contains-map_from (ticket_by v.number) (own_at q v.fast) t mine in
-      (zero, v, refl, ap (λ (u : Ticket). u.session) (sym from.2), λ none. Contains-none from.0 (subst (λ (ts : List Own). Contains (own_at q ts) from.0) none from.1))
+      (zero, v, refl, ap (λ (u : Ticket). u.session) (sym from.2), λ none. Contains-none from.0 (subst (λ (ts : List SessionTicket). Contains (own_at q ts) from.0) none from.1))
   | inr later ↦ let rest = owner f q vs t later in (suc rest.0, rest.1, rest.2, rest.3, rest.4)
 ]
 

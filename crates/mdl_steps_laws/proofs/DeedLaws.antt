@@ -8,7 +8,7 @@ use Rattle.mdl_key.specs.declared.mode.Mode.TheVariants.{X}
 use Rattle.mdl_key.specs.Words.{KeyName, IsAtLeast}
 use Rattle.mdl_defs.specs.declared.change.Change.{Change}
 use Rattle.mdl_defs.specs.declared.definition.Definition.{Definition}
-use Rattle.mdl_defs.specs.Standings.{applied, standing_fault}
+use Rattle.mdl_defs.specs.VersionedDefinitions.{applied, standing_fault}
 use Rattle.mdl_book.specs.declared.ticket.Ticket.{Ticket}
 use Rattle.mdl_book.specs.Books as books
 use Rattle.mdl_book.specs.Granting.{goes_first}

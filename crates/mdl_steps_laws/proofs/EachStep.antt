@@ -9,7 +9,7 @@ use Rattle.mdl_key.specs.declared.mode.Mode.{Mode}
 use Rattle.mdl_key.specs.Words.{KeyName}
 use Rattle.mdl_word.specs.Words.{obtrusive_flag}
 use Rattle.mdl_defs.specs.declared.change.Change.{Change}
-use Rattle.mdl_defs.specs.Standings.{standing_after}
+use Rattle.mdl_defs.specs.VersionedDefinitions.{standing_after}
 use Rattle.mdl_book.specs.declared.book_view.BookView.{BookView}
 use Rattle.mdl_book.specs.declared.ticket.Ticket.{Ticket}
 use Rattle.mdl_book.specs.Books.{empty_book, redefining}
@@ -42,7 +42,7 @@ use Rattle.mdl_steps_laws.specs.EachStep.{BringsDeedsAt, BringsOrRests, EachStep
 use Rattle.mdl_steps_laws.specs.FastLaws.{after_word, word_at}
 use Rattle.mdl_steps_laws.specs.Headline.{HasPlace}
 use Rattle.mdl_steps_laws.specs.RestLaws.{IsRest, after_giving, after_step, after_taking}
-use Rattle.mdl_steps_laws.specs.SessionSteps.{Makes, Turn}
+use Rattle.mdl_steps_laws.specs.SessionSteps.{Makes, TableChange}
 use Rattle.mdl_steps_laws.specs.StepEvents.{BringsDeeds, IsOf, after_lowering, after_put, after_writing}
 use Rattle.mdl_steps_laws.specs.WaitLaws.{Brings, Rests, after_wait, lost_as}
 use Rattle.mdl_steps_laws.specs.WaitsTold.{code_of}
@@ -447,7 +447,7 @@ module _ (s t : State Slot View) (r : Rule s) (r′ : Rule t) (id : ℕ) (m m′
 -- ---- each step
 
 pub each_step_is_one_event : EachStepIsOneEvent
-each_step_is_one_event s t r r′ (Turn.Steps id m m′ st left act seat made moves) whole =
+each_step_is_one_event s t r r′ (TableChange.Steps id m m′ st left act seat made moves) whole =
     brings s t r r′ id m m′ st left act seat moves whole.0 whole.1 whole.2 made whole.3
-each_step_is_one_event s t r r′ (Turn.Splits v first more seat fast slow reads moves) whole =
+each_step_is_one_event s t r r′ (TableChange.Splits v first more seat fast slow reads moves) whole =
     subst (IsRest s) (sym (moves ∙ (λ j. record { words = s.words; homes = s.homes; views = set s.views 0 (whole.0 j) ++ whole.1 j ∷ [] }))) (splitting_rests s r v seat) r′

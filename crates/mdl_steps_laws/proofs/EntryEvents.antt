@@ -12,14 +12,14 @@ use Rattle.mdl_key.specs.declared.mode.Mode.{Mode}
 use Rattle.mdl_key.specs.Words.{KeyName}
 use Rattle.mdl_defs.specs.Caches.{kept_of}
 use Rattle.mdl_defs.specs.declared.definition.Definition.{Definition}
-use Rattle.mdl_defs.specs.Standings.{standing_after}
+use Rattle.mdl_defs.specs.VersionedDefinitions.{standing_after}
 use Rattle.mdl_book.specs.declared.ticket.Ticket.{Ticket}
 use Rattle.mdl_book.specs.Books.{empty_book, redefining}
 use Rattle.mdl_steps.specs.declared.slot.Slot.{Slot}
 use Rattle.mdl_steps.specs.declared.step_kind.StepKind.TheVariants as step
 use Rattle.mdl_steps.specs.declared.view.Ask.{Ask}
 use Rattle.mdl_steps.specs.declared.view.LatchRecord.{LatchRecord}
-use Rattle.mdl_steps.specs.declared.view.Met.{Met}
+use Rattle.mdl_steps.specs.declared.view.StepRecord.{StepRecord}
 use Rattle.mdl_steps.specs.declared.view.View.{View}
 use Rattle.mdl_steps.specs.declared.wait_word.Loss.{Loss}
 use Rattle.mdl_steps.specs.Cells.{held_at}
@@ -39,9 +39,9 @@ use Rattle.mdl_system.specs.Events.{BeginWait, ChangeDefinition, EndGrantedWait,
 use Rattle.mdl_system.specs.Systems.{Killed, TimedOut, Unsettled, Victim, WaitState}
 use Rattle.mdl_system.proofs.Deciding.{nat_told}
 use Rattle.mdl_system.proofs.OrderLemmas.{middle}
-use Rattle.mdl_steps_laws.specs.EachStep.{BringsOrRests, IsWhole, IsWholeTurn, Under}
-use Rattle.mdl_steps_laws.specs.Entries.{AreItsSteps, AreTurns, EachEntryTellsItsEvent, EachTurnAddsOneEntry, EntriesAreSteps, MakesOneStep, TellsEvent}
-use Rattle.mdl_steps_laws.specs.SessionSteps.{Makes, Turn}
+use Rattle.mdl_steps_laws.specs.EachStep.{BringsOrRests, IsWhole, IsWholeChange, Under}
+use Rattle.mdl_steps_laws.specs.Entries.{AreItsSteps, AreTableChanges, EachEntryTellsItsEvent, EachTurnAddsOneEntry, EntriesAreSteps, MakesOneStep, TellsEvent}
+use Rattle.mdl_steps_laws.specs.SessionSteps.{Makes, TableChange}
 use Rattle.mdl_steps_laws.specs.StepEvents.{IsOf}
 use Rattle.mdl_steps_laws.specs.WaitLaws.{Brings, Rests, lost_as}
 use Rattle.mdl_steps_laws.specs.WaitsTold.{code_of}
@@ -66,10 +66,10 @@ not_granted Killed = (omega arith, λ e. omega arith)
 
 -- the list gains an entry, which tells the event
 abbrev AddsEntry : State Slot View → State Slot View → Mine → Mine → Type 0
-AddsEntry s t m n = (e : Met) × (n.0.log ≡ m.0.log ++ e ∷ []) × TellsEvent s t m.0 n.0 e
+AddsEntry s t m n = (e : StepRecord) × (n.0.log ≡ m.0.log ++ e ∷ []) × TellsEvent s t m.0 n.0 e
 
 module _ (s t : State Slot View) (m : Mine) (st : Step Slot) (size : st.slots ≡ length s.homes) where
-  adds : (m′ n : Mine) → m′ ≡ n → (e : Met) → n.0.log ≡ m.0.log ++ e ∷ [] → TellsEvent s t m.0 n.0 e → AddsEntry s t m m′
+  adds : (m′ n : Mine) → m′ ≡ n → (e : StepRecord) → n.0.log ≡ m.0.log ++ e ∷ [] → TellsEvent s t m.0 n.0 e → AddsEntry s t m m′
   adds m′ n is e log tells = subst (AddsEntry s t m) (sym is) (e, log, tells)
 
   its_word : (session : ℕ) → wait_word st.slots session ≡ wait_word (length s.homes) session
@@ -249,19 +249,19 @@ module _ (s t : State Slot View) (m : Mine) (st : Step Slot) (size : st.slots �
 
 -- ---- lists of steps
 
-pub same_last : (es : List Met) (e f : Met) → es ++ e ∷ [] ≡ es ++ f ∷ [] → e ≡ f
+pub same_last : (es : List StepRecord) (e f : StepRecord) → es ++ e ∷ [] ≡ es ++ f ∷ [] → e ≡ f
 same_last es e f is = let one : e ∷ [] ≡ f ∷ [] = append_cancel_left es (e ∷ []) (f ∷ []) is in ap (first_of e) one
   where
-    first_of : Met → List Met → Met
+    first_of : StepRecord → List StepRecord → StepRecord
     first_of else [] = else
     first_of else (x ∷ xs) = x
 
-pub no_longer : (es fs : List Met) (e : Met) → length fs ≡ 0 ⊎ (es ≡ fs) → fs ≡ es ++ e ∷ [] → ⊥
+pub no_longer : (es fs : List StepRecord) (e : StepRecord) → length fs ≡ 0 ⊎ (es ≡ fs) → fs ≡ es ++ e ∷ [] → ⊥
 no_longer es fs e known is =
-    let more : length fs ≡ length es + 1 = ap (λ (xs : List Met). length xs) is ∙ length-append es (e ∷ []) in
+    let more : length fs ≡ length es + 1 = ap (λ (xs : List StepRecord). length xs) is ∙ length-append es (e ∷ []) in
     elim known [
       | inl none ↦ omega arith
-      | inr same ↦ (let equal : length es ≡ length fs = ap (λ (xs : List Met). length xs) same in omega arith)
+      | inr same ↦ (let equal : length es ≡ length fs = ap (λ (xs : List StepRecord). length xs) same in omega arith)
     ]
 
 -- ---- a step of a seat
@@ -278,7 +278,7 @@ module _ (s t : State Slot View) (id : ℕ) (m m′ : Mine) (seat : get_elem? s.
     others = λ j else. ap (λ (vs : List View). get_elem? vs j) views ∙ set_else s.views id j m′.0 else;
   }
 
-  gained : (i : ℕ) (v w : View) → get_elem? s.views i ≡ some v → get_elem? t.views i ≡ some w → (e : Met) → w.log ≡ v.log ++ e ∷ [] → MakesOneStep s t i e
+  gained : (i : ℕ) (v w : View) → get_elem? s.views i ≡ some v → get_elem? t.views i ≡ some w → (e : StepRecord) → w.log ≡ v.log ++ e ∷ [] → MakesOneStep s t i e
   gained i v w was is e log = elim (at_set s.views id i m′.0 w (subst (λ (vs : List View). get_elem? vs i ≡ some w) views is)) [
     | inl mine ↦
         let own : v ≡ m.0 = some-injective v m.0 (sym (subst (λ (k : ℕ). get_elem? s.views k ≡ some v) mine.0 was) ∙ seat) in
@@ -299,9 +299,9 @@ module _ (s t : State Slot View) (v first more : View) (seat : get_elem? s.views
       ∙ at_longer (set s.views 0 first) (more ∷ []) 0 first (set_here s.views 0 first (at_inside s.views 0 v seat)) in
       ap (λ (x : View). x.log) (some-injective w first (sym is ∙ there)) ∙ cleared
 
-  pub none_gained : (i : ℕ) (u w : View) → get_elem? s.views i ≡ some u → get_elem? t.views i ≡ some w → (e : Met) → w.log ≡ u.log ++ e ∷ [] → ⊥
+  pub none_gained : (i : ℕ) (u w : View) → get_elem? s.views i ≡ some u → get_elem? t.views i ≡ some w → (e : StepRecord) → w.log ≡ u.log ++ e ∷ [] → ⊥
   none_gained i u w was is e log = elim (cases_eq i 0) [
-    | inl zero ↦ no_longer u.log w.log e (inl (ap (λ (xs : List Met). length xs) (first_cleared w (subst (λ (k : ℕ). get_elem? t.views k ≡ some w) zero is)))) log
+    | inl zero ↦ no_longer u.log w.log e (inl (ap (λ (xs : List StepRecord). length xs) (first_cleared w (subst (λ (k : ℕ). get_elem? t.views k ≡ some w) zero is)))) log
     | inr else ↦ no_longer u.log w.log e (inr (ap (λ (x : View). x.log) (some-injective u w (sym (else_kept i u else was) ∙ is)))) log
   ]
 
@@ -309,31 +309,31 @@ module _ (s t : State Slot View) (v first more : View) (seat : get_elem? s.views
 
 module _ (s t : State Slot View) (r : Rule s) (r′ : Rule t) where
   entry_of : (id : ℕ) (m m′ : Mine) (st : Step Slot) (left : ℕ) (act : Act Slot) (seat : get_elem? s.views id ≡ some m.0) (made : Makes st m (get_or s.words st.word 0) m′)
-      (moves : t ≡ stepped s st.word left id m.1 m′.0 act) → IsWholeTurn (Turn.Steps id m m′ st left act seat made moves) → AddsEntry s t m m′
+      (moves : t ≡ stepped s st.word left id m.1 m′.0 act) → IsWholeChange (TableChange.Steps id m m′ st left act seat made moves) → AddsEntry s t m m′
   entry_of id m m′ st left act seat made moves whole =
-      added s t m st whole.0 (get_or s.words st.word 0) m′ left act made whole.3 (each_step_is_one_event s t r r′ (Turn.Steps id m m′ st left act seat made moves) whole)
+      added s t m st whole.0 (get_or s.words st.word 0) m′ left act made whole.3 (each_step_is_one_event s t r r′ (TableChange.Steps id m m′ st left act seat made moves) whole)
 
 pub each_entry_tells_its_event : EachEntryTellsItsEvent
-each_entry_tells_its_event s t r r′ (Turn.Steps id m m′ st left act seat made moves) whole i v w was is e log =
+each_entry_tells_its_event s t r r′ (TableChange.Steps id m m′ st left act seat made moves) whole i v w was is e log =
     gained s t id m m′ seat (ap (λ (x : State Slot View). x.views) moves) (entry_of s t r r′ id m m′ st left act seat made moves whole) i v w was is e log
-each_entry_tells_its_event s t r r′ (Turn.Splits x first more seat fast slow reads moves) whole i v w was is e log =
+each_entry_tells_its_event s t r r′ (TableChange.Splits x first more seat fast slow reads moves) whole i v w was is e log =
     absurd (none_gained s t x first more seat (ap (λ (y : View). y.log) whole.0) (ap (λ (y : State Slot View). y.views) moves) i v w was is e log)
 
 pub each_turn_adds_one_entry : EachTurnAddsOneEntry
-each_turn_adds_one_entry s t r r′ (Turn.Steps id m m′ st left act seat made moves) whole =
+each_turn_adds_one_entry s t r r′ (TableChange.Steps id m m′ st left act seat made moves) whole =
     let entry = entry_of s t r r′ id m m′ st left act seat made moves whole in
     inl (id, entry.0, one_step s t id m m′ seat (ap (λ (x : State Slot View). x.views) moves) entry)
-each_turn_adds_one_entry s t r r′ (Turn.Splits x first more seat fast slow reads moves) whole =
+each_turn_adds_one_entry s t r r′ (TableChange.Splits x first more seat fast slow reads moves) whole =
     let cleared : first.log ≡ [] = ap (λ (y : View). y.log) whole.0 in
     let views : t.views ≡ set s.views 0 first ++ more ∷ [] = ap (λ (y : State Slot View). y.views) moves in
     inr (
-      each_step_is_one_event s t r r′ (Turn.Splits x first more seat fast slow reads moves) whole,
+      each_step_is_one_event s t r r′ (TableChange.Splits x first more seat fast slow reads moves) whole,
       (λ i u some_seat was. else_kept s t x first more seat cleared views i u (λ e. omega arith) was),
       λ v w was is. first_cleared s t x first more seat cleared views w is,
     )
 
-follows : (s t : State Slot View) (between : List (State Slot View)) → Rule s → AreTurns s between t → (seat : ℕ) (v : View) → 0 < seat → get_elem? s.views seat ≡ some v
-    → (w : View) × (get_elem? t.views seat ≡ some w) × (made : List Met) × (w.log ≡ v.log ++ made) × AreItsSteps seat s between made
+follows : (s t : State Slot View) (between : List (State Slot View)) → Rule s → AreTableChanges s between t → (seat : ℕ) (v : View) → 0 < seat → get_elem? s.views seat ≡ some v
+    → (w : View) × (get_elem? t.views seat ≡ some w) × (made : List StepRecord) × (w.log ≡ v.log ++ made) × AreItsSteps seat s between made
 follows s t [] r turns seat v some_seat at = (v, subst (λ (x : State Slot View). get_elem? x.views seat ≡ some v) turns at, [], sym (append-nil v.log), refl)
 follows s t (x ∷ xs) r turns seat v some_seat at = elim (each_turn_adds_one_entry s x r turns.0 turns.1.0 turns.1.1) [
   | inl entry ↦ elim (cases_eq entry.0 seat) [
@@ -344,7 +344,7 @@ follows s t (x ∷ xs) r turns seat v some_seat at = elim (each_turn_adds_one_en
           later.0,
           later.1,
           entry.1 ∷ later.2,
-          later.3 ∙ ap (λ (es : List Met). es ++ later.2) (one.log ∙ ap (λ (u : View). u.log ++ entry.1 ∷ []) old) ∙ append_assoc v.log (entry.1 ∷ []) later.2,
+          later.3 ∙ ap (λ (es : List StepRecord). es ++ later.2) (one.log ∙ ap (λ (u : View). u.log ++ entry.1 ∷ []) old) ∙ append_assoc v.log (entry.1 ∷ []) later.2,
           inl (entry.1, later.2, refl, one, later.4),
         )
     | inr else ↦

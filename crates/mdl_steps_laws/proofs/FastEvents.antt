@@ -20,7 +20,7 @@ use Rattle.mdl_book.specs.Tickets.{is_ticket, ticket_of}
 use Rattle.mdl_steps.specs.declared.deed.Deed.TheVariants.{Lose}
 use Rattle.mdl_steps.specs.declared.slot.Slot.{Slot}
 use Rattle.mdl_steps.specs.declared.view.Ask.{Ask}
-use Rattle.mdl_steps.specs.declared.view.Own.{Own}
+use Rattle.mdl_steps.specs.declared.view.SessionTicket.{SessionTicket}
 use Rattle.mdl_steps.specs.declared.view.View.{View}
 use Rattle.mdl_steps.specs.Cells.{Asking, Part, all_fast, asking_at, cell, due, held_at, own_at, part_at, ticket_by, waiter_of, waits}
 use Rattle.mdl_steps.specs.Deeds.{is_own}
@@ -84,7 +84,7 @@ gains-later t zs xs ys gains y = (
 )
 
 -- all sessions' fast tickets, where one session has one more
-fast-gains : (parts : List Part) (id : ℕ) (x : Part) (own : Own) → get_elem? parts id ≡ some x
+fast-gains : (parts : List Part) (id : ℕ) (x : Part) (own : SessionTicket) → get_elem? parts id ≡ some x
     → Gains (ticket_by x.number own) (all_fast parts) (all_fast (set parts id (record x { fast = x.fast ++ own ∷ [] })))
 fast-gains [] id x own at = absurd (some-ne-none x (sym at))
 fast-gains (z ∷ zs) zero x own at =
@@ -109,32 +109,32 @@ one_list : {T : Type 0} (x y : T) (xs ys : List T) → x ∷ xs ≡ y ∷ ys →
 one_list x y xs ys e = (cc, cc)
 
 -- the one that passes a test passes it
-pub only_passes : (test : Own → Bool) (ts : List Own) (t : Own) → filter test ts ≡ t ∷ [] → test t ≡ true
+pub only_passes : (test : SessionTicket → Bool) (ts : List SessionTicket) (t : SessionTicket) → filter test ts ≡ t ∷ [] → test t ≡ true
 only_passes test [] t e = absurd (cc)
 only_passes test (o ∷ os) t e = by_bool (test o)
-    (λ is. subst (λ (u : Own). test u ≡ true) (one_list o t (filter test os) [] (rw is at e)).0 is)
+    (λ is. subst (λ (u : SessionTicket). test u ≡ true) (one_list o t (filter test os) [] (rw is at e)).0 is)
     (λ isnt. only_passes test os t (rw isnt at e))
 
 module _ (n place number : ℕ) where
   -- where none is of the number, none goes
-  none_goes : (ts : List Own) → filter (is_own place number) ts ≡ [] → but_own place number ts ≡ ts
+  none_goes : (ts : List SessionTicket) → filter (is_own place number) ts ≡ [] → but_own place number ts ≡ ts
   none_goes [] e = refl
   none_goes (o ∷ os) e = by_bool (is_own place number o)
       (λ is. (let some_one = rw is at e in absurd (cc)))
       (λ isnt. rw isnt (ap (λ xs. o ∷ xs) (none_goes os (rw isnt at e))))
 
-  none_there : (ts : List Own) → filter (is_own place number) ts ≡ [] → (t : Ticket) → t.number ≡ number → (y : Ticket) → Contains (map (ticket_by n) (own_at place ts)) y → y ≢ t
+  none_there : (ts : List SessionTicket) → filter (is_own place number) ts ≡ [] → (t : Ticket) → t.number ≡ number → (y : Ticket) → Contains (map (ticket_by n) (own_at place ts)) y → y ≢ t
   none_there [] e t is y among = absurd (Contains-none y among)
   none_there (o ∷ os) e t is y among = by_bool (o.place == place)
       (λ here. by_bool (o.number == number)
       (λ same. (let some_one = rw (here, same) at e in absurd (cc)))
-      (λ differs. elim (Contains-cons_cases (ticket_by n o) (map (ticket_by n) (own_at place os)) y (subst (λ (b : Bool). Contains (map (ticket_by n) (cond {A = List Own} b (o ∷ own_at place os) (own_at place os))) y) here among)) [
+      (λ differs. elim (Contains-cons_cases (ticket_by n o) (map (ticket_by n) (own_at place os)) y (subst (λ (b : Bool). Contains (map (ticket_by n) (cond {A = List SessionTicket} b (o ∷ own_at place os) (own_at place os))) y) here among)) [
         | inl later ↦ none_there os (rw (here, differs) at e) t is y later
         | inr first ↦ λ same. (let number_is : o.number ≡ number = ap (λ (u : Ticket). u.number) (sym first ∙ same) ∙ is in let equal = eq-eqb o.number number number_is in absurd (cc))
       ]))
-      (λ away. none_there os (rw away at e) t is y (subst (λ (b : Bool). Contains (map (ticket_by n) (cond {A = List Own} b (o ∷ own_at place os) (own_at place os))) y) away among))
+      (λ away. none_there os (rw away at e) t is y (subst (λ (b : Bool). Contains (map (ticket_by n) (cond {A = List SessionTicket} b (o ∷ own_at place os) (own_at place os))) y) away among))
 
-  own-loses : (ts : List Own) (t : Own) → filter (is_own place number) ts ≡ t ∷ [] → Loses (ticket_by n t) (map (ticket_by n) (own_at place ts)) (map (ticket_by n) (own_at place (but_own place number ts)))
+  own-loses : (ts : List SessionTicket) (t : SessionTicket) → filter (is_own place number) ts ≡ t ∷ [] → Loses (ticket_by n t) (map (ticket_by n) (own_at place ts)) (map (ticket_by n) (own_at place (but_own place number ts)))
   own-loses [] t e = absurd (cc)
   own-loses (o ∷ os) t e =
       let t_is : t.number ≡ number = eqb-true _ _ (and_parts (t.place == place) (t.number == number) (only_passes (is_own place number) (o ∷ os) t e)).1 in
@@ -142,7 +142,7 @@ module _ (n place number : ℕ) where
       (λ here. by_bool (o.number == number)
       (λ same.
       let both = one_list o t (filter (is_own place number) os) [] (rw (here, same) at e) in
-      rw (here, same) (subst (λ (us : List Own). Loses (ticket_by n t) (ticket_by n o ∷ map (ticket_by n) (own_at place os)) (map (ticket_by n) (own_at place us))) (sym (none_goes os both.1))
+      rw (here, same) (subst (λ (us : List SessionTicket). Loses (ticket_by n t) (ticket_by n o ∷ map (ticket_by n) (own_at place os)) (map (ticket_by n) (own_at place us))) (sym (none_goes os both.1))
       (loses-first (ticket_by n o) (ticket_by n t) (map (ticket_by n) (own_at place os)) (ap (ticket_by n) both.0) (none_there os both.1 (ticket_by n t) t_is))))
       (λ differs. rw (here, differs, here)
       (loses-later (ticket_by n o) (ticket_by n t) (map (ticket_by n) (own_at place os)) (map (ticket_by n) (own_at place (but_own place number os)))
@@ -151,7 +151,7 @@ module _ (n place number : ℕ) where
       (λ away. rw (away, away) (own-loses os t (rw away at e)))
 
 -- all sessions' fast tickets, where one session has one less
-fast-loses : (parts : List Part) (id place number : ℕ) (x : Part) (ts : List Own) (t : Own) → get_elem? parts id ≡ some x → x.fast ≡ own_at place ts
+fast-loses : (parts : List Part) (id place number : ℕ) (x : Part) (ts : List SessionTicket) (t : SessionTicket) → get_elem? parts id ≡ some x → x.fast ≡ own_at place ts
     → ((j : ℕ) (z : Part) → get_elem? parts j ≡ some z → z.number ≡ x.number → j ≡ id) → filter (is_own place number) ts ≡ t ∷ []
     → (owes : Bool) → Loses (ticket_by x.number t) (all_fast parts) (all_fast (set parts id (record x { fast = own_at place (but_own place number ts); owes = owes })))
 fast-loses [] id place number x ts t at fast alone only owes = absurd (some-ne-none x (sym at))
@@ -159,7 +159,7 @@ fast-loses (z ∷ zs) zero place number x ts t at fast alone only owes =
     subst (λ (w : Part). Loses (ticket_by x.number t) (map (ticket_by w.number) w.fast ++ all_fast zs) (map (ticket_by x.number) (own_at place (but_own place number ts)) ++ all_fast zs)) (sym (some-injective z x at))
     (loses-front (ticket_by x.number t) (map (ticket_by x.number) x.fast) (map (ticket_by x.number) (own_at place (but_own place number ts))) (all_fast zs)
     (λ y among. others_apart zs (λ j u there same. (let e = alone (suc j) u there same in omega arith)) y among)
-    (subst (λ (us : List Own). Loses (ticket_by x.number t) (map (ticket_by x.number) us) (map (ticket_by x.number) (own_at place (but_own place number ts)))) (sym fast) (own-loses x.number place number ts t only)))
+    (subst (λ (us : List SessionTicket). Loses (ticket_by x.number t) (map (ticket_by x.number) us) (map (ticket_by x.number) (own_at place (but_own place number ts)))) (sym fast) (own-loses x.number place number ts t only)))
   where
     others_apart : (ps : List Part) → ((j : ℕ) (u : Part) → get_elem? ps j ≡ some u → u.number ≢ x.number) → (y : Ticket) → Contains (all_fast ps) y → y ≢ ticket_by x.number t
     others_apart [] apart y among = absurd (Contains-none y among)
@@ -173,15 +173,15 @@ fast-loses (z ∷ zs) (suc id) place number x ts t at fast alone only owes =
     (fast-loses zs id place number x ts t at fast (λ j u there same. (let e = alone (suc j) u there same in omega arith)) only owes)
 
 -- and the ticket is among them
-fast_there : (parts : List Part) (id place number : ℕ) (x : Part) (ts : List Own) (t : Own) → get_elem? parts id ≡ some x → x.fast ≡ own_at place ts → filter (is_own place number) ts ≡ t ∷ []
+fast_there : (parts : List Part) (id place number : ℕ) (x : Part) (ts : List SessionTicket) (t : SessionTicket) → get_elem? parts id ≡ some x → x.fast ≡ own_at place ts → filter (is_own place number) ts ≡ t ∷ []
     → Contains (all_fast parts) (ticket_by x.number t)
 fast_there [] id place number x ts t at fast only = absurd (some-ne-none x (sym at))
 fast_there (z ∷ zs) zero place number x ts t at fast only =
     Contains-append_left (map (ticket_by z.number) z.fast) (all_fast zs) (ticket_by x.number t)
     (subst (λ (w : Part). Contains (map (ticket_by w.number) w.fast) (ticket_by x.number t)) (sym (some-injective z x at))
-    (Contains-map (ticket_by x.number) x.fast t (subst (λ (us : List Own). Contains us t) (sym fast) (among ts only))))
+    (Contains-map (ticket_by x.number) x.fast t (subst (λ (us : List SessionTicket). Contains us t) (sym fast) (among ts only))))
   where
-    among : (us : List Own) → filter (is_own place number) us ≡ t ∷ [] → Contains (own_at place us) t
+    among : (us : List SessionTicket) → filter (is_own place number) us ≡ t ∷ [] → Contains (own_at place us) t
     among [] e = absurd (cc)
     among (u ∷ us) e = by_bool (u.place == place)
         (λ here. by_bool (u.number == number)
@@ -313,7 +313,7 @@ granting_fast_grants s r keys keys_are i key at id me seat some_number mode note
     let w : View = (granted_fast place mode noted (word_at s place) me).0 in
     let first = first_place s r i key (in_rule s r keys keys_are i key at) in
     let last = inside s r keys keys_are i key at in
-    let own : Own = fast_own me.0.next place mode noted in
+    let own : SessionTicket = fast_own me.0.next place mode noted in
     let r′ : Rule (after_word s place (word_at s place + one) id (granted_fast place mode noted (word_at s place) me)) = granted_rule (length s.homes) id place me first last s r refl seat mode noted one may down in
     let away : (q : ℕ) → q ≢ place → own_at q w.fast ≡ own_at q me.0.fast = λ q else. own_else-push place q own me.0.fast refl else in (
       r′,
@@ -333,7 +333,7 @@ granting_fast_grants s r keys keys_are i key at id me seat some_number mode note
                 (subst (λ (b : BookView). book.is_grantable (books.lock_kind b) (fast_at s place ++ b.granted) b.waiting me.0.number mode ≡ true) (sym book_is) ready))));
             granted = gains_by s r keys keys_are i key at id (word_at s place + one) me w seat refl refl (λ q else. refl) refl away r′ a b told told′ (told.0 key).book stays refl refl refl (ticket_by me.0.number own)
                 (subst (Gains (ticket_by me.0.number own) (fast_at s place)) (sym (fast_then s r keys keys_are i key at id (word_at s place + one) me w seat refl refl (λ q else. refl) refl away place
-                ∙ ap (λ (ts : List Own). all_fast (set (cell s place).parts id (record (part_at (waits s) place me.0) { fast = ts }))) (own_at-push place own me.0.fast refl)))
+                ∙ ap (λ (ts : List SessionTicket). all_fast (set (cell s place).parts id (record (part_at (waits s) place me.0) { fast = ts }))) (own_at-push place own me.0.fast refl)))
                 (fast-gains (cell s place).parts id (part_at (waits s) place me.0) own (at_map (part_at (waits s) place) s.views id me.0 seat)));
             rest = rest_stays s r keys keys_are i key at id (word_at s place + one) me w seat refl refl (λ q else. refl) refl away r′ a b told told′ (told.0 key).book stays refl refl;
           },
@@ -360,7 +360,7 @@ releasing_fast_releases s r keys keys_are i key at id me seat some_number number
     let own_is : is_own place number may.ticket ≡ true = only_passes (is_own place number) me.0.fast may.ticket may.only in
     let named = own_parts place number may.ticket own_is in
     let among : Contains me.0.fast may.ticket =
-    among_filter (is_own place number) me.0.fast may.ticket (subst (λ (ts : List Own). Contains ts may.ticket) (sym may.only) (Contains-here may.ticket [])) in
+    among_filter (is_own place number) me.0.fast may.ticket (subst (λ (ts : List SessionTicket). Contains ts may.ticket) (sym may.only) (Contains-here may.ticket [])) in
     let not_slow : ticket_of me.0.number number (map (ticket_by me.0.number) (own_at place me.0.slow)) ≡ None =
     subst (λ (m : ℕ). ticket_of me.0.number m (map (ticket_by me.0.number) (own_at place me.0.slow)) ≡ None) named.1 (none_slow s r id me.0 seat place may.ticket among named.0) in (
       r′,

@@ -9,7 +9,7 @@ use Rattle.atomic_table.proofs.Lists.{at_map, set_here}
 use Rattle.mdl_book.specs.declared.book_view.BookView.{BookView}
 use Rattle.mdl_book.specs.declared.ticket.Ticket.{Ticket}
 use Rattle.mdl_steps.specs.declared.slot.Slot.{Slot}
-use Rattle.mdl_steps.specs.declared.view.Own.{Own}
+use Rattle.mdl_steps.specs.declared.view.SessionTicket.{SessionTicket}
 use Rattle.mdl_steps.specs.declared.view.View.{View}
 use Rattle.mdl_steps.specs.Cells.{Part, all_fast, held_at, own_at, part_at, ticket_by, waits}
 use Rattle.mdl_steps.specs.FastPlays.{granting_all, materialised, met_word_by, moved, with_granted}
@@ -33,7 +33,7 @@ use Rattle.mdl_steps_laws.proofs.WaitEvents.{in_locks, in_rule, inside, same_def
 fast-kept : (parts : List Part) (id : ℕ) (y : Part) → y.fast ≡ [] → (t : Ticket) → Contains (all_fast (set parts id y)) t → Contains (all_fast parts) t
 fast-kept [] id y none t among = among
 fast-kept (z ∷ zs) zero y none t among =
-    Contains-append_right (map (ticket_by z.number) z.fast) (all_fast zs) t (subst (λ (ts : List Own). Contains (map (ticket_by y.number) ts ++ all_fast zs) t) none among)
+    Contains-append_right (map (ticket_by z.number) z.fast) (all_fast zs) t (subst (λ (ts : List SessionTicket). Contains (map (ticket_by y.number) ts ++ all_fast zs) t) none among)
 fast-kept (z ∷ zs) (suc id) y none t among = elim (Contains-append_cases (map (ticket_by z.number) z.fast) (all_fast (set zs id y)) t among) [
   | inl here ↦ Contains-append_left (map (ticket_by z.number) z.fast) (all_fast zs) t here
   | inr later ↦ Contains-append_right (map (ticket_by z.number) z.fast) (all_fast zs) t (fast-kept zs id y none t later)
@@ -50,7 +50,7 @@ fast-parted : (parts : List Part) (id : ℕ) (x y : Part) → get_elem? parts id
 fast-parted [] id x y at none t among = inl among
 fast-parted (z ∷ zs) zero x y at none t among = elim (Contains-append_cases (map (ticket_by z.number) z.fast) (all_fast zs) t among) [
   | inl here ↦ inr (subst (λ (w : Part). Contains (map (ticket_by w.number) w.fast) t) (some-injective z x at) here)
-  | inr later ↦ inl (subst (λ (ts : List Own). Contains (map (ticket_by y.number) ts ++ all_fast zs) t) (sym none) later)
+  | inr later ↦ inl (subst (λ (ts : List SessionTicket). Contains (map (ticket_by y.number) ts ++ all_fast zs) t) (sym none) later)
 ]
 fast-parted (z ∷ zs) (suc id) x y at none t among = elim (Contains-append_cases (map (ticket_by z.number) z.fast) (all_fast zs) t among) [
   | inl here ↦ inl (Contains-append_left (map (ticket_by z.number) z.fast) (all_fast (set zs id y)) t here)
@@ -131,7 +131,7 @@ fast_owner f q [] t among = absurd (Contains-none t among)
 fast_owner f q (v ∷ vs) t among = elim (Contains-append_cases (map (ticket_by v.number) (own_at q v.fast)) (all_fast (map (part_at f q) vs)) t among) [
   | inl mine ↦
       let from = Contains-map_from (ticket_by v.number) (own_at q v.fast) t mine in
-      (zero, v, refl, ap (λ (u : Ticket). u.session) (sym from.2), λ none. Contains-none from.0 (subst (λ (ts : List Own). Contains (own_at q ts) from.0) none from.1))
+      (zero, v, refl, ap (λ (u : Ticket). u.session) (sym from.2), λ none. Contains-none from.0 (subst (λ (ts : List SessionTicket). Contains (own_at q ts) from.0) none from.1))
   | inr later ↦ let rest = fast_owner f q vs t later in (suc rest.0, rest.1, rest.2, rest.3, rest.4)
 ]
 

@@ -1,4 +1,4 @@
--- By each turn nobody becomes forgotten at a place that nobody owes a reschedule, and where no latch's record tells of freed tickets.
+-- By each change nobody becomes forgotten at a place that nobody owes a reschedule, and where no latch's record tells of freed tickets.
 use Rattle.std.proofs.Common.{◌≡◌, ◌≢◌, ℕ, zero, suc, ◌+◌, ◌*◌, ◌<◌, ◌==◌, ◌||◌, Bool, true, false, cond, inl, inr, List, [], ◌∷◌, ◌++◌, map, length, get_or, Some, refl, sym, ap, ◌∙◌, subst, arith}
 use Rattle.std.specs.Prelude.{Contains}
 use Rattle.std.specs.List.{list_any}
@@ -21,7 +21,7 @@ use Rattle.mdl_book.specs.FastTickets.{CountsFastTickets}
 use Rattle.mdl_book.specs.Tickets.{is_ticket, ticket_of}
 use Rattle.mdl_defs.specs.declared.change.Change.{Change}
 use Rattle.mdl_defs.specs.declared.definition.Definition.{Definition}
-use Rattle.mdl_defs.specs.Standings.{applied}
+use Rattle.mdl_defs.specs.VersionedDefinitions.{applied}
 use Rattle.mdl_steps.specs.declared.deed.Deed.{Deed}
 use Rattle.mdl_steps.specs.declared.deed.Deed.TheVariants.{Gain, Alter, Lose}
 use Rattle.mdl_steps.specs.declared.slot.Slot.{Slot}
@@ -36,7 +36,7 @@ use Rattle.mdl_steps.specs.Rule.{IsPaidBut, Rule}
 use Rattle.mdl_steps.specs.RuleLaws.{fast_at}
 use Rattle.mdl_steps.specs.Seats.{MayLower, MayPut}
 use Rattle.mdl_steps.specs.Servings.{ForgetsNobody}
-use Rattle.mdl_steps.specs.Turns.{Makes}
+use Rattle.mdl_steps.specs.TableChanges.{Makes}
 use Rattle.mdl_steps.specs.WaitPlays.{asked_ticket, asking, with_cancelled}
 use Rattle.mdl_steps.specs.WaitSeats.{MayOpen}
 use Rattle.mdl_steps.proofs.Paid.{owes_here}

@@ -4,7 +4,7 @@ use Rattle.atomic_table.specs.Table.{State, Step}
 use Rattle.mdl_key.specs.Words.{KeyName}
 use Rattle.mdl_defs.specs.declared.change.Change.{Change}
 use Rattle.mdl_defs.specs.declared.definition.Definition.{Definition}
-use Rattle.mdl_defs.specs.Standings.{applied}
+use Rattle.mdl_defs.specs.VersionedDefinitions.{applied}
 use Rattle.mdl_steps.specs.declared.deed.Deed.{Deed}
 use Rattle.mdl_steps.specs.declared.deed.Deed.TheVariants.{Gain, Alter, Lose}
 use Rattle.mdl_steps.specs.declared.slot.Slot.{Slot}
@@ -12,7 +12,7 @@ use Rattle.mdl_steps.specs.declared.view.View.{View}
 use Rattle.mdl_steps.specs.Plays.{Mine}
 use Rattle.mdl_steps.specs.WaitPlays.{wait_in}
 use Rattle.mdl_steps_laws.specs.EachStep.{BringsDeedsAt, BringsOrRests, IfMet}
-use Rattle.mdl_steps_laws.specs.SessionSteps.{Makes, Turn}
+use Rattle.mdl_steps_laws.specs.SessionSteps.{Makes, TableChange}
 use Rattle.mdl_steps_laws.specs.StepEvents.{BringsDeeds}
 use Rattle.mdl_steps_laws.specs.WaitLaws.{Brings, IsTold, Rests, lost_as}
 use Rattle.mdl_steps_laws.proofs.EachStep.{each_step_is_one_event}
@@ -91,7 +91,7 @@ module _ (s t : State Slot View) where
   by_kind st m was m′ (Makes.Materialises _ _ _ _ _ _) keeps brought = nothing brought
 
 pub steps_that_free_nothing_forget_nobody : StepsThatFreeNothingForgetNobody
-steps_that_free_nothing_forget_nobody s t r r′ (Turn.Steps id m m′ st left act seat made moves) whole keeps =
-    by_kind s t st m (get_or s.words st.word 0) m′ made keeps (each_step_is_one_event s t r r′ (Turn.Steps id m m′ st left act seat made moves) whole)
-steps_that_free_nothing_forget_nobody s t r r′ (Turn.Splits v first more seat fast slow reads moves) whole keeps =
-    nothing s t (each_step_is_one_event s t r r′ (Turn.Splits v first more seat fast slow reads moves) whole)
+steps_that_free_nothing_forget_nobody s t r r′ (TableChange.Steps id m m′ st left act seat made moves) whole keeps =
+    by_kind s t st m (get_or s.words st.word 0) m′ made keeps (each_step_is_one_event s t r r′ (TableChange.Steps id m m′ st left act seat made moves) whole)
+steps_that_free_nothing_forget_nobody s t r r′ (TableChange.Splits v first more seat fast slow reads moves) whole keeps =
+    nothing s t (each_step_is_one_event s t r r′ (TableChange.Splits v first more seat fast slow reads moves) whole)

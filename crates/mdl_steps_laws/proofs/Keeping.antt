@@ -8,7 +8,7 @@ use Rattle.mdl_key.specs.declared.mode.Mode.{Mode}
 use Rattle.mdl_book.specs.declared.book_view.BookView.{BookView}
 use Rattle.mdl_steps.specs.declared.deed.Deed.{Deed}
 use Rattle.mdl_steps.specs.declared.deed.Deed.TheVariants.{Gain, Alter, Lose}
-use Rattle.mdl_steps.specs.declared.view.Own.{Own}
+use Rattle.mdl_steps.specs.declared.view.SessionTicket.{SessionTicket}
 use Rattle.mdl_steps.specs.declared.view.View.{View}
 use Rattle.mdl_steps.specs.Cells.{note_at}
 use Rattle.mdl_steps.specs.Deeds.{all_owned, booked, done, is_own, next_after, owned}
@@ -50,28 +50,28 @@ module _ {X : Type 0} (p : X → Bool) where
 
 -- ---- the ticket of a number at a place
 
-pub own_parts : (place number : ℕ) (t : Own) → is_own place number t ≡ true → (t.place ≡ place) × (t.number ≡ number)
+pub own_parts : (place number : ℕ) (t : SessionTicket) → is_own place number t ≡ true → (t.place ≡ place) × (t.number ≡ number)
 own_parts place number t is = let parts = and_parts (t.place == place) (t.number == number) is in (eqb-true _ _ parts.0, eqb-true _ _ parts.1)
 
-pub own_is : (place number : ℕ) (t : Own) → t.place ≡ place → t.number ≡ number → is_own place number t ≡ true
+pub own_is : (place number : ℕ) (t : SessionTicket) → t.place ≡ place → t.number ≡ number → is_own place number t ≡ true
 own_is place number t here same = rw (eq-eqb t.place place here, eq-eqb t.number number same) refl
 
 module _ (place number version : ℕ) where
   -- the tickets of this number there: each was there before, with the note if that had it; and where there was one there is one
-  pub record Kept (old new : List Own) : Type 0 where
-    pub back : (t : Own) → Contains new t → is_own place number t ≡ true → (u : Own) × Contains old u × (is_own place number u ≡ true) × (u.noted ≡ Some version → t.noted ≡ Some version)
-    pub ahead : (u : Own) → Contains old u → is_own place number u ≡ true → (t : Own) × Contains new t × (is_own place number t ≡ true)
+  pub record Kept (old new : List SessionTicket) : Type 0 where
+    pub back : (t : SessionTicket) → Contains new t → is_own place number t ≡ true → (u : SessionTicket) × Contains old u × (is_own place number u ≡ true) × (u.noted ≡ Some version → t.noted ≡ Some version)
+    pub ahead : (u : SessionTicket) → Contains old u → is_own place number u ≡ true → (t : SessionTicket) × Contains new t × (is_own place number t ≡ true)
 
-  pub kept_same : (xs : List Own) → Kept xs xs
+  pub kept_same : (xs : List SessionTicket) → Kept xs xs
   kept_same xs = record { back = λ t among is. (t, among, is, λ e. e); ahead = λ t among is. (t, among, is) }
 
-  pub kept_then : (xs ys zs : List Own) → Kept xs ys → Kept ys zs → Kept xs zs
+  pub kept_then : (xs ys zs : List SessionTicket) → Kept xs ys → Kept ys zs → Kept xs zs
   kept_then xs ys zs one two = record {
     back = λ t among is. (let u = two.back t among is in let v = one.back u.0 u.1 u.2 in (v.0, v.1, v.2, λ e. u.3 (v.3 e)));
     ahead = λ t among is. (let u = one.ahead t among is in two.ahead u.0 u.1 u.2);
   }
 
-  pub kept_both : (xs xs′ ys ys′ : List Own) → Kept xs xs′ → Kept ys ys′ → Kept (xs ++ ys) (xs′ ++ ys′)
+  pub kept_both : (xs xs′ ys ys′ : List SessionTicket) → Kept xs xs′ → Kept ys ys′ → Kept (xs ++ ys) (xs′ ++ ys′)
   kept_both xs xs′ ys ys′ one two = record {
     back = λ t among is. elim (Contains-append_cases xs′ ys′ t among) [
       | inl left ↦ (let u = one.back t left is in (u.0, Contains-append_left xs ys u.0 u.1, u.2, u.3))
@@ -84,35 +84,35 @@ module _ (place number version : ℕ) where
   }
 
   -- one more of another number
-  pub kept_push : (xs : List Own) (x : Own) → x.number ≢ number → Kept xs (xs ++ x ∷ [])
+  pub kept_push : (xs : List SessionTicket) (x : SessionTicket) → x.number ≢ number → Kept xs (xs ++ x ∷ [])
   kept_push xs x differs = record {
     back = λ t among is. elim (Contains-push_cases xs x t among) [
       | inl old ↦ (t, old, is, λ e. e)
-      | inr new ↦ absurd (differs (ap (λ (o : Own). o.number) new ∙ (own_parts place number t is).1))
+      | inr new ↦ absurd (differs (ap (λ (o : SessionTicket). o.number) new ∙ (own_parts place number t is).1))
     ];
     ahead = λ t among is. (t, Contains-append_left xs (x ∷ []) t among, is);
   }
 
   -- each is changed to one of the same number and place, by which the note stays
-  pub kept_map : (f : Own → Own) → ((t : Own) → is_own place number (f t) ≡ is_own place number t)
-      → ((t : Own) → is_own place number t ≡ true → t.noted ≡ Some version → (f t).noted ≡ Some version) → (xs : List Own) → Kept xs (map f xs)
+  pub kept_map : (f : SessionTicket → SessionTicket) → ((t : SessionTicket) → is_own place number (f t) ≡ is_own place number t)
+      → ((t : SessionTicket) → is_own place number t ≡ true → t.noted ≡ Some version → (f t).noted ≡ Some version) → (xs : List SessionTicket) → Kept xs (map f xs)
   kept_map f own notes xs = record {
     back = λ t among is.
         (let from = Contains-map_from f xs t among in
         let mine : is_own place number from.0 ≡ true = sym (own from.0) ∙ ap (is_own place number) (sym from.2) ∙ is in
-        (from.0, from.1, mine, λ e. ap (λ (o : Own). o.noted) from.2 ∙ notes from.0 mine e));
+        (from.0, from.1, mine, λ e. ap (λ (o : SessionTicket). o.noted) from.2 ∙ notes from.0 mine e));
     ahead = λ t among is. (f t, Contains-map f xs t among, own t ∙ is);
   }
 
   -- some go, but none of this number there
-  pub kept_filter : (p : Own → Bool) → ((t : Own) → is_own place number t ≡ true → p t ≡ true) → (xs : List Own) → Kept xs (filter p xs)
+  pub kept_filter : (p : SessionTicket → Bool) → ((t : SessionTicket) → is_own place number t ≡ true → p t ≡ true) → (xs : List SessionTicket) → Kept xs (filter p xs)
   kept_filter p stays xs = record {
     back = λ t among is. (t, among_filter p xs t among, is, λ e. e);
     ahead = λ t among is. (t, filter_among p xs t among (stays t is), is);
   }
 
   -- a version is noted: where it is so there, that one
-  pub kept_noting : (q noted : ℕ) → (q ≡ place → noted ≡ version) → (ts : List Own) → Kept ts (noting_version q noted ts)
+  pub kept_noting : (q noted : ℕ) → (q ≡ place → noted ≡ version) → (ts : List SessionTicket) → Kept ts (noting_version q noted ts)
   kept_noting q noted same ts = kept_map (λ t. cond (t.place == q) (record t { noted = Some noted }) t)
       (λ t. by_bool (t.place == q) (λ here. rw here refl) (λ away. rw away refl))
       (λ t mine was. by_bool (t.place == q)
@@ -120,7 +120,7 @@ module _ (place number version : ℕ) where
       (λ away. rw away was)) ts
 
   -- a deed at a place, by which it isn't lost
-  pub kept_deed : (q : ℕ) (d : Deed) (ts : List Own) → ((n : ℕ) (mode : Mode) → d ≡ Gain n mode → n ≢ number) → (q ≡ place → d ≢ Lose number) → Kept ts (owned q d ts)
+  pub kept_deed : (q : ℕ) (d : Deed) (ts : List SessionTicket) → ((n : ℕ) (mode : Mode) → d ≡ Gain n mode → n ≢ number) → (q ≡ place → d ≢ Lose number) → Kept ts (owned q d ts)
   kept_deed q (Gain n mode) ts new stays = kept_push ts (record { number = n; place = q; mode = mode; noted = note_at q ts }) (new n mode refl)
   kept_deed q (Alter n mode) ts new stays = kept_map (λ t. cond (is_own q n t) (record t { mode = mode }) t)
       (λ t. by_bool (is_own q n t) (λ hit. rw hit refl) (λ miss. rw miss refl))

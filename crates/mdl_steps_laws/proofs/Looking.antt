@@ -17,7 +17,7 @@ use Rattle.mdl_book.specs.Tickets.{ticket_of}
 use Rattle.mdl_steps.specs.declared.slot.Slot.{Slot}
 use Rattle.mdl_steps.specs.declared.view.Ask.{Ask}
 use Rattle.mdl_steps.specs.declared.view.LatchRecord.{LatchRecord}
-use Rattle.mdl_steps.specs.declared.view.Met.{Met}
+use Rattle.mdl_steps.specs.declared.view.StepRecord.{StepRecord}
 use Rattle.mdl_steps.specs.declared.view.View.{View}
 use Rattle.mdl_steps.specs.Cells.{held_at, holder_at, waiter_of, waits}
 use Rattle.mdl_steps.specs.Histories.{Reached}
@@ -33,9 +33,9 @@ use Rattle.mdl_steps_laws.proofs.Puttings.{AreLookedAt}
 use Rattle.mdl_steps_laws.proofs.WaitsTold.{found_in}
 
 -- a step that was made is in the list
-among_steps : (start m : Mine) (e : Met) → IsStepOf start m e → Contains m.0.log e
+among_steps : (start m : Mine) (e : StepRecord) → IsStepOf start m e → Contains m.0.log e
 among_steps start m e made =
-    subst (λ (es : List Met). Contains es e) (sym made.2) (Contains-append_right (start.0.log ++ made.0) (e ∷ made.1) e (Contains-here e made.1))
+    subst (λ (es : List StepRecord). Contains es e) (sym made.2) (Contains-append_right (start.0.log ++ made.0) (e ∷ made.1) e (Contains-here e made.1))
 
 module _ (s : State Slot View) (before : Reached s) (r : Rule s) (id : ℕ) (m : Mine) (seat : get_elem? s.views id ≡ some m.0) (place : ℕ) (has : HasPlace s place)
     (table : TableId) (h : LatchRecord) (start : Mine) (forgets : ForgetsNobody table place h start m) (holds : held_at place m.0.latches ≡ Some h)
@@ -54,7 +54,7 @@ module _ (s : State Slot View) (before : Reached s) (r : Rule s) (id : ℕ) (m :
           some-injective w v (sym there ∙ ap (get_elem? s.views) here ∙ at)
 
       -- what was met of its wait
-      stays : (e : Met) → IsStepOf start m e → MeetsWaiter table.slots place t.session t.number e → (a : Ask) → v.asks ≡ Some a → a.number ≡ t.number
+      stays : (e : StepRecord) → IsStepOf start m e → MeetsWaiter table.slots place t.session t.number e → (a : Ask) → v.asks ≡ Some a → a.number ≡ t.number
           → (e.found / 8 ≡ v.waits) × (e.found % 8 ≢ 1 → waits s t.session % 8 ≢ 1)
       stays e made meets a asks same =
           let is = met_waits_stay s before id m.0 seat e (among_steps start m e made) place t.session t.number has some_session

@@ -8,7 +8,7 @@ use Rattle.mdl_book.specs.Books.{empty_book, redefining}
 use Rattle.mdl_defs.specs.Caches.{kept_of}
 use Rattle.mdl_defs.specs.declared.change.Change.{Change}
 use Rattle.mdl_defs.specs.declared.definition.Definition.{Definition}
-use Rattle.mdl_defs.specs.Standings.{applied}
+use Rattle.mdl_defs.specs.VersionedDefinitions.{applied}
 use Rattle.mdl_steps.specs.declared.deed.Deed.{Deed}
 use Rattle.mdl_steps.specs.declared.deed.Deed.TheVariants.{Gain, Alter, Lose}
 use Rattle.mdl_steps.specs.declared.slot.Slot.{Slot}

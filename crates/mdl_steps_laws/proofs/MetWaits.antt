@@ -12,7 +12,7 @@ use Rattle.mdl_book.specs.declared.book_view.BookView.{BookView}
 use Rattle.mdl_book.specs.declared.ticket.Ticket.{Ticket}
 use Rattle.mdl_book.specs.Tickets.{ticket_of}
 use Rattle.mdl_steps.specs.declared.slot.Slot.{Slot}
-use Rattle.mdl_steps.specs.declared.view.Met.{Met}
+use Rattle.mdl_steps.specs.declared.view.StepRecord.{StepRecord}
 use Rattle.mdl_steps.specs.declared.view.View.{View}
 use Rattle.mdl_steps.specs.Cells.{blank, numbers_for, held_at, holder_at, waiter_of, waits}
 use Rattle.mdl_steps.specs.Layout.{wait_word}
@@ -20,9 +20,9 @@ use Rattle.mdl_steps.specs.Plays.{Mine}
 use Rattle.mdl_steps.specs.Rule.{Rule}
 use Rattle.mdl_steps.proofs.Views.{at_inside}
 use Rattle.mdl_steps.proofs.WaitTells.{asks_there}
-use Rattle.mdl_steps_laws.specs.EachStep.{IsWhole, IsWholeTurn}
+use Rattle.mdl_steps_laws.specs.EachStep.{IsWhole, IsWholeChange}
 use Rattle.mdl_steps_laws.specs.RestLaws.{first_after}
-use Rattle.mdl_steps_laws.specs.SessionSteps.{Makes, Turn}
+use Rattle.mdl_steps_laws.specs.SessionSteps.{Makes, TableChange}
 use Rattle.mdl_steps_laws.specs.Headline.{HasPlace}
 use Rattle.mdl_system.proofs.MemberLemmas.{Contains-none}
 use Rattle.mdl_system.proofs.OrderLemmas.{Contains-cons_cases}
@@ -50,7 +50,7 @@ homes_length hs c (takes k y) = length-set hs k _
 homes_length hs c gives = put_length hs c
 homes_length hs c (chain a b) = homes_length (homes_after hs c a) (carried_after c a) b ∙ homes_length hs c a
 
-none_of_one : (x y : Met) → Contains (x ∷ []) y → x ≡ y
+none_of_one : (x y : StepRecord) → Contains (x ∷ []) y → x ≡ y
 none_of_one x y among = elim (Contains-cons_cases x [] y among) [ inl later ↦ absurd (Contains-none y later) | inr here ↦ sym here ]
 
 -- ---- one step
@@ -83,7 +83,7 @@ module _ (s : State Slot View) (r : Rule s) (id : ℕ) (m m′ : Mine) (st : Ste
   inside = at_inside s.views id m.0 seat
 
   -- what stays met goes on
-  carry : (session number : ℕ) (e : Met) → 0 < session → StaysMet s session number e → StaysMet t session number e
+  carry : (session number : ℕ) (e : StepRecord) → 0 < session → StaysMet s session number e → StaysMet t session number e
   unfolding shift
   carry session number e some_session (j, w, at, is, below, facts) = elim (cases_eq j id) [
     | inl same ↦
@@ -158,19 +158,19 @@ module _ (s : State Slot View) (r : Rule s) (id : ℕ) (m m′ : Mine) (st : Ste
       told (Some t) e = (t, refl)
 
   -- the list of the session that makes the step
-  pub own_list : ((e : Met) → Contains m.0.log e → (place session number : ℕ) → HasPlace s place → 0 < session → MeetsWaiter (length s.homes) place session number e → StaysMet s session number e)
-      → (e : Met) → Contains m′.0.log e → (place session number : ℕ) → HasPlace s place → 0 < session → MeetsWaiter (length s.homes) place session number e → StaysMet t session number e
+  pub own_list : ((e : StepRecord) → Contains m.0.log e → (place session number : ℕ) → HasPlace s place → 0 < session → MeetsWaiter (length s.homes) place session number e → StaysMet s session number e)
+      → (e : StepRecord) → Contains m′.0.log e → (place session number : ℕ) → HasPlace s place → 0 < session → MeetsWaiter (length s.homes) place session number e → StaysMet t session number e
   unfolding shift
   own_list before e among place session number has some_session meets =
-      elim (Contains-append_cases m.0.log ((shifts m st (get_or s.words st.word 0) m′ turn).last ∷ []) e (subst (λ (es : List Met). Contains es e) (shifts m st (get_or s.words st.word 0) m′ turn).log among)) [
+      elim (Contains-append_cases m.0.log ((shifts m st (get_or s.words st.word 0) m′ turn).last ∷ []) e (subst (λ (es : List StepRecord). Contains es e) (shifts m st (get_or s.words st.word 0) m′ turn).log among)) [
         | inl old ↦ carry session number e some_session (before e old place session number has some_session meets)
         | inr new ↦
             let same = none_of_one (shifts m st (get_or s.words st.word 0) m′ turn).last e new in
-            carry session number e some_session (subst (λ (x : Met). StaysMet s session number x) same
-            (base place session number has (subst (λ (x : Met). MeetsWaiter (length s.homes) place session number x) (sym same) meets)))
+            carry session number e some_session (subst (λ (x : StepRecord). StaysMet s session number x) same
+            (base place session number has (subst (λ (x : StepRecord). MeetsWaiter (length s.homes) place session number x) (sym same) meets)))
       ]
 
-  pub other_lists : (session number : ℕ) (e : Met) → 0 < session → StaysMet s session number e → StaysMet t session number e
+  pub other_lists : (session number : ℕ) (e : StepRecord) → 0 < session → StaysMet s session number e → StaysMet t session number e
   other_lists = carry
 
 -- ---- the law
@@ -180,7 +180,7 @@ module _ (s : State Slot View) (v first more : View) (seat : get_elem? s.views 0
   abbrev split : State Slot View
   split = record { words = s.words; homes = s.homes; views = set s.views 0 first ++ more ∷ [] }
 
-  pub split_carry : (session number : ℕ) (e : Met) → StaysMet s session number e → StaysMet split session number e
+  pub split_carry : (session number : ℕ) (e : StepRecord) → StaysMet s session number e → StaysMet split session number e
   split_carry session number e (j, w, at, is, below, facts) = elim (cases_eq j 0) [
     | inl same ↦
         let own : w ≡ v = some-injective w v (sym (subst (λ (k : ℕ). get_elem? s.views k ≡ some w) same at) ∙ seat) in
@@ -200,12 +200,12 @@ module _ (s : State Slot View) (v first more : View) (seat : get_elem? s.views 0
   ]
 
 module _ (s t : State Slot View) (r : Rule s)
-    (before : (i : ℕ) (v : View) → get_elem? s.views i ≡ some v → (e : Met) → Contains v.log e → (place session number : ℕ) → HasPlace s place → 0 < session
+    (before : (i : ℕ) (v : View) → get_elem? s.views i ≡ some v → (e : StepRecord) → Contains v.log e → (place session number : ℕ) → HasPlace s place → 0 < session
     → MeetsWaiter (length s.homes) place session number e → StaysMet s session number e)
-    (i : ℕ) (v : View) (at : get_elem? t.views i ≡ some v) (e : Met) (among : Contains v.log e) (place session number : ℕ) (has : HasPlace t place) (some_session : 0 < session)
+    (i : ℕ) (v : View) (at : get_elem? t.views i ≡ some v) (e : StepRecord) (among : Contains v.log e) (place session number : ℕ) (has : HasPlace t place) (some_session : 0 < session)
     (meets : MeetsWaiter (length t.homes) place session number e) where
-  by_turn : (u : Turn s t) → IsWholeTurn u → StaysMet t session number e
-  by_turn (Turn.Steps id m m′ st left act seat made moves) whole =
+  by_turn : (u : TableChange s t) → IsWholeChange u → StaysMet t session number e
+  by_turn (TableChange.Steps id m m′ st left act seat made moves) whole =
       let size : length t.homes ≡ length s.homes = ap (λ (x : State Slot View). length x.homes) moves ∙ homes_length s.homes m.1 act in
       let has_ : HasPlace s place = (has.0, subst (λ (k : ℕ). place < k) size has.1) in
       let meets_ : MeetsWaiter (length s.homes) place session number e = subst (λ (k : ℕ). MeetsWaiter k place session number e) size meets in
@@ -216,7 +216,7 @@ module _ (s t : State Slot View) (r : Rule s)
             e (subst (λ (x : View). Contains x.log e) (sym mine.1) among) place session number has_ some_session meets_
         | inr other ↦ other_lists s r id m m′ st left act seat made whole.0 whole.3 session number e some_session (before i v other.1 e among place session number has_ some_session meets_)
       ])
-  by_turn (Turn.Splits x first more seat fast slow reads moves) whole =
+  by_turn (TableChange.Splits x first more seat fast slow reads moves) whole =
       let has_ : HasPlace s place = subst (λ (y : State Slot View). HasPlace y place) moves has in
       let meets_ : MeetsWaiter (length s.homes) place session number e = subst (λ (y : State Slot View). MeetsWaiter (length y.homes) place session number e) moves meets in
       let at_ : get_elem? (set s.views 0 first ++ more ∷ []) i ≡ some v = subst (λ (y : State Slot View). get_elem? y.views i ≡ some v) moves at in
@@ -230,7 +230,7 @@ module _ (s t : State Slot View) (r : Rule s)
         | inr new ↦ before 0 x seat e (subst (λ (y : View). Contains y.log e) (sym new ∙ whole.1) among) place session number has_ some_session meets_
       ]))
 
-none_logged : (sessions k : ℕ) (v : View) (e : Met) → get_elem? (blank 0 (numbers_for sessions 0 0) ∷ []) k ≡ some v → Contains v.log e → ⊥
+none_logged : (sessions k : ℕ) (v : View) (e : StepRecord) → get_elem? (blank 0 (numbers_for sessions 0 0) ∷ []) k ≡ some v → Contains v.log e → ⊥
 none_logged sessions zero v e there among = Contains-none e (subst (λ (x : View). Contains x.log e) (sym (some-injective (blank 0 (numbers_for sessions 0 0)) v there)) among)
 none_logged sessions (suc k) v e there among = some-ne-none v (sym there)
 

@@ -14,7 +14,7 @@ use Rattle.mdl_steps.specs.declared.view.View.{View}
 use Rattle.mdl_steps.specs.Cells.{held_at, holder_at}
 use Rattle.mdl_steps.specs.Histories.{Reached}
 use Rattle.mdl_steps.specs.Rule.{Rule}
-use Rattle.mdl_steps.specs.Turns.{IsWholeTurn, Turn, first_after, split_off}
+use Rattle.mdl_steps.specs.TableChanges.{IsWholeChange, TableChange, first_after, split_off}
 use Rattle.mdl_steps.proofs.Views.{at_inside}
 use Rattle.mdl_system.proofs.Deciding.{nat_told}
 use Rattle.mdl_system.proofs.MemberLemmas.{Contains-map, Contains-none}
@@ -96,8 +96,8 @@ module _ (s : State Slot View) (r : Rule s) (v first more : View) (seat : get_el
   ]
 
 module _ (s t : State Slot View) (before : Reached s) (r′ : Rule t) (cared : IsCared s) where
-  by_turn : (turn : Turn s t) → IsWholeTurn turn → IsCared t
-  by_turn (Turn.Steps id m m′ st left act seat made moves) whole place key is_key paid unfreed b told =
+  by_turn : (turn : TableChange s t) → IsWholeChange turn → IsCared t
+  by_turn (TableChange.Steps id m m′ st left act seat made moves) whole place key is_key paid unfreed b told =
       let r = rule_of s before in
       elim (key_before t r′ place key is_key b told s (rule_of s before)
       (keys_stay s t (rule_of s before) r′ id m m′ st left act seat moves whole.0 whole.1 whole.2 made whole.3)) [
@@ -106,15 +106,15 @@ module _ (s t : State Slot View) (before : Reached s) (r′ : Rule t) (cared : I
             go s t before (rule_of s before) r′ place key was paid unfreed (a_system s (rule_of s before)).0 b (a_system s (rule_of s before)).1 told
             (λ paid_s unfreed_s. cared place key was paid_s unfreed_s (a_system s (rule_of s before)).0 (a_system s (rule_of s before)).1)
             id m m′ st left act seat moves whole.0 made whole.3
-            (each_step_is_one_event s t (rule_of s before) r′ (Turn.Steps id m m′ st left act seat made moves) whole)
+            (each_step_is_one_event s t (rule_of s before) r′ (TableChange.Steps id m m′ st left act seat made moves) whole)
       ]
-  by_turn (Turn.Splits v first more seat fast slow reads moves) whole place key is_key paid unfreed b told =
+  by_turn (TableChange.Splits v first more seat fast slow reads moves) whole place key is_key paid unfreed b told =
       let r = rule_of s before in
       let keys = same_keys t r′ r.keys (subst (λ (x : State Slot View). AreKeysOf x r.keys) (sym moves) (keys_split s r v first more seat whole.0 whole.1)) in
       elim (key_before t r′ place key is_key b told s r (inl keys)) [
         | inr empty ↦ vacant t r′ place key is_key b told empty
         | inl was ↦
-            nothing s t (each_step_is_one_event s t r r′ (Turn.Splits v first more seat fast slow reads moves) whole) (a_system s r).0 b (a_system s r).1 told key
+            nothing s t (each_step_is_one_event s t r r′ (TableChange.Splits v first more seat fast slow reads moves) whole) (a_system s r).0 b (a_system s r).1 told key
             (cared place key was (paid_split s r v first more seat whole.0 whole.1 place (subst (λ (x : State Slot View). IsPaid x place) moves paid))
             (unfreed_split s r v first more seat whole.0 whole.1 place (subst (λ (x : State Slot View). IsUnfreed x place) moves unfreed)) (a_system s r).0 (a_system s r).1)
       ]

@@ -5,7 +5,7 @@ use mathlib.Core.Option.{some}
 use lib.ListN.{get_elem?}
 use Rattle.atomic_table.specs.Table.{State}
 use Rattle.atomic_table.proofs.Lists.{at_index}
-use Rattle.mdl_defs.specs.declared.standing.Standing.{Standing}
+use Rattle.mdl_defs.specs.declared.versioned_definition.VersionedDefinition.{VersionedDefinition}
 use Rattle.mdl_steps.specs.declared.slot.Slot.{Slot}
 use Rattle.mdl_steps.specs.declared.view.View.{View}
 use Rattle.mdl_steps.specs.Layout.{version_word}
@@ -34,7 +34,7 @@ module _ (s : State Slot View) (r : Rule s) (place : ℕ) (has : HasPlace s plac
       ap (λ (p : ℕ). slice_index s.words (version_word p)) (sym here)
       ∙ noted_told s r i v seat noted.has.0.0 t (at_index_of (v.slow ++ v.fast) t noted.has.0) first last version (noted.noted t noted.has)
 
-  pub read_stands : (standing : Standing) → HasRead place standing v → slice_index s.words (version_word place) ≡ standing.version → Stands s place standing
+  pub read_stands : (standing : VersionedDefinition) → HasRead place standing v → slice_index s.words (version_word place) ≡ standing.version → Stands s place standing
   read_stands standing read now =
       let told = reads_told s r i v seat read.0 (record { place = place; standing = standing }) (at_index_of v.reads (record { place = place; standing = standing }) read) has.0 has.1 now in
       record { version = now; at_home = told.1; in_record = λ j w h there holds. told.2 j w h there holds }

@@ -4,7 +4,7 @@ use Rattle.atomic_table.specs.Table.{State, Step}
 use Rattle.mdl_key.specs.Words.{KeyName}
 use Rattle.mdl_defs.specs.declared.change.Change.{Change}
 use Rattle.mdl_defs.specs.declared.definition.Definition.{Definition}
-use Rattle.mdl_defs.specs.Standings.{applied}
+use Rattle.mdl_defs.specs.VersionedDefinitions.{applied}
 use Rattle.mdl_steps.specs.declared.deed.Deed.{Deed}
 use Rattle.mdl_steps.specs.declared.deed.Deed.TheVariants.{Gain, Alter, Lose}
 use Rattle.mdl_steps.specs.declared.slot.Slot.{Slot}
@@ -16,7 +16,7 @@ use Rattle.mdl_system.specs.Events.{BeginWait, ChangeDefinition, Clone, Downgrad
 use Rattle.mdl_system.specs.Systems.{System, Unsettled}
 use Rattle.mdl_system.proofs.Deciding.{nat_told}
 use Rattle.mdl_steps_laws.specs.EachStep.{BringsDeedsAt, BringsOrRests, EachStepHappensOrRests, IfMet}
-use Rattle.mdl_steps_laws.specs.SessionSteps.{Makes, Turn}
+use Rattle.mdl_steps_laws.specs.SessionSteps.{Makes, TableChange}
 use Rattle.mdl_steps_laws.specs.StepEvents.{BringsDeeds}
 use Rattle.mdl_steps_laws.specs.WaitLaws.{Brings, IsTold, Rests, lost_as}
 use Rattle.mdl_steps_laws.proofs.EachStep.{each_step_is_one_event}
@@ -93,7 +93,7 @@ module _ (s t : State Slot View) where
   is_a_step st m was m′ (Makes.Materialises _ _ _ _ _ _) brought = nothing brought
 
 pub each_step_happens_or_rests : EachStepHappensOrRests
-each_step_happens_or_rests s t r r′ (Turn.Steps id m m′ st left act seat made moves) whole =
-    is_a_step s t st m (get_or s.words st.word 0) m′ made (each_step_is_one_event s t r r′ (Turn.Steps id m m′ st left act seat made moves) whole)
-each_step_happens_or_rests s t r r′ (Turn.Splits v first more seat fast slow reads moves) whole =
-    nothing s t (each_step_is_one_event s t r r′ (Turn.Splits v first more seat fast slow reads moves) whole)
+each_step_happens_or_rests s t r r′ (TableChange.Steps id m m′ st left act seat made moves) whole =
+    is_a_step s t st m (get_or s.words st.word 0) m′ made (each_step_is_one_event s t r r′ (TableChange.Steps id m m′ st left act seat made moves) whole)
+each_step_happens_or_rests s t r r′ (TableChange.Splits v first more seat fast slow reads moves) whole =
+    nothing s t (each_step_is_one_event s t r r′ (TableChange.Splits v first more seat fast slow reads moves) whole)

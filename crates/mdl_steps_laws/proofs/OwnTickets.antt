@@ -12,7 +12,7 @@ use Rattle.mdl_book.specs.declared.ticket.Ticket.{Ticket}
 use Rattle.mdl_book.specs.Tickets.{is_ticket, ticket_of}
 use Rattle.mdl_book.proofs.TicketLemmas.{find-contains}
 use Rattle.mdl_steps.specs.declared.slot.Slot.{Slot}
-use Rattle.mdl_steps.specs.declared.view.Own.{Own}
+use Rattle.mdl_steps.specs.declared.view.SessionTicket.{SessionTicket}
 use Rattle.mdl_steps.specs.declared.view.View.{View}
 use Rattle.mdl_steps.specs.Cells.{Part, all_fast, cell, due, own_at, part_at, ticket_by, waits}
 use Rattle.mdl_steps.specs.Lists.{Each, Once}
@@ -36,10 +36,10 @@ pub each_in : {A : Type 0} → (P : A → Type 0) (xs : List A) → Each P xs �
 each_in P [] all x among = absurd (Contains-none x among)
 each_in P (y ∷ ys) all x among = elim (Contains-cons_cases y ys x among) [ inl later ↦ each_in P ys all.1 x later | inr here ↦ subst P (sym here) all.0 ]
 
-pub own_among : (place : ℕ) (ts : List Own) (o : Own) → Contains (own_at place ts) o → Contains ts o
+pub own_among : (place : ℕ) (ts : List SessionTicket) (o : SessionTicket) → Contains (own_at place ts) o → Contains ts o
 own_among place [] o among = among
 own_among place (t ∷ ts) o among =
-    let picked : Bool → List Own = λ b. cond {A = List Own} b (t ∷ own_at place ts) (own_at place ts) in
+    let picked : Bool → List SessionTicket = λ b. cond {A = List SessionTicket} b (t ∷ own_at place ts) (own_at place ts) in
     by_bool (t.place == place)
     (λ here. elim (Contains-cons_cases t (own_at place ts) o (subst (λ (b : Bool). Contains (picked b) o) here among)) [
       | inl later ↦ Contains-later t ts o (own_among place ts o later)
@@ -47,7 +47,7 @@ own_among place (t ∷ ts) o among =
     ])
     (λ away. Contains-later t ts o (own_among place ts o (subst (λ (b : Bool). Contains (picked b) o) away among)))
 
-each_fast : (P : Ticket → Type 0) (parts : List Part) → ((m : ℕ) (x : Part) → get_elem? parts m ≡ some x → (o : Own) → Contains x.fast o → P (ticket_by x.number o))
+each_fast : (P : Ticket → Type 0) (parts : List Part) → ((m : ℕ) (x : Part) → get_elem? parts m ≡ some x → (o : SessionTicket) → Contains x.fast o → P (ticket_by x.number o))
     → (t : Ticket) → Contains (all_fast parts) t → P t
 each_fast P [] all t among = absurd (Contains-none t among)
 each_fast P (x ∷ xs) all t among = elim (Contains-append_cases (map (ticket_by x.number) x.fast) (all_fast xs) t among) [
@@ -56,7 +56,7 @@ each_fast P (x ∷ xs) all t among = elim (Contains-append_cases (map (ticket_by
 ]
 
 -- none of these tickets has the next number
-fresh : (session next : ℕ) (ts : List Own) → ((o : Own) → Contains ts o → o.number < next) → ticket_of session next (map (ticket_by session) ts) ≡ None
+fresh : (session next : ℕ) (ts : List SessionTicket) → ((o : SessionTicket) → Contains ts o → o.number < next) → ticket_of session next (map (ticket_by session) ts) ≡ None
 fresh session next [] all = refl
 fresh session next (t ∷ ts) all =
     rw (of_other_number session next (ticket_by session t) (let below = all t (Contains-here t ts) in λ e. omega arith))
@@ -73,10 +73,10 @@ none_found session number (t ∷ ts) none = by_bool (is_ticket session number t)
 
 module _ (s : State Slot View) (r : Rule s) (j : ℕ) (v : View) (seat : get_elem? s.views j ≡ some v) where
   -- a fast ticket and a slow one of a place have different numbers
-  unlike_there : (place : ℕ) (fast slow : Own) → Contains (own_at place v.fast) fast → Contains (own_at place v.slow) slow → slow.number ≢ fast.number
+  unlike_there : (place : ℕ) (fast slow : SessionTicket) → Contains (own_at place v.fast) fast → Contains (own_at place v.slow) slow → slow.number ≢ fast.number
   unlike_there place fast slow in_fast in_slow =
-      let place_of : (ts : List Own) (o : Own) → Contains (own_at place ts) o → o.place ≡ place = λ ts o within. eqb-true o.place place (filter_passes (λ (x : Own). x.place == place) ts o within) in
-      let unlike = each_in (λ (x : Own). Each (IsUnlike x) v.slow) v.fast (r.views j v seat).0.unmixed fast (own_among place v.fast fast in_fast) in
+      let place_of : (ts : List SessionTicket) (o : SessionTicket) → Contains (own_at place ts) o → o.place ≡ place = λ ts o within. eqb-true o.place place (filter_passes (λ (x : SessionTicket). x.place == place) ts o within) in
+      let unlike = each_in (λ (x : SessionTicket). Each (IsUnlike x) v.slow) v.fast (r.views j v seat).0.unmixed fast (own_among place v.fast fast in_fast) in
       each_in (IsUnlike fast) v.slow unlike slow (own_among place v.slow slow in_slow) (place_of v.slow slow in_slow ∙ sym (place_of v.fast fast in_fast))
 
   -- so no fast ticket there has the number of a slow one
@@ -91,10 +91,10 @@ module _ (s : State Slot View) (r : Rule s) (j : ℕ) (v : View) (seat : get_ele
       unlike_there place fast.0 slow.0 fast.1 slow.1 (ap (λ (x : Ticket). x.number) (sym slow.2) ∙ one ∙ sym other ∙ ap (λ (x : Ticket). x.number) fast.2))
 
   -- and no slow one has that of a fast one
-  pub none_slow : (place : ℕ) (o : Own) → Contains v.fast o → o.place ≡ place → ticket_of v.number o.number (map (ticket_by v.number) (own_at place v.slow)) ≡ None
+  pub none_slow : (place : ℕ) (o : SessionTicket) → Contains v.fast o → o.place ≡ place → ticket_of v.number o.number (map (ticket_by v.number) (own_at place v.slow)) ≡ None
   none_slow place o among here = none_found v.number o.number (map (ticket_by v.number) (own_at place v.slow)) (λ u listed is.
       let slow = Contains-map_from (ticket_by v.number) (own_at place v.slow) u listed in
-      let fast = filter_among (λ (x : Own). x.place == place) v.fast o among (eq-eqb o.place place here) in
+      let fast = filter_among (λ (x : SessionTicket). x.place == place) v.fast o among (eq-eqb o.place place here) in
       unlike_there place o slow.0 fast slow.1 (ap (λ (x : Ticket). x.number) (sym slow.2) ∙ (is_passed v.number o.number u is).1))
 
   module _ (some_number : 0 < v.number) where
@@ -110,7 +110,7 @@ module _ (s : State Slot View) (r : Rule s) (j : ℕ) (v : View) (seat : get_ele
         let u = at_unmap (part_at (waits s) place) s.views m x there in
         let mine : u.0 ≡ v = its_own m u.0 u.1 (ap (λ (p : Part). p.number) u.2 ∙ session) in
         let has : Contains (own_at place v.fast) o = subst (λ (w : View). Contains (own_at place w.fast) o) mine (subst (λ (p : Part). Contains p.fast o) (sym u.2) among) in
-        let below = each_in (λ (t : Own). t.number < v.next) v.fast (r.views j v seat).0.fast o (own_among place v.fast o has) in
+        let below = each_in (λ (t : SessionTicket). t.number < v.next) v.fast (r.views j v seat).0.fast o (own_among place v.fast o has) in
         omega arith)
 
     -- a fast ticket of the session is one of its view
@@ -137,7 +137,7 @@ module _ (s : State Slot View) (r : Rule s) (j : ℕ) (v : View) (seat : get_ele
         let numbered = (r.views j v seat).0 in
         let none = of_view v.next (λ u is same.
         let a = due_asked (suc i) v.number (waits s v.number) v.asks u is in let below = numbered.asks a.0 a.1 in let e = a.2 in omega arith)
-        ∙ fresh v.number v.next (own_at (suc i) v.slow) (λ o has. each_in (λ (x : Own). x.number < v.next) v.slow numbered.slow o (own_among (suc i) v.slow o has)) in
+        ∙ fresh v.number v.next (own_at (suc i) v.slow) (λ o has. each_in (λ (x : SessionTicket). x.number < v.next) v.slow numbered.slow o (own_among (suc i) v.slow o has)) in
         none-passes v.number v.next (placed s r i key at).book.granted none t among
         (subst (λ (n : ℕ). is_ticket n v.next t ≡ true) session (subst (λ (n : ℕ). is_ticket t.session n t ≡ true) number (is_itself t)))
 

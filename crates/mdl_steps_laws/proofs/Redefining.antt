@@ -2,8 +2,8 @@
 use Rattle.std.proofs.Common.{◌≡◌, ◌+◌, inl, inr, Some, refl, sym, ap, ◌∙◌, subst}
 use Rattle.mdl_key.specs.Words.{KeyName}
 use Rattle.mdl_defs.specs.declared.definition.Definition.{Definition}
-use Rattle.mdl_defs.specs.Standings.{applied}
-use Rattle.mdl_defs.proofs.StandingLemmas.{applied-changed}
+use Rattle.mdl_defs.specs.VersionedDefinitions.{applied}
+use Rattle.mdl_defs.proofs.VersionedDefinitionLemmas.{applied-changed}
 use Rattle.mdl_system.specs.BookLaws.{in_book, of_lock}
 use Rattle.mdl_system.specs.Events.{SameMembers}
 use Rattle.mdl_system.specs.Systems.{System, Versioned}

@@ -5,7 +5,7 @@ use lib.ListN.{get_elem?}
 use Rattle.atomic_table.specs.Table.{State}
 use Rattle.atomic_table.proofs.Lists.{at_set, set_else, set_here}
 use Rattle.std.specs.Option.{option_map_or}
-use Rattle.mdl_defs.specs.declared.standing.Standing.{Standing}
+use Rattle.mdl_defs.specs.declared.versioned_definition.VersionedDefinition.{VersionedDefinition}
 use Rattle.mdl_defs.specs.declared.definition.Definition.{Definition}
 use Rattle.mdl_defs.specs.Caches.{Kept, kept_of}
 use Rattle.mdl_key.specs.Words.{KeyName}
@@ -228,7 +228,7 @@ missing_directory_rests s r id me me′ seat st found at is taken play =
 -- ---- its version, without the latch
 
 learnt_version_rests : (s : State Slot View) → Rule s → (place : ℕ) → HasPlace s place → (id : ℕ) (me : Mine) → get_elem? s.views id ≡ some me.0
-    → (standing : Standing) → IsRest s (after_step s (version_word place) (get_or s.words (version_word place) 0) id (learnt_version place standing me))
+    → (standing : VersionedDefinition) → IsRest s (after_step s (version_word place) (get_or s.words (version_word place) 0) id (learnt_version place standing me))
 learnt_version_rests s r place has id me seat standing r′ =
     let w : View = (learnt_version place standing me).0 in
     let n : ℕ = get_or s.words (version_word place) 0 in

@@ -6,15 +6,15 @@ use lib.ListN.{get_elem?}
 use Rattle.atomic_table.specs.Table.{State}
 use Rattle.atomic_table.proofs.Lists.{at_map, at_set, set_here, set_else}
 use Rattle.mdl_key.specs.Words.{KeyName}
-use Rattle.mdl_defs.specs.declared.standing.Standing.{Standing}
-use Rattle.mdl_defs.specs.Standings.{standing_after}
+use Rattle.mdl_defs.specs.declared.versioned_definition.VersionedDefinition.{VersionedDefinition}
+use Rattle.mdl_defs.specs.VersionedDefinitions.{standing_after}
 use Rattle.mdl_book.specs.declared.book_view.BookView.{BookView}
 use Rattle.mdl_book.specs.Books as books
 use Rattle.mdl_steps.specs.declared.deed.Deed.{Deed}
 use Rattle.mdl_steps.specs.declared.slot.Slot.{Slot}
 use Rattle.mdl_steps.specs.declared.slot.Slot.TheVariants as slot
 use Rattle.mdl_steps.specs.declared.view.LatchRecord.{LatchRecord}
-use Rattle.mdl_steps.specs.declared.view.Own.{Own}
+use Rattle.mdl_steps.specs.declared.view.SessionTicket.{SessionTicket}
 use Rattle.mdl_steps.specs.declared.view.View.{View}
 use Rattle.mdl_steps.specs.Cells.{Part, all_fast, held_at, holder_at, own_at, part_at, ticket_by, waits}
 use Rattle.mdl_steps.specs.Deeds.{all_booked}
@@ -86,14 +86,14 @@ module _ (s : State Slot View) (place n m id : ℕ) (homes : List (Maybe Slot)) 
 put_leaves : (place : ℕ) (ds : List Deed) (me : Mine) → Leaves place me.0 (unlatched place ds me).0
 put_leaves place ds me = record {
   number = refl;
-  fast = λ number q. ap (λ (ts : List Own). map (ticket_by number) (own_at q ts)) (all_done_fast place ds me.0);
+  fast = λ number q. ap (λ (ts : List SessionTicket). map (ticket_by number) (own_at q ts)) (all_done_fast place ds me.0);
   held_else = λ q else. held_at-undropped place q me.0.latches else;
 }
 
 lowering_leaves : (place : ℕ) (ds : List Deed) (found : ℕ) (book : BookView) (slow obtrusive : Bool) (me : Mine) → Leaves place me.0 (flags_lowered place ds found book slow obtrusive me).0
 lowering_leaves place ds found book slow obtrusive me = record {
   number = refl;
-  fast = λ number q. ap (λ (ts : List Own). map (ticket_by number) (own_at q ts)) (all_done_fast place ds me.0);
+  fast = λ number q. ap (λ (ts : List SessionTicket). map (ticket_by number) (own_at q ts)) (all_done_fast place ds me.0);
   held_else = λ q else. held_at-unchanged place (lowered ds book slow obtrusive) (λ x. refl) q me.0.latches else;
 }
 
@@ -157,7 +157,7 @@ lowering_does s r old new are i key at id me seat h holds ds found left slow obt
     (ap (λ (l : Lock). l.fast) done.0) done.1
 
 -- what is noted under tickets changes none of them
-pub noted_alike : (place version number q : ℕ) (ts : List Own) → map (ticket_by number) (own_at q (noting_version place version ts)) ≡ map (ticket_by number) (own_at q ts)
+pub noted_alike : (place version number q : ℕ) (ts : List SessionTicket) → map (ticket_by number) (own_at q (noting_version place version ts)) ≡ map (ticket_by number) (own_at q ts)
 noted_alike place version number q [] = refl
 noted_alike place version number q (t ∷ ts) = by_bool (t.place == place)
     (λ here. by_bool (t.place == q)
@@ -170,7 +170,7 @@ noted_alike place version number q (t ∷ ts) = by_bool (t.place == place)
 pub writing_redefines : WritingRedefines
 writing_redefines s r old new are i key at id me seat h holds change r′ done elsewhere =
     let place : ℕ = suc i in
-    let standing : Standing = standing_after change h.book.standing in
+    let standing : VersionedDefinition = standing_after change h.book.standing in
     recorded s r old new are i key at id me.0 (redefined place standing me).0 seat (record {
       number = refl;
       fast = λ number q. noted_alike place standing.version number q me.0.fast;

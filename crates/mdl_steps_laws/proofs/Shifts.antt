@@ -11,7 +11,7 @@ use Rattle.mdl_steps.specs.declared.deed.Deed.TheVariants.{Gain, Alter, Lose}
 use Rattle.mdl_steps.specs.declared.slot.Slot.{Slot}
 use Rattle.mdl_steps.specs.declared.step_kind.StepKind.TheVariants as step
 use Rattle.mdl_steps.specs.declared.view.Ask.{Ask}
-use Rattle.mdl_steps.specs.declared.view.Met.{Met}
+use Rattle.mdl_steps.specs.declared.view.StepRecord.{StepRecord}
 use Rattle.mdl_steps.specs.declared.view.View.{View}
 use Rattle.mdl_steps.specs.Cells.{waits}
 use Rattle.mdl_steps.specs.Deeds.{all_booked, all_next, next_after}
@@ -29,7 +29,7 @@ pub record Shifts (st : Step Slot) (found : ℕ) (m m′ : Mine) : Type 0 where
   pub number : m′.0.number ≡ m.0.number
   pub next : m.0.next ≤ m′.0.next
   pub asks : (a : Ask) → m′.0.asks ≡ Some a → ((m.0.asks ≡ Some a) × (m′.0.waits ≡ m.0.waits)) ⊎ (m.0.next ≤ a.number)
-  pub last : Met
+  pub last : StepRecord
   pub log : m′.0.log ≡ m.0.log ++ last ∷ []
   pub meets : OnlyMeets last.kind → (last.word ≡ st.word) × (last.found ≡ found) × (last.held ≡ m.0.latches)
 
@@ -48,7 +48,7 @@ module _ (m : Mine) (st : Step Slot) where
 
   -- the wait is as it was
   plain : (found : ℕ) (m′ n : Mine) → m′ ≡ n → n.0.number ≡ m.0.number → m.0.next ≤ n.0.next → n.0.asks ≡ m.0.asks → n.0.waits ≡ m.0.waits
-      → (last : Met) → n.0.log ≡ m.0.log ++ last ∷ [] → (OnlyMeets last.kind → (last.word ≡ st.word) × (last.found ≡ found) × (last.held ≡ m.0.latches)) → Shifts st found m m′
+      → (last : StepRecord) → n.0.log ≡ m.0.log ++ last ∷ [] → (OnlyMeets last.kind → (last.word ≡ st.word) × (last.found ≡ found) × (last.held ≡ m.0.latches)) → Shifts st found m m′
   plain found m′ n e number next asks waits last log meets = via found m′ n e (record {
     number = number;
     next = next;

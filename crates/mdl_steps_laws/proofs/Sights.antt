@@ -20,7 +20,7 @@ use Rattle.mdl_graph.specs.WaitsFor.{SessionTest, holds_against, is_tied, is_uns
 use Rattle.mdl_steps.specs.declared.slot.Slot.{Slot}
 use Rattle.mdl_steps.specs.declared.view.Keys.{Keys}
 use Rattle.mdl_steps.specs.declared.view.LatchRecord.{LatchRecord}
-use Rattle.mdl_steps.specs.declared.view.Met.{Met}
+use Rattle.mdl_steps.specs.declared.view.StepRecord.{StepRecord}
 use Rattle.mdl_steps.specs.declared.view.View.{View}
 use Rattle.mdl_steps.specs.Cells.{desk_of, held_at, holder_at, waits}
 use Rattle.mdl_steps.specs.Layout.{wait_word}
@@ -56,7 +56,7 @@ IsAmong latches books p = (h : LatchRecord) × (held_at p latches ≡ Some h) ×
 -- a step in the list only met the word of the session's wait, which wasn't open, while the list's session had just the records of latches that it has now
 abbrev pub WasMetSettled : ℕ → View → ℕ → Type 0
 WasMetSettled slots v session =
-    (e : Met) × Contains v.log e × OnlyMeets e.kind × (e.word ≡ wait_word slots session) × (e.held ≡ v.latches) × (wait_state e.found ≢ unsettled_state)
+    (e : StepRecord) × Contains v.log e × OnlyMeets e.kind × (e.word ≡ wait_word slots session) × (e.held ≡ v.latches) × (wait_state e.found ≢ unsettled_state)
 
 -- a session holds the directory's latch, and those of the places of all its keys. These books have those of their records among them, and each of these
 -- sessions is settled by a word that was met

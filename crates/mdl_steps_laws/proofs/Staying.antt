@@ -7,10 +7,10 @@ use mathlib.Core.Option.{Option as Maybe, some, some-injective}
 use lib.ListN.{get_elem?}
 use Rattle.atomic_table.specs.Table.{Act, State, carried_after, chain, gives, homes_after, keeps, put_back, takes}
 use Rattle.atomic_table.proofs.Lists.{at_longer, at_map, set_else, set_here}
-use Rattle.mdl_defs.specs.declared.standing.Standing.{Standing}
+use Rattle.mdl_defs.specs.declared.versioned_definition.VersionedDefinition.{VersionedDefinition}
 use Rattle.mdl_book.specs.declared.book_view.BookView.{BookView}
 use Rattle.mdl_steps.specs.declared.slot.Slot.{Slot}
-use Rattle.mdl_steps.specs.declared.view.Own.{Own}
+use Rattle.mdl_steps.specs.declared.view.SessionTicket.{SessionTicket}
 use Rattle.mdl_steps.specs.declared.view.View.{View}
 use Rattle.mdl_steps.specs.Cells.{holder_at}
 use Rattle.mdl_steps.specs.Deeds.{is_own}
@@ -21,12 +21,12 @@ use Rattle.mdl_steps.proofs.Views.{at_inside, by_bool}
 use Rattle.mdl_system.proofs.Deciding.{nat_told}
 use Rattle.mdl_system.proofs.MemberLemmas.{Contains-map, Contains-map_from}
 use Rattle.mdl_steps_laws.specs.Headline.{DefinitionsStay, Follow, HasNoted, HasPlace, HasRead, HitsNote, LearnsOf, NotesStay, ReadingsNote, Stands, VersionsNote}
-use Rattle.mdl_steps_laws.specs.SessionSteps.{Turn}
+use Rattle.mdl_steps_laws.specs.SessionSteps.{TableChange}
 use Rattle.mdl_steps_laws.proofs.Keeping.{Kept, own_is, own_parts}
 use Rattle.mdl_steps_laws.proofs.NotesKept.{noted_stands, read_stands}
 use Rattle.mdl_steps_laws.proofs.StepsKeep.{made_keeps}
 
--- ---- one turn
+-- ---- one change
 
 keeps_noted : (place number version : ℕ) (v w : View) → Kept place number version (v.slow ++ v.fast) (w.slow ++ w.fast) → HasNoted place number version v → HasNoted place number version w
 keeps_noted place number version v w kept noted =
@@ -38,7 +38,7 @@ keeps_noted place number version v w kept noted =
     }
 
 pub notes_stay : NotesStay
-notes_stay s t r (Turn.Steps id m m′ st left act there made moves) place has seat number version spares v at noted = elim (nat_told id seat) [
+notes_stay s t r (TableChange.Steps id m m′ st left act there made moves) place has seat number version spares v at noted = elim (nat_told id seat) [
   | inl mine ↦
       let is : m.0 ≡ v = some-injective m.0 v (sym there ∙ ap (get_elem? s.views) mine ∙ at) in
       let seat_there : get_elem? s.views seat ≡ some m.0 = at ∙ ap (λ (x : View). some x) (sym is) in
@@ -53,7 +53,7 @@ notes_stay s t r (Turn.Steps id m m′ st left act there made moves) place has s
       )
   | inr other ↦ (v, ap (λ (x : State Slot View). get_elem? x.views seat) moves ∙ set_else s.views id seat m′.0 (λ e. other (sym e)) ∙ at, noted, λ standing read. read)
 ]
-notes_stay s t r (Turn.Splits u first more there fast slow reads moves) place has seat number version spares v at noted = elim (nat_told 0 seat) [
+notes_stay s t r (TableChange.Splits u first more there fast slow reads moves) place has seat number version spares v at noted = elim (nat_told 0 seat) [
   | inl mine ↦
       let is : u ≡ v = some-injective u v (sym there ∙ ap (get_elem? s.views) mine ∙ at) in
       let now : get_elem? (set s.views 0 first) seat ≡ some first =
@@ -76,7 +76,7 @@ notes_stay s t r (Turn.Splits u first more there fast slow reads moves) place ha
   )
 ]
 
--- ---- many turns
+-- ---- many changes
 
 put_back-length : (hs : List (Maybe Slot)) (c : List (ℕ × Slot)) → length (put_back hs c) ≡ length hs
 put_back-length hs [] = refl
@@ -88,11 +88,11 @@ homes-length hs c (takes k y) = length-set hs k Maybe.none
 homes-length hs c gives = put_back-length hs c
 homes-length hs c (chain a b) = homes-length (homes_after hs c a) (carried_after c a) b ∙ homes-length hs c a
 
-turn-places : (s t : State Slot View) → Turn s t → length t.homes ≡ length s.homes
-turn-places s t (Turn.Steps id m m′ st left act there made moves) = ap (λ (x : State Slot View). length x.homes) moves ∙ homes-length s.homes m.1 act
-turn-places s t (Turn.Splits u first more there fast slow reads moves) = ap (λ (x : State Slot View). length x.homes) moves
+turn-places : (s t : State Slot View) → TableChange s t → length t.homes ≡ length s.homes
+turn-places s t (TableChange.Steps id m m′ st left act there made moves) = ap (λ (x : State Slot View). length x.homes) moves ∙ homes-length s.homes m.1 act
+turn-places s t (TableChange.Splits u first more there fast slow reads moves) = ap (λ (x : State Slot View). length x.homes) moves
 
-all_stay : (s : State Slot View) → Rule s → (place : ℕ) → HasPlace s place → (seat number : ℕ) (v : View) → get_elem? s.views seat ≡ some v → (standing : Standing)
+all_stay : (s : State Slot View) → Rule s → (place : ℕ) → HasPlace s place → (seat number : ℕ) (v : View) → get_elem? s.views seat ≡ some v → (standing : VersionedDefinition)
     → HasNoted place number standing.version v → HasRead place standing v → (t : State Slot View) (between : List (State Slot View)) → Follow seat place number s between t → Stands t place standing
 all_stay s r place has seat number v at standing noted read t [] follow =
     subst (λ (x : State Slot View). Stands x place standing) follow (read_stands s r place has seat v at standing read (noted_stands s r place has seat v at number standing.version noted))
@@ -110,18 +110,18 @@ definitions_stay s r place has seat number v at standing noted read t between fo
 
 -- ---- a reading
 
-noted_all : (place version : ℕ) (ts : List Own) (t : Own) → Contains (noting_version place version ts) t → t.place ≡ place → t.noted ≡ Some version
+noted_all : (place version : ℕ) (ts : List SessionTicket) (t : SessionTicket) → Contains (noting_version place version ts) t → t.place ≡ place → t.noted ≡ Some version
 noted_all place version ts t among here =
-    let from = Contains-map_from (λ (o : Own). cond (o.place == place) (record o { noted = Some version }) o) ts t among in
+    let from = Contains-map_from (λ (o : SessionTicket). cond (o.place == place) (record o { noted = Some version }) o) ts t among in
     by_bool (from.0.place == place)
-    (λ at. let is : t ≡ record from.0 { noted = Some version } = rw at at from.2 in ap (λ (o : Own). o.noted) is)
-    (λ away. let is : t ≡ from.0 = rw away at from.2 in let at = eq-eqb from.0.place place (ap (λ (o : Own). o.place) (sym is) ∙ here) in absurd (cc))
+    (λ at. let is : t ≡ record from.0 { noted = Some version } = rw at at from.2 in ap (λ (o : SessionTicket). o.noted) is)
+    (λ away. let is : t ≡ from.0 = rw away at from.2 in let at = eq-eqb from.0.place place (ap (λ (o : SessionTicket). o.place) (sym is) ∙ here) in absurd (cc))
 
 -- the view after it, by its tickets alone
-noted_by_all : (place version : ℕ) (slow fast : List Own) (t : Own) → Contains (slow ++ fast) t → t.place ≡ place
-    → (now : Own) × (Contains (noting_version place version slow ++ noting_version place version fast) now × (is_own place t.number now ≡ true))
+noted_by_all : (place version : ℕ) (slow fast : List SessionTicket) (t : SessionTicket) → Contains (slow ++ fast) t → t.place ≡ place
+    → (now : SessionTicket) × (Contains (noting_version place version slow ++ noting_version place version fast) now × (is_own place t.number now ≡ true))
 noted_by_all place version slow fast t among here =
-    let f : Own → Own = λ o. cond (o.place == place) (record o { noted = Some version }) o in
+    let f : SessionTicket → SessionTicket = λ o. cond (o.place == place) (record o { noted = Some version }) o in
     let same : is_own place t.number (f t) ≡ true = by_bool (t.place == place) (λ at. rw at (own_is place t.number t here refl)) (λ away. rw away (own_is place t.number t here refl)) in (
       f t,
       (
@@ -135,14 +135,14 @@ noted_by_all place version slow fast t among here =
 
 -- a view whose tickets at the place have the note
 noted_by : (place version : ℕ) (v w : View) → w.slow ≡ noting_version place version v.slow → w.fast ≡ noting_version place version v.fast
-    → (t : Own) → Contains (v.slow ++ v.fast) t → t.place ≡ place → HasNoted place t.number version w
+    → (t : SessionTicket) → Contains (v.slow ++ v.fast) t → t.place ≡ place → HasNoted place t.number version w
 noted_by place version v w slow fast t among here =
     let now = noted_by_all place version v.slow v.fast t among here in
     let both : w.slow ++ w.fast ≡ noting_version place version v.slow ++ noting_version place version v.fast = λ i. slow i ++ fast i in
     record {
       ticket = now.0;
-      has = (subst (λ (ts : List Own). Contains ts now.0) (sym both) now.1.0, now.1.1);
-      noted = λ o had. elim (Contains-append_cases (noting_version place version v.slow) (noting_version place version v.fast) o (subst (λ (ts : List Own). Contains ts o) both had.0)) [
+      has = (subst (λ (ts : List SessionTicket). Contains ts now.0) (sym both) now.1.0, now.1.1);
+      noted = λ o had. elim (Contains-append_cases (noting_version place version v.slow) (noting_version place version v.fast) o (subst (λ (ts : List SessionTicket). Contains ts o) both had.0)) [
         | inl old ↦ noted_all place version v.slow o old (own_parts place t.number o had.1).0
         | inr new ↦ noted_all place version v.fast o new (own_parts place t.number o had.1).0
       ];
@@ -151,7 +151,7 @@ noted_by place version v w slow fast t among here =
 pub readings_note : ReadingsNote
 readings_note s r place has seat m m′ there st found may at play =
     let h = may.0 in
-    let standing : Standing = h.book.standing in
+    let standing : VersionedDefinition = h.book.standing in
     let e : m′ ≡ read_and_put place standing m = play.1 place h.book at may.1.holds.carried in
     let ok = r.places place has.0 has.1 in
     let held = ok.held seat (holder_at place m.0) (at_map (holder_at place) s.views seat m.0 there) h may.1.holds.recorded in
@@ -169,7 +169,7 @@ readings_note s r place has seat m m′ there st found may at play =
 
 -- ---- a version
 
-learns_of : (place : ℕ) (standing : Standing) (m m′ : Mine) → m′.0.slow ≡ noting_version place standing.version m.0.slow
+learns_of : (place : ℕ) (standing : VersionedDefinition) (m m′ : Mine) → m′.0.slow ≡ noting_version place standing.version m.0.slow
     → m′.0.fast ≡ noting_version place standing.version m.0.fast → HasRead place standing m′.0 → LearnsOf place standing m m′
 learns_of place standing m m′ slow fast read = record {
   read = read;

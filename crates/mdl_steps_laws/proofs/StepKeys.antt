@@ -10,7 +10,7 @@ use Rattle.mdl_book.specs.declared.ticket.Ticket.{Ticket}
 use Rattle.mdl_book.specs.Tickets.{ticket_of}
 use Rattle.mdl_steps.specs.declared.slot.Slot.{Slot}
 use Rattle.mdl_steps.specs.declared.view.LatchRecord.{LatchRecord}
-use Rattle.mdl_steps.specs.declared.view.Known.{Known}
+use Rattle.mdl_key.specs.declared.known_key.KnownKey.{KnownKey}
 use Rattle.mdl_steps.specs.declared.view.View.{View}
 use Rattle.mdl_steps.specs.Cells.{held_at, holder_at}
 use Rattle.mdl_steps.specs.Deeds.{KnowsPlace}
@@ -31,7 +31,7 @@ module _ (s : State Slot View) (r : Rule s) (id : ℕ) (v : View) (seat : get_el
   -- the session knows a key there
   pub known_key : KnowsPlace v (suc i) → (key : KeyName) × (get_elem? r.keys i ≡ some key)
   known_key knows =
-      let stands = each_at (λ (x : Known). (0 < x.place) × (key_at r.keys x.place ≡ Some x.key)) v.known (r.views id v seat).1 knows.0 knows.1 knows.2 in
+      let stands = each_at (λ (x : KnownKey). (0 < x.place) × (key_at r.keys x.place ≡ Some x.key)) v.known (r.views id v seat).1 knows.0 knows.1 knows.2 in
       (knows.1.key, key_here r.keys i knows.1.key (ap (key_at r.keys) (sym knows.3) ∙ stands.1))
 
   module _ (has : HasPlace s (suc i)) (h : LatchRecord) (holds : held_at (suc i) v.latches ≡ Some h) where

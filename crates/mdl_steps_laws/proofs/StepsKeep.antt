@@ -17,8 +17,8 @@ use Rattle.mdl_steps.specs.declared.slot.Slot.{Slot}
 use Rattle.mdl_steps.specs.declared.step_kind.StepKind.TheVariants as step
 use Rattle.mdl_steps.specs.declared.view.Ask.{Ask}
 use Rattle.mdl_steps.specs.declared.view.LatchRecord.{LatchRecord}
-use Rattle.mdl_steps.specs.declared.view.Own.{Own}
-use Rattle.mdl_steps.specs.declared.view.Read.{Read}
+use Rattle.mdl_steps.specs.declared.view.SessionTicket.{SessionTicket}
+use Rattle.mdl_defs.specs.declared.reading.Reading.{Reading}
 use Rattle.mdl_steps.specs.declared.view.View.{View}
 use Rattle.mdl_steps.specs.Cells.{held_at, holder_at, note_at, own_at}
 use Rattle.mdl_steps.specs.Deeds.{MayDo, all_booked, all_owned, is_own}
@@ -45,7 +45,7 @@ use Rattle.mdl_steps_laws.proofs.OwnTickets.{each_in}
 module _ (place number version : ℕ) where
   pub record Keeps (v w : View) : Type 0 where
     pub tickets : Kept place number version (v.slow ++ v.fast) (w.slow ++ w.fast)
-    pub reads : (x : Read) → Contains v.reads x → Contains w.reads x
+    pub reads : (x : Reading) → Contains v.reads x → Contains w.reads x
 
   -- where the tickets and the reads are the same
   leaves : (v w : View) → w.slow ≡ v.slow → w.fast ≡ v.fast → w.reads ≡ v.reads → Keeps v w
@@ -56,24 +56,24 @@ module _ (place number version : ℕ) where
 
   -- ---- to materialise
 
-  module _ (q : ℕ) (slow fast : List Own) where
-    joined_back : (t : Own) → Contains (interleaved slow (own_at q fast) ++ but_at q fast) t → Contains (slow ++ fast) t
+  module _ (q : ℕ) (slow fast : List SessionTicket) where
+    joined_back : (t : SessionTicket) → Contains (interleaved slow (own_at q fast) ++ but_at q fast) t → Contains (slow ++ fast) t
     joined_back t among = elim (Contains-append_cases (interleaved slow (own_at q fast)) (but_at q fast) t among) [
       | inl here ↦ elim (Contains-interleaved_cases t slow (own_at q fast) here) [
         | inl old ↦ Contains-append_left slow fast t old
-        | inr moved ↦ Contains-append_right slow fast t (among_filter (λ (o : Own). o.place == q) fast t moved)
+        | inr moved ↦ Contains-append_right slow fast t (among_filter (λ (o : SessionTicket). o.place == q) fast t moved)
       ]
-      | inr away ↦ Contains-append_right slow fast t (among_filter (λ (o : Own). not (o.place == q)) fast t away)
+      | inr away ↦ Contains-append_right slow fast t (among_filter (λ (o : SessionTicket). not (o.place == q)) fast t away)
     ]
 
-    joined_ahead : (t : Own) → Contains (slow ++ fast) t → Contains (interleaved slow (own_at q fast) ++ but_at q fast) t
+    joined_ahead : (t : SessionTicket) → Contains (slow ++ fast) t → Contains (interleaved slow (own_at q fast) ++ but_at q fast) t
     joined_ahead t among = elim (Contains-append_cases slow fast t among) [
       | inl old ↦ Contains-append_left (interleaved slow (own_at q fast)) (but_at q fast) t (Contains-interleaved_slow t slow (own_at q fast) old)
       | inr kept ↦ by_bool (t.place == q)
           (λ here. Contains-append_left (interleaved slow (own_at q fast)) (but_at q fast) t
-          (Contains-interleaved_fast t slow (own_at q fast) (filter_among (λ (o : Own). o.place == q) fast t kept here)))
+          (Contains-interleaved_fast t slow (own_at q fast) (filter_among (λ (o : SessionTicket). o.place == q) fast t kept here)))
           (λ away. Contains-append_right (interleaved slow (own_at q fast)) (but_at q fast) t
-          (filter_among (λ (o : Own). not (o.place == q)) fast t kept (rw away refl)))
+          (filter_among (λ (o : SessionTicket). not (o.place == q)) fast t kept (rw away refl)))
     ]
 
     kept_joined : Kept place number version (slow ++ fast) (interleaved slow (own_at q fast) ++ but_at q fast)
@@ -92,8 +92,8 @@ module _ (s : State Slot View) (r : Rule s) (place : ℕ) (has : HasPlace s plac
       let mine = own_parts place number noted.ticket noted.has.1 in
       let numbered = (r.views seat m.0 there).0 in
       let is : noted.ticket.number < m.0.next = elim (Contains-append_cases m.0.slow m.0.fast noted.ticket noted.has.0) [
-        | inl old ↦ each_in (λ (t : Own). t.number < m.0.next) m.0.slow numbered.slow noted.ticket old
-        | inr fast ↦ each_in (λ (t : Own). t.number < m.0.next) m.0.fast numbered.fast noted.ticket fast
+        | inl old ↦ each_in (λ (t : SessionTicket). t.number < m.0.next) m.0.slow numbered.slow noted.ticket old
+        | inr fast ↦ each_in (λ (t : SessionTicket). t.number < m.0.next) m.0.fast numbered.fast noted.ticket fast
       ] in
       subst (λ (n : ℕ). n < m.0.next) mine.1 is
 
@@ -103,7 +103,7 @@ module _ (s : State Slot View) (r : Rule s) (place : ℕ) (has : HasPlace s plac
       let mine = own_parts place number noted.ticket noted.has.1 in
       let numbered = (r.views seat m.0 there).0 in
       elim (Contains-append_cases m.0.slow m.0.fast noted.ticket noted.has.0) [
-        | inl old ↦ each_in (λ (t : Own). t.number ≢ a.number) m.0.slow (numbered.apart a asks) noted.ticket old (mine.1 ∙ sym same)
+        | inl old ↦ each_in (λ (t : SessionTicket). t.number ≢ a.number) m.0.slow (numbered.apart a asks) noted.ticket old (mine.1 ∙ sym same)
         | inr fast ↦ Contains-none noted.ticket (subst (λ ts. Contains ts noted.ticket) (numbered.unfast a asks) fast)
       ]
 
@@ -122,11 +122,11 @@ module _ (s : State Slot View) (r : Rule s) (place : ℕ) (has : HasPlace s plac
       (kept_noting place number version q standing same m.0.slow) (kept_noting place number version q standing same m.0.fast)
 
   -- the slow ones change
-  slow_alone : (slow : List Own) → Kept place number version m.0.slow slow → Kept place number version (m.0.slow ++ m.0.fast) (slow ++ m.0.fast)
+  slow_alone : (slow : List SessionTicket) → Kept place number version m.0.slow slow → Kept place number version (m.0.slow ++ m.0.fast) (slow ++ m.0.fast)
   slow_alone slow kept = kept_both place number version m.0.slow slow m.0.fast m.0.fast kept (kept_same place number version m.0.fast)
 
   -- the fast ones change
-  fast_alone : (fast : List Own) → Kept place number version m.0.fast fast → Kept place number version (m.0.slow ++ m.0.fast) (m.0.slow ++ fast)
+  fast_alone : (fast : List SessionTicket) → Kept place number version m.0.fast fast → Kept place number version (m.0.slow ++ m.0.fast) (m.0.slow ++ fast)
   fast_alone fast kept = kept_both place number version m.0.slow m.0.slow m.0.fast fast (kept_same place number version m.0.slow) kept
 
   taken : (asks : Option Ask) → m.0.asks ≡ asks → Kept place number version m.0.slow (m.0.slow ++ taken_over asks m.0.slow)

@@ -4,8 +4,8 @@ use mathlib.Core.Option.{some}
 use lib.ListN.{get_elem?}
 use Rattle.atomic_table.specs.Table.{State}
 use Rattle.mdl_key.specs.Words.{KeyName}
-use Rattle.mdl_defs.specs.declared.standing.Standing.{Standing}
-use Rattle.mdl_defs.specs.Standings.{standing_after}
+use Rattle.mdl_defs.specs.declared.versioned_definition.VersionedDefinition.{VersionedDefinition}
+use Rattle.mdl_defs.specs.VersionedDefinitions.{standing_after}
 use Rattle.mdl_book.specs.declared.book_view.BookView.{BookView}
 use Rattle.mdl_steps.specs.declared.deed.Deed.{Deed}
 use Rattle.mdl_steps.specs.declared.deed.Deed.TheVariants.{Gain, Alter, Lose}
@@ -68,7 +68,7 @@ turns_by s r key lock old told are by =
     let same = locks_once s r told (λ k. turned lock (old k) (key_told k key)) are (by (λ k. turned lock (old k) (key_told k key)) here else) in
     (same key ∙ here, λ k away. same k ∙ else k away)
 
--- the waiting lists that a turn leaves
+-- the waiting lists that a change leaves
 pub lists_stay : (key : KeyName) (lock : Lock) (old new : KeyName → Lock) → (new key ≡ lock) × SameElsewhere key old new → lock.book.waiting ≡ (old key).book.waiting
     → (k : KeyName) → (new k).book.waiting ≡ (old k).book.waiting
 lists_stay key lock old new turns same k = elim (key_told k key) [
@@ -122,7 +122,7 @@ lowering_is_done s r keys keys_are i key at id me seat h holds ds found left slo
 pub writing_is_done : WritingIsDone
 writing_is_done s r keys keys_are i key at id me seat h holds change r′ a b told then_ =
     let last = inside s r keys keys_are i key at in
-    let standing : Standing = standing_after change h.book.standing in
+    let standing : VersionedDefinition = standing_after change h.book.standing in
     let turns = turns_by (after_writing s (suc i) (standing_after change h.book.standing) id me) r′ key (lock_redefined change (told.0 key)) told.0 then_.0 then_.1
     (λ new here else. writing_redefines s r told.0 new told.1 i key (in_locks s r keys keys_are i key at told.0 told.1) id me seat h holds change r′ here else) in
     let words : (m : ℕ) → waits (after_writing s (suc i) (standing_after change h.book.standing) id me) m ≡ waits s m = λ m.

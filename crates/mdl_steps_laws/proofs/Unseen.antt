@@ -8,7 +8,7 @@ use lib.ListN.{get_elem?}
 use Rattle.atomic_table.specs.Table.{Act, State, Step, stepped}
 use Rattle.mdl_key.specs.Words.{KeyName}
 use Rattle.mdl_defs.specs.declared.definition.Definition.{Definition}
-use Rattle.mdl_defs.specs.Standings.{applied}
+use Rattle.mdl_defs.specs.VersionedDefinitions.{applied}
 use Rattle.mdl_steps.specs.declared.slot.Slot.{Slot}
 use Rattle.mdl_steps.specs.declared.view.View.{View}
 use Rattle.mdl_steps.specs.Cells.{waits}
@@ -16,8 +16,8 @@ use Rattle.mdl_steps.specs.Plays.{Mine}
 use Rattle.mdl_steps.specs.Rule.{Rule}
 use Rattle.mdl_steps.specs.Sights.{SeesNoDeadlock}
 use Rattle.mdl_steps.specs.WaitStates.{unsettled_state, wait_in, wait_state}
-use Rattle.mdl_steps_laws.specs.EachStep.{BringsOrRests, IsWholeTurn}
-use Rattle.mdl_steps_laws.specs.SessionSteps.{Makes, Turn}
+use Rattle.mdl_steps_laws.specs.EachStep.{BringsOrRests, IsWholeChange}
+use Rattle.mdl_steps_laws.specs.SessionSteps.{Makes, TableChange}
 use Rattle.mdl_steps_laws.specs.WaitLaws.{IsTold}
 use Rattle.mdl_steps_laws.specs.WaitsTold.{code_of}
 use Rattle.mdl_steps_laws.proofs.EachStep.{each_step_is_one_event}
@@ -135,10 +135,10 @@ module _ (s t : State Slot View) (before : Reached s) (rule : Rule t) (none : (a
         | inr same ↦ rests keeps same
       ]
 
-  by_turn : (turn : Turn s t) → IsWholeTurn turn → DeadlocksGoThrough (has_mark t) b
+  by_turn : (turn : TableChange s t) → IsWholeChange turn → DeadlocksGoThrough (has_mark t) b
   unfolding a
-  by_turn (Turn.Steps id m m′ st left act seat made moves) whole =
-      let brought = each_step_is_one_event s t (rule_of s before) rule (Turn.Steps id m m′ st left act seat made moves) whole in
+  by_turn (TableChange.Steps id m m′ st left act seat made moves) whole =
+      let brought = each_step_is_one_event s t (rule_of s before) rule (TableChange.Steps id m m′ st left act seat made moves) whole in
       elim (mark_kept s t m st (get_or s.words st.word 0) m′ made) [
         | inl keep ↦ marks id m m′ st left act seat made moves brought keep
         | inr ends ↦
@@ -146,8 +146,8 @@ module _ (s t : State Slot View) (before : Reached s) (rule : Rule t) (none : (a
             (λ n else is. subst (λ (x : State Slot View). has_mark x n ≡ true) (sym moves) (any_kept n s.views id m.0 m′.0 seat (other_kept n m.0 m′.0 else) is))
             ((ends.2 brought).1 (a_system s (rule_of s before)).0 b (a_system s (rule_of s before)).1 told)
       ]
-  by_turn (Turn.Splits v first more seat fast slow reads moves) whole =
-      let brought = each_step_is_one_event s t (rule_of s before) rule (Turn.Splits v first more seat fast slow reads moves) whole in
+  by_turn (TableChange.Splits v first more seat fast slow reads moves) whole =
+      let brought = each_step_is_one_event s t (rule_of s before) rule (TableChange.Splits v first more seat fast slow reads moves) whole in
       rests (λ n is. subst (λ (x : State Slot View). has_mark x n ≡ true) (sym moves)
       (any_longer n (set s.views 0 first) (more ∷ []) (any_kept n s.views 0 v first seat
       (one_kept n v first (ap (λ (x : View). x.number) whole.0, λ marked. ap (λ (x : View). x.searches) whole.0 ∙ marked)) is)))

@@ -1,4 +1,4 @@
--- What holds of the table's system between any two steps, since the table was reached by whole turns: numbers are in order, and each deadlock goes through
+-- What holds of the table's system between any two steps, since the table was reached by whole changes: numbers are in order, and each deadlock goes through
 -- a session that has yet to search. A step that frees nothing forgets no waiter, and no waiter is forgotten where nobody owes a reschedule.
 use Rattle.std.specs.Prelude.{◌≡◌, ℕ, ◌==◌, ◌&&◌, Bool, false, List, [], ◌∷◌, length, slice_index, Some}
 use Rattle.std.specs.List.{list_any}
@@ -21,10 +21,10 @@ use Rattle.mdl_steps.specs.WaitStates.{unsettled_state, wait_state}
 use Rattle.mdl_system.specs.Deadlocks.{DeadlocksGoThrough, HasNoDeadlock, IsDeadlock}
 use Rattle.mdl_system.specs.NumberingLaws.{IsWellNumbered}
 use Rattle.mdl_system.specs.Systems.{System, NoneForgotten, NoneForgottenAt}
-use Rattle.mdl_steps_laws.specs.EachStep.{IsKeyAt, IsWholeTurn}
+use Rattle.mdl_steps_laws.specs.EachStep.{IsKeyAt, IsWholeChange}
 use Rattle.mdl_steps_laws.specs.Headline.{HasPlace}
 use Rattle.mdl_steps.specs.Histories.{Reached}
-use Rattle.mdl_steps_laws.specs.SessionSteps.{Makes, Turn}
+use Rattle.mdl_steps_laws.specs.SessionSteps.{Makes, TableChange}
 use Rattle.mdl_steps_laws.specs.WaitLaws.{IsTold}
 
 -- ---- numbers
@@ -95,13 +95,13 @@ FreesAndOpensNothing (Makes.EndsLost _ _ _ _ _ _) = ⊥
 FreesAndOpensNothing (Makes.ReleasesFast _ _ _ _) = ⊥
 FreesAndOpensNothing _ = Unit {0}
 
--- the turn is such a step, or splits a seat off
-abbrev pub TurnFreesAndOpensNothing : {s t : State Slot View} → Turn s t → Type 0
-TurnFreesAndOpensNothing (Turn.Steps _ _ _ _ _ _ _ made _) = FreesAndOpensNothing made
-TurnFreesAndOpensNothing (Turn.Splits _ _ _ _ _ _ _ _) = Unit {0}
+-- the change is such a step, or splits a seat off
+abbrev pub TurnFreesAndOpensNothing : {s t : State Slot View} → TableChange s t → Type 0
+TurnFreesAndOpensNothing (TableChange.Steps _ _ _ _ _ _ _ made _) = FreesAndOpensNothing made
+TurnFreesAndOpensNothing (TableChange.Splits _ _ _ _ _ _ _ _) = Unit {0}
 
--- by such a turn no waiter becomes forgotten, at any key
+-- by such a change no waiter becomes forgotten, at any key
 abbrev pub StepsThatFreeNothingForgetNobody : Type 0
 StepsThatFreeNothingForgetNobody =
-    (s t : State Slot View) → Rule s → Rule t → (turn : Turn s t) → IsWholeTurn turn → TurnFreesAndOpensNothing turn →
+    (s t : State Slot View) → Rule s → Rule t → (turn : TableChange s t) → IsWholeChange turn → TurnFreesAndOpensNothing turn →
     (a b : System Definition) → IsTold s a → IsTold t b → (key : KeyName) → NoneForgottenAt a key → NoneForgottenAt b key

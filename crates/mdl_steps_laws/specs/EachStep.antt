@@ -6,7 +6,7 @@ use lib.ListN.{get_elem?}
 use Rattle.atomic_table.specs.Table.{State, Step}
 use Rattle.mdl_key.specs.Words.{KeyName}
 use Rattle.mdl_defs.specs.declared.definition.Definition.{Definition}
-use Rattle.mdl_defs.specs.Standings.{applied}
+use Rattle.mdl_defs.specs.VersionedDefinitions.{applied}
 use Rattle.mdl_book.specs.declared.ticket.Ticket.{Ticket}
 use Rattle.mdl_steps.specs.declared.deed.Deed.{Deed}
 use Rattle.mdl_steps.specs.declared.slot.Slot.{Slot}
@@ -21,11 +21,11 @@ use Rattle.mdl_system.specs.BookLaws.{of_lock}
 use Rattle.mdl_system.specs.Events.{BeginWait, ChangeDefinition, EndGrantedWait, EndLostWait, Grant, GrantWaiter, Release, SameSystem, SettleLost, Step as SystemStep}
 use Rattle.mdl_system.specs.Systems.{System, Unsettled, WaitState}
 use Rattle.mdl_steps_laws.specs.Locks.{AreKeysOf}
-use Rattle.mdl_steps_laws.specs.SessionSteps.{Makes, Turn}
+use Rattle.mdl_steps_laws.specs.SessionSteps.{Makes, TableChange}
 use Rattle.mdl_steps_laws.specs.StepEvents.{BringsDeeds, IsOf}
 use Rattle.mdl_steps_laws.specs.WaitLaws.{Brings, IsTold, Rests, lost_as}
 use Rattle.mdl_steps_laws.specs.WaitsTold.{code_of}
-pub use Rattle.mdl_steps.specs.Turns.{Gives, HasLatch, IsWhole, IsWholeTurn, Meets, Swaps, Takes, Writes}
+pub use Rattle.mdl_steps.specs.TableChanges.{Gives, HasLatch, IsWhole, IsWholeChange, Meets, Swaps, Takes, Writes}
 
 -- ---- what it does in the system
 
@@ -71,20 +71,20 @@ BringsOrRests s t {st} {m} (Makes.ReleasesFast place number _ _) =
     Under s place (λ key. (x : Ticket) × IsOf m.0.number number x × Brings (Release (of_lock key x)) s t)
 BringsOrRests s t _ = Rests s t
 
--- the same for a turn. Splitting a seat off leaves the system unchanged
-abbrev pub TurnBrings : {s t : State Slot View} → Turn s t → Type 0
-TurnBrings {s} {t} (Turn.Steps _ _ _ _ _ _ _ made _) = BringsOrRests s t made
-TurnBrings {s} {t} (Turn.Splits _ _ _ _ _ _ _ _) = Rests s t
+-- the same for a change. Splitting a seat off leaves the system unchanged
+abbrev pub TurnBrings : {s t : State Slot View} → TableChange s t → Type 0
+TurnBrings {s} {t} (TableChange.Steps _ _ _ _ _ _ _ made _) = BringsOrRests s t made
+TurnBrings {s} {t} (TableChange.Splits _ _ _ _ _ _ _ _) = Rests s t
 
 -- ---- the law
 
--- each whole turn is one event or leaves the system unchanged, as its kind of step says. The rule holds before and after, as it does between any two
+-- each whole change is one event or leaves the system unchanged, as its kind of step says. The rule holds before and after, as it does between any two
 -- steps
 abbrev pub EachStepIsOneEvent : Type 0
-EachStepIsOneEvent = (s t : State Slot View) → Rule s → Rule t → (turn : Turn s t) → IsWholeTurn turn → TurnBrings turn
+EachStepIsOneEvent = (s t : State Slot View) → Rule s → Rule t → (turn : TableChange s t) → IsWholeChange turn → TurnBrings turn
 
--- in short: whichever systems the table has before and after a whole turn, one event leads from one to the other, or they are the same
+-- in short: whichever systems the table has before and after a whole change, one event leads from one to the other, or they are the same
 abbrev pub EachStepHappensOrRests : Type 0
 EachStepHappensOrRests =
-    (s t : State Slot View) → Rule s → Rule t → (turn : Turn s t) → IsWholeTurn turn → (a b : System Definition) → IsTold s a → IsTold t b →
+    (s t : State Slot View) → Rule s → Rule t → (turn : TableChange s t) → IsWholeChange turn → (a b : System Definition) → IsTold s a → IsTold t b →
     SystemStep (λ (at : KeyName). applied at.namespace) a b ⊎ SameSystem a b

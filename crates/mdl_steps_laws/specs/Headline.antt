@@ -9,14 +9,14 @@ use mathlib.Core.Option.{some}
 use lib.ListN.{get_elem?}
 use Rattle.atomic_table.specs.Table.{State, Step}
 use Rattle.mdl_defs.specs.declared.definition.Definition.{Definition}
-use Rattle.mdl_defs.specs.declared.standing.Standing.{Standing}
+use Rattle.mdl_defs.specs.declared.versioned_definition.VersionedDefinition.{VersionedDefinition}
 use Rattle.mdl_defs.specs.Caches.{Kept, kept_of}
 use Rattle.mdl_book.specs.declared.book_view.BookView.{BookView}
 use Rattle.mdl_book.specs.Books.{has_obtrusive, has_tickets, lock_kind}
 use Rattle.mdl_steps.specs.declared.slot.Slot.{Slot}
 use Rattle.mdl_steps.specs.declared.slot.Slot.TheVariants as slot
 use Rattle.mdl_steps.specs.declared.view.LatchRecord.{LatchRecord}
-use Rattle.mdl_steps.specs.declared.view.Own.{Own}
+use Rattle.mdl_steps.specs.declared.view.SessionTicket.{SessionTicket}
 use Rattle.mdl_steps.specs.declared.view.View.{View}
 use Rattle.mdl_steps.specs.Cells.{held_at}
 use Rattle.mdl_steps.specs.Deeds.{is_own}
@@ -26,8 +26,8 @@ use Rattle.mdl_steps.specs.Rule.{Counted, Rule}
 use Rattle.mdl_steps.specs.RuleLaws.{StandsTogether, fast_at}
 use Rattle.mdl_steps.specs.Seats.{MayPut}
 use Rattle.mdl_steps.specs.VersionPlays.{finds_version, reads_version}
-use Rattle.mdl_steps_laws.specs.SessionSteps.{Spares, Turn}
-pub use Rattle.mdl_steps.specs.Turns.{HasPlace}
+use Rattle.mdl_steps_laws.specs.SessionSteps.{Spares, TableChange}
+pub use Rattle.mdl_steps.specs.TableChanges.{HasPlace}
 
 -- ---- locks
 
@@ -51,23 +51,23 @@ FreeLocksAreInOrder = (s : State Slot View) → Rule s → (place : ℕ) → Has
 
 -- this is the current version and definition of the lock's key: the version's word has the version, while the latch is free the book in the slot has
 -- both, and while a session holds the latch the book in that session's record has both
-pub record Stands (s : State Slot View) (place : ℕ) (standing : Standing) : Type 0 where
+pub record Stands (s : State Slot View) (place : ℕ) (standing : VersionedDefinition) : Type 0 where
   pub version : slice_index s.words (version_word place) ≡ standing.version
   pub at_home : IsFree s place → (book : BookView) × (get_elem? s.homes place ≡ some (some (slot.Place book))) × (book.standing ≡ standing)
   pub in_record : (j : ℕ) (w : View) (h : LatchRecord) → get_elem? s.views j ≡ some w → held_at place w.latches ≡ Some h → h.book.standing ≡ standing
 
 -- this is a ticket of the session with this number at the place, fast or slow
-abbrev pub Has : ℕ → ℕ → View → Own → Type 0
+abbrev pub Has : ℕ → ℕ → View → SessionTicket → Type 0
 Has place number v t = Contains (v.slow ++ v.fast) t × (is_own place number t ≡ true)
 
 -- the session has such a ticket, and has noted this version under it
 pub record HasNoted (place number version : ℕ) (v : View) : Type 0 where
-  pub ticket : Own
+  pub ticket : SessionTicket
   pub has : Has place number v ticket
-  pub noted : (t : Own) → Has place number v t → t.noted ≡ Some version
+  pub noted : (t : SessionTicket) → Has place number v t → t.noted ≡ Some version
 
 -- the session has read this version and definition at the place
-abbrev pub HasRead : ℕ → Standing → View → Type 0
+abbrev pub HasRead : ℕ → VersionedDefinition → View → Type 0
 HasRead place standing v = Contains v.reads (record { place = place; standing = standing })
 
 -- if a session has a ticket at two times, and the same version noted under it, then that version is current at both times, and what the session has
@@ -78,7 +78,7 @@ ReadsStand =
     (i j : ℕ) (v w : View) → get_elem? s.views i ≡ some v → get_elem? t.views j ≡ some w → v.number ≡ w.number →
     (number version : ℕ) → HasNoted place number version v → HasNoted place number version w →
     (slice_index s.words (version_word place) ≡ version) × (slice_index t.words (version_word place) ≡ version)
-    × ((standing : Standing) → standing.version ≡ version → HasRead place standing v → HasRead place standing w →
+    × ((standing : VersionedDefinition) → standing.version ≡ version → HasRead place standing v → HasRead place standing w →
     Stands s place standing × Stands t place standing)
 
 -- ---- from step to step
@@ -87,17 +87,17 @@ ReadsStand =
 -- loses the ticket or changes the definition by the step
 abbrev pub NotesStay : Type 0
 NotesStay =
-    (s t : State Slot View) → Rule s → (turn : Turn s t) → (place : ℕ) → HasPlace s place →
+    (s t : State Slot View) → Rule s → (turn : TableChange s t) → (place : ℕ) → HasPlace s place →
     (seat number version : ℕ) → Spares seat place number turn →
     (v : View) → get_elem? s.views seat ≡ some v → HasNoted place number version v →
     (w : View) × (get_elem? t.views seat ≡ some w) × HasNoted place number version w
-    × ((standing : Standing) → HasRead place standing v → HasRead place standing w)
+    × ((standing : VersionedDefinition) → HasRead place standing v → HasRead place standing w)
 
 -- by its step a session has read this version and definition, and has noted the version under each ticket that it had there. In each state in which
 -- the rule holds, the session has this view, and the place has this version, that is the current definition
-pub record LearnsOf (place : ℕ) (standing : Standing) (m m′ : Mine) : Type 0 where
+pub record LearnsOf (place : ℕ) (standing : VersionedDefinition) (m m′ : Mine) : Type 0 where
   pub read : HasRead place standing m′.0
-  pub noted : (t : Own) → Contains (m.0.slow ++ m.0.fast) t → t.place ≡ place → HasNoted place t.number standing.version m′.0
+  pub noted : (t : SessionTicket) → Contains (m.0.slow ++ m.0.fast) t → t.place ≡ place → HasNoted place t.number standing.version m′.0
   pub stands : (s : State Slot View) → Rule s → HasPlace s place → (seat : ℕ) → get_elem? s.views seat ≡ some m′.0 →
       slice_index s.words (version_word place) ≡ standing.version → Stands s place standing
 
@@ -107,14 +107,14 @@ abbrev pub ReadingsNote : Type 0
 ReadingsNote =
     (s : State Slot View) → Rule s → (place : ℕ) → HasPlace s place → (seat : ℕ) (m m′ : Mine) → get_elem? s.views seat ≡ some m.0 →
     (st : Step Slot) (found : ℕ) → MayPut place [] m → st.word ≡ latch_word place → puts_reading st m found m′ →
-    (standing : Standing) × Stands s place standing × HasRead place standing m′.0
-    × ((t : Own) → Contains (m.0.slow ++ m.0.fast) t → t.place ≡ place → HasNoted place t.number standing.version m′.0)
+    (standing : VersionedDefinition) × Stands s place standing × HasRead place standing m′.0
+    × ((t : SessionTicket) → Contains (m.0.slow ++ m.0.fast) t → t.place ≡ place → HasNoted place t.number standing.version m′.0)
 
 -- the same holds if the session reads only the version, without the latch: the definition of that version counts as read
 abbrev pub VersionsNote : Type 0
 VersionsNote =
     (place found : ℕ) (m m′ : Mine) (st : Step Slot) → st.word ≡ version_word place → reads_version st m found m′ →
-    (standing : Standing) × (standing.version ≡ found) × LearnsOf place standing m m′
+    (standing : VersionedDefinition) × (standing.version ≡ found) × LearnsOf place standing m m′
 
 -- the same holds if the session looks the version up in a cache that keeps a definition of it, which the session has read
 abbrev pub HitsNote : Type 0
@@ -123,16 +123,16 @@ HitsNote =
     (d : Definition) → kept_of place found kept ≡ Some d → HasRead place (record { version = found; definition = Some d }) m.0 →
     LearnsOf place (record { version = found; definition = Some d }) m m′
 
--- these states follow one another, each by a turn by which the seat doesn't lose the ticket or change the definition, and the rule holds of each
+-- these states follow one another, each by a change by which the seat doesn't lose the ticket or change the definition, and the rule holds of each
 abbrev pub Follow : ℕ → ℕ → ℕ → State Slot View → List (State Slot View) → State Slot View → Type 0
 Follow seat place number s [] t = s ≡ t
-Follow seat place number s (x ∷ xs) t = Rule x × ((turn : Turn s x) × Spares seat place number turn) × Follow seat place number x xs t
+Follow seat place number s (x ∷ xs) t = Rule x × ((turn : TableChange s x) × Spares seat place number turn) × Follow seat place number x xs t
 
 -- what a session has read in the version that it noted under a ticket stays the definition, whatever all sessions do, until the session loses the
 -- ticket or changes the definition itself
 abbrev pub DefinitionsStay : Type 0
 DefinitionsStay =
     (s : State Slot View) → Rule s → (place : ℕ) → HasPlace s place → (seat number : ℕ) (v : View) → get_elem? s.views seat ≡ some v →
-    (standing : Standing) → HasNoted place number standing.version v → HasRead place standing v →
+    (standing : VersionedDefinition) → HasNoted place number standing.version v → HasRead place standing v →
     (t : State Slot View) (between : List (State Slot View)) → Follow seat place number s between t →
     Stands s place standing × Stands t place standing

@@ -9,7 +9,7 @@ use lib.ListN.{get_elem?}
 use Rattle.atomic_table.specs.Table.{State}
 use Rattle.mdl_key.specs.Words.{KeyName}
 use Rattle.mdl_defs.specs.declared.definition.Definition.{Definition}
-use Rattle.mdl_defs.specs.declared.standing.Standing.{Standing}
+use Rattle.mdl_defs.specs.declared.versioned_definition.VersionedDefinition.{VersionedDefinition}
 use Rattle.mdl_book.specs.declared.book_view.BookView.{BookView}
 use Rattle.mdl_book.specs.declared.ticket.Ticket.{Ticket}
 use Rattle.mdl_book.specs.Books.{empty_book}
@@ -61,7 +61,7 @@ pub record AreLocksOf (s : State Slot View) (locks : KeyName → Lock) : Type 0 
 -- ---- the system of the locks
 
 -- the version and definition of a book, as the system has them
-abbrev pub versioned : Standing → Versioned Definition
+abbrev pub versioned : VersionedDefinition → Versioned Definition
 versioned standing = record { version = standing.version; definition = standing.definition }
 
 -- the system of these locks. A ticket is granted in the system exactly if it is among the granted tickets of its key's lock. The waiters' tickets

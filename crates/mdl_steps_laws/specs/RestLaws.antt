@@ -12,7 +12,7 @@ use Rattle.mdl_steps.specs.declared.slot.Slot.{Slot}
 use Rattle.mdl_steps.specs.declared.slot.Slot.TheVariants as slot
 use Rattle.mdl_steps.specs.declared.view.LatchRecord.{LatchRecord}
 use Rattle.mdl_steps.specs.declared.view.Keys.{Keys}
-use Rattle.mdl_steps.specs.declared.view.Known.{Known}
+use Rattle.mdl_key.specs.declared.known_key.KnownKey.{KnownKey}
 use Rattle.mdl_steps.specs.declared.view.View.{View}
 use Rattle.mdl_steps.specs.Cells.{held_at}
 use Rattle.mdl_steps.specs.Layout.{enrol_word, latch_word, lock_word, version_word}
@@ -22,7 +22,7 @@ use Rattle.mdl_steps.specs.Seats.{MayName}
 use Rattle.mdl_steps.specs.VersionPlays.{finds_version, reads_version}
 use Rattle.mdl_steps_laws.specs.Headline.{HasPlace, IsFree}
 use Rattle.mdl_steps_laws.specs.WaitLaws.{Rests}
-pub use Rattle.mdl_steps.specs.Turns.{first_after, split_off}
+pub use Rattle.mdl_steps.specs.TableChanges.{first_after, split_off}
 
 -- ---- tables after a step of a seat
 
@@ -85,7 +85,7 @@ MissingDirectoryRests =
 abbrev pub InformingRests : Type 0
 InformingRests =
     (s : State Slot View) → Rule s → (id : ℕ) (me : Mine) → get_elem? s.views id ≡ some me.0 → (k : Keys) → me.0.directory ≡ Some k →
-    (more : List Known) → IsRest s (after_giving s 0 (slot.Directory k) id (informed more me))
+    (more : List KnownKey) → IsRest s (after_giving s 0 (slot.Directory k) id (informed more me))
 
 -- ---- the latch of a place
 

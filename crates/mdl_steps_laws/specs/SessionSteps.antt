@@ -5,7 +5,7 @@ use Rattle.mdl_steps.specs.declared.deed.Deed.TheVariants.{Lose}
 use Rattle.mdl_steps.specs.declared.slot.Slot.{Slot}
 use Rattle.mdl_steps.specs.declared.view.View.{View}
 use Rattle.mdl_steps.specs.Plays.{Mine}
-pub use Rattle.mdl_steps.specs.Turns.{Makes, Turn}
+pub use Rattle.mdl_steps.specs.TableChanges.{Makes, TableChange}
 
 -- by this step the session loses its ticket with this number at the place
 abbrev pub GivesUp : ℕ → ℕ → {st : Step Slot} {m : Mine} {found : ℕ} {m′ : Mine} → Makes st m found m′ → Type 0
@@ -19,7 +19,7 @@ abbrev pub Changes : ℕ → {st : Step Slot} {m : Mine} {found : ℕ} {m′ : M
 Changes place (Makes.WritesVersion q _ _ _) = q ≡ place
 Changes place _ = ⊥
 
--- the turn is no step by which this seat loses the ticket or changes the definition
-abbrev pub Spares : ℕ → ℕ → ℕ → {s t : State Slot View} → Turn s t → Type 0
-Spares seat place number (Turn.Steps id _ _ _ _ _ _ made _) = id ≡ seat → ¬ (GivesUp place number made ⊎ Changes place made)
-Spares seat place number (Turn.Splits _ _ _ _ _ _ _ _) = Unit {0}
+-- the change is no step by which this seat loses the ticket or changes the definition
+abbrev pub Spares : ℕ → ℕ → ℕ → {s t : State Slot View} → TableChange s t → Type 0
+Spares seat place number (TableChange.Steps id _ _ _ _ _ _ made _) = id ≡ seat → ¬ (GivesUp place number made ⊎ Changes place made)
+Spares seat place number (TableChange.Splits _ _ _ _ _ _ _ _) = Unit {0}

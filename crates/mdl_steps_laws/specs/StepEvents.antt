@@ -6,8 +6,8 @@ use lib.ListN.{get_elem?}
 use Rattle.atomic_table.specs.Table.{State}
 use Rattle.mdl_key.specs.Words.{KeyName}
 use Rattle.mdl_defs.specs.declared.change.Change.{Change}
-use Rattle.mdl_defs.specs.declared.standing.Standing.{Standing}
-use Rattle.mdl_defs.specs.Standings.{standing_after}
+use Rattle.mdl_defs.specs.declared.versioned_definition.VersionedDefinition.{VersionedDefinition}
+use Rattle.mdl_defs.specs.VersionedDefinitions.{standing_after}
 use Rattle.mdl_book.specs.declared.book_view.BookView.{BookView}
 use Rattle.mdl_book.specs.declared.ticket.Ticket.{Ticket}
 use Rattle.mdl_steps.specs.declared.deed.Deed.{Deed}
@@ -45,7 +45,7 @@ after_lowering s place ds found left book slow obtrusive id me = record {
 }
 
 -- a seat has written the version of a place, which has this definition from then on (the play `redefined`)
-abbrev pub after_writing : State Slot View → ℕ → Standing → ℕ → Mine → State Slot View
+abbrev pub after_writing : State Slot View → ℕ → VersionedDefinition → ℕ → Mine → State Slot View
 after_writing s place standing id me = record {
   words = slice_set s.words (version_word place) standing.version;
   homes = s.homes;

@@ -5,7 +5,7 @@ use lib.ListN.{get_elem?}
 use Rattle.atomic_table.specs.Table.{State}
 use Rattle.mdl_steps.specs.declared.slot.Slot.{Slot}
 use Rattle.mdl_steps.specs.declared.view.Ask.{Ask}
-use Rattle.mdl_steps.specs.declared.view.Met.{Met}
+use Rattle.mdl_steps.specs.declared.view.StepRecord.{StepRecord}
 use Rattle.mdl_steps.specs.declared.view.View.{View}
 use Rattle.mdl_steps.specs.Cells.{waits}
 pub use Rattle.mdl_steps.specs.Servings.{MeetsWaiter, OnlyMeets}
@@ -15,7 +15,7 @@ use Rattle.mdl_steps.specs.Histories.{Reached}
 
 -- the session of the ticket has a seat, and has given out the number. As long as it asks for that ticket, the wait has the number that was met, and isn't
 -- unsettled if it was met so
-abbrev pub StaysMet : State Slot View → ℕ → ℕ → Met → Type 0
+abbrev pub StaysMet : State Slot View → ℕ → ℕ → StepRecord → Type 0
 StaysMet s session number e =
     (j : ℕ) × (w : View) × (get_elem? s.views j ≡ some w) × (w.number ≡ session) × (number < w.next)
     × ((a : Ask) → w.asks ≡ Some a → a.number ≡ number →
@@ -24,6 +24,6 @@ StaysMet s session number e =
 -- so it is for each step in a session's list that met the word of a wait
 abbrev pub MetWaitsStay : Type 0
 MetWaitsStay =
-    (s : State Slot View) → Reached s → (i : ℕ) (v : View) → get_elem? s.views i ≡ some v → (e : Met) → Contains v.log e →
+    (s : State Slot View) → Reached s → (i : ℕ) (v : View) → get_elem? s.views i ≡ some v → (e : StepRecord) → Contains v.log e →
     (place session number : ℕ) → HasPlace s place → 0 < session → MeetsWaiter (length s.homes) place session number e →
     StaysMet s session number e

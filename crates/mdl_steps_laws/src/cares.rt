@@ -1,4 +1,4 @@
-//! What tables keep that are reached by whole turns, and what steps keep of waiters. Each law is proved as the contract of a function that does
+//! What tables keep that are reached by whole changes, and what steps keep of waiters. Each law is proved as the contract of a function that does
 //! nothing.
 ghost use Rattle.mdl_steps_laws.specs.Cares.{NoDeadlockIsUnseen, NoDeadlockOnceAllHaveSearched, NobodyIsForgotten, NobodyIsForgottenAtRest, ReachedTablesAreWellNumbered, StepsThatFreeNothingForgetNobody, WhoSeesNoDeadlockIsInNone};
 ghost use Rattle.mdl_steps_laws.specs.Waits.{MetWaitsStay};

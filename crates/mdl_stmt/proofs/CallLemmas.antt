@@ -3,7 +3,7 @@ use Rattle.std.specs.Prelude.{Bool, List, [], ◌∷◌, ◌++◌, MatchResult}
 use Rattle.mdl_defs.specs.Caches.{CacheView}
 use Rattle.mdl_defs.specs.declared.change.Change.{Change}
 use Rattle.mdl_defs.specs.declared.definition.Definition.{Definition}
-use Rattle.mdl_defs.specs.declared.standing.Standing.{Standing}
+use Rattle.mdl_defs.specs.declared.versioned_definition.VersionedDefinition.{VersionedDefinition}
 use Rattle.mdl_rows.specs.declared.ending.Ending.TheVariants.{Answers, Starves}
 use Rattle.mdl_rows.specs.declared.error_number.ErrorNumber.TheVariants.{NoSuchTable}
 use Rattle.mdl_rows.specs.declared.reply.Reply.TheVariants as reply
@@ -80,16 +80,16 @@ room-step members act a b x y (Ok t) made = λ rest. record { so = λ mark pause
 room-step members act a b x y (Err ending) made = λ rest. record { so = λ mark pause c run. inr ((made rest).so mark pause c run) }
 
 -- a table is shown
-pub show-step : {S : Type 0} (members : Ghosts S) (shown : List TableShown) (table : KeyName) (ticket : ℕ) (a b : S) (x y : PlayerView) (standing : Standing) (result : Result (List TableShown) Ending) →
+pub show-step : {S : Type 0} (members : Ghosts S) (shown : List TableShown) (table : KeyName) (ticket : ℕ) (a b : S) (x y : PlayerView) (standing : VersionedDefinition) (result : Result (List TableShown) Ending) →
     IsStep members (exists ticket) a x (Ok standing) b y →
     MatchResult result (λ more. more ≡ shown ++ record { key = table; version = standing.version; columns = table_columns standing.definition } ∷ []) (λ ending. ending ≡ Starves) →
     IsStep members (show shown table ticket) a x result b y
 show-step members shown table ticket a b x y standing (Ok more) first e = λ rest.
-    let behind : Standing → Row (List TableShown) = λ s. room >> Give (shown ++ record { key = table; version = s.version; columns = table_columns s.definition } ∷ []) in
+    let behind : VersionedDefinition → Row (List TableShown) = λ s. room >> Give (shown ++ record { key = table; version = s.version; columns = table_columns s.definition } ∷ []) in
     comes-then (comes-row (show shown table ticket >>= rest) (exists ticket >>= (λ s. behind s >>= rest)) (bind-assoc (exists ticket) behind rest))
     (comes-then (first (λ s. behind s >>= rest)) (record { so = λ mark pause c run. inr (subst (λ (m : List TableShown). Runs (cached members) (b, y.cache) (play (rest m) mark (at_rest y)) pause c) e run) }))
 show-step members shown table ticket a b x y standing (Err ending) first e = λ rest.
-    let behind : Standing → Row (List TableShown) = λ s. room >> Give (shown ++ record { key = table; version = s.version; columns = table_columns s.definition } ∷ []) in
+    let behind : VersionedDefinition → Row (List TableShown) = λ s. room >> Give (shown ++ record { key = table; version = s.version; columns = table_columns s.definition } ∷ []) in
     comes-then (comes-row (show shown table ticket >>= rest) (exists ticket >>= (λ s. behind s >>= rest)) (bind-assoc (exists ticket) behind rest))
     (comes-then (first (λ s. behind s >>= rest)) (record { so = λ mark pause c run. inl (subst (λ (m : Ending). Runs (cached members) (b, y.cache) (closing m mark (at_rest y)) pause c) e run) }))
 
@@ -97,11 +97,11 @@ show-step members shown table ticket a b x y standing (Err ending) first e = λ 
 pub show-ends : {S : Type 0} (members : Ghosts S) (shown : List TableShown) (table : KeyName) (ticket : ℕ) (a b : S) (x y : PlayerView) (ending : Ending) →
     IsStep members (exists ticket) a x (Err ending) b y → IsStep members (show shown table ticket) a x (Err ending) b y
 show-ends members shown table ticket a b x y ending first = λ rest.
-    let behind : Standing → Row (List TableShown) = λ s. room >> Give (shown ++ record { key = table; version = s.version; columns = table_columns s.definition } ∷ []) in
+    let behind : VersionedDefinition → Row (List TableShown) = λ s. room >> Give (shown ++ record { key = table; version = s.version; columns = table_columns s.definition } ∷ []) in
     comes-then (comes-row (show shown table ticket >>= rest) (exists ticket >>= (λ s. behind s >>= rest)) (bind-assoc (exists ticket) behind rest)) (first (λ s. behind s >>= rest))
 
 -- a definition is there, or the table is missing
-pub found-step : {S : Type 0} (members : Ghosts S) (ticket : ℕ) (a b : S) (x y : PlayerView) (standing : Standing) (result : Result Definition Ending) →
+pub found-step : {S : Type 0} (members : Ghosts S) (ticket : ℕ) (a b : S) (x y : PlayerView) (standing : VersionedDefinition) (result : Result Definition Ending) →
     IsStep members (row.read ticket) a x (Ok standing) b y →
     MatchResult result (λ it. standing.definition ≡ Some it) (λ ending. (standing.definition ≡ None) × (ending ≡ Answers (reply.Error NoSuchTable))) →
     IsStep members (definition_under ticket) a x result b y
@@ -120,7 +120,7 @@ room-waits rest waits = record { so = λ mark. inr (waits.so mark) }
 
 module _ {S : Type 0} (members : Ghosts S) where
   -- a definition is read with the cache
-  pub read-had : (id : ℕ) (before : PlayerView) (cache : CacheView) (standing : Standing) (a b : S) →
+  pub read-had : (id : ℕ) (before : PlayerView) (cache : CacheView) (standing : VersionedDefinition) (a b : S) →
       members.joins a (Read_kept before.context.who id) (Reads standing.version standing.definition) b →
       members.uses_cache a before.context.who id (Reads standing.version standing.definition) before.cache cache b →
       IsStep members (row.read id) a before (Ok standing) b (record before { cache = cache })

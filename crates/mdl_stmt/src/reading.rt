@@ -9,7 +9,7 @@ ghost use Rattle.mdl_rows.specs.declared.reply.Reply.TheVariants.{Error};
 
 use crate::player::{Player, ending_of_refusal};
 use crate::{ErrorNumber, Reply, TableShown, TablesShown};
-use mdl_defs::{Change, Columns, Definition, Standing};
+use mdl_defs::{Change, Columns, Definition, VersionedDefinition};
 use mdl_key::Key;
 use mdl_rows::Ending;
 use mdl_space::{LockSpace, Place, TicketId};
@@ -24,7 +24,7 @@ pub(crate) fn failing(number: ErrorNumber) -> Ending
 
 impl<S: LockSpace> Player<S> {
     /// The version and definition of a ticket's key. They may come from the cache.
-    pub(crate) fn read(&mut self, space: &mut S, ticket: TicketId) -> Result<Standing, Ending>
+    pub(crate) fn read(&mut self, space: &mut S, ticket: TicketId) -> Result<VersionedDefinition, Ending>
         requires ready { IsReady S.LockSpace space.old self.old }
         ensures run { IsStep S.LockSpace (read ticket) space.old self.old result space.new self.new }
         ensures goes_on { GoesOn S.LockSpace space.old self.old space.new self.new }
@@ -93,7 +93,7 @@ impl<S: LockSpace> Player<S> {
     }
 
     /// The version and definition of a table, by its ticket. Fails if there is no such table.
-    pub(crate) fn exists(&mut self, space: &mut S, ticket: TicketId) -> Result<Standing, Ending>
+    pub(crate) fn exists(&mut self, space: &mut S, ticket: TicketId) -> Result<VersionedDefinition, Ending>
         requires ready { IsReady S.LockSpace space.old self.old }
         ensures run { IsStep S.LockSpace (exists ticket) space.old self.old result space.new self.new }
         ensures goes_on { GoesOn S.LockSpace space.old self.old space.new self.new }
@@ -145,7 +145,7 @@ fn shown_behind(
     alloc: Global,
     mut shown: TablesShown,
     table: &Key,
-    standing: Standing,
+    standing: VersionedDefinition,
 ) -> Result<TablesShown, Ending>
     ensures { MatchResult result
         (λ more. more ≡ shown ++ record { key = table.now; version = standing.version; columns = table_columns standing.definition } ∷ [])

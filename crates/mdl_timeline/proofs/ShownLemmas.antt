@@ -19,11 +19,12 @@ use Rattle.mdl_rows.specs.declared.reply.Reply.TheVariants as reply
 use Rattle.mdl_script.specs.declared.told.News.{News}
 use Rattle.mdl_script.specs.declared.told.News.TheVariants as news
 use Rattle.mdl_script.specs.declared.told.Told.{Told}
+use Rattle.mdl_script.specs.Texts.{is_wait_news}
 use Rattle.mdl_script.specs.Worlds.{World, sessions}
 use Rattle.mdl_system.proofs.OrderLemmas.{Contains-cons_cases, Contains-here, Contains-later}
 use Rattle.mdl_system.proofs.MemberLemmas.{Contains-none, Contains-map, Contains-map_from, Contains-flat_map, Contains-flat_map_from}
 use Rattle.mdl_view.specs.ViewLaws.{nobody}
-use Rattle.mdl_timeline.specs.Moments.{event_of, fate_of, held_as, held_in_book, held_in_books, in_the_way_of, is_begun_wait, waited_for}
+use Rattle.mdl_timeline.specs.Moments.{event_of, fate_of, held_as, held_in_book, held_in_books, in_the_way_of, waited_for}
 use Rattle.mdl_timeline.specs.TimelineLaws.{HasArrowsOf, HoldsThoseOf}
 
 -- ---- sessions
@@ -76,7 +77,7 @@ waited who books other = (from, to) where
   to (session, so) = to-filter waits sessions other (session-to other session) so
 
 -- only an answer that is a wait leaves its statement waiting
-wait-waits : (answer : News) → fate_of answer ≡ fate.Waits → is_begun_wait answer ≡ true
+wait-waits : (answer : News) → fate_of answer ≡ fate.Waits → is_wait_news answer ≡ true
 wait-waits (news.Waits key mode) is = refl
 wait-waits news.Busy is = cc
 wait-waits (news.Ends (reply.Error error)) is = cc
@@ -85,7 +86,7 @@ wait-waits (news.Ends (reply.Columns tables)) is = cc
 wait-waits (news.Ends (reply.Number number)) is = cc
 wait-waits (news.Ends reply.Null) is = cc
 
-none-else : (answer : News) → fate_of answer ≢ fate.Waits → is_begun_wait answer ≡ false
+none-else : (answer : News) → fate_of answer ≢ fate.Waits → is_wait_news answer ≡ false
 none-else (news.Waits key mode) isn't = absurd (isn't refl)
 none-else news.Busy isn't = refl
 none-else (news.Ends reply) isn't = refl

@@ -1,5 +1,5 @@
 -- What happens at each line of a script, as a picture shows it. The words after errors are this project's own.
-use Rattle.std.specs.Prelude.{ℕ, zero, suc, Bool, true, false, List, [], ◌∷◌, ◌++◌, Option, Some, None, codes, filter, flat_map, map, if◌then◌else◌}
+use Rattle.std.specs.Prelude.{ℕ, zero, suc, List, [], ◌∷◌, ◌++◌, Option, Some, None, codes, filter, flat_map, map, if◌then◌else◌}
 use Rattle.mdl_key.specs.Keys.{KeyName, key_text}
 use Rattle.mdl_key.specs.Modes.{mode_name}
 use Rattle.mdl_book.specs.declared.book_view.BookView.{BookView}
@@ -14,7 +14,7 @@ use Rattle.mdl_rows.specs.declared.reply.Reply.TheVariants as reply
 use Rattle.mdl_script.specs.declared.told.News.{News}
 use Rattle.mdl_script.specs.declared.told.News.TheVariants as news
 use Rattle.mdl_script.specs.declared.told.Told.{Told}
-use Rattle.mdl_script.specs.Texts.{news_text}
+use Rattle.mdl_script.specs.Texts.{is_wait_news, news_text}
 use Rattle.mdl_script.specs.Worlds.{Scene, World, ask_session, first_settled, first_world, going, line_played, most_turns, sessions}
 use Rattle.mdl_syntax.specs.declared.script.Line.{Line}
 use Rattle.mdl_view.specs.ViewLaws.{nobody}
@@ -52,14 +52,9 @@ fate_of (news.Ends reply) = fate.Ends
 abbrev pub waited_for : ℕ → List BookView → List ℕ
 waited_for who books = filter (waits_for nobody books who) sessions
 
--- whether an answer is the beginning of a wait
-abbrev pub is_begun_wait : News → Bool
-is_begun_wait (news.Waits key mode) = true
-is_begun_wait other = false
-
 -- the sessions that block the one with this answer at these books, if it begins to wait
 abbrev pub in_the_way_of : List BookView → Told → List ℕ
-in_the_way_of books told = if is_begun_wait told.news then waited_for told.who books else []
+in_the_way_of books told = if is_wait_news told.news then waited_for told.who books else []
 
 -- ---- locks that are held
 

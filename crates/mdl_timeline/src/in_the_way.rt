@@ -1,8 +1,9 @@
 //! The sessions that block one that begins to wait.
 ghost use Rattle.std.specs.Prelude.{◌≡◌, IfOk, filter};
 ghost use Rattle.mdl_view.specs.ViewLaws.{is_told};
+ghost use Rattle.mdl_script.specs.Texts.{is_wait_news};
 ghost use Rattle.mdl_script.specs.Worlds.{sessions};
-ghost use Rattle.mdl_timeline.specs.Moments.{in_the_way_of, is_begun_wait, waited_for};
+ghost use Rattle.mdl_timeline.specs.Moments.{in_the_way_of, waited_for};
 
 use mdl_book::Book;
 use mdl_key::MOST_SESSIONS;
@@ -26,7 +27,7 @@ pub(crate) fn in_the_way_of(
 
 // Whether an answer is the beginning of a wait.
 fn is_wait(news: &News) -> bool
-    ensures { result ≡ is_begun_wait news.now }
+    ensures { result ≡ is_wait_news news.now }
 {
     matches!(news, News::Waits(_, _))
 }

@@ -8,7 +8,7 @@ use Rattle.mdl_book.specs.Books.{ticket_count}
 use Rattle.mdl_book.specs.Tickets.{ticket_of}
 use Rattle.mdl_steps.specs.declared.deed.Deed.{Deed}
 use Rattle.mdl_steps.specs.declared.view.LatchRecord.{LatchRecord}
-use Rattle.mdl_steps.specs.declared.view.Met.{Met}
+use Rattle.mdl_steps.specs.declared.view.StepRecord.{StepRecord}
 use Rattle.mdl_steps.specs.Cells.{held_at}
 use Rattle.mdl_steps.specs.Deeds.{KnowsPlace, MayDo, NotWaited, all_booked, frees}
 use Rattle.mdl_steps.specs.Layout.{lock_word}
@@ -40,7 +40,7 @@ arrived place s may q c at h fresh holds inside stays within = record {
 -- the step on the word that did its deeds met the record of the latch
 module _ (place : ℕ) (s : SeatState) (q : ℕ) (w n : SeatState) (at : q ≡ place) (inside : IsInside q s.me w.me) (h : LatchRecord) (recorded : held_at q w.me.0.latches ≡ Some h)
     (ds : List Deed) (step : HasStep w n (DidUnder q ds w)) where
-  pub met : (e : Met) × IsStepOf s.me n.me e × (e.word ≡ lock_word place) × (held_at place e.held ≡ Some h) × (e.deeds ≡ ds)
+  pub met : (e : StepRecord) × IsStepOf s.me n.me e × (e.word ≡ lock_word place) × (held_at place e.held ≡ Some h) × (e.deeds ≡ ds)
   met =
       let told = step.2 in (
         step.0,
@@ -114,7 +114,7 @@ module _ {place : ℕ} {s : SeatState} {q : ℕ} {c : SeatState} (a : Arrives pl
   }
 
   -- and so the session's ticket
-  pub meets_own : (number : ℕ) (e : Met) → is_some (ticket_of c.me.0.number number a.latch.book.granted) ≡ true → e.word ≡ lock_word place → held_at place e.held ≡ Some a.latch
+  pub meets_own : (number : ℕ) (e : StepRecord) → is_some (ticket_of c.me.0.number number a.latch.book.granted) ≡ true → e.word ≡ lock_word place → held_at place e.held ≡ Some a.latch
       → MeetsOwn place s.me.0.number number e
   meets_own number e there word held = record {
     word = word;
@@ -124,7 +124,7 @@ module _ {place : ℕ} {s : SeatState} {q : ℕ} {c : SeatState} (a : Arrives pl
   }
 
   pub met_here : (ds : List Deed) (w n : SeatState) → CameTo q s w → w.me.0.latches ≡ c.me.0.latches → HasStep w n (DidUnder q ds w)
-      → (e : Met) × IsStepOf s.me n.me e × (e.word ≡ lock_word place) × (held_at place e.held ≡ Some a.latch) × (e.deeds ≡ ds)
+      → (e : StepRecord) × IsStepOf s.me n.me e × (e.word ≡ lock_word place) × (held_at place e.held ≡ Some a.latch) × (e.deeds ≡ ds)
   met_here ds w n came same step = met place s q w n a.at came.1 a.latch (ap (held_at q) same ∙ a.holds.recorded) ds step
 
   pub met_own : (number : ℕ) (ds : List Deed) (w n : SeatState) → is_some (ticket_of c.me.0.number number a.latch.book.granted) ≡ true

@@ -7,8 +7,8 @@ use Rattle.mdl_defs.specs.declared.change.Change.{Change}
 use Rattle.mdl_defs.specs.declared.change.Change.TheVariants.{Drop}
 use Rattle.mdl_defs.specs.declared.change_error.ChangeError.{ChangeError}
 use Rattle.mdl_defs.specs.declared.change_error.ChangeError.TheVariants.{OutOfMemory}
-use Rattle.mdl_defs.specs.declared.standing.Standing.{Standing}
-use Rattle.mdl_defs.specs.Standings.{standing_fault, standing_after}
+use Rattle.mdl_defs.specs.declared.versioned_definition.VersionedDefinition.{VersionedDefinition}
+use Rattle.mdl_defs.specs.VersionedDefinitions.{standing_fault, standing_after}
 use Rattle.mdl_book.specs.declared.book_view.BookView.{BookView}
 use Rattle.mdl_book.specs.Books.{redefining}
 use Rattle.mdl_book.specs.Tickets.{is_ticket, ticket_of}
@@ -16,8 +16,8 @@ use Rattle.mdl_book.proofs.TicketLemmas.{find-contains}
 use Rattle.mdl_steps.specs.declared.slot.Slot.TheVariants as slot
 use Rattle.mdl_steps.specs.declared.step_kind.StepKind.TheVariants.{PutLatch, TakeLatch, WriteVersion}
 use Rattle.mdl_steps.specs.declared.view.LatchRecord.{LatchRecord}
-use Rattle.mdl_steps.specs.declared.view.Met.{Met}
-use Rattle.mdl_steps.specs.declared.view.Own.{Own}
+use Rattle.mdl_steps.specs.declared.view.StepRecord.{StepRecord}
+use Rattle.mdl_steps.specs.declared.view.SessionTicket.{SessionTicket}
 use Rattle.mdl_steps.specs.Cells.{own_at, ticket_by}
 use Rattle.mdl_steps.specs.Deeds.{NotWaited}
 use Rattle.mdl_steps.specs.Layout.{latch_word, version_word}
@@ -30,7 +30,7 @@ use Rattle.mdl_steps.proofs.Tickets.{and_false}
 use Rattle.mdl_steps.proofs.Views.{by_bool, held_at-first, held_at-changed}
 use Rattle.mdl_visits.specs.Leavings.{Learns, knowing_read}
 use Rattle.mdl_visits.specs.Numbers.{numbered, is_ask_apart}
-use Rattle.mdl_visits.specs.Redefinitions.{HasExclusiveAt, IsNamed, MeetsChangeFault, Redefines, RefusesChange, redefined_and_put}
+use Rattle.mdl_visits.specs.Redefinitions.{HasExclusiveAt, IsChangeRefused, IsNamed, MeetsChangeFault, Redefines, redefined_and_put}
 use Rattle.mdl_visits.specs.Visits.{Arrives, AreStepsOf, IsInside, and_made, TakesLatch, VisitsOnce}
 use Rattle.mdl_visits.proofs.Arriving.{went_on}
 use Rattle.mdl_visits.proofs.Gathering.{as_reads, gives_back, holds_there, no_steps}
@@ -43,16 +43,16 @@ use Rattle.mdl_visits.proofs.Within.{plain, visit_put, within_one, within_then, 
 -- ---- the session's ticket
 
 -- the ticket of a number is the one that a book has of it
-pub own_is : (who place number : ℕ) (t : Own) (slow : List Own) → numbered number slow ≡ Some t → t.place ≡ place
+pub own_is : (who place number : ℕ) (t : SessionTicket) (slow : List SessionTicket) → numbered number slow ≡ Some t → t.place ≡ place
     → ticket_of who number (map (ticket_by who) (own_at place slow)) ≡ Some (ticket_by who t)
 own_is who place number t [] e here = absurd (cc)
 own_is who place number t (x ∷ xs) e here =
     by_bool (x.number == number)
     (λ hit.
     let is : x ≡ t = let first = rw hit at e in cc in
-    let at : (x.place == place) ≡ true = eq-eqb x.place place (ap (λ (o : Own). o.place) is ∙ here) in
+    let at : (x.place == place) ≡ true = eq-eqb x.place place (ap (λ (o : SessionTicket). o.place) is ∙ here) in
     let test : is_ticket who number (ticket_by who x) ≡ true = and_from _ _ (eq-eqb who who refl) hit in
-    rw (at, test) (ap (λ (o : Own). Some (ticket_by who o)) is))
+    rw (at, test) (ap (λ (o : SessionTicket). Some (ticket_by who o)) is))
     (λ miss.
     let later = own_is who place number t xs (rw miss at e) here in
     let test : is_ticket who number (ticket_by who x) ≡ false = rw miss (and_false (who == who)) in
@@ -71,15 +71,15 @@ exclusive_there place h m fresh apart held =
 
 -- ---- a visit that changes
 
-module _ (place : ℕ) (standing : Standing) (m m′ m″ : Mine) (put : m″ ≡ redefined_and_put place standing m′) where
+module _ (place : ℕ) (standing : VersionedDefinition) (m m′ m″ : Mine) (put : m″ ≡ redefined_and_put place standing m′) where
   -- the step that wrote the version came right after the one that took the latch
-  steps : (h : LatchRecord) (made : List Met) → m′ ≡ latched place h (and_made made m)
+  steps : (h : LatchRecord) (made : List StepRecord) → m′ ≡ latched place h (and_made made m)
       → AreStepsOf m m″ (record { kind = TakeLatch; deeds = []; word = latch_word place; found = 0; held = h ∷ m.0.latches; directory = m.0.directory })
       (record { kind = WriteVersion; deeds = []; word = version_word place; found = standing.version - 1; held = (redefined place standing m′).0.latches; directory = m′.0.directory })
   steps h made took =
-      let takes : Met = record { kind = TakeLatch; deeds = []; word = latch_word place; found = 0; held = h ∷ m.0.latches; directory = m.0.directory } in
-      let writes : Met = record { kind = WriteVersion; deeds = []; word = version_word place; found = standing.version - 1; held = (redefined place standing m′).0.latches; directory = m′.0.directory } in
-      let puts : Met = record { kind = PutLatch; deeds = []; word = latch_word place; found = m′.0.number; held = (redefined place standing m′).0.latches; directory = m′.0.directory } in (
+      let takes : StepRecord = record { kind = TakeLatch; deeds = []; word = latch_word place; found = 0; held = h ∷ m.0.latches; directory = m.0.directory } in
+      let writes : StepRecord = record { kind = WriteVersion; deeds = []; word = version_word place; found = standing.version - 1; held = (redefined place standing m′).0.latches; directory = m′.0.directory } in
+      let puts : StepRecord = record { kind = PutLatch; deeds = []; word = latch_word place; found = m′.0.number; held = (redefined place standing m′).0.latches; directory = m′.0.directory } in (
         made,
         puts ∷ [],
         ap (λ (x : Mine). x.0.log) put
@@ -91,8 +91,8 @@ module _ (place : ℕ) (standing : Standing) (m m′ m″ : Mine) (put : m″ �
   learns : IsInside place m m′ → Learns place standing m m″
   learns inside =
       let came : Mine = (record m.0 { latches = inside.latches; log = m.0.log ++ inside.made }, (place, slot.Place inside.book) ∷ m.1) in
-      let writes : Met = record { kind = WriteVersion; deeds = []; word = version_word place; found = standing.version - 1; held = (redefined place standing came).0.latches; directory = came.0.directory } in
-      let puts : Met = record { kind = PutLatch; deeds = []; word = latch_word place; found = m.0.number; held = (redefined place standing came).0.latches; directory = came.0.directory } in
+      let writes : StepRecord = record { kind = WriteVersion; deeds = []; word = version_word place; found = standing.version - 1; held = (redefined place standing came).0.latches; directory = came.0.directory } in
+      let puts : StepRecord = record { kind = PutLatch; deeds = []; word = latch_word place; found = m.0.number; held = (redefined place standing came).0.latches; directory = came.0.directory } in
       let others = elsewhere-redefined place standing came ∙ inside.others in
       let log = append_assoc (m.0.log ++ inside.made) (writes ∷ []) (puts ∷ []) ∙ append_assoc m.0.log inside.made (writes ∷ puts ∷ []) in (
         inside.made ++ writes ∷ puts ∷ [],
@@ -117,10 +117,10 @@ refusal change (Some fault) why told drop = inl (ap Some (sym (same told)))
 -- ---- the whole call
 
 -- the definition was changed in hand, its version written and the latch given back
-pub went_changed : {place : ℕ} {s : SeatState} {q : ℕ} {c : SeatState} (a : Arrives place s q c) (book : BookView) (standing : Standing) (w v n : SeatState)
+pub went_changed : {place : ℕ} {s : SeatState} {q : ℕ} {c : SeatState} (a : Arrives place s q c) (book : BookView) (standing : VersionedDefinition) (w v n : SeatState)
     → w ≡ record c { me = written q book c.me } → v ≡ record w { me = redefined q standing w.me } → n ≡ record v { me = unlatched q [] v.me } → VisitsOnce place s.me n.me
 went_changed {place} {s} {q} {c} a book standing w v n wrote published put =
-    let writes : Met = record {
+    let writes : StepRecord = record {
       kind = WriteVersion;
       deeds = [];
       word = version_word q;
@@ -135,7 +135,7 @@ module _ (place q : ℕ) (change : Change) (a b w : SeatState) (at : q ≡ place
   abbrev book : BookView
   book = taken.0.book
 
-  abbrev after : Standing
+  abbrev after : VersionedDefinition
   after = standing_after change book.standing
 
   abbrev fault : Option ChangeError
@@ -162,7 +162,7 @@ module _ (place q : ℕ) (change : Change) (a b w : SeatState) (at : q ≡ place
 
     -- its version was written, and the latch was given back
     pub changed : (v e : SeatState) → v ≡ record w { me = redefined q after w.me } → e ≡ record v { me = unlatched q [] v.me } → IsInside place a.me b.me → (version : ℕ) → version ≡ after.version
-        → AtItsTable a e (Redefines place change version) × ((standing : Standing) × (standing.version ≡ version) × Learns place standing a.me e.me)
+        → AtItsTable a e (Redefines place change version) × ((standing : VersionedDefinition) × (standing.version ≡ version) × Learns place standing a.me e.me)
     changed v e published put inside version newer =
         let went : e.me ≡ redefined_and_put place after b.me =
         mine put ∙ ap (unlatched q []) (mine published ∙ ap (redefined q after) (mine wrote)) ∙ ap (λ (p : ℕ). redefined_and_put p after b.me) at in
@@ -196,7 +196,7 @@ module _ (place q : ℕ) (change : Change) (a b w : SeatState) (at : q ≡ place
 
   -- it was refused, and the latch was given back
   pub refused : (e : SeatState) (table : b.table ≡ a.table) → w ≡ b → e ≡ record w { me = unlatched q [] w.me } → IsRising place a.me → (why : ChangeError) → Refuses {T = ℕ} fault OutOfMemory (Err why)
-      → (change ≡ Drop → RefusesJust {T = ℕ} fault (Err why)) → RefusesChange place a.me.0.number change why a.me e.me
+      → (change ≡ Drop → RefusesJust {T = ℕ} fault (Err why)) → IsChangeRefused place a.me.0.number change why a.me e.me
   refused e table same put rising why told drop = ⊎_elim
       (λ is.
       let shows = gives_back place q a b w at taken table same w (as_reads w w (refl, no_steps w.me)) e put rising

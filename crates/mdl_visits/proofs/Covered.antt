@@ -21,7 +21,7 @@ use Rattle.mdl_book.proofs.FastLemmas.{may_stand-none}
 use Rattle.mdl_book.proofs.TicketLemmas.{find-contains}
 use Rattle.mdl_steps.specs.declared.deed.Deed.TheVariants.{Alter, Gain}
 use Rattle.mdl_steps.specs.declared.view.LatchRecord.{LatchRecord}
-use Rattle.mdl_steps.specs.declared.view.Own.{Own}
+use Rattle.mdl_steps.specs.declared.view.SessionTicket.{SessionTicket}
 use Rattle.mdl_steps.specs.Cells.{own_at, ticket_by}
 use Rattle.mdl_steps.specs.Deeds.{MayJoin, NotWaited, booked}
 use Rattle.mdl_steps.specs.Plays.{IsFresh, Mine}
@@ -50,16 +50,16 @@ pub record IsCovered (session : ℕ) (mode : Mode) (h : LatchRecord) : Type 0 wh
 -- ---- the session's ticket in the book
 
 -- the first of its tickets that has a number is found among those of its place
-own_listed : (who number : ℕ) (t : Own) (slow : List Own) → numbered number slow ≡ Some t → ticket_of who number (map (ticket_by who) (own_at t.place slow)) ≡ Some (ticket_by who t)
+own_listed : (who number : ℕ) (t : SessionTicket) (slow : List SessionTicket) → numbered number slow ≡ Some t → ticket_of who number (map (ticket_by who) (own_at t.place slow)) ≡ Some (ticket_by who t)
 own_listed who number t [] e = absurd (cc)
 own_listed who number t (x ∷ xs) e =
     by_bool (x.number == number)
     (λ hit.
     let found = rw hit at e in
     let is : x ≡ t = cc in
-    let here : (x.place == t.place) ≡ true = eq-eqb x.place t.place (ap (λ (o : Own). o.place) is) in
+    let here : (x.place == t.place) ≡ true = eq-eqb x.place t.place (ap (λ (o : SessionTicket). o.place) is) in
     let test : is_ticket who number (ticket_by who x) ≡ true = and_from _ _ (eq-eqb who who refl) hit in
-    rw (here, test) (ap (λ (o : Own). Some (ticket_by who o)) is))
+    rw (here, test) (ap (λ (o : SessionTicket). Some (ticket_by who o)) is))
     (λ miss.
     let rest = own_listed who number t xs (rw miss at e) in
     let test : is_ticket who number (ticket_by who x) ≡ false = not_second (who == who) (x.number == number) miss in
@@ -72,7 +72,7 @@ own_listed who number t (x ∷ xs) e =
     not_second false b e = refl
 
 -- so it stands in the book that is met under the latch
-pub own_there : (who number : ℕ) (t : Own) (h : LatchRecord) (m : Mine) → m.0.number ≡ who → IsFresh t.place h m → NotWaited m.0 number → numbered number m.0.slow ≡ Some t
+pub own_there : (who number : ℕ) (t : SessionTicket) (h : LatchRecord) (m : Mine) → m.0.number ≡ who → IsFresh t.place h m → NotWaited m.0 number → numbered number m.0.slow ≡ Some t
     → ticket_of who number h.book.granted ≡ Some (ticket_by who t)
 own_there who number t h m mine fresh unwaited found =
     subst (λ (w : ℕ). ticket_of w number h.book.granted ≡ Some (ticket_by w t)) mine
@@ -84,7 +84,7 @@ fits_lock place mode h m fresh fits =
     ap (λ (key : KeyName). is_mode_of (kind_of key.namespace) mode) (fresh.named fits.0 fits.1 fits.2 fits.3) ∙ fits.4
 
 -- and the ticket's own mode is one, too
-pub own_mode : (place who number : ℕ) (t : Own) (h : LatchRecord) (m : Mine) → IsFresh place h m → ticket_of who number h.book.granted ≡ Some (ticket_by who t) → is_mode_of (lock_kind h.book) t.mode ≡ true
+pub own_mode : (place who number : ℕ) (t : SessionTicket) (h : LatchRecord) (m : Mine) → IsFresh place h m → ticket_of who number h.book.granted ≡ Some (ticket_by who t) → is_mode_of (lock_kind h.book) t.mode ≡ true
 own_mode place who number t h m fresh found =
     let test : Ticket → Bool = λ x. is_mode_of (lock_kind h.book) x.mode in
     let there = find-contains (is_ticket who number) h.book.granted (ticket_by who t) found in
@@ -101,7 +101,7 @@ pub downgrade-covered : (held mode : Mode) → may_downgrade held mode ≡ true 
 downgrade-covered held mode may = implied _ _ (each_mode (lowers held) (each_mode (λ h. list_all (lowers h) all_modes) lowers_all held) mode) may
 
 -- by it a mode is covered
-pub covered_by : (place who number : ℕ) (t : Own) (mode : Mode) (h : LatchRecord) (m : Mine) → IsFresh place h m → ticket_of who number h.book.granted ≡ Some (ticket_by who t)
+pub covered_by : (place who number : ℕ) (t : SessionTicket) (mode : Mode) (h : LatchRecord) (m : Mine) → IsFresh place h m → ticket_of who number h.book.granted ≡ Some (ticket_by who t)
     → covers t.mode mode ≡ true → is_mode_of (lock_kind h.book) mode ≡ true → IsCovered who mode h
 covered_by place who number t mode h m fresh found strong is_mode = record {
   is_mode = is_mode;
@@ -114,7 +114,7 @@ covered_by place who number t mode h m fresh found strong is_mode = record {
 }
 
 -- and its own mode is
-pub covered_by_own : (place who number : ℕ) (t : Own) (h : LatchRecord) (m : Mine) → IsFresh place h m → ticket_of who number h.book.granted ≡ Some (ticket_by who t) → IsCovered who t.mode h
+pub covered_by_own : (place who number : ℕ) (t : SessionTicket) (h : LatchRecord) (m : Mine) → IsFresh place h m → ticket_of who number h.book.granted ≡ Some (ticket_by who t) → IsCovered who t.mode h
 covered_by_own place who number t h m fresh found = record {
   is_mode = own_mode place who number t h m fresh found;
   stronger = ticket_by who t;

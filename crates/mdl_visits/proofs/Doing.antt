@@ -1,7 +1,7 @@
 -- Which deeds a session did, by what became of it.
 use Rattle.std.proofs.Common.{ℕ, List, [], ap}
 use Rattle.atomic_table.specs.Seated.{TableId}
-use Rattle.mdl_defs.specs.declared.standing.Standing.{Standing}
+use Rattle.mdl_defs.specs.declared.versioned_definition.VersionedDefinition.{VersionedDefinition}
 use Rattle.mdl_steps.specs.declared.deed.Deed.{Deed}
 use Rattle.mdl_steps.specs.Plays.{Mine}
 use Rattle.mdl_visits.specs.Grantings.{VisitsAndReschedules}
@@ -15,7 +15,7 @@ module _ (m m′ : Mine) where
   pub does_visits : (place : ℕ) (ds : List Deed) → Visits place ds m m′ → Does ds m m′
   does_visits place ds visit = (visit.made, ap (λ (x : Mine). x.0.log) visit.now, visit.did)
 
-  pub does_learns : (place : ℕ) (standing : Standing) → Learns place standing m m′ → Does [] m m′
+  pub does_learns : (place : ℕ) (standing : VersionedDefinition) → Learns place standing m m′ → Does [] m m′
   does_learns place standing learns = (learns.0, ap (λ (x : Mine). x.0.log) learns.1, learns.2)
 
   pub does_reschedule : (id : TableId) (place : ℕ) (ds : List Deed) → VisitsAndReschedules id place ds m m′ → Does ds m m′

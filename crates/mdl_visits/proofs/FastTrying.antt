@@ -7,7 +7,7 @@ use Rattle.mdl_steps.specs.declared.deed.Deed.{Deed}
 use Rattle.mdl_steps.specs.declared.deed.Deed.TheVariants.{Gain}
 use Rattle.mdl_steps.specs.declared.step_kind.StepKind.{StepKind}
 use Rattle.mdl_steps.specs.declared.step_kind.StepKind.TheVariants.{GrantFast, MissFast, ReadWord}
-use Rattle.mdl_steps.specs.declared.view.Met.{Met}
+use Rattle.mdl_steps.specs.declared.view.StepRecord.{StepRecord}
 use Rattle.mdl_steps.specs.FastPlays.{MayGrantFast, granted_fast, met_word, missed_fast}
 use Rattle.mdl_steps.specs.Layout.{lock_word}
 use Rattle.mdl_steps.specs.Lists.{Each}
@@ -17,21 +17,21 @@ use Rattle.mdl_visits.specs.Visits.{StaysOn, StaysThere, and_made, gives_back, k
 use Rattle.mdl_visits.proofs.Steps.{each_append, none_then}
 
 -- the step that a session with these latches made at a place
-abbrev pub met_at : StepKind → List Deed → ℕ → ℕ → Mine → Met
+abbrev pub met_at : StepKind → List Deed → ℕ → ℕ → Mine → StepRecord
 met_at kind ds place found m = record { kind = kind; deeds = ds; word = lock_word place; found = found; held = m.0.latches; directory = m.0.directory }
 
 -- ---- steps that missed
 
-miss_push : (place before : ℕ) (tries : List Met) (e : Met) → AllMiss place before tries → MissesAfter place (last_found before tries) e
+miss_push : (place before : ℕ) (tries : List StepRecord) (e : StepRecord) → AllMiss place before tries → MissesAfter place (last_found before tries) e
     → AllMiss place before (tries ++ e ∷ [])
 miss_push place before [] e all miss = (miss, tt)
 miss_push place before (x ∷ xs) e all miss = (all.0, miss_push place x.found xs e all.1 miss)
 
-last_push : (before : ℕ) (tries : List Met) (e : Met) → last_found before (tries ++ e ∷ []) ≡ e.found
+last_push : (before : ℕ) (tries : List StepRecord) (e : StepRecord) → last_found before (tries ++ e ∷ []) ≡ e.found
 last_push before [] e = refl
 last_push before (x ∷ xs) e = last_push x.found xs e
 
-all_stay : (place before : ℕ) (tries : List Met) → AllMiss place before tries → Each StaysThere tries
+all_stay : (place before : ℕ) (tries : List StepRecord) → AllMiss place before tries → Each StaysThere tries
 all_stay place before [] all = tt
 all_stay place before (x ∷ xs) all = ((ap gives_back all.0.kind, ap kind_raises_flags all.0.kind), all_stay place x.found xs all.1)
 
@@ -83,10 +83,10 @@ module _ {place count word : ℕ} {m m′ : Mine} (missed : Misses place count w
 
   -- the next one granted the ticket
   module _ (mode : Mode) (noted : Option ℕ) (found : ℕ) (m″ : Mine) (is : m″ ≡ granted_fast place mode noted found m′) where
-    grant : Met
+    grant : StepRecord
     grant = met_at GrantFast (Gain m.0.next mode ∷ []) place found m
 
-    made : List Met
+    made : List StepRecord
     made = missed.read ∷ missed.tries
 
     whole : m″ ≡ granted_fast place mode noted found (and_made made m)

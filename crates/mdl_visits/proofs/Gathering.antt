@@ -6,7 +6,7 @@ use Rattle.mdl_steps.specs.declared.slot.Slot.TheVariants as slot
 use Rattle.mdl_steps.specs.declared.step_kind.StepKind.TheVariants.{PutLatch, TakeLatch}
 use Rattle.mdl_steps.specs.declared.view.LatchRecord.{LatchRecord}
 use Rattle.mdl_steps.specs.declared.view.Keys.{Keys}
-use Rattle.mdl_steps.specs.declared.view.Met.{Met}
+use Rattle.mdl_steps.specs.declared.view.StepRecord.{StepRecord}
 use Rattle.mdl_steps.specs.Cells.{held_at}
 use Rattle.mdl_steps.specs.Layout.{latch_word}
 use Rattle.mdl_steps.specs.Lists.{Each}
@@ -28,7 +28,7 @@ use Rattle.mdl_visits.proofs.Steps.{each_append, none_then}
 -- ---- steps alone are as if words of waits had been read besides
 
 pub no_steps : (m : Mine) → MakesQuietSteps m m
-no_steps m = ([], ap (λ (log : List Met). (record m.0 { log = log }, m.1)) (sym (append-nil m.0.log)), refl, tt)
+no_steps m = ([], ap (λ (log : List StepRecord). (record m.0 { log = log }, m.1)) (sym (append-nil m.0.log)), refl, tt)
 
 abbrev pub as_reads : (s s′ : SeatState) → AtItsTable s s′ MakesQuietSteps → AtItsTable s s′ ReadsWaitsQuietly
 as_reads s s′ steps = (
@@ -72,10 +72,10 @@ module _ (place q : ℕ) (a b c : SeatState) (at : q ≡ place) (taken : TakesLa
   abbrev h : LatchRecord
   h = taken.0
 
-  abbrev made : List Met
+  abbrev made : List StepRecord
   made = taken.3.0
 
-  abbrev took : Met
+  abbrev took : StepRecord
   took = record { kind = TakeLatch; deeds = []; word = latch_word place; found = 0; held = h ∷ a.me.0.latches; directory = a.me.0.directory }
 
   came : c.me ≡ latched place h (and_made made a.me)
@@ -109,7 +109,7 @@ module _ (place q : ℕ) (a b c : SeatState) (at : q ≡ place) (taken : TakesLa
   still p g below e = ap (λ (m : Mine). held_at p m.0.latches) came ∙ held_at-past place p h a.me.0.latches taken.1.here (λ is. omega arith) ∙ e
 
   module _ (d : SeatState) (reads : AtItsTable c d ReadsWaitsQuietly) where
-    abbrev within : List Met
+    abbrev within : List StepRecord
     within = reads.1.reads.made
 
     pub may_put : MayPut q [] d.me
@@ -122,10 +122,10 @@ module _ (place q : ℕ) (a b c : SeatState) (at : q ≡ place) (taken : TakesLa
     ))
 
     module _ (e : SeatState) (put : e ≡ record d { me = unlatched q [] d.me }) (rising : IsRising place a.me) where
-      abbrev gave : Met
+      abbrev gave : StepRecord
       gave = record { kind = PutLatch; deeds = []; word = latch_word place; found = a.me.0.number; held = h ∷ a.me.0.latches; directory = a.me.0.directory }
 
-      abbrev all : List Met
+      abbrev all : List StepRecord
       all = made ++ (took ∷ within ++ gave ∷ [])
 
       joined : (((a.me.0.log ++ made) ++ took ∷ []) ++ within) ++ gave ∷ [] ≡ a.me.0.log ++ all
@@ -174,13 +174,13 @@ module _ (place q : ℕ) (a b c : SeatState) (at : q ≡ place) (taken : TakesLa
           )
 
       -- the step that gave the latch back shows the record of the latch
-      pub gives_back : (Shows : Met → Type 0) → Shows gave → HasStep a e Shows
+      pub gives_back : (Shows : StepRecord → Type 0) → Shows gave → HasStep a e Shows
       gives_back Shows shows = (
         gave,
         (
           made ++ (took ∷ within),
           [],
-          ap (λ (m : Mine). m.0.log) now ∙ ap (λ (log : List Met). a.me.0.log ++ log) (sym (append_assoc made (took ∷ within) (gave ∷ []))) ∙ sym (append_assoc a.me.0.log (made ++ (took ∷ within)) (gave ∷ [])),
+          ap (λ (m : Mine). m.0.log) now ∙ ap (λ (log : List StepRecord). a.me.0.log ++ log) (sym (append_assoc made (took ∷ within) (gave ∷ []))) ∙ sym (append_assoc a.me.0.log (made ++ (took ∷ within)) (gave ∷ [])),
         ),
         shows,
       )

@@ -8,7 +8,7 @@ use Rattle.mdl_key.specs.Words.{KeyName}
 use Rattle.mdl_steps.specs.declared.step_kind.StepKind.TheVariants.{PutLatch, TakeLatch}
 use Rattle.mdl_steps.specs.declared.view.LatchRecord.{LatchRecord}
 use Rattle.mdl_steps.specs.declared.view.Keys.{Keys}
-use Rattle.mdl_steps.specs.declared.view.Met.{Met}
+use Rattle.mdl_steps.specs.declared.view.StepRecord.{StepRecord}
 use Rattle.mdl_steps.specs.Copies.{Queues}
 use Rattle.mdl_steps.specs.Layout.{latch_word}
 use Rattle.mdl_steps.specs.Lists.{Each}
@@ -49,7 +49,7 @@ keys_from before (key ∷ keys) (a ∷ more) place at same keyed =
 -- ---- all of it, while the directory's latch is held
 
 module _ (a b c : SeatState) (taken : TakesDirectory a b) (same : c ≡ b) (idle : HoldsNoLatch a.me) where
-  abbrev made : List Met
+  abbrev made : List StepRecord
   made = taken.0
 
   abbrev k : Keys
@@ -77,20 +77,20 @@ module _ (a b c : SeatState) (taken : TakesDirectory a b) (same : c ≡ b) (idle
       }
 
   module _ (d : SeatState) (reads : AtItsTable c d ReadsWaitsQuietly) where
-    abbrev within : List Met
+    abbrev within : List StepRecord
     within = reads.1.reads.made
 
     pub may_inform : MayInform d.me
     may_inform = (k, subst (HasDirectory k) (sym (reads.1.reads.now ∙ ap (with_waits_read within reads.1.reads.told reads.1.reads.settles) came)) (record { recorded = refl; carried = refl }))
 
     module _ (e : SeatState) (put : e ≡ record d { me = informed (learnt d.me 0) d.me }) where
-      abbrev first : Met
+      abbrev first : StepRecord
       first = record { kind = TakeLatch; deeds = []; word = latch_word 0; found = 0; held = a.me.0.latches; directory = Some k }
 
-      abbrev final : Met
+      abbrev final : StepRecord
       final = record { kind = PutLatch; deeds = []; word = latch_word 0; found = a.me.0.number; held = a.me.0.latches; directory = Some k }
 
-      abbrev all : List Met
+      abbrev all : List StepRecord
       all = made ++ (first ∷ within ++ final ∷ [])
 
       joined : (((a.me.0.log ++ made) ++ first ∷ []) ++ within) ++ final ∷ [] ≡ a.me.0.log ++ all
@@ -139,7 +139,7 @@ module _ (a b c : SeatState) (taken : TakesDirectory a b) (same : c ≡ b) (idle
       pub goes_last : MakesMoreSteps d.me e.me
       goes_last = (_ ∷ [], ap (λ (s : SeatState). s.me.0.log) put)
 
-      moment_of : (latches : List LatchRecord) → HadLatches latches c.me d.me → (x : Met) × IsStepOf a.me e.me x × (x.held ≡ latches) × (x.directory ≡ Some k)
+      moment_of : (latches : List LatchRecord) → HadLatches latches c.me d.me → (x : StepRecord) × IsStepOf a.me e.me x × (x.held ≡ latches) × (x.directory ≡ Some k)
       moment_of latches had = ⊎_elim
           (λ at_once. (
             first,

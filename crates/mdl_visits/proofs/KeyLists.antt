@@ -14,11 +14,11 @@ use Rattle.indexmap.proofs.CallerLemmas.{insert_entry-new}
 use Rattle.indexmap.proofs.IndexTableLemmas.Probe.{pigeonhole}
 use Rattle.mdl_key.specs.declared.namespace.Kind.{Kind}
 use Rattle.mdl_key.specs.Words.{KeyName, key_eq, kind_of}
-use Rattle.mdl_steps.specs.declared.view.Known.{Known}
-use Rattle.mdl_steps.specs.Schemas.{is_known}
+use Rattle.mdl_key.specs.declared.known_key.KnownKey.{KnownKey}
+use Rattle.mdl_steps.specs.Schemas.{is_key_known}
 use Rattle.mdl_steps.proofs.KeyLemmas.{key-Decides}
 use Rattle.mdl_steps.proofs.Views.{by_bool}
-use Rattle.mdl_visits.specs.KnownLists.{are_keys_apart, are_two_keys, is_place_looked_up, key_looked_up, kind_known, place_looked_up}
+use Rattle.mdl_key.specs.KeyLookups.{are_apart, are_two, is_known, key_known, kind_known, place_known}
 use Rattle.mdl_visits.specs.OwnKeys.{AreIndexed, AreKinds, known_of}
 
 -- ---- by the key
@@ -31,17 +31,17 @@ key_swap j k =
     (λ same. (let back = (key-Decides j k).1 (sym ((key-Decides k j).0 same)) in (let never : true ≡ false = sym back ∙ differ in absurd (cc))))
     (λ other. differ ∙ sym other))
 
-pub place_found : (key : KeyName) (entries : List (KeyName × ℕ)) → lookup (key_eq key) entries ≡ place_looked_up key (map known_of entries)
+pub place_found : (key : KeyName) (entries : List (KeyName × ℕ)) → lookup (key_eq key) entries ≡ place_known key (map known_of entries)
 place_found key [] = refl
 place_found key (e ∷ es) = rw (key_swap key e.0) (grind (arith, place_found key es))
 
 -- by an equal key
 pub found_like : (key other : KeyName) (entries : List (KeyName × ℕ)) (place : ℕ) → key_eq other key ≡ true → lookup (key_eq other) entries ≡ Some place
-    → place_looked_up key (map known_of entries) ≡ Some place
+    → place_known key (map known_of entries) ≡ Some place
 found_like key other entries place same found =
     sym (place_found key entries) ∙ subst (λ (k : KeyName). lookup (key_eq k) entries ≡ Some place) ((key-Decides other key).0 same) found
 
-pub known_found : (key : KeyName) (known : List Known) → is_some (place_looked_up key known) ≡ is_known known key
+pub known_found : (key : KeyName) (known : List KnownKey) → is_some (place_known key known) ≡ is_key_known known key
 known_found key [] = refl
 known_found key (k ∷ ks) = grind (arith, known_found key ks)
 
@@ -50,7 +50,7 @@ known_found key (k ∷ ks) = grind (arith, known_found key ks)
 abbrev At : ℕ → ℕ → List (KeyName × ℕ) → Type 0
 At place i entries = (e : KeyName × ℕ) × (slice_get entries i ≡ Some e) × (e.1 ≡ place)
 
-nowhere : (place : ℕ) (entries : List (KeyName × ℕ)) → ((i : ℕ) → At place i entries → ⊥) → key_looked_up place (map known_of entries) ≡ None
+nowhere : (place : ℕ) (entries : List (KeyName × ℕ)) → ((i : ℕ) → At place i entries → ⊥) → key_known place (map known_of entries) ≡ None
 nowhere place [] none = refl
 nowhere place (e ∷ es) none =
     by_bool (e.1 == place)
@@ -58,7 +58,7 @@ nowhere place (e ∷ es) none =
     (λ miss. rw miss (nowhere place es (λ i at. none (suc i) at)))
 
 here : (place at : ℕ) (e : KeyName × ℕ) (entries : List (KeyName × ℕ)) → slice_get entries at ≡ Some e → e.1 ≡ place → ((i : ℕ) → At place i entries → i ≡ at)
-    → key_looked_up place (map known_of entries) ≡ Some e.0
+    → key_known place (map known_of entries) ≡ Some e.0
 here place at e [] stands is only = absurd (cc)
 here place zero e (x ∷ xs) stands is only = (let first : x ≡ e = cc in rw first (rw (eq-eqb e.1 place is) refl))
 here place (suc at) e (x ∷ xs) stands is only =
@@ -71,20 +71,20 @@ module _ (place : ℕ) (entries : List (KeyName × ℕ)) (indexes : List ℕ) (i
   under i at = subst (λ (q : ℕ). slice_get indexes q ≡ Some i) at.2 (indexed i at.0 at.1)
 
   -- there is no index under the place
-  pub none_under : slice_get indexes place ≡ None → key_looked_up place (map known_of entries) ≡ None
+  pub none_under : slice_get indexes place ≡ None → key_known place (map known_of entries) ≡ None
   none_under none = nowhere place entries (λ i there. (let stands = under i there in absurd (cc)))
 
   -- nothing stands at the index
-  pub none_at : (at : ℕ) → slice_get indexes place ≡ Some at → slice_get entries at ≡ None → key_looked_up place (map known_of entries) ≡ None
+  pub none_at : (at : ℕ) → slice_get indexes place ≡ Some at → slice_get entries at ≡ None → key_known place (map known_of entries) ≡ None
   none_at at is none = nowhere place entries (λ i there. (let same = sym is ∙ under i there in let stands = there.1 in absurd (cc)))
 
   -- the key of another place stands there
-  pub other_at : (at : ℕ) (e : KeyName × ℕ) → slice_get indexes place ≡ Some at → slice_get entries at ≡ Some e → e.1 ≢ place → key_looked_up place (map known_of entries) ≡ None
+  pub other_at : (at : ℕ) (e : KeyName × ℕ) → slice_get indexes place ≡ Some at → slice_get entries at ≡ Some e → e.1 ≢ place → key_known place (map known_of entries) ≡ None
   other_at at e is stands other = nowhere place entries (λ i there.
       (let same = sym is ∙ under i there in let own = there.1 in let one : e ≡ there.0 = cc in other (ap (λ (x : KeyName × ℕ). x.1) one ∙ there.2)))
 
   -- the key of the place stands there
-  pub found_at : (at : ℕ) (e : KeyName × ℕ) → slice_get indexes place ≡ Some at → slice_get entries at ≡ Some e → e.1 ≡ place → key_looked_up place (map known_of entries) ≡ Some e.0
+  pub found_at : (at : ℕ) (e : KeyName × ℕ) → slice_get indexes place ≡ Some at → slice_get entries at ≡ Some e → e.1 ≡ place → key_known place (map known_of entries) ≡ Some e.0
   found_at at e is stands own = here place at e entries stands own (λ i there. (let same = sym is ∙ under i there in cc))
 
 -- ---- one key more
@@ -113,14 +113,14 @@ get_other (x ∷ xs) (suc i) zero y other = refl
 get_other (x ∷ xs) (suc i) (suc j) y other = get_other xs i j y (grind (arith, nat_tests))
 
 -- an entry is at a place that is known
-elsewhere : (place : ℕ) (entries : List (KeyName × ℕ)) (at : ℕ) (e : KeyName × ℕ) → is_place_looked_up (map known_of entries) place ≡ false → slice_get entries at ≡ Some e → (e.1 == place) ≡ false
+elsewhere : (place : ℕ) (entries : List (KeyName × ℕ)) (at : ℕ) (e : KeyName × ℕ) → is_known place (map known_of entries) ≡ false → slice_get entries at ≡ Some e → (e.1 == place) ≡ false
 elsewhere place [] at e new stands = absurd (cc)
 elsewhere place (x ∷ xs) zero e new stands = (let first : x ≡ e = cc in rw (← first) (grind (arith, nat_tests)))
 elsewhere place (x ∷ xs) (suc at) e new stands = elsewhere place xs at e (grind (arith, nat_tests)) stands
 
 -- what stood under other places stays, and the new key's place has the next index
 pub indexed_more : (entries : List (KeyName × ℕ)) (indexes : List ℕ) (key : KeyName) (place : ℕ) → AreIndexed entries indexes
-    → is_place_looked_up (map known_of entries) place ≡ false → place < length indexes
+    → is_known place (map known_of entries) ≡ false → place < length indexes
     → AreIndexed (entries ++ (key, place) ∷ []) (set indexes place (length entries))
 indexed_more entries indexes key place indexed new inside at e stands =
     elim (ltb at (length entries)) as (λ b. ltb at (length entries) ≡ b → slice_get (set indexes place (length entries)) e.1 ≡ Some at) [
@@ -134,7 +134,7 @@ indexed_more entries indexes key place indexed new inside at e stands =
     ] refl
 
 -- the kind of the new key's lock is at its place
-kind_new : (entries : List (KeyName × ℕ)) (key : KeyName) (place : ℕ) → is_place_looked_up (map known_of entries) place ≡ false
+kind_new : (entries : List (KeyName × ℕ)) (key : KeyName) (place : ℕ) → is_known place (map known_of entries) ≡ false
     → kind_known place (map known_of (entries ++ (key, place) ∷ [])) ≡ Some (kind_of key.namespace)
 kind_new [] key place new = rw (eq-eqb place place refl) refl
 kind_new (e ∷ es) key place new =
@@ -152,7 +152,7 @@ kind_old (e ∷ es) key place q other =
     (λ miss. rw miss (kind_old es key place q other))
 
 pub kinds_more : (entries : List (KeyName × ℕ)) (kinds : List (Option Kind)) (key : KeyName) (place : ℕ) → AreKinds entries kinds
-    → is_place_looked_up (map known_of entries) place ≡ false → place < length kinds
+    → is_known place (map known_of entries) ≡ false → place < length kinds
     → AreKinds (entries ++ (key, place) ∷ []) (set kinds place (Some (kind_of key.namespace)))
 kinds_more entries kinds key place are new inside q =
     by_bool (place == q)
@@ -163,7 +163,7 @@ kinds_more entries kinds key place are new inside q =
 
 -- there are fewer keys than places: each place has one index, and none the new key's
 pub fewer_keys : (entries : List (KeyName × ℕ)) (indexes : List ℕ) (key : KeyName) (place : ℕ) → AreIndexed entries indexes
-    → is_place_looked_up (map known_of entries) place ≡ false → place < length indexes → length entries < length indexes
+    → is_known place (map known_of entries) ≡ false → place < length indexes → length entries < length indexes
 fewer_keys entries indexes key place indexed new inside =
     let more : List (KeyName × ℕ) = entries ++ (key, place) ∷ [] in
     let all : AreIndexed more (set indexes place (length entries)) = indexed_more entries indexes key place indexed new inside in
@@ -176,17 +176,17 @@ fewer_keys entries indexes key place indexed new inside =
     omega (arith, fits, length-append entries ((key, place) ∷ []))
 
 -- a new key goes last
-pub inserted : {S : Type 0} (places : IndexMap KeyName ℕ S) (key : KeyName) (place : ℕ) → place_looked_up key (map known_of places.entries) ≡ None
+pub inserted : {S : Type 0} (places : IndexMap KeyName ℕ S) (key : KeyName) (place : ℕ) → place_known key (map known_of places.entries) ≡ None
     → insert_entry key_eq places.entries key place ≡ places.entries ++ (key, place) ∷ []
 inserted places key place new = insert_entry-new key_eq places key place (place_found key places.entries ∙ new)
 
 -- ---- several keys more
 
 -- the next one has a key and a place that aren't known
-pub next_new : (known : List Known) (k : Known) (rest : List Known) → are_keys_apart (known ++ k ∷ rest) ≡ true → (place_looked_up k.key known ≡ None) × (is_place_looked_up known k.place ≡ false)
+pub next_new : (known : List KnownKey) (k : KnownKey) (rest : List KnownKey) → are_apart (known ++ k ∷ rest) ≡ true → (place_known k.key known ≡ None) × (is_known k.place known ≡ false)
 next_new [] k rest apart = (refl, refl)
 next_new (x ∷ xs) k rest apart =
-    let parts = and_parts (list_all (are_two_keys x) (xs ++ k ∷ rest)) (are_keys_apart (xs ++ k ∷ rest)) apart in
+    let parts = and_parts (list_all (are_two x) (xs ++ k ∷ rest)) (are_apart (xs ++ k ∷ rest)) apart in
     let later = next_new xs k rest parts.1 in
-    let two : are_two_keys x k ≡ true = (and_parts (are_two_keys x k) (list_all (are_two_keys x) rest) (and_parts (list_all (are_two_keys x) xs) _ (sym (list_all-append (are_two_keys x) xs (k ∷ rest)) ∙ parts.0)).1).0 in
+    let two : are_two x k ≡ true = (and_parts (are_two x k) (list_all (are_two x) rest) (and_parts (list_all (are_two x) xs) _ (sym (list_all-append (are_two x) xs (k ∷ rest)) ∙ parts.0)).1).0 in
     (grind (arith, nat_tests, later.0, two), grind (arith, nat_tests, later.1, two))

@@ -8,8 +8,8 @@ use Rattle.mdl_book.specs.Tickets.{is_ticket, ticket_of}
 use Rattle.mdl_book.specs.declared.book_view.BookView.{BookView}
 use Rattle.mdl_steps.specs.declared.deed.Deed.{Deed}
 use Rattle.mdl_steps.specs.declared.step_kind.StepKind.TheVariants.{LowerFlags, PutLatch}
-use Rattle.mdl_steps.specs.declared.view.Met.{Met}
-use Rattle.mdl_steps.specs.declared.view.Own.{Own}
+use Rattle.mdl_steps.specs.declared.view.StepRecord.{StepRecord}
+use Rattle.mdl_steps.specs.declared.view.SessionTicket.{SessionTicket}
 use Rattle.mdl_steps.specs.Cells.{own_at, ticket_by}
 use Rattle.mdl_steps.specs.Layout.{lock_word, latch_word}
 use Rattle.mdl_steps.specs.Plays.{Mine, flags_lowered, unlatched}
@@ -27,10 +27,10 @@ needed true up e = e refl
 needed false up e = refl
 
 module _ (place : ℕ) (ds : List Deed) (found : ℕ) (book : BookView) (slow obtrusive : Bool) (m : Mine) where
-  lowers : Met
+  lowers : StepRecord
   lowers = record { kind = LowerFlags slow obtrusive; deeds = ds; word = lock_word place; found = found; held = m.0.latches; directory = m.0.directory }
 
-  puts : Met
+  puts : StepRecord
   puts = record { kind = PutLatch; deeds = []; word = latch_word place; found = m.0.number; held = (flags_lowered place ds found book slow obtrusive m).0.latches; directory = m.0.directory }
 
   abbrev last : Mine
@@ -48,9 +48,9 @@ module _ (place : ℕ) (ds : List Deed) (found : ℕ) (book : BookView) (slow ob
   )
 
   -- the first of its two steps was on the word, while the session had what it had, and did the deeds
-  pub first_step : (e : Met) × IsStepOf m last e × ((e.word ≡ lock_word place) × (e.held ≡ m.0.latches) × (e.deeds ≡ ds))
+  pub first_step : (e : StepRecord) × IsStepOf m last e × ((e.word ≡ lock_word place) × (e.held ≡ m.0.latches) × (e.deeds ≡ ds))
   unfolding lowers puts
-  first_step = (lowers, ([], puts ∷ [], both ∙ ap (λ (log : List Met). log ++ lowers ∷ puts ∷ []) (sym (append-nil m.0.log))), (refl, refl, refl))
+  first_step = (lowers, ([], puts ∷ [], both ∙ ap (λ (log : List StepRecord). log ++ lowers ∷ puts ∷ []) (sym (append-nil m.0.log))), (refl, refl, refl))
 
   -- the second gave the latch back
   pub puts_back : PutsBack place m last
@@ -68,25 +68,25 @@ module _ (place : ℕ) (m m′ m″ : Mine) (inside : IsInside place m m′) whe
     did = none_then inside.made left.0 ds inside.did left.2;
   }
 
-  pub step_later : (e : Met) → IsStepOf m′ m″ e → IsStepOf m m″ e
+  pub step_later : (e : StepRecord) → IsStepOf m′ m″ e → IsStepOf m m″ e
   step_later e step = (
     inside.made ++ step.0,
     step.1,
-    step.2 ∙ ap (λ (x : Mine). (x.0.log ++ step.0) ++ e ∷ step.1) inside.now ∙ ap (λ (log : List Met). log ++ e ∷ step.1) (append_assoc m.0.log inside.made step.0),
+    step.2 ∙ ap (λ (x : Mine). (x.0.log ++ step.0) ++ e ∷ step.1) inside.now ∙ ap (λ (log : List StepRecord). log ++ e ∷ step.1) (append_assoc m.0.log inside.made step.0),
   )
 
 -- ---- of its own tickets
 
 -- a ticket of its list stands among those of its place
-pub own_found : (who place number : ℕ) (slow : List Own) → HasTicket place number slow → is_some (ticket_of who number (map (ticket_by who) (own_at place slow))) ≡ true
+pub own_found : (who place number : ℕ) (slow : List SessionTicket) → HasTicket place number slow → is_some (ticket_of who number (map (ticket_by who) (own_at place slow))) ≡ true
 own_found who place number slow has = found slow has.0 has.1 has.2 has.3 has.4
   where
-    found : (ts : List Own) (k : ℕ) (t : Own) → get_elem? ts k ≡ some t → t.place ≡ place → t.number ≡ number → is_some (ticket_of who number (map (ticket_by who) (own_at place ts))) ≡ true
+    found : (ts : List SessionTicket) (k : ℕ) (t : SessionTicket) → get_elem? ts k ≡ some t → t.place ≡ place → t.number ≡ number → is_some (ticket_of who number (map (ticket_by who) (own_at place ts))) ≡ true
     found [] k t there here same = absurd (some-ne-none t (sym there))
     found (x ∷ xs) zero t there here same =
         let is = some-injective x t there in
-        let test : (x.place == place) ≡ true = eq-eqb x.place place (ap (λ (o : Own). o.place) is ∙ here) in
-        let hit : is_ticket who number (ticket_by who x) ≡ true = and_from _ _ (eq-eqb who who refl) (eq-eqb x.number number (ap (λ (o : Own). o.number) is ∙ same)) in
+        let test : (x.place == place) ≡ true = eq-eqb x.place place (ap (λ (o : SessionTicket). o.place) is ∙ here) in
+        let hit : is_ticket who number (ticket_by who x) ≡ true = and_from _ _ (eq-eqb who who refl) (eq-eqb x.number number (ap (λ (o : SessionTicket). o.number) is ∙ same)) in
         rw (test, hit) refl
     found (x ∷ xs) (suc k) t there here same =
         let rest = found xs k t there here same in

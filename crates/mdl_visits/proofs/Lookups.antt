@@ -9,8 +9,8 @@ use Rattle.mdl_key.specs.Words.{KeyName}
 use Rattle.mdl_steps.specs.declared.slot.Slot.{Slot}
 use Rattle.mdl_steps.specs.declared.step_kind.StepKind.TheVariants.{PutLatch, TakeLatch}
 use Rattle.mdl_steps.specs.declared.view.Keys.{Keys}
-use Rattle.mdl_steps.specs.declared.view.Known.{Known}
-use Rattle.mdl_steps.specs.declared.view.Met.{Met}
+use Rattle.mdl_key.specs.declared.known_key.KnownKey.{KnownKey}
+use Rattle.mdl_steps.specs.declared.view.StepRecord.{StepRecord}
 use Rattle.mdl_steps.specs.Layout.{latch_word}
 use Rattle.mdl_steps.specs.Plays.{Mine, consulted, informed, listing}
 use Rattle.mdl_steps.specs.Rule.{key_at}
@@ -31,7 +31,7 @@ pub no_record : (d : Option Keys) → is_some d ≡ false → None ≡ d
 no_record None e = refl
 no_record (Some k) e = absurd (cc)
 
-pub had_none : (m : Mine) → HoldsNoLatch m → (made : List Met) → AllQuiet m.0.directory made → AllQuiet None made
+pub had_none : (m : Mine) → HoldsNoLatch m → (made : List StepRecord) → AllQuiet m.0.directory made → AllQuiet None made
 had_none m idle made had = subst (λ (d : Option Keys). AllQuiet d made) (sym (no_record m.0.directory idle.1)) had
 
 pub no_latches : (m : Mine) → HoldsNoLatch m → m.0.latches ≡ []
@@ -46,7 +46,7 @@ has_taken k m = record { recorded = refl; carried = refl }
 -- nothing was done
 pub relisted_nothing : (k : Keys) (m : Mine) → HasDirectory k m → m ≡ relisted [] k m
 relisted_nothing k m has =
-    ap (λ (log : List Met). (record m.0 { log = log }, m.1)) (sym (append-nil m.0.log))
+    ap (λ (log : List StepRecord). (record m.0 { log = log }, m.1)) (sym (append-nil m.0.log))
     ∙ ap (λ (d : Option Keys). (record m.0 { log = m.0.log ++ []; directory = d }, m.1)) has.recorded
     ∙ ap (λ (hand : List (ℕ × Slot)). (record m.0 { log = m.0.log ++ []; directory = Some k }, hand)) has.carried
 
@@ -92,11 +92,11 @@ stands_next key place k a b named none next fit =
 -- ---- the directory's latch is given back
 
 -- what is learnt of a record
-abbrev learning : Keys → ℕ → List Known
+abbrev learning : Keys → ℕ → List KnownKey
 learning k place = option_to_list (option_map (λ key. record { key = key; place = place }) (recorded_key (Some k) place))
 
 learning_one : (k : Keys) (place : ℕ) (key : KeyName) → 0 < place → key_at k.keys place ≡ Some key → learning k place ≡ record { key = key; place = place } ∷ []
-learning_one k place key some e = rw (lt-ltb 0 place some) (ap (λ (o : Option KeyName). option_to_list (option_map {T = KeyName} {U = Known} (λ x. record { key = x; place = place }) o)) e)
+learning_one k place key some e = rw (lt-ltb 0 place some) (ap (λ (o : Option KeyName). option_to_list (option_map {T = KeyName} {U = KnownKey} (λ x. record { key = x; place = place }) o)) e)
 
 module _ (key : KeyName) (result : Result ℕ ResolveError) (a b c : SeatState) (taken : TakesDirectory a b)
     (told : (k : Keys) → HasDirectory k b.me → AtItsTable b c (HasLooked b.table.slots key k result)) where
@@ -108,13 +108,13 @@ module _ (key : KeyName) (result : Result ℕ ResolveError) (a b c : SeatState) 
   may_inform_looked = (looked.left, subst (HasDirectory looked.left) (sym looked.seat) (record { recorded = refl; carried = refl }))
 
   module _ (place : ℕ) (e : SeatState) (put : e ≡ record c { me = informed (learnt c.me place) c.me }) (idle : HoldsNoLatch a.me) where
-    abbrev took : Met
+    abbrev took : StepRecord
     took = record { kind = TakeLatch; deeds = []; word = latch_word 0; found = 0; held = a.me.0.latches; directory = Some taken.1 }
 
-    abbrev gave : Met
+    abbrev gave : StepRecord
     gave = record { kind = PutLatch; deeds = []; word = latch_word 0; found = a.me.0.number; held = a.me.0.latches; directory = Some looked.left }
 
-    abbrev all : List Met
+    abbrev all : List StepRecord
     all = taken.0 ++ (took ∷ looked.made ++ gave ∷ [])
 
     joined : (((a.me.0.log ++ taken.0) ++ took ∷ []) ++ looked.made) ++ gave ∷ [] ≡ a.me.0.log ++ all
@@ -159,7 +159,7 @@ module _ (key : KeyName) (result : Result ℕ ResolveError) (a b c : SeatState) 
       stands.1,
       (
         all,
-        put_is ∙ ap (λ (more : List Known). (record a.me.0 { log = a.me.0.log ++ all; known = a.me.0.known ++ more }, a.me.1)) (learning_one looked.left place key stands.0 stands.2),
+        put_is ∙ ap (λ (more : List KnownKey). (record a.me.0 { log = a.me.0.log ++ all; known = a.me.0.known ++ more }, a.me.1)) (learning_one looked.left place key stands.0 stands.2),
         did_all,
       ),
     )
@@ -169,6 +169,6 @@ module _ (key : KeyName) (result : Result ℕ ResolveError) (a b c : SeatState) 
       all,
       put_is
           ∙ ap (λ (p : ℕ). (record a.me.0 { log = a.me.0.log ++ all; known = a.me.0.known ++ learning looked.left p }, a.me.1)) none
-          ∙ ap (λ (known : List Known). (record a.me.0 { log = a.me.0.log ++ all; known = known }, a.me.1)) (append-nil a.me.0.known),
+          ∙ ap (λ (known : List KnownKey). (record a.me.0 { log = a.me.0.log ++ all; known = known }, a.me.1)) (append-nil a.me.0.known),
       did_all,
     )

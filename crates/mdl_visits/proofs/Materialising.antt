@@ -16,8 +16,8 @@ use Rattle.mdl_book.specs.Granting.{is_compatible}
 use Rattle.mdl_book.specs.Tickets.{ticket_of}
 use Rattle.mdl_steps.specs.declared.step_kind.StepKind.TheVariants.{Materialise, PutLatch, RaiseFlags}
 use Rattle.mdl_steps.specs.declared.view.LatchRecord.{LatchRecord}
-use Rattle.mdl_steps.specs.declared.view.Met.{Met}
-use Rattle.mdl_steps.specs.declared.view.Own.{Own}
+use Rattle.mdl_steps.specs.declared.view.StepRecord.{StepRecord}
+use Rattle.mdl_steps.specs.declared.view.SessionTicket.{SessionTicket}
 use Rattle.mdl_steps.specs.Cells.{held_at, own_at, ticket_by}
 use Rattle.mdl_steps.specs.Deeds.{KnowsPlace}
 use Rattle.mdl_steps.specs.FastPlays.{MayMaterialise, but_at, granting_all, materialised, moved, weight_of, with_granted}
@@ -49,7 +49,7 @@ some_tickets : (ts granted waiting : List Ticket) → 0 < length ts → true ≡
 some_tickets ts granted waiting some = let longer = length-append granted ts in sym (lt-ltb 0 _ (omega arith))
 
 -- unobtrusive ones are none that are obtrusive
-none_obtrusive : (kind : Kind) (session : ℕ) (ts : List Own) → Each (λ (t : Own). not (is_obtrusive kind t.mode) ≡ true) ts
+none_obtrusive : (kind : Kind) (session : ℕ) (ts : List SessionTicket) → Each (λ (t : SessionTicket). not (is_obtrusive kind t.mode) ≡ true) ts
     → any_obtrusive kind (map (ticket_by session) ts) ≡ false
 none_obtrusive kind session [] all = refl
 none_obtrusive kind session (t ∷ ts) all = by_bool (is_obtrusive kind t.mode)
@@ -74,11 +74,11 @@ tells_more book slow obtrusive ts exact some plain = (
 
 -- ---- without any
 
-none_taken : (place : ℕ) (ts : List Own) → own_at place ts ≡ [] → but_at place ts ≡ ts
+none_taken : (place : ℕ) (ts : List SessionTicket) → own_at place ts ≡ [] → but_at place ts ≡ ts
 none_taken place [] none = refl
 none_taken place (t ∷ ts) none = by_bool (t.place == place)
     (λ here. (let some = rw here at none in absurd (cc)))
-    (λ away. rw away (ap (λ (us : List Own). t ∷ us) (none_taken place ts (rw away at none))))
+    (λ away. rw away (ap (λ (us : List SessionTicket). t ∷ us) (none_taken place ts (rw away at none))))
 
 -- a session that has none there has materialised them
 pub nothing_fast : (place : ℕ) (s : SeatState) → own_at place s.me.0.fast ≡ [] → WasMaterialised place s s
@@ -90,7 +90,7 @@ nothing_fast place s none = (
       now = λ i. (
         record (all_slow place s.me.0) {
           fast = sym (none_taken place s.me.0.fast none) i;
-          slow = ap (λ (ts : List Own). interleaved s.me.0.slow ts) (sym none) i;
+          slow = ap (λ (ts : List SessionTicket). interleaved s.me.0.slow ts) (sym none) i;
           log = sym (append-nil s.me.0.log) i;
         },
         s.me.1,
@@ -113,10 +113,10 @@ module _ (place found : ℕ) (m m′ m″ m‴ : Mine) (inside : IsInside place 
   abbrev latches : List LatchRecord
   latches = map (λ (h : LatchRecord). cond (h.place == place) (with_granted (moved place m.0) h) h) inside.latches
 
-  abbrev materialises : Met
+  abbrev materialises : StepRecord
   materialises = record { kind = Materialise; deeds = []; word = lock_word place; found = found; held = latches; directory = m.0.directory }
 
-  abbrev gives : Met
+  abbrev gives : StepRecord
   gives = record { kind = PutLatch; deeds = []; word = latch_word place; found = m.0.number; held = latches; directory = m.0.directory }
 
   there : m″ ≡ materialised place found in_hand
@@ -142,7 +142,7 @@ module _ (place found : ℕ) (m m′ m″ m‴ : Mine) (inside : IsInside place 
 
   -- the step shows the tickets, as the record of the latch had them then
   pub step_then : (h : LatchRecord) → held_at place m″.0.latches ≡ Some h
-      → (e : Met) × IsStepOf m m‴ e × (e.kind ≡ Materialise) × (e.word ≡ lock_word place) × (held_at place e.held ≡ Some h)
+      → (e : StepRecord) × IsStepOf m m‴ e × (e.kind ≡ Materialise) × (e.word ≡ lock_word place) × (held_at place e.held ≡ Some h)
   step_then h recorded = (
     materialises,
     (inside.made, gives ∷ [], ap (λ (x : Mine). x.0.log) (puts ∙ ap (unlatched place []) there) ∙ both),
@@ -158,7 +158,7 @@ module _ {place : ℕ} {s : SeatState} {q : ℕ} {c : SeatState} (a : Arrives pl
     (raises : (met : ℕ) × (b ≡ record c { me = stepped (RaiseFlags true false) q met (raised true false) c.me })) where
   rose : StaysWithin false c.me b.me
   rose =
-      let raise : Met = record {
+      let raise : StepRecord = record {
         kind = RaiseFlags true false;
         deeds = [];
         word = lock_word q;
@@ -176,7 +176,7 @@ module _ {place : ℕ} {s : SeatState} {q : ℕ} {c : SeatState} (a : Arrives pl
   pub done_once : (book : BookView) (w d n : SeatState) → w ≡ with_book q book b → (met : ℕ) × (d ≡ record w { me = materialised q met w.me })
       → n ≡ record d { me = unlatched q [] d.me } → VisitsOnce place s.me n.me
   done_once book w d n wrote makes puts =
-      let materialises : Met = record {
+      let materialises : StepRecord = record {
         kind = Materialise;
         deeds = [];
         word = lock_word q;
@@ -191,7 +191,7 @@ module _ {place : ℕ} {s : SeatState} {q : ℕ} {c : SeatState} (a : Arrives pl
 -- ---- of a session that came to the place, and raised the flag SLOW
 
 -- it waits for nothing, and has these fast tickets there
-pub record IsReady (place : ℕ) (s : SeatState) (q : ℕ) (fast : List Own) (b : SeatState) : Type 0 where
+pub record IsReady (place : ℕ) (s : SeatState) (q : ℕ) (fast : List SessionTicket) (b : SeatState) : Type 0 where
   pub idle : s.me.0.asks ≡ None
   pub these : fast ≡ own_at place s.me.0.fast
   pub at : q ≡ place
@@ -202,7 +202,7 @@ pub record IsReady (place : ℕ) (s : SeatState) (q : ℕ) (fast : List Own) (b 
   pub holds : Holds q (raised true false found) found.book b.me
   pub inside : IsInside q s.me b.me
 
-pub ready : {place : ℕ} {s : SeatState} {q : ℕ} {c : SeatState} (a : Arrives place s q c) (fast : List Own) (b : SeatState)
+pub ready : {place : ℕ} {s : SeatState} {q : ℕ} {c : SeatState} (a : Arrives place s q c) (fast : List SessionTicket) (b : SeatState)
     → (met : ℕ) × (b ≡ record c { me = stepped (RaiseFlags true false) q met (raised true false) c.me })
     → ((h : LatchRecord) (k : BookView) → Holds q h k c.me → Holds q (raised true false h) k b.me)
     → fast ≡ own_at place s.me.0.fast → s.me.0.asks ≡ None → IsReady place s q fast b
@@ -218,7 +218,7 @@ ready {place} {s} {q} {c} a fast b raises keeps these idle = record {
   inside = inside_stepped (RaiseFlags true false) q raises.0 (raised true false) s.me c.me b.me (λ x. refl) a.came.1 (mine raises.1);
 }
 
-module _ {place : ℕ} {s : SeatState} {q : ℕ} {fast : List Own} {b : SeatState} (r : IsReady place s q fast b) where
+module _ {place : ℕ} {s : SeatState} {q : ℕ} {fast : List SessionTicket} {b : SeatState} (r : IsReady place s q fast b) where
   abbrev up : LatchRecord
   up = raised true false r.found
 
@@ -233,8 +233,8 @@ module _ {place : ℕ} {s : SeatState} {q : ℕ} {fast : List Own} {b : SeatStat
 
   none_granted : AreUngranted session (own_at place s.me.0.fast) book
   none_granted = each_map
-      (λ (t : Own). ticket_of session t.number (map (ticket_by session) (own_at place s.me.0.slow)) ≡ None)
-      (λ (t : Own). ticket_of session t.number book.granted ≡ None)
+      (λ (t : SessionTicket). ticket_of session t.number (map (ticket_by session) (own_at place s.me.0.slow)) ≡ None)
+      (λ (t : SessionTicket). ticket_of session t.number book.granted ≡ None)
       (λ t none. r.fresh.own t.number (idle_waits_not s.me.0 t.number r.idle) ∙ none)
       (own_at place s.me.0.fast)
       (unmixed_apart session place s.me.0.fast s.me.0.slow r.fresh.unmixed)
@@ -242,11 +242,11 @@ module _ {place : ℕ} {s : SeatState} {q : ℕ} {fast : List Own} {b : SeatStat
   -- the tickets may stand in the book
   pub can_stand : CanStand q fast book b
   can_stand =
-      let Beside : ℕ → List Own → Type 0 = λ n ts. Each (λ (t : Own). is_compatible (lock_kind book) book.granted n t.mode ≡ true) ts in
+      let Beside : ℕ → List SessionTicket → Type 0 = λ n ts. Each (λ (t : SessionTicket). is_compatible (lock_kind book) book.granted n t.mode ≡ true) ts in
       record {
         in_hand = r.holds.carried;
-        ungranted = subst (λ (n : ℕ). AreUngranted n fast book) who (subst (λ (ts : List Own). AreUngranted session ts book) (sym r.these) none_granted);
-        beside = subst (λ (n : ℕ). Beside n fast) who (subst (λ (ts : List Own). Beside session ts) (sym r.these) r.fresh.fast_beside);
+        ungranted = subst (λ (n : ℕ). AreUngranted n fast book) who (subst (λ (ts : List SessionTicket). AreUngranted session ts book) (sym r.these) none_granted);
+        beside = subst (λ (n : ℕ). Beside n fast) who (subst (λ (ts : List SessionTicket). Beside session ts) (sym r.these) r.fresh.fast_beside);
       }
 
   -- ---- if there is no room for them

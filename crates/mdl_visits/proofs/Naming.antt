@@ -12,7 +12,7 @@ use Rattle.mdl_steps.specs.declared.slot.Slot.TheVariants as slot
 use Rattle.mdl_steps.specs.declared.step_kind.StepKind.TheVariants.{PutLatch, TakeLatch}
 use Rattle.mdl_steps.specs.declared.view.LatchRecord.{LatchRecord}
 use Rattle.mdl_steps.specs.declared.view.Keys.{Keys}
-use Rattle.mdl_steps.specs.declared.view.Met.{Met}
+use Rattle.mdl_steps.specs.declared.view.StepRecord.{StepRecord}
 use Rattle.mdl_steps.specs.Layout.{latch_word}
 use Rattle.mdl_steps.specs.Plays.{Mine, IsFresh, latched, listing, named}
 use Rattle.mdl_steps.specs.Rule.{key_at, IsUnused}
@@ -51,23 +51,23 @@ may_name place key k h m fresh is =
     }
 
 -- once it was given back, the key stands in the directory's record, too
-pub named_is : (place : ℕ) (key : KeyName) (k : Keys) (h : LatchRecord) (made : List Met) (old new : Mine) → h.place ≡ place → old.0.latches ≡ [] → IsAddedToDirectory place key k old
+pub named_is : (place : ℕ) (key : KeyName) (k : Keys) (h : LatchRecord) (made : List StepRecord) (old new : Mine) → h.place ≡ place → old.0.latches ≡ [] → IsAddedToDirectory place key k old
     → AllQuiet old.0.directory made → deeds_of made ≡ [] → new ≡ named place key (written place (empty_book key) (latched place h (and_made made old)))
     → HasNamed key k old new
 named_is place key k h made old new here alone is lingered did e =
-    let took : Met = record { kind = TakeLatch; deeds = []; word = latch_word place; found = 0; held = h ∷ old.0.latches; directory = old.0.directory } in
-    let gave : Met = record { kind = PutLatch; deeds = []; word = latch_word place; found = old.0.number; held = h ∷ old.0.latches; directory = option_map (listing key) old.0.directory } in
+    let took : StepRecord = record { kind = TakeLatch; deeds = []; word = latch_word place; found = 0; held = h ∷ old.0.latches; directory = old.0.directory } in
+    let gave : StepRecord = record { kind = PutLatch; deeds = []; word = latch_word place; found = old.0.number; held = h ∷ old.0.latches; directory = option_map (listing key) old.0.directory } in
     let log : ((old.0.log ++ made) ++ took ∷ []) ++ gave ∷ [] ≡ old.0.log ++ ((made ++ took ∷ []) ++ gave ∷ []) =
-    ap (λ (l : List Met). l ++ gave ∷ []) (append_assoc old.0.log made (took ∷ [])) ∙ append_assoc old.0.log (made ++ took ∷ []) (gave ∷ []) in
+    ap (λ (l : List StepRecord). l ++ gave ∷ []) (append_assoc old.0.log made (took ∷ [])) ∙ append_assoc old.0.log (made ++ took ∷ []) (gave ∷ []) in
     let left : List LatchRecord = filter (λ x. not (x.place == place)) (h ∷ old.0.latches) in
     let none : filter (λ (x : LatchRecord). not (x.place == place)) old.0.latches ≡ old.0.latches = rw alone refl in
     let latches : left ≡ old.0.latches = elsewhere-taken place h (and_made made old) here ∙ none in
     let directory : option_map (listing key) old.0.directory ≡ Some (listing key k) = ap (option_map (listing key)) is.recorded in
-    let all : List Met = (made ++ took ∷ []) ++ gave ∷ [] in
-    let either : Met → Type 0 = HadEither k (listing key k) in (
+    let all : List StepRecord = (made ++ took ∷ []) ++ gave ∷ [] in
+    let either : StepRecord → Type 0 = HadEither k (listing key k) in (
       all,
       e
-          ∙ ap (λ (l : List Met). (record old.0 { log = l; latches = left; directory = option_map (listing key) old.0.directory }, old.1)) log
+          ∙ ap (λ (l : List StepRecord). (record old.0 { log = l; latches = left; directory = option_map (listing key) old.0.directory }, old.1)) log
           ∙ ap (λ (hs : List LatchRecord). (record old.0 { log = old.0.log ++ all; latches = hs; directory = option_map (listing key) old.0.directory }, old.1)) latches
           ∙ ap (λ (d : Option Keys). (record old.0 { log = old.0.log ++ all; directory = d }, old.1)) directory
           ∙ ap (λ (hand : List (ℕ × Slot)). (record old.0 { log = old.0.log ++ all; directory = Some (listing key k) }, hand)) is.carried,
@@ -106,12 +106,12 @@ module _ (place : ℕ) (asked copy : KeyName) (k : Keys) (a l : SeatState) (is :
       )
 
 -- what a record tells of a seat doesn't hang on its list of steps
-fresh_then : (place : ℕ) (h : LatchRecord) (made : List Met) (m : Mine) → IsFresh place h m → IsFresh place h (and_made made m)
+fresh_then : (place : ℕ) (h : LatchRecord) (made : List StepRecord) (m : Mine) → IsFresh place h m → IsFresh place h (and_made made m)
 fresh_then place h made m f = record { here = f.here; exact = f.exact; unnoted = f.unnoted; inexact = f.inexact; unfreed = f.unfreed; lawful = f.lawful; modes = f.modes; own = f.own; named = f.named; keyed = f.keyed; vacant = f.vacant; once = f.once; single = f.single; wished = f.wished; lost = f.lost; stands = f.stands; reads = f.reads; noted = f.noted; fast_noted = f.fast_noted; fast_few = f.fast_few; fast_plain = f.fast_plain; fast_beside = f.fast_beside; unmixed = f.unmixed }
 
 -- ---- the same along the calls, the held latch being that of the place
 
-module _ (place here : ℕ) (key : KeyName) (k : Keys) (h : LatchRecord) (made : List Met) (old mid next : Mine) (at : here ≡ place) (fresh : IsFresh place h old)
+module _ (place here : ℕ) (key : KeyName) (k : Keys) (h : LatchRecord) (made : List StepRecord) (old mid next : Mine) (at : here ≡ place) (fresh : IsFresh place h old)
     (is : IsAddedToDirectory place key k old) (taken : mid ≡ latched place h (and_made made old)) (named_book : next ≡ written here (empty_book key) mid) where
   next_is : next ≡ written place (empty_book key) (latched place h (and_made made old))
   next_is = named_book ∙ ap (λ (x : Mine). written here (empty_book key) x) taken ∙ ap (λ (p : ℕ). written p (empty_book key) (latched place h (and_made made old))) at

@@ -4,13 +4,13 @@ use Rattle.std.specs.Prelude.{is_some, not}
 use Rattle.std.proofs.lemmas.Bool.{and_parts, eqb-true, eq-eqb}
 use Rattle.mdl_book.proofs.TicketLemmas.{find-passes}
 use Rattle.mdl_steps.specs.declared.view.Ask.{Ask}
-use Rattle.mdl_steps.specs.declared.view.Own.{Own}
+use Rattle.mdl_steps.specs.declared.view.SessionTicket.{SessionTicket}
 use Rattle.mdl_steps.specs.declared.view.View.{View}
 use Rattle.mdl_steps.specs.Deeds.{NotWaited}
 use Rattle.mdl_steps.proofs.Views.{by_bool}
 use Rattle.mdl_visits.specs.Numbers.{is_ask_apart, is_no_number, numbered}
 
-other_number : (wanted number : ℕ) (tickets : List Own) → is_some (numbered number tickets) ≡ true → is_no_number wanted tickets ≡ true → wanted ≡ number → ⊥
+other_number : (wanted number : ℕ) (tickets : List SessionTicket) → is_some (numbered number tickets) ≡ true → is_no_number wanted tickets ≡ true → wanted ≡ number → ⊥
 other_number wanted number [] there none same = absurd (cc)
 other_number wanted number (t ∷ ts) there none same =
     let parts = and_parts (not (t.number == wanted)) (is_no_number wanted ts) none in
@@ -30,5 +30,5 @@ pub idle_waits_not : (v : View) (number : ℕ) → v.asks ≡ None → NotWaited
 idle_waits_not v number idle = λ a asks same. let never : ◌≡◌ {A = Option Ask} None (Some a) = sym idle ∙ asks in absurd (cc)
 
 -- the ticket of a number has it
-pub has_number : (number : ℕ) (t : Own) (tickets : List Own) → numbered number tickets ≡ Some t → t.number ≡ number
-has_number number t tickets found = eqb-true t.number number (find-passes (λ (x : Own). x.number == number) tickets t found)
+pub has_number : (number : ℕ) (t : SessionTicket) (tickets : List SessionTicket) → numbered number tickets ≡ Some t → t.number ≡ number
+has_number number t tickets found = eqb-true t.number number (find-passes (λ (x : SessionTicket). x.number == number) tickets t found)

@@ -12,7 +12,7 @@ use Rattle.mdl_graph.specs.Graphs.{deadlock_in, victim_in}
 use Rattle.mdl_graph.specs.Victims.{victim_of}
 use Rattle.mdl_steps.specs.declared.step_kind.StepKind.TheVariants.{MissWait, SettleWait}
 use Rattle.mdl_steps.specs.declared.view.LatchRecord.{LatchRecord}
-use Rattle.mdl_steps.specs.declared.view.Met.{Met}
+use Rattle.mdl_steps.specs.declared.view.StepRecord.{StepRecord}
 use Rattle.mdl_steps.specs.declared.view.Settlement.{Settlement}
 use Rattle.mdl_steps.specs.declared.view.View.{View}
 use Rattle.mdl_steps.specs.Layout.{wait_word}
@@ -48,7 +48,7 @@ stays_lost slots session number v own state told =
     (λ other. rw other told)
 
 module _ (slots session number : ℕ) (m m′ : Mine) (lost : m′ ≡ settled_lost slots session number 3 m) where
-  abbrev settle : Met
+  abbrev settle : StepRecord
   settle = record { kind = SettleWait; deeds = []; word = wait_word slots session; found = wait_in number 1; held = m.0.latches; directory = m.0.directory }
 
   reads_lost : TellsOwn slots session (wait_in number 1) m.0 → ReadsWaitsQuietly m m′
@@ -69,7 +69,7 @@ module _ (slots session number : ℕ) (m m′ : Mine) (lost : m′ ≡ settled_l
     wait = number;
     settles = ap (λ (x : Mine). x.0.settles) lost;
     moment = settle;
-    step = ([], [], ap (λ (x : Mine). x.0.log) lost ∙ ap (λ (log : List Met). log ++ settle ∷ []) (sym (append-nil m.0.log)));
+    step = ([], [], ap (λ (x : Mine). x.0.log) lost ∙ ap (λ (log : List StepRecord). log ++ settle ∷ []) (sym (append-nil m.0.log)));
     kind = refl;
     met = record { word = refl; found = refl };
     held = refl;
@@ -99,13 +99,13 @@ tries_to_settle number found r done a b unsettled told own settled missed =
     let differs : found ≢ r.word.0 = λ is. false≢true (sym differ ∙ eq-eqb found r.word.0 is) in
     let other_word = missed (λ is. differs (is ∙ sym unsettled)) in
     let met = mine other_word in
-    let e : Met = record { kind = MissWait; deeds = []; word = wait_word a.table.slots r.session; found = found; held = a.me.0.latches; directory = a.me.0.directory } in
+    let e : StepRecord = record { kind = MissWait; deeds = []; word = wait_word a.table.slots r.session; found = found; held = a.me.0.latches; directory = a.me.0.directory } in
     record {
       reads = (table_of other_word, reads_word MissWait refl a.table.slots r.session found a.me b.me own met);
       settled = λ yes. absurd (false≢true (sym differ ∙ sym told ∙ yes));
       missed = λ no. (
         ap (λ (x : Mine). x.0.settles) met,
-        inr (e, ([], [], ap (λ (x : Mine). x.0.log) met ∙ ap (λ (log : List Met). log ++ e ∷ []) (sym (append-nil a.me.0.log))), record { word_is = refl; differs = differs }),
+        inr (e, ([], [], ap (λ (x : Mine). x.0.log) met ∙ ap (λ (log : List StepRecord). log ++ e ∷ []) (sym (append-nil a.me.0.log))), record { word_is = refl; differs = differs }),
       );
     })
 

@@ -17,7 +17,7 @@ use Rattle.mdl_book.specs.FastTickets.{is_of_class, may_stand}
 use Rattle.mdl_book.specs.Granting.{is_compatible, stands_beside}
 use Rattle.mdl_book.specs.Tickets.{is_ticket, ticket_of, without}
 use Rattle.mdl_book.proofs.FastLemmas.{may_stand-none}
-use Rattle.mdl_steps.specs.declared.view.Own.{Own}
+use Rattle.mdl_steps.specs.declared.view.SessionTicket.{SessionTicket}
 use Rattle.mdl_steps.specs.Cells.{ticket_by}
 use Rattle.mdl_steps.specs.FastPlays.{weight_of}
 use Rattle.mdl_steps.specs.Limits.{most_fast}
@@ -57,7 +57,7 @@ module _ (session : ℕ) where
   granting_none book = λ i. record book { granted = append-nil book.granted i }
 
   -- one more is granted
-  pub granting_more : (tickets : List Own) (i : ℕ) (d : Own) (book : BookView) → i < length tickets
+  pub granting_more : (tickets : List SessionTicket) (i : ℕ) (d : SessionTicket) (book : BookView) → i < length tickets
       → granting (ticket_by session (get_or tickets i d)) (granting_own session (take i tickets) book) ≡ granting_own session (take (i + 1) tickets) book
   granting_more tickets i d book inside = λ k. record book {
     granted = (
@@ -68,7 +68,7 @@ module _ (session : ℕ) where
 
   -- ---- the first of them is taken out
 
-  module _ (t : Own) (more : List Ticket) where
+  module _ (t : SessionTicket) (more : List Ticket) where
     itself : is_ticket session t.number (ticket_by session t) ≡ true
     itself = and_from _ _ (eq-eqb session session refl) (eq-eqb t.number t.number refl)
 
@@ -88,15 +88,15 @@ module _ (session : ℕ) where
         without-miss session t.number x (xs ++ ticket_by session t ∷ more) miss
         ∙ ap (λ (ys : List Ticket). x ∷ ys) (without_first xs (rw miss at none)))
 
-  module _ (tickets : List Own) (i : ℕ) (d : Own) (book : BookView) (inside : i < length tickets) (none : AreUngranted session tickets book) where
-    abbrev t : Own
+  module _ (tickets : List SessionTicket) (i : ℕ) (d : SessionTicket) (book : BookView) (inside : i < length tickets) (none : AreUngranted session tickets book) where
+    abbrev t : SessionTicket
     t = get_or tickets i d
 
     ungranted : ticket_of session t.number book.granted ≡ None
-    ungranted = each_there (λ (x : Own). ticket_of session x.number book.granted ≡ None) tickets i d inside none
+    ungranted = each_there (λ (x : SessionTicket). ticket_of session x.number book.granted ≡ None) tickets i d inside none
 
     next : (granting_own session (drop i tickets) book).granted ≡ book.granted ++ ticket_by session t ∷ map (ticket_by session) (drop (i + 1) tickets)
-    next = ap (λ (ts : List Own). book.granted ++ map (ticket_by session) ts) (drop_more tickets i d inside)
+    next = ap (λ (ts : List SessionTicket). book.granted ++ map (ticket_by session) ts) (drop_more tickets i d inside)
 
     pub next_found : ticket_of session t.number (granting_own session (drop i tickets) book).granted ≡ Some (ticket_by session t)
     next_found = ap (ticket_of session t.number) next ∙ found_first t (map (ticket_by session) (drop (i + 1) tickets)) book.granted ungranted
@@ -109,23 +109,23 @@ module _ (session : ℕ) where
 -- ---- why one isn't granted
 
 -- the session's own tickets stand in no mode's way
-beside_own : (kind : Kind) (session : ℕ) (t : Own) (ts : List Own) → is_compatible kind (map (ticket_by session) ts) session t.mode ≡ true
+beside_own : (kind : Kind) (session : ℕ) (t : SessionTicket) (ts : List SessionTicket) → is_compatible kind (map (ticket_by session) ts) session t.mode ≡ true
 beside_own kind session t [] = refl
 beside_own kind session t (x ∷ xs) = rw (eq-eqb session session refl) (beside_own kind session t xs)
 
-module _ (T : Type 0) (session : ℕ) (tickets : List Own) (i : ℕ) (d : Own) (book : BookView) (inside : i < length tickets)
-    (beside : Each (λ (t : Own). is_compatible (lock_kind book) book.granted session t.mode ≡ true) tickets) where
-  abbrev ticket : Own
+module _ (T : Type 0) (session : ℕ) (tickets : List SessionTicket) (i : ℕ) (d : SessionTicket) (book : BookView) (inside : i < length tickets)
+    (beside : Each (λ (t : SessionTicket). is_compatible (lock_kind book) book.granted session t.mode ≡ true) tickets) where
+  abbrev ticket : SessionTicket
   ticket = get_or tickets i d
 
-  abbrev before : List Own
+  abbrev before : List SessionTicket
   before = take i tickets
 
   stands : may_stand (lock_kind book) (book.granted ++ map (ticket_by session) before) 0 session ticket.mode ≡ true
   stands =
       may_stand-none (lock_kind book) (book.granted ++ map (ticket_by session) before) session ticket.mode
       ∙ list_all-append (stands_beside (lock_kind book) session ticket.mode) book.granted (map (ticket_by session) before)
-      ∙ and_from _ _ (each_there (λ (t : Own). is_compatible (lock_kind book) book.granted session t.mode ≡ true) tickets i d inside beside)
+      ∙ and_from _ _ (each_there (λ (t : SessionTicket). is_compatible (lock_kind book) book.granted session t.mode ≡ true) tickets i d inside beside)
       (beside_own (lock_kind book) session ticket before)
 
   -- there is no room for it
@@ -166,11 +166,11 @@ weight-push kind ts t =
     let z = one_counted kind 2 t in
     omega arith
 
-module _ (kind : Kind) (session : ℕ) (tickets : List Own) (i : ℕ) (d : Own) (inside : i < length tickets) where
+module _ (kind : Kind) (session : ℕ) (tickets : List SessionTicket) (i : ℕ) (d : SessionTicket) (inside : i < length tickets) where
   abbrev so_far : ℕ → List Ticket
   so_far n = map (ticket_by session) (take n tickets)
 
-  abbrev mode_weight : Own → ℕ
+  abbrev mode_weight : SessionTicket → ℕ
   mode_weight t = encode (one_in 0 kind t.mode) (one_in 1 kind t.mode) (one_in 2 kind t.mode) false false
 
   pub weight-more : weight_of kind (map (ticket_by session) (take (i + 1) tickets))
@@ -189,16 +189,16 @@ module _ (kind : Kind) (session : ℕ) (tickets : List Own) (i : ℕ) (d : Own) 
 -- ---- in hand
 
 -- the first so many stand there once they were written
-pub first_stand : (place : ℕ) (tickets : List Own) (i : ℕ) (book : BookView) (s w : SeatState) → CanStand place tickets book s
+pub first_stand : (place : ℕ) (tickets : List SessionTicket) (i : ℕ) (book : BookView) (s w : SeatState) → CanStand place tickets book s
     → w ≡ with_book place (granting_own s.me.0.number (take i tickets) book) s → Stand place (take i tickets) book w
 first_stand place tickets i book s w can is =
     subst (Stand place (take i tickets) book) (sym is)
-    (record { in_hand = refl; ungranted = each_taken (λ (t : Own). ticket_of s.me.0.number t.number book.granted ≡ None) i tickets can.ungranted })
+    (record { in_hand = refl; ungranted = each_taken (λ (t : SessionTicket). ticket_of s.me.0.number t.number book.granted ≡ None) i tickets can.ungranted })
 
 -- the book that was in hand was written
 pub none_written : (place : ℕ) (book : BookView) (s : SeatState) → HasBookInHand place book s → with_book place book s ≡ s
 none_written place book s in_hand = λ i. record s { me = (s.me.0, sym in_hand i) }
 
 -- what stands where no ticket does
-abbrev pub no_own : Own
+abbrev pub no_own : SessionTicket
 no_own = record { number = 0; place = 0; mode = IX; noted = None }

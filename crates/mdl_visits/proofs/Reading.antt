@@ -2,11 +2,11 @@
 use Rattle.std.proofs.Common.{◌≡◌, ℕ, List, [], ◌∷◌, ◌++◌, Some, ap, ◌∙◌, refl, sym, subst, append_assoc}
 use Rattle.std.specs.Prelude.{is_some}
 use Rattle.mdl_key.specs.Words.{KeyName}
-use Rattle.mdl_defs.specs.Standings.{MayStand}
-use Rattle.mdl_defs.specs.declared.standing.Standing.{Standing}
+use Rattle.mdl_defs.specs.VersionedDefinitions.{MayStand}
+use Rattle.mdl_defs.specs.declared.versioned_definition.VersionedDefinition.{VersionedDefinition}
 use Rattle.mdl_steps.specs.declared.step_kind.StepKind.TheVariants.{PutLatch}
 use Rattle.mdl_steps.specs.declared.view.LatchRecord.{LatchRecord}
-use Rattle.mdl_steps.specs.declared.view.Met.{Met}
+use Rattle.mdl_steps.specs.declared.view.StepRecord.{StepRecord}
 use Rattle.mdl_steps.specs.Cells.{held_at}
 use Rattle.mdl_steps.specs.Layout.{latch_word}
 use Rattle.mdl_steps.specs.Plays.{Mine, IsFresh, latched, read_and_put}
@@ -28,8 +28,8 @@ follows {place} {h} {m} fresh = record {
 
 -- ---- a visit to read
 
-module _ (place : ℕ) (standing : Standing) (m m′ m″ : Mine) (inside : IsInside place m m′) (read : m″ ≡ read_and_put place standing m′) where
-  puts : Met
+module _ (place : ℕ) (standing : VersionedDefinition) (m m′ m″ : Mine) (inside : IsInside place m m′) (read : m″ ≡ read_and_put place standing m′) where
+  puts : StepRecord
   puts = record { kind = PutLatch; deeds = []; word = latch_word place; found = m.0.number; held = inside.latches; directory = m.0.directory }
 
   pub learns : Learns place standing m m″
@@ -41,13 +41,13 @@ module _ (place : ℕ) (standing : Standing) (m m′ m″ : Mine) (inside : IsIn
     none_then inside.made (puts ∷ []) [] inside.did refl,
   )
 
-  pub quiet_read : (h : LatchRecord) (made : List Met) → AllQuiet m.0.directory made → m′ ≡ latched place h (and_made made m) → StaysQuiet m m″
+  pub quiet_read : (h : LatchRecord) (made : List StepRecord) → AllQuiet m.0.directory made → m′ ≡ latched place h (and_made made m) → StaysQuiet m m″
   quiet_read h made had taken =
-      let put : Met = record { kind = PutLatch; deeds = []; word = latch_word place; found = m′.0.number; held = m′.0.latches; directory = m′.0.directory } in
+      let put : StepRecord = record { kind = PutLatch; deeds = []; word = latch_word place; found = m′.0.number; held = m′.0.latches; directory = m′.0.directory } in
       quiet_on m m′ m″ (quiet_taken place h made m m′ had taken) (ap (λ (x : Mine). x.0.directory) taken) (quiet_one put m′ m″ (ap (λ (x : Mine). x.0.log) read) (refl, refl))
 
   pub meets_standing : (h : LatchRecord) (who : ℕ) → m.0.number ≡ who → IsFresh place h m → held_at place m′.0.latches ≡ Some h → standing ≡ h.book.standing
-      → (e : Met) × IsStepOf m m″ e × MeetsStanding place who standing e × WereHeld place who m e
+      → (e : StepRecord) × IsStepOf m m″ e × MeetsStanding place who standing e × WereHeld place who m e
   unfolding puts
   meets_standing h who mine fresh recorded stands = let held : held_at place inside.latches ≡ Some h = ap (λ (x : Mine). held_at place x.0.latches) (sym inside.now) ∙ recorded in (
     puts,

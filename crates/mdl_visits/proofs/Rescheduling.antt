@@ -9,7 +9,7 @@ use Rattle.mdl_steps.specs.declared.deed.Deed.{Deed}
 use Rattle.mdl_steps.specs.declared.deed.Deed.TheVariants.{Gain, Alter, Lose}
 use Rattle.mdl_steps.specs.declared.step_kind.StepKind.TheVariants.{LowerFlags, PutLatch}
 use Rattle.mdl_steps.specs.declared.view.LatchRecord.{LatchRecord}
-use Rattle.mdl_steps.specs.declared.view.Met.{Met}
+use Rattle.mdl_steps.specs.declared.view.StepRecord.{StepRecord}
 use Rattle.mdl_steps.specs.declared.view.Settlement.{Settlement}
 use Rattle.mdl_steps.specs.Deeds.{all_booked, all_done}
 use Rattle.mdl_steps.specs.Layout.{latch_word, lock_word}
@@ -48,7 +48,7 @@ module _ (id : TableId) (place : ℕ) (a b c : Mine) (stays : StaysOn a b) where
 -- ---- nobody waits
 
 module _ (id : TableId) (place : ℕ) (h : LatchRecord) (m c : Mine) (has : Holds place h h.book m) (nobody : h.book.waiting ≡ []) (put : c ≡ served place m) where
-  abbrev puts : Met
+  abbrev puts : StepRecord
   puts = record { kind = PutLatch; deeds = []; word = latch_word place; found = m.0.number; held = m.0.latches; directory = m.0.directory }
 
   pub leaves_none : ReschedulesAndLeaves id place [] m c
@@ -64,7 +64,7 @@ module _ (id : TableId) (place : ℕ) (h : LatchRecord) (m c : Mine) (has : Hold
       granted = tt;
       served = (
         puts,
-        ([], ap (λ (x : Mine). x.0.log) put ∙ ap (λ (log : List Met). log ++ puts ∷ []) (sym (append-nil m.0.log)), tt),
+        ([], ap (λ (x : Mine). x.0.log) put ∙ ap (λ (log : List StepRecord). log ++ puts ∷ []) (sym (append-nil m.0.log)), tt),
         record { kind = refl; did = refl; word = refl; freed = refl; latch = h; held = has.recorded; served = inl nobody },
       );
       stays = λ state e. ap (λ (x : Mine). x.0.told) put ∙ e;
@@ -76,7 +76,7 @@ module _ (id : TableId) (place : ℕ) (h : LatchRecord) (m c : Mine) (has : Hold
 
 module _ (id : TableId) (place : ℕ) (g : LatchRecord) (m b c : Mine) (way : GrantsWaits id place m m b) (has : Holds place g g.book b) (none : ForgetsNobody id place g m b)
     (put : c ≡ served place b) where
-  abbrev frees : Met
+  abbrev frees : StepRecord
   frees = record { kind = PutLatch; deeds = []; word = latch_word place; found = b.0.number; held = b.0.latches; directory = b.0.directory }
 
   b_c : MakesMoreSteps b c
@@ -85,7 +85,7 @@ module _ (id : TableId) (place : ℕ) (g : LatchRecord) (m b c : Mine) (way : Gr
   m_b : StaysOn m b
   m_b = stays_of id place m m b way
 
-  abbrev last : Met
+  abbrev last : StepRecord
   last = record { kind = PutLatch; deeds = []; word = latch_word place; found = m.0.number; held = way.latches; directory = m.0.directory }
 
   pub leaves_rescheduled : ReschedulesAndLeaves id place [] m c
@@ -102,7 +102,7 @@ module _ (id : TableId) (place : ℕ) (g : LatchRecord) (m b c : Mine) (way : Gr
       granted = granted_within id place m m m m b c (goes_none m) (goes_none m) b_c way.grants way.granted;
       served = (
         frees,
-        leaves_after m b c m_b frees ([], ap (λ (x : Mine). x.0.log) put ∙ ap (λ (log : List Met). log ++ frees ∷ []) (sym (append-nil b.0.log)), tt),
+        leaves_after m b c m_b frees ([], ap (λ (x : Mine). x.0.log) put ∙ ap (λ (log : List StepRecord). log ++ frees ∷ []) (sym (append-nil b.0.log)), tt),
         record {
           kind = refl;
           did = refl;
@@ -121,7 +121,7 @@ module _ (id : TableId) (place : ℕ) (g : LatchRecord) (m b c : Mine) (way : Gr
 -- ---- flags were lowered before
 
 module _ (id : TableId) (place : ℕ) (ds : List Deed) (m b c : Mine) (low : IsLowered place ds m b) (left : ReschedulesAndLeaves id place [] b c) where
-  abbrev lowers : Met
+  abbrev lowers : StepRecord
   lowers = record { kind = LowerFlags low.2 low.3; deeds = ds; word = lock_word place; found = low.0; held = m.0.latches; directory = m.0.directory }
 
   m_low : StaysOn m b
@@ -148,10 +148,10 @@ module _ (id : TableId) (place : ℕ) (ds : List Deed) (m b c : Mine) (low : IsL
     way = rescheduled_after id place m b c m_low (ap (λ (x : Mine). x.0.settles) low.4) (ap (λ (x : Mine). x.0.told) low.4) (ap (λ (x : Mine). x.0.number) low.4) (ap (λ (x : Mine). x.0.asks) low.4) left.way;
   }
 
-  pub step_lowered : (e : Met) × IsStepOf m c e × ((e.word ≡ lock_word place) × (e.held ≡ m.0.latches) × (e.deeds ≡ ds))
+  pub step_lowered : (e : StepRecord) × IsStepOf m c e × ((e.word ≡ lock_word place) × (e.held ≡ m.0.latches) × (e.deeds ≡ ds))
   step_lowered = (
     lowers,
-    step_before m b c (left.made, ap (λ (x : Mine). x.0.log) left.now) lowers ([], [], ap (λ (x : Mine). x.0.log) low.4 ∙ ap (λ (log : List Met). log ++ lowers ∷ []) (sym (append-nil m.0.log))),
+    step_before m b c (left.made, ap (λ (x : Mine). x.0.log) left.now) lowers ([], [], ap (λ (x : Mine). x.0.log) low.4 ∙ ap (λ (log : List StepRecord). log ++ lowers ∷ []) (sym (append-nil m.0.log))),
     (refl, refl, refl),
   )
 

@@ -17,9 +17,9 @@ use Rattle.mdl_graph.specs.Graphs.{lock_of}
 use Rattle.mdl_graph.specs.WaitsFor.{SessionTest, is_tied, is_unsettled, waits_at, waits_for}
 use Rattle.mdl_graph.proofs.DeadlockLemmas.{deadlock_chosen}
 use Rattle.mdl_steps.specs.declared.view.Keys.{Keys}
-use Rattle.mdl_steps.specs.declared.view.Known.{Known}
+use Rattle.mdl_key.specs.declared.known_key.KnownKey.{KnownKey}
 use Rattle.mdl_steps.specs.declared.view.LatchRecord.{LatchRecord}
-use Rattle.mdl_steps.specs.declared.view.Met.{Met}
+use Rattle.mdl_steps.specs.declared.view.StepRecord.{StepRecord}
 use Rattle.mdl_steps.specs.Cells.{held_at}
 use Rattle.mdl_steps.specs.Copies.{Queues, queues_of}
 use Rattle.mdl_steps.specs.Deeds.{KnowsPlace}
@@ -260,7 +260,7 @@ module _ (lists : List Queues) (last : ℕ) (c d : SeatState) (held : HasTaken (
       let was = All-contains (WasRead c.table.slots c.me.0.latches c.me d.me) judged.words r judged.read among in
       let step = was.1 in (
         was.0,
-        subst (λ (log : List Met). Contains log was.0) (sym step.2) (middle (c.me.0.log ++ step.0) step.1 was.0),
+        subst (λ (log : List StepRecord). Contains log was.0) (sym step.2) (middle (c.me.0.log ++ step.0) step.1 was.0),
         inl was.2,
         was.3 ∙ ap (λ (k : ℕ). wait_word k r.session) (sym (ap (λ t. t.slots) reads.0)),
         was.4,
@@ -333,7 +333,7 @@ pub known_taken : {E : Type 0} (result : Result Search E) (a b : SeatState) (tak
     → (searches : Bool) → searches_after result (nat_lt 1 (last + 1)) searches ≡ searches_after result true searches
 known_taken result a b taken place knows last count searches =
     let k : Keys = taken.1 in
-    let stands = each_at (λ (x : Known). (0 < x.place) × (key_at k.keys x.place ≡ Some x.key)) a.me.0.known taken.2.known knows.0 knows.1 knows.2 in
+    let stands = each_at (λ (x : KnownKey). (0 < x.place) × (key_at k.keys x.place ≡ Some x.key)) a.me.0.known taken.2.known knows.0 knows.1 knows.2 in
     let some = stands.0 in
     let inside = some_there k.keys (knows.1.place - 1) knows.1.key stands.1 in
     let first : 0 < last = omega arith in

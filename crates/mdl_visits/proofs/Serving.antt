@@ -18,7 +18,7 @@ use Rattle.mdl_book.specs.Tickets.{ticket_id, ticket_of}
 use Rattle.mdl_steps.specs.declared.step_kind.StepKind.{StepKind}
 use Rattle.mdl_steps.specs.declared.step_kind.StepKind.TheVariants.{ReadWait, ReadWord}
 use Rattle.mdl_steps.specs.declared.view.LatchRecord.{LatchRecord}
-use Rattle.mdl_steps.specs.declared.view.Met.{Met}
+use Rattle.mdl_steps.specs.declared.view.StepRecord.{StepRecord}
 use Rattle.mdl_steps.specs.Layout.{lock_word, wait_word}
 use Rattle.mdl_steps.specs.Plays.{Mine, changed, noting, stepped}
 use Rattle.mdl_steps.specs.Seats.{Holds, written}
@@ -48,11 +48,11 @@ some_is o t e = ap is_some e
 
 -- a step that only met a wait's word, while its ticket waits there, and what was met
 pub waiter_met : (kind : StepKind) → OnlyMeets kind → (slots place session number found : ℕ) (h : LatchRecord) (m m′ : Mine) → m′ ≡ met_wait_by kind slots session found m → Holds place h h.book m → IsGrantableTicket session number h
-    → (e : Met) × IsStepOf m m′ e × MeetsWaiter slots place session number e × (e.found ≡ found)
+    → (e : StepRecord) × IsStepOf m m′ e × MeetsWaiter slots place session number e × (e.found ≡ found)
 waiter_met kind only slots place session number found h m m′ is has ready =
-    let e : Met = record { kind = kind; deeds = []; word = wait_word slots session; found = found; held = m.0.latches; directory = m.0.directory } in (
+    let e : StepRecord = record { kind = kind; deeds = []; word = wait_word slots session; found = found; held = m.0.latches; directory = m.0.directory } in (
       e,
-      ([], [], ap (λ (x : Mine). x.0.log) is ∙ ap (λ (log : List Met). log ++ e ∷ []) (sym (append-nil m.0.log))),
+      ([], [], ap (λ (x : Mine). x.0.log) is ∙ ap (λ (log : List StepRecord). log ++ e ∷ []) (sym (append-nil m.0.log))),
       record { kind = only; word = refl; latch = h; held = has.recorded; waits = some_is (ticket_of session number h.book.waiting) ready.wish ready.waits },
       refl,
     )
@@ -211,12 +211,12 @@ module _ (id : TableId) (place session number word : ℕ) (h : LatchRecord) (m a
 
 -- a step that read the word of a lock
 abbrev pub WasRead : ℕ → ℕ → Mine → Mine → Type 0
-WasRead place word m m′ = (e : Met) × IsStepOf m m′ e × (e.kind ≡ ReadWord) × (e.word ≡ lock_word place) × (e.found ≡ word)
+WasRead place word m m′ = (e : StepRecord) × IsStepOf m m′ e × (e.kind ≡ ReadWord) × (e.word ≡ lock_word place) × (e.found ≡ word)
 
 pub read_first : (place word : ℕ) (m m′ : Mine) → m′ ≡ stepped ReadWord place word (noting word) m → WasRead place word m m′
 read_first place word m m′ is =
-    let e : Met = record { kind = ReadWord; deeds = []; word = lock_word place; found = word; held = (changed place (noting word) m.0).latches; directory = m.0.directory } in
-    (e, ([], [], ap (λ (x : Mine). x.0.log) is ∙ ap (λ (log : List Met). log ++ e ∷ []) (sym (append-nil m.0.log))), refl, refl, refl)
+    let e : StepRecord = record { kind = ReadWord; deeds = []; word = lock_word place; found = word; held = (changed place (noting word) m.0).latches; directory = m.0.directory } in
+    (e, ([], [], ap (λ (x : Mine). x.0.log) is ∙ ap (λ (log : List StepRecord). log ++ e ∷ []) (sym (append-nil m.0.log))), refl, refl, refl)
 
 pub read_before : (place word : ℕ) (a b c : Mine) → MakesMoreSteps b c → WasRead place word a b → WasRead place word a c
 read_before place word a b c more read = (read.0, step_before a b c more read.0 read.1, read.2, read.3, read.4)

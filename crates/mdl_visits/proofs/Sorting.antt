@@ -12,13 +12,13 @@ use Rattle.std.proofs.lemmas.List.Sorted.{All-permutation, Contains-permutation,
 use Rattle.std.proofs.lemmas.Map.Keys.{IsDistinct-IsPermutation, IsDistinct-cons, IsDistinct-from_apart, apart_from_distinct}
 use Rattle.mdl_key.specs.Keys.{KeyName, key_cmp, key_eq}
 use Rattle.mdl_steps.specs.declared.view.Keys.{Keys}
-use Rattle.mdl_steps.specs.declared.view.Known.{Known}
+use Rattle.mdl_key.specs.declared.known_key.KnownKey.{KnownKey}
 use Rattle.mdl_steps.specs.Lists.{Distinct, Each}
 use Rattle.mdl_steps.specs.Schemas.{StandThere, is_table_of, table_at, tables_from}
 use Rattle.mdl_steps.proofs.KeyLemmas.{key-Decides}
 use Rattle.mdl_steps.proofs.SchemaLemmas.{tables_stand}
 use Rattle.mdl_steps.proofs.Views.{by_bool}
-use Rattle.mdl_visits.specs.Tables.{AreAllTables, AreListed, IsKnownTable}
+use Rattle.mdl_visits.specs.Tables.{AreAllTables, AreListed, IsDirectoryTable}
 
 -- ---- keys
 
@@ -48,32 +48,32 @@ less j k apart after = by (key_cmp j k) refl
 
 -- ---- the tables among some keys
 
-abbrev one_table : ℕ → KeyName → Known
+abbrev one_table : ℕ → KeyName → KnownKey
 one_table place key = record { key = key; place = place }
 
 -- what holds of each key that is a table's holds of each table
 module _ (schema : List ℕ) (P : KeyName → Type 0) where
-  of_tables : (place : ℕ) (keys : List KeyName) → Each P keys → All (λ (t : Known). P t.key) (tables_from schema place keys)
-  of_tables place [] each = All-nil (λ (t : Known). P t.key)
+  of_tables : (place : ℕ) (keys : List KeyName) → Each P keys → All (λ (t : KnownKey). P t.key) (tables_from schema place keys)
+  of_tables place [] each = All-nil (λ (t : KnownKey). P t.key)
   of_tables place (key ∷ keys) each =
-      All-append (λ (t : Known). P t.key) (table_at schema place key) (tables_from schema (place + 1) keys)
+      All-append (λ (t : KnownKey). P t.key) (table_at schema place key) (tables_from schema (place + 1) keys)
       (by_bool (is_table_of schema key)
-      (λ is. rw is (All-cons (λ (t : Known). P t.key) (one_table place key) [] each.0 (All-nil (λ (t : Known). P t.key))))
-      (λ isnt. rw isnt (All-nil (λ (t : Known). P t.key))))
+      (λ is. rw is (All-cons (λ (t : KnownKey). P t.key) (one_table place key) [] each.0 (All-nil (λ (t : KnownKey). P t.key))))
+      (λ isnt. rw isnt (All-nil (λ (t : KnownKey). P t.key))))
       (of_tables (place + 1) keys each.1)
 
 -- each is a table
-tables_are : (schema : List ℕ) (place : ℕ) (keys : List KeyName) → All (λ (t : Known). is_table_of schema t.key ≡ true) (tables_from schema place keys)
-tables_are schema place [] = All-nil (λ (t : Known). is_table_of schema t.key ≡ true)
+tables_are : (schema : List ℕ) (place : ℕ) (keys : List KeyName) → All (λ (t : KnownKey). is_table_of schema t.key ≡ true) (tables_from schema place keys)
+tables_are schema place [] = All-nil (λ (t : KnownKey). is_table_of schema t.key ≡ true)
 tables_are schema place (key ∷ keys) =
-    All-append (λ (t : Known). is_table_of schema t.key ≡ true) (table_at schema place key) (tables_from schema (place + 1) keys)
+    All-append (λ (t : KnownKey). is_table_of schema t.key ≡ true) (table_at schema place key) (tables_from schema (place + 1) keys)
     (by_bool (is_table_of schema key)
-    (λ is. rw is (All-cons (λ (t : Known). is_table_of schema t.key ≡ true) (one_table place key) [] is (All-nil (λ (t : Known). is_table_of schema t.key ≡ true))))
-    (λ isnt. rw isnt (All-nil (λ (t : Known). is_table_of schema t.key ≡ true))))
+    (λ is. rw is (All-cons (λ (t : KnownKey). is_table_of schema t.key ≡ true) (one_table place key) [] is (All-nil (λ (t : KnownKey). is_table_of schema t.key ≡ true))))
+    (λ isnt. rw isnt (All-nil (λ (t : KnownKey). is_table_of schema t.key ≡ true))))
     (tables_are schema (place + 1) keys)
 
 -- each table is there
-among : (schema : List ℕ) (place : ℕ) (keys : List KeyName) (t : Known) (n : ℕ) → t.place ≡ place + n → slice_get keys n ≡ Some t.key → is_table_of schema t.key ≡ true
+among : (schema : List ℕ) (place : ℕ) (keys : List KeyName) (t : KnownKey) (n : ℕ) → t.place ≡ place + n → slice_get keys n ≡ Some t.key → is_table_of schema t.key ≡ true
     → Contains (tables_from schema place keys) t
 among schema place [] t n at there is = absurd (cc)
 among schema place (key ∷ keys) t zero at there is =
@@ -87,7 +87,7 @@ among schema place (key ∷ keys) t (suc n) at there is =
 
 -- ---- they differ
 
-abbrev same_key : Known → Known → Bool
+abbrev same_key : KnownKey → KnownKey → Bool
 same_key one other = key_eq one.key other.key
 
 differ_from : (schema : List ℕ) (place : ℕ) (keys : List KeyName) → Distinct keys → IsDistinct same_key (tables_from schema place keys)
@@ -96,7 +96,7 @@ differ_from schema place (key ∷ keys) distinct =
     let rest = differ_from schema (place + 1) keys distinct.1 in
     by_bool (is_table_of schema key)
     (λ is. rw is (IsDistinct-cons same_key (one_table place key) (tables_from schema (place + 1) keys)
-    (recursion_from_All (λ (t : Known). key_eq key t.key ≡ false) (tables_from schema (place + 1) keys) (of_tables schema (λ other. key_eq key other ≡ false) (place + 1) keys (others keys distinct.0)))
+    (recursion_from_All (λ (t : KnownKey). key_eq key t.key ≡ false) (tables_from schema (place + 1) keys) (of_tables schema (λ other. key_eq key other ≡ false) (place + 1) keys (others keys distinct.0)))
     rest))
     (λ isnt. rw isnt rest)
   where
@@ -106,12 +106,12 @@ differ_from schema place (key ∷ keys) distinct =
 
 -- ---- so are the sorted ones
 
-both : (schema : List ℕ) (k : Keys) (ts : List Known) → StandThere k ts → All (λ (t : Known). is_table_of schema t.key ≡ true) ts → All (IsKnownTable schema k) ts
+both : (schema : List ℕ) (k : Keys) (ts : List KnownKey) → StandThere k ts → All (λ (t : KnownKey). is_table_of schema t.key ≡ true) ts → All (IsDirectoryTable schema k) ts
 both schema k ts stand are = λ i d short. ((stand i d short).0, (stand i d short).1, are i d short)
 
-pub are_tables : (schema : List ℕ) (k : Keys) (tables : List Known) → Distinct k.keys → AreListed schema k tables → AreAllTables schema k tables
+pub are_tables : (schema : List ℕ) (k : Keys) (tables : List KnownKey) → Distinct k.keys → AreListed schema k tables → AreAllTables schema k tables
 are_tables schema k tables distinct listed = record {
-  each = All-permutation (IsKnownTable schema k) (tables_from schema 1 k.keys) tables listed.all
+  each = All-permutation (IsDirectoryTable schema k) (tables_from schema 1 k.keys) tables listed.all
       (both schema k (tables_from schema 1 k.keys) (tables_stand schema k) (tables_are schema 1 k.keys));
   every = λ t is. let first = is.0 in
       Contains-permutation (tables_from schema 1 k.keys) tables t listed.all (among schema 1 k.keys t (t.place - 1) (omega arith) is.1 is.2);
@@ -119,5 +119,5 @@ are_tables schema k tables distinct listed = record {
       less (get_or tables i d).key (get_or tables j d).key
       (apart_from_distinct same_key tables i j d
       (IsDistinct-IsPermutation same_key (λ one other. either_way one.key other.key) (tables_from schema 1 k.keys) tables listed.all (differ_from schema 1 k.keys distinct)) before short)
-      (sorted_far (λ (one other : Known). is_lt (key_cmp one.key other.key)) (ranks_by key-total (λ (x : Known). x.key)) tables listed.sorted i j d (omega (arith, before)) short);
+      (sorted_far (λ (one other : KnownKey). is_lt (key_cmp one.key other.key)) (ranks_by key-total (λ (x : KnownKey). x.key)) tables listed.sorted i j d (omega (arith, before)) short);
 }

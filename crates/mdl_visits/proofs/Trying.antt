@@ -18,7 +18,7 @@ use Rattle.mdl_steps.specs.declared.deed.Deed.{Deed}
 use Rattle.mdl_steps.specs.declared.deed.Deed.TheVariants.{Gain, Alter}
 use Rattle.mdl_steps.specs.declared.step_kind.StepKind.TheVariants.{PutLatch, RaiseFlags, ReadWord}
 use Rattle.mdl_steps.specs.declared.view.LatchRecord.{LatchRecord}
-use Rattle.mdl_steps.specs.declared.view.Met.{Met}
+use Rattle.mdl_steps.specs.declared.view.StepRecord.{StepRecord}
 use Rattle.mdl_steps.specs.Cells.{held_at, ticket_by}
 use Rattle.mdl_steps.specs.Deeds.{FreesNothing, KnowsPlace, MayBeGranted, MayDo, MayJoin, booked}
 use Rattle.mdl_steps.specs.Layout.{latch_word, lock_word}
@@ -94,7 +94,7 @@ pub entered_within : {place : ℕ} {s : SeatState} {q : ℕ} {c : SeatState} (a 
     → (met : ℕ) × (b ≡ record c { me = stepped (RaiseFlags true obtrusive) q met (raised true obtrusive) c.me }) → d ≡ stepped ReadWord q word (noting word) b.me → e ≡ d
     → StaysWithin obtrusive s.me e
 entered_within {place} {s} {q} {c} a obtrusive word {b} {d} {e} raise read same =
-    let raises : Met = record {
+    let raises : StepRecord = record {
       kind = RaiseFlags true obtrusive;
       deeds = [];
       word = lock_word q;
@@ -102,7 +102,7 @@ entered_within {place} {s} {q} {c} a obtrusive word {b} {d} {e} raise read same 
       held = (changed q (raised true obtrusive) c.me.0).latches;
       directory = c.me.0.directory;
     } in
-    let reads : Met = record { kind = ReadWord; deeds = []; word = lock_word q; found = word; held = (changed q (noting word) b.me.0).latches; directory = b.me.0.directory } in
+    let reads : StepRecord = record { kind = ReadWord; deeds = []; word = lock_word q; found = word; held = (changed q (noting word) b.me.0).latches; directory = b.me.0.directory } in
     let up = within_one obtrusive c.me b.me raises (ap (λ (x : SeatState). x.me.0.log) raise.1) (ap (λ (x : SeatState). x.me.0.directory) raise.1) (refl, (λ is. is), refl) in
     let on = within_one obtrusive b.me d reads (ap (λ (x : Mine). x.0.log) read) (ap (λ (x : Mine). x.0.directory) read) (refl, plain obtrusive, refl) in
     subst (λ (x : Mine). StaysWithin obtrusive s.me x) (sym same)
@@ -175,8 +175,8 @@ module _ {place q word : ℕ} {mode : Mode} {can : Bool} {s c : SeatState} (has 
       by (inl memory) = inl memory
       by (inr full) =
           let later = subst (λ (x : SeatState). HasStep x n (DidUnder q [] x)) same step in
-          let read : Met = record { kind = ReadWord; deeds = []; word = lock_word place; found = word; held = c.me.0.latches; directory = c.me.0.directory } in
-          let after : List Met = later.1.0 ++ later.0 ∷ later.1.1 in
+          let read : StepRecord = record { kind = ReadWord; deeds = []; word = lock_word place; found = word; held = c.me.0.latches; directory = c.me.0.directory } in
+          let after : List StepRecord = later.1.0 ++ later.0 ∷ later.1.1 in
           inr (
             full.0,
             (
@@ -184,7 +184,7 @@ module _ {place q word : ℕ} {mode : Mode} {can : Bool} {s c : SeatState} (has 
               (
                 entered.read.0,
                 after,
-                later.1.2 ∙ append_assoc c.me.0.log later.1.0 (later.0 ∷ later.1.1) ∙ ap (λ (log : List Met). log ++ after) entered.read.1
+                later.1.2 ∙ append_assoc c.me.0.log later.1.0 (later.0 ∷ later.1.1) ∙ ap (λ (log : List StepRecord). log ++ after) entered.read.1
                     ∙ append_assoc (s.me.0.log ++ entered.read.0) (read ∷ []) after,
               ),
               record { kind = refl; word = refl; latch = entered_latch; held = entered.holds.recorded; full = full.1; grantable = entered.told },
@@ -209,15 +209,15 @@ module _ {place q word : ℕ} {mode : Mode} {s c : SeatState} (has : HasEntered 
   pub blocked : (n : SeatState) → ((b : SeatState) → AtItsTable b c (IsInside q) → AtItsTable b n (Visits q [])) → HasStep c n (DidUnder q [] c) → WasBlocked place mode s n
   blocked n visited step =
       let entered = has.entered.1 in
-      let read : Met = record { kind = ReadWord; deeds = []; word = lock_word place; found = word; held = c.me.0.latches; directory = c.me.0.directory } in
-      let after : List Met = step.1.0 ++ step.0 ∷ step.1.1 in (
+      let read : StepRecord = record { kind = ReadWord; deeds = []; word = lock_word place; found = word; held = c.me.0.latches; directory = c.me.0.directory } in
+      let after : List StepRecord = step.1.0 ++ step.0 ∷ step.1.1 in (
         subst (λ (p : ℕ). AtItsTable s n (Visits p [])) has.at (visited s (has.entered.0, entered_inside has)),
         (
           read,
           (
             entered.read.0,
             after,
-            step.1.2 ∙ append_assoc c.me.0.log step.1.0 (step.0 ∷ step.1.1) ∙ ap (λ (log : List Met). log ++ after) entered.read.1 ∙ append_assoc (s.me.0.log ++ entered.read.0) (read ∷ []) after,
+            step.1.2 ∙ append_assoc c.me.0.log step.1.0 (step.0 ∷ step.1.1) ∙ ap (λ (log : List StepRecord). log ++ after) entered.read.1 ∙ append_assoc (s.me.0.log ++ entered.read.0) (read ∷ []) after,
           ),
           record { kind = refl; word = refl; latch = entered_latch has; held = entered.holds.recorded; blocked = entered.told },
         ),
@@ -324,7 +324,7 @@ module _ {place q word : ℕ} {mode : Mode} {s c : SeatState} (has : HasEntered 
   granted d w n writes puts =
       let entered = has.entered.1 in
       let inside = entered_inside has in
-      let e : Met = record { kind = PutLatch; deeds = d ∷ []; word = latch_word q; found = c.me.0.number; held = c.me.0.latches; directory = c.me.0.directory } in (
+      let e : StepRecord = record { kind = PutLatch; deeds = d ∷ []; word = latch_word q; found = c.me.0.number; held = c.me.0.latches; directory = c.me.0.directory } in (
         (
           table_of puts ∙ table_of writes ∙ has.entered.0,
           subst (λ (p : ℕ). Visits p (d ∷ []) s.me n.me) has.at
@@ -335,7 +335,7 @@ module _ {place q word : ℕ} {mode : Mode} {s c : SeatState} (has : HasEntered 
           (
             entered.inside.made,
             [],
-            ap (λ (x : Mine). x.0.log) (mine puts ∙ ap (unlatched q (d ∷ [])) (mine writes)) ∙ ap (λ (log : List Met). log ++ e ∷ []) (ap (λ (x : Mine). x.0.log) entered.inside.now),
+            ap (λ (x : Mine). x.0.log) (mine puts ∙ ap (unlatched q (d ∷ [])) (mine writes)) ∙ ap (λ (log : List StepRecord). log ++ e ∷ []) (ap (λ (x : Mine). x.0.log) entered.inside.now),
           ),
           record {
             kind = refl;

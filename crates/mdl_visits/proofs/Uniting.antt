@@ -12,7 +12,7 @@ use Rattle.mdl_book.specs.Books.{change_fault, lock_kind}
 use Rattle.mdl_book.specs.Tickets.{ticket_of, with_mode}
 use Rattle.mdl_steps.specs.declared.deed.Deed.TheVariants.{Alter, Lose}
 use Rattle.mdl_steps.specs.declared.slot.Slot.TheVariants as slot
-use Rattle.mdl_steps.specs.declared.view.Own.{Own}
+use Rattle.mdl_steps.specs.declared.view.SessionTicket.{SessionTicket}
 use Rattle.mdl_steps.specs.Cells.{ticket_by}
 use Rattle.mdl_steps.specs.Deeds.{KnowsPlace, booked}
 use Rattle.mdl_steps.specs.Plays.{IsFresh, Mine}
@@ -34,7 +34,7 @@ other_there : (who number other : ℕ) (mode : Mode) (ts : List Ticket) → numb
 other_there who number other mode ts two there =
     ap is_some (of-mode_other who number who other (λ t is. of_other_number who other t (λ e. two (sym (is_passed who number t is).1 ∙ e))) mode ts) ∙ there
 
-module _ (kept gone : Own) {s : SeatState} {q : ℕ} {c : SeatState} (a : Arrives kept.place s q c) (here : kept.place ≡ gone.place) (idle : s.me.0.asks ≡ None) (two : kept.number ≢ gone.number)
+module _ (kept gone : SessionTicket) {s : SeatState} {q : ℕ} {c : SeatState} (a : Arrives kept.place s q c) (here : kept.place ≡ gone.place) (idle : s.me.0.asks ≡ None) (two : kept.number ≢ gone.number)
     (held : (numbered kept.number s.me.0.slow ≡ Some kept) × (numbered gone.number s.me.0.slow ≡ Some gone)) where
   -- both tickets stand in the book that is met
   pub first : ticket_of c.me.0.number kept.number a.latch.book.granted ≡ Some (ticket_by c.me.0.number kept)

@@ -10,7 +10,7 @@ use Rattle.mdl_steps.specs.declared.slot.Slot.TheVariants as slot
 use Rattle.mdl_steps.specs.declared.step_kind.StepKind.{StepKind}
 use Rattle.mdl_steps.specs.declared.step_kind.StepKind.TheVariants.{MissLatch, PutLatch, RaiseFlags, ReadWord, TakeLatch}
 use Rattle.mdl_steps.specs.declared.view.LatchRecord.{LatchRecord}
-use Rattle.mdl_steps.specs.declared.view.Met.{Met}
+use Rattle.mdl_steps.specs.declared.view.StepRecord.{StepRecord}
 use Rattle.mdl_steps.specs.Deeds.{all_done}
 use Rattle.mdl_steps.specs.Layout.{latch_word, lock_word}
 use Rattle.mdl_steps.specs.Lists.{Each}
@@ -24,12 +24,12 @@ use Rattle.mdl_visits.proofs.Steps.{each_append, none_then}
 
 -- steps were made between the two that only met something
 abbrev pub Lingers : Mine → Mine → Type 0
-Lingers m m′ = (made : List Met) × (m′ ≡ and_made made m) × AllQuiet m.0.directory made × (deeds_of made ≡ []) × Each StaysThere made
+Lingers m m′ = (made : List StepRecord) × (m′ ≡ and_made made m) × AllQuiet m.0.directory made × (deeds_of made ≡ []) × Each StaysThere made
 
 -- one more
 pub lingers_one : (place found : ℕ) (m m′ m″ : Mine) → Lingers m m′ → m″ ≡ missed_latch place found m′ → Lingers m m″
 lingers_one place found m m′ m″ steps met =
-    let e : Met = record { kind = MissLatch; deeds = []; word = latch_word place; found = found; held = m.0.latches; directory = m.0.directory } in (
+    let e : StepRecord = record { kind = MissLatch; deeds = []; word = latch_word place; found = found; held = m.0.latches; directory = m.0.directory } in (
       steps.0 ++ e ∷ [],
       met ∙ ap (missed_latch place found) steps.1
           ∙ (λ i. (record m.0 { log = append_assoc m.0.log steps.0 (e ∷ []) i }, m.1)),
@@ -41,7 +41,7 @@ lingers_one place found m m′ m″ steps met =
 -- ---- inside
 
 -- a book of a place in hand, other records of latches and other steps
-abbrev pub inside_at : ℕ → List LatchRecord → BookView → Mine → List Met → Mine
+abbrev pub inside_at : ℕ → List LatchRecord → BookView → Mine → List StepRecord → Mine
 inside_at place latches book m log = (record m.0 { latches = latches; log = log }, (place, slot.Place book) ∷ m.1)
 
 -- what a latch's record tells as it is taken doesn't hang on the steps before
@@ -50,9 +50,9 @@ fresh_before place h m m′ steps fresh =
     let f : IsFresh place h (and_made steps.0 m) = subst (IsFresh place h) steps.1 fresh in
     record { here = f.here; exact = f.exact; unnoted = f.unnoted; inexact = f.inexact; unfreed = f.unfreed; lawful = f.lawful; modes = f.modes; own = f.own; named = f.named; keyed = f.keyed; vacant = f.vacant; once = f.once; single = f.single; wished = f.wished; lost = f.lost; stands = f.stands; reads = f.reads; noted = f.noted; fast_noted = f.fast_noted; fast_few = f.fast_few; fast_plain = f.fast_plain; fast_beside = f.fast_beside; unmixed = f.unmixed }
 
-pub inside_taken : (place : ℕ) (h : LatchRecord) (m m′ : Mine) (made : List Met) → IsRising place m → h.place ≡ place → m′ ≡ latched place h (and_made made m) → deeds_of made ≡ [] → IsInside place m m′
+pub inside_taken : (place : ℕ) (h : LatchRecord) (m m′ : Mine) (made : List StepRecord) → IsRising place m → h.place ≡ place → m′ ≡ latched place h (and_made made m) → deeds_of made ≡ [] → IsInside place m m′
 inside_taken place h m m′ made rising here taken did =
-    let e : Met = record { kind = TakeLatch; deeds = []; word = latch_word place; found = 0; held = h ∷ m.0.latches; directory = m.0.directory } in
+    let e : StepRecord = record { kind = TakeLatch; deeds = []; word = latch_word place; found = 0; held = h ∷ m.0.latches; directory = m.0.directory } in
     record {
       latches = h ∷ m.0.latches;
       made = made ++ e ∷ [];
@@ -63,15 +63,15 @@ inside_taken place h m m′ made rising here taken did =
     }
 
 -- at none of these steps a latch was given back or a flag raised
-pub stays_taken : (place : ℕ) (h : LatchRecord) (m m′ : Mine) (made : List Met) → m′ ≡ latched place h (and_made made m) → Each StaysThere made → StaysOn m m′
+pub stays_taken : (place : ℕ) (h : LatchRecord) (m m′ : Mine) (made : List StepRecord) → m′ ≡ latched place h (and_made made m) → Each StaysThere made → StaysOn m m′
 stays_taken place h m m′ made taken stayed =
-    let e : Met = record { kind = TakeLatch; deeds = []; word = latch_word place; found = 0; held = h ∷ m.0.latches; directory = m.0.directory } in
+    let e : StepRecord = record { kind = TakeLatch; deeds = []; word = latch_word place; found = 0; held = h ∷ m.0.latches; directory = m.0.directory } in
     (made ++ e ∷ [], ap (λ (x : Mine). x.0.log) taken ∙ append_assoc m.0.log made (e ∷ []), each_append StaysThere made (e ∷ []) stayed ((refl, refl), tt))
 
 pub inside_stepped : (kind : StepKind) (place found : ℕ) (f : LatchRecord → LatchRecord) (m m′ m″ : Mine) → ((h : LatchRecord) → (f h).place ≡ h.place) → IsInside place m m′ → m″ ≡ stepped kind place found f m′ → IsInside place m m″
 inside_stepped kind place found f m m′ m″ stays inside made =
     let latches = map (λ (h : LatchRecord). cond (h.place == place) (f h) h) inside.latches in
-    let e : Met = record { kind = kind; deeds = []; word = lock_word place; found = found; held = latches; directory = m.0.directory } in
+    let e : StepRecord = record { kind = kind; deeds = []; word = lock_word place; found = found; held = latches; directory = m.0.directory } in
     let log = m.0.log ++ inside.made in
     record {
       latches = latches;
@@ -97,7 +97,7 @@ inside_written place book m m′ m″ inside made = record {
 
 pub visits_put : (place : ℕ) (ds : List Deed) (m m′ m″ : Mine) → IsInside place m m′ → m″ ≡ unlatched place ds m′ → Visits place ds m m″
 visits_put place ds m m′ m″ inside put =
-    let e : Met = record { kind = PutLatch; deeds = ds; word = latch_word place; found = m.0.number; held = inside.latches; directory = m.0.directory } in
+    let e : StepRecord = record { kind = PutLatch; deeds = ds; word = latch_word place; found = m.0.number; held = inside.latches; directory = m.0.directory } in
     record {
       made = inside.made ++ e ∷ [];
       now = put ∙ ap (unlatched place ds) inside.now
@@ -123,7 +123,7 @@ enters place found word obtrusive mode can h m a b c fresh inside raise read hol
       read = (
         up.made,
         ap (λ (x : Mine). x.0.log) read
-            ∙ ap (λ (log : List Met). log ++ record { kind = ReadWord; deeds = []; word = lock_word place; found = word; held = (changed place (noting word) b.0).latches; directory = b.0.directory } ∷ []) (ap (λ (x : Mine). x.0.log) up.now)
+            ∙ ap (λ (log : List StepRecord). log ++ record { kind = ReadWord; deeds = []; word = lock_word place; found = word; held = (changed place (noting word) b.0).latches; directory = b.0.directory } ∷ []) (ap (λ (x : Mine). x.0.log) up.now)
             ∙ ap (λ (x : Mine). (m.0.log ++ up.made) ++ record { kind = ReadWord; deeds = []; word = lock_word place; found = word; held = x.0.latches; directory = x.0.directory } ∷ []) (sym read),
       );
       told = sym (told ∙ ap (λ (n : ℕ). can_be_granted (lock_kind h.book) h.book.granted h.book.waiting word n mode) who);

@@ -14,7 +14,7 @@ use Rattle.mdl_steps.specs.declared.slot.Slot.TheVariants as slot
 use Rattle.mdl_steps.specs.declared.step_kind.StepKind.TheVariants.{EndWait}
 use Rattle.mdl_steps.specs.declared.view.Ask.{Ask}
 use Rattle.mdl_steps.specs.declared.view.LatchRecord.{LatchRecord}
-use Rattle.mdl_steps.specs.declared.view.Met.{Met}
+use Rattle.mdl_steps.specs.declared.view.StepRecord.{StepRecord}
 use Rattle.mdl_steps.specs.Cells.{held_at}
 use Rattle.mdl_steps.specs.Layout.{wait_word}
 use Rattle.mdl_steps.specs.Plays.{Mine}
@@ -138,16 +138,16 @@ module _ (ask : Ask) {s : SeatState} {q : ℕ} {c : SeatState} (a : Arrives ask.
           }
 
       -- the step that ended the wait is among those made so far
-      pub shows_end : (e : Met) × IsStepOf s.me v.me e × EndsWait s.table.slots s.me.0.number s.me.0.waits state e
+      pub shows_end : (e : StepRecord) × IsStepOf s.me v.me e × EndsWait s.table.slots s.me.0.number s.me.0.waits state e
       shows_end =
-          let met : Met = record { kind = EndWait; deeds = []; word = wait_word w.table.slots w.me.0.number; found = wait_in w.me.0.waits state; held = w.me.0.latches; directory = w.me.0.directory } in
+          let met : StepRecord = record { kind = EndWait; deeds = []; word = wait_word w.table.slots w.me.0.number; found = wait_in w.me.0.waits state; held = w.me.0.latches; directory = w.me.0.directory } in
           let slots : w.table.slots ≡ s.table.slots = ap (λ (t : TableId). t.slots) (table_of is ∙ a.came.0) in
           let who : w.me.0.number ≡ s.me.0.number = ap (λ (x : SeatState). x.me.0.number) is ∙ ap (λ (x : Mine). x.0.number) a.came.1.now in (
             met,
             (
               a.came.2.0,
               [],
-              ap (λ (x : SeatState). x.me.0.log) ended ∙ ap (λ (x : SeatState). x.me.0.log ++ met ∷ []) is ∙ ap (λ (log : List Met). log ++ met ∷ []) a.came.2.1,
+              ap (λ (x : SeatState). x.me.0.log) ended ∙ ap (λ (x : SeatState). x.me.0.log ++ met ∷ []) is ∙ ap (λ (log : List StepRecord). log ++ met ∷ []) a.came.2.1,
             ),
             record {
               kind = refl;
@@ -160,8 +160,8 @@ module _ (ask : Ask) {s : SeatState} {q : ℕ} {c : SeatState} (a : Arrives ask.
       came_ended apart =
           let inside = a.came.1 in
           let slots = w.table.slots in
-          let e : Met = record { kind = EndWait; deeds = []; word = wait_word slots s.me.0.number; found = wait_in s.me.0.waits state; held = inside.latches; directory = s.me.0.directory } in
-          let met : Met = record { kind = EndWait; deeds = []; word = wait_word slots w.me.0.number; found = wait_in w.me.0.waits state; held = w.me.0.latches; directory = w.me.0.directory } in
+          let e : StepRecord = record { kind = EndWait; deeds = []; word = wait_word slots s.me.0.number; found = wait_in s.me.0.waits state; held = inside.latches; directory = s.me.0.directory } in
+          let met : StepRecord = record { kind = EndWait; deeds = []; word = wait_word slots w.me.0.number; found = wait_in w.me.0.waits state; held = w.me.0.latches; directory = w.me.0.directory } in
           let latches = map (λ (h : LatchRecord). cond (h.place == q) (with_cancelled s.me.0.number ask.number h) h) inside.latches in
           let whole = mine ended ∙ ap (ended_lost slots q ask.number state) (mine is ∙ ap (written q less) inside.now)
           ∙ (λ i. (record (idle s.me.0) { latches = latches; log = append_assoc s.me.0.log inside.made (e ∷ []) i }, (q, slot.Place less) ∷ s.me.1)) in (
@@ -176,7 +176,7 @@ module _ (ask : Ask) {s : SeatState} {q : ℕ} {c : SeatState} (a : Arrives ask.
             },
             (
               a.came.2.0 ++ met ∷ [],
-              ap (λ (x : SeatState). x.me.0.log) ended ∙ ap (λ (x : SeatState). x.me.0.log ++ met ∷ []) is ∙ ap (λ (log : List Met). log ++ met ∷ []) a.came.2.1
+              ap (λ (x : SeatState). x.me.0.log) ended ∙ ap (λ (x : SeatState). x.me.0.log ++ met ∷ []) is ∙ ap (λ (log : List StepRecord). log ++ met ∷ []) a.came.2.1
                   ∙ append_assoc s.me.0.log a.came.2.0 (met ∷ []),
               each_append StaysThere a.came.2.0 (met ∷ []) a.came.2.2 ((refl, refl), tt),
             ),

@@ -12,7 +12,7 @@ use Rattle.mdl_book.specs.Books.{any_obtrusive, enqueueing, lock_kind}
 use Rattle.mdl_steps.specs.declared.slot.Slot.TheVariants as slot
 use Rattle.mdl_steps.specs.declared.step_kind.StepKind.TheVariants.{OpenWait, PutLatch, ReadWord}
 use Rattle.mdl_steps.specs.declared.view.LatchRecord.{LatchRecord}
-use Rattle.mdl_steps.specs.declared.view.Met.{Met}
+use Rattle.mdl_steps.specs.declared.view.StepRecord.{StepRecord}
 use Rattle.mdl_steps.specs.Cells.{held_at}
 use Rattle.mdl_steps.specs.Layout.{latch_word, lock_word, wait_word}
 use Rattle.mdl_steps.specs.Plays.{Mine, noting, raised, unlatched}
@@ -121,10 +121,10 @@ module _ (slots place : ℕ) (mode : Mode) (m m′ m″ : Mine) (inside : IsInsi
   held : List LatchRecord
   held = map (λ (h : LatchRecord). cond (h.place == place) (with_waiting (asked_ticket mode m.0) h) h) inside.latches
 
-  opens_step : Met
+  opens_step : StepRecord
   opens_step = record { kind = OpenWait; deeds = []; word = wait_word slots m.0.number; found = wait_in m.0.waits idle_state; held = held; directory = m.0.directory }
 
-  puts_step : Met
+  puts_step : StepRecord
   puts_step = record { kind = PutLatch; deeds = []; word = latch_word place; found = m.0.number; held = held; directory = m.0.directory }
 
   log : ((m.0.log ++ inside.made) ++ opens_step ∷ []) ++ puts_step ∷ [] ≡ m.0.log ++ (inside.made ++ opens_step ∷ puts_step ∷ [])
@@ -142,10 +142,10 @@ module _ (slots place : ℕ) (mode : Mode) (m m′ m″ : Mine) (inside : IsInsi
       }
 
   -- the two steps of it, by what the session had before
-  abbrev opens_there : Met
+  abbrev opens_there : StepRecord
   opens_there = record { kind = OpenWait; deeds = []; word = wait_word slots m′.0.number; found = wait_in m′.0.waits idle_state; held = (opened slots place mode m′).0.latches; directory = m′.0.directory }
 
-  abbrev puts_there : Met
+  abbrev puts_there : StepRecord
   puts_there = record { kind = PutLatch; deeds = []; word = latch_word place; found = m′.0.number; held = (opened slots place mode m′).0.latches; directory = m′.0.directory }
 
   log_there : m″.0.log ≡ m′.0.log ++ opens_there ∷ puts_there ∷ []
@@ -165,15 +165,15 @@ module _ (slots place : ℕ) (mode : Mode) (m m′ m″ : Mine) (inside : IsInsi
 
   -- right after the one that read the word
   blocked_then : (word : ℕ) (asks : Bool) (entered : Enters place asks word mode false m m′)
-      → (e f : Met) × AreStepsOf m m″ e f × MeetsBlocked place m.0.number mode e × MeetsOpening slots place m.0.number m.0.waits m.0.next mode f
+      → (e f : StepRecord) × AreStepsOf m m″ e f × MeetsBlocked place m.0.number mode e × MeetsOpening slots place m.0.number m.0.waits m.0.next mode f
   blocked_then word asks entered =
-      let read : Met = record { kind = ReadWord; deeds = []; word = lock_word place; found = word; held = m′.0.latches; directory = m′.0.directory } in (
+      let read : StepRecord = record { kind = ReadWord; deeds = []; word = lock_word place; found = word; held = m′.0.latches; directory = m′.0.directory } in (
         read,
         opens_there,
         (
           entered.read.0,
           puts_there ∷ [],
-          log_there ∙ ap (λ (all : List Met). all ++ opens_there ∷ puts_there ∷ []) entered.read.1 ∙ append_assoc (m.0.log ++ entered.read.0) (read ∷ []) (opens_there ∷ puts_there ∷ []),
+          log_there ∙ ap (λ (all : List StepRecord). all ++ opens_there ∷ puts_there ∷ []) entered.read.1 ∙ append_assoc (m.0.log ++ entered.read.0) (read ∷ []) (opens_there ∷ puts_there ∷ []),
         ),
         record { kind = refl; word = refl; latch = noting word (raised true asks entered.found); held = entered.holds.recorded; blocked = entered.told },
         opening (noting word (raised true asks entered.found)) entered.holds.recorded,
@@ -185,7 +185,7 @@ module _ (slots place : ℕ) (mode : Mode) (m m′ m″ : Mine) (inside : IsInsi
 pub visit_opened : (q : ℕ) (mode : Mode) (book : BookView) (c w v n : SeatState) → w ≡ record c { me = written q book c.me }
     → v ≡ record w { me = opened w.table.slots q mode w.me } → n ≡ record v { me = unlatched q [] v.me } → VisitsOnce q c.me n.me
 visit_opened q mode book c w v n wrote opens_wait puts =
-    let e : Met = record {
+    let e : StepRecord = record {
       kind = OpenWait;
       deeds = [];
       word = wait_word w.table.slots w.me.0.number;

@@ -11,7 +11,7 @@ use Rattle.mdl_steps.specs.declared.step_kind.StepKind.{StepKind}
 use Rattle.mdl_steps.specs.declared.step_kind.StepKind.TheVariants.{GrantWait, ReadWord}
 use Rattle.mdl_steps.specs.declared.view.LatchRecord.{LatchRecord}
 use Rattle.mdl_steps.specs.declared.view.Keys.{Keys}
-use Rattle.mdl_steps.specs.declared.view.Met.{Met}
+use Rattle.mdl_steps.specs.declared.view.StepRecord.{StepRecord}
 use Rattle.mdl_steps.specs.declared.view.Settlement.{Settlement}
 use Rattle.mdl_steps.specs.declared.view.View.{View}
 use Rattle.mdl_steps.specs.Cells.{held_at}
@@ -53,7 +53,7 @@ own_told slots session word now v own same =
 
 -- ---- what was met between two was met between any two that are farther apart
 
-module _ (a b c d : Mine) (wider : (e : Met) → IsStepOf a b e → IsStepOf c d e) where
+module _ (a b c d : Mine) (wider : (e : StepRecord) → IsStepOf a b e → IsStepOf c d e) where
   pub settled_within : (slots place session number : ℕ) → WasSettled slots place session number a b → WasSettled slots place session number c d
   settled_within slots place session number was = record {
     read = was.read;
@@ -85,7 +85,7 @@ module _ (a b c d : Mine) (wider : (e : Met) → IsStepOf a b e → IsStepOf c d
 -- ---- and what was granted
 
 -- it is told from an earlier start on
-meets_since : (id : TableId) (place : ℕ) (first start x : Mine) (g : Settlement) (e : Met) → MakesMoreSteps first start → MeetsGranted id place start x g e → MeetsGranted id place first x g e
+meets_since : (id : TableId) (place : ℕ) (first start x : Mine) (g : Settlement) (e : StepRecord) → MakesMoreSteps first start → MeetsGranted id place start x g e → MeetsGranted id place first x g e
 meets_since id place first start x g e more met = record {
   state = met.state;
   kind = met.kind;
@@ -109,7 +109,7 @@ module _ (id : TableId) (place : ℕ) (first start c a b d : Mine) (since : Make
         (
           met.0,
           met.1,
-          (goes_on c a met.1 before met.2.0, met.2.1 ++ after.0, after.1 ∙ ap (λ (log : List Met). log ++ after.0) met.2.2 ∙ append_assoc met.1.0.log (met.0 ∷ met.2.1) after.0),
+          (goes_on c a met.1 before met.2.0, met.2.1 ++ after.0, after.1 ∙ ap (λ (log : List StepRecord). log ++ after.0) met.2.2 ∙ append_assoc met.1.0.log (met.0 ∷ met.2.1) after.0),
           meets_since id place first start met.1 g met.0 since met.3,
         ),
         granted_within more all.1,
@@ -124,7 +124,7 @@ only_stays kind (inr missed) = rw missed (refl, refl)
 
 module _ (id : TableId) (place : ℕ) (start : Mine) where
   -- nobody is granted
-  nobody_granted : (latches : List LatchRecord) (told : Option ℕ) (made : List Met) (book : BookView) (m m′ : Mine)
+  nobody_granted : (latches : List LatchRecord) (told : Option ℕ) (made : List StepRecord) (book : BookView) (m m′ : Mine)
       → m′ ≡ (record m.0 { latches = latches; told = told; log = m.0.log ++ made }, (place, slot.Place book) ∷ rest m.1) → filter (λ h. not (h.place == place)) latches ≡ elsewhere place m
       → StaysTold m.0.told told × (m.0.asks ≡ None → told ≡ m.0.told) → deeds_of made ≡ [] → Each (StaysHere m.0.directory) made → GrantsWaits id place start m m′
   nobody_granted latches told made book m m′ is others tells did kept = record {
@@ -173,7 +173,7 @@ module _ (id : TableId) (place : ℕ) (start : Mine) where
     latches_then : List LatchRecord
     latches_then = (changed place (with_admitted session ticket) m.0).latches
 
-    grants_it : Met
+    grants_it : StepRecord
     grants_it = record { kind = GrantWait; deeds = []; word = wait_word id.slots session; found = wait_in number 1; held = latches_then; directory = m.0.directory }
 
     meets : (wish_number : ready.wish.number ≡ ticket) → MeetsGranted id place start m (record { session = session; wait = number; state = 2 }) grants_it
@@ -242,7 +242,7 @@ module _ (id : TableId) (place : ℕ) (start : Mine) where
     others = y.others ∙ ap (elsewhere place) x.now ∙ x.others;
     stays = λ state e. y.stays state (ap (λ (w : Mine). w.0.told) x.now ∙ x.stays state e);
     unasked = λ none. y.unasked (ap (λ (w : Mine). w.0.asks) x.now ∙ none) ∙ ap (λ (w : Mine). w.0.told) x.now ∙ x.unasked none;
-    granted = each_append (λ (g : Settlement). (e : Met) × (s : Mine) × IsStepAfter a s c e × MeetsGranted id place start s g e) x.grants y.grants
+    granted = each_append (λ (g : Settlement). (e : StepRecord) × (s : Mine) × IsStepAfter a s c e × MeetsGranted id place start s g e) x.grants y.grants
         (granted_within id place start start a a b c (goes_none start) (goes_none a) (steps_of b c y) x.grants x.granted)
         (granted_within id place start start a b c c (goes_none start) (steps_of a b x) (goes_none c) y.grants y.granted);
     did = none_then x.made y.made [] x.did y.did;

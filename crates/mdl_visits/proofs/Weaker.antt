@@ -8,7 +8,7 @@ use Rattle.mdl_book.specs.declared.book_error.BookError.TheVariants as fault
 use Rattle.mdl_book.specs.Books.{change_fault, grant_fault, ticket_count}
 use Rattle.mdl_book.specs.Tickets.{ticket_of}
 use Rattle.mdl_steps.specs.declared.deed.Deed.TheVariants.{Alter, Gain}
-use Rattle.mdl_steps.specs.declared.view.Own.{Own}
+use Rattle.mdl_steps.specs.declared.view.SessionTicket.{SessionTicket}
 use Rattle.mdl_steps.specs.Cells.{ticket_by}
 use Rattle.mdl_steps.specs.Deeds.{NotWaited, booked}
 use Rattle.mdl_steps.specs.Plays.{Mine}
@@ -24,7 +24,7 @@ use Rattle.mdl_visits.proofs.Arriving.{has_worked, number_kept, unwaited_there}
 use Rattle.mdl_visits.proofs.Covered.{IsCovered, altered, altered_flagged, covered_by, fits_lock, gained_flagged, own_there, stands}
 use Rattle.mdl_visits.proofs.Trying.{refusal}
 
-module _ (held : Own) {s : SeatState} {q : ℕ} {c : SeatState} (a : Arrives held.place s q c) (unwaited : NotWaited s.me.0 held.number) (found : numbered held.number s.me.0.slow ≡ Some held) where
+module _ (held : SessionTicket) {s : SeatState} {q : ℕ} {c : SeatState} (a : Arrives held.place s q c) (unwaited : NotWaited s.me.0 held.number) (found : numbered held.number s.me.0.slow ≡ Some held) where
   -- the session's ticket stands in the book that is met
   pub there : ticket_of c.me.0.number held.number a.latch.book.granted ≡ Some (ticket_by c.me.0.number held)
   there = own_there c.me.0.number held.number held a.latch s.me (number_kept a) a.fresh unwaited found

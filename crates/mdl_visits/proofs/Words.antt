@@ -9,7 +9,7 @@ use Rattle.mdl_steps.specs.declared.step_kind.StepKind.{StepKind}
 use Rattle.mdl_steps.specs.declared.step_kind.StepKind.TheVariants.{ReadWait}
 use Rattle.mdl_steps.specs.declared.view.LatchRecord.{LatchRecord}
 use Rattle.mdl_steps.specs.declared.view.Keys.{Keys}
-use Rattle.mdl_steps.specs.declared.view.Met.{Met}
+use Rattle.mdl_steps.specs.declared.view.StepRecord.{StepRecord}
 use Rattle.mdl_steps.specs.Layout.{wait_word}
 use Rattle.mdl_steps.specs.SeatStates.{AtItsTable, SeatState}
 use Rattle.mdl_steps.specs.Plays.{Mine}
@@ -32,7 +32,7 @@ reads_none m = record {
     made = [];
     told = m.0.told;
     settles = m.0.settles;
-    now = ap (λ (log : List Met). (record m.0 { log = log }, m.1)) (sym (append-nil m.0.log));
+    now = ap (λ (log : List StepRecord). (record m.0 { log = log }, m.1)) (sym (append-nil m.0.log));
     did = refl;
     stays = λ state told. told;
   };
@@ -100,8 +100,8 @@ all_within slots latches a b c d words before after all =
 
 pub was_read : (slots : ℕ) (r : WaitRead) (m m′ : Mine) → m′ ≡ met_wait slots r.session r.word.0 m → WasRead slots m.0.latches m m′ r
 was_read slots r m m′ met =
-    let e : Met = record { kind = ReadWait; deeds = []; word = wait_word slots r.session; found = r.word.0; held = m.0.latches; directory = m.0.directory } in
-    (e, ([], [], ap (λ (x : Mine). x.0.log) met ∙ ap (λ (log : List Met). log ++ e ∷ []) (sym (append-nil m.0.log))), refl, refl, refl, refl)
+    let e : StepRecord = record { kind = ReadWait; deeds = []; word = wait_word slots r.session; found = r.word.0; held = m.0.latches; directory = m.0.directory } in
+    (e, ([], [], ap (λ (x : Mine). x.0.log) met ∙ ap (λ (log : List StepRecord). log ++ e ∷ []) (sym (append-nil m.0.log))), refl, refl, refl, refl)
 
 -- the words of the sessions up to so many
 pub record AreUpTo (last : ℕ) (words : List WaitRead) (s s′ : SeatState) : Type 0 where

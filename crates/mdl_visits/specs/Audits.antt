@@ -1,10 +1,10 @@
 -- An audit: the books of all places that have a key, as a session's records of their latches had them at one of its steps.
 use Rattle.std.specs.Prelude.{◌≡◌, ◌⊎◌, ℕ, ◌+◌, ◌<◌, ◌≤◌, List, [], ◌∷◌, ◌++◌, length, map, Some}
 use Rattle.mdl_key.specs.Words.{KeyName}
-use Rattle.mdl_defs.specs.Standings.{MayStand}
+use Rattle.mdl_defs.specs.VersionedDefinitions.{MayStand}
 use Rattle.mdl_steps.specs.declared.view.LatchRecord.{LatchRecord}
 use Rattle.mdl_steps.specs.declared.view.Keys.{Keys}
-use Rattle.mdl_steps.specs.declared.view.Met.{Met}
+use Rattle.mdl_steps.specs.declared.view.StepRecord.{StepRecord}
 use Rattle.mdl_steps.specs.Cells.{held_at}
 use Rattle.mdl_steps.specs.Lists.{Each}
 use Rattle.mdl_steps.specs.Plays.{Mine}
@@ -26,7 +26,7 @@ AreRecorded place latches (a ∷ more) = IsRecorded place latches a × AreRecord
 -- the session had just these latches when it began, or at a step that it made between the two, at which it had the same record of the directory's
 -- latch as before, or still none
 abbrev pub HadLatches : List LatchRecord → Mine → Mine → Type 0
-HadLatches latches m m′ = (latches ≡ m.0.latches) ⊎ ((e : Met) × IsStepOf m m′ e × (e.held ≡ latches) × (e.directory ≡ m.0.directory))
+HadLatches latches m m′ = (latches ≡ m.0.latches) ⊎ ((e : StepRecord) × IsStepOf m m′ e × (e.held ≡ latches) × (e.directory ≡ m.0.directory))
 
 -- the books of the places from one on have the keys that the directory has at these places
 abbrev pub AreKeyed : List KeyName → ℕ → List Audited → Type 0
@@ -64,7 +64,7 @@ pub record Gathers (place last : ℕ) (before after : List Audited) (m m′ : Mi
 pub record Audits (k : Keys) (audited : List Audited) (m m′ : Mine) : Type 0 where
   pub all : length audited ≡ length k.keys
   pub keys : map (λ (a : Audited). a.book.key) audited ≡ k.keys
-  pub moment : Met
+  pub moment : StepRecord
   pub step : IsStepOf m m′ moment
   pub directory : moment.directory ≡ Some k
   pub recorded : AreRecorded 1 moment.held audited

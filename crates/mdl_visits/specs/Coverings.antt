@@ -4,19 +4,19 @@ use lib.ListN.{get_elem?}
 use mathlib.Core.Option.{some}
 use Rattle.mdl_key.specs.declared.mode.Mode.{Mode}
 use Rattle.mdl_key.specs.Words.{is_mode_of, kind_of}
-use Rattle.mdl_steps.specs.declared.view.Known.{Known}
-use Rattle.mdl_steps.specs.declared.view.Own.{Own}
+use Rattle.mdl_key.specs.declared.known_key.KnownKey.{KnownKey}
+use Rattle.mdl_steps.specs.declared.view.SessionTicket.{SessionTicket}
 use Rattle.mdl_steps.specs.declared.view.View.{View}
 use Rattle.mdl_system.specs.Strength.{covers}
 use Rattle.mdl_visits.specs.Numbers.{numbered}
 
 -- the session has looked up a key whose place this is, and the mode is one of its kind
 abbrev pub FitsAt : View → ℕ → Mode → Type 0
-FitsAt v place mode = (i : ℕ) × (k : Known) × (get_elem? v.known i ≡ some k) × (k.place ≡ place) × (is_mode_of (kind_of k.key.namespace) mode ≡ true)
+FitsAt v place mode = (i : ℕ) × (k : KnownKey) × (get_elem? v.known i ≡ some k) × (k.place ≡ place) × (is_mode_of (kind_of k.key.namespace) mode ≡ true)
 
 -- a second ticket, with this number and in this mode, can be made of one: that is a slow one of the session, the number is the next one, the mode fits the
 -- place, and the ticket's own mode covers it
-pub record CanClone (ticket : Own) (number : ℕ) (mode : Mode) (v : View) : Type 0 where
+pub record CanClone (ticket : SessionTicket) (number : ℕ) (mode : Mode) (v : View) : Type 0 where
   pub held : numbered ticket.number v.slow ≡ Some ticket
   pub next : number ≡ v.next
   pub fits : FitsAt v ticket.place mode
@@ -24,14 +24,14 @@ pub record CanClone (ticket : Own) (number : ℕ) (mode : Mode) (v : View) : Typ
 
 -- a ticket can get a stronger mode: it is a slow one of the session, with this number and at this place, and the mode covers its own
 pub record MayRise (place number : ℕ) (mode : Mode) (v : View) : Type 0 where
-  pub held : Own
+  pub held : SessionTicket
   pub there : numbered number v.slow ≡ Some held
   pub here : held.place ≡ place
   pub stronger : covers mode held.mode ≡ true
 
 -- a ticket can get the mode of another one, which is released: both are slow tickets of the session, they are two, at one place, and the mode of the one
 -- released covers that of the other
-pub record CanMerge (kept gone : Own) (v : View) : Type 0 where
+pub record CanMerge (kept gone : SessionTicket) (v : View) : Type 0 where
   pub held : (numbered kept.number v.slow ≡ Some kept) × (numbered gone.number v.slow ≡ Some gone)
   pub two : kept.number ≢ gone.number
   pub here : kept.place ≡ gone.place

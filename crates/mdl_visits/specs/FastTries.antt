@@ -6,7 +6,7 @@ use Rattle.mdl_word.specs.Words.{obtrusive_flag, slow_flag}
 use Rattle.mdl_steps.specs.declared.deed.Deed.{Deed}
 use Rattle.mdl_steps.specs.declared.deed.Deed.TheVariants.{Gain, Lose}
 use Rattle.mdl_steps.specs.declared.step_kind.StepKind.TheVariants.{GrantFast, MissFast, ReadWord, ReleaseFast}
-use Rattle.mdl_steps.specs.declared.view.Met.{Met}
+use Rattle.mdl_steps.specs.declared.view.StepRecord.{StepRecord}
 use Rattle.mdl_steps.specs.declared.view.View.{View}
 use Rattle.mdl_steps.specs.FastPlays.{but_own, fast_own, owing}
 use Rattle.mdl_steps.specs.Layout.{lock_word}
@@ -22,12 +22,12 @@ with_fast place mode noted v = record v { fast = v.fast ++ fast_own v.next place
 
 -- the session was granted a fast ticket at a place, its steps did just this deed, and nothing else changed
 pub record GrantsFast (place : ℕ) (mode : Mode) (noted : Option ℕ) (m m′ : Mine) : Type 0 where
-  pub made : List Met
+  pub made : List StepRecord
   pub now : m′ ≡ and_made made (with_fast place mode noted m.0, m.1)
   pub did : deeds_of made ≡ Gain m.0.next mode ∷ []
 
 -- a step that did this deed by a fast grant: the place's word, as it was just before, had the flag OBTRUSIVE down
-pub record MeetsClear (place : ℕ) (deed : Deed) (e : Met) : Type 0 where
+pub record MeetsClear (place : ℕ) (deed : Deed) (e : StepRecord) : Type 0 where
   pub kind : e.kind ≡ GrantFast
   pub did : e.deeds ≡ deed ∷ []
   pub word : e.word ≡ lock_word place
@@ -36,26 +36,26 @@ pub record MeetsClear (place : ℕ) (deed : Deed) (e : Met) : Type 0 where
 -- ---- no fast ticket is granted
 
 -- a fast grant that missed: the step before it found this word with the flag OBTRUSIVE down, and it found another word of the place
-pub record MissesAfter (place before : ℕ) (e : Met) : Type 0 where
+pub record MissesAfter (place before : ℕ) (e : StepRecord) : Type 0 where
   pub kind : e.kind ≡ MissFast
   pub word : e.word ≡ lock_word place
   pub clear : obtrusive_flag before ≡ false
   pub other : e.found ≢ before
 
 -- each of these steps is a fast grant that missed. The step before the first one found this word
-abbrev pub AllMiss : ℕ → ℕ → List Met → Type 0
+abbrev pub AllMiss : ℕ → ℕ → List StepRecord → Type 0
 AllMiss place before [] = Unit {0}
 AllMiss place before (e ∷ later) = MissesAfter place before e × AllMiss place e.found later
 
 -- the word that the last of some steps found. The step before them found this word
-abbrev pub last_found : ℕ → List Met → ℕ
+abbrev pub last_found : ℕ → List StepRecord → ℕ
 last_found before [] = before
 last_found before (e ∷ later) = last_found e.found later
 
 -- the session read the word of a place, and then `count` fast grants missed, one after the other. The last step found this word, and nothing else changed
 pub record Misses (place count word : ℕ) (m m′ : Mine) : Type 0 where
-  pub read : Met
-  pub tries : List Met
+  pub read : StepRecord
+  pub tries : List StepRecord
   pub now : m′ ≡ and_made (read ∷ tries) m
   pub did : deeds_of (read ∷ tries) ≡ []
   pub reads : (read.kind ≡ ReadWord) × (read.word ≡ lock_word place)
@@ -75,7 +75,7 @@ FindsObtrusive place word m m′ = MissesFew place word m m′ × (obtrusive_fla
 abbrev pub GrantsAtLast : ℕ → Deed → Mine → Mine → Type 0
 GrantsAtLast place deed m m′ =
     (word : ℕ) × (mid : Mine) × MissesFew place word m mid
-    × ((e : Met) × (m′.0.log ≡ mid.0.log ++ e ∷ []) × MeetsClear place deed e × (e.found ≡ word))
+    × ((e : StepRecord) × (m′.0.log ≡ mid.0.log ++ e ∷ []) × MeetsClear place deed e × (e.found ≡ word))
 
 -- the session was granted a fast ticket with its next number in this way
 abbrev pub WasGrantedFast : ℕ → Mode → Option ℕ → SeatState → SeatState → Type 0
@@ -86,7 +86,7 @@ WasGrantedFast place mode noted s s′ = AtItsTable s s′ (GrantsFast place mod
 -- the session released its fast ticket with this number at a place by one step. Waits there may have become grantable (`owes`) if the word that the step
 -- found had the flag SLOW up: then the session owes the place a reschedule. Nothing else changed
 pub record ReleasesFast (place number : ℕ) (owes : Bool) (m m′ : Mine) : Type 0 where
-  pub step : Met
+  pub step : StepRecord
   pub now : m′ ≡ and_made (step ∷ []) (record m.0 { fast = but_own place number m.0.fast; owes = owing place step.found m.0.owes }, m.1)
   pub kind : step.kind ≡ ReleaseFast
   pub did : step.deeds ≡ Lose number ∷ []

@@ -14,7 +14,7 @@ use Rattle.mdl_steps.specs.declared.slot.Slot.TheVariants as slot
 use Rattle.mdl_steps.specs.declared.step_kind.StepKind.{StepKind}
 use Rattle.mdl_steps.specs.declared.step_kind.StepKind.TheVariants.{GrantWait, MissWait, PutLatch, ReadWait, ReadWord}
 use Rattle.mdl_steps.specs.declared.view.LatchRecord.{LatchRecord}
-use Rattle.mdl_steps.specs.declared.view.Met.{Met}
+use Rattle.mdl_steps.specs.declared.view.StepRecord.{StepRecord}
 use Rattle.mdl_steps.specs.declared.view.Settlement.{Settlement}
 use Rattle.mdl_steps.specs.Cells.{held_at}
 use Rattle.mdl_steps.specs.Deeds.{MayJoin, all_done}
@@ -38,12 +38,12 @@ ahead_of session number tickets = before_first (is_ticket session number) ticket
 -- the last of a session's steps read the word of a wait, with this record of the latch of a place
 abbrev pub HasJustMet : ℕ → ℕ → ℕ → LatchRecord → Mine → Type 0
 HasJustMet slots place session h m =
-    (log : List Met) × (e : Met) × (m.0.log ≡ log ++ e ∷ []) × (e.kind ≡ ReadWait) × (e.word ≡ wait_word slots session) × (held_at place e.held ≡ Some h)
+    (log : List StepRecord) × (e : StepRecord) × (m.0.log ≡ log ++ e ∷ []) × (e.kind ≡ ReadWait) × (e.word ≡ wait_word slots session) × (held_at place e.held ≡ Some h)
 
 -- a step that granted a wait of a session, which was unsettled. By the record of the latch just before it, the session's ticket waited there, was
 -- compatible with all that was granted, and waited behind no other. The tickets that arrived before it were passed over, as the steps between the two
 -- show, the last of which read the wait's word. Just after the step the ticket is granted
-pub record MeetsGranted (id : TableId) (place : ℕ) (m m′ : Mine) (g : Settlement) (e : Met) : Type 0 where
+pub record MeetsGranted (id : TableId) (place : ℕ) (m m′ : Mine) (g : Settlement) (e : StepRecord) : Type 0 where
   pub state : g.state ≡ granted_state
   pub kind : e.kind ≡ GrantWait
   pub word : e.word ≡ wait_word id.slots g.session
@@ -88,7 +88,7 @@ IsTriedOrGranted id place session number h m m′ =
 -- the result of the exchange that grants a wait: it met another word than this and the record of the latch is unchanged, or the ticket is granted
 abbrev pub IsGrantedFrom : ℕ → ℕ → ℕ → ℕ → ℕ → LatchRecord → Mine → Mine → Type 0
 IsGrantedFrom slots place session number word h m m′ =
-    (((e : Met) × IsStepOf m m′ e × MeetsWaiter slots place session number e × (e.found ≢ word)) × Holds place h h.book m′)
+    (((e : StepRecord) × IsStepOf m m′ e × MeetsWaiter slots place session number e × (e.found ≢ word)) × Holds place h h.book m′)
     ⊎ Holds place (with_admitted session number h) (with_admitted session number h).book m′
 
 -- ---- waits are granted
@@ -100,7 +100,7 @@ StaysTold told told′ = (state : ℕ) → told ≡ Some state → told′ ≡ S
 -- each of these waits was granted by a step between the two, as the steps from a start to just before it show
 abbrev pub AreGranted : TableId → ℕ → List Settlement → Mine → Mine → Mine → Type 0
 AreGranted id place grants start m m′ =
-    Each (λ g. (e : Met) × (a : Mine) × IsStepAfter m a m′ e × MeetsGranted id place start a g e) grants
+    Each (λ g. (e : StepRecord) × (a : Mine) × IsStepAfter m a m′ e × MeetsGranted id place start a g e) grants
 
 -- waits were granted under the latch of a place, which the session holds. Nothing else changed except the record of the latch, the book in hand, what the
 -- session knows of its own wait, and its list of steps. These did no deeds, gave no latch back and raised no flag, and the session had the same record of
@@ -109,7 +109,7 @@ pub record GrantsWaits (id : TableId) (place : ℕ) (start m m′ : Mine) : Type
   pub latches : List LatchRecord
   pub told : Option ℕ
   pub grants : List Settlement
-  pub made : List Met
+  pub made : List StepRecord
   pub book : BookView
   pub now : m′ ≡ (record m.0 { latches = latches; told = told; settles = m.0.settles ++ grants; log = m.0.log ++ made }, (place, slot.Place book) ∷ rest m.1)
   pub others : filter (λ h. not (h.place == place)) latches ≡ elsewhere place m
@@ -128,7 +128,7 @@ ReschedulesInTurn id place session number m m′ =
 -- ---- and the latch is given back
 
 -- a step without deeds that gave the latch of a place back, by whose record no ticket waits there, or no waiter is forgotten
-pub record MeetsRescheduled (id : TableId) (place who : ℕ) (m m′ : Mine) (e : Met) : Type 0 where
+pub record MeetsRescheduled (id : TableId) (place who : ℕ) (m m′ : Mine) (e : StepRecord) : Type 0 where
   pub kind : e.kind ≡ PutLatch
   pub did : e.deeds ≡ []
   pub word : e.word ≡ latch_word place
@@ -144,7 +144,7 @@ pub record HasRescheduled (id : TableId) (place : ℕ) (m m′ : Mine) : Type 0 
   pub grants : List Settlement
   pub settles : m′.0.settles ≡ m.0.settles ++ grants
   pub granted : AreGranted id place grants m m m′
-  pub served : (e : Met) × LeavesBy m m′ e × MeetsRescheduled id place m.0.number m m′ e
+  pub served : (e : StepRecord) × LeavesBy m m′ e × MeetsRescheduled id place m.0.number m m′ e
   pub stays : StaysTold m.0.told m′.0.told
   pub unasked : m.0.asks ≡ None → m′.0.told ≡ m.0.told
 
@@ -157,7 +157,7 @@ all_but place owes = filter (λ p. not (p == place)) owes
 pub record ReschedulesAndLeaves (id : TableId) (place : ℕ) (ds : List Deed) (m m′ : Mine) : Type 0 where
   pub told : Option ℕ
   pub settles : List Settlement
-  pub made : List Met
+  pub made : List StepRecord
   pub now : m′
       ≡ (record (all_done place ds m.0) { latches = elsewhere place m; told = told; owes = all_but place m.0.owes; settles = settles; log = m.0.log ++ made }, rest m.1)
   pub did : deeds_of made ≡ ds
@@ -168,7 +168,7 @@ pub record ReschedulesAndLeaves (id : TableId) (place : ℕ) (ds : List Deed) (m
 pub record VisitsAndReschedules (id : TableId) (place : ℕ) (ds : List Deed) (m m′ : Mine) : Type 0 where
   pub told : Option ℕ
   pub settles : List Settlement
-  pub made : List Met
+  pub made : List StepRecord
   pub now : m′ ≡ (record (all_done place ds m.0) { told = told; owes = all_but place m.0.owes; settles = settles; log = m.0.log ++ made }, m.1)
   pub did : deeds_of made ≡ ds
   pub way : HasRescheduled id place m m′
@@ -183,7 +183,7 @@ IsLowered place ds m m′ = (found : ℕ) × (book : BookView) × (slow : Bool) 
 -- with it, and it waited behind no waiting one
 abbrev pub GrantedWaitsWereGrantable : Type 0
 GrantedWaitsWereGrantable =
-    (id : TableId) (place : ℕ) (m m′ : Mine) (g : Settlement) (e : Met) → MeetsGranted id place m m′ g e →
+    (id : TableId) (place : ℕ) (m m′ : Mine) (g : Settlement) (e : StepRecord) → MeetsGranted id place m m′ g e →
     (before : LatchRecord) × (wish : Ticket) × (held_at place e.held ≡ Some (with_admitted g.session wish.number before))
     × (ticket_of g.session wish.number before.book.waiting ≡ Some wish)
     × ((fast : List Ticket) → Lawful (lock_kind before.book) fast before.book.granted → NotedCounts (lock_kind before.book) fast before.obtrusive before.noted

@@ -2,14 +2,14 @@
 use Rattle.std.specs.Prelude.{◌≡◌, ℕ, ◌∷◌, ◌++◌, ◌||◌, Bool, List, [], Some, is_some, true}
 use lib.ListN.{get_elem?}
 use mathlib.Core.Option.{some}
-use Rattle.mdl_defs.specs.declared.standing.Standing.{Standing}
+use Rattle.mdl_defs.specs.declared.versioned_definition.VersionedDefinition.{VersionedDefinition}
 use Rattle.mdl_book.specs.Tickets.{ticket_of}
 use Rattle.mdl_steps.specs.declared.deed.Deed.{Deed}
 use Rattle.mdl_steps.specs.declared.deed.Deed.TheVariants.{Alter, Lose}
 use Rattle.mdl_steps.specs.declared.step_kind.StepKind.TheVariants.{PutLatch}
 use Rattle.mdl_steps.specs.declared.view.LatchRecord.{LatchRecord}
-use Rattle.mdl_steps.specs.declared.view.Met.{Met}
-use Rattle.mdl_steps.specs.declared.view.Own.{Own}
+use Rattle.mdl_steps.specs.declared.view.StepRecord.{StepRecord}
+use Rattle.mdl_steps.specs.declared.view.SessionTicket.{SessionTicket}
 use Rattle.mdl_steps.specs.declared.view.View.{View}
 use Rattle.mdl_steps.specs.Cells.{held_at}
 use Rattle.mdl_steps.specs.Deeds.{all_booked, all_done, frees}
@@ -24,11 +24,11 @@ use Rattle.mdl_visits.specs.Visits.{and_made, deeds_of, IsStepOf, LeavesBy}
 -- the session gave back the latch of a place, and the slot that it took last, after these deeds. Steps were made that did just these, and nothing else
 -- changed
 abbrev pub Leaves : ℕ → List Deed → Mine → Mine → Type 0
-Leaves place ds m m′ = (made : List Met) × (m′ ≡ and_made made (record (all_done place ds m.0) { latches = elsewhere place m }, rest m.1)) × (deeds_of made ≡ ds)
+Leaves place ds m m′ = (made : List StepRecord) × (m′ ≡ and_made made (record (all_done place ds m.0) { latches = elsewhere place m }, rest m.1)) × (deeds_of made ≡ ds)
 
 -- the last step that was made gave back the latch of a place, and the steps before it gave no latch back and raised no flag
 abbrev pub PutsBack : ℕ → Mine → Mine → Type 0
-PutsBack place m m′ = (e : Met) × LeavesBy m m′ e × (e.kind ≡ PutLatch) × (e.word ≡ latch_word place)
+PutsBack place m m′ = (e : StepRecord) × LeavesBy m m′ e × (e.kind ≡ PutLatch) × (e.word ≡ latch_word place)
 
 -- the session holds the latch of a place, and has done these deeds in its book. By them or before, it let a waiter in, or not (`freed`). The flags that the
 -- tickets in the book need are up, and each session waits there at most once
@@ -45,11 +45,11 @@ abbrev pub IsFreedBy : ℕ → List Deed → SeatState → LatchRecord → Type 
 IsFreedBy place ds s h = (before : LatchRecord) → held_at place s.me.0.latches ≡ Some before → h.freed ≡ (before.freed || frees ds)
 
 -- a step on the word of a place, which did these deeds, made while the session had the latches that it has here
-abbrev pub DidUnder : ℕ → List Deed → SeatState → Met → Type 0
+abbrev pub DidUnder : ℕ → List Deed → SeatState → StepRecord → Type 0
 DidUnder place ds s e = (e.word ≡ lock_word place) × (e.held ≡ s.me.0.latches) × (e.deeds ≡ ds)
 
 -- the view once the session has read this version and definition at a place: it has noted the version under each ticket that it has there
-abbrev pub knowing_read : ℕ → Standing → View → View
+abbrev pub knowing_read : ℕ → VersionedDefinition → View → View
 knowing_read place standing v = record v {
   fast = noting_version place standing.version v.fast;
   slow = noting_version place standing.version v.slow;
@@ -57,7 +57,7 @@ knowing_read place standing v = record v {
 }
 
 -- a step on the word of a place, made while the session's ticket with this number was in the granted list, by the record of the latch
-pub record MeetsOwn (place session number : ℕ) (e : Met) : Type 0 where
+pub record MeetsOwn (place session number : ℕ) (e : StepRecord) : Type 0 where
   pub word : e.word ≡ lock_word place
   pub latch : LatchRecord
   pub held : held_at place e.held ≡ Some latch
@@ -65,25 +65,25 @@ pub record MeetsOwn (place session number : ℕ) (e : Met) : Type 0 where
 
 -- a step that was made between the two did these deeds while the session's ticket with this number was in the granted list
 abbrev pub DoesToOwn : ℕ → ℕ → List Deed → SeatState → SeatState → Type 0
-DoesToOwn place number ds s s′ = (e : Met) × IsStepOf s.me s′.me e × MeetsOwn place s.me.0.number number e × (e.deeds ≡ ds)
+DoesToOwn place number ds s s′ = (e : StepRecord) × IsStepOf s.me s′.me e × MeetsOwn place s.me.0.number number e × (e.deeds ≡ ds)
 
 -- a step that was made between the two gave one ticket of the session the mode of another and released that one, while both were in the granted list
-abbrev pub MergesOwn : Own → Own → SeatState → SeatState → Type 0
+abbrev pub MergesOwn : SessionTicket → SessionTicket → SeatState → SeatState → Type 0
 MergesOwn kept gone s s′ =
-    (e : Met) × IsStepOf s.me s′.me e × MeetsOwn kept.place s.me.0.number kept.number e × MeetsOwn kept.place s.me.0.number gone.number e
+    (e : StepRecord) × IsStepOf s.me s′.me e × MeetsOwn kept.place s.me.0.number kept.number e × MeetsOwn kept.place s.me.0.number gone.number e
     × (e.deeds ≡ Alter kept.number gone.mode ∷ Lose gone.number ∷ [])
 
 -- one of the tickets has this number and is at this place
-abbrev pub HasTicket : ℕ → ℕ → List Own → Type 0
-HasTicket place number tickets = (k : ℕ) × (t : Own) × (get_elem? tickets k ≡ some t) × (t.place ≡ place) × (t.number ≡ number)
+abbrev pub HasTicket : ℕ → ℕ → List SessionTicket → Type 0
+HasTicket place number tickets = (k : ℕ) × (t : SessionTicket) × (get_elem? tickets k ≡ some t) × (t.place ≡ place) × (t.number ≡ number)
 
 -- the session visited a place and read this version and definition there. It knows that, and nothing else changed except its list of steps, which did no
 -- deeds
-abbrev pub Learns : ℕ → Standing → Mine → Mine → Type 0
-Learns place standing m m′ = (made : List Met) × (m′ ≡ and_made made (knowing_read place standing m.0, m.1)) × (deeds_of made ≡ [])
+abbrev pub Learns : ℕ → VersionedDefinition → Mine → Mine → Type 0
+Learns place standing m m′ = (made : List StepRecord) × (m′ ≡ and_made made (knowing_read place standing m.0, m.1)) × (deeds_of made ≡ [])
 
 -- a step that gave the latch of a place back, whose record shows that this was the version and definition there
-pub record MeetsStanding (place session : ℕ) (standing : Standing) (e : Met) : Type 0 where
+pub record MeetsStanding (place session : ℕ) (standing : VersionedDefinition) (e : StepRecord) : Type 0 where
   pub kind : e.kind ≡ PutLatch
   pub word : e.word ≡ latch_word place
   pub freed : e.found ≡ session

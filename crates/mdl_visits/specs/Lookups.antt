@@ -4,8 +4,8 @@ use Rattle.mdl_key.specs.Words.{KeyName}
 use Rattle.mdl_steps.specs.declared.slot.Slot.TheVariants as slot
 use Rattle.mdl_steps.specs.declared.step_kind.StepKind.TheVariants.{PutLatch}
 use Rattle.mdl_steps.specs.declared.view.Keys.{Keys}
-use Rattle.mdl_steps.specs.declared.view.Known.{Known}
-use Rattle.mdl_steps.specs.declared.view.Met.{Met}
+use Rattle.mdl_key.specs.declared.known_key.KnownKey.{KnownKey}
+use Rattle.mdl_steps.specs.declared.view.StepRecord.{StepRecord}
 use Rattle.mdl_steps.specs.Layout.{latch_word}
 use Rattle.mdl_steps.specs.Lists.{Each}
 use Rattle.mdl_steps.specs.Plays.{Mine, IsDirectory, consulted, listing}
@@ -17,7 +17,7 @@ use Rattle.mdl_visits.specs.declared.resolve_error.ResolveError.TheVariants.{NoP
 use Rattle.mdl_visits.specs.Visits.{AllQuiet, IsQuiet, MakesSteps, and_made, deeds_of}
 
 -- what a session has, with one more key that it knows
-abbrev pub knowing_key : Known → Mine → Mine
+abbrev pub knowing_key : KnownKey → Mine → Mine
 knowing_key known m = (record m.0 { known = m.0.known ++ known ∷ [] }, m.1)
 
 -- the session knows that a key has this place of the table, and nothing else changed, except that steps without deeds were made
@@ -26,19 +26,19 @@ LearnsKeyPlace key place s s′ =
     (0 < place) × (place < s.table.slots) × MakesSteps (knowing_key (record { key = key; place = place }) s.me) s′.me
 
 -- the step that gives the directory's latch back, by whose record these are the keys
-abbrev pub given_back : Keys → Mine → Met
+abbrev pub given_back : Keys → Mine → StepRecord
 given_back k m = record { kind = PutLatch; deeds = []; word = latch_word 0; found = m.0.number; held = m.0.latches; directory = Some k }
 
 -- a step that raised no flag, at which the session had one of these two records of the directory
-abbrev pub HadEither : Keys → Keys → Met → Type 0
+abbrev pub HadEither : Keys → Keys → StepRecord → Type 0
 HadEither k left e = IsQuiet (Some k) e ⊎ IsQuiet (Some left) e
 
 -- one of the steps between the two took the directory's latch, and this is the record that was made of it. A later one gave it back, with the record that
 -- is left then. Between these the session had one of the two records at each step, and at all other steps it had none. No step raised a flag
 pub record TookDirectory (slots : ℕ) (k left : Keys) (old new : Mine) : Type 0 where
-  pub before : List Met
-  pub within : List Met
-  pub after : List Met
+  pub before : List StepRecord
+  pub within : List StepRecord
+  pub after : List StepRecord
   pub recorded : IsDirectory slots k (and_made before old)
   pub listed : new.0.log ≡ (consulted k (and_made before old)).0.log ++ (within ++ given_back left old ∷ after)
   pub none_before : AllQuiet None before
@@ -73,13 +73,13 @@ pub record IsNext (place : ℕ) (key : KeyName) (k : Keys) (s : SeatState) : Typ
   pub inside : place < s.table.slots
 
 -- steps were made, and the seat has this record of the directory's latch and this directory in hand
-abbrev pub relisted : List Met → Keys → Mine → Mine
+abbrev pub relisted : List StepRecord → Keys → Mine → Mine
 relisted made k m = (record m.0 { log = m.0.log ++ made; directory = Some k }, (0, slot.Directory k) ∷ rest m.1)
 
 -- a key's place was looked up by a record that the seat had. The seat has the record that is left then, by which the key is at the place of the answer.
 -- Nothing else changed, except that steps without deeds were made
 pub record HasLooked (slots : ℕ) (key : KeyName) (k : Keys) (result : Result ℕ ResolveError) (old new : Mine) : Type 0 where
-  pub made : List Met
+  pub made : List StepRecord
   pub left : Keys
   pub seat : new ≡ relisted made left old
   pub had : Each (HadEither k left) made
@@ -89,7 +89,7 @@ pub record HasLooked (slots : ℕ) (key : KeyName) (k : Keys) (result : Result �
 
 -- the new key was given its place: the seat has the record with it from then on, and at each step before it had one of the two records
 abbrev pub HasNamed : KeyName → Keys → Mine → Mine → Type 0
-HasNamed key k old new = (made : List Met) × (new ≡ relisted made (listing key k) old) × Each (HadEither k (listing key k)) made × (deeds_of made ≡ [])
+HasNamed key k old new = (made : List StepRecord) × (new ≡ relisted made (listing key k) old) × Each (HadEither k (listing key k)) made × (deeds_of made ≡ [])
 
 -- a new key was added to the directory in hand for the next place, which isn't recorded yet
 pub record IsAddedToDirectory (place : ℕ) (key : KeyName) (k : Keys) (m : Mine) : Type 0 where

@@ -10,8 +10,8 @@ use Rattle.mdl_book.specs.Granting.{is_compatible}
 use Rattle.mdl_book.specs.Tickets.{ticket_of}
 use Rattle.mdl_steps.specs.declared.step_kind.StepKind.TheVariants.{Materialise}
 use Rattle.mdl_steps.specs.declared.view.LatchRecord.{LatchRecord}
-use Rattle.mdl_steps.specs.declared.view.Met.{Met}
-use Rattle.mdl_steps.specs.declared.view.Own.{Own}
+use Rattle.mdl_steps.specs.declared.view.StepRecord.{StepRecord}
+use Rattle.mdl_steps.specs.declared.view.SessionTicket.{SessionTicket}
 use Rattle.mdl_steps.specs.declared.view.View.{View}
 use Rattle.mdl_steps.specs.Cells.{held_at, own_at, ticket_by}
 use Rattle.mdl_steps.specs.FastPlays.{but_at, granting_all, moved}
@@ -32,14 +32,14 @@ all_slow place v = record v { fast = but_at place v.fast; slow = interleaved v.s
 -- the session's fast tickets at a place became slow, and nothing else changed except its list of steps, which did no deeds. It visited the place once, and
 -- made no step if it had none there
 pub record Materialises (place : ℕ) (m m′ : Mine) : Type 0 where
-  pub made : List Met
+  pub made : List StepRecord
   pub now : m′ ≡ and_made made (all_slow place m.0, m.1)
   pub did : deeds_of made ≡ []
   pub once : own_at place m.0.fast ≢ [] → VisitsOnce place m m′
   pub none : own_at place m.0.fast ≡ [] → made ≡ []
 
 -- the step by which the lock's word no longer counts these tickets: by the record of the latch they are granted in the book, after all others
-pub record MeetsMaterialised (place : ℕ) (tickets : List Ticket) (e : Met) : Type 0 where
+pub record MeetsMaterialised (place : ℕ) (tickets : List Ticket) (e : StepRecord) : Type 0 where
   pub kind : e.kind ≡ Materialise
   pub word : e.word ≡ lock_word place
   pub latch : LatchRecord
@@ -54,7 +54,7 @@ WasMaterialised place s s′ =
     × (own_at place s.me.0.fast ≢ [] → HasStep s s′ (MeetsMaterialised place (moved place s.me.0)))
 
 -- a step on the lock's word under the latch, whose record shows that the book has no room for n more tickets
-pub record MeetsFullFor (n place : ℕ) (e : Met) : Type 0 where
+pub record MeetsFullFor (n place : ℕ) (e : StepRecord) : Type 0 where
   pub word : e.word ≡ lock_word place
   pub latch : LatchRecord
   pub held : held_at place e.held ≡ Some latch
@@ -75,21 +75,21 @@ abbrev pub with_book : ℕ → BookView → SeatState → SeatState
 with_book place book s = record s { me = written place book s.me }
 
 -- a book with these tickets of a session granted last
-abbrev pub granting_own : ℕ → List Own → BookView → BookView
+abbrev pub granting_own : ℕ → List SessionTicket → BookView → BookView
 granting_own session tickets book = granting_all (map (ticket_by session) tickets) book
 
 -- none of these tickets of a session is granted in a book
-abbrev pub AreUngranted : ℕ → List Own → BookView → Type 0
-AreUngranted session tickets book = Each (λ (t : Own). ticket_of session t.number book.granted ≡ None) tickets
+abbrev pub AreUngranted : ℕ → List SessionTicket → BookView → Type 0
+AreUngranted session tickets book = Each (λ (t : SessionTicket). ticket_of session t.number book.granted ≡ None) tickets
 
 -- the session has a book of a place in hand in which none of these tickets of its own is granted, and each is compatible with all that are
-pub record CanStand (place : ℕ) (tickets : List Own) (book : BookView) (s : SeatState) : Type 0 where
+pub record CanStand (place : ℕ) (tickets : List SessionTicket) (book : BookView) (s : SeatState) : Type 0 where
   pub in_hand : HasBookInHand place book s
   pub ungranted : AreUngranted s.me.0.number tickets book
-  pub beside : Each (λ (t : Own). is_compatible (lock_kind book) book.granted s.me.0.number t.mode ≡ true) tickets
+  pub beside : Each (λ (t : SessionTicket). is_compatible (lock_kind book) book.granted s.me.0.number t.mode ≡ true) tickets
 
 -- the session has a book of a place in hand in which these tickets of its own are granted last, and only there
-pub record Stand (place : ℕ) (tickets : List Own) (book : BookView) (s : SeatState) : Type 0 where
+pub record Stand (place : ℕ) (tickets : List SessionTicket) (book : BookView) (s : SeatState) : Type 0 where
   pub in_hand : HasBookInHand place (granting_own s.me.0.number tickets book) s
   pub ungranted : AreUngranted s.me.0.number tickets book
 

@@ -3,11 +3,11 @@ use Rattle.std.specs.Prelude.{◌≡◌, ℕ, ◌≤◌, List, Option, Some, len
 use Rattle.std.specs.Option.{option_and_then}
 use Rattle.mdl_key.specs.declared.namespace.Kind.{Kind}
 use Rattle.mdl_key.specs.Words.{KeyName}
-use Rattle.mdl_steps.specs.declared.view.Known.{Known}
-use Rattle.mdl_visits.specs.KnownLists.{kind_known}
+use Rattle.mdl_key.specs.declared.known_key.KnownKey.{KnownKey}
+use Rattle.mdl_key.specs.KeyLookups.{kind_known}
 
 -- a key with its place
-abbrev pub known_of : KeyName × ℕ → Known
+abbrev pub known_of : KeyName × ℕ → KnownKey
 known_of entry = record { key = entry.0; place = entry.1 }
 
 -- the list of indexes has the index of each key at the key's place

@@ -9,16 +9,16 @@ use Rattle.mdl_defs.specs.declared.change.Change.{Change}
 use Rattle.mdl_defs.specs.declared.change.Change.TheVariants.{Drop}
 use Rattle.mdl_defs.specs.declared.change_error.ChangeError.{ChangeError}
 use Rattle.mdl_defs.specs.declared.change_error.ChangeError.TheVariants.{OutOfMemory}
-use Rattle.mdl_defs.specs.declared.standing.Standing.{Standing}
-use Rattle.mdl_defs.specs.Standings.{standing_fault, standing_after}
+use Rattle.mdl_defs.specs.declared.versioned_definition.VersionedDefinition.{VersionedDefinition}
+use Rattle.mdl_defs.specs.VersionedDefinitions.{standing_fault, standing_after}
 use Rattle.mdl_calls.specs.declared.space_error.SpaceError.{SpaceError}
 use Rattle.mdl_calls.specs.declared.space_error.SpaceError.TheVariants.{NotHeld, NotExclusive}
 use Rattle.mdl_calls.specs.Reads.{cause_of}
 use Rattle.mdl_steps.specs.declared.step_kind.StepKind.TheVariants.{PutLatch, TakeLatch, WriteVersion}
 use Rattle.mdl_steps.specs.declared.view.LatchRecord.{LatchRecord}
-use Rattle.mdl_steps.specs.declared.view.Known.{Known}
-use Rattle.mdl_steps.specs.declared.view.Met.{Met}
-use Rattle.mdl_steps.specs.declared.view.Own.{Own}
+use Rattle.mdl_key.specs.declared.known_key.KnownKey.{KnownKey}
+use Rattle.mdl_steps.specs.declared.view.StepRecord.{StepRecord}
+use Rattle.mdl_steps.specs.declared.view.SessionTicket.{SessionTicket}
 use Rattle.mdl_steps.specs.Cells.{held_at}
 use Rattle.mdl_steps.specs.Layout.{latch_word, version_word}
 use Rattle.mdl_steps.specs.Plays.{Mine, redefined, restood, unlatched}
@@ -27,21 +27,21 @@ use Rattle.mdl_visits.specs.Numbers.{numbered}
 use Rattle.mdl_visits.specs.Visits.{AreStepsOf, IsStepOf}
 
 -- why a change under a ticket is refused: there is no such ticket, or it isn't exclusive
-abbrev pub exclusive_fault : Option Own → Option SpaceError
+abbrev pub exclusive_fault : Option SessionTicket → Option SpaceError
 exclusive_fault None = Some NotHeld
 exclusive_fault (Some t) = if same_mode t.mode X then None else Some NotExclusive
 
 -- one of the tickets is exclusive, at this place
-abbrev pub HasExclusiveAt : ℕ → List Own → Type 0
-HasExclusiveAt place tickets = (number : ℕ) × (t : Own) × (numbered number tickets ≡ Some t) × (t.place ≡ place) × (t.mode ≡ X)
+abbrev pub HasExclusiveAt : ℕ → List SessionTicket → Type 0
+HasExclusiveAt place tickets = (number : ℕ) × (t : SessionTicket) × (numbered number tickets ≡ Some t) × (t.place ≡ place) × (t.mode ≡ X)
 
 -- the session has written the version of this new definition at a place, and has given the latch back
-abbrev pub redefined_and_put : ℕ → Standing → Mine → Mine
+abbrev pub redefined_and_put : ℕ → VersionedDefinition → Mine → Mine
 redefined_and_put place standing m = unlatched place [] (redefined place standing m)
 
 -- what a change to this version met. One step took the latch, by whose record the definition there could be changed so. Another wrote the version: it
 -- found the version before, and by its record the definition is changed, and the rest of the record is the same
-pub record MeetsChange (place : ℕ) (change : Change) (version : ℕ) (take write : Met) : Type 0 where
+pub record MeetsChange (place : ℕ) (change : Change) (version : ℕ) (take write : StepRecord) : Type 0 where
   pub takes : take.kind ≡ TakeLatch
   pub writes : write.kind ≡ WriteVersion
   pub latched : take.word ≡ latch_word place
@@ -56,13 +56,13 @@ pub record MeetsChange (place : ℕ) (change : Change) (version : ℕ) (take wri
 
 -- this is the key at a place, if the session knows the key there
 abbrev pub IsNamed : ℕ → KeyName → Mine → Type 0
-IsNamed place key m = (i : ℕ) (k : Known) → get_elem? m.0.known i ≡ some k → k.place ≡ place → key ≡ k.key
+IsNamed place key m = (i : ℕ) (k : KnownKey) → get_elem? m.0.known i ≡ some k → k.place ≡ place → key ≡ k.key
 
 -- between the two the session changed the definition at a place, which has this version then. The definition before agrees with what the session read and
 -- noted there, its key is the one that the session knows to be there, and the session has read the new definition
 pub record Redefines (place : ℕ) (change : Change) (version : ℕ) (m m′ : Mine) : Type 0 where
-  pub take : Met
-  pub write : Met
+  pub take : StepRecord
+  pub write : StepRecord
   pub steps : AreStepsOf m m′ take write
   pub meets : MeetsChange place change version take write
   pub follows : Follows place meets.latch.book.standing m
@@ -70,7 +70,7 @@ pub record Redefines (place : ℕ) (change : Change) (version : ℕ) (m m′ : M
   pub learnt : m′.0.reads ≡ m.0.reads ++ record { place = place; standing = standing_after change meets.latch.book.standing } ∷ []
 
 -- a step that gave the latch of a place back, whose record shows why the definition there couldn't be changed so
-pub record MeetsChangeFault (place session : ℕ) (change : Change) (why : ChangeError) (e : Met) : Type 0 where
+pub record MeetsChangeFault (place session : ℕ) (change : Change) (why : ChangeError) (e : StepRecord) : Type 0 where
   pub kind : e.kind ≡ PutLatch
   pub word : e.word ≡ latch_word place
   pub freed : e.found ≡ session
@@ -80,11 +80,11 @@ pub record MeetsChangeFault (place session : ℕ) (change : Change) (why : Chang
 
 -- why a session's change at a place was refused: a step met the fault, in a definition that agrees with what the session read and noted there, or memory
 -- ran out, which `Drop` doesn't need
-abbrev pub RefusesChange : ℕ → ℕ → Change → ChangeError → Mine → Mine → Type 0
-RefusesChange place session change why m m′ =
-    ((e : Met) × IsStepOf m m′ e × (met : MeetsChangeFault place session change why e) × Follows place met.latch.book.standing m
+abbrev pub IsChangeRefused : ℕ → ℕ → Change → ChangeError → Mine → Mine → Type 0
+IsChangeRefused place session change why m m′ =
+    ((e : StepRecord) × IsStepOf m m′ e × (met : MeetsChangeFault place session change why e) × Follows place met.latch.book.standing m
     × IsNamed place met.latch.book.key m) ⊎ ((why ≡ OutOfMemory) × (change ≡ Drop → ⊥))
 
 -- the same as an error of a lock space
 abbrev pub IsRefusedAs : ℕ → ℕ → Change → SpaceError → Mine → Mine → Type 0
-IsRefusedAs place session change cause m m′ = (why : ChangeError) × (cause ≡ cause_of why) × RefusesChange place session change why m m′
+IsRefusedAs place session change cause m m′ = (why : ChangeError) × (cause ≡ cause_of why) × IsChangeRefused place session change why m m′

@@ -11,7 +11,7 @@ use Rattle.mdl_graph.specs.WaitsFor.{SessionTest}
 use Rattle.mdl_steps.specs.declared.step_kind.StepKind.TheVariants.{PutLatch, ReadWait, SettleWait}
 use Rattle.mdl_steps.specs.declared.view.LatchRecord.{LatchRecord}
 use Rattle.mdl_steps.specs.declared.view.Keys.{Keys}
-use Rattle.mdl_steps.specs.declared.view.Met.{Met}
+use Rattle.mdl_steps.specs.declared.view.StepRecord.{StepRecord}
 use Rattle.mdl_steps.specs.declared.view.Settlement.{Settlement}
 use Rattle.mdl_steps.specs.declared.wait_word.Loss.TheVariants as loss
 use Rattle.mdl_steps.specs.Copies.{Queues, queues_of}
@@ -50,7 +50,7 @@ pub record AreOfAll (id : TableId) (words : List WaitRead) : Type 0 where
 -- one of the steps between the two read this word, while the session had just these latches
 abbrev pub WasRead : ℕ → List LatchRecord → Mine → Mine → WaitRead → Type 0
 WasRead slots latches m m′ r =
-    (e : Met) × IsStepOf m m′ e × (e.kind ≡ ReadWait) × (e.word ≡ wait_word slots r.session) × (e.found ≡ r.word.0) × (e.held ≡ latches)
+    (e : StepRecord) × IsStepOf m m′ e × (e.kind ≡ ReadWait) × (e.word ≡ wait_word slots r.session) × (e.found ≡ r.word.0) × (e.held ≡ latches)
 
 -- a word of a session's wait that was met so was added to the end of a list
 abbrev pub AddsRead : ℕ → List WaitRead → List WaitRead → SeatState → SeatState → Type 0
@@ -63,7 +63,7 @@ read_of session words = find (λ (r : WaitRead). r.session == session) words
 
 -- by this word a session's wait wasn't open, or one of the steps between the two met another word
 abbrev pub WasOther : ℕ → Mine → Mine → WaitRead → Type 0
-WasOther slots m m′ r = (wait_state r.word.0 ≢ unsettled_state) ⊎ ((e : Met) × IsStepOf m m′ e × MeetsOther slots r.session r.word.0 e)
+WasOther slots m m′ r = (wait_state r.word.0 ≢ unsettled_state) ⊎ ((e : StepRecord) × IsStepOf m m′ e × MeetsOther slots r.session r.word.0 e)
 
 -- ---- what is found
 
@@ -84,7 +84,7 @@ AddsQueues more lists lists′ = (copied : List Audited) → AreQueuesOf copied 
 pub record SettlesVictim (slots victim : ℕ) (latches : List LatchRecord) (m m′ : Mine) : Type 0 where
   pub wait : ℕ
   pub settles : Settles victim wait (lost_state loss.Victim) m m′
-  pub moment : Met
+  pub moment : StepRecord
   pub step : IsStepOf m m′ moment
   pub kind : moment.kind ≡ SettleWait
   pub met : MeetsWait slots victim wait unsettled_state moment
@@ -137,7 +137,7 @@ pub record Searched (id : TableId) (who : ℕ) (k : Keys) (found : Search) (m m�
   pub audited : List Audited
   pub all : length audited ≡ length k.keys
   pub keys : map (λ (a : Audited). a.book.key) audited ≡ k.keys
-  pub moment : Met
+  pub moment : StepRecord
   pub step : IsStepOf m m′ moment
   pub directory : moment.directory ≡ Some k
   pub recorded : AreRecorded 1 moment.held audited
@@ -146,12 +146,12 @@ pub record Searched (id : TableId) (who : ℕ) (k : Keys) (found : Search) (m m�
 -- ---- what becomes of the session
 
 -- a session that made steps which met the words of waits, or settled them
-abbrev pub with_waits_read : List Met → Option ℕ → List Settlement → Mine → Mine
+abbrev pub with_waits_read : List StepRecord → Option ℕ → List Settlement → Mine → Mine
 with_waits_read made told settles m = (record m.0 { log = m.0.log ++ made; told = told; settles = settles }, m.1)
 
 -- the session made such steps, without deeds, and nothing else changed. If it knew how its own wait was settled, it still knows that
 pub record ReadsWaits (m m′ : Mine) : Type 0 where
-  pub made : List Met
+  pub made : List StepRecord
   pub told : Option ℕ
   pub settles : List Settlement
   pub now : m′ ≡ with_waits_read made told settles m

@@ -18,8 +18,8 @@ use Rattle.mdl_steps.specs.declared.step_kind.StepKind.{StepKind}
 use Rattle.mdl_steps.specs.declared.step_kind.StepKind.TheVariants.{PutLatch, RaiseFlags, ReadWord}
 use Rattle.mdl_steps.specs.declared.view.LatchRecord.{LatchRecord}
 use Rattle.mdl_steps.specs.declared.view.Keys.{Keys}
-use Rattle.mdl_steps.specs.declared.view.Known.{Known}
-use Rattle.mdl_steps.specs.declared.view.Met.{Met}
+use Rattle.mdl_key.specs.declared.known_key.KnownKey.{KnownKey}
+use Rattle.mdl_steps.specs.declared.view.StepRecord.{StepRecord}
 use Rattle.mdl_steps.specs.declared.view.View.{View}
 use Rattle.mdl_steps.specs.Cells.{held_at}
 use Rattle.mdl_steps.specs.Deeds.{MayJoin, all_done}
@@ -35,26 +35,26 @@ pub use Rattle.mdl_steps.specs.Servings.{IsStepOf}
 
 -- the session has looked up a key whose place this is, of this kind
 abbrev pub KnowsKind : View → ℕ → Kind → Type 0
-KnowsKind v place kind = (i : ℕ) × (k : Known) × (get_elem? v.known i ≡ some k) × (k.place ≡ place) × (kind_of k.key.namespace ≡ kind)
+KnowsKind v place kind = (i : ℕ) × (k : KnownKey) × (get_elem? v.known i ≡ some k) × (k.place ≡ place) × (kind_of k.key.namespace ≡ kind)
 
 -- ---- steps
 
 -- what a session has, with these steps added to its list
-abbrev pub and_made : List Met → Mine → Mine
+abbrev pub and_made : List StepRecord → Mine → Mine
 and_made made m = (record m.0 { log = m.0.log ++ made }, m.1)
 
 -- what the session did to its own tickets at these steps, in order
-abbrev pub deeds_of : List Met → List Deed
+abbrev pub deeds_of : List StepRecord → List Deed
 deeds_of [] = []
 deeds_of (e ∷ more) = e.deeds ++ deeds_of more
 
 -- at the steps that were made between the two the session did just these deeds
 abbrev pub Does : List Deed → Mine → Mine → Type 0
-Does ds m m′ = (made : List Met) × (m′.0.log ≡ m.0.log ++ made) × (deeds_of made ≡ ds)
+Does ds m m′ = (made : List StepRecord) × (m′.0.log ≡ m.0.log ++ made) × (deeds_of made ≡ ds)
 
 -- steps without deeds were made between the two, and nothing else changed
 abbrev pub MakesSteps : Mine → Mine → Type 0
-MakesSteps m m′ = (made : List Met) × (m′ ≡ and_made made m) × (deeds_of made ≡ [])
+MakesSteps m m′ = (made : List StepRecord) × (m′ ≡ and_made made m) × (deeds_of made ≡ [])
 
 -- whether a step of this kind gave a latch back
 abbrev pub gives_back : StepKind → Bool
@@ -72,61 +72,61 @@ raises_obtrusive (RaiseFlags slow obtrusive) = obtrusive
 raises_obtrusive _ = false
 
 -- a step that raised no flag, at which the session had this record of the directory's latch, or none
-abbrev pub IsQuiet : Option Keys → Met → Type 0
+abbrev pub IsQuiet : Option Keys → StepRecord → Type 0
 IsQuiet directory e = (e.directory ≡ directory) × (kind_raises_flags e.kind ≡ false)
 
 -- each of these steps raised no flag, and at each the session had this record of the directory's latch, or none
-abbrev pub AllQuiet : Option Keys → List Met → Type 0
+abbrev pub AllQuiet : Option Keys → List StepRecord → Type 0
 AllQuiet directory made = Each (IsQuiet directory) made
 
 -- steps without deeds were made between the two, and nothing else changed. At each the session had the same record of the directory's latch as before, or
 -- still none, and raised no flag
 abbrev pub MakesQuietSteps : Mine → Mine → Type 0
-MakesQuietSteps m m′ = (made : List Met) × (m′ ≡ and_made made m) × (deeds_of made ≡ []) × AllQuiet m.0.directory made
+MakesQuietSteps m m′ = (made : List StepRecord) × (m′ ≡ and_made made m) × (deeds_of made ≡ []) × AllQuiet m.0.directory made
 
 -- a step at which the session stayed: it gave no latch back and raised no flag
-abbrev pub StaysThere : Met → Type 0
+abbrev pub StaysThere : StepRecord → Type 0
 StaysThere e = (gives_back e.kind ≡ false) × (kind_raises_flags e.kind ≡ false)
 
 -- likewise, and the session had this record of the directory's latch, or none
-abbrev pub StaysHere : Option Keys → Met → Type 0
+abbrev pub StaysHere : Option Keys → StepRecord → Type 0
 StaysHere directory e = StaysThere e × (e.directory ≡ directory)
 
 -- at each step that was made between the two the session had the same record of the directory's latch as before, or still none, and it raised no flag
 abbrev pub StaysQuiet : Mine → Mine → Type 0
-StaysQuiet m m′ = (made : List Met) × (m′.0.log ≡ m.0.log ++ made) × AllQuiet m.0.directory made
+StaysQuiet m m′ = (made : List StepRecord) × (m′.0.log ≡ m.0.log ++ made) × AllQuiet m.0.directory made
 
 -- the list of steps grew between the two
 abbrev pub MakesMoreSteps : Mine → Mine → Type 0
-MakesMoreSteps m m′ = (made : List Met) × (m′.0.log ≡ m.0.log ++ made)
+MakesMoreSteps m m′ = (made : List StepRecord) × (m′.0.log ≡ m.0.log ++ made)
 
 -- the list of steps grew by steps that gave no latch back and raised no flag
 abbrev pub StaysOn : Mine → Mine → Type 0
-StaysOn m m′ = (made : List Met) × (m′.0.log ≡ m.0.log ++ made) × Each StaysThere made
+StaysOn m m′ = (made : List StepRecord) × (m′.0.log ≡ m.0.log ++ made) × Each StaysThere made
 
 -- a step within a visit: it gave no latch back, and raised the flag OBTRUSIVE only if it may. The session had this record of the directory's latch, or none
-abbrev pub IsWithinVisit : Bool → Option Keys → Met → Type 0
+abbrev pub IsWithinVisit : Bool → Option Keys → StepRecord → Type 0
 IsWithinVisit may directory e = (gives_back e.kind ≡ false) × (raises_obtrusive e.kind ≡ true → may ≡ true) × (e.directory ≡ directory)
 
 -- the list of steps grew by steps within a visit. The session has the same record of the directory's latch as before, or still none
 abbrev pub StaysWithin : Bool → Mine → Mine → Type 0
 StaysWithin may m m′ =
-    (made : List Met) × (m′.0.log ≡ m.0.log ++ made) × Each (IsWithinVisit may m.0.directory) made × (m′.0.directory ≡ m.0.directory)
+    (made : List StepRecord) × (m′.0.log ≡ m.0.log ++ made) × Each (IsWithinVisit may m.0.directory) made × (m′.0.directory ≡ m.0.directory)
 
 -- a step that was made between the two, with a state (`a`) whose list of steps is the one just before it
-abbrev pub IsStepAfter : Mine → Mine → Mine → Met → Type 0
-IsStepAfter m a m′ e = MakesMoreSteps m a × (after : List Met) × (m′.0.log ≡ a.0.log ++ e ∷ after)
+abbrev pub IsStepAfter : Mine → Mine → Mine → StepRecord → Type 0
+IsStepAfter m a m′ e = MakesMoreSteps m a × (after : List StepRecord) × (m′.0.log ≡ a.0.log ++ e ∷ after)
 
 -- the last step that was made between the two. The steps before it gave no latch back and raised no flag
-abbrev pub LeavesBy : Mine → Mine → Met → Type 0
-LeavesBy m m′ e = (before : List Met) × (m′.0.log ≡ (m.0.log ++ before) ++ e ∷ []) × Each StaysThere before
+abbrev pub LeavesBy : Mine → Mine → StepRecord → Type 0
+LeavesBy m m′ e = (before : List StepRecord) × (m′.0.log ≡ (m.0.log ++ before) ++ e ∷ []) × Each StaysThere before
 
 -- the session visited a place once: the last step that was made gave back the latch of the place, and no step before gave one back or, unless it may, raised
 -- the flag OBTRUSIVE. At each step the session had the same record of the directory's latch as before, or still none. So it took no other latch in between
 -- that it gave back, and gave no key a place
 pub record IsVisit (place : ℕ) (may : Bool) (m m′ : Mine) : Type 0 where
-  pub last : Met
-  pub before : List Met
+  pub last : StepRecord
+  pub before : List StepRecord
   pub made : m′.0.log ≡ (m.0.log ++ before) ++ last ∷ []
   pub within : Each (IsWithinVisit may m.0.directory) before
   pub kind : last.kind ≡ PutLatch
@@ -138,19 +138,19 @@ abbrev pub VisitsOnce : ℕ → Mine → Mine → Type 0
 VisitsOnce place m m′ = IsVisit place false m m′
 
 -- this holds of a step that was made between the two
-abbrev pub HasStep : SeatState → SeatState → (Met → Type 0) → Type 0
-HasStep s s′ Shows = (e : Met) × IsStepOf s.me s′.me e × Shows e
+abbrev pub HasStep : SeatState → SeatState → (StepRecord → Type 0) → Type 0
+HasStep s s′ Shows = (e : StepRecord) × IsStepOf s.me s′.me e × Shows e
 
 -- two steps, the second right after the first, that were made between the two
-abbrev pub AreStepsOf : Mine → Mine → Met → Met → Type 0
-AreStepsOf m m′ first second = (before : List Met) × (after : List Met) × (m′.0.log ≡ (m.0.log ++ before) ++ first ∷ second ∷ after)
+abbrev pub AreStepsOf : Mine → Mine → StepRecord → StepRecord → Type 0
+AreStepsOf m m′ first second = (before : List StepRecord) × (after : List StepRecord) × (m′.0.log ≡ (m.0.log ++ before) ++ first ∷ second ∷ after)
 
 -- ---- a visit
 
 -- the session came to a place: it took the latch there and made steps without deeds, has a book of the place in hand, and nothing else changed
 pub record IsInside (place : ℕ) (m m′ : Mine) : Type 0 where
   pub latches : List LatchRecord
-  pub made : List Met
+  pub made : List StepRecord
   pub book : BookView
   pub now : m′ ≡ (record m.0 { latches = latches; log = m.0.log ++ made }, (place, slot.Place book) ∷ m.1)
   pub others : filter (λ h. not (h.place == place)) latches ≡ m.0.latches
@@ -160,12 +160,12 @@ pub record IsInside (place : ℕ) (m m′ : Mine) : Type 0 where
 abbrev pub TakesLatch : ℕ → Mine → Mine → Type 0
 TakesLatch place m m′ =
     (h : LatchRecord) × IsFresh place h m × Holds place h h.book m′
-    × ((made : List Met) × (m′ ≡ latched place h (and_made made m)) × AllQuiet m.0.directory made × (deeds_of made ≡ []))
+    × ((made : List StepRecord) × (m′ ≡ latched place h (and_made made m)) × AllQuiet m.0.directory made × (deeds_of made ≡ []))
 
 -- likewise the session took the directory's latch, of which this record was made
 abbrev pub TakesDirectory : SeatState → SeatState → Type 0
 TakesDirectory s s′ =
-    (made : List Met) × (k : Keys) × IsDirectory s.table.slots k (and_made made s.me)
+    (made : List StepRecord) × (k : Keys) × IsDirectory s.table.slots k (and_made made s.me)
     × (s′ ≡ record s { me = consulted k (and_made made s.me) }) × AllQuiet s.me.0.directory made × (deeds_of made ≡ [])
 
 -- the session may visit a place: the table has it, and each latch that the session holds is of a lower place
@@ -209,7 +209,7 @@ OfLatch place s IsSo = (h : LatchRecord) → Holds place h h.book s.me → IsSo 
 -- the session visited a place and did these deeds there. It has the latches and the slots that it had, and nothing else changed. Its steps did just these
 -- deeds
 pub record Visits (place : ℕ) (ds : List Deed) (m m′ : Mine) : Type 0 where
-  pub made : List Met
+  pub made : List StepRecord
   pub now : m′ ≡ and_made made (all_done place ds m.0, m.1)
   pub did : deeds_of made ≡ ds
 
@@ -220,7 +220,7 @@ pub record Enters (place : ℕ) (obtrusive : Bool) (word : ℕ) (mode : Mode) (c
   pub fresh : IsFresh place found m
   pub holds : Holds place (noting word (raised true obtrusive found)) found.book m′
   pub inside : IsInside place m m′
-  pub read : (before : List Met) × (m′.0.log ≡ (m.0.log ++ before) ++ record { kind = ReadWord; deeds = []; word = lock_word place; found = word; held = m′.0.latches; directory = m′.0.directory } ∷ [])
+  pub read : (before : List StepRecord) × (m′.0.log ≡ (m.0.log ++ before) ++ record { kind = ReadWord; deeds = []; word = lock_word place; found = word; held = m′.0.latches; directory = m′.0.directory } ∷ [])
   pub told : can_be_granted (lock_kind found.book) found.book.granted found.book.waiting word m.0.number mode ≡ can
 
 -- a session without a wait requests a mode at a place (its wish): it knows the place's key as one of this kind, which has the mode
@@ -243,7 +243,7 @@ pub record HasEntered (place q word : ℕ) (mode : Mode) (can : Bool) (s s′ : 
 -- ---- what a step met
 
 -- a step that read the lock's word under the latch, whose record shows that the session's request for a mode can't be granted
-pub record MeetsBlocked (place who : ℕ) (mode : Mode) (e : Met) : Type 0 where
+pub record MeetsBlocked (place who : ℕ) (mode : Mode) (e : StepRecord) : Type 0 where
   pub kind : e.kind ≡ ReadWord
   pub word : e.word ≡ lock_word place
   pub latch : LatchRecord
@@ -252,7 +252,7 @@ pub record MeetsBlocked (place who : ℕ) (mode : Mode) (e : Met) : Type 0 where
 
 -- a step that did this deed as it gave the latch back, whose record shows that the session's request for a mode could be granted: it is compatible with
 -- all that was granted, and it waited behind no waiting ticket
-pub record MeetsGrantable (place who : ℕ) (mode : Mode) (deed : Deed) (e : Met) : Type 0 where
+pub record MeetsGrantable (place who : ℕ) (mode : Mode) (deed : Deed) (e : StepRecord) : Type 0 where
   pub kind : e.kind ≡ PutLatch
   pub did : e.deeds ≡ deed ∷ []
   pub word : e.word ≡ latch_word place
@@ -263,7 +263,7 @@ pub record MeetsGrantable (place who : ℕ) (mode : Mode) (deed : Deed) (e : Met
   pub first : goes_first (lock_kind latch.book) latch.book.waiting who mode ≡ true
 
 -- a step on the lock's word under the latch, whose record shows that the book has no room for one more ticket
-pub record MeetsFull (place : ℕ) (e : Met) : Type 0 where
+pub record MeetsFull (place : ℕ) (e : StepRecord) : Type 0 where
   pub word : e.word ≡ lock_word place
   pub latch : LatchRecord
   pub held : held_at place e.held ≡ Some latch
@@ -271,7 +271,7 @@ pub record MeetsFull (place : ℕ) (e : Met) : Type 0 where
 
 -- a step that read the lock's word under the latch, whose record shows that the book has no room for one more ticket, and whether the session's request
 -- for a mode could be granted (`can`)
-pub record MeetsFullWish (place who : ℕ) (mode : Mode) (can : Bool) (e : Met) : Type 0 where
+pub record MeetsFullWish (place who : ℕ) (mode : Mode) (can : Bool) (e : StepRecord) : Type 0 where
   pub kind : e.kind ≡ ReadWord
   pub word : e.word ≡ lock_word place
   pub latch : LatchRecord
@@ -309,7 +309,7 @@ EndsWish q word mode can result Comes s s′ =
 
 -- at the step the session's request wasn't grantable: whichever fast tickets of other sessions the word counted, by the book it clashed with a granted
 -- ticket or had to wait behind a waiting one
-abbrev pub WasNotGrantable : ℕ → ℕ → Mode → Met → Type 0
+abbrev pub WasNotGrantable : ℕ → ℕ → Mode → StepRecord → Type 0
 WasNotGrantable place who mode e =
     (latch : LatchRecord) × (e.word ≡ lock_word place) × (held_at place e.held ≡ Some latch)
     × ((fast : List Ticket) → CountsFastTickets (lock_kind latch.book) e.found fast → AreOfOthers who fast
@@ -317,7 +317,7 @@ WasNotGrantable place who mode e =
 
 -- at the step, which did this deed as the latch was given back, the session's request was grantable: whichever fast tickets there were by the rule of the
 -- table, no granted ticket of another session clashed with it, and it waited behind no waiting one
-abbrev pub WasGrantable : ℕ → ℕ → Mode → Deed → Met → Type 0
+abbrev pub WasGrantable : ℕ → ℕ → Mode → Deed → StepRecord → Type 0
 WasGrantable place who mode deed e =
     (latch : LatchRecord) × (e.deeds ≡ deed ∷ []) × (e.word ≡ latch_word place) × (e.found ≡ who) × (held_at place e.held ≡ Some latch)
     × ((fast : List Ticket) → Lawful (lock_kind latch.book) fast latch.book.granted → NotedCounts (lock_kind latch.book) fast latch.obtrusive latch.noted
@@ -325,8 +325,8 @@ WasGrantable place who mode deed e =
 
 -- the law that a blocked request wasn't grantable at the step that shows it
 abbrev pub BlockedWishesWerentGrantable : Type 0
-BlockedWishesWerentGrantable = (place who : ℕ) (mode : Mode) (e : Met) → MeetsBlocked place who mode e → WasNotGrantable place who mode e
+BlockedWishesWerentGrantable = (place who : ℕ) (mode : Mode) (e : StepRecord) → MeetsBlocked place who mode e → WasNotGrantable place who mode e
 
 -- the law that a granted request was grantable at the step that granted it
 abbrev pub GrantedWishesWereGrantable : Type 0
-GrantedWishesWereGrantable = (place who : ℕ) (mode : Mode) (deed : Deed) (e : Met) → MeetsGrantable place who mode deed e → WasGrantable place who mode deed e
+GrantedWishesWereGrantable = (place who : ℕ) (mode : Mode) (deed : Deed) (e : StepRecord) → MeetsGrantable place who mode deed e → WasGrantable place who mode deed e

@@ -4,7 +4,7 @@ use Rattle.mdl_key.specs.declared.mode.Mode.{Mode}
 use Rattle.mdl_book.specs.declared.ticket.Ticket.{Ticket}
 use Rattle.mdl_steps.specs.declared.step_kind.StepKind.TheVariants.{OpenWait}
 use Rattle.mdl_steps.specs.declared.view.LatchRecord.{LatchRecord}
-use Rattle.mdl_steps.specs.declared.view.Met.{Met}
+use Rattle.mdl_steps.specs.declared.view.StepRecord.{StepRecord}
 use Rattle.mdl_steps.specs.declared.view.View.{View}
 use Rattle.mdl_steps.specs.Cells.{held_at}
 use Rattle.mdl_steps.specs.Layout.{wait_word}
@@ -26,13 +26,13 @@ pub record IsNewWait (number wait : ℕ) (v : View) : Type 0 where
 
 -- the session visited a place and began to wait for a mode there. Nothing else changed, and its steps did no deeds
 pub record Opens (place : ℕ) (mode : Mode) (m m′ : Mine) : Type 0 where
-  pub made : List Met
+  pub made : List StepRecord
   pub now : m′ ≡ and_made made (view_awaiting place mode m.0, m.1)
   pub did : deeds_of made ≡ []
 
 -- the step that opened a session's wait, after `waits` others: the wait's word was idle, and by the record of the latch the ticket with this number is the
 -- last waiting one
-pub record MeetsOpening (slots place session waits number : ℕ) (mode : Mode) (e : Met) : Type 0 where
+pub record MeetsOpening (slots place session waits number : ℕ) (mode : Mode) (e : StepRecord) : Type 0 where
   pub kind : e.kind ≡ OpenWait
   pub word : e.word ≡ wait_word slots session
   pub idle : e.found ≡ wait_in waits idle_state
@@ -46,4 +46,4 @@ pub record MeetsOpening (slots place session waits number : ℕ) (mode : Mode) (
 abbrev pub SeatBeginsWait : ℕ → Mode → ℕ → SeatState → SeatState → Type 0
 SeatBeginsWait place mode number s s′ =
     AtItsTable s s′ (Opens place mode)
-    × ((e f : Met) × AreStepsOf s.me s′.me e f × MeetsBlocked place s.me.0.number mode e × MeetsOpening s.table.slots place s.me.0.number s.me.0.waits number mode f)
+    × ((e f : StepRecord) × AreStepsOf s.me s′.me e f × MeetsBlocked place s.me.0.number mode e × MeetsOpening s.table.slots place s.me.0.number s.me.0.waits number mode f)

@@ -1,14 +1,13 @@
 //! A session's own list of the keys that it looked up.
 ghost use Rattle.std.specs.Prelude.{None, OnOk, Some, [], false, length, slice_get, true, ℕ, ◌+◌, ◌++◌, ◌∷◌, ◌<◌, ◌≡◌, ◌≤◌};
 ghost use Rattle.std.specs.Option.{is_some, option_copied};
-ghost use Rattle.mdl_steps.specs.Schemas.{is_known, unknown};
+ghost use Rattle.mdl_steps.specs.Schemas.{is_key_known, unknown};
 ghost use Rattle.mdl_visits.specs.Tables.{AreWithin};
-ghost use Rattle.mdl_visits.specs.KnownLists.{are_keys_apart, is_place_looked_up, key_looked_up, kind_known, place_looked_up};
+ghost use Rattle.mdl_key.specs.KeyLookups.{are_apart, is_known, key_known, kind_known, place_known};
 ghost use Rattle.mdl_visits.specs.OwnKeys.{IsNarrow, kind_in};
 
 use indexmap::IndexMap;
-use mdl_key::{Key, Kind};
-use mdl_steps::Known;
+use mdl_key::{Key, KnownKey, Kind};
 use std::alloc::{AllocError, Global};
 use std::marker::Model;
 
@@ -58,7 +57,7 @@ impl KnownKeys {
     /// Returns the place of a key, if the key is known.
     #[tactic(auto, using(crate::proofs::KeyLists::place_found, crate::proofs::KeyLists::found_like))]
     pub fn place_of(&self, key: &Key) -> Option<usize>
-        ensures { result ≡ place_looked_up key.now self.now.known }
+        ensures { result ≡ place_known key.now self.now.known }
     {
         let newest = self.places.len().saturating_sub(1);
         if let Some((last, place)) = self.places.get_index(newest) {
@@ -72,7 +71,7 @@ impl KnownKeys {
     /// Returns the key of a place, if it is known.
     #[tactic(auto, using(crate::proofs::KeyLists::none_under, crate::proofs::KeyLists::none_at, crate::proofs::KeyLists::other_at, crate::proofs::KeyLists::found_at))]
     pub fn key_at(&self, place: usize) -> Option<&Key>
-        ensures { option_copied result ≡ key_looked_up place self.now.known }
+        ensures { option_copied result ≡ key_known place self.now.known }
     {
         let at = index_under(&self.indexes, place)?;
         let (key, other) = self.places.get_index(usize::from(at))?;
@@ -101,7 +100,7 @@ impl KnownKeys {
     #[tactic(auto, using(crate::proofs::KeyLists::inserted, std::proofs::lemmas::List::map_push))]
     pub fn push_reserved(&mut self, key: Key, place: usize)
         requires room { (1 ≤ self.old.room) × (place < self.old.reach) }
-        requires unknown { (place_looked_up key self.old.known ≡ None) × (is_place_looked_up self.old.known place ≡ false) }
+        requires unknown { (place_known key self.old.known ≡ None) × (is_known place self.old.known ≡ false) }
         ensures known { self.new.known ≡ self.old.known ++ record { key = key; place = place } ∷ [] }
         ensures room { (self.old.room ≤ self.new.room + 1) × (self.new.reach ≡ self.old.reach) }
     {
@@ -111,9 +110,9 @@ impl KnownKeys {
     }
 
     /// Adds the keys that aren't known yet. It takes no memory.
-    pub fn learn(&mut self, mut tables: Vec<Known>)
+    pub fn learn(&mut self, mut tables: Vec<KnownKey>)
         requires room { (length tables.items ≤ self.old.room) × AreWithin self.old.reach tables.items }
-        requires apart { are_keys_apart (self.old.known ++ unknown self.old.known tables.items) ≡ true }
+        requires apart { are_apart (self.old.known ++ unknown self.old.known tables.items) ≡ true }
         ensures known { self.new.known ≡ self.old.known ++ unknown self.old.known tables.items }
     {
         keep_unknown(self, &mut tables);
@@ -125,14 +124,14 @@ impl KnownKeys {
     // Whether a key is known.
     #[tactic(auto, using(crate::proofs::KeyLists::known_found))]
     fn is_known(&self, key: &Key) -> bool
-        ensures { result ≡ is_known self.now.known key.now }
+        ensures { result ≡ is_key_known self.now.known key.now }
     {
         self.place_of(key).is_some()
     }
 }
 
 // Removes the keys that are known from a list.
-fn keep_unknown(known: &KnownKeys, tables: &mut Vec<Known>)
+fn keep_unknown(known: &KnownKeys, tables: &mut Vec<KnownKey>)
     ensures kept { tables.new.items ≡ unknown known.now.known tables.old.items }
     ensures fewer { length tables.new.items ≤ length tables.old.items }
 {

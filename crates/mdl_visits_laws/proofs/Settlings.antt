@@ -12,12 +12,12 @@ use Rattle.mdl_defs.specs.Caches.{kept_of}
 use Rattle.mdl_defs.specs.declared.definition.Definition.{Definition}
 use Rattle.mdl_steps.specs.declared.slot.Slot.{Slot}
 use Rattle.mdl_steps.specs.declared.step_kind.StepKind.TheVariants as step
-use Rattle.mdl_steps.specs.declared.view.Met.{Met}
+use Rattle.mdl_steps.specs.declared.view.StepRecord.{StepRecord}
 use Rattle.mdl_steps.specs.declared.view.View.{View}
 use Rattle.mdl_steps.specs.Deeds.{all_booked}
 use Rattle.mdl_steps.specs.Layout.{version_word}
 use Rattle.mdl_steps.specs.Plays.{Mine, logged}
-use Rattle.mdl_steps.specs.Turns.{IsWholeTurn, Makes, Turn}
+use Rattle.mdl_steps.specs.TableChanges.{IsWholeChange, Makes, TableChange}
 use Rattle.mdl_steps.specs.VersionPlays.{noting_found}
 use Rattle.mdl_steps.specs.WaitPlays.{wait_in}
 use Rattle.mdl_system.proofs.Deciding.{nat_told}
@@ -27,12 +27,12 @@ use Rattle.mdl_steps_laws.proofs.EntryEvents.{no_longer, none_gained, same_last}
 
 -- the step's entry in the list. If it settled a wait, it has what the session had
 record Enters (st : Step Slot) (found : ℕ) (m m′ : Mine) : Type 0 where
-  pub last : Met
+  pub last : StepRecord
   pub log : m′.0.log ≡ m.0.log ++ last ∷ []
   pub settles : last.kind ≡ step.SettleWait → (last.word ≡ st.word) × (last.found ≡ found) × (last.held ≡ m.0.latches) × (last.directory ≡ m.0.directory)
 
 module _ (m : Mine) (st : Step Slot) where
-  by : (found : ℕ) (m′ n : Mine) → m′ ≡ n → (last : Met) → n.0.log ≡ m.0.log ++ last ∷ []
+  by : (found : ℕ) (m′ n : Mine) → m′ ≡ n → (last : StepRecord) → n.0.log ≡ m.0.log ++ last ∷ []
       → (last.kind ≡ step.SettleWait → (last.word ≡ st.word) × (last.found ≡ found) × (last.held ≡ m.0.latches) × (last.directory ≡ m.0.directory)) → Enters st found m m′
   by found m′ n e last log settles = subst (Enters st found m) (sym e) (record { last = last; log = log; settles = settles })
 
@@ -84,29 +84,29 @@ module _ (m : Mine) (st : Step Slot) where
   enters found m′ (Makes.ReleasesFast q n at play) = by found m′ _ (play.1 q at) _ refl (λ kind. absurd (cc))
   enters found m′ (Makes.Materialises q weight h may at play) = by found m′ _ (play.1 q at) _ refl (λ kind. absurd (cc))
 
--- ---- a turn
+-- ---- a change
 
 -- the table and the session before the step
-pub record WasSo (s : State Slot View) (v : View) (e : Met) : Type 0 where
+pub record WasSo (s : State Slot View) (v : View) (e : StepRecord) : Type 0 where
   pub latches : e.held ≡ v.latches
   pub directory : e.directory ≡ v.directory
   pub found : e.found ≡ get_or s.words e.word 0
 
-pub settling_shows : (s t : State Slot View) (turn : Turn s t) → IsWholeTurn turn → (seat : ℕ) (v w : View) → get_elem? s.views seat ≡ some v → get_elem? t.views seat ≡ some w
-    → (e : Met) → w.log ≡ v.log ++ e ∷ [] → e.kind ≡ step.SettleWait → WasSo s v e
-settling_shows s t (Turn.Steps id m m′ st left act at made moves) whole seat v w was is e log kind =
+pub settling_shows : (s t : State Slot View) (turn : TableChange s t) → IsWholeChange turn → (seat : ℕ) (v w : View) → get_elem? s.views seat ≡ some v → get_elem? t.views seat ≡ some w
+    → (e : StepRecord) → w.log ≡ v.log ++ e ∷ [] → e.kind ≡ step.SettleWait → WasSo s v e
+settling_shows s t (TableChange.Steps id m m′ st left act at made moves) whole seat v w was is e log kind =
     elim (at_set s.views id seat m′.0 w (subst (λ (x : State Slot View). get_elem? x.views seat ≡ some w) moves is)) [
       | inl mine ↦
           let own : v ≡ m.0 = some-injective v m.0 (sym (subst (λ (k : ℕ). get_elem? s.views k ≡ some v) mine.0 was) ∙ at) in
           let entry = enters m st (get_or s.words st.word 0) m′ made in
           let same : entry.last ≡ e = same_last m.0.log entry.last e (sym entry.log ∙ ap (λ (x : View). x.log) mine.1 ∙ log ∙ ap (λ (x : View). x.log ++ e ∷ []) own) in
-          let shows = entry.settles (ap (λ (x : Met). x.kind) same ∙ kind) in
+          let shows = entry.settles (ap (λ (x : StepRecord). x.kind) same ∙ kind) in
           record {
-            latches = ap (λ (x : Met). x.held) (sym same) ∙ shows.2 ∙ ap (λ (x : View). x.latches) (sym own);
-            directory = ap (λ (x : Met). x.directory) (sym same) ∙ shows.3 ∙ ap (λ (x : View). x.directory) (sym own);
-            found = ap (λ (x : Met). x.found) (sym same) ∙ shows.1 ∙ ap (λ (n : ℕ). get_or s.words n 0) (sym shows.0 ∙ ap (λ (x : Met). x.word) same);
+            latches = ap (λ (x : StepRecord). x.held) (sym same) ∙ shows.2 ∙ ap (λ (x : View). x.latches) (sym own);
+            directory = ap (λ (x : StepRecord). x.directory) (sym same) ∙ shows.3 ∙ ap (λ (x : View). x.directory) (sym own);
+            found = ap (λ (x : StepRecord). x.found) (sym same) ∙ shows.1 ∙ ap (λ (n : ℕ). get_or s.words n 0) (sym shows.0 ∙ ap (λ (x : StepRecord). x.word) same);
           }
       | inr other ↦ absurd (no_longer v.log w.log e (inr (ap (λ (x : View). x.log) (some-injective v w (sym was ∙ other.1)))) log)
     ]
-settling_shows s t (Turn.Splits x first more at fast slow reads moves) whole seat v w was is e log kind =
+settling_shows s t (TableChange.Splits x first more at fast slow reads moves) whole seat v w was is e log kind =
     absurd (none_gained s t x first more at (ap (λ (y : View). y.log) whole.0) (ap (λ (y : State Slot View). y.views) moves) seat v w was is e log)

@@ -12,12 +12,12 @@ use Rattle.mdl_graph.specs.Cycles.{is_chosen_before}
 use Rattle.mdl_steps.specs.declared.slot.Slot.{Slot}
 use Rattle.mdl_steps.specs.declared.step_kind.StepKind.TheVariants.{ReadWait}
 use Rattle.mdl_steps.specs.declared.view.Keys.{Keys}
-use Rattle.mdl_steps.specs.declared.view.Met.{Met}
+use Rattle.mdl_steps.specs.declared.view.StepRecord.{StepRecord}
 use Rattle.mdl_steps.specs.declared.view.View.{View}
 use Rattle.mdl_steps.specs.Histories.{Reached}
 use Rattle.mdl_steps.specs.Layout.{wait_word}
 use Rattle.mdl_steps.specs.SeatStates.{SeatState}
-use Rattle.mdl_steps.specs.Turns.{IsWholeTurn, Turn}
+use Rattle.mdl_steps.specs.TableChanges.{IsWholeChange, TableChange}
 use Rattle.mdl_steps_laws.specs.Entries.{MakesOneStep}
 use Rattle.mdl_steps_laws.specs.WaitLaws.{IsTold}
 use Rattle.mdl_system.specs.Deadlocks.{IsDeadlock, IsStandingDeadlock, IsStandingVictimOf, IsVictimOf, Requests, Wishes}
@@ -49,7 +49,7 @@ settling_of victim old new found = found.2.judges.outcome.1
 -- a step in the view's list read this word, while the session had just the latches that it has now
 abbrev pub WasReadBefore : ℕ → View → WaitRead → Type 0
 WasReadBefore slots v r =
-    (e : Met) × Contains v.log e × (e.kind ≡ ReadWait) × (e.word ≡ wait_word slots r.session) × (e.found ≡ r.word.0) × (e.held ≡ v.latches)
+    (e : StepRecord) × Contains v.log e × (e.kind ≡ ReadWait) × (e.word ≡ wait_word slots r.session) × (e.found ≡ r.word.0) × (e.held ≡ v.latches)
 
 -- the session has the directory's latch, with this record of it, and has read these words under just the latches that it has now
 abbrev pub HasReadAll : ℕ → Keys → List WaitRead → View → Type 0
@@ -86,7 +86,7 @@ pub record FallsInDeadlock (system : System Definition) (who victim number : ℕ
 abbrev pub VictimsFallInStandingDeadlocks : Type 0
 VictimsFallInStandingDeadlocks =
     (victim : ℕ) (old new : SeatState) → (found : SettlesAVictim victim old new) →
-    (s t : State Slot View) → Reached s → old.table.slots ≡ length s.homes → (turn : Turn s t) → IsWholeTurn turn →
+    (s t : State Slot View) → Reached s → old.table.slots ≡ length s.homes → (turn : TableChange s t) → IsWholeChange turn →
     (seat : ℕ) → (step : MakesOneStep s t seat (settling_of victim old new found).moment) → (a : System Definition) → IsTold s a →
     FallsInDeadlock a old.me.0.number victim (settling_of victim old new found).wait (victim_words victim old new found)
     (HasReadAll old.table.slots (victim_keys victim old new found) (victim_words victim old new found) step.old)

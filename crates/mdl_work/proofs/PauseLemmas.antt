@@ -2,7 +2,7 @@
 use Rattle.std.proofs.Common.{ℕ, Option, Some, None, Ok, Err, refl}
 use Rattle.std.specs.Prelude.{List}
 use Rattle.mdl_key.specs.Keys.{KeyName}
-use Rattle.mdl_defs.specs.declared.standing.Standing.{Standing}
+use Rattle.mdl_defs.specs.declared.versioned_definition.VersionedDefinition.{VersionedDefinition}
 use Rattle.mdl_calls.specs.Words.{Answer, Reads, Changed, Tables, Key_is, Program, Give, Each}
 use Rattle.mdl_calls.proofs.FaithfulLemmas.{each_then}
 use Rattle.mdl_context.specs.declared.request.Acquire.{Acquire}
@@ -92,7 +92,7 @@ left_tried mark session more made (Err error, context) = left_closing (ending_of
 
 -- ---- what stands
 
-left_read : (mark : Mark) (session : Session) (more : Standing → Program Pause) → ((standing : Standing) → LeavesWhileWaiting (more standing)) →
+left_read : (mark : Mark) (session : Session) (more : VersionedDefinition → Program Pause) → ((standing : VersionedDefinition) → LeavesWhileWaiting (more standing)) →
     (answer : Answer) → LeavesWhileWaiting (playing.read_answered mark session more answer)
 left_read mark session more made (Reads version definition) = made (record { version = version; definition = definition })
 left_read mark session more made answer = left_closing (ending_of_refusal (refusal_answered answer)) mark session

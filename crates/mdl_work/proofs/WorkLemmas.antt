@@ -24,7 +24,7 @@ use Rattle.mdl_stmt.specs.Gets.{paused}
 use Rattle.mdl_rows.specs.Leavings.{leaving}
 use Rattle.mdl_rows.specs.Sessions.{Session}
 use Rattle.mdl_work.specs.Paces.{answers_in, worked_as}
-use Rattle.mdl_work.specs.Works.{Worked, behind, finishing, going_further, lines_of_session, making, noted, out_of_memory, waiting_out, while_pending, working, working_off}
+use Rattle.mdl_work.specs.Works.{Worked, behind, finishing, going_further, lines_of_session, making, noted, stopped_for_memory, waiting_out, while_pending, working, working_off}
 
 -- ---- waits
 
@@ -147,14 +147,15 @@ module _ {S : Type 0} (joins : S → Call → Answer → S → Type 0) where
 
   -- its answer couldn't be kept
   pub one-unkept : (patience : ℕ) (line : Line) (lines : List Line) (before after : Session) (reply : Reply) (a b : S) →
-      Runs joins a (making patience line.statement before) (Ends reply after) b → Runs joins a (working patience (line ∷ lines) before) (out_of_memory after) b
+      Runs joins a (making patience line.statement before) (Ends reply after) b
+      → Runs joins a (working patience (line ∷ lines) before) (stopped_for_memory after) b
   unfolding working
   one-unkept patience line lines before after reply a b run =
       runs_bind joins (making patience line.statement before) (noted line.number (working patience lines)) a b b (Ends reply after) _ run (inl (refl, refl))
 
   -- its statement found no memory
   pub one-starved : (patience : ℕ) (line : Line) (lines : List Line) (before after : Session) (a b : S) →
-      Runs joins a (making patience line.statement before) (Faults after) b → Runs joins a (working patience (line ∷ lines) before) (out_of_memory after) b
+      Runs joins a (making patience line.statement before) (Faults after) b → Runs joins a (working patience (line ∷ lines) before) (stopped_for_memory after) b
   unfolding working
   one-starved patience line lines before after a b run =
       runs_bind joins (making patience line.statement before) (noted line.number (working patience lines)) a b b (Faults after) _ run (refl, refl)
@@ -210,18 +211,18 @@ module _ {S : Type 0} (joins : S → Call → Answer → S → Type 0) where
 
   pub follows-unkept : (patience : ℕ) (line : Line) (left rest : List Line) (before after : Session) (reply : Reply) (answers : List (ℕ × Reply)) (whole : Program Worked) (start a mid : S) →
       left ≡ line ∷ rest → Follows whole start (working patience left before) a answers → Runs joins a (making patience line.statement before) (Ends reply after) mid →
-      Runs joins start whole (out_of_memory after) mid
+      Runs joins start whole (stopped_for_memory after) mid
   follows-unkept patience line left rest before after reply answers whole start a mid same so run =
-      so (out_of_memory after) mid
-      (subst (λ (lines : List Line). Runs joins a (working patience lines before) (out_of_memory after) mid) (sym same)
+      so (stopped_for_memory after) mid
+      (subst (λ (lines : List Line). Runs joins a (working patience lines before) (stopped_for_memory after) mid) (sym same)
       (one-unkept joins patience line rest before after reply a mid run))
 
   pub follows-starved : (patience : ℕ) (line : Line) (left rest : List Line) (before after : Session) (answers : List (ℕ × Reply)) (whole : Program Worked) (start a mid : S) →
       left ≡ line ∷ rest → Follows whole start (working patience left before) a answers → Runs joins a (making patience line.statement before) (Faults after) mid →
-      Runs joins start whole (out_of_memory after) mid
+      Runs joins start whole (stopped_for_memory after) mid
   follows-starved patience line left rest before after answers whole start a mid same so run =
-      so (out_of_memory after) mid
-      (subst (λ (lines : List Line). Runs joins a (working patience lines before) (out_of_memory after) mid) (sym same)
+      so (stopped_for_memory after) mid
+      (subst (λ (lines : List Line). Runs joins a (working patience lines before) (stopped_for_memory after) mid) (sym same)
       (one-starved joins patience line rest before after a mid run))
 
   -- no line is left
@@ -253,7 +254,7 @@ worked-off joins patience lines before after (Ok answers) a mid b run left =
     inr (runs_bind joins (working patience lines before) (λ (worked : Worked). leaving worked.session >> Give worked.answers) a mid b (record { answers = Some answers.items; session = after }) (Some answers.items) run
     (runs_bind joins (leaving after) (λ _. Give (Some answers.items)) mid b b tt (Some answers.items) left (refl, refl)))
 worked-off joins patience lines before after (Err error) a mid b run left =
-    inr (runs_bind joins (working patience lines before) (λ (worked : Worked). leaving worked.session >> Give worked.answers) a mid b (out_of_memory after) None run
+    inr (runs_bind joins (working patience lines before) (λ (worked : Worked). leaving worked.session >> Give worked.answers) a mid b (stopped_for_memory after) None run
     (runs_bind joins (leaving after) (λ _. Give None) mid b b tt None left (refl, refl)))
 
 -- what was answered, or that memory ran out, as a run over spaces alone

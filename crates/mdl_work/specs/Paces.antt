@@ -3,7 +3,7 @@ use Rattle.std.specs.Prelude.{◌≡◌, ℕ, List, Option, Some, None, IsSome, 
 use Rattle.mdl_rows.specs.declared.reply.Reply.{Reply}
 use Rattle.mdl_rows.specs.Endings.{Pause, Ends, Begins_to_wait, Waits_on, Faults}
 use Rattle.mdl_rows.specs.Sessions.{Session}
-use Rattle.mdl_work.specs.Works.{Worked, out_of_memory}
+use Rattle.mdl_work.specs.Works.{Worked, stopped_for_memory}
 
 -- a statement ended with a reply, or memory ran out
 abbrev pub came_to : {E : Type 0} → Result Reply E → Session → Pause
@@ -13,7 +13,7 @@ came_to (Err _) session = Faults session
 -- lines were executed, or memory ran out
 abbrev pub worked_as : {E Z : Type 0} → Result (Vec (ℕ × Reply) Z) E → Session → Worked
 worked_as (Ok answers) session = record { answers = Some answers.items; session = session }
-worked_as (Err _) session = out_of_memory session
+worked_as (Err _) session = stopped_for_memory session
 
 -- the answers to lines, unless memory ran out
 abbrev pub answers_in : {E Z : Type 0} → Result (Vec (ℕ × Reply) Z) E → Option (List (ℕ × Reply))

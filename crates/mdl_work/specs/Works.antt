@@ -79,14 +79,14 @@ pub record Worked : Type 0 where
 abbrev pub behind : ℕ × Reply → Worked → Worked
 behind answer worked = record { answers = option_map (λ more. answer ∷ more) worked.answers; session = worked.session }
 
--- memory ran out
-abbrev pub out_of_memory : Session → Worked
-out_of_memory session = record { answers = None; session = session }
+-- the session stopped because memory ran out, and returns no answers
+abbrev pub stopped_for_memory : Session → Worked
+stopped_for_memory session = record { answers = None; session = session }
 
 -- the answer is kept, which takes memory, and then more follows
 abbrev pub noted : ℕ → (Session → Program Worked) → Pause → Program Worked
-noted number more (Ends reply session) = Grow (Give (out_of_memory session)) (more session >>= (λ worked. Give (behind (number, reply) worked)))
-noted number more pause = Give (out_of_memory (session_of_pause pause))
+noted number more (Ends reply session) = Grow (Give (stopped_for_memory session)) (more session >>= (λ worked. Give (behind (number, reply) worked)))
+noted number more pause = Give (stopped_for_memory (session_of_pause pause))
 
 -- the statements of lines are executed in order, until memory runs out
 unfoldable pub working : ℕ → List Line → Session → Program Worked

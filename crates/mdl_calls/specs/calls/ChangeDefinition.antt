@@ -1,5 +1,5 @@
--- `change_definition`: a change of the definition at a held ticket's place, which gets the next version. It is refused if no such ticket is held, if it isn't held in
--- mode X, if what stands there can't be changed so, or if memory runs out. Dropping a definition takes no memory. It changes no ticket and no wait.
+-- `change_definition`: a change of the definition at a held ticket's place, which gets the next version. It is refused if no such ticket is held, if it isn't
+-- held in mode X, if what stands there can't be changed so, or if memory runs out. Dropping a definition takes no memory. It changes no ticket and no wait.
 use Rattle.std.specs.Prelude.{◌≡◌, ℕ, Bool, true, false, Option, Some, None}
 use Rattle.mdl_key.specs.declared.mode.Mode.TheVariants.{X}
 use Rattle.mdl_key.specs.Words.{same_mode}

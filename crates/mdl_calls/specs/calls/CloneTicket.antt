@@ -1,6 +1,6 @@
--- `clone_ticket`: a second ticket beside a held one, in a mode that the held one covers. It is refused if no such ticket is held, or the session waits, if the held
--- ticket is weaker or the mode isn't one of the key's kind, if there is no number or no room left for a ticket, or if memory runs out. It never waits, and the
--- held ticket is unchanged.
+-- `clone_ticket`: a second ticket beside a held one, in a mode that the held one covers. It is refused if no such ticket is held, or the session waits, if
+-- the held ticket doesn't cover the mode or the mode isn't one of the key's kind, if there is no number or no room left for a ticket, or if memory runs out.
+-- It never waits, and the held ticket is unchanged.
 use Rattle.std.specs.Prelude.{◌≡◌, ℕ, Bool, true, false}
 use Rattle.mdl_key.specs.declared.mode.Mode.{Mode}
 use Rattle.mdl_calls.specs.declared.space_error.SpaceError.{SpaceError}

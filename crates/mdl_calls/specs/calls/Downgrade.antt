@@ -1,5 +1,5 @@
--- `downgrade`: a weaker mode of a held ticket. It takes no memory, and is refused only if no such ticket is held, or if it can't be downgraded so. It changes no
--- other ticket and no wait.
+-- `downgrade`: a weaker mode of a held ticket. It takes no memory, and is refused only if no such ticket is held, or if it can't be downgraded so. It changes
+-- no other ticket and no wait.
 use Rattle.std.specs.Prelude.{◌≡◌, ℕ, Bool, true, false}
 use Rattle.mdl_key.specs.declared.mode.Mode.{Mode}
 use Rattle.mdl_calls.specs.declared.space_error.SpaceError.{SpaceError}
@@ -22,7 +22,7 @@ cause id mode NotHeld knows own = holds id own ≡ false
 cause id mode NotUpgradable knows own = OfHeld id own (MayNotDowngrade knows mode)
 cause id mode _ knows own = ⊥
 
--- the ticket has the mode
+-- the ticket gets the mode
 abbrev pub effect : ℕ → Mode → Answer → Effect
 effect id mode Done = Lowers id mode
 effect id mode _ = Keeps

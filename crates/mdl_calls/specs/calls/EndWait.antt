@@ -1,5 +1,5 @@
--- `end_wait`: the end of the session's settled wait. If the wait was granted, the session now holds the ticket. It takes no memory, and is refused only if there is
--- no wait, or if the wait isn't settled and then goes on. A wait that was granted is never lost.
+-- `end_wait`: the end of the session's settled wait. If the wait was granted, the session now holds the ticket. It takes no memory, and is refused only if
+-- there is no wait, or if the wait isn't settled and then goes on. No answer says that a granted wait was lost.
 use Rattle.std.specs.Prelude.{◌≡◌, ℕ, Bool, true, false, Option, Some, None}
 use Rattle.mdl_calls.specs.declared.answers.Settled.{Settled}
 use Rattle.mdl_calls.specs.declared.answers.Settled.TheVariants as settled_as

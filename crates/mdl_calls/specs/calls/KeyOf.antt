@@ -5,7 +5,8 @@ use Rattle.mdl_calls.specs.declared.space_error.SpaceError.TheVariants.{NoPlace,
 use Rattle.mdl_calls.specs.Interface.{Answer, Refused, Key_is}
 use Rattle.mdl_calls.specs.SessionLocks.{SessionLocks}
 use Rattle.mdl_calls.specs.Causes.{Knowledge, IsUnknown}
-use Rattle.mdl_calls.specs.SessionData.{SessionData, key_known}
+use Rattle.mdl_key.specs.KeyLookups.{key_known}
+use Rattle.mdl_calls.specs.SessionData.{SessionData}
 use Rattle.mdl_calls.specs.CallSpec.{CallSpec, unchanged}
 
 -- its answers

@@ -1,5 +1,5 @@
--- `kill`: the kill of a session's wait of this number, unless it is settled already. Any session may kill that of any other. It takes no memory, ends no wait,
--- changes no ticket, and is never refused.
+-- `kill`: the kill of a session's wait of this number, unless it is settled already. It has no caller: any session may make it. It takes no memory, ends no
+-- wait, changes no ticket, and is never refused.
 use Rattle.std.specs.Prelude.{◌≡◌, ℕ, Bool, true, false, Some, None, is_some}
 use Rattle.mdl_calls.specs.declared.answers.Settled.TheVariants as settled_as
 use Rattle.mdl_calls.specs.Interface.{Answer, Has_killed}
@@ -12,8 +12,8 @@ abbrev pub answers : Answer → Bool
 answers (Has_killed it) = true
 answers _ = false
 
--- if the session kills its own wait, that had the number and is settled so now; a kill in vain found no wait of the number, or a settled one. It may be
--- another session: of that nothing is said.
+-- if the session itself is the target: after the answer true, its wait had the number, and it now knows that its wait is settled as killed. After the answer
+-- false, if its wait had the number, it now knows how its wait is settled. Of another target nothing is said.
 abbrev pub says : ℕ → ℕ → Answer → SessionData → SessionData → Type 0
 says target number (Has_killed true) a b = target ≡ a.number → (wait_number a.own ≡ Some number) × (b.settled ≡ Some settled_as.Killed)
 says target number (Has_killed false) a b = target ≡ a.number → wait_number a.own ≡ Some number → is_some b.settled ≡ true

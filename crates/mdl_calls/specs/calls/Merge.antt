@@ -1,5 +1,5 @@
--- `merge`: two held tickets of one place merged into one: the old one gets the mode of the new one, which is released. It is refused if one of them isn't held, if
--- the session waits, if they can't be merged, if there is no room left for a ticket, or if memory runs out. It changes no other ticket.
+-- `merge`: two held tickets of one place merged into one: the old one gets the mode of the new one, which is released. It is refused if one of them isn't
+-- held, if the session waits, if they can't be merged, if there is no room left for a ticket, or if memory runs out. It changes no other ticket.
 use Rattle.std.specs.Prelude.{◌≡◌, ℕ, Bool, true, false, ◌&&◌}
 use Rattle.mdl_calls.specs.declared.space_error.SpaceError.{SpaceError}
 use Rattle.mdl_calls.specs.declared.space_error.SpaceError.TheVariants.{NotHeld, AlreadyWaiting, BadMode, Full, OutOfMemory}
@@ -28,7 +28,7 @@ cause old new Full knows own = clear old new knows own
 cause old new OutOfMemory knows own = Unit {0}
 cause old new _ knows own = ⊥
 
--- the two are one
+-- the old ticket gets the mode of the new one, which is released
 abbrev pub effect : ℕ → ℕ → Answer → Effect
 effect old new Done = Merges old new
 effect old new _ = Keeps

@@ -18,7 +18,7 @@ met Pending = Some None
 met (Is_settled how) = Some (Some how)
 met _ = None
 
--- and is known to be settled so
+-- how the wait is settled from then on: as the answer says, if it was met settled
 abbrev pub told : Answer → Option Settled
 told (Is_settled how) = Some how
 told _ = None

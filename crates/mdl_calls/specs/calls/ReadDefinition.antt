@@ -1,5 +1,5 @@
--- `read_definition`: the version and the definition at a held ticket's place. It is refused only if no such ticket is held, or if memory runs out, and then reads
--- nothing. It changes no ticket and no wait.
+-- `read_definition`: the version and the definition at a held ticket's place. It is refused only if no such ticket is held, or if memory runs out, and then
+-- reads nothing. It changes no ticket and no wait.
 use Rattle.std.specs.Prelude.{◌≡◌, ℕ, Bool, true, false, Some}
 use Rattle.mdl_calls.specs.Interface.{Answer, Refused, Reads}
 use Rattle.mdl_calls.specs.SessionLocks.{holds}

@@ -1,5 +1,5 @@
--- `release`: the release of a held ticket. It takes no memory, and is refused only if no such ticket is held. It changes no other ticket and no wait, and learns
--- and reads nothing.
+-- `release`: the release of a held ticket. It takes no memory, and is refused only if no such ticket is held. It changes no other ticket and no wait, and
+-- learns and reads nothing.
 use Rattle.std.specs.Prelude.{◌≡◌, ℕ, Bool, true, false}
 use Rattle.mdl_calls.specs.Interface.{Answer, Refused, Done}
 use Rattle.mdl_calls.specs.SessionLocks.{holds}

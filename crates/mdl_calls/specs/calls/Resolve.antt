@@ -1,5 +1,5 @@
--- `resolve`: the place of a key. The session knows it from then on, and pins it. A call is refused if there is no place left for the key, of which the session
--- then knows no place, or if memory runs out. It changes no ticket and no wait, and reads nothing.
+-- `resolve`: the place of a key. The session knows it from then on. That it also pins it is a law of spaces (`resolved_pinned`). A call is refused if no
+-- place is left, in which case the session knows no place of the key, or if memory runs out. It changes no ticket and no wait, and reads nothing.
 use Rattle.std.specs.Prelude.{◌≡◌, ℕ, Bool, true, false, List}
 use Rattle.mdl_key.specs.Words.{KeyName}
 use Rattle.mdl_calls.specs.declared.space_error.SpaceError.{SpaceError}
@@ -7,7 +7,8 @@ use Rattle.mdl_calls.specs.declared.space_error.SpaceError.TheVariants.{NoPlace,
 use Rattle.mdl_calls.specs.Interface.{Answer, Refused, At_place}
 use Rattle.mdl_calls.specs.SessionLocks.{SessionLocks}
 use Rattle.mdl_calls.specs.Causes.{Knowledge, IsUnplaced}
-use Rattle.mdl_calls.specs.SessionData.{KnownKey, place_known}
+use Rattle.mdl_key.specs.declared.known_key.KnownKey.{KnownKey}
+use Rattle.mdl_key.specs.KeyLookups.{place_known}
 use Rattle.mdl_calls.specs.Learning.{LearnsPlace}
 use Rattle.mdl_calls.specs.CallSpec.{CallSpec, unchanged}
 

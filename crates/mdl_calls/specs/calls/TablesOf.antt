@@ -1,8 +1,10 @@
--- `tables_of`: the places of a schema's tables that have a definition. The session knows these from then on. It is refused only if memory runs out. It changes no
--- ticket and no wait, and reads nothing.
+-- `tables_of`: places of tables of a schema, in the order of their keys. The session knows these from then on. That they have a definition, and that they are
+-- all the schema's tables that have one, isn't said here. `mdl_core` says it of the space of one thread (`ToTellTables`). Of the table that threads share,
+-- `mdl_shared` says that the place of each table that the directory has of the schema was looked at, and that these are the places that had a definition then
+-- (`calls/TablesOf`). The call is refused only if memory runs out. It changes no ticket and no wait, and reads nothing.
 use Rattle.std.specs.Prelude.{◌≡◌, ℕ, Bool, true, false, List}
 use Rattle.mdl_calls.specs.Interface.{Answer, Refused, Tables}
-use Rattle.mdl_calls.specs.SessionData.{KnownKey}
+use Rattle.mdl_key.specs.declared.known_key.KnownKey.{KnownKey}
 use Rattle.mdl_calls.specs.Learning.{LearnsTables}
 use Rattle.mdl_calls.specs.CallSpec.{CallSpec, unchanged, memory_cause}
 

@@ -1,6 +1,7 @@
--- `upgrade_now`: a stronger mode of a held ticket, if it can be granted without waiting. If the held mode covers the mode already, nothing changes, and the caller
--- never has to wait for it. It is refused if no such ticket is held, if it can't be upgraded so, if the session waits, if there is no room left for a ticket, or
--- if memory runs out. It never begins a wait, and changes no other ticket.
+-- `upgrade_now`: a stronger mode of a held ticket, if it can be granted without waiting. If the held mode covers the mode already, the ticket keeps its mode,
+-- and the answer is never that the caller would have to wait. The call is refused if no such ticket is held, if it can't be upgraded so, if the session
+-- waits, if there is no room left for a ticket, or if memory runs out. For the last three reasons, so also for want of room (`Full`), it may be refused even
+-- if the held mode covers the mode. It never begins a wait, and changes no other ticket.
 use Rattle.std.specs.Prelude.{◌≡◌, ℕ, Bool, true, false}
 use Rattle.mdl_key.specs.declared.mode.Mode.{Mode}
 use Rattle.mdl_system.specs.Strength.{covers}
@@ -33,7 +34,7 @@ cause id mode Full knows own = clear id mode knows own
 cause id mode OutOfMemory knows own = Unit {0}
 cause id mode _ knows own = ⊥
 
--- the ticket has the mode, or a stronger one that it had before
+-- the ticket gets the mode, unless its own covers that already
 abbrev pub effect : ℕ → Mode → Answer → Effect
 effect id mode Upgraded = Raises id mode
 effect id mode _ = Keeps

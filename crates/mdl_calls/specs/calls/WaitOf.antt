@@ -1,4 +1,5 @@
--- `wait_of`: the number of a session's wait, if it has one. Any session may ask for that of any other. It takes no memory, changes nothing, and is never refused.
+-- `wait_of`: the number of a session's wait, if it has one. It has no caller: any session may make it. It takes no memory, changes nothing, and is never
+-- refused.
 use Rattle.std.specs.Prelude.{◌≡◌, ℕ, Bool, true, false, None}
 use Rattle.mdl_calls.specs.Interface.{Answer, Has_wait}
 use Rattle.mdl_calls.specs.SessionLocks.{wait_number}
@@ -10,7 +11,7 @@ abbrev pub answers : Answer → Bool
 answers (Has_wait number) = true
 answers _ = false
 
--- if the session asks for its own wait, it is told its number. It may be another session: of that nothing is said.
+-- if the session itself is the target, the number is that of its wait, and there is none if it has no wait. Of another target nothing is said.
 abbrev pub says : ℕ → Answer → SessionData → SessionData → Type 0
 says target (Has_wait number) a b = target ≡ a.number → number ≡ wait_number a.own
 says target _ a b = ⊥

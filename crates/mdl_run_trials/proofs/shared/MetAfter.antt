@@ -7,7 +7,8 @@ use Rattle.mdl_calls.specs.Words.{AreMet}
 use Rattle.mdl_shared.specs.declared.try_fast.Fast.{Fast}
 use Rattle.mdl_shared.specs.declared.try_fast.Fast.TheVariants.{Granted, Obtruded, Contended, Limit}
 use Rattle.mdl_shared.specs.FastCalls.{HasTriedFast, RefusesFast}
-use Rattle.mdl_shared.specs.SessionData.{HasMet, Reading}
+use Rattle.mdl_defs.specs.declared.reading.Reading.{Reading}
+use Rattle.mdl_shared.specs.SessionData.{HasMet}
 use Rattle.mdl_shared.specs.SessionViews.{SessionView, data_of}
 
 -- a session has read the same as before

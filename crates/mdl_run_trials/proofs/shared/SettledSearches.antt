@@ -11,7 +11,7 @@ use Rattle.mdl_calls.specs.declared.space_error.SpaceError.{SpaceError}
 use Rattle.mdl_calls.specs.Words.{Settle_timeout, searched, timed_out}
 use Rattle.mdl_steps.specs.declared.step_kind.StepKind.TheVariants.{ReadWait}
 use Rattle.mdl_steps.specs.declared.view.Ask.{Ask}
-use Rattle.mdl_steps.specs.declared.view.Met.{Met}
+use Rattle.mdl_steps.specs.declared.view.StepRecord.{StepRecord}
 use Rattle.mdl_steps.specs.Layout.{wait_word}
 use Rattle.mdl_steps.specs.Lists.{Each}
 use Rattle.mdl_steps.specs.Plays.{Mine}
@@ -34,7 +34,7 @@ timeout-told a b (Already how) joined = knows-told b.me.0.told how (joined.told 
 
 -- at most one step was made, which read the word of a wait
 abbrev pub OnlyReads : SessionView → SessionView → Type 0
-OnlyReads a b = (made : List Met) × (b.me.0.log ≡ a.me.0.log ++ made) × (length made ≤ 1) × Each (λ (e : Met). e.kind ≡ ReadWait) made
+OnlyReads a b = (made : List StepRecord) × (b.me.0.log ≡ a.me.0.log ++ made) × (length made ≤ 1) × Each (λ (e : StepRecord). e.kind ≡ ReadWait) made
 
 untold : {P : Type 0} (told : Option ℕ) → is_some told ≡ true → told ≡ None → P
 untold told knows none = absurd (false≢true (sym (ap is_some none) ∙ knows))
@@ -45,11 +45,11 @@ settled-search a b (Ok NoCycle) knows shown = (refl, by a.me.0.asks refl)
   where
     by : (asks : Option Ask) → a.me.0.asks ≡ asks → OnlyReads a b
     by None asks =
-        let none : length {A = Met} [] ≤ 1 = omega arith in
+        let none : length {A = StepRecord} [] ≤ 1 = omega arith in
         ([], ap (λ (m : Mine). m.0.log) (shown.met.0 asks) ∙ sym (append-nil a.me.0.log), none, tt)
     by (Some ask) asks = elim (shown.met.1 (ap is_some asks)) [
       | inl e ↦ (
-          let look : Met = record { kind = ReadWait; deeds = []; word = wait_word a.table.slots a.me.0.number; found = wait_in a.me.0.waits (settled_state e.0); held = a.me.0.latches; directory = a.me.0.directory } in
+          let look : StepRecord = record { kind = ReadWait; deeds = []; word = wait_word a.table.slots a.me.0.number; found = wait_in a.me.0.waits (settled_state e.0); held = a.me.0.latches; directory = a.me.0.directory } in
           let one : length (look ∷ []) ≤ 1 = omega arith in
           (look ∷ [], ap (λ (m : Mine). m.0.log) e.1, one, (refl, tt))
           )

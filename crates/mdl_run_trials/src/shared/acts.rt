@@ -6,7 +6,7 @@ use mdl_calls::{
     Attempt, Begun, Ended, Held, Place, Poll, Search, Settled, SpaceError, TicketId, TimedOut,
     Upgrade,
 };
-use mdl_defs::{Change, Definition, Standing};
+use mdl_defs::{Change, Definition, VersionedDefinition};
 use mdl_key::{Key, KeyError, Mode};
 use mdl_shared::{Fast, Released, Session};
 use mdl_word::Word;
@@ -410,13 +410,13 @@ fn read<R: Wait>(session: &mut Session<R>, id: TicketId) -> Reply {
     }
 }
 
-fn standing_reply(standing: &Standing) -> Reply {
+fn standing_reply(standing: &VersionedDefinition) -> Reply {
     match standing {
-        Standing {
+        VersionedDefinition {
             version: 0,
             definition: None,
         } => Reply::New,
-        Standing {
+        VersionedDefinition {
             version,
             definition: Some(Definition::Schema),
         } => Reply::Schema(*version),

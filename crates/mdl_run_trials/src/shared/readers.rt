@@ -7,7 +7,7 @@ ghost use Rattle.mdl_shared.specs.SessionViews.{data_of};
 use crate::shared::acts::{Act, Lock, NO_MEMORY, Reply, make};
 use crate::shared::rows::{Three, none_is_wrong, open_three};
 use mdl_calls::{Attempt, LockSpace, Place, SpaceError, TicketId};
-use mdl_defs::{Column, DefCache, Definition, Standing};
+use mdl_defs::{Column, DefCache, Definition, VersionedDefinition};
 use mdl_key::{Key, Mode};
 use mdl_shared::{Cached, Fast, Session, read_cached};
 use std::alloc::Global;
@@ -77,7 +77,7 @@ fn are_named(columns: &[Column], names: Names) -> bool {
 }
 
 // Returns a key's version, and what its definition is.
-fn standing_there(standing: &Standing, names: Names) -> (u64, Found) {
+fn standing_there(standing: &VersionedDefinition, names: Names) -> (u64, Found) {
     match &standing.definition {
         Some(definition) => (standing.version, compared(definition, names)),
         None => (standing.version, Found::Nothing),

@@ -2,7 +2,7 @@
 ghost use Rattle.std.specs.Prelude.{◌≡◌, ◌≤◌, List, ◌++◌, length, is_some, true, Ok};
 ghost use Rattle.mdl_calls.specs.declared.answers.Search.TheVariants.{NoCycle};
 ghost use Rattle.mdl_steps.specs.declared.step_kind.StepKind.TheVariants.{ReadWait};
-ghost use Rattle.mdl_steps.specs.declared.view.Met.{Met};
+ghost use Rattle.mdl_steps.specs.declared.view.StepRecord.{StepRecord};
 ghost use Rattle.mdl_steps.specs.Lists.{Each};
 
 use crate::shared::acts::{Act, Lock, Memory, Reply};
@@ -161,7 +161,7 @@ const CASES: &[Case] = &[
 fn search_settled<R: Wait>(session: &mut Session<R>) -> Result<Search, SpaceError>
     requires settled { is_some session.old.me.0.told ≡ true }
     ensures none { result ≡ Ok NoCycle }
-    ensures steps { (made : List Met) × (session.new.me.0.log ≡ session.old.me.0.log ++ made) × (length made ≤ 1) × Each (λ (e : Met). e.kind ≡ ReadWait) made }
+    ensures steps { (made : List StepRecord) × (session.new.me.0.log ≡ session.old.me.0.log ++ made) × (length made ≤ 1) × Each (λ (e : StepRecord). e.kind ≡ ReadWait) made }
 {
     session.search_deadlock()
 }

@@ -6,12 +6,13 @@ use Rattle.mdl_calls.specs.declared.space_error.SpaceError.{SpaceError}
 use Rattle.mdl_calls.specs.Words.{Answer, Refused, Granted, Waits}
 use Rattle.mdl_steps.specs.declared.deed.Deed.{Deed}
 use Rattle.mdl_steps.specs.declared.deed.Deed.TheVariants.{Gain}
-use Rattle.mdl_steps.specs.declared.view.Met.{Met}
-use Rattle.mdl_steps.specs.declared.view.Own.{Own}
+use Rattle.mdl_steps.specs.declared.view.StepRecord.{StepRecord}
+use Rattle.mdl_steps.specs.declared.view.SessionTicket.{SessionTicket}
 use Rattle.mdl_visits.specs.Visits.{AreStepsOf, MeetsBlocked, MeetsFull}
 use Rattle.mdl_visits.specs.WaitOpenings.{MeetsOpening}
 use Rattle.mdl_shared.specs.Debts.{KeepsDebts, OwesSame}
-use Rattle.mdl_shared.specs.Members.{kind_known, obtrudes_at, wish_fault}
+use Rattle.mdl_key.specs.KeyLookups.{kind_known}
+use Rattle.mdl_shared.specs.Members.{obtrudes_at, wish_fault}
 use Rattle.mdl_shared.specs.SessionViews.{Lists, SessionView}
 use Rattle.mdl_shared.specs.WishSteps.{ByLatch, IsGranted, LacksRoomForWish}
 use Rattle.mdl_shared.specs.StepSpec.{StepSpec, no_steps}
@@ -21,7 +22,7 @@ abbrev pub own_fault : ℕ → Mode → Lists → Option SpaceError
 own_fault place mode l = wish_fault (kind_known place l.known) l.asks mode l.next
 
 -- the ticket that was granted is gained
-abbrev pub did : Mode → Answer → List Own → List Deed
+abbrev pub did : Mode → Answer → List SessionTicket → List Deed
 did mode (Granted id) tickets = Gain id mode ∷ []
 did mode _ tickets = []
 
@@ -35,7 +36,7 @@ owes _ a b = KeepsDebts a b
 abbrev pub met : ℕ → Mode → Answer → Lists → SessionView → SessionView → Type 0
 met place mode (Granted id) l a b = IsGranted place mode (Gain id mode) a b
 met place mode (Waits number) l a b =
-    ByLatch place mode (obtrudes_at place mode l.known) a b (λ mid. (e f : Met) × AreStepsOf mid.me b.me e f × MeetsBlocked place a.me.0.number mode e
+    ByLatch place mode (obtrudes_at place mode l.known) a b (λ mid. (e f : StepRecord) × AreStepsOf mid.me b.me e f × MeetsBlocked place a.me.0.number mode e
     × MeetsOpening a.table.slots place a.me.0.number l.waits l.next mode f)
 met place mode (Refused why) l a b =
     (own_fault place mode l ≡ Some why) ⊎ LacksRoomForWish (MeetsFull place) place mode (obtrudes_at place mode l.known) why a b

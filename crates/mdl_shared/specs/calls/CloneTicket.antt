@@ -6,7 +6,7 @@ use Rattle.mdl_calls.specs.declared.space_error.SpaceError.{SpaceError}
 use Rattle.mdl_calls.specs.Words.{Answer, Refused, Granted}
 use Rattle.mdl_steps.specs.declared.deed.Deed.{Deed}
 use Rattle.mdl_steps.specs.declared.deed.Deed.TheVariants.{Gain}
-use Rattle.mdl_steps.specs.declared.view.Own.{Own}
+use Rattle.mdl_steps.specs.declared.view.SessionTicket.{SessionTicket}
 use Rattle.mdl_visits.specs.Numbers.{numbered}
 use Rattle.mdl_visits.specs.Visits.{MeetsFull}
 use Rattle.mdl_shared.specs.Modes.{clone_fault}
@@ -20,7 +20,7 @@ abbrev pub own_fault : ℕ → Mode → Lists → Option SpaceError
 own_fault id mode l = clone_fault (numbered id (all_tickets l)) l.asks mode l.known l.next
 
 -- the second ticket is gained
-abbrev pub did : Mode → Answer → List Own → List Deed
+abbrev pub did : Mode → Answer → List SessionTicket → List Deed
 did mode (Granted new) tickets = Gain new mode ∷ []
 did mode _ tickets = []
 

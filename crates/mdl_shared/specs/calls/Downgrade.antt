@@ -5,7 +5,7 @@ use Rattle.mdl_calls.specs.declared.space_error.SpaceError.{SpaceError}
 use Rattle.mdl_calls.specs.Words.{Answer, Refused, Done}
 use Rattle.mdl_steps.specs.declared.deed.Deed.{Deed}
 use Rattle.mdl_steps.specs.declared.deed.Deed.TheVariants.{Alter}
-use Rattle.mdl_steps.specs.declared.view.Own.{Own}
+use Rattle.mdl_steps.specs.declared.view.SessionTicket.{SessionTicket}
 use Rattle.mdl_visits.specs.Numbers.{numbered}
 use Rattle.mdl_visits.specs.Polls.{SettlesNothing}
 use Rattle.mdl_shared.specs.Debts.{KeepsDebts}
@@ -19,7 +19,7 @@ abbrev pub own_fault : ℕ → Mode → Lists → Option SpaceError
 own_fault id mode l = downgrade_fault (numbered id (all_tickets l)) mode l.known
 
 -- the ticket gets the mode
-abbrev pub did : ℕ → Mode → Answer → List Own → List Deed
+abbrev pub did : ℕ → Mode → Answer → List SessionTicket → List Deed
 did id mode Done tickets = Alter id mode ∷ []
 did id mode _ tickets = []
 

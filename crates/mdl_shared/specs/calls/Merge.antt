@@ -4,7 +4,7 @@ use Rattle.mdl_calls.specs.declared.space_error.SpaceError.{SpaceError}
 use Rattle.mdl_calls.specs.Words.{Answer, Refused, Done}
 use Rattle.mdl_steps.specs.declared.deed.Deed.{Deed}
 use Rattle.mdl_steps.specs.declared.deed.Deed.TheVariants.{Alter, Lose}
-use Rattle.mdl_steps.specs.declared.view.Own.{Own}
+use Rattle.mdl_steps.specs.declared.view.SessionTicket.{SessionTicket}
 use Rattle.mdl_visits.specs.Leavings.{MeetsOwn}
 use Rattle.mdl_visits.specs.Numbers.{numbered}
 use Rattle.mdl_shared.specs.Doings.{merge_deeds}
@@ -19,7 +19,7 @@ abbrev pub own_fault : ℕ → ℕ → Lists → Option SpaceError
 own_fault old new l = merge_fault (numbered old (all_tickets l)) (numbered new (all_tickets l)) l.asks
 
 -- the old ticket gets the new one's mode, and the new one is lost
-abbrev pub did : ℕ → ℕ → Answer → List Own → List Deed
+abbrev pub did : ℕ → ℕ → Answer → List SessionTicket → List Deed
 did old new Done tickets = merge_deeds old new (Ok tt) (numbered new tickets)
 did old new _ tickets = []
 

@@ -1,7 +1,7 @@
 -- The version and the definition at a held ticket's place, with the session's cache: one step reads the version without the latch. Either that suffices, or
 -- the place is visited once after it. Which of the two, by the cache: `ReadsKept` of `KeptReads`.
 use Rattle.std.specs.Prelude.{◌≡◌, ◌⊎◌, ℕ, Some}
-use Rattle.mdl_defs.specs.declared.standing.Standing.{Standing}
+use Rattle.mdl_defs.specs.declared.versioned_definition.VersionedDefinition.{VersionedDefinition}
 use Rattle.mdl_calls.specs.declared.space_error.SpaceError.TheVariants as cause
 use Rattle.mdl_calls.specs.Words.{Answer, Refused, Reads}
 use Rattle.mdl_shared.specs.Members.{holding_fault}
@@ -17,7 +17,7 @@ met id (Reads version definition) l a b =
     ⊎ ((found : ℕ) × (mid : SessionView) × MissesVersion t.place found a mid × ReadsByLatch id t (record { version = version; definition = definition }) mid b))
 met id (Refused why) l a b =
     (holding_fault id (all_tickets l) ≡ Some why)
-    ⊎ ((why ≡ cause.OutOfMemory) × OfTicket id l (λ t. ((standing : Standing) × FindsVersion t.place standing a b)
+    ⊎ ((why ≡ cause.OutOfMemory) × OfTicket id l (λ t. ((standing : VersionedDefinition) × FindsVersion t.place standing a b)
     ⊎ ((found : ℕ) × (mid : SessionView) × MissesVersion t.place found a mid × VisitsInVain t.place mid b)))
 met id _ l a b = ⊥
 

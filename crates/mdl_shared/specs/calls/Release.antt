@@ -4,7 +4,7 @@ use Rattle.std.specs.Prelude.{◌≡◌, ℕ, List, [], ◌∷◌, Some}
 use Rattle.mdl_calls.specs.Words.{Answer, Refused, Done}
 use Rattle.mdl_steps.specs.declared.deed.Deed.{Deed}
 use Rattle.mdl_steps.specs.declared.deed.Deed.TheVariants.{Lose}
-use Rattle.mdl_steps.specs.declared.view.Own.{Own}
+use Rattle.mdl_steps.specs.declared.view.SessionTicket.{SessionTicket}
 use Rattle.mdl_visits.specs.Numbers.{numbered}
 use Rattle.mdl_visits.specs.Polls.{SettlesNothing}
 use Rattle.mdl_shared.specs.Debts.{KeepsDebts}
@@ -14,7 +14,7 @@ use Rattle.mdl_shared.specs.Steps.{OfTicket, GivesUpSlow, GivesUpFast}
 use Rattle.mdl_shared.specs.StepSpec.{StepSpec, no_steps}
 
 -- the ticket is lost
-abbrev pub did : ℕ → Answer → List Own → List Deed
+abbrev pub did : ℕ → Answer → List SessionTicket → List Deed
 did id Done tickets = Lose id ∷ []
 did id _ tickets = []
 

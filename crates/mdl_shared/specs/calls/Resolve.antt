@@ -5,7 +5,7 @@ use Rattle.mdl_key.specs.Words.{KeyName}
 use Rattle.mdl_calls.specs.declared.space_error.SpaceError.TheVariants as cause
 use Rattle.mdl_calls.specs.Words.{Answer, Refused, At_place}
 use Rattle.mdl_visits.specs.declared.resolve_error.ResolveError.TheVariants as resolve_error
-use Rattle.mdl_shared.specs.Members.{place_looked_up}
+use Rattle.mdl_key.specs.KeyLookups.{place_known}
 use Rattle.mdl_shared.specs.SessionViews.{Lists, SessionView}
 use Rattle.mdl_shared.specs.Steps.{MakesNoStep, LooksUp}
 use Rattle.mdl_shared.specs.StepSpec.{StepSpec, no_steps}
@@ -15,10 +15,10 @@ use Rattle.mdl_shared.specs.StepSpec.{StepSpec, no_steps}
 abbrev pub met : KeyName → Answer → Lists → SessionView → SessionView → Type 0
 met key (At_place place) l a b =
     (0 < place) × (place < a.table.slots)
-    × ((known : ℕ) → place_looked_up key l.known ≡ Some known → MakesNoStep a b)
-    × (place_looked_up key l.known ≡ None → LooksUp key (Ok place) a b)
+    × ((known : ℕ) → place_known key l.known ≡ Some known → MakesNoStep a b)
+    × (place_known key l.known ≡ None → LooksUp key (Ok place) a b)
 met key (Refused why) l a b =
-    (place_looked_up key l.known ≡ None)
+    (place_known key l.known ≡ None)
     × (((why ≡ cause.NoPlace) × LooksUp key (Err resolve_error.NoPlace) a b) ⊎ ((why ≡ cause.OutOfMemory) × (MakesNoStep a b ⊎ LooksUp key (Err resolve_error.OutOfMemory) a b)))
 met key _ l a b = ⊥
 

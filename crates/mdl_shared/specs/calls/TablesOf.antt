@@ -3,7 +3,7 @@
 use Rattle.std.specs.Prelude.{◌≡◌, ℕ, List, ◌++◌}
 use Rattle.mdl_calls.specs.Words.{Answer, Refused, Tables}
 use Rattle.mdl_steps.specs.declared.view.Keys.{Keys}
-use Rattle.mdl_steps.specs.declared.view.Known.{Known}
+use Rattle.mdl_key.specs.declared.known_key.KnownKey.{KnownKey}
 use Rattle.mdl_steps.specs.Schemas.{unknown}
 use Rattle.mdl_visits.specs.Lookups.{TookDirectory}
 use Rattle.mdl_visits.specs.Tables.{AreAllTables, HasAsked}
@@ -16,7 +16,7 @@ use Rattle.mdl_shared.specs.StepSpec.{StepSpec, no_steps}
 abbrev pub met : List ℕ → Answer → Lists → SessionView → SessionView → Type 0
 met schema (Tables places) l a b =
     (k : Keys) × TookDirectory a.table.slots k k a.me b.me
-    × ((tables : List Known) × AreAllTables schema k tables × HasAsked a.me.0.number tables places a.me b.me
+    × ((tables : List KnownKey) × AreAllTables schema k tables × HasAsked a.me.0.number tables places a.me b.me
     × (b.me.0.known ≡ l.known ++ unknown l.known tables) × AreLearnt tables b.me.0.known)
 met schema (Refused why) l a b = LooksAtKeys a b
 met schema _ l a b = ⊥

@@ -6,9 +6,10 @@ use Rattle.mdl_calls.specs.declared.space_error.SpaceError.{SpaceError}
 use Rattle.mdl_calls.specs.Words.{Answer, Refused, Granted, Would_wait}
 use Rattle.mdl_steps.specs.declared.deed.Deed.{Deed}
 use Rattle.mdl_steps.specs.declared.deed.Deed.TheVariants.{Gain}
-use Rattle.mdl_steps.specs.declared.view.Own.{Own}
+use Rattle.mdl_steps.specs.declared.view.SessionTicket.{SessionTicket}
 use Rattle.mdl_visits.specs.Visits.{MeetsBlocked, MeetsFullWish}
-use Rattle.mdl_shared.specs.Members.{kind_known, obtrudes_at, wish_fault}
+use Rattle.mdl_key.specs.KeyLookups.{kind_known}
+use Rattle.mdl_shared.specs.Members.{obtrudes_at, wish_fault}
 use Rattle.mdl_shared.specs.SessionViews.{Lists, SessionView}
 use Rattle.mdl_shared.specs.Steps.{ShowsStep}
 use Rattle.mdl_shared.specs.WishSteps.{ByLatch, IsGranted, LacksRoomForWish}
@@ -19,7 +20,7 @@ abbrev pub own_fault : ℕ → Mode → Lists → Option SpaceError
 own_fault place mode l = wish_fault (kind_known place l.known) l.asks mode l.next
 
 -- the ticket that was granted is gained
-abbrev pub did : Mode → Answer → List Own → List Deed
+abbrev pub did : Mode → Answer → List SessionTicket → List Deed
 did mode (Granted id) tickets = Gain id mode ∷ []
 did mode _ tickets = []
 

@@ -8,7 +8,7 @@ use Rattle.mdl_calls.specs.declared.space_error.SpaceError.{SpaceError}
 use Rattle.mdl_calls.specs.Words.{Answer, Refused, Would_wait, Upgraded}
 use Rattle.mdl_steps.specs.declared.deed.Deed.{Deed}
 use Rattle.mdl_steps.specs.declared.deed.Deed.TheVariants.{Alter}
-use Rattle.mdl_steps.specs.declared.view.Own.{Own}
+use Rattle.mdl_steps.specs.declared.view.SessionTicket.{SessionTicket}
 use Rattle.mdl_visits.specs.Numbers.{numbered}
 use Rattle.mdl_visits.specs.Visits.{MeetsBlocked, MeetsGrantable}
 use Rattle.mdl_shared.specs.Doings.{upgrade_deeds}
@@ -23,7 +23,7 @@ abbrev pub own_fault : ℕ → Mode → Lists → Option SpaceError
 own_fault id mode l = upgrade_fault mode l.known l.asks (numbered id (all_tickets l))
 
 -- the ticket has the mode, unless its own covered that
-abbrev pub did : ℕ → Mode → Answer → List Own → List Deed
+abbrev pub did : ℕ → Mode → Answer → List SessionTicket → List Deed
 did id mode Upgraded tickets = upgrade_deeds id mode (Ok upgrade.Upgraded) (numbered id tickets)
 did id mode Would_wait tickets = upgrade_deeds id mode (Ok upgrade.WouldWait) (numbered id tickets)
 did id mode _ tickets = []

@@ -8,7 +8,7 @@ use crate::{
     Attempt, Begun, Ended, Held, LockSpace, Place, Poll, Search, SpaceError, TicketId, TimedOut,
     Upgrade,
 };
-use mdl_defs::{Change, DefCache, Standing};
+use mdl_defs::{Change, DefCache, VersionedDefinition};
 use mdl_key::{Key, Mode};
 
 impl LockSpace for CoreSpace {
@@ -93,7 +93,7 @@ impl LockSpace for CoreSpace {
         CoreSpace::downgrade(self, who, id, mode)
     }
 
-    fn read_definition(&mut self, who: u16, ticket: TicketId) -> Result<Standing, SpaceError> {
+    fn read_definition(&mut self, who: u16, ticket: TicketId) -> Result<VersionedDefinition, SpaceError> {
         CoreSpace::read_definition(self, who, ticket)
     }
 
@@ -102,7 +102,7 @@ impl LockSpace for CoreSpace {
         who: u16,
         id: TicketId,
         _cache: &mut DefCache,
-    ) -> Result<Standing, SpaceError> {
+    ) -> Result<VersionedDefinition, SpaceError> {
         CoreSpace::read_definition(self, who, id)
     }
 

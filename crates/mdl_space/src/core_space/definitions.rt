@@ -1,18 +1,18 @@
 //! Reading and changing the definitions of keys.
 ghost use Rattle.std.specs.Prelude.{◌≡◌, true, IfOk, IsOkUnless};
-ghost use Rattle.mdl_core.specs.Words.{SpeaksFor, Makes, has_key, standing_at, read_outcome, change_definition_outcome, redefining_fault, redefined_unless};
+ghost use Rattle.mdl_core.specs.Words.{SpeaksFor, Makes, has_key, standing_at, read_definition_outcome, change_definition_outcome, redefining_fault, redefined_unless};
 ghost use Rattle.mdl_calls.specs.Words.{change_takes_memory, read, redefined};
 
 use crate::core_space::CoreSpace;
 use crate::{Place, SpaceError, TicketId};
-use mdl_defs::{Change, Standing};
+use mdl_defs::{Change, VersionedDefinition};
 use mdl_key::Mode;
 
 impl CoreSpace {
     /// Returns the version and the definition of the key at a held ticket's place.
-    pub(crate) fn read_definition(&self, who: u16, id: TicketId) -> Result<Standing, SpaceError>
+    pub(crate) fn read_definition(&self, who: u16, id: TicketId) -> Result<VersionedDefinition, SpaceError>
         requires { SpeaksFor self.now who }
-        ensures { Makes true (read_outcome who id) self.now (read result) self.now }
+        ensures { Makes true (read_definition_outcome who id) self.now (read result) self.now }
     {
         let Some(ticket) = self.seats[usize::from(who) - 1].ticket(id) else {
             return Err(SpaceError::NotHeld);
@@ -40,7 +40,7 @@ impl CoreSpace {
     }
 
     /// Returns the version and the definition of the key of a place.
-    fn read_at(&self, place: Place) -> Result<Standing, SpaceError>
+    fn read_at(&self, place: Place) -> Result<VersionedDefinition, SpaceError>
         requires { has_key place self.now ≡ true }
         ensures read { IfOk result (λ standing. standing ≡ standing_at place self.now) }
         ensures memory { IsOkUnless result SpaceError.OutOfMemory }

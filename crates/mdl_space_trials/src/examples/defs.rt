@@ -1,5 +1,5 @@
 //! `mdl_defs`: a table that is created and altered.
-use mdl_defs::{Change, ChangeError, Column, Columns, DefError, Definition, Standing};
+use mdl_defs::{Change, ChangeError, Column, Columns, DefError, Definition, VersionedDefinition};
 use mdl_key::Namespace;
 use std::test::Fail;
 
@@ -11,7 +11,7 @@ fn a_table_is_created_and_altered(rt: HostRuntime) -> Result<(), Fail> {
     columns.push(Column::new(alloc, "id")?)?;
     let create = Change::Create(Definition::Table(columns));
     let add = Change::AddColumn(note);
-    let mut table = Standing::new();
+    let mut table = VersionedDefinition::new();
     assert!(rt; table.change(alloc, Namespace::Table, &create) == Ok(1)); // the table's version
     assert!(rt; table.change(alloc, Namespace::Table, &add) == Ok(2));
     // The table has the column already, and nothing changes.

@@ -1,7 +1,7 @@
 //! Makes a second ticket of one that the session has.
 ghost use Rattle.std.specs.Prelude.{◌≡◌, ◌∷◌, [], None, OnOk, IfErr};
 ghost use Rattle.mdl_steps.specs.declared.deed.Deed.TheVariants.{Gain};
-ghost use Rattle.mdl_steps.specs.declared.view.Met.{Met};
+ghost use Rattle.mdl_steps.specs.declared.view.StepRecord.{StepRecord};
 ghost use Rattle.mdl_steps.specs.SeatStates.{AtItsTable};
 ghost use Rattle.mdl_visits.specs.Coverings.{CanClone};
 ghost use Rattle.mdl_visits.specs.Leavings.{MeetsOwn};
@@ -12,7 +12,7 @@ use crate::latches::await_latch;
 use crate::no_fast_tickets::NO_FAST_TICKETS;
 use mdl_book::BookError;
 use mdl_key::Mode;
-use mdl_steps::{Deed, Own, TableSeat};
+use mdl_steps::{Deed, SessionTicket, TableSeat};
 use std::sync::Wait;
 
 /// Makes a second ticket, with this number and in this mode, of one that the session has and whose mode covers it. The session has no
@@ -20,7 +20,7 @@ use std::sync::Wait;
 pub fn clone_ticket<R: Wait>(
     rt: &R,
     seat: &mut TableSeat,
-    held: Own,
+    held: SessionTicket,
     number: u64,
     mode: Mode,
 ) -> Result<(), BookError>
@@ -28,7 +28,7 @@ pub fn clone_ticket<R: Wait>(
     requires idle { seat.old.me.0.asks ≡ None }
     requires may { CanClone held number mode seat.old.me.0 }
     ensures cloned { OnOk result (AtItsTable seat.old seat.new (Visits held.place (Gain number mode ∷ []))) }
-    ensures step { (e : Met) × IsStepOf seat.old.me seat.new.me e × MeetsOwn held.place seat.old.me.0.number held.number e
+    ensures step { (e : StepRecord) × IsStepOf seat.old.me seat.new.me e × MeetsOwn held.place seat.old.me.0.number held.number e
         × OnOk result (e.deeds ≡ Gain number mode ∷ []) }
     ensures once { VisitsOnce held.place seat.old.me seat.new.me }
     ensures refused { IfErr result (λ cause. WasRefused held.place cause seat.old seat.new) }

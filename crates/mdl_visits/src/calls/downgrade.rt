@@ -14,12 +14,12 @@ use crate::calls::reschedule::lower_flags_and_reschedule;
 use crate::latches::await_latch;
 use crate::no_fast_tickets::NO_FAST_TICKETS;
 use mdl_key::Mode;
-use mdl_steps::{Deed, Own, TableSeat};
+use mdl_steps::{Deed, SessionTicket, TableSeat};
 use std::sync::Wait;
 
 /// Gives a ticket of the session a mode to which its own may be downgraded, also while the session waits for another ticket, and grants
 /// the waits at the place that can be granted then. It takes no memory. After `MDL_ticket::downgrade_lock`.
-pub fn downgrade<R: Wait>(rt: &R, seat: &mut TableSeat, held: Own, mode: Mode)
+pub fn downgrade<R: Wait>(rt: &R, seat: &mut TableSeat, held: SessionTicket, mode: Mode)
     requires at { MayVisit held.place seat.old }
     requires unwaited { NotWaited seat.old.me.0 held.number }
     requires held { numbered held.number seat.old.me.0.slow ≡ Some held }

@@ -14,7 +14,7 @@ use crate::latches::await_latch;
 use crate::no_fast_tickets::NO_FAST_TICKETS;
 use mdl_book::BookError;
 use mdl_key::{Kind, Mode};
-use mdl_steps::{Latched, Own, TableSeat};
+use mdl_steps::{Latched, SessionTicket, TableSeat};
 use mdl_word::Word;
 use std::sync::Wait;
 
@@ -26,7 +26,7 @@ pub fn materialise<R: Wait>(
     seat: &mut TableSeat,
     place: usize,
     kind: Kind,
-    fast: &[Own],
+    fast: &[SessionTicket],
 ) -> Result<(), BookError>
     requires at { MayVisit place seat.old }
     requires knows { KnowsKind seat.old.me.0 place kind }
@@ -51,7 +51,7 @@ pub fn materialise<R: Wait>(
 }
 
 // Grants these tickets of the session in the book in hand. If there is no room for all of them, the book is unchanged.
-fn write_gains(seat: &mut TableSeat, latch: &Latched, tickets: &[Own]) -> Result<(), BookError>
+fn write_gains(seat: &mut TableSeat, latch: &Latched, tickets: &[SessionTicket]) -> Result<(), BookError>
     requires can { (book : BookView) × CanStand latch.now.place tickets.now book seat.old }
     ensures written { (book : BookView) → CanStand latch.now.place tickets.now book seat.old
         → OnOk result (seat.new ≡ with_book latch.now.place (granting_own seat.old.me.0.number tickets.now book) seat.old) }
@@ -68,7 +68,7 @@ fn write_gains(seat: &mut TableSeat, latch: &Latched, tickets: &[Own]) -> Result
 }
 
 // Removes these tickets of the session, the last ones granted in the book in hand, from it. It takes no memory.
-fn write_losses(seat: &mut TableSeat, latch: &Latched, tickets: &[Own])
+fn write_losses(seat: &mut TableSeat, latch: &Latched, tickets: &[SessionTicket])
     requires stand { (book : BookView) × Stand latch.now.place tickets.now book seat.old }
     ensures written { (book : BookView) → Stand latch.now.place tickets.now book seat.old → seat.new ≡ with_book latch.now.place book seat.old }
 {
@@ -78,7 +78,7 @@ fn write_losses(seat: &mut TableSeat, latch: &Latched, tickets: &[Own])
 }
 
 // What these few tickets add to the word of a lock of this kind, whichever session has them.
-fn weigh(kind: Kind, tickets: &[Own]) -> u64
+fn weigh(kind: Kind, tickets: &[SessionTicket]) -> u64
     requires few { length tickets.now ≤ most_fast }
     ensures { (session : ℕ) → result ≡ weight_of kind (map (ticket_by session) tickets.now) }
 {

@@ -10,12 +10,12 @@ ghost use Rattle.mdl_visits.specs.Visits.{MayVisit, Visits, VisitsOnce};
 use crate::enter_and_leave::lower_flags_and_put;
 use crate::latches::await_latch;
 use crate::no_fast_tickets::NO_FAST_TICKETS;
-use mdl_steps::{Deed, Own, TableSeat};
+use mdl_steps::{Deed, SessionTicket, TableSeat};
 use std::sync::Wait;
 
 /// Gives a ticket of the session the mode of another one at its place, which covers its own, and releases that other one. The session has
 /// no wait. It takes no memory.
-pub fn merge<R: Wait>(rt: &R, seat: &mut TableSeat, kept: Own, gone: Own)
+pub fn merge<R: Wait>(rt: &R, seat: &mut TableSeat, kept: SessionTicket, gone: SessionTicket)
     requires at { MayVisit kept.place seat.old }
     requires known { KnowsPlace seat.old.me.0 kept.place }
     requires idle { seat.old.me.0.asks ≡ None }

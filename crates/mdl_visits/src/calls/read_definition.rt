@@ -6,7 +6,7 @@ ghost use Rattle.mdl_visits.specs.Readings.{ReadsStanding};
 ghost use Rattle.mdl_visits.specs.Visits.{MayVisit, StaysQuiet, Visits, VisitsOnce};
 
 use crate::latches::await_latch;
-use mdl_defs::Standing;
+use mdl_defs::VersionedDefinition;
 use mdl_steps::TableSeat;
 use std::alloc::AllocError;
 use std::sync::Wait;
@@ -17,7 +17,7 @@ pub fn read_definition<R: Wait>(
     rt: &R,
     seat: &mut TableSeat,
     place: usize,
-) -> Result<Standing, AllocError>
+) -> Result<VersionedDefinition, AllocError>
     requires at { MayVisit place seat.old }
     ensures learnt { IfOk result (λ standing. ReadsStanding place standing seat.old seat.new) }
     ensures follows { IfOk result (λ standing. Follows place standing seat.old.me) }

@@ -13,7 +13,8 @@ ghost use Rattle.mdl_visits.specs.Visits.{HasStep, MakesQuietSteps, MakesSteps, 
 use crate::KnownKeys;
 use crate::latches::{await_directory, await_latch};
 use mdl_calls::Place;
-use mdl_steps::{Known, LatchedDirectory, TableSeat};
+use mdl_key::KnownKey;
+use mdl_steps::{LatchedDirectory, TableSeat};
 use std::alloc::{AllocError, Global};
 use std::sync::Wait;
 
@@ -25,7 +26,7 @@ pub fn find_tables<R: Wait>(
     alloc: Global,
     known: &mut KnownKeys,
     schema: &str,
-) -> Result<(Vec<Known>, Vec<Place>), AllocError>
+) -> Result<(Vec<KnownKey>, Vec<Place>), AllocError>
     requires idle { HoldsNoLatch seat.old.me }
     requires narrow { seat.old.table.slots ≤ 65536 }
     ensures same { known.new.known ≡ known.old.known }
@@ -55,7 +56,7 @@ fn list_tables(
     alloc: Global,
     known: &mut KnownKeys,
     schema: &str,
-) -> Result<(Vec<Known>, Vec<Place>), AllocError>
+) -> Result<(Vec<KnownKey>, Vec<Place>), AllocError>
     requires held { (k : Keys) × HasDirectory k seat.old.me }
     requires narrow { seat.old.table.slots ≤ 65536 }
     ensures same { (seat.new ≡ seat.old) × (known.new.known ≡ known.old.known) }
@@ -70,7 +71,7 @@ fn list_tables(
 }
 
 // Sorts tables by their keys.
-fn sort_by_key(tables: &mut Vec<Known>)
+fn sort_by_key(tables: &mut Vec<KnownKey>)
     ensures same { IsPermutation tables.old.items tables.new.items }
     ensures sorted { AreSorted tables.new.items }
 {
@@ -90,7 +91,7 @@ fn is_defined<R: Wait>(rt: &R, seat: &mut TableSeat, place: usize) -> bool
 }
 
 // Looks at the place of one table, and adds it to a list if it has a definition.
-fn add_if_defined<R: Wait>(rt: &R, seat: &mut TableSeat, table: &Known, places: &mut Vec<Place>)
+fn add_if_defined<R: Wait>(rt: &R, seat: &mut TableSeat, table: &KnownKey, places: &mut Vec<Place>)
     requires at { MayVisit table.now.place seat.old × (seat.old.table.slots ≤ 65536) }
     requires room { vec_len places.old < vec_capacity places.old }
     ensures steps { AtItsTable seat.old seat.new MakesQuietSteps }
@@ -106,7 +107,7 @@ fn add_if_defined<R: Wait>(rt: &R, seat: &mut TableSeat, table: &Known, places: 
 pub fn tables_defined<R: Wait>(
     rt: &R,
     seat: &mut TableSeat,
-    tables: &[Known],
+    tables: &[KnownKey],
     places: &mut Vec<Place>,
 )
     requires within { AreWithin seat.old.table.slots tables.now × (seat.old.table.slots ≤ 65536) }

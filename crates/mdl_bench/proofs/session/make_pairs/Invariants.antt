@@ -1,6 +1,6 @@
 -- The session knows the place.
 use Rattle.std.proofs.Common.{◌≡◌, true}
-use Rattle.mdl_calls.specs.SessionData.{is_known}
+use Rattle.mdl_key.specs.KeyLookups.{is_known}
 use Rattle.mdl_shared.specs.SessionViews.{data_of}
 use Rattle.mdl_bench.proofs.session.make_pairs.Given as goal
 

@@ -1,6 +1,6 @@
 -- The session knows the place.
 use Rattle.std.proofs.Common.{◌≡◌, true}
-use Rattle.mdl_calls.specs.SessionData.{is_known}
+use Rattle.mdl_key.specs.KeyLookups.{is_known}
 use Rattle.mdl_shared.specs.SessionViews.{data_of}
 use Rattle.mdl_growth_trials.proofs.acts.try_fast.Given as goal
 

@@ -2,15 +2,15 @@
 use Rattle.std.specs.Prelude.{◌≡◌, ℕ, ◌+◌, List, [], ◌∷◌, length, Some, None}
 use Rattle.mdl_key.specs.declared.mode.Mode.{Mode}
 use Rattle.mdl_key.specs.declared.namespace.Kind.{Kind}
-use Rattle.mdl_steps.specs.declared.view.Own.{Own}
+use Rattle.mdl_steps.specs.declared.view.SessionTicket.{SessionTicket}
 use Rattle.mdl_steps.specs.FastPlays.{fast_own}
 use Rattle.mdl_steps.specs.SeatStates.{SeatState}
 use Rattle.mdl_steps.specs.Seats.{IsPlace}
 use Rattle.mdl_visits.specs.Idle.{HoldsNoLatch}
-use Rattle.mdl_shared.specs.Members.{kind_known}
+use Rattle.mdl_key.specs.KeyLookups.{kind_known}
 
 -- fast tickets at a place in these modes, numbered one after the other
-abbrev pub fast_from : ℕ → ℕ → List Mode → List Own
+abbrev pub fast_from : ℕ → ℕ → List Mode → List SessionTicket
 fast_from place number [] = []
 fast_from place number (mode ∷ modes) = fast_own number place mode None ∷ fast_from place (number + 1) modes
 

@@ -7,12 +7,12 @@ ghost use Rattle.mdl_steps.specs.FastPlays.{fast_own};
 ghost use Rattle.mdl_steps.specs.Seats.{IsPlace, IsSized};
 ghost use Rattle.mdl_steps.specs.WaitStates.{IsLost, granted_state};
 ghost use Rattle.mdl_visits.specs.Idle.{HoldsNoLatch};
-ghost use Rattle.mdl_shared.specs.Members.{kind_known};
+ghost use Rattle.mdl_key.specs.KeyLookups.{kind_known};
 ghost use Rattle.mdl_run_trials.specs.shared.steps.Fast.{HasFastAlone};
 
 use crate::shared::steps::rows::{Answer, Deed};
 use mdl_key::{Key, Kind, Mode};
-use mdl_steps::{Ask, Loss, Maker, Own, OwnedTable, TableSeat, WaitWord};
+use mdl_steps::{Ask, Loss, Maker, SessionTicket, OwnedTable, TableSeat, WaitWord};
 use mdl_visits::{
     FastTried, Queued, TryOutcome, begin_wait, end_lost_wait, materialise, release, release_fast,
     reschedule, resolve, try_fast, try_now,
@@ -34,8 +34,8 @@ pub(crate) struct Visitor {
     next: u64,
     waits: u64,
     asks: Option<Ask>,
-    slow: Option<Own>,
-    fast: Option<Own>,
+    slow: Option<SessionTicket>,
+    fast: Option<SessionTicket>,
     ghost placed: { IsPlace seat.table place },
     ghost known: { kind_known place seat.me.0.known ≡ Some kind },
     ghost idle: { HoldsNoLatch seat.me },
@@ -128,7 +128,7 @@ impl Visitor {
         let (place, number) = (self.place, self.next);
         match try_now(rt, &mut self.seat, place, self.kind, number, mode) {
             Ok(TryOutcome::Granted) => {
-                self.slow = Some(Own {
+                self.slow = Some(SessionTicket {
                     number,
                     place,
                     mode,
@@ -150,7 +150,7 @@ impl Visitor {
         let (place, number, wait) = (self.place, self.next, self.waits + 1);
         match begin_wait(rt, &mut self.seat, place, self.kind, number, mode, wait) {
             Ok(Queued::Granted) => {
-                self.slow = Some(Own {
+                self.slow = Some(SessionTicket {
                     number,
                     place,
                     mode,
@@ -185,7 +185,7 @@ impl Visitor {
         Answer::Done
     }
 
-    fn give_back<R: Wait>(&mut self, rt: &R, ticket: Own)
+    fn give_back<R: Wait>(&mut self, rt: &R, ticket: SessionTicket)
         requires held { self.old.slow ≡ Some ticket }
         requires here { ticket.place ≡ self.old.place }
         requires unwaited { self.old.asks ≡ None }
@@ -227,7 +227,7 @@ impl Visitor {
         requires few { self.old.waits < 2 ^ 60 }
     {
         self.seat.end_granted(self.waits);
-        self.slow = Some(Own {
+        self.slow = Some(SessionTicket {
             number: ask.number,
             place: ask.place,
             mode: ask.mode,
@@ -258,7 +258,7 @@ impl Visitor {
         };
         match try_fast(&mut self.seat, place, mode, None, one) {
             FastTried::Granted => {
-                self.fast = Some(Own {
+                self.fast = Some(SessionTicket {
                     number,
                     place,
                     mode,
@@ -345,7 +345,7 @@ fn gain(
     next: u64,
     beside: &[Mode],
     mode: Mode,
-) -> Option<Own>
+) -> Option<SessionTicket>
     requires alone { HasFastAlone place kind next beside.now seat.old }
     requires few { length beside.now < 3 }
     requires rest { next < 2 ^ 60 }
@@ -354,7 +354,7 @@ fn gain(
 {
     let one = Word::increment(kind, mode)?;
     match try_fast(seat, place, mode, None, one) {
-        FastTried::Granted => Some(Own {
+        FastTried::Granted => Some(SessionTicket {
             number: next + beside.len() as u64,
             place,
             mode,

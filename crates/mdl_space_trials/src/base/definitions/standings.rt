@@ -3,7 +3,7 @@ use super::{Act, What, X, X_Y, change, definition};
 use crate::base::keys::names::{Name, key_of};
 use crate::base::rows::{is_right, none_is_wrong};
 use mdl_book::Book;
-use mdl_defs::{ChangeError, DefError, Definition, Standing};
+use mdl_defs::{ChangeError, DefError, Definition, VersionedDefinition};
 use mdl_key::Namespace;
 use std::alloc::Global;
 
@@ -60,7 +60,7 @@ const UNDER_OTHERS: &[Step] = &[
     (Act::Add("x"), Err(ChangeError::WrongKind), None),
 ];
 
-fn is_copied(standing: &Standing) -> bool {
+fn is_copied(standing: &VersionedDefinition) -> bool {
     match standing.clone() {
         Ok(copy) => copy == *standing,
         Err(_) => false,
@@ -149,7 +149,7 @@ const LATE: &[(Act, Result<u64, ChangeError>)] = &[
 // Whether a change of a table gives this answer.
 fn answers(
     alloc: Global,
-    standing: &mut Standing,
+    standing: &mut VersionedDefinition,
     act: Act,
     want: Result<u64, ChangeError>,
 ) -> bool {
@@ -161,7 +161,7 @@ fn answers(
 
 #[test]
 fn versions_have_an_end(rt: HostRuntime) {
-    let mut standing = Standing::new();
+    let mut standing = VersionedDefinition::new();
     standing.definition = definition(rt.alloc(), X_Y);
     standing.version = 999_999;
     for (place, (act, want)) in LATE.iter().enumerate() {

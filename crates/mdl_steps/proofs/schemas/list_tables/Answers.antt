@@ -2,7 +2,7 @@
 use Rattle.std.proofs.Common.{◌≡◌, ℕ, ◌+◌, ◌<◌, List, [], ◌∷◌, ◌++◌, length, take, sym, ap, ◌∙◌, arith}
 use Rattle.std.proofs.lemmas.List.{take_more, length-take-le}
 use Rattle.mdl_key.specs.Words.{KeyName}
-use Rattle.mdl_steps.specs.declared.view.Known.{Known}
+use Rattle.mdl_key.specs.declared.known_key.KnownKey.{KnownKey}
 use Rattle.mdl_steps.specs.Schemas.{table_at, tables_from}
 use Rattle.mdl_steps.proofs.SchemaLemmas.{tables_more}
 use Rattle.mdl_steps.proofs.schemas.list_tables.Goals as goal
@@ -16,7 +16,7 @@ loop-index-preserved c =
     let inside : i < length keys = c.loop-index-test.true in
     let place : i + 1 ≡ 1 + length (take i keys) = (let so_far = length-take-le i keys (omega (arith, inside)) in omega (arith, so_far)) in
     c.in_ok-list_table.ensures
-    ∙ ap (λ (ts : List Known). ts ++ table_at schema (i + 1) key) c.loop-index.invariant
+    ∙ ap (λ (ts : List KnownKey). ts ++ table_at schema (i + 1) key) c.loop-index.invariant
     ∙ ap (λ (p : ℕ). tables_from schema 1 (take i keys) ++ table_at schema p key) place
     ∙ sym (tables_more schema 1 (take i keys) key)
     ∙ ap (tables_from schema 1) (ap (λ (k : KeyName). take i keys ++ k ∷ []) c.index-keys-index.is ∙ sym (take_more keys i key inside))

@@ -1,6 +1,6 @@
 -- The flags were lowered, and then the latch was put.
 use Rattle.std.proofs.Common.{[], ap, false, inr, refl, subst, sym, ◌∙◌}
-use Rattle.mdl_steps.specs.declared.view.Met.{Met}
+use Rattle.mdl_steps.specs.declared.view.StepRecord.{StepRecord}
 use Rattle.mdl_steps.specs.Plays.{Mine, unlatched}
 use Rattle.mdl_visits.specs.Leavings.{DidUnder, Leaves, PutsBack}
 use Rattle.mdl_visits.specs.Visits.{IsStepOf}
@@ -40,7 +40,7 @@ returns c =
     let left = subst (λ (x : Mine). Leaves place ds m x) (sym whole) (leaves place ds low.0 low.1 low.2 low.3 m) in
     record {
       visited = λ s came. (table_of put ∙ lowered.0 ∙ came.0, visits_left place s.me m n came.1 ds left);
-      step = subst (λ (x : Mine). (e : Met) × IsStepOf m x e × DidUnder place ds seat e) (sym whole) (first_step place ds low.0 low.1 low.2 low.3 m);
+      step = subst (λ (x : Mine). (e : StepRecord) × IsStepOf m x e × DidUnder place ds seat e) (sym whole) (first_step place ds low.0 low.1 low.2 low.3 m);
       once = visit_after false m c.lower_flags.new.seat.me n (within_lowered false m c.lower_flags.new.seat.me place ds low) place
           (visit_put false c.lower_flags.new.seat.me n place [] (mine put));
       back = subst (λ (x : Mine). PutsBack place m x) (sym whole) (puts_back place ds low.0 low.1 low.2 low.3 m);

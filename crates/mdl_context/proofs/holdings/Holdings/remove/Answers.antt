@@ -3,14 +3,14 @@ use Rattle.std.proofs.Common.{◌≡◌, ◌<◌, ◌+◌, length, rules, Some, 
 use Rattle.std.specs.Prelude.{find}
 use Rattle.std.specs.Vec.{vec_capacity}
 use Rattle.mdl_context.specs.Contexts.{AreRising}
-use Rattle.mdl_context.specs.Holdings.{is_kept_ticket, without_number}
+use Rattle.mdl_context.specs.Holdings.{has_ticket_number, without_number}
 use Rattle.mdl_context.proofs.PlaceLemmas.{found_at, index-less, rising-numbers, room-stays}
 use Rattle.mdl_context.proofs.SearchLemmas.{no_ticket, without_at}
 use Rattle.mdl_context.proofs.holdings.Holdings.remove.Goals as goal
 
 pub remove-ticket-requires : goal.remove-ticket-requires
 remove-ticket-requires c =
-    let inside : c.args.at < length c.self.inside.tickets.items = (found_at (is_kept_ticket c.args.id) c.self.inside.tickets.items c.args.at no_ticket (sym (rw (← c.self.view_is) at c.requires.here))).0 in
+    let inside : c.args.at < length c.self.inside.tickets.items = (found_at (has_ticket_number c.args.id) c.self.inside.tickets.items c.args.at no_ticket (sym (rw (← c.self.view_is) at c.requires.here))).0 in
     search (rules, inside)
 
 pub remove-requires : goal.remove-requires
@@ -26,7 +26,7 @@ invariant_of-self c =
     let rising : AreRising kept = rw (← c.self.view_is) at c.requires.rising in
     let t = c.remove-ticket.result in
     let place = sym (rw (← c.self.view_is) at c.requires.here) in
-    let found : find (is_kept_ticket c.args.id) kept ≡ Some t = (found_at (is_kept_ticket c.args.id) kept c.args.at t place).1 ∙ ap (λ x. Some x) (sym c.remove-ticket.ensures.value) in
+    let found : find (has_ticket_number c.args.id) kept ≡ Some t = (found_at (has_ticket_number c.args.id) kept c.args.at t place).1 ∙ ap (λ x. Some x) (sym c.remove-ticket.ensures.value) in
     let left : c.remove-ticket.new.self.items ≡ without_number c.args.id kept = c.remove-ticket.ensures.items ∙ sym (without_at c.args.id kept c.args.at rising place) in
     let less = index-less kept c.args.id t c.self.inside.by_place c.remove.new.self rising found c.self.invariant.0 c.remove.ensures.numbers in
     let fewer : length c.remove-ticket.new.self.items + 1 ≡ length kept = search rules in

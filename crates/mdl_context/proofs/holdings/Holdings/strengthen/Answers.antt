@@ -4,7 +4,7 @@ use Rattle.std.specs.Prelude.{position, slice_set}
 use Rattle.std.proofs.lemmas.List.{length-set}
 use Rattle.mdl_calls.specs.SessionLocks.{upgraded}
 use Rattle.mdl_context.specs.Contexts.{AreRising}
-use Rattle.mdl_context.specs.Holdings.{is_kept_ticket, kept_in_mode}
+use Rattle.mdl_context.specs.Holdings.{has_ticket_number, with_kept_mode}
 use Rattle.mdl_context.proofs.ModeLemmas.{in_mode-at, in_mode-none, numbers-in_mode, upgraded-weaker, upgraded-covered}
 use Rattle.mdl_context.proofs.holdings.Holdings.strengthen.Goals as goal
 
@@ -12,8 +12,8 @@ pub invariant_of-self : goal.invariant_of-self
 invariant_of-self c =
     let kept = c.self.inside.tickets.items in
     let rising : AreRising kept = rw (← c.self.view_is) at c.requires in
-    let place : Some c.in-Some.at ≡ position (is_kept_ticket c.args.id) kept = sym c.in-Some.is ∙ c.index_of.ensures ∙ ap (position (is_kept_ticket c.args.id)) c.deref.ensures.value in
-    let now : slice_set kept c.in-Some.at (record c.index_mut-ticket.result.now { mode = c.args.mode }) ≡ kept_in_mode c.args.id (λ _. c.args.mode) kept =
+    let place : Some c.in-Some.at ≡ position (has_ticket_number c.args.id) kept = sym c.in-Some.is ∙ c.index_of.ensures ∙ ap (position (has_ticket_number c.args.id)) c.deref.ensures.value in
+    let now : slice_set kept c.in-Some.at (record c.index_mut-ticket.result.now { mode = c.args.mode }) ≡ with_kept_mode c.args.id (λ _. c.args.mode) kept =
     in_mode-at c.args.id (λ _. c.args.mode) kept c.in-Some.at c.index_mut-ticket.result.now c.args.mode rising place c.index_mut-ticket.ensures.value refl in (
       λ q. c.self.invariant.0 q ∙ sym (rw now (numbers-in_mode c.args.id (λ _. c.args.mode) q kept)),
       rw (length-set kept c.in-Some.at (record c.index_mut-ticket.result.now { mode = c.args.mode })) c.self.invariant.1,
@@ -23,7 +23,7 @@ pub returns-then-not-covers-clause-kept : goal.returns-then-not-covers-clause-ke
 returns-then-not-covers-clause-kept c =
     let kept = c.self.inside.tickets.items in
     let rising : AreRising kept = rw (← c.self.view_is) at c.requires in
-    let place : Some c.in-Some.at ≡ position (is_kept_ticket c.args.id) kept = sym c.in-Some.is ∙ c.index_of.ensures ∙ ap (position (is_kept_ticket c.args.id)) c.deref.ensures.value in
+    let place : Some c.in-Some.at ≡ position (has_ticket_number c.args.id) kept = sym c.in-Some.is ∙ c.index_of.ensures ∙ ap (position (has_ticket_number c.args.id)) c.deref.ensures.value in
     rw (← c.self.view_is)
     (in_mode-at c.args.id (upgraded c.args.mode) kept c.in-Some.at c.index_mut-ticket.result.now c.args.mode rising place c.index_mut-ticket.ensures.value
     (upgraded-weaker c.args.mode c.index_mut-ticket.result.now.mode (sym c.covers.ensures ∙ c.if-not-covers.true)))
@@ -32,7 +32,7 @@ pub returns-else-not-covers-clause-kept : goal.returns-else-not-covers-clause-ke
 returns-else-not-covers-clause-kept c =
     let kept = c.self.inside.tickets.items in
     let rising : AreRising kept = rw (← c.self.view_is) at c.requires in
-    let place : Some c.in-Some.at ≡ position (is_kept_ticket c.args.id) kept = sym c.in-Some.is ∙ c.index_of.ensures ∙ ap (position (is_kept_ticket c.args.id)) c.deref.ensures.value in
+    let place : Some c.in-Some.at ≡ position (has_ticket_number c.args.id) kept = sym c.in-Some.is ∙ c.index_of.ensures ∙ ap (position (has_ticket_number c.args.id)) c.deref.ensures.value in
     rw (← c.self.view_is)
     (in_mode-at c.args.id (upgraded c.args.mode) kept c.in-Some.at c.index_mut-ticket.result.now c.index_mut-ticket.result.now.mode rising place c.index_mut-ticket.ensures.value
     (upgraded-covered c.args.mode c.index_mut-ticket.result.now.mode (sym c.covers.ensures ∙ c.if-not-covers.false)))
@@ -40,5 +40,5 @@ returns-else-not-covers-clause-kept c =
 pub returns-in_default-clause-kept : goal.returns-in_default-clause-kept
 returns-in_default-clause-kept c =
     let kept = c.self.inside.tickets.items in
-    let place : None ≡ position (is_kept_ticket c.args.id) kept = sym c.in_default.is ∙ c.index_of.ensures ∙ ap (position (is_kept_ticket c.args.id)) c.deref.ensures.value in
+    let place : None ≡ position (has_ticket_number c.args.id) kept = sym c.in_default.is ∙ c.index_of.ensures ∙ ap (position (has_ticket_number c.args.id)) c.deref.ensures.value in
     rw (← c.self.view_is) (sym (in_mode-none c.args.id (upgraded c.args.mode) kept place))

@@ -1,9 +1,10 @@
 -- A place whose key the session tells is one that it knows.
 use Rattle.std.proofs.Common.{◌∙◌, ap, is_some}
-use Rattle.mdl_shared.specs.SessionData.{is_known}
+use Rattle.mdl_key.specs.KeyLookups.{is_known}
+use Rattle.mdl_session_laws.proofs.KeyLists.{known-some}
 use Rattle.mdl_run_trials.proofs.shared.acts.try_fast.Goals as goal
 
 pub try_fast-requires : goal.try_fast-requires
 try_fast-requires g c =
     let joined = c.in-Ok.ensures.joined in
-    record { known = ap (λ known. is_known c.args.place known) joined.learns ∙ ap is_some joined.truly }
+    record { known = ap (λ known. is_known c.args.place known) joined.learns ∙ known-some _ c.args.place ∙ ap is_some joined.truly }

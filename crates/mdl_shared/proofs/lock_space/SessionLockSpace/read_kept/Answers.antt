@@ -1,6 +1,6 @@
 -- A read of the session that speaks for its own number is one for that number.
 use Rattle.std.proofs.Common.{◌≡◌, ℕ, Ok, Err, Result}
-use Rattle.mdl_defs.specs.declared.standing.Standing.{Standing}
+use Rattle.mdl_defs.specs.declared.versioned_definition.VersionedDefinition.{VersionedDefinition}
 use Rattle.mdl_calls.specs.declared.space_error.SpaceError.{SpaceError}
 use Rattle.mdl_calls.specs.Words.{read as read_as}
 use Rattle.std.specs.Prelude.{IfOk, OnErr}
@@ -10,7 +10,7 @@ use Rattle.mdl_shared.specs.SessionViews.{SessionView}
 use Rattle.mdl_shared.proofs.lock_space.SessionLockSpace.read_kept.Goals as goal
 
 -- what it does to the cache, by its answer
-used : (id : ℕ) (result : Result Standing SpaceError) (a b : SessionView) (before after : CacheView) → IfOk result (λ standing. ReadsKept id standing a b before after)
+used : (id : ℕ) (result : Result VersionedDefinition SpaceError) (a b : SessionView) (before after : CacheView) → IfOk result (λ standing. ReadsKept id standing a b before after)
     → OnErr result (after ≡ before) → UsesKept id (read_as result) a b before after
 used id (Ok standing) a b before after kept left = kept
 used id (Err why) a b before after kept left = left

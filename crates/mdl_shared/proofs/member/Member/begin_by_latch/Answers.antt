@@ -4,7 +4,7 @@ use Rattle.std.specs.Option.{option_map_or}
 use Rattle.mdl_calls.specs.Words.{Begin_wait}
 use Rattle.mdl_steps.specs.declared.deed.Deed.TheVariants.{Gain}
 use Rattle.mdl_steps.specs.declared.view.Ask.{Ask}
-use Rattle.mdl_steps.specs.declared.view.Met.{Met}
+use Rattle.mdl_steps.specs.declared.view.StepRecord.{StepRecord}
 use Rattle.mdl_visits.specs.Visits.{AreStepsOf, MeetsBlocked}
 use Rattle.mdl_visits.specs.WaitOpenings.{MeetsOpening}
 use Rattle.mdl_shared.specs.SessionViews.{Lists, SessionView, lists_seen}
@@ -114,7 +114,7 @@ returns g c =
         table = went.0.0;
         sessions = refl;
         opens = went.0.1;
-        met = subst (λ (n : ℕ). (e f : Met) × AreStepsOf m.seat.me c.begin_wait.new.seat.me e f × MeetsBlocked c.args.place m.seat.me.0.number c.args.mode e
+        met = subst (λ (n : ℕ). (e f : StepRecord) × AreStepsOf m.seat.me c.begin_wait.new.seat.me e f × MeetsBlocked c.args.place m.seat.me.0.number c.args.mode e
             × MeetsOpening m.seat.table.slots c.args.place m.seat.me.0.number m.seat.me.0.waits n c.args.mode f) (ap (λ (l : Lists). l.next) m.lists) went.1;
         room = keeps-same m.tickets.room;
       };

@@ -6,7 +6,7 @@ use Rattle.mdl_steps.specs.Cells.{own_at}
 use Rattle.mdl_steps.specs.FastPlays.{fast_own, first_note}
 use Rattle.mdl_steps.specs.Plays.{Mine}
 use Rattle.mdl_steps.specs.declared.deed.Deed.TheVariants.{Gain}
-use Rattle.mdl_steps.specs.declared.view.Own.{Own}
+use Rattle.mdl_steps.specs.declared.view.SessionTicket.{SessionTicket}
 use Rattle.mdl_steps.specs.SeatStates.{AtItsTable, SeatState}
 use Rattle.mdl_steps.proofs.Views.{by_bool}
 use Rattle.mdl_visits.specs.FastTries.{GrantsAtLast, Misses}
@@ -90,7 +90,7 @@ returns-in-Contended-clause-unchanged c =
 -- ---- the ticket was granted
 
 -- the last ticket has its number
-last_numbered : (t : Own) (tickets : List Own) → is_some (numbered t.number (tickets ++ t ∷ [])) ≡ true
+last_numbered : (t : SessionTicket) (tickets : List SessionTicket) → is_some (numbered t.number (tickets ++ t ∷ [])) ≡ true
 last_numbered t [] = rw (eq-eqb t.number t.number refl) refl
 last_numbered t (u ∷ us) = by_bool (u.number == t.number) (λ hit. rw hit refl) (λ miss. rw miss (last_numbered t us))
 
@@ -124,5 +124,5 @@ returns-clause-granted c =
       refl,
       subst (λ (n : ℕ). DoesQuietly c.args.place (Gain n c.args.mode ∷ []) (view_of m) after) (sym first) quiet,
       subst (λ (n : ℕ). GrantsAtLast c.args.place (Gain n c.args.mode) m.seat.me c.try_fast.new.seat.me) (sym first) granted.1,
-      ap (λ (fast : List Own). is_some (numbered m.next fast)) c.push_fast.ensures.gained ∙ last_numbered _ m.tickets.fast,
+      ap (λ (fast : List SessionTicket). is_some (numbered m.next fast)) c.push_fast.ensures.gained ∙ last_numbered _ m.tickets.fast,
     )

@@ -1,12 +1,12 @@
 -- The ticket is released, and its place is rescheduled where that is owed.
 use Rattle.std.proofs.Common.{◌≡◌, List, [], ◌∷◌, Some, refl, sym, ap, subst, ◌∙◌}
 use Rattle.mdl_steps.specs.declared.deed.Deed.TheVariants.{Lose}
-use Rattle.mdl_steps.specs.declared.view.Known.{Known}
+use Rattle.mdl_key.specs.declared.known_key.KnownKey.{KnownKey}
 use Rattle.mdl_steps.specs.Plays.{Mine}
 use Rattle.mdl_visits.specs.Numbers.{numbered}
 use Rattle.mdl_visits.proofs.Doing.{does_reschedule}
 use Rattle.mdl_visits.proofs.Steps.{does_then}
-use Rattle.mdl_shared.specs.Members.{is_place_looked_up}
+use Rattle.mdl_key.specs.KeyLookups.{is_known}
 use Rattle.mdl_shared.specs.Passes.{view_of}
 use Rattle.mdl_shared.specs.SessionViews.{Lists, SessionView, session_at}
 use Rattle.mdl_shared.specs.Steps.{GivesUpFast}
@@ -26,7 +26,7 @@ pay-requires g c =
     let its : numbered t.number m.seat.me.0.fast ≡ Some t = ap (λ (l : Lists). numbered t.number l.fast) (sym m.lists) ∙ c.requires.held in
     let known = ticket-known (member m) t.number t (fast-held (member m) t.number t its) in
     let same = (done-rest c.lose_fast.ensures.lost.done).known in
-    record { at = may-visit (member mid) t.place (ap (λ (ks : List Known). is_place_looked_up ks t.place) same ∙ known) }
+    record { at = may-visit (member mid) t.place (ap (λ (ks : List KnownKey). is_known t.place ks) same ∙ known) }
 
 pub returns-then-lose_fast : goal.returns-then-lose_fast
 returns-then-lose_fast g c =

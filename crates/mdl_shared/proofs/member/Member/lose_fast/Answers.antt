@@ -3,7 +3,7 @@ use Rattle.std.proofs.Common.{◌≡◌, inr, Bool, Some, refl, sym, ap, subst, 
 use Rattle.mdl_calls.specs.Words.{Release}
 use Rattle.mdl_visits.specs.FastTries.{ReleasesFast}
 use Rattle.mdl_visits.specs.Numbers.{numbered}
-use Rattle.mdl_steps.specs.declared.view.Own.{Own}
+use Rattle.mdl_steps.specs.declared.view.SessionTicket.{SessionTicket}
 use Rattle.mdl_steps.specs.SeatStates.{AtItsTable, SeatState}
 use Rattle.mdl_shared.specs.declared.member.Member.{Member}
 use Rattle.mdl_shared.specs.Members.{IsMember}
@@ -28,10 +28,10 @@ release_fast-owes-requires-clause-lost c = may-release c.args.self.now c.args.he
 
 -- ---- the session is in order then
 
-seen : (m : Member) (t : Own) → numbered t.number m.tickets.fast ≡ Some t → numbered t.number m.seat.me.0.fast ≡ Some t
+seen : (m : Member) (t : SessionTicket) → numbered t.number m.tickets.fast ≡ Some t → numbered t.number m.seat.me.0.fast ≡ Some t
 seen m t held = ap (λ (l : Lists). numbered t.number l.fast) (sym m.lists) ∙ held
 
-still : (m : Member) (t : Own) → numbered t.number m.tickets.fast ≡ Some t → (seat : SeatState) (owes : Bool) → AtItsTable m.seat seat (ReleasesFast t.place t.number owes)
+still : (m : Member) (t : SessionTicket) → numbered t.number m.tickets.fast ≡ Some t → (seat : SeatState) (owes : Bool) → AtItsTable m.seat seat (ReleasesFast t.place t.number owes)
     → (room : Room) → IsMember (session_at seat m.sessions room)
 still m t held seat owes released room =
     let is = member m in

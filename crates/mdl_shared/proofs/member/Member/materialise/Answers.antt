@@ -1,6 +1,6 @@
 -- All places are done, or one has no room.
 use Rattle.std.proofs.Common.{rules, ◌≡◌, ◌<◌, ℕ, List, [], ◌∷◌, ◌++◌, length, Err, refl, sym, ap, subst, ◌∙◌}
-use Rattle.mdl_steps.specs.declared.view.Own.{Own}
+use Rattle.mdl_steps.specs.declared.view.SessionTicket.{SessionTicket}
 use Rattle.mdl_steps.specs.Cells.{own_at}
 use Rattle.mdl_steps.specs.FastPlays.{but_at}
 use Rattle.mdl_shared.specs.Passes.{view_of}
@@ -35,11 +35,11 @@ loop-place-preserved g c =
       slow = slow-more (view_of c.args.self.now) (view_of m) (view_of n) place (quiet-steps c.loop-place.invariant.done) (quiet-steps done) c.loop-place.invariant.slow
           fast made.1;
       order = before-more (view_of c.args.self.now) (view_of m) (view_of n) place c.loop-place.invariant.order
-          (subst (λ (us : List Own). 0 < length (own_at place us)) (ap (λ (l : Lists). l.fast) m.lists) c.in-Some.ensures.0) (λ q before. ap (λ (l : Lists). own_at q l.fast) (sym m.lists) ∙ c.in-Some.ensures.1 q before) fast;
+          (subst (λ (us : List SessionTicket). 0 < length (own_at place us)) (ap (λ (l : Lists). l.fast) m.lists) c.in-Some.ensures.0) (λ q before. ap (λ (l : Lists). own_at q l.fast) (sym m.lists) ∙ c.in-Some.ensures.1 q before) fast;
       turn =
           let turn = c.loop-place.invariant.turn in (
             turn.0 ++ place ∷ [],
-            subst (λ (us : List Own). SlowsInTurn (turn.0 ++ place ∷ []) c.args.self.now.seat.me.0.fast us c.args.self.now.seat.me n.seat.me) (sym fast)
+            subst (λ (us : List SessionTicket). SlowsInTurn (turn.0 ++ place ∷ []) c.args.self.now.seat.me.0.fast us c.args.self.now.seat.me n.seat.me) (sym fast)
                 (turn-more turn.0 place c.args.self.now.seat.me.0.fast m.seat.me.0.fast c.args.self.now.seat.me m.seat.me n.seat.me turn.1
                 (next-seen m place c.in-Some.ensures.0 c.in-Some.ensures.1) c.in_ok-materialise_at.ensures.once),
           );
@@ -90,7 +90,7 @@ returns-clause-turn g c =
     let m = c.loop-place.self in
     let turn = c.loop-place.invariant.turn in
     let none = sym (ap (λ (l : Lists). l.fast) m.lists) ∙ c.in_default.ensures in
-    (turn.0, subst (λ (us : List Own). SlowsInTurn turn.0 c.args.self.now.seat.me.0.fast us c.args.self.now.seat.me m.seat.me) none turn.1)
+    (turn.0, subst (λ (us : List SessionTicket). SlowsInTurn turn.0 c.args.self.now.seat.me.0.fast us c.args.self.now.seat.me m.seat.me) none turn.1)
 
 pub returns-clause-slow : goal.returns-clause-slow
 returns-clause-slow g c =

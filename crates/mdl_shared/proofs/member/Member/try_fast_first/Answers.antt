@@ -1,6 +1,6 @@
 -- The session knows the place. Where no fast ticket is granted its own become slow ones.
 use Rattle.std.proofs.Common.{Err, [], ap, arith, refl, rules, subst, sym, ◌∙◌, ◌≡◌}
-use Rattle.mdl_shared.specs.Members.{kind_known}
+use Rattle.mdl_key.specs.KeyLookups.{kind_known}
 use Rattle.mdl_shared.specs.Passes.{view_of}
 use Rattle.mdl_shared.specs.SessionViews.{Lists}
 use Rattle.mdl_shared.specs.TicketLists.{KeepsRoom, TicketList}

@@ -2,7 +2,7 @@
 use Rattle.std.proofs.Common.{Err, None, Ok, Option, Some, ap, rules, subst, sym, ℕ, ◌∙◌, ◌≡◌}
 use Rattle.std.specs.Option.{IfSome}
 use Rattle.mdl_calls.specs.Words.{Clone_ticket}
-use Rattle.mdl_steps.specs.declared.view.Own.{Own}
+use Rattle.mdl_steps.specs.declared.view.SessionTicket.{SessionTicket}
 use Rattle.mdl_shared.specs.FastWishes.{GainsFast}
 use Rattle.mdl_shared.specs.Modes.{clone_fault}
 use Rattle.mdl_shared.specs.Passes.{view_of}
@@ -61,7 +61,7 @@ clone_by_latch-requires-clause-clear g c =
     let m = c.self.inside.member in
     let t = c.in_ok-held.held in
     let same = same-lists m c.try_fast_first.new.self (c.in_ok-number.ensures.slow (ap Ok c.in_default.is)).0.quiet.done in
-    let found = ap (λ (o : Option Own). clone_fault o m.asks c.args.mode m.known.known m.next) c.in_ok-held.ensures.found.0 in
+    let found = ap (λ (o : Option SessionTicket). clone_fault o m.asks c.args.mode m.known.known m.next) c.in_ok-held.ensures.found.0 in
     (λ i. clone_fault (Some t) (same.asks i) c.args.mode (same.known i) (same.next i)) ∙ sym found ∙ just-done _ _ c.in_ok-held.ensures.just
 
 pub returns : goal.returns

@@ -6,7 +6,6 @@ use Rattle.mdl_steps.proofs.Interleaving.{length-interleaved}
 use Rattle.mdl_shared.proofs.ClosedSessions.{has-nothing}
 use Rattle.mdl_shared.proofs.Debts.{none-owed}
 use Rattle.mdl_shared.proofs.Props.{member}
-use Rattle.mdl_shared.proofs.SpaceLists.{known-told}
 use Rattle.mdl_shared.proofs.session.Session.close.Goals as goal
 
 pub invariant_of-result-clause-empty : goal.invariant_of-result-clause-empty
@@ -29,6 +28,6 @@ returns-in-Some g c =
     rw (← c.self.view_is) (
       has-nothing m none (sym c.is_some.ensures ∙ c.if-is_some.false),
       (sym (m.owed c.in-Some.place) ∙ first.1, λ q before. sym (m.owed q) ∙ first.2 q before),
-      known-told c.in-Some.place m.seat.me.0.known ∙ (member m).owed c.in-Some.place (sym (m.owed c.in-Some.place) ∙ first.1),
+      (member m).owed c.in-Some.place (sym (m.owed c.in-Some.place) ∙ first.1),
       refl,
     )

@@ -3,7 +3,7 @@ use Rattle.std.proofs.Common.{Err, None, Some, [], inr, refl, sym, subst, rules,
 use Rattle.mdl_key.specs.declared.mode.Mode.{Mode}
 use Rattle.mdl_calls.specs.Words.{Downgrade}
 use Rattle.mdl_steps.specs.declared.deed.Deed.TheVariants.{Alter}
-use Rattle.mdl_steps.specs.declared.view.Own.{Own}
+use Rattle.mdl_steps.specs.declared.view.SessionTicket.{SessionTicket}
 use Rattle.mdl_visits.specs.Numbers.{numbered}
 use Rattle.mdl_shared.specs.declared.member.Member.{Member}
 use Rattle.mdl_shared.specs.Modes.{downgrade_fault}
@@ -36,7 +36,7 @@ returns-in_err-held g c =
     }))
 
 -- a ticket that may be brought down is slow
-slow-held : (m : Member) (id : ℕ) (mode : Mode) (t : Own) → HoldsTicket id t (view_of m) → downgrade_fault (numbered id (tickets_seen m.seat.me.0)) mode m.seat.me.0.known ≡ None
+slow-held : (m : Member) (id : ℕ) (mode : Mode) (t : SessionTicket) → HoldsTicket id t (view_of m) → downgrade_fault (numbered id (tickets_seen m.seat.me.0)) mode m.seat.me.0.known ≡ None
     → numbered t.number m.seat.me.0.slow ≡ Some t
 slow-held m id mode t held clear =
     let may = downgrade-passed mode m.seat.me.0.known (numbered id (tickets_seen m.seat.me.0)) t held.its clear in

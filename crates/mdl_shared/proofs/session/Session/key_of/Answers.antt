@@ -3,13 +3,12 @@ use Rattle.std.proofs.Common.{◌≡◌, Some, None, refl, sym, ap, ◌∙◌}
 use Rattle.std.specs.Option.{option_copied}
 use Rattle.mdl_calls.specs.declared.space_error.SpaceError.TheVariants.{NoPlace, OutOfMemory}
 use Rattle.mdl_calls.specs.Words.{Key_is, Key_of}
-use Rattle.mdl_shared.specs.OwnLists.{key_looked_up}
+use Rattle.mdl_key.specs.KeyLookups.{key_known}
 use Rattle.mdl_shared.specs.Passes.{view_of}
 use Rattle.mdl_shared.specs.SessionViews.{Lists}
 use Rattle.mdl_shared.proofs.MemberFacts.{speaks}
 use Rattle.mdl_shared.proofs.Props.{member}
 use Rattle.mdl_shared.proofs.SameSpace.{joins-still, refused, same-stays}
-use Rattle.mdl_shared.proofs.SpaceLists.{key-told}
 use Rattle.mdl_shared.proofs.session.Session.key_of.Goals as goal
 use Rattle.mdl_shared.proofs.session.Session.key_of.Goals.{in-Ok, in-Err}
 
@@ -17,22 +16,22 @@ pub returns-in_default-clause-joined : goal.returns-in_default-clause-joined
 returns-in_default-clause-joined g c =
     let m = c.self.inside.member in
     let s = view_of m in
-    let none : key_looked_up c.args.place s.me.0.known ≡ None =
-    ap (λ (l : Lists). key_looked_up c.args.place l.known) (sym m.lists) ∙ sym c.key_at.ensures ∙ ap option_copied c.in_default.is in
+    let none : key_known c.args.place s.me.0.known ≡ None =
+    ap (λ (l : Lists). key_known c.args.place l.known) (sym m.lists) ∙ sym c.key_at.ensures ∙ ap option_copied c.in_default.is in
     rw (← c.self.view_is)
     (refused s s (Key_of s.me.0.number c.args.place) NoPlace (same-stays s) (speaks (member m)) refl refl
-    (λ key knows. let e = sym none ∙ sym (key-told c.args.place s.me.0.known) ∙ knows in cc) (λ state how is. cc) tt)
+    (λ key knows. let e = sym none ∙ knows in cc) (λ state how is. cc) tt)
 
 pub returns-clause-joined : goal.returns-clause-joined
 returns-clause-joined g c =
     let m = c.self.inside.member in
     let s = view_of m in
-    let known : key_looked_up c.args.place s.me.0.known ≡ Some c.in-Some.key.now =
-    ap (λ (l : Lists). key_looked_up c.args.place l.known) (sym m.lists) ∙ sym c.key_at.ensures ∙ ap option_copied c.in-Some.is in
+    let known : key_known c.args.place s.me.0.known ≡ Some c.in-Some.key.now =
+    ap (λ (l : Lists). key_known c.args.place l.known) (sym m.lists) ∙ sym c.key_at.ensures ∙ ap option_copied c.in-Some.is in
     rw (← c.self.view_is) (elim c.match-clone.branch [
       | in-Ok w ↦ rw w.result-is (
           joins-still s s (Key_of s.me.0.number c.args.place) (Key_is w.in-Ok.key) (same-stays s) (speaks (member m)) refl refl refl refl tt tt refl
-          (λ state how is. cc) (λ how is. cc) refl (λ r. r) (key-told c.args.place s.me.0.known ∙ known ∙ ap (λ k. Some k) (sym w.in-Ok.ensures.cases))
+          (λ state how is. cc) (λ how is. cc) refl (λ r. r) (known ∙ ap (λ k. Some k) (sym w.in-Ok.ensures.cases))
           )
       | in-Err w ↦ rw w.result-is (
           refused s s (Key_of s.me.0.number c.args.place) OutOfMemory (same-stays s) (speaks (member m)) refl refl tt (λ state how is. cc) tt

@@ -3,8 +3,8 @@ use Rattle.std.proofs.Common.{◌≡◌, ◌≤◌, ℕ, List, [], ◌∷◌, �
 use Rattle.mdl_key.specs.Words.{KeyName}
 use Rattle.mdl_calls.specs.declared.space_error.SpaceError.TheVariants.{OutOfMemory}
 use Rattle.mdl_calls.specs.Words.{Resolve}
-use Rattle.mdl_steps.specs.declared.view.Known.{Known}
-use Rattle.mdl_shared.specs.Members.{is_place_looked_up, place_looked_up}
+use Rattle.mdl_key.specs.declared.known_key.KnownKey.{KnownKey}
+use Rattle.mdl_key.specs.KeyLookups.{is_known, place_known}
 use Rattle.mdl_shared.specs.Passes.{view_of}
 use Rattle.mdl_shared.specs.SessionViews.{Lists, session_at}
 use Rattle.mdl_shared.proofs.Debts.{owed-on, owed-stepped}
@@ -41,7 +41,7 @@ invariant_of-member-in-Err-resolve g c =
     let is = member m in
     let done = stepped m.seat c.resolve.new.seat m.sessions c.in-Err.ensures.answer.2.0 c.in-Err.ensures.refused in record {
       lawful = ∣ kept (Resolve _ _) is (done-order done is (inr refl)) (refused s (session_at c.resolve.new.seat m.sessions m.tickets.room) (Resolve s.me.0.number c.args.key.now) OutOfMemory (done-nothing done) (speaks is) refl refl tt (λ state how met. cc) tt) ∣₁;
-      lists = ap (λ (ks : List Known). record { slow = m.tickets.slow; fast = m.tickets.fast; known = ks; next = m.next; asks = m.asks; waits = m.waits }) c.reserve.ensures.same ∙ m.lists ∙ sym (lists-stepped m.seat.me c.resolve.new.seat.me c.in-Err.ensures.refused);
+      lists = ap (λ (ks : List KnownKey). record { slow = m.tickets.slow; fast = m.tickets.fast; known = ks; next = m.next; asks = m.asks; waits = m.waits }) c.reserve.ensures.same ∙ m.lists ∙ sym (lists-stepped m.seat.me c.resolve.new.seat.me c.in-Err.ensures.refused);
       room = m.room;
       owed = owed-stepped m c.in-Err.ensures.refused;
     }
@@ -52,7 +52,7 @@ returns-in-Err-clause-joined g c =
     let s = view_of m in
     let is = member m in
     let key = c.args.key.now in
-    let none : place_looked_up key s.me.0.known ≡ None = rw (← c.self.view_is) at c.requires.unknown in
+    let none : place_known key s.me.0.known ≡ None = rw (← c.self.view_is) at c.requires.unknown in
     let stays = done-nothing (stepped m.seat c.resolve.new.seat m.sessions {room′ = m.tickets.room} c.in-Err.ensures.answer.2.0 c.in-Err.ensures.refused) in
     rw (← c.self.view_is) (elim c.match-why.branch [
       | in-NoPlace w ↦ rw w.result-is (no_place-joins is key none stays)
@@ -66,12 +66,12 @@ push_reserved-requires-clause-unknown g c =
     let m = c.self.inside.member in
     let key = c.args.key.now in
     let place = c.in-Ok-resolve.place in
-    let none : place_looked_up key m.seat.me.0.known ≡ None = rw (← c.self.view_is) at c.requires.unknown in
-    let own : place_looked_up key m.known.known ≡ None = ap (λ (l : Lists). place_looked_up key l.known) m.lists ∙ none in
+    let none : place_known key m.seat.me.0.known ≡ None = rw (← c.self.view_is) at c.requires.unknown in
+    let own : place_known key m.known.known ≡ None = ap (λ (l : Lists). place_known key l.known) m.lists ∙ none in
     let same = c.reserve.ensures.same in
     let told = resolved m.seat c.resolve.new.seat m.sessions place {room = m.tickets.room} {room′ = m.tickets.room} key none c.in-Ok-resolve.ensures.known c.in-Ok-resolve.ensures.answer in (
-      ap (λ (k : KeyName). place_looked_up k c.reserve.new.self.known) c.in-Ok.ensures.cases ∙ ap (place_looked_up key) same ∙ own,
-      ap (λ (ks : List Known). is_place_looked_up ks place) same ∙ ap (λ (l : Lists). is_place_looked_up l.known place) m.lists ∙ told.2,
+      ap (λ (k : KeyName). place_known k c.reserve.new.self.known) c.in-Ok.ensures.cases ∙ ap (place_known key) same ∙ own,
+      ap (λ (ks : List KnownKey). is_known place ks) same ∙ ap (λ (l : Lists). is_known place l.known) m.lists ∙ told.2,
     )
 
 pub invariant_of-member-2 : goal.invariant_of-member-2
@@ -80,13 +80,13 @@ invariant_of-member-2 g c =
     let is = member m in
     let key = c.args.key.now in
     let place = c.in-Ok-resolve.place in
-    let none : place_looked_up key m.seat.me.0.known ≡ None = rw (← c.self.view_is) at c.requires.unknown in
+    let none : place_known key m.seat.me.0.known ≡ None = rw (← c.self.view_is) at c.requires.unknown in
     let told = resolved m.seat c.resolve.new.seat m.sessions place key none c.in-Ok-resolve.ensures.known c.in-Ok-resolve.ensures.answer in
     record {
       lawful = ∣ kept (Resolve _ _) is (learnt-order told.0 is told.1) (resolve-joins is key none place told.2 told.0) ∣₁;
       lists = lists-learnt m told.0 (c.push_reserved.ensures.known
           ∙ ap (λ (k : KeyName). c.reserve.new.self.known ++ record { key = k; place = place } ∷ []) c.in-Ok.ensures.cases
-          ∙ ap (λ (ks : List Known). ks ++ record { key = key; place = place } ∷ []) c.reserve.ensures.same);
+          ∙ ap (λ (ks : List KnownKey). ks ++ record { key = key; place = place } ∷ []) c.reserve.ensures.same);
       room = m.room;
       owed = owed-on m (learnt-owes told.0);
     }
@@ -102,6 +102,6 @@ returns-clause-joined g c =
     let m = c.self.inside.member in
     let key = c.args.key.now in
     let place = c.in-Ok-resolve.place in
-    let none : place_looked_up key m.seat.me.0.known ≡ None = rw (← c.self.view_is) at c.requires.unknown in
+    let none : place_known key m.seat.me.0.known ≡ None = rw (← c.self.view_is) at c.requires.unknown in
     let told = resolved m.seat c.resolve.new.seat m.sessions place {room′ = m.tickets.room} key none c.in-Ok-resolve.ensures.known c.in-Ok-resolve.ensures.answer in
     rw (← c.self.view_is) (resolve-joins (member m) key none place told.2 told.0)

@@ -2,7 +2,7 @@
 use Rattle.std.proofs.Common.{[], false, if◌then◌else◌, inr, is_some, None, Option, Some, refl, ap, ◌∙◌}
 use Rattle.mdl_calls.specs.declared.space_error.SpaceError.TheVariants.{NotHeld}
 use Rattle.mdl_calls.specs.Words.{Read_definition}
-use Rattle.mdl_steps.specs.declared.view.Own.{Own}
+use Rattle.mdl_steps.specs.declared.view.SessionTicket.{SessionTicket}
 use Rattle.mdl_visits.proofs.Doing.{does_learns}
 use Rattle.mdl_shared.specs.Passes.{view_of}
 use Rattle.mdl_shared.specs.SessionViews.{tickets_seen}
@@ -27,7 +27,7 @@ returns-in_default g c =
     let none = held-seen m c.args.id c.get.result c.get.ensures.found ∙ c.in_default.is in
     rw (← c.self.view_is) (record {
       joined = refused s s call NotHeld (same-stays s) (speaks (member m)) refl refl (holds-told c.args.id (tickets_seen s.me.0) false (ap is_some none)) (λ state how is. cc) tt;
-      shown = own-shows call NotHeld s (ap (λ (o : Option Own). if is_some o then None else Some NotHeld) none);
+      shown = own-shows call NotHeld s (ap (λ (o : Option SessionTicket). if is_some o then None else Some NotHeld) none);
     })
 
 pub read_definition-requires : goal.read_definition-requires

@@ -4,7 +4,7 @@ use Rattle.std.specs.Option.{option_map}
 use Rattle.mdl_calls.specs.declared.space_error.SpaceError.TheVariants.{NotHeld}
 use Rattle.mdl_calls.specs.Words.{Release}
 use Rattle.mdl_steps.specs.declared.deed.Deed.TheVariants.{Lose}
-use Rattle.mdl_steps.specs.declared.view.Own.{Own}
+use Rattle.mdl_steps.specs.declared.view.SessionTicket.{SessionTicket}
 use Rattle.mdl_steps.specs.Deeds.{NotWaited}
 use Rattle.mdl_visits.specs.Numbers.{numbered}
 use Rattle.mdl_visits.proofs.Numbers.{has_number}
@@ -47,7 +47,7 @@ pub returns-in_default-clause-joined : goal.returns-in_default-clause-joined
 returns-in_default-clause-joined g c =
     let m = c.self.inside.member in
     let s = view_of m in
-    let none = held-seen m c.args.id None (sym (ap (option_map (λ (f : Own × Bool). f.0)) c.in_default.is) ∙ c.find.ensures.found) in
+    let none = held-seen m c.args.id None (sym (ap (option_map (λ (f : SessionTicket × Bool). f.0)) c.in_default.is) ∙ c.find.ensures.found) in
     rw (← c.self.view_is)
     (refused s s (Release s.me.0.number c.args.id) NotHeld (same-stays s) (speaks (member m)) refl refl
     (holds-told c.args.id (tickets_seen s.me.0) false (ap is_some none)) (λ state how is. cc) tt)
@@ -60,8 +60,8 @@ release-requires g c =
     let id = c.args.id in
     let t = c.in-Some.held in
     let none = fast-seen m id None (sym (ap fast_found c.in-Some.is ∙ rw c.if-fast.false refl) ∙ c.find.ensures.fast) in
-    let its = held-seen m id (Some t) (sym (ap (option_map (λ (f : Own × Bool). f.0)) c.in-Some.is) ∙ c.find.ensures.found) in
-    let held = holds-ticket m id t (sym c.find.ensures.found ∙ ap (option_map (λ (f : Own × Bool). f.0)) c.in-Some.is) in record {
+    let its = held-seen m id (Some t) (sym (ap (option_map (λ (f : SessionTicket × Bool). f.0)) c.in-Some.is) ∙ c.find.ensures.found) in
+    let held = holds-ticket m id t (sym c.find.ensures.found ∙ ap (option_map (λ (f : SessionTicket × Bool). f.0)) c.in-Some.is) in record {
       at = held.at;
       known = held.known;
       unwaited = subst (NotWaited m.seat.me.0) held.number held.unwaited;
@@ -75,7 +75,7 @@ invariant_of-member g c =
     let id = c.args.id in
     let t = c.in-Some.held in
     let none = fast-seen m id None (sym (ap fast_found c.in-Some.is ∙ rw c.if-fast.false refl) ∙ c.find.ensures.fast) in
-    let its = held-seen m id (Some t) (sym (ap (option_map (λ (f : Own × Bool). f.0)) c.in-Some.is) ∙ c.find.ensures.found) in
+    let its = held-seen m id (Some t) (sym (ap (option_map (λ (f : SessionTicket × Bool). f.0)) c.in-Some.is) ∙ c.find.ensures.found) in
     let slow = slow-else is id t none its in
     let visit = c.release.ensures.released in
     let keeps = subst (λ (r : Room). KeepsRoom 0 m.tickets.room r) (sym c.pay.ensures.same.2) c.strike.ensures.room in
@@ -94,7 +94,7 @@ returns g c =
     let id = c.args.id in
     let t = c.in-Some.held in
     let none = fast-seen m id None (sym (ap fast_found c.in-Some.is ∙ rw c.if-fast.false refl) ∙ c.find.ensures.fast) in
-    let its = held-seen m id (Some t) (sym (ap (option_map (λ (f : Own × Bool). f.0)) c.in-Some.is) ∙ c.find.ensures.found) in
+    let its = held-seen m id (Some t) (sym (ap (option_map (λ (f : SessionTicket × Bool). f.0)) c.in-Some.is) ∙ c.find.ensures.found) in
     let keeps = subst (λ (r : Room). KeepsRoom 0 m.tickets.room r) (sym c.pay.ensures.same.2) c.strike.ensures.room in
     let both = released-slow m.seat c.release.new.seat m.sessions id {room′ = c.pay.new.self.room} t is its (slow-else is id t none its) none c.release.ensures.released c.release.ensures.step c.release.ensures.once keeps in
     rw (← c.self.view_is) (record { joined = both.0; shown = both.1 })

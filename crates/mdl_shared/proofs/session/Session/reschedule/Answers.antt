@@ -1,6 +1,6 @@
 -- The place is one of the table's, and the session gives up nothing.
 use Rattle.std.proofs.Common.{[], ap, subst, sym, true, ◌∙◌, ◌≡◌}
-use Rattle.mdl_calls.specs.SessionData.{is_known}
+use Rattle.mdl_key.specs.KeyLookups.{is_known}
 use Rattle.mdl_steps.specs.Plays.{Mine}
 use Rattle.mdl_visits.proofs.Doing.{does_reschedule}
 use Rattle.mdl_shared.specs.SessionViews.{SessionView, data_of, lists_seen}
@@ -8,7 +8,6 @@ use Rattle.mdl_shared.proofs.Debts.{rescheduled-owes}
 use Rattle.mdl_shared.proofs.MemberFacts.{may-visit}
 use Rattle.mdl_shared.proofs.Props.{member}
 use Rattle.mdl_shared.proofs.Rooms.{keeps-equal}
-use Rattle.mdl_shared.proofs.SpaceLists.{known-told}
 use Rattle.mdl_shared.proofs.session.Session.reschedule.Goals as goal
 
 pub pay-requires : goal.pay-requires
@@ -16,7 +15,7 @@ pay-requires g c =
     let m = c.self.inside.member in
     let is = member m in
     let known = subst (λ (s : SessionView). is_known c.args.place (data_of s).known ≡ true) (sym c.self.view_is) c.requires.known in
-    record { at = may-visit is c.args.place (sym (known-told c.args.place m.seat.me.0.known) ∙ known) }
+    record { at = may-visit is c.args.place (known) }
 
 pub returns : goal.returns
 returns g c =

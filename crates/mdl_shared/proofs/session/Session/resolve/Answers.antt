@@ -1,6 +1,6 @@
 -- The place of a key, by the session's own list or by the directory.
 use Rattle.std.proofs.Common.{◌≡◌, Some, refl, sym, ap, ◌∙◌, arith}
-use Rattle.mdl_shared.specs.Members.{place_looked_up}
+use Rattle.mdl_key.specs.KeyLookups.{place_known}
 use Rattle.mdl_shared.specs.Passes.{view_of}
 use Rattle.mdl_shared.specs.SessionViews.{Lists}
 use Rattle.mdl_shared.proofs.KeyCalls.{known-joins}
@@ -15,8 +15,8 @@ pub overflow_cast-result : goal.overflow_cast-result
 overflow_cast-result g c =
     let m = c.self.inside.member in
     let is = member m in
-    let found : place_looked_up c.args.key.now m.seat.me.0.known ≡ Some c.in-Some.place =
-    ap (λ (l : Lists). place_looked_up c.args.key.now l.known) (sym m.lists) ∙ sym c.place_of.ensures ∙ c.in-Some.is in
+    let found : place_known c.args.key.now m.seat.me.0.known ≡ Some c.in-Some.place =
+    ap (λ (l : Lists). place_known c.args.key.now l.known) (sym m.lists) ∙ sym c.place_of.ensures ∙ c.in-Some.is in
     let within = place_within _ c.in-Some.place c.args.key.now m.seat.me.0.known is.within found in
     let narrow = is.narrow in
     omega (arith, within.1, narrow.1)
@@ -28,7 +28,7 @@ returns-in-Some g c =
     let is = member m in
     let key = c.args.key.now in
     let place = c.in-Some.place in
-    let found : place_looked_up key s.me.0.known ≡ Some place = ap (λ (l : Lists). place_looked_up key l.known) (sym m.lists) ∙ sym c.place_of.ensures ∙ c.in-Some.is in
+    let found : place_known key s.me.0.known ≡ Some place = ap (λ (l : Lists). place_known key l.known) (sym m.lists) ∙ sym c.place_of.ensures ∙ c.in-Some.is in
     let within = place_within _ place key s.me.0.known is.within found in
     rw (← c.self.view_is) (record {
       joined = known-joins is key place found;
@@ -49,4 +49,4 @@ returns-in-Some g c =
 pub look_up-requires : goal.look_up-requires
 look_up-requires g c =
     let m = c.self.inside.member in
-    rw (← c.self.view_is) (record { unknown = ap (λ (l : Lists). place_looked_up c.args.key.now l.known) (sym m.lists) ∙ sym c.place_of.ensures ∙ c.in_default.is })
+    rw (← c.self.view_is) (record { unknown = ap (λ (l : Lists). place_known c.args.key.now l.known) (sym m.lists) ∙ sym c.place_of.ensures ∙ c.in_default.is })

@@ -3,11 +3,11 @@ use Rattle.std.proofs.Common.{◌<◌, ◌≤◌, not, List, ◌++◌, inr, refl
 use Rattle.std.proofs.lemmas.List.Elements.{All-filter}
 use Rattle.atomic_table.specs.Seated.{TableId}
 use Rattle.mdl_calls.specs.Words.{Tables_of}
-use Rattle.mdl_steps.specs.declared.view.Known.{Known}
-use Rattle.mdl_steps.specs.Schemas.{is_known, unknown}
+use Rattle.mdl_key.specs.declared.known_key.KnownKey.{KnownKey}
+use Rattle.mdl_steps.specs.Schemas.{is_key_known, unknown}
 use Rattle.mdl_visits.specs.Idle.{HoldsNoLatch}
 use Rattle.mdl_visits.specs.Tables.{AreWithin, HasAsked}
-use Rattle.mdl_shared.specs.Members.{are_keys_apart}
+use Rattle.mdl_key.specs.KeyLookups.{are_apart}
 use Rattle.mdl_shared.specs.Passes.{view_of}
 use Rattle.mdl_shared.specs.SessionViews.{Lists}
 use Rattle.mdl_shared.proofs.Debts.{owed-on, owed-stepped}
@@ -30,7 +30,7 @@ invariant_of-member g c =
     let did = c.in_default.ensures in
     let done = stepped m.seat c.find_tables.new.seat m.sessions did.found.1.0 did.unchanged in record {
       lawful = ∣ kept (Tables_of _ _) is (done-order done is (inr refl)) (memory-joins is c.args.schema.now (done-nothing done)) ∣₁;
-      lists = ap (λ (ks : List Known). record { slow = m.tickets.slow; fast = m.tickets.fast; known = ks; next = m.next; asks = m.asks; waits = m.waits }) did.same ∙ m.lists ∙ sym (lists-stepped m.seat.me c.find_tables.new.seat.me did.unchanged);
+      lists = ap (λ (ks : List KnownKey). record { slow = m.tickets.slow; fast = m.tickets.fast; known = ks; next = m.next; asks = m.asks; waits = m.waits }) did.same ∙ m.lists ∙ sym (lists-stepped m.seat.me c.find_tables.new.seat.me did.unchanged);
       room = m.room;
       owed = owed-stepped m did.unchanged;
     }
@@ -47,7 +47,7 @@ tables_defined-requires-clause-within g c =
     let did = c.in-Ok.ensures in
     let narrow = (member m).narrow in
     subst (λ (t : TableId). AreWithin t.slots c.deref.result.now × (t.slots ≤ 65536)) (sym did.found.1.0)
-    (subst (λ (ts : List Known). AreWithin m.seat.table.slots ts) (sym c.deref.ensures.value) did.within, narrow.1)
+    (subst (λ (ts : List KnownKey). AreWithin m.seat.table.slots ts) (sym c.deref.ensures.value) did.within, narrow.1)
 
 pub tables_defined-requires-clause-idle : goal.tables_defined-requires-clause-idle
 tables_defined-requires-clause-idle g c = subst HoldsNoLatch (sym c.in-Ok.ensures.found.2.1.1) (member c.self.inside.member).idle
@@ -57,7 +57,7 @@ learn-requires-clause-apart g c =
     let m = c.self.inside.member in
     let did = c.in-Ok.ensures in
     let tables = c.in-Ok.tables.items in
-    ap (λ (ks : List Known). are_keys_apart (ks ++ unknown ks tables)) did.same ∙ ap (λ (l : Lists). are_keys_apart (l.known ++ unknown l.known tables)) m.lists
+    ap (λ (ks : List KnownKey). are_apart (ks ++ unknown ks tables)) did.same ∙ ap (λ (l : Lists). are_apart (l.known ++ unknown l.known tables)) m.lists
     ∙ all-apart m.seat c.find_tables.new.seat c.tables_defined.new.seat m.sessions c.args.schema.now did.found.0 tables (member m) did.found.1 did.found.2.0 did.found.2.1 c.tables_defined.ensures.steps
 
 pub invariant_of-member-2 : goal.invariant_of-member-2
@@ -69,11 +69,11 @@ invariant_of-member-2 g c =
     let new = c.tables_defined.new in
     let learnt = learnt-all m.seat c.find_tables.new.seat new.seat m.sessions c.args.schema.now did.found.0 tables is did.found.1 did.found.2.0 did.found.2.1 c.tables_defined.ensures.steps in
     let told = told-tables m.seat c.find_tables.new.seat new.seat m.sessions c.args.schema.now did.found.0 tables is did.found.1 did.found.2.0 did.found.2.1 c.tables_defined.ensures.steps
-    {room′ = m.tickets.room} new.places.items c.tables_defined.ensures.directory (subst (λ (ts : List Known). HasAsked c.find_tables.new.seat.me.0.number ts new.places.items c.find_tables.new.seat.me new.seat.me) c.deref.ensures.value c.tables_defined.ensures.asked) (keeps-same m.tickets.room) in
+    {room′ = m.tickets.room} new.places.items c.tables_defined.ensures.directory (subst (λ (ts : List KnownKey). HasAsked c.find_tables.new.seat.me.0.number ts new.places.items c.find_tables.new.seat.me new.seat.me) c.deref.ensures.value c.tables_defined.ensures.asked) (keeps-same m.tickets.room) in
     record {
       lawful = ∣ kept (Tables_of _ _) is (learnt-order learnt is
-          (All-filter (λ (k : Known). not (is_known m.seat.me.0.known k.key)) (λ (x : Known). (0 < x.place) × (x.place < m.seat.table.slots)) tables did.within)) told.0 ∣₁;
-      lists = lists-learnt m learnt (c.learn.ensures.known ∙ ap (λ (ks : List Known). ks ++ unknown ks tables) did.same
+          (All-filter (λ (k : KnownKey). not (is_key_known m.seat.me.0.known k.key)) (λ (x : KnownKey). (0 < x.place) × (x.place < m.seat.table.slots)) tables did.within)) told.0 ∣₁;
+      lists = lists-learnt m learnt (c.learn.ensures.known ∙ ap (λ (ks : List KnownKey). ks ++ unknown ks tables) did.same
           ∙ ap (λ (l : Lists). m.known.known ++ unknown l.known tables) m.lists);
       room = m.room;
       owed = owed-on m (learnt-owes learnt);
@@ -85,5 +85,5 @@ returns g c =
     let did = c.in-Ok.ensures in
     let new = c.tables_defined.new in
     let told = told-tables m.seat c.find_tables.new.seat new.seat m.sessions c.args.schema.now did.found.0 c.in-Ok.tables.items (member m) did.found.1 did.found.2.0 did.found.2.1 c.tables_defined.ensures.steps
-    new.places.items c.tables_defined.ensures.directory (subst (λ (ts : List Known). HasAsked c.find_tables.new.seat.me.0.number ts new.places.items c.find_tables.new.seat.me new.seat.me) c.deref.ensures.value c.tables_defined.ensures.asked) (keeps-same m.tickets.room) in
+    new.places.items c.tables_defined.ensures.directory (subst (λ (ts : List KnownKey). HasAsked c.find_tables.new.seat.me.0.number ts new.places.items c.find_tables.new.seat.me new.seat.me) c.deref.ensures.value c.tables_defined.ensures.asked) (keeps-same m.tickets.room) in
     rw (← c.self.view_is) (record { joined = told.0; shown = told.1 })

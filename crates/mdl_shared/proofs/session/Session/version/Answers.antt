@@ -1,13 +1,12 @@
 -- The place is one of the table's, and what stands there is noted under each ticket that the session has there.
 use Rattle.std.proofs.Common.{subst, sym, true, ◌∙◌, ◌≡◌}
-use Rattle.mdl_calls.specs.SessionData.{is_known}
+use Rattle.mdl_key.specs.KeyLookups.{is_known}
 use Rattle.mdl_shared.specs.SessionViews.{SessionView, data_of}
 use Rattle.mdl_shared.proofs.Debts.{owed-both}
 use Rattle.mdl_shared.proofs.MemberFacts.{place-within}
 use Rattle.mdl_shared.proofs.Members.{room-kept}
 use Rattle.mdl_shared.proofs.Props.{member}
 use Rattle.mdl_shared.proofs.ReadCalls.{lists-noted, noted-owes}
-use Rattle.mdl_shared.proofs.SpaceLists.{known-told}
 use Rattle.mdl_shared.proofs.VersionCalls.{learnt-member, learnt-noted, version-reads}
 use Rattle.mdl_shared.proofs.session.Session.version.Goals as goal
 
@@ -15,7 +14,7 @@ pub read_version-version-requires : goal.read_version-version-requires
 read_version-version-requires g c =
     let m = c.self.inside.member in
     let known = subst (λ (s : SessionView). is_known c.args.place (data_of s).known ≡ true) (sym c.self.view_is) c.requires.known in
-    record { place = place-within (member m) c.args.place (sym (known-told c.args.place m.seat.me.0.known) ∙ known) }
+    record { place = place-within (member m) c.args.place (known) }
 
 pub invariant_of-member : goal.invariant_of-member
 invariant_of-member g c =

@@ -2,7 +2,7 @@
 use Rattle.std.proofs.Common.{◌<◌, List, subst, arith, ap, ◌≡◌}
 use mathlib.Core.Option.{none}
 use Rattle.atomic_table.specs.Table.{Allows, step}
-use Rattle.mdl_steps.specs.declared.view.Known.{Known}
+use Rattle.mdl_key.specs.declared.known_key.KnownKey.{KnownKey}
 use Rattle.mdl_steps.specs.Histories.{ReachedFor}
 use Rattle.mdl_steps.specs.Plays.{puts_directory, Mine}
 use Rattle.mdl_steps.specs.Schemas.{unknown, StandThere}
@@ -28,6 +28,6 @@ store-requires g c =
     let known = c.args._known.now in (
       at.same,
       inside,
-      subst (λ (more : List Known). Allows (ReachedFor most) slots seat.id seat.me 0 (λ _. 0) (λ _. puts_directory more (step slots 0 0 0 none) seat.me 0)) picked
+      subst (λ (more : List KnownKey). Allows (ReachedFor most) slots seat.id seat.me 0 (λ _. 0) (λ _. puts_directory more (step slots 0 0 0 none) seat.me 0)) picked
           (puts_directory_allowed slots seat.id seat.me some put.0 (unknown seat.me.0.known known) put.1 (new_stand put.0 seat.me.0.known known put.2) most),
     )

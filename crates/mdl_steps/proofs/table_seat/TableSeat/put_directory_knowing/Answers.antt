@@ -2,7 +2,7 @@
 use Rattle.std.proofs.Common.{◌<◌, List, subst, arith, ap, ◌≡◌}
 use mathlib.Core.Option.{none}
 use Rattle.atomic_table.specs.Table.{Allows, step}
-use Rattle.mdl_steps.specs.declared.view.Known.{Known}
+use Rattle.mdl_key.specs.declared.known_key.KnownKey.{KnownKey}
 use Rattle.mdl_steps.specs.Histories.{ReachedFor}
 use Rattle.mdl_steps.specs.Plays.{puts_directory, Mine}
 use Rattle.mdl_steps.specs.Seats.{learnt, MayInform}
@@ -24,6 +24,6 @@ store-requires g c =
     let picked = at.mine (λ (m : Mine). learnt m c.args._place ≡ g.J.Learning.learnt) c.requires.picked in (
       at.same,
       inside,
-      subst (λ (more : List Known). Allows (ReachedFor most) slots seat.id seat.me 0 (λ _. 0) (λ _. puts_directory more (step slots 0 0 0 none) seat.me 0)) picked
+      subst (λ (more : List KnownKey). Allows (ReachedFor most) slots seat.id seat.me 0 (λ _. 0) (λ _. puts_directory more (step slots 0 0 0 none) seat.me 0)) picked
           (puts_directory_allowed slots seat.id seat.me some put.0 (learnt seat.me c.args._place) put.1 (learnt_known put.0 seat.me c.args._place put.1.recorded) most),
     )

@@ -3,7 +3,7 @@ use Rattle.std.proofs.Common.{◌≡◌, ℕ, ◌+◌, ◌*◌, ◌<◌, sym, ap
 use mathlib.Core.Option.{none}
 use Rattle.atomic_table.specs.Seated.{TableId}
 use Rattle.atomic_table.specs.Table.{Allows, step}
-use Rattle.mdl_defs.specs.Standings.{standing_after}
+use Rattle.mdl_defs.specs.VersionedDefinitions.{standing_after}
 use Rattle.mdl_book.specs.Books.{redefining}
 use Rattle.mdl_steps.specs.Histories.{ReachedFor}
 use Rattle.mdl_steps.specs.Plays.{Mine, writes_version, restood}

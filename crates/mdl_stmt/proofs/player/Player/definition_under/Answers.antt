@@ -1,5 +1,5 @@
 -- What stands is looked at.
-use Rattle.mdl_defs.specs.declared.standing.Standing.{Standing}
+use Rattle.mdl_defs.specs.declared.versioned_definition.VersionedDefinition.{VersionedDefinition}
 use Rattle.mdl_rows.specs.Rows.{◌>>=◌}
 use Rattle.mdl_rows.specs.Statements.{has_definition}
 use Rattle.mdl_stmt.proofs.CallLemmas.{found-step}
@@ -11,4 +11,4 @@ returns-in-Ok-clause-run g c =
     (rw c.in-Ok.is at c.read.ensures.run) c.found.ensures
 
 pub returns-in-Err-clause-run : goal.returns-in-Err-clause-run
-returns-in-Err-clause-run g c = λ rest. (rw c.in-Err.is at c.read.ensures.run) (λ (s : Standing). has_definition s.definition >>= rest)
+returns-in-Err-clause-run g c = λ rest. (rw c.in-Err.is at c.read.ensures.run) (λ (s : VersionedDefinition). has_definition s.definition >>= rest)

@@ -1,6 +1,6 @@
 -- What was changed stood in the book that was met under the latch.
 use Rattle.std.proofs.Common.{false, [], refl, ◌∙◌}
-use Rattle.mdl_defs.specs.Standings.{standing_fault}
+use Rattle.mdl_defs.specs.VersionedDefinitions.{standing_fault}
 use Rattle.mdl_book.specs.Books.{redefining}
 use Rattle.mdl_steps.specs.SeatStates.{SeatState}
 use Rattle.mdl_visits.proofs.Arriving.{went_same}

@@ -5,7 +5,7 @@ use Rattle.mdl_key.specs.Refusals.{Refuses}
 use Rattle.mdl_book.specs.declared.book_error.BookError.TheVariants as fault
 use Rattle.mdl_book.specs.declared.book_view.BookView.{BookView}
 use Rattle.mdl_book.specs.Books.{grant_fault, granting}
-use Rattle.mdl_steps.specs.declared.view.Own.{Own}
+use Rattle.mdl_steps.specs.declared.view.SessionTicket.{SessionTicket}
 use Rattle.mdl_steps.specs.Cells.{ticket_by}
 use Rattle.mdl_steps.specs.SeatStates.{SeatState}
 use Rattle.mdl_visits.specs.Materialisings.{granting_own, with_book}
@@ -32,9 +32,9 @@ returns-in-Err-clause-refused c = λ book can.
     let s : SeatState = c.args.seat.now in
     let place = c.args.latch.now.place in
     let who : ℕ = s.me.0.number in
-    let tickets : List Own = c.args.tickets.now in
+    let tickets : List SessionTicket = c.args.tickets.now in
     let i : ℕ = c.loop-at.at in
-    let t : Own = get_or tickets i no_own in
+    let t : SessionTicket = get_or tickets i no_own in
     let so_far : BookView = granting_own who (take i tickets) book in
     let was = c.loop-at.invariant book can in
     let refuses = c.in-Err.ensures.refused so_far (subst (HasBookInHand place so_far) (sym was) refl) in
@@ -51,9 +51,9 @@ loop-at-preserved c = λ book can.
     let s : SeatState = c.args.seat.now in
     let place = c.args.latch.now.place in
     let who : ℕ = s.me.0.number in
-    let tickets : List Own = c.args.tickets.now in
+    let tickets : List SessionTicket = c.args.tickets.now in
     let i : ℕ = c.loop-at.at in
-    let t : Own = get_or tickets i no_own in
+    let t : SessionTicket = get_or tickets i no_own in
     let so_far : BookView = granting_own who (take i tickets) book in
     let was = c.loop-at.invariant book can in
     c.in_default.ensures.written so_far (subst (HasBookInHand place so_far) (sym was) refl)

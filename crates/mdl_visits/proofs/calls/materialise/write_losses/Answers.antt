@@ -5,7 +5,7 @@ use Rattle.mdl_book.specs.declared.book_error.BookError.TheVariants.{NotHere}
 use Rattle.mdl_book.specs.declared.book_view.BookView.{BookView}
 use Rattle.mdl_book.specs.Books.{removing}
 use Rattle.mdl_book.specs.Tickets.{ticket_of}
-use Rattle.mdl_steps.specs.declared.view.Own.{Own}
+use Rattle.mdl_steps.specs.declared.view.SessionTicket.{SessionTicket}
 use Rattle.mdl_steps.specs.SeatStates.{SeatState}
 use Rattle.mdl_visits.specs.Materialisings.{granting_own, with_book}
 use Rattle.mdl_visits.specs.Visits.{HasBookInHand}
@@ -18,9 +18,9 @@ loop-ticket-preserved c = λ book stand.
     let s : SeatState = c.args.seat.now in
     let place = c.args.latch.now.place in
     let who : ℕ = s.me.0.number in
-    let tickets : List Own = c.args.tickets.now in
+    let tickets : List SessionTicket = c.args.tickets.now in
     let i : ℕ = c.loop-ticket.ticket-index in
-    let t : Own = get_or tickets i no_own in
+    let t : SessionTicket = get_or tickets i no_own in
     let left : BookView = granting_own who (drop i tickets) book in
     let inside = c.loop-ticket-test.true in
     let was : c.loop-ticket.seat ≡ with_book place left s = c.loop-ticket.invariant book stand in

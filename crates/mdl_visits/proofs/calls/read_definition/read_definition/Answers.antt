@@ -1,6 +1,6 @@
 -- What was read stood in the book that was met under the latch.
 use Rattle.std.proofs.Common.{◌≡◌, ℕ, false, [], refl, sym, ap, ◌∙◌, subst}
-use Rattle.mdl_defs.specs.declared.standing.Standing.{Standing}
+use Rattle.mdl_defs.specs.declared.versioned_definition.VersionedDefinition.{VersionedDefinition}
 use Rattle.mdl_steps.specs.Plays.{Mine, read_and_put}
 use Rattle.mdl_steps.specs.SeatStates.{SeatState}
 use Rattle.mdl_steps.specs.VersionPlays.{Follows}
@@ -45,12 +45,12 @@ returns-in-Ok g c =
     let put = c.put_latch_reading.ensures.made h.book (carried_there place latch.result.place a b asked latch.ensures.place taken latch.ensures.inside.0 same) in
     let read : went.me ≡ read_and_put place c.in-Ok.standing b.me =
     mine put ∙ ap (λ (m : Mine). read_and_put latch.result.place h.book.standing m) (mine same)
-    ∙ ap (λ (q : ℕ). read_and_put q h.book.standing b.me) latch.ensures.place ∙ ap (λ (s : Standing). read_and_put place s b.me) (sym told) in record {
+    ∙ ap (λ (q : ℕ). read_and_put q h.book.standing b.me) latch.ensures.place ∙ ap (λ (s : VersionedDefinition). read_and_put place s b.me) (sym told) in record {
       learnt = (
         learns place c.in-Ok.standing a.me b.me went.me latch.ensures.inside.1 read,
         meets_standing place c.in-Ok.standing a.me b.me went.me latch.ensures.inside.1 read h a.me.0.number refl taken.1 taken.2.recorded told,
       );
-      follows = subst (λ (s : Standing). Follows place s a.me) (sym told) (follows taken.1);
+      follows = subst (λ (s : VersionedDefinition). Follows place s a.me) (sym told) (follows taken.1);
       unchanged = tt;
       once = went_same latch.ensures.arrives asked went same (visit_by false asked.me went.me latch.result.place _ (ap (λ (x : SeatState). x.me.0.log) put) refl refl refl);
       quiet = (table_of put ∙ table_of same ∙ latch.ensures.inside.0, quiet_read place c.in-Ok.standing a.me b.me went.me latch.ensures.inside.1 read h taken.3.0 taken.3.2 taken.3.1);

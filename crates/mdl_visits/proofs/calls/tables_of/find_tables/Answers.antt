@@ -1,6 +1,6 @@
 -- The tables are those of the directory's record, and the session knows them as its latch is given back.
 use Rattle.std.proofs.Common.{◌≡◌, ℕ, List, [], refl, sym, ap, ◌∙◌, subst}
-use Rattle.mdl_steps.specs.declared.view.Known.{Known}
+use Rattle.mdl_key.specs.declared.known_key.KnownKey.{KnownKey}
 use Rattle.mdl_steps.specs.Plays.{Mine, informed}
 use Rattle.mdl_steps.specs.Schemas.{StandThere, unknown}
 use Rattle.mdl_steps.specs.Seats.{HasDirectory}
@@ -16,7 +16,7 @@ put_directory_telling-requires g c =
     let taken = c.await_directory-directory.ensures.taken in
     let has = subst (λ (m : Mine). HasDirectory taken.1 m) (sym (mine taken.3)) (has_taken taken.1 (and_made taken.0 c.args.seat.now.me)) in
     let schema : List ℕ = c.args.schema.now in
-    let tables : List Known = c.in-Ok.found.0.items in record {
+    let tables : List KnownKey = c.in-Ok.found.0.items in record {
       put = (
         taken.1,
         subst (λ (m : Mine). HasDirectory taken.1 m) (sym (mine c.list_tables.ensures.same.0)) has,
@@ -33,11 +33,11 @@ returns-in-Ok-clause-found g c =
     let new : Mine = c.put_directory_telling.new.self.me in
     let taken = c.await_directory-directory.ensures.taken in
     let has = subst (λ (m : Mine). HasDirectory taken.1 m) (sym (mine taken.3)) (has_taken taken.1 (and_made taken.0 old)) in
-    let tables : List Known = c.in-Ok.found.0.items in
+    let tables : List KnownKey = c.in-Ok.found.0.items in
     let put : new ≡ informed (unknown listed.0.known tables) listed =
-    mine c.put_directory_telling.ensures.made ∙ ap (λ (ts : List Known). informed (unknown listed.0.known ts) listed) c.deref.ensures.value in
+    mine c.put_directory_telling.ensures.made ∙ ap (λ (ts : List KnownKey). informed (unknown listed.0.known ts) listed) c.deref.ensures.value in
     let e = told_after taken.1 taken.0 tables old first listed new (mine taken.3) (mine c.list_tables.ensures.same.0) put in
-    let more : List Known = unknown old.0.known tables in (
+    let more : List KnownKey = unknown old.0.known tables in (
       taken.1,
       (table_of c.put_directory_telling.ensures.made ∙ table_of c.list_tables.ensures.same.0 ∙ table_of taken.3, took_directory slots taken.1 taken.0 old c.requires.idle taken.2 more new e taken.4),
       (
@@ -68,7 +68,7 @@ returns-in-Ok-clause-within g c =
     let taken = c.await_directory-directory.ensures.taken in
     let has = subst (λ (m : Mine). HasDirectory taken.1 m) (sym (mine taken.3)) (has_taken taken.1 (and_made taken.0 c.args.seat.now.me)) in
     let schema : List ℕ = c.args.schema.now in
-    let tables : List Known = c.in-Ok.found.0.items in
+    let tables : List KnownKey = c.in-Ok.found.0.items in
     all_within c.args.seat.now.table.slots taken.1 tables taken.2.fit (all_stand schema taken.1 tables (are_tables schema taken.1 tables taken.2.distinct (c.in-Ok.ensures.listed taken.1 has)))
 
 pub returns-in-Err-clause-unchanged : goal.returns-in-Err-clause-unchanged

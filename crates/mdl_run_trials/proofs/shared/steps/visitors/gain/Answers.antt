@@ -4,12 +4,12 @@ use Rattle.atomic_table.specs.Seated.{TableId}
 use Rattle.mdl_key.specs.declared.mode.Mode.{Mode}
 use Rattle.mdl_key.specs.declared.namespace.Kind.{Kind}
 use Rattle.mdl_word.specs.Words.{increment_of}
-use Rattle.mdl_steps.specs.declared.view.Own.{Own}
+use Rattle.mdl_steps.specs.declared.view.SessionTicket.{SessionTicket}
 use Rattle.mdl_steps.specs.FastPlays.{fast_own}
 use Rattle.mdl_steps.specs.Plays.{Mine}
 use Rattle.mdl_steps.specs.Seats.{IsPlace}
 use Rattle.mdl_visits.specs.Idle.{HoldsNoLatch}
-use Rattle.mdl_shared.specs.Members.{kind_known}
+use Rattle.mdl_key.specs.KeyLookups.{kind_known}
 use Rattle.mdl_shared.proofs.Membership.{kind_there}
 use Rattle.mdl_run_trials.specs.shared.steps.Fast.{fast_from}
 use Rattle.mdl_run_trials.proofs.shared.FastRuns.{all-there, as-many, none-noted, one-longer, one-more}
@@ -45,7 +45,7 @@ returns-in-Granted c =
           idle = subst (λ (x : Mine). HoldsNoLatch x) (sym now) alone.idle;
           asks = ap (λ (x : Mine). x.0.asks) now ∙ alone.asks;
           slow = ap (λ (x : Mine). x.0.slow) now ∙ alone.slow;
-          fast = ap (λ (x : Mine). x.0.fast) now ∙ ap (λ (ts : List Own). ts ++ fast_own c.args.seat.now.me.0.next place c.args.mode None ∷ []) alone.fast
+          fast = ap (λ (x : Mine). x.0.fast) now ∙ ap (λ (ts : List SessionTicket). ts ++ fast_own c.args.seat.now.me.0.next place c.args.mode None ∷ []) alone.fast
               ∙ ap (λ (n : ℕ). fast_from place next modes ++ fast_own n place c.args.mode None ∷ []) alone.next ∙ one-more place next modes c.args.mode;
           next = ap (λ (x : Mine). x.0.next) now ∙ omega (arith, alone.next, one-longer modes c.args.mode);
         },

@@ -7,7 +7,7 @@ use Rattle.mdl_word.specs.Words.{increment_of}
 use Rattle.mdl_steps.specs.Plays.{Mine}
 use Rattle.mdl_steps.specs.Seats.{IsPlace}
 use Rattle.mdl_visits.specs.Idle.{HoldsNoLatch}
-use Rattle.mdl_shared.specs.Members.{kind_known}
+use Rattle.mdl_key.specs.KeyLookups.{kind_known}
 use Rattle.mdl_shared.proofs.Membership.{kind_there}
 use Rattle.mdl_run_trials.proofs.shared.steps.visitors.Visitor.try_fast.Goals as goal
 

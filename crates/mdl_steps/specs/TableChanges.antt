@@ -6,7 +6,7 @@ use lib.ListN.{get_elem?}
 use Rattle.atomic_table.specs.Seated.{TableId}
 use Rattle.atomic_table.specs.Table.{Act, State, Step, Valid, carried_after, gives, keeps, stepped, takes}
 use Rattle.mdl_defs.specs.Caches.{Kept}
-use Rattle.mdl_defs.specs.Standings.{standing_after}
+use Rattle.mdl_defs.specs.VersionedDefinitions.{standing_after}
 use Rattle.mdl_key.specs.declared.mode.Mode.{Mode}
 use Rattle.mdl_key.specs.Words.{KeyName}
 use Rattle.mdl_word.specs.Words.{all_but_flags, flags_alone, obtrusive_flag}
@@ -15,7 +15,7 @@ use Rattle.mdl_steps.specs.declared.slot.Slot.{Slot}
 use Rattle.mdl_steps.specs.declared.view.Ask.{Ask}
 use Rattle.mdl_steps.specs.declared.view.LatchRecord.{LatchRecord}
 use Rattle.mdl_steps.specs.declared.view.Keys.{Keys}
-use Rattle.mdl_steps.specs.declared.view.Known.{Known}
+use Rattle.mdl_key.specs.declared.known_key.KnownKey.{KnownKey}
 use Rattle.mdl_steps.specs.declared.view.View.{View}
 use Rattle.mdl_steps.specs.declared.wait_word.Loss.{Loss}
 use Rattle.mdl_steps.specs.Cells.{blank, held_at, no_numbers}
@@ -37,7 +37,7 @@ use Rattle.mdl_steps.specs.WaitStates.{granted_state, idle_state, lost_state, un
 pub data Makes (st : Step Slot) (m : Mine) (found : ℕ) (m′ : Mine) : Type 0 where
   DrawsNumber : enrols st m found m′ → Makes st m found m′
   TakesDirectory : st.word ≡ latch_word 0 → takes_directory st m found m′ → Makes st m found m′
-  PutsDirectory : (more : List Known) → st.word ≡ latch_word 0 → puts_directory more st m found m′ → Makes st m found m′
+  PutsDirectory : (more : List KnownKey) → st.word ≡ latch_word 0 → puts_directory more st m found m′ → Makes st m found m′
   TakesLatch : (place : ℕ) → st.word ≡ latch_word place → takes_latch st m found m′ → Makes st m found m′
   PutsLatch : (place : ℕ) (deeds : List Deed) → MayPut place deeds m →
       st.word ≡ latch_word place → puts_latch deeds st m found m′ → Makes st m found m′
@@ -139,14 +139,14 @@ IsWhole s left act {st} {m} {found} (Makes.ReleasesFast place number _ _) =
 IsWhole s left act {st} {m} {found} (Makes.Materialises place weight _ _ _ _) =
     HasPlace s place × Writes ((found + (2 ^ 64 - weight)) % 2 ^ 64) left act
 
--- ---- turns
+-- ---- changes
 
 -- a change of the table: a seat makes a step, or one more seat is split off from the first one, with a number that the first one drew
-pub data Turn (s t : State Slot View) : Type 0 where
+pub data TableChange (s t : State Slot View) : Type 0 where
   Steps : (id : ℕ) (m m′ : Mine) (st : Step Slot) (left : ℕ) (act : Act Slot) → get_elem? s.views id ≡ some m.0 →
-      Makes st m (slice_index s.words st.word) m′ → t ≡ stepped s st.word left id m.1 m′.0 act → Turn s t
+      Makes st m (slice_index s.words st.word) m′ → t ≡ stepped s st.word left id m.1 m′.0 act → TableChange s t
   Splits : (v first more : View) → get_elem? s.views 0 ≡ some v → first.fast ≡ v.fast → first.slow ≡ v.slow → first.reads ≡ v.reads →
-      t ≡ record { words = s.words; homes = s.homes; views = slice_set s.views 0 first ++ more ∷ [] } → Turn s t
+      t ≡ record { words = s.words; homes = s.homes; views = slice_set s.views 0 first ++ more ∷ [] } → TableChange s t
 
 -- the view of the first seat after a seat is split off from it
 abbrev pub first_after : View → View
@@ -156,9 +156,9 @@ first_after v = record v { spare = record v.spare { given = v.spare.drawn }; log
 abbrev pub split_off : View → View
 split_off v = record (blank v.spare.drawn no_numbers) { log = v.log }
 
--- the turn is whole: a step is whole, and what its seat has in hand afterwards shows which slot it took or gave back. A seat that is split off gets the
+-- the change is whole: a step is whole, and what its seat has in hand afterwards shows which slot it took or gave back. A seat that is split off gets the
 -- number that was drawn for it
-abbrev pub IsWholeTurn : {s t : State Slot View} → Turn s t → Type 0
-IsWholeTurn {s} (Turn.Steps id m m′ st left act _ made _) =
+abbrev pub IsWholeChange : {s t : State Slot View} → TableChange s t → Type 0
+IsWholeChange {s} (TableChange.Steps id m m′ st left act _ made _) =
     (st.slots ≡ length s.homes) × Valid s.homes m.1 act × (m′.1 ≡ carried_after m.1 act) × IsWhole s left act made
-IsWholeTurn (Turn.Splits v first more _ _ _ _ _) = (first ≡ first_after v) × (more ≡ split_off v)
+IsWholeChange (TableChange.Splits v first more _ _ _ _ _) = (first ≡ first_after v) × (more ≡ split_off v)

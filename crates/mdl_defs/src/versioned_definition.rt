@@ -1,7 +1,7 @@
 //! A key's version and definition.
 ghost use Rattle.std.specs.Prelude.{◌≡◌, IfOk, OnErr};
 ghost use Rattle.mdl_key.specs.Refusals.{Refuses, RefusesJust};
-ghost use Rattle.mdl_defs.specs.Standings.{nothing_yet, standing_fault, standing_after, suits, fits};
+ghost use Rattle.mdl_defs.specs.VersionedDefinitions.{nothing_yet, standing_fault, standing_after, suits, fits};
 
 use crate::{Change, ChangeError, DefError, Definition, apply};
 use mdl_key::Namespace;
@@ -12,19 +12,19 @@ const MOST_VERSIONS: u64 = 1_000_000;
 
 /// A key's version, with its definition if there is one.
 #[derive(Drop, PartialEq, Eq)]
-pub struct Standing {
+pub struct VersionedDefinition {
     /// How often the definition was changed: at most 1,000,000 times.
     pub version: u64,
     /// The definition, if there is one.
     pub definition: Option<Definition>,
 }
 
-impl Standing {
+impl VersionedDefinition {
     /// Returns version 0, without a definition.
-    pub fn new() -> Standing
+    pub fn new() -> VersionedDefinition
         ensures { result ≡ nothing_yet }
     {
-        Standing {
+        VersionedDefinition {
             version: 0,
             definition: None,
         }
@@ -62,11 +62,11 @@ impl Standing {
     }
 }
 
-impl Clone for Standing {
+impl Clone for VersionedDefinition {
     ghost is_clone = { λ standing copy. copy ≡ standing };
 
-    fn clone(&self) -> Result<Standing, AllocError> {
-        Ok(Standing {
+    fn clone(&self) -> Result<VersionedDefinition, AllocError> {
+        Ok(VersionedDefinition {
             version: self.version,
             definition: self.definition.clone()?,
         })

@@ -12,18 +12,18 @@ use Rattle.mdl_defs.specs.declared.def_error.DefError.{DefError}
 use Rattle.mdl_defs.specs.declared.def_error.DefError.TheVariants as fault
 use Rattle.mdl_defs.specs.declared.definition.Definition.{Definition}
 use Rattle.mdl_defs.specs.declared.definition.Definition.TheVariants.{Schema, Table}
-use Rattle.mdl_defs.specs.declared.standing.Standing.{Standing}
+use Rattle.mdl_defs.specs.declared.versioned_definition.VersionedDefinition.{VersionedDefinition}
 use Rattle.mdl_defs.specs.Columns.{has_column, names_twice}
 use Rattle.mdl_defs.specs.Definitions.{definition_fault}
 use Rattle.mdl_defs.specs.Changes.{change_fault, changed}
 use Rattle.mdl_defs.specs.Laws.{ChangesKeepStanding}
-use Rattle.mdl_defs.specs.Standings.{nothing_yet, fits, suits, standing_fault, applied, MayStand}
+use Rattle.mdl_defs.specs.VersionedDefinitions.{nothing_yet, fits, suits, standing_fault, applied, MayStand}
 use Rattle.mdl_defs.proofs.ChangeLemmas.{IsWellFormed-changed}
 
 -- ---- where nothing is at fault
 
 -- a change that isn't refused has a version left, suits the key, and can be made of what stands
-pub unfaulted : (namespace : Namespace) (change : Change) (standing : Standing) → standing_fault namespace change standing ≡ None
+pub unfaulted : (namespace : Namespace) (change : Change) (standing : VersionedDefinition) → standing_fault namespace change standing ≡ None
     → (standing.version < 1000000) × (suits namespace change ≡ true) × (change_fault standing.definition change ≡ None)
 unfaulted namespace change standing e = by (nat_le 1000000 standing.version) refl (suits namespace change) refl (change_fault standing.definition change) refl e
   where
@@ -37,7 +37,7 @@ unfaulted namespace change standing e = by (nat_le 1000000 standing.version) ref
     by false full true fits None is e = (leb-false 1000000 standing.version full, fits, is)
 
 -- then it is what the change makes of it
-pub applied-changed : (namespace : Namespace) (change : Change) (standing : Standing) → standing_fault namespace change standing ≡ None
+pub applied-changed : (namespace : Namespace) (change : Change) (standing : VersionedDefinition) → standing_fault namespace change standing ≡ None
     → applied namespace change standing.definition ≡ Some (changed standing.definition change)
 applied-changed namespace change standing e =
     let free = unfaulted namespace change standing e in
@@ -115,7 +115,7 @@ change-never_wants (Some Schema) (Put definition) = definition-never_wants defin
 change-never_wants (Some (Table columns)) (Put definition) = definition-never_wants definition
 
 -- what a change is refused for, by cases: each with what it says
-pub fault-cases : (P : ChangeError → Type 0) (namespace : Namespace) (change : Change) (standing : Standing)
+pub fault-cases : (P : ChangeError → Type 0) (namespace : Namespace) (change : Change) (standing : VersionedDefinition)
     → (nat_le 1000000 standing.version ≡ true → P VersionFull) → P WrongKind → ((why : DefError) → why ≢ fault.OutOfMemory → P (Def why))
     → (why : ChangeError) → standing_fault namespace change standing ≡ Some why → P why
 fault-cases P namespace change standing full wrong def why =

@@ -10,12 +10,12 @@ use Rattle.mdl_defs.specs.declared.change_error.ChangeError.{ChangeError}
 use Rattle.mdl_defs.specs.declared.change_error.ChangeError.TheVariants.{VersionFull, WrongKind, Def}
 use Rattle.mdl_defs.specs.declared.definition.Definition.{Definition}
 use Rattle.mdl_defs.specs.declared.definition.Definition.TheVariants.{Schema, Table}
-use Rattle.mdl_defs.specs.declared.standing.Standing.{Standing}
+use Rattle.mdl_defs.specs.declared.versioned_definition.VersionedDefinition.{VersionedDefinition}
 use Rattle.mdl_defs.specs.Changes.{change_fault, changed}
 use Rattle.mdl_defs.specs.Definitions.{IsWellFormed}
 
 -- version 0, without a definition
-abbrev pub nothing_yet : Standing
+abbrev pub nothing_yet : VersionedDefinition
 nothing_yet = record { version = 0; definition = None }
 
 -- whether a definition is of the kind that a key of this namespace can have
@@ -38,13 +38,13 @@ suits namespace _ = is_defined namespace
 
 -- why a change of a key's definition is refused: the key has the greatest version, the change doesn't suit the key, or the
 -- definition can't be changed in this way
-abbrev pub standing_fault : Namespace → Change → Standing → Option ChangeError
+abbrev pub standing_fault : Namespace → Change → VersionedDefinition → Option ChangeError
 standing_fault namespace change standing =
     if nat_le 1000000 standing.version then Some VersionFull
     else (if not (suits namespace change) then Some WrongKind else option_map Def (change_fault standing.definition change))
 
 -- the version and definition after a change: the version is greater by one
-abbrev pub standing_after : Change → Standing → Standing
+abbrev pub standing_after : Change → VersionedDefinition → VersionedDefinition
 standing_after change standing = record { version = standing.version + 1; definition = changed standing.definition change }
 
 -- the definition of a key of this namespace after a change, if the change can be made
@@ -54,7 +54,7 @@ applied namespace change standing =
 
 -- a version and definition that a key of this namespace can have: the version is at most 1,000,000, version 0 has no
 -- definition, and the definition is well formed and of the key's kind
-pub record MayStand (namespace : Namespace) (standing : Standing) : Type 0 where
+pub record MayStand (namespace : Namespace) (standing : VersionedDefinition) : Type 0 where
   pub limit : standing.version ≤ 1000000
   pub unchanged : standing.version ≡ 0 → standing.definition ≡ None
   pub well_formed : IsWellFormed standing.definition
