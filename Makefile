@@ -37,7 +37,7 @@ help:
 	@echo 'make try [SCRIPT=FILE]     prints the answers without the proof, in two to three minutes; up to 1 MB of them, and 60 seconds of play'
 	@echo 'make try SUBCOMMAND=matrix prints which modes clash and who waits behind whom, without the proof'
 	@echo 'make test                  the gate: proves everything from nothing, and runs all tests'
-	@echo 'make layout                says which files are not in the layout, and which wrong bodies fit no file'
+	@echo 'make layout                says which files the formatter would change, and which wrong bodies fit no file'
 	@echo 'make docs                  says what is stale in the docs'
 	@echo 'make examples              compares the answers to each example with those that lie beside it'
 	@echo 'make commands              checks what the proved programs do by their command lines'

@@ -108,7 +108,11 @@ impl<R: Wait> LockSpace for Session<R> {
         Session::downgrade(self, id, mode)
     }
 
-    fn read_definition(&mut self, _who: u16, id: TicketId) -> Result<VersionedDefinition, SpaceError> {
+    fn read_definition(
+        &mut self,
+        _who: u16,
+        id: TicketId,
+    ) -> Result<VersionedDefinition, SpaceError> {
         Session::read_definition(self, id)
     }
 

@@ -42,7 +42,11 @@ impl<R: Wait> Session<R> {
 
 impl Member {
     // The tickets with these two numbers, if the first may take the mode of the second.
-    fn mergeable(&self, old: TicketId, new: TicketId) -> Result<(SessionTicket, SessionTicket), SpaceError>
+    fn mergeable(
+        &self,
+        old: TicketId,
+        new: TicketId,
+    ) -> Result<(SessionTicket, SessionTicket), SpaceError>
         ensures found { IfOk result (λ two. (numbered old (interleaved self.now.tickets.slow self.now.tickets.fast) ≡ Some two.0) × (numbered new (interleaved self.now.tickets.slow self.now.tickets.fast) ≡ Some two.1)) }
         ensures just { RefusesJust (merge_fault (numbered old (interleaved self.now.tickets.slow self.now.tickets.fast)) (numbered new (interleaved self.now.tickets.slow self.now.tickets.fast)) self.now.asks) result }
     {

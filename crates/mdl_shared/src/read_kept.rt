@@ -19,7 +19,11 @@ impl<R: Wait> Session<R> {
     /// read under the latch is kept in the cache, if there is a definition and memory for it. Each definition in the cache has to be one that
     /// this session read in this space. If memory runs out for a copy of what the cache keeps, the cache is left as it was, and the version is
     /// noted under the ticket nevertheless.
-    pub fn read_kept(&mut self, id: TicketId, cache: &mut DefCache) -> Result<VersionedDefinition, SpaceError>
+    pub fn read_kept(
+        &mut self,
+        id: TicketId,
+        cache: &mut DefCache,
+    ) -> Result<VersionedDefinition, SpaceError>
         requires met { AreMet (HasMet (data_of self.old) self.old.me.0.number) cache.old.kept }
         ensures joined { Transition (call.read_kept self.old.me.0.number id) (read result) (data_of self.old) (data_of self.new) }
         ensures shown { TakesSteps (steps.read_kept id) (read result) self.old self.new }

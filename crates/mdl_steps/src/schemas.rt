@@ -5,10 +5,10 @@ ghost use Rattle.mdl_steps.specs.declared.view.Keys.{Keys};
 ghost use Rattle.mdl_steps.specs.Schemas.{is_table_of, table_at, tables_from};
 ghost use Rattle.mdl_steps.specs.Seats.{rest};
 
+use crate::Directory;
 use crate::directory::LatchedDirectory;
 use crate::hand::directory_in_hand;
 use crate::table_seat::TableSeat;
-use crate::Directory;
 use mdl_key::{Key, KnownKey, Namespace};
 use std::alloc::{AllocError, Global};
 

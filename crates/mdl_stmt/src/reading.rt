@@ -24,7 +24,11 @@ pub(crate) fn failing(number: ErrorNumber) -> Ending
 
 impl<S: LockSpace> Player<S> {
     /// The version and definition of a ticket's key. They may come from the cache.
-    pub(crate) fn read(&mut self, space: &mut S, ticket: TicketId) -> Result<VersionedDefinition, Ending>
+    pub(crate) fn read(
+        &mut self,
+        space: &mut S,
+        ticket: TicketId,
+    ) -> Result<VersionedDefinition, Ending>
         requires ready { IsReady S.LockSpace space.old self.old }
         ensures run { IsStep S.LockSpace (read ticket) space.old self.old result space.new self.new }
         ensures goes_on { GoesOn S.LockSpace space.old self.old space.new self.new }
@@ -93,7 +97,11 @@ impl<S: LockSpace> Player<S> {
     }
 
     /// The version and definition of a table, by its ticket. Fails if there is no such table.
-    pub(crate) fn exists(&mut self, space: &mut S, ticket: TicketId) -> Result<VersionedDefinition, Ending>
+    pub(crate) fn exists(
+        &mut self,
+        space: &mut S,
+        ticket: TicketId,
+    ) -> Result<VersionedDefinition, Ending>
         requires ready { IsReady S.LockSpace space.old self.old }
         ensures run { IsStep S.LockSpace (exists ticket) space.old self.old result space.new self.new }
         ensures goes_on { GoesOn S.LockSpace space.old self.old space.new self.new }

@@ -7,7 +7,7 @@ ghost use Rattle.mdl_key.specs.KeyLookups.{are_apart, is_known, key_known, kind_
 ghost use Rattle.mdl_visits.specs.OwnKeys.{IsNarrow, kind_in};
 
 use indexmap::IndexMap;
-use mdl_key::{Key, KnownKey, Kind};
+use mdl_key::{Key, Kind, KnownKey};
 use std::alloc::{AllocError, Global};
 use std::marker::Model;
 

@@ -93,7 +93,11 @@ impl LockSpace for CoreSpace {
         CoreSpace::downgrade(self, who, id, mode)
     }
 
-    fn read_definition(&mut self, who: u16, ticket: TicketId) -> Result<VersionedDefinition, SpaceError> {
+    fn read_definition(
+        &mut self,
+        who: u16,
+        ticket: TicketId,
+    ) -> Result<VersionedDefinition, SpaceError> {
         CoreSpace::read_definition(self, who, ticket)
     }
 

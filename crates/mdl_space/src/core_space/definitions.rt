@@ -10,7 +10,11 @@ use mdl_key::Mode;
 
 impl CoreSpace {
     /// Returns the version and the definition of the key at a held ticket's place.
-    pub(crate) fn read_definition(&self, who: u16, id: TicketId) -> Result<VersionedDefinition, SpaceError>
+    pub(crate) fn read_definition(
+        &self,
+        who: u16,
+        id: TicketId,
+    ) -> Result<VersionedDefinition, SpaceError>
         requires { SpeaksFor self.now who }
         ensures { Makes true (read_definition_outcome who id) self.now (read result) self.now }
     {

@@ -51,7 +51,11 @@ pub fn materialise<R: Wait>(
 }
 
 // Grants these tickets of the session in the book in hand. If there is no room for all of them, the book is unchanged.
-fn write_gains(seat: &mut TableSeat, latch: &Latched, tickets: &[SessionTicket]) -> Result<(), BookError>
+fn write_gains(
+    seat: &mut TableSeat,
+    latch: &Latched,
+    tickets: &[SessionTicket],
+) -> Result<(), BookError>
     requires can { (book : BookView) × CanStand latch.now.place tickets.now book seat.old }
     ensures written { (book : BookView) → CanStand latch.now.place tickets.now book seat.old
         → OnOk result (seat.new ≡ with_book latch.now.place (granting_own seat.old.me.0.number tickets.now book) seat.old) }

@@ -12,7 +12,7 @@ ghost use Rattle.mdl_run_trials.specs.shared.steps.Fast.{HasFastAlone};
 
 use crate::shared::steps::rows::{Answer, Deed};
 use mdl_key::{Key, Kind, Mode};
-use mdl_steps::{Ask, Loss, Maker, SessionTicket, OwnedTable, TableSeat, WaitWord};
+use mdl_steps::{Ask, Loss, Maker, OwnedTable, SessionTicket, TableSeat, WaitWord};
 use mdl_visits::{
     FastTried, Queued, TryOutcome, begin_wait, end_lost_wait, materialise, release, release_fast,
     reschedule, resolve, try_fast, try_now,
