@@ -2,6 +2,7 @@
 use Rattle.std.proofs.Common.{◌≡◌, ◌≢◌, ℕ, ◌+◌, ◌<◌, ◌≤◌, Bool, true, false, cond, not, ◌&&◌, ◌||◌, ◌==◌, List, [], ◌∷◌, ◌++◌, length, get_or, Some, None, refl, sym, ◌∙◌, ap, subst, append_assoc, arith, rules, zero, suc}
 use Rattle.std.specs.Prelude.{slice_index, count_by}
 use Rattle.std.specs.List.{list_any, find, All, Contains}
+use Rattle.std.specs.Option.{option_map}
 use Rattle.std.specs.FinSet as set
 use Rattle.std.specs.Ordering.{nat_cmp}
 use Rattle.std.proofs.lemmas.List.Elements.{All-nil, All-head, All-tail}
@@ -19,9 +20,9 @@ use Rattle.mdl_book.specs.declared.book_view.BookView.{BookView}
 use Rattle.mdl_book.specs.Books.{lock_kind, AreOfNoWaiter, is_ready, is_ready_beside, next_grantable, next_grantable_beside}
 use Rattle.mdl_book.specs.FastTickets.{is_of_class, CountsFastTickets, CoversFastTickets, AreOfOthers, may_stand, can_be_granted}
 use Rattle.mdl_book.specs.Granting.{stands_beside, is_compatible, goes_first, is_grantable, is_lawful}
-use Rattle.mdl_book.specs.Tickets.{with_mode}
+use Rattle.mdl_book.specs.Tickets.{with_index, with_mode}
 use Rattle.mdl_book.proofs.GrantingLemmas.{lawful_push, lawful_changed-beside}
-use Rattle.mdl_book.proofs.TicketLemmas.{find-passes, find-contains}
+use Rattle.mdl_book.proofs.TicketLemmas.{find-passes, find-contains, first-same}
 
 -- ---- classes
 
@@ -181,12 +182,26 @@ module _ {kind : Kind} {word : ℕ} {fast : List Ticket} (counts : CountsFastTic
       → can_be_granted kind granted waiting word session mode ≡ is_grantable kind (fast ++ granted) waiting session mode
   can_be_granted-fast granted waiting session mode others = ap (λ b. b && goes_first kind waiting session mode) (may_stand-fast granted session mode others)
 
+  -- each waiter is ready or not
+  ready-fast : (unsettled : set.FinSet nat_cmp) (lists : BookView) → lock_kind lists ≡ kind → AreOfNoWaiter lists fast
+      → All (λ ticket. is_ready word unsettled lists ticket ≡ is_ready_beside fast unsettled lists ticket) lists.waiting
+  ready-fast unsettled lists same others = λ i d inside.
+      let ticket : Ticket = get_or lists.waiting i d in
+      ap (λ b. set.contains unsettled ticket.session && b) (rw same (can_be_granted-fast lists.granted lists.waiting ticket.session ticket.mode (others i d inside)))
+
   -- the next waiter to grant is the same
   pub next_grantable-fast : (unsettled : set.FinSet nat_cmp) (lists : BookView) → lock_kind lists ≡ kind → AreOfNoWaiter lists fast → next_grantable word unsettled lists ≡ next_grantable_beside fast unsettled lists
   next_grantable-fast unsettled lists same others =
-      find-same (is_ready word unsettled lists) (is_ready_beside fast unsettled lists) lists.waiting (λ i d inside.
-      let ticket : Ticket = get_or lists.waiting i d in
-      ap (λ b. set.contains unsettled ticket.session && b) (rw same (can_be_granted-fast lists.granted lists.waiting ticket.session ticket.mode (others i d inside))))
+      find-same (is_ready word unsettled lists) (is_ready_beside fast unsettled lists) lists.waiting (ready-fast unsettled lists same others)
+
+  -- so is its index
+  pub next_grantable_at-fast : (unsettled : set.FinSet nat_cmp) (lists : BookView) → lock_kind lists ≡ kind → AreOfNoWaiter lists fast
+      → option_map (with_index (is_ready word unsettled lists) lists.waiting) (next_grantable word unsettled lists)
+      ≡ option_map (with_index (is_ready_beside fast unsettled lists) lists.waiting) (next_grantable_beside fast unsettled lists)
+  next_grantable_at-fast unsettled lists same others =
+      ap (λ (n : ℕ). option_map (λ (ticket : Ticket). (n, ticket)) (next_grantable word unsettled lists))
+      (first-same (is_ready word unsettled lists) (is_ready_beside fast unsettled lists) lists.waiting (ready-fast unsettled lists same others))
+      ∙ ap (option_map (with_index (is_ready_beside fast unsettled lists) lists.waiting)) (next_grantable-fast unsettled lists same others)
 
 -- ---- a lock without fast tickets, whose word is 0
 

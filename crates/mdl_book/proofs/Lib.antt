@@ -1,3 +1,4 @@
+pub mod AdmitLemmas
 pub mod CountLemmas
 pub mod FastLemmas
 pub mod GrantingLemmas

@@ -1,13 +1,13 @@
 -- The first ticket that passes a test: its place, the list without it, and the list with it in another mode.
-use Rattle.std.proofs.Common.{◌≡◌, ℕ, suc, ◌+◌, ◌<◌, ◌≤◌, Bool, true, false, cond, List, [], ◌∷◌, ◌++◌, length, get_or, Option, Some, None, refl, sym, ◌∙◌, ap, subst, inl, inr, ltb, arith, add-one, take, drop}
-use Rattle.std.specs.Prelude.{is_some, slice_set}
+use Rattle.std.proofs.Common.{◌≡◌, ℕ, zero, suc, ◌+◌, ◌<◌, ◌≤◌, Bool, true, false, cond, List, [], ◌∷◌, ◌++◌, length, get_or, Option, Some, None, refl, sym, ◌∙◌, ap, subst, inl, inr, ltb, arith, add-one, not, take, drop}
+use Rattle.std.specs.Prelude.{is_some, slice_get, slice_set}
 use Rattle.std.specs.List.{position, position_or_len, find, before_first, after_first, All, Contains, remove}
 use Rattle.std.specs.Option.{option_map, option_to_list}
 use Rattle.std.proofs.lemmas.List.{append-nil, take_all, drop_all}
 use Rattle.std.proofs.lemmas.List.Folds.{find_at}
 use Rattle.std.proofs.lemmas.List.Sums.{split_at_first}
-use Rattle.std.proofs.lemmas.List.Elements.{All-append, All-take, All-drop}
-use Rattle.std.proofs.lemmas.Option.{slice_get-get_or, slice_get_cases}
+use Rattle.std.proofs.lemmas.List.Elements.{All-append, All-take, All-drop, All-head, All-tail}
+use Rattle.std.proofs.lemmas.Option.{slice_get-get_or, slice_get_cases, slice_get_past}
 use Rattle.std.proofs.lemmas.List.{set_split}
 use Rattle.mdl_key.specs.declared.mode.Mode.{Mode}
 use Rattle.mdl_book.specs.declared.ticket.Ticket.{Ticket}
@@ -110,3 +110,49 @@ with_mode_at session number mode tickets i ticket place is =
     let split : slice_set tickets i (in_mode mode ticket) ≡ take i tickets ++ (in_mode mode ticket ∷ drop (i + 1) tickets) =
     set_split tickets i (in_mode mode ticket) inside ∙ ap (λ n. take i tickets ++ (in_mode mode ticket ∷ drop n tickets)) (sym (add-one i)) in
     rw (found_at test tickets i ticket place is, first) split
+
+-- ---- in order
+
+-- where none before one passes, and it does, it is the first
+pub first_here : {X : Type 0} (p : X → Bool) (xs : List X) (i : ℕ) (d : X) → i ≤ position_or_len p xs → i < length xs → p (get_or xs i d) ≡ true → position_or_len p xs ≡ i
+first_here p [] i d before inside passes = absurd (omega (arith, inside))
+first_here p (x ∷ xs) zero d before inside passes =
+    elim (p x) as (λ b. b ≡ true → cond (not b) (1 + position_or_len p xs) 0 ≡ zero) [ true ↦ λ _. refl | false ↦ λ e. absurd (cc) ] passes
+first_here p (x ∷ xs) (suc i) d before inside passes =
+    elim (p x) as (λ b. suc i ≤ cond (not b) (1 + position_or_len p xs) 0 → cond (not b) (1 + position_or_len p xs) 0 ≡ suc i) [
+      | true ↦ λ le. absurd (omega (arith, le))
+      | false ↦ λ le. let at = first_here p xs i d (omega (arith, le)) (omega (arith, inside)) passes in omega (arith, at)
+    ] before
+
+-- where it doesn't pass either, the first comes after it
+pub first_later : {X : Type 0} (p : X → Bool) (xs : List X) (i : ℕ) (d : X) → i ≤ position_or_len p xs → i < length xs → p (get_or xs i d) ≡ false → i + 1 ≤ position_or_len p xs
+first_later p [] i d before inside fails = absurd (omega (arith, inside))
+first_later p (x ∷ xs) zero d before inside fails =
+    elim (p x) as (λ b. b ≡ false → zero + 1 ≤ cond (not b) (1 + position_or_len p xs) 0) [ true ↦ λ e. absurd (cc) | false ↦ λ _. omega arith ] fails
+first_later p (x ∷ xs) (suc i) d before inside fails =
+    elim (p x) as (λ b. suc i ≤ cond (not b) (1 + position_or_len p xs) 0 → suc i + 1 ≤ cond (not b) (1 + position_or_len p xs) 0) [
+      | true ↦ λ le. absurd (omega (arith, le))
+      | false ↦ λ le. let later = first_later p xs i d (omega (arith, le)) (omega (arith, inside)) fails in omega (arith, later)
+    ] before
+
+-- an element after the index of the first that passes
+abbrev pub indexed : {X : Type 0} → (X → Bool) → List X → X → ℕ × X
+indexed p xs x = (position_or_len p xs, x)
+
+-- the first is found, with its index
+pub first_found : {X : Type 0} (p : X → Bool) (xs : List X) (i : ℕ) (d : X) → i ≤ position_or_len p xs → i < length xs → p (get_or xs i d) ≡ true
+    → ◌≡◌ {A = Option (ℕ × X)} (Some (i, get_or xs i d)) (option_map (indexed p xs) (find p xs))
+first_found {X} p xs i d before inside passes =
+    let at = first_here p xs i d before inside passes in
+    let found : find p xs ≡ Some (get_or xs i d) = find_at p xs ∙ ap (slice_get xs) at ∙ slice_get-get_or xs i d inside in
+    let numbered : ℕ → Option (ℕ × X) = λ n. Some (n, get_or xs i d) in
+    sym (ap (option_map (indexed p xs)) found ∙ ap numbered at)
+
+-- where none passes, none is found
+pub none_found : {X : Type 0} (p : X → Bool) (xs : List X) → length xs ≤ position_or_len p xs → ◌≡◌ {A = Option (ℕ × X)} None (option_map (indexed p xs) (find p xs))
+none_found {X} p xs past = sym (ap (option_map (indexed p xs)) (find_at p xs ∙ slice_get_past xs (position_or_len p xs) past))
+
+-- two tests that agree on each element have the same first
+pub first-same : {X : Type 0} (p q : X → Bool) (xs : List X) → All (λ x. p x ≡ q x) xs → position_or_len p xs ≡ position_or_len q xs
+first-same p q [] same = refl
+first-same p q (x ∷ xs) same = rw (All-head (λ y. p y ≡ q y) x xs same, first-same p q xs (All-tail (λ y. p y ≡ q y) x xs same)) refl

@@ -1,6 +1,6 @@
 -- One lock's book: its two lists of tickets, and its key's version and definition, after MySQL 5.7: `MDL_lock` of sql/mdl.cc.
-use Rattle.std.specs.Prelude.{ℕ, ◌+◌, Bool, not, ◌&&◌, ◌||◌, nat_lt, nat_le, List, [], ◌∷◌, ◌++◌, length, Option, Some, None, find, All, Contains, IsTrue, if◌then◌else◌, is_some}
-use Rattle.std.specs.List.{list_any}
+use Rattle.std.specs.Prelude.{ℕ, ◌+◌, Bool, not, ◌&&◌, ◌||◌, nat_lt, nat_le, List, [], ◌∷◌, ◌++◌, length, Option, Some, None, find, All, Contains, IsTrue, if◌then◌else◌, is_some, slice_get}
+use Rattle.std.specs.List.{list_any, remove}
 use Rattle.std.specs.Option.{option_to_list}
 use Rattle.std.specs.Ordering.{nat_cmp}
 use Rattle.std.specs.FinSet as set
@@ -59,6 +59,13 @@ abbrev pub admitting : ℕ → ℕ → BookView → BookView
 admitting session number book = record book {
   granted = book.granted ++ option_to_list (ticket_of session number book.waiting);
   waiting = without session number book.waiting;
+}
+
+-- the book with the ticket at an index of the waiting list moved to the end of the granted ones
+abbrev pub admitting_by_index : ℕ → BookView → BookView
+admitting_by_index index book = record book {
+  granted = book.granted ++ option_to_list (slice_get book.waiting index);
+  waiting = remove book.waiting index;
 }
 
 -- the book without the waiting ticket of this session and number

@@ -1,6 +1,6 @@
 -- Tickets: a session's hold on a lock, or its wait for it, after MySQL 5.7: `MDL_ticket` of sql/mdl.h.
 use Rattle.std.specs.Prelude.{ℕ, Bool, ◌&&◌, ◌==◌, List, ◌++◌, Option, find}
-use Rattle.std.specs.List.{before_first, after_first}
+use Rattle.std.specs.List.{before_first, after_first, position_or_len}
 use Rattle.std.specs.Option.{option_map, option_to_list}
 use Rattle.mdl_key.specs.declared.mode.Mode.{Mode}
 use Rattle.mdl_book.specs.declared.ticket.Ticket.{Ticket}
@@ -16,6 +16,10 @@ ticket_id ticket = (ticket.session, ticket.number)
 -- the first ticket of this session and number, if there is one
 abbrev pub ticket_of : ℕ → ℕ → List Ticket → Option Ticket
 ticket_of session number tickets = find (is_ticket session number) tickets
+
+-- a ticket after the index of the first in a list that passes a test
+abbrev pub with_index : (Ticket → Bool) → List Ticket → Ticket → ℕ × Ticket
+with_index test tickets ticket = (position_or_len test tickets, ticket)
 
 -- the list without that ticket
 abbrev pub without : ℕ → ℕ → List Ticket → List Ticket

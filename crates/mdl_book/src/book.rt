@@ -1,12 +1,13 @@
 //! The book of one lock.
-ghost use Rattle.std.specs.Prelude.{◌≡◌, ◌++◌, [], ◌∷◌, OnOk, OnErr, IfOk, ◌+◌, length, is_ok, if◌then◌else◌, ◌≤◌, nat_le, Some, None, List, IsTrue};
+ghost use Rattle.std.specs.Prelude.{◌≡◌, ℕ, ◌++◌, [], ◌∷◌, OnOk, OnErr, IfOk, ◌+◌, length, is_ok, if◌then◌else◌, ◌≤◌, nat_le, Some, None, List, IsTrue, slice_get};
+ghost use Rattle.std.specs.List.{position_or_len};
 ghost use Rattle.std.specs.Option.{ok_or, option_map, option_copied};
 ghost use Rattle.mdl_key.specs.Refusals.{Refuses, RefusesJust};
 ghost use Rattle.mdl_defs.specs.VersionedDefinitions.{standing_fault};
-ghost use Rattle.mdl_book.specs.Tickets.{ticket_id, ticket_of, without};
+ghost use Rattle.mdl_book.specs.Tickets.{is_ticket, ticket_id, ticket_of, with_index, without};
 ghost use Rattle.mdl_book.specs.FastTickets.{CountsFastTickets, CoversFastTickets, AreOfOthers, may_stand, can_be_granted};
 ghost use Rattle.mdl_book.specs.Granting.{is_grantable, is_compatible, goes_first, IsGrantable, IsLawful};
-ghost use Rattle.mdl_book.specs.Books.{lock_kind, empty_book, grant_fault, change_fault, full_fault, ticket_count, granting, enqueueing, admitting, cancelling, removing, changing, redefining, next_grantable, AreOfNoWaiter, next_grantable_beside, has_obtrusive, has_tickets};
+ghost use Rattle.mdl_book.specs.Books.{lock_kind, empty_book, grant_fault, change_fault, full_fault, ticket_count, granting, enqueueing, admitting, admitting_by_index, cancelling, removing, changing, redefining, is_ready, next_grantable, AreOfNoWaiter, is_ready_beside, next_grantable_beside, has_obtrusive, has_tickets};
 
 use crate::kept_standing::KeptStanding;
 use crate::ticket_list::TicketList;
@@ -186,6 +187,29 @@ impl Book {
         Ok(ticket)
     }
 
+    /// Grants the waiting ticket at an index of the waiting list, as [`Book::admit`] does if the ticket is the first of its
+    /// session and number. The caller must make sure that it can be granted. It takes no memory.
+    #[inline]
+    pub fn admit_at(&mut self, index: usize) -> Result<Ticket, BookError>
+        ensures answer { result ≡ ok_or (slice_get self.old.waiting index) BookError.NotHere }
+        ensures admitted { self.new ≡ admitting_by_index index self.old }
+        ensures as_admit { (session number : ℕ) → position_or_len (is_ticket session number) self.old.waiting ≡ index
+            → self.new ≡ admitting session number self.old }
+        ensures unchanged { OnErr result (self.new ≡ self.old) }
+        ensures lawful { IfOk result (λ ticket. IsGrantable (lock_kind self.old) self.old.granted self.old.waiting ticket.session ticket.mode
+            → IsLawful (lock_kind self.old) self.old.granted → IsLawful (lock_kind self.new) self.new.granted) }
+        ensures lawful_with_fast { IfOk result (λ ticket. (fast : List Ticket)
+            → IsGrantable (lock_kind self.old) (fast ++ self.old.granted) self.old.waiting ticket.session ticket.mode
+            → IsLawful (lock_kind self.old) (fast ++ self.old.granted) → IsLawful (lock_kind self.new) (fast ++ self.new.granted)) }
+    {
+        if index >= self.waiting.len() {
+            return Err(BookError::NotHere);
+        }
+        let admitted = self.waiting.take_at(index);
+        self.granted.push_reserved(admitted);
+        Ok(admitted)
+    }
+
     /// Removes a waiting ticket, and returns it. It takes no memory.
     #[inline]
     pub fn cancel(&mut self, session: u16, number: u64) -> Result<Ticket, BookError>
@@ -244,11 +268,22 @@ impl Book {
         ensures counted { (fast : List Ticket) → CountsFastTickets (lock_kind self.now) word.0 fast → AreOfNoWaiter self.now fast
             → result ≡ option_map ticket_id (next_grantable_beside fast unsettled.now self.now) }
     {
-        for ticket in self.waiting.as_slice() {
+        let (_index, ticket) = self.next_grantable_at(word, unsettled)?;
+        Some((ticket.session, ticket.number))
+    }
+
+    /// Returns the ticket of which [`Book::next_grantable`] tells, after its index in the waiting list. [`Book::admit_at`]
+    /// grants it without a search.
+    pub fn next_grantable_at(&self, word: Word, unsettled: &Sessions) -> Option<(usize, Ticket)>
+        ensures exact { result ≡ option_map (with_index (is_ready word.0 unsettled.now self.now) self.now.waiting) (next_grantable word.0 unsettled.now self.now) }
+        ensures counted { (fast : List Ticket) → CountsFastTickets (lock_kind self.now) word.0 fast → AreOfNoWaiter self.now fast
+            → result ≡ option_map (with_index (is_ready_beside fast unsettled.now self.now) self.now.waiting) (next_grantable_beside fast unsettled.now self.now) }
+    {
+        for (index, ticket) in self.waiting.as_slice().iter().enumerate() {
             if unsettled.contains(ticket.session)
                 && self.can_grant(ticket.session, ticket.mode, word)
             {
-                return Some((ticket.session, ticket.number));
+                return Some((index, *ticket));
             }
         }
         None

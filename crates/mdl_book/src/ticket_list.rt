@@ -1,6 +1,6 @@
 //! A list of tickets, counted by mode.
-ghost use Rattle.std.specs.Prelude.{◌≡◌, ◌+◌, ◌<◌, ◌≤◌, [], ◌∷◌, ◌++◌, length, OnOk, OnErr, IsOk, is_some, None, ◌==◌, if◌then◌else◌, position};
-ghost use Rattle.std.specs.List.{list_any};
+ghost use Rattle.std.specs.Prelude.{◌≡◌, ◌+◌, ◌<◌, ◌≤◌, [], ◌∷◌, ◌++◌, length, OnOk, OnErr, IsOk, is_some, None, ◌==◌, if◌then◌else◌, position, slice_index_or};
+ghost use Rattle.std.specs.List.{list_any, remove};
 ghost use Rattle.std.specs.Option.{option_map};
 ghost use Rattle.mdl_key.specs.Classes.{is_obtrusive};
 ghost use Rattle.mdl_book.specs.Granting.{is_compatible, goes_first};
@@ -127,9 +127,21 @@ impl TicketList {
         ensures unchanged { result ≡ None → self.new ≡ self.old }
     {
         let at = place_of(self.tickets.as_slice(), session, number)?;
+        Some(self.take_at(at))
+    }
+
+    /// Removes the ticket at an index, and returns it.
+    #[inline]
+    pub(crate) fn take_at(&mut self, at: usize) -> Ticket
+        requires { at < length self.old.tickets }
+        ensures value { result ≡ slice_index_or self.old.tickets at result }
+        ensures tickets { self.new.tickets ≡ remove self.old.tickets at }
+        ensures len { length self.new.tickets + 1 ≡ length self.old.tickets }
+        ensures room { self.new.room ≡ self.old.room }
+    {
         let ticket = self.tickets.remove(at);
         self.counts.subtract(ticket.mode);
-        Some(ticket)
+        ticket
     }
 
     /// Changes the mode of the first ticket of this session and number, and returns the mode that it had.

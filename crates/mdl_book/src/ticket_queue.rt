@@ -107,6 +107,10 @@ impl TicketQueue {
         let first = self.tickets.as_slice()[self.gone];
         if at == 0 {
             self.gone += 1;
+            if self.gone == self.tickets.len() {
+                self.tickets.truncate(0);
+                self.gone = 0;
+            }
             return first;
         }
         self.tickets.remove(self.gone + at)

@@ -1,5 +1,5 @@
 //! Books of locks that are granted and that sessions wait for.
-use super::steps::{Answer, CONFLICT, Life, NO, NO_FAST, Step, Steps, YES};
+use super::steps::{Answer, CONFLICT, Life, NO, NO_FAST, NOT_HERE, Step, Steps, YES};
 use mdl_key::{Kind, Mode};
 
 const LIFE: Steps = &[
@@ -89,6 +89,41 @@ const LATER_AND_SETTLED: Steps = &[
     (Step::Next(NO_FAST, &[1, 2, 3]), Answer::FindsNobody),
 ];
 
+const BY_INDEX: Steps = &[
+    (Step::Grant(1, 1, Mode::X, NO_FAST), Answer::Done),
+    (Step::Enqueue(2, 1, Mode::SR), Answer::Done),
+    (Step::Enqueue(3, 5, Mode::SW), Answer::Done),
+    (Step::Enqueue(4, 2, Mode::SH), Answer::Done),
+    (Step::NextAt(NO_FAST, &[]), Answer::FindsNobody),
+    (Step::Remove(1, 1), Answer::Gives(1, 1, Mode::X)),
+    (
+        Step::NextAt(NO_FAST, &[2]),
+        Answer::FindsAt(1, 3, 5, Mode::SW),
+    ),
+    (Step::AdmitAt(3), NOT_HERE),
+    (Step::AdmitAt(1), Answer::Gives(3, 5, Mode::SW)),
+    (
+        Step::BookView(&[(3, 5, Mode::SW)], &[(2, 1, Mode::SR), (4, 2, Mode::SH)]),
+        YES,
+    ),
+    (
+        Step::NextAt(NO_FAST, &[]),
+        Answer::FindsAt(0, 2, 1, Mode::SR),
+    ),
+    (Step::AdmitAt(0), Answer::Gives(2, 1, Mode::SR)),
+    (Step::AdmitAt(0), Answer::Gives(4, 2, Mode::SH)),
+    (Step::AdmitAt(0), NOT_HERE),
+    // The list that was emptied is used again.
+    (Step::Enqueue(5, 1, Mode::X), Answer::Done),
+    (
+        Step::BookView(
+            &[(3, 5, Mode::SW), (2, 1, Mode::SR), (4, 2, Mode::SH)],
+            &[(5, 1, Mode::X)],
+        ),
+        YES,
+    ),
+];
+
 pub(super) const LIVES: &[Life] = &[
     ("an ordinary life", Kind::Object, LIFE),
     ("a schema is served in turn", Kind::Scoped, IN_TURN),
@@ -103,4 +138,5 @@ pub(super) const LIVES: &[Life] = &[
         Kind::Object,
         LATER_AND_SETTLED,
     ),
+    ("waiters are granted by their index", Kind::Object, BY_INDEX),
 ];

@@ -16,12 +16,16 @@ pub(crate) enum Step {
     Grant(u16, u64, Mode, Word),
     Enqueue(u16, u64, Mode),
     Admit(u16, u64),
+    // By the index of the waiting ticket.
+    AdmitAt(usize),
     Cancel(u16, u64),
     Remove(u16, u64),
     SetMode(u16, u64, Mode, Word),
     CanGrant(u16, Mode, Word),
     // Of the waits, those of these sessions are settled.
     Next(Word, &'static [u16]),
+    // The same, with the ticket's index.
+    NextAt(Word, &'static [u16]),
     Needs,
     BookView(&'static [Row], &'static [Row]),
 }
@@ -34,6 +38,7 @@ pub(crate) enum Answer {
     Refuses(BookError),
     Is(bool),
     Finds(u16, u64),
+    FindsAt(usize, u16, u64, Mode),
     FindsNobody,
     // Whether a ticket is obtrusive, and whether there is a ticket at all.
     Needs(bool, bool),
@@ -98,14 +103,27 @@ fn given(outcome: Result<Ticket, BookError>) -> Answer {
     }
 }
 
-// Returns the next ticket that can be granted, if the waits of these sessions are settled.
-fn next(book: &Book, word: Word, settled: &[u16]) -> Answer {
+// Returns all sessions except these, whose waits are settled.
+fn unsettled_beside(settled: &[u16]) -> Sessions {
     let mut unsettled = Sessions::all();
     for session in settled {
         unsettled.remove(*session);
     }
-    match book.next_grantable(word, &unsettled) {
+    unsettled
+}
+
+// Returns the next ticket that can be granted, if the waits of these sessions are settled.
+fn next(book: &Book, word: Word, settled: &[u16]) -> Answer {
+    match book.next_grantable(word, &unsettled_beside(settled)) {
         Some((session, number)) => Answer::Finds(session, number),
+        None => Answer::FindsNobody,
+    }
+}
+
+// The same, with its index.
+fn next_at(book: &Book, word: Word, settled: &[u16]) -> Answer {
+    match book.next_grantable_at(word, &unsettled_beside(settled)) {
+        Some((index, found)) => Answer::FindsAt(index, found.session, found.number, found.mode),
         None => Answer::FindsNobody,
     }
 }
@@ -123,6 +141,7 @@ pub(crate) fn make(book: &mut Book, step: Step) -> Answer {
         }
         Step::Enqueue(session, number, mode) => done(book.enqueue(ticket(session, number, mode))),
         Step::Admit(session, number) => given(book.admit(session, number)),
+        Step::AdmitAt(index) => given(book.admit_at(index)),
         Step::Cancel(session, number) => given(book.cancel(session, number)),
         Step::Remove(session, number) => given(book.remove(session, number)),
         Step::SetMode(session, number, mode, word) => {
@@ -130,6 +149,7 @@ pub(crate) fn make(book: &mut Book, step: Step) -> Answer {
         }
         Step::CanGrant(session, mode, word) => Answer::Is(book.can_grant(session, mode, word)),
         Step::Next(word, settled) => next(book, word, settled),
+        Step::NextAt(word, settled) => next_at(book, word, settled),
         Step::Needs => needs(book),
         Step::BookView(granted, waiting) => {
             Answer::Is(are_listed(book.granted(), granted) && are_listed(book.waiting(), waiting))

@@ -4,8 +4,8 @@ use Rattle.std.proofs.lemmas.List.{drop-drop, length-drop}
 use Rattle.mdl_book.proofs.ListLemmas.{drop-remove}
 use Rattle.mdl_book.proofs.ticket_queue.TicketQueue.remove.Goals as goal
 
-pub returns-then-at-eq0-clause-tickets : goal.returns-then-at-eq0-clause-tickets
-returns-then-at-eq0-clause-tickets c = rw (← c.self.view_is, c.if-at-eq0.true) (sym (drop-drop 1 c.self.inside.gone c.self.inside.tickets.items))
+pub returns-else-self-len-clause-tickets : goal.returns-else-self-len-clause-tickets
+returns-else-self-len-clause-tickets c = rw (← c.self.view_is, c.if-at-eq0.true) (sym (drop-drop 1 c.self.inside.gone c.self.inside.tickets.items))
 
 pub overflow_add-self-inside : goal.overflow_add-self-inside
 overflow_add-self-inside c = let within = rw (← c.self.view_is) at c.requires in omega (arith, length-drop c.self.inside.gone c.self.inside.tickets.items, within, ap length c.as_slice.ensures, c.as_slice.type_inv.0)
