@@ -1,4 +1,5 @@
 pub mod AnyLemmas
+pub mod ChainLemmas
 pub mod CycleLaws
 pub mod CycleOrder
 pub mod DeadlockLemmas

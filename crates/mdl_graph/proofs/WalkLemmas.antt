@@ -41,18 +41,22 @@ first_least test (suc n) number passes inside =
       ]
     ] refl
 
--- where none of the first ones passes, the next one that does is the first
-pub first_found : (test : ℕ → Bool) (i more : ℕ) → first_below test i ≡ None → test i ≡ true → first_below test (suc i + more) ≡ Some i
-first_found test i zero none passes = let end : suc i + 0 ≡ suc i = omega arith in rw (end, none, passes) refl
-first_found test i (suc more) none passes =
-    let end : suc i + suc more ≡ suc (suc i + more) = omega arith in rw (end, first_found test i more none passes) refl
+-- a number that passes, and is the least that does
+pub least_found : (test : ℕ → Bool) (n least session : ℕ) → least < n → test least ≡ true
+    → ((number : ℕ) → number < n → test number ≡ true → least ≤ number) → least ≡ unwrap_or (first_below test n) session
+least_found test n least session inside passes lower =
+    let first = first_least test n least passes inside in
+    let is = first_is test n first.0 first.1 in
+    let same : least ≡ first.0 = omega (arith, first.2, lower first.0 is.1 is.0) in
+    same ∙ sym (ap (λ (o : Option ℕ). unwrap_or o session) first.1)
 
-pub next_found : (test : ℕ → Bool) (i n session : ℕ) → i < n → first_below test i ≡ None → test i ≡ true → i ≡ unwrap_or (first_below test n) session
-next_found test i n session inside none passes =
-    let more : ℕ = n - suc i in
-    let whole : suc i + more ≡ n = omega (arith, inside) in
-    let found : first_below test n ≡ Some i = subst (λ (k : ℕ). first_below test k ≡ Some i) whole (first_found test i more none passes) in
-    sym (ap (λ (o : Option ℕ). unwrap_or o session) found)
+-- where no number passes, none is found
+pub none_found : (test : ℕ → Bool) (n session : ℕ) → ((number : ℕ) → number < n → test number ≡ true → ⊥) → session ≡ unwrap_or (first_below test n) session
+none_found test n session none =
+    elim (first_below test n) as (λ o. first_below test n ≡ o → session ≡ unwrap_or o session) [
+      | Some found ↦ λ e. let is = first_is test n found e in absurd (none found is.1 is.0)
+      | None ↦ λ _. refl
+    ] refl
 
 -- a step more than none asks for a level
 pub next_by_level : (waits : ℕ → ℕ → Bool) (from : ℕ) (levels : List ℕ) (steps session found : ℕ) → 0 < steps

@@ -1,5 +1,5 @@
 -- How a graph stores who waits for whom, and how a search stores how far each session is from the one that it starts at.
-use Rattle.std.specs.Prelude.{◌≡◌, ℕ, zero, suc, ◌<◌, ◌≤◌, Bool, true, false, not, ◌&&◌, ◌||◌, ◌==◌, List, [], ◌∷◌, length, map, flat_map, slice_index, slice_index_or, filter, Option, Some, None, if◌then◌else◌}
+use Rattle.std.specs.Prelude.{◌≡◌, ℕ, zero, suc, ◌+◌, ◌<◌, ◌≤◌, Bool, true, false, not, ◌&&◌, ◌||◌, ◌==◌, List, [], ◌∷◌, length, map, flat_map, slice_index, slice_index_or, filter, Option, Some, None, if◌then◌else◌}
 use Rattle.std.specs.FinSet as set
 use Rattle.std.specs.Ordering.{nat_cmp}
 use Rattle.std.specs.List.{list_any, count_by, Contains}
@@ -95,6 +95,19 @@ level_of levels session = slice_index levels session
 -- how many sessions weren't reached
 abbrev pub unreached : List ℕ → ℕ
 unreached levels = count_by (λ level. level == 0) levels
+
+-- `at` is one more than the first session from a least one on that is this number of steps away; it is 0 if there is none
+pub record IsFirst (levels : List ℕ) (steps least at : ℕ) : Type 0 where
+  pub here : (session : ℕ) → at ≡ suc session → (least ≤ session) × (session < length levels) × (level_of levels session ≡ steps)
+  pub none : (session : ℕ) → least ≤ session → session < length levels → level_of levels session ≡ steps → (0 < at) × (at ≤ suc session)
+
+-- the links of the sessions from a least one on are right: that of each number of steps to its first session, and that of each
+-- session to the next one of its number
+pub record AreChained (levels firsts afters : List ℕ) (least : ℕ) : Type 0 where
+  pub same : length afters ≡ length levels
+  pub first : (steps : ℕ) → steps < length firsts → IsFirst levels steps least (slice_index firsts steps)
+  pub after : (session : ℕ) → least ≤ session → session < length levels → level_of levels session < length firsts
+      → IsFirst levels (level_of levels session) (session + 1) (slice_index afters session)
 
 -- whether a session is in a list
 abbrev pub stands_in : List ℕ → ℕ → Bool

@@ -43,6 +43,7 @@
 mod counts;
 mod cycle;
 mod laws;
+mod level_links;
 mod levels;
 mod lists;
 mod rows;
@@ -50,6 +51,7 @@ mod stands;
 mod wait_graph;
 mod waits;
 mod walks;
+mod weights;
 
 pub use cycle::{Cycle, Member, victim};
 pub use laws::{

@@ -1,25 +1,15 @@
 //! The path back to a session, found by how many steps the others are from it.
 ghost use Rattle.std.specs.Prelude.{◌≡◌, ℕ, ◌<◌, ◌≤◌, ◌⊎◌, ◌||◌, ◌&&◌, ◌==◌, not, length, map, find, IfOk};
 ghost use Rattle.std.specs.List.{list_any};
-ghost use Rattle.mdl_graph.specs.Graphs.{member_of, weight_found};
+ghost use Rattle.mdl_graph.specs.Graphs.{member_of};
 ghost use Rattle.mdl_graph.specs.Searches.{level_of, next_of, waits_by, waits_in, walk};
 
 use crate::Member;
+use crate::level_links::LevelLinks;
 use crate::stands::Stands;
 use crate::waits::Waits;
+use crate::weights::weights_of;
 use std::alloc::{AllocError, Global};
-
-// Returns the weight of a session's first request, or 0 if it has none.
-fn weight_of(wishes: &[Member], session: u16) -> u8
-    ensures { result ≡ weight_found (find (λ wish. wish.session == session) wishes.now) }
-{
-    for wish in wishes {
-        if wish.session == session {
-            return wish.weight;
-        }
-    }
-    0
-}
 
 // Whether one session waits for another, found by the rows that the other one blocks.
 fn waits_for(waits: &Waits<'_>, stands: &Stands<'_>, waiter: usize, other: usize) -> bool
@@ -39,20 +29,23 @@ fn waits_for(waits: &Waits<'_>, stands: &Stands<'_>, waiter: usize, other: usize
 // Returns the least session that a session waits for, of those `steps` steps away from the start of the search. It is the
 // session itself if there is none.
 fn next_of(
-    levels: &[usize],
+    links: &LevelLinks<'_>,
     waits: &Waits<'_>,
     stands: &Stands<'_>,
     steps: usize,
     session: usize,
 ) -> usize
-    requires { 0 < steps }
-    ensures value { (from : ℕ) → result ≡ next_of (waits_by waits.now stands.now) from levels.now steps session }
-    ensures within { (result < length levels.now) ⊎ (result ≡ session) }
+    requires some { 0 < steps }
+    requires near { steps < links.now.1 }
+    ensures value { (from : ℕ) → result ≡ next_of (waits_by waits.now stands.now) from links.now.0 steps session }
+    ensures within { (result < length links.now.0) ⊎ (result ≡ session) }
 {
-    for (next, level) in levels.iter().enumerate() {
-        if *level == steps && waits_for(waits, stands, session, next) {
-            return next;
+    let mut at = links.first(steps);
+    while at > 0 {
+        if waits_for(waits, stands, session, at - 1) {
+            return at - 1;
         }
+        at = links.after(at - 1);
     }
     session
 }
@@ -70,16 +63,17 @@ pub(crate) fn walk(
     requires { length levels.now ≤ 65536 }
     ensures { IfOk result (λ members. members.items ≡ map (member_of wishes.now) (walk (waits_by waits.now stands.now) from levels.now steps from)) }
 {
-    let mut members = Vec::with_capacity(alloc, steps)?;
     let mut session = usize::from(from);
+    let weights = weights_of(alloc, wishes, levels.len().max(session + 1))?;
+    let links = LevelLinks::new(alloc, levels, steps)?;
+    let mut members = Vec::with_capacity(alloc, steps)?;
     for step in 0..steps {
-        let number = session as u16;
         members.push(Member {
-            session: number,
-            weight: weight_of(wishes, number),
+            session: session as u16,
+            weight: weights[session],
         })?;
         if step + 1 < steps {
-            session = next_of(levels, waits, stands, steps - 1 - step, session);
+            session = next_of(&links, waits, stands, steps - 1 - step, session);
         }
     }
     Ok(members)
