@@ -1,11 +1,13 @@
 -- A session's seat at the table, as contracts see it.
-use Rattle.std.specs.Prelude.{◌≡◌, ℕ, ◌<◌, ◌≤◌, []}
+use Rattle.std.specs.Prelude.{◌≡◌, ℕ, ◌<◌, ◌≤◌, [], ◌∷◌}
 use Rattle.atomic_table.specs.Seated.{TableId}
+use Rattle.mdl_book.specs.declared.book_view.BookView.{BookView}
+use Rattle.mdl_steps.specs.declared.slot.Slot.TheVariants as slot
 use Rattle.mdl_steps.specs.declared.step_kind.StepKind.TheVariants as step
 use Rattle.mdl_steps.specs.Cells.{blank, no_numbers}
 use Rattle.mdl_steps.specs.Layout.{enrol_word, word_count}
 use Rattle.mdl_steps.specs.Plays.{Mine, logged}
-use Rattle.mdl_steps.specs.Seats.{IsSized}
+use Rattle.mdl_steps.specs.Seats.{IsSized, rest}
 use Rattle.mdl_steps.specs.WaitSeats.{IsSession}
 
 -- the table of a seat, and what the session knows and has there. The session's number is that of its view
@@ -26,6 +28,18 @@ pub record IsSeat (sessions : ℕ) (table of : TableId) (number : ℕ) (me : Min
 -- the seat is still at its table, and what the session knows and has there changed according to `Changes`
 abbrev pub AtItsTable : SeatState → SeatState → (Mine → Mine → Type 0) → Type 0
 AtItsTable s s′ Changes = (s′.table ≡ s.table) × Changes s.me s′.me
+
+-- the session has this book of a place in hand
+abbrev pub HasBookInHand : ℕ → BookView → SeatState → Type 0
+HasBookInHand place book s = s.me.1 ≡ (place, slot.Place book) ∷ rest s.me.1
+
+-- the session has some book of a place in hand
+abbrev pub HoldsBook : ℕ → SeatState → Type 0
+HoldsBook place s = (book : BookView) × HasBookInHand place book s
+
+-- this holds of the book of a place that the session has in hand
+abbrev pub OfBook : ℕ → SeatState → (BookView → Type 0) → Type 0
+OfBook place s IsSo = (book : BookView) → HasBookInHand place book s → IsSo book
 
 -- the seat of a new session: it has its number, the step that drew that, and nothing else
 abbrev pub enrolled_seat : TableId → ℕ → SeatState

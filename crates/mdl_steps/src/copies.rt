@@ -1,9 +1,7 @@
 //! Copies of books, which a session keeps after it has given the latches of their places back.
 ghost use Rattle.std.specs.Prelude.{◌≡◌, [], ◌∷◌, ◌++◌, IfOk, OnOk, OnErr};
-ghost use Rattle.mdl_book.specs.declared.book_view.BookView.{BookView};
-ghost use Rattle.mdl_steps.specs.declared.slot.Slot.TheVariants as slot;
 ghost use Rattle.mdl_steps.specs.Copies.{queues_of};
-ghost use Rattle.mdl_steps.specs.Seats.{rest};
+ghost use Rattle.mdl_steps.specs.SeatStates.{HoldsBook, OfBook};
 
 use crate::hand::book_in_hand;
 use crate::list_copies::ListCopies;
@@ -43,10 +41,9 @@ impl Model for BookCopy {
 impl TableSeat {
     /// Appends the lists of the book in hand to `lists`. Nothing else changes. If memory runs out, nothing changes at all.
     pub fn copy_lists(&mut self, latch: &Latched, lists: &mut ListCopies) -> Result<(), AllocError>
-        requires carried { (book : BookView) × (self.old.me.1 ≡ (latch.now.place, slot.Place book) ∷ rest self.old.me.1) }
+        requires carried { HoldsBook latch.now.place self.old }
         ensures same { self.new ≡ self.old }
-        ensures added { (book : BookView) → self.old.me.1 ≡ (latch.now.place, slot.Place book) ∷ rest self.old.me.1
-            → OnOk result (lists.new ≡ lists.old ++ queues_of book ∷ []) }
+        ensures added { OfBook latch.now.place self.old (λ book. OnOk result (lists.new ≡ lists.old ++ queues_of book ∷ [])) }
         ensures kept { OnErr result (lists.new ≡ lists.old) }
     {
         let book = book_in_hand(&mut self.seat, &self.table.shared, latch.place);
@@ -56,10 +53,9 @@ impl TableSeat {
 
     /// Returns a copy of the book in hand. Nothing changes, even if memory runs out.
     pub fn copy_book(&mut self, latch: &Latched, alloc: Global) -> Result<BookCopy, AllocError>
-        requires carried { (book : BookView) × (self.old.me.1 ≡ (latch.now.place, slot.Place book) ∷ rest self.old.me.1) }
+        requires carried { HoldsBook latch.now.place self.old }
         ensures same { self.new ≡ self.old }
-        ensures told { (book : BookView) → self.old.me.1 ≡ (latch.now.place, slot.Place book) ∷ rest self.old.me.1
-            → IfOk result (λ copy. copy ≡ book) }
+        ensures told { OfBook latch.now.place self.old (λ book. IfOk result (λ copy. copy ≡ book)) }
     {
         let book = book_in_hand(&mut self.seat, &self.table.shared, latch.place);
         copied(alloc, book)

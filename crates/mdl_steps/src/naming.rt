@@ -5,13 +5,13 @@
 //! key was added, plus one), whose book is unused, writes the key's empty book there ([`TableSeat::name_book`]), and gives that latch back,
 //! which gives the place to the key ([`TableSeat::put_latch_naming`]). Then it gives the directory's latch back.
 ghost use Rattle.std.specs.Prelude.{◌≡◌, ◌∷◌, length, None, OnOk, OnErr};
-ghost use Rattle.mdl_book.specs.declared.book_view.BookView.{BookView};
 ghost use Rattle.mdl_book.specs.Books.{empty_book};
 ghost use Rattle.mdl_key.specs.Words.{KeyName};
 ghost use Rattle.mdl_steps.specs.declared.slot.Slot.TheVariants as slot;
 ghost use Rattle.mdl_steps.specs.declared.view.LatchRecord.{LatchRecord};
 ghost use Rattle.mdl_steps.specs.declared.view.Keys.{Keys};
 ghost use Rattle.mdl_steps.specs.Plays.{listing, named};
+ghost use Rattle.mdl_steps.specs.SeatStates.{HoldsBook, OfBook};
 ghost use Rattle.mdl_steps.specs.Seats.{IsPlace, HasDirectory, MayName, place_among, rest, written};
 
 use crate::Directory;
@@ -74,7 +74,7 @@ impl TableSeat {
 
     /// Replaces the book in hand with the empty book of a key.
     pub fn name_book(&mut self, latch: &Latched, alloc: Global, key: Key)
-        requires carried { (book : BookView) × (self.old.me.1 ≡ (latch.now.place, slot.Place book) ∷ rest self.old.me.1) }
+        requires carried { HoldsBook latch.now.place self.old }
         ensures written { self.new ≡ record self.old { me = written latch.now.place (empty_book key) self.old.me } }
     {
         *book_in_hand(&mut self.seat, &self.table.shared, latch.place) = Book::new(alloc, key);
@@ -84,8 +84,7 @@ impl TableSeat {
     pub fn put_latch_naming(&mut self, latch: Latched, _directory: &LatchedDirectory)
         requires place { IsPlace self.old.table latch.place }
         requires put { (key : KeyName) × (k : Keys) × (h : LatchRecord) × MayName latch.place key k h self.old.me }
-        ensures made { (book : BookView) → self.old.me.1 ≡ (latch.place, slot.Place book) ∷ rest self.old.me.1
-            → self.new ≡ record self.old { me = named latch.place book.key self.old.me } }
+        ensures made { OfBook latch.place self.old (λ book. self.new ≡ record self.old { me = named latch.place book.key self.old.me }) }
     {
         let Latched { place } = latch;
         self.table

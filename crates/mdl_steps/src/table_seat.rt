@@ -1,13 +1,13 @@
 //! The table, a session's seat, and its steps on the words of a place under the place's latch.
-ghost use Rattle.std.specs.Prelude.{◌≡◌, ◌≢◌, ℕ, nat_lt, ◌&&◌, ◌+◌, ◌*◌, ◌^◌, ◌<◌, ◌∷◌, [], Some, MatchOption};
+ghost use Rattle.std.specs.Prelude.{◌≡◌, ◌≢◌, ℕ, nat_lt, ◌&&◌, ◌+◌, ◌*◌, ◌^◌, ◌<◌, [], Some, MatchOption};
 ghost use Rattle.mdl_book.specs.declared.book_view.BookView.{BookView};
-ghost use Rattle.mdl_steps.specs.declared.slot.Slot.TheVariants as slot;
 ghost use Rattle.mdl_steps.specs.declared.step_kind.StepKind.TheVariants as step;
 ghost use Rattle.mdl_steps.specs.declared.view.LatchRecord.{LatchRecord};
 ghost use Rattle.mdl_steps.specs.Cells.{held_at};
 ghost use Rattle.mdl_steps.specs.Layout.{session_count, wait_word};
 ghost use Rattle.mdl_steps.specs.Plays.{IsFresh, latched, unlatched, missed_latch, stepped, flags_lowered, raised, noting, lowered, redefined, restood, read_and_put, searched, served};
-ghost use Rattle.mdl_steps.specs.Seats.{IsPlace, IsRising, Holds, MayPut, MayLower, MayWriteVersion, rest, elsewhere};
+ghost use Rattle.mdl_steps.specs.SeatStates.{OfBook};
+ghost use Rattle.mdl_steps.specs.Seats.{IsPlace, IsRising, Holds, MayPut, MayLower, MayWriteVersion, elsewhere};
 ghost use Rattle.mdl_steps.specs.Servings.{MayServe};
 ghost use Rattle.mdl_steps.specs.Sights.{SeesNoDeadlock};
 
@@ -160,8 +160,7 @@ impl TableSeat {
     pub fn write_version(&mut self, latch: &Latched)
         requires place { IsPlace self.old.table latch.now.place }
         requires written { MayWriteVersion latch.now.place self.old.me }
-        ensures made { (book : BookView) → self.old.me.1 ≡ (latch.now.place, slot.Place book) ∷ rest self.old.me.1
-            → self.new ≡ record self.old { me = redefined latch.now.place book.standing self.old.me } }
+        ensures made { OfBook latch.now.place self.old (λ book. self.new ≡ record self.old { me = redefined latch.now.place book.standing self.old.me }) }
         ensures keeps { (h : LatchRecord) (book : BookView) → Holds latch.now.place h book self.old.me → Holds latch.now.place (restood book.standing h) book self.new.me }
         ensures apart { elsewhere latch.now.place self.new.me ≡ elsewhere latch.now.place self.old.me }
     {
@@ -176,8 +175,7 @@ impl TableSeat {
     pub fn lower_flags(&mut self, latch: &Latched, slow: bool, obtrusive: bool, deeds: &[Deed])
         requires place { IsPlace self.old.table latch.now.place }
         requires lowered { MayLower latch.now.place deeds.now slow obtrusive self.old.me }
-        ensures made { (found : ℕ) × ((book : BookView) → self.old.me.1 ≡ (latch.now.place, slot.Place book) ∷ rest self.old.me.1
-            → self.new ≡ record self.old { me = flags_lowered latch.now.place deeds.now found book slow obtrusive self.old.me }) }
+        ensures made { (found : ℕ) × OfBook latch.now.place self.old (λ book. self.new ≡ record self.old { me = flags_lowered latch.now.place deeds.now found book slow obtrusive self.old.me }) }
         ensures keeps { (h : LatchRecord) (book : BookView) → Holds latch.now.place h book self.old.me → Holds latch.now.place (lowered deeds.now book slow obtrusive h) book self.new.me }
         ensures apart { elsewhere latch.now.place self.new.me ≡ elsewhere latch.now.place self.old.me }
     {
@@ -194,8 +192,7 @@ impl TableSeat {
         requires place { IsPlace self.old.table latch.now.place }
         requires picked { _deeds.now ≡ J.deeds }
         requires lowered { MayLower latch.now.place _deeds.now slow obtrusive self.old.me }
-        ensures made { (found : ℕ) × ((book : BookView) → self.old.me.1 ≡ (latch.now.place, slot.Place book) ∷ rest self.old.me.1
-            → self.new ≡ record self.old { me = flags_lowered latch.now.place _deeds.now found book slow obtrusive self.old.me }) }
+        ensures made { (found : ℕ) × OfBook latch.now.place self.old (λ book. self.new ≡ record self.old { me = flags_lowered latch.now.place _deeds.now found book slow obtrusive self.old.me }) }
         ensures keeps { (h : LatchRecord) (book : BookView) → Holds latch.now.place h book self.old.me → Holds latch.now.place (lowered _deeds.now book slow obtrusive h) book self.new.me }
         ensures apart { elsewhere latch.now.place self.new.me ≡ elsewhere latch.now.place self.old.me }
     {
@@ -235,8 +232,7 @@ impl TableSeat {
     pub fn put_latch_reading(&mut self, latch: Latched)
         requires place { IsPlace self.old.table latch.place }
         requires put { MayPut latch.place [] self.old.me }
-        ensures made { (book : BookView) → self.old.me.1 ≡ (latch.place, slot.Place book) ∷ rest self.old.me.1
-            → self.new ≡ record self.old { me = read_and_put latch.place book.standing self.old.me } }
+        ensures made { OfBook latch.place self.old (λ book. self.new ≡ record self.old { me = read_and_put latch.place book.standing self.old.me }) }
     {
         let Latched { place } = latch;
         self.table

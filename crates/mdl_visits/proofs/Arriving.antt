@@ -18,7 +18,7 @@ use Rattle.mdl_steps.specs.SeatStates.{AtItsTable, SeatState}
 use Rattle.mdl_steps.specs.Seats.{Holds, IsPlace, written}
 use Rattle.mdl_steps.proofs.Hands.{holds_written}
 use Rattle.mdl_visits.specs.Leavings.{DidUnder, DoesToOwn, HasWorked, MeetsOwn}
-use Rattle.mdl_visits.specs.Visits.{Arrives, CameTo, HasStep, IsInside, IsStepOf, LacksRoom, MayVisit, StaysOn, StaysWithin, VisitsOnce}
+use Rattle.mdl_visits.specs.Visits.{Arrives, CameTo, HasStep, IsInside, IsStepOf, LacksRoom, MayVisit, StaysOn, StaysWithin, TakesLatch, VisitsOnce}
 use Rattle.mdl_visits.proofs.Leaving.{step_later}
 use Rattle.mdl_visits.proofs.Seats.{mine, place_there, table_of}
 use Rattle.mdl_visits.proofs.Visiting.{inside_written}
@@ -26,14 +26,15 @@ use Rattle.mdl_visits.proofs.Within.{visit_after, within_same, within_then, with
 
 -- by what the wait for the latch promises
 pub arrived : (place : ℕ) (s : SeatState) → MayVisit place s → (q : ℕ) (c : SeatState) → q ≡ place → (h : LatchRecord) → IsFresh place h s.me → Holds place h h.book c.me
-    → AtItsTable s c (IsInside place) → StaysOn s.me c.me → StaysWithin false s.me c.me → Arrives place s q c
-arrived place s may q c at h fresh holds inside stays within = record {
+    → AtItsTable s c (IsInside place) → StaysOn s.me c.me → TakesLatch place s.me c.me → StaysWithin false s.me c.me → Arrives place s q c
+arrived place s may q c at h fresh holds inside stays taken within = record {
   at = at;
   is_place = place_there q inside.0 (subst (IsPlace s.table) (sym at) may.is_place);
   latch = h;
   fresh = fresh;
   holds = subst (λ (p : ℕ). Holds p h h.book c.me) (sym at) holds;
   came = (inside.0, subst (λ (p : ℕ). IsInside p s.me c.me) (sym at) inside.1, stays);
+  taken = taken;
   within = within;
 }
 
@@ -56,6 +57,9 @@ module _ (place : ℕ) (s : SeatState) (q : ℕ) (w n : SeatState) (at : q ≡ p
   met_full cause (inr full) = let m = met in inr (full.0, (m.0, m.1, record { word = m.2; latch = h; held = m.3; full = full.1 }))
 
 module _ {place : ℕ} {s : SeatState} {q : ℕ} {c : SeatState} (a : Arrives place s q c) where
+  pub inside_there : IsInside place s.me c.me
+  inside_there = subst (λ (p : ℕ). IsInside p s.me c.me) a.at a.came.1
+
   pub number_kept : s.me.0.number ≡ c.me.0.number
   number_kept = sym (ap (λ (x : Mine). x.0.number) a.came.1.now)
 

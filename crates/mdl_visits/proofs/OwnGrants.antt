@@ -22,12 +22,11 @@ use Rattle.mdl_steps.specs.Cells.{ticket_by}
 use Rattle.mdl_steps.specs.FastPlays.{weight_of}
 use Rattle.mdl_steps.specs.Limits.{most_fast}
 use Rattle.mdl_steps.specs.Lists.{Each}
-use Rattle.mdl_steps.specs.SeatStates.{SeatState}
+use Rattle.mdl_steps.specs.SeatStates.{HasBookInHand, SeatState}
 use Rattle.mdl_steps.proofs.FastLists.{count-append, length_mapped, one_counted}
 use Rattle.mdl_steps.proofs.Tickets.{without-hit, without-miss}
 use Rattle.mdl_steps.proofs.Views.{by_bool}
 use Rattle.mdl_visits.specs.Materialisings.{AreUngranted, CanStand, LacksRoomIn, Stand, granting_own, with_book}
-use Rattle.mdl_visits.specs.Visits.{HasBookInHand}
 use Rattle.mdl_visits.proofs.Trying.{refusal}
 
 -- ---- parts of a list

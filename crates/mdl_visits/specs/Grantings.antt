@@ -22,12 +22,13 @@ use Rattle.mdl_steps.specs.Layout.{latch_word, lock_word, wait_word}
 use Rattle.mdl_steps.specs.Lists.{Each, Once}
 use Rattle.mdl_steps.specs.Plays.{Mine, flags_lowered}
 use Rattle.mdl_steps.specs.Rule.{Lawful, NotedCounts, TellsLists}
+use Rattle.mdl_steps.specs.SeatStates.{AtItsTable, SeatState}
 use Rattle.mdl_steps.specs.Seats.{Holds, elsewhere, rest}
 pub use Rattle.mdl_steps.specs.Servings.{ArePassedOver, ForgetsNobody, IsLookedThrough, MeetsWaiter, OnlyMeets, WasSettled}
 use Rattle.mdl_steps.specs.WaitPlays.{wait_in, with_admitted}
 use Rattle.mdl_steps.specs.WaitStates.{granted_state, unsettled_state, wait_number}
 use Rattle.mdl_steps.specs.WaitSeats.{IsSession}
-use Rattle.mdl_visits.specs.Visits.{IsStepAfter, IsStepOf, LeavesBy, StaysHere, deeds_of}
+use Rattle.mdl_visits.specs.Visits.{HasLatched, IsStepAfter, IsStepOf, LeavesBy, StaysHere, VisitsOnce, deeds_of}
 
 -- ---- what a step met
 
@@ -172,6 +173,16 @@ pub record VisitsAndReschedules (id : TableId) (place : ℕ) (ds : List Deed) (m
   pub now : m′ ≡ (record (all_done place ds m.0) { told = told; owes = all_but place m.0.owes; settles = settles; log = m.0.log ++ made }, m.1)
   pub did : deeds_of made ≡ ds
   pub way : HasRescheduled id place m m′
+
+-- likewise without deeds, and no latch was given back before
+pub record LeavesServed (place : ℕ) (s s′ : SeatState) : Type 0 where
+  pub left : AtItsTable s s′ (ReschedulesAndLeaves s.table place [])
+  pub once : VisitsOnce place s.me s′.me
+
+-- the waits at a latched place that can be granted were granted: no waiter is forgotten
+pub record GrantsAll (place : ℕ) (s s′ : SeatState) : Type 0 where
+  pub none : HasLatched place s′ (λ h. IsOrderlyLatch h × ForgetsNobody s.table place h s.me s′.me × (h.obtrusive ≡ true → h.exact ≡ true))
+  pub granted : AtItsTable s s′ (GrantsWaits s.table place s.me)
 
 -- flags of a place were lowered after these deeds, and nothing else changed
 abbrev pub IsLowered : ℕ → List Deed → Mine → Mine → Type 0

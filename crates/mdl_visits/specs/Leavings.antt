@@ -16,10 +16,10 @@ use Rattle.mdl_steps.specs.Deeds.{all_booked, all_done, frees}
 use Rattle.mdl_steps.specs.Layout.{latch_word, lock_word}
 use Rattle.mdl_steps.specs.Plays.{Mine, noting_version}
 use Rattle.mdl_steps.specs.Rule.{Flagged}
-use Rattle.mdl_steps.specs.SeatStates.{SeatState}
+use Rattle.mdl_steps.specs.SeatStates.{AtItsTable, SeatState}
 use Rattle.mdl_steps.specs.Seats.{HasDone, IsPlace, elsewhere, rest}
-use Rattle.mdl_visits.specs.Grantings.{StandsOnce}
-use Rattle.mdl_visits.specs.Visits.{and_made, deeds_of, IsStepOf, LeavesBy}
+use Rattle.mdl_visits.specs.Grantings.{IsLowered, IsOrderlyLatch, StandsOnce, VisitsAndReschedules}
+use Rattle.mdl_visits.specs.Visits.{CameTo, HasLatched, HasStep, IsInside, IsStepOf, LeavesBy, Visits, VisitsOnce, and_made, deeds_of}
 
 -- the session gave back the latch of a place, and the slot that it took last, after these deeds. Steps were made that did just these, and nothing else
 -- changed
@@ -44,9 +44,27 @@ pub record HasWorked (place : ℕ) (ds : List Deed) (freed : Bool) (s : SeatStat
 abbrev pub IsFreedBy : ℕ → List Deed → SeatState → LatchRecord → Type 0
 IsFreedBy place ds s h = (before : LatchRecord) → held_at place s.me.0.latches ≡ Some before → h.freed ≡ (before.freed || frees ds)
 
+-- the flags of a latched place that the book in hand doesn't need were lowered, after these deeds
+pub record HasLowered (place : ℕ) (ds : List Deed) (s s′ : SeatState) : Type 0 where
+  pub lowered : AtItsTable s s′ (IsLowered place ds)
+  pub orderly : HasLatched place s′ (λ h. IsOrderlyLatch h × IsFreedBy place ds s h)
+
 -- a step on the word of a place, which did these deeds, made while the session had the latches that it has here
 abbrev pub DidUnder : ℕ → List Deed → SeatState → StepRecord → Type 0
 DidUnder place ds s e = (e.word ≡ lock_word place) × (e.held ≡ s.me.0.latches) × (e.deeds ≡ ds)
+
+-- the session, which came to a place and did these deeds there, gave its latch back. A step on the lock's word did them, and no latch was given back before
+pub record LeavesAfter (place : ℕ) (ds : List Deed) (s s′ : SeatState) : Type 0 where
+  pub visited : (before : SeatState) → AtItsTable before s (IsInside place) → AtItsTable before s′ (Visits place ds)
+  pub step : HasStep s s′ (DidUnder place ds s)
+  pub back : PutsBack place s.me s′.me
+  pub once : VisitsOnce place s.me s′.me
+
+-- likewise, once it had granted the waits there that could be granted
+pub record LeavesRescheduled (place : ℕ) (ds : List Deed) (s s′ : SeatState) : Type 0 where
+  pub rescheduled : (before : SeatState) → CameTo place before s → AtItsTable before s′ (VisitsAndReschedules before.table place ds)
+  pub step : HasStep s s′ (DidUnder place ds s)
+  pub once : VisitsOnce place s.me s′.me
 
 -- the view once the session has read this version and definition at a place: it has noted the version under each ticket that it has there
 abbrev pub knowing_read : ℕ → VersionedDefinition → View → View
@@ -81,6 +99,10 @@ HasTicket place number tickets = (k : ℕ) × (t : SessionTicket) × (get_elem? 
 -- deeds
 abbrev pub Learns : ℕ → VersionedDefinition → Mine → Mine → Type 0
 Learns place standing m m′ = (made : List StepRecord) × (m′ ≡ and_made made (knowing_read place standing m.0, m.1)) × (deeds_of made ≡ [])
+
+-- likewise a definition with this version
+abbrev pub LearnsWithVersion : ℕ → ℕ → Mine → Mine → Type 0
+LearnsWithVersion place version m m′ = (standing : VersionedDefinition) × (standing.version ≡ version) × Learns place standing m m′
 
 -- a step that gave the latch of a place back, whose record shows that this was the version and definition there
 pub record MeetsStanding (place session : ℕ) (standing : VersionedDefinition) (e : StepRecord) : Type 0 where

@@ -19,9 +19,9 @@ use Rattle.mdl_steps.specs.Interleavings.{interleaved}
 use Rattle.mdl_steps.specs.Layout.{lock_word}
 use Rattle.mdl_steps.specs.Lists.{Each}
 use Rattle.mdl_steps.specs.Plays.{Mine}
-use Rattle.mdl_steps.specs.SeatStates.{AtItsTable, SeatState}
+use Rattle.mdl_steps.specs.SeatStates.{AtItsTable, HasBookInHand, SeatState}
 use Rattle.mdl_steps.specs.Seats.{written}
-use Rattle.mdl_visits.specs.Visits.{HasBookInHand, HasStep, Visits, VisitsOnce, and_made, deeds_of}
+use Rattle.mdl_visits.specs.Visits.{HasStep, Visits, VisitsOnce, and_made, deeds_of}
 
 -- ---- what the session has then
 
@@ -87,6 +87,10 @@ pub record CanStand (place : ℕ) (tickets : List SessionTicket) (book : BookVie
   pub in_hand : HasBookInHand place book s
   pub ungranted : AreUngranted s.me.0.number tickets book
   pub beside : Each (λ (t : SessionTicket). is_compatible (lock_kind book) book.granted s.me.0.number t.mode ≡ true) tickets
+
+-- this holds of the book of a place that the session has in hand, in which these tickets can be granted
+abbrev pub OfBookFor : ℕ → List SessionTicket → SeatState → (BookView → Type 0) → Type 0
+OfBookFor place tickets s IsSo = (book : BookView) → CanStand place tickets book s → IsSo book
 
 -- the session has a book of a place in hand in which these tickets of its own are granted last, and only there
 pub record Stand (place : ℕ) (tickets : List SessionTicket) (book : BookView) (s : SeatState) : Type 0 where

@@ -19,7 +19,8 @@ use Rattle.mdl_steps.specs.Cells.{held_at}
 use Rattle.mdl_steps.specs.Layout.{latch_word, wait_word}
 use Rattle.mdl_steps.specs.Plays.{Mine, dropped, logged}
 use Rattle.mdl_steps.specs.SeatStates.{AtItsTable, SeatState}
-use Rattle.mdl_steps.specs.Seats.{rest}
+use Rattle.mdl_steps.specs.Seats.{IsPlace, MayPut, rest}
+use Rattle.mdl_steps.specs.Sights.{SeesNoDeadlock}
 use Rattle.mdl_steps.specs.WaitSeats.{IsSession}
 use Rattle.mdl_steps.specs.WaitStates.{lost_state, unsettled_state, wait_state}
 use Rattle.mdl_visits.specs.declared.audited.Audited.{Audited}
@@ -74,6 +75,10 @@ books_of audited = map (λ (a : Audited). a.book) audited
 -- these are the lists of the books, each with its lock's namespace
 abbrev pub AreQueuesOf : List Audited → List Queues → Type 0
 AreQueuesOf audited lists = map (λ (a : Audited). queues_of a.book) audited ≡ lists
+
+-- by these lists and words this is the victim of the cycle in which a session waits, if it waits in one
+abbrev pub IsVictimBy : List Queues → List WaitRead → ℕ → Option ℕ → Type 0
+IsVictimBy lists words from found = (audited : List Audited) → AreQueuesOf audited lists → found ≡ victim_in (settled_by words) (books_of audited) from
 
 -- the lists of more books are added to the end of those of any before
 abbrev pub AddsQueues : List Audited → List Queues → List Queues → Type 0
@@ -191,6 +196,12 @@ but_searching s s′ = record s′ { me = (record s′.me.0 { searches = s.me.0.
 abbrev pub put_searching : ℕ → Bool → Mine → Mine
 put_searching place searches m =
     (logged PutLatch [] (latch_word place) m.0.number m.0.latches (record (dropped place m.0) { searches = searches }), rest m.1)
+
+-- the session may give the latch of a place back with nothing changed. If it holds all latches and found no deadlock, it sees that it is in none
+pub record MayPutSearched (place : ℕ) (all_held none : Bool) (s : SeatState) : Type 0 where
+  pub is_place : IsPlace s.table place
+  pub put : MayPut place [] s.me
+  pub sees : all_held ≡ true → none ≡ true → SeesNoDeadlock s.table.slots s.me
 
 -- the session holds the directory's latch, and the latches of the places before one. These are the lists of the books by their records, at least of those
 -- by which a ticket waits

@@ -28,7 +28,7 @@ use Rattle.mdl_steps.specs.Lists.{Each}
 use Rattle.mdl_steps.specs.Plays.{Mine, IsDirectory, IsFresh, consulted, latched, noting, raised}
 use Rattle.mdl_steps.specs.Rule.{Lawful, NotedCounts}
 use Rattle.mdl_steps.specs.SeatStates.{AtItsTable, SeatState}
-use Rattle.mdl_steps.specs.Seats.{Holds, IsPlace, IsRising, rest}
+use Rattle.mdl_steps.specs.Seats.{Holds, IsPlace, IsRising}
 pub use Rattle.mdl_steps.specs.Servings.{IsStepOf}
 
 -- ---- what a session knows
@@ -177,7 +177,8 @@ pub record MayVisit (place : ℕ) (s : SeatState) : Type 0 where
 abbrev pub CameTo : ℕ → SeatState → SeatState → Type 0
 CameTo place s s′ = (s′.table ≡ s.table) × IsInside place s.me s′.me × StaysOn s.me s′.me
 
--- the session came to a place, and has a fresh record of its latch then. `q` is the latch's place
+-- the session came to a place, and has a fresh record of its latch then. It took the latch, perhaps after it waited for it, and changed nothing else. `q` is
+-- the latch's place
 pub record Arrives (place : ℕ) (s : SeatState) (q : ℕ) (c : SeatState) : Type 0 where
   pub at : q ≡ place
   pub is_place : IsPlace c.table q
@@ -185,6 +186,7 @@ pub record Arrives (place : ℕ) (s : SeatState) (q : ℕ) (c : SeatState) : Typ
   pub fresh : IsFresh place latch s.me
   pub holds : Holds q latch latch.book c.me
   pub came : CameTo q s c
+  pub taken : TakesLatch place s.me c.me
   pub within : StaysWithin false s.me c.me
 
 -- the session holds the latch of a place, has the book of the latch's record in hand, and this holds of the record
@@ -193,14 +195,6 @@ pub record HasLatched (place : ℕ) (s : SeatState) (IsSo : LatchRecord → Type
   pub latch : LatchRecord
   pub holds : Holds place latch latch.book s.me
   pub is_so : IsSo latch
-
--- the session has this book of a place in hand
-abbrev pub HasBookInHand : ℕ → BookView → SeatState → Type 0
-HasBookInHand place book s = s.me.1 ≡ (place, slot.Place book) ∷ rest s.me.1
-
--- this holds of the book of a place that the session has in hand
-abbrev pub OfBook : ℕ → SeatState → (BookView → Type 0) → Type 0
-OfBook place s IsSo = (book : BookView) → HasBookInHand place book s → IsSo book
 
 -- this holds of the record of a place's latch that the session holds
 abbrev pub OfLatch : ℕ → SeatState → (LatchRecord → Type 0) → Type 0
@@ -228,6 +222,11 @@ pub record RequestsMode (place : ℕ) (kind : Kind) (mode : Mode) (v : View) : T
   pub idle : v.asks ≡ None
   pub knows : KnowsKind v place kind
   pub is_mode : is_mode_of kind mode ≡ true
+
+-- a session may visit a place with such a request
+pub record MayRequest (place : ℕ) (kind : Kind) (mode : Mode) (s : SeatState) : Type 0 where
+  pub at : MayVisit place s
+  pub wish : RequestsMode place kind mode s.me.0
 
 -- the session entered a place with such a request and read this word of the lock there. `q` is the place of the latch, and `can` says whether the request
 -- can be granted

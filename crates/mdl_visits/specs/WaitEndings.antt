@@ -1,9 +1,12 @@
 -- How a session's lost wait ends at its place.
-use Rattle.std.specs.Prelude.{ℕ, [], None}
+use Rattle.std.specs.Prelude.{◌≡◌, ℕ, [], Some, None}
 use Rattle.atomic_table.specs.Seated.{TableId}
 use Rattle.mdl_steps.specs.declared.view.View.{View}
 use Rattle.mdl_steps.specs.Plays.{Mine}
+use Rattle.mdl_steps.specs.SeatStates.{SeatState}
 use Rattle.mdl_visits.specs.Grantings.{VisitsAndReschedules}
+use Rattle.mdl_visits.specs.Polls.{EndsWait}
+use Rattle.mdl_visits.specs.Visits.{HasStep}
 
 -- the view without a wait
 abbrev pub idle : View → View
@@ -16,3 +19,7 @@ mine_without_wait m = (idle m.0, m.1)
 -- the session ended its wait at a place, granted the waits there that could be granted without it, and nothing else changed
 abbrev pub EndsLost : TableId → ℕ → Mine → Mine → Type 0
 EndsLost id place m m′ = VisitsAndReschedules id place [] (mine_without_wait m) m′
+
+-- if the session knew how its wait was settled, a step ended the wait so
+abbrev pub ShowsEnd : SeatState → SeatState → Type 0
+ShowsEnd s s′ = (state : ℕ) → s.me.0.told ≡ Some state → HasStep s s′ (EndsWait s.table.slots s.me.0.number s.me.0.waits state)

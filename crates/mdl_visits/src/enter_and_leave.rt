@@ -4,10 +4,9 @@ ghost use Rattle.std.specs.Prelude.{◌≡◌, ℕ, Bool, true, false};
 ghost use Rattle.mdl_key.specs.declared.namespace.Kind.{Kind};
 ghost use Rattle.mdl_key.specs.Words.{is_obtrusive};
 ghost use Rattle.mdl_steps.specs.declared.deed.Deed.TheVariants.{Gain};
-ghost use Rattle.mdl_steps.specs.SeatStates.{AtItsTable, SeatState};
-ghost use Rattle.mdl_visits.specs.Grantings.{IsLowered, IsOrderlyLatch};
-ghost use Rattle.mdl_visits.specs.Leavings.{DidUnder, HasWorked, IsFreedBy, PutsBack};
-ghost use Rattle.mdl_visits.specs.Visits.{EndsWish, HasEntered, HasLatched, HasStep, IsInside, MayVisit, RequestsMode, StaysWithin, Visits, VisitsOnce, WasGranted};
+ghost use Rattle.mdl_steps.specs.SeatStates.{SeatState};
+ghost use Rattle.mdl_visits.specs.Leavings.{HasLowered, HasWorked, LeavesAfter};
+ghost use Rattle.mdl_visits.specs.Visits.{EndsWish, HasEntered, MayVisit, RequestsMode, StaysWithin, VisitsOnce, WasGranted};
 
 use crate::latches::await_latch;
 use mdl_book::BookError;
@@ -62,10 +61,7 @@ pub(crate) fn gain(
 /// Gives the latch back after some deeds, with just those flags up that the book in hand needs. No waiter was let in.
 pub(crate) fn lower_flags_and_put(seat: &mut TableSeat, latch: Latched, deeds: &[Deed])
     requires worked { HasWorked latch.place deeds.now false seat.old }
-    ensures visited { (s : SeatState) → AtItsTable s seat.old (IsInside latch.place) → AtItsTable s seat.new (Visits latch.place deeds.now) }
-    ensures step { HasStep seat.old seat.new (DidUnder latch.place deeds.now seat.old) }
-    ensures back { PutsBack latch.place seat.old.me seat.new.me }
-    ensures once { VisitsOnce latch.place seat.old.me seat.new.me }
+    ensures left { LeavesAfter latch.place deeds.now seat.old seat.new }
 {
     lower_flags(seat, &latch, deeds);
     seat.put_latch(latch, &[]);
@@ -74,8 +70,7 @@ pub(crate) fn lower_flags_and_put(seat: &mut TableSeat, latch: Latched, deeds: &
 /// Lowers the flags that the book in hand doesn't need, after some deeds.
 pub(crate) fn lower_flags(seat: &mut TableSeat, latch: &Latched, deeds: &[Deed])
     requires worked { (freed : Bool) × HasWorked latch.now.place deeds.now freed seat.old }
-    ensures lowered { AtItsTable seat.old seat.new (IsLowered latch.now.place deeds.now) }
-    ensures orderly { HasLatched latch.now.place seat.new (λ h. IsOrderlyLatch h × IsFreedBy latch.now.place deeds.now seat.old h) }
+    ensures lowered { HasLowered latch.now.place deeds.now seat.old seat.new }
 {
     let needs = seat.needs(latch);
     seat.lower_flags(latch, needs.slow, needs.obtrusive, deeds);

@@ -1,9 +1,9 @@
 //! Grants the waits at a place, under its latch.
-ghost use Rattle.std.specs.Prelude.{◌≡◌, true};
+ghost use Rattle.std.specs.Prelude.{◌≡◌};
 ghost use Rattle.mdl_steps.specs.SeatStates.{AtItsTable};
 ghost use Rattle.mdl_steps.specs.WaitSeats.{IsSession};
 ghost use Rattle.mdl_steps.specs.WaitStates.{unsettled_state, wait_state};
-ghost use Rattle.mdl_visits.specs.Grantings.{ForgetsNobody, HasJustMet, IsGrantedFrom, IsOrderlyLatch, IsGrantableTicket, IsTriedOrGranted, GrantsWaits, ReschedulesInTurn};
+ghost use Rattle.mdl_visits.specs.Grantings.{GrantsAll, HasJustMet, IsGrantedFrom, IsOrderlyLatch, IsGrantableTicket, IsTriedOrGranted, ReschedulesInTurn};
 ghost use Rattle.mdl_visits.specs.Visits.{HasLatched, OfLatch};
 
 use mdl_book::Sessions;
@@ -13,8 +13,7 @@ use mdl_steps::{Latched, TableSeat, WaitWord};
 /// granted. A wait that is settled already isn't granted. It takes no memory. After `MDL_lock::reschedule_waiters`.
 pub(crate) fn grant_waiters(seat: &mut TableSeat, latch: &Latched)
     requires here { HasLatched latch.now.place seat.old IsOrderlyLatch }
-    ensures none { HasLatched latch.now.place seat.new (λ h. IsOrderlyLatch h × ForgetsNobody seat.old.table latch.now.place h seat.old.me seat.new.me × (h.obtrusive ≡ true → h.exact ≡ true)) }
-    ensures granted { AtItsTable seat.old seat.new (GrantsWaits seat.old.table latch.now.place seat.old.me) }
+    ensures all { GrantsAll latch.now.place seat.old seat.new }
 {
     let word = seat.read_word(latch);
     let mut untried = Sessions::all();

@@ -1,7 +1,6 @@
 //! A session waits for a latch: that of a place, or the directory's.
 ghost use Rattle.std.specs.Prelude.{◌≡◌, length};
-ghost use Rattle.mdl_steps.specs.SeatStates.{AtItsTable};
-ghost use Rattle.mdl_visits.specs.Visits.{Arrives, IsInside, MayVisit, StaysOn, TakesDirectory, TakesLatch};
+ghost use Rattle.mdl_visits.specs.Visits.{Arrives, MayVisit, TakesDirectory};
 
 use mdl_steps::{Latched, LatchedDirectory, TableSeat};
 use std::sync::Wait;
@@ -11,10 +10,6 @@ use std::thread;
 #[inline]
 pub(crate) fn await_latch<R: Wait>(rt: &R, seat: &mut TableSeat, place: usize) -> Latched
     requires at { MayVisit place seat.old }
-    ensures place { result.place ≡ place }
-    ensures taken { TakesLatch place seat.old.me seat.new.me }
-    ensures inside { AtItsTable seat.old seat.new (IsInside place) }
-    ensures stays { StaysOn seat.old.me seat.new.me }
     ensures arrives { Arrives place seat.old result.place seat.new }
 {
     for _ in rt.forever() {

@@ -1,11 +1,9 @@
 //! The victim of a cycle, by the lists of locks and the words of waits.
-ghost use Rattle.std.specs.Prelude.{◌≡◌, ℕ, true, List, All, IfOk};
+ghost use Rattle.std.specs.Prelude.{◌≡◌, ℕ, true, All, IfOk};
 ghost use Rattle.std.specs.FinSet as set;
 ghost use Rattle.mdl_book.specs.SessionSets.{is_session};
-ghost use Rattle.mdl_graph.specs.Graphs.{victim_in};
-ghost use Rattle.mdl_visits.specs.declared.audited.Audited.{Audited};
 ghost use Rattle.mdl_visits.specs.declared.waits_read.WaitRead.{WaitRead};
-ghost use Rattle.mdl_visits.specs.Searches.{AreQueuesOf, books_of, settled_by};
+ghost use Rattle.mdl_visits.specs.Searches.{IsVictimBy, settled_by};
 
 use crate::waits_read::WaitRead;
 use mdl_book::Sessions;
@@ -35,8 +33,7 @@ pub(crate) fn find_victim(
     from: u16,
 ) -> Result<Option<u16>, AllocError>
     requires { All (λ (r : WaitRead). is_session r.session ≡ true) words.now }
-    ensures { IfOk result (λ found. (audited : List Audited) → AreQueuesOf audited lists.now
-        → found ≡ victim_in (settled_by words.now) (books_of audited) from) }
+    ensures { IfOk result (λ found. IsVictimBy lists.now words.now from found) }
 {
     let mut graph = WaitGraph::new(alloc, settled_of(words));
     for at in 0..lists.count() {

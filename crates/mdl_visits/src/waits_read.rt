@@ -39,8 +39,7 @@ pub(crate) fn read_waits(seat: &mut TableSeat, words: &mut Vec<WaitRead>) -> Res
 // Reads the word of a session's wait.
 fn add_wait(seat: &mut TableSeat, session: u16, words: &mut Vec<WaitRead>) -> Result<(), AllocError>
     requires session { IsSession seat.old.table session }
-    ensures reads { OnlyReadsWaits seat.old seat.new }
-    ensures added { OnOk result (AddsRead session words.old.items words.new.items seat.old seat.new) }
+    ensures read { OnlyReadsWaits seat.old seat.new × OnOk result (AddsRead session words.old.items words.new.items seat.old seat.new) }
 {
     let word = seat.read_wait(session);
     words.push(WaitRead { session, word })?;

@@ -1,11 +1,10 @@
 //! An audit of all places that have a key: their latches are taken one after the other, and given back once all are taken.
-ghost use Rattle.std.specs.Prelude.{◌≡◌, ◌<◌, ◌≤◌, [], ◌∷◌, ◌++◌, OnOk};
-ghost use Rattle.mdl_book.specs.declared.book_view.BookView.{BookView};
-ghost use Rattle.mdl_steps.specs.SeatStates.{AtItsTable};
+ghost use Rattle.std.specs.Prelude.{◌≡◌, ◌<◌, [], ◌∷◌, ◌++◌, OnOk};
+ghost use Rattle.mdl_steps.specs.SeatStates.{AtItsTable, HoldsBook, OfBook};
 ghost use Rattle.mdl_visits.specs.Audits.{Audits, Gathers, MayTakeAll};
-ghost use Rattle.mdl_visits.specs.Idle.{HoldsNoLatch};
+ghost use Rattle.mdl_visits.specs.Idle.{MayTakeLatches};
 ghost use Rattle.mdl_visits.specs.Lookups.{AsksDirectory};
-ghost use Rattle.mdl_visits.specs.Visits.{HasBookInHand, MakesQuietSteps, MakesSteps, OfBook};
+ghost use Rattle.mdl_visits.specs.Visits.{MakesQuietSteps, MakesSteps};
 
 use crate::Audited;
 use crate::latches::{await_directory, await_latch};
@@ -20,8 +19,7 @@ pub fn audit<R: Wait>(
     seat: &mut TableSeat,
     audited: &mut Vec<Audited>,
 ) -> Result<(), AllocError>
-    requires slots { seat.old.table.slots ≤ 65536 }
-    requires idle { HoldsNoLatch seat.old.me }
+    requires free { MayTakeLatches seat.old }
     requires empty { audited.old.items ≡ [] }
     ensures steps { AtItsTable seat.old seat.new MakesSteps }
     ensures told { AsksDirectory seat.old seat.new (λ k. OnOk result (Audits k audited.new.items seat.old.me seat.new.me)) }
@@ -66,7 +64,7 @@ pub(crate) fn add_book(
     audited: &mut Vec<Audited>,
 ) -> Result<(), AllocError>
     requires narrow { latch.now.place < 65536 }
-    requires carried { (book : BookView) × HasBookInHand latch.now.place book seat.old }
+    requires carried { HoldsBook latch.now.place seat.old }
     ensures same { seat.new ≡ seat.old }
     ensures added { OfBook latch.now.place seat.old (λ book. OnOk result (audited.new.items ≡ audited.old.items ++ record { place = latch.now.place; book = book } ∷ [])) }
 {

@@ -1,11 +1,11 @@
 //! Grants a request for a lock at once, or begins to wait for it.
-ghost use Rattle.std.specs.Prelude.{◌≡◌, ℕ, ◌+◌, ◌^◌, ◌<◌, [], Ok, IfErr, false};
+ghost use Rattle.std.specs.Prelude.{◌≡◌, ℕ, Ok, IfErr, false};
 ghost use Rattle.mdl_key.specs.Words.{is_obtrusive};
 ghost use Rattle.mdl_steps.specs.declared.deed.Deed.TheVariants.{Gain};
 ghost use Rattle.mdl_steps.specs.SeatStates.{SeatState};
 ghost use Rattle.mdl_visits.specs.declared.calls.begin_wait.Queued.TheVariants.{Granted, Waiting};
 ghost use Rattle.mdl_visits.specs.WaitOpenings.{IsNewWait, SeatBeginsWait};
-ghost use Rattle.mdl_visits.specs.Visits.{EndsWish, HasEntered, IsVisit, MayVisit, RequestsMode, VisitsOnce, WasGranted, WasRefused};
+ghost use Rattle.mdl_visits.specs.Visits.{EndsWish, HasEntered, IsVisit, MayRequest, VisitsOnce, WasGranted, WasRefused};
 
 use crate::enter_and_leave::{enter, gain, lower_flags_and_put};
 use mdl_book::BookError;
@@ -34,11 +34,8 @@ pub fn begin_wait<R: Wait>(
     mode: Mode,
     wait: u64,
 ) -> Result<Queued, BookError>
-    requires at { MayVisit place seat.old }
-    requires wish { RequestsMode place kind mode seat.old.me.0 }
-    requires unfast { seat.old.me.0.fast ≡ [] }
-    requires number { number ≡ seat.old.me.0.next }
-    requires wait { (wait ≡ seat.old.me.0.waits + 1) × (wait < 2 ^ 60) }
+    requires may { MayRequest place kind mode seat.old }
+    requires new { IsNewWait number wait seat.old.me.0 }
     ensures granted { result ≡ Ok Granted → WasGranted place mode (Gain number mode) seat.old seat.new }
     ensures waiting { result ≡ Ok Waiting → SeatBeginsWait place mode number seat.old seat.new }
     ensures once { IsVisit place (is_obtrusive kind mode) seat.old.me seat.new.me }

@@ -1,8 +1,7 @@
 //! Changes the definition of a key, under the latch of its place.
 ghost use Rattle.std.specs.Prelude.{◌≡◌, [], true, IfOk, IfErr, OnErr};
-ghost use Rattle.mdl_defs.specs.declared.versioned_definition.VersionedDefinition.{VersionedDefinition};
 ghost use Rattle.mdl_steps.specs.SeatStates.{AtItsTable};
-ghost use Rattle.mdl_visits.specs.Leavings.{Learns};
+ghost use Rattle.mdl_visits.specs.Leavings.{LearnsWithVersion};
 ghost use Rattle.mdl_visits.specs.Numbers.{is_ask_apart};
 ghost use Rattle.mdl_visits.specs.Redefinitions.{HasExclusiveAt, IsChangeRefused, Redefines};
 ghost use Rattle.mdl_visits.specs.Visits.{MayVisit, Visits, VisitsOnce};
@@ -23,8 +22,7 @@ pub fn change_definition<R: Wait>(
     requires at { MayVisit place seat.old }
     requires apart { is_ask_apart seat.old.me.0.next seat.old.me.0.slow seat.old.me.0.asks ≡ true }
     requires held { HasExclusiveAt place seat.old.me.0.slow }
-    ensures changed { IfOk result (λ version. AtItsTable seat.old seat.new (Redefines place change.now version)
-        × ((standing : VersionedDefinition) × (standing.version ≡ version) × Learns place standing seat.old.me seat.new.me)) }
+    ensures changed { IfOk result (λ version. AtItsTable seat.old seat.new (Redefines place change.now version) × LearnsWithVersion place version seat.old.me seat.new.me) }
     ensures unchanged { OnErr result (AtItsTable seat.old seat.new (Visits place [])) }
     ensures once { VisitsOnce place seat.old.me seat.new.me }
     ensures refused { IfErr result (λ why. IsChangeRefused place seat.old.me.0.number change.now why seat.old.me seat.new.me) }

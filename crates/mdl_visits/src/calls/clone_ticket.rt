@@ -1,5 +1,5 @@
 //! Makes a second ticket of one that the session has.
-ghost use Rattle.std.specs.Prelude.{◌≡◌, ◌∷◌, [], None, OnOk, IfErr};
+ghost use Rattle.std.specs.Prelude.{◌≡◌, ◌∷◌, [], OnOk, IfErr};
 ghost use Rattle.mdl_steps.specs.declared.deed.Deed.TheVariants.{Gain};
 ghost use Rattle.mdl_steps.specs.declared.view.StepRecord.{StepRecord};
 ghost use Rattle.mdl_steps.specs.SeatStates.{AtItsTable};
@@ -25,7 +25,6 @@ pub fn clone_ticket<R: Wait>(
     mode: Mode,
 ) -> Result<(), BookError>
     requires at { MayVisit held.place seat.old }
-    requires idle { seat.old.me.0.asks ≡ None }
     requires may { CanClone held number mode seat.old.me.0 }
     ensures cloned { OnOk result (AtItsTable seat.old seat.new (Visits held.place (Gain number mode ∷ []))) }
     ensures step { (e : StepRecord) × IsStepOf seat.old.me seat.new.me e × MeetsOwn held.place seat.old.me.0.number held.number e

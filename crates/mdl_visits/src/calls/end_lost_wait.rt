@@ -2,9 +2,8 @@
 ghost use Rattle.std.specs.Prelude.{◌≡◌, ℕ, ◌^◌, ◌<◌, Some};
 ghost use Rattle.mdl_steps.specs.SeatStates.{AtItsTable};
 ghost use Rattle.mdl_steps.specs.WaitStates.{IsLost};
-ghost use Rattle.mdl_visits.specs.WaitEndings.{EndsLost};
-ghost use Rattle.mdl_visits.specs.Polls.{EndsWait};
-ghost use Rattle.mdl_visits.specs.Visits.{HasStep, MayVisit, VisitsOnce};
+ghost use Rattle.mdl_visits.specs.WaitEndings.{EndsLost, ShowsEnd};
+ghost use Rattle.mdl_visits.specs.Visits.{MayVisit, VisitsOnce};
 
 use crate::calls::reschedule::lower_flags_and_reschedule;
 use crate::latches::await_latch;
@@ -20,8 +19,7 @@ pub fn end_lost_wait<R: Wait>(rt: &R, seat: &mut TableSeat, ask: Ask, wait: u64)
     requires wait { (wait ≡ seat.old.me.0.waits) × (wait < 2 ^ 60) }
     ensures ended { AtItsTable seat.old seat.new (EndsLost seat.old.table ask.place) }
     ensures once { VisitsOnce ask.place seat.old.me seat.new.me }
-    ensures met { (state : ℕ) → seat.old.me.0.told ≡ Some state
-        → HasStep seat.old seat.new (EndsWait seat.old.table.slots seat.old.me.0.number seat.old.me.0.waits state) }
+    ensures met { ShowsEnd seat.old seat.new }
 {
     let latch = await_latch(rt, seat, ask.place);
     let _withdrawn = seat.write_withdrawal(&latch, ask.number);

@@ -5,7 +5,7 @@ ghost use Rattle.mdl_steps.specs.Cells.{own_at, ticket_by};
 ghost use Rattle.mdl_steps.specs.FastPlays.{moved, weight_of};
 ghost use Rattle.mdl_steps.specs.Limits.{most_fast};
 ghost use Rattle.mdl_steps.specs.Lists.{Once};
-ghost use Rattle.mdl_visits.specs.Materialisings.{CanStand, LacksRoomIn, Stand, WasMaterialised, WasRefusedFor, granting_own, with_book};
+ghost use Rattle.mdl_visits.specs.Materialisings.{CanStand, LacksRoomIn, OfBookFor, Stand, WasMaterialised, WasRefusedFor, granting_own, with_book};
 ghost use Rattle.mdl_visits.specs.Visits.{KnowsKind, MayVisit};
 ghost use Rattle.mdl_word.specs.Words.{encode, one_in};
 
@@ -57,10 +57,8 @@ fn write_gains(
     tickets: &[SessionTicket],
 ) -> Result<(), BookError>
     requires can { (book : BookView) × CanStand latch.now.place tickets.now book seat.old }
-    ensures written { (book : BookView) → CanStand latch.now.place tickets.now book seat.old
-        → OnOk result (seat.new ≡ with_book latch.now.place (granting_own seat.old.me.0.number tickets.now book) seat.old) }
-    ensures refused { (book : BookView) → CanStand latch.now.place tickets.now book seat.old
-        → IfErr result (λ cause. (seat.new ≡ seat.old) × LacksRoomIn book (length tickets.now) cause) }
+    ensures written { OfBookFor latch.now.place tickets.now seat.old (λ book. OnOk result (seat.new ≡ with_book latch.now.place (granting_own seat.old.me.0.number tickets.now book) seat.old)) }
+    ensures refused { OfBookFor latch.now.place tickets.now seat.old (λ book. IfErr result (λ cause. (seat.new ≡ seat.old) × LacksRoomIn book (length tickets.now) cause)) }
 {
     for (at, ticket) in tickets.iter().enumerate() {
         if let Err(cause) = seat.write_gain(latch, ticket.number, ticket.mode, NO_FAST_TICKETS) {

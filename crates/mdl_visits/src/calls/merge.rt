@@ -1,5 +1,5 @@
 //! Merges two tickets of a place.
-ghost use Rattle.std.specs.Prelude.{◌≡◌, ◌∷◌, [], None};
+ghost use Rattle.std.specs.Prelude.{◌∷◌, []};
 ghost use Rattle.mdl_steps.specs.declared.deed.Deed.TheVariants.{Alter, Lose};
 ghost use Rattle.mdl_steps.specs.Deeds.{KnowsPlace};
 ghost use Rattle.mdl_steps.specs.SeatStates.{AtItsTable};
@@ -18,7 +18,6 @@ use std::sync::Wait;
 pub fn merge<R: Wait>(rt: &R, seat: &mut TableSeat, kept: SessionTicket, gone: SessionTicket)
     requires at { MayVisit kept.place seat.old }
     requires known { KnowsPlace seat.old.me.0 kept.place }
-    requires idle { seat.old.me.0.asks ≡ None }
     requires may { CanMerge kept gone seat.old.me.0 }
     ensures merged { AtItsTable seat.old seat.new (Visits kept.place (Alter kept.number gone.mode ∷ Lose gone.number ∷ [])) }
     ensures step { MergesOwn kept gone seat.old seat.new }

@@ -1,9 +1,9 @@
 //! Grants the waits at a place that can be granted, before its latch is given back.
 ghost use Rattle.std.specs.Prelude.{Bool, []};
-ghost use Rattle.mdl_steps.specs.SeatStates.{AtItsTable, SeatState};
-ghost use Rattle.mdl_visits.specs.Grantings.{IsOrderlyLatch, ReschedulesAndLeaves, VisitsAndReschedules};
-ghost use Rattle.mdl_visits.specs.Leavings.{DidUnder, HasWorked};
-ghost use Rattle.mdl_visits.specs.Visits.{CameTo, HasLatched, HasStep, MayVisit, VisitsOnce};
+ghost use Rattle.mdl_steps.specs.SeatStates.{AtItsTable};
+ghost use Rattle.mdl_visits.specs.Grantings.{IsOrderlyLatch, LeavesServed, VisitsAndReschedules};
+ghost use Rattle.mdl_visits.specs.Leavings.{HasWorked, LeavesRescheduled};
+ghost use Rattle.mdl_visits.specs.Visits.{HasLatched, MayVisit, VisitsOnce};
 
 use crate::enter_and_leave::lower_flags;
 use crate::grant_waiters::grant_waiters;
@@ -26,10 +26,7 @@ pub fn reschedule<R: Wait>(rt: &R, seat: &mut TableSeat, place: usize)
 /// latch back.
 pub(crate) fn lower_flags_and_reschedule(seat: &mut TableSeat, latch: Latched, deeds: &[Deed])
     requires worked { (freed : Bool) × HasWorked latch.place deeds.now freed seat.old }
-    ensures rescheduled { (s : SeatState) → CameTo latch.place s seat.old
-        → AtItsTable s seat.new (VisitsAndReschedules s.table latch.place deeds.now) }
-    ensures step { HasStep seat.old seat.new (DidUnder latch.place deeds.now seat.old) }
-    ensures once { VisitsOnce latch.place seat.old.me seat.new.me }
+    ensures left { LeavesRescheduled latch.place deeds.now seat.old seat.new }
 {
     lower_flags(seat, &latch, deeds);
     reschedule_and_put(seat, latch);
@@ -38,8 +35,7 @@ pub(crate) fn lower_flags_and_reschedule(seat: &mut TableSeat, latch: Latched, d
 // Grants the waits at the latched place that can be granted, and gives the latch back, also after something was freed.
 fn reschedule_and_put(seat: &mut TableSeat, latch: Latched)
     requires here { HasLatched latch.place seat.old IsOrderlyLatch }
-    ensures left { AtItsTable seat.old seat.new (ReschedulesAndLeaves seat.old.table latch.place []) }
-    ensures once { VisitsOnce latch.place seat.old.me seat.new.me }
+    ensures served { LeavesServed latch.place seat.old seat.new }
 {
     if seat.has_waiters(&latch) {
         grant_waiters(seat, &latch);

@@ -1,17 +1,13 @@
 //! A search for a deadlock: the latches of all places that have a key are taken one after the other, and the books are searched once all
 //! are taken. Only the lists of locks with a waiting ticket are copied: at the others no session waits for another.
 ghost use Rattle.std.specs.Prelude.{◌≡◌, ℕ, ◌+◌, ◌≤◌, ◌&&◌, not, nat_lt, true, [], IfOk, OnErr, OnOk};
-ghost use Rattle.mdl_book.specs.declared.book_view.BookView.{BookView};
 ghost use Rattle.mdl_steps.specs.Deeds.{KnowsPlace};
-ghost use Rattle.mdl_steps.specs.SeatStates.{AtItsTable};
-ghost use Rattle.mdl_steps.specs.Seats.{IsPlace, MayPut};
-ghost use Rattle.mdl_steps.specs.Sights.{SeesNoDeadlock};
+ghost use Rattle.mdl_steps.specs.SeatStates.{AtItsTable, HoldsBook, OfBook};
 ghost use Rattle.mdl_visits.specs.Audits.{MayTakeAll};
-ghost use Rattle.mdl_visits.specs.Idle.{HoldsNoLatch};
+ghost use Rattle.mdl_visits.specs.Idle.{MayTakeLatches};
 ghost use Rattle.mdl_visits.specs.Lookups.{AsksDirectory};
 ghost use Rattle.mdl_visits.specs.Polls.{SettlesNothing};
-ghost use Rattle.mdl_visits.specs.Searches.{AddsQueues, EndsSearch, FindsFrom, HasTaken, KnowsVictim, ReadsWaits, SearchFinds, Searched, but_searching, found_none, if_waited, put_searching, searches_after};
-ghost use Rattle.mdl_visits.specs.Visits.{HasBookInHand, OfBook};
+ghost use Rattle.mdl_visits.specs.Searches.{AddsQueues, EndsSearch, FindsFrom, HasTaken, KnowsVictim, MayPutSearched, ReadsWaits, SearchFinds, Searched, but_searching, found_none, if_waited, put_searching, searches_after};
 
 use crate::latches::{await_directory, await_latch};
 use crate::settle_victim::settle_victim;
@@ -29,8 +25,7 @@ pub fn search_deadlock<R: Wait>(
     seat: &mut TableSeat,
     alloc: Global,
 ) -> Result<Search, AllocError>
-    requires slots { seat.old.table.slots ≤ 65536 }
-    requires idle { HoldsNoLatch seat.old.me }
+    requires free { MayTakeLatches seat.old }
     ensures reads { AtItsTable seat.old (but_searching seat.old seat.new) ReadsWaits }
     ensures searched { AsksDirectory seat.old seat.new (λ k. IfOk result (λ found. Searched seat.old.table seat.old.me.0.number k found seat.old.me seat.new.me)) }
     ensures own { IfOk result (λ found. KnowsVictim seat.old.me.0.number found seat.new.me) }
@@ -84,9 +79,7 @@ fn finds_none(outcome: &Result<Search, AllocError>) -> bool
 
 // Gives the latch of a place back. If all latches are still held, and no deadlock was found, the session has no search left to make.
 fn put_once_searched(seat: &mut TableSeat, latch: Latched, all_held: bool, none: bool)
-    requires place { IsPlace seat.old.table latch.place }
-    requires put { MayPut latch.place [] seat.old.me }
-    requires sees { all_held ≡ true → none ≡ true → SeesNoDeadlock seat.old.table.slots seat.old.me }
+    requires may { MayPutSearched latch.place all_held none seat.old }
     ensures made { seat.new ≡ record seat.old { me = put_searching latch.place (not (all_held && none) && seat.old.me.0.searches) seat.old.me } }
 {
     if all_held && none {
@@ -102,7 +95,7 @@ fn add_if_waited(
     latch: &Latched,
     lists: &mut ListCopies,
 ) -> Result<(), AllocError>
-    requires carried { (book : BookView) × HasBookInHand latch.now.place book seat.old }
+    requires carried { HoldsBook latch.now.place seat.old }
     ensures same { seat.new ≡ seat.old }
     ensures added { OfBook latch.now.place seat.old (λ book. OnOk result (AddsQueues (if_waited (record { place = latch.now.place; book = book })) lists.old lists.new)) }
 {

@@ -5,7 +5,7 @@ ghost use Rattle.std.specs.Vec.{vec_capacity, vec_len};
 ghost use Rattle.mdl_steps.specs.declared.view.Keys.{Keys};
 ghost use Rattle.mdl_steps.specs.SeatStates.{AtItsTable};
 ghost use Rattle.mdl_steps.specs.Seats.{HasDirectory};
-ghost use Rattle.mdl_visits.specs.Idle.{HoldsNoLatch};
+ghost use Rattle.mdl_visits.specs.Idle.{HoldsNoLatch, MayTakeLatches};
 ghost use Rattle.mdl_visits.specs.Lookups.{TookDirectory};
 ghost use Rattle.mdl_visits.specs.Tables.{AddsIfDefined, AreAllTables, AreListed, AreSorted, AreWithin, HasAsked, HaveRoom, MeetsDefinition, knowing_all};
 ghost use Rattle.mdl_visits.specs.Visits.{HasStep, MakesQuietSteps, MakesSteps, MayVisit, StaysQuiet};
@@ -27,8 +27,7 @@ pub fn find_tables<R: Wait>(
     known: &mut KnownKeys,
     schema: &str,
 ) -> Result<(Vec<KnownKey>, Vec<Place>), AllocError>
-    requires idle { HoldsNoLatch seat.old.me }
-    requires narrow { seat.old.table.slots ≤ 65536 }
+    requires free { MayTakeLatches seat.old }
     ensures same { known.new.known ≡ known.old.known }
     ensures found { (k : Keys) × AtItsTable seat.old seat.new (TookDirectory seat.old.table.slots k k)
         × IfOk result (λ found. AreAllTables schema.now k found.0.items × MakesSteps (knowing_all found.0.items seat.old.me) seat.new.me) }

@@ -3,7 +3,7 @@ ghost use Rattle.std.specs.Prelude.{◌≡◌, true, Ok, IfErr};
 ghost use Rattle.mdl_key.specs.Words.{is_obtrusive};
 ghost use Rattle.mdl_steps.specs.declared.deed.Deed.TheVariants.{Gain};
 ghost use Rattle.mdl_visits.specs.declared.calls.try_now.TryOutcome.TheVariants.{Granted, Blocked};
-ghost use Rattle.mdl_visits.specs.Visits.{IsVisit, MayVisit, RequestsMode, WasBlocked, WasGranted, WasRefusedWish};
+ghost use Rattle.mdl_visits.specs.Visits.{IsVisit, MayRequest, WasBlocked, WasGranted, WasRefusedWish};
 
 use crate::enter_and_leave::{enter, gain, lower_flags_and_put};
 use mdl_book::BookError;
@@ -31,8 +31,7 @@ pub fn try_now<R: Wait>(
     number: u64,
     mode: Mode,
 ) -> Result<TryOutcome, BookError>
-    requires at { MayVisit place seat.old }
-    requires wish { RequestsMode place kind mode seat.old.me.0 }
+    requires may { MayRequest place kind mode seat.old }
     requires number { number ≡ seat.old.me.0.next }
     ensures granted { result ≡ Ok Granted → WasGranted place mode (Gain number mode) seat.old seat.new }
     ensures blocked { result ≡ Ok Blocked → WasBlocked place mode seat.old seat.new }

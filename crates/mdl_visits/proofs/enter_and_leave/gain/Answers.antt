@@ -32,8 +32,8 @@ returns-in-Err c = record {
   done = λ place s has.
       refused has c.in-Err.cause c.write_gain.new.self _ c.in-Err.ensures.unchanged
       (why_not has _ c.args.number c.in-Err.cause (c.in-Err.ensures.refused has.entered.1.found.book (entered_holds has).carried))
-      c.lower_flags_and_put.ensures.visited c.lower_flags_and_put.ensures.step;
-  once = subst (λ (x : SeatState). VisitsOnce c.args.latch.place x.me c.lower_flags_and_put.new.seat.me) c.in-Err.ensures.unchanged c.lower_flags_and_put.ensures.once;
+      c.lower_flags_and_put.ensures.left.visited c.lower_flags_and_put.ensures.left.step;
+  once = subst (λ (x : SeatState). VisitsOnce c.args.latch.place x.me c.lower_flags_and_put.new.seat.me) c.in-Err.ensures.unchanged c.lower_flags_and_put.ensures.left.once;
 }
 
 pub returns : goal.returns

@@ -30,20 +30,22 @@ returns c =
     let low = made.1 book has.carried in
     let table = table_of low ∙ table_of same in
     record {
-      lowered = (table, (made.0, book, needs.slow, needs.obtrusive, mine low ∙ ap (λ (x : Mine). flags_lowered place ds made.0 book needs.slow needs.obtrusive x) (mine same)));
-      orderly = record {
-        is_place = place_there place table worked.is_place;
-        latch = lowered ds book needs.slow needs.obtrusive h;
-        holds = c.lower_flags.ensures.keeps h book has;
-        is_so = (
-          (
-            subst (λ (ts : List Ticket). StandsOnce ts) (sym (waiting_same m.0.number ds h.book)) worked.once,
+      lowered = record {
+        lowered = (table, (made.0, book, needs.slow, needs.obtrusive, mine low ∙ ap (λ (x : Mine). flags_lowered place ds made.0 book needs.slow needs.obtrusive x) (mine same)));
+        orderly = record {
+          is_place = place_there place table worked.is_place;
+          latch = lowered ds book needs.slow needs.obtrusive h;
+          holds = c.lower_flags.ensures.keeps h book has;
+          is_so = (
             (
-              needed needs.slow h.slow (λ e. worked.flagged.0 (sym told.1 ∙ e)) ∙ told.1,
-              needed needs.obtrusive h.obtrusive (λ e. worked.flagged.1 (sym told.0 ∙ e)) ∙ told.0,
+              subst (λ (ts : List Ticket). StandsOnce ts) (sym (waiting_same m.0.number ds h.book)) worked.once,
+              (
+                needed needs.slow h.slow (λ e. worked.flagged.0 (sym told.1 ∙ e)) ∙ told.1,
+                needed needs.obtrusive h.obtrusive (λ e. worked.flagged.1 (sym told.0 ∙ e)) ∙ told.0,
+              ),
             ),
-          ),
-          λ before its. ap (λ (x : LatchRecord). x.freed || frees ds) (same_record h before (sym worked.done.holds.recorded ∙ its)),
-        );
+            λ before its. ap (λ (x : LatchRecord). x.freed || frees ds) (same_record h before (sym worked.done.holds.recorded ∙ its)),
+          );
+        };
       };
     }

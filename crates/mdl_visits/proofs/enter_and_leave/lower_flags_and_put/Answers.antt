@@ -14,7 +14,7 @@ lower_flags-requires c = record { worked = (false, c.requires.worked) }
 
 pub put_latch-requires : goal.put_latch-requires
 put_latch-requires c =
-    let here = c.lower_flags.ensures.orderly in
+    let here = c.lower_flags.ensures.lowered.orderly in
     record {
       place = here.is_place;
       put = (
@@ -33,15 +33,17 @@ returns c =
     let m : Mine = seat.me in
     let n : Mine = c.put_latch.new.self.me in
     let ds = c.args.deeds.now in
-    let lowered = c.lower_flags.ensures.lowered in
+    let lowered = c.lower_flags.ensures.lowered.lowered in
     let low = lowered.1 in
     let put = c.put_latch.ensures.made in
     let whole = mine put ∙ ap (unlatched place []) low.4 in
     let left = subst (λ (x : Mine). Leaves place ds m x) (sym whole) (leaves place ds low.0 low.1 low.2 low.3 m) in
     record {
-      visited = λ s came. (table_of put ∙ lowered.0 ∙ came.0, visits_left place s.me m n came.1 ds left);
-      step = subst (λ (x : Mine). (e : StepRecord) × IsStepOf m x e × DidUnder place ds seat e) (sym whole) (first_step place ds low.0 low.1 low.2 low.3 m);
-      once = visit_after false m c.lower_flags.new.seat.me n (within_lowered false m c.lower_flags.new.seat.me place ds low) place
-          (visit_put false c.lower_flags.new.seat.me n place [] (mine put));
-      back = subst (λ (x : Mine). PutsBack place m x) (sym whole) (puts_back place ds low.0 low.1 low.2 low.3 m);
+      left = record {
+        visited = λ s came. (table_of put ∙ lowered.0 ∙ came.0, visits_left place s.me m n came.1 ds left);
+        step = subst (λ (x : Mine). (e : StepRecord) × IsStepOf m x e × DidUnder place ds seat e) (sym whole) (first_step place ds low.0 low.1 low.2 low.3 m);
+        once = visit_after false m c.lower_flags.new.seat.me n (within_lowered false m c.lower_flags.new.seat.me place ds low) place
+            (visit_put false c.lower_flags.new.seat.me n place [] (mine put));
+        back = subst (λ (x : Mine). PutsBack place m x) (sym whole) (puts_back place ds low.0 low.1 low.2 low.3 m);
+      };
     }

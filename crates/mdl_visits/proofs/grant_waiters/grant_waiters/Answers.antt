@@ -98,11 +98,13 @@ returns c =
     let none = c.in_default.ensures.told h.book inv.held.1.carried in
     let forgets = forgets_nobody id place c.read_word-word.result.0 c.loop-session.untried h m c.loop-session.seat.me inv.held.2 inv.read inv.held.3 none in
     record {
-      none = record {
-        is_place = place_there place (table_of same ∙ inv.table) c.requires.here.is_place;
-        latch = h;
-        holds = subst (λ (x : Mine). Holds place h h.book x) (sym {A = Mine} (mine same)) inv.held.1;
-        is_so = (inv.held.2.0, subst (ForgetsNobody id place h m) (sym {A = Mine} (mine same)) forgets, inv.held.2.2);
+      all = record {
+        none = record {
+          is_place = place_there place (table_of same ∙ inv.table) c.requires.here.is_place;
+          latch = h;
+          holds = subst (λ (x : Mine). Holds place h h.book x) (sym {A = Mine} (mine same)) inv.held.1;
+          is_so = (inv.held.2.0, subst (ForgetsNobody id place h m) (sym {A = Mine} (mine same)) forgets, inv.held.2.2);
+        };
+        granted = (table_of same ∙ inv.table, subst (GrantsWaits id place m m) (sym {A = Mine} (mine same)) inv.way);
       };
-      granted = (table_of same ∙ inv.table, subst (GrantsWaits id place m m) (sym {A = Mine} (mine same)) inv.way);
     }

@@ -1,17 +1,24 @@
 -- One step met the word.
-use Rattle.std.proofs.Common.{refl}
+use Rattle.std.proofs.Common.{refl, rules}
 use Rattle.mdl_visits.specs.declared.waits_read.WaitRead.{WaitRead}
 use Rattle.mdl_visits.proofs.Seats.{mine}
 use Rattle.mdl_visits.proofs.Words.{only_reads_word, was_read}
 use Rattle.mdl_visits.proofs.waits_read.add_wait.Goals as goal
 
-pub returns-clause-added : goal.returns-clause-added
-returns-clause-added c =
+pub returns : goal.returns
+returns c =
     let r : WaitRead = record { session = c.args.session; word = c.read_wait-word.result } in
-    (r, refl, c.in_ok-push.ensures.items, was_read c.args.seat.now.table.slots r c.args.seat.now.me c.read_wait-word.new.self.me (mine c.read_wait-word.ensures.made))
+    record {
+      read = (
+        only_reads_word c.args.seat.now.table.slots c.args.session c.read_wait-word.result.0 c.args.seat.now c.read_wait-word.new.self c.read_wait-word.ensures.own c.read_wait-word.ensures.made,
+        (r, refl, c.in_ok-push.ensures.items, was_read c.args.seat.now.table.slots r c.args.seat.now.me c.read_wait-word.new.self.me (mine c.read_wait-word.ensures.made)),
+      );
+    }
 
-pub returns-in_err-push-clause-reads : goal.returns-in_err-push-clause-reads
-returns-in_err-push-clause-reads c = only_reads_word c.args.seat.now.table.slots c.args.session c.read_wait-word.result.0 c.args.seat.now c.read_wait-word.new.self c.read_wait-word.ensures.own c.read_wait-word.ensures.made
-
-pub returns-clause-reads : goal.returns-clause-reads
-returns-clause-reads c = only_reads_word c.args.seat.now.table.slots c.args.session c.read_wait-word.result.0 c.args.seat.now c.read_wait-word.new.self c.read_wait-word.ensures.own c.read_wait-word.ensures.made
+pub returns-in_err-push : goal.returns-in_err-push
+returns-in_err-push c = record {
+  read = (
+    only_reads_word c.args.seat.now.table.slots c.args.session c.read_wait-word.result.0 c.args.seat.now c.read_wait-word.new.self c.read_wait-word.ensures.own c.read_wait-word.ensures.made,
+    search rules,
+  );
+}

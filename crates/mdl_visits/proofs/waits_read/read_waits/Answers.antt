@@ -13,12 +13,12 @@ loop-before-init c = record {
 pub loop-before-preserved : goal.loop-before-preserved
 loop-before-preserved c =
     let inv = c.loop-before.invariant in
-    let added = c.in_ok-add_wait.ensures in
-    let one = added.added in
+    let added = c.in_ok-add_wait.ensures.read in
+    let one = added.1 in
     let below = c.loop-before-test.true in
     record {
-      reads = only_reads_on c.args.seat.now c.loop-before.seat c.add_wait.new.seat inv.reads added.reads;
-      words = one_read c.loop-before.before c.loop-before.words.items c.add_wait.new.words.items one.0 c.args.seat.now c.loop-before.seat c.add_wait.new.seat inv.words inv.reads.0 added.reads.0
+      reads = only_reads_on c.args.seat.now c.loop-before.seat c.add_wait.new.seat inv.reads added.0;
+      words = one_read c.loop-before.before c.loop-before.words.items c.add_wait.new.words.items one.0 c.args.seat.now c.loop-before.seat c.add_wait.new.seat inv.words inv.reads.0 added.0.0
           one.1 (omega arith, grind (arith, nat_tests)) (grind (arith, nat_tests)) one.2 one.3;
     }
 
@@ -26,4 +26,4 @@ pub returns-in_err-reserve-clause-reads : goal.returns-in_err-reserve-clause-rea
 returns-in_err-reserve-clause-reads c = ((refl, reads_none c.args.seat.now.me), refl)
 
 pub returns-in_err-add_wait-clause-reads : goal.returns-in_err-add_wait-clause-reads
-returns-in_err-add_wait-clause-reads c = only_reads_on c.args.seat.now c.loop-before.seat c.add_wait.new.seat c.loop-before.invariant.reads c.in_err-add_wait.ensures.reads
+returns-in_err-add_wait-clause-reads c = only_reads_on c.args.seat.now c.loop-before.seat c.add_wait.new.seat c.loop-before.invariant.reads c.in_err-add_wait.ensures.read.0

@@ -15,20 +15,20 @@ pub put_latch-requires-clause-put : goal.put_latch-requires-clause-put
 put_latch-requires-clause-put g t c =
     let latch = c.await_latch-latch in
     let copied : SeatState = c.add_book.new.seat in
-    may_put c.args.place latch.result.place c.args.seat.now latch.new.seat copied latch.ensures.place latch.ensures.taken latch.ensures.inside.0 c.add_book.ensures.same copied (as_reads copied copied (refl, no_steps copied.me))
+    may_put c.args.place latch.result.place c.args.seat.now latch.new.seat copied latch.ensures.arrives.at latch.ensures.arrives.taken latch.ensures.arrives.came.0 c.add_book.ensures.same copied (as_reads copied copied (refl, no_steps copied.me))
 
 pub returns-in-Err-clause-steps : goal.returns-in-Err-clause-steps
 returns-in-Err-clause-steps g t c =
     let latch = c.await_latch-latch in
     let copied : SeatState = c.add_book.new.seat in
-    back_steps c.args.place latch.result.place c.args.seat.now latch.new.seat copied latch.ensures.place latch.ensures.taken latch.ensures.inside.0 c.add_book.ensures.same
+    back_steps c.args.place latch.result.place c.args.seat.now latch.new.seat copied latch.ensures.arrives.at latch.ensures.arrives.taken latch.ensures.arrives.came.0 c.add_book.ensures.same
     copied (as_reads copied copied (refl, no_steps copied.me)) c.put_latch.new.self c.put_latch.ensures.made c.requires.through.rising refl refl
 
 pub audit_from-outcome-requires : goal.audit_from-outcome-requires
 audit_from-outcome-requires g t c =
     let latch = c.await_latch-latch in
     let nearer = c.if-place-last.false in
-    let through = may_take_more c.args.place latch.result.place c.args.seat.now latch.new.seat c.add_book.new.seat latch.ensures.place latch.ensures.taken latch.ensures.inside.0 c.add_book.ensures.same
+    let through = may_take_more c.args.place latch.result.place c.args.seat.now latch.new.seat c.add_book.new.seat latch.ensures.arrives.at latch.ensures.arrives.taken latch.ensures.arrives.came.0 c.add_book.ensures.same
     c.args.last c.requires.through (omega arith) in
     λ κs live. (search rules, (search rules, through))
 
@@ -42,7 +42,7 @@ put_latch-requires-2-clause-put g t c =
     let latch = c.await_latch-latch in
     let copied : SeatState = c.add_book.new.seat in
     let gathered : SeatState = c.audit_from-outcome.new.seat in
-    may_put c.args.place latch.result.place c.args.seat.now latch.new.seat copied latch.ensures.place latch.ensures.taken latch.ensures.inside.0 c.add_book.ensures.same
+    may_put c.args.place latch.result.place c.args.seat.now latch.new.seat copied latch.ensures.arrives.at latch.ensures.arrives.taken latch.ensures.arrives.came.0 c.add_book.ensures.same
     gathered (as_reads copied gathered c.audit_from-outcome.ensures.steps)
 
 pub returns-clause-steps : goal.returns-clause-steps
@@ -50,7 +50,7 @@ returns-clause-steps g t c =
     let latch = c.await_latch-latch in
     let copied : SeatState = c.add_book.new.seat in
     let gathered : SeatState = c.audit_from-outcome.new.seat in
-    back_steps c.args.place latch.result.place c.args.seat.now latch.new.seat copied latch.ensures.place latch.ensures.taken latch.ensures.inside.0 c.add_book.ensures.same
+    back_steps c.args.place latch.result.place c.args.seat.now latch.new.seat copied latch.ensures.arrives.at latch.ensures.arrives.taken latch.ensures.arrives.came.0 c.add_book.ensures.same
     gathered (as_reads copied gathered c.audit_from-outcome.ensures.steps) c.put_latch-2.new.self c.put_latch-2.ensures.made c.requires.through.rising refl refl
 
 pub returns-clause-gathered : goal.returns-clause-gathered
@@ -58,13 +58,13 @@ returns-clause-gathered g t c =
     let latch = c.await_latch-latch in
     let copied : SeatState = c.add_book.new.seat in
     let gathered : SeatState = c.audit_from-outcome.new.seat in
-    let book = latch.ensures.taken.0.book in
+    let book = latch.ensures.arrives.taken.0.book in
     let one : Audited = record { place = latch.result.place; book = book } in
     let added = c.in_default.ensures.added book
-    (carried_there c.args.place latch.result.place c.args.seat.now latch.new.seat latch.new.seat latch.ensures.place latch.ensures.taken latch.ensures.inside.0 refl) in
+    (carried_there c.args.place latch.result.place c.args.seat.now latch.new.seat latch.new.seat latch.ensures.arrives.at latch.ensures.arrives.taken latch.ensures.arrives.came.0 refl) in
     let before : List Audited = c.args.audited.now.items in
     on_ok_weaker c.audit_from-outcome.result
-    (λ more. (gathers_more c.args.place latch.result.place c.args.seat.now latch.new.seat copied latch.ensures.place latch.ensures.taken latch.ensures.inside.0 c.add_book.ensures.same
+    (λ more. (gathers_more c.args.place latch.result.place c.args.seat.now latch.new.seat copied latch.ensures.arrives.at latch.ensures.arrives.taken latch.ensures.arrives.came.0 c.add_book.ensures.same
     gathered (as_reads copied gathered c.audit_from-outcome.ensures.steps) c.put_latch-2.new.self c.put_latch-2.ensures.made c.requires.through.rising
     c.args.last before c.add_book.new.audited.items c.audit_from-outcome.new.audited.items c.audit_from-outcome.new.audited.items more
     (more.listed ∙ ap (λ (xs : List Audited). xs ++ more.books) added ∙ append_assoc before (one ∷ []) more.books)).0)

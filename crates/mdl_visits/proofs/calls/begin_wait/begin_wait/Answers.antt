@@ -4,6 +4,9 @@ use Rattle.mdl_visits.specs.Visits.{IsVisit}
 use Rattle.mdl_visits.proofs.Trying.{as_refused, as_told, visit_entered}
 use Rattle.mdl_visits.proofs.calls.begin_wait.begin_wait.Goals as goal
 
+pub enter-can-requires : goal.enter-can-requires
+enter-can-requires g c = record { at = c.requires.may.at; wish = (c.args.kind, c.requires.may.wish, c.is_obtrusive.ensures) }
+
 pub returns-in-Err-clause-once : goal.returns-in-Err-clause-once
 returns-in-Err-clause-once g c =
     subst (λ (may : Bool). IsVisit c.args.place may c.args.seat.now.me c.gain.new.seat.me) c.is_obtrusive.ensures

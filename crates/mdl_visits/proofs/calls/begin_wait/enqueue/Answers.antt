@@ -42,8 +42,8 @@ returns-in-Err c = record {
   done = λ word place s has.
       refused has c.in-Err.cause c.write_wish.new.self _ c.in-Err.ensures.unchanged
       (full _ _ c.in-Err.cause (c.in-Err.ensures.refused has.entered.1.found.book (entered_holds has).carried))
-      c.lower_flags_and_put.ensures.visited c.lower_flags_and_put.ensures.step;
-  once = subst (λ (x : SeatState). VisitsOnce c.args.latch.place x.me c.lower_flags_and_put.new.seat.me) c.in-Err.ensures.unchanged c.lower_flags_and_put.ensures.once;
+      c.lower_flags_and_put.ensures.left.visited c.lower_flags_and_put.ensures.left.step;
+  once = subst (λ (x : SeatState). VisitsOnce c.args.latch.place x.me c.lower_flags_and_put.new.seat.me) c.in-Err.ensures.unchanged c.lower_flags_and_put.ensures.left.once;
 }
 
 pub returns : goal.returns

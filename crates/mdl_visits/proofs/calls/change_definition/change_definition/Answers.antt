@@ -3,7 +3,7 @@ use Rattle.std.proofs.Common.{false, [], refl, ◌∙◌}
 use Rattle.mdl_defs.specs.VersionedDefinitions.{standing_fault}
 use Rattle.mdl_book.specs.Books.{redefining}
 use Rattle.mdl_steps.specs.SeatStates.{SeatState}
-use Rattle.mdl_visits.proofs.Arriving.{went_same}
+use Rattle.mdl_visits.proofs.Arriving.{inside_there, went_same}
 use Rattle.mdl_visits.proofs.Changing.{changed, has_redefined, may_put_changed, no_fault, refused, went_changed}
 use Rattle.mdl_visits.proofs.Gathering.{as_reads, back_steps, carried_there, no_steps}
 use Rattle.mdl_visits.proofs.Seats.{mine, place_there, table_of}
@@ -22,13 +22,13 @@ write_version-requires g c =
     let latch = c.await_latch-latch in
     let b : SeatState = latch.new.seat in
     let wrote : SeatState = c.write_change.new.self in
-    let taken = latch.ensures.taken in
-    let carried = carried_there place latch.result.place a b b latch.ensures.place taken latch.ensures.inside.0 refl in
+    let taken = latch.ensures.arrives.taken in
+    let carried = carried_there place latch.result.place a b b latch.ensures.arrives.at taken latch.ensures.arrives.came.0 refl in
     let done = c.in-Ok.ensures.written taken.0.book carried in
     let allowed = no_fault (standing_fault taken.0.book.key.namespace change taken.0.book.standing) c.in-Ok.version (c.in-Ok.ensures.refused taken.0.book carried) in
     record {
       place = place_there latch.result.place (table_of done.0) latch.ensures.arrives.is_place;
-      written = (taken.0, change, has_redefined place latch.result.place change a b wrote latch.ensures.place taken latch.ensures.inside.0 done.0 allowed c.requires.apart c.requires.held);
+      written = (taken.0, change, has_redefined place latch.result.place change a b wrote latch.ensures.arrives.at taken latch.ensures.arrives.came.0 done.0 allowed c.requires.apart c.requires.held);
     }
 
 pub put_latch-requires : goal.put_latch-requires
@@ -39,15 +39,15 @@ put_latch-requires g c =
     let latch = c.await_latch-latch in
     let b : SeatState = latch.new.seat in
     let wrote : SeatState = c.write_change.new.self in
-    let taken = latch.ensures.taken in
-    let carried = carried_there place latch.result.place a b b latch.ensures.place taken latch.ensures.inside.0 refl in
+    let taken = latch.ensures.arrives.taken in
+    let carried = carried_there place latch.result.place a b b latch.ensures.arrives.at taken latch.ensures.arrives.came.0 refl in
     let done = c.in-Ok.ensures.written taken.0.book carried in
     let allowed = no_fault (standing_fault taken.0.book.key.namespace change taken.0.book.standing) c.in-Ok.version (c.in-Ok.ensures.refused taken.0.book carried) in
-    let has = has_redefined place latch.result.place change a b wrote latch.ensures.place taken latch.ensures.inside.0 done.0 allowed c.requires.apart c.requires.held in
+    let has = has_redefined place latch.result.place change a b wrote latch.ensures.arrives.at taken latch.ensures.arrives.came.0 done.0 allowed c.requires.apart c.requires.held in
     let published = c.write_version.ensures.made (redefining change taken.0.book) has.holds.carried in
     record {
       place = place_there latch.result.place (table_of published ∙ table_of done.0) latch.ensures.arrives.is_place;
-      put = may_put_changed place latch.result.place change a b wrote latch.ensures.place taken latch.ensures.inside.0 done.0 allowed c.requires.apart c.requires.held
+      put = may_put_changed place latch.result.place change a b wrote latch.ensures.arrives.at taken latch.ensures.arrives.came.0 done.0 allowed c.requires.apart c.requires.held
           c.write_version.new.self c.write_version.ensures.keeps;
     }
 
@@ -59,13 +59,13 @@ returns-in-Ok-clause-changed g c =
     let latch = c.await_latch-latch in
     let b : SeatState = latch.new.seat in
     let wrote : SeatState = c.write_change.new.self in
-    let taken = latch.ensures.taken in
-    let carried = carried_there place latch.result.place a b b latch.ensures.place taken latch.ensures.inside.0 refl in
+    let taken = latch.ensures.arrives.taken in
+    let carried = carried_there place latch.result.place a b b latch.ensures.arrives.at taken latch.ensures.arrives.came.0 refl in
     let done = c.in-Ok.ensures.written taken.0.book carried in
     let allowed = no_fault (standing_fault taken.0.book.key.namespace change taken.0.book.standing) c.in-Ok.version (c.in-Ok.ensures.refused taken.0.book carried) in
-    let has = has_redefined place latch.result.place change a b wrote latch.ensures.place taken latch.ensures.inside.0 done.0 allowed c.requires.apart c.requires.held in
-    changed place latch.result.place change a b wrote latch.ensures.place taken latch.ensures.inside.0 done.0 allowed c.requires.apart c.requires.held
-    c.write_version.new.self c.put_latch.new.self (c.write_version.ensures.made (redefining change taken.0.book) has.holds.carried) c.put_latch.ensures.made latch.ensures.inside.1 c.in-Ok.version done.1
+    let has = has_redefined place latch.result.place change a b wrote latch.ensures.arrives.at taken latch.ensures.arrives.came.0 done.0 allowed c.requires.apart c.requires.held in
+    changed place latch.result.place change a b wrote latch.ensures.arrives.at taken latch.ensures.arrives.came.0 done.0 allowed c.requires.apart c.requires.held
+    c.write_version.new.self c.put_latch.new.self (c.write_version.ensures.made (redefining change taken.0.book) has.holds.carried) c.put_latch.ensures.made (inside_there latch.ensures.arrives) c.in-Ok.version done.1
 
 pub returns-in-Ok-clause-once : goal.returns-in-Ok-clause-once
 returns-in-Ok-clause-once g c =
@@ -75,11 +75,11 @@ returns-in-Ok-clause-once g c =
     let latch = c.await_latch-latch in
     let b : SeatState = latch.new.seat in
     let wrote : SeatState = c.write_change.new.self in
-    let taken = latch.ensures.taken in
-    let carried = carried_there place latch.result.place a b b latch.ensures.place taken latch.ensures.inside.0 refl in
+    let taken = latch.ensures.arrives.taken in
+    let carried = carried_there place latch.result.place a b b latch.ensures.arrives.at taken latch.ensures.arrives.came.0 refl in
     let done = c.in-Ok.ensures.written taken.0.book carried in
     let allowed = no_fault (standing_fault taken.0.book.key.namespace change taken.0.book.standing) c.in-Ok.version (c.in-Ok.ensures.refused taken.0.book carried) in
-    let has = has_redefined place latch.result.place change a b wrote latch.ensures.place taken latch.ensures.inside.0 done.0 allowed c.requires.apart c.requires.held in
+    let has = has_redefined place latch.result.place change a b wrote latch.ensures.arrives.at taken latch.ensures.arrives.came.0 done.0 allowed c.requires.apart c.requires.held in
     went_changed latch.ensures.arrives _ _ wrote c.write_version.new.self c.put_latch.new.self done.0
     (c.write_version.ensures.made (redefining change taken.0.book) has.holds.carried) c.put_latch.ensures.made
 
@@ -94,7 +94,7 @@ pub returns-in-Err-clause-unchanged : goal.returns-in-Err-clause-unchanged
 returns-in-Err-clause-unchanged g c =
     let latch = c.await_latch-latch in
     let wrote : SeatState = c.write_change.new.self in
-    let steps = back_steps c.args.place latch.result.place c.args.seat.now latch.new.seat wrote latch.ensures.place latch.ensures.taken latch.ensures.inside.0 c.in-Err.ensures.unchanged
+    let steps = back_steps c.args.place latch.result.place c.args.seat.now latch.new.seat wrote latch.ensures.arrives.at latch.ensures.arrives.taken latch.ensures.arrives.came.0 c.in-Err.ensures.unchanged
     wrote (as_reads wrote wrote (refl, no_steps wrote.me)) c.put_latch-in-Err.new.self c.put_latch-in-Err.ensures.made c.requires.at.rising refl refl in
     (steps.0, record { made = steps.1.0; now = steps.1.1; did = steps.1.2 })
 
@@ -103,7 +103,7 @@ returns-in-Err-clause-refused g c =
     let latch = c.await_latch-latch in
     let a : SeatState = c.args.seat.now in
     let b : SeatState = latch.new.seat in
-    let book = latch.ensures.taken.0.book in
-    let carried = carried_there c.args.place latch.result.place a b b latch.ensures.place latch.ensures.taken latch.ensures.inside.0 refl in
-    refused c.args.place latch.result.place c.args.change.now a b c.write_change.new.self latch.ensures.place latch.ensures.taken c.put_latch-in-Err.new.self latch.ensures.inside.0
+    let book = latch.ensures.arrives.taken.0.book in
+    let carried = carried_there c.args.place latch.result.place a b b latch.ensures.arrives.at latch.ensures.arrives.taken latch.ensures.arrives.came.0 refl in
+    refused c.args.place latch.result.place c.args.change.now a b c.write_change.new.self latch.ensures.arrives.at latch.ensures.arrives.taken c.put_latch-in-Err.new.self latch.ensures.arrives.came.0
     c.in-Err.ensures.unchanged c.put_latch-in-Err.ensures.made c.requires.at.rising c.in-Err.why (c.in-Err.ensures.refused book carried) (c.in-Err.ensures.drop book carried)

@@ -19,7 +19,7 @@ lower_flags_and_put-requires g c =
     let r = c.requires in
     let a = c.await_latch-latch.ensures.arrives in
     record {
-      worked = has_gained held a (idle_waits_not s.me.0 held.number r.idle) r.may.held c.args.mode r.may.fits r.may.covered c.args.number c.write_gain.new.self r.idle r.may.next
+      worked = has_gained held a (idle_waits_not s.me.0 held.number r.may.idle) r.may.held c.args.mode r.may.fits r.may.covered c.args.number c.write_gain.new.self r.may.idle r.may.next
           (c.in-Ok.ensures.written a.latch.book a.holds.carried);
     }
 
@@ -42,10 +42,10 @@ returns-in-Ok g c =
     let out = c.in-Ok.ensures.written a.latch.book a.holds.carried in
     let came = came_written a (booked latch.new.seat.me.0.number (Gain c.args.number c.args.mode) a.latch.book) w out in
     record {
-      cloned = subst (λ (p : ℕ). AtItsTable s n (Visits p (Gain c.args.number c.args.mode ∷ []))) a.at (c.lower_flags_and_put.ensures.visited s (came.0, came.1));
-      step = met_own a held.number (Gain c.args.number c.args.mode ∷ []) w n (ap is_some (there held a (idle_waits_not s.me.0 held.number r.idle) r.may.held))
-          came (ap (λ (x : SeatState). x.me.0.latches) out) c.lower_flags_and_put.ensures.step;
-      once = went_written a _ w n out c.lower_flags_and_put.ensures.once;
+      cloned = subst (λ (p : ℕ). AtItsTable s n (Visits p (Gain c.args.number c.args.mode ∷ []))) a.at (c.lower_flags_and_put.ensures.left.visited s (came.0, came.1));
+      step = met_own a held.number (Gain c.args.number c.args.mode ∷ []) w n (ap is_some (there held a (idle_waits_not s.me.0 held.number r.may.idle) r.may.held))
+          came (ap (λ (x : SeatState). x.me.0.latches) out) c.lower_flags_and_put.ensures.left.step;
+      once = went_written a _ w n out c.lower_flags_and_put.ensures.left.once;
       refused = tt;
     }
 
@@ -62,15 +62,15 @@ returns-in-Err g c =
     let same = c.in-Err.ensures.unchanged in
     let came = subst (CameTo q s) (sym same) a.came in
     let latches = ap (λ (x : SeatState). x.me.0.latches) same in
-    let unwaited = idle_waits_not s.me.0 held.number r.idle in
-    let met = met_own a held.number [] w n (ap is_some (there held a unwaited r.may.held)) came latches c.lower_flags_and_put-in-Err.ensures.step in
+    let unwaited = idle_waits_not s.me.0 held.number r.may.idle in
+    let met = met_own a held.number [] w n (ap is_some (there held a unwaited r.may.held)) came latches c.lower_flags_and_put-in-Err.ensures.left.step in
     record {
       cloned = tt;
       step = (met.0, met.1, met.2, tt);
-      once = went_same a w n same c.lower_flags_and_put-in-Err.ensures.once;
+      once = went_same a w n same c.lower_flags_and_put-in-Err.ensures.left.once;
       refused = (
-        subst (λ (p : ℕ). AtItsTable s n (Visits p [])) a.at (c.lower_flags_and_put-in-Err.ensures.visited s (came.0, came.1)),
-        met_full held.place s q w n a.at came.1 a.latch (ap (held_at q) latches ∙ a.holds.recorded) [] c.lower_flags_and_put-in-Err.ensures.step c.in-Err.cause
+        subst (λ (p : ℕ). AtItsTable s n (Visits p [])) a.at (c.lower_flags_and_put-in-Err.ensures.left.visited s (came.0, came.1)),
+        met_full held.place s q w n a.at came.1 a.latch (ap (held_at q) latches ∙ a.holds.recorded) [] c.lower_flags_and_put-in-Err.ensures.left.step c.in-Err.cause
             (no_room held a unwaited r.may.held c.args.mode r.may.fits r.may.covered _ c.args.number c.in-Err.cause (c.in-Err.ensures.refused a.latch.book a.holds.carried)),
       );
     }

@@ -36,8 +36,8 @@ returns g c =
     let came = came_written a (booked arrive.me.0.number (Alter held.number mode) a.latch.book) wrote.new.self out in
     let n = c.lower_flags_and_reschedule.new.seat in
     record {
-      downgraded = subst (λ (p : ℕ). AtItsTable s n (VisitsAndReschedules s.table p (Alter held.number mode ∷ []))) a.at (c.lower_flags_and_reschedule.ensures.rescheduled s came);
+      downgraded = subst (λ (p : ℕ). AtItsTable s n (VisitsAndReschedules s.table p (Alter held.number mode ∷ []))) a.at (c.lower_flags_and_reschedule.ensures.left.rescheduled s came);
       step = met_own a held.number (Alter held.number mode ∷ []) wrote.new.self n (ap is_some (there held a r.unwaited r.held))
-          came (ap (λ (x : SeatState). x.me.0.latches) out) c.lower_flags_and_reschedule.ensures.step;
-      once = went_written a _ wrote.new.self n out c.lower_flags_and_reschedule.ensures.once;
+          came (ap (λ (x : SeatState). x.me.0.latches) out) c.lower_flags_and_reschedule.ensures.left.step;
+      once = went_written a _ wrote.new.self n out c.lower_flags_and_reschedule.ensures.left.once;
     }

@@ -51,14 +51,14 @@ returns g c =
     let n = c.lower_flags_and_reschedule.new.seat in
     let there = came_ended ask a w is r.lost.0 c.end_lost.new.self ended c.end_lost.ensures.apart in
     let v = c.end_lost.new.self in
-    let last = c.lower_flags_and_reschedule.ensures.step in
+    let last = c.lower_flags_and_reschedule.ensures.left.step in
     record {
-      ended = subst (λ (p : ℕ). AtItsTable s n (EndsLost s.table p)) a.at (c.lower_flags_and_reschedule.ensures.rescheduled (record s { me = mine_without_wait s.me }) there);
+      ended = subst (λ (p : ℕ). AtItsTable s n (EndsLost s.table p)) a.at (c.lower_flags_and_reschedule.ensures.left.rescheduled (record s { me = mine_without_wait s.me }) there);
       once =
           let came : SeatState = c.await_latch-latch.new.seat in
           let on = within_written false came.me w.me c.await_latch-latch.result.place _ (mine is) in
           let ends = within_one false w.me v.me _ (ap (λ (x : SeatState). x.me.0.log) ended) (ap (λ (x : SeatState). x.me.0.directory) ended) (refl, plain false, refl) in
-          went_on a v n (within_then false came.me w.me v.me on ends) c.lower_flags_and_reschedule.ensures.once;
+          went_on a v n (within_then false came.me w.me v.me on ends) c.lower_flags_and_reschedule.ensures.left.once;
       met = λ state told.
           let shown = shows_end ask a w is state v (c.end_lost.ensures.made ask state asks (told_there ask a w is state told)) in
           (shown.0, step_before s.me v.me n.me (goes_by v.me n.me last.0 last.1) shown.0 shown.1, shown.2);

@@ -26,12 +26,12 @@ lower_flags_and_put-requires g c =
 
 pub returns-in-Err-clause-refused : goal.returns-in-Err-clause-refused
 returns-in-Err-clause-refused g c =
+    let some : 0 < length c.args.fast.now = grind (arith, nat_tests) in
     let arrives = c.await_latch-latch.ensures.arrives in
     let raise = c.raise_flags.ensures in
     let r = ready arrives c.args.fast.now c.raise_flags.new.self raise.made raise.keeps c.requires.these c.requires.idle in
     let refused = c.in-Err.ensures.refused r.found.book (can_stand r) in
-    let left = c.lower_flags_and_put.ensures in
-    let some : 0 < length c.args.fast.now = grind (arith, nat_tests) in (
+    let left = c.lower_flags_and_put.ensures.left in (
       nothing_done r refused.0 c.lower_flags_and_put.new.seat left.visited,
       lacks_room r refused.0 (length c.args.fast.now) c.in-Err.cause c.lower_flags_and_put.new.seat left.step refused.1,
       refused_once arrives c.raise_flags.new.self raise.made c.write_gains.new.seat c.lower_flags_and_put.new.seat refused.0 left.once,

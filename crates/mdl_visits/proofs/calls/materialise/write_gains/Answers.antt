@@ -7,9 +7,8 @@ use Rattle.mdl_book.specs.declared.book_view.BookView.{BookView}
 use Rattle.mdl_book.specs.Books.{grant_fault, granting}
 use Rattle.mdl_steps.specs.declared.view.SessionTicket.{SessionTicket}
 use Rattle.mdl_steps.specs.Cells.{ticket_by}
-use Rattle.mdl_steps.specs.SeatStates.{SeatState}
+use Rattle.mdl_steps.specs.SeatStates.{HasBookInHand, SeatState}
 use Rattle.mdl_visits.specs.Materialisings.{granting_own, with_book}
-use Rattle.mdl_visits.specs.Visits.{HasBookInHand}
 use Rattle.mdl_visits.proofs.OwnGrants.{first_stand, granting_more, no_own, no_room_then, none_written}
 use Rattle.mdl_visits.proofs.calls.materialise.write_gains.Goals as goal
 

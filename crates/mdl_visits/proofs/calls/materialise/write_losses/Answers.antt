@@ -6,9 +6,8 @@ use Rattle.mdl_book.specs.declared.book_view.BookView.{BookView}
 use Rattle.mdl_book.specs.Books.{removing}
 use Rattle.mdl_book.specs.Tickets.{ticket_of}
 use Rattle.mdl_steps.specs.declared.view.SessionTicket.{SessionTicket}
-use Rattle.mdl_steps.specs.SeatStates.{SeatState}
+use Rattle.mdl_steps.specs.SeatStates.{HasBookInHand, SeatState}
 use Rattle.mdl_visits.specs.Materialisings.{granting_own, with_book}
-use Rattle.mdl_visits.specs.Visits.{HasBookInHand}
 use Rattle.mdl_visits.proofs.Losing.{taken_out}
 use Rattle.mdl_visits.proofs.OwnGrants.{next_found, next_out, no_own}
 use Rattle.mdl_visits.proofs.calls.materialise.write_losses.Goals as goal

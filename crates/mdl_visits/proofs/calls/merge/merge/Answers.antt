@@ -19,7 +19,7 @@ write_loss-gone-requires g c =
     let a = c.await_latch-latch.ensures.arrives in
     let refused = wrote.ensures.refused a.latch.book a.holds.carried in
     let written = wrote.ensures.written a.latch.book a.holds.carried in
-    record { carried = (changed kept gone a r.may.here r.idle r.may.two r.may.held, carries_changed kept gone a r.may.here r.idle r.may.two r.may.held wrote.new.self wrote.result refused written) }
+    record { carried = (changed kept gone a r.may.here r.may.idle r.may.two r.may.held, carries_changed kept gone a r.may.here r.may.idle r.may.two r.may.held wrote.new.self wrote.result refused written) }
 
 pub lower_flags_and_put-requires : goal.lower_flags_and_put-requires
 lower_flags_and_put-requires g c =
@@ -31,8 +31,8 @@ lower_flags_and_put-requires g c =
     let refused = wrote.ensures.refused a.latch.book a.holds.carried in
     let written = wrote.ensures.written a.latch.book a.holds.carried in
     let w = c.write_loss-gone.new.self in
-    let out = united kept gone a r.may.here r.idle r.may.two r.may.held wrote.new.self wrote.result refused written w c.write_loss-gone.result c.write_loss-gone.ensures.refused c.write_loss-gone.ensures.written in
-    record { worked = has_united kept gone a r.may.here r.idle r.may.two r.may.held w r.known r.may.covered out }
+    let out = united kept gone a r.may.here r.may.idle r.may.two r.may.held wrote.new.self wrote.result refused written w c.write_loss-gone.result c.write_loss-gone.ensures.refused c.write_loss-gone.ensures.written in
+    record { worked = has_united kept gone a r.may.here r.may.idle r.may.two r.may.held w r.known r.may.covered out }
 
 pub returns : goal.returns
 returns g c =
@@ -47,15 +47,15 @@ returns g c =
     let refused = wrote.ensures.refused a.latch.book a.holds.carried in
     let written = wrote.ensures.written a.latch.book a.holds.carried in
     let w = c.write_loss-gone.new.self in
-    let out = united kept gone a r.may.here r.idle r.may.two r.may.held wrote.new.self wrote.result refused written w c.write_loss-gone.result c.write_loss-gone.ensures.refused c.write_loss-gone.ensures.written in
+    let out = united kept gone a r.may.here r.may.idle r.may.two r.may.held wrote.new.self wrote.result refused written w c.write_loss-gone.result c.write_loss-gone.ensures.refused c.write_loss-gone.ensures.written in
     let n = c.lower_flags_and_put.new.seat in
     let ds : List Deed = Alter kept.number gone.mode ∷ Lose gone.number ∷ [] in
-    let there = came_written a (booked came.me.0.number (Lose gone.number) (changed kept gone a r.may.here r.idle r.may.two r.may.held)) w out in
-    let met = met_here a ds w n there (ap (λ (x : SeatState). x.me.0.latches) out) c.lower_flags_and_put.ensures.step in
-    let old = meets_own a kept.number met.0 (ap is_some (first kept gone a r.may.here r.idle r.may.two r.may.held)) met.2 met.3 in
-    let new = meets_own a gone.number met.0 (ap is_some (second kept gone a r.may.here r.idle r.may.two r.may.held)) met.2 met.3 in
+    let there = came_written a (booked came.me.0.number (Lose gone.number) (changed kept gone a r.may.here r.may.idle r.may.two r.may.held)) w out in
+    let met = met_here a ds w n there (ap (λ (x : SeatState). x.me.0.latches) out) c.lower_flags_and_put.ensures.left.step in
+    let old = meets_own a kept.number met.0 (ap is_some (first kept gone a r.may.here r.may.idle r.may.two r.may.held)) met.2 met.3 in
+    let new = meets_own a gone.number met.0 (ap is_some (second kept gone a r.may.here r.may.idle r.may.two r.may.held)) met.2 met.3 in
     record {
-      merged = subst (λ (p : ℕ). AtItsTable s n (Visits p ds)) a.at (c.lower_flags_and_put.ensures.visited s (there.0, there.1));
+      merged = subst (λ (p : ℕ). AtItsTable s n (Visits p ds)) a.at (c.lower_flags_and_put.ensures.left.visited s (there.0, there.1));
       step = (met.0, met.1, old, new, met.4);
-      once = went_written a _ w n out c.lower_flags_and_put.ensures.once;
+      once = went_written a _ w n out c.lower_flags_and_put.ensures.left.once;
     }

@@ -4,7 +4,7 @@ use Rattle.mdl_defs.specs.declared.versioned_definition.VersionedDefinition.{Ver
 use Rattle.mdl_steps.specs.Plays.{Mine, read_and_put}
 use Rattle.mdl_steps.specs.SeatStates.{SeatState}
 use Rattle.mdl_steps.specs.VersionPlays.{Follows}
-use Rattle.mdl_visits.proofs.Arriving.{went_same}
+use Rattle.mdl_visits.proofs.Arriving.{inside_there, went_same}
 use Rattle.mdl_visits.proofs.Gathering.{as_reads, back_steps, carried_there, may_put, no_steps}
 use Rattle.mdl_visits.proofs.Reading.{follows, learns, meets_standing, quiet_read}
 use Rattle.mdl_visits.proofs.Seats.{mine, table_of}
@@ -19,14 +19,14 @@ pub put_latch_reading-requires-clause-put : goal.put_latch_reading-requires-clau
 put_latch_reading-requires-clause-put g c =
     let latch = c.await_latch-latch in
     let asked : SeatState = c.standing.new.self in
-    may_put c.args.place latch.result.place c.args.seat.now latch.new.seat asked latch.ensures.place latch.ensures.taken latch.ensures.inside.0 c.standing.ensures.same
+    may_put c.args.place latch.result.place c.args.seat.now latch.new.seat asked latch.ensures.arrives.at latch.ensures.arrives.taken latch.ensures.arrives.came.0 c.standing.ensures.same
     asked (as_reads asked asked (refl, no_steps asked.me))
 
 pub put_latch-requires-clause-put : goal.put_latch-requires-clause-put
 put_latch-requires-clause-put g c =
     let latch = c.await_latch-latch in
     let asked : SeatState = c.standing.new.self in
-    may_put c.args.place latch.result.place c.args.seat.now latch.new.seat asked latch.ensures.place latch.ensures.taken latch.ensures.inside.0 c.standing.ensures.same
+    may_put c.args.place latch.result.place c.args.seat.now latch.new.seat asked latch.ensures.arrives.at latch.ensures.arrives.taken latch.ensures.arrives.came.0 c.standing.ensures.same
     asked (as_reads asked asked (refl, no_steps asked.me))
 
 pub returns-in-Ok : goal.returns-in-Ok
@@ -37,30 +37,30 @@ returns-in-Ok g c =
     let b : SeatState = latch.new.seat in
     let asked : SeatState = c.standing.new.self in
     let went : SeatState = c.put_latch_reading.new.self in
-    let taken = latch.ensures.taken in
+    let taken = latch.ensures.arrives.taken in
     let h = taken.0 in
     let same = c.standing.ensures.same in
-    let carried = carried_there place latch.result.place a b b latch.ensures.place taken latch.ensures.inside.0 refl in
+    let carried = carried_there place latch.result.place a b b latch.ensures.arrives.at taken latch.ensures.arrives.came.0 refl in
     let told : c.in-Ok.standing ≡ h.book.standing = c.in-Ok.ensures.told h.book carried in
-    let put = c.put_latch_reading.ensures.made h.book (carried_there place latch.result.place a b asked latch.ensures.place taken latch.ensures.inside.0 same) in
+    let put = c.put_latch_reading.ensures.made h.book (carried_there place latch.result.place a b asked latch.ensures.arrives.at taken latch.ensures.arrives.came.0 same) in
     let read : went.me ≡ read_and_put place c.in-Ok.standing b.me =
     mine put ∙ ap (λ (m : Mine). read_and_put latch.result.place h.book.standing m) (mine same)
-    ∙ ap (λ (q : ℕ). read_and_put q h.book.standing b.me) latch.ensures.place ∙ ap (λ (s : VersionedDefinition). read_and_put place s b.me) (sym told) in record {
+    ∙ ap (λ (q : ℕ). read_and_put q h.book.standing b.me) latch.ensures.arrives.at ∙ ap (λ (s : VersionedDefinition). read_and_put place s b.me) (sym told) in record {
       learnt = (
-        learns place c.in-Ok.standing a.me b.me went.me latch.ensures.inside.1 read,
-        meets_standing place c.in-Ok.standing a.me b.me went.me latch.ensures.inside.1 read h a.me.0.number refl taken.1 taken.2.recorded told,
+        learns place c.in-Ok.standing a.me b.me went.me (inside_there latch.ensures.arrives) read,
+        meets_standing place c.in-Ok.standing a.me b.me went.me (inside_there latch.ensures.arrives) read h a.me.0.number refl taken.1 taken.2.recorded told,
       );
       follows = subst (λ (s : VersionedDefinition). Follows place s a.me) (sym told) (follows taken.1);
       unchanged = tt;
       once = went_same latch.ensures.arrives asked went same (visit_by false asked.me went.me latch.result.place _ (ap (λ (x : SeatState). x.me.0.log) put) refl refl refl);
-      quiet = (table_of put ∙ table_of same ∙ latch.ensures.inside.0, quiet_read place c.in-Ok.standing a.me b.me went.me latch.ensures.inside.1 read h taken.3.0 taken.3.2 taken.3.1);
+      quiet = (table_of put ∙ table_of same ∙ latch.ensures.arrives.came.0, quiet_read place c.in-Ok.standing a.me b.me went.me (inside_there latch.ensures.arrives) read h taken.3.0 taken.3.2 taken.3.1);
     }
 
 pub returns-in-Err : goal.returns-in-Err
 returns-in-Err g c =
     let latch = c.await_latch-latch in
     let asked : SeatState = c.standing.new.self in
-    let steps = back_steps c.args.place latch.result.place c.args.seat.now latch.new.seat asked latch.ensures.place latch.ensures.taken latch.ensures.inside.0 c.standing.ensures.same
+    let steps = back_steps c.args.place latch.result.place c.args.seat.now latch.new.seat asked latch.ensures.arrives.at latch.ensures.arrives.taken latch.ensures.arrives.came.0 c.standing.ensures.same
     asked (as_reads asked asked (refl, no_steps asked.me)) c.put_latch.new.self c.put_latch.ensures.made c.requires.at.rising refl refl in
     record {
       learnt = tt;

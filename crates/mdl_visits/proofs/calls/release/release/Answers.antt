@@ -27,8 +27,8 @@ returns g c =
     let came = came_written a (booked latch.new.seat.me.0.number (Lose number) a.latch.book) w out in
     record {
       released = subst (λ (p : ℕ). AtItsTable s n (VisitsAndReschedules s.table p (Lose number ∷ []))) a.at
-          (c.lower_flags_and_reschedule.ensures.rescheduled s came);
+          (c.lower_flags_and_reschedule.ensures.left.rescheduled s came);
       step = met_own a number (Lose number ∷ []) w n (there a number c.requires.unwaited c.requires.held)
-          came (ap (λ (x : SeatState). x.me.0.latches) out) c.lower_flags_and_reschedule.ensures.step;
-      once = went_written a _ w n out c.lower_flags_and_reschedule.ensures.once;
+          came (ap (λ (x : SeatState). x.me.0.latches) out) c.lower_flags_and_reschedule.ensures.left.step;
+      once = went_written a _ w n out c.lower_flags_and_reschedule.ensures.left.once;
     }

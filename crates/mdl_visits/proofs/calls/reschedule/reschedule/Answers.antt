@@ -3,7 +3,7 @@ use Rattle.std.proofs.Common.{ℕ, [], refl, ◌∙◌, subst}
 use Rattle.atomic_table.specs.Seated.{TableId}
 use Rattle.mdl_steps.specs.Plays.{Mine}
 use Rattle.mdl_visits.specs.Grantings.{ReschedulesAndLeaves}
-use Rattle.mdl_visits.proofs.Arriving.{went_same}
+use Rattle.mdl_visits.proofs.Arriving.{inside_there, went_same}
 use Rattle.mdl_visits.proofs.Rescheduling.{visits_and_reschedules}
 use Rattle.mdl_visits.proofs.calls.reschedule.reschedule.Goals as goal
 
@@ -13,12 +13,12 @@ returns g c =
     let came : Mine = latch.new.seat.me in
     let went : Mine = c.reschedule_and_put.new.seat.me in
     let id = c.args.seat.now.table in
-    let left = c.reschedule_and_put.ensures.left in
-    let out = subst (λ (t : TableId). ReschedulesAndLeaves t latch.result.place [] came went) latch.ensures.inside.0 left.1 in
+    let left = c.reschedule_and_put.ensures.served.left in
+    let out = subst (λ (t : TableId). ReschedulesAndLeaves t latch.result.place [] came went) latch.ensures.arrives.came.0 left.1 in
     record {
       rescheduled = (
-        left.0 ∙ latch.ensures.inside.0,
-        visits_and_reschedules id c.args.place [] c.args.seat.now.me came went latch.ensures.inside.1 latch.ensures.stays (subst (λ (q : ℕ). ReschedulesAndLeaves id q [] came went) latch.ensures.place out),
+        left.0 ∙ latch.ensures.arrives.came.0,
+        visits_and_reschedules id c.args.place [] c.args.seat.now.me came went (inside_there latch.ensures.arrives) latch.ensures.arrives.came.2 (subst (λ (q : ℕ). ReschedulesAndLeaves id q [] came went) latch.ensures.arrives.at out),
       );
-      once = went_same latch.ensures.arrives latch.new.seat c.reschedule_and_put.new.seat refl c.reschedule_and_put.ensures.once;
+      once = went_same latch.ensures.arrives latch.new.seat c.reschedule_and_put.new.seat refl c.reschedule_and_put.ensures.served.once;
     }

@@ -28,8 +28,8 @@ put_latch_served-requires c =
     elim c.if-has_waiters.branch [
       | then-has_waiters w ↦
           let b : SeatState = w.grant_waiters.new.seat in
-          let none = w.grant_waiters.ensures.none in
-          let way = w.grant_waiters.ensures.granted in
+          let none = w.grant_waiters.ensures.all.none in
+          let way = w.grant_waiters.ensures.all.granted in
           let forgets = subst (λ (x : SeatState). ForgetsNobody x.table place none.latch x.me b.me) same none.is_so.1 in
           let table = way.0 ∙ table_of same in
           record {
@@ -65,28 +65,30 @@ returns c =
     let same = c.has_waiters.ensures.same in
     let put = c.put_latch_served.ensures.made in
     record {
-      left = elim c.if-has_waiters.branch [
-        | then-has_waiters w ↦
-            let b : Mine = w.grant_waiters.new.seat.me in
-            let none = w.grant_waiters.ensures.none in
-            let way = w.grant_waiters.ensures.granted in
-            let forgets = subst (λ (x : SeatState). ForgetsNobody x.table place none.latch x.me b) same none.is_so.1 in (
-              table_of put ∙ table_of w.seat-is ∙ way.0 ∙ table_of same,
-              leaves_rescheduled id place none.latch m b out (subst (λ (x : SeatState). GrantsWaits x.table place x.me x.me b) same way.1) none.holds forgets
-                  (mine put ∙ ap (λ (x : SeatState). served place x.me) w.seat-is),
-            )
-        | else-has_waiters w ↦ (
-          table_of put ∙ table_of w.seat-is ∙ table_of same,
-          leaves_none id place h m out here.holds (nobody_waits h.book.waiting (sym (c.has_waiters.ensures.told h.book here.holds.carried) ∙ w.if-has_waiters.false))
-              (mine put ∙ ap (λ (x : SeatState). served place x.me) (w.seat-is ∙ same)),
-        )
-      ];
-      once = elim c.if-has_waiters.branch [
-        | then-has_waiters w ↦
-            let b : Mine = w.grant_waiters.new.seat.me in
-            let way = subst (λ (x : SeatState). GrantsWaits x.table place x.me x.me b) same w.grant_waiters.ensures.granted.1 in
-            visit_after false m b out (within_of id place m m b way) place
-            (visit_served false b out place (mine put ∙ ap (λ (x : SeatState). served place x.me) w.seat-is))
-        | else-has_waiters w ↦ visit_served false m out place (mine put ∙ ap (λ (x : SeatState). served place x.me) (w.seat-is ∙ same))
-      ];
+      served = record {
+        left = elim c.if-has_waiters.branch [
+          | then-has_waiters w ↦
+              let b : Mine = w.grant_waiters.new.seat.me in
+              let none = w.grant_waiters.ensures.all.none in
+              let way = w.grant_waiters.ensures.all.granted in
+              let forgets = subst (λ (x : SeatState). ForgetsNobody x.table place none.latch x.me b) same none.is_so.1 in (
+                table_of put ∙ table_of w.seat-is ∙ way.0 ∙ table_of same,
+                leaves_rescheduled id place none.latch m b out (subst (λ (x : SeatState). GrantsWaits x.table place x.me x.me b) same way.1) none.holds forgets
+                    (mine put ∙ ap (λ (x : SeatState). served place x.me) w.seat-is),
+              )
+          | else-has_waiters w ↦ (
+            table_of put ∙ table_of w.seat-is ∙ table_of same,
+            leaves_none id place h m out here.holds (nobody_waits h.book.waiting (sym (c.has_waiters.ensures.told h.book here.holds.carried) ∙ w.if-has_waiters.false))
+                (mine put ∙ ap (λ (x : SeatState). served place x.me) (w.seat-is ∙ same)),
+          )
+        ];
+        once = elim c.if-has_waiters.branch [
+          | then-has_waiters w ↦
+              let b : Mine = w.grant_waiters.new.seat.me in
+              let way = subst (λ (x : SeatState). GrantsWaits x.table place x.me x.me b) same w.grant_waiters.ensures.all.granted.1 in
+              visit_after false m b out (within_of id place m m b way) place
+              (visit_served false b out place (mine put ∙ ap (λ (x : SeatState). served place x.me) w.seat-is))
+          | else-has_waiters w ↦ visit_served false m out place (mine put ∙ ap (λ (x : SeatState). served place x.me) (w.seat-is ∙ same))
+        ];
+      };
     }

@@ -18,7 +18,7 @@ pub put_latch-requires-clause-put : goal.put_latch-requires-clause-put
 put_latch-requires-clause-put g t c =
     let latch = c.await_latch-latch in
     let copied : SeatState = c.add_if_waited.new.seat in
-    may_put c.args.place latch.result.place c.args.seat.now latch.new.seat copied latch.ensures.place latch.ensures.taken latch.ensures.inside.0 c.add_if_waited.ensures.same copied (refl, reads_none copied.me)
+    may_put c.args.place latch.result.place c.args.seat.now latch.new.seat copied latch.ensures.arrives.at latch.ensures.arrives.taken latch.ensures.arrives.came.0 c.add_if_waited.ensures.same copied (refl, reads_none copied.me)
 
 -- ---- memory ran out
 
@@ -28,12 +28,12 @@ returns-in-Err-clause-ends g t c =
     let latch = c.await_latch-latch in
     let copied : SeatState = c.add_if_waited.new.seat in
     let same = c.add_if_waited.ensures.same in
-    let reads = back c.args.place latch.result.place a latch.new.seat copied latch.ensures.place latch.ensures.taken latch.ensures.inside.0 same
+    let reads = back c.args.place latch.result.place a latch.new.seat copied latch.ensures.arrives.at latch.ensures.arrives.taken latch.ensures.arrives.came.0 same
     copied (refl, reads_none copied.me) c.put_latch.new.self c.put_latch.ensures.made c.requires.through.rising in
     ends_still _ c.args.place c.args.last c.args.lists.now a c.put_latch.new.self reads (record {
       reads = reads;
       found = tt;
-      nothing = ap (λ (s : SeatState). s.me.0.settles) (c.put_latch.ensures.made) ∙ ap (λ (m : Mine). m.0.settles) (mine same ∙ latch.ensures.taken.3.1);
+      nothing = ap (λ (s : SeatState). s.me.0.settles) (c.put_latch.ensures.made) ∙ ap (λ (m : Mine). m.0.settles) (mine same ∙ latch.ensures.arrives.taken.3.1);
     })
 
 pub returns-in-Err-clause-here : goal.returns-in-Err-clause-here
@@ -44,7 +44,7 @@ returns-in-Err-clause-ended g t c =
     let a : SeatState = c.args.seat.now in
     let latch = c.await_latch-latch in
     ap (λ (s : SeatState). s.me.0.searches) c.put_latch.ensures.made
-    ∙ ap (λ (m : Mine). m.0.searches) (mine c.add_if_waited.ensures.same ∙ latch.ensures.taken.3.1)
+    ∙ ap (λ (m : Mine). m.0.searches) (mine c.add_if_waited.ensures.same ∙ latch.ensures.arrives.taken.3.1)
     ∙ refused_still _ a.me.0.searches
 
 -- ---- behind the last place
@@ -76,47 +76,44 @@ pub search_from-outcome-requires : goal.search_from-outcome-requires
 search_from-outcome-requires g t c =
     let latch = c.await_latch-latch in
     let nearer = c.if-place-last.false in
-    let through = may_take_more c.args.place latch.result.place c.args.seat.now latch.new.seat c.add_if_waited.new.seat latch.ensures.place latch.ensures.taken latch.ensures.inside.0 c.add_if_waited.ensures.same
+    let through = may_take_more c.args.place latch.result.place c.args.seat.now latch.new.seat c.add_if_waited.new.seat latch.ensures.arrives.at latch.ensures.arrives.taken latch.ensures.arrives.came.0 c.add_if_waited.ensures.same
     c.args.last c.requires.through (omega arith) in
-    let added = c.in_default.ensures.added latch.ensures.taken.0.book
-    (carried_there c.args.place latch.result.place c.args.seat.now latch.new.seat latch.new.seat latch.ensures.place latch.ensures.taken latch.ensures.inside.0 refl) in
+    let added = c.in_default.ensures.added latch.ensures.arrives.taken.0.book
+    (carried_there c.args.place latch.result.place c.args.seat.now latch.new.seat latch.new.seat latch.ensures.arrives.at latch.ensures.arrives.taken latch.ensures.arrives.came.0 refl) in
     let taken = has_taken_more c.args.place latch.result.place c.args.last c.args.lists.now c.add_if_waited.new.lists c.args.seat.now latch.new.seat c.add_if_waited.new.seat
-    latch.ensures.taken c.add_if_waited.ensures.same c.requires.taken added in
+    latch.ensures.arrives.taken c.add_if_waited.ensures.same c.requires.taken added in
     λ κs live. (search rules, (search rules, (through, taken)))
 
-pub put_once_searched-requires-clause-place : goal.put_once_searched-requires-clause-place
-put_once_searched-requires-clause-place g t c =
+pub put_once_searched-requires : goal.put_once_searched-requires
+put_once_searched-requires g t c =
     let latch = c.await_latch-latch in
-    place_there latch.result.place (c.search_from-outcome.ensures.ends.reads.0 ∙ table_of c.add_if_waited.ensures.same) latch.ensures.arrives.is_place
-
-pub put_once_searched-requires-clause-put : goal.put_once_searched-requires-clause-put
-put_once_searched-requires-clause-put g t c =
-    let latch = c.await_latch-latch in
+    let a = latch.ensures.arrives in
     let copied : SeatState = c.add_if_waited.new.seat in
-    may_put_still latch.result.place copied c.search_from-outcome.new.seat
-    (may_put c.args.place latch.result.place c.args.seat.now latch.new.seat copied latch.ensures.place latch.ensures.taken latch.ensures.inside.0 c.add_if_waited.ensures.same
-    _ c.search_from-outcome.ensures.ends.reads)
-
-pub put_once_searched-requires-clause-sees : goal.put_once_searched-requires-clause-sees
-put_once_searched-requires-clause-sees g t c =
-    let latch = c.await_latch-latch in
-    let added = c.in_default.ensures.added latch.ensures.taken.0.book
-    (carried_there c.args.place latch.result.place c.args.seat.now latch.new.seat latch.new.seat latch.ensures.place latch.ensures.taken latch.ensures.inside.0 refl) in
-    sees_none_here c.args.place latch.result.place c.args.last c.args.seat.now latch.new.seat c.add_if_waited.new.seat c.search_from-outcome.new.seat latch.ensures.place latch.ensures.taken
-    latch.ensures.inside.0 c.add_if_waited.ensures.same c.args.lists.now c.add_if_waited.new.lists c.requires.taken added
-    c.search_from-outcome.result c.finds_none-none.result c.finds_none-none.ensures c.search_from-outcome.ensures.here
+    let added = c.in_default.ensures.added a.taken.0.book
+    (carried_there c.args.place latch.result.place c.args.seat.now latch.new.seat latch.new.seat a.at a.taken a.came.0 refl) in
+    record {
+      may = record {
+        is_place = place_there latch.result.place (c.search_from-outcome.ensures.ends.reads.0 ∙ table_of c.add_if_waited.ensures.same) a.is_place;
+        put = may_put_still latch.result.place copied c.search_from-outcome.new.seat
+            (may_put c.args.place latch.result.place c.args.seat.now latch.new.seat copied a.at a.taken a.came.0 c.add_if_waited.ensures.same
+            _ c.search_from-outcome.ensures.ends.reads);
+        sees = sees_none_here c.args.place latch.result.place c.args.last c.args.seat.now latch.new.seat copied c.search_from-outcome.new.seat a.at a.taken
+            a.came.0 c.add_if_waited.ensures.same c.args.lists.now c.add_if_waited.new.lists c.requires.taken added
+            c.search_from-outcome.result c.finds_none-none.result c.finds_none-none.ensures c.search_from-outcome.ensures.here;
+      };
+    }
 
 pub returns-clause-ends : goal.returns-clause-ends
 returns-clause-ends g t c =
     let latch = c.await_latch-latch in
     let a : SeatState = c.args.seat.now in
     let copied : SeatState = c.add_if_waited.new.seat in
-    let added = c.in_default.ensures.added latch.ensures.taken.0.book
-    (carried_there c.args.place latch.result.place a latch.new.seat latch.new.seat latch.ensures.place latch.ensures.taken latch.ensures.inside.0 refl) in
-    let same = same_search c.args.place latch.result.place c.args.last a latch.new.seat copied c.search_from-outcome.new.seat latch.ensures.place latch.ensures.taken
-    latch.ensures.inside.0 c.add_if_waited.ensures.same c.args.lists.now c.add_if_waited.new.lists c.requires.taken added in
+    let added = c.in_default.ensures.added latch.ensures.arrives.taken.0.book
+    (carried_there c.args.place latch.result.place a latch.new.seat latch.new.seat latch.ensures.arrives.at latch.ensures.arrives.taken latch.ensures.arrives.came.0 refl) in
+    let same = same_search c.args.place latch.result.place c.args.last a latch.new.seat copied c.search_from-outcome.new.seat latch.ensures.arrives.at latch.ensures.arrives.taken
+    latch.ensures.arrives.came.0 c.add_if_waited.ensures.same c.args.lists.now c.add_if_waited.new.lists c.requires.taken added in
     ends_more c.args.place latch.result.place c.args.last a latch.new.seat copied _ _
-    latch.ensures.place latch.ensures.taken latch.ensures.inside.0 c.add_if_waited.ensures.same c.search_from-outcome.ensures.ends.reads
+    latch.ensures.arrives.at latch.ensures.arrives.taken latch.ensures.arrives.came.0 c.add_if_waited.ensures.same c.search_from-outcome.ensures.ends.reads
     (put_still latch.result.place _ a copied c.search_from-outcome.new.seat c.put_once_searched.new.seat same c.put_once_searched.ensures.made) c.requires.through.rising
     c.args.lists.now c.add_if_waited.new.lists added c.search_from-outcome.result c.search_from-outcome.ensures.ends
 
@@ -127,8 +124,8 @@ pub returns-clause-ended : goal.returns-clause-ended
 returns-clause-ended g t c =
     let latch = c.await_latch-latch in
     let nearer = c.if-place-last.false in
-    let added = c.in_default.ensures.added latch.ensures.taken.0.book
-    (carried_there c.args.place latch.result.place c.args.seat.now latch.new.seat latch.new.seat latch.ensures.place latch.ensures.taken latch.ensures.inside.0 refl) in
-    ended_here c.args.place latch.result.place c.args.last c.args.seat.now latch.new.seat c.add_if_waited.new.seat c.search_from-outcome.new.seat latch.ensures.place latch.ensures.taken
-    latch.ensures.inside.0 c.add_if_waited.ensures.same c.args.lists.now c.add_if_waited.new.lists c.requires.taken added
+    let added = c.in_default.ensures.added latch.ensures.arrives.taken.0.book
+    (carried_there c.args.place latch.result.place c.args.seat.now latch.new.seat latch.new.seat latch.ensures.arrives.at latch.ensures.arrives.taken latch.ensures.arrives.came.0 refl) in
+    ended_here c.args.place latch.result.place c.args.last c.args.seat.now latch.new.seat c.add_if_waited.new.seat c.search_from-outcome.new.seat latch.ensures.arrives.at latch.ensures.arrives.taken
+    latch.ensures.arrives.came.0 c.add_if_waited.ensures.same c.args.lists.now c.add_if_waited.new.lists c.requires.taken added
     c.search_from-outcome.result c.finds_none-none.result c.put_once_searched.new.seat c.finds_none-none.ensures (omega arith) c.put_once_searched.ensures.made c.search_from-outcome.ensures.ended

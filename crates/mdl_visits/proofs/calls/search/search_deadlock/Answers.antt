@@ -17,13 +17,13 @@ search_from-outcome-requires-clause-taken g c =
     let counted : SeatState = c.key_count-last.new.self in
     let taken = c.await_directory-directory.ensures.taken in
     let same = c.key_count-last.ensures.same in
-    let count = c.key_count-last.ensures.told taken.1 (in_hand a b counted taken same c.requires.idle).carried in
-    has_taken_none c.key_count-last.result c.new-lists.result a b counted taken same c.requires.idle count
+    let count = c.key_count-last.ensures.told taken.1 (in_hand a b counted taken same c.requires.free.idle).carried in
+    has_taken_none c.key_count-last.result c.new-lists.result a b counted taken same c.requires.free.idle count
 
 pub put_directory-requires : goal.put_directory-requires
 put_directory-requires g c = record {
   put = may_inform_still c.key_count-last.new.self c.search_from-outcome.new.seat
-      (may_inform c.args.seat.now c.await_directory-directory.new.seat c.key_count-last.new.self c.await_directory-directory.ensures.taken c.key_count-last.ensures.same c.requires.idle
+      (may_inform c.args.seat.now c.await_directory-directory.new.seat c.key_count-last.new.self c.await_directory-directory.ensures.taken c.key_count-last.ensures.same c.requires.free.idle
       _ c.search_from-outcome.ensures.ends.reads);
 }
 
@@ -33,7 +33,7 @@ returns-clause-reads g c =
     let counted : SeatState = c.key_count-last.new.self in
     let taken = c.await_directory-directory.ensures.taken in
     let same = c.key_count-last.ensures.same in
-    reads_all a c.await_directory-directory.new.seat counted taken same c.requires.idle
+    reads_all a c.await_directory-directory.new.seat counted taken same c.requires.free.idle
     _ c.search_from-outcome.ensures.ends.reads _
     (informed_still a counted c.search_from-outcome.new.seat c.put_directory.new.self (sym (ap (λ (s : SeatState). s.me.0.searches) (same ∙ taken.3))) c.put_directory.ensures.made)
 
@@ -48,13 +48,13 @@ returns-clause-searched g c =
     let same = c.key_count-last.ensures.same in
     let reads = c.search_from-outcome.ensures.ends.reads in
     let put = informed_still a counted looked went (sym (ap (λ (s : SeatState). s.me.0.searches) (same ∙ taken.3))) c.put_directory.ensures.made in
-    let count = c.key_count-last.ensures.told taken.1 (in_hand a b counted taken same c.requires.idle).carried in
+    let count = c.key_count-last.ensures.told taken.1 (in_hand a b counted taken same c.requires.free.idle).carried in
     let found = subst (λ (lists : List Queues). IfOk c.search_from-outcome.result (FindsFrom 1 c.key_count-last.result lists counted (but_searching counted looked))) c.new-lists.ensures
     c.search_from-outcome.ensures.ends.found in (
       taken.1,
-      took_still a went taken.1 (took_directory a b counted taken same c.requires.idle (but_searching counted looked) reads (but_searching a went) put),
+      took_still a went taken.1 (took_directory a b counted taken same c.requires.free.idle (but_searching counted looked) reads (but_searching a went) put),
       IfOk-weaker c.search_from-outcome.result _ _ (λ f finds. searched_still a went a.me.0.number taken.1 f
-          (searched a b counted (but_searching counted looked) (but_searching a went) taken same c.requires.idle reads put c.key_count-last.result count f finds).0) found,
+          (searched a b counted (but_searching counted looked) (but_searching a went) taken same c.requires.free.idle reads put c.key_count-last.result count f finds).0) found,
     )
 
 pub returns-clause-own : goal.returns-clause-own
@@ -67,11 +67,11 @@ returns-clause-own g c =
     let taken = c.await_directory-directory.ensures.taken in
     let same = c.key_count-last.ensures.same in
     let put = informed_still a counted looked went (sym (ap (λ (s : SeatState). s.me.0.searches) (same ∙ taken.3))) c.put_directory.ensures.made in
-    let count = c.key_count-last.ensures.told taken.1 (in_hand a b counted taken same c.requires.idle).carried in
+    let count = c.key_count-last.ensures.told taken.1 (in_hand a b counted taken same c.requires.free.idle).carried in
     let found = subst (λ (lists : List Queues). IfOk c.search_from-outcome.result (FindsFrom 1 c.key_count-last.result lists counted (but_searching counted looked))) c.new-lists.ensures
     c.search_from-outcome.ensures.ends.found in
     IfOk-weaker c.search_from-outcome.result _ _ (λ f finds. knows_on a.me.0.number f (but_searching a went).me went.me refl
-    (searched a b counted (but_searching counted looked) (but_searching a went) taken same c.requires.idle c.search_from-outcome.ensures.ends.reads put c.key_count-last.result count f finds).1) found
+    (searched a b counted (but_searching counted looked) (but_searching a went) taken same c.requires.free.idle c.search_from-outcome.ensures.ends.reads put c.key_count-last.result count f finds).1) found
 
 pub returns-clause-nothing : goal.returns-clause-nothing
 returns-clause-nothing g c =
@@ -88,7 +88,7 @@ returns-clause-ended g c = λ place knows.
     let taken = c.await_directory-directory.ensures.taken in
     let same = c.key_count-last.ensures.same in
     let result = c.search_from-outcome.result in
-    let count = c.key_count-last.ensures.told taken.1 (in_hand a b counted taken same c.requires.idle).carried in
+    let count = c.key_count-last.ensures.told taken.1 (in_hand a b counted taken same c.requires.free.idle).carried in
     ap (λ (s : SeatState). s.me.0.searches) c.put_directory.ensures.made
     ∙ c.search_from-outcome.ensures.ended
     ∙ known_taken result a b taken place knows c.key_count-last.result count counted.me.0.searches

@@ -39,10 +39,10 @@ returns-in-Ok-clause-found g c =
     let e = told_after taken.1 taken.0 tables old first listed new (mine taken.3) (mine c.list_tables.ensures.same.0) put in
     let more : List KnownKey = unknown old.0.known tables in (
       taken.1,
-      (table_of c.put_directory_telling.ensures.made ∙ table_of c.list_tables.ensures.same.0 ∙ table_of taken.3, took_directory slots taken.1 taken.0 old c.requires.idle taken.2 more new e taken.4),
+      (table_of c.put_directory_telling.ensures.made ∙ table_of c.list_tables.ensures.same.0 ∙ table_of taken.3, took_directory slots taken.1 taken.0 old c.requires.free.idle taken.2 more new e taken.4),
       (
         are_tables c.args.schema.now taken.1 tables taken.2.distinct (c.in-Ok.ensures.listed taken.1 has),
-        knows_tables slots taken.1 taken.0 old c.requires.idle taken.2 more new e taken.5 tables refl,
+        knows_tables slots taken.1 taken.0 old c.requires.free.idle taken.2 more new e taken.5 tables refl,
       ),
     )
 
@@ -58,7 +58,7 @@ returns-in-Err-clause-found g c =
       taken.1,
       (
         table_of c.put_directory_telling-in-Err.ensures.made ∙ table_of c.list_tables.ensures.same.0 ∙ table_of taken.3,
-        took_directory slots taken.1 taken.0 old c.requires.idle taken.2 (unknown old.0.known []) new e taken.4,
+        took_directory slots taken.1 taken.0 old c.requires.free.idle taken.2 (unknown old.0.known []) new e taken.4,
       ),
       tt,
     )
@@ -79,4 +79,4 @@ returns-in-Err-clause-unchanged g c =
     let new : Mine = c.put_directory_telling-in-Err.new.self.me in
     let taken = c.await_directory-directory.ensures.taken in
     let e = told_after taken.1 taken.0 [] old first listed new (mine taken.3) (mine c.list_tables.ensures.same.0) (mine c.put_directory_telling-in-Err.ensures.made) in
-    knows_no_more c.args.seat.now.table.slots taken.1 taken.0 old c.requires.idle taken.2 (unknown old.0.known []) new e taken.5 refl
+    knows_no_more c.args.seat.now.table.slots taken.1 taken.0 old c.requires.free.idle taken.2 (unknown old.0.known []) new e taken.5 refl

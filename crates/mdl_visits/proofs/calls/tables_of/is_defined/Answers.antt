@@ -14,23 +14,23 @@ pub put_latch-requires-clause-put : goal.put_latch-requires-clause-put
 put_latch-requires-clause-put g c =
     let latch = c.await_latch-latch in
     let asked : SeatState = c.has_definition-defined.new.self in
-    may_put c.args.place latch.result.place c.args.seat.now latch.new.seat asked latch.ensures.place latch.ensures.taken latch.ensures.inside.0 c.has_definition-defined.ensures.same
+    may_put c.args.place latch.result.place c.args.seat.now latch.new.seat asked latch.ensures.arrives.at latch.ensures.arrives.taken latch.ensures.arrives.came.0 c.has_definition-defined.ensures.same
     asked (as_reads asked asked (refl, no_steps asked.me))
 
 pub returns-clause-steps : goal.returns-clause-steps
 returns-clause-steps g c =
     let latch = c.await_latch-latch in
     let asked : SeatState = c.has_definition-defined.new.self in
-    back_steps c.args.place latch.result.place c.args.seat.now latch.new.seat asked latch.ensures.place latch.ensures.taken latch.ensures.inside.0 c.has_definition-defined.ensures.same
+    back_steps c.args.place latch.result.place c.args.seat.now latch.new.seat asked latch.ensures.arrives.at latch.ensures.arrives.taken latch.ensures.arrives.came.0 c.has_definition-defined.ensures.same
     asked (as_reads asked asked (refl, no_steps asked.me)) c.put_latch.new.self c.put_latch.ensures.made c.requires.at.rising refl refl
 
 pub returns-clause-met : goal.returns-clause-met
 returns-clause-met g c =
     let latch = c.await_latch-latch in
-    let taken = latch.ensures.taken in
+    let taken = latch.ensures.arrives.taken in
     let asked : SeatState = c.has_definition-defined.new.self in
-    let carried = carried_there c.args.place latch.result.place c.args.seat.now latch.new.seat latch.new.seat latch.ensures.place taken latch.ensures.inside.0 refl in
-    gives_back c.args.place latch.result.place c.args.seat.now latch.new.seat asked latch.ensures.place taken latch.ensures.inside.0 c.has_definition-defined.ensures.same
+    let carried = carried_there c.args.place latch.result.place c.args.seat.now latch.new.seat latch.new.seat latch.ensures.arrives.at taken latch.ensures.arrives.came.0 refl in
+    gives_back c.args.place latch.result.place c.args.seat.now latch.new.seat asked latch.ensures.arrives.at taken latch.ensures.arrives.came.0 c.has_definition-defined.ensures.same
     asked (as_reads asked asked (refl, no_steps asked.me)) c.put_latch.new.self c.put_latch.ensures.made c.requires.at.rising
     (MeetsDefinition c.args.place c.args.seat.now.me.0.number c.has_definition-defined.result) (record {
       kind = refl;

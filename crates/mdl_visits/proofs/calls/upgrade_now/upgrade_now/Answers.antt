@@ -14,11 +14,11 @@ lower_flags_and_put-requires g c = record { worked = rested c.enter-can.ensures.
 pub returns-then-not-can-clause-blocked : goal.returns-then-not-can-clause-blocked
 returns-then-not-can-clause-blocked g c =
     let has = as_told c.if-not-can.true c.enter-can.ensures.entered in
-    λ _. blocked has _ c.lower_flags_and_put.ensures.visited c.lower_flags_and_put.ensures.step
+    λ _. blocked has _ c.lower_flags_and_put.ensures.left.visited c.lower_flags_and_put.ensures.left.step
 
 pub returns-then-not-can-clause-once : goal.returns-then-not-can-clause-once
 returns-then-not-can-clause-once g c =
-    visit_entered c.enter-can.ensures.entered true c.lower_flags_and_put.new.seat c.enter-can.ensures.within c.lower_flags_and_put.ensures.once
+    visit_entered c.enter-can.ensures.entered true c.lower_flags_and_put.new.seat c.enter-can.ensures.within c.lower_flags_and_put.ensures.left.once
 
 pub returns-clause-once : goal.returns-clause-once
 returns-clause-once g c =
