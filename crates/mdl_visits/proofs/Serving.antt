@@ -1,20 +1,23 @@
 -- A try to grant a waiting ticket, put together of its steps.
 use Rattle.std.proofs.Common.{◌≡◌, ◌≢◌, ℕ, ◌+◌, ◌-◌, ◌*◌, ◌%◌, ◌/◌, ◌<◌, ◌==◌, ◌&&◌, not, cond, true, false, None, List, [], ◌∷◌, ◌++◌, Some, refl, sym, ap, ◌∙◌, subst, inl, inr, append-nil, arith}
 use Rattle.mdl_book.specs.SessionSets.{is_session}
-use Rattle.std.specs.Prelude.{Result, OnOk, is_some, Contains, find, Option}
+use Rattle.std.specs.Prelude.{Result, OnOk, is_some, Contains, find, Option, slice_get}
 use Rattle.std.specs.Option.{ok_or, option_map}
 use Rattle.std.specs.FinSet as set
 use Rattle.std.specs.Ordering.{nat_cmp}
 use Rattle.std.specs.Cmp.{nat_cmp_total, unsigned_tied}
 use Rattle.std.proofs.lemmas.Bool.{cases_eq}
+use Rattle.std.proofs.lemmas.List.Folds.{find_at}
 use Rattle.atomic_table.specs.Seated.{TableId}
+use Rattle.mdl_book.specs.declared.book_view.BookView.{BookView}
 use Rattle.mdl_book.specs.declared.book_error.BookError.{BookError}
 use Rattle.mdl_book.specs.declared.book_error.BookError.TheVariants.{NotHere}
 use Rattle.mdl_book.specs.declared.ticket.Ticket.{Ticket}
-use Rattle.mdl_book.specs.Books.{admitting, is_ready, lock_kind, next_grantable}
+use Rattle.mdl_book.specs.Books.{admitting, admitting_by_index, is_ready, lock_kind, next_grantable}
 use Rattle.mdl_book.specs.FastTickets.{can_be_granted}
 use Rattle.mdl_book.specs.SessionSets.{IsEverySession}
-use Rattle.mdl_book.specs.Tickets.{ticket_id, ticket_of}
+use Rattle.mdl_book.specs.Tickets.{is_ticket, ticket_id, ticket_of}
+use Rattle.mdl_book.proofs.AdmitLemmas.{by_index-admits}
 use Rattle.mdl_steps.specs.declared.step_kind.StepKind.{StepKind}
 use Rattle.mdl_steps.specs.declared.step_kind.StepKind.TheVariants.{ReadWait, ReadWord}
 use Rattle.mdl_steps.specs.declared.view.LatchRecord.{LatchRecord}
@@ -25,7 +28,7 @@ use Rattle.mdl_steps.specs.Seats.{Holds, written}
 use Rattle.mdl_steps.specs.WaitPlays.{met_wait_by, settled_granted, wait_in, with_admitted, TellsOwn}
 use Rattle.mdl_steps.proofs.Hands.{holds_written}
 use Rattle.mdl_steps.proofs.Views.{other}
-use Rattle.mdl_visits.specs.Grantings.{ForgetsNobody, HasJustMet, IsGrantedFrom, IsLookedThrough, IsGrantableTicket, IsTriedOrGranted, IsTried, ReschedulesInTurn, MeetsWaiter, OnlyMeets, ahead_of}
+use Rattle.mdl_visits.specs.Grantings.{ForgetsNobody, HasJustMet, IsGrantedFrom, IsLookedThrough, IsGrantableAt, IsGrantableTicket, IsTriedOrGranted, IsTried, ReschedulesInTurn, MeetsWaiter, OnlyMeets, ahead_of}
 use Rattle.mdl_visits.specs.Visits.{MakesMoreSteps, IsStepOf}
 use Rattle.mdl_visits.proofs.Losing.{taken_out}
 use Rattle.mdl_visits.proofs.Steps.{goes_by, step_after, step_before}
@@ -63,6 +66,15 @@ waiter_met kind only slots place session number found h m m′ is has ready =
 pub admitted_there : {P : Type 0} (session number : ℕ) (h : LatchRecord) (result : Result Ticket BookError) → IsGrantableTicket session number h → result ≡ ok_or (ticket_of session number h.book.waiting) NotHere → OnOk result P → P
 admitted_there session number h result ready refused done =
     taken_out (ticket_of session number h.book.waiting) NotHere result (some_is (ticket_of session number h.book.waiting) ready.wish ready.waits) refused done
+
+-- the same where the ticket was taken by its index
+pub admitted_at : (P : BookView → Type 0) (index session number : ℕ) (h : LatchRecord) (result : Result Ticket BookError) → IsGrantableAt index session number h
+    → result ≡ ok_or (slice_get h.book.waiting index) NotHere → OnOk result (P (admitting_by_index index h.book)) → P (admitting session number h.book)
+admitted_at P index session number h result ready refused done =
+    let waiting : List Ticket = h.book.waiting in
+    let same : slice_get waiting index ≡ ticket_of session number waiting = sym (find_at (is_ticket session number) waiting ∙ ap (slice_get waiting) ready.1) in
+    admitted_there {P = P (admitting session number h.book)} session number h result ready.0 (refused ∙ ap (λ (o : Option Ticket). ok_or o NotHere) same)
+    (subst (λ (book : BookView). OnOk result (P book)) (by_index-admits session number index h.book ready.1) done)
 
 module _ (id : TableId) (place session number wait count : ℕ) (h : LatchRecord) (m a b : Mine) (has : Holds place h h.book m) (ready : IsGrantableTicket session number h) (just : HasJustMet id.slots place session h m)
     (made : a ≡ settled_granted id.slots place session number count m) (keeps : Holds place (with_admitted session number h) h.book a)

@@ -15,7 +15,7 @@ use Rattle.mdl_book.specs.declared.ticket.Ticket.{Ticket}
 use Rattle.mdl_book.specs.Books.{lock_kind, any_obtrusive, admitting, has_obtrusive, has_tickets, is_ready, next_grantable}
 use Rattle.mdl_book.specs.FastTickets.{can_be_granted, may_stand}
 use Rattle.mdl_book.specs.Granting.{goes_first, is_compatible}
-use Rattle.mdl_book.specs.Tickets.{is_ticket, ticket_id, ticket_of, without}
+use Rattle.mdl_book.specs.Tickets.{is_ticket, ticket_id, ticket_of, with_index, without}
 use Rattle.mdl_book.proofs.MemberLemmas.{none-found}
 use Rattle.mdl_book.proofs.TicketLemmas.{find-passes, parted}
 use Rattle.mdl_steps.specs.declared.view.LatchRecord.{LatchRecord}
@@ -26,7 +26,7 @@ use Rattle.mdl_steps.specs.Rule.{TellsLists}
 use Rattle.mdl_steps.specs.WaitPlays.{with_admitted}
 use Rattle.mdl_steps.proofs.Tickets.{is_itself, is_passed, without-hit, without-miss, of-without_other, of-without_own, once-without}
 use Rattle.mdl_steps.proofs.Views.{by_bool}
-use Rattle.mdl_visits.specs.Grantings.{IsOrderlyLatch, IsGrantableTicket, ahead_of}
+use Rattle.mdl_visits.specs.Grantings.{IsOrderlyLatch, IsGrantableAt, IsGrantableTicket, ahead_of}
 
 -- waits may be granted by a record whose flags tell the lists and this word of the lock, which is noted while the flag OBTRUSIVE is up, and counts exactly
 abbrev pub MayReschedule : ℕ → LatchRecord → Type 0
@@ -217,6 +217,60 @@ is_next word session number untried h may told =
           subst (λ (who : ℕ × ℕ). IsGrantableTicket who.0 who.1 h × (set.contains untried who.0 ≡ true)) id
           (record { wish = t; waits = there; beside = may_join word h t may there can.0; first = can.1 }, parts.0)
     ] refl told
+
+-- ---- with its index
+
+-- the index of the first that passes, which passes or not
+first_hit : (p : Ticket → Bool) (x : Ticket) (xs : List Ticket) → p x ≡ true → position_or_len p (x ∷ xs) ≡ 0
+first_hit p x xs hit = ap (λ b. cond (not b) (1 + position_or_len p xs) 0) hit
+
+first_miss : (p : Ticket → Bool) (x : Ticket) (xs : List Ticket) → p x ≡ false → position_or_len p (x ∷ xs) ≡ 1 + position_or_len p xs
+first_miss p x xs miss = ap (λ b. cond (not b) (1 + position_or_len p xs) 0) miss
+
+-- the first that passes a test is the first of its session and number
+first_by_id : (p : Ticket → Bool) (ts : List Ticket) (t : Ticket) → Once ts → find p ts ≡ Some t → position_or_len (is_ticket t.session t.number) ts ≡ position_or_len p ts
+first_by_id p [] t once found = absurd (cc)
+first_by_id p (x ∷ xs) t once found = by_bool (p x)
+    (λ hit. let is : x ≡ t = (let first : cond (p x) (Some x) (find p xs) ≡ Some x = ap (λ b. cond b (Some x) (find p xs)) hit in cc) in
+    let own : is_ticket t.session t.number x ≡ true = subst (λ (y : Ticket). is_ticket t.session t.number y ≡ true) (sym is) (is_itself t) in
+    first_hit (is_ticket t.session t.number) x xs own ∙ sym (first_hit p x xs hit))
+    (λ miss.
+    let later : find p xs ≡ Some t = sym (ap (λ b. cond b (Some x) (find p xs)) miss) ∙ found in
+    let there = found_by_id p xs t once.1 later in
+    by_bool (is_ticket t.session t.number x)
+    (λ same.
+    let is = is_passed t.session t.number x same in
+    let none : ticket_of t.session t.number xs ≡ None = subst (λ (a : ℕ). ticket_of a t.number xs ≡ None) is.0 (subst (λ (m : ℕ). ticket_of x.session m xs ≡ None) is.1 once.0) in
+    absurd (cc))
+    (λ another.
+    first_miss (is_ticket t.session t.number) x xs another ∙ ap (λ (n : ℕ). 1 + n) (first_by_id p xs t once.1 later) ∙ sym (first_miss p x xs miss)))
+
+-- what is told of the first, with its index
+told_at : (p : Ticket → Bool) (ts : List Ticket) (o : Option Ticket) (index : ℕ) (t : Ticket) → ◌≡◌ {A = Option (ℕ × Ticket)} (Some (index, t)) (option_map (with_index p ts) o)
+    → (o ≡ Some t) × (position_or_len p ts ≡ index)
+told_at p ts None index t told = absurd (cc)
+told_at p ts (Some u) index t told =
+    let same : ◌≡◌ {A = ℕ × Ticket} (index, t) (position_or_len p ts, u) = cc in
+    (ap Some (sym (ap (λ (x : ℕ × Ticket). x.1) same)), sym (ap (λ (x : ℕ × Ticket). x.0) same))
+
+pub is_next_at : (word index : ℕ) (t : Ticket) (untried : set.FinSet nat_cmp) (h : LatchRecord) → MayReschedule word h
+    → ◌≡◌ {A = Option (ℕ × Ticket)} (Some (index, t)) (option_map (with_index (is_ready word untried h.book) h.book.waiting) (next_grantable word untried h.book))
+    → IsGrantableAt index t.session t.number h × (set.contains untried t.session ≡ true) × (◌≡◌ {A = Option (ℕ × ℕ)} (Some (t.session, t.number)) (option_map ticket_id (next_grantable word untried h.book)))
+is_next_at word index t untried h may told =
+    let there = told_at (is_ready word untried h.book) h.book.waiting (next_grantable word untried h.book) index t told in
+    let named : ◌≡◌ {A = Option (ℕ × ℕ)} (Some (t.session, t.number)) (option_map ticket_id (next_grantable word untried h.book)) = sym (ap (option_map ticket_id) there.0) in
+    let next = is_next word t.session t.number untried h may named in
+    ((next.0, first_by_id (is_ready word untried h.book) h.book.waiting t may.0.0.once there.0 ∙ there.1), next.1, named)
+
+-- nobody is
+pub nobody_told : (word : ℕ) (untried : set.FinSet nat_cmp) (h : LatchRecord)
+    → ◌≡◌ {A = Option (ℕ × Ticket)} None (option_map (with_index (is_ready word untried h.book) h.book.waiting) (next_grantable word untried h.book))
+    → ◌≡◌ {A = Option (ℕ × ℕ)} None (option_map ticket_id (next_grantable word untried h.book))
+nobody_told word untried h told = sym (ap (option_map ticket_id) (nothing (next_grantable word untried h.book) told))
+  where
+    nothing : (o : Option Ticket) → ◌≡◌ {A = Option (ℕ × Ticket)} None (option_map (with_index (is_ready word untried h.book) h.book.waiting) o) → o ≡ None
+    nothing None e = refl
+    nothing (Some t) e = absurd (cc)
 
 -- where none of these is next, each was taken out or can't be granted
 pub not_ready : (word : ℕ) (untried : set.FinSet nat_cmp) (h : LatchRecord) (tickets : List Ticket) → find (is_ready word untried h.book) tickets ≡ None

@@ -1,6 +1,6 @@
 -- How a session reschedules at a place whose latch it holds: it grants the waits there that can be granted, in order of arrival.
 use Rattle.std.specs.Prelude.{◌≡◌, ◌≢◌, ℕ, ◌==◌, not, Bool, true, false, List, [], ◌∷◌, ◌++◌, Contains, filter, is_some, Option, Some, None, ◌⊎◌}
-use Rattle.std.specs.List.{before_first}
+use Rattle.std.specs.List.{before_first, position_or_len}
 use Rattle.atomic_table.specs.Seated.{TableId}
 use Rattle.mdl_book.specs.declared.book_view.BookView.{BookView}
 use Rattle.mdl_book.specs.declared.ticket.Ticket.{Ticket}
@@ -75,6 +75,10 @@ pub record IsGrantableTicket (session number : ℕ) (h : LatchRecord) : Type 0 w
   pub waits : ticket_of session number h.book.waiting ≡ Some wish
   pub beside : MayJoin session h.book h.noted wish.mode
   pub first : goes_first (lock_kind h.book) h.book.waiting session wish.mode ≡ true
+
+-- the same, and this is the index of the ticket in the waiting list
+abbrev pub IsGrantableAt : ℕ → ℕ → ℕ → LatchRecord → Type 0
+IsGrantableAt index session number h = IsGrantableTicket session number h × (position_or_len (is_ticket session number) h.book.waiting ≡ index)
 
 -- a ticket was tried: the table has no such session, or a step met its wait settled
 abbrev pub IsTried : TableId → ℕ → ℕ → ℕ → Mine → Mine → Type 0

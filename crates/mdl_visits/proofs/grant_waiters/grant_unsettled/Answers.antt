@@ -2,21 +2,24 @@
 use Rattle.std.proofs.Common.{◌≡◌, ◌≢◌, ◌+◌, ◌*◌, ℕ, inr, refl, sym, ◌∙◌, subst, arith}
 use Rattle.std.proofs.lemmas.Bool.{eqb-true, eq-eqb}
 use Rattle.mdl_steps.specs.declared.step_kind.StepKind.TheVariants.{MissWait}
+use Rattle.mdl_book.specs.declared.book_view.BookView.{BookView}
+use Rattle.mdl_book.specs.Books.{admitting}
 use Rattle.mdl_steps.specs.Plays.{Mine}
+use Rattle.mdl_steps.specs.Seats.{written}
 use Rattle.mdl_steps.specs.WaitPlays.{TellsOwn}
 use Rattle.mdl_visits.proofs.Seats.{mine, table_of}
-use Rattle.mdl_visits.proofs.Serving.{admitted_there, is_admitted, is_missed, rescheduled_admitted, rescheduling_missed}
+use Rattle.mdl_visits.proofs.Serving.{admitted_at, is_admitted, is_missed, rescheduled_admitted, rescheduling_missed}
 use Rattle.mdl_visits.proofs.grant_waiters.grant_unsettled.Goals as goal
 
 pub returns-then-eq : goal.returns-then-eq
 returns-then-eq c =
     let id = c.args.seat.now.table in
     let place = c.args.latch.now.place in
-    let number = c.args.number in
+    let number = c.args.ticket.number in
     let m : Mine = c.args.seat.now.me in
     let a : Mine = c.grant_wait-met.new.self.me in
-    let b : Mine = c.write_admission-granted.new.self.me in
-    let session = c.args.session in
+    let b : Mine = c.write_admission_at-granted.new.self.me in
+    let session = c.args.ticket.session in
     let here = c.requires.here in
     let h = here.latch in
     let same : c.grant_wait-met.result.0 ≡ c.args.wait.0 = eqb-true c.grant_wait-met.result.0 c.args.wait.0 (sym c.eq.ensures ∙ c.if-eq.true) in
@@ -26,12 +29,14 @@ returns-then-eq c =
     let keeps = c.grant_wait-met.ensures.keeps found h h.book here.holds in
     let own = subst (λ (w : ℕ). TellsOwn id.slots session w m.0) found c.grant_wait-met.ensures.own in
     let granted = c.grant_wait-met.ensures.granted found in
-    let wrote = admitted_there session number h c.write_admission-granted.result here.is_so.0 (c.write_admission-granted.ensures.refused h.book keeps.carried) (c.write_admission-granted.ensures.written h.book keeps.carried) in
+    let writes : BookView → Type 0 = λ book. c.write_admission_at-granted.new.self ≡ record c.grant_wait-met.new.self { me = written place book a } in
+    let wrote : writes (admitting session number h.book) =
+    admitted_at writes c.args.index session number h c.write_admission_at-granted.result here.is_so.0 (c.write_admission_at-granted.ensures.refused h.book keeps.carried) (c.write_admission_at-granted.ensures.written h.book keeps.carried) in
     record {
-      granted = is_admitted id place session number c.args.wait.0 c.number.result h m a b here.holds here.is_so.0 here.is_so.1 (mine granted) keeps own (mine wrote);
+      granted = is_admitted id place session number c.args.wait.0 c.number.result h m a b here.holds here.is_so.0.0 here.is_so.1 (mine granted) keeps own (mine wrote);
       in_turn = (
         table_of wrote ∙ table_of granted,
-        rescheduled_admitted id place session number c.args.wait.0 c.number.result h m a b here.holds here.is_so.0 here.is_so.1 (mine granted) keeps own (mine wrote),
+        rescheduled_admitted id place session number c.args.wait.0 c.number.result h m a b here.holds here.is_so.0.0 here.is_so.1 (mine granted) keeps own (mine wrote),
       );
     }
 
@@ -49,9 +54,9 @@ returns-else-eq c =
     let other : word ≢ 8 * c.number.result + 1 = λ same. differs (omega arith) in
     let missed = c.grant_wait-met.ensures.missed other in
     record {
-      granted = is_missed MissWait (inr refl) id place c.args.session c.args.number word here.latch m a here.holds here.is_so.0 (mine missed) c.args.wait.0 differs;
+      granted = is_missed MissWait (inr refl) id place c.args.ticket.session c.args.ticket.number word here.latch m a here.holds here.is_so.0.0 (mine missed) c.args.wait.0 differs;
       in_turn = (
         table_of missed,
-        rescheduling_missed MissWait (inr refl) id place c.args.session c.args.number word here.latch m a here.holds here.is_so.0 (mine missed) c.grant_wait-met.ensures.own,
+        rescheduling_missed MissWait (inr refl) id place c.args.ticket.session c.args.ticket.number word here.latch m a here.holds here.is_so.0.0 (mine missed) c.grant_wait-met.ensures.own,
       );
     }

@@ -15,7 +15,7 @@ pub grant_unsettled-requires-clause-here : goal.grant_unsettled-requires-clause-
 grant_unsettled-requires-clause-here c =
     let id = c.args.seat.now.table in
     let place = c.args.latch.now.place in
-    let session = c.args.session in
+    let session = c.args.ticket.session in
     let m : Mine = c.args.seat.now.me in
     let a : Mine = c.read_wait-wait.new.self.me in
     let word = c.read_wait-wait.result.0 in
@@ -28,7 +28,7 @@ grant_unsettled-requires-clause-here c =
       is_so = (
         here.is_so,
         subst (λ (t : TableId). HasJustMet t.slots place session here.latch a) (sym (table_of c.read_wait-wait.ensures.made))
-            (just_met ReadWait (inl refl) id place session c.args.number word here.latch m a here.holds here.is_so read refl),
+            (just_met ReadWait (inl refl) id place session c.args.ticket.number word here.latch m a here.holds here.is_so.0 read refl),
       );
     }
 
@@ -36,8 +36,8 @@ pub returns-then-state-eq-UNSETTLED : goal.returns-then-state-eq-UNSETTLED
 returns-then-state-eq-UNSETTLED c =
     let id = c.args.seat.now.table in
     let place = c.args.latch.now.place in
-    let session = c.args.session in
-    let number = c.args.number in
+    let session = c.args.ticket.session in
+    let number = c.args.ticket.number in
     let m : Mine = c.args.seat.now.me in
     let a : Mine = c.read_wait-wait.new.self.me in
     let b : Mine = c.grant_unsettled.new.seat.me in
@@ -47,10 +47,10 @@ returns-then-state-eq-UNSETTLED c =
     let tried = subst (λ (t : TableId). (g : LatchRecord) → Holds place g g.book a → IsGrantedFrom t.slots place session number word g a b) (table_of made) c.grant_unsettled.ensures.granted in
     let in_turn = subst (λ (t : TableId). ReschedulesInTurn t place session number a b) (table_of made) c.grant_unsettled.ensures.in_turn.1 in
     record {
-      tried = is_tried ReadWait (inl refl) id place session number word here.latch m a here.holds here.is_so (mine made) b (sym c.state.ensures ∙ c.if-state-eq-UNSETTLED.true) tried;
+      tried = is_tried ReadWait (inl refl) id place session number word here.latch m a here.holds here.is_so.0 (mine made) b (sym c.state.ensures ∙ c.if-state-eq-UNSETTLED.true) tried;
       in_turn = (
         c.grant_unsettled.ensures.in_turn.0 ∙ table_of made,
-        rescheduled_tried ReadWait (inl refl) id place session number word here.latch m a here.holds here.is_so (mine made) b c.read_wait-wait.ensures.own in_turn,
+        rescheduled_tried ReadWait (inl refl) id place session number word here.latch m a here.holds here.is_so.0 (mine made) b c.read_wait-wait.ensures.own in_turn,
       );
     }
 
@@ -64,8 +64,8 @@ returns-else-state-eq-UNSETTLED c =
     let here = c.requires.here in
     let made = c.read_wait-wait.ensures.made in
     record {
-      tried = is_settled ReadWait (inl refl) id place c.args.session c.args.number word here.latch m a here.holds here.is_so (mine made) (λ open_. c.if-state-eq-UNSETTLED.false (c.state.ensures ∙ open_));
-      in_turn = (table_of made, rescheduling_missed ReadWait (inl refl) id place c.args.session c.args.number word here.latch m a here.holds here.is_so (mine made) c.read_wait-wait.ensures.own);
+      tried = is_settled ReadWait (inl refl) id place c.args.ticket.session c.args.ticket.number word here.latch m a here.holds here.is_so.0 (mine made) (λ open_. c.if-state-eq-UNSETTLED.false (c.state.ensures ∙ open_));
+      in_turn = (table_of made, rescheduling_missed ReadWait (inl refl) id place c.args.ticket.session c.args.ticket.number word here.latch m a here.holds here.is_so.0 (mine made) c.read_wait-wait.ensures.own);
     }
 
 pub returns-then-not-has_session-clause-in_turn : goal.returns-then-not-has_session-clause-in_turn

@@ -8,12 +8,12 @@ use Rattle.mdl_steps.specs.Seats.{Holds}
 use Rattle.mdl_visits.specs.Grantings.{ForgetsNobody, GrantsWaits, IsTriedOrGranted, ReschedulesInTurn}
 use Rattle.mdl_visits.proofs.Seats.{mine, place_there, table_of}
 use Rattle.mdl_visits.proofs.Serving.{AreTried, WasRead, fewer_untried, forgets_nobody, looks_ahead, read_before, read_first, tried_first, turn_done}
-use Rattle.mdl_visits.proofs.Waiting.{is_next, grants_read}
+use Rattle.mdl_visits.proofs.Waiting.{is_next_at, grants_read, nobody_told}
 use Rattle.mdl_visits.proofs.Way.{steps_of, rescheduled_read, rescheduled_then}
 use Rattle.mdl_visits.proofs.grant_waiters.grant_waiters.Goals as goal
 
-pub loop-session-init : goal.loop-session-init
-loop-session-init c =
+pub loop-index-init : goal.loop-index-init
+loop-index-init c =
     let here = c.requires.here in
     let h = here.latch in
     let m : Mine = c.args.seat.now.me in
@@ -29,52 +29,53 @@ loop-session-init c =
       way = rescheduled_read id place m word h.book m a here.holds.carried made;
     }
 
-pub next_grantable-requires : goal.next_grantable-requires
-next_grantable-requires c = let held = c.loop-session.invariant.held in record { carried = (held.0.book, held.1.carried) }
+pub next_grantable_at-requires : goal.next_grantable_at-requires
+next_grantable_at-requires c = let held = c.loop-index.invariant.held in record { carried = (held.0.book, held.1.carried) }
 
 pub grant_waiter-requires : goal.grant_waiter-requires
 grant_waiter-requires c =
     let place = c.args.latch.now.place in
-    let same = c.next_grantable.ensures.same in
-    let held = c.loop-session.invariant.held in
+    let same = c.next_grantable_at.ensures.same in
+    let held = c.loop-index.invariant.held in
     let h = held.0 in
     record {
       here = record {
-        is_place = place_there place (table_of same ∙ c.loop-session.invariant.table) c.requires.here.is_place;
+        is_place = place_there place (table_of same ∙ c.loop-index.invariant.table) c.requires.here.is_place;
         latch = h;
         holds = subst (λ (x : Mine). Holds place h h.book x) (sym {A = Mine} (mine same)) held.1;
-        is_so = (is_next c.read_word-word.result.0 c.in-Some.session c.in-Some.number c.loop-session.untried h held.2 (c.in-Some.ensures.told h.book held.1.carried)).0;
+        is_so = (is_next_at c.read_word-word.result.0 c.in-Some.index c.in-Some.ticket c.loop-index.untried h held.2 (c.in-Some.ensures.told h.book held.1.carried)).0;
       };
     }
 
-pub loop-session-smaller : goal.loop-session-smaller
-loop-session-smaller c =
-    let held = c.loop-session.invariant.held in
+pub loop-index-smaller : goal.loop-index-smaller
+loop-index-smaller c =
+    let held = c.loop-index.invariant.held in
     let h = held.0 in
-    let there = (is_next c.read_word-word.result.0 c.in-Some.session c.in-Some.number c.loop-session.untried h held.2 (c.in-Some.ensures.told h.book held.1.carried)).1 in
-    subst (λ (s : set.FinSet nat_cmp). set.len s < set.len c.loop-session.untried) (sym c.remove.ensures) (fewer_untried c.loop-session.untried c.in-Some.session there)
+    let there = (is_next_at c.read_word-word.result.0 c.in-Some.index c.in-Some.ticket c.loop-index.untried h held.2 (c.in-Some.ensures.told h.book held.1.carried)).1 in
+    subst (λ (s : set.FinSet nat_cmp). set.len s < set.len c.loop-index.untried) (sym c.remove.ensures) (fewer_untried c.loop-index.untried c.in-Some.ticket.session there)
 
-pub loop-session-preserved : goal.loop-session-preserved
-loop-session-preserved c =
+pub loop-index-preserved : goal.loop-index-preserved
+loop-index-preserved c =
     let id = c.args.seat.now.table in
     let place = c.args.latch.now.place in
     let word = c.read_word-word.result.0 in
-    let session = c.in-Some.session in
-    let number = c.in-Some.number in
-    let untried = c.loop-session.untried in
+    let session = c.in-Some.ticket.session in
+    let number = c.in-Some.ticket.number in
+    let untried = c.loop-index.untried in
     let m : Mine = c.args.seat.now.me in
-    let a : Mine = c.next_grantable.new.self.me in
+    let a : Mine = c.next_grantable_at.new.self.me in
     let b : Mine = c.grant_waiter.new.seat.me in
-    let same : a ≡ c.loop-session.seat.me = mine c.next_grantable.ensures.same in
-    let table = table_of c.next_grantable.ensures.same ∙ c.loop-session.invariant.table in
-    let held = c.loop-session.invariant.held in
+    let same : a ≡ c.loop-index.seat.me = mine c.next_grantable_at.ensures.same in
+    let table = table_of c.next_grantable_at.ensures.same ∙ c.loop-index.invariant.table in
+    let held = c.loop-index.invariant.held in
     let h = held.0 in
     let has = subst (λ (x : Mine). Holds place h h.book x) (sym same) held.1 in
-    let way : GrantsWaits id place m m a = subst (GrantsWaits id place m m) (sym same) c.loop-session.invariant.way in
-    let read : WasRead place word m a = subst (WasRead place word m) (sym same) c.loop-session.invariant.read in
+    let way : GrantsWaits id place m m a = subst (GrantsWaits id place m m) (sym same) c.loop-index.invariant.way in
+    let read : WasRead place word m a = subst (WasRead place word m) (sym same) c.loop-index.invariant.read in
     let tried = subst (λ (x : Mine). AreTried id place untried h m x) (sym same) held.3 in
-    let told = c.in-Some.ensures.told h.book held.1.carried in
-    let ready = (is_next word session number untried h held.2 told).0 in
+    let next = is_next_at word c.in-Some.index c.in-Some.ticket untried h held.2 (c.in-Some.ensures.told h.book held.1.carried) in
+    let ready = next.0.0 in
+    let told = next.2 in
     let in_turn : ReschedulesInTurn id place session number a b = subst (λ (t : TableId). ReschedulesInTurn t place session number a b) table c.grant_waiter.ensures.in_turn.1 in
     let more = in_turn m h has (looks_ahead id place word untried h m a held.2 read tried session number told) in
     let goes = steps_of id place m a b more in
@@ -92,11 +93,11 @@ returns c =
     let id = c.args.seat.now.table in
     let place = c.args.latch.now.place in
     let m : Mine = c.args.seat.now.me in
-    let same = c.next_grantable.ensures.same in
-    let inv = c.loop-session.invariant in
+    let same = c.next_grantable_at.ensures.same in
+    let inv = c.loop-index.invariant in
     let h = inv.held.0 in
-    let none = c.in_default.ensures.told h.book inv.held.1.carried in
-    let forgets = forgets_nobody id place c.read_word-word.result.0 c.loop-session.untried h m c.loop-session.seat.me inv.held.2 inv.read inv.held.3 none in
+    let none = nobody_told c.read_word-word.result.0 c.loop-index.untried h (c.in_default.ensures.told h.book inv.held.1.carried) in
+    let forgets = forgets_nobody id place c.read_word-word.result.0 c.loop-index.untried h m c.loop-index.seat.me inv.held.2 inv.read inv.held.3 none in
     record {
       all = record {
         none = record {

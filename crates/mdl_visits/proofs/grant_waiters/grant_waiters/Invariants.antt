@@ -8,8 +8,8 @@ use Rattle.mdl_visits.proofs.Serving.{AreTried, WasRead}
 use Rattle.mdl_visits.proofs.Waiting.{MayReschedule}
 use Rattle.mdl_visits.proofs.grant_waiters.grant_waiters.Given as goal
 
-abbrev pub invariant-loop-session : goal.invariant-loop-session
-invariant-loop-session l = record {
+abbrev pub invariant-loop-index : goal.invariant-loop-index
+invariant-loop-index l = record {
   table : l.seat.table ≡ l.fn.seat.table;
   held : (h : LatchRecord) × Holds l.latch.place h h.book l.seat.me × MayReschedule l.word.0 h
       × AreTried l.fn.seat.table l.latch.place l.untried h l.fn.seat.me l.seat.me;
@@ -17,5 +17,5 @@ invariant-loop-session l = record {
   way : GrantsWaits l.fn.seat.table l.latch.place l.fn.seat.me l.fn.seat.me l.seat.me;
 }
 
-abbrev pub decreases-loop-session : goal.decreases-loop-session
-decreases-loop-session l = set.len l.untried
+abbrev pub decreases-loop-index : goal.decreases-loop-index
+decreases-loop-index l = set.len l.untried
