@@ -53,18 +53,22 @@ class Session:
         """Returns the tickets of a duration, in the order in which the session got them."""
         return [it for it in self.space.held[self.who] if it.lasts == lasts]
 
+    def let_go(self, lasts, most=0):
+        """Releases the tickets of a duration after the first `most`, from the newest to the oldest."""
+        self.space.release(self.lasting(lasts)[most:][::-1])
+
     # ---- transactions
 
     def end_statement(self):
         """Ends a statement, and a transaction that is the statement's own."""
-        self.space.release(self.lasting("S"))
+        self.let_go("S")
         if not self.is_open:
             self.end_transaction()
 
     def end_transaction(self):
         """Ends a transaction without COMMIT's lock."""
-        self.space.release(self.lasting("S"))
-        self.space.release(self.lasting("T"))
+        self.let_go("S")
+        self.let_go("T")
         self.is_open = self.has_wrote = False
         self.savepoints = {}
 
@@ -90,7 +94,7 @@ class Session:
     def go_back(self, mark):
         """Releases the tickets that the session got since a mark."""
         for lasts, count in zip("ST", mark):
-            self.space.release(self.lasting(lasts)[count:])
+            self.let_go(lasts, count)
 
     def give_up_locked(self):
         """Releases the locked tables, and the scoped tickets that came with them."""

@@ -14,11 +14,11 @@ use Rattle.mdl_context.specs.declared.kept.Wanted.{Wanted}
 use Rattle.mdl_context.specs.declared.request.Mark.{Mark}
 use Rattle.mdl_context.specs.declared.going.Going.TheVariants.{From}
 use Rattle.mdl_context.specs.Goings.{goes}
-use Rattle.mdl_context.specs.Contexts.{ContextView, held_of, lasts, tickets_for, beyond, beyond_mark, has_number, without_tickets, AreRising, Serves, wish_there, wish_here}
+use Rattle.mdl_context.specs.Contexts.{ContextView, held_of, lasts, tickets_for, beyond, beyond_mark, newest_first, has_number, without_tickets, AreRising, Serves, wish_there, wish_here}
 use Rattle.mdl_context.specs.Holdings.{without_number}
 use Rattle.mdl_context.specs.Releases as releases
 use Rattle.mdl_context.specs.Requests.{Outcome}
-use Rattle.mdl_context.proofs.FrontLemmas.{Above, front, left-beyond, statement-gone, without-append}
+use Rattle.mdl_context.proofs.FrontLemmas.{Above, front, left-beyond, statement-gone, without-both}
 
 -- the numbers of what a context keeps rise
 pub rising-kept : (own : SessionLocks) (context : ContextView) → IsRising own → Serves own context → AreRising context.kept
@@ -133,9 +133,9 @@ module _ {S : Type 0} (joins : S → Call → Answer → S → Type 0) where
 
   -- of the statement, and then of the transaction
   pub run-since : (mark : Mark) (before between after : ContextView) (a mid b : S) → AreRising before.kept
-      → Runs joins a (releases.releasing_all before.who (beyond Statement mark.statement before.kept)) tt mid
+      → Runs joins a (releases.releasing_all before.who (newest_first (beyond Statement mark.statement before.kept))) tt mid
       → between ≡ record before { kept = without_tickets (beyond Statement mark.statement before.kept) before.kept }
-      → Runs joins mid (releases.releasing_all between.who (beyond Transaction mark.transaction between.kept)) tt b
+      → Runs joins mid (releases.releasing_all between.who (newest_first (beyond Transaction mark.transaction between.kept))) tt b
       → after ≡ record between { kept = without_tickets (beyond Transaction mark.transaction between.kept) between.kept }
       → Runs joins a (releases.releasing_tickets (beyond_mark mark before.kept) before) (Ok tt, after) b
   run-since mark before between after a mid b rising first left_first second left_second =
@@ -143,11 +143,11 @@ module _ {S : Type 0} (joins : S → Call → Answer → S → Type 0) where
       let then_gone = beyond Transaction mark.transaction before.kept in
       let left = without_tickets gone before.kept in
       let same : beyond Transaction mark.transaction left ≡ then_gone = ap (drop mark.transaction) (statement-gone mark.statement before.kept rising) in
-      let second_run : Runs joins mid (releases.releasing_all before.who (beyond Transaction mark.transaction left)) tt b = rw left_first at second in
+      let second_run : Runs joins mid (releases.releasing_all before.who (newest_first (beyond Transaction mark.transaction left))) tt b = rw left_first at second in
       let end : after ≡ record before { kept = without_tickets (beyond Transaction mark.transaction left) left } = rw left_first at left_second in
-      run-given-up (gone ++ then_gone) before after a b
-      (run-both before.who gone then_gone a mid b first (run-as before.who _ then_gone mid b same second_run))
-      (end ∙ ap (λ (kept : List Kept). let context : ContextView = record before { kept = kept } in context) (ap (λ xs. without_tickets xs left) same ∙ sym (without-append gone then_gone before.kept)))
+      run-given-up (newest_first gone ++ newest_first then_gone) before after a b
+      (run-both before.who (newest_first gone) (newest_first then_gone) a mid b first (run-as before.who _ (newest_first then_gone) mid b (ap newest_first same) second_run))
+      (end ∙ ap (λ (kept : List Kept). let context : ContextView = record before { kept = kept } in context) (ap (λ xs. without_tickets xs left) same ∙ sym (without-both gone then_gone before.kept)))
 
   -- what isn't refused is done
   pub run-unless : {A : Type 0} (fault : Option ContextError) (context : ContextView) (program : Program (Outcome A)) (a b : S) (reply : Outcome A) → fault ≡ None

@@ -1,13 +1,14 @@
 -- What is left of tickets in rising number without those that pass a test behind the first so many.
-use Rattle.std.proofs.Common.{◌≡◌, ℕ, zero, suc, Bool, true, false, List, [], ◌∷◌, ◌++◌, refl, sym, ap, ◌∙◌, subst, arith, take, drop}
+use Rattle.std.proofs.Common.{◌≡◌, ℕ, zero, suc, Bool, true, false, List, [], ◌∷◌, ◌++◌, refl, sym, ap, ◌∙◌, subst, arith, take, drop, reverse}
 use Rattle.std.specs.Prelude.{not, ◌||◌, ◌==◌, map, filter, if◌then◌else◌, IsTrue, nat_lt}
 use Rattle.std.specs.List.{list_all}
 use Rattle.std.proofs.lemmas.Bool.Decides.{nat_tests}
+use Rattle.std.proofs.lemmas.List.{reverse-append}
 use Rattle.mdl_key.specs.declared.mode.Duration.{Duration}
 use Rattle.mdl_key.specs.declared.mode.Duration.TheVariants.{Statement, Transaction, Explicit}
 use Rattle.mdl_context.specs.declared.kept.Kept.{Kept}
 use Rattle.mdl_context.specs.declared.request.Mark.{Mark}
-use Rattle.mdl_context.specs.Contexts.{lasts, duration_rank, tickets_for, beyond_mark, has_number, without_tickets, held_of, AreRising}
+use Rattle.mdl_context.specs.Contexts.{lasts, duration_rank, tickets_for, beyond_mark, newest_first, of_statement, has_number, without_tickets, held_of, AreRising}
 
 -- all tickets have greater numbers
 abbrev pub Above : ℕ → List Kept → Type 0
@@ -81,6 +82,36 @@ pub without-append : (a b xs : List Kept) → without_tickets (a ++ b) xs ≡ wi
 without-append a b [] = refl
 without-append a b (x ∷ xs) = grind (arith, without-append a b xs, has_number-append a b x.id)
 
+-- in whatever order tickets go, the same ones stay
+or_comm : (a b : Bool) → (a || b) ≡ (b || a)
+or_comm true true = refl
+or_comm true false = refl
+or_comm false true = refl
+or_comm false false = refl
+
+or_false : (b : Bool) → (b || false) ≡ b
+or_false true = refl
+or_false false = refl
+
+pub has_number-newest : (gone : List Kept) (n : ℕ) → has_number (newest_first gone) n ≡ has_number gone n
+has_number-newest [] n = refl
+has_number-newest (x ∷ xs) n =
+    ap (λ ys. has_number ys n) (reverse-append (x ∷ []) xs)
+    ∙ has_number-append (newest_first xs) (x ∷ []) n
+    ∙ ap (λ b. b || has_number (x ∷ []) n) (has_number-newest xs n)
+    ∙ or_comm (has_number xs n) (has_number (x ∷ []) n)
+    ∙ ap (λ b. b || has_number xs n) (or_false (x.id == n))
+
+pub without-newest : (gone xs : List Kept) → without_tickets (newest_first gone) xs ≡ without_tickets gone xs
+without-newest gone [] = refl
+without-newest gone (x ∷ xs) = grind (arith, has_number-newest gone x.id, without-newest gone xs)
+
+pub without-both : (a b xs : List Kept) → without_tickets (newest_first a ++ newest_first b) xs ≡ without_tickets b (without_tickets a xs)
+without-both a b xs =
+    without-append (newest_first a) (newest_first b) xs
+    ∙ without-newest b (without_tickets (newest_first a) xs)
+    ∙ ap (without_tickets b) (without-newest a xs)
+
 -- durations are apart
 pub apart : (d e : Duration) (different : (duration_rank d ≡ duration_rank e) → ⊥) (t : Kept) → lasts e t ≡ true → lasts d t ≡ false
 apart d e different t same = grind (arith, nat_tests)
@@ -103,7 +134,7 @@ left-since mark kept rising =
     let n = mark.transaction in
     let first = left-beyond (lasts Statement) m kept rising in
     let rising_then : AreRising (front (lasts Statement) m kept) = subst AreRising first (rising-filter (λ t. not (has_number (drop m (tickets_for Statement kept)) t.id)) kept rising) in
-    without-append (drop m (tickets_for Statement kept)) (drop n (tickets_for Transaction kept)) kept
+    without-both (drop m (tickets_for Statement kept)) (drop n (tickets_for Transaction kept)) kept
     ∙ ap (without_tickets (drop n (tickets_for Transaction kept))) first
     ∙ ap (λ gone. without_tickets (drop n gone) (front (lasts Statement) m kept)) (sym (statement_apart Transaction (λ e. cc) m kept))
     ∙ left-beyond (lasts Transaction) n (front (lasts Statement) m kept) rising_then
@@ -127,12 +158,15 @@ since-explicit mark kept rising =
     ∙ statement_apart Explicit (λ e. cc) mark.statement kept
 
 -- what stays where a statement ends
-pub ending-same : (kept : List Kept) → AreRising kept → tickets_for Statement (without_tickets (tickets_for Statement kept) kept) ≡ []
-ending-same kept rising = ap (tickets_for Statement) (left-beyond (lasts Statement) 0 kept rising) ∙ front-same (lasts Statement) 0 kept
+left_ended : (kept : List Kept) → AreRising kept → without_tickets (of_statement kept) kept ≡ front (lasts Statement) 0 kept
+left_ended kept rising = without-newest (tickets_for Statement kept) kept ∙ left-beyond (lasts Statement) 0 kept rising
+
+pub ending-same : (kept : List Kept) → AreRising kept → tickets_for Statement (without_tickets (of_statement kept) kept) ≡ []
+ending-same kept rising = ap (tickets_for Statement) (left_ended kept rising) ∙ front-same (lasts Statement) 0 kept
 
 pub ending-other : (e : Duration) (different : (duration_rank Statement ≡ duration_rank e) → ⊥) (kept : List Kept) → AreRising kept
-    → tickets_for e (without_tickets (tickets_for Statement kept) kept) ≡ tickets_for e kept
-ending-other e different kept rising = ap (tickets_for e) (left-beyond (lasts Statement) 0 kept rising) ∙ statement_apart e different 0 kept
+    → tickets_for e (without_tickets (of_statement kept) kept) ≡ tickets_for e kept
+ending-other e different kept rising = ap (tickets_for e) (left_ended kept rising) ∙ statement_apart e different 0 kept
 
 lasting : (d : Duration) (t : Kept) (ts us : List Kept) → us ≡ ts →
     (if duration_rank d == 0 then us else (if duration_rank d == 1 then us else t ∷ us)) ≡ (if duration_rank d == 2 then t ∷ ts else ts)

@@ -6,10 +6,10 @@ use Rattle.mdl_calls.specs.Words.{Answer, Call, Runs, Give, ◌>>◌}
 use Rattle.mdl_calls.proofs.RunLemmas.{runs_bind}
 use Rattle.mdl_context.specs.declared.kept.Kept.{Kept}
 use Rattle.mdl_context.specs.declared.request.Mark.{Mark}
-use Rattle.mdl_context.specs.Contexts.{ContextView, AreRising, beyond, tickets_for, lasts, of_transaction, without_tickets}
+use Rattle.mdl_context.specs.Contexts.{ContextView, AreRising, beyond, newest_first, tickets_for, lasts, of_transaction, without_tickets}
 use Rattle.mdl_context.specs.Releases.{releasing_all, releasing_tickets, giving_up_all}
 use Rattle.mdl_context.specs.Requests.{Outcome}
-use Rattle.mdl_context.proofs.FrontLemmas.{left-since, only-explicit, rising-filter}
+use Rattle.mdl_context.proofs.FrontLemmas.{left-since, only-explicit, rising-filter, without-newest}
 use Rattle.mdl_context.proofs.BeyondLemmas.{others-without, run-as, run-given-up}
 
 -- ---- what stays
@@ -55,14 +55,15 @@ module _ {S : Type 0} (joins : S → Call → Answer → S → Type 0) where
 
   -- what ends with the transaction goes first, and then all that is left
   pub run-all : (before mid after : ContextView) (a between b : S) → AreRising before.kept → Runs joins a (releasing_tickets (of_transaction before.kept) before) (Ok tt, mid) between
-      → Runs joins between (releasing_all mid.who (beyond Explicit 0 mid.kept)) tt b → after ≡ record mid { kept = without_tickets (beyond Explicit 0 mid.kept) mid.kept }
+      → Runs joins between (releasing_all mid.who (newest_first (beyond Explicit 0 mid.kept))) tt b → after ≡ record mid { kept = without_tickets (beyond Explicit 0 mid.kept) mid.kept }
       → Runs joins a (giving_up_all before) (Ok tt, after) b
   run-all before mid after a between b rising first second left =
       let stays = ap (λ (c : ContextView). c.kept) (gave-up (of_transaction before.kept) before mid a between first) ∙ left-explicit before.kept rising in
       let same = all-explicit before.kept mid.kept stays in
-      runs_bind joins (releasing_tickets (of_transaction before.kept) before) (λ outcome. releasing_tickets outcome.1.kept outcome.1) a between b (Ok tt, mid) (Ok tt, after) first
-      (run-given-up joins mid.kept mid after between b (run-as joins mid.who _ mid.kept between b same second)
-      (left ∙ ap (λ (kept : List Kept). let context : ContextView = record mid { kept = kept } in context) (ap (λ gone. without_tickets gone mid.kept) same)))
+      runs_bind joins (releasing_tickets (of_transaction before.kept) before) (λ outcome. releasing_tickets (newest_first outcome.1.kept) outcome.1) a between b (Ok tt, mid) (Ok tt, after) first
+      (run-given-up joins (newest_first mid.kept) mid after between b (run-as joins mid.who _ (newest_first mid.kept) between b (ap newest_first same) second)
+      (left ∙ ap (λ (kept : List Kept). let context : ContextView = record mid { kept = kept } in context)
+      (ap (λ gone. without_tickets gone mid.kept) same ∙ sym (without-newest mid.kept mid.kept))))
 
   -- and nothing is kept then
   pub nothing-kept : (before mid after : ContextView) (a between : S) → AreRising before.kept → Runs joins a (releasing_tickets (of_transaction before.kept) before) (Ok tt, mid) between

@@ -1,6 +1,6 @@
 -- The tickets of a place: their numbers as tickets come and go, and the earliest of them.
-use Rattle.std.proofs.Common.{◌≡◌, ◌≢◌, ℕ, zero, suc, ◌+◌, ◌-◌, ◌<◌, ◌≤◌, Bool, true, false, List, [], ◌∷◌, ◌++◌, length, get_or, drop, Option, Some, None, refl, sym, ap, ◌∙◌, append-nil, arith}
-use Rattle.std.specs.Prelude.{◌&&◌, ◌==◌, map, filter, find, position, slice_get, IsTrue, if◌then◌else◌}
+use Rattle.std.proofs.Common.{◌≡◌, ◌≢◌, ℕ, zero, suc, ◌+◌, ◌-◌, ◌<◌, ◌≤◌, Bool, true, false, List, [], ◌∷◌, ◌++◌, length, get_or, drop, Option, Some, None, refl, sym, ap, subst, ◌∙◌, append-nil, arith}
+use Rattle.std.specs.Prelude.{not, ◌&&◌, ◌==◌, map, filter, find, position, slice_get, IsTrue, if◌then◌else◌}
 use Rattle.std.specs.List.{last_or}
 use Rattle.std.specs.Option.{option_map, IfSome}
 use Rattle.std.proofs.lemmas.Bool.Decides.{nat_tests}
@@ -16,9 +16,9 @@ use Rattle.mdl_context.specs.Contexts.{AreRising, held_of, is_user_lock}
 use Rattle.mdl_context.specs.Requests.{suffices, is_reusable}
 use Rattle.mdl_context.specs.Holdings.{is_kept_at, has_ticket_number, without_number, numbers_among, IsIndexOf, earliest, kept_for, in_transaction, transactional}
 use Rattle.mdl_context.specs.Indexes.{Index, ticket_numbers, has_room_for, rises, without_one}
-use Rattle.mdl_context.proofs.FrontLemmas.{Above, above-filter}
+use Rattle.mdl_context.proofs.FrontLemmas.{Above, above-filter, rising-filter}
 use Rattle.mdl_context.proofs.IndexLemmas.{AllAbove}
-use Rattle.mdl_context.proofs.ReleaseLemmas.{left}
+use Rattle.mdl_context.proofs.ReleaseLemmas.{left, above_mid, newest, older, newer, left-now, left-goes}
 use Rattle.mdl_context.proofs.SearchLemmas.{no_ticket, all_others}
 
 -- ---- the numbers of a place
@@ -103,42 +103,43 @@ pub room-stays : (wait : Option Wanted) (before after : Index) (n m room : ℕ) 
 room-stays None before after n m room fewer stays there = there
 room-stays (Some wanted) before after n m room fewer stays there = (omega (arith, fewer, there.0), stays wanted.place there.1)
 
--- ---- what is left of rising tickets
+-- ---- what is left of rising tickets, from the newest on
 
-above-left : (n : ℕ) (p : Kept → Bool) (i : ℕ) (xs : List Kept) → Above n xs → Above n (left p i xs)
-above-left n p zero xs above = above
-above-left n p (suc i) [] above = refl
-above-left n p (suc i) (x ∷ xs) above = grind (arith, nat_tests, above-left n p i xs)
+-- a ticket among others is found by its number, and the others are those without it
+found_mid : (older newer : List Kept) (t : Kept) → AreRising (older ++ t ∷ newer) → find (has_ticket_number t.id) (older ++ t ∷ newer) ≡ Some t
+found_mid [] newer t rising = grind (arith, nat_tests)
+found_mid (x ∷ older) newer t rising = grind (arith, nat_tests, found_mid older newer t, above_mid x.id older newer t)
 
-pub rising-left : (p : Kept → Bool) (i : ℕ) (xs : List Kept) → AreRising xs → AreRising (left p i xs)
-rising-left p zero xs rising = rising
-rising-left p (suc i) [] rising = refl
-rising-left p (suc i) (x ∷ xs) rising = grind (arith, nat_tests, above-left x.id p i xs, rising-left p i xs)
+without_mid : (older newer : List Kept) (t : Kept) → AreRising (older ++ t ∷ newer) → without_number t.id (older ++ t ∷ newer) ≡ older ++ newer
+without_mid [] newer t rising = grind (arith, nat_tests, all_others t.id newer)
+without_mid (x ∷ older) newer t rising = grind (arith, nat_tests, without_mid older newer t, above_mid x.id older newer t)
 
--- the next ticket is still there
-pub left-has : (p : Kept → Bool) (xs : List Kept) (i : ℕ) (t : Kept) → AreRising xs → i < length xs → t ≡ get_or xs i t → find (has_ticket_number t.id) (left p i xs) ≡ Some t
-left-has p [] i t rising inside here = absurd (omega arith)
-left-has p (x ∷ xs) zero t rising inside here = grind (arith, nat_tests)
-left-has p (x ∷ xs) (suc i) t rising inside here =
-    let before : x.id < t.id = grind (arith, nat_tests, above_at x.id xs i t) in
-    grind (arith, nat_tests, left-has p xs i t)
+above-left : (n : ℕ) (p : Kept → Bool) (at : ℕ) (xs : List Kept) → Above n xs → Above n (left p at xs)
+above-left n p zero xs above = above-filter n (λ t. not (p t)) xs above
+above-left n p (suc at) [] above = refl
+above-left n p (suc at) (x ∷ xs) above = grind (arith, nat_tests, above-left n p at xs)
 
-left_then : (p : Kept → Bool) (xs : List Kept) (i : ℕ) (t : Kept) → AreRising xs → i < length xs → t ≡ get_or xs i t → p t ≡ true → left p (suc i) xs ≡ without_number t.id (left p i xs)
-left_then p [] i t rising inside here goes = absurd (omega arith)
-left_then p (x ∷ xs) zero t rising inside here goes = grind (arith, nat_tests, all_others t.id xs)
-left_then p (x ∷ xs) (suc i) t rising inside here goes =
-    let before : x.id < t.id = grind (arith, nat_tests, above_at x.id xs i t) in
-    let rising_then : AreRising xs = grind (arith, nat_tests) in
-    by_test (left_then p xs i t rising_then (omega (arith, inside)) here goes) before (p x) refl where
-      by_test : left p (suc i) xs ≡ without_number t.id (left p i xs) → x.id < t.id → (test : Bool) → p x ≡ test → left p (suc (suc i)) (x ∷ xs) ≡ without_number t.id (left p (suc i) (x ∷ xs))
-      by_test later before true e = grind arith
-      by_test later before false e = grind (arith, nat_tests)
+pub rising-left : (p : Kept → Bool) (at : ℕ) (xs : List Kept) → AreRising xs → AreRising (left p at xs)
+rising-left p zero xs rising = rising-filter (λ t. not (p t)) xs rising
+rising-left p (suc at) [] rising = refl
+rising-left p (suc at) (x ∷ xs) rising = grind (arith, nat_tests, above-left x.id p at xs, rising-left p at xs)
 
--- and where it goes, the others are left
-pub left-without : (p : Kept → Bool) (xs : List Kept) (i : ℕ) (t : Kept) → AreRising xs → i < length xs → t ≡ get_or xs i t → p t ≡ true → left p (i + 1) xs ≡ without_number t.id (left p i xs)
-left-without p xs i t rising inside here goes =
-    let step : i + 1 ≡ suc i = omega arith in
-    ap (λ n. left p n xs) step ∙ left_then p xs i t rising inside here goes
+module _ (p : Kept → Bool) (kept : List Kept) (at : ℕ) (more : 0 < at) (inside : at ≤ length kept) (rising : AreRising kept) where
+  among : AreRising (older p kept at more inside ++ newest p kept at more inside ∷ newer p kept at more inside)
+  among = subst AreRising (left-now p kept at more inside) (rising-left p at kept rising)
+
+  -- the next ticket is still there
+  pub left-has : find (has_ticket_number (newest p kept at more inside).id) (left p at kept) ≡ Some (newest p kept at more inside)
+  left-has =
+      ap (find (has_ticket_number (newest p kept at more inside).id)) (left-now p kept at more inside)
+      ∙ found_mid (older p kept at more inside) (newer p kept at more inside) (newest p kept at more inside) among
+
+  -- and where it goes, the others are left
+  pub left-without : p (newest p kept at more inside) ≡ true → left p (at - 1) kept ≡ without_number (newest p kept at more inside).id (left p at kept)
+  left-without e =
+      left-goes p kept at more inside e
+      ∙ sym (without_mid (older p kept at more inside) (newer p kept at more inside) (newest p kept at more inside) among)
+      ∙ sym (ap (without_number (newest p kept at more inside).id) (left-now p kept at more inside))
 
 -- ---- the earliest ticket of a place
 

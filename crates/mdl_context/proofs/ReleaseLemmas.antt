@@ -1,8 +1,8 @@
 -- Tickets released one after the other, and what the session holds after each.
-use Rattle.std.proofs.Common.{◌≡◌, ℕ, zero, suc, ◌+◌, ◌<◌, Bool, true, false, List, [], ◌∷◌, ◌++◌, length, get_or, take, drop, refl, sym, ap, ◌∙◌, arith, rules, append_assoc, Result, Ok, Err}
+use Rattle.std.proofs.Common.{◌≡◌, ℕ, zero, suc, ◌+◌, ◌-◌, ◌<◌, ◌≤◌, Bool, true, false, List, [], ◌∷◌, ◌++◌, length, get_or, take, drop, refl, sym, ap, ◌∙◌, subst, arith, rules, append_assoc, Result, Ok, Err}
 use Rattle.std.specs.Prelude.{not, map, filter, find, is_some, IsOk}
 use Rattle.std.proofs.lemmas.Bool.Decides.{nat_tests}
-use Rattle.std.proofs.lemmas.List.{drop_more, take_more}
+use Rattle.std.proofs.lemmas.List.{drop_more, reverse-append, take_more}
 use Rattle.std.proofs.lemmas.List.Elements.{filter-append}
 use Rattle.mdl_key.specs.declared.mode.Mode.TheVariants.{IX}
 use Rattle.mdl_key.specs.declared.mode.Duration.TheVariants.{Statement}
@@ -10,7 +10,7 @@ use Rattle.mdl_calls.specs.declared.space_error.SpaceError.{SpaceError}
 use Rattle.mdl_calls.specs.declared.space_error.SpaceError.TheVariants.{NotHeld}
 use Rattle.mdl_calls.specs.Words.{Answer, Done, done, Call, Release, Knowledge, IsCause, IsExplained, SessionLocks, IsRising, is_number, holds, giving_up, Runs}
 use Rattle.mdl_context.specs.declared.kept.Kept.{Kept}
-use Rattle.mdl_context.specs.Contexts.{AreRising, held_of}
+use Rattle.mdl_context.specs.Contexts.{AreRising, held_of, newest_first}
 use Rattle.mdl_context.specs.Releases.{releasing_all}
 use Rattle.mdl_context.proofs.FrontLemmas.{Above}
 
@@ -28,7 +28,7 @@ pub done-ok : (r : Result (Unit {0}) SpaceError) → IsOk r → done r ≡ Done
 done-ok (Ok x) ok = refl
 done-ok (Err e) ok = search rules
 
-above_mid : (n : ℕ) (F D : List Kept) (t : Kept) → Above n (F ++ t ∷ D) → n < t.id
+pub above_mid : (n : ℕ) (F D : List Kept) (t : Kept) → Above n (F ++ t ∷ D) → n < t.id
 above_mid n [] D t above = grind (arith, nat_tests)
 above_mid n (x ∷ F) D t above = grind (arith, nat_tests, above_mid n F D t)
 
@@ -54,61 +54,79 @@ own_item [] i d inside = absurd (omega arith)
 own_item (x ∷ xs) zero d inside = refl
 own_item (x ∷ xs) (suc i) d inside = own_item xs i d (omega (arith, inside))
 
--- what is left once the first so many tickets were looked at
+-- what is left once the tickets from an index on were looked at
 abbrev pub left : (Kept → Bool) → ℕ → List Kept → List Kept
-left p i items = filter (λ t. not (p t)) (take i items) ++ drop i items
+left p at kept = take at kept ++ filter (λ t. not (p t)) (drop at kept)
 
-module _ (p : Kept → Bool) (items : List Kept) (i : ℕ) (t : Kept) (inside : i < length items) (here : t ≡ get_or items i t) where
-  next : drop i items ≡ t ∷ drop (i + 1) items
-  next = drop_more items i t inside ∙ ap (λ x. x ∷ drop (i + 1) items) (sym here)
+-- those that are yet to go
+abbrev pub to_go : (Kept → Bool) → ℕ → List Kept → List Kept
+to_go p at kept = newest_first (filter p (take at kept))
 
-  so_far : take (i + 1) items ≡ take i items ++ t ∷ []
-  so_far = take_more items i t inside ∙ ap (λ x. take i items ++ x ∷ []) (sym here)
+module _ (p : Kept → Bool) (kept : List Kept) (at : ℕ) (more : 0 < at) (inside : at ≤ length kept) where
+  -- the newest ticket that wasn't looked at, the older ones, and the newer ones that stay
+  abbrev pub newest : Kept
+  newest = get_or kept (at - 1) no_item
 
-  front_now : List Kept
-  front_now = filter (λ x. not (p x)) (take i items)
+  abbrev pub older : List Kept
+  older = take (at - 1) kept
 
-  chosen : (b : Bool) → p t ≡ b → filter p (t ∷ drop (i + 1) items) ≡ (elim b as (λ _. List Kept) [ true ↦ t ∷ filter p (drop (i + 1) items) | false ↦ filter p (drop (i + 1) items) ])
-  chosen true e = grind arith
-  chosen false e = grind arith
+  abbrev pub newer : List Kept
+  newer = filter (λ t. not (p t)) (drop at kept)
 
-  rest-goes : p t ≡ true → filter p (drop i items) ≡ t ∷ filter p (drop (i + 1) items)
-  rest-goes e = ap (filter p) next ∙ chosen true e
+  again : at - 1 + 1 ≡ at
+  again = omega (arith, more)
 
-  rest-stays : p t ≡ false → filter p (drop i items) ≡ filter p (drop (i + 1) items)
-  rest-stays e = ap (filter p) next ∙ chosen false e
+  below : at - 1 < length kept
+  below = omega (arith, more, inside)
 
-  left_now : left p i items ≡ front_now ++ t ∷ drop (i + 1) items
-  unfolding front_now
-  left_now = ap (λ xs. filter (λ x. not (p x)) (take i items) ++ xs) next
+  front : take at kept ≡ older ++ newest ∷ []
+  front = ap (λ n. take n kept) (sym again) ∙ take_more kept (at - 1) no_item below
 
-  others : (b : Bool) → p t ≡ b → filter (λ x. not (p x)) (take (i + 1) items) ≡ (elim b as (λ _. List Kept) [ true ↦ front_now ++ [] | false ↦ front_now ++ t ∷ [] ])
-  unfolding front_now
-  others true e = ap (filter (λ x. not (p x))) so_far ∙ filter-append (λ x. not (p x)) (take i items) (t ∷ []) ∙ grind arith
-  others false e = ap (filter (λ x. not (p x))) so_far ∙ filter-append (λ x. not (p x)) (take i items) (t ∷ []) ∙ grind arith
+  back : drop (at - 1) kept ≡ newest ∷ drop at kept
+  back = drop_more kept (at - 1) no_item below ∙ ap (λ n. newest ∷ drop n kept) again
 
-  left-goes : p t ≡ true → left p (i + 1) items ≡ front_now ++ drop (i + 1) items
-  left-goes e = ap (λ xs. xs ++ drop (i + 1) items) (others true e) ∙ append_assoc front_now [] (drop (i + 1) items)
+  pub left-now : left p at kept ≡ older ++ newest ∷ newer
+  left-now = ap (λ xs. xs ++ newer) front ∙ append_assoc older (newest ∷ []) newer
 
-  pub left-stays : p t ≡ false → left p (i + 1) items ≡ left p i items
-  left-stays e = ap (λ xs. xs ++ drop (i + 1) items) (others false e) ∙ append_assoc front_now (t ∷ []) (drop (i + 1) items) ∙ sym left_now
+  others : (t : Kept) (b : Bool) → p t ≡ b → filter (λ x. not (p x)) (t ∷ drop at kept) ≡ (elim b as (λ _. List Kept) [ true ↦ newer | false ↦ t ∷ newer ])
+  others t true e = grind arith
+  others t false e = grind arith
 
-  pub run-goes : {S : Type 0} (joins : S → Call → Answer → S → Type 0) (who : ℕ) (before after b : S) → p t ≡ true → joins before (Release who t.id) Done after
-      → Runs joins after (releasing_all who (filter p (drop (i + 1) items))) tt b → Runs joins before (releasing_all who (filter p (drop i items))) tt b
-  run-goes joins who before after b e step run = rw (rest-goes e) (Done, after, step, run)
+  pub left-goes : p newest ≡ true → left p (at - 1) kept ≡ older ++ newer
+  left-goes e = ap (λ xs. older ++ filter (λ x. not (p x)) xs) back ∙ ap (λ xs. older ++ xs) (others newest true e)
 
-  pub run-stays : {S : Type 0} (joins : S → Call → Answer → S → Type 0) (who : ℕ) (before b : S) → p t ≡ false
-      → Runs joins before (releasing_all who (filter p (drop (i + 1) items))) tt b → Runs joins before (releasing_all who (filter p (drop i items))) tt b
-  run-stays joins who before b e run = rw (rest-stays e) run
+  pub left-stays : p newest ≡ false → left p (at - 1) kept ≡ left p at kept
+  left-stays e = ap (λ xs. older ++ filter (λ x. not (p x)) xs) back ∙ ap (λ xs. older ++ xs) (others newest false e) ∙ sym left-now
+
+  chosen : (t : Kept) (b : Bool) → p t ≡ b → filter p (t ∷ []) ≡ (elim b as (λ _. List Kept) [ true ↦ t ∷ [] | false ↦ [] ])
+  chosen t true e = grind arith
+  chosen t false e = grind arith
+
+  both : to_go p at kept ≡ newest_first (filter p (newest ∷ [])) ++ to_go p (at - 1) kept
+  both = ap (λ xs. newest_first (filter p xs)) front ∙ ap newest_first (filter-append p older (newest ∷ [])) ∙ reverse-append (filter p older) (filter p (newest ∷ []))
+
+  rest-goes : p newest ≡ true → to_go p at kept ≡ newest ∷ to_go p (at - 1) kept
+  rest-goes e = both ∙ ap (λ xs. newest_first xs ++ to_go p (at - 1) kept) (chosen newest true e)
+
+  rest-stays : p newest ≡ false → to_go p at kept ≡ to_go p (at - 1) kept
+  rest-stays e = both ∙ ap (λ xs. newest_first xs ++ to_go p (at - 1) kept) (chosen newest false e)
+
+  pub run-goes : {S : Type 0} (joins : S → Call → Answer → S → Type 0) (who : ℕ) (before after b : S) → p newest ≡ true → joins before (Release who newest.id) Done after
+      → Runs joins after (releasing_all who (to_go p (at - 1) kept)) tt b → Runs joins before (releasing_all who (to_go p at kept)) tt b
+  run-goes joins who before after b e step run = subst (λ xs. Runs joins before (releasing_all who xs) tt b) (sym (rest-goes e)) (Done, after, step, run)
+
+  pub run-stays : {S : Type 0} (joins : S → Call → Answer → S → Type 0) (who : ℕ) (before b : S) → p newest ≡ false
+      → Runs joins before (releasing_all who (to_go p (at - 1) kept)) tt b → Runs joins before (releasing_all who (to_go p at kept)) tt b
+  run-stays joins who before b e run = subst (λ xs. Runs joins before (releasing_all who xs) tt b) (sym (rest-stays e)) run
 
   -- the ticket is still held
-  pub holds-here : (own : SessionLocks) → own.held ≡ map held_of (left p i items) → holds t.id own ≡ true
-  holds-here own held = ap (λ hs. is_some (find (is_number t.id) hs)) (held ∙ ap (map held_of) left_now) ∙ holds_mid front_now (drop (i + 1) items) t
+  pub holds-here : (own : SessionLocks) → own.held ≡ map held_of (left p at kept) → holds newest.id own ≡ true
+  holds-here own held = ap (λ hs. is_some (find (is_number newest.id) hs)) (held ∙ ap (map held_of) left-now) ∙ holds_mid older newer newest
 
   -- and then it isn't
-  pub held-goes : (own : SessionLocks) → IsRising own → own.held ≡ map held_of (left p i items) → p t ≡ true → (giving_up t.id own).held ≡ map held_of (left p (i + 1) items)
+  pub held-goes : (own : SessionLocks) → IsRising own → own.held ≡ map held_of (left p at kept) → p newest ≡ true → (giving_up newest.id own).held ≡ map held_of (left p (at - 1) kept)
   held-goes own rising held e =
-      let all = held ∙ ap (map held_of) left_now in
-      ap (filter (λ h. not (is_number t.id h))) all
-      ∙ without_mid front_now (drop (i + 1) items) t (rw all at rising)
+      let all = held ∙ ap (map held_of) left-now in
+      ap (filter (λ h. not (is_number newest.id h))) all
+      ∙ without_mid older newer newest (rw all at rising)
       ∙ ap (map held_of) (sym (left-goes e))

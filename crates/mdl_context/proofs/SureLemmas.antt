@@ -1,7 +1,6 @@
 -- What is so of all that a context gives up by, and what of it follows over the space of one thread.
 use Rattle.std.proofs.Common.{◌≡◌, ℕ, Option, None, List}
 use Rattle.mdl_key.specs.declared.mode.Mode.{Mode}
-use Rattle.mdl_key.specs.declared.mode.Duration.TheVariants.{Statement}
 use Rattle.mdl_calls.specs.Words.{EachCall, IsFrugal, Program}
 use Rattle.mdl_core.proofs.RunOutcomes.{sure-run, frugal-runs}
 use Rattle.mdl_context.specs.declared.context_error.ContextError.{ContextError}
@@ -9,7 +8,7 @@ use Rattle.mdl_context.specs.declared.kept.Kept.{Kept}
 use Rattle.mdl_context.specs.declared.request.Acquire.{Acquire}
 use Rattle.mdl_context.specs.declared.request.Resume.{Resume}
 use Rattle.mdl_context.specs.declared.request.Tried.{Tried}
-use Rattle.mdl_context.specs.Contexts.{ContextView, tickets_for, beyond_mark, of_transaction, place_known}
+use Rattle.mdl_context.specs.Contexts.{ContextView, beyond_mark, newest_first, of_statement, of_transaction, place_known}
 use Rattle.mdl_context.specs.MemoryLaws.{IsStarved, IsOwnCall, EachEnding, EndingsTakeNoMemory, ContextsCallForTheirSession, IsSure, SureWishes, SureUpgrades, SureWaits, SureEndings}
 use Rattle.mdl_context.specs.Releases.{at_known_place, releasing_tickets, releasing, unless, waiting_fault, rollback_fault}
 use Rattle.mdl_context.specs.Requests.{Outcome, acquiring, trying}
@@ -30,9 +29,9 @@ each_ending P context waits one all weaker refused =
     let may_wait = λ (gone : List Kept). refused (waiting_fault context) (releasing_tickets gone context) (all gone) in (
       waits,
       one,
-      λ key. may_wait (at_known_place (place_known key context.known) context.kept),
+      λ key. may_wait (newest_first (at_known_place (place_known key context.known) context.kept)),
       λ mark. refused (rollback_fault mark context) (releasing_tickets (beyond_mark mark context.kept) context) (all (beyond_mark mark context.kept)),
-      may_wait (tickets_for Statement context.kept),
+      may_wait (of_statement context.kept),
       may_wait (of_transaction context.kept),
       all,
       weaker,

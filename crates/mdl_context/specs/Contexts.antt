@@ -1,6 +1,6 @@
 -- The tickets of a session by duration, after MySQL 5.7: `MDL_context` of sql/mdl.h and sql/mdl.cc. MySQL's savepoints point at
 -- the newest tickets. That a mark counts tickets instead is this project's own choice.
-use Rattle.std.specs.Prelude.{◌≡◌, ◌≢◌, ℕ, Bool, true, false, not, ◌&&◌, ◌||◌, ◌==◌, nat_lt, List, ◌++◌, map, filter, find, drop, length, All, Option, None, MatchOption, IsTrue}
+use Rattle.std.specs.Prelude.{◌≡◌, ◌≢◌, ℕ, Bool, true, false, not, ◌&&◌, ◌||◌, ◌==◌, nat_lt, List, ◌++◌, map, filter, find, drop, length, reverse, All, Option, None, MatchOption, IsTrue}
 use Rattle.std.specs.List.{last_or, list_any}
 use Rattle.std.specs.Map.{lookup}
 use Rattle.std.specs.Option.{IfSome, option_and_then, option_map, option_map_or}
@@ -54,14 +54,22 @@ is_stale mark kept = nat_lt (length (tickets_for Statement kept)) mark.statement
 abbrev pub beyond : Duration → ℕ → List Kept → List Kept
 beyond duration most kept = drop most (tickets_for duration kept)
 
--- the tickets beyond the counts of a mark, those of the statement first. Unless tickets have become transactional since the
--- mark, these are the ones that were gained since
-abbrev pub beyond_mark : Mark → List Kept → List Kept
-beyond_mark mark kept = beyond Statement mark.statement kept ++ beyond Transaction mark.transaction kept
+-- tickets that are listed in the order in which the session got them, the newest first
+abbrev pub newest_first : List Kept → List Kept
+newest_first kept = reverse kept
 
--- the tickets that end with a transaction, those of the statement first
+-- the tickets beyond the counts of a mark, those of the statement first, of each duration the newest first. Unless tickets have
+-- become transactional since the mark, these are the ones that were gained since
+abbrev pub beyond_mark : Mark → List Kept → List Kept
+beyond_mark mark kept = newest_first (beyond Statement mark.statement kept) ++ newest_first (beyond Transaction mark.transaction kept)
+
+-- the tickets that end with a statement, the newest first
+abbrev pub of_statement : List Kept → List Kept
+of_statement kept = newest_first (tickets_for Statement kept)
+
+-- the tickets that end with a transaction, those of the statement first, of each duration the newest first
 abbrev pub of_transaction : List Kept → List Kept
-of_transaction kept = tickets_for Statement kept ++ tickets_for Transaction kept
+of_transaction kept = of_statement kept ++ newest_first (tickets_for Transaction kept)
 
 -- whether one of the tickets has this number
 abbrev pub has_number : List Kept → ℕ → Bool

@@ -3,7 +3,7 @@ use Rattle.std.specs.Prelude.{◌≡◌, List, [], take}
 use Rattle.mdl_key.specs.declared.mode.Duration.TheVariants.{Statement, Transaction, Explicit}
 use Rattle.mdl_context.specs.declared.kept.Kept.{Kept}
 use Rattle.mdl_context.specs.declared.request.Mark.{Mark}
-use Rattle.mdl_context.specs.Contexts.{tickets_for, current_mark, beyond_mark, of_transaction, without_tickets, AreRising}
+use Rattle.mdl_context.specs.Contexts.{tickets_for, current_mark, beyond_mark, of_statement, of_transaction, without_tickets, AreRising}
 
 -- going back to a mark keeps the earliest tickets of the statement and of the transaction, up to the mark's counts,
 -- and all explicit ones
@@ -23,7 +23,7 @@ GoingBackToNowKeepsAll = (kept : List Kept) → beyond_mark (current_mark kept) 
 abbrev pub StatementsEndAlone : Type 0
 StatementsEndAlone =
     (kept : List Kept) → AreRising kept →
-    let left = without_tickets (tickets_for Statement kept) kept in
+    let left = without_tickets (of_statement kept) kept in
     (tickets_for Statement left ≡ []) × (tickets_for Transaction left ≡ tickets_for Transaction kept) × (tickets_for Explicit left ≡ tickets_for Explicit kept)
 
 -- the end of a transaction leaves only the explicit tickets

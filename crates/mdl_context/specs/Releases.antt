@@ -1,17 +1,15 @@
 -- How a session releases tickets, after MySQL 5.7: `MDL_context::release_lock`, `release_all_locks_for_name`,
--- `rollback_to_savepoint`, `release_statement_locks` and `release_transactional_locks` of sql/mdl.cc. Three things are
--- this project's own choice. The tickets of each duration are released in the order in which the session got them, where
--- MySQL releases them in reverse order. The tickets of a key are released whatever their duration. All refusals are its
--- own.
+-- `rollback_to_savepoint`, `release_statement_locks` and `release_transactional_locks` of sql/mdl.cc. As there, the tickets
+-- of each duration are released from the newest to the oldest. Two things are this project's own choice. The tickets of a
+-- key are released whatever their duration. All refusals are its own.
 use Rattle.std.specs.Prelude.{ℕ, List, [], ◌∷◌, filter, not, Option, Some, None, is_some, Ok, Err, if◌then◌else◌}
-use Rattle.mdl_key.specs.declared.mode.Duration.TheVariants.{Statement}
 use Rattle.mdl_key.specs.Keys.{KeyName}
 use Rattle.mdl_calls.specs.Words.{Release, Program, Give, Ask, ◌>>=◌, ◌>>◌}
 use Rattle.mdl_context.specs.declared.context_error.ContextError.{ContextError}
 use Rattle.mdl_context.specs.declared.context_error.ContextError.TheVariants.{StaleSavepoint, NotHeld, Waiting}
 use Rattle.mdl_context.specs.declared.kept.Kept.{Kept}
 use Rattle.mdl_context.specs.declared.request.Mark.{Mark}
-use Rattle.mdl_context.specs.Contexts.{ContextView, tickets_for, is_stale, beyond_mark, of_transaction, has_number, without_tickets, place_known}
+use Rattle.mdl_context.specs.Contexts.{ContextView, is_stale, beyond_mark, newest_first, of_statement, of_transaction, has_number, without_tickets, place_known}
 use Rattle.mdl_context.specs.Holdings.{is_kept_at, without_number}
 use Rattle.mdl_context.specs.Requests.{Outcome}
 
@@ -52,9 +50,10 @@ abbrev pub at_known_place : Option ℕ → List Kept → List Kept
 at_known_place None kept = []
 at_known_place (Some place) kept = filter (is_kept_at place) kept
 
--- the program that releases all tickets of a key
+-- the program that releases all tickets of a key, the newest first
 abbrev pub releasing_name : KeyName → ContextView → Program (Outcome (Unit {0}))
-releasing_name key context = unless (waiting_fault context) context (releasing_tickets (at_known_place (place_known key context.known) context.kept) context)
+releasing_name key context =
+    unless (waiting_fault context) context (releasing_tickets (newest_first (at_known_place (place_known key context.known) context.kept)) context)
 
 -- the program that goes back to a mark
 abbrev pub rolling_back : Mark → ContextView → Program (Outcome (Unit {0}))
@@ -62,12 +61,12 @@ rolling_back mark context = unless (rollback_fault mark context) context (releas
 
 -- the program that ends a statement
 abbrev pub ending_statement : ContextView → Program (Outcome (Unit {0}))
-ending_statement context = unless (waiting_fault context) context (releasing_tickets (tickets_for Statement context.kept) context)
+ending_statement context = unless (waiting_fault context) context (releasing_tickets (of_statement context.kept) context)
 
 -- the program that ends a transaction
 abbrev pub ending_transaction : ContextView → Program (Outcome (Unit {0}))
 ending_transaction context = unless (waiting_fault context) context (releasing_tickets (of_transaction context.kept) context)
 
--- the program that releases all tickets: those that end with the transaction first, and then the others
+-- the program that releases all tickets: those that end with the transaction first, and then the others, the newest first
 abbrev pub giving_up_all : ContextView → Program (Outcome (Unit {0}))
-giving_up_all context = releasing_tickets (of_transaction context.kept) context >>= (λ outcome. releasing_tickets outcome.1.kept outcome.1)
+giving_up_all context = releasing_tickets (of_transaction context.kept) context >>= (λ outcome. releasing_tickets (newest_first outcome.1.kept) outcome.1)

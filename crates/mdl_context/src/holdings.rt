@@ -432,7 +432,8 @@ fn drop_numbers(by_place: &mut ByPlace, tickets: &[Kept], going: &Going)
     ensures index { IsIndexOf (filter (λ ticket. not (goes going.now ticket)) tickets.now) by_place.new }
     ensures room { (place : ℕ) → has_room_for place by_place.old ≡ true → has_room_for place by_place.new ≡ true }
 {
-    for ticket in tickets {
+    for at in (0..tickets.len()).rev() {
+        let ticket = &tickets[at];
         if going.names(ticket) {
             by_place.remove(ticket.place, ticket.id);
         }

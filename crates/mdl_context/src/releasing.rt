@@ -2,7 +2,7 @@
 ghost use Rattle.std.specs.Prelude.{◌≡◌, ℕ, true, not, map, filter};
 ghost use Rattle.mdl_key.specs.Keys.{KeyName};
 ghost use Rattle.mdl_calls.specs.Words.{Done, Release, holds, giving_up, Runs};
-ghost use Rattle.mdl_context.specs.Contexts.{held_of};
+ghost use Rattle.mdl_context.specs.Contexts.{held_of, newest_first};
 ghost use Rattle.mdl_context.specs.Goings.{goes};
 ghost use Rattle.mdl_context.specs.Releases.{releasing_all};
 
@@ -22,7 +22,7 @@ pub(crate) fn release<S: LockSpace>(space: &mut S, who: u16, id: TicketId)
     space.release(who, id).unwrap();
 }
 
-/// Releases the tickets that `going` names, in the order in which the session got them. Takes no memory.
+/// Releases the tickets that `going` names, from the newest to the oldest. Takes no memory.
 pub(crate) fn release_all<S: LockSpace>(
     space: &mut S,
     who: u16,
@@ -33,14 +33,16 @@ pub(crate) fn release_all<S: LockSpace>(
     requires held { (S.own space.old who).held ≡ map held_of holdings.old.kept }
     ensures speaks { S.speaks_for space.new who }
     ensures remembers { (place : ℕ) (key : KeyName) → S.knows space.old who place key → S.knows space.new who place key }
-    ensures run { Runs S.joins space.old (releasing_all who (filter (goes going.now) holdings.old.kept)) tt space.new }
+    ensures run { Runs S.joins space.old (releasing_all who (newest_first (filter (goes going.now) holdings.old.kept))) tt space.new }
     ensures kept { holdings.new.kept ≡ filter (λ ticket. not (goes going.now ticket)) holdings.old.kept }
     ensures held { (S.own space.new who).held ≡ map held_of holdings.new.kept }
     ensures known { holdings.new.known ≡ holdings.old.known }
     ensures waits { holdings.new.wait ≡ holdings.old.wait }
     ensures wait { (S.own space.new who).wait ≡ (S.own space.old who).wait }
 {
-    for ticket in holdings.tickets() {
+    let tickets = holdings.tickets();
+    for at in (0..tickets.len()).rev() {
+        let ticket = &tickets[at];
         if going.names(ticket) {
             release(space, who, ticket.id);
         }

@@ -3,7 +3,6 @@
 -- goes back to the mark at its start, and that a transaction stays open if it doesn't get the COMMIT lock.
 use Rattle.std.specs.Prelude.{ℕ, Bool, true, false, List, Option, Some, None, if◌then◌else◌}
 use Rattle.mdl_key.specs.declared.mode.Mode.{Mode}
-use Rattle.mdl_key.specs.declared.mode.Duration.TheVariants as for
 use Rattle.mdl_key.specs.Keys.{KeyName}
 use Rattle.mdl_calls.specs.declared.answers.Settled.{Settled}
 use Rattle.mdl_calls.specs.declared.answers.Settled.TheVariants as settled
@@ -14,7 +13,7 @@ use Rattle.mdl_context.specs.declared.context_error.ContextError.{ContextError}
 use Rattle.mdl_context.specs.declared.context_error.ContextError.TheVariants.{Space}
 use Rattle.mdl_context.specs.declared.kept.Kept.{Kept}
 use Rattle.mdl_context.specs.declared.request.Mark.{Mark}
-use Rattle.mdl_context.specs.Contexts.{tickets_for, beyond_mark, of_transaction}
+use Rattle.mdl_context.specs.Contexts.{beyond_mark, of_statement, of_transaction}
 use Rattle.mdl_context.specs.Releases.{releasing, releasing_tickets}
 use Rattle.mdl_rows.specs.declared.ending.Ending.{Ending}
 use Rattle.mdl_rows.specs.declared.ending.Ending.TheVariants.{Answers, Misses, Falls, Starves}
@@ -55,7 +54,7 @@ ending_of_error _ = Misses Full
 -- duration, if it was done or a check failed, and all tickets beyond the mark, if it didn't get a lock or ran out of memory.
 -- Otherwise, and for the victim of a deadlock, all tickets of the statement and the transaction. Explicit tickets stay
 abbrev pub gone_at : Ending → Bool → Mark → List Kept → List Kept
-gone_at (Answers reply) true mark = tickets_for for.Statement
+gone_at (Answers reply) true mark = of_statement
 gone_at (Misses number) true mark = beyond_mark mark
 gone_at Starves true mark = beyond_mark mark
 gone_at _ _ mark = of_transaction

@@ -1,6 +1,8 @@
 -- Members of lists: the only one, those that pass a test, the last one, and those behind the first so many.
-use Rattle.std.proofs.Common.{◌≡◌, ◌⊎◌, inl, inr, ℕ, zero, suc, Bool, true, false, cond, List, [], ◌∷◌, Option, Some, None, Contains, drop, filter, refl, sym, ap, ◌∙◌, subst, arith}
+use Rattle.std.proofs.Common.{◌≡◌, ◌⊎◌, inl, inr, ℕ, zero, suc, Bool, true, false, cond, List, [], ◌∷◌, Option, Some, None, Contains, drop, filter, reverse, refl, sym, ap, ◌∙◌, subst, arith}
 use Rattle.std.specs.List.{last_or}
+use Rattle.std.proofs.lemmas.List.{reverse-append}
+use Rattle.std.proofs.lemmas.List.Elements.{Contains-append_cases}
 use Rattle.mdl_system.proofs.MemberLemmas.{Contains-none}
 use Rattle.mdl_system.proofs.OrderLemmas.{Contains-cons_cases, Contains-here, Contains-later}
 
@@ -31,6 +33,14 @@ among-filter {X} p (y ∷ ys) x among = go (λ there. let h = among-filter p ys 
       | inl behind ↦ later behind
       | inr same ↦ (subst (λ z. Contains (y ∷ ys) z) (sym same) (Contains-here y ys), ap p same ∙ e)
     ]
+
+-- who is in a list read backwards is in the list
+pub among-reverse : {X : Type 0} (xs : List X) (x : X) → Contains (reverse xs) x → Contains xs x
+among-reverse [] x among = among
+among-reverse (y ∷ ys) x among = elim (Contains-append_cases (reverse ys) (y ∷ []) x (subst (λ zs. Contains zs x) (reverse-append (y ∷ []) ys) among)) [
+  | inl later ↦ Contains-later y ys x (among-reverse ys x later)
+  | inr first ↦ subst (λ z. Contains (y ∷ ys) z) (sym (only-one y x first)) (Contains-here y ys)
+]
 
 -- the last item is among them
 last-from : {X : Type 0} (first : Option X) (xs : List X) (x : X) → last_or first xs ≡ Some x → (first ≡ Some x) ⊎ Contains xs x

@@ -15,7 +15,7 @@ use Rattle.mdl_context.specs.declared.context_error.ContextError.{ContextError}
 use Rattle.mdl_context.specs.declared.context_error.ContextError.TheVariants.{Space}
 use Rattle.mdl_context.specs.declared.kept.Kept.{Kept}
 use Rattle.mdl_context.specs.declared.request.Mark.{Mark}
-use Rattle.mdl_context.specs.Contexts.{ContextView, beyond, lasts, tickets_for}
+use Rattle.mdl_context.specs.Contexts.{ContextView, beyond, beyond_mark, lasts, newest_first, of_statement, tickets_for}
 use Rattle.mdl_context.specs.Releases.{releasing, releasing_tickets}
 use Rattle.mdl_context.specs.Requests.{Outcome}
 use Rattle.mdl_rows.specs.declared.ending.Ending.{Ending}
@@ -24,7 +24,7 @@ use Rattle.mdl_rows.specs.declared.reply.TableShown.{TableShown}
 use Rattle.mdl_rows.specs.Endings.{closing, ending_of_error, ending_of_loss, ending_of_refusal, gone_at, letting_go, pause_after, state_after, without_half}
 use Rattle.mdl_rows.specs.Sessions.{Session}
 use Rattle.mdl_rows.specs.States.{State, half_lock, lone_ticket, without_read_lock}
-use Rattle.mdl_script_laws.proofs.ListLemmas.{among-filter}
+use Rattle.mdl_script_laws.proofs.ListLemmas.{among-filter, among-reverse}
 use Rattle.mdl_script_laws.proofs.ShownCalls.{Leads, leads-bind}
 use Rattle.mdl_script_laws.proofs.RowRules.{IsUnlocked}
 use Rattle.mdl_script_laws.proofs.ShownContexts.{Fits}
@@ -47,21 +47,24 @@ module _ (old : TableShown → Type 0) (live : Bool) (locks : List (ℕ × KeyNa
   abbrev kept_before : List Kept
   kept_before = session.context.kept
 
+  -- what goes beyond the mark isn't among what was shown before
+  old-beyond : (x : TableShown) (stands : IsStanding a session.context x) → IsOld mark kept_before stands.ticket.id
+      → (k : Kept) → Contains (beyond_mark mark kept_before) k → k.id ≡ stands.ticket.id → ⊥
+  old-beyond x stands is k among e = elim (Contains-append_cases (newest_first (beyond Statement mark.statement kept_before))
+      (newest_first (beyond Transaction mark.transaction kept_before)) k among) [
+        | inl one ↦ not_firm kept_before k stands.ticket.id stands.firm
+            (drop-within mark.statement (tickets_for Statement kept_before) k (among-reverse (beyond Statement mark.statement kept_before) k one)) e
+        | inr other ↦ is k (among-reverse (beyond Transaction mark.transaction kept_before) k other) e
+      ]
+
   -- what goes leaves what was shown before
   old-stays : (ending : Ending) (x : TableShown) (stands : IsStanding a session.context x) → IsOld mark kept_before stands.ticket.id
       → (state_after ending session.state).is_open ≡ true
       → IsAmong (gone_at ending true mark kept_before) stands.ticket.id → ⊥
-  old-stays (Answers reply) x stands is opens (k, among, e) = not_firm kept_before k stands.ticket.id stands.firm among e
-  old-stays (Misses number) x stands is opens (k, among, e) = elim (Contains-append_cases (beyond Statement mark.statement kept_before)
-      (beyond Transaction mark.transaction kept_before) k among) [
-        | inl one ↦ not_firm kept_before k stands.ticket.id stands.firm (drop-within mark.statement (tickets_for Statement kept_before) k one) e
-        | inr other ↦ is k other e
-      ]
-  old-stays Starves x stands is opens (k, among, e) = elim (Contains-append_cases (beyond Statement mark.statement kept_before)
-      (beyond Transaction mark.transaction kept_before) k among) [
-        | inl one ↦ not_firm kept_before k stands.ticket.id stands.firm (drop-within mark.statement (tickets_for Statement kept_before) k one) e
-        | inr other ↦ is k other e
-      ]
+  old-stays (Answers reply) x stands is opens (k, among, e) =
+      not_firm kept_before k stands.ticket.id stands.firm (among-reverse (tickets_for Statement kept_before) k among) e
+  old-stays (Misses number) x stands is opens (k, among, e) = old-beyond x stands is k among e
+  old-stays Starves x stands is opens (k, among, e) = old-beyond x stands is k among e
   old-stays Falls x stands is opens among = cc
 
   still_open : (ending : Ending) → (state_after ending session.state).is_open ≡ true → session.state.is_open ≡ true
@@ -103,8 +106,8 @@ module _ (old : TableShown → Type 0) (live : Bool) (locks : List (ℕ × KeyNa
               → TellsAt e x → IsStanding b after x
           at (Answers reply) told gave tell =
               let stands = point.stands x (told x tell) in
-              standing-left a b (tickets_for Statement kept_before) session.context after x stands point.fits gave
-              (λ (k, among, e). not_firm kept_before k stands.ticket.id stands.firm among e)
+              standing-left a b (of_statement kept_before) session.context after x stands point.fits gave
+              (λ (k, among, e). not_firm kept_before k stands.ticket.id stands.firm (among-reverse (tickets_for Statement kept_before) k among) e)
           at (Misses number) told gave tell = absurd tell
           at Starves told gave tell = absurd tell
           at Falls told gave tell = absurd tell

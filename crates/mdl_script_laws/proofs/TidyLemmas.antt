@@ -6,7 +6,8 @@ use Rattle.std.proofs.lemmas.Bool.Decides.{nat_tests}
 use Rattle.mdl_key.specs.declared.mode.Duration.TheVariants.{Statement, Transaction}
 use Rattle.mdl_context.specs.declared.kept.Kept.{Kept}
 use Rattle.mdl_context.specs.declared.request.Mark.{Mark}
-use Rattle.mdl_context.specs.Contexts.{beyond, beyond_mark, has_number, lasts, of_transaction, tickets_for, without_tickets}
+use Rattle.mdl_context.specs.Contexts.{beyond, beyond_mark, has_number, lasts, newest_first, of_transaction, tickets_for, without_tickets}
+use Rattle.mdl_context.proofs.FrontLemmas.{has_number-newest}
 use Rattle.mdl_rows.specs.declared.ending.Ending.{Ending}
 use Rattle.mdl_rows.specs.declared.ending.Ending.TheVariants.{Answers, Misses, Falls, Starves}
 use Rattle.mdl_rows.specs.declared.reply.Reply.{Reply}
@@ -50,24 +51,34 @@ covers-own p (t ∷ ts) = by (p t) refl (covers-own p ts) where
       subst (λ gone. Covers p gone (t ∷ ts)) (sym (ap (λ b. cond b (t ∷ filter p ts) (filter p ts)) fails))
       (λ passes. absurd (false≢true (sym fails ∙ passes)), rest)
 
+-- in whatever order they go
+covers-newest : (p : Kept → Bool) (gone kept : List Kept) → Covers p gone kept → Covers p (newest_first gone) kept
+covers-newest p gone [] covers = tt
+covers-newest p gone (t ∷ ts) covers = (λ passes. has_number-newest gone t.id ∙ covers.0 passes, covers-newest p gone ts covers.1)
+
+covers-all : (p : Kept → Bool) (kept : List Kept) → Covers p (newest_first (filter p kept)) kept
+covers-all p kept = covers-newest p (filter p kept) kept (covers-own p kept)
+
 -- ---- how statements end
 
 -- the tickets of a statement, where it began with none
 covers-since : (mark : Mark) (kept : List Kept) → mark.statement ≡ 0 → Covers (lasts Statement) (beyond_mark mark kept) kept
 covers-since mark kept none =
-    covers-behind (lasts Statement) (beyond Statement mark.statement kept) (beyond Transaction mark.transaction kept) kept
-    (subst (λ n. Covers (lasts Statement) (beyond Statement n kept) kept) (sym none) (covers-own (lasts Statement) kept))
+    covers-behind (lasts Statement) (newest_first (beyond Statement mark.statement kept)) (newest_first (beyond Transaction mark.transaction kept)) kept
+    (subst (λ n. Covers (lasts Statement) (newest_first (beyond Statement n kept)) kept) (sym none) (covers-all (lasts Statement) kept))
 
 covers-statement : (kept : List Kept) → Covers (lasts Statement) (of_transaction kept) kept
-covers-statement kept = covers-behind (lasts Statement) (tickets_for Statement kept) (tickets_for Transaction kept) kept (covers-own (lasts Statement) kept)
+covers-statement kept =
+    covers-behind (lasts Statement) (newest_first (tickets_for Statement kept)) (newest_first (tickets_for Transaction kept)) kept (covers-all (lasts Statement) kept)
 
 covers-transaction : (kept : List Kept) → Covers (lasts Transaction) (of_transaction kept) kept
-covers-transaction kept = covers-before (lasts Transaction) (tickets_for Statement kept) (tickets_for Transaction kept) kept (covers-own (lasts Transaction) kept)
+covers-transaction kept =
+    covers-before (lasts Transaction) (newest_first (tickets_for Statement kept)) (newest_first (tickets_for Transaction kept)) kept (covers-all (lasts Transaction) kept)
 
 -- however it ends, the statement's go
 covers-ending : (ending : Ending) (is_open : Bool) (mark : Mark) (kept : List Kept) → mark.statement ≡ 0
     → Covers (lasts Statement) (gone_at ending is_open mark kept) kept
-covers-ending (Answers reply) true mark kept none = covers-own (lasts Statement) kept
+covers-ending (Answers reply) true mark kept none = covers-all (lasts Statement) kept
 covers-ending (Misses number) true mark kept none = covers-since mark kept none
 covers-ending Starves true mark kept none = covers-since mark kept none
 covers-ending (Answers reply) false mark kept none = covers-statement kept
@@ -103,5 +114,6 @@ none-of_transaction ending mark kept state shut =
 pub none-gone : (is_open : Bool) (answer : Reply) (mark : Mark) (kept : List Kept) → tickets_for Statement kept ≡ []
     → (is_open ≡ false → tickets_for Transaction kept ≡ [])
     → gone_at (Answers answer) is_open mark kept ≡ []
-none-gone true answer mark kept statement transaction = statement
-none-gone false answer mark kept statement transaction = ap (λ xs. xs ++ tickets_for Transaction kept) statement ∙ transaction refl
+none-gone true answer mark kept statement transaction = ap newest_first statement
+none-gone false answer mark kept statement transaction =
+    ap (λ xs. newest_first xs ++ newest_first (tickets_for Transaction kept)) statement ∙ ap newest_first (transaction refl)

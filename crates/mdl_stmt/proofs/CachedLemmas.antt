@@ -11,7 +11,7 @@ use Rattle.mdl_context.specs.declared.kept.Wanted.{Wanted}
 use Rattle.mdl_context.specs.declared.request.Acquire.{Acquire}
 use Rattle.mdl_context.specs.declared.request.Resume.{Resume}
 use Rattle.mdl_context.specs.declared.request.Tried.{Tried}
-use Rattle.mdl_context.specs.Contexts.{ContextView, of_transaction}
+use Rattle.mdl_context.specs.Contexts.{ContextView, newest_first, of_transaction}
 use Rattle.mdl_context.specs.MemoryLaws.{IsOwnCall}
 use Rattle.mdl_context.specs.Releases.{giving_up_all, releasing, releasing_tickets}
 use Rattle.mdl_context.specs.Requests.{Outcome, acquiring, trying}
@@ -44,8 +44,8 @@ none_given_up gone context = reads-none {A = Outcome (Unit {0})} context.who (re
 none_all : (context : ContextView) → ReadsNone (giving_up_all context >> Give (tt {0}))
 none_all context =
     calls_bind {A = Outcome (Unit {0})} {B = Unit {0}} IsUnread (giving_up_all context) (λ _. Give (tt {0}))
-    (calls_bind {A = Outcome (Unit {0})} {B = Outcome (Unit {0})} IsUnread (releasing_tickets (of_transaction context.kept) context) (λ outcome. releasing_tickets outcome.1.kept outcome.1)
-    (none_given_up (of_transaction context.kept) context) (λ outcome. none_given_up outcome.1.kept outcome.1)) (λ _. tt)
+    (calls_bind {A = Outcome (Unit {0})} {B = Outcome (Unit {0})} IsUnread (releasing_tickets (of_transaction context.kept) context) (λ outcome. releasing_tickets (newest_first outcome.1.kept) outcome.1)
+    (none_given_up (of_transaction context.kept) context) (λ outcome. none_given_up (newest_first outcome.1.kept) outcome.1)) (λ _. tt)
 
 none_leaving_from : (wait : Option Wanted) (context : ContextView) → ReadsNone (leaving_from wait context)
 none_leaving_from None context = none_all context

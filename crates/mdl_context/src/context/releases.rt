@@ -2,9 +2,8 @@
 ghost use Rattle.std.specs.Prelude.{◌≡◌, [], None, Ok};
 ghost use Rattle.mdl_key.specs.Refusals.{RefusesJust};
 ghost use Rattle.mdl_calls.specs.Words.{Runs};
-ghost use Rattle.mdl_context.specs.Contexts.{beyond, beyond_mark, tickets_for, of_transaction, without_tickets, Attends, LeavesOthers};
+ghost use Rattle.mdl_context.specs.Contexts.{beyond, beyond_mark, newest_first, of_statement, of_transaction, without_tickets, Attends, LeavesOthers};
 ghost use Rattle.mdl_context.specs.Releases.{releasing_all, releasing_tickets, waiting_fault, release_fault, rollback_fault, releasing, releasing_name, rolling_back, ending_statement, ending_transaction, giving_up_all};
-ghost use Rattle.mdl_key.specs.declared.mode.Duration.TheVariants.{Statement};
 
 use crate::going::Going;
 use crate::releasing::{release, release_all};
@@ -41,7 +40,7 @@ impl<S: LockSpace> Context<S> {
         Ok(())
     }
 
-    /// Releases all tickets of a key, in the order in which the session got them. Takes no memory.
+    /// Releases all tickets of a key, from the newest to the oldest. Takes no memory.
     ///
     /// After MySQL 5.7, `MDL_context::release_all_locks_for_name` of `sql/mdl.cc`.
     pub fn release_name(&mut self, space: &mut S, key: &Key) -> Result<(), ContextError>
@@ -95,7 +94,7 @@ impl<S: LockSpace> Context<S> {
         Ok(())
     }
 
-    /// Ends a statement: releases its tickets, in the order in which the session got them. Takes no memory.
+    /// Ends a statement: releases its tickets, from the newest to the oldest. Takes no memory.
     ///
     /// After MySQL 5.7, `MDL_context::release_statement_locks` of `sql/mdl.cc`.
     pub fn end_statement(&mut self, space: &mut S) -> Result<(), ContextError>
@@ -113,7 +112,8 @@ impl<S: LockSpace> Context<S> {
         Ok(())
     }
 
-    /// Ends a transaction: releases the tickets of the statement, and then those of the transaction. Takes no memory.
+    /// Ends a transaction: releases the tickets of the statement, and then those of the transaction, each from the newest to
+    /// the oldest. Takes no memory.
     ///
     /// After MySQL 5.7, `MDL_context::release_transactional_locks` of `sql/mdl.cc`.
     pub fn end_transaction(&mut self, space: &mut S) -> Result<(), ContextError>
@@ -150,7 +150,7 @@ impl<S: LockSpace> Context<S> {
     pub fn finish_statement(&mut self, space: &mut S)
         requires attends { Attends S.LockSpace space.old self.old }
         requires idle { self.old.wait ≡ None }
-        ensures run { Runs S.joins space.old (releasing_tickets (tickets_for Statement self.old.kept) self.old) (Ok tt, self.new) space.new }
+        ensures run { Runs S.joins space.old (releasing_tickets (of_statement self.old.kept) self.old) (Ok tt, self.new) space.new }
         ensures attends { Attends S.LockSpace space.new self.new }
         ensures others { LeavesOthers S.LockSpace self.old.who space.old space.new }
         ensures who { self.new.who ≡ self.old.who }
@@ -173,7 +173,7 @@ impl<S: LockSpace> Context<S> {
     }
 
     /// Releases all tickets of a session that is known to have no wait: those of the statement, those of the transaction,
-    /// and then the explicit ones. Takes no memory.
+    /// and then the explicit ones, each from the newest to the oldest. Takes no memory.
     ///
     /// After MySQL 5.7, `THD::cleanup` of `sql/sql_class.cc`.
     pub fn finish_all(&mut self, space: &mut S)
@@ -190,11 +190,11 @@ impl<S: LockSpace> Context<S> {
         self.release_beyond(space, Duration::Explicit, 0);
     }
 
-    // Releases the tickets of a duration after the first `most`.
+    // Releases the tickets of a duration after the first `most`, from the newest to the oldest.
     fn release_beyond(&mut self, space: &mut S, duration: Duration, most: usize)
         requires attends { Attends S.LockSpace space.old self.old }
         requires idle { self.old.wait ≡ None }
-        ensures run { Runs S.joins space.old (releasing_all self.old.who (beyond duration most self.old.kept)) tt space.new }
+        ensures run { Runs S.joins space.old (releasing_all self.old.who (newest_first (beyond duration most self.old.kept))) tt space.new }
         ensures kept { self.new ≡ record self.old { kept = without_tickets (beyond duration most self.old.kept) self.old.kept } }
         ensures attends { Attends S.LockSpace space.new self.new }
     {

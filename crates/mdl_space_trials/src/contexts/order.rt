@@ -107,15 +107,15 @@ const S_OF_STATEMENT_BACK: &[Row] = &[
     SH_WAITS,
 ];
 
-// Tickets of one duration are released in the order in which the session got them.
+// Tickets of one duration are released from the newest to the oldest.
 const STATEMENT: &[Row] = &[
     S_OF_STATEMENT,
     X_OF_STATEMENT,
     WAIT_FOR_X,
     WAIT_FOR_SH,
     (1, Act::EndStatement, Reply::Done),
-    X_IS_GRANTED,
-    SH_WAITS,
+    X_WAITS,
+    SH_IS_GRANTED,
 ];
 
 const TRANSACTION: &[Row] = &[
@@ -124,8 +124,8 @@ const TRANSACTION: &[Row] = &[
     WAIT_FOR_X,
     WAIT_FOR_SH,
     (1, Act::EndTransaction, Reply::Done),
-    X_IS_GRANTED,
-    SH_WAITS,
+    X_WAITS,
+    SH_IS_GRANTED,
 ];
 
 const TRANSACTION_BACK: &[Row] = &[
@@ -134,8 +134,8 @@ const TRANSACTION_BACK: &[Row] = &[
     WAIT_FOR_X,
     WAIT_FOR_SH,
     (1, Act::GoBack(0, 0), Reply::Done),
-    X_IS_GRANTED,
-    SH_WAITS,
+    X_WAITS,
+    SH_IS_GRANTED,
 ];
 
 const NAME_IN_TRANSACTION: &[Row] = &[
@@ -144,8 +144,8 @@ const NAME_IN_TRANSACTION: &[Row] = &[
     WAIT_FOR_X,
     WAIT_FOR_SH,
     (1, Act::ReleaseName(Lock::A), Reply::Done),
-    X_IS_GRANTED,
-    SH_WAITS,
+    X_WAITS,
+    SH_IS_GRANTED,
 ];
 
 const EXPLICIT_NAME: &[Row] = &[
@@ -154,8 +154,8 @@ const EXPLICIT_NAME: &[Row] = &[
     WAIT_FOR_X,
     WAIT_FOR_SH,
     (1, Act::ReleaseName(Lock::A), Reply::Done),
-    X_IS_GRANTED,
-    SH_WAITS,
+    X_WAITS,
+    SH_IS_GRANTED,
 ];
 
 // The same for tickets of one name, whatever their durations are.
@@ -178,8 +178,8 @@ const OF_A_NAME: &[Row] = &[
     WAIT_FOR_X,
     WAIT_FOR_SH,
     (1, Act::ReleaseName(Lock::A), Reply::Done),
-    X_WAITS,
-    SH_IS_GRANTED,
+    X_IS_GRANTED,
+    SH_WAITS,
     // Tickets of other names stay.
     (1, Act::Release(3), Reply::Done),
 ];
@@ -201,16 +201,19 @@ pub(super) const STORIES: &[Story] = &[
         "S of the statement goes first on the way back",
         S_OF_STATEMENT_BACK,
     ),
-    ("tickets of the statement go as they came", STATEMENT),
-    ("tickets of the transaction go as they came", TRANSACTION),
+    ("the newest of the statement goes first", STATEMENT),
+    ("the newest of the transaction goes first", TRANSACTION),
     (
-        "tickets of the transaction go back as they came",
+        "the newest of the transaction goes first on the way back",
         TRANSACTION_BACK,
     ),
     (
-        "tickets of a name and the transaction go as they came",
+        "the newest of a name and the transaction goes first",
         NAME_IN_TRANSACTION,
     ),
-    ("explicit tickets of a name go as they came", EXPLICIT_NAME),
-    ("tickets of a name go as they came", OF_A_NAME),
+    (
+        "the newest explicit one of a name goes first",
+        EXPLICIT_NAME,
+    ),
+    ("the newest of a name goes first", OF_A_NAME),
 ];

@@ -6,8 +6,8 @@ use Rattle.mdl_context.specs.Indexes.{has_room_for}
 use Rattle.mdl_context.proofs.ReleaseLemmas.{left}
 use Rattle.mdl_context.proofs.holdings.drop_numbers.Given as goal
 
-abbrev pub invariant-loop-ticket : goal.invariant-loop-ticket
-invariant-loop-ticket l = record {
-  index : IsIndexOf (left (goes l.going) l.ticket-index l.tickets) l.by_place;
+abbrev pub invariant-loop-at : goal.invariant-loop-at
+invariant-loop-at l = record {
+  index : IsIndexOf (left (goes l.going) l.at l.tickets) l.by_place;
   room : (place : ℕ) → has_room_for place l.fn.by_place ≡ true → has_room_for place l.by_place ≡ true;
 }

@@ -149,19 +149,20 @@ impl Plain {
         Ok(())
     }
 
-    // Releases these tickets of a session, except the first `most` of them.
+    // Releases these tickets of a session, except the first `most` of them, from the newest to the oldest.
     fn give_up_all(&mut self, who: u16, which: Which, most: usize) {
         for _ticket in 0..self.tickets.len() {
-            match self.first_beyond(who, which, most) {
+            match self.last_beyond(who, which, most) {
                 Some(number) => self.let_go(who, number),
                 None => return,
             }
         }
     }
 
-    // Returns the first ticket to release.
-    fn first_beyond(&self, who: u16, which: Which, most: usize) -> Option<TicketId> {
+    // Returns the newest ticket to release.
+    fn last_beyond(&self, who: u16, which: Which, most: usize) -> Option<TicketId> {
         let mut left = most;
+        let mut last = None;
         for ticket in &self.tickets {
             let is_one = match which {
                 Which::Of(lock) => ticket.lock == lock,
@@ -169,12 +170,13 @@ impl Plain {
             };
             if is_one && self.is_held(ticket, who) {
                 if left == 0 {
-                    return Some(ticket.number);
+                    last = Some(ticket.number);
+                } else {
+                    left -= 1;
                 }
-                left -= 1;
             }
         }
-        None
+        last
     }
 
     // Makes all tickets of a session explicit, or gives its explicit ones, except those of user-level locks, the transaction's duration.

@@ -1,7 +1,7 @@
 -- The first ticket that goes tells the others by its number.
 use Rattle.std.proofs.Common.{◌≡◌, [], refl, sym, ap, ◌∙◌}
 use Rattle.std.specs.Prelude.{is_some}
-use Rattle.mdl_context.specs.Contexts.{AreRising, beyond, without_tickets}
+use Rattle.mdl_context.specs.Contexts.{AreRising, beyond, newest_first, without_tickets}
 use Rattle.mdl_context.proofs.BeyondLemmas.{rising-kept, gone-beyond, kept-beyond, none-beyond, without-none, same-context, run-as, run-none}
 use Rattle.mdl_context.proofs.AttendLemmas.{attends-left}
 use Rattle.mdl_context.proofs.ServingLemmas.{serves-left}
@@ -13,7 +13,7 @@ returns-in-Some-clause-run g c =
     let rising : AreRising kept = rw (← c.self.view_is) at (rising-kept _ _ (g.met.S.LockSpace.laws.rising _ _ c.requires.attends.speaks) c.requires.attends.serves) in
     rw (← c.self.view_is)
     (run-as g.S.LockSpace.joins c.self.inside.who _ _ c.args.space.now c.release_all.new.space
-    (gone-beyond c.args.duration c.args.most c.in-Some.first kept c.nth_for.result rising c.nth_for.ensures c.in-Some.is) c.release_all.ensures.run)
+    (ap newest_first (gone-beyond c.args.duration c.args.most c.in-Some.first kept c.nth_for.result rising c.nth_for.ensures c.in-Some.is)) c.release_all.ensures.run)
 
 pub returns-in-Some-clause-kept : goal.returns-in-Some-clause-kept
 returns-in-Some-clause-kept g c =
@@ -27,7 +27,7 @@ pub returns-in_default-clause-run : goal.returns-in_default-clause-run
 returns-in_default-clause-run g c =
     rw (← c.self.view_is)
     (run-none g.S.LockSpace.joins c.self.inside.who _ c.args.space.now
-    (none-beyond c.args.duration c.args.most c.self.inside.holdings.kept c.nth_for.result c.nth_for.ensures c.in_default.is))
+    (ap newest_first (none-beyond c.args.duration c.args.most c.self.inside.holdings.kept c.nth_for.result c.nth_for.ensures c.in_default.is)))
 
 pub returns-in_default-clause-kept : goal.returns-in_default-clause-kept
 returns-in_default-clause-kept g c =
