@@ -70,10 +70,9 @@ class Case:
         return self.script.count(b"\n") + 1
 
     def most_seconds(self):
-        """Returns how many seconds the run may take, on a busy machine. A savepoint is looked for among all, and a session that waits looks again."""
-        savepoints = self.script.count(b"SAVEPOINT")
+        """Returns how many seconds the run may take, on a busy machine. A session that waits looks again."""
         polls = self.patience * 20e-6 if self.subcommand == "run" else 0
-        return 20 + self.lines() * (200e-6 + polls) + savepoints**2 * 1e-6
+        return 20 + self.lines() * (200e-6 + polls)
 
     def most_memory(self, written):
         """Returns how many bytes of memory the run may take. The text doubles as it grows, and is copied then. There is a record for each line, which

@@ -166,7 +166,7 @@ def large(chance, language):
     if kind == 1:
         return chance.choice([b"x", b" ", b"\n", b"#", b"\x80", b"\r"]) * chance.choice([100_000, 1_000_000, 4_000_000])
     if kind == 2:
-        return b"".join(b"1 SAVEPOINT p%d\n" % it if it else b"1 BEGIN\n" for it in range(chance.choice([300, 3_000])))
+        return b"".join(b"1 SAVEPOINT p%d\n" % it if it else b"1 BEGIN\n" for it in range(chance.choice([300, 30_000])))
     if kind == 3:
         columns = b" ".join(b"c" * 56 + b"%d" % it for it in range(10, 74))
         tables = b"".join(b"1 CREATE TABLE %c %s\n" % (it, columns) for it in b"abcdefgh")

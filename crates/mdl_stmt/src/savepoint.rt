@@ -1,28 +1,27 @@
 //! Savepoints.
-ghost use Rattle.std.specs.Prelude.{◌≡◌, ◌≤◌, [], not, filter, OnOk, OnErr};
-ghost use Rattle.std.specs.List.{position};
-ghost use Rattle.std.specs.Vec.{vec_len, vec_capacity};
-ghost use Rattle.mdl_rows.specs.States.{is_savepoint_named, with_savepoint, savepoint_mark, up_to};
+ghost use Rattle.std.specs.Prelude.{◌≡◌, [], OnOk, OnErr};
+ghost use Rattle.mdl_rows.specs.States.{with_savepoint, savepoint_mark, up_to};
 
+use indexmap::IndexMap;
 use mdl_context::Mark;
-use mdl_rows::Savepoint;
 use mdl_syntax::Name;
 use std::alloc::{AllocError, Global};
 use std::marker::Model;
 
-/// The savepoints of a transaction, in order.
+/// The savepoints of a transaction, in order. A savepoint is found by a hash of its name.
 #[derive(Drop)]
 pub struct Savepoints {
-    list: Vec<Savepoint>,
+    marks: IndexMap<String, Mark>,
 }
 
 impl Model for Savepoints {
-    ghost use Rattle.std.specs.Prelude.{List};
+    ghost use Rattle.std.specs.Prelude.{List, map};
+    ghost use Rattle.std.specs.String.{string_bytes};
     ghost use Rattle.mdl_rows.specs.declared.state.Savepoint.{Savepoint};
 
     ghost Value = { List Savepoint };
 
-    ghost view = { λ savepoints. savepoints.list.items };
+    ghost view = { λ savepoints. map (λ entry. record { name = string_bytes entry.0; mark = entry.1 }) savepoints.marks.entries };
 }
 
 impl Savepoints {
@@ -31,7 +30,7 @@ impl Savepoints {
         ensures { result ≡ [] }
     {
         Savepoints {
-            list: Vec::new(alloc),
+            marks: IndexMap::new(alloc),
         }
     }
 
@@ -39,7 +38,7 @@ impl Savepoints {
     pub(crate) fn clear(&mut self)
         ensures { self.new ≡ [] }
     {
-        self.list.clear();
+        self.marks.truncate(0);
     }
 
     /// Adds a savepoint at the end, and removes an older one of its name.
@@ -47,10 +46,10 @@ impl Savepoints {
         ensures saved { OnOk result (self.new ≡ with_savepoint name.now mark self.old) }
         ensures unchanged { OnErr result (self.new ≡ self.old) }
     {
-        let copy = name.clone()?;
-        self.list.reserve(1)?;
-        leave_others(&mut self.list, name);
-        self.list.push(Savepoint { name: copy, mark })?;
+        let copy = String::from_str(*self.marks.allocator(), name.as_str())?;
+        self.marks.reserve(1)?;
+        self.marks.shift_remove(name.as_str());
+        self.marks.insert(copy, mark).unwrap();
         Ok(())
     }
 
@@ -59,32 +58,10 @@ impl Savepoints {
         ensures found { result ≡ savepoint_mark name.now self.old }
         ensures kept { self.new ≡ up_to name.now self.old }
     {
-        let at = index_of(&self.list, name)?;
-        let mark = self.list[at].mark;
-        self.list.truncate(at + 1);
+        let at = self.marks.get_index_of(name.as_str())?;
+        prove!(at < self.marks.len());
+        let mark = self.marks[at];
+        self.marks.truncate(at + 1);
         Some(mark)
     }
-}
-
-// Whether a savepoint has this name.
-fn is_named(savepoint: &Savepoint, name: &Name) -> bool
-    ensures { result ≡ is_savepoint_named name.now savepoint.now }
-{
-    savepoint.name.as_str() == name.as_str()
-}
-
-// Keeps the savepoints of other names.
-fn leave_others(list: &mut Vec<Savepoint>, name: &Name)
-    ensures kept { list.new.items ≡ filter (λ savepoint. not (is_savepoint_named name.now savepoint)) list.old.items }
-    ensures capacity { vec_capacity list.new ≡ vec_capacity list.old }
-    ensures bound { vec_len list.new ≤ vec_len list.old }
-{
-    list.retain(|savepoint| !is_named(savepoint, name));
-}
-
-// The index of the first savepoint of a name.
-fn index_of(list: &[Savepoint], name: &Name) -> Option<usize>
-    ensures { result ≡ position (is_savepoint_named name.now) list.now }
-{
-    list.iter().position(|savepoint| is_named(savepoint, name))
 }
