@@ -48,6 +48,7 @@ pub mod QuietDeeds
 pub mod FastDone
 pub mod FastFacts
 pub mod SlowPlaces
+pub mod TicketSlowing
 pub mod SlowHeld
 pub mod FastWishing
 pub mod SlowFirst

@@ -21,14 +21,14 @@ use Rattle.mdl_shared.proofs.QuietDeeds.{shows-first, shows-later}
 
 -- ---- the tickets of one place, without those of another
 
-none-left : (place : ℕ) (tickets : List SessionTicket) → own_at place (but_at place tickets) ≡ []
+pub none-left : (place : ℕ) (tickets : List SessionTicket) → own_at place (but_at place tickets) ≡ []
 none-left place [] = refl
 none-left place (t ∷ ts) =
     by_bool (t.place == place)
     (λ here. rw here (none-left place ts))
     (λ there. rw (there, there) (none-left place ts))
 
-all-left : (place q : ℕ) (tickets : List SessionTicket) → (q == place) ≡ false → own_at q (but_at place tickets) ≡ own_at q tickets
+pub all-left : (place q : ℕ) (tickets : List SessionTicket) → (q == place) ≡ false → own_at q (but_at place tickets) ≡ own_at q tickets
 all-left place q [] apart = refl
 all-left place q (t ∷ ts) apart =
     by_bool (t.place == place)
@@ -108,7 +108,7 @@ all-slow a b so unfast = go [] a.me.0.fast (λ q. each q (so q))
 -- ---- there was no room
 
 -- the session has none where it has none at any place
-none-anywhere : (fast : List SessionTicket) → ((q : ℕ) → own_at q fast ≡ []) → fast ≡ []
+pub none-anywhere : (fast : List SessionTicket) → ((q : ℕ) → own_at q fast ≡ []) → fast ≡ []
 none-anywhere [] none = refl
 none-anywhere (t ∷ ts) none = absurd (filled t [] ts (none t.place))
 

@@ -21,26 +21,26 @@ use Rattle.mdl_shared.specs.OwnLists.{as_held}
 use Rattle.mdl_shared.specs.Waitings.{are_below_next}
 use Rattle.mdl_shared.specs.declared.tickets.Gained.{Gained}
 use Rattle.mdl_shared.specs.declared.tickets.OfPlace.{OfPlace}
-use Rattle.mdl_shared.specs.OwnTickets.{AreKept, HaveRisingNumbers, StandsAt, counted_at, fast_counted_at, fast_of, is_at_place, is_fast_there, noted_in, slow_of, slowed, with_note}
-use Rattle.mdl_shared.proofs.TicketParts.{counted, later_rise, parted, some_of}
+use Rattle.mdl_shared.specs.OwnTickets.{HaveRisingNumbers, AreKept, StandsAt, counted_at, fast_counted_at, fast_of, is_at_place, is_fast_there, noted_in, slow_of, with_note}
+use Rattle.mdl_shared.proofs.TicketParts.{counted, later_rise, parted, slowed_there, some_of}
 use Rattle.mdl_shared.proofs.TicketSearch.{each_at, nowhere}
 
 -- the first number is below one that stands later
-lower : (id : ℕ) (x : Gained) (xs : List Gained) (at : ℕ) → HaveRisingNumbers (x ∷ xs) → StandsAt id (suc at) (x ∷ xs) → x.id < id
+pub lower : (id : ℕ) (x : Gained) (xs : List Gained) (at : ℕ) → HaveRisingNumbers (x ∷ xs) → StandsAt id (suc at) (x ∷ xs) → x.id < id
 lower id x xs at rising stands = subst (λ n. x.id < n) (stands.1 x) (rising 0 (suc at) x (omega arith) stands.0)
 
-later_stands : (id : ℕ) (x : Gained) (xs : List Gained) (at : ℕ) → StandsAt id (suc at) (x ∷ xs) → StandsAt id at xs
+pub later_stands : (id : ℕ) (x : Gained) (xs : List Gained) (at : ℕ) → StandsAt id (suc at) (x ∷ xs) → StandsAt id at xs
 later_stands id x xs at stands = (omega (arith, stands.0), stands.1)
 
 -- no later ticket has the number
 apart : (id : ℕ) (x : Gained) (xs : List Gained) (d : Gained) → HaveRisingNumbers (x ∷ xs) → x.id ≡ id → (k : ℕ) → k < length xs → id < (get_or xs k d).id
 apart id x xs d rising is k inside = subst (λ n. n < (get_or xs k d).id) is (rising 0 (suc k) d (omega arith) (omega (arith, inside)))
 
-alone : (id : ℕ) (x : Gained) (xs : List Gained) → HaveRisingNumbers (x ∷ xs) → x.id ≡ id → list_all (λ t. not (t.id == id)) xs ≡ true
+pub alone : (id : ℕ) (x : Gained) (xs : List Gained) → HaveRisingNumbers (x ∷ xs) → x.id ≡ id → list_all (λ t. not (t.id == id)) xs ≡ true
 alone id x xs rising is = each_at _ x xs (λ k inside. grind (arith, nat_tests, apart id x xs x rising is k inside))
 
 -- what holds of an index holds of each
-rest : (p : Gained → Bool) (x : Gained) (xs : List Gained) → list_all p (x ∷ xs) ≡ true → list_all p xs ≡ true
+pub rest : (p : Gained → Bool) (x : Gained) (xs : List Gained) → list_all p (x ∷ xs) ≡ true → list_all p xs ≡ true
 rest p x xs all = grind (arith, nat_tests)
 
 -- ---- a ticket is found, among those that pass a test
@@ -353,27 +353,27 @@ told ps (x ∷ xs) = ap (λ ts. as_held (with_note [] x) ∷ ts) (told ps xs)
 
 -- ---- tickets are made slow
 
-same_numbers : (place : ℕ) (xs : List Gained) (i : ℕ) (d : Gained) → i < length xs → (get_or (map (slowed place) xs) i d).id ≡ (get_or xs i d).id
+same_numbers : (place : ℕ) (xs : List Gained) (i : ℕ) (d : Gained) → i < length xs → (get_or (map (slowed_there place) xs) i d).id ≡ (get_or xs i d).id
 same_numbers place [] i d inside = refl
 same_numbers place (x ∷ xs) zero d inside = refl
 same_numbers place (x ∷ xs) (suc i) d inside = same_numbers place xs i d (omega (arith, inside))
 
 -- as many are at each place as before
-count_slowed : (place q : ℕ) (xs : List Gained) → count_by (is_at_place q) (map (slowed place) xs) ≡ count_by (is_at_place q) xs
+count_slowed : (place q : ℕ) (xs : List Gained) → count_by (is_at_place q) (map (slowed_there place) xs) ≡ count_by (is_at_place q) xs
 count_slowed place q [] = refl
-count_slowed place q (x ∷ xs) = counted (is_at_place q) (slowed place x) (map (slowed place) xs) ∙ ap (λ n. cond (x.place == q) 1 0 + n) (count_slowed place q xs) ∙ sym (counted (is_at_place q) x xs)
+count_slowed place q (x ∷ xs) = counted (is_at_place q) (slowed_there place x) (map (slowed_there place) xs) ∙ ap (λ n. cond (x.place == q) 1 0 + n) (count_slowed place q xs) ∙ sym (counted (is_at_place q) x xs)
 
 -- no fast one at this
-fast_slowed : (place q : ℕ) (xs : List Gained) → count_by (is_fast_there q) xs ≡ count_by (is_fast_there q) (map (slowed place) xs) + (if q == place then count_by (is_fast_there place) xs else 0)
+fast_slowed : (place q : ℕ) (xs : List Gained) → count_by (is_fast_there q) xs ≡ count_by (is_fast_there q) (map (slowed_there place) xs) + (if q == place then count_by (is_fast_there place) xs else 0)
 fast_slowed place q [] = grind (arith, nat_tests)
 fast_slowed place q (x ∷ xs) =
-    grind (arith, nat_tests, counted (is_fast_there q) x xs, counted (is_fast_there place) x xs, counted (is_fast_there q) (slowed place x) (map (slowed place) xs), fast_slowed place q xs)
+    grind (arith, nat_tests, counted (is_fast_there q) x xs, counted (is_fast_there place) x xs, counted (is_fast_there q) (slowed_there place x) (map (slowed_there place) xs), fast_slowed place q xs)
 
 -- and so many less in all
-all_slowed : (place : ℕ) (xs : List Gained) → count_by (λ t. t.fast) xs ≡ count_by (λ t. t.fast) (map (slowed place) xs) + count_by (is_fast_there place) xs
+all_slowed : (place : ℕ) (xs : List Gained) → count_by (λ t. t.fast) xs ≡ count_by (λ t. t.fast) (map (slowed_there place) xs) + count_by (is_fast_there place) xs
 all_slowed place [] = refl
 all_slowed place (x ∷ xs) =
-    grind (arith, nat_tests, counted (λ t. t.fast) x xs, counted (is_fast_there place) x xs, counted (λ t. t.fast) (slowed place x) (map (slowed place) xs), all_slowed place xs)
+    grind (arith, nat_tests, counted (λ t. t.fast) x xs, counted (is_fast_there place) x xs, counted (λ t. t.fast) (slowed_there place x) (map (slowed_there place) xs), all_slowed place xs)
 
 -- no more are fast at a place than in all
 pub fewer_there : (place : ℕ) (ps : List OfPlace) (xs : List Gained) (fast : ℕ) → AreKept xs ps fast → fast_counted_at place ps ≤ fast
@@ -381,10 +381,10 @@ fewer_there place ps xs fast kept = let all = all_slowed place xs in let in_all 
 
 pub kept_slowed : (place : ℕ) (ps qs : List OfPlace) (xs : List Gained) (fast less : ℕ) → less ≡ fast_counted_at place ps
     → length qs ≡ length ps → ((q : ℕ) → counted_at q qs ≡ counted_at q ps) → ((q : ℕ) → fast_counted_at q qs ≡ (if q == place then 0 else fast_counted_at q ps))
-    → AreKept xs ps fast → AreKept (map (slowed place) xs) qs (fast - less)
+    → AreKept xs ps fast → AreKept (map (slowed_there place) xs) qs (fast - less)
 kept_slowed place ps qs xs fast less is long counts fasts kept = record {
   rising = λ i j d before inside.
-      let within : j < length xs = rw (length-map xs (slowed place)) at inside in
+      let within : j < length xs = rw (length-map xs (slowed_there place)) at inside in
       rw (same_numbers place xs i d (omega (arith, before, within)), same_numbers place xs j d within) (kept.rising i j d before within);
   counted = λ q. counts q ∙ kept.counted q ∙ sym (count_slowed place q xs);
   fast_counted = λ q. grind (arith, nat_tests, fast_slowed place q xs, fasts q, kept.fast_counted q);

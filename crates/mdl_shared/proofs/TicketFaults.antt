@@ -99,6 +99,11 @@ merge-passed kept gone asks e = by (is_some asks) e
         let rest = and_parts (kept.place == gone.place) (covers gone.mode kept.mode) parts.1 in
         (λ same. false≢true (ap not (sym (eq-eqb kept.number gone.number same)) ∙ parts.0), eqb-true kept.place gone.place rest.0, rest.1)
 
+-- without a wait of the session
+pub merge-idle : (kept gone : SessionTicket) (asks : Option Ask) → merge_fault (Some kept) (Some gone) asks ≡ None → asks ≡ None
+merge-idle kept gone None e = refl
+merge-idle kept gone (Some a) e = cc
+
 -- so they are at one place
 pub merge-here : (kept gone : SessionTicket) (asks : Option Ask) → merge_fault (Some kept) (Some gone) asks ≡ None → is_here kept.place gone ≡ true
 merge-here kept gone asks e = eq-eqb gone.place kept.place (sym (merge-passed kept gone asks e).1)

@@ -17,11 +17,11 @@ use Rattle.mdl_steps.proofs.Interleaving.{inserted-first, interleaved-cons}
 use Rattle.mdl_steps.proofs.Views.{by_bool, other}
 use Rattle.mdl_shared.specs.declared.tickets.Gained.{Gained}
 use Rattle.mdl_shared.specs.declared.tickets.OfPlace.{OfPlace}
-use Rattle.mdl_shared.specs.OwnTickets.{AreKept, HaveRisingNumbers, fast_counted_at, fast_of, has_fast, is_at_place, is_fast_there, noted_in, slow_of, slowed, with_note}
+use Rattle.mdl_shared.specs.OwnTickets.{HaveRisingNumbers, fast_of, is_at_place, is_fast_there, noted_in, slow_of, with_note}
 use Rattle.mdl_shared.proofs.TicketSearch.{no_ticket}
 
 abbrev pub no_place : OfPlace
-no_place = record { tickets = 0; fast = 0; noted = None; owes = false }
+no_place = record { tickets = 0; fast = 0; version = 0; is_noted = false; owes = false }
 
 -- those of the tickets that pass a test, with their notes
 abbrev pub some_of : List OfPlace → (Gained → Bool) → List Gained → List SessionTicket
@@ -159,12 +159,16 @@ note_slow place ps xs none =
 
 -- ---- made slow
 
+-- a ticket, made slow if it is at a place
+abbrev pub slowed_there : ℕ → Gained → Gained
+slowed_there place t = record t { fast = t.fast && not (t.place == place) }
+
 -- the fast tickets at a place are put among the slow ones
 pub made_slow : (place : ℕ) (ps : List OfPlace) (xs : List Gained) → HaveRisingNumbers xs
-    → slow_of ps (map (slowed place) xs) ≡ interleaved (slow_of ps xs) (own_at place (fast_of ps xs))
+    → slow_of ps (map (slowed_there place) xs) ≡ interleaved (slow_of ps xs) (own_at place (fast_of ps xs))
 made_slow place ps xs rising = slow xs rising ∙ ap (interleaved (slow_of ps xs)) (sym (there place ps (λ t. t.fast) xs))
   where
-    slow : (ts : List Gained) → HaveRisingNumbers ts → slow_of ps (map (slowed place) ts) ≡ interleaved (slow_of ps ts) (some_of ps (is_fast_there place) ts)
+    slow : (ts : List Gained) → HaveRisingNumbers ts → slow_of ps (map (slowed_there place) ts) ≡ interleaved (slow_of ps ts) (some_of ps (is_fast_there place) ts)
     slow [] rising = refl
     slow (t ∷ ts) rising =
         let later = ap (λ us. with_note ps t ∷ us) (slow ts (later_rise t ts rising)) in
@@ -177,7 +181,7 @@ made_slow place ps xs rising = slow xs rising ∙ ap (interleaved (slow_of ps xs
         (λ slows. rw (slows) (later ∙ sym (before_slow ps (λ u. not u.fast) (is_fast_there place) t ts rising))))
 
 -- and the others stay fast
-pub stay_fast : (place : ℕ) (ps : List OfPlace) (xs : List Gained) → fast_of ps (map (slowed place) xs) ≡ but_at place (fast_of ps xs)
+pub stay_fast : (place : ℕ) (ps : List OfPlace) (xs : List Gained) → fast_of ps (map (slowed_there place) xs) ≡ but_at place (fast_of ps xs)
 stay_fast place ps [] = refl
 stay_fast place ps (x ∷ xs) =
     let later = stay_fast place ps xs in
@@ -186,69 +190,3 @@ stay_fast place ps (x ∷ xs) =
     (λ here. rw (fast, here) later)
     (λ away. rw (fast, away) (ap (λ us. with_note ps x ∷ us) later)))
     (λ slow. rw slow later)
-
--- ---- none is fast
-
--- where none is counted
-pub none_fast : (ps : List OfPlace) (xs : List Gained) → count_by (λ t. t.fast) xs ≡ 0 → fast_of ps xs ≡ []
-none_fast ps [] none = refl
-none_fast ps (x ∷ xs) none =
-    let more = counted (λ t. t.fast) x xs in
-    by_bool x.fast
-    (λ fast. absurd (grind (arith, nat_tests, more, none, fast)))
-    (λ slow. rw slow (none_fast ps xs (grind (arith, nat_tests, more, none, slow))))
-
--- or none at any place
-pub none_anywhere : (ps : List OfPlace) (xs : List Gained) → ((q : ℕ) → count_by (is_fast_there q) xs ≡ 0) → fast_of ps xs ≡ []
-none_anywhere ps [] none = refl
-none_anywhere ps (x ∷ xs) none =
-    let later = none_anywhere ps xs (λ q. let more = counted (is_fast_there q) x xs in let here = none q in omega (arith, more, here)) in
-    let more = counted (is_fast_there x.place) x xs in
-    let here = none x.place in
-    by_bool x.fast
-    (λ fast. absurd (grind (arith, nat_tests, more, here, fast)))
-    (λ slow. rw slow later)
-
--- where no place has one, none is counted at any
-pub none_counted : (ps : List OfPlace) → position has_fast ps ≡ None → (q : ℕ) → fast_counted_at q ps ≡ 0
-none_counted ps none q = elim (slice_get_cases ps q).1 [
-  | inl within ↦
-      let past : length ps ≤ position_or_len has_fast ps = grind (arith, nat_tests) in
-      let fails = fails_before_first has_fast ps q within.0 (let inside = within.1 in omega arith) in
-      let none_here = rw within.3 at fails in
-      rw within.2 (grind (arith, nat_tests))
-  | inr beyond ↦ rw beyond.1 refl
-]
-
--- and where one has, it is counted there
-pub first_counted : (ps : List OfPlace) (place : ℕ) → position has_fast ps ≡ Some place → 0 < fast_counted_at place ps
-first_counted ps place first = elim (slice_get_cases ps place).1 [
-  | inl within ↦
-      let passes = (position-Some has_fast ps place within.0 first).1 in
-      let one = rw within.3 at passes in
-      rw within.2 (grind (arith, nat_tests))
-  | inr beyond ↦ absurd (let inside = (position-Some has_fast ps place no_place first).0 in let past = beyond.0 in omega arith)
-]
-
--- and at none before it
-before_counted : (ps : List OfPlace) (place : ℕ) → position has_fast ps ≡ Some place → (q : ℕ) → q < place → fast_counted_at q ps ≡ 0
-before_counted ps place first q before = elim (slice_get_cases ps q).1 [
-  | inl within ↦
-      let fails = (position-Some has_fast ps place within.0 first).2 q before in
-      let none_here = rw within.3 at fails in
-      rw within.2 (grind (arith, nat_tests))
-  | inr beyond ↦ rw beyond.1 refl
-]
-
-none_of_them : (us : List SessionTicket) → length us ≡ 0 → us ≡ []
-none_of_them [] none = refl
-none_of_them (u ∷ us) none = absurd (omega (arith, none))
-
--- so the first place is told, where there is a fast ticket
-pub first_fast : (ps : List OfPlace) (xs : List Gained) (fast : ℕ) (found : Option ℕ) → AreKept xs ps fast → found ≡ position has_fast ps
-    → MatchOption found (fast_of ps xs ≡ []) (λ place. (0 < length (own_at place (fast_of ps xs))) × ((q : ℕ) → q < place → own_at q (fast_of ps xs) ≡ []))
-first_fast ps xs fast None kept is = none_anywhere ps xs (λ q. sym (kept.fast_counted q) ∙ none_counted ps (sym is) q)
-first_fast ps xs fast (Some place) kept is = (
-  rw (fast_there place ps xs, ← kept.fast_counted place) (first_counted ps place (sym is)),
-  λ q before. none_of_them (own_at q (fast_of ps xs)) (rw (fast_there q ps xs, ← kept.fast_counted q) (before_counted ps place (sym is) q before)),
-)

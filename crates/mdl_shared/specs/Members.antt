@@ -14,6 +14,7 @@ use Rattle.mdl_key.specs.KeyLookups.{is_known, key_known, kind_known}
 use Rattle.mdl_steps.specs.declared.view.SessionTicket.{SessionTicket}
 use Rattle.mdl_steps.specs.Deeds.{is_own}
 use Rattle.mdl_steps.specs.Layout.{word_count}
+use Rattle.mdl_steps.specs.SeatStates.{SeatState, enrolled_seat}
 use Rattle.mdl_calls.specs.SessionData.{IsSound}
 use Rattle.mdl_visits.specs.Idle.{HoldsNoLatch}
 use Rattle.mdl_visits.specs.Numbers.{numbered}
@@ -61,6 +62,13 @@ pub record IsMember (s : SessionView) : Type 0 where
   pub counted : (0 < s.me.0.number) × (s.me.0.number ≤ s.sessions)
   pub narrow : (0 < s.table.slots) × (s.table.slots ≤ 65536)
   pub words : s.table.words ≡ word_count s.table.slots s.sessions
+
+-- the seat of a session of a space with this many sessions, whose only step was the one that drew its number
+pub record IsNewSeat (sessions : ℕ) (s : SeatState) : Type 0 where
+  pub narrow : (0 < s.table.slots) × (s.table.slots ≤ 65536)
+  pub counted : (0 < s.me.0.number) × (s.me.0.number ≤ sessions)
+  pub words : s.table.words ≡ word_count s.table.slots sessions
+  pub fresh : s.me ≡ (enrolled_seat s.table s.me.0.number).me
 
 -- the tickets without the one with this number at a place
 abbrev pub without_at : ℕ → ℕ → List SessionTicket → List SessionTicket

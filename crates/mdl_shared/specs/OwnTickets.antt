@@ -1,7 +1,8 @@
 -- How a session keeps its own list of tickets: the tickets without their notes, and what is kept of each place.
-use Rattle.std.specs.Prelude.{◌≡◌, ℕ, ◌-◌, ◌≤◌, Bool, ◌==◌, ◌&&◌, not, List, count_by, filter, if◌then◌else◌, length, map, nat_lt, slice_get, slice_index_or, ◌<◌, None, Option, Some}
+use Rattle.std.specs.Prelude.{◌≡◌, ℕ, ◌-◌, ◌≤◌, Bool, ◌==◌, ◌&&◌, not, List, count_by, filter, if◌then◌else◌, is_some, length, map, slice_get, slice_index_or, ◌<◌, None, Option, Some}
 use Rattle.std.specs.Option.{option_map_or, option_and_then}
 use Rattle.mdl_steps.specs.declared.view.SessionTicket.{SessionTicket}
+use Rattle.mdl_visits.specs.Numbers.{numbered}
 use Rattle.mdl_shared.specs.declared.tickets.Gained.{Gained}
 use Rattle.mdl_shared.specs.declared.tickets.OfPlace.{OfPlace}
 
@@ -13,13 +14,9 @@ counted_at place places = option_map_or (λ (p : OfPlace). p.tickets) (slice_get
 abbrev pub fast_counted_at : ℕ → List OfPlace → ℕ
 fast_counted_at place places = option_map_or (λ (p : OfPlace). p.fast) (slice_get places place) 0
 
--- whether a fast ticket is counted at the place
-abbrev pub has_fast : OfPlace → Bool
-has_fast p = nat_lt 0 p.fast
-
 -- the version that is noted at a place
 abbrev pub noted_in : ℕ → List OfPlace → Option ℕ
-noted_in place places = option_and_then (λ (p : OfPlace). p.noted) (slice_get places place)
+noted_in place places = option_and_then (λ (p : OfPlace). if p.is_noted then Some p.version else None) (slice_get places place)
 
 -- whether the places are owed a reschedule, from place 0 on
 abbrev pub flags_of : List OfPlace → List Bool
@@ -45,9 +42,13 @@ is_at_place place t = t.place == place
 abbrev pub is_fast_there : ℕ → Gained → Bool
 is_fast_there place t = t.fast && t.place == place
 
--- a ticket, made slow if it is at a place
+-- a ticket, made slow if it has this number
 abbrev pub slowed : ℕ → Gained → Gained
-slowed place t = record t { fast = t.fast && not (t.place == place) }
+slowed id t = record t { fast = t.fast && not (t.id == id) }
+
+-- a ticket, made slow if one of these has its number
+abbrev pub slowed_as : List SessionTicket → Gained → Gained
+slowed_as these t = record t { fast = t.fast && not (is_some (numbered t.id these)) }
 
 -- the same is kept of a place before and after
 abbrev pub AreAt : ℕ → List OfPlace → List OfPlace → Type 0

@@ -2,7 +2,7 @@
 use Rattle.std.specs.Prelude.{◌≡◌, ℕ, ◌+◌, ◌<◌, List, length, slice_index_or}
 use Rattle.std.specs.Arc.{arc_value}
 use Rattle.atomic_table.specs.Seated.{TableId}
-use Rattle.mdl_steps.specs.Layout.{session_count}
+use Rattle.mdl_steps.specs.Layout.{session_count, word_count}
 use Rattle.mdl_steps.specs.SeatStates.{enrolled_seat}
 use Rattle.mdl_shared.specs.declared.manager.Manager.{Manager}
 use Rattle.mdl_shared.specs.declared.member.Member.{Member}
@@ -40,3 +40,9 @@ pub record IsPass (table : TableId) (number : ℕ) (pass : Pass) : Type 0 where
 -- the passes of the sessions from 1 on, in order
 abbrev pub ArePasses : TableId → List Pass → Type 0
 ArePasses table passes = (k : ℕ) (d : Pass) → k < length passes → IsPass table (k + 1) (slice_index_or passes k d)
+
+-- a new space with these numbers of places and sessions, whose passes these are
+abbrev pub IsNewSpace : ℕ → ℕ → Manager → List Pass → Type 0
+IsNewSpace places sessions manager passes =
+    ((manager_table manager).slots ≡ places + 1) × ((manager_table manager).words ≡ word_count (places + 1) sessions) × (length passes ≡ sessions)
+    × ArePasses (manager_table manager) passes

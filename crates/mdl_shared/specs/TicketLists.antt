@@ -1,6 +1,8 @@
 -- A session's own list of its tickets, as the session's calls see it.
-use Rattle.std.specs.Prelude.{ℕ, ◌+◌, ◌<◌, ◌≤◌, Bool, List}
+use Rattle.std.specs.Prelude.{◌≡◌, ℕ, ◌+◌, ◌<◌, ◌≤◌, Bool, List}
+use Rattle.std.specs.List.Sorted.{IsNonDecreasingBy}
 use Rattle.mdl_steps.specs.declared.view.SessionTicket.{SessionTicket}
+use Rattle.mdl_steps.specs.Cells.{own_at}
 
 -- the room of a session's list: for how many more tickets there is room, and below which place those may be
 pub record Room : Type 0 where
@@ -18,6 +20,10 @@ HasRoomFor count places room = (count ≤ room.spare) × (places ≤ room.reach)
 -- there is the room that there was, or more, except for the tickets gained
 abbrev pub KeepsRoom : ℕ → Room → Room → Type 0
 KeepsRoom gained room room′ = (room.spare ≤ room′.spare + gained) × (room.reach ≤ room′.reach)
+
+-- tickets are listed by their places: at each place the list has the same ones, in the same order, and the places don't fall
+abbrev pub AreByPlace : List SessionTicket → List SessionTicket → Type 0
+AreByPlace tickets listed = ((place : ℕ) → own_at place listed ≡ own_at place tickets) × IsNonDecreasingBy (λ (t : SessionTicket). t.place) listed
 
 -- the slow tickets and the fast ones, each in the order in which the session got them, whether the places are owed a reschedule, from place 0 on, and the
 -- room for more tickets

@@ -1,22 +1,22 @@
 //! Makes a second ticket of one that the session holds.
-ghost use Rattle.std.specs.Prelude.{◌≡◌, ◌⊎◌, ◌∷◌, [], None, Some, IfErr, IfOk, OnErr};
+ghost use Rattle.std.specs.Prelude.{◌≡◌, ◌⊎◌, [], Some, IfErr, IfOk, OnErr};
 ghost use Rattle.mdl_key.specs.Refusals.{RefusesJust};
 ghost use Rattle.mdl_calls.specs.CallSpec.{Transition};
 ghost use Rattle.mdl_calls.specs.calls.CloneTicket as call;
 ghost use Rattle.mdl_calls.specs.declared.space_error.SpaceError.TheVariants.{Full, OutOfMemory};
 ghost use Rattle.mdl_calls.specs.Words.{cloned};
-ghost use Rattle.mdl_steps.specs.declared.deed.Deed.TheVariants.{Gain};
 ghost use Rattle.mdl_steps.specs.Interleavings.{interleaved};
 ghost use Rattle.mdl_visits.specs.Numbers.{numbered};
 ghost use Rattle.mdl_visits.specs.Visits.{MeetsFull, VisitsOnce};
 ghost use Rattle.mdl_shared.specs.DeedsDone.{DoesQuietly};
+ghost use Rattle.mdl_shared.specs.LatchCalls.{MayCloneByLatch, WasClonedByLatch};
 ghost use Rattle.mdl_key.specs.KeyLookups.{kind_known};
 ghost use Rattle.mdl_shared.specs.Modes.{clone_fault};
 ghost use Rattle.mdl_shared.specs.Passes.{view_of};
 ghost use Rattle.mdl_shared.specs.SessionViews.{data_of};
 ghost use Rattle.mdl_shared.specs.StepSpec.{TakesSteps};
-ghost use Rattle.mdl_shared.specs.Steps.{MeetsTicket, ShowsStep};
-ghost use Rattle.mdl_shared.specs.TicketLists.{HasRoom, KeepsRoom};
+ghost use Rattle.mdl_shared.specs.Steps.{ShowsStep};
+ghost use Rattle.mdl_shared.specs.TicketLists.{KeepsRoom};
 ghost use Rattle.mdl_shared.specs.calls.CloneTicket as steps;
 
 use crate::Session;
@@ -78,14 +78,8 @@ impl Member {
         held: SessionTicket,
         mode: Mode,
     ) -> Result<TicketId, SpaceError>
-        requires held { numbered held.number self.old.tickets.slow ≡ Some held }
-        requires clear { clone_fault (Some held) self.old.asks mode self.old.known.known self.old.next ≡ None }
-        requires unfast { self.old.tickets.fast ≡ [] }
-        requires room { HasRoom held.place self.old.tickets.room }
-        ensures cloned { IfOk result (λ new. (new ≡ self.old.next)
-            × DoesQuietly held.place (Gain new mode ∷ []) (view_of self.old) (view_of self.new)
-            × MeetsTicket held.number (Gain new mode ∷ []) (view_of self.old) (view_of self.new) held
-            × KeepsRoom 1 self.old.tickets.room self.new.tickets.room) }
+        requires may { MayCloneByLatch held mode self.old }
+        ensures cloned { IfOk result (λ new. WasClonedByLatch held mode self.old.next new (view_of self.old) (view_of self.new)) }
         ensures unchanged { OnErr result (DoesQuietly held.place [] (view_of self.old) (view_of self.new) × KeepsRoom 0 self.old.tickets.room self.new.tickets.room) }
         ensures once { VisitsOnce held.place self.old.seat.me self.new.seat.me }
         ensures refused { IfErr result (λ why. (why ≡ OutOfMemory) ⊎ ((why ≡ Full) × ShowsStep (view_of self.old) (view_of self.new) (MeetsFull held.place))) }

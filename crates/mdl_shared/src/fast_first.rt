@@ -1,14 +1,12 @@
 //! Tries a request for a ticket on the fast path first.
 //!
 //! After MySQL 5.7, sql/mdl.cc: `MDL_context::try_acquire_lock_impl`, which makes the session's fast tickets slow before it takes the latch.
-ghost use Rattle.std.specs.Prelude.{◌≡◌, ◌⊎◌, ◌<◌, None, Ok, Some, IfErr, IfNone, IfOk, IfSome, [], OnErr};
-ghost use Rattle.mdl_calls.specs.declared.space_error.SpaceError.TheVariants.{Full, OutOfMemory};
+ghost use Rattle.std.specs.Prelude.{◌≡◌, None, Ok, IfErr, IfNone, IfOk, IfSome, [], OnErr};
 ghost use Rattle.mdl_shared.specs.DeedsDone.{DoesQuietly};
-ghost use Rattle.mdl_shared.specs.FastWishes.{BecomesSlow, GainsFast};
-ghost use Rattle.mdl_key.specs.KeyLookups.{kind_known};
-ghost use Rattle.mdl_shared.specs.Members.{most_numbers};
+ghost use Rattle.mdl_shared.specs.FastWishes.{GainsFast};
+ghost use Rattle.mdl_shared.specs.LatchCalls.{LacksRoomFirst, MayTryFastFirst, SlowsFirst};
 ghost use Rattle.mdl_shared.specs.Passes.{view_of};
-ghost use Rattle.mdl_shared.specs.WishSteps.{FindsClosed, FullForFast, IsClosed, LacksMemory, SlowsAll, StopsSlowing};
+ghost use Rattle.mdl_shared.specs.WishSteps.{FindsClosed};
 ghost use Rattle.mdl_shared.specs.TicketLists.{HasRoom, KeepsRoom};
 
 use crate::member::Member;
@@ -27,16 +25,11 @@ impl Member {
         kind: Kind,
         mode: Mode,
     ) -> Result<Option<TicketId>, SpaceError>
-        requires idle { self.old.asks ≡ None }
-        requires known { kind_known place self.old.known.known ≡ Some kind }
-        requires number { self.old.next < most_numbers }
+        requires may { MayTryFastFirst place kind self.old }
         ensures granted { IfOk result (λ ticket. IfSome ticket (λ id. GainsFast place mode id (view_of self.old) (view_of self.new))) }
-        ensures slow { result ≡ Ok None → BecomesSlow (view_of self.old) (view_of self.new) × IsClosed place mode SlowsAll (view_of self.old) (view_of self.new)
-            × (self.new.tickets.fast ≡ [])
-            × HasRoom place self.new.tickets.room }
+        ensures slow { result ≡ Ok None → SlowsFirst place mode self.old self.new }
         ensures unchanged { OnErr result (DoesQuietly 0 [] (view_of self.old) (view_of self.new) × KeepsRoom 0 self.old.tickets.room self.new.tickets.room) }
-        ensures refused { IfErr result (λ why. ((why ≡ OutOfMemory) × LacksMemory place mode StopsSlowing (view_of self.old) (view_of self.new))
-            ⊎ ((why ≡ Full) × IsClosed place mode StopsSlowing (view_of self.old) (view_of self.new) × FullForFast (view_of self.old) (view_of self.new))) }
+        ensures refused { IfErr result (λ why. LacksRoomFirst place mode why (view_of self.old) (view_of self.new)) }
     {
         if self.tickets.reserve(place).is_err() {
             return Err(SpaceError::OutOfMemory);
@@ -50,9 +43,7 @@ impl Member {
 
     // Grants a fast ticket, for which there is room, if the mode is an unobtrusive one of the kind and the fast path is open.
     fn gain_unobtrusive(&mut self, place: usize, kind: Kind, mode: Mode) -> Option<TicketId>
-        requires idle { self.old.asks ≡ None }
-        requires known { kind_known place self.old.known.known ≡ Some kind }
-        requires number { self.old.next < most_numbers }
+        requires may { MayTryFastFirst place kind self.old }
         requires room { HasRoom place self.old.tickets.room }
         ensures granted { IfSome result (λ id. GainsFast place mode id (view_of self.old) (view_of self.new)) }
         ensures unchanged { IfNone result (DoesQuietly place [] (view_of self.old) (view_of self.new) × (self.new.tickets ≡ self.old.tickets)) }

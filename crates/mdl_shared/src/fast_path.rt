@@ -23,6 +23,7 @@ ghost use Rattle.mdl_shared.specs.WishSteps.{AllMadeSlow, LacksRoomForFast, Make
 ghost use Rattle.mdl_shared.specs.TicketLists.{HasRoom, KeepsRoom};
 
 use crate::member::Member;
+use crate::tickets::{count_first, first_place};
 use crate::wishes::refusal;
 use mdl_calls::{SpaceError, TicketId};
 use mdl_key::Mode;
@@ -118,17 +119,49 @@ impl Member {
         ensures order { OnErr result (AreSlowBefore (view_of self.old) (view_of self.new)) }
         ensures room { KeepsRoom 0 self.old.tickets.room self.new.tickets.room }
     {
-        while let Some(place) = self.tickets.some_fast() {
-            self.materialise_at(rt, place)?;
+        if self.tickets.has_fast() {
+            self.materialise_all(rt)
+        } else {
+            Ok(())
+        }
+    }
+
+    // The same where the session has a fast ticket. It is apart so that the check for one is inlined.
+    #[inline(never)]
+    fn materialise_all<R: Wait>(&mut self, rt: &R) -> Result<(), SpaceError>
+        requires idle { self.old.asks ≡ None }
+        requires some { 0 < length self.old.tickets.fast }
+        ensures done { DoesQuietly 0 [] (view_of self.old) (view_of self.new) }
+        ensures slow { OnOk result ((self.new.tickets.fast ≡ []) × AllMadeSlow (view_of self.old) (view_of self.new)) }
+        ensures turn { OnOk result (SlowsAll self.old.seat.me self.new.seat.me) }
+        ensures stops { OnErr result (StopsSlowing self.old.seat.me self.new.seat.me) }
+        ensures refused { IfErr result (λ why. LacksRoomForFast why (view_of self.old) (view_of self.new)) }
+        ensures partly { OnErr result (AreSameOrSlow (view_of self.old) (view_of self.new)) }
+        ensures order { OnErr result (AreSlowBefore (view_of self.old) (view_of self.new)) }
+        ensures room { KeepsRoom 0 self.old.tickets.room self.new.tickets.room }
+    {
+        let Ok(listed) = self.tickets.list_fast() else {
+            return Err(SpaceError::OutOfMemory);
+        };
+        let mut rest: &[SessionTicket] = &listed;
+        while let Some(place) = first_place(rest) {
+            let (here, later) = rest.split_at(count_first(rest, place));
+            self.materialise_at(rt, place, here)?;
+            rest = later;
         }
         Ok(())
     }
 
-    // The same at one place, where the session has a fast ticket. It is apart so that the check for a fast ticket is inlined.
-    #[inline(never)]
-    fn materialise_at<R: Wait>(&mut self, rt: &R, place: usize) -> Result<(), SpaceError>
+    // The same at one place, where the session has these fast tickets.
+    fn materialise_at<R: Wait>(
+        &mut self,
+        rt: &R,
+        place: usize,
+        here: &[SessionTicket],
+    ) -> Result<(), SpaceError>
         requires idle { self.old.asks ≡ None }
         requires some { 0 < length (own_at place self.old.tickets.fast) }
+        requires these { here.now ≡ own_at place self.old.tickets.fast }
         ensures done { DoesQuietly 0 [] (view_of self.old) (view_of self.new) }
         ensures slow { OnOk result ((self.new.tickets.fast ≡ but_at place self.old.tickets.fast) × ShowsStep (view_of self.old) (view_of self.new) (MakesSlow place)) }
         ensures once { OnOk result (VisitsOnce place self.old.seat.me self.new.seat.me) }
@@ -140,13 +173,10 @@ impl Member {
         let Some(kind) = self.known.kind_at(place) else {
             return Ok(());
         };
-        let Ok(fast) = self.tickets.list_fast(place) else {
-            return Err(SpaceError::OutOfMemory);
-        };
-        if let Err(cause) = materialise(rt, &mut self.seat, place, kind, &fast) {
+        if let Err(cause) = materialise(rt, &mut self.seat, place, kind, here) {
             return Err(refusal(cause));
         }
-        self.tickets.make_slow(place);
+        self.tickets.make_slow(place, here);
         Ok(())
     }
 

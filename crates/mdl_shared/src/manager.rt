@@ -20,14 +20,13 @@ pub struct Manager {
 }
 
 impl Manager {
-    ghost use Rattle.mdl_shared.specs.Passes.{ArePasses, manager_table};
+    ghost use Rattle.mdl_shared.specs.Passes.{ArePasses, IsNewSpace};
 
     /// Makes a space with `places` places and `sessions` sessions, which have nothing yet. Returns it with the sessions' passes, numbered
     /// from 1 on, in order. There must be 1 to [`MOST_PLACES`] places and 1 to [`MOST_SESSIONS`] sessions: otherwise it fails with
     /// [`NewError::BadPlaces`] or [`NewError::BadSessions`].
     pub fn new(alloc: Global, places: u16, sessions: u16) -> Result<(Manager, Vec<Pass>), NewError>
-        ensures made { IfOk result (λ made. ((manager_table made.0).slots ≡ places + 1) × ((manager_table made.0).words ≡ word_count (places + 1) sessions) × (length made.1.items ≡ sessions)
-            × ArePasses (manager_table made.0) made.1.items) }
+        ensures made { IfOk result (λ made. IsNewSpace places sessions made.0 made.1.items) }
         ensures refused { Refuses (new_fault places sessions) NewError.OutOfMemory result }
     {
         if places == 0 || places > MOST_PLACES {
@@ -46,8 +45,7 @@ impl Manager {
     fn of(alloc: Global, places: usize, sessions: usize) -> Result<(Manager, Vec<Pass>), AllocError>
         requires places { places ≤ most_places }
         requires sessions { sessions ≤ most_sessions }
-        ensures { IfOk result (λ made. ((manager_table made.0).slots ≡ places + 1) × ((manager_table made.0).words ≡ word_count (places + 1) sessions) × (length made.1.items ≡ sessions)
-            × ArePasses (manager_table made.0) made.1.items) }
+        ensures { IfOk result (λ made. IsNewSpace places sessions made.0 made.1.items) }
     {
         let (table, maker) = Maker::of_places(alloc, places, sessions)?;
         let table = Arc::new(alloc, table)?;

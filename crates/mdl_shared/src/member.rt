@@ -1,10 +1,8 @@
 //! What a session has of the space, whether it is open or not.
-ghost use Rattle.std.specs.Prelude.{◌≡◌, ◌<◌, ◌≤◌, [], None};
+ghost use Rattle.std.specs.Prelude.{◌≡◌, [], None};
 ghost use Rattle.std.specs.Option.{ForSome};
-ghost use Rattle.mdl_steps.specs.Layout.{word_count};
-ghost use Rattle.mdl_steps.specs.SeatStates.{enrolled_seat};
 ghost use Rattle.mdl_shared.specs.Debts.{AreOwed};
-ghost use Rattle.mdl_shared.specs.Members.{IsMember};
+ghost use Rattle.mdl_shared.specs.Members.{IsMember, IsNewSeat};
 ghost use Rattle.mdl_shared.specs.SessionViews.{lists_seen, session_at};
 ghost use Rattle.mdl_shared.specs.TicketLists.{HasRoom};
 
@@ -40,10 +38,7 @@ pub(crate) struct Member {
 impl Member {
     /// Makes the member of a session that has nothing yet. It takes no memory.
     pub(crate) fn new(alloc: Global, seat: TableSeat, sessions: usize) -> Member
-        requires narrow { (0 < seat.table.slots) × (seat.table.slots ≤ 65536) }
-        requires counted { (0 < seat.me.0.number) × (seat.me.0.number ≤ sessions) }
-        requires words { seat.table.words ≡ word_count seat.table.slots sessions }
-        requires fresh { seat.me ≡ (enrolled_seat seat.table seat.me.0.number).me }
+        requires new { IsNewSeat sessions seat }
         ensures made { (result.seat ≡ seat) × (result.sessions ≡ sessions) }
         ensures nothing { (result.tickets.slow ≡ []) × (result.tickets.fast ≡ []) × (result.asks ≡ None) }
     {

@@ -1,20 +1,15 @@
 //! Merges two tickets.
-ghost use Rattle.std.specs.Prelude.{◌≡◌, ◌∷◌, [], IfOk, None, Some};
+ghost use Rattle.std.specs.Prelude.{◌≡◌, IfOk, Some};
 ghost use Rattle.mdl_key.specs.Refusals.{RefusesJust};
 ghost use Rattle.mdl_calls.specs.CallSpec.{Transition};
 ghost use Rattle.mdl_calls.specs.calls.Merge as call;
 ghost use Rattle.mdl_calls.specs.Words.{done};
-ghost use Rattle.mdl_steps.specs.declared.deed.Deed.TheVariants.{Alter, Lose};
 ghost use Rattle.mdl_steps.specs.Interleavings.{interleaved};
-ghost use Rattle.mdl_visits.specs.Leavings.{MergesOwn};
 ghost use Rattle.mdl_visits.specs.Numbers.{numbered};
-ghost use Rattle.mdl_visits.specs.Visits.{VisitsOnce};
-ghost use Rattle.mdl_shared.specs.DeedsDone.{DoesQuietly};
+ghost use Rattle.mdl_shared.specs.LatchCalls.{MayMergeByLatch, WasMergedByLatch};
 ghost use Rattle.mdl_shared.specs.Modes.{can_merge, merge_fault};
-ghost use Rattle.mdl_shared.specs.Passes.{view_of};
 ghost use Rattle.mdl_shared.specs.SessionViews.{data_of};
 ghost use Rattle.mdl_shared.specs.StepSpec.{TakesSteps};
-ghost use Rattle.mdl_shared.specs.TicketLists.{KeepsRoom};
 ghost use Rattle.mdl_shared.specs.calls.Merge as steps;
 
 use crate::Session;
@@ -68,13 +63,8 @@ impl Member {
     // Gives a slow ticket the mode of another slow one at its place, and releases the other one, under the latch of the place. The session
     // has no fast ticket.
     fn merge_by_latch<R: Wait>(&mut self, rt: &R, kept: SessionTicket, gone: SessionTicket)
-        requires held { (numbered kept.number self.old.tickets.slow ≡ Some kept) × (numbered gone.number self.old.tickets.slow ≡ Some gone) }
-        requires clear { merge_fault (Some kept) (Some gone) self.old.asks ≡ None }
-        requires unfast { self.old.tickets.fast ≡ [] }
-        ensures merged { DoesQuietly kept.place (Alter kept.number gone.mode ∷ Lose gone.number ∷ []) (view_of self.old) (view_of self.new) }
-        ensures met { MergesOwn kept gone self.old.seat self.new.seat }
-        ensures once { VisitsOnce kept.place self.old.seat.me self.new.seat.me }
-        ensures room { KeepsRoom 0 self.old.tickets.room self.new.tickets.room }
+        requires may { MayMergeByLatch kept gone self.old }
+        ensures done { WasMergedByLatch kept gone self.old self.new }
     {
         merge(rt, &mut self.seat, kept, gone);
         self.tickets.set_mode(kept.place, kept.number, gone.mode);

@@ -1,6 +1,7 @@
 //! A session's own list of its tickets.
-ghost use Rattle.std.specs.Prelude.{not, ◌^◌, MatchOption, None, OnErr, OnOk, IfOk, IfSome, Some, [], false, find, length, map, nat_lt, position, remove, slice_get, slice_index_or, true, ◌+◌, ◌-◌, ◌++◌, ◌<◌, ◌==◌, ◌∷◌, ◌≡◌, ◌≤◌, ◌&&◌, ◌||◌, ℕ, if◌then◌else◌};
+ghost use Rattle.std.specs.Prelude.{not, ◌^◌, MatchOption, None, OnErr, OnOk, IfOk, IfSome, Some, [], drop, false, find, length, map, nat_lt, position, remove, slice_get, slice_index_or, take, true, ◌+◌, ◌-◌, ◌++◌, ◌<◌, ◌==◌, ◌∷◌, ◌≡◌, ◌≤◌, ◌&&◌, ◌||◌, ℕ, if◌then◌else◌};
 ghost use Rattle.std.specs.List.{list_all};
+ghost use Rattle.std.specs.List.Sorted.{IsNonDecreasingBy};
 ghost use Rattle.std.specs.Option.{option_map};
 ghost use Rattle.std.specs.Vec.{vec_capacity, vec_len};
 ghost use Rattle.mdl_calls.specs.declared.answers.Held.{Held};
@@ -16,8 +17,8 @@ ghost use Rattle.mdl_shared.specs.Members.{without_at};
 ghost use Rattle.mdl_shared.specs.Modes.{in_mode_at};
 ghost use Rattle.mdl_shared.specs.OwnLists.{as_held};
 ghost use Rattle.mdl_shared.specs.Waitings.{are_below_next};
-ghost use Rattle.mdl_shared.specs.TicketLists.{HasRoom, HasRoomFor, KeepsRoom};
-ghost use Rattle.mdl_shared.specs.OwnTickets.{IsLastGained, StandsAt, counted_at, fast_counted_at, fast_found, flags_of, noted_in, with_note, HaveRisingNumbers, AreAt, has_fast, slowed};
+ghost use Rattle.mdl_shared.specs.TicketLists.{AreByPlace, HasRoom, HasRoomFor, KeepsRoom};
+ghost use Rattle.mdl_shared.specs.OwnTickets.{IsLastGained, StandsAt, counted_at, fast_counted_at, fast_found, flags_of, noted_in, with_note, HaveRisingNumbers, AreAt, slowed, slowed_as};
 
 use mdl_calls::{Held, Place, TicketId};
 use mdl_key::Mode;
@@ -25,13 +26,14 @@ use mdl_steps::SessionTicket;
 use std::alloc::{AllocError, Global};
 use std::marker::Model;
 
-/// What is kept of a place: how many tickets the session has there, how many of them are fast, the version that is noted under all of them,
-/// and whether the session owes the place a reschedule.
+/// What is kept of a place: how many tickets the session has there, how many of them are fast, the version that is noted under all of them
+/// if one is, and whether the session owes the place a reschedule. An `Option` of the version would take eight bytes more.
 #[derive(Clone, Copy)]
 pub(crate) struct OfPlace {
     pub(crate) tickets: usize,
     pub(crate) fast: usize,
-    pub(crate) noted: Option<u64>,
+    pub(crate) version: u64,
+    pub(crate) is_noted: bool,
     pub(crate) owes: bool,
 }
 
@@ -135,27 +137,24 @@ impl Tickets {
         note_counted(&self.places, place)
     }
 
-    /// The first place with a fast ticket.
-    pub(crate) fn some_fast(&self) -> Option<usize>
-        ensures { MatchOption result (self.now.fast ≡ [])
-            (λ place. (0 < length (own_at place self.now.fast)) × ((q : ℕ) → q < place → own_at q self.now.fast ≡ [])) }
+    /// Whether there is a fast ticket.
+    pub(crate) fn has_fast(&self) -> bool
+        ensures { result ≡ nat_lt 0 (length self.now.fast) }
     {
-        if self.fast == 0 {
-            return None;
-        }
-        first_fast(&self.places)
+        self.fast > 0
     }
 
-    /// Returns the fast tickets at a place.
-    pub(crate) fn list_fast(&self, place: usize) -> Result<Vec<SessionTicket>, AllocError>
-        ensures { IfOk result (λ listed. listed.items ≡ own_at place self.now.fast) }
+    /// Returns the fast tickets, by their places.
+    pub(crate) fn list_fast(&self) -> Result<Vec<SessionTicket>, AllocError>
+        ensures { IfOk result (λ listed. AreByPlace self.now.fast listed.items) }
     {
-        let mut listed = Vec::with_capacity(*self.gained.allocator(), self.fast_at(place))?;
-        for ticket in self.gained.iter() {
-            if ticket.fast && usize::from(ticket.place) == place {
-                listed.push(own_of(&self.places, *ticket))?;
+        let mut listed = Vec::with_capacity(*self.gained.allocator(), self.fast)?;
+        for gained in self.gained.iter() {
+            if gained.fast {
+                listed.push(own_of(&self.places, *gained))?;
             }
         }
+        listed.sort_by_key(|ticket| ticket.place)?;
         Ok(listed)
     }
 
@@ -301,15 +300,16 @@ impl Tickets {
         }
     }
 
-    /// Makes the fast tickets at a place slow. It takes no memory.
-    pub(crate) fn make_slow(&mut self, place: usize)
+    /// Makes the fast tickets at a place, which are these, slow. It takes no memory.
+    pub(crate) fn make_slow(&mut self, place: usize, here: &[SessionTicket])
+        requires these { here.now ≡ own_at place self.old.fast }
         ensures slow { self.new.slow ≡ interleaved self.old.slow (own_at place self.old.fast) }
         ensures fast { self.new.fast ≡ but_at place self.old.fast }
         ensures owes { self.new.owes ≡ self.old.owes }
         ensures room { KeepsRoom 0 self.old.room self.new.room }
     {
         self.fast -= clear_fast(&mut self.places, place);
-        slow_down(&mut self.gained, place);
+        slow_down(&mut self.gained, here);
     }
 
     /// Notes a version under each ticket at a place.
@@ -405,7 +405,7 @@ fn own_of(places: &[OfPlace], ticket: Gained) -> SessionTicket
         number: ticket.id,
         place,
         mode: ticket.mode,
-        noted: places.get(place).and_then(|here| here.noted),
+        noted: noted_at(places, place),
     }
 }
 
@@ -438,21 +438,55 @@ fn take_out(tickets: &mut Vec<Gained>, at: usize)
     tickets.remove(at);
 }
 
-// Makes the tickets at a place slow.
-fn slow_down(tickets: &mut Vec<Gained>, place: usize)
-    ensures items { tickets.new.items ≡ map (slowed place) tickets.old.items }
+// Makes the tickets with these tickets' numbers slow, among tickets whose numbers rise.
+fn slow_down(tickets: &mut Vec<Gained>, these: &[SessionTicket])
+    requires { HaveRisingNumbers tickets.old.items }
+    ensures items { tickets.new.items ≡ map (slowed_as these.now) tickets.old.items }
     ensures capacity { vec_capacity tickets.new ≡ vec_capacity tickets.old }
 {
-    for ticket in tickets.iter_mut() {
-        ticket.fast = stays_fast(*ticket, place);
+    for own in these.iter() {
+        slow_one(tickets, own.number);
     }
 }
 
-// Whether a ticket is still fast after those at a place are made slow.
-fn stays_fast(ticket: Gained, place: usize) -> bool
-    ensures { result ≡ (ticket.fast && not (ticket.place == place)) }
+// Makes the ticket with a number slow, if there is one.
+fn slow_one(tickets: &mut Vec<Gained>, id: TicketId)
+    requires { HaveRisingNumbers tickets.old.items }
+    ensures items { tickets.new.items ≡ map (slowed id) tickets.old.items }
+    ensures capacity { vec_capacity tickets.new ≡ vec_capacity tickets.old }
 {
-    ticket.fast && usize::from(ticket.place) != place
+    if let Some(at) = index_of(tickets, id) {
+        tickets[at].fast = false;
+    }
+}
+
+/// The place of the first ticket, if there is one.
+pub(crate) fn first_place(listed: &[SessionTicket]) -> Option<usize>
+    ensures { MatchOption result (listed.now ≡ []) (λ place. (0 < length listed.now) × ((d : SessionTicket) → (slice_index_or listed.now 0 d).place ≡ place)) }
+{
+    let first = listed.first()?;
+    Some(first.place)
+}
+
+/// How many tickets there are at the place of the first ones. They are listed by their places.
+pub(crate) fn count_first(listed: &[SessionTicket], place: usize) -> usize
+    requires rising { IsNonDecreasingBy (λ t. t.place) listed.now }
+    requires least { (i : ℕ) (d : SessionTicket) → i < length listed.now → place ≤ (slice_index_or listed.now i d).place }
+    ensures inside { result ≤ length listed.now }
+    ensures these { take result listed.now ≡ own_at place listed.now }
+    ensures others { drop result listed.now ≡ but_at place listed.now }
+{
+    match first_elsewhere(listed, place) {
+        Some(other) => other,
+        None => listed.len(),
+    }
+}
+
+// The first ticket at another place.
+fn first_elsewhere(tickets: &[SessionTicket], place: usize) -> Option<usize>
+    ensures { result ≡ position (λ t. not (t.place == place)) tickets.now }
+{
+    tickets.iter().position(|ticket| ticket.place != place)
 }
 
 // ---- places
@@ -464,12 +498,16 @@ fn fast_counted(places: &[OfPlace], place: usize) -> usize
     places.get(place).map_or(0, |here| here.fast)
 }
 
-// The first place with a fast ticket.
-#[inline(never)]
-fn first_fast(places: &[OfPlace]) -> Option<usize>
-    ensures { result ≡ position has_fast places.now }
+// The version that is noted at a place.
+fn noted_at(places: &[OfPlace], place: usize) -> Option<u64>
+    ensures { result ≡ noted_in place places.now }
 {
-    places.iter().position(|here| here.fast > 0)
+    let here = places.get(place)?;
+    if here.is_noted {
+        Some(here.version)
+    } else {
+        None
+    }
 }
 
 // The version that is noted at a place, if tickets are counted there.
@@ -477,7 +515,11 @@ fn note_counted(places: &[OfPlace], place: usize) -> Option<u64>
     ensures { result ≡ (if counted_at place places.now == 0 then None else noted_in place places.now) }
 {
     let here = places.get(place)?;
-    if here.tickets > 0 { here.noted } else { None }
+    if here.tickets > 0 && here.is_noted {
+        Some(here.version)
+    } else {
+        None
+    }
 }
 
 // Whether a place is owed a reschedule.
@@ -509,7 +551,8 @@ fn reach(places: &mut Vec<OfPlace>, count: usize) -> Result<(), AllocError>
     let none = OfPlace {
         tickets: 0,
         fast: 0,
-        noted: None,
+        version: 0,
+        is_noted: false,
         owes: false,
     };
     places.resize(count, none)
@@ -528,7 +571,7 @@ fn count_one(places: &mut Vec<OfPlace>, place: usize)
 {
     let here = &mut places[place];
     if here.tickets == 0 {
-        here.noted = None;
+        here.is_noted = false;
     }
     here.tickets += 1;
 }
@@ -603,7 +646,9 @@ fn note(places: &mut Vec<OfPlace>, place: usize, version: u64)
     ensures owes { flags_of places.new.items ≡ flags_of places.old.items }
 {
     if place < places.len() {
-        places[place].noted = Some(version);
+        let here = &mut places[place];
+        here.version = version;
+        here.is_noted = true;
     }
 }
 

@@ -1,5 +1,5 @@
 //! Requests a lock, without waiting.
-ghost use Rattle.std.specs.Prelude.{◌≡◌, ◌⊎◌, true, [], None, Some, IfErr, IfOk, OnErr};
+ghost use Rattle.std.specs.Prelude.{◌≡◌, ◌⊎◌, true, [], IfErr, IfOk, OnErr};
 ghost use Rattle.mdl_calls.specs.CallSpec.{Transition};
 ghost use Rattle.mdl_calls.specs.calls.TryNow as call;
 ghost use Rattle.mdl_calls.specs.declared.space_error.SpaceError.TheVariants.{Full, OutOfMemory};
@@ -8,13 +8,12 @@ ghost use Rattle.mdl_key.specs.Words.{is_obtrusive};
 ghost use Rattle.mdl_visits.specs.Visits.{IsVisit, MeetsFullWish};
 ghost use Rattle.mdl_shared.specs.DeedsDone.{DoesQuietly};
 ghost use Rattle.mdl_shared.specs.FastWishes.{HasTried};
-ghost use Rattle.mdl_key.specs.KeyLookups.{kind_known};
-ghost use Rattle.mdl_shared.specs.Members.{wish_fault};
+ghost use Rattle.mdl_shared.specs.LatchCalls.{MayAskByLatch};
 ghost use Rattle.mdl_shared.specs.Passes.{view_of};
 ghost use Rattle.mdl_shared.specs.SessionViews.{data_of};
 ghost use Rattle.mdl_shared.specs.StepSpec.{TakesSteps};
 ghost use Rattle.mdl_shared.specs.Steps.{ShowsStep};
-ghost use Rattle.mdl_shared.specs.TicketLists.{HasRoom, KeepsRoom};
+ghost use Rattle.mdl_shared.specs.TicketLists.{KeepsRoom};
 ghost use Rattle.mdl_shared.specs.calls.TryNow as steps;
 
 use crate::Session;
@@ -50,10 +49,7 @@ impl Member {
         kind: Kind,
         mode: Mode,
     ) -> Result<Attempt, SpaceError>
-        requires known { kind_known place self.old.known.known ≡ Some kind }
-        requires clear { wish_fault (Some kind) self.old.asks mode self.old.next ≡ None }
-        requires unfast { self.old.tickets.fast ≡ [] }
-        requires room { HasRoom place self.old.tickets.room }
+        requires may { MayAskByLatch place kind mode self.old }
         ensures tried { IfOk result (λ answer. HasTried place mode answer (view_of self.old) (view_of self.new)) }
         ensures unchanged { OnErr result (DoesQuietly place [] (view_of self.old) (view_of self.new) × KeepsRoom 0 self.old.tickets.room self.new.tickets.room) }
         ensures once { IsVisit place (is_obtrusive kind mode) self.old.seat.me self.new.seat.me }

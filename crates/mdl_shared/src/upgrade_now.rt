@@ -1,21 +1,19 @@
 //! Gives a ticket a stronger mode, without waiting.
-ghost use Rattle.std.specs.Prelude.{◌≡◌, ◌∷◌, [], false, true, IfOk, None, Some};
+ghost use Rattle.std.specs.Prelude.{◌≡◌, false, true, IfOk, Some};
 ghost use Rattle.mdl_key.specs.Refusals.{RefusesJust};
 ghost use Rattle.mdl_system.specs.Strength.{covers};
 ghost use Rattle.mdl_calls.specs.CallSpec.{Transition};
 ghost use Rattle.mdl_calls.specs.calls.UpgradeNow as call;
 ghost use Rattle.mdl_calls.specs.declared.answers.Upgrade.TheVariants.{Upgraded, WouldWait};
 ghost use Rattle.mdl_calls.specs.Words.{upgrade_tried};
-ghost use Rattle.mdl_steps.specs.declared.deed.Deed.TheVariants.{Alter};
 ghost use Rattle.mdl_steps.specs.Interleavings.{interleaved};
 ghost use Rattle.mdl_visits.specs.Numbers.{numbered};
-ghost use Rattle.mdl_visits.specs.Visits.{IsVisit, MeetsBlocked, MeetsGrantable};
-ghost use Rattle.mdl_shared.specs.DeedsDone.{DoesQuietly};
+ghost use Rattle.mdl_visits.specs.Visits.{IsVisit};
+ghost use Rattle.mdl_shared.specs.LatchCalls.{MayUpgradeByLatch, WasBlockedByLatch, WasUpgradedByLatch};
 ghost use Rattle.mdl_key.specs.KeyLookups.{kind_known};
 ghost use Rattle.mdl_shared.specs.Passes.{view_of};
 ghost use Rattle.mdl_shared.specs.SessionViews.{data_of};
 ghost use Rattle.mdl_shared.specs.StepSpec.{TakesSteps};
-ghost use Rattle.mdl_shared.specs.Steps.{ShowsStep};
 ghost use Rattle.mdl_shared.specs.TicketLists.{KeepsRoom};
 ghost use Rattle.mdl_shared.specs.Upgrades.{can_have, upgrade_fault};
 ghost use Rattle.mdl_shared.specs.calls.UpgradeNow as steps;
@@ -68,14 +66,10 @@ impl Member {
     // Requests a mode for a slow ticket, under the latch of its place. The ticket's mode doesn't cover it, but may be upgraded to it. The
     // session has no fast ticket.
     fn upgrade_by_latch<R: Wait>(&mut self, rt: &R, held: SessionTicket, mode: Mode) -> Upgrade
-        requires held { numbered held.number self.old.tickets.slow ≡ Some held }
-        requires clear { upgrade_fault mode self.old.known.known self.old.asks (Some held) ≡ None }
+        requires may { MayUpgradeByLatch held mode self.old }
         requires short { covers held.mode mode ≡ false }
-        requires unfast { self.old.tickets.fast ≡ [] }
-        ensures upgraded { result ≡ Upgraded → DoesQuietly held.place (Alter held.number mode ∷ []) (view_of self.old) (view_of self.new)
-            × ShowsStep (view_of self.old) (view_of self.new) (MeetsGrantable held.place self.old.seat.me.0.number mode (Alter held.number mode)) }
-        ensures blocked { result ≡ WouldWait → DoesQuietly held.place [] (view_of self.old) (view_of self.new)
-            × ShowsStep (view_of self.old) (view_of self.new) (MeetsBlocked held.place self.old.seat.me.0.number mode) }
+        ensures upgraded { result ≡ Upgraded → WasUpgradedByLatch held mode (view_of self.old) (view_of self.new) }
+        ensures blocked { result ≡ WouldWait → WasBlockedByLatch held mode (view_of self.old) (view_of self.new) }
         ensures once { IsVisit held.place true self.old.seat.me self.new.seat.me }
         ensures room { KeepsRoom 0 self.old.tickets.room self.new.tickets.room }
     {

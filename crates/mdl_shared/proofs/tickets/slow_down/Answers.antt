@@ -1,14 +1,21 @@
--- The next ticket is slow where it is at the place.
-use Rattle.std.proofs.Common.{arith, get_or}
-use Rattle.std.proofs.lemmas.List.{get_or_default}
-use Rattle.std.proofs.lemmas.List.Edits.{map_over_more}
-use Rattle.mdl_shared.specs.OwnTickets.{slowed}
-use Rattle.mdl_shared.proofs.TicketSearch.{no_ticket}
+-- The next ticket is slow.
+use Rattle.std.proofs.Common.{◌∙◌, arith, refl}
+use Rattle.std.proofs.lemmas.List.{take_all}
+use Rattle.mdl_shared.proofs.TicketSlowing.{rise_slowed, slowed_first, slowed_next}
 use Rattle.mdl_shared.proofs.tickets.slow_down.Goals as goal
 
-pub loop-ticket-preserved : goal.loop-ticket-preserved
-loop-ticket-preserved c =
-    let i = c.loop-ticket.ticket-index in
-    let ticket = get_or c.loop-ticket.ticket-items i no_ticket in
-    rw c.stays_fast-ticket.ensures (map_over_more (slowed c.args.place) c.args.tickets.now.items c.loop-ticket.ticket-items i ticket (omega arith) c.loop-ticket.invariant
-    (get_or_default c.loop-ticket.ticket-items i no_ticket ticket (omega arith)))
+pub loop-own-init : goal.loop-own-init
+loop-own-init c = record { items = slowed_first c.args.tickets.now.items; capacity = refl }
+
+pub slow_one-requires : goal.slow_one-requires
+slow_one-requires c = rw c.loop-own.invariant.items (rise_slowed _ c.args.tickets.now.items c.requires)
+
+pub loop-own-preserved : goal.loop-own-preserved
+loop-own-preserved c = record {
+  items = slowed_next c.args.these.now c.loop-own.own-index _ c.args.tickets.now.items c.loop-own.tickets.items _ c.loop-own-test.true c.loop-own.invariant.items
+      c.slow_one.ensures.items;
+  capacity = c.slow_one.ensures.capacity ∙ c.loop-own.invariant.capacity;
+}
+
+pub returns-clause-items : goal.returns-clause-items
+returns-clause-items c = rw (take_all c.loop-own.own-index c.args.these.now (omega arith)) at c.loop-own.invariant.items

@@ -1,8 +1,12 @@
--- The tickets so far are slow where they are at the place, and the others are as they were.
-use Rattle.std.proofs.Common.{◌≡◌, ◌++◌, take, drop}
+-- The tickets with the numbers so far are slow.
+use Rattle.std.proofs.Common.{◌≡◌, take}
 use Rattle.std.specs.Prelude.{map}
-use Rattle.mdl_shared.specs.OwnTickets.{slowed}
+use Rattle.std.specs.Vec.{vec_capacity}
+use Rattle.mdl_shared.specs.OwnTickets.{slowed_as}
 use Rattle.mdl_shared.proofs.tickets.slow_down.Given as goal
 
-abbrev pub invariant-loop-ticket : goal.invariant-loop-ticket
-invariant-loop-ticket l = l.ticket-items ≡ map (slowed l.fn.place) (take l.ticket-index l.fn.tickets.items) ++ drop l.ticket-index l.fn.tickets.items
+abbrev pub invariant-loop-own : goal.invariant-loop-own
+invariant-loop-own l = record {
+  items : l.tickets.items ≡ map (slowed_as (take l.own-index l.these)) l.fn.tickets.items;
+  capacity : vec_capacity l.tickets ≡ vec_capacity l.fn.tickets;
+}

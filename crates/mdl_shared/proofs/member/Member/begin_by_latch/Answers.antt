@@ -22,19 +22,20 @@ use Rattle.mdl_shared.proofs.member.Member.begin_by_latch.Goals as goal
 pub overflow_add-wait : goal.overflow_add-wait
 overflow_add-wait g c =
     let m = c.args.self.now in
-    let may = may-wish m c.args.place c.args.kind c.args.mode (c.requires.known, c.requires.clear) in
+    let may = may-wish m c.args.place c.args.kind c.args.mode (c.requires.may.known, c.requires.may.clear) in
     omega (arith, may.below, (member m).fewer.0, ap (λ (l : Lists). l.waits) m.lists)
 
 pub begin_wait-requires : goal.begin_wait-requires
 begin_wait-requires g c =
     let m = c.args.self.now in
-    let may = may-wish m c.args.place c.args.kind c.args.mode (c.requires.known, c.requires.clear) in
+    let may = may-wish m c.args.place c.args.kind c.args.mode (c.requires.may.known, c.requires.may.clear) in
     let waits = ap (λ (l : Lists). l.waits) m.lists in record {
-      at = may.at;
-      wish = may.wish;
-      unfast = unfast-seen m c.requires.unfast;
-      number = ap (λ (l : Lists). l.next) m.lists;
-      wait = (ap (λ (n : ℕ). n + 1) waits, omega (arith, may.below, (member m).fewer.0, waits));
+      may = record { at = may.at; wish = may.wish };
+      new = record {
+        unfast = unfast-seen m c.requires.may.unfast;
+        is_next = ap (λ (l : Lists). l.next) m.lists;
+        counts = (ap (λ (n : ℕ). n + 1) waits, omega (arith, may.below, (member m).fewer.0, waits));
+      };
     }
 
 pub invariant_of-self-in-Err-1 : goal.invariant_of-self-in-Err-1
@@ -55,20 +56,20 @@ pub push_reserved-requires-clause-below : goal.push_reserved-requires-clause-bel
 push_reserved-requires-clause-below g c = below-seen c.args.self.now _ _ (refl, refl)
 
 pub push_reserved-requires-clause-slow : goal.push_reserved-requires-clause-slow
-push_reserved-requires-clause-slow g c = none-seen c.args.self.now c.args.place _ c.requires.unfast refl
+push_reserved-requires-clause-slow g c = none-seen c.args.self.now c.args.place _ c.requires.may.unfast refl
 
 pub overflow_add-self : goal.overflow_add-self
 overflow_add-self g c =
     let m = c.args.self.now in
-    let may = may-wish m c.args.place c.args.kind c.args.mode (c.requires.known, c.requires.clear) in
+    let may = may-wish m c.args.place c.args.kind c.args.mode (c.requires.may.known, c.requires.may.clear) in
     omega (arith, may.below, ap (λ (l : Lists). l.next) m.lists)
 
 pub invariant_of-self : goal.invariant_of-self
 invariant_of-self g c =
     let m = c.args.self.now in
-    let may = may-wish m c.args.place c.args.kind c.args.mode (c.requires.known, c.requires.clear) in
+    let may = may-wish m c.args.place c.args.kind c.args.mode (c.requires.may.known, c.requires.may.clear) in
     let visit = (c.begin_wait.ensures.granted (c.in-Ok-Granted.is ∙ ap Ok c.in-Ok-Granted.field-0-is)).0 in
-    let done = gained-by m c.begin_wait.new.seat c.args.place c.args.mode c.requires.unfast visit in
+    let done = gained-by m c.begin_wait.new.seat c.args.place c.args.mode c.requires.may.unfast visit in
     record {
       lawful = ∣ kept (Begin_wait _ _ _) (member m) (done-order done (member m) (inl may.wish.idle)) (begin-granted (member m) c.args.place c.args.mode may.clear (ap (λ (l : Lists). l.next) m.lists) done) ∣₁;
       lists = lists-done m c.args.place (Gain m.next c.args.mode ∷ []) (lists-visited visit) c.push_reserved.ensures.gained c.push_reserved.ensures.same;
@@ -82,7 +83,7 @@ returns-in-Ok-Granted g c =
     let went = c.begin_wait.ensures.granted (c.in-Ok-Granted.is ∙ ap Ok c.in-Ok-Granted.field-0-is) in record {
       begun = record {
         first = ap (λ (l : Lists). l.next) m.lists;
-        quiet = quiet-visit (gained-by m c.begin_wait.new.seat c.args.place c.args.mode c.requires.unfast went.0) went.0.1;
+        quiet = quiet-visit (gained-by m c.begin_wait.new.seat c.args.place c.args.mode c.requires.may.unfast went.0) went.0.1;
         met = went.1;
         room = c.push_reserved.ensures.room;
       };
@@ -96,12 +97,12 @@ returns-in-Ok-Granted g c =
 pub invariant_of-self-2 : goal.invariant_of-self-2
 invariant_of-self-2 g c =
     let m = c.args.self.now in
-    let may = may-wish m c.args.place c.args.kind c.args.mode (c.requires.known, c.requires.clear) in
+    let may = may-wish m c.args.place c.args.kind c.args.mode (c.requires.may.known, c.requires.may.clear) in
     let now = begun m.seat c.begin_wait.new.seat m.sessions {room = m.tickets.room} (c.begin_wait.ensures.waiting (c.in-Ok-Waiting.is ∙ ap Ok c.in-Ok-Waiting.field-0-is)).0 in
     record {
-      lawful = ∣ kept (Begin_wait _ _ _) (member m) (begun-order (member m) may.clear now (unfast-seen m c.requires.unfast)) (begun-joins (member m) may.clear now refl) ∣₁;
+      lawful = ∣ kept (Begin_wait _ _ _) (member m) (begun-order (member m) may.clear now (unfast-seen m c.requires.may.unfast)) (begun-joins (member m) may.clear now refl) ∣₁;
       lists = waiting-lists m c.args.place c.args.mode ∙ sym (ap (λ (x : SessionView). lists_seen x.me.0) now);
-      room = λ ask asks. let place : c.args.place ≡ ask.place = ap (λ (o : Option Ask). option_map_or (λ (a : Ask). a.place) o 0) asks in subst (λ (p : ℕ). HasRoom p m.tickets.room) place c.requires.room;
+      room = λ ask asks. let place : c.args.place ≡ ask.place = ap (λ (o : Option Ask). option_map_or (λ (a : Ask). a.place) o 0) asks in subst (λ (p : ℕ). HasRoom p m.tickets.room) place c.requires.may.room;
       owed = owed-on m (ap (λ (x : SessionView). x.me.0.owes) now);
     }
 

@@ -2,7 +2,9 @@
 use Rattle.std.proofs.Common.{is_some, inl, inr, refl, sym, ap, ◌∙◌}
 use Rattle.std.proofs.lemmas.Bool.{false≢true}
 use Rattle.mdl_steps.specs.Plays.{Mine}
+use Rattle.mdl_steps.specs.Cells.{own_at}
 use Rattle.mdl_shared.specs.Passes.{view_of}
+use Rattle.mdl_shared.specs.SessionViews.{Lists}
 use Rattle.mdl_shared.proofs.Debts.{owed-both, owed-stepped}
 use Rattle.mdl_shared.proofs.FastDone.{fast-materialised, lists-materialised}
 use Rattle.mdl_shared.proofs.FastFacts.{kind-of-fast, may-make-slow, some-seen}
@@ -27,12 +29,6 @@ returns-in_default-clause-once g c =
     let some = kind-of-fast c.args.self.now c.args.place c.requires.some in
     absurd (false≢true (ap is_some (sym c.in_default.is ∙ c.kind_at.ensures) ∙ some))
 
-pub returns-in_default-list_fast-clause-stops : goal.returns-in_default-list_fast-clause-stops
-returns-in_default-list_fast-clause-stops g c = inl refl
-
-pub returns-in_default-list_fast-clause-done : goal.returns-in_default-list_fast-clause-done
-returns-in_default-list_fast-clause-done g c = quiet-none (view_of c.args.self.now)
-
 -- ---- the visit
 
 pub materialise-requires-clause-at : goal.materialise-requires-clause-at
@@ -43,6 +39,9 @@ materialise-requires-clause-knows g c = (may-make-slow c.args.self.now c.args.pl
 
 pub materialise-requires-clause-once : goal.materialise-requires-clause-once
 materialise-requires-clause-once g c = (may-make-slow c.args.self.now c.args.place c.in-Some.kind (sym c.kind_at.ensures ∙ c.in-Some.is)).once
+
+pub materialise-requires-clause-these : goal.materialise-requires-clause-these
+materialise-requires-clause-these g c = c.requires.these ∙ ap (λ (l : Lists). own_at c.args.place l.fast) c.args.self.now.lists
 
 -- ---- there was no room
 

@@ -10,22 +10,24 @@ use Rattle.mdl_shared.proofs.MemberFacts.{merges-slow, spared}
 use Rattle.mdl_shared.proofs.Members.{done-order, fast-struck, kept, lists-done, lists-visited, room-kept, unnumbered, visited}
 use Rattle.mdl_shared.proofs.Props.{member}
 use Rattle.mdl_shared.proofs.QuietDeeds.{quiet-visit}
+use Rattle.mdl_shared.proofs.Rooms.{keeps-before}
 use Rattle.mdl_shared.proofs.SlowHeld.{slow-held}
 use Rattle.mdl_shared.proofs.TicketCalls.{merge-joins}
-use Rattle.mdl_shared.proofs.TicketFaults.{merge-passed}
+use Rattle.mdl_shared.proofs.TicketFaults.{merge-idle, merge-passed}
 use Rattle.mdl_shared.proofs.member.Member.merge_by_latch.Goals as goal
 
 pub merge-requires-clause-at : goal.merge-requires-clause-at
-merge-requires-clause-at g c = (slow-held c.args.self.now c.args.kept c.requires.unfast c.requires.held.0).0.at
+merge-requires-clause-at g c = (slow-held c.args.self.now c.args.kept c.requires.may.unfast c.requires.may.held.0).0.at
 
 pub merge-requires-clause-known : goal.merge-requires-clause-known
-merge-requires-clause-known g c = (slow-held c.args.self.now c.args.kept c.requires.unfast c.requires.held.0).0.known
+merge-requires-clause-known g c = (slow-held c.args.self.now c.args.kept c.requires.may.unfast c.requires.may.held.0).0.known
 
 pub merge-requires-clause-may : goal.merge-requires-clause-may
 merge-requires-clause-may g c =
     let m = c.args.self.now in
-    let may = merge-passed c.args.kept c.args.gone m.asks c.requires.clear in record {
-      held = ((slow-held m c.args.kept c.requires.unfast c.requires.held.0).1.its, (slow-held m c.args.gone c.requires.unfast c.requires.held.1).1.its);
+    let may = merge-passed c.args.kept c.args.gone m.asks c.requires.may.clear in record {
+      idle = ap (λ (l : Lists). l.asks) (sym m.lists) ∙ merge-idle c.args.kept c.args.gone m.asks c.requires.may.clear;
+      held = ((slow-held m c.args.kept c.requires.may.unfast c.requires.may.held.0).1.its, (slow-held m c.args.gone c.requires.may.unfast c.requires.may.held.1).1.its);
       two = may.0;
       here = may.1;
       covered = may.2;
@@ -35,7 +37,7 @@ pub set_mode-requires : goal.set_mode-requires
 set_mode-requires g c =
     let m = c.args.self.now in
     let t = c.args.kept in
-    record { slow = unnumbered m t.number (spared (member m) t.number t (slow-held m t c.requires.unfast c.requires.held.0).1.its) }
+    record { slow = unnumbered m t.number (spared (member m) t.number t (slow-held m t c.requires.may.unfast c.requires.may.held.0).1.its) }
 
 pub invariant_of-self : goal.invariant_of-self
 invariant_of-self g c =
@@ -43,9 +45,9 @@ invariant_of-self g c =
     let is = member m in
     let t = c.args.kept in
     let gone = c.args.gone in
-    let one = slow-held m t c.requires.unfast c.requires.held.0 in
-    let other = slow-held m gone c.requires.unfast c.requires.held.1 in
-    let free = ap (λ (l : Lists). merge_fault (Some t) (Some gone) l.asks) (sym m.lists) ∙ c.requires.clear in
+    let one = slow-held m t c.requires.may.unfast c.requires.may.held.0 in
+    let other = slow-held m gone c.requires.may.unfast c.requires.may.held.1 in
+    let free = ap (λ (l : Lists). merge_fault (Some t) (Some gone) l.asks) (sym m.lists) ∙ c.requires.may.clear in
     let visit = c.merge.ensures.merged in
     let slow = merges-slow is t.place t.number gone.number gone.mode t gone one.1.its other.1.its in
     let done = visited m.seat c.merge.new.seat m.sessions slow visit in
@@ -60,13 +62,20 @@ invariant_of-self g c =
       owed = owed-both m (c.strike.ensures.owes ∙ c.set_mode.ensures.owes) (visited-owes visit);
     }
 
-pub returns-clause-merged : goal.returns-clause-merged
-returns-clause-merged g c =
+pub returns : goal.returns
+returns g c =
     let m = c.args.self.now in
     let t = c.args.kept in
     let gone = c.args.gone in
-    let one = slow-held m t c.requires.unfast c.requires.held.0 in
-    let other = slow-held m gone c.requires.unfast c.requires.held.1 in
+    let one = slow-held m t c.requires.may.unfast c.requires.may.held.0 in
+    let other = slow-held m gone c.requires.may.unfast c.requires.may.held.1 in
     let visit = c.merge.ensures.merged in
     let slow = merges-slow (member m) t.place t.number gone.number gone.mode t gone one.1.its other.1.its in
-    quiet-visit (visited m.seat c.merge.new.seat m.sessions slow visit) visit.1
+    record {
+      done = record {
+        merged = quiet-visit (visited m.seat c.merge.new.seat m.sessions slow visit) visit.1;
+        met = c.merge.ensures.step;
+        once = c.merge.ensures.once;
+        room = keeps-before 0 m.tickets.room c.set_mode.new.self.room c.strike.new.self.room c.set_mode.ensures.room c.strike.ensures.room;
+      };
+    }

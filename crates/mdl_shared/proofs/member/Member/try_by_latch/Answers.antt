@@ -16,9 +16,8 @@ use Rattle.mdl_shared.proofs.member.Member.try_by_latch.Goals as goal
 pub try_now-requires : goal.try_now-requires
 try_now-requires g c =
     let m = c.args.self.now in
-    let may = may-wish m c.args.place c.args.kind c.args.mode (c.requires.known, c.requires.clear) in record {
-      at = may.at;
-      wish = may.wish;
+    let may = may-wish m c.args.place c.args.kind c.args.mode (c.requires.may.known, c.requires.may.clear) in record {
+      may = record { at = may.at; wish = may.wish };
       number = ap (λ (l : Lists). l.next) m.lists;
     }
 
@@ -26,12 +25,12 @@ pub push_reserved-requires-clause-below : goal.push_reserved-requires-clause-bel
 push_reserved-requires-clause-below g c = below-seen c.args.self.now _ _ (refl, refl)
 
 pub push_reserved-requires-clause-slow : goal.push_reserved-requires-clause-slow
-push_reserved-requires-clause-slow g c = none-seen c.args.self.now c.args.place _ c.requires.unfast refl
+push_reserved-requires-clause-slow g c = none-seen c.args.self.now c.args.place _ c.requires.may.unfast refl
 
 pub overflow_add-self : goal.overflow_add-self
 overflow_add-self g c =
     let m = c.args.self.now in
-    let may = may-wish m c.args.place c.args.kind c.args.mode (c.requires.known, c.requires.clear) in
+    let may = may-wish m c.args.place c.args.kind c.args.mode (c.requires.may.known, c.requires.may.clear) in
     omega (arith, may.below, ap (λ (l : Lists). l.next) m.lists)
 
 pub invariant_of-self : goal.invariant_of-self
@@ -75,9 +74,9 @@ invariant_of-self-in-Err-1 g c =
 pub invariant_of-self-2 : goal.invariant_of-self-2
 invariant_of-self-2 g c =
     let m = c.args.self.now in
-    let may = may-wish m c.args.place c.args.kind c.args.mode (c.requires.known, c.requires.clear) in
+    let may = may-wish m c.args.place c.args.kind c.args.mode (c.requires.may.known, c.requires.may.clear) in
     let visit = (c.try_now.ensures.granted (c.in-Ok-Granted.is ∙ ap Ok c.in-Ok-Granted.field-0-is)).0 in
-    let done = gained-by m c.try_now.new.seat c.args.place c.args.mode c.requires.unfast visit in
+    let done = gained-by m c.try_now.new.seat c.args.place c.args.mode c.requires.may.unfast visit in
     record {
       lawful = ∣ kept (Try_now _ _ _) (member m) (done-order done (member m) (inl may.wish.idle)) (try-granted (member m) c.args.place c.args.mode may.clear (ap (λ (l : Lists). l.next) m.lists) done) ∣₁;
       lists = lists-done m c.args.place (Gain m.next c.args.mode ∷ []) (lists-visited visit) c.push_reserved.ensures.gained c.push_reserved.ensures.same;
@@ -91,7 +90,7 @@ returns g c =
     let went = c.try_now.ensures.granted (c.in-Ok-Granted.is ∙ ap Ok c.in-Ok-Granted.field-0-is) in record {
       tried = record {
         first = ap (λ (l : Lists). l.next) m.lists;
-        quiet = quiet-visit (gained-by m c.try_now.new.seat c.args.place c.args.mode c.requires.unfast went.0) went.0.1;
+        quiet = quiet-visit (gained-by m c.try_now.new.seat c.args.place c.args.mode c.requires.may.unfast went.0) went.0.1;
         met = went.1;
         room = c.push_reserved.ensures.room;
       };

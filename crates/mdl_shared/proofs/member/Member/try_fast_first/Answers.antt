@@ -17,7 +17,7 @@ use Rattle.mdl_shared.proofs.member.Member.try_fast_first.Goals as goal
 pub reserve-requires : goal.reserve-requires
 reserve-requires g c =
     let m = c.args.self.now in
-    let known = ap (λ (l : Lists). kind_known c.args.place l.known) (sym m.lists) ∙ c.requires.known in
+    let known = ap (λ (l : Lists). kind_known c.args.place l.known) (sym m.lists) ∙ c.requires.may.known in
     let at = place-within (member m) c.args.place (kind_place c.args.place c.args.kind m.seat.me.0.known known) in
     omega (arith, at.1, (member m).narrow.1)
 
@@ -29,7 +29,7 @@ invariant_of-self g c =
     record {
       lawful = ∣ member-room (member m) c.reserve.new.self.room ∣₁;
       lists = lists-done m c.args.place [] refl same.0 same.1;
-      room = λ ask asks. (let no = sym asks ∙ c.requires.idle in cc);
+      room = λ ask asks. (let no = sym asks ∙ c.requires.may.idle in cc);
       owed = λ q. c.reserve.ensures.owes q ∙ m.owed q;
     }
 

@@ -17,7 +17,7 @@ use Rattle.mdl_shared.proofs.WaitSteps.{still-member}
 use Rattle.mdl_shared.proofs.member.Member.upgrade_by_latch.Goals as goal
 
 pub upgrade_now-requires-clause-at : goal.upgrade_now-requires-clause-at
-upgrade_now-requires-clause-at g c = (slow-held c.args.self.now c.args.held c.requires.unfast c.requires.held).0.at
+upgrade_now-requires-clause-at g c = (slow-held c.args.self.now c.args.held c.requires.may.unfast c.requires.may.held).0.at
 
 pub upgrade_now-requires-clause-held : goal.upgrade_now-requires-clause-held
 upgrade_now-requires-clause-held g c =
@@ -25,16 +25,16 @@ upgrade_now-requires-clause-held g c =
     let t = c.args.held in
     record {
       held = t;
-      there = (slow-held m t c.requires.unfast c.requires.held).1.slow;
+      there = (slow-held m t c.requires.may.unfast c.requires.may.held).1.slow;
       here = refl;
-      stronger = upgrade-covers c.args.mode m.known.known m.asks t c.requires.clear c.requires.short;
+      stronger = upgrade-covers c.args.mode m.known.known m.asks t c.requires.may.clear c.requires.short;
     }
 
 pub upgrade_now-requires-clause-wish : goal.upgrade_now-requires-clause-wish
 upgrade_now-requires-clause-wish g c =
     let m = c.args.self.now in
     let t = c.args.held in
-    let clear = ap (λ (l : Lists). upgrade_fault c.args.mode l.known l.asks (Some t)) (sym m.lists) ∙ c.requires.clear in
+    let clear = ap (λ (l : Lists). upgrade_fault c.args.mode l.known l.asks (Some t)) (sym m.lists) ∙ c.requires.may.clear in
     let kind = upgrade-kind c.args.mode m.seat.me.0.known m.seat.me.0.asks (Some t) t refl clear c.requires.short in
     (kind.0, record { idle = kind.4; knows = kind_there t.place kind.0 m.seat.me.0.known kind.1; is_mode = kind.2 }, kind.3)
 
@@ -57,15 +57,15 @@ pub set_mode-requires : goal.set_mode-requires
 set_mode-requires g c =
     let m = c.args.self.now in
     let t = c.args.held in
-    record { slow = unnumbered m t.number (spared (member m) t.number t (slow-held m t c.requires.unfast c.requires.held).1.its) }
+    record { slow = unnumbered m t.number (spared (member m) t.number t (slow-held m t c.requires.may.unfast c.requires.may.held).1.its) }
 
 pub invariant_of-self-2 : goal.invariant_of-self-2
 invariant_of-self-2 g c =
     let m = c.args.self.now in
     let is = member m in
     let t = c.args.held in
-    let held = slow-held m t c.requires.unfast c.requires.held in
-    let clear = ap (λ (l : Lists). upgrade_fault c.args.mode l.known l.asks (Some t)) (sym m.lists) ∙ c.requires.clear in
+    let held = slow-held m t c.requires.may.unfast c.requires.may.held in
+    let clear = ap (λ (l : Lists). upgrade_fault c.args.mode l.known l.asks (Some t)) (sym m.lists) ∙ c.requires.may.clear in
     let visit = (c.upgrade_now.ensures.granted c.in-Granted.is).0 in
     let done = visited m.seat c.upgrade_now.new.seat m.sessions (alters-slow is t.place t.number c.args.mode t held.1.its) visit in
     record {
@@ -80,6 +80,6 @@ pub returns-clause-upgraded : goal.returns-clause-upgraded
 returns-clause-upgraded g c =
     let m = c.args.self.now in
     let t = c.args.held in
-    let held = slow-held m t c.requires.unfast c.requires.held in
+    let held = slow-held m t c.requires.may.unfast c.requires.may.held in
     let went = c.upgrade_now.ensures.granted c.in-Granted.is in
     λ e. (quiet-visit (visited m.seat c.upgrade_now.new.seat m.sessions (alters-slow (member m) t.place t.number c.args.mode t held.1.its) went.0) went.0.1, went.1)

@@ -8,7 +8,7 @@ use Rattle.mdl_shared.proofs.WaitSteps.{quietly, still-member}
 use Rattle.mdl_shared.proofs.session.Session.audit.Goals as goal
 
 pub audit-requires : goal.audit-requires
-audit-requires g c = let is = member c.self.inside.member in record { slots = is.narrow.1; idle = is.idle; empty = c.new-audited.ensures.items }
+audit-requires g c = let is = member c.self.inside.member in record { free = record { idle = is.idle; narrow = is.narrow.1 }; empty = c.new-audited.ensures.items }
 
 pub invariant_of-self-inside : goal.invariant_of-self-inside
 invariant_of-self-inside g c =

@@ -1,10 +1,13 @@
 -- The session may wish so. What became of the wish is told by the fast path, or by the latch of the place.
 use Rattle.std.proofs.Common.{Err, Ok, Some, ap, rules, ◌∙◌, ◌≡◌}
 use Rattle.mdl_calls.specs.Words.{Begin_wait}
+use Rattle.mdl_key.specs.KeyLookups.{kind_known}
+use Rattle.mdl_shared.specs.Members.{wish_fault}
 use Rattle.mdl_shared.specs.Passes.{view_of}
 use Rattle.mdl_shared.proofs.FastWishShows.{begin-fast, begin-full, begun-slow, full-fast}
 use Rattle.mdl_shared.proofs.Members.{fault-seen}
 use Rattle.mdl_shared.proofs.Props.{member}
+use Rattle.mdl_shared.proofs.QuietDeeds.{same-lists}
 use Rattle.mdl_shared.proofs.Refusals.{own-shows}
 use Rattle.mdl_shared.proofs.WishCalls.{begin-unfit}
 use Rattle.mdl_shared.proofs.Wishing.{may-wish, visit-seen}
@@ -37,6 +40,21 @@ returns-in-Some g c =
     let may = may-wish m c.args.place c.in_ok-kind.kind c.args.mode c.in_ok-kind.ensures in
     let both = begin-fast (member m) c.args.place c.args.mode may.clear (rw c.in-Some.is at c.in_ok-number.ensures.granted) in
     rw (← c.self.view_is) (record { joined = both.0; shown = both.1 })
+
+pub begin_by_latch-requires : goal.begin_by_latch-requires
+begin_by_latch-requires g c =
+    let m = c.self.inside.member in
+    let kind = c.in_ok-kind.kind in
+    let slow = c.try_fast_first.ensures.slow (c.in_ok-number.was ∙ ap Ok c.in_default.is) in
+    let same = same-lists m c.try_fast_first.new.self slow.0.quiet.done in
+    record {
+      may = record {
+        known = ap (kind_known c.args.place) same.known ∙ c.in_ok-kind.ensures.0;
+        clear = (λ i. wish_fault (Some kind) (same.asks i) c.args.mode (same.next i)) ∙ c.in_ok-kind.ensures.1;
+        unfast = slow.2;
+        room = slow.3;
+      };
+    }
 
 pub returns : goal.returns
 returns g c =

@@ -51,18 +51,21 @@ returns-in-Some g c =
     let both = fast-cloned (member m) c.args.id c.args.mode clear t its gains in
     rw (← c.self.view_is) (record { joined = both.0; shown = both.1 })
 
-pub clone_by_latch-requires-clause-held : goal.clone_by_latch-requires-clause-held
-clone_by_latch-requires-clause-held g c =
-    let slow = c.in_ok-number.ensures.slow (ap Ok c.in_default.is) in
-    slow-then c.self.inside.member c.try_fast_first.new.self slow.0.quiet.done slow.2 c.args.id c.in_ok-held.held c.in_ok-held.ensures.found.0
-
-pub clone_by_latch-requires-clause-clear : goal.clone_by_latch-requires-clause-clear
-clone_by_latch-requires-clause-clear g c =
+pub clone_by_latch-requires : goal.clone_by_latch-requires
+clone_by_latch-requires g c =
     let m = c.self.inside.member in
     let t = c.in_ok-held.held in
-    let same = same-lists m c.try_fast_first.new.self (c.in_ok-number.ensures.slow (ap Ok c.in_default.is)).0.quiet.done in
+    let slow = c.in_ok-number.ensures.slow (ap Ok c.in_default.is) in
+    let same = same-lists m c.try_fast_first.new.self slow.0.quiet.done in
     let found = ap (λ (o : Option SessionTicket). clone_fault o m.asks c.args.mode m.known.known m.next) c.in_ok-held.ensures.found.0 in
-    (λ i. clone_fault (Some t) (same.asks i) c.args.mode (same.known i) (same.next i)) ∙ sym found ∙ just-done _ _ c.in_ok-held.ensures.just
+    record {
+      may = record {
+        held = slow-then m c.try_fast_first.new.self slow.0.quiet.done slow.2 c.args.id t c.in_ok-held.ensures.found.0;
+        clear = (λ i. clone_fault (Some t) (same.asks i) c.args.mode (same.known i) (same.next i)) ∙ sym found ∙ just-done _ _ c.in_ok-held.ensures.just;
+        unfast = slow.2;
+        room = slow.3;
+      };
+    }
 
 pub returns : goal.returns
 returns g c =

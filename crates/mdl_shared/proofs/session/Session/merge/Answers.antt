@@ -1,10 +1,12 @@
 -- The ticket has the other one's mode, and that one goes; or they can't be merged.
-use Rattle.std.proofs.Common.{Err, None, Some, rules, sym, ◌≡◌}
+use Rattle.std.proofs.Common.{Err, None, Some, ap, rules, sym, ◌∙◌, ◌≡◌}
 use Rattle.mdl_calls.specs.Words.{Merge}
+use Rattle.mdl_shared.specs.Modes.{merge_fault}
 use Rattle.mdl_shared.specs.Passes.{view_of}
 use Rattle.mdl_shared.proofs.Faults.{just-done, just-refused}
 use Rattle.mdl_shared.proofs.Members.{fault-seen, held-seen}
 use Rattle.mdl_shared.proofs.Props.{member}
+use Rattle.mdl_shared.proofs.QuietDeeds.{same-lists}
 use Rattle.mdl_shared.proofs.Refusals.{own-shows}
 use Rattle.mdl_shared.proofs.SlowFirst.{becomes-slow, merge-refused, merged-slow, slow-then}
 use Rattle.mdl_shared.proofs.TicketCalls.{merge-unfit}
@@ -36,14 +38,21 @@ returns-in_err-materialise g c =
     c.materialise.ensures.done c.in_err-materialise.ensures.refused c.in_err-materialise.ensures.stops c.materialise.ensures.room in
     rw refused (rw (← c.self.view_is) (record { joined = both.0; shown = both.1 }))
 
-pub merge_by_latch-requires-clause-held : goal.merge_by_latch-requires-clause-held
-merge_by_latch-requires-clause-held g c =
+pub merge_by_latch-requires : goal.merge_by_latch-requires
+merge_by_latch-requires g c =
     let m = c.self.inside.member in
+    let n = c.materialise.new.self in
     let done = c.materialise.ensures.done.done in
-    let none = c.in_ok-materialise.ensures.slow.0 in (
-      slow-then m c.materialise.new.self done none c.args.old c.in_ok-kept.kept c.in_ok-kept.ensures.found.0,
-      slow-then m c.materialise.new.self done none c.args.new c.in_ok-kept.gone c.in_ok-kept.ensures.found.1,
-    )
+    let none = c.in_ok-materialise.ensures.slow.0 in
+    let found = c.in_ok-kept.ensures.found in
+    record {
+      may = record {
+        held = (slow-then m n done none c.args.old c.in_ok-kept.kept found.0, slow-then m n done none c.args.new c.in_ok-kept.gone found.1);
+        clear = ap (merge_fault (Some c.in_ok-kept.kept) (Some c.in_ok-kept.gone)) (same-lists m n done).asks
+            ∙ sym (λ i. merge_fault (found.0 i) (found.1 i) m.asks) ∙ just-done _ _ c.in_ok-kept.ensures.just;
+        unfast = none;
+      };
+    }
 
 pub returns : goal.returns
 returns g c =
@@ -52,6 +61,6 @@ returns g c =
     let other = held-seen m c.args.new (Some c.in_ok-kept.gone) (sym c.in_ok-kept.ensures.found.1) in
     let clear = fault-seen m (Merge m.seat.me.0.number c.args.old c.args.new) None (just-done _ _ c.in_ok-kept.ensures.just) in
     let slow = becomes-slow m c.materialise.new.self c.materialise.ensures.done c.in_ok-materialise.ensures.slow c.materialise.ensures.room in
-    let both = merged-slow (member m) c.args.old c.args.new c.in_ok-kept.kept c.in_ok-kept.gone its other clear slow c.in_ok-materialise.ensures.turn c.merge_by_latch.ensures.once c.merge_by_latch.ensures.room
-    c.merge_by_latch.ensures.merged c.merge_by_latch.ensures.met in
+    let both = merged-slow (member m) c.args.old c.args.new c.in_ok-kept.kept c.in_ok-kept.gone its other clear slow c.in_ok-materialise.ensures.turn c.merge_by_latch.ensures.done.once c.merge_by_latch.ensures.done.room
+    c.merge_by_latch.ensures.done.merged c.merge_by_latch.ensures.done.met in
     rw (← c.self.view_is) (record { joined = both.0; shown = both.1 })

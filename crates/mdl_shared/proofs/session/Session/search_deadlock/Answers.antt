@@ -66,7 +66,7 @@ search_deadlock-requires g c =
     let m = c.self.inside.member in
     let is = member m in
     let read = sym c.read_wait-word.ensures.made in
-    record { slots = subst (λ (x : SeatState). x.table.slots ≤ 65536) read is.narrow.1; idle = subst (λ (x : SeatState). HoldsNoLatch x.me) read is.idle }
+    record { free = record { idle = subst (λ (x : SeatState). HoldsNoLatch x.me) read is.idle; narrow = subst (λ (x : SeatState). x.table.slots ≤ 65536) read is.narrow.1 } }
 
 pub invariant_of-self-inside-2 : goal.invariant_of-self-inside-2
 invariant_of-self-inside-2 g c =

@@ -20,7 +20,7 @@ use Rattle.mdl_shared.proofs.session.Session.tables_of.Goals as goal
 pub find_tables-requires : goal.find_tables-requires
 find_tables-requires g c =
     let is = member c.self.inside.member in
-    record { idle = is.idle; narrow = is.narrow.1 }
+    record { free = record { idle = is.idle; narrow = is.narrow.1 } }
 
 pub invariant_of-member : goal.invariant_of-member
 invariant_of-member g c =

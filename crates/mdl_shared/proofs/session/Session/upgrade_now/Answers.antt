@@ -1,10 +1,12 @@
 -- The ticket has the stronger mode, or would have to wait for it, or can't have it.
-use Rattle.std.proofs.Common.{Err, None, Some, rules, sym, ◌∙◌, ◌≡◌}
+use Rattle.std.proofs.Common.{Err, None, Some, ap, rules, sym, ◌∙◌, ◌≡◌}
 use Rattle.mdl_calls.specs.Words.{Upgrade_now}
 use Rattle.mdl_shared.specs.Passes.{view_of}
+use Rattle.mdl_shared.specs.Upgrades.{upgrade_fault}
 use Rattle.mdl_shared.proofs.Faults.{just-done, just-refused}
 use Rattle.mdl_shared.proofs.Members.{fault-seen, held-seen}
 use Rattle.mdl_shared.proofs.Props.{member}
+use Rattle.mdl_shared.proofs.QuietDeeds.{same-lists}
 use Rattle.mdl_shared.proofs.Refusals.{own-shows}
 use Rattle.mdl_shared.proofs.SlowFirst.{becomes-slow, slow-then, tried-slow, upgrade-refused}
 use Rattle.mdl_shared.proofs.TicketCalls.{covered-joins, covered-shows, upgrade-unfit}
@@ -47,10 +49,22 @@ returns-in_err-materialise g c =
     c.materialise.ensures.done c.in_err-materialise.ensures.refused c.in_err-materialise.ensures.stops c.materialise.ensures.room in
     rw refused (rw (← c.self.view_is) (record { joined = both.0; shown = both.1 }))
 
-pub upgrade_by_latch-requires-clause-held : goal.upgrade_by_latch-requires-clause-held
-upgrade_by_latch-requires-clause-held g c =
-    slow-then c.self.inside.member c.materialise.new.self c.materialise.ensures.done.done c.in_ok-materialise.ensures.slow.0
-    c.args.id c.in_ok-held.held c.in_ok-held.ensures.found
+pub upgrade_by_latch-requires : goal.upgrade_by_latch-requires
+upgrade_by_latch-requires g c =
+    let m = c.self.inside.member in
+    let n = c.materialise.new.self in
+    let t = c.in_ok-held.held in
+    let done = c.materialise.ensures.done.done in
+    let same = same-lists m n done in
+    record {
+      may = record {
+        held = slow-then m n done c.in_ok-materialise.ensures.slow.0 c.args.id t c.in_ok-held.ensures.found;
+        clear = (λ i. upgrade_fault c.args.mode (same.known i) (same.asks i) (Some t)) ∙ sym (ap (upgrade_fault c.args.mode m.known.known m.asks) c.in_ok-held.ensures.found)
+            ∙ just-done _ _ c.in_ok-held.ensures.just;
+        unfast = c.in_ok-materialise.ensures.slow.0;
+      };
+      short = sym c.covers.ensures ∙ c.if-covers.false;
+    }
 
 pub returns : goal.returns
 returns g c =

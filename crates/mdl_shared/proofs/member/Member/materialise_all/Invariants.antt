@@ -4,12 +4,13 @@ use Rattle.mdl_shared.specs.DeedsDone.{DoesQuietly}
 use Rattle.mdl_shared.specs.FastDeeds.{AreSameOrSlow, AreSlowBefore}
 use Rattle.mdl_shared.specs.Passes.{view_of}
 use Rattle.mdl_shared.specs.WishSteps.{SlowsInTurn}
-use Rattle.mdl_shared.specs.TicketLists.{KeepsRoom}
-use Rattle.mdl_shared.proofs.member.Member.materialise.Given as goal
+use Rattle.mdl_shared.specs.TicketLists.{AreByPlace, KeepsRoom}
+use Rattle.mdl_shared.proofs.member.Member.materialise_all.Given as goal
 
 abbrev pub invariant-loop-place : goal.invariant-loop-place
 invariant-loop-place g l = record {
   idle : l.self.asks ≡ None;
+  by_place : AreByPlace l.self.tickets.fast l.rest;
   done : DoesQuietly 0 [] (view_of l.fn.self) (view_of l.self);
   slow : AreSameOrSlow (view_of l.fn.self) (view_of l.self);
   order : AreSlowBefore (view_of l.fn.self) (view_of l.self);
