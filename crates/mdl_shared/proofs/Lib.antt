@@ -49,6 +49,7 @@ pub mod FastDone
 pub mod FastFacts
 pub mod SlowPlaces
 pub mod TicketSlowing
+pub mod TicketEnds
 pub mod SlowHeld
 pub mod FastWishing
 pub mod SlowFirst

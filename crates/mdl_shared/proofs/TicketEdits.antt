@@ -227,7 +227,7 @@ count_pushed p t xs =
     let more : count_by p (xs ++ t ∷ []) ≡ count_by p xs + (0 + cond (p t) 1 0) = sum_by-append (λ (t : Gained). cond (p t) 1 0) xs (t ∷ []) in
     omega (arith, more)
 
-under : (number : ℕ) (ps : List OfPlace) (xs : List Gained) (i : ℕ) (d : Gained) → are_below_next number (map (with_note ps) xs) ≡ true → i < length xs → (get_or xs i d).id < number
+pub under : (number : ℕ) (ps : List OfPlace) (xs : List Gained) (i : ℕ) (d : Gained) → are_below_next number (map (with_note ps) xs) ≡ true → i < length xs → (get_or xs i d).id < number
 under number ps [] i d below inside = absurd (omega arith)
 under number ps (x ∷ xs) zero d below inside = grind (arith, nat_tests)
 under number ps (x ∷ xs) (suc i) d below inside = grind (arith, nat_tests, under number ps xs i d)

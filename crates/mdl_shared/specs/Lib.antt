@@ -28,6 +28,7 @@ pub mod FastCalls
 pub mod FastDeeds
 pub mod FastWishes
 pub mod KeptReads
+pub mod LastFast
 pub mod LatchCalls
 pub mod Members
 pub mod Modes

@@ -32,3 +32,8 @@ pub record TicketList : Type 0 where
   pub fast : List SessionTicket
   pub owes : List Bool
   pub room : Room
+
+-- the places are owed what they were, and there is the room that there was, or more
+pub record KeepsRest (before after : TicketList) : Type 0 where
+  pub owes : after.owes ≡ before.owes
+  pub room : KeepsRoom 0 before.room after.room

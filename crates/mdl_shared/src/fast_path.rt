@@ -20,6 +20,7 @@ ghost use Rattle.mdl_shared.specs.Members.{increment_at, most_numbers};
 ghost use Rattle.mdl_shared.specs.Passes.{view_of};
 ghost use Rattle.mdl_shared.specs.Steps.{ShowsStep};
 ghost use Rattle.mdl_shared.specs.WishSteps.{AllMadeSlow, LacksRoomForFast, MakesSlow, SlowsAll, StopsSlowing};
+ghost use Rattle.mdl_shared.specs.LastFast.{EndsInFast};
 ghost use Rattle.mdl_shared.specs.TicketLists.{HasRoom, KeepsRoom};
 
 use crate::member::Member;
@@ -51,7 +52,7 @@ impl Member {
     /// memory.
     ///
     /// `one` is what the ticket adds to the word of the place.
-    #[inline(always)]
+    #[inline(never)]
     pub(crate) fn gain_fast(
         &mut self,
         place: usize,
@@ -102,6 +103,25 @@ impl Member {
         self.tickets.strike(held.place, held.number);
         if owes {
             self.tickets.owe(held.place);
+        }
+        owes
+    }
+
+    /// The same for the last ticket of the session.
+    #[inline(always)]
+    pub(crate) fn lose_last(&mut self, held: SessionTicket) -> bool
+        requires last { EndsInFast held self.old.tickets }
+        ensures lost { DoesQuietly held.place (Lose held.number ∷ []) (view_of self.old) (but_owing (view_of self.old) (view_of self.new)) }
+        ensures released { ReleasesFast held.place held.number result self.old.seat.me self.new.seat.me }
+        ensures room { (self.old.tickets.room.spare < self.new.tickets.room.spare) × (self.old.tickets.room.reach ≤ self.new.tickets.room.reach) }
+        ensures stays { StaysOn self.old.seat.me self.new.seat.me }
+    {
+        let place = held.place;
+        let one = self.increment(held);
+        let owes = release_fast(&mut self.seat, place, held.number, one);
+        self.tickets.pop_fast(held);
+        if owes {
+            self.tickets.owe(place);
         }
         owes
     }

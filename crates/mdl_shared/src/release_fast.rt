@@ -27,6 +27,20 @@ impl<R> Session<R> {
         ensures refused { IfErr result (λ why. (why ≡ NotHeld) × (numbered id self.old.me.0.fast ≡ None) × (self.new ≡ self.old)) }
         ensures stays { StaysOn self.old.me self.new.me }
     {
+        let Some(held) = self.member.tickets.last_fast(id) else {
+            return self.release_earlier(id);
+        };
+        let owes = self.member.lose_last(held);
+        Ok(Released { owes })
+    }
+
+    // The same for a ticket that may be before others. It is apart so that the release of the last one calls no function.
+    #[inline(never)]
+    fn release_earlier(&mut self, id: TicketId) -> Result<Released, SpaceError>
+        ensures released { IfOk result (λ released. GaveUpFast id released.owes self.old self.new) }
+        ensures refused { IfErr result (λ why. (why ≡ NotHeld) × (numbered id self.old.me.0.fast ≡ None) × (self.new ≡ self.old)) }
+        ensures stays { StaysOn self.old.me self.new.me }
+    {
         let Some(held) = self.member.tickets.get_fast(id) else {
             return Err(SpaceError::NotHeld);
         };

@@ -17,8 +17,9 @@ ghost use Rattle.mdl_shared.specs.Members.{without_at};
 ghost use Rattle.mdl_shared.specs.Modes.{in_mode_at};
 ghost use Rattle.mdl_shared.specs.OwnLists.{as_held};
 ghost use Rattle.mdl_shared.specs.Waitings.{are_below_next};
-ghost use Rattle.mdl_shared.specs.TicketLists.{AreByPlace, HasRoom, HasRoomFor, KeepsRoom};
-ghost use Rattle.mdl_shared.specs.OwnTickets.{IsLastGained, StandsAt, counted_at, fast_counted_at, fast_found, flags_of, noted_in, with_note, HaveRisingNumbers, AreAt, slowed, slowed_as};
+ghost use Rattle.mdl_shared.specs.LastFast.{EndsInFast};
+ghost use Rattle.mdl_shared.specs.TicketLists.{AreByPlace, HasRoom, HasRoomFor, KeepsRest, KeepsRoom};
+ghost use Rattle.mdl_shared.specs.OwnTickets.{KeepsCounts, IsLastGained, StandsAt, counted_at, fast_counted_at, fast_found, flags_of, noted_in, with_note, HaveRisingNumbers, AreAt, slowed, slowed_as};
 
 use mdl_calls::{Held, Place, TicketId};
 use mdl_key::Mode;
@@ -121,6 +122,14 @@ impl Tickets {
         } else {
             None
         }
+    }
+
+    /// Returns the last ticket, if it is a fast one with this number.
+    pub(crate) fn last_fast(&self, id: TicketId) -> Option<SessionTicket>
+        ensures { IfSome result (λ held. (held.number ≡ id) × EndsInFast held self.now) }
+    {
+        let last = last_of(&self.gained, id)?;
+        Some(own_of(&self.places, last))
     }
 
     /// Returns the number of fast tickets at a place.
@@ -251,12 +260,25 @@ impl Tickets {
             .push_reserved(new_ticket(number, place, mode, true));
     }
 
+    /// Removes the last ticket, which is this fast one.
+    pub(crate) fn pop_fast(&mut self, held: SessionTicket)
+        requires last { EndsInFast held self.old }
+        ensures struck { (self.new.slow ≡ without_at held.place held.number self.old.slow) × (self.new.fast ≡ without_at held.place held.number self.old.fast) }
+        ensures freed { (self.old.room.spare < self.new.room.spare) × (held.place < self.new.room.reach) }
+        ensures rest { KeepsRest self.old self.new }
+    {
+        let gained = &mut self.gained;
+        take_last(gained);
+        uncount_one(&mut self.places, held.place);
+        uncount_fast(&mut self.places, held.place);
+        self.fast -= 1;
+    }
+
     /// Removes the ticket with a number at a place, if there is one.
     pub(crate) fn strike(&mut self, place: usize, id: TicketId)
         ensures struck { (self.new.slow ≡ without_at place id self.old.slow) × (self.new.fast ≡ without_at place id self.old.fast) }
         ensures freed { (t : SessionTicket) → numbered id self.old.fast ≡ Some t → t.place ≡ place → (self.old.room.spare < self.new.room.spare) × (place < self.new.room.reach) }
-        ensures owes { self.new.owes ≡ self.old.owes }
-        ensures room { KeepsRoom 0 self.old.room self.new.room }
+        ensures rest { KeepsRest self.old self.new }
     {
         let Some(fast) = last_at(&self.gained, place, id) else {
             return self.strike_earlier(place, id);
@@ -274,8 +296,7 @@ impl Tickets {
     fn strike_earlier(&mut self, place: usize, id: TicketId)
         ensures struck { (self.new.slow ≡ without_at place id self.old.slow) × (self.new.fast ≡ without_at place id self.old.fast) }
         ensures freed { (t : SessionTicket) → numbered id self.old.fast ≡ Some t → t.place ≡ place → (self.old.room.spare < self.new.room.spare) × (place < self.new.room.reach) }
-        ensures owes { self.new.owes ≡ self.old.owes }
-        ensures room { KeepsRoom 0 self.old.room self.new.room }
+        ensures rest { KeepsRest self.old self.new }
     {
         if let Some(at) = index_at(&self.gained, place, id) {
             let fast = self.gained[at].fast;
@@ -292,8 +313,7 @@ impl Tickets {
     pub(crate) fn set_mode(&mut self, place: usize, id: TicketId, mode: Mode)
         requires slow { numbered id self.old.fast ≡ None }
         ensures changed { (self.new.slow ≡ in_mode_at place id mode self.old.slow) × (self.new.fast ≡ self.old.fast) }
-        ensures owes { self.new.owes ≡ self.old.owes }
-        ensures room { KeepsRoom 0 self.old.room self.new.room }
+        ensures rest { KeepsRest self.old self.new }
     {
         if let Some(at) = index_at(&self.gained, place, id) {
             self.gained[at].mode = mode;
@@ -305,8 +325,7 @@ impl Tickets {
         requires these { here.now ≡ own_at place self.old.fast }
         ensures slow { self.new.slow ≡ interleaved self.old.slow (own_at place self.old.fast) }
         ensures fast { self.new.fast ≡ but_at place self.old.fast }
-        ensures owes { self.new.owes ≡ self.old.owes }
-        ensures room { KeepsRoom 0 self.old.room self.new.room }
+        ensures rest { KeepsRest self.old self.new }
     {
         self.fast -= clear_fast(&mut self.places, place);
         slow_down(&mut self.gained, here);
@@ -315,8 +334,7 @@ impl Tickets {
     /// Notes a version under each ticket at a place.
     pub(crate) fn note_all(&mut self, place: usize, version: u64)
         ensures noted { (self.new.slow ≡ noting_version place version self.old.slow) × (self.new.fast ≡ noting_version place version self.old.fast) }
-        ensures owes { self.new.owes ≡ self.old.owes }
-        ensures room { KeepsRoom 0 self.old.room self.new.room }
+        ensures rest { KeepsRest self.old self.new }
     {
         note(&mut self.places, place, version);
     }
@@ -379,6 +397,18 @@ fn index_at(tickets: &[Gained], place: usize, id: TicketId) -> Option<usize>
     let at = index_of(tickets, id)?;
     if usize::from(tickets[at].place) == place {
         Some(at)
+    } else {
+        None
+    }
+}
+
+// The last ticket, if it is a fast one with this number.
+fn last_of(tickets: &[Gained], id: TicketId) -> Option<Gained>
+    ensures { IfSome result (λ t. IsLastGained t.place id true tickets.now × (t ≡ slice_index_or tickets.now (length tickets.now - 1) t)) }
+{
+    let last = tickets.last()?;
+    if last.id == id && last.fast {
+        Some(*last)
     } else {
         None
     }
@@ -564,10 +594,10 @@ fn count_one(places: &mut Vec<OfPlace>, place: usize)
     requires inside { place < length places.old.items }
     requires few { counted_at place places.old.items < 2 ^ 63 }
     ensures length { length places.new.items ≡ length places.old.items }
+    ensures owes { flags_of places.new.items ≡ flags_of places.old.items }
     ensures counted { (q : ℕ) → counted_at q places.new.items ≡ counted_at q places.old.items + (if q == place then 1 else 0) }
     ensures fast { (q : ℕ) → fast_counted_at q places.new.items ≡ fast_counted_at q places.old.items }
     ensures noted { (q : ℕ) → noted_in q places.new.items ≡ (if q == place && counted_at q places.old.items == 0 then None else noted_in q places.old.items) }
-    ensures owes { flags_of places.new.items ≡ flags_of places.old.items }
 {
     let here = &mut places[place];
     if here.tickets == 0 {
@@ -581,10 +611,10 @@ fn count_one(places: &mut Vec<OfPlace>, place: usize)
 fn uncount_one(places: &mut Vec<OfPlace>, place: usize)
     requires some { 0 < counted_at place places.old.items }
     ensures length { length places.new.items ≡ length places.old.items }
+    ensures owes { flags_of places.new.items ≡ flags_of places.old.items }
     ensures counted { (q : ℕ) → counted_at q places.old.items ≡ counted_at q places.new.items + (if q == place then 1 else 0) }
     ensures fast { (q : ℕ) → fast_counted_at q places.new.items ≡ fast_counted_at q places.old.items }
     ensures noted { (q : ℕ) → noted_in q places.new.items ≡ noted_in q places.old.items }
-    ensures owes { flags_of places.new.items ≡ flags_of places.old.items }
     ensures inside { place < length places.new.items }
 {
     places[place].tickets -= 1;
@@ -596,10 +626,9 @@ fn count_fast(places: &mut Vec<OfPlace>, place: usize)
     requires inside { place < length places.old.items }
     requires few { fast_counted_at place places.old.items < 2 ^ 63 }
     ensures length { length places.new.items ≡ length places.old.items }
-    ensures counted { (q : ℕ) → counted_at q places.new.items ≡ counted_at q places.old.items }
-    ensures fast { (q : ℕ) → fast_counted_at q places.new.items ≡ fast_counted_at q places.old.items + (if q == place then 1 else 0) }
-    ensures noted { (q : ℕ) → noted_in q places.new.items ≡ noted_in q places.old.items }
     ensures owes { flags_of places.new.items ≡ flags_of places.old.items }
+    ensures tickets { KeepsCounts places.old.items places.new.items }
+    ensures fast { (q : ℕ) → fast_counted_at q places.new.items ≡ fast_counted_at q places.old.items + (if q == place then 1 else 0) }
 {
     places[place].fast += 1;
 }
@@ -609,10 +638,9 @@ fn count_fast(places: &mut Vec<OfPlace>, place: usize)
 fn uncount_fast(places: &mut Vec<OfPlace>, place: usize)
     requires some { 0 < fast_counted_at place places.old.items }
     ensures length { length places.new.items ≡ length places.old.items }
-    ensures counted { (q : ℕ) → counted_at q places.new.items ≡ counted_at q places.old.items }
-    ensures fast { (q : ℕ) → fast_counted_at q places.old.items ≡ fast_counted_at q places.new.items + (if q == place then 1 else 0) }
-    ensures noted { (q : ℕ) → noted_in q places.new.items ≡ noted_in q places.old.items }
     ensures owes { flags_of places.new.items ≡ flags_of places.old.items }
+    ensures tickets { KeepsCounts places.old.items places.new.items }
+    ensures fast { (q : ℕ) → fast_counted_at q places.old.items ≡ fast_counted_at q places.new.items + (if q == place then 1 else 0) }
 {
     places[place].fast -= 1;
 }
@@ -622,10 +650,9 @@ fn uncount_fast(places: &mut Vec<OfPlace>, place: usize)
 fn clear_fast(places: &mut Vec<OfPlace>, place: usize) -> usize
     ensures fast { result ≡ fast_counted_at place places.old.items }
     ensures length { length places.new.items ≡ length places.old.items }
-    ensures counted { (q : ℕ) → counted_at q places.new.items ≡ counted_at q places.old.items }
-    ensures cleared { (q : ℕ) → fast_counted_at q places.new.items ≡ (if q == place then 0 else fast_counted_at q places.old.items) }
-    ensures noted { (q : ℕ) → noted_in q places.new.items ≡ noted_in q places.old.items }
     ensures owes { flags_of places.new.items ≡ flags_of places.old.items }
+    ensures tickets { KeepsCounts places.old.items places.new.items }
+    ensures cleared { (q : ℕ) → fast_counted_at q places.new.items ≡ (if q == place then 0 else fast_counted_at q places.old.items) }
 {
     if place < places.len() {
         let fast = places[place].fast;
@@ -640,10 +667,10 @@ fn clear_fast(places: &mut Vec<OfPlace>, place: usize) -> usize
 #[tactic(auto, using(crate::proofs::OwedFlags::flags_kept))]
 fn note(places: &mut Vec<OfPlace>, place: usize, version: u64)
     ensures length { length places.new.items ≡ length places.old.items }
+    ensures owes { flags_of places.new.items ≡ flags_of places.old.items }
     ensures counted { (q : ℕ) → counted_at q places.new.items ≡ counted_at q places.old.items }
     ensures fast { (q : ℕ) → fast_counted_at q places.new.items ≡ fast_counted_at q places.old.items }
     ensures noted { (q : ℕ) → 0 < counted_at q places.old.items → noted_in q places.new.items ≡ (if q == place then Some version else noted_in q places.old.items) }
-    ensures owes { flags_of places.new.items ≡ flags_of places.old.items }
 {
     if place < places.len() {
         let here = &mut places[place];
@@ -655,9 +682,8 @@ fn note(places: &mut Vec<OfPlace>, place: usize, version: u64)
 // Notes whether a place is owed a reschedule, if the list has this place.
 fn set_owes(places: &mut Vec<OfPlace>, place: usize, owes: bool)
     ensures length { length places.new.items ≡ length places.old.items }
-    ensures counted { (q : ℕ) → counted_at q places.new.items ≡ counted_at q places.old.items }
+    ensures tickets { KeepsCounts places.old.items places.new.items }
     ensures fast { (q : ℕ) → fast_counted_at q places.new.items ≡ fast_counted_at q places.old.items }
-    ensures noted { (q : ℕ) → noted_in q places.new.items ≡ noted_in q places.old.items }
     ensures owes { (q : ℕ) → owed_in q (flags_of places.new.items)
         ≡ (if q == place && nat_lt place (length places.old.items) then owes else owed_in q (flags_of places.old.items)) }
 {

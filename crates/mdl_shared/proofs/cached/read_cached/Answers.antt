@@ -44,13 +44,13 @@ invariant_of-member g c =
     let hit = sym c.look.ensures.found ∙ ap option_copied c.in-Some-look.is in
     let made = read.ensures.noted d hit in
     let room = c.note_all.new.self.room in
-    let keeps = c.note_all.ensures.room in
+    let keeps = c.note_all.ensures.rest.room in
     let finds = seat-finds m c.args.id t its kept met read.new.self read.result d hit read.ensures.newest read.ensures.one made room keeps in
     record {
       lawful = ∣ kept-sound (Read_kept _ _) (member m) (noted-order (found-noted finds) (member m)) (seat-joins m c.args.id t its kept met read.new.self read.result d hit read.ensures.newest read.ensures.one made room keeps) ∣₁;
       lists = lists-noted m (found-noted finds) refl c.note_all.ensures.noted;
       room = λ ask asks. room-kept m.tickets c.note_all.new.self keeps (m.room ask asks);
-      owed = owed-both m c.note_all.ensures.owes (noted-owes (found-noted finds));
+      owed = owed-both m c.note_all.ensures.rest.owes (noted-owes (found-noted finds));
     }
 
 pub invariant_of-member-in-None-look : goal.invariant_of-member-in-None-look
@@ -82,7 +82,7 @@ returns-after-look g c =
           let hit = sym c.look.ensures.found ∙ ap option_copied w.in-Some-look.is in
           let made = read.ensures.noted d hit in
           let room = w.note_all.new.self.room in
-          let keeps = w.note_all.ensures.room in
+          let keeps = w.note_all.ensures.rest.room in
           let finds = seat-finds m id t its kept met read.new.self read.result d hit read.ensures.newest read.ensures.one made room keeps in
           let joins = seat-joins m id t its kept met read.new.self read.result d hit read.ensures.newest read.ensures.one made room keeps in
           let still = seat-met m id t its kept met read.new.self read.result d hit read.ensures.newest read.ensures.one made room keeps in

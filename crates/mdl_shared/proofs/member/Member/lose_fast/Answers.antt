@@ -47,11 +47,11 @@ invariant_of-self c =
     let seat = c.release_fast-owes.new.seat in
     let released = c.release_fast-owes.ensures.released in
     let same = c.owe.ensures.same in
-    let keeps = subst (λ (r : Room). KeepsRoom 0 m.tickets.room r) (sym same.2) c.strike.ensures.room in record {
+    let keeps = subst (λ (r : Room). KeepsRoom 0 m.tickets.room r) (sym same.2) c.strike.ensures.rest.room in record {
       lawful = ∣ still m t c.requires.held seat c.release_fast-owes.result released c.owe.new.self.room ∣₁;
       lists = lists-released m seat released (fast-struck m t c.requires.held (same.0 ∙ c.strike.ensures.struck.0)) (same.1 ∙ c.strike.ensures.struck.1);
       room = λ ask asks. room-kept m.tickets c.owe.new.self keeps (m.room ask asks);
-      owed = owed-more m c.strike.new.self c.owe.new.self t.place c.strike.ensures.owes c.owe.ensures.owes (released-due released.1 c.if-owes.true);
+      owed = owed-more m c.strike.new.self c.owe.new.self t.place c.strike.ensures.rest.owes c.owe.ensures.owes (released-due released.1 c.if-owes.true);
     }
 
 pub invariant_of-self-else-owes : goal.invariant_of-self-else-owes
@@ -62,8 +62,8 @@ invariant_of-self-else-owes c =
     let released = c.release_fast-owes.ensures.released in record {
       lawful = ∣ still m t c.requires.held seat c.release_fast-owes.result released c.strike.new.self.room ∣₁;
       lists = lists-released m seat released (fast-struck m t c.requires.held c.strike.ensures.struck.0) c.strike.ensures.struck.1;
-      room = λ ask asks. room-kept m.tickets c.strike.new.self c.strike.ensures.room (m.room ask asks);
-      owed = owed-both m c.strike.ensures.owes (released-quiet released.1 c.if-owes.false);
+      room = λ ask asks. room-kept m.tickets c.strike.new.self c.strike.ensures.rest.room (m.room ask asks);
+      owed = owed-both m c.strike.ensures.rest.owes (released-quiet released.1 c.if-owes.false);
     }
 
 pub returns-then-owes-clause-lost : goal.returns-then-owes-clause-lost

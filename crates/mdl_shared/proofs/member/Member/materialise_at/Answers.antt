@@ -1,5 +1,5 @@
 -- The fast tickets of the place are slow ones then, or stay as they were for want of room.
-use Rattle.std.proofs.Common.{is_some, inl, inr, refl, sym, ap, ◌∙◌}
+use Rattle.std.proofs.Common.{is_some, inr, sym, ap, ◌∙◌}
 use Rattle.std.proofs.lemmas.Bool.{false≢true}
 use Rattle.mdl_steps.specs.Plays.{Mine}
 use Rattle.mdl_steps.specs.Cells.{own_at}
@@ -71,8 +71,8 @@ invariant_of-self-2 g c =
     let moved = c.in_default-materialise.ensures.materialised.0 in record {
       lawful = ∣ still-member (fast-materialised m.seat c.materialise.new.seat m.sessions (member m) moved).done (member m) ∣₁;
       lists = lists-materialised m c.materialise.new.seat moved c.make_slow.ensures.slow c.make_slow.ensures.fast;
-      room = λ ask asks. room-kept m.tickets c.make_slow.new.self c.make_slow.ensures.room (m.room ask asks);
-      owed = owed-both m c.make_slow.ensures.owes (ap (λ (x : Mine). x.0.owes) moved.1.now);
+      room = λ ask asks. room-kept m.tickets c.make_slow.new.self c.make_slow.ensures.rest.room (m.room ask asks);
+      owed = owed-both m c.make_slow.ensures.rest.owes (ap (λ (x : Mine). x.0.owes) moved.1.now);
     }
 
 pub returns-clause-done : goal.returns-clause-done

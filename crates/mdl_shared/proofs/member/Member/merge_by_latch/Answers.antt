@@ -58,8 +58,8 @@ invariant_of-self g c =
           (fast-struck m t.place gone.number (spared is gone.number gone other.1.its)
           (c.strike.ensures.struck.1 ∙ ap (without_at t.place gone.number) c.set_mode.ensures.changed.1));
       room = λ ask asks.
-          room-kept c.set_mode.new.self c.strike.new.self c.strike.ensures.room (room-kept m.tickets c.set_mode.new.self c.set_mode.ensures.room (m.room ask asks));
-      owed = owed-both m (c.strike.ensures.owes ∙ c.set_mode.ensures.owes) (visited-owes visit);
+          room-kept c.set_mode.new.self c.strike.new.self c.strike.ensures.rest.room (room-kept m.tickets c.set_mode.new.self c.set_mode.ensures.rest.room (m.room ask asks));
+      owed = owed-both m (c.strike.ensures.rest.owes ∙ c.set_mode.ensures.rest.owes) (visited-owes visit);
     }
 
 pub returns : goal.returns
@@ -76,6 +76,6 @@ returns g c =
         merged = quiet-visit (visited m.seat c.merge.new.seat m.sessions slow visit) visit.1;
         met = c.merge.ensures.step;
         once = c.merge.ensures.once;
-        room = keeps-before 0 m.tickets.room c.set_mode.new.self.room c.strike.new.self.room c.set_mode.ensures.room c.strike.ensures.room;
+        room = keeps-before 0 m.tickets.room c.set_mode.new.self.room c.strike.new.self.room c.set_mode.ensures.rest.room c.strike.ensures.rest.room;
       };
     }

@@ -72,8 +72,8 @@ invariant_of-self-2 g c =
       lawful = ∣ kept (Upgrade_now _ _ _) is (done-order done is (inr refl)) (upgrade-joins is t.number t held.0.its c.args.mode
           (ap (upgrade_fault c.args.mode m.seat.me.0.known m.seat.me.0.asks) held.0.its ∙ clear) c.requires.short done) ∣₁;
       lists = lists-done m t.place (Alter t.number c.args.mode ∷ []) (lists-visited visit) c.set_mode.ensures.changed.0 c.set_mode.ensures.changed.1;
-      room = λ ask asks. room-kept m.tickets c.set_mode.new.self c.set_mode.ensures.room (m.room ask asks);
-      owed = owed-both m c.set_mode.ensures.owes (visited-owes visit);
+      room = λ ask asks. room-kept m.tickets c.set_mode.new.self c.set_mode.ensures.rest.room (m.room ask asks);
+      owed = owed-both m c.set_mode.ensures.rest.owes (visited-owes visit);
     }
 
 pub returns-clause-upgraded : goal.returns-clause-upgraded

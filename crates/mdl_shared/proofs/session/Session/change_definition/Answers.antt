@@ -81,8 +81,8 @@ invariant_of-member-2 g c =
     record {
       lawful = ∣ kept (Change_definition _ _ _) is (noted-order noted is) joins ∣₁;
       lists = lists-noted m noted changed.1.1 c.note_all.ensures.noted;
-      room = λ ask asks. room-kept m.tickets c.note_all.new.self c.note_all.ensures.room (m.room ask asks);
-      owed = owed-both m c.note_all.ensures.owes (noted-owes noted);
+      room = λ ask asks. room-kept m.tickets c.note_all.new.self c.note_all.ensures.rest.room (m.room ask asks);
+      owed = owed-both m c.note_all.ensures.rest.owes (noted-owes noted);
     }
 
 pub returns-clause-joined : goal.returns-clause-joined

@@ -74,8 +74,8 @@ invariant_of-member-2 g c =
     record {
       lawful = ∣ kept (Read_definition _ _) is (noted-order noted is) (read-joins is c.args.id c.in-Some.held its c.in-Ok.standing noted did.follows) ∣₁;
       lists = lists-noted m noted refl c.note_all.ensures.noted;
-      room = λ ask asks. room-kept m.tickets c.note_all.new.self c.note_all.ensures.room (m.room ask asks);
-      owed = owed-both m c.note_all.ensures.owes (noted-owes noted);
+      room = λ ask asks. room-kept m.tickets c.note_all.new.self c.note_all.ensures.rest.room (m.room ask asks);
+      owed = owed-both m c.note_all.ensures.rest.owes (noted-owes noted);
     }
 
 pub returns : goal.returns
@@ -91,5 +91,5 @@ returns g c =
     rw (← c.self.view_is) (record {
       joined = read-joins is id t its c.in-Ok.standing noted did.follows;
       shown = read-shows is id t its c.in-Ok.standing noted did.follows (does_learns m.seat.me c.read_definition.new.seat.me t.place c.in-Ok.standing did.learnt.0) did.quiet.1
-          (step.0, step.1, (step.2, λ slow. step.3 id (slow-there is id t slow) (unwaited is id (ap is_some its)))) did.once c.note_all.ensures.room;
+          (step.0, step.1, (step.2, λ slow. step.3 id (slow-there is id t slow) (unwaited is id (ap is_some its)))) did.once c.note_all.ensures.rest.room;
     })

@@ -66,13 +66,13 @@ invariant_of-member g c =
     let hit = sym c.peek.ensures ∙ ap option_copied c.in-Some-peek.is in
     let made = read.ensures.noted d hit in
     let room = c.note_all.new.self.room in
-    let keeps = c.note_all.ensures.room in
+    let keeps = c.note_all.ensures.rest.room in
     let finds = seat-finds m c.args.id t its kept met read.new.self read.result d hit read.ensures.newest read.ensures.one made room keeps in
     record {
       lawful = ∣ kept-sound (Read_kept _ _) (member m) (noted-order (found-noted finds) (member m)) (seat-joins m c.args.id t its kept met read.new.self read.result d hit read.ensures.newest read.ensures.one made room keeps) ∣₁;
       lists = lists-noted m (found-noted finds) refl c.note_all.ensures.noted;
       room = λ ask asks. room-kept m.tickets c.note_all.new.self keeps (m.room ask asks);
-      owed = owed-both m c.note_all.ensures.owes (noted-owes (found-noted finds));
+      owed = owed-both m c.note_all.ensures.rest.owes (noted-owes (found-noted finds));
     }
 
 pub invariant_of-member-in_default-peek : goal.invariant_of-member-in_default-peek
@@ -100,7 +100,7 @@ returns-in_default-clone-clause-joined g c =
     let hit = sym c.peek.ensures ∙ ap option_copied c.in-Some-peek.is in
     let made = read.ensures.noted d hit in
     let room = c.note_all.new.self.room in
-    let keeps = c.note_all.ensures.room in
+    let keeps = c.note_all.ensures.rest.room in
     rw (← c.self.view_is) (full-joins (view_of m) c.args.id t its (kept_standing read.result d) (seat-finds m c.args.id t its kept met read.new.self read.result d hit read.ensures.newest read.ensures.one made room keeps) (seat-joins m c.args.id t its kept met read.new.self read.result d hit read.ensures.newest read.ensures.one made room keeps))
 
 pub returns-in_default-clone-clause-shown : goal.returns-in_default-clone-clause-shown
@@ -115,7 +115,7 @@ returns-in_default-clone-clause-shown g c =
     let hit = sym c.peek.ensures ∙ ap option_copied c.in-Some-peek.is in
     let made = read.ensures.noted d hit in
     let room = c.note_all.new.self.room in
-    let keeps = c.note_all.ensures.room in
+    let keeps = c.note_all.ensures.rest.room in
     rw (← c.self.view_is) (full-shows (view_of m) c.args.id t its (kept_standing read.result d) (seat-finds m c.args.id t its kept met read.new.self read.result d hit read.ensures.newest read.ensures.one made room keeps))
 
 pub returns-in_default-clone-clause-met : goal.returns-in_default-clone-clause-met
@@ -130,7 +130,7 @@ returns-in_default-clone-clause-met g c =
     let hit = sym c.peek.ensures ∙ ap option_copied c.in-Some-peek.is in
     let made = read.ensures.noted d hit in
     let room = c.note_all.new.self.room in
-    let keeps = c.note_all.ensures.room in
+    let keeps = c.note_all.ensures.rest.room in
     seat-still m c.args.id t its kept met read.new.self read.result d hit read.ensures.newest read.ensures.one made room keeps
 
 pub returns-in_default-clone-clause-left : goal.returns-in_default-clone-clause-left
@@ -148,7 +148,7 @@ returns-in-Some-peek-clause-joined g c =
     let hit = sym c.peek.ensures ∙ ap option_copied c.in-Some-peek.is in
     let made = read.ensures.noted d hit in
     let room = c.note_all.new.self.room in
-    let keeps = c.note_all.ensures.room in
+    let keeps = c.note_all.ensures.rest.room in
     rw (← c.self.view_is, c.in-Ok.ensures.cases) (seat-joins m c.args.id t its kept met read.new.self read.result d hit read.ensures.newest read.ensures.one made room keeps)
 
 pub returns-in-Some-peek-clause-shown : goal.returns-in-Some-peek-clause-shown
@@ -163,7 +163,7 @@ returns-in-Some-peek-clause-shown g c =
     let hit = sym c.peek.ensures ∙ ap option_copied c.in-Some-peek.is in
     let made = read.ensures.noted d hit in
     let room = c.note_all.new.self.room in
-    let keeps = c.note_all.ensures.room in
+    let keeps = c.note_all.ensures.rest.room in
     rw (← c.self.view_is, c.in-Ok.ensures.cases) (hit-shows (view_of m) c.args.id t its (kept_standing read.result d) (seat-finds m c.args.id t its kept met read.new.self read.result d hit read.ensures.newest read.ensures.one made room keeps))
 
 pub returns-in-Some-peek-clause-met : goal.returns-in-Some-peek-clause-met
@@ -178,7 +178,7 @@ returns-in-Some-peek-clause-met g c =
     let hit = sym c.peek.ensures ∙ ap option_copied c.in-Some-peek.is in
     let made = read.ensures.noted d hit in
     let room = c.note_all.new.self.room in
-    let keeps = c.note_all.ensures.room in
+    let keeps = c.note_all.ensures.rest.room in
     subst (λ (x : CacheView). AreMet (HasMet (data_of (after m c.args.id t its kept met read.new.self read.result d hit read.ensures.newest read.ensures.one made room keeps)) m.seat.me.0.number) x.kept) (sym c.look-first.follows.holds-at-none) (seat-met m c.args.id t its kept met read.new.self read.result d hit read.ensures.newest read.ensures.one made room keeps)
 
 pub returns-in-Some-peek-clause-kept : goal.returns-in-Some-peek-clause-kept
@@ -193,7 +193,7 @@ returns-in-Some-peek-clause-kept g c =
     let hit = sym c.peek.ensures ∙ ap option_copied c.in-Some-peek.is in
     let made = read.ensures.noted d hit in
     let room = c.note_all.new.self.room in
-    let keeps = c.note_all.ensures.room in
+    let keeps = c.note_all.ensures.rest.room in
     rw (← c.self.view_is, c.in-Ok.ensures.cases) (t, its, (read.result, rw hit (refl, seat-finds m c.args.id t its kept met read.new.self read.result d hit read.ensures.newest read.ensures.one made room keeps, c.look-first.follows.holds-at-none)))
 
 pub returns-in_err-standing-clause-shown : goal.returns-in_err-standing-clause-shown

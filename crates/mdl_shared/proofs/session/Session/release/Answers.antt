@@ -78,13 +78,13 @@ invariant_of-member g c =
     let its = held-seen m id (Some t) (sym (ap (option_map (λ (f : SessionTicket × Bool). f.0)) c.in-Some.is) ∙ c.find.ensures.found) in
     let slow = slow-else is id t none its in
     let visit = c.release.ensures.released in
-    let keeps = subst (λ (r : Room). KeepsRoom 0 m.tickets.room r) (sym c.pay.ensures.same.2) c.strike.ensures.room in
+    let keeps = subst (λ (r : Room). KeepsRoom 0 m.tickets.room r) (sym c.pay.ensures.same.2) c.strike.ensures.rest.room in
     let done = rescheduled m.seat c.release.new.seat m.sessions {room′ = c.pay.new.self.room} (loses-slow is t.place id t slow) visit in
     let both = released-slow m.seat c.release.new.seat m.sessions id {room′ = c.pay.new.self.room} t is its slow none visit c.release.ensures.step c.release.ensures.once keeps in record {
       lawful = ∣ kept (Release _ _) is (done-order done is (inr refl)) both.0 ∣₁;
       lists = lists-done m t.place (Lose id ∷ []) (lists-rescheduled visit) (c.pay.ensures.same.0 ∙ c.strike.ensures.struck.0) (fast-struck m t.place id (spared is id t slow) (c.pay.ensures.same.1 ∙ c.strike.ensures.struck.1));
       room = λ ask asks. room-kept m.tickets c.pay.new.self keeps (m.room ask asks);
-      owed = owed-paid m c.strike.new.self c.pay.new.self t.place c.strike.ensures.owes c.pay.ensures.owes (rescheduled-owes visit);
+      owed = owed-paid m c.strike.new.self c.pay.new.self t.place c.strike.ensures.rest.owes c.pay.ensures.owes (rescheduled-owes visit);
     }
 
 pub returns : goal.returns
@@ -95,6 +95,6 @@ returns g c =
     let t = c.in-Some.held in
     let none = fast-seen m id None (sym (ap fast_found c.in-Some.is ∙ rw c.if-fast.false refl) ∙ c.find.ensures.fast) in
     let its = held-seen m id (Some t) (sym (ap (option_map (λ (f : SessionTicket × Bool). f.0)) c.in-Some.is) ∙ c.find.ensures.found) in
-    let keeps = subst (λ (r : Room). KeepsRoom 0 m.tickets.room r) (sym c.pay.ensures.same.2) c.strike.ensures.room in
+    let keeps = subst (λ (r : Room). KeepsRoom 0 m.tickets.room r) (sym c.pay.ensures.same.2) c.strike.ensures.rest.room in
     let both = released-slow m.seat c.release.new.seat m.sessions id {room′ = c.pay.new.self.room} t is its (slow-else is id t none its) none c.release.ensures.released c.release.ensures.step c.release.ensures.once keeps in
     rw (← c.self.view_is) (record { joined = both.0; shown = both.1 })

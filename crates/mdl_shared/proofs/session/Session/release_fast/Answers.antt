@@ -1,16 +1,17 @@
 -- The ticket that goes is the fast one of its number.
-use Rattle.std.proofs.Common.{sym, ◌∙◌}
+use Rattle.std.proofs.Common.{◌≡◌, Some, ap, subst, ℕ}
+use Rattle.mdl_visits.specs.Numbers.{numbered}
 use Rattle.mdl_shared.specs.Passes.{view_of}
-use Rattle.mdl_shared.proofs.FastCalls.{gave-up-fast, its-number}
+use Rattle.mdl_shared.proofs.FastCalls.{gave-up-fast}
 use Rattle.mdl_shared.proofs.session.Session.release_fast.Goals as goal
 
-pub lose_fast-owes-requires : goal.lose_fast-owes-requires
-lose_fast-owes-requires g c =
-    record { held = its-number c.self.inside.member c.args.id c.in-Some.held (sym c.get_fast.ensures.found ∙ c.in-Some.is) }
+pub lose_last-owes-requires : goal.lose_last-owes-requires
+lose_last-owes-requires g c = record { last = c.in-Some.ensures.1 }
 
 pub returns-clause-released : goal.returns-clause-released
 returns-clause-released g c =
-    let gone = c.lose_fast-owes.ensures in
-    let held = sym c.get_fast.ensures.found ∙ c.in-Some.is in
+    let gone = c.lose_last-owes.ensures in
+    let last = c.in-Some.ensures in
+    let held = subst (λ (n : ℕ). numbered n c.self.inside.member.tickets.fast ≡ Some c.in-Some.held) last.0 last.1.0 in
     rw (← c.self.view_is)
-    (gave-up-fast c.self.inside.member (view_of c.lose_fast-owes.new.self) c.args.id c.in-Some.held held gone.lost gone.released gone.room)
+    (gave-up-fast c.self.inside.member (view_of c.lose_last-owes.new.self) c.args.id c.in-Some.held held gone.lost gone.released gone.room)

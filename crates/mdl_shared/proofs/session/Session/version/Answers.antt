@@ -21,12 +21,12 @@ invariant_of-member g c =
     let m = c.self.inside.member in
     let known = subst (λ (s : SessionView). is_known c.args.place (data_of s).known ≡ true) (sym c.self.view_is) c.requires.known in
     let did = c.read_version-version.ensures in
-    let reads = version-reads m.seat c.read_version-version.new.self m.sessions did.same did.learnt c.note_all.ensures.room in
+    let reads = version-reads m.seat c.read_version-version.new.self m.sessions did.same did.learnt c.note_all.ensures.rest.room in
     record {
       lawful = ∣ learnt-member reads (member m) known ∣₁;
       lists = lists-noted m (learnt-noted reads) did.learnt.found c.note_all.ensures.noted;
-      room = λ ask asks. room-kept m.tickets c.note_all.new.self c.note_all.ensures.room (m.room ask asks);
-      owed = owed-both m c.note_all.ensures.owes (noted-owes (learnt-noted reads));
+      room = λ ask asks. room-kept m.tickets c.note_all.new.self c.note_all.ensures.rest.room (m.room ask asks);
+      owed = owed-both m c.note_all.ensures.rest.owes (noted-owes (learnt-noted reads));
     }
 
 pub returns : goal.returns
@@ -34,5 +34,5 @@ returns g c =
     let m = c.self.inside.member in
     let did = c.read_version-version.ensures in
     rw (← c.self.view_is) (record {
-      read = version-reads m.seat c.read_version-version.new.self m.sessions did.same did.learnt c.note_all.ensures.room;
+      read = version-reads m.seat c.read_version-version.new.self m.sessions did.same did.learnt c.note_all.ensures.rest.room;
     })

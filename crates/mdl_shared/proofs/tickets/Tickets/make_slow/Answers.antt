@@ -19,7 +19,7 @@ invariant_of-self c =
     let xs = c.self.inside.gained.items in
     let slow = c.slow_down.ensures.items ∙ slowed_by_place c.args.place ps xs c.args.here.now c.self.invariant.rising (rw (← c.self.view_is) at c.requires.these) in
     rw slow (kept_slowed c.args.place ps c.clear_fast.new.places.items xs c.self.inside.fast c.clear_fast.result
-    c.clear_fast.ensures.fast c.clear_fast.ensures.length c.clear_fast.ensures.counted c.clear_fast.ensures.cleared c.self.invariant)
+    c.clear_fast.ensures.fast c.clear_fast.ensures.length c.clear_fast.ensures.tickets.counted c.clear_fast.ensures.cleared c.self.invariant)
 
 pub returns-clause-slow : goal.returns-clause-slow
 returns-clause-slow c =
@@ -27,7 +27,7 @@ returns-clause-slow c =
     let xs = c.self.inside.gained.items in
     let slow = c.slow_down.ensures.items ∙ slowed_by_place c.args.place ps xs c.args.here.now c.self.invariant.rising (rw (← c.self.view_is) at c.requires.these) in
     rw (← c.self.view_is) (ap (slow_of c.clear_fast.new.places.items) slow
-    ∙ still ps c.clear_fast.new.places.items (λ t. not t.fast) (map (slowed_there c.args.place) xs) c.clear_fast.ensures.noted ∙ made_slow c.args.place ps xs c.self.invariant.rising)
+    ∙ still ps c.clear_fast.new.places.items (λ t. not t.fast) (map (slowed_there c.args.place) xs) c.clear_fast.ensures.tickets.noted ∙ made_slow c.args.place ps xs c.self.invariant.rising)
 
 pub returns-clause-fast : goal.returns-clause-fast
 returns-clause-fast c =
@@ -35,4 +35,4 @@ returns-clause-fast c =
     let xs = c.self.inside.gained.items in
     let slow = c.slow_down.ensures.items ∙ slowed_by_place c.args.place ps xs c.args.here.now c.self.invariant.rising (rw (← c.self.view_is) at c.requires.these) in
     rw (← c.self.view_is) (ap (fast_of c.clear_fast.new.places.items) slow
-    ∙ still ps c.clear_fast.new.places.items (λ t. t.fast) (map (slowed_there c.args.place) xs) c.clear_fast.ensures.noted ∙ stay_fast c.args.place ps xs)
+    ∙ still ps c.clear_fast.new.places.items (λ t. t.fast) (map (slowed_there c.args.place) xs) c.clear_fast.ensures.tickets.noted ∙ stay_fast c.args.place ps xs)

@@ -10,7 +10,7 @@ invariant_of-self c =
     let ps = c.self.inside.places.items in
     let xs = c.self.inside.gained.items in
     rw (c.push_reserved.ensures.items, c.new_ticket.ensures) (kept_gain_fast _ ps c.count_fast.new.places.items xs c.self.inside.fast (below_all c.args.number ps xs c.self.invariant.rising (rw (← c.self.view_is) at c.requires.below)) refl
-    (c.count_fast.ensures.length ∙ c.count_one.ensures.length) (λ q. c.count_fast.ensures.counted q ∙ c.count_one.ensures.counted q)
+    (c.count_fast.ensures.length ∙ c.count_one.ensures.length) (λ q. c.count_fast.ensures.tickets.counted q ∙ c.count_one.ensures.counted q)
     (λ q. rw (c.count_one.ensures.fast q) at (c.count_fast.ensures.fast q)) c.self.invariant)
 
 pub returns-clause-gained : goal.returns-clause-gained
@@ -18,11 +18,11 @@ returns-clause-gained c =
     let ps = c.self.inside.places.items in
     let xs = c.self.inside.gained.items in
     rw (← c.self.view_is, c.push_reserved.ensures.items, c.new_ticket.ensures)
-    (gained _ ps c.count_fast.new.places.items (λ t. t.fast) xs c.self.inside.fast _ c.self.invariant (λ (q : ℕ). c.count_fast.ensures.noted q ∙ c.count_one.ensures.noted q) refl
+    (gained _ ps c.count_fast.new.places.items (λ t. t.fast) xs c.self.inside.fast _ c.self.invariant (λ (q : ℕ). c.count_fast.ensures.tickets.noted q ∙ c.count_one.ensures.noted q) refl
     (first_there c.args.place ps xs))
 
 pub returns-clause-same : goal.returns-clause-same
 returns-clause-same c =
     rw (← c.self.view_is, c.push_reserved.ensures.items, c.new_ticket.ensures)
     (ungained _ c.self.inside.places.items c.count_fast.new.places.items (λ t. not t.fast) c.self.inside.gained.items c.self.inside.fast c.self.invariant
-    (λ (q : ℕ). c.count_fast.ensures.noted q ∙ c.count_one.ensures.noted q) refl)
+    (λ (q : ℕ). c.count_fast.ensures.tickets.noted q ∙ c.count_one.ensures.noted q) refl)

@@ -49,7 +49,7 @@ invariant_of-self c =
     let at = length xs - 1 in
     let inside : at < length xs = (let some = last.0 in omega (arith, some)) in
     rw c.take_last.ensures.items (kept_strike_fast c.args.place c.self.inside.places.items c.uncount_fast.new.places.items xs c.self.inside.fast at no_ticket
-    inside (last.2 no_ticket) (last.3 no_ticket ∙ c.if-fast.true) (c.uncount_fast.ensures.length ∙ c.uncount_one.ensures.length) (λ q. rw (c.uncount_fast.ensures.counted q) (c.uncount_one.ensures.counted q))
+    inside (last.2 no_ticket) (last.3 no_ticket ∙ c.if-fast.true) (c.uncount_fast.ensures.length ∙ c.uncount_one.ensures.length) (λ q. rw (c.uncount_fast.ensures.tickets.counted q) (c.uncount_one.ensures.counted q))
     (λ q. sym (c.uncount_one.ensures.fast q) ∙ c.uncount_fast.ensures.fast q) c.self.invariant)
 
 pub invariant_of-self-else-fast : goal.invariant_of-self-else-fast
@@ -68,7 +68,7 @@ returns-then-fast-clause-struck c =
     let at = length xs - 1 in
     let inside : at < length xs = (let some = last.0 in omega (arith, some)) in
     let parts = λ (p : Gained → Bool). struck c.args.place c.args.id c.self.inside.places.items c.uncount_fast.new.places.items p xs c.take_last.new.tickets.items at
-    c.self.invariant.rising (inside, last.1) last.2 c.take_last.ensures.items (λ (q : ℕ). c.uncount_fast.ensures.noted q ∙ c.uncount_one.ensures.noted q) in
+    c.self.invariant.rising (inside, last.1) last.2 c.take_last.ensures.items (λ (q : ℕ). c.uncount_fast.ensures.tickets.noted q ∙ c.uncount_one.ensures.noted q) in
     rw (← c.self.view_is) (parts (λ t. not t.fast), parts (λ t. t.fast))
 
 pub returns-else-fast-clause-struck : goal.returns-else-fast-clause-struck

@@ -11,7 +11,7 @@ invariant_of-self c =
     let ticket = c.index.result.now in
     let fast = ap (λ (t : Gained). t.fast) (sym c.index.ensures) ∙ c.if-fast.true in
     rw c.take_out.ensures.items (kept_strike_fast c.args.place c.self.inside.places.items c.uncount_fast.new.places.items c.self.inside.gained.items c.self.inside.fast c.in-Some.at ticket
-    stands.0.0 (stands.1 ticket) fast (c.uncount_fast.ensures.length ∙ c.uncount_one.ensures.length) (λ q. rw (c.uncount_fast.ensures.counted q) (c.uncount_one.ensures.counted q))
+    stands.0.0 (stands.1 ticket) fast (c.uncount_fast.ensures.length ∙ c.uncount_one.ensures.length) (λ q. rw (c.uncount_fast.ensures.tickets.counted q) (c.uncount_one.ensures.counted q))
     (λ q. sym (c.uncount_one.ensures.fast q) ∙ c.uncount_fast.ensures.fast q) c.self.invariant)
 
 pub invariant_of-self-else-fast : goal.invariant_of-self-else-fast
@@ -26,7 +26,7 @@ pub returns-then-fast-clause-struck : goal.returns-then-fast-clause-struck
 returns-then-fast-clause-struck c =
     let stands = rw (c.in-Some.is, c.deref.ensures.value) at c.index_at.ensures in
     let parts = λ (p : Gained → Bool). struck c.args.place c.args.id c.self.inside.places.items c.uncount_fast.new.places.items p c.self.inside.gained.items c.take_out.new.tickets.items c.in-Some.at
-    c.self.invariant.rising stands.0 stands.1 c.take_out.ensures.items (λ (q : ℕ). c.uncount_fast.ensures.noted q ∙ c.uncount_one.ensures.noted q) in
+    c.self.invariant.rising stands.0 stands.1 c.take_out.ensures.items (λ (q : ℕ). c.uncount_fast.ensures.tickets.noted q ∙ c.uncount_one.ensures.noted q) in
     rw (← c.self.view_is) (parts (λ t. not t.fast), parts (λ t. t.fast))
 
 pub returns-else-fast-clause-struck : goal.returns-else-fast-clause-struck

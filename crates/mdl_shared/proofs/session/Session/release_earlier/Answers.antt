@@ -1,0 +1,16 @@
+-- The ticket that goes is the fast one of its number.
+use Rattle.std.proofs.Common.{sym, ◌∙◌}
+use Rattle.mdl_shared.specs.Passes.{view_of}
+use Rattle.mdl_shared.proofs.FastCalls.{gave-up-fast, its-number}
+use Rattle.mdl_shared.proofs.session.Session.release_earlier.Goals as goal
+
+pub lose_fast-owes-requires : goal.lose_fast-owes-requires
+lose_fast-owes-requires g c =
+    record { held = its-number c.self.inside.member c.args.id c.in-Some.held (sym c.get_fast.ensures.found ∙ c.in-Some.is) }
+
+pub returns-clause-released : goal.returns-clause-released
+returns-clause-released g c =
+    let gone = c.lose_fast-owes.ensures in
+    let held = sym c.get_fast.ensures.found ∙ c.in-Some.is in
+    rw (← c.self.view_is)
+    (gave-up-fast c.self.inside.member (view_of c.lose_fast-owes.new.self) c.args.id c.in-Some.held held gone.lost gone.released gone.room)
