@@ -95,7 +95,6 @@ bench: build
 	@sh bench/lock.sh $(PROGRAM)
 	@sh bench/replay.sh $(PROGRAM)
 	@sh make/build.sh mdl_bench quick
-	@$(BENCH)
 	@sh bench/instructions.sh $(BENCH)
 	@sh bench/peers.sh
 

@@ -1,10 +1,13 @@
 #!/bin/sh
-# Times what the fast path is compared with: the C library's readers-writer lock, Rust's, and bare atomic steps. Also times calls through the C interface,
-# beside a model of the server's own design and plain mutexes.
+# Times what calls are compared with: a model of the server's own design, the C library's readers-writer lock, Rust's, and bare atomic steps. Also times
+# calls through the C interface beside plain mutexes, and mdl_bench if it is built, so that all are of one run.
 # Usage: sh bench/peers.sh
-# It builds the drivers of bench/peers into bench/peers/out, with gcc and rustc. If one of these is missing, a line says what is left out. The
-# library for C is the one that was built last. If there is none, it is proved and built.
+# It builds the drivers of bench/peers into bench/peers/out, with gcc and rustc. If one of these is missing, a line says what is left out. The library
+# for C is the one that was built last. If there is none, it is proved and built. All figures are also put into bench/peers/out/rows.txt, as lines
+# ROW, the workload, the threads, the name, and the nanoseconds; and how those of mdl_bench compare with the model's into ratios.txt beside it.
 cd "$(dirname "$0")/peers" && mkdir -p out || exit 1
+rows=out/rows.txt
+: > "$rows"
 
 # Whether a compiler is there. If it isn't, prints what is left out: COMPILER WHAT
 has() {
@@ -19,16 +22,34 @@ has() {
 build() {
     driver=$1
     shift
-    gcc -std=c11 -D_POSIX_C_SOURCE=200809L -O2 -Wall -Wextra -pthread -o "out/$driver" "$driver.c" "$@"
+    gcc -std=c11 -D_POSIX_C_SOURCE=200809L -O2 -Wall -Wextra -Werror -pthread -o "out/$driver" "$driver.c" "$@"
 }
 
-if has gcc 'pthread_rwlock and boundary'; then
+# Runs a program. Prints what it prints, and puts its rows into the file: those of a program that prints NAME OF THREADS WHAT NS, too.
+play() {
+    "$1" > out/said || exit 1
+    cat out/said
+    awk '$1 == "ROW" && NF == 5 { print; next }
+        NF == 5 && $3 ~ /^[0-9]+$/ && $5 ~ /^[0-9.]+$/ { print "ROW", $1, $3, $2 "_" $4, $5 }' out/said >> "$rows"
+}
+
+if has gcc 'the model of the server'; then
+    build model && play out/model || exit 1
+fi
+if [ -x ../../crates/mdl_bench/out/mdl_bench ]; then
+    play ../../crates/mdl_bench/out/mdl_bench
+else
+    echo "mdl_bench is left out: it isn't built"
+fi
+if has gcc boundary; then
     archive=../../crates/mdl_c/out/libmdl_c.a
     kit=$(dirname "$(dirname "$(readlink -f "$(command -v rt)")")")
-    build pthread_rwlock && out/pthread_rwlock || exit 1
     test -e "$archive" || (cd ../.. && python3 make/archive.py mdl_c) || exit 1
-    build boundary -I ../../crates/mdl_c/include "$archive" "$kit/c/liblibc_c.a" && out/boundary || exit 1
+    build boundary -I ../../crates/mdl_c/include "$archive" "$kit/c/liblibc_c.a" && play out/boundary || exit 1
 fi
 if has rustc 'rust_rwlock and bare_steps'; then
-    rustc --edition 2021 -O -o out/rust_peers rust_peers.rs && out/rust_peers || exit 1
+    rustc --edition 2021 -O -o out/rust_peers rust_peers.rs && play out/rust_peers || exit 1
+fi
+if has python3 'the table of ratios'; then
+    python3 ../ratios.py --check && python3 ../ratios.py "$rows" > out/ratios.txt && cat out/ratios.txt || exit 1
 fi

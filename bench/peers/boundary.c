@@ -2,7 +2,8 @@
  * them the same at a model of the server's own design, and a mutex that is locked and unlocked.
  *
  * - a_pair, mdl_c_sr: SR of the next of 255 tables, as `try_now_and_release_1` of mdl_bench does in Rattle; of mdl_c_locked_sr a mutex is held round each
- *   call, as threads have to. The threads are sessions of one manager. server_sr takes the same tables at the model.
+ *   call, as threads have to. The threads are sessions of one manager. server_sr takes the same tables at the model, which finds them by
+ *   their keys, without pins.
  * - a_pair, .._x: X of a table of the thread's own.
  * - c_transaction: IX of the global lock and SW of three tables of the thread's own, and all are given up. Of .._context a context keeps the tickets, looks
  *   up the keys by their names, and ends the transaction.
@@ -23,12 +24,12 @@ enum { TABLES = 255, SESSIONS = 64, LOCKS = 4 };
 static struct mdl_space space = MDL_SPACE_INIT;
 static pthread_mutex_t guard = PTHREAD_MUTEX_INITIALIZER; /* held round each call, where there are threads */
 
-/* The places of the tables and of the global lock at the manager, and their keys at the model. */
+/* The places of the tables and of the global lock at the manager, and their keys at the model, where the global lock has the first place. */
 static uint16_t places[TABLES], global;
 static char names[TABLES][8];
 static size_t name_lengths[TABLES];
-static char keys[TABLES][LONGEST_KEY];
-static size_t key_lengths[TABLES];
+static char keys[TABLES + 1][LONGEST_KEY] = {{GLOBAL_KEY}};
+static size_t key_lengths[TABLES + 1] = {1};
 
 static struct server_session sessions[MOST_THREADS];
 
@@ -158,29 +159,29 @@ static void mdl_c_locked_context(unsigned thread, unsigned turn)
     pthread_mutex_unlock(&guard);
 }
 
-static struct server_ticket *count(unsigned thread, unsigned table)
+static struct server_ticket *server_take(unsigned thread, unsigned place, enum server_mode mode)
 {
-    return server_count(&sessions[thread - 1], keys[table], key_lengths[table]);
+    struct server_wish wish = {place, keys[place], key_lengths[place], mode, TRANSACTION};
+    return server_acquire(&sessions[thread - 1], LITE_KEY, &wish);
 }
 
 static void server_sr(unsigned thread, unsigned turn)
 {
-    server_release(count(thread, table_of(thread, turn)));
+    server_release(server_take(thread, table_of(thread, turn) + 1, SR));
 }
 
 static void server_x(unsigned thread, unsigned turn)
 {
-    unsigned table = own_table(thread, 0);
     (void)turn;
-    server_release(server_exclude(&sessions[thread - 1], keys[table], key_lengths[table]));
+    server_release(server_take(thread, own_table(thread, 0) + 1, X));
 }
 
 static void server_transaction(unsigned thread, unsigned turn)
 {
-    struct server_ticket *tickets[LOCKS] = {server_count(&sessions[thread - 1], "", 0)};
+    struct server_ticket *tickets[LOCKS] = {server_take(thread, GLOBAL_PLACE, IX)};
     (void)turn;
     for (unsigned i = 1; i < LOCKS; i += 1)
-        tickets[i] = count(thread, own_table(thread, i - 1));
+        tickets[i] = server_take(thread, own_table(thread, i - 1) + 1, SW);
     for (unsigned i = 0; i < LOCKS; i += 1)
         server_release(tickets[i]);
 }
@@ -197,13 +198,15 @@ static void prepare(void)
 {
     done(mdl_open(&space, TABLES + 1, SESSIONS));
     done(mdl_global(&space, 1, &global));
-    server_make("", 0);
+    server_make(GLOBAL_PLACE, keys[GLOBAL_PLACE], key_lengths[GLOBAL_PLACE]);
     for (unsigned i = 0; i < TABLES; i += 1) {
         name_lengths[i] = (size_t)snprintf(names[i], sizeof names[i], "t%u", i);
         done(mdl_table(&space, 1, (const uint8_t *)"test", 4, (const uint8_t *)names[i], name_lengths[i], &places[i]));
-        key_lengths[i] = (size_t)snprintf(keys[i], LONGEST_KEY, "test%c%s", 0, names[i]);
-        server_make(keys[i], key_lengths[i]);
+        key_lengths[i + 1] = (size_t)snprintf(keys[i + 1], LONGEST_KEY, "%ctest%c%s", TABLE_KEY, 0, names[i]);
+        server_make(i + 1, keys[i + 1], key_lengths[i + 1]);
     }
+    for (unsigned i = 0; i < MOST_THREADS; i += 1)
+        server_open(&sessions[i]);
     for (uint16_t who = MOST_THREADS + 1; who <= 2 * MOST_THREADS; who += 1)
         done(mdl_context_begin(&space, who));
     take(SESSIONS - 1, places[0], MDL_SR);
