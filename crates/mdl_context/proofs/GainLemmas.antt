@@ -11,13 +11,17 @@ use Rattle.mdl_context.specs.declared.kept.Kept.{Kept}
 use Rattle.mdl_context.specs.declared.kept.Wanted.{Wanted}
 use Rattle.mdl_context.specs.Wishes.{Wish}
 use Rattle.mdl_context.specs.declared.request.Acquire.{Acquire}
+use Rattle.mdl_context.specs.declared.request.Acquire.TheVariants.{Acquired}
 use Rattle.mdl_context.specs.declared.request.Tried.{Tried}
+use Rattle.mdl_context.specs.declared.request.Tried.TheVariants as try_as
 use Rattle.mdl_context.specs.declared.context_error.ContextError.TheVariants.{Space}
 use Rattle.mdl_calls.specs.declared.space_error.SpaceError.TheVariants.{OutOfMemory}
 use Rattle.mdl_context.specs.Contexts.{ContextView, Serves, wish_there, wish_here}
 use Rattle.mdl_context.specs.Holdings.{earliest, is_kept_at}
+use Rattle.mdl_context.specs.declared.wishes.Terms.{Terms}
+use Rattle.mdl_context.specs.Terms.{meets}
 use Rattle.mdl_context.specs.Requests.{Outcome, suffices, is_reusable, outcome_got, acquiring_at, outcome_tried, trying_at}
-use Rattle.mdl_context.proofs.PlaceLemmas.{suffices-at, equal}
+use Rattle.mdl_context.proofs.PlaceLemmas.{meets-at, equal}
 use Rattle.mdl_context.proofs.ServingLemmas.{earliest-held}
 use Rattle.mdl_context.specs.declared.asking.AskResult.{AskResult}
 use Rattle.mdl_context.specs.declared.asking.AskResult.TheVariants as got
@@ -52,11 +56,11 @@ found-place p place (x ∷ xs) held there found = go (p x) refl (found-place p p
   go false e later = later (grind (arith, e, found))
 
 -- a ticket that suffices is held, and at the place
-pub sufficient-held : (place : ℕ) (request : Wish) (own : SessionLocks) (context : ContextView) (ticket : Option Held) → IsRising own → Serves own context
-    → ticket ≡ earliest (suffices place request) context.kept → IfSome ticket (λ held. (ticket_held held.id own ≡ Some held) × (held.place ≡ place))
-sufficient-held place request own context None rising serves is = tt
-sufficient-held place request own context (Some held) rising serves is =
-    (earliest-held (suffices place request) own context held rising serves (sym is), found-place (suffices place request) place context.kept held (suffices-at place request) (sym is))
+pub sufficient-held : (place : ℕ) (terms : Terms) (own : SessionLocks) (context : ContextView) (ticket : Option Held) → IsRising own → Serves own context
+    → ticket ≡ earliest (meets place terms) context.kept → IfSome ticket (λ held. (ticket_held held.id own ≡ Some held) × (held.place ≡ place))
+sufficient-held place terms own context None rising serves is = tt
+sufficient-held place terms own context (Some held) rising serves is =
+    (earliest-held (meets place terms) own context held rising serves (sym is), found-place (meets place terms) place context.kept held (meets-at place terms) (sym is))
 
 module _ {S : Type 0} (joins : S → Call → Answer → S → Type 0) (place : ℕ) (request : Wish) (before : ContextView) (found : Option Held)
     (is : found ≡ earliest (is_reusable place request) before.kept) where
@@ -74,6 +78,16 @@ module _ {S : Type 0} (joins : S → Call → Answer → S → Type 0) (place : 
       rw (sym is ∙ none) (inr (runs_bind joins (trying_from (earliest (suffices place request) before.kept) before.who place request.mode) (λ end. Give (outcome_tried place request before end)) a b b result reply
       (rw enough at run) (same, refl)))
 
+  -- or one can be
+  pub run-reused : (ticket : Held) (after : ContextView) (a : S) → found ≡ Some ticket → after ≡ before → Runs joins a (acquiring_at place request before) (Ok (Acquired ticket.id), after) a
+  run-reused ticket after a some same = rw (sym is ∙ some) (ap (λ context. (Ok (Acquired ticket.id), context)) (sym same), refl)
+
+  pub run-tried-again : (ticket : Held) (after : ContextView) (a : S) → found ≡ Some ticket → after ≡ before → Runs joins a (trying_at place request before) (Ok (try_as.Acquired ticket.id), after) a
+  run-tried-again ticket after a some same = rw (sym is ∙ some) (ap (λ context. (Ok (try_as.Acquired ticket.id), context)) (sym same), refl)
+
   -- or there is no room for one
   pub run-starved : (after : ContextView) (a : S) → found ≡ None → after ≡ before → Runs joins a (acquiring_at place request before) (Err (Space OutOfMemory), after) a
   run-starved after a none same = rw (sym is ∙ none) (inl (ap (λ context. (Err (Space OutOfMemory), context)) (sym same), refl))
+
+  pub run-tried-starved : (after : ContextView) (a : S) → found ≡ None → after ≡ before → Runs joins a (trying_at place request before) (Err (Space OutOfMemory), after) a
+  run-tried-starved after a none same = rw (sym is ∙ none) (inl (ap (λ context. (Err (Space OutOfMemory), context)) (sym same), refl))

@@ -3,6 +3,7 @@ pub mod BeyondLemmas
 pub mod FrontLemmas
 pub mod GainLemmas
 pub mod IndexLemmas
+pub mod KindLemmas
 pub mod LeavingLemmas
 pub mod MemoryLemmas
 pub mod MergeLemmas

@@ -1,24 +1,30 @@
 -- The tickets of a place: their numbers as tickets come and go, and the earliest of them.
-use Rattle.std.proofs.Common.{◌≡◌, ◌≢◌, ℕ, zero, suc, ◌+◌, ◌-◌, ◌<◌, ◌≤◌, Bool, true, false, List, [], ◌∷◌, ◌++◌, length, get_or, drop, Option, Some, None, refl, sym, ap, subst, ◌∙◌, append-nil, arith}
+use Rattle.std.proofs.Common.{◌≡◌, ◌≢◌, ℕ, zero, suc, ◌+◌, ◌-◌, ◌<◌, ◌≤◌, Bool, true, false, List, [], ◌∷◌, ◌++◌, length, get_or, take, drop, Option, Some, None, refl, sym, ap, subst, ◌∙◌, append-nil, arith}
 use Rattle.std.specs.Prelude.{not, ◌&&◌, ◌==◌, map, filter, find, position, slice_get, IsTrue, if◌then◌else◌}
 use Rattle.std.specs.List.{last_or}
 use Rattle.std.specs.Option.{option_map, IfSome}
 use Rattle.std.proofs.lemmas.Bool.Decides.{nat_tests}
-use Rattle.std.proofs.lemmas.List.{drop_all, drop_more, get_or-map, length-map}
+use Rattle.std.proofs.lemmas.List.{drop_all, drop_more, get_or-map, length-map, length-take-le}
 use Rattle.std.proofs.lemmas.List.Folds.{find_at}
 use Rattle.std.proofs.lemmas.Option.{slice_get-get_or}
+use Rattle.mdl_key.specs.declared.mode.Duration.TheVariants.{Explicit}
+use Rattle.mdl_key.specs.declared.namespace.Kind.{Kind}
 use Rattle.mdl_key.specs.Keys.{KeyName}
+use Rattle.mdl_key.specs.Modes.{kind_of, is_mode_of}
+use Rattle.mdl_system.specs.Strength.{covers}
 use Rattle.mdl_calls.specs.declared.answers.Held.{Held}
 use Rattle.mdl_context.specs.declared.kept.Kept.{Kept}
 use Rattle.mdl_context.specs.declared.kept.Wanted.{Wanted}
 use Rattle.mdl_context.specs.Wishes.{Wish}
-use Rattle.mdl_context.specs.Contexts.{AreRising, held_of, is_user_lock}
+use Rattle.mdl_context.specs.Contexts.{AreRising, held_of, is_user_lock, lasts}
 use Rattle.mdl_context.specs.Requests.{suffices, is_reusable}
+use Rattle.mdl_context.specs.declared.wishes.Terms.{Terms}
+use Rattle.mdl_context.specs.Terms.{meets, serves_again, terms_of, wish_for}
 use Rattle.mdl_context.specs.Holdings.{is_kept_at, has_ticket_number, without_number, numbers_among, IsIndexOf, earliest, kept_for, in_transaction, transactional}
 use Rattle.mdl_context.specs.Indexes.{Index, ticket_numbers, has_room_for, rises, without_one}
 use Rattle.mdl_context.proofs.FrontLemmas.{Above, above-filter, rising-filter}
 use Rattle.mdl_context.proofs.IndexLemmas.{AllAbove}
-use Rattle.mdl_context.proofs.ReleaseLemmas.{left, above_mid, newest, older, newer, left-now, left-goes}
+use Rattle.mdl_context.proofs.ReleaseLemmas.{left, above_mid, newest, older, newer, left-now, left-goes, last, last-parted}
 use Rattle.mdl_context.proofs.SearchLemmas.{no_ticket, all_others}
 
 -- ---- the numbers of a place
@@ -114,6 +120,17 @@ without_mid : (older newer : List Kept) (t : Kept) → AreRising (older ++ t ∷
 without_mid [] newer t rising = grind (arith, nat_tests, all_others t.id newer)
 without_mid (x ∷ older) newer t rising = grind (arith, nat_tests, without_mid older newer t, above_mid x.id older newer t)
 
+-- without the newest of all
+module _ (p : Kept → Bool) (kept : List Kept) (at : ℕ) (more : 0 < at) (many : length kept ≡ at) where
+  pub without-last : AreRising kept → without_number (last p kept at more many).id kept ≡ take (at - 1) kept
+  without-last rising =
+      let parts = last-parted p kept at more many in
+      ap (without_number (last p kept at more many).id) parts
+      ∙ without_mid (take (at - 1) kept) [] (last p kept at more many) (subst AreRising parts rising) ∙ append-nil (take (at - 1) kept)
+
+  pub length-others : length (take (at - 1) kept) ≡ at - 1
+  length-others = length-take-le (at - 1) kept (omega (arith, more, many))
+
 above-left : (n : ℕ) (p : Kept → Bool) (at : ℕ) (xs : List Kept) → Above n xs → Above n (left p at xs)
 above-left n p zero xs above = above-filter n (λ t. not (p t)) xs above
 above-left n p (suc at) [] above = refl
@@ -184,11 +201,33 @@ first_holds true b e = refl
 first_holds false b e = e
 
 -- what can be used again is at the place, as what suffices is
-pub suffices-at : (place : ℕ) (request : Wish) (t : Kept) → suffices place request t ≡ true → is_kept_at place t ≡ true
-suffices-at place request t passes = first_holds _ _ (first_holds _ _ passes)
+pub meets-at : (place : ℕ) (terms : Terms) (t : Kept) → meets place terms t ≡ true → is_kept_at place t ≡ true
+meets-at place terms t passes = first_holds _ _ (first_holds _ _ passes)
 
-pub reusable-at : (place : ℕ) (request : Wish) (t : Kept) → is_reusable place request t ≡ true → is_kept_at place t ≡ true
-reusable-at place request t passes = suffices-at place request t (first_holds _ _ (first_holds _ _ passes))
+pub again-at : (place : ℕ) (terms : Terms) (t : Kept) → serves_again place terms t ≡ true → is_kept_at place t ≡ true
+again-at place terms t passes = meets-at place terms t (first_holds _ _ (first_holds _ _ passes))
+
+pub suffices-at : (place : ℕ) (request : Wish) (t : Kept) → suffices place request t ≡ true → is_kept_at place t ≡ true
+suffices-at place request t passes = meets-at place (terms_of request) t passes
+
+-- what can be used again suffices
+pub none-again : (place : ℕ) (terms : Terms) (xs : List Kept) → earliest (meets place terms) xs ≡ None → earliest (serves_again place terms) xs ≡ None
+none-again place terms [] none = refl
+none-again place terms (x ∷ xs) none = by_test (meets place terms x) refl (none-again place terms xs) where
+  by_test : (test : Bool) → meets place terms x ≡ test → (earliest (meets place terms) xs ≡ None → earliest (serves_again place terms) xs ≡ None)
+      → earliest (serves_again place terms) (x ∷ xs) ≡ None
+  by_test true e later = absurd (grind (arith, none, e))
+  by_test false e later = grind (arith, none, e, later)
+
+-- the terms of a request are as good as the request
+pub enough-for : (place : ℕ) (terms : Terms) (key : KeyName) (xs : List Kept) → kind_of key.namespace ≡ terms.kind → earliest (meets place terms) xs ≡ earliest (suffices place (wish_for key terms)) xs
+enough-for place terms key xs same =
+    ap (λ (kind : Kind). earliest (λ t. is_kept_at place t && covers t.mode terms.mode && is_mode_of kind terms.mode) xs) (sym same)
+
+pub usable-for : (place : ℕ) (terms : Terms) (key : KeyName) (xs : List Kept) → kind_of key.namespace ≡ terms.kind
+    → earliest (serves_again place terms) xs ≡ earliest (is_reusable place (wish_for key terms)) xs
+usable-for place terms key xs same =
+    ap (λ (kind : Kind). earliest (λ t. is_kept_at place t && covers t.mode terms.mode && is_mode_of kind terms.mode && lasts terms.duration t && not (lasts Explicit t)) xs) (sym same)
 
 -- only tickets of the place pass the test, and its numbers are looked at in turn
 module _ (xs : List Kept) (place : ℕ) (p : Kept → Bool) where

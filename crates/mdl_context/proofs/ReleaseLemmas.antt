@@ -1,8 +1,8 @@
 -- Tickets released one after the other, and what the session holds after each.
-use Rattle.std.proofs.Common.{◌≡◌, ℕ, zero, suc, ◌+◌, ◌-◌, ◌<◌, ◌≤◌, Bool, true, false, List, [], ◌∷◌, ◌++◌, length, get_or, take, drop, refl, sym, ap, ◌∙◌, subst, arith, rules, append_assoc, Result, Ok, Err}
+use Rattle.std.proofs.Common.{◌≡◌, ℕ, zero, suc, ◌+◌, ◌-◌, ◌<◌, ◌≤◌, Bool, true, false, List, [], ◌∷◌, ◌++◌, length, get_or, take, drop, refl, sym, ap, ◌∙◌, subst, arith, rules, append-nil, append_assoc, Result, Ok, Err}
 use Rattle.std.specs.Prelude.{not, map, filter, find, is_some, IsOk}
 use Rattle.std.proofs.lemmas.Bool.Decides.{nat_tests}
-use Rattle.std.proofs.lemmas.List.{drop_more, reverse-append, take_more}
+use Rattle.std.proofs.lemmas.List.{drop_more, reverse-append, take_all, take_more}
 use Rattle.std.proofs.lemmas.List.Elements.{filter-append}
 use Rattle.mdl_key.specs.declared.mode.Mode.TheVariants.{IX}
 use Rattle.mdl_key.specs.declared.mode.Duration.TheVariants.{Statement}
@@ -130,3 +130,48 @@ module _ (p : Kept → Bool) (kept : List Kept) (at : ℕ) (more : 0 < at) (insi
       ap (filter (λ h. not (is_number newest.id h))) all
       ∙ without_mid older newer newest (rw all at rising)
       ∙ ap (map held_of) (sym (left-goes e))
+
+-- ---- the newest ticket
+
+module _ (p : Kept → Bool) (kept : List Kept) (at : ℕ) (more : 0 < at) (many : length kept ≡ at) where
+  -- the newest of all tickets, and the others
+  abbrev pub last : Kept
+  last = get_or kept (at - 1) no_item
+
+  abbrev pub others_than_last : List Kept
+  others_than_last = take (at - 1) kept
+
+  pub last-parted : kept ≡ others_than_last ++ last ∷ []
+  last-parted =
+      let all : take at kept ≡ kept = take_all at kept (omega (arith, many)) in
+      sym all ∙ front p kept at more (omega (arith, many))
+
+  last-first : p last ≡ true → newest_first (filter p kept) ≡ last ∷ newest_first (filter p others_than_last)
+  last-first e =
+      ap (λ xs. newest_first (filter p xs)) last-parted ∙ ap newest_first (filter-append p others_than_last (last ∷ []))
+      ∙ reverse-append (filter p others_than_last) (filter p (last ∷ [])) ∙ ap (λ xs. newest_first xs ++ newest_first (filter p others_than_last)) (only last e)
+    where
+      only : (t : Kept) → p t ≡ true → filter p (t ∷ []) ≡ t ∷ []
+      only t passes = grind arith
+
+  pub run-last : {S : Type 0} (joins : S → Call → Answer → S → Type 0) (who : ℕ) (before after b : S) → p last ≡ true → joins before (Release who last.id) Done after
+      → Runs joins after (releasing_all who (newest_first (filter p others_than_last))) tt b → Runs joins before (releasing_all who (newest_first (filter p kept))) tt b
+  run-last joins who before after b e step run = subst (λ xs. Runs joins before (releasing_all who xs) tt b) (sym (last-first e)) (Done, after, step, run)
+
+  pub stays-last : p last ≡ true → filter (λ t. not (p t)) others_than_last ≡ filter (λ t. not (p t)) kept
+  stays-last e =
+      sym (ap (filter (λ t. not (p t))) last-parted ∙ filter-append (λ t. not (p t)) others_than_last (last ∷ [])
+      ∙ ap (λ xs. filter (λ t. not (p t)) others_than_last ++ xs) (none last e) ∙ append-nil (filter (λ t. not (p t)) others_than_last))
+    where
+      none : (t : Kept) → p t ≡ true → filter (λ x. not (p x)) (t ∷ []) ≡ []
+      none t passes = grind arith
+
+  pub holds-last : (own : SessionLocks) → own.held ≡ map held_of kept → holds last.id own ≡ true
+  holds-last own held = ap (λ hs. is_some (find (is_number last.id) hs)) (held ∙ ap (map held_of) last-parted) ∙ holds_mid others_than_last [] last
+
+  pub held-last : (own : SessionLocks) → IsRising own → own.held ≡ map held_of kept → (giving_up last.id own).held ≡ map held_of others_than_last
+  held-last own rising held =
+      let all = held ∙ ap (map held_of) last-parted in
+      ap (filter (λ h. not (is_number last.id h))) all
+      ∙ without_mid others_than_last [] last (rw all at rising)
+      ∙ ap (map held_of) (append-nil others_than_last)

@@ -52,6 +52,14 @@ module _ (xs : List Kept) (rising : AreRising xs) (id : ℕ) where
       ] refl) (λ no. absurd (omega arith)) in
       rw none (grind (arith, nat_tests))
 
+-- a ticket is found where it is
+pub number-at : (xs : List Kept) (at : ℕ) (d : Kept) → AreRising xs → at < length xs → position (has_ticket_number (get_or xs at d).id) xs ≡ Some at
+number-at xs at d rising inside =
+    let id = (get_or xs at d).id in
+    let first : position_or_len (has_ticket_number id) xs ≡ at =
+    position_or_len_is (has_ticket_number id) xs at d (omega (arith, inside)) (λ k below. grind (arith, nat_tests, rises xs k at d rising)) (λ _. grind (arith, nat_tests)) in
+    rw first (grind (arith, nat_tests))
+
 inside-any : (p : Kept → Bool) (xs : List Kept) → nat_lt (position_or_len p xs) (length xs) ≡ list_any p xs
 inside-any p [] = refl
 inside-any p (x ∷ xs) = grind (arith, nat_tests, inside-any p xs)

@@ -4,12 +4,14 @@ pub mod Gains
 pub mod Goings
 pub mod Holdings
 pub mod Indexes
+pub mod Kinds
 pub mod MemoryLaws
 pub mod NameLaws
 pub mod Outcomes
 pub mod Releases
 pub mod Requests
 pub mod SearchEnds
+pub mod Terms
 pub mod Upgrades
 pub mod Waits
 pub mod Wishes

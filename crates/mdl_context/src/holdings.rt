@@ -4,20 +4,19 @@ ghost use Rattle.std.specs.Vec.{vec_capacity};
 ghost use Rattle.std.specs.Option.{option_copied, option_map};
 ghost use Rattle.mdl_key.specs.declared.mode.Duration.TheVariants.{Explicit};
 ghost use Rattle.mdl_calls.specs.SessionLocks.{upgraded};
-ghost use Rattle.mdl_context.specs.Contexts.{AreRising, lasts, tickets_for, has_number, held_of, is_user_lock, last_at, place_known, ticket_kept};
+ghost use Rattle.mdl_context.specs.Contexts.{AreRising, lasts, tickets_for, has_number, held_of, is_user_lock, kind_at, last_at, place_known, ticket_kept};
 ghost use Rattle.mdl_context.specs.Goings.{goes};
 ghost use Rattle.mdl_context.specs.Holdings.{without_number, is_kept_at, has_ticket_number, IsIndexOf, has_room, earliest, kept_for, in_transaction, transactional, kept_ticket, wanted_of, wanted_upgrade, awaited_upgrade, with_kept_mode, with_wanted, search_over};
 ghost use Rattle.mdl_context.specs.Indexes.{has_room_for};
 ghost use Rattle.mdl_context.specs.Waits.{is_searched};
-ghost use Rattle.mdl_context.specs.Requests.{suffices, is_reusable};
-ghost use Rattle.mdl_context.specs.Wishes.{wish_of_request};
+ghost use Rattle.mdl_context.specs.Terms.{meets, serves_again};
 
 use crate::by_place::ByPlace;
 use crate::going::Going;
-use crate::wishes::covers;
-use crate::{Kept, Request, Wanted};
-use indexmap::IndexMap;
-use mdl_key::{Duration, Key, Mode, Namespace};
+use crate::known::Known;
+use crate::wishes::{Terms, covers};
+use crate::{Kept, Wanted};
+use mdl_key::{Duration, Key, Kind, Mode};
 use mdl_space::{Held, Place, TicketId};
 use std::alloc::{AllocError, Global};
 use std::marker::Model;
@@ -32,7 +31,7 @@ use std::marker::Model;
 pub(crate) struct Holdings {
     tickets: Vec<Kept>,
     by_place: ByPlace,
-    known: IndexMap<Key, Place>,
+    known: Known,
     wait: Option<Wanted>,
 }
 
@@ -47,7 +46,7 @@ impl Model for Holdings {
 
     ghost view = { λ holdings. record {
       kept = holdings.tickets.items;
-      known = holdings.known.entries;
+      known = holdings.known;
       index = holdings.by_place;
       wait = holdings.wait;
       has_place = nat_lt (length holdings.tickets.items) (vec_capacity holdings.tickets);
@@ -67,7 +66,7 @@ impl Holdings {
         Holdings {
             tickets: Vec::new(alloc),
             by_place: ByPlace::new(alloc),
-            known: IndexMap::new(alloc),
+            known: Known::new(alloc),
             wait: None,
         }
     }
@@ -124,14 +123,21 @@ impl Holdings {
     pub(crate) fn place_known(&self, key: &Key) -> Option<Place>
         ensures { result ≡ place_known key.now self.now.known }
     {
-        self.known.get(key).copied()
+        self.known.place_of(key)
+    }
+
+    /// The kind of the lock at a place, if a key is known there.
+    pub(crate) fn kind_at(&self, place: Place) -> Option<Kind>
+        ensures { result ≡ kind_at place self.now.known }
+    {
+        self.known.kind_at(place)
     }
 
     /// Whether a place is that of a user-level lock.
     pub(crate) fn is_user_lock(&self, place: Place) -> bool
         ensures { result ≡ is_user_lock self.now.known place }
     {
-        has_user_lock(&self.known, place)
+        self.known.is_user_lock(place)
     }
 
     /// Remembers the place of a new key.
@@ -142,8 +148,7 @@ impl Holdings {
         ensures kept { self.new.kept ≡ self.old.kept }
         ensures wait { self.new.wait ≡ self.old.wait }
     {
-        self.known.insert(key.clone()?, place)?;
-        Ok(())
+        self.known.add(key, place)
     }
 
     /// Makes room for one more ticket at a place.
@@ -326,28 +331,38 @@ impl Holdings {
         self.by_place.numbers(place).last().copied()
     }
 
-    /// The earliest ticket at a place that a request can use again.
-    pub(crate) fn reusable(&self, place: Place, request: &Request<'_>) -> Option<Held>
-        requires { AreRising self.now.kept }
-        ensures { result ≡ earliest (is_reusable place (wish_of_request request.now)) self.now.kept }
+    /// The earliest ticket at a place that can be used again on these terms, given the earliest one that suffices. Without that, there
+    /// is none.
+    pub(crate) fn reusable(
+        &self,
+        place: Place,
+        terms: &Terms,
+        sufficient: Option<Held>,
+    ) -> Option<Held>
+        requires rising { AreRising self.now.kept }
+        requires sufficient { sufficient ≡ earliest (meets place terms.now) self.now.kept }
+        ensures { result ≡ earliest (serves_again place terms.now) self.now.kept }
     {
+        if sufficient.is_none() {
+            return None;
+        }
         for id in self.by_place.numbers(place) {
             let ticket = numbered(&self.tickets, *id)?;
-            if request.can_reuse(place, ticket) {
+            if terms.can_reuse(place, ticket) {
                 return Some(ticket.held());
             }
         }
         None
     }
 
-    /// The earliest ticket at a place that suffices for a request.
-    pub(crate) fn sufficient(&self, place: Place, request: &Request<'_>) -> Option<Held>
+    /// The earliest ticket at a place that suffices on these terms.
+    pub(crate) fn sufficient(&self, place: Place, terms: &Terms) -> Option<Held>
         requires { AreRising self.now.kept }
-        ensures { result ≡ earliest (suffices place (wish_of_request request.now)) self.now.kept }
+        ensures { result ≡ earliest (meets place terms.now) self.now.kept }
     {
         for id in self.by_place.numbers(place) {
             let ticket = numbered(&self.tickets, *id)?;
-            if request.is_met_by(place, ticket) {
+            if terms.is_met_by(place, ticket) {
                 return Some(ticket.held());
             }
         }
@@ -382,8 +397,8 @@ fn make_all_explicit(tickets: &mut [Kept])
 }
 
 // Keeps the explicit tickets until the transaction ends, except those of user-level locks.
-fn make_all_transactional(tickets: &mut [Kept], known: &IndexMap<Key, Place>)
-    ensures { tickets.new ≡ map (transactional known.now.entries) tickets.old }
+fn make_all_transactional(tickets: &mut [Kept], known: &Known)
+    ensures { tickets.new ≡ map (transactional known.now) tickets.old }
 {
     for ticket in tickets.iter_mut() {
         make_one_transactional(ticket, known);
@@ -391,19 +406,12 @@ fn make_all_transactional(tickets: &mut [Kept], known: &IndexMap<Key, Place>)
 }
 
 // Keeps a ticket until the transaction ends, if it is explicit and not of a user-level lock.
-fn make_one_transactional(ticket: &mut Kept, known: &IndexMap<Key, Place>)
-    ensures { ticket.new ≡ transactional known.now.entries ticket.old }
+fn make_one_transactional(ticket: &mut Kept, known: &Known)
+    ensures { ticket.new ≡ transactional known.now ticket.old }
 {
-    if !has_user_lock(known, ticket.place) {
+    if !known.is_user_lock(ticket.place) {
         ticket.duration = in_transaction(ticket.duration);
     }
-}
-
-// Whether a place is that of a user-level lock among known keys.
-fn has_user_lock(known: &IndexMap<Key, Place>, place: Place) -> bool
-    ensures { result ≡ is_user_lock known.now.entries place }
-{
-    known.iter().any(|(key, at)| *at == place && key.namespace() == Namespace::UserLevelLock)
 }
 
 // The duration of a ticket once it may last no longer than the transaction.

@@ -31,6 +31,7 @@ mod context_error;
 mod going;
 mod holdings;
 mod kept;
+mod known;
 mod laws;
 mod memory_laws;
 mod merging;

@@ -1,27 +1,48 @@
 //! Which tickets a request (a wish) can use, and which it gets.
 ghost use Rattle.std.specs.Prelude.{◌≡◌};
 ghost use Rattle.mdl_system.specs.Strength.{covers};
-ghost use Rattle.mdl_context.specs.Holdings.{kept_ticket, wanted_of};
-ghost use Rattle.mdl_context.specs.Requests.{suffices, is_reusable};
+ghost use Rattle.mdl_context.specs.Terms.{meets, serves_again, terms_of, ticket_got, ticket_wanted};
 ghost use Rattle.mdl_context.specs.Wishes.{wish_of_request};
 
 use crate::{Kept, Request, Wanted};
 use mdl_key::{Duration, Kind, Mode, at_least};
 use mdl_space::{Place, TicketId};
 
+/// What a request asks for at the place of its key.
+#[derive(Clone, Copy)]
+pub(crate) struct Terms {
+    /// The kind of the key's lock.
+    pub(crate) kind: Kind,
+    /// The mode in which to lock the key.
+    pub(crate) mode: Mode,
+    /// How long to keep the ticket.
+    pub(crate) duration: Duration,
+}
+
 impl Request<'_> {
-    /// Whether a ticket suffices for the request. The request's key is at this place.
-    pub(crate) fn is_met_by(&self, place: Place, ticket: &Kept) -> bool
-        ensures { result ≡ suffices place (wish_of_request self.now) ticket.now }
+    /// What the request asks for at the place of its key.
+    pub(crate) fn terms(&self) -> Terms
+        ensures { result ≡ terms_of (wish_of_request self.now) }
     {
-        ticket.place == place
-            && covers(ticket.mode, self.mode)
-            && self.key.kind().has_mode(self.mode)
+        Terms {
+            kind: self.key.kind(),
+            mode: self.mode,
+            duration: self.duration,
+        }
+    }
+}
+
+impl Terms {
+    /// Whether a ticket suffices at this place.
+    pub(crate) fn is_met_by(&self, place: Place, ticket: &Kept) -> bool
+        ensures { result ≡ meets place self.now ticket.now }
+    {
+        ticket.place == place && covers(ticket.mode, self.mode) && self.kind.has_mode(self.mode)
     }
 
-    /// Whether a ticket can be used again for the request. The request's key is at this place.
+    /// Whether a ticket can be used again at this place.
     pub(crate) fn can_reuse(&self, place: Place, ticket: &Kept) -> bool
-        ensures { result ≡ is_reusable place (wish_of_request self.now) ticket.now }
+        ensures { result ≡ serves_again place self.now ticket.now }
     {
         self.is_met_by(place, ticket)
             && ticket.lasts(self.duration)
@@ -30,7 +51,7 @@ impl Request<'_> {
 
     /// The ticket that the request gets.
     pub(crate) fn kept(&self, id: TicketId, place: Place) -> Kept
-        ensures { result ≡ kept_ticket id place (wish_of_request self.now) }
+        ensures { result ≡ ticket_got id place self.now }
     {
         Kept {
             id,
@@ -42,7 +63,7 @@ impl Request<'_> {
 
     /// The ticket that the request waits for, and whether the searches for deadlocks are over.
     pub(crate) fn wanted(&self, place: Place, searched: bool) -> Wanted
-        ensures { result ≡ wanted_of place (wish_of_request self.now) searched }
+        ensures { result ≡ ticket_wanted place self.now searched }
     {
         Wanted {
             place,

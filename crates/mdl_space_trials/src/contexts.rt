@@ -7,6 +7,7 @@ mod many;
 mod marks;
 mod memory;
 mod order;
+mod places;
 mod rows;
 mod upgrades;
 mod user_locks;

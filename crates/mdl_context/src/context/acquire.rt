@@ -1,12 +1,17 @@
 //! How a session gets its tickets.
-ghost use Rattle.std.specs.Prelude.{◌≡◌, Some, None, OnErr};
+ghost use Rattle.std.specs.Prelude.{◌≡◌, true, Some, None, IfOk, OnErr};
+ghost use Rattle.mdl_key.specs.Keys.{KeyName};
+ghost use Rattle.mdl_key.specs.Modes.{kind_of};
 ghost use Rattle.mdl_calls.specs.Words.{Runs};
-ghost use Rattle.mdl_context.specs.Contexts.{Attends, LeavesOthers, place_known};
-ghost use Rattle.mdl_context.specs.Requests.{acquiring, acquiring_at, finding, LearnsAtMost, WaitsAfter};
+ghost use Rattle.mdl_context.specs.Contexts.{Attends, LeavesOthers, is_known_place, place_known};
+ghost use Rattle.mdl_context.specs.Requests.{acquiring, acquiring_at, acquiring_by_place, finding, placing, LearnsAtMost, WaitsAfter};
+ghost use Rattle.mdl_context.specs.Terms.{wish_for};
 ghost use Rattle.mdl_context.specs.Wishes.{wish_of_request};
 
 use crate::asking::{AskResult, gain};
+use crate::wishes::Terms;
 use crate::{Acquire, Context, ContextError, Request};
+use mdl_key::{Duration, Key, Mode};
 use mdl_space::{LockSpace, Place, SpaceError};
 
 impl<S: LockSpace> Context<S> {
@@ -37,9 +42,72 @@ impl<S: LockSpace> Context<S> {
             return Err(ContextError::Waiting);
         }
         match self.holdings.place_known(request.key) {
-            Some(place) => self.acquire_at(space, place, request),
+            Some(place) => self.gain_at(space, place, request.terms()),
             None => self.look_up(space, request),
         }
+    }
+
+    /// Gets a lock of the key that the context knows at a place, or begins to wait for it.
+    ///
+    /// Works as [`Context::acquire`] does for that key, but neither hashes nor compares a key. So it suits a server that keeps
+    /// the place of a table, which [`Context::place_of`] returns. A place is the same for all sessions of a space, but each
+    /// context has to know it. If no key is known there, the call is refused with [`SpaceError::NoPlace`].
+    pub fn acquire_at(
+        &mut self,
+        space: &mut S,
+        place: Place,
+        mode: Mode,
+        duration: Duration,
+    ) -> Result<Acquire, ContextError>
+        requires { Attends S.LockSpace space.old self.old }
+        ensures run { Runs S.joins space.old (acquiring_by_place place mode duration self.old) (result, self.new) space.new }
+        ensures attends { Attends S.LockSpace space.new self.new }
+        ensures others { LeavesOthers S.LockSpace self.old.who space.old space.new }
+        ensures who { self.new.who ≡ self.old.who }
+        ensures unchanged { OnErr result (self.new ≡ self.old) }
+        ensures own { OnErr result (S.own space.new self.old.who ≡ S.own space.old self.old.who) }
+        ensures wait { WaitsAfter result self.old.wait self.new.wait }
+    {
+        if self.holdings.is_waiting() {
+            return Err(ContextError::Waiting);
+        }
+        let Some(kind) = self.holdings.kind_at(place) else {
+            return Err(ContextError::Space(SpaceError::NoPlace));
+        };
+        let terms = Terms {
+            kind,
+            mode,
+            duration,
+        };
+        self.gain_at(space, place, terms)
+    }
+
+    /// The place of a key, which is looked up if the context doesn't know it.
+    ///
+    /// The context remembers the place from then on. That takes memory, and so may the look-up. The session's tickets and its
+    /// wait stay as they are.
+    pub fn place_of(&mut self, space: &mut S, key: &Key) -> Result<Place, ContextError>
+        requires { Attends S.LockSpace space.old self.old }
+        ensures run { Runs S.joins space.old (placing key.now self.old) (result, self.new) space.new }
+        ensures found { IfOk result (λ place. place_known key.now self.new.known ≡ Some place) }
+        ensures attends { Attends S.LockSpace space.new self.new }
+        ensures others { LeavesOthers S.LockSpace self.old.who space.old space.new }
+        ensures who { self.new.who ≡ self.old.who }
+        ensures learns { LearnsAtMost key.now self.old self.new }
+        ensures unchanged { OnErr result (self.new ≡ self.old) }
+        ensures own { S.own space.new self.old.who ≡ S.own space.old self.old.who }
+    {
+        if let Some(place) = self.holdings.place_known(key) {
+            return Ok(place);
+        }
+        let place = match space.resolve(self.who, key) {
+            Ok(place) => place,
+            Err(refusal) => return Err(ContextError::Space(refusal)),
+        };
+        if self.holdings.remember(key, place).is_err() {
+            return Err(ContextError::Space(SpaceError::OutOfMemory));
+        }
+        Ok(place)
     }
 
     // Gets a lock of a key whose place isn't known yet, or begins to wait for it.
@@ -61,40 +129,40 @@ impl<S: LockSpace> Context<S> {
         if self.holdings.remember(request.key, place).is_err() {
             return Err(ContextError::Space(SpaceError::OutOfMemory));
         }
-        self.acquire_at(space, place, request)
+        self.gain_at(space, place, request.terms())
     }
 
-    // Gets a lock of a key whose place is known, or begins to wait for it.
-    fn acquire_at(
+    // Gets a lock on these terms at the place of a known key, or begins to wait for it.
+    fn gain_at(
         &mut self,
         space: &mut S,
         place: Place,
-        request: Request<'_>,
+        terms: Terms,
     ) -> Result<Acquire, ContextError>
         requires attends { Attends S.LockSpace space.old self.old }
         requires idle { self.old.wait ≡ None }
-        requires known { place_known request.key.now self.old.known ≡ Some place }
-        ensures run { Runs S.joins space.old (acquiring_at place (wish_of_request request.entry) self.old) (result, self.new) space.new }
+        requires known { is_known_place self.old.known place ≡ true }
+        ensures run { (key : KeyName) → kind_of key.namespace ≡ terms.kind → Runs S.joins space.old (acquiring_at place (wish_for key terms) self.old) (result, self.new) space.new }
         ensures attends { Attends S.LockSpace space.new self.new }
         ensures who { self.new.who ≡ self.old.who }
         ensures unchanged { OnErr result (self.new ≡ self.old) }
         ensures own { OnErr result (S.own space.new self.old.who ≡ S.own space.old self.old.who) }
         ensures wait { WaitsAfter result None self.new.wait }
     {
-        if let Some(ticket) = self.holdings.reusable(place, &request) {
+        let sufficient = self.holdings.sufficient(place, &terms);
+        if let Some(ticket) = self.holdings.reusable(place, &terms, sufficient) {
             return Ok(Acquire::Acquired(ticket.id));
         }
         if self.holdings.reserve(place).is_err() {
             return Err(ContextError::Space(SpaceError::OutOfMemory));
         }
-        let ticket = self.holdings.sufficient(place, &request);
-        match gain(space, self.who, ticket, place, request.mode) {
+        match gain(space, self.who, sufficient, place, terms.mode) {
             Ok(AskResult::Granted(id)) => {
-                self.holdings.keep(request.kept(id, place));
+                self.holdings.keep(terms.kept(id, place));
                 Ok(Acquire::Acquired(id))
             }
             Ok(AskResult::Waits(number, searched)) => {
-                self.holdings.begin_wait(request.wanted(place, searched));
+                self.holdings.begin_wait(terms.wanted(place, searched));
                 Ok(Acquire::MustWait(number))
             }
             Err(refusal) => Err(ContextError::Space(refusal)),

@@ -1,11 +1,15 @@
 //! How a session gets a ticket without waiting.
-ghost use Rattle.std.specs.Prelude.{◌≡◌, Some, None};
+ghost use Rattle.std.specs.Prelude.{◌≡◌, true, None};
+ghost use Rattle.mdl_key.specs.Keys.{KeyName};
+ghost use Rattle.mdl_key.specs.Modes.{kind_of};
 ghost use Rattle.mdl_calls.specs.Words.{Runs};
-ghost use Rattle.mdl_context.specs.Contexts.{Attends, LeavesOthers, place_known};
+ghost use Rattle.mdl_context.specs.Contexts.{Attends, LeavesOthers, is_known_place, place_known};
 ghost use Rattle.mdl_context.specs.Requests.{trying, trying_at, trying_found, LearnsAtMost, UnlessAcquired};
+ghost use Rattle.mdl_context.specs.Terms.{wish_for};
 ghost use Rattle.mdl_context.specs.Wishes.{wish_of_request};
 
 use crate::asking::try_gain;
+use crate::wishes::Terms;
 use crate::{Context, ContextError, Request, Tried};
 use mdl_space::{LockSpace, Place, SpaceError};
 
@@ -34,7 +38,7 @@ impl<S: LockSpace> Context<S> {
             return Err(ContextError::Waiting);
         }
         match self.holdings.place_known(request.key) {
-            Some(place) => self.try_at(space, place, request),
+            Some(place) => self.try_at(space, place, request.terms()),
             None => self.look_up_and_try(space, request),
         }
     }
@@ -62,36 +66,31 @@ impl<S: LockSpace> Context<S> {
         if self.holdings.remember(request.key, place).is_err() {
             return Err(ContextError::Space(SpaceError::OutOfMemory));
         }
-        self.try_at(space, place, request)
+        self.try_at(space, place, request.terms())
     }
 
-    // Gets a lock of a key whose place is known, if that needs no wait.
-    fn try_at(
-        &mut self,
-        space: &mut S,
-        place: Place,
-        request: Request<'_>,
-    ) -> Result<Tried, ContextError>
+    // Gets a lock on these terms at the place of a known key, if that needs no wait.
+    fn try_at(&mut self, space: &mut S, place: Place, terms: Terms) -> Result<Tried, ContextError>
         requires attends { Attends S.LockSpace space.old self.old }
         requires idle { self.old.wait ≡ None }
-        requires known { place_known request.key.now self.old.known ≡ Some place }
-        ensures run { Runs S.joins space.old (trying_at place (wish_of_request request.entry) self.old) (result, self.new) space.new }
+        requires known { is_known_place self.old.known place ≡ true }
+        ensures run { (key : KeyName) → kind_of key.namespace ≡ terms.kind → Runs S.joins space.old (trying_at place (wish_for key terms) self.old) (result, self.new) space.new }
         ensures attends { Attends S.LockSpace space.new self.new }
         ensures who { self.new.who ≡ self.old.who }
         ensures unchanged { UnlessAcquired result (self.new ≡ self.old) }
         ensures own { UnlessAcquired result (S.own space.new self.old.who ≡ S.own space.old self.old.who) }
         ensures wait { self.new.wait ≡ None }
     {
-        if let Some(ticket) = self.holdings.reusable(place, &request) {
+        let sufficient = self.holdings.sufficient(place, &terms);
+        if let Some(ticket) = self.holdings.reusable(place, &terms, sufficient) {
             return Ok(Tried::Acquired(ticket.id));
         }
         if self.holdings.reserve(place).is_err() {
             return Err(ContextError::Space(SpaceError::OutOfMemory));
         }
-        let ticket = self.holdings.sufficient(place, &request);
-        match try_gain(space, self.who, ticket, place, request.mode) {
+        match try_gain(space, self.who, sufficient, place, terms.mode) {
             Ok(Tried::Acquired(id)) => {
-                self.holdings.keep(request.kept(id, place));
+                self.holdings.keep(terms.kept(id, place));
                 Ok(Tried::Acquired(id))
             }
             Ok(Tried::WouldWait) => Ok(Tried::WouldWait),

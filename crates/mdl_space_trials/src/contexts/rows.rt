@@ -1,6 +1,6 @@
 //! Acts of several sessions as rows.
 use crate::contexts::acts::{Act, Reply};
-use crate::contexts::{deadlocks, marks, memory, order, upgrades, user_locks, waits};
+use crate::contexts::{deadlocks, marks, memory, order, places, upgrades, user_locks, waits};
 use crate::hall::Hall;
 use mdl_context::{ContextError, Resume};
 use mdl_space::SpaceError;
@@ -69,6 +69,7 @@ const STORIES: &[&[Story]] = &[
     deadlocks::STORIES,
     marks::STORIES,
     order::STORIES,
+    places::STORIES,
     upgrades::STORIES,
     user_locks::STORIES,
     waits::STORIES,
@@ -89,6 +90,7 @@ const OUTLIVING: &[&[Story]] = &[
     deadlocks::STORIES_OF_TWO,
     upgrades::STORIES_OF_TWO,
     memory::STORIES,
+    places::STORIES,
 ];
 
 #[test]

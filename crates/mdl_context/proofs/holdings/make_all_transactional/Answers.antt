@@ -7,6 +7,6 @@ use Rattle.mdl_context.proofs.holdings.make_all_transactional.Goals as goal
 pub loop-ticket-preserved : goal.loop-ticket-preserved
 loop-ticket-preserved c =
     let i = c.loop-ticket.ticket-index in
-    let change = transactional c.args.known.now.entries in
+    let change = transactional c.args.known.now in
     rw c.make_one_transactional.ensures (map_over_more change c.args.tickets.now c.loop-ticket.tickets i (get_or c.loop-ticket.tickets i no_item)
     (omega arith) c.loop-ticket.invariant (own_item c.loop-ticket.tickets i no_item (omega arith)))

@@ -5,4 +5,4 @@ use Rattle.mdl_context.specs.Holdings.{transactional}
 use Rattle.mdl_context.proofs.holdings.make_all_transactional.Given as goal
 
 abbrev pub invariant-loop-ticket : goal.invariant-loop-ticket
-invariant-loop-ticket l = l.tickets ≡ map (transactional l.fn.known.entries) (take l.ticket-index l.fn.tickets) ++ drop l.ticket-index l.fn.tickets
+invariant-loop-ticket l = l.tickets ≡ map (transactional l.fn.known) (take l.ticket-index l.fn.tickets) ++ drop l.ticket-index l.fn.tickets

@@ -1,15 +1,19 @@
--- All calls are made for the session.
-use Rattle.mdl_context.specs.Wishes.{wish_of_request}
-use Rattle.std.proofs.Common.{None}
+-- All calls are made for the session, and the terms are those of the request.
+use Rattle.std.proofs.Common.{None, refl, rules}
 use Rattle.mdl_context.specs.Requests.{acquiring_at, finding}
+use Rattle.mdl_context.specs.Wishes.{wish_of_request}
+use Rattle.mdl_context.proofs.AttendLemmas.{known-place}
 use Rattle.mdl_context.proofs.OthersLemmas.{leaves, for_reusing, for_finding}
 use Rattle.mdl_context.proofs.context.Context.acquire.Goals as goal
+
+pub gain_at-requires-clause-known : goal.gain_at-requires-clause-known
+gain_at-requires-clause-known g c = known-place c.args.request.key.now c.args.self.now.known c.in-Some.place (search rules)
 
 pub returns-in-Some-clause-others : goal.returns-in-Some-clause-others
 returns-in-Some-clause-others g c =
     let laws = g.met.S.LockSpace.laws in
-    leaves g.S.LockSpace laws c.args.self.now.who (acquiring_at c.in-Some.place (wish_of_request c.args.request) c.args.self.now) _ _ (c.acquire_at.result, c.acquire_at.new.self) (for_reusing _ _ _ c.args.self.now)
-    c.acquire_at.ensures.run
+    leaves g.S.LockSpace laws c.args.self.now.who (acquiring_at c.in-Some.place (wish_of_request c.args.request) c.args.self.now) _ _ (c.gain_at.result, c.gain_at.new.self) (for_reusing _ _ _ c.args.self.now)
+    ((rw c.terms.ensures at c.gain_at.ensures.run) c.args.request.key.now refl)
 
 pub returns-in-None-clause-others : goal.returns-in-None-clause-others
 returns-in-None-clause-others g c =

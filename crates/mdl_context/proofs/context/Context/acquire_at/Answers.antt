@@ -1,64 +1,32 @@
--- What suffices is held, and what is gained or waited for is at a known place.
-use Rattle.mdl_context.specs.Wishes.{wish_of_request}
-use Rattle.std.proofs.Common.{◌≡◌, true, List, Some, Ok, Err, [], ◌∷◌, ◌++◌, sym, ap, ◌∙◌}
+-- The key at the place has the kind that is kept of the place.
+use Rattle.std.proofs.Common.{◌≡◌, false, Some, None, rules}
 use Rattle.std.specs.Prelude.{is_some}
-use Rattle.mdl_context.specs.declared.kept.Kept.{Kept}
-use Rattle.mdl_context.specs.declared.context_error.ContextError.TheVariants.{Space}
-use Rattle.mdl_context.specs.declared.request.Acquire.TheVariants.{Acquired, MustWait}
-use Rattle.mdl_context.specs.Contexts.{ContextView, is_known_place}
-use Rattle.mdl_context.specs.Holdings.{earliest, context_of}
-use Rattle.mdl_context.specs.Requests.{suffices}
-use Rattle.mdl_context.proofs.AttendLemmas.{known-place, attends-granted, attends-awaiting}
-use Rattle.mdl_context.proofs.BeyondLemmas.{same-context}
-use Rattle.mdl_context.proofs.GainLemmas.{sufficient-held, run-gained}
+use Rattle.mdl_context.specs.Contexts.{kind_at}
+use Rattle.mdl_context.specs.Requests.{acquiring_at}
+use Rattle.mdl_context.proofs.KindLemmas.{kind-key, no-kind-key, kind-known}
+use Rattle.mdl_context.proofs.OthersLemmas.{leaves, for_reusing}
 use Rattle.mdl_context.proofs.context.Context.acquire_at.Goals as goal
 
-pub gain-requires-clause-held : goal.gain-requires-clause-held
-gain-requires-clause-held g c =
-    let before : ContextView = context_of c.self.inside.who c.self.inside.holdings in
-    let serves = rw (← c.self.view_is) at c.requires.attends.serves in
-    let enough = c.sufficient-ticket.ensures ∙ ap (earliest (suffices c.args.place (wish_of_request c.args.request))) c.reserve.ensures.kept in
-    sufficient-held c.args.place (wish_of_request c.args.request) _ before c.sufficient-ticket.result (g.met.S.LockSpace.laws.rising _ _ (rw (← c.self.view_is) at c.requires.attends.speaks)) serves enough
+pub returns-in_default-clause-run : goal.returns-in_default-clause-run
+returns-in_default-clause-run g c =
+    let none : kind_at c.args.place c.args.self.now.known ≡ None = search rules in
+    let idle : is_some c.args.self.now.wait ≡ false = search rules in
+    rw (idle, no-kind-key c.args.place c.args.self.now.known none) (search rules)
 
-pub returns-in-Ok-Granted-clause-run : goal.returns-in-Ok-Granted-clause-run
-returns-in-Ok-Granted-clause-run g c =
-    let before : ContextView = context_of c.self.inside.who c.self.inside.holdings in
-    let enough = c.sufficient-ticket.ensures ∙ ap (earliest (suffices c.args.place (wish_of_request c.args.request))) c.reserve.ensures.kept in
-    let after = same-context c.self.inside.who _ _ _ _ _ _ (c.keep.ensures.kept ∙ ap (λ (kept : List Kept). kept ++ c.kept.result ∷ []) c.reserve.ensures.kept ∙ ap (λ (ticket : Kept). c.self.inside.holdings.kept ++ ticket ∷ []) c.kept.ensures) (c.keep.ensures.known ∙ c.reserve.ensures.known) (c.keep.ensures.wait ∙ sym (rw (← c.self.view_is) at c.requires.idle)) in
-    rw (← c.self.view_is)
-    (run-gained g.S.LockSpace.joins c.args.place (wish_of_request c.args.request) before c.reusable.result c.reusable.ensures c.sufficient-ticket.result c.gain.result _ _ _ c.in_default.is enough c.gain.ensures.run
-    (rw (c.in-Ok-Granted.is, c.in-Ok-Granted.field-0-is) (ap (λ context. (Ok (Acquired c.in-Ok-Granted.id), context)) (sym after))))
+pub gain_at-requires-clause-known : goal.gain_at-requires-clause-known
+gain_at-requires-clause-known g c = kind-known c.args.place c.args.self.now.known c.in-Some.kind (search rules)
 
-pub returns-in-Ok-Waits-clause-run : goal.returns-in-Ok-Waits-clause-run
-returns-in-Ok-Waits-clause-run g c =
-    let before : ContextView = context_of c.self.inside.who c.self.inside.holdings in
-    let enough = c.sufficient-ticket.ensures ∙ ap (earliest (suffices c.args.place (wish_of_request c.args.request))) c.reserve.ensures.kept in
-    let after = same-context c.self.inside.who _ _ _ _ _ _ (c.begin_wait.ensures.kept ∙ c.reserve.ensures.kept) (c.begin_wait.ensures.known ∙ c.reserve.ensures.known) (c.begin_wait.ensures.wait ∙ ap (λ wanted. Some wanted) c.wanted.ensures) in
-    rw (← c.self.view_is)
-    (run-gained g.S.LockSpace.joins c.args.place (wish_of_request c.args.request) before c.reusable.result c.reusable.ensures c.sufficient-ticket.result c.gain.result _ _ _ c.in_default.is enough c.gain.ensures.run
-    (rw (c.in-Ok-Waits.is, c.in-Ok-Waits.field-0-is) (ap (λ context. (Ok (MustWait c.in-Ok-Waits.number), context)) (sym after))))
+pub returns-clause-run : goal.returns-clause-run
+returns-clause-run g c =
+    let there : kind_at c.args.place c.args.self.now.known ≡ Some c.in-Some.kind = search rules in
+    let idle : is_some c.args.self.now.wait ≡ false = search rules in
+    let keyed = kind-key c.args.place c.args.self.now.known c.in-Some.kind there in
+    rw (idle, keyed.1) (c.gain_at.ensures.run keyed.0 keyed.2)
 
-pub returns-in-Err-clause-run : goal.returns-in-Err-clause-run
-returns-in-Err-clause-run g c =
-    let before : ContextView = context_of c.self.inside.who c.self.inside.holdings in
-    let enough = c.sufficient-ticket.ensures ∙ ap (earliest (suffices c.args.place (wish_of_request c.args.request))) c.reserve.ensures.kept in
-    let after = same-context c.self.inside.who _ _ _ _ _ _ c.reserve.ensures.kept c.reserve.ensures.known (c.reserve.ensures.wait ∙ sym (rw (← c.self.view_is) at c.requires.idle)) in
-    rw (← c.self.view_is)
-    (run-gained g.S.LockSpace.joins c.args.place (wish_of_request c.args.request) before c.reusable.result c.reusable.ensures c.sufficient-ticket.result c.gain.result _ _ _ c.in_default.is enough c.gain.ensures.run
-    (rw c.in-Err.is (ap (λ context. (Err (Space c.in-Err.refusal), context)) (sym after))))
-
-pub returns-in-Ok-Granted-clause-attends : goal.returns-in-Ok-Granted-clause-attends
-returns-in-Ok-Granted-clause-attends g c =
-    let before : ContextView = context_of c.self.inside.who c.self.inside.holdings in
-    let there : is_known_place before.known c.args.place ≡ true = known-place c.args.request.key.now before.known c.args.place (rw (← c.self.view_is) at c.requires.known) in
-    attends-granted _ _ before _ c.in-Ok-Granted.id c.args.place (wish_of_request c.args.request) (rw (← c.self.view_is) at c.requires.attends) c.gain.ensures.remembers c.gain.ensures.speaks
-    (rw (c.in-Ok-Granted.is, c.in-Ok-Granted.field-0-is) at c.gain.ensures.own) there (ap is_some (rw (← c.self.view_is) at c.requires.idle))
-    (same-context c.self.inside.who _ _ _ _ _ _ (c.keep.ensures.kept ∙ ap (λ (kept : List Kept). kept ++ c.kept.result ∷ []) c.reserve.ensures.kept ∙ ap (λ (ticket : Kept). c.self.inside.holdings.kept ++ ticket ∷ []) c.kept.ensures) (c.keep.ensures.known ∙ c.reserve.ensures.known) (c.keep.ensures.wait ∙ sym (rw (← c.self.view_is) at c.requires.idle)))
-
-pub returns-in-Ok-Waits-clause-attends : goal.returns-in-Ok-Waits-clause-attends
-returns-in-Ok-Waits-clause-attends g c =
-    let before : ContextView = context_of c.self.inside.who c.self.inside.holdings in
-    let there : is_known_place before.known c.args.place ≡ true = known-place c.args.request.key.now before.known c.args.place (rw (← c.self.view_is) at c.requires.known) in
-    attends-awaiting _ _ before _ c.in-Ok-Waits.number c.args.place (wish_of_request c.args.request) c.in-Ok-Waits.searched (rw (← c.self.view_is) at c.requires.attends) c.gain.ensures.remembers c.gain.ensures.speaks
-    (rw (c.in-Ok-Waits.is, c.in-Ok-Waits.field-0-is) at c.gain.ensures.own) there
-    (same-context c.self.inside.who _ _ _ _ _ _ (c.begin_wait.ensures.kept ∙ c.reserve.ensures.kept) (c.begin_wait.ensures.known ∙ c.reserve.ensures.known) (c.begin_wait.ensures.wait ∙ ap (λ wanted. Some wanted) c.wanted.ensures))
+pub returns-clause-others : goal.returns-clause-others
+returns-clause-others g c =
+    let there : kind_at c.args.place c.args.self.now.known ≡ Some c.in-Some.kind = search rules in
+    let keyed = kind-key c.args.place c.args.self.now.known c.in-Some.kind there in
+    let laws = g.met.S.LockSpace.laws in
+    leaves g.S.LockSpace laws c.args.self.now.who (acquiring_at c.args.place (record { key = keyed.0; mode = c.args.mode; duration = c.args.duration }) c.args.self.now) _ _ (c.gain_at.result, c.gain_at.new.self)
+    (for_reusing _ _ _ c.args.self.now) (c.gain_at.ensures.run keyed.0 keyed.2)

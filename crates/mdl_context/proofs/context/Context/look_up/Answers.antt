@@ -2,7 +2,7 @@
 use Rattle.std.proofs.Common.{rules, ◌≡◌, [], ◌∷◌, ◌++◌, refl, sym, ap, ◌∙◌, subst}
 use Rattle.mdl_context.specs.Contexts.{ContextView, Attends, place_known}
 use Rattle.mdl_context.specs.Requests.{remembering}
-use Rattle.mdl_context.proofs.AttendLemmas.{attends-still, attends-learnt, known-last}
+use Rattle.mdl_context.proofs.AttendLemmas.{attends-still, attends-learnt, known-last, known-place}
 use Rattle.mdl_context.proofs.BeyondLemmas.{same-context}
 use Rattle.mdl_context.proofs.context.Context.look_up.Goals as goal
 
@@ -31,8 +31,8 @@ returns-then-is_err-clause-own g c =
     let same : c.self.inside.who ≡ c.args.self.now.who = ap (λ (v : ContextView). v.who) c.self.view_is in
     g.met.S.LockSpace.laws.changes _ _ _ _ _ refl (rw (same, c.in-Ok.is) at c.resolve.ensures)
 
-pub acquire_at-requires-clause-attends : goal.acquire_at-requires-clause-attends
-acquire_at-requires-clause-attends g c =
+pub gain_at-requires-clause-attends : goal.gain_at-requires-clause-attends
+gain_at-requires-clause-attends g c =
     let same : c.self.inside.who ≡ c.args.self.now.who = ap (λ (v : ContextView). v.who) c.self.view_is in
     let laws = g.met.S.LockSpace.laws in
     let still = attends-still g.S.LockSpace laws _ _ _ _ c.args.self.now c.requires.attends refl refl refl (rw (same, c.in-Ok.is) at c.resolve.ensures) in
@@ -40,7 +40,8 @@ acquire_at-requires-clause-attends g c =
     attends-learnt c.resolve.new.self c.args.request.key.now c.in-Ok.place c.args.self.now _ still (laws.resolves _ _ _ _ _ (rw (same, c.in-Ok.is) at c.resolve.ensures))
     (same-context c.self.inside.who _ _ _ _ _ _ c.remember.ensures.kept learnt c.remember.ensures.wait ∙ ap (remembering c.args.request.key.now c.in-Ok.place) c.self.view_is)
 
-pub acquire_at-requires-clause-known : goal.acquire_at-requires-clause-known
-acquire_at-requires-clause-known g c =
+pub gain_at-requires-clause-known : goal.gain_at-requires-clause-known
+gain_at-requires-clause-known g c =
     let learnt : c.remember.new.self.known ≡ c.self.inside.holdings.known ++ (c.args.request.key.now, c.in-Ok.place) ∷ [] = search rules in
-    ap (place_known c.args.request.key.now) learnt ∙ known-last c.args.request.key.now c.self.inside.holdings.known c.in-Ok.place (rw (← c.self.view_is) at c.requires.new)
+    let last = known-last c.args.request.key.now c.self.inside.holdings.known c.in-Ok.place (rw (← c.self.view_is) at c.requires.new) in
+    known-place c.args.request.key.now _ c.in-Ok.place (ap (place_known c.args.request.key.now) learnt ∙ last)

@@ -2,7 +2,7 @@
 use Rattle.std.proofs.Common.{rules, ◌≡◌, [], ◌∷◌, ◌++◌, refl, sym, ap, ◌∙◌, subst}
 use Rattle.mdl_context.specs.Contexts.{ContextView, Attends, place_known}
 use Rattle.mdl_context.specs.Requests.{remembering}
-use Rattle.mdl_context.proofs.AttendLemmas.{attends-still, attends-learnt, known-last}
+use Rattle.mdl_context.proofs.AttendLemmas.{attends-still, attends-learnt, known-last, known-place}
 use Rattle.mdl_context.proofs.BeyondLemmas.{same-context}
 use Rattle.mdl_context.proofs.context.Context.look_up_and_try.Goals as goal
 
@@ -43,4 +43,5 @@ try_at-requires-clause-attends g c =
 pub try_at-requires-clause-known : goal.try_at-requires-clause-known
 try_at-requires-clause-known g c =
     let learnt : c.remember.new.self.known ≡ c.self.inside.holdings.known ++ (c.args.request.key.now, c.in-Ok.place) ∷ [] = search rules in
-    ap (place_known c.args.request.key.now) learnt ∙ known-last c.args.request.key.now c.self.inside.holdings.known c.in-Ok.place (rw (← c.self.view_is) at c.requires.new)
+    let last = known-last c.args.request.key.now c.self.inside.holdings.known c.in-Ok.place (rw (← c.self.view_is) at c.requires.new) in
+    known-place c.args.request.key.now _ c.in-Ok.place (ap (place_known c.args.request.key.now) learnt ∙ last)

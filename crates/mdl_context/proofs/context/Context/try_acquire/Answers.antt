@@ -1,15 +1,19 @@
--- All calls are made for the session.
-use Rattle.std.proofs.Common.{None}
+-- All calls are made for the session, and the terms are those of the request.
+use Rattle.std.proofs.Common.{None, refl, rules}
 use Rattle.mdl_context.specs.Requests.{trying_at, trying_found}
 use Rattle.mdl_context.specs.Wishes.{wish_of_request}
+use Rattle.mdl_context.proofs.AttendLemmas.{known-place}
 use Rattle.mdl_context.proofs.OthersLemmas.{leaves, for_trying_again, for_trying_found}
 use Rattle.mdl_context.proofs.context.Context.try_acquire.Goals as goal
+
+pub try_at-requires-clause-known : goal.try_at-requires-clause-known
+try_at-requires-clause-known g c = known-place c.args.request.key.now c.args.self.now.known c.in-Some.place (search rules)
 
 pub returns-in-Some-clause-others : goal.returns-in-Some-clause-others
 returns-in-Some-clause-others g c =
     let laws = g.met.S.LockSpace.laws in
     leaves g.S.LockSpace laws c.args.self.now.who (trying_at c.in-Some.place (wish_of_request c.args.request) c.args.self.now) _ _ (c.try_at.result, c.try_at.new.self)
-    (for_trying_again _ _ _ c.args.self.now) c.try_at.ensures.run
+    (for_trying_again _ _ _ c.args.self.now) ((rw c.terms.ensures at c.try_at.ensures.run) c.args.request.key.now refl)
 
 pub returns-in-None-clause-others : goal.returns-in-None-clause-others
 returns-in-None-clause-others g c =

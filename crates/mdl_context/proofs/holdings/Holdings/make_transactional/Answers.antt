@@ -8,7 +8,7 @@ use Rattle.mdl_context.proofs.holdings.Holdings.make_transactional.Goals as goal
 
 pub invariant_of-self : goal.invariant_of-self
 invariant_of-self c =
-    let known = c.self.inside.known.entries in
+    let known = c.self.inside.known in
     let change = transactional known in
     let same = held-transactional known in
     let before = c.self.inside.tickets.items in

@@ -7,7 +7,7 @@ use Rattle.mdl_context.specs.Contexts.{held_of}
 use Rattle.mdl_context.specs.Goings.{goes}
 use Rattle.mdl_context.specs.Releases.{releasing_all}
 use Rattle.mdl_context.proofs.ReleaseLemmas.{left, to_go}
-use Rattle.mdl_context.proofs.releasing.release_all.Given as goal
+use Rattle.mdl_context.proofs.releasing.release_rest.Given as goal
 
 abbrev pub invariant-loop-at : goal.invariant-loop-at
 invariant-loop-at g l = record {
