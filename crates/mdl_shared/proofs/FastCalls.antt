@@ -11,9 +11,10 @@ use Rattle.mdl_visits.specs.FastTries.{GrantsAtLast, ReleasesFast}
 use Rattle.mdl_visits.specs.Numbers.{numbered}
 use Rattle.mdl_visits.proofs.Numbers.{has_number}
 use Rattle.mdl_shared.specs.declared.fast_path.NotFast.{NotFast}
-use Rattle.mdl_shared.specs.declared.fast_path.NotFast.TheVariants.{Limit}
+use Rattle.mdl_shared.specs.declared.fast_path.NotFast.TheVariants as not_fast
 use Rattle.mdl_shared.specs.declared.member.Member.{Member}
-use Rattle.mdl_shared.specs.declared.try_fast.Fast.TheVariants.{Granted}
+use Rattle.mdl_shared.specs.declared.try_fast.Fast.{Fast}
+use Rattle.mdl_shared.specs.declared.try_fast.Fast.TheVariants.{Granted, Obtruded, Contended, Limit}
 use Rattle.mdl_shared.specs.Debts.{but_owing}
 use Rattle.mdl_shared.specs.DeedsDone.{DoesQuietly}
 use Rattle.mdl_shared.specs.FastCalls.{GaveUpFast, GetsNothing, HasFewerFast, HasTriedFast}
@@ -27,56 +28,45 @@ use Rattle.mdl_shared.specs.TicketLists.{KeepsRoom, Room, TicketList}
 use Rattle.mdl_shared.proofs.FastWishing.{quiet-room}
 use Rattle.mdl_shared.proofs.MemberFacts.{fast-held}
 use Rattle.mdl_shared.proofs.Props.{member}
-use Rattle.mdl_shared.proofs.Rooms.{keeps-before}
+use Rattle.mdl_shared.proofs.Rooms.{keeps-before, keeps-equal}
 use Rattle.mdl_shared.proofs.TicketCalls.{release-joins}
 use Rattle.mdl_shared.proofs.WishCalls.{try-granted}
 
 -- ---- a try
 
 -- who wasn't told of the limit has fewer
-pub fewer-seen : (m : Member) (list : TicketList) (place : ℕ) {result : Result ℕ NotFast} → list.fast ≡ m.tickets.fast
-    → (result ≡ Err Limit) ⊎ (length (own_at place list.fast) < most_fast) → (result ≡ Err Limit → HasFewerFast place (view_of m)) → HasFewerFast place (view_of m)
-fewer-seen m list place same (inl limit) never = never limit
-fewer-seen m list place same (inr fewer) never =
-    subst (λ (fast : List SessionTicket). length (own_at place fast) < most_fast) (same ∙ ap (λ (l : Lists). l.fast) m.lists) fewer
+pub fewer-seen : (m : Member) (place : ℕ) {result : Result ℕ NotFast} → (result ≡ Err not_fast.Limit) ⊎ (length (own_at place m.tickets.fast) < most_fast)
+    → (result ≡ Err not_fast.Limit → HasFewerFast place (view_of m)) → HasFewerFast place (view_of m)
+fewer-seen m place (inl limit) never = never limit
+fewer-seen m place (inr fewer) never =
+    subst (λ (fast : List SessionTicket). length (own_at place fast) < most_fast) (ap (λ (l : Lists). l.fast) m.lists) fewer
 
--- before it, room is made in the session's own list, which is this then and tells the tickets that it told
-pub record HasMadeRoom (m : Member) (list : TicketList) : Type 0 where
-  pub slow : list.slow ≡ m.tickets.slow
-  pub fast : list.fast ≡ m.tickets.fast
-  pub more : KeepsRoom 0 m.tickets.room list.room
-
-module _ (m : Member) {list : TicketList} (made : HasMadeRoom m list) {place : ℕ} where
+module _ (m m′ : Member) (place : ℕ) (fewer : HasFewerFast place (view_of m)) where
   -- a ticket was granted
-  pub tried-granted : (m′ : Member) (mode : Mode) (id : ℕ) → HasFewerFast place (view_of m)
-      → wish_fault (kind_known place m.known.known) m.asks mode m.next ≡ None → id ≡ m.next
-      → DoesQuietly place (Gain id mode ∷ []) (record (view_of m) { room = list.room }) (view_of m′) → GrantsAtLast place (Gain id mode) m.seat.me m′.seat.me
-      → is_some (numbered id m′.tickets.fast) ≡ true → KeepsRoom 1 list.room m′.tickets.room → HasTriedFast place mode (Granted id) (view_of m) (view_of m′)
-  tried-granted m′ mode id fewer clear first then last held room =
-      let seen : wish_fault (kind_known place m.seat.me.0.known) m.seat.me.0.asks mode m.seat.me.0.next ≡ None =
-      ap (λ (l : Lists). wish_fault (kind_known place l.known) l.asks mode l.next) (sym m.lists) ∙ clear in
-      let quiet = quiet-room (view_of m) list.room then in (
-        fewer,
-        try-granted (member m) place mode seen (first ∙ ap (λ (l : Lists). l.next) m.lists) quiet.done,
-        quiet,
-        last,
-        ap (λ (l : Lists). is_some (numbered id l.fast)) (sym m′.lists) ∙ held,
-        keeps-before 1 m.tickets.room list.room m′.tickets.room made.more room,
-      )
+  pub tried-granted : (mode : Mode) (id : ℕ) → wish_fault (kind_known place m.seat.me.0.known) m.seat.me.0.asks mode m.seat.me.0.next ≡ None → id ≡ m.next
+      → DoesQuietly place (Gain id mode ∷ []) (view_of m) (view_of m′) → GrantsAtLast place (Gain id mode) m.seat.me m′.seat.me
+      → is_some (numbered id m′.tickets.fast) ≡ true → KeepsRoom 1 m.tickets.room m′.tickets.room → HasTriedFast place mode (Granted id) (view_of m) (view_of m′)
+  tried-granted mode id clear first quiet last held room = (
+    fewer,
+    try-granted (member m) place mode clear (first ∙ ap (λ (l : Lists). l.next) m.lists) quiet.done,
+    quiet,
+    last,
+    ap (λ (l : Lists). is_some (numbered id l.fast)) (sym m′.lists) ∙ held,
+    room,
+  )
 
   -- none was
-  pub tried-nothing : (m′ : Member) → HasFewerFast place (view_of m)
-      → DoesQuietly place [] (record (view_of m) { room = list.room }) (view_of m′) × (m′.tickets ≡ list) → GetsNothing place (view_of m) (view_of m′)
-  tried-nothing m′ fewer missed =
-      let quiet = quiet-room (view_of m) list.room missed.0 in
-      let slow = ap (λ (l : TicketList). l.slow) missed.1 ∙ made.slow in
-      let fast = ap (λ (l : TicketList). l.fast) missed.1 ∙ made.fast in
+  pub tried-nothing : DoesQuietly place [] (view_of m) (view_of m′) × (m′.tickets ≡ m.tickets) → GetsNothing place (view_of m) (view_of m′)
+  tried-nothing missed =
+      let quiet = missed.0 in
       let now = quiet.done.now in
       let me = m.seat.me.0 in
       let lists : lists_seen m′.seat.me.0 ≡ record (lists_seen me) { slow = quiet.done.slow; fast = quiet.done.fast } =
       ap (λ (x : SessionView). lists_seen x.me.0) now in
-      let slows : quiet.done.slow ≡ me.slow = sym (ap (λ (l : Lists). l.slow) (m′.lists ∙ lists)) ∙ slow ∙ ap (λ (l : Lists). l.slow) m.lists in
-      let fasts : quiet.done.fast ≡ me.fast = sym (ap (λ (l : Lists). l.fast) (m′.lists ∙ lists)) ∙ fast ∙ ap (λ (l : Lists). l.fast) m.lists in (
+      let slows : quiet.done.slow ≡ me.slow =
+      sym (ap (λ (l : Lists). l.slow) (m′.lists ∙ lists)) ∙ ap (λ (l : TicketList). l.slow) missed.1 ∙ ap (λ (l : Lists). l.slow) m.lists in
+      let fasts : quiet.done.fast ≡ me.fast =
+      sym (ap (λ (l : Lists). l.fast) (m′.lists ∙ lists)) ∙ ap (λ (l : TicketList). l.fast) missed.1 ∙ ap (λ (l : Lists). l.fast) m.lists in (
         fewer,
         record {
           number = ap (λ (x : SessionView). x.me.0.number) now;
@@ -84,16 +74,40 @@ module _ (m : Member) {list : TicketList} (made : HasMadeRoom m list) {place : �
           sessions = ap (λ (x : SessionView). x.sessions) now;
           lists = lists ∙ (λ i. record (lists_seen me) { slow = slows i; fast = fasts i });
           reads = ap (λ (x : SessionView). x.me.0.reads) now;
-          room = subst (λ (r : Room). KeepsRoom 0 m.tickets.room r) (sym (ap (λ (l : TicketList). l.room) missed.1)) made.more;
+          room = keeps-equal m.tickets.room m′.tickets.room (ap (λ (l : TicketList). l.room) missed.1);
         },
         quiet,
       )
 
 -- none was, and no step was made
-pub tried-limit : (m m′ : Member) {list : TicketList} → HasMadeRoom m list → view_of m′ ≡ record (view_of m) { room = list.room } → StaysSame (view_of m) (view_of m′)
-tried-limit m m′ {list} made same =
-    let room : list.room ≡ m′.tickets.room = sym (ap (λ (x : SessionView). x.room) same) in
-    (same ∙ ap (λ (r : Room). record (view_of m) { room = r }) room, subst (λ (r : Room). KeepsRoom 0 m.tickets.room r) room made.more)
+pub tried-limit : (m m′ : Member) → view_of m′ ≡ view_of m → StaysSame (view_of m) (view_of m′)
+tried-limit m m′ same =
+    let room : m′.tickets.room ≡ m.tickets.room = ap (λ (x : SessionView). x.room) same in
+    (same ∙ ap (λ (r : Room). record (view_of m) { room = r }) (sym room), keeps-equal m.tickets.room m′.tickets.room room)
+
+-- room was made before the try
+module _ (a b : SessionView) (room : Room) (made : KeepsRoom 0 a.room room) (place : ℕ) where
+  nothing-after : GetsNothing place (record a { room = room }) b → GetsNothing place a b
+  nothing-after got =
+      let kept = got.1 in (
+        got.0,
+        record {
+          number = kept.number;
+          table = kept.table;
+          sessions = kept.sessions;
+          lists = kept.lists;
+          reads = kept.reads;
+          room = keeps-before 0 a.room room b.room made kept.room;
+        },
+        quiet-room a room got.2,
+      )
+
+  pub tried-after : (mode : Mode) (fast : Fast) → HasTriedFast place mode fast (record a { room = room }) b → HasTriedFast place mode fast a b
+  tried-after mode (Granted id) tried =
+      (tried.0, tried.1, quiet-room a room tried.2, tried.3, tried.4, keeps-before 1 a.room room b.room made tried.5)
+  tried-after mode (Obtruded word) tried = (nothing-after tried.0, tried.1)
+  tried-after mode (Contended word) tried = (nothing-after tried.0, tried.1)
+  tried-after mode Limit tried = ((tried.0.0, keeps-before 0 a.room room b.room made tried.0.1), tried.1)
 
 -- ---- a release
 

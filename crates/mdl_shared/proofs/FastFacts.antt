@@ -1,6 +1,5 @@
 -- What a session with fast tickets, or one that asks for one, gives the steps of its fast path.
-use Rattle.std.proofs.Common.{◌≡◌, ◌≢◌, ℕ, ◌<◌, ◌==◌, Bool, true, false, List, [], ◌∷◌, filter, map, length, is_some, Option, Some, None, refl, sym, ap, subst, ◌∙◌, arith}
-use Rattle.std.specs.Prelude.{nat_le}
+use Rattle.std.proofs.Common.{◌≡◌, ◌≢◌, ℕ, ◌<◌, ◌==◌, Bool, true, List, [], ◌∷◌, filter, map, length, is_some, Option, Some, None, refl, sym, ap, subst, ◌∙◌, arith}
 use Rattle.std.specs.Option.{option_and_then, unwrap_or}
 use Rattle.std.proofs.lemmas.Bool.{and_parts, eq-eqb, eqb-true, lt-leb}
 use Rattle.mdl_key.specs.declared.mode.Mode.{Mode}
@@ -8,7 +7,6 @@ use Rattle.mdl_key.specs.declared.namespace.Kind.{Kind}
 use Rattle.mdl_key.specs.Words.{is_mode_of}
 use Rattle.mdl_word.specs.Words.{increment_of}
 use Rattle.mdl_book.specs.Tickets.{ticket_of}
-use Rattle.mdl_steps.specs.declared.view.Ask.{Ask}
 use Rattle.mdl_key.specs.declared.known_key.KnownKey.{KnownKey}
 use Rattle.mdl_steps.specs.declared.view.SessionTicket.{SessionTicket}
 use Rattle.mdl_steps.specs.declared.view.LatchRecord.{LatchRecord}
@@ -22,7 +20,7 @@ use Rattle.mdl_steps.proofs.Views.{by_bool}
 use Rattle.mdl_visits.specs.Numbers.{is_no_number, numbered}
 use Rattle.mdl_visits.specs.Visits.{KnowsKind, MayVisit}
 use Rattle.mdl_shared.specs.declared.member.Member.{Member}
-use Rattle.mdl_key.specs.KeyLookups.{kind_known}
+use Rattle.mdl_key.specs.KeyLookups.{is_known, kind_known}
 use Rattle.mdl_shared.specs.Members.{are_counted, increment_at, most_numbers, wish_fault, without_at}
 use Rattle.mdl_shared.specs.Passes.{view_of}
 use Rattle.mdl_shared.specs.SessionViews.{Lists, SessionView}
@@ -46,11 +44,6 @@ kind-counted place mode known one counted = by (kind_known place known) refl cou
 -- a wish for it has no fault where the session waits for nothing and has numbers left
 no-fault : (kind : Kind) (mode : Mode) (next : ℕ) → is_mode_of kind mode ≡ true → next < most_numbers → wish_fault (Some kind) None mode next ≡ None
 no-fault kind mode next fits some = rw fits (rw (lt-leb most_numbers next some) refl)
-
--- nor has one for a mode that the word counts
-pub counted-clear : (kind : Kind) (mode : Mode) (asks : Option Ask) (next one : ℕ) → is_some asks ≡ false → increment_of kind mode ≡ Some one → nat_le most_numbers next ≡ false
-    → wish_fault (Some kind) asks mode next ≡ None
-counted-clear kind mode asks next one idle counts left = rw idle (rw (counted_mode kind mode one counts).1 (rw left refl))
 
 -- ---- a fast ticket is asked for
 
@@ -168,11 +161,26 @@ counted-by o mode counts = some (option_and_then (λ kind. increment_of kind mod
     some None e = absurd (cc)
     some (Some one) e = refl
 
-pub one-of : (m : Member) (t : SessionTicket) → numbered t.number m.tickets.fast ≡ Some t
-    → increment_at t.place t.mode m.known.known ≡ Some (unwrap_or (increment_at t.place t.mode m.known.known) 0)
-one-of m t held =
-    counted-by (kind_known t.place m.known.known) t.mode
-    (counted-found m.known.known t.number m.tickets.fast t held (ap (λ (l : Lists). are_counted l.known l.fast) m.lists ∙ (member m).plain))
+-- that is its weight, where each kind that counts the mode counts it by the weight
+pub by-weight : (place : ℕ) (mode : Mode) (known : List KnownKey) (weight : ℕ) → is_some (increment_at place mode known) ≡ true
+    → ((kind : Kind) (one : ℕ) → increment_of kind mode ≡ Some one → weight ≡ one) → increment_at place mode known ≡ Some weight
+by-weight place mode known weight counts weighs =
+    let one = unwrap_or (increment_at place mode known) 0 in
+    let is = counted-by (kind_known place known) mode counts in
+    let kind = kind-counted place mode known one is in
+    is ∙ ap Some (sym (weighs kind.0 one kind.2))
+
+-- a place where the session has looked up the key has a kind
+pub known-some : (place : ℕ) (known : List KnownKey) → is_known place known ≡ true → is_some (kind_known place known) ≡ true
+known-some place [] is = absurd (cc)
+known-some place (k ∷ ks) is =
+    by_bool (k.place == place)
+    (λ hit. rw hit refl)
+    (λ miss. rw miss (known-some place ks (rw miss at is)))
+
+-- the word counts each fast ticket
+pub fast-counted : (m : Member) (t : SessionTicket) → numbered t.number m.tickets.fast ≡ Some t → is_some (increment_at t.place t.mode m.known.known) ≡ true
+fast-counted m t held = counted-found m.known.known t.number m.tickets.fast t held (ap (λ (l : Lists). are_counted l.known l.fast) m.lists ∙ (member m).plain)
 
 -- what makes those of a place slow
 pub record MayMakeSlow (place : ℕ) (kind : Kind) (s : SessionView) : Type 0 where

@@ -1,6 +1,5 @@
 -- What a session's read with a cache shows, and what the cache keeps then.
-use Rattle.std.proofs.Common.{◌≡◌, ◌⊎◌, ℕ, is_some, map, List, [], ◌∷◌, ◌++◌, Contains, MatchOption, Option, Some, None, if◌then◌else◌, inl, inr, refl, sym, ap, subst, ◌∙◌, arith}
-use Rattle.std.proofs.lemmas.Bool.Decides.{nat_tests}
+use Rattle.std.proofs.Common.{◌≡◌, ◌⊎◌, ℕ, is_some, List, [], ◌∷◌, ◌++◌, Contains, MatchOption, Option, Some, None, if◌then◌else◌, inl, inr, refl, sym, ap, subst, ◌∙◌}
 use Rattle.mdl_defs.specs.declared.definition.Definition.{Definition}
 use Rattle.mdl_defs.specs.declared.versioned_definition.VersionedDefinition.{VersionedDefinition}
 use Rattle.mdl_defs.specs.Caches.{CacheView, Kept, kept_of, looked_at}
@@ -35,12 +34,7 @@ use Rattle.mdl_shared.proofs.MemberFacts.{speaks}
 use Rattle.mdl_shared.proofs.Props.{member}
 use Rattle.mdl_shared.proofs.ReadCalls.{noted-owes}
 use Rattle.mdl_shared.proofs.Rooms.{keeps-before, keeps-same}
-use Rattle.mdl_shared.proofs.VersionCalls.{finds-joins, finds-version, found-does, found-noted, found-now, kept-joins, read-does, read-lists, read-owes, read-searches, read-sessions, read-settles, read-space, read-table, read-told, unkept-joins, version-missed}
-
--- the number of a ticket
-pub numbered-is : (id : ℕ) (tickets : List SessionTicket) (t : SessionTicket) → numbered id tickets ≡ Some t → t.number ≡ id
-numbered-is id [] t its = cc
-numbered-is id (x ∷ xs) t its = grind (arith, nat_tests, numbered-is id xs t)
+use Rattle.mdl_shared.proofs.VersionCalls.{finds-joins, finds-version, found-does, found-noted, found-now, kept-joins, read-does, read-lists, read-owes, read-searches, read-sessions, read-settles, read-space, read-table, read-told, version-missed}
 
 -- what is so of a held ticket, where it is said more weakly
 map-held : (id : ℕ) (own : SessionLocks) (P Q : Held → Type 0) → ((h : Held) → P h → Q h) → OfHeld id own P → OfHeld id own Q
@@ -117,12 +111,6 @@ module _ (s : SessionView) (id : ℕ) (t : SessionTicket) (its : numbered id (ti
         let same : ◌≡◌ {A = Option SessionTicket} (Some t) (Some u) = sym its ∙ ap (λ (l : Lists). numbered id (all_tickets l)) (sym (read-lists reads)) ∙ other in
         cc
 
-    pub miss-joins : (version : ℕ) (definition : Option Definition) → Joins (data_of mid) (Read_definition mid.me.0.number id) (Reads version definition) (data_of s′)
-        → Joins (data_of s) (Read_kept s.me.0.number id) (Reads version definition) (data_of s′)
-    miss-joins version definition joins =
-        kept-joins (data_of s) (data_of s′) s.me.0.number id version definition
-        (subst (λ (a : SessionData). Joins a (Read_definition a.number id) (Reads version definition) (data_of s′)) (read-space reads) joins)
-
     pub miss-latch : (standing : VersionedDefinition) → Shows (Read_definition mid.me.0.number id) (Reads standing.version standing.definition) mid s′
         → ReadsByLatch id t standing mid s′
     miss-latch standing shows =
@@ -154,12 +142,6 @@ module _ (s : SessionView) (id : ℕ) (t : SessionTicket) (its : numbered id (ti
             let none : ◌≡◌ {A = Option SpaceError} None (Some why) = sym clear ∙ ap (λ (l : Lists). holding_fault id (all_tickets l)) (sym (read-lists reads)) ∙ fault in
             cc
         by (inr met) = (met.0, subst (λ (u : SessionTicket). VisitsInVain u.place mid s′) (sym (miss-ticket met.1.0 met.1.1)) met.1.2)
-
-    pub miss-full_joins : Joins (data_of mid) (Read_definition mid.me.0.number id) (Refused OutOfMemory) (data_of s′)
-        → Joins (data_of s) (Read_kept s.me.0.number id) (Refused OutOfMemory) (data_of s′)
-    miss-full_joins joins =
-        unkept-joins (data_of s) (data_of s′) s.me.0.number id
-        (subst (λ (a : SessionData). Joins a (Read_definition a.number id) (Refused OutOfMemory) (data_of s′)) (read-space reads) joins)
 
     pub miss-full_shows : VisitsInVain t.place mid s′ → Shows (Read_definition mid.me.0.number id) (Refused OutOfMemory) mid s′
         → Shows (Read_kept s.me.0.number id) (Refused OutOfMemory) s s′

@@ -238,9 +238,5 @@ module _ {s : SessionView} (is : IsMember s) where
       by None none =
           inr (sym (numbered-interleaved id s.me.0.slow s.me.0.fast differ (inl none) ∙ found-later (λ (u : SessionTicket). u.number == id) s.me.0.slow s.me.0.fast none) ∙ its)
 
-  -- none is both
-  pub slow-alone : (id : ℕ) (t : SessionTicket) → numbered id s.me.0.slow ≡ Some t → numbered id s.me.0.fast ≡ None
-  slow-alone id t its = none-numbered id s.me.0.fast (spared id t its)
-
   pub fast-alone : (id : ℕ) (t : SessionTicket) → numbered id s.me.0.fast ≡ Some t → is_no_number id s.me.0.slow ≡ true
   fast-alone id t its = numbers-apart id t s.me.0.slow s.me.0.fast rising its

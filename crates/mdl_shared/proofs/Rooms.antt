@@ -1,6 +1,6 @@
 -- The room for tickets, from one call of a list to the next.
 use Rattle.std.proofs.Common.{◌≡◌, ℕ, ◌+◌, ◌<◌, ◌≤◌, sym, subst, arith}
-use Rattle.mdl_shared.specs.TicketLists.{HasRoom, HasRoomFor, KeepsRoom, Room}
+use Rattle.mdl_shared.specs.TicketLists.{KeepsRoom, Room}
 
 -- what isn't touched stays
 pub keeps-same : (r : Room) → KeepsRoom 0 r r
@@ -13,12 +13,9 @@ keeps-equal a b same = subst (λ (r : Room). KeepsRoom 0 a r) (sym same) (keeps-
 pub keeps-then : (m n : ℕ) (a b c : Room) → KeepsRoom m a b → KeepsRoom n b c → KeepsRoom (m + n) a c
 keeps-then m n a b c first second = (omega (arith, first.0, second.0), omega (arith, first.1, second.1))
 
--- where the first gained none, or the second
+-- where the first gained none
 pub keeps-before : (n : ℕ) (a b c : Room) → KeepsRoom 0 a b → KeepsRoom n b c → KeepsRoom n a c
 keeps-before n a b c first second = (omega (arith, first.0, second.0), omega (arith, first.1, second.1))
-
-pub keeps-after : (m : ℕ) (a b c : Room) → KeepsRoom m a b → KeepsRoom 0 b c → KeepsRoom m a c
-keeps-after m a b c first second = (omega (arith, first.0, second.0), omega (arith, first.1, second.1))
 
 -- a call that gained none kept no less
 pub keeps-more : (m : ℕ) (a b : Room) → KeepsRoom 0 a b → KeepsRoom m a b
@@ -27,11 +24,3 @@ keeps-more m a b keeps = (omega (arith, keeps.0), keeps.1)
 -- nor did one after which there is more
 pub keeps-freed : (a b : Room) → a.spare < b.spare → a.reach ≤ b.reach → KeepsRoom 0 a b
 keeps-freed a b more reach = (omega (arith, more), reach)
-
--- there is still room for one more
-pub still-has : (place : ℕ) (a b : Room) → KeepsRoom 0 a b → HasRoom place a → HasRoom place b
-still-has place a b keeps has = (omega (arith, keeps.0, has.0), omega (arith, keeps.1, has.1))
-
--- or for so many
-pub still-has-for : (count places : ℕ) (a b : Room) → KeepsRoom 0 a b → HasRoomFor count places a → HasRoomFor count places b
-still-has-for count places a b keeps has = (omega (arith, keeps.0, has.0), omega (arith, keeps.1, has.1))

@@ -9,7 +9,6 @@ use Rattle.mdl_calls.specs.declared.space_error.SpaceError.{SpaceError}
 use Rattle.mdl_calls.specs.Words.{Answer, Call, Draws, IsCause, IsExplained, Numbers, Refused, SessionLocks, Wait, caller, is_answer_of, own_after, told}
 use Rattle.mdl_steps.specs.declared.view.Ask.{Ask}
 use Rattle.mdl_steps.specs.declared.view.SessionTicket.{SessionTicket}
-use Rattle.mdl_defs.specs.declared.reading.Reading.{Reading}
 use Rattle.mdl_calls.specs.Learning.{KeepsSettled}
 use Rattle.mdl_calls.specs.Meetings.{ReadsNothing}
 use Rattle.mdl_key.specs.KeyLookups.{is_known}

@@ -1,10 +1,9 @@
 -- What a session keeps of its own is found in the space that it is as a lock space: its tickets by their numbers, the keys by their places.
-use Rattle.std.proofs.Common.{◌≡◌, ℕ, Bool, true, false, ◌&&◌, ◌||◌, ◌==◌, if◌then◌else◌, List, [], ◌∷◌, map, find, is_some, Option, Some, None, refl, sym, ap, ◌∙◌}
-use Rattle.std.specs.List.{list_all}
+use Rattle.std.proofs.Common.{◌≡◌, ℕ, Bool, true, false, ◌==◌, List, [], ◌∷◌, map, find, is_some, Option, Some, None, refl, sym, ap, ◌∙◌}
 use Rattle.std.specs.Option.{option_map, option_map_or}
 use Rattle.mdl_key.specs.declared.mode.Mode.{Mode}
 use Rattle.mdl_key.specs.declared.namespace.Kind.{Kind}
-use Rattle.mdl_key.specs.Words.{KeyName, is_mode_of, key_eq, kind_of}
+use Rattle.mdl_key.specs.Words.{KeyName, is_mode_of, kind_of}
 use Rattle.mdl_calls.specs.Words.{is_number}
 use Rattle.mdl_key.specs.declared.known_key.KnownKey.{KnownKey}
 use Rattle.mdl_steps.specs.declared.view.SessionTicket.{SessionTicket}
@@ -12,7 +11,7 @@ use Rattle.mdl_session_laws.proofs.KeyLists.{known-some}
 use Rattle.mdl_steps.proofs.Views.{by_bool}
 use Rattle.mdl_visits.specs.Numbers.{numbered}
 use Rattle.mdl_shared.specs.Modes.{is_fit}
-use Rattle.mdl_key.specs.KeyLookups.{are_apart, are_two, is_known, key_known, kind_known, place_known}
+use Rattle.mdl_key.specs.KeyLookups.{is_known, key_known, kind_known}
 use Rattle.mdl_shared.specs.OwnLists.{as_held}
 
 -- what is found among the images of a list is the image of what is found in it

@@ -1,9 +1,8 @@
 -- A session's step that reads the version of a place without the latch: the session knows no more than before, or it notes the version of what it read.
-use Rattle.std.proofs.Common.{◌≡◌, ℕ, true, [], ◌∷◌, ◌++◌, map, Option, Some, inl, inr, refl, sym, ap, ◌∙◌}
+use Rattle.std.proofs.Common.{◌≡◌, ℕ, true, [], ◌∷◌, ◌++◌, map, Option, Some, inr, refl, sym, ap, ◌∙◌}
 use Rattle.mdl_defs.specs.declared.definition.Definition.{Definition}
 use Rattle.mdl_defs.specs.declared.versioned_definition.VersionedDefinition.{VersionedDefinition}
-use Rattle.mdl_calls.specs.declared.space_error.SpaceError.TheVariants.{OutOfMemory}
-use Rattle.mdl_calls.specs.Words.{Read_definition, Read_kept, Reads, Refused}
+use Rattle.mdl_calls.specs.Words.{Read_definition, Read_kept, Reads}
 use Rattle.mdl_steps.specs.declared.step_kind.StepKind.TheVariants as step
 use Rattle.mdl_steps.specs.declared.view.StepRecord.{StepRecord}
 use Rattle.mdl_steps.specs.declared.view.SessionTicket.{SessionTicket}
@@ -86,9 +85,6 @@ module _ {place version : ℕ} {a b : SessionView} (reads : MissesVersion place 
 
   pub read-searches : b.me.0.searches ≡ a.me.0.searches
   read-searches = ap (λ (x : SessionView). x.me.0.searches) read-now
-
-  pub read-number : b.me.0.number ≡ a.me.0.number
-  read-number = ap (λ (x : SessionView). x.me.0.number) read-now
 
   pub read-log : b.me.0.log ≡ a.me.0.log ++ met-at place version a ∷ []
   read-log = ap (λ (x : SessionView). x.me.0.log) read-now
@@ -208,23 +204,5 @@ kept-joins a b who id version definition joins = record {
   told = joins.told;
   settled = joins.settled;
   reads = joins.reads;
-  truly = joins.truly;
-}
-
-pub unkept-joins : (a b : SessionData) (who id : ℕ) → Joins a (Read_definition who id) (Refused OutOfMemory) b → Joins a (Read_kept who id) (Refused OutOfMemory) b
-unkept-joins a b who id joins = record {
-  mine = joins.mine;
-  has = refl;
-  fits = refl;
-  number = joins.number;
-  own = joins.own;
-  numbers = joins.numbers;
-  explained = joins.explained;
-  gained = joins.gained;
-  learns = joins.learns;
-  agreed = joins.agreed;
-  told = joins.told;
-  settled = joins.settled;
-  reads = inl joins.reads;
   truly = joins.truly;
 }

@@ -13,7 +13,7 @@ use Rattle.mdl_shared.specs.declared.member.Member.{Member}
 use Rattle.mdl_shared.specs.DeedsDone.{DoesQuietly}
 use Rattle.mdl_shared.specs.FastWishes.{BecomesSlow}
 use Rattle.mdl_key.specs.KeyLookups.{kind_known}
-use Rattle.mdl_shared.specs.Members.{most_numbers, wish_fault}
+use Rattle.mdl_shared.specs.Members.{increment_at, most_numbers, wish_fault}
 use Rattle.mdl_shared.specs.Modes.{clone_fault, merge_fault}
 use Rattle.mdl_shared.specs.Passes.{view_of}
 use Rattle.mdl_shared.specs.SessionViews.{SessionView}
@@ -29,6 +29,13 @@ pub record MayTryFastFirst (place : ℕ) (kind : Kind) (m : Member) : Type 0 whe
   pub idle : m.asks ≡ None
   pub known : kind_known place m.known.known ≡ Some kind
   pub number : m.next < most_numbers
+
+-- the session has no wait, a fast ticket in the mode would add this much to the word of the place, there is room for the ticket, and its number isn't used up
+pub record MayGainFast (place : ℕ) (mode : Mode) (one : ℕ) (m : Member) : Type 0 where
+  pub idle : m.asks ≡ None
+  pub counted : increment_at place mode m.known.known ≡ Some one
+  pub number : m.next < most_numbers
+  pub room : HasRoom place m.tickets.room
 
 -- it wasn't granted: the fast path was closed to the request for the mode, which the session found first, and then it made its fast tickets slow. Its list has
 -- room for the ticket

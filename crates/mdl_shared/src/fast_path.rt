@@ -4,7 +4,9 @@
 //!
 //! After MySQL 5.7, sql/mdl.cc: `MDL_context::try_acquire_lock_impl`, `MDL_context::release_lock` and
 //! `MDL_context::materialize_fast_path_locks`.
-ghost use Rattle.std.specs.Prelude.{◌≡◌, ◌⊎◌, Err, ◌<◌, ◌≤◌, ◌∷◌, [], None, Some, length, true, is_some, IfErr, IfOk, OnErr, OnOk};
+ghost use Rattle.std.specs.Prelude.{ℕ, ◌≡◌, ◌⊎◌, Err, ◌<◌, ◌≤◌, ◌∷◌, [], None, Some, length, true, is_some, IfErr, IfOk, OnErr, OnOk};
+ghost use Rattle.mdl_key.specs.declared.namespace.Kind.{Kind};
+ghost use Rattle.mdl_word.specs.Words.{increment_of};
 ghost use Rattle.mdl_steps.specs.declared.deed.Deed.TheVariants.{Gain, Lose};
 ghost use Rattle.mdl_steps.specs.Cells.{own_at};
 ghost use Rattle.mdl_steps.specs.FastPlays.{but_at};
@@ -15,13 +17,14 @@ ghost use Rattle.mdl_visits.specs.Visits.{StaysOn, VisitsOnce};
 ghost use Rattle.mdl_shared.specs.declared.fast_path.NotFast.TheVariants.{Limit};
 ghost use Rattle.mdl_shared.specs.Debts.{but_owing};
 ghost use Rattle.mdl_shared.specs.DeedsDone.{DoesQuietly};
+ghost use Rattle.mdl_shared.specs.LatchCalls.{MayGainFast};
 ghost use Rattle.mdl_shared.specs.FastDeeds.{AreSameOrSlow, AreSlowBefore, HasNoFast};
-ghost use Rattle.mdl_shared.specs.Members.{increment_at, most_numbers};
+ghost use Rattle.mdl_shared.specs.Members.{increment_at};
 ghost use Rattle.mdl_shared.specs.Passes.{view_of};
 ghost use Rattle.mdl_shared.specs.Steps.{ShowsStep};
 ghost use Rattle.mdl_shared.specs.WishSteps.{AllMadeSlow, LacksRoomForFast, MakesSlow, SlowsAll, StopsSlowing};
 ghost use Rattle.mdl_shared.specs.LastFast.{EndsInFast};
-ghost use Rattle.mdl_shared.specs.TicketLists.{HasRoom, KeepsRoom};
+ghost use Rattle.mdl_shared.specs.TicketLists.{KeepsRoom};
 
 use crate::member::Member;
 use crate::tickets::{count_first, first_place};
@@ -52,17 +55,14 @@ impl Member {
     /// memory.
     ///
     /// `one` is what the ticket adds to the word of the place.
-    #[inline(never)]
+    #[inline(always)]
     pub(crate) fn gain_fast(
         &mut self,
         place: usize,
         mode: Mode,
         one: u64,
     ) -> Result<TicketId, NotFast>
-        requires idle { self.old.asks ≡ None }
-        requires counted { increment_at place mode self.old.known.known ≡ Some one }
-        requires number { self.old.next < most_numbers }
-        requires room { HasRoom place self.old.tickets.room }
+        requires may { MayGainFast place mode one self.old }
         ensures granted { IfOk result (λ id. (id ≡ self.old.next)
             × DoesQuietly place (Gain id mode ∷ []) (view_of self.old) (view_of self.new)
             × GrantsAtLast place (Gain id mode) self.old.seat.me self.new.seat.me
@@ -201,13 +201,23 @@ impl Member {
     }
 
     // What a fast ticket adds to the word of its place.
+    #[inline(always)]
     fn increment(&self, held: SessionTicket) -> u64
         requires held { numbered held.number self.now.tickets.fast ≡ Some held }
         ensures { increment_at held.place held.mode self.now.known.known ≡ Some result }
     {
-        match self.known.kind_at(held.place) {
-            Some(kind) => Word::increment(kind, held.mode).unwrap_or(0),
-            None => 0,
-        }
+        weight(held.mode)
+    }
+}
+
+/// What a fast ticket in a mode adds to the word of its place, whatever kind the lock is: no mode is counted in two classes.
+pub(crate) fn weight(mode: Mode) -> u64
+    ensures { (kind : Kind) (one : ℕ) → increment_of kind mode ≡ Some one → result ≡ one }
+{
+    match mode {
+        Mode::IX | Mode::S | Mode::SH => 1,
+        Mode::SR => 1 << 20,
+        Mode::SW | Mode::SWLP => 1 << 40,
+        _ => 0,
     }
 }

@@ -1,7 +1,7 @@
 //! Releases a fast ticket without the latch of its place.
 //!
 //! After MySQL 5.7, sql/mdl.cc: the fast path of `MDL_context::release_lock`.
-ghost use Rattle.std.specs.Prelude.{◌≡◌, None, IfErr, IfOk};
+ghost use Rattle.std.specs.Prelude.{◌≡◌, None, IfErr, IfNone, IfOk, IfSome};
 ghost use Rattle.mdl_visits.specs.Numbers.{numbered};
 ghost use Rattle.mdl_visits.specs.Visits.{StaysOn};
 ghost use Rattle.mdl_calls.specs.declared.space_error.SpaceError.TheVariants.{NotHeld};
@@ -27,24 +27,26 @@ impl<R> Session<R> {
         ensures refused { IfErr result (λ why. (why ≡ NotHeld) × (numbered id self.old.me.0.fast ≡ None) × (self.new ≡ self.old)) }
         ensures stays { StaysOn self.old.me self.new.me }
     {
-        let Some(held) = self.member.tickets.last_fast(id) else {
-            return self.release_earlier(id);
-        };
-        let owes = self.member.lose_last(held);
-        Ok(Released { owes })
+        if let Some(held) = self.member.tickets.last_fast(id) {
+            let owes = self.member.lose_last(held);
+            return Ok(Released { owes });
+        }
+        match self.release_earlier(id) {
+            Some(owes) => Ok(Released { owes }),
+            None => Err(SpaceError::NotHeld),
+        }
     }
 
-    // The same for a ticket that may be before others. It is apart so that the release of the last one calls no function.
+    // The same for a ticket that may be before others, if there is one with this number. Returns whether the session owes its place a
+    // reschedule. It is apart so that the release of the last one calls no function.
     #[inline(never)]
-    fn release_earlier(&mut self, id: TicketId) -> Result<Released, SpaceError>
-        ensures released { IfOk result (λ released. GaveUpFast id released.owes self.old self.new) }
-        ensures refused { IfErr result (λ why. (why ≡ NotHeld) × (numbered id self.old.me.0.fast ≡ None) × (self.new ≡ self.old)) }
+    fn release_earlier(&mut self, id: TicketId) -> Option<bool>
+        ensures released { IfSome result (λ owes. GaveUpFast id owes self.old self.new) }
+        ensures refused { IfNone result ((numbered id self.old.me.0.fast ≡ None) × (self.new ≡ self.old)) }
         ensures stays { StaysOn self.old.me self.new.me }
     {
-        let Some(held) = self.member.tickets.get_fast(id) else {
-            return Err(SpaceError::NotHeld);
-        };
+        let held = self.member.tickets.get_fast(id)?;
         let owes = self.member.lose_fast(held);
-        Ok(Released { owes })
+        Some(owes)
     }
 }

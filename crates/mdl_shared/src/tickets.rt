@@ -132,8 +132,9 @@ impl Tickets {
         Some(own_of(&self.places, last))
     }
 
-    /// Returns the number of fast tickets at a place.
+    /// Returns the number of fast tickets at a place that the list reaches.
     pub(crate) fn fast_at(&self, place: usize) -> usize
+        requires reached { place < self.now.room.reach }
         ensures { result ≡ length (own_at place self.now.fast) }
     {
         fast_counted(&self.places, place)
@@ -208,14 +209,23 @@ impl Tickets {
         ensures room { OnOk result (HasRoom place self.new.room) }
         ensures lacked { OnErr result (HasRoom place self.old.room → ⊥) }
     {
-        if place < self.places.len() && self.gained.len() < self.gained.capacity() {
+        if self.has_room(place) {
             return Ok(());
         }
         self.reserve_many(1, place + 1)
     }
 
+    /// Whether there is room for one more ticket at a place.
+    pub(crate) fn has_room(&self, place: usize) -> bool
+        ensures room { result ≡ true → HasRoom place self.now.room }
+        ensures none { result ≡ false → HasRoom place self.now.room → ⊥ }
+    {
+        place < self.places.len() && self.gained.len() < self.gained.capacity()
+    }
+
     /// Makes room for `count` more tickets, at places below `places`. It isn't inlined, so that [`Tickets::reserve`] is, for when there is
     /// room.
+    #[cold]
     #[inline(never)]
     pub(crate) fn reserve_many(&mut self, count: usize, places: usize) -> Result<(), AllocError>
         requires { places ≤ 65536 }
@@ -523,9 +533,10 @@ fn first_elsewhere(tickets: &[SessionTicket], place: usize) -> Option<usize>
 
 // How many fast tickets are counted at a place.
 fn fast_counted(places: &[OfPlace], place: usize) -> usize
+    requires inside { place < length places.now }
     ensures { result ≡ fast_counted_at place places.now }
 {
-    places.get(place).map_or(0, |here| here.fast)
+    places[place].fast
 }
 
 // The version that is noted at a place.

@@ -1,15 +1,17 @@
 //! Tries to get a ticket without the latch of its place.
 //!
 //! After MySQL 5.7, sql/mdl.cc: the fast path of `MDL_context::try_acquire_lock_impl`.
-ghost use Rattle.std.specs.Prelude.{◌≡◌, MatchResult, None, Some, true, IfErr, IfOk};
+ghost use Rattle.std.specs.Prelude.{◌≡◌, ℕ, MatchResult, None, Some, true, IfErr, IfOk};
 ghost use Rattle.mdl_visits.specs.Visits.{StaysOn};
 ghost use Rattle.mdl_shared.specs.FastCalls.{HasTriedFast, RefusesFast, fast_fault};
 ghost use Rattle.mdl_key.specs.KeyLookups.{is_known, kind_known};
+ghost use Rattle.mdl_shared.specs.LatchCalls.{MayGainFast};
 ghost use Rattle.mdl_shared.specs.Members.{increment_at, wish_fault};
+ghost use Rattle.mdl_shared.specs.Passes.{view_of};
 ghost use Rattle.mdl_shared.specs.SessionViews.{data_of, lists_seen};
 
 use crate::Session;
-use crate::fast_path::NotFast;
+use crate::fast_path::{NotFast, weight};
 use crate::holdings::MOST_NUMBERS;
 use crate::member::Member;
 use mdl_calls::{Place, SpaceError, TicketId};
@@ -43,30 +45,27 @@ impl<R> Session<R> {
     {
         let place = place as usize;
         let one = self.member.fast_wished(place, mode)?;
+        if self.member.tickets.has_room(place) {
+            return Ok(self.member.try_with_room(place, mode, one));
+        }
         if self.member.tickets.reserve(place).is_err() {
             return Err(SpaceError::OutOfMemory);
         }
-        match self.member.gain_fast(place, mode, one) {
-            Ok(number) => Ok(Fast::Granted(number)),
-            Err(NotFast::Obtruded(word)) => Ok(Fast::Obtruded(word)),
-            Err(NotFast::Contended(word)) => Ok(Fast::Contended(word)),
-            Err(NotFast::Limit) => Ok(Fast::Limit),
-        }
+        Ok(self.member.try_reserved(place, mode))
     }
 }
 
 impl Member {
     // What a ticket in a mode adds to the word of a place, if the session may request it.
     fn fast_wished(&self, place: usize, mode: Mode) -> Result<u64, SpaceError>
+        requires known { is_known place self.now.known.known ≡ true }
         ensures { MatchResult result
             (λ one. (increment_at place mode self.now.known.known ≡ Some one)
             × (wish_fault (kind_known place self.now.known.known) self.now.asks mode self.now.next ≡ None)
             × (fast_fault place mode (lists_seen self.now.seat.me.0) ≡ None))
             (λ why. fast_fault place mode (lists_seen self.now.seat.me.0) ≡ Some why) }
     {
-        let Some(kind) = self.known.kind_at(place) else {
-            return Err(SpaceError::NoPlace);
-        };
+        let kind = self.known.kind_at(place).unwrap();
         if self.asks.is_some() {
             return Err(SpaceError::AlreadyWaiting);
         }
@@ -77,5 +76,31 @@ impl Member {
             return Err(SpaceError::CounterFull);
         }
         Ok(one)
+    }
+
+    // Tries to get a fast ticket, for which there is room.
+    #[inline(always)]
+    fn try_with_room(&mut self, place: usize, mode: Mode, one: u64) -> Fast
+        requires may { MayGainFast place mode one self.old }
+        ensures tried { HasTriedFast place mode result (view_of self.old) (view_of self.new) }
+        ensures stays { StaysOn self.old.seat.me self.new.seat.me }
+    {
+        match self.gain_fast(place, mode, one) {
+            Ok(number) => Fast::Granted(number),
+            Err(NotFast::Obtruded(word)) => Fast::Obtruded(word),
+            Err(NotFast::Contended(word)) => Fast::Contended(word),
+            Err(NotFast::Limit) => Fast::Limit,
+        }
+    }
+
+    // The same where the room was made just now. It is apart, and is passed little, so that a try that finds room calls no function.
+    #[cold]
+    #[inline(never)]
+    fn try_reserved(&mut self, place: usize, mode: Mode) -> Fast
+        requires may { (one : ℕ) × MayGainFast place mode one self.old }
+        ensures tried { HasTriedFast place mode result (view_of self.old) (view_of self.new) }
+        ensures stays { StaysOn self.old.seat.me self.new.seat.me }
+    {
+        self.try_with_room(place, mode, weight(mode))
     }
 }

@@ -261,25 +261,6 @@ interleaved-cons t slow [] above = refl
 interleaved-cons t slow (f ∷ fast) above =
     ap (λ xs. interleaved xs fast) (inserted-after f t slow (let less = above.0 in omega arith)) ∙ interleaved-cons t (inserted f slow) fast above.1
 
--- where the numbers of the one list after the other rise, that is how they are put together
-pub interleaved-risen : (slow fast : List SessionTicket) → Rising (slow ++ fast) → interleaved slow fast ≡ slow ++ fast
-interleaved-risen slow [] rising = sym (append-nil slow)
-interleaved-risen slow (f ∷ fast) rising =
-    ap (λ xs. interleaved xs fast) (inserted-last f slow (front slow rising))
-    ∙ interleaved-risen (slow ++ f ∷ []) fast (subst Rising (sym (append_assoc slow (f ∷ []) fast)) rising)
-    ∙ append_assoc slow (f ∷ []) fast
-  where
-    middle : (P : SessionTicket → Type 0) (us : List SessionTicket) → Each P (us ++ f ∷ fast) → P f
-    middle P [] all = all.0
-    middle P (u ∷ us) all = middle P us all.1
-
-    front : (us : List SessionTicket) → Rising (us ++ f ∷ fast) → Each (λ (u : SessionTicket). u.number < f.number) us
-    front [] rises = tt
-    front (u ∷ us) rises = (middle (λ (v : SessionTicket). u.number < v.number) us rises.0, front us rises.1)
-
-pub interleaved-fast_alone : (fast : List SessionTicket) → Rising fast → interleaved [] fast ≡ fast
-interleaved-fast_alone fast rising = interleaved-risen [] fast rising
-
 -- ---- changed and filtered
 
 -- tickets that are changed, but for their numbers
@@ -341,28 +322,6 @@ rising-uninterleaved slow (f ∷ fast) rising =
         let rest = apart gs others.1 in
         (((λ e. here.0 (sym e)), rest.0), (here.1, rest.1))
 
-rising-inserted : (t : SessionTicket) (us : List SessionTicket) → Rising us → IsOther t us → Rising (inserted t us)
-rising-inserted t [] rising others = (tt, tt)
-rising-inserted t (u ∷ us) rising others = by_order t.number u.number
-    (λ below. subst Rising (sym (inserted-before t u us below)) ((below, above_all t u us below rising.0), rising))
-    (λ above. subst Rising (sym (inserted-after t u us above))
-    (each-inserted (λ (x : SessionTicket). u.number < x.number) t us (let differs = others.0 in omega arith) rising.0, rising-inserted t us rising.1 others.1))
-
--- and the other way round
-pub rising-interleaved : (slow fast : List SessionTicket) → Rising slow → Differ fast → AreOthers fast slow → Rising (interleaved slow fast)
-rising-interleaved slow [] rising differ others = rising
-rising-interleaved slow (f ∷ fast) rising differ others =
-    rising-interleaved (inserted f slow) fast (rising-inserted f slow rising others.0) differ.1 (apart fast differ.0 others.1)
-  where
-    apart : (gs : List SessionTicket) → IsOther f gs → AreOthers gs slow → AreOthers gs (inserted f slow)
-    apart [] own rest = tt
-    apart (g ∷ gs) own rest = (each-inserted (λ (u : SessionTicket). u.number ≢ g.number) f slow (λ e. own.0 (sym e)) rest.0, apart gs own.1 rest.1)
-
--- numbers that rise differ
-pub rising-differ : (ts : List SessionTicket) → Rising ts → Differ ts
-rising-differ [] rising = tt
-rising-differ (t ∷ ts) rising = (above_other t ts rising.0, rising-differ ts rising.1)
-
 -- those that a filter keeps rise
 pub rising-filtered : (p : SessionTicket → Bool) (ts : List SessionTicket) → Rising ts → Rising (filter p ts)
 rising-filtered p [] rising = tt
@@ -382,18 +341,6 @@ filter-interleaved p slow (f ∷ fast) rising =
     slows = (rising-uninterleaved slow (f ∷ fast) rising).0
 
 -- ---- parted and put together
-
--- a list whose numbers rise is that of those that pass a test among those that don't
-pub interleaved-parted : (p : SessionTicket → Bool) (ts : List SessionTicket) → Rising ts → interleaved (filter (λ t. not (p t)) ts) (filter p ts) ≡ ts
-interleaved-parted p [] rising = refl
-interleaved-parted p (t ∷ ts) rising =
-    let fast : List SessionTicket = filter p ts in
-    let slow : List SessionTicket = filter (λ u. not (p u)) ts in
-    let above = λ (q : SessionTicket → Bool). each-filtered (λ (u : SessionTicket). t.number < u.number) q ts rising.0 in
-    let first : interleaved (t ∷ slow) fast ≡ t ∷ ts = interleaved-cons t slow fast (above p) ∙ ap (λ xs. t ∷ xs) (interleaved-parted p ts rising.1) in
-    by_bool (p t)
-    (λ is. rw is (ap (λ xs. interleaved xs fast) (inserted-first t slow (above (λ u. not (p u)))) ∙ first))
-    (λ isnt. rw isnt first)
 
 -- two tickets with different numbers may be put among others in either order
 inserted-inserted : (t u : SessionTicket) (us : List SessionTicket) → u.number ≢ t.number → inserted t (inserted u us) ≡ inserted u (inserted t us)

@@ -2,8 +2,8 @@
 ghost use Rattle.std.specs.Prelude.{◌≡◌, nat_lt, length, slice_get, OnOk, OnErr};
 ghost use Rattle.std.specs.Option.{ok_or, option_map};
 ghost use Rattle.mdl_key.specs.Refusals.{Refuses};
-ghost use Rattle.mdl_book.specs.Books.{full_fault, ticket_count, enqueueing, admitting, admitting_by_index, cancelling, is_ready, next_grantable};
-ghost use Rattle.mdl_book.specs.Tickets.{ticket_of, ticket_id, with_index};
+ghost use Rattle.mdl_book.specs.Books.{full_fault, ticket_count, enqueueing, admitting_by_index, cancelling, is_ready, next_grantable};
+ghost use Rattle.mdl_book.specs.Tickets.{ticket_of, with_index};
 ghost use Rattle.mdl_steps.specs.SeatStates.{HoldsBook, OfBook};
 ghost use Rattle.mdl_steps.specs.Seats.{written};
 
@@ -24,23 +24,8 @@ impl TableSeat {
         !book.waiting().is_empty()
     }
 
-    /// Returns the session and number of the first waiting ticket of the book in hand that can be granted, among those whose sessions
-    /// are in `unsettled`. `word` is the place's word. Nothing changes.
-    pub fn next_grantable(
-        &mut self,
-        latch: &Latched,
-        word: Word,
-        unsettled: &Sessions,
-    ) -> Option<(u16, u64)>
-        requires carried { HoldsBook latch.now.place self.old }
-        ensures same { self.new ≡ self.old }
-        ensures told { OfBook latch.now.place self.old (λ book. result ≡ option_map ticket_id (next_grantable word.0 unsettled.now book)) }
-    {
-        let book = book_in_hand(&mut self.seat, &self.table.shared, latch.place);
-        book.next_grantable(word, unsettled)
-    }
-
-    /// Returns that ticket after its index in the waiting list. Nothing changes.
+    /// Returns the first waiting ticket of the book in hand that can be granted, among those whose sessions are in `unsettled`, after its
+    /// index in the waiting list. `word` is the place's word. Nothing changes.
     pub fn next_grantable_at(
         &mut self,
         latch: &Latched,
@@ -71,24 +56,8 @@ impl TableSeat {
         book.enqueue(ticket)
     }
 
-    /// Moves a waiting ticket of a session to the end of the granted list of the book in hand, and returns it. [`TableSeat::grant_wait`]
+    /// Moves the waiting ticket at an index of the book in hand to the end of the granted list, and returns it. [`TableSeat::grant_wait`]
     /// grants its wait. It takes no memory.
-    pub fn write_admission(
-        &mut self,
-        latch: &Latched,
-        session: u16,
-        number: u64,
-    ) -> Result<Ticket, BookError>
-        requires carried { HoldsBook latch.now.place self.old }
-        ensures written { OfBook latch.now.place self.old (λ book. OnOk result (self.new ≡ record self.old { me = written latch.now.place (admitting session number book) self.old.me })) }
-        ensures unchanged { OnErr result (self.new ≡ self.old) }
-        ensures refused { OfBook latch.now.place self.old (λ book. result ≡ ok_or (ticket_of session number book.waiting) BookError.NotHere) }
-    {
-        let book = book_in_hand(&mut self.seat, &self.table.shared, latch.place);
-        book.admit(session, number)
-    }
-
-    /// The same for the waiting ticket at an index, which isn't searched for.
     pub fn write_admission_at(&mut self, latch: &Latched, index: usize) -> Result<Ticket, BookError>
         requires carried { HoldsBook latch.now.place self.old }
         ensures written { OfBook latch.now.place self.old (λ book. OnOk result (self.new ≡ record self.old { me = written latch.now.place (admitting_by_index index book) self.old.me })) }

@@ -39,9 +39,6 @@ abbrev first_slot : Slot → List (ℕ × Slot) → Slot
 first_slot else [] = else
 first_slot else (x ∷ xs) = x.1
 
-same_keys_record : (k g : Keys) → Some k ≡ Some g → k ≡ g
-same_keys_record k g e = cc
-
 module _ (s t : State Slot View) (r : Rule s) (r′ : Rule t) (id : ℕ) (m m′ : Mine) (st : Step Slot) (left : ℕ) (act : Act Slot) (seat : get_elem? s.views id ≡ some m.0)
     (moves : t ≡ stepped s st.word left id m.1 m′.0 act) (size : st.slots ≡ length s.homes) (valid : Valid s.homes m.1 act) (carried : m′.1 ≡ carried_after m.1 act) where
   -- the same keys have the same places, or one more has the next one

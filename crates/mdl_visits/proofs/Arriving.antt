@@ -1,28 +1,30 @@
 -- A session that came to a place has its latch, and does its deeds there.
-use Rattle.std.proofs.Common.{Bool, List, Some, [], ap, false, inl, inr, refl, subst, sym, true, ℕ, ◌||◌, ◌∙◌, ◌≡◌}
-use Rattle.std.specs.Prelude.{◌⊎◌, ◌≤◌, is_some}
+use Rattle.std.proofs.Common.{Bool, List, Some, [], ◌∷◌, ◌++◌, ap, append_assoc, false, inl, inr, refl, subst, sym, true, ℕ, ◌||◌, ◌∙◌, ◌≡◌}
+use Rattle.std.specs.Prelude.{Option, ◌⊎◌, ◌≤◌, is_some}
 use Rattle.mdl_book.specs.declared.book_error.BookError.{BookError}
 use Rattle.mdl_book.specs.declared.book_error.BookError.TheVariants as fault
 use Rattle.mdl_book.specs.declared.book_view.BookView.{BookView}
 use Rattle.mdl_book.specs.Books.{ticket_count}
 use Rattle.mdl_book.specs.Tickets.{ticket_of}
 use Rattle.mdl_steps.specs.declared.deed.Deed.{Deed}
+use Rattle.mdl_steps.specs.declared.step_kind.StepKind.TheVariants.{MissLatch}
+use Rattle.mdl_steps.specs.declared.view.Keys.{Keys}
 use Rattle.mdl_steps.specs.declared.view.LatchRecord.{LatchRecord}
 use Rattle.mdl_steps.specs.declared.view.StepRecord.{StepRecord}
 use Rattle.mdl_steps.specs.Cells.{held_at}
 use Rattle.mdl_steps.specs.Deeds.{KnowsPlace, MayDo, NotWaited, all_booked, frees}
-use Rattle.mdl_steps.specs.Layout.{lock_word}
-use Rattle.mdl_steps.specs.Plays.{IsFresh, Mine}
+use Rattle.mdl_steps.specs.Layout.{latch_word, lock_word}
+use Rattle.mdl_steps.specs.Plays.{IsFresh, Mine, latched, missed_latch}
 use Rattle.mdl_steps.specs.Rule.{Flagged}
 use Rattle.mdl_steps.specs.SeatStates.{AtItsTable, SeatState}
-use Rattle.mdl_steps.specs.Seats.{Holds, IsPlace, written}
+use Rattle.mdl_steps.specs.Seats.{Holds, IsPlace, IsRising, written}
 use Rattle.mdl_steps.proofs.Hands.{holds_written}
 use Rattle.mdl_visits.specs.Leavings.{DidUnder, DoesToOwn, HasWorked, MeetsOwn}
-use Rattle.mdl_visits.specs.Visits.{Arrives, CameTo, HasStep, IsInside, IsStepOf, LacksRoom, MayVisit, StaysOn, StaysWithin, TakesLatch, VisitsOnce}
+use Rattle.mdl_visits.specs.Visits.{AllQuiet, Arrives, CameTo, HasStep, IsInside, IsStepOf, LacksRoom, MayVisit, StaysOn, StaysWithin, TakesLatch, VisitsOnce, and_made}
 use Rattle.mdl_visits.proofs.Leaving.{step_later}
 use Rattle.mdl_visits.proofs.Seats.{mine, place_there, table_of}
-use Rattle.mdl_visits.proofs.Visiting.{inside_written}
-use Rattle.mdl_visits.proofs.Within.{visit_after, within_same, within_then, within_written}
+use Rattle.mdl_visits.proofs.Visiting.{Lingers, fresh_before, inside_at, inside_taken, inside_written, stays_taken}
+use Rattle.mdl_visits.proofs.Within.{plain, visit_after, within_one, within_same, within_taken, within_then, within_written}
 
 -- by what the wait for the latch promises
 pub arrived : (place : ℕ) (s : SeatState) → MayVisit place s → (q : ℕ) (c : SeatState) → q ≡ place → (h : LatchRecord) → IsFresh place h s.me → Holds place h h.book c.me
@@ -37,6 +39,68 @@ arrived place s may q c at h fresh holds inside stays taken within = record {
   taken = taken;
   within = within;
 }
+
+-- it took the latch after steps that only met something
+pub taken_after : (place : ℕ) (s a : SeatState) → MayVisit place s → a.table ≡ s.table → Lingers s.me a.me → (q : ℕ) (c : SeatState) → q ≡ place → (h : LatchRecord) → IsFresh place h a.me
+    → Holds place h h.book c.me → c ≡ record a { me = latched place h a.me } → Arrives place s q c
+taken_after place s a may table steps q c at h later holds is =
+    let now : c.me ≡ latched place h (and_made steps.0 s.me) = mine is ∙ ap (latched place h) steps.1 in
+    let fresh = fresh_before place h s.me a.me (steps.0, steps.1, steps.3) later in
+    arrived place s may q c at h fresh holds
+    (table_of is ∙ table, inside_taken place h s.me c.me steps.0 may.rising fresh.here now steps.3)
+    (stays_taken place h s.me c.me steps.0 now steps.4)
+    (h, fresh, holds, (steps.0, now, steps.2, steps.3))
+    (within_taken false s.me c.me place h steps.0 now steps.2 steps.4)
+
+-- it found the latch taken before
+module _ (place found : ℕ) (s a : SeatState) (missed : a ≡ record s { me = missed_latch place found s.me }) where
+  pub may_still : MayVisit place s → MayVisit place a
+  may_still may = record { is_place = place_there place (table_of missed) may.is_place; rising = subst (IsRising place) (sym (mine missed)) may.rising }
+
+  abbrev miss : StepRecord
+  miss = record { kind = MissLatch; deeds = []; word = latch_word place; found = found; held = s.me.0.latches; directory = s.me.0.directory }
+
+  before : (made : List StepRecord) → a.me.0.log ++ made ≡ s.me.0.log ++ miss ∷ made
+  before made = ap (λ (x : Mine). x.0.log ++ made) (mine missed) ∙ append_assoc s.me.0.log (miss ∷ []) made
+
+  inside_before : (q : ℕ) (m : Mine) → IsInside q a.me m → IsInside q s.me m
+  inside_before q m inside = record {
+    latches = inside.latches;
+    made = miss ∷ inside.made;
+    book = inside.book;
+    now = inside.now ∙ ap (λ (x : Mine). inside_at q inside.latches inside.book x (x.0.log ++ inside.made)) (mine missed)
+        ∙ (λ i. inside_at q inside.latches inside.book s.me (append_assoc s.me.0.log (miss ∷ []) inside.made i));
+    others = inside.others ∙ ap (λ (x : Mine). x.0.latches) (mine missed);
+    did = inside.did;
+  }
+
+  pub arrives_later : (q : ℕ) (c : SeatState) → Arrives place a q c → Arrives place s q c
+  arrives_later q c later =
+      let stays = later.came.2 in
+      let took = later.taken in
+      let fresh : (h : LatchRecord) → IsFresh place h a.me → IsFresh place h s.me = λ h. fresh_before place h s.me a.me (miss ∷ [], mine missed, refl) in
+      record {
+        at = later.at;
+        is_place = later.is_place;
+        latch = later.latch;
+        fresh = fresh later.latch later.fresh;
+        holds = later.holds;
+        came = (later.came.0 ∙ table_of missed, inside_before q c.me later.came.1, (miss ∷ stays.0, stays.1 ∙ before stays.0, ((refl, refl), stays.2)));
+        taken = (
+          took.0,
+          fresh took.0 took.1,
+          took.2,
+          (
+            miss ∷ took.3.0,
+            took.3.1 ∙ ap (λ (x : Mine). latched place took.0 (and_made took.3.0 x)) (mine missed)
+                ∙ (λ i. latched place took.0 (record s.me.0 { log = append_assoc s.me.0.log (miss ∷ []) took.3.0 i }, s.me.1)),
+            ((refl, refl), subst (λ (d : Option Keys). AllQuiet d took.3.0) (ap (λ (x : Mine). x.0.directory) (mine missed)) took.3.2),
+            took.3.3,
+          ),
+        );
+        within = within_then false s.me a.me c.me
+            (within_one false s.me a.me miss (ap (λ (x : Mine). x.0.log) (mine missed)) (ap (λ (x : Mine). x.0.directory) (mine missed)) (refl, plain false, refl)) later.within;
+      }
 
 -- the step on the word that did its deeds met the record of the latch
 module _ (place : ℕ) (s : SeatState) (q : ℕ) (w n : SeatState) (at : q ≡ place) (inside : IsInside q s.me w.me) (h : LatchRecord) (recorded : held_at q w.me.0.latches ≡ Some h)

@@ -12,16 +12,14 @@ use Rattle.mdl_steps.specs.Layout.{latch_word}
 use Rattle.mdl_steps.specs.Lists.{Each}
 use Rattle.mdl_steps.specs.Plays.{Mine, latched, unlatched}
 use Rattle.mdl_steps.specs.SeatStates.{AtItsTable, SeatState}
-use Rattle.mdl_steps.specs.Seats.{Holds, IsPlace, IsRising, MayPut, rest}
+use Rattle.mdl_steps.specs.Seats.{Holds, IsRising, MayPut, rest}
 use Rattle.mdl_steps.proofs.Hands.{elsewhere-rising}
 use Rattle.mdl_steps.proofs.Views.{held_at-past}
 use Rattle.mdl_visits.specs.declared.audited.Audited.{Audited}
 use Rattle.mdl_visits.specs.Audits.{Gathers, HadLatches, MayTakeAll}
-use Rattle.mdl_visits.specs.Idle.{HoldsNoLatch}
 use Rattle.mdl_visits.specs.Searches.{ReadsWaits, ReadsWaitsQuietly, with_waits_read}
-use Rattle.mdl_visits.specs.Visits.{AllQuiet, MakesMoreSteps, HasStep, IsQuiet, MakesQuietSteps, MayVisit, and_made, TakesLatch}
+use Rattle.mdl_visits.specs.Visits.{AllQuiet, MakesMoreSteps, HasStep, IsQuiet, MakesQuietSteps, and_made, TakesLatch}
 use Rattle.mdl_visits.proofs.Asking.{step_within}
-use Rattle.mdl_visits.proofs.Lookups.{no_latches}
 use Rattle.mdl_visits.proofs.Seats.{mine, table_of}
 use Rattle.mdl_visits.proofs.Steps.{each_append, none_then}
 
@@ -54,13 +52,6 @@ quiet_steps_on a b c first second =
         each_append (IsQuiet a.me.0.directory) one.0 two.0 one.3 (subst (λ (o : Option Keys). AllQuiet o two.0) (ap (λ (m : Mine). m.0.directory) one.1) two.3),
       ),
     )
-
--- a session that holds no latch may go to a place, also after steps
-pub may_visit : (place : ℕ) (a b : SeatState) → AtItsTable a b MakesQuietSteps → HoldsNoLatch a.me → IsPlace a.table place → MayVisit place b
-may_visit place a b steps idle is_place = record {
-  is_place = subst (λ (id : TableId). IsPlace id place) (sym steps.0) is_place;
-  rising = subst (IsRising place) (sym steps.1.1) (subst (Each (λ (h : LatchRecord). h.place < place)) (sym (no_latches a.me idle)) tt);
-}
 
 -- ---- the latch of a place is taken, something is done, and it is given back
 

@@ -1,5 +1,5 @@
 -- Something is done while the directory's latch is held: the books of all keys are gathered, and a deadlock is looked for.
-use Rattle.std.proofs.Common.{◌≡◌, ℕ, ◌+◌, ◌-◌, ◌<◌, ◌≤◌, List, [], ◌∷◌, ◌++◌, length, map, Some, Result, refl, sym, ap, ◌∙◌, subst, inl, ⊎_elim, arith, append_assoc, append-nil, length-append}
+use Rattle.std.proofs.Common.{◌≡◌, ℕ, ◌+◌, ◌-◌, List, [], ◌∷◌, ◌++◌, length, map, Some, Result, refl, sym, ap, ◌∙◌, subst, inl, ⊎_elim, arith, append_assoc, append-nil, length-append}
 use Rattle.std.specs.Prelude.{slice_get}
 use Rattle.std.proofs.lemmas.Result.{IfOk-weaker, on_err_weaker}
 use Rattle.atomic_table.specs.Seated.{TableId}
@@ -11,19 +11,18 @@ use Rattle.mdl_steps.specs.declared.view.Keys.{Keys}
 use Rattle.mdl_steps.specs.declared.view.StepRecord.{StepRecord}
 use Rattle.mdl_steps.specs.Copies.{Queues}
 use Rattle.mdl_steps.specs.Layout.{latch_word}
-use Rattle.mdl_steps.specs.Lists.{Each}
 use Rattle.mdl_steps.specs.Plays.{Mine, consulted, informed, latched, unlatched}
 use Rattle.mdl_steps.specs.SeatStates.{AtItsTable, SeatState}
 use Rattle.mdl_steps.specs.Seats.{HasDirectory, IsRising, MayInform, learnt}
 use Rattle.mdl_visits.specs.declared.audited.Audited.{Audited}
-use Rattle.mdl_visits.specs.Audits.{AreKeyed, AreRecorded, Audits, Gathers, HadLatches, MayAllStand, MayTakeAll}
+use Rattle.mdl_visits.specs.Audits.{AreKeyed, AreRecorded, Audits, Gathers, HadLatches, MayAllStand}
 use Rattle.mdl_visits.specs.Idle.{HoldsNoLatch}
 use Rattle.mdl_visits.specs.Lookups.{HadEither, TookDirectory}
 use Rattle.mdl_visits.specs.Searches.{AreQueuesOf, EndsSearch, FindsFrom, Judges, KnowsVictim, ReadsWaits, ReadsWaitsQuietly, SearchFinds, Searched, Searches, if_waited, with_waits_read}
 use Rattle.mdl_visits.specs.Visits.{MakesMoreSteps, IsQuiet, IsStepOf, MakesSteps, and_made, TakesLatch, TakesDirectory}
 use Rattle.mdl_visits.proofs.Asking.{step_within}
 use Rattle.mdl_visits.proofs.Gathering.{as_steps, back, gathers_more, gathers_none}
-use Rattle.mdl_visits.proofs.Lookups.{had_none, no_latches, no_record}
+use Rattle.mdl_visits.proofs.Lookups.{had_none, no_record}
 use Rattle.mdl_visits.proofs.Outcomes.{judges_if_waited, judges_within, knows_on}
 use Rattle.mdl_visits.proofs.Seats.{mine, table_of}
 use Rattle.mdl_visits.proofs.Steps.{each_map, none_then}
@@ -63,18 +62,6 @@ module _ (a b c : SeatState) (taken : TakesDirectory a b) (same : c ≡ b) (idle
 
   pub in_hand : HasDirectory k b.me
   in_hand = subst (HasDirectory k) (sym (mine taken.3)) (record { recorded = refl; carried = refl })
-
-  -- no other latch is held at first
-  pub may_take_all : (last : ℕ) → last ≡ length k.keys → a.table.slots ≤ 65536 → MayTakeAll 1 last c
-  may_take_all last count few =
-      let fit = taken.2.fit in
-      let slots = ap (λ (id : TableId). id.slots) there in record {
-        some = omega arith;
-        next = omega arith;
-        inside = omega arith;
-        narrow = omega arith;
-        rising = subst (IsRising 1) (sym came) (subst (Each (λ (h : LatchRecord). h.place < 1)) (sym (no_latches a.me idle)) tt);
-      }
 
   module _ (d : SeatState) (reads : AtItsTable c d ReadsWaitsQuietly) where
     abbrev within : List StepRecord

@@ -1,5 +1,5 @@
 -- Tickets of a session come to be the last that are granted in a book, and are taken out of it again.
-use Rattle.std.proofs.Common.{◌≡◌, ℕ, ◌+◌, ◌^◌, ◌<◌, ◌≤◌, true, false, List, [], ◌∷◌, ◌++◌, map, take, drop, length, get_or, Some, None, Err, refl, sym, ap, ◌∙◌, subst, inl, inr, arith, append_assoc, append-nil}
+use Rattle.std.proofs.Common.{◌≡◌, ℕ, ◌+◌, ◌^◌, ◌<◌, ◌≤◌, true, false, List, [], ◌∷◌, ◌++◌, map, take, drop, length, get_or, Some, None, Err, refl, sym, ap, ◌∙◌, subst, inl, inr, arith, append_assoc}
 use Rattle.std.proofs.lemmas.Bool.{and_from, eq-eqb}
 use Rattle.std.proofs.lemmas.List.{drop_more, length-append, length-take-le, map_more, take-append-drop}
 use Rattle.std.proofs.lemmas.List.Folds.{list_all-append}
@@ -52,9 +52,6 @@ module _ {X : Type 0} (P : X → Type 0) where
 -- ---- the book with them
 
 module _ (session : ℕ) where
-  pub granting_none : (book : BookView) → granting_own session [] book ≡ book
-  granting_none book = λ i. record book { granted = append-nil book.granted i }
-
   -- one more is granted
   pub granting_more : (tickets : List SessionTicket) (i : ℕ) (d : SessionTicket) (book : BookView) → i < length tickets
       → granting (ticket_by session (get_or tickets i d)) (granting_own session (take i tickets) book) ≡ granting_own session (take (i + 1) tickets) book

@@ -1,5 +1,5 @@
 -- A session that holds the latches of all places, and finds no deadlock by the books there, sees that it is in none.
-use Rattle.std.proofs.Common.{◌≡◌, ◌≢◌, ℕ, suc, ◌+◌, ◌-◌, ◌<◌, ◌≤◌, ◌==◌, ◌&&◌, ◌||◌, nat_lt, not, Bool, true, false, List, [], ◌∷◌, ◌++◌, length, map, Some, None, inl, inr, refl, sym, ap, ◌∙◌, subst, arith}
+use Rattle.std.proofs.Common.{◌≡◌, ℕ, suc, ◌+◌, ◌-◌, ◌<◌, ◌≤◌, ◌==◌, ◌&&◌, ◌||◌, nat_lt, not, Bool, true, false, List, [], ◌∷◌, ◌++◌, length, map, Some, inl, inr, refl, sym, ap, ◌∙◌, subst, arith}
 use Rattle.std.specs.Prelude.{Contains, MatchOption, Result, Ok, Err, IfOk, if◌then◌else◌}
 use Rattle.std.specs.List.{list_any}
 use Rattle.std.proofs.lemmas.Bool.{and_from, and_parts, cases_eq, eqb-true, lt-ltb}
@@ -23,7 +23,7 @@ use Rattle.mdl_steps.specs.declared.view.StepRecord.{StepRecord}
 use Rattle.mdl_steps.specs.Cells.{held_at}
 use Rattle.mdl_steps.specs.Copies.{Queues, queues_of}
 use Rattle.mdl_steps.specs.Deeds.{KnowsPlace}
-use Rattle.mdl_steps.specs.Plays.{Mine, consulted, informed, latched}
+use Rattle.mdl_steps.specs.Plays.{Mine, informed}
 use Rattle.mdl_steps.specs.Rule.{key_at}
 use Rattle.mdl_steps.specs.SeatStates.{AtItsTable, SeatState}
 use Rattle.mdl_steps.specs.Seats.{learnt, MayInform, MayPut}
@@ -38,7 +38,7 @@ use Rattle.mdl_visits.specs.declared.waits_read.WaitRead.{WaitRead}
 use Rattle.mdl_visits.specs.Idle.{HoldsNoLatch}
 use Rattle.mdl_visits.specs.Lookups.{TookDirectory}
 use Rattle.mdl_visits.specs.Searches.{AddsQueues, AreQueuesOf, EndsSearch, FindsFrom, HasTaken, IsOutcome, Judges, ReadsWaitsQuietly, SearchFinds, Searched, WasRead, books_of, but_searching, found_none, if_waited, put_searching, searches_after, settled_by}
-use Rattle.mdl_visits.specs.Visits.{TakesDirectory, TakesLatch, and_made}
+use Rattle.mdl_visits.specs.Visits.{TakesDirectory, TakesLatch}
 use Rattle.mdl_visits.proofs.Lookups.{no_latches, some_there}
 use Rattle.mdl_visits.proofs.Seats.{mine}
 

@@ -2,7 +2,7 @@
 use Rattle.std.proofs.Common.{◌≡◌, ◌≢◌, ℕ, ◌+◌, ◌-◌, ◌*◌, ◌%◌, ◌/◌, ◌<◌, ◌==◌, ◌&&◌, not, cond, true, false, None, List, [], ◌∷◌, ◌++◌, Some, refl, sym, ap, ◌∙◌, subst, inl, inr, append-nil, arith}
 use Rattle.mdl_book.specs.SessionSets.{is_session}
 use Rattle.std.specs.Prelude.{Result, OnOk, is_some, Contains, find, Option, slice_get}
-use Rattle.std.specs.Option.{ok_or, option_map}
+use Rattle.std.specs.Option.{ok_or}
 use Rattle.std.specs.FinSet as set
 use Rattle.std.specs.Ordering.{nat_cmp}
 use Rattle.std.specs.Cmp.{nat_cmp_total, unsigned_tied}
@@ -16,7 +16,7 @@ use Rattle.mdl_book.specs.declared.ticket.Ticket.{Ticket}
 use Rattle.mdl_book.specs.Books.{admitting, admitting_by_index, is_ready, lock_kind, next_grantable}
 use Rattle.mdl_book.specs.FastTickets.{can_be_granted}
 use Rattle.mdl_book.specs.SessionSets.{IsEverySession}
-use Rattle.mdl_book.specs.Tickets.{is_ticket, ticket_id, ticket_of}
+use Rattle.mdl_book.specs.Tickets.{is_ticket, ticket_of}
 use Rattle.mdl_book.proofs.AdmitLemmas.{by_index-admits}
 use Rattle.mdl_steps.specs.declared.step_kind.StepKind.{StepKind}
 use Rattle.mdl_steps.specs.declared.step_kind.StepKind.TheVariants.{ReadWait, ReadWord}
@@ -32,7 +32,7 @@ use Rattle.mdl_visits.specs.Grantings.{ForgetsNobody, HasJustMet, IsGrantedFrom,
 use Rattle.mdl_visits.specs.Visits.{MakesMoreSteps, IsStepOf}
 use Rattle.mdl_visits.proofs.Losing.{taken_out}
 use Rattle.mdl_visits.proofs.Steps.{goes_by, step_after, step_before}
-use Rattle.mdl_visits.proofs.Waiting.{MayReschedule, found_number, gone, nobody_next, none_ahead, not_ready, only_one, grants_on, waits_ahead, waits_still}
+use Rattle.mdl_visits.proofs.Waiting.{MayReschedule, found_number, gone, none_ahead, not_ready, only_one, grants_on, waits_ahead, waits_still}
 use Rattle.mdl_visits.proofs.Way.{looked_within, settled_within, rescheduled_granted, rescheduled_met, rescheduled_then, rescheduled_written}
 
 -- a seat has one record of a place's latch
@@ -62,19 +62,14 @@ waiter_met kind only slots place session number found h m m′ is has ready =
 
 -- ---- the exchange
 
--- a ticket that can be granted waits there, so the book in hand has it granted
-pub admitted_there : {P : Type 0} (session number : ℕ) (h : LatchRecord) (result : Result Ticket BookError) → IsGrantableTicket session number h → result ≡ ok_or (ticket_of session number h.book.waiting) NotHere → OnOk result P → P
-admitted_there session number h result ready refused done =
-    taken_out (ticket_of session number h.book.waiting) NotHere result (some_is (ticket_of session number h.book.waiting) ready.wish ready.waits) refused done
-
--- the same where the ticket was taken by its index
+-- a ticket that can be granted waits at the index, so the book in hand has it granted
 pub admitted_at : (P : BookView → Type 0) (index session number : ℕ) (h : LatchRecord) (result : Result Ticket BookError) → IsGrantableAt index session number h
     → result ≡ ok_or (slice_get h.book.waiting index) NotHere → OnOk result (P (admitting_by_index index h.book)) → P (admitting session number h.book)
 admitted_at P index session number h result ready refused done =
     let waiting : List Ticket = h.book.waiting in
     let same : slice_get waiting index ≡ ticket_of session number waiting = sym (find_at (is_ticket session number) waiting ∙ ap (slice_get waiting) ready.1) in
-    admitted_there {P = P (admitting session number h.book)} session number h result ready.0 (refused ∙ ap (λ (o : Option Ticket). ok_or o NotHere) same)
-    (subst (λ (book : BookView). OnOk result (P book)) (by_index-admits session number index h.book ready.1) done)
+    taken_out (ticket_of session number waiting) NotHere result (some_is (ticket_of session number waiting) ready.0.wish ready.0.waits)
+    (refused ∙ ap (λ (o : Option Ticket). ok_or o NotHere) same) (subst (λ (book : BookView). OnOk result (P book)) (by_index-admits session number index h.book ready.1) done)
 
 module _ (id : TableId) (place session number wait count : ℕ) (h : LatchRecord) (m a b : Mine) (has : Holds place h h.book m) (ready : IsGrantableTicket session number h) (just : HasJustMet id.slots place session h m)
     (made : a ≡ settled_granted id.slots place session number count m) (keeps : Holds place (with_admitted session number h) h.book a)
@@ -252,9 +247,9 @@ module _ (id : TableId) (place word : ℕ) (untried : set.FinSet nat_cmp) (h : L
   }
 
   -- those who arrived before the next one
-  pub looks_ahead : (session number : ℕ) → Some (session, number) ≡ option_map ticket_id (next_grantable word untried h.book) → IsLookedThrough id place h (ahead_of session number h.book.waiting) m a
-  looks_ahead session number told = looks (ahead_of session number h.book.waiting) (waits_ahead session number h.book.waiting) (none_ahead word session number untried h told)
+  pub looks_ahead : (t : Ticket) → next_grantable word untried h.book ≡ Some t → IsLookedThrough id place h (ahead_of t.session t.number h.book.waiting) m a
+  looks_ahead t next = looks (ahead_of t.session t.number h.book.waiting) (waits_ahead t.session t.number h.book.waiting) (none_ahead word t untried h next)
 
   -- all, where nobody is next
-  pub forgets_nobody : None ≡ option_map ticket_id (next_grantable word untried h.book) → ForgetsNobody id place h m a
-  forgets_nobody told = looks h.book.waiting (λ t among. among) (nobody_next word untried h told)
+  pub forgets_nobody : next_grantable word untried h.book ≡ None → ForgetsNobody id place h m a
+  forgets_nobody none = looks h.book.waiting (λ t among. among) none

@@ -1,5 +1,5 @@
 -- What a try comes to, by the record of the latch as it was entered.
-use Rattle.std.proofs.Common.{◌≡◌, ℕ, ◌+◌, ◌≤◌, Bool, true, false, cond, ◌||◌, List, [], ◌∷◌, ◌++◌, length, Some, None, Result, Err, refl, sym, ap, ◌∙◌, subst, inl, inr, append_assoc, length-append, arith}
+use Rattle.std.proofs.Common.{◌≡◌, ℕ, ◌+◌, ◌≤◌, Bool, true, false, cond, ◌||◌, List, [], ◌∷◌, ◌++◌, length, Some, None, Result, Ok, Err, refl, sym, ap, ◌∙◌, subst, inl, inr, append_assoc, length-append, arith}
 use Rattle.std.specs.Prelude.{◌⊎◌, nat_lt, nat_le, is_some, OnOk, Option}
 use Rattle.std.proofs.lemmas.Bool.{and_parts, lt-ltb, leb-true, or_right}
 use Rattle.std.proofs.lemmas.List.Folds.{list_any-append}
@@ -19,7 +19,7 @@ use Rattle.mdl_steps.specs.declared.deed.Deed.TheVariants.{Gain, Alter}
 use Rattle.mdl_steps.specs.declared.step_kind.StepKind.TheVariants.{PutLatch, RaiseFlags, ReadWord}
 use Rattle.mdl_steps.specs.declared.view.LatchRecord.{LatchRecord}
 use Rattle.mdl_steps.specs.declared.view.StepRecord.{StepRecord}
-use Rattle.mdl_steps.specs.Cells.{held_at, ticket_by}
+use Rattle.mdl_steps.specs.Cells.{ticket_by}
 use Rattle.mdl_steps.specs.Deeds.{FreesNothing, KnowsPlace, MayBeGranted, MayDo, MayJoin, booked}
 use Rattle.mdl_steps.specs.Layout.{latch_word, lock_word}
 use Rattle.mdl_steps.specs.Plays.{IsFresh, Mine, changed, noting, raised, stepped, unlatched}
@@ -29,10 +29,9 @@ use Rattle.mdl_steps.specs.Seats.{Holds, MayPut, written}
 use Rattle.mdl_steps.proofs.Hands.{holds_written}
 use Rattle.mdl_steps.proofs.Views.{by_bool}
 use Rattle.mdl_visits.specs.Coverings.{MayRise}
-use Rattle.mdl_visits.specs.Leavings.{DidUnder, HasTicket, HasWorked}
-use Rattle.mdl_visits.specs.Visits.{Arrives, Enters, HasEntered, HasStep, IsInside, IsVisit, KnowsKind, MeetsFullWish, StaysWithin, Visits, VisitsOnce, WasBlocked, WasGranted, WasRefused, WasRefusedWish}
+use Rattle.mdl_visits.specs.Leavings.{DidUnder, HasWorked}
+use Rattle.mdl_visits.specs.Visits.{Arrives, Enters, HasEntered, HasStep, IsInside, IsVisit, KnowsKind, MeetsFullWish, StaysWithin, Visits, VisitsOnce, WasBlocked, WasGranted, WasRefused, WasRefusedWish, request_fault}
 use Rattle.mdl_visits.proofs.Altering.{altered_exactly, just_done, none_clashes}
-use Rattle.mdl_visits.proofs.Arriving.{met_full}
 use Rattle.mdl_visits.proofs.Covered.{own_mode, own_there}
 use Rattle.mdl_visits.proofs.Losing.{found_one}
 use Rattle.mdl_visits.proofs.Numbers.{idle_waits_not}
@@ -87,13 +86,41 @@ pub refusal : (T : Type 0) (ticket : Ticket) (word : ℕ) (book : BookView) (cau
 refusal T ticket word book cause stands refuses =
     full T (ticket_count book) cause (rw stands at refuses)
 
+-- a request that was granted can be, by the book and the word
+pub may_gain : (T : Type 0) (x : T) (t : Ticket) (word : ℕ) (book : BookView) → Refuses {T = T} (request_fault t word book) fault.OutOfMemory (Ok x)
+    → can_be_granted (lock_kind book) book.granted book.waiting word t.session t.mode ≡ true
+may_gain T x t word book refuses =
+    by_bool (can_be_granted (lock_kind book) book.granted book.waiting word t.session t.mode)
+    (λ can. can)
+    (λ cannot. let never : ◌≡◌ {A = Result T BookError} (Ok x) (Err fault.WouldConflict) = rw cannot at refuses in absurd (cc))
+
+-- one that is told to conflict can't be
+pub conflicts : (T : Type 0) (t : Ticket) (word : ℕ) (book : BookView) (cause : BookError) → cause ≡ fault.WouldConflict
+    → Refuses {T = T} (request_fault t word book) fault.OutOfMemory (Err cause) → can_be_granted (lock_kind book) book.granted book.waiting word t.session t.mode ≡ false
+conflicts T t word book cause is refuses =
+    by_bool (can_be_granted (lock_kind book) book.granted book.waiting word t.session t.mode)
+    (λ can. elim (full T (ticket_count book) cause (rw can at refuses)) [
+      | inl memory ↦ absurd (cc)
+      | inr many ↦ let is_full = many.0 in absurd (cc)
+    ])
+    (λ cannot. cannot)
+
+-- and one that is refused with another cause can be
+pub lacks_room : (T : Type 0) (t : Ticket) (word : ℕ) (book : BookView) (cause : BookError) → (cause ≡ fault.WouldConflict → ⊥)
+    → Refuses {T = T} (request_fault t word book) fault.OutOfMemory (Err cause)
+    → (can_be_granted (lock_kind book) book.granted book.waiting word t.session t.mode ≡ true) × ((cause ≡ fault.OutOfMemory) ⊎ ((cause ≡ fault.Full) × (65535 ≤ ticket_count book)))
+lacks_room T t word book cause other refuses =
+    by_bool (can_be_granted (lock_kind book) book.granted book.waiting word t.session t.mode)
+    (λ can. (can, full T (ticket_count book) cause (rw can at refuses)))
+    (λ cannot. absurd (other (err_is T cause fault.WouldConflict (rw cannot at refuses))))
+
 -- ---- as the place was entered
 
 -- the steps by which it was entered raised OBTRUSIVE only if the wish is obtrusive
-pub entered_within : {place : ℕ} {s : SeatState} {q : ℕ} {c : SeatState} (a : Arrives place s q c) (obtrusive : Bool) (word : ℕ) {b : SeatState} {d e : Mine}
-    → (met : ℕ) × (b ≡ record c { me = stepped (RaiseFlags true obtrusive) q met (raised true obtrusive) c.me }) → d ≡ stepped ReadWord q word (noting word) b.me → e ≡ d
-    → StaysWithin obtrusive s.me e
-entered_within {place} {s} {q} {c} a obtrusive word {b} {d} {e} raise read same =
+pub entered_within : {place : ℕ} {s : SeatState} {q : ℕ} {c : SeatState} (a : Arrives place s q c) (obtrusive : Bool) (word : ℕ) {b : SeatState} {d : Mine}
+    → (met : ℕ) × (b ≡ record c { me = stepped (RaiseFlags true obtrusive) q met (raised true obtrusive) c.me }) → d ≡ stepped ReadWord q word (noting word) b.me
+    → StaysWithin obtrusive s.me d
+entered_within {place} {s} {q} {c} a obtrusive word {b} {d} raise read =
     let raises : StepRecord = record {
       kind = RaiseFlags true obtrusive;
       deeds = [];
@@ -105,8 +132,7 @@ entered_within {place} {s} {q} {c} a obtrusive word {b} {d} {e} raise read same 
     let reads : StepRecord = record { kind = ReadWord; deeds = []; word = lock_word q; found = word; held = (changed q (noting word) b.me.0).latches; directory = b.me.0.directory } in
     let up = within_one obtrusive c.me b.me raises (ap (λ (x : SeatState). x.me.0.log) raise.1) (ap (λ (x : SeatState). x.me.0.directory) raise.1) (refl, (λ is. is), refl) in
     let on = within_one obtrusive b.me d reads (ap (λ (x : Mine). x.0.log) read) (ap (λ (x : Mine). x.0.directory) read) (refl, plain obtrusive, refl) in
-    subst (λ (x : Mine). StaysWithin obtrusive s.me x) (sym same)
-    (within_then obtrusive s.me b.me d (within_then obtrusive s.me c.me b.me (within_any obtrusive s.me c.me a.within) up) on)
+    within_then obtrusive s.me b.me d (within_then obtrusive s.me c.me b.me (within_any obtrusive s.me c.me a.within) up) on
 
 module _ {place q word : ℕ} {mode : Mode} {can : Bool} {s c : SeatState} (has : HasEntered place q word mode can s c) where
   abbrev entered : Enters place has.obtrusive word mode can s.me c.me
@@ -202,6 +228,12 @@ as_refused (visit, inr full) =
 pub as_told : {place q word : ℕ} {mode : Mode} {can known : Bool} {s c : SeatState} → can ≡ known → HasEntered place q word mode can s c → HasEntered place q word mode known s c
 as_told {place} {q} {word} {mode} {can} {known} {s} {c} is has = subst (λ (b : Bool). HasEntered place q word mode b s c) is has
 
+-- likewise, and the latch is still held
+pub still_entered : {place q p word : ℕ} {mode : Mode} {can known : Bool} {s c d : SeatState} → (can ≡ known) × (p ≡ q) × (d ≡ c) → HasEntered place q word mode can s c
+    → HasEntered place p word mode known s d
+still_entered {place} {q} {p} {word} {mode} {can} {known} {s} {c} {d} told has =
+    subst (λ (x : SeatState). HasEntered place p word mode known s x) (sym told.2) (subst (λ (x : ℕ). HasEntered place x word mode known s c) (sym told.1) (as_told told.0 has))
+
 -- ---- where the wish can't be granted
 
 module _ {place q word : ℕ} {mode : Mode} {s c : SeatState} (has : HasEntered place q word mode false s c) where
@@ -276,13 +308,6 @@ module _ {place q word : ℕ} {mode : Mode} {s c : SeatState} (has : HasEntered 
       (asks_here has))
       tt
       wrote
-
-  -- why the ticket wasn't written
-  pub why_not : (T : Type 0) (number : ℕ) (cause : BookError)
-      → Refuses {T = T} (grant_fault (record { session = c.me.0.number; number = number; mode = mode }) word found.book) fault.OutOfMemory (Err cause)
-      → (cause ≡ fault.OutOfMemory) ⊎ ((cause ≡ fault.Full) × (65535 ≤ ticket_count found.book))
-  why_not T number cause refuses =
-      refusal T (record { session = c.me.0.number; number = number; mode = mode }) word found.book cause (and_parts _ _ (told_here has)).0 refuses
 
   -- or the other mode of a ticket that it has there, an obtrusive one
   module _ (number : ℕ) (kind : Kind) (knows : KnowsKind s.me.0 place kind) (loud : is_obtrusive kind mode ≡ true) (rise : MayRise place number mode s.me.0) where

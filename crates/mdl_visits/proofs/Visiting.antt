@@ -26,6 +26,10 @@ use Rattle.mdl_visits.proofs.Steps.{each_append, none_then}
 abbrev pub Lingers : Mine → Mine → Type 0
 Lingers m m′ = (made : List StepRecord) × (m′ ≡ and_made made m) × AllQuiet m.0.directory made × (deeds_of made ≡ []) × Each StaysThere made
 
+-- none yet
+pub lingers_none : (m : Mine) → Lingers m m
+lingers_none m = ([], sym (λ i. (record m.0 { log = append-nil m.0.log i }, m.1)), tt, refl, tt)
+
 -- one more
 pub lingers_one : (place found : ℕ) (m m′ m″ : Mine) → Lingers m m′ → m″ ≡ missed_latch place found m′ → Lingers m m″
 lingers_one place found m m′ m″ steps met =
@@ -107,14 +111,13 @@ visits_put place ds m m′ m″ inside put =
 
 -- ---- as it was entered
 
-pub enters : (place found word : ℕ) (obtrusive : Bool) (mode : Mode) (can : Bool) (h : LatchRecord) (m a b c : Mine) → IsFresh place h m → IsInside place m a
+pub enters : (place found word : ℕ) (obtrusive : Bool) (mode : Mode) (h : LatchRecord) (m a b c : Mine) → IsFresh place h m → IsInside place m a
     → b ≡ stepped (RaiseFlags true obtrusive) place found (raised true obtrusive) a → c ≡ stepped ReadWord place word (noting word) b
-    → Holds place (noting word (raised true obtrusive h)) h.book c → can ≡ can_be_granted (lock_kind h.book) h.book.granted h.book.waiting word c.0.number mode
-    → Enters place obtrusive word mode can m c
-enters place found word obtrusive mode can h m a b c fresh inside raise read holds told =
+    → Holds place (noting word (raised true obtrusive h)) h.book c
+    → Enters place obtrusive word mode (can_be_granted (lock_kind h.book) h.book.granted h.book.waiting word m.0.number mode) m c
+enters place found word obtrusive mode h m a b c fresh inside raise read holds =
     let up = inside_stepped (RaiseFlags true obtrusive) place found (raised true obtrusive) m a b (λ x. refl) inside raise in
     let in_hand = inside_stepped ReadWord place word (noting word) m b c (λ x. refl) up read in
-    let who = ap (λ (x : Mine). x.0.number) in_hand.now in
     record {
       found = h;
       fresh = fresh;
@@ -126,5 +129,5 @@ enters place found word obtrusive mode can h m a b c fresh inside raise read hol
             ∙ ap (λ (log : List StepRecord). log ++ record { kind = ReadWord; deeds = []; word = lock_word place; found = word; held = (changed place (noting word) b.0).latches; directory = b.0.directory } ∷ []) (ap (λ (x : Mine). x.0.log) up.now)
             ∙ ap (λ (x : Mine). (m.0.log ++ up.made) ++ record { kind = ReadWord; deeds = []; word = lock_word place; found = word; held = x.0.latches; directory = x.0.directory } ∷ []) (sym read),
       );
-      told = sym (told ∙ ap (λ (n : ℕ). can_be_granted (lock_kind h.book) h.book.granted h.book.waiting word n mode) who);
+      told = refl;
     }

@@ -15,7 +15,7 @@ use Rattle.mdl_book.specs.declared.ticket.Ticket.{Ticket}
 use Rattle.mdl_book.specs.Books.{lock_kind, any_obtrusive, admitting, has_obtrusive, has_tickets, is_ready, next_grantable}
 use Rattle.mdl_book.specs.FastTickets.{can_be_granted, may_stand}
 use Rattle.mdl_book.specs.Granting.{goes_first, is_compatible}
-use Rattle.mdl_book.specs.Tickets.{is_ticket, ticket_id, ticket_of, with_index, without}
+use Rattle.mdl_book.specs.Tickets.{is_ticket, ticket_of, with_index, without}
 use Rattle.mdl_book.proofs.MemberLemmas.{none-found}
 use Rattle.mdl_book.proofs.TicketLemmas.{find-passes, parted}
 use Rattle.mdl_steps.specs.declared.view.LatchRecord.{LatchRecord}
@@ -26,7 +26,7 @@ use Rattle.mdl_steps.specs.Rule.{TellsLists}
 use Rattle.mdl_steps.specs.WaitPlays.{with_admitted}
 use Rattle.mdl_steps.proofs.Tickets.{is_itself, is_passed, without-hit, without-miss, of-without_other, of-without_own, once-without}
 use Rattle.mdl_steps.proofs.Views.{by_bool}
-use Rattle.mdl_visits.specs.Grantings.{IsOrderlyLatch, IsGrantableAt, IsGrantableTicket, ahead_of}
+use Rattle.mdl_visits.specs.Grantings.{IsOrderlyLatch, IsGrantableAt, ahead_of}
 
 -- waits may be granted by a record whose flags tell the lists and this word of the lock, which is noted while the flag OBTRUSIVE is up, and counts exactly
 abbrev pub MayReschedule : ℕ → LatchRecord → Type 0
@@ -203,21 +203,6 @@ may_join word h t may there stands = by_bool (is_obtrusive (lock_kind h.book) t.
     or_true true = refl
     or_true false = refl
 
-pub is_next : (word session number : ℕ) (untried : set.FinSet nat_cmp) (h : LatchRecord) → MayReschedule word h → Some (session, number) ≡ option_map ticket_id (next_grantable word untried h.book)
-    → IsGrantableTicket session number h × (set.contains untried session ≡ true)
-is_next word session number untried h may told =
-    elim (next_grantable word untried h.book) as (λ o. next_grantable word untried h.book ≡ o → Some (session, number) ≡ option_map ticket_id o → IsGrantableTicket session number h × (set.contains untried session ≡ true)) [
-      | None ↦ λ _ none. absurd (cc)
-      | Some t ↦ λ found same.
-          let id : (t.session, t.number) ≡ (session, number) = cc in
-          let ready : is_ready word untried h.book t ≡ true = find-passes (is_ready word untried h.book) h.book.waiting t found in
-          let parts = and_parts (set.contains untried t.session) (can_be_granted (lock_kind h.book) h.book.granted h.book.waiting word t.session t.mode) ready in
-          let can = and_parts (may_stand (lock_kind h.book) h.book.granted word t.session t.mode) (goes_first (lock_kind h.book) h.book.waiting t.session t.mode) parts.1 in
-          let there = found_by_id (is_ready word untried h.book) h.book.waiting t may.0.0.once found in
-          subst (λ (who : ℕ × ℕ). IsGrantableTicket who.0 who.1 h × (set.contains untried who.0 ≡ true)) id
-          (record { wish = t; waits = there; beside = may_join word h t may there can.0; first = can.1 }, parts.0)
-    ] refl told
-
 -- ---- with its index
 
 -- the index of the first that passes, which passes or not
@@ -253,20 +238,24 @@ told_at p ts (Some u) index t told =
     let same : ◌≡◌ {A = ℕ × Ticket} (index, t) (position_or_len p ts, u) = cc in
     (ap Some (sym (ap (λ (x : ℕ × Ticket). x.1) same)), sym (ap (λ (x : ℕ × Ticket). x.0) same))
 
-pub is_next_at : (word index : ℕ) (t : Ticket) (untried : set.FinSet nat_cmp) (h : LatchRecord) → MayReschedule word h
+pub is_next : (word index : ℕ) (t : Ticket) (untried : set.FinSet nat_cmp) (h : LatchRecord) → MayReschedule word h
     → ◌≡◌ {A = Option (ℕ × Ticket)} (Some (index, t)) (option_map (with_index (is_ready word untried h.book) h.book.waiting) (next_grantable word untried h.book))
-    → IsGrantableAt index t.session t.number h × (set.contains untried t.session ≡ true) × (◌≡◌ {A = Option (ℕ × ℕ)} (Some (t.session, t.number)) (option_map ticket_id (next_grantable word untried h.book)))
-is_next_at word index t untried h may told =
-    let there = told_at (is_ready word untried h.book) h.book.waiting (next_grantable word untried h.book) index t told in
-    let named : ◌≡◌ {A = Option (ℕ × ℕ)} (Some (t.session, t.number)) (option_map ticket_id (next_grantable word untried h.book)) = sym (ap (option_map ticket_id) there.0) in
-    let next = is_next word t.session t.number untried h may named in
-    ((next.0, first_by_id (is_ready word untried h.book) h.book.waiting t may.0.0.once there.0 ∙ there.1), next.1, named)
+    → IsGrantableAt index t.session t.number h × (set.contains untried t.session ≡ true) × (next_grantable word untried h.book ≡ Some t)
+is_next word index t untried h may told =
+    let first = told_at (is_ready word untried h.book) h.book.waiting (next_grantable word untried h.book) index t told in
+    let ready : is_ready word untried h.book t ≡ true = find-passes (is_ready word untried h.book) h.book.waiting t first.0 in
+    let parts = and_parts (set.contains untried t.session) (can_be_granted (lock_kind h.book) h.book.granted h.book.waiting word t.session t.mode) ready in
+    let can = and_parts (may_stand (lock_kind h.book) h.book.granted word t.session t.mode) (goes_first (lock_kind h.book) h.book.waiting t.session t.mode) parts.1 in
+    let there = found_by_id (is_ready word untried h.book) h.book.waiting t may.0.0.once first.0 in (
+      (record { wish = t; waits = there; beside = may_join word h t may there can.0; first = can.1 }, first_by_id (is_ready word untried h.book) h.book.waiting t may.0.0.once first.0 ∙ first.1),
+      parts.0,
+      first.0,
+    )
 
 -- nobody is
-pub nobody_told : (word : ℕ) (untried : set.FinSet nat_cmp) (h : LatchRecord)
-    → ◌≡◌ {A = Option (ℕ × Ticket)} None (option_map (with_index (is_ready word untried h.book) h.book.waiting) (next_grantable word untried h.book))
-    → ◌≡◌ {A = Option (ℕ × ℕ)} None (option_map ticket_id (next_grantable word untried h.book))
-nobody_told word untried h told = sym (ap (option_map ticket_id) (nothing (next_grantable word untried h.book) told))
+pub nobody_next : (word : ℕ) (untried : set.FinSet nat_cmp) (h : LatchRecord)
+    → ◌≡◌ {A = Option (ℕ × Ticket)} None (option_map (with_index (is_ready word untried h.book) h.book.waiting) (next_grantable word untried h.book)) → next_grantable word untried h.book ≡ None
+nobody_next word untried h told = nothing (next_grantable word untried h.book) told
   where
     nothing : (o : Option Ticket) → ◌≡◌ {A = Option (ℕ × Ticket)} None (option_map (with_index (is_ready word untried h.book) h.book.waiting) o) → o ≡ None
     nothing None e = refl
@@ -283,14 +272,6 @@ not_ready word untried h tickets none t among =
     (λ can. absurd (fails (and_from _ _ left can)))
     (λ cannot. inr cannot))
     (λ tried. inl tried)
-
--- none is
-pub nobody_next : (word : ℕ) (untried : set.FinSet nat_cmp) (h : LatchRecord) → None ≡ option_map ticket_id (next_grantable word untried h.book) → find (is_ready word untried h.book) h.book.waiting ≡ None
-nobody_next word untried h told = nothing (next_grantable word untried h.book) told
-  where
-    nothing : (o : Option Ticket) → None ≡ option_map ticket_id o → o ≡ None
-    nothing None e = refl
-    nothing (Some x) e = absurd (cc)
 
 -- before the first that passes a test there is none
 none_before : (p q : Ticket → Bool) (ts : List Ticket) (t : Ticket) → find p ts ≡ Some t → q t ≡ true → find p (before_first q ts) ≡ None
@@ -316,16 +297,9 @@ none_before p q (x ∷ xs) t found here =
     first-miss q x xs e = rw e (λ i. take (on (position_or_len q xs) i) (x ∷ xs))
 
 -- nor before the next one
-pub none_ahead : (word session number : ℕ) (untried : set.FinSet nat_cmp) (h : LatchRecord) → Some (session, number) ≡ option_map ticket_id (next_grantable word untried h.book)
-    → find (is_ready word untried h.book) (ahead_of session number h.book.waiting) ≡ None
-none_ahead word session number untried h told =
-    elim (next_grantable word untried h.book) as (λ o. next_grantable word untried h.book ≡ o → Some (session, number) ≡ option_map ticket_id o → find (is_ready word untried h.book) (ahead_of session number h.book.waiting) ≡ None) [
-      | None ↦ λ _ none. absurd (cc)
-      | Some t ↦ λ found same.
-          let id : (t.session, t.number) ≡ (session, number) = cc in
-          none_before (is_ready word untried h.book) (is_ticket session number) h.book.waiting t found
-          (subst (λ (who : ℕ × ℕ). is_ticket who.0 who.1 t ≡ true) id (is_itself t))
-    ] refl told
+pub none_ahead : (word : ℕ) (t : Ticket) (untried : set.FinSet nat_cmp) (h : LatchRecord) → next_grantable word untried h.book ≡ Some t
+    → find (is_ready word untried h.book) (ahead_of t.session t.number h.book.waiting) ≡ None
+none_ahead word t untried h next = none_before (is_ready word untried h.book) (is_ticket t.session t.number) h.book.waiting t next (is_itself t)
 
 -- a ticket that is found has the number that it was looked up by
 pub found_number : (session number : ℕ) (ts : List Ticket) (t : Ticket) → ticket_of session number ts ≡ Some t → t.number ≡ number

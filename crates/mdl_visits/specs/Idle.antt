@@ -11,7 +11,3 @@ HoldsNoLatch m = (length m.0.latches ≡ 0) × (is_some m.0.directory ≡ false)
 pub record MayTakeLatches (s : SeatState) : Type 0 where
   pub idle : HoldsNoLatch s.me
   pub narrow : s.table.slots ≤ 65536
-
--- each ticket that the session has is in a book: none is fast
-abbrev pub HasSlowAlone : Mine → Type 0
-HasSlowAlone m = length m.0.fast ≡ 0

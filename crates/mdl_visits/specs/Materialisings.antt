@@ -1,6 +1,6 @@
 -- How a session's fast tickets at a place become slow: they are granted in the book of the place, and the lock's word no longer counts them.
 -- After MySQL 5.7: `MDL_context::materialize_fast_path_locks` of sql/mdl.cc.
-use Rattle.std.specs.Prelude.{◌≡◌, ◌≢◌, ℕ, ◌+◌, ◌<◌, true, List, [], ◌∷◌, ◌++◌, map, Some, None, ◌⊎◌}
+use Rattle.std.specs.Prelude.{◌≡◌, ◌≢◌, ℕ, ◌+◌, ◌<◌, true, List, [], ◌++◌, map, Some, None, ◌⊎◌}
 use Rattle.mdl_book.specs.declared.book_error.BookError.{BookError}
 use Rattle.mdl_book.specs.declared.book_error.BookError.TheVariants as fault
 use Rattle.mdl_book.specs.declared.book_view.BookView.{BookView}

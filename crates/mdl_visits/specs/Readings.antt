@@ -35,8 +35,3 @@ abbrev pub ReadsStanding : ℕ → VersionedDefinition → SeatState → SeatSta
 ReadsStanding place standing s s′ =
     Learns place standing s.me s′.me
     × ((e : StepRecord) × IsStepOf s.me s′.me e × MeetsStanding place s.me.0.number standing e × WereHeld place s.me.0.number s.me e)
-
--- a step that gave the latch of a place back, by whose record this was the version and definition there, and the session's ticket with this number was
--- granted
-abbrev pub MeetsRead : ℕ → ℕ → ℕ → VersionedDefinition → StepRecord → Type 0
-MeetsRead place session number standing e = MeetsStanding place session standing e × WasHeld place session number e

@@ -1,5 +1,5 @@
 -- A visit of a session to a place: the session takes the latch there, does its work, and gives the latch back. What it met there is in its list of steps.
-use Rattle.std.specs.Prelude.{◌≡◌, ℕ, ◌≤◌, ◌==◌, not, Bool, true, false, List, [], ◌∷◌, ◌++◌, filter, Option, Some, None, ◌⊎◌, Result, MatchResult}
+use Rattle.std.specs.Prelude.{◌≡◌, ℕ, ◌≤◌, ◌==◌, not, Bool, true, false, List, [], ◌∷◌, ◌++◌, filter, Option, Some, None, ◌⊎◌, Result, MatchOption, MatchResult, if◌then◌else◌}
 use lib.ListN.{get_elem?}
 use mathlib.Core.Option.{some}
 use Rattle.mdl_key.specs.declared.mode.Mode.{Mode}
@@ -9,12 +9,13 @@ use Rattle.mdl_book.specs.declared.book_error.BookError.{BookError}
 use Rattle.mdl_book.specs.declared.book_error.BookError.TheVariants as fault
 use Rattle.mdl_book.specs.declared.book_view.BookView.{BookView}
 use Rattle.mdl_book.specs.declared.ticket.Ticket.{Ticket}
-use Rattle.mdl_book.specs.Books.{lock_kind, ticket_count}
+use Rattle.mdl_book.specs.Books.{full_fault, lock_kind, ticket_count}
 use Rattle.mdl_book.specs.FastTickets.{AreOfOthers, CountsFastTickets, can_be_granted}
 use Rattle.mdl_book.specs.Granting.{goes_first, is_grantable}
 use Rattle.mdl_steps.specs.declared.deed.Deed.{Deed}
 use Rattle.mdl_steps.specs.declared.slot.Slot.TheVariants as slot
 use Rattle.mdl_steps.specs.declared.step_kind.StepKind.{StepKind}
+use Rattle.mdl_steps.specs.declared.table_seat.Latched.{Latched}
 use Rattle.mdl_steps.specs.declared.step_kind.StepKind.TheVariants.{PutLatch, RaiseFlags, ReadWord}
 use Rattle.mdl_steps.specs.declared.view.LatchRecord.{LatchRecord}
 use Rattle.mdl_steps.specs.declared.view.Keys.{Keys}
@@ -305,6 +306,20 @@ abbrev pub EndsWish : {T : Type 0} → ℕ → ℕ → Mode → Bool → Result 
 EndsWish q word mode can result Comes s s′ =
     (place : ℕ) (before : SeatState) → HasEntered place q word mode can before s
     → MatchResult result (λ _. Comes place before) (λ cause. WasRefusedWish place mode can cause before s′)
+
+-- why a request for a ticket isn't granted: by the book and the word it can't be, or the book is full
+abbrev pub request_fault : Ticket → ℕ → BookView → Option BookError
+request_fault ticket word book =
+    if can_be_granted (lock_kind book) book.granted book.waiting word ticket.session ticket.mode then full_fault (ticket_count book) else Some fault.WouldConflict
+
+-- the result of a request with which a session entered a place: it was granted by this deed, or it can't be granted, nothing changed and the latch is still
+-- held, or it could be, and nothing changed for lack of room
+abbrev pub EndsRequest : ℕ → ℕ → Mode → Deed → Result (Option Latched) BookError → SeatState → SeatState → Type 0
+EndsRequest q word mode deed result s s′ =
+    (place : ℕ) (can : Bool) (before : SeatState) → HasEntered place q word mode can before s
+    → MatchResult result
+    (λ back. MatchOption back (WasGranted place mode deed before s′) (λ latch. (can ≡ false) × (latch.place ≡ q) × (s′ ≡ s)))
+    (λ cause. (can ≡ true) × WasRefusedWish place mode true cause before s′)
 
 -- at the step the session's request wasn't grantable: whichever fast tickets of other sessions the word counted, by the book it clashed with a granted
 -- ticket or had to wait behind a waiting one

@@ -12,10 +12,23 @@ pub(crate) fn await_latch<R: Wait>(rt: &R, seat: &mut TableSeat, place: usize) -
     requires at { MayVisit place seat.old }
     ensures arrives { Arrives place seat.old result.place seat.new }
 {
+    match seat.take_latch(place) {
+        Some(latch) => latch,
+        None => await_taken_latch(rt, seat, place),
+    }
+}
+
+// The same once the latch was found taken: another try comes after other threads had their turn. It is apart so that the first try is
+// inlined alone.
+#[inline(never)]
+fn await_taken_latch<R: Wait>(rt: &R, seat: &mut TableSeat, place: usize) -> Latched
+    requires at { MayVisit place seat.old }
+    ensures arrives { Arrives place seat.old result.place seat.new }
+{
     for _ in rt.forever() {
-        match seat.take_latch(place) {
-            Some(latch) => return latch,
-            None => thread::yield_now(),
+        thread::yield_now();
+        if let Some(latch) = seat.take_latch(place) {
+            return latch;
         }
     }
     unreachable!()

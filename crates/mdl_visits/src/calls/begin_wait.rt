@@ -41,17 +41,17 @@ pub fn begin_wait<R: Wait>(
     ensures once { IsVisit place (is_obtrusive kind mode) seat.old.me seat.new.me }
     ensures refused { IfErr result (λ cause. WasRefused place cause seat.old seat.new) }
 {
-    let (latch, word, can) = enter(rt, seat, place, mode, is_obtrusive(kind, mode));
-    if can {
-        if let Err(cause) = gain(seat, latch, number, mode, word) {
-            return Err(cause);
+    let (latch, word) = enter(rt, seat, place, mode, is_obtrusive(kind, mode));
+    match gain(seat, latch, number, mode, word) {
+        Ok(None) => Ok(Queued::Granted),
+        Ok(Some(latch)) => {
+            if let Err(cause) = enqueue(seat, latch, number, mode, wait) {
+                return Err(cause);
+            }
+            Ok(Queued::Waiting)
         }
-        return Ok(Queued::Granted);
+        Err(cause) => Err(cause),
     }
-    if let Err(cause) = enqueue(seat, latch, number, mode, wait) {
-        return Err(cause);
-    }
-    Ok(Queued::Waiting)
 }
 
 // Opens a wait at the place that the session entered with a request that can't be granted, and gives the latch back. If there is no room,

@@ -1,5 +1,5 @@
 //! A session's fast tickets at a place become slow ones.
-ghost use Rattle.std.specs.Prelude.{◌≡◌, ◌≤◌, ℕ, length, map, false, None, OnOk, OnErr, IfErr};
+ghost use Rattle.std.specs.Prelude.{◌≡◌, ◌≤◌, ℕ, length, map, false, None, OnOk, IfErr};
 ghost use Rattle.mdl_book.specs.declared.book_view.BookView.{BookView};
 ghost use Rattle.mdl_steps.specs.Cells.{own_at, ticket_by};
 ghost use Rattle.mdl_steps.specs.FastPlays.{moved, weight_of};

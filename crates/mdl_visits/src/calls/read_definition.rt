@@ -1,5 +1,5 @@
 //! Reads the definition of a key, under the latch of its place.
-ghost use Rattle.std.specs.Prelude.{◌≡◌, [], IfOk, OnErr};
+ghost use Rattle.std.specs.Prelude.{[], IfOk, OnErr};
 ghost use Rattle.mdl_steps.specs.SeatStates.{AtItsTable};
 ghost use Rattle.mdl_steps.specs.VersionPlays.{Follows};
 ghost use Rattle.mdl_visits.specs.Readings.{ReadsStanding};

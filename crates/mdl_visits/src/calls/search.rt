@@ -1,6 +1,6 @@
 //! A search for a deadlock: the latches of all places that have a key are taken one after the other, and the books are searched once all
 //! are taken. Only the lists of locks with a waiting ticket are copied: at the others no session waits for another.
-ghost use Rattle.std.specs.Prelude.{◌≡◌, ℕ, ◌+◌, ◌≤◌, ◌&&◌, not, nat_lt, true, [], IfOk, OnErr, OnOk};
+ghost use Rattle.std.specs.Prelude.{◌≡◌, ℕ, ◌+◌, ◌&&◌, not, nat_lt, true, [], IfOk, OnErr, OnOk};
 ghost use Rattle.mdl_steps.specs.Deeds.{KnowsPlace};
 ghost use Rattle.mdl_steps.specs.SeatStates.{AtItsTable, HoldsBook, OfBook};
 ghost use Rattle.mdl_visits.specs.Audits.{MayTakeAll};

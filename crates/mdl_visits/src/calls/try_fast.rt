@@ -31,6 +31,7 @@ const TRIES: u32 = 8;
 ///
 /// `one` is what [`Word::increment`] returns for the mode. `noted` is the version that the session noted under a ticket of the place, if it noted
 /// one. After the fast path of `MDL_context::try_acquire_lock_impl`.
+#[inline(always)]
 pub fn try_fast(
     seat: &mut TableSeat,
     place: usize,

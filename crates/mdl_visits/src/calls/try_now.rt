@@ -38,13 +38,13 @@ pub fn try_now<R: Wait>(
     ensures once { IsVisit place (is_obtrusive kind mode) seat.old.me seat.new.me }
     ensures refused { IfErr result (λ cause. WasRefusedWish place mode true cause seat.old seat.new) }
 {
-    let (latch, word, can) = enter(rt, seat, place, mode, is_obtrusive(kind, mode));
-    if !can {
-        lower_flags_and_put(seat, latch, &[]);
-        return Ok(TryOutcome::Blocked);
+    let (latch, word) = enter(rt, seat, place, mode, is_obtrusive(kind, mode));
+    match gain(seat, latch, number, mode, word) {
+        Ok(None) => Ok(TryOutcome::Granted),
+        Ok(Some(latch)) => {
+            lower_flags_and_put(seat, latch, &[]);
+            Ok(TryOutcome::Blocked)
+        }
+        Err(cause) => Err(cause),
     }
-    if let Err(cause) = gain(seat, latch, number, mode, word) {
-        return Err(cause);
-    }
-    Ok(TryOutcome::Granted)
 }

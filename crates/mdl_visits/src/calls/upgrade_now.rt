@@ -6,7 +6,6 @@ ghost use Rattle.mdl_steps.specs.declared.deed.Deed.TheVariants.{Alter};
 ghost use Rattle.mdl_visits.specs.declared.calls.try_now.TryOutcome.TheVariants.{Granted, Blocked};
 ghost use Rattle.mdl_visits.specs.Coverings.{MayRise};
 ghost use Rattle.mdl_visits.specs.Visits.{IsVisit, MayVisit, RequestsMode, WasBlocked, WasGranted};
-ghost use Rattle.mdl_visits.specs.Leavings.{HasTicket};
 
 use crate::calls::try_now::TryOutcome;
 use crate::enter_and_leave::{enter, lower_flags_and_put};
@@ -31,8 +30,8 @@ pub fn upgrade_now<R: Wait>(
     ensures once { IsVisit place true seat.old.me seat.new.me }
     ensures blocked { result ≡ Blocked → WasBlocked place mode seat.old seat.new }
 {
-    let (latch, word, can) = enter(rt, seat, place, mode, true);
-    if !can {
+    let (latch, word) = enter(rt, seat, place, mode, true);
+    if !seat.can_grant(&latch, mode, word) {
         lower_flags_and_put(seat, latch, &[]);
         return TryOutcome::Blocked;
     }

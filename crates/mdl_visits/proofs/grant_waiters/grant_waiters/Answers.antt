@@ -8,7 +8,7 @@ use Rattle.mdl_steps.specs.Seats.{Holds}
 use Rattle.mdl_visits.specs.Grantings.{ForgetsNobody, GrantsWaits, IsTriedOrGranted, ReschedulesInTurn}
 use Rattle.mdl_visits.proofs.Seats.{mine, place_there, table_of}
 use Rattle.mdl_visits.proofs.Serving.{AreTried, WasRead, fewer_untried, forgets_nobody, looks_ahead, read_before, read_first, tried_first, turn_done}
-use Rattle.mdl_visits.proofs.Waiting.{is_next_at, grants_read, nobody_told}
+use Rattle.mdl_visits.proofs.Waiting.{grants_read, is_next, nobody_next}
 use Rattle.mdl_visits.proofs.Way.{steps_of, rescheduled_read, rescheduled_then}
 use Rattle.mdl_visits.proofs.grant_waiters.grant_waiters.Goals as goal
 
@@ -43,7 +43,7 @@ grant_waiter-requires c =
         is_place = place_there place (table_of same ∙ c.loop-index.invariant.table) c.requires.here.is_place;
         latch = h;
         holds = subst (λ (x : Mine). Holds place h h.book x) (sym {A = Mine} (mine same)) held.1;
-        is_so = (is_next_at c.read_word-word.result.0 c.in-Some.index c.in-Some.ticket c.loop-index.untried h held.2 (c.in-Some.ensures.told h.book held.1.carried)).0;
+        is_so = (is_next c.read_word-word.result.0 c.in-Some.index c.in-Some.ticket c.loop-index.untried h held.2 (c.in-Some.ensures.told h.book held.1.carried)).0;
       };
     }
 
@@ -51,7 +51,7 @@ pub loop-index-smaller : goal.loop-index-smaller
 loop-index-smaller c =
     let held = c.loop-index.invariant.held in
     let h = held.0 in
-    let there = (is_next_at c.read_word-word.result.0 c.in-Some.index c.in-Some.ticket c.loop-index.untried h held.2 (c.in-Some.ensures.told h.book held.1.carried)).1 in
+    let there = (is_next c.read_word-word.result.0 c.in-Some.index c.in-Some.ticket c.loop-index.untried h held.2 (c.in-Some.ensures.told h.book held.1.carried)).1 in
     subst (λ (s : set.FinSet nat_cmp). set.len s < set.len c.loop-index.untried) (sym c.remove.ensures) (fewer_untried c.loop-index.untried c.in-Some.ticket.session there)
 
 pub loop-index-preserved : goal.loop-index-preserved
@@ -73,11 +73,10 @@ loop-index-preserved c =
     let way : GrantsWaits id place m m a = subst (GrantsWaits id place m m) (sym same) c.loop-index.invariant.way in
     let read : WasRead place word m a = subst (WasRead place word m) (sym same) c.loop-index.invariant.read in
     let tried = subst (λ (x : Mine). AreTried id place untried h m x) (sym same) held.3 in
-    let next = is_next_at word c.in-Some.index c.in-Some.ticket untried h held.2 (c.in-Some.ensures.told h.book held.1.carried) in
+    let next = is_next word c.in-Some.index c.in-Some.ticket untried h held.2 (c.in-Some.ensures.told h.book held.1.carried) in
     let ready = next.0.0 in
-    let told = next.2 in
     let in_turn : ReschedulesInTurn id place session number a b = subst (λ (t : TableId). ReschedulesInTurn t place session number a b) table c.grant_waiter.ensures.in_turn.1 in
-    let more = in_turn m h has (looks_ahead id place word untried h m a held.2 read tried session number told) in
+    let more = in_turn m h has (looks_ahead id place word untried h m a held.2 read tried c.in-Some.ticket next.2) in
     let goes = steps_of id place m a b more in
     let served : IsTriedOrGranted id place session number h a b = subst (λ (t : TableId). IsTriedOrGranted t place session number h a b) table (c.grant_waiter.ensures.tried h has) in
     let done = turn_done id place session number word h m a b untried (steps_of id place m m a way) goes has held.2 ready served tried in
@@ -96,7 +95,7 @@ returns c =
     let same = c.next_grantable_at.ensures.same in
     let inv = c.loop-index.invariant in
     let h = inv.held.0 in
-    let none = nobody_told c.read_word-word.result.0 c.loop-index.untried h (c.in_default.ensures.told h.book inv.held.1.carried) in
+    let none = nobody_next c.read_word-word.result.0 c.loop-index.untried h (c.in_default.ensures.told h.book inv.held.1.carried) in
     let forgets = forgets_nobody id place c.read_word-word.result.0 c.loop-index.untried h m c.loop-index.seat.me inv.held.2 inv.read inv.held.3 none in
     record {
       all = record {

@@ -8,8 +8,8 @@ use Rattle.mdl_shared.proofs.session.Session.release_fast.Goals as goal
 pub lose_last-owes-requires : goal.lose_last-owes-requires
 lose_last-owes-requires g c = record { last = c.in-Some.ensures.1 }
 
-pub returns-clause-released : goal.returns-clause-released
-returns-clause-released g c =
+pub returns-in-Some-clause-released : goal.returns-in-Some-clause-released
+returns-in-Some-clause-released g c =
     let gone = c.lose_last-owes.ensures in
     let last = c.in-Some.ensures in
     let held = subst (λ (n : ℕ). numbered n c.self.inside.member.tickets.fast ≡ Some c.in-Some.held) last.0 last.1.0 in

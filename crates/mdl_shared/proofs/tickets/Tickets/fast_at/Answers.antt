@@ -3,6 +3,9 @@ use Rattle.std.proofs.Common.{◌∙◌, sym}
 use Rattle.mdl_shared.proofs.TicketParts.{fast_there}
 use Rattle.mdl_shared.proofs.tickets.Tickets.fast_at.Goals as goal
 
+pub fast_counted-requires : goal.fast_counted-requires
+fast_counted-requires c = record { inside = rw c.deref.ensures.value (rw (← c.self.view_is) at c.requires.reached) }
+
 pub returns : goal.returns
 returns c =
     rw (← c.self.view_is) (rw c.deref.ensures.value at c.fast_counted.ensures ∙ c.self.invariant.fast_counted c.args.place

@@ -1,6 +1,4 @@
 -- The last ticket has the greatest number.
-use Rattle.std.proofs.Common.{◌-◌, ◌<◌, ◌≡◌, ◌∙◌, Some, ap, arith, length, refl, sym}
-use Rattle.mdl_shared.specs.OwnTickets.{fast_of}
 use Rattle.mdl_shared.proofs.TicketEnds.{ends-fast}
 use Rattle.mdl_shared.proofs.tickets.Tickets.last_fast.Goals as goal
 

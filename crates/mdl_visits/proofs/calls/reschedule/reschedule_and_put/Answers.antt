@@ -1,5 +1,5 @@
 -- Nobody waits, or waits were granted.
-use Rattle.std.proofs.Common.{[], ap, false, inl, inr, subst, sym, true, ◌∙◌, ◌≡◌}
+use Rattle.std.proofs.Common.{ap, false, inl, inr, subst, sym, ◌∙◌}
 use Rattle.mdl_steps.specs.Plays.{Mine, served}
 use Rattle.atomic_table.specs.Seated.{TableId}
 use Rattle.mdl_steps.specs.SeatStates.{SeatState}

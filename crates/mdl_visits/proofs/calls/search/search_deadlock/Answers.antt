@@ -5,7 +5,7 @@ use Rattle.std.proofs.lemmas.Result.{IfOk-weaker, on_err_weaker}
 use Rattle.mdl_steps.specs.Copies.{Queues}
 use Rattle.mdl_steps.specs.SeatStates.{SeatState}
 use Rattle.mdl_visits.specs.Searches.{FindsFrom, but_searching, searches_after}
-use Rattle.mdl_visits.proofs.Holding.{in_hand, may_inform, may_take_all, reads_all, searched, took_directory}
+use Rattle.mdl_visits.proofs.Holding.{in_hand, may_inform, reads_all, searched, took_directory}
 use Rattle.mdl_visits.proofs.Outcomes.{knows_on}
 use Rattle.mdl_visits.proofs.Searching.{has_taken_none, informed_still, known_taken, may_inform_still, searched_still, took_still}
 use Rattle.mdl_visits.proofs.calls.search.search_deadlock.Goals as goal

@@ -1,37 +1,65 @@
 -- What came of the wish at the place is told of the seat as it was before.
-use Rattle.std.proofs.Common.{Bool, subst}
-use Rattle.mdl_visits.specs.Visits.{IsVisit}
-use Rattle.mdl_visits.proofs.Trying.{as_told, blocked, rested, visit_entered}
+use Rattle.std.proofs.Common.{Bool, ap, subst, sym, ◌∙◌}
+use Rattle.mdl_steps.specs.Plays.{Mine}
+use Rattle.mdl_steps.specs.SeatStates.{SeatState}
+use Rattle.mdl_visits.specs.Visits.{IsVisit, StaysWithin}
+use Rattle.mdl_visits.proofs.Trying.{blocked, rested, still_entered, visit_entered}
 use Rattle.mdl_visits.proofs.calls.try_now.try_now.Goals as goal
 
-pub enter-can-requires : goal.enter-can-requires
-enter-can-requires g c = record { at = c.requires.may.at; wish = (c.args.kind, c.requires.may.wish, c.is_obtrusive.ensures) }
+pub enter-requires : goal.enter-requires
+enter-requires g c = record { at = c.requires.may.at; wish = (c.args.kind, c.requires.may.wish, c.is_obtrusive.ensures) }
+
+pub gain-requires : goal.gain-requires
+gain-requires g c =
+    let entered = c.enter.ensures.entered in
+    record {
+      entered = (c.args.place, entered.0, c.args.seat.now, entered.1);
+      number = c.requires.number ∙ sym (ap (λ (m : Mine). m.0.next) entered.1.entered.1.inside.now);
+    }
+
+pub returns-in-Ok-None : goal.returns-in-Ok-None
+returns-in-Ok-None g c =
+    let entered = c.enter.ensures.entered in
+    let done = c.in-Ok-None.ensures.done c.args.place entered.0 c.args.seat.now entered.1 in
+    let once = c.in-Ok-None.ensures.once in
+    record {
+      granted = λ _. (rw c.in-Ok-None.field-0-is at done);
+      blocked = λ never. absurd (cc);
+      once = subst (λ (may : Bool). IsVisit c.args.place may c.args.seat.now.me c.gain.new.seat.me) c.is_obtrusive.ensures
+          (visit_entered entered.1 c.is_obtrusive.result c.gain.new.seat c.enter.ensures.within (rw c.in-Ok-None.field-0-is at once));
+      refused = tt;
+    }
 
 pub lower_flags_and_put-requires : goal.lower_flags_and_put-requires
-lower_flags_and_put-requires g c = record { worked = rested c.enter-can.ensures.entered }
+lower_flags_and_put-requires g c =
+    let entered = c.enter.ensures.entered in
+    let done = c.in-Ok-Some.ensures.done c.args.place entered.0 c.args.seat.now entered.1 in
+    record { worked = rested (still_entered (rw c.in-Ok-Some.field-0-is at done) entered.1) }
 
-pub returns-then-not-can-clause-blocked : goal.returns-then-not-can-clause-blocked
-returns-then-not-can-clause-blocked g c =
-    let has = as_told c.if-not-can.true c.enter-can.ensures.entered in
-    λ _. blocked has _ c.lower_flags_and_put.ensures.left.visited c.lower_flags_and_put.ensures.left.step
+pub returns-in-Ok-Some : goal.returns-in-Ok-Some
+returns-in-Ok-Some g c =
+    let seat = c.args.seat.now in
+    let entered = c.enter.ensures.entered in
+    let done = c.in-Ok-Some.ensures.done c.args.place entered.0 seat entered.1 in
+    let told = rw c.in-Ok-Some.field-0-is at done in
+    let has = still_entered told entered.1 in
+    let left = c.lower_flags_and_put.ensures.left in
+    let now = c.lower_flags_and_put.new.seat in
+    let within = subst (λ (x : SeatState). StaysWithin c.is_obtrusive.result seat.me x.me) (sym told.2) c.enter.ensures.within in
+    record {
+      granted = λ never. absurd (cc);
+      blocked = λ _. blocked has now left.visited left.step;
+      once = subst (λ (may : Bool). IsVisit c.args.place may seat.me now.me) c.is_obtrusive.ensures (visit_entered has c.is_obtrusive.result now within left.once);
+      refused = tt;
+    }
 
-pub returns-then-not-can-clause-once : goal.returns-then-not-can-clause-once
-returns-then-not-can-clause-once g c =
-    subst (λ (may : Bool). IsVisit c.args.place may c.args.seat.now.me c.lower_flags_and_put.new.seat.me) c.is_obtrusive.ensures
-    (visit_entered c.enter-can.ensures.entered c.is_obtrusive.result c.lower_flags_and_put.new.seat c.enter-can.ensures.within c.lower_flags_and_put.ensures.left.once)
-
-pub returns-in-Err-clause-once : goal.returns-in-Err-clause-once
-returns-in-Err-clause-once g c =
-    subst (λ (may : Bool). IsVisit c.args.place may c.args.seat.now.me c.gain.new.seat.me) c.is_obtrusive.ensures
-    (visit_entered c.enter-can.ensures.entered c.is_obtrusive.result c.gain.new.seat c.enter-can.ensures.within c.in-Err.ensures.once)
-
-pub returns-clause-once : goal.returns-clause-once
-returns-clause-once g c =
-    subst (λ (may : Bool). IsVisit c.args.place may c.args.seat.now.me c.gain.new.seat.me) c.is_obtrusive.ensures
-    (visit_entered c.enter-can.ensures.entered c.is_obtrusive.result c.gain.new.seat c.enter-can.ensures.within c.in_default.ensures.once)
-
-pub returns-in-Err-clause-refused : goal.returns-in-Err-clause-refused
-returns-in-Err-clause-refused g c = c.in-Err.ensures.done c.args.place c.args.seat.now (as_told c.if-not-can.false c.enter-can.ensures.entered)
-
-pub returns-clause-granted : goal.returns-clause-granted
-returns-clause-granted g c = λ _. c.in_default.ensures.done c.args.place c.args.seat.now (as_told c.if-not-can.false c.enter-can.ensures.entered)
+pub returns-in-Err : goal.returns-in-Err
+returns-in-Err g c =
+    let entered = c.enter.ensures.entered in
+    record {
+      granted = λ never. absurd (cc);
+      blocked = λ never. absurd (cc);
+      once = subst (λ (may : Bool). IsVisit c.args.place may c.args.seat.now.me c.gain.new.seat.me) c.is_obtrusive.ensures
+          (visit_entered entered.1 c.is_obtrusive.result c.gain.new.seat c.enter.ensures.within c.in-Err.ensures.once);
+      refused = (c.in-Err.ensures.done c.args.place entered.0 c.args.seat.now entered.1).1;
+    }

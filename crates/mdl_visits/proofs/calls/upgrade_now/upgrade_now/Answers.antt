@@ -1,52 +1,65 @@
 -- The ticket stands in the book that is met under the latch, so its mode is written where the wish can be granted.
-use Rattle.std.proofs.Common.{true, [], ◌∷◌, sym}
+use Rattle.std.proofs.Common.{true, [], ◌∷◌, refl, sym, subst, ◌∙◌}
 use Rattle.mdl_steps.specs.declared.deed.Deed.TheVariants.{Alter}
+use Rattle.mdl_steps.specs.SeatStates.{SeatState}
+use Rattle.mdl_visits.specs.Visits.{StaysWithin}
 use Rattle.mdl_visits.proofs.Seats.{place_there, table_of}
-use Rattle.mdl_visits.proofs.Trying.{as_told, altered, blocked, entered_holds, granted, ready_altered, rested, visit_entered, visit_written}
+use Rattle.mdl_visits.proofs.Trying.{altered, blocked, entered_holds, granted, ready_altered, rested, still_entered, told_here, visit_entered, visit_written}
 use Rattle.mdl_visits.proofs.calls.upgrade_now.upgrade_now.Goals as goal
 
-pub enter-can-requires : goal.enter-can-requires
-enter-can-requires g c = let wish = c.requires.wish in record { at = c.requires.at; wish = (wish.0, wish.1, sym wish.2) }
+pub enter-requires : goal.enter-requires
+enter-requires g c = let wish = c.requires.wish in record { at = c.requires.at; wish = (wish.0, wish.1, sym wish.2) }
+
+pub can_grant-requires : goal.can_grant-requires
+can_grant-requires g c =
+    let entered = c.enter.ensures.entered in
+    record { carried = (entered.1.entered.1.found.book, (entered_holds entered.1).carried) }
 
 pub lower_flags_and_put-requires : goal.lower_flags_and_put-requires
-lower_flags_and_put-requires g c = record { worked = rested c.enter-can.ensures.entered }
+lower_flags_and_put-requires g c =
+    let entered = c.enter.ensures.entered in
+    record { worked = rested (still_entered (refl, refl, c.can_grant.ensures.same) entered.1) }
 
-pub returns-then-not-can-clause-blocked : goal.returns-then-not-can-clause-blocked
-returns-then-not-can-clause-blocked g c =
-    let has = as_told c.if-not-can.true c.enter-can.ensures.entered in
-    λ _. blocked has _ c.lower_flags_and_put.ensures.left.visited c.lower_flags_and_put.ensures.left.step
-
-pub returns-then-not-can-clause-once : goal.returns-then-not-can-clause-once
-returns-then-not-can-clause-once g c =
-    visit_entered c.enter-can.ensures.entered true c.lower_flags_and_put.new.seat c.enter-can.ensures.within c.lower_flags_and_put.ensures.left.once
-
-pub returns-clause-once : goal.returns-clause-once
-returns-clause-once g c =
-    let has = as_told c.if-not-can.false c.enter-can.ensures.entered in
-    let wrote = c.write_mode-altered in
-    let wish = c.requires.wish in
-    let carried = (entered_holds has).carried in
-    let is = altered has c.args.number wish.0 wish.1.knows wish.2 c.requires.held wrote.new.self wrote.result (wrote.ensures.refused _ carried) (wrote.ensures.written _ carried) in
-    visit_entered c.enter-can.ensures.entered true c.put_latch.new.self c.enter-can.ensures.within
-    (visit_written c.enter-can.result.0.place (Alter c.args.number c.args.mode ∷ []) _ c.enter-can.new.seat wrote.new.self c.put_latch.new.self is c.put_latch.ensures.made)
+pub returns-then-not-can_grant : goal.returns-then-not-can_grant
+returns-then-not-can_grant g c =
+    let entered = c.enter.ensures.entered in
+    let told = c.can_grant.ensures.told entered.1.entered.1.found.book (entered_holds entered.1).carried in
+    let has = still_entered (sym (told_here entered.1) ∙ sym told ∙ c.if-not-can_grant.true, refl, c.can_grant.ensures.same) entered.1 in
+    let left = c.lower_flags_and_put.ensures.left in
+    let within = subst (λ (x : SeatState). StaysWithin true c.args.seat.now.me x.me) (sym c.can_grant.ensures.same) c.enter.ensures.within in
+    record {
+      granted = λ never. absurd (cc);
+      blocked = λ _. blocked has c.lower_flags_and_put.new.seat left.visited left.step;
+      once = visit_entered has true c.lower_flags_and_put.new.seat within left.once;
+    }
 
 pub put_latch-requires : goal.put_latch-requires
 put_latch-requires g c =
-    let has = as_told c.if-not-can.false c.enter-can.ensures.entered in
+    let entered = c.enter.ensures.entered in
+    let told = c.can_grant.ensures.told entered.1.entered.1.found.book (entered_holds entered.1).carried in
+    let has = still_entered (sym (told_here entered.1) ∙ sym told ∙ c.if-not-can_grant.false, refl, c.can_grant.ensures.same) entered.1 in
     let wrote = c.write_mode-altered in
     let wish = c.requires.wish in
     let carried = (entered_holds has).carried in
     let is = altered has c.args.number wish.0 wish.1.knows wish.2 c.requires.held wrote.new.self wrote.result (wrote.ensures.refused _ carried) (wrote.ensures.written _ carried) in
     record {
-      place = place_there c.enter-can.result.0.place (table_of is) has.is_place;
+      place = place_there c.enter.result.0.place (table_of is) has.is_place;
       put = ready_altered has c.args.number wish.0 wish.1.knows wish.2 c.requires.held wrote.new.self is;
     }
 
-pub returns-clause-granted : goal.returns-clause-granted
-returns-clause-granted g c =
-    let has = as_told c.if-not-can.false c.enter-can.ensures.entered in
+pub returns : goal.returns
+returns g c =
+    let entered = c.enter.ensures.entered in
+    let told = c.can_grant.ensures.told entered.1.entered.1.found.book (entered_holds entered.1).carried in
+    let has = still_entered (sym (told_here entered.1) ∙ sym told ∙ c.if-not-can_grant.false, refl, c.can_grant.ensures.same) entered.1 in
     let wrote = c.write_mode-altered in
     let wish = c.requires.wish in
     let carried = (entered_holds has).carried in
     let is = altered has c.args.number wish.0 wish.1.knows wish.2 c.requires.held wrote.new.self wrote.result (wrote.ensures.refused _ carried) (wrote.ensures.written _ carried) in
-    λ _. granted has (Alter c.args.number c.args.mode) wrote.new.self _ is c.put_latch.ensures.made
+    let within = subst (λ (x : SeatState). StaysWithin true c.args.seat.now.me x.me) (sym c.can_grant.ensures.same) c.enter.ensures.within in
+    record {
+      granted = λ _. granted has (Alter c.args.number c.args.mode) wrote.new.self _ is c.put_latch.ensures.made;
+      blocked = λ never. absurd (cc);
+      once = visit_entered has true c.put_latch.new.self within
+          (visit_written c.enter.result.0.place (Alter c.args.number c.args.mode ∷ []) _ c.can_grant.new.self wrote.new.self c.put_latch.new.self is c.put_latch.ensures.made);
+    }

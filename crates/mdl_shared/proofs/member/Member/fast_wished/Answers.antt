@@ -1,0 +1,9 @@
+-- A known key has a kind.
+use Rattle.std.proofs.Common.{Option, subst, sym}
+use Rattle.std.specs.Option.{IsSome}
+use Rattle.mdl_key.specs.declared.namespace.Kind.{Kind}
+use Rattle.mdl_shared.proofs.FastFacts.{known-some}
+use Rattle.mdl_shared.proofs.member.Member.fast_wished.Goals as goal
+
+pub unwrap-kind-requires : goal.unwrap-kind-requires
+unwrap-kind-requires c = subst (λ (o : Option Kind). IsSome o) (sym c.kind_at.ensures) (known-some c.args.place c.args.self.now.known.known c.requires.known)
