@@ -7,7 +7,7 @@ use crate::failure::Failure;
 use crate::lap::spent_since;
 use crate::seat::close;
 use crate::table::table;
-use mdl_calls::{LockSpace, TicketId};
+use mdl_calls::{LockSpace, Place, TicketId};
 use mdl_context::{Acquire, Context, Request};
 use mdl_key::{Duration, Key, MOST_PLACES, MOST_SESSIONS, Mode};
 use mdl_shared::{Manager, Pass, Session};
@@ -29,10 +29,19 @@ pub enum Wish {
     Request,
     /// GLOBAL is acquired in IX and three tables in SW, and the transaction ends.
     Transact,
+    /// The same by the places of the keys, which are kept.
+    TransactAt,
     /// A lock that is held already is acquired again.
     AskAgain,
     /// A hundred tables are locked, and the session rolls back to the mark before them.
     GoBack,
+}
+
+// The keys of a wish, and their places.
+#[derive(Clone, Copy)]
+struct Names<'a> {
+    keys: &'a [Key],
+    places: &'a [Place],
 }
 
 /// Times `turns` turns of a session of a new table. The session holds `tickets` tickets.
@@ -103,31 +112,43 @@ fn timed<R: Clock, S: LockSpace>(
     stock_up(alloc, space, context, tickets)?;
     let next = u64::from(tickets).wrapping_add(1);
     let mut keys = Vec::new(alloc);
+    let mut places = Vec::new(alloc);
     let spent = match list_keys(alloc, wish, &mut keys) {
-        Ok(()) => time_wishes(rt, space, context, wish, &keys, next, turns),
+        Ok(()) => {
+            let known = list_places(space, context, &keys, &mut places);
+            let names = Names {
+                keys: &keys,
+                places: &places,
+            };
+            match known {
+                Ok(()) => time_wishes(rt, space, context, wish, names, next, turns),
+                Err(why) => Err(why),
+            }
+        }
         Err(why) => Err(why),
     };
+    drop(places);
     drop(keys);
     spent
 }
 
-// The same for a session that has its tickets. The first turn isn't timed, as the context looks up the keys then.
+// The same for a session that has its tickets and knows its keys. The first turn isn't timed.
 fn time_wishes<R: Clock, S: LockSpace>(
     rt: &R,
     space: &mut S,
     context: &mut Context<S>,
     wish: &Wish,
-    keys: &[Key],
+    names: Names<'_>,
     next: TicketId,
     turns: u32,
 ) -> Result<time::Duration, Failure>
     requires { Attends S.LockSpace space.old context.old }
 {
-    if wish_often(space, context, wish, keys, next, 1) == 0 {
+    if wish_often(space, context, wish, names, next, 1) == 0 {
         return Err(Failure::Unexpected);
     }
     let began = Instant::now(rt)?;
-    let made = wish_often(space, context, wish, keys, next, turns);
+    let made = wish_often(space, context, wish, names, next, turns);
     spent_since(rt, began, made, turns)
 }
 
@@ -156,7 +177,7 @@ fn stock_up<S: LockSpace>(
 fn list_keys(alloc: Global, wish: &Wish, keys: &mut Vec<Key>) -> Result<(), Failure> {
     match wish {
         Wish::Request | Wish::AskAgain => list_tables(alloc, keys, SPREAD, 1),
-        Wish::Transact => match keys.push(Key::global(alloc)) {
+        Wish::Transact | Wish::TransactAt => match keys.push(Key::global(alloc)) {
             Ok(()) => list_tables(alloc, keys, 0, 3),
             Err(_) => Err(Failure::Memory),
         },
@@ -177,19 +198,40 @@ fn list_tables(alloc: Global, keys: &mut Vec<Key>, from: u16, count: u16) -> Res
     Ok(())
 }
 
+// Adds the places of keys.
+fn list_places<S: LockSpace>(
+    space: &mut S,
+    context: &mut Context<S>,
+    keys: &[Key],
+    places: &mut Vec<Place>,
+) -> Result<(), Failure>
+    requires { Attends S.LockSpace space.old context.old }
+    ensures { Attends S.LockSpace space.new context.new }
+{
+    for key in keys {
+        let Ok(place) = context.place_of(space, key) else {
+            return Err(Failure::Unexpected);
+        };
+        if places.push(place).is_err() {
+            return Err(Failure::Memory);
+        }
+    }
+    Ok(())
+}
+
 // Makes `turns` turns. Returns how many succeeded. The ticket of the first turn gets the number `next`.
 fn wish_often<S: LockSpace>(
     space: &mut S,
     context: &mut Context<S>,
     wish: &Wish,
-    keys: &[Key],
+    names: Names<'_>,
     next: TicketId,
     turns: u32,
 ) -> u32
     requires { Attends S.LockSpace space.old context.old }
     ensures { Attends S.LockSpace space.new context.new }
 {
-    let Some((first, others)) = keys.split_first() else {
+    let Some((first, others)) = names.keys.split_first() else {
         return 0;
     };
     let mut made = 0u32;
@@ -197,8 +239,9 @@ fn wish_often<S: LockSpace>(
         let well = match wish {
             Wish::Request => requests(space, context, first),
             Wish::Transact => transacts(space, context, first, others),
+            Wish::TransactAt => transacts_at(space, context, names.places),
             Wish::AskAgain => asks_again(space, context, first, next),
-            Wish::GoBack => goes_back(space, context, keys),
+            Wish::GoBack => goes_back(space, context, names.keys),
         };
         made = made.wrapping_add(u32::from(well));
     }
@@ -229,6 +272,35 @@ fn transacts<S: LockSpace>(
     acquire(space, context, global, Mode::IX, Duration::Transaction).is_some()
         && acquires(space, context, tables, Mode::SW)
         && context.end_transaction(space).is_ok()
+}
+
+// Acquires the lock at the first place in IX and those at the others in SW, and ends the transaction. Whether all succeeded.
+fn transacts_at<S: LockSpace>(space: &mut S, context: &mut Context<S>, places: &[Place]) -> bool
+    requires { Attends S.LockSpace space.old context.old }
+    ensures { Attends S.LockSpace space.new context.new }
+{
+    let Some((global, tables)) = places.split_first() else {
+        return false;
+    };
+    let mut all = acquires_at(space, context, *global, Mode::IX);
+    for place in tables {
+        all &= acquires_at(space, context, *place, Mode::SW);
+    }
+    all && context.end_transaction(space).is_ok()
+}
+
+// Acquires the lock at a place for the transaction. Whether that succeeded.
+fn acquires_at<S: LockSpace>(
+    space: &mut S,
+    context: &mut Context<S>,
+    place: Place,
+    mode: Mode,
+) -> bool
+    requires { Attends S.LockSpace space.old context.old }
+    ensures { Attends S.LockSpace space.new context.new }
+{
+    let acquired = context.acquire_at(space, place, mode, Duration::Transaction);
+    matches!(acquired, Ok(Acquire::Acquired(_)))
 }
 
 // Acquires a lock. Whether its ticket is `id`, which is used again once it is held.

@@ -15,7 +15,10 @@ use crate::work::Work::{
 /// All rows: those of the table that threads share on one thread, those on several threads, and those of the lower crates.
 pub const ROWS: &[Row] = &[
     Row(PAIRS, &[Goal(0, 2, 170), Goal(1, 2, 170), Goal(3, 0, 280)]),
-    Row(TRANSACTIONS, &[Goal(0, 2, 170), Goal(1, 2, 300)]),
+    Row(
+        TRANSACTIONS,
+        &[Goal(0, 2, 170), Goal(1, 2, 500), Goal(3, 2, 380)],
+    ),
     Row(EXCLUSIVE, &[Goal(0, 1, 250)]),
     Row(GRANTS, &[Goal(1, 2, 300), Goal(1, 0, 1000)]),
     Row(
@@ -77,7 +80,7 @@ const PAIRS: &[Figure] = &[
 
 const TRANSACTION: Workload = Workload("shared", 1, "transaction", 5_000);
 
-// The locks of a transaction that writes three tables, by fast tickets and through a context.
+// The locks of a transaction that writes three tables, by fast tickets, and through a context by keys and by places that are kept.
 const TRANSACTIONS: &[Figure] = &[
     Figure("d_transaction", TRANSACTION, Plays(Transactions)),
     Figure(
@@ -89,6 +92,11 @@ const TRANSACTIONS: &[Figure] = &[
         "d_transaction_steps",
         TRANSACTION,
         Plays(Steps(Step::Transaction)),
+    ),
+    Figure(
+        "d_transaction_places",
+        TRANSACTION,
+        Shared(Wish::TransactAt, 0),
     ),
 ];
 
