@@ -11,6 +11,9 @@ use mdl_steps::{Latched, TableSeat, WaitWord};
 
 /// Reads the lock's word, and grants the waits of tickets at the latched place, in order of arrival, as long as there is one that can be
 /// granted. A wait that is settled already isn't granted. It takes no memory. After `MDL_lock::reschedule_waiters`.
+///
+/// It is apart so that a visit to a place where nobody waits has only the check for waiters inlined.
+#[inline(never)]
 pub(crate) fn grant_waiters(seat: &mut TableSeat, latch: &Latched)
     requires here { HasLatched latch.now.place seat.old IsOrderlyLatch }
     ensures all { GrantsAll latch.now.place seat.old seat.new }
