@@ -2,7 +2,6 @@ pub mod CacheLemmas
 pub mod CachedRuns
 pub mod FaithfulLemmas
 pub mod MappedLists
-pub mod OwnLemmas
 pub mod RunLemmas
 pub mod SeekingLemmas
 pub mod StandingLemmas

@@ -1,10 +1,10 @@
 -- What a space answers to a change of what stands under a key, and why one is refused.
-use Rattle.std.proofs.Common.{◌≡◌, ◌≢◌, ◌⊎◌, inl, inr, ℕ, ◌+◌, true, Option, Some, None, MatchOption, Result, Ok, Err, IfOk, refl, sym, ap, subst, ◌∙◌}
+use Rattle.std.proofs.Common.{◌≡◌, ◌≢◌, inl, inr, ℕ, ◌+◌, true, Option, Some, None, MatchOption, Result, Ok, Err, refl, sym, ap, subst, ◌∙◌}
 use Rattle.mdl_key.specs.declared.namespace.Namespace.{Namespace}
 use Rattle.mdl_defs.specs.declared.change.Change.{Change}
 use Rattle.mdl_defs.specs.declared.change.Change.TheVariants.{Drop}
 use Rattle.mdl_defs.specs.declared.change_error.ChangeError.{ChangeError}
-use Rattle.mdl_defs.specs.declared.change_error.ChangeError.TheVariants.{VersionFull, WrongKind, Def}
+use Rattle.mdl_defs.specs.declared.change_error.ChangeError.TheVariants.{Def}
 use Rattle.mdl_defs.specs.declared.change_error.ChangeError.TheVariants as error
 use Rattle.mdl_defs.specs.declared.def_error.DefError.{DefError}
 use Rattle.mdl_defs.specs.declared.def_error.DefError.TheVariants as fault
@@ -12,7 +12,7 @@ use Rattle.mdl_defs.specs.declared.versioned_definition.VersionedDefinition.{Ver
 use Rattle.mdl_defs.specs.VersionedDefinitions.{standing_fault}
 use Rattle.mdl_defs.proofs.VersionedDefinitionLemmas.{fault-cases}
 use Rattle.mdl_key.specs.Keys.{KeyName}
-use Rattle.mdl_key.specs.Refusals.{Refuses, RefusesJust}
+use Rattle.mdl_key.specs.Refusals.{RefusesJust}
 use Rattle.mdl_key.specs.declared.mode.Mode.TheVariants.{X}
 use Rattle.mdl_key.specs.Words.{same_mode}
 use Rattle.mdl_calls.specs.declared.space_error.SpaceError.{SpaceError}
@@ -44,20 +44,6 @@ drop-memory namespace _ standing result just e = refl
 abbrev pub answered : Result ℕ ChangeError → Answer
 answered (Ok version) = Changed version
 answered (Err why) = Refused (cause_of why)
-
--- what a space answers to a change, where that is made or refused as books do it
-pub is_change-of : (key : KeyName) (change : Change) (standing : VersionedDefinition) (result : Result ℕ ChangeError)
-    → Refuses (standing_fault key.namespace change standing) error.OutOfMemory result → IfOk result (λ version. version ≡ standing.version + 1)
-    → IsChangeOf key change standing (answered result)
-is_change-of key change standing result refuses next = by (standing_fault key.namespace change standing) result refuses next
-  where
-    by : (o : Option ChangeError) (r : Result ℕ ChangeError) → Refuses o error.OutOfMemory r → IfOk r (λ version. version ≡ standing.version + 1)
-        → (answered r ≡ Refused OutOfMemory)
-        ⊎ MatchOption o (answered r ≡ Changed (standing.version + 1)) (λ why. answered r ≡ Refused (cause_of why))
-    by None (Ok version) ok e = inr (ap Changed e)
-    by None (Err why) ok e = inl (ap (λ w. Refused (cause_of w)) ok)
-    by (Some fault) (Ok version) ok e = cc
-    by (Some fault) (Err why) ok e = let same : why ≡ fault = cc in inr (ap (λ w. Refused (cause_of w)) same)
 
 -- each such refusal has its cause, where an exclusive ticket is held
 pub redefined-cause : (knows : Knowledge) (who id : ℕ) (change : Change) (own : SessionLocks) (key : KeyName) (standing : VersionedDefinition) (refusal : SpaceError)

@@ -10,10 +10,6 @@ use Rattle.mdl_calls.specs.Meetings.{IsLast}
 use Rattle.mdl_defs.specs.declared.reading.Reading.{Reading}
 use Rattle.mdl_calls.specs.SessionData.{last_read, was_read, is_newest}
 
-or-none : {A : Type 0} (o : Option A) → option_or o None ≡ o
-or-none None = refl
-or-none (Some x) = refl
-
 -- of some readings and one more, the last one at its place
 pub read-last : (reads : List Reading) (place : ℕ) (standing : VersionedDefinition)
     → last_read place (reads ++ record { place = place; standing = standing } ∷ []) ≡ Some standing

@@ -1,5 +1,5 @@
 -- The room for tickets, from one call of a list to the next.
-use Rattle.std.proofs.Common.{◌≡◌, ℕ, ◌+◌, ◌<◌, ◌≤◌, sym, subst, arith}
+use Rattle.std.proofs.Common.{◌≡◌, ℕ, ◌<◌, ◌≤◌, sym, subst, arith}
 use Rattle.mdl_shared.specs.TicketLists.{KeepsRoom, Room}
 
 -- what isn't touched stays
@@ -8,10 +8,6 @@ keeps-same r = (omega arith, omega arith)
 
 pub keeps-equal : (a b : Room) → b ≡ a → KeepsRoom 0 a b
 keeps-equal a b same = subst (λ (r : Room). KeepsRoom 0 a r) (sym same) (keeps-same a)
-
--- both calls keep the room, but for what they gained together
-pub keeps-then : (m n : ℕ) (a b c : Room) → KeepsRoom m a b → KeepsRoom n b c → KeepsRoom (m + n) a c
-keeps-then m n a b c first second = (omega (arith, first.0, second.0), omega (arith, first.1, second.1))
 
 -- where the first gained none
 pub keeps-before : (n : ℕ) (a b c : Room) → KeepsRoom 0 a b → KeepsRoom n b c → KeepsRoom n a c

@@ -303,10 +303,6 @@ kept_mode ps xs fast at t mode inside is kept = record {
 pub count_struck : (p : Gained → Bool) (xs : List Gained) (at : ℕ) (d : Gained) → at < length xs → count_by p (remove xs at) + cond (p (get_or xs at d)) 1 0 ≡ count_by p xs
 count_struck p xs at d inside = sum_by-remove (λ (t : Gained). cond (p t) 1 0) xs at d inside
 
--- a ticket that passes a test is counted
-pub has_one : (p : Gained → Bool) (xs : List Gained) (at : ℕ) (d : Gained) → at < length xs → p (get_or xs at d) ≡ true → 0 < count_by p xs
-has_one p xs at d inside is = rw (← count_struck p xs at d inside) (rw is (omega arith))
-
 rise_struck : (xs : List Gained) (at : ℕ) → at < length xs → HaveRisingNumbers xs → HaveRisingNumbers (remove xs at)
 rise_struck xs at inside rising i j d before within =
     let shorter = length-remove xs at inside in

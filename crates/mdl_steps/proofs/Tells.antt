@@ -11,7 +11,7 @@ use Rattle.mdl_steps.specs.declared.slot.Slot.{Slot}
 use Rattle.mdl_steps.specs.declared.view.SessionTicket.{SessionTicket}
 use Rattle.mdl_defs.specs.declared.reading.Reading.{Reading}
 use Rattle.mdl_steps.specs.declared.view.View.{View}
-use Rattle.mdl_steps.specs.Cells.{Part, Holder, holder_at, held_at, part_at, reads_at, waits, cell}
+use Rattle.mdl_steps.specs.Cells.{Holder, holder_at, held_at, part_at, reads_at, waits, cell}
 use Rattle.mdl_steps.specs.Lists.{Each}
 use Rattle.mdl_steps.specs.Rule.{Rule, PlaceOk, NoteAgrees, ReadAgrees, ReadsAgree, key_at}
 use Rattle.mdl_steps.specs.RuleLaws.{FreeLocksAreAsTheirWordsTell, HeldLocksAreAsTheirRecordsTell, TakenLatchesAreHeld, NotedVersionsStand, ReadsAreOfWhatStands}

@@ -1,5 +1,5 @@
 -- The book of a place after a step on the wait of a session, which changes the session's part there.
-use Rattle.std.proofs.Common.{◌≡◌, ◌≢◌, ℕ, ◌<◌, ◌==◌, ◌&&◌, Bool, true, false, cond, List, [], ◌∷◌, ◌++◌, map, set, length, Some, None, refl, sym, ap, ◌∙◌, subst, inl, inr, arith, append_assoc}
+use Rattle.std.proofs.Common.{◌≡◌, ◌≢◌, ℕ, Bool, true, false, cond, List, [], ◌∷◌, ◌++◌, map, set, length, Some, None, refl, sym, ap, ◌∙◌, subst, inl, inr, arith, append_assoc}
 use Rattle.std.specs.Prelude.{Option}
 use Rattle.std.specs.List.{list_all}
 use Rattle.std.specs.Option.{option_to_list}
@@ -19,7 +19,7 @@ use Rattle.mdl_book.proofs.GrantingLemmas.{lawful_push}
 use Rattle.mdl_steps.specs.declared.view.SessionTicket.{SessionTicket}
 use Rattle.mdl_steps.specs.Cells.{Part, ticket_by, due, pending, all_fast}
 use Rattle.mdl_steps.specs.Lists.{Each, Once}
-use Rattle.mdl_steps.specs.Rule.{Lawful, SlowHeld, WaitingOk, NoteAgrees, ReadsAgree, PartOk, BookOk, IsUnused, Named}
+use Rattle.mdl_steps.specs.Rule.{Lawful, SlowHeld, WaitingOk, NoteAgrees, PartOk, BookOk}
 use Rattle.mdl_steps.proofs.Deeds.{all_fast-set}
 use Rattle.mdl_steps.proofs.Desks.{each-append}
 use Rattle.mdl_steps.proofs.Tickets.{is_itself, is_passed, of_other, of_other_number, of-push_other, once-push, of-without_own, of-without_other, once-without, all-without}

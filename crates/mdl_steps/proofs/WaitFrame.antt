@@ -14,7 +14,7 @@ use Rattle.mdl_steps.specs.Layout.{latch_word, lock_word, version_word, wait_wor
 use Rattle.mdl_steps.specs.Rule.{Rule, PlaceOk, Numbered, KnowsKeys, WaitOk, WaitsAgree, key_at}
 use Rattle.mdl_steps.proofs.Deeds.{set_twice}
 use Rattle.mdl_steps.proofs.Lift.{Table, after}
-use Rattle.mdl_steps.proofs.Views.{by_bool, map_kept, at_unmap, other}
+use Rattle.mdl_steps.proofs.Views.{map_kept, at_unmap, other}
 
 -- ---- parts by other wait words
 

@@ -10,7 +10,7 @@ use Rattle.mdl_book.specs.declared.ticket.Ticket.{Ticket}
 use Rattle.mdl_book.specs.Books as books
 use Rattle.mdl_book.specs.Granting as book
 use Rattle.mdl_book.specs.Tickets as tickets
-use Rattle.mdl_book.specs.Tickets.{is_ticket, ticket_of, without, with_mode}
+use Rattle.mdl_book.specs.Tickets.{without, with_mode}
 use Rattle.mdl_steps.specs.declared.deed.Deed.{Deed}
 use Rattle.mdl_steps.specs.declared.deed.Deed.TheVariants.{Gain, Alter, Lose}
 use Rattle.mdl_steps.specs.Deeds.{MayJoin, all_booked, booked}

@@ -1,5 +1,5 @@
 -- A session that has a ticket gains a mode that this one covers.
-use Rattle.std.proofs.Common.{◌≡◌, ℕ, ◌+◌, ◌<◌, ◌==◌, Bool, true, false, not, ◌&&◌, ◌||◌, List, [], ◌∷◌, length, map, Some, refl, sym, ap, ◌∙◌, subst, inr, arith}
+use Rattle.std.proofs.Common.{◌≡◌, ℕ, ◌+◌, ◌<◌, ◌==◌, Bool, true, false, not, ◌&&◌, ◌||◌, List, [], ◌∷◌, length, map, Some, refl, sym, ap, ◌∙◌, subst, arith}
 use Rattle.std.specs.Prelude.{Contains, is_some, OnOk, Result, Ok, Err}
 use Rattle.std.specs.List.{list_all, list_any}
 use Rattle.std.proofs.lemmas.Bool.{and_from, eq-eqb, lt-ltb, or_right}
@@ -23,7 +23,7 @@ use Rattle.mdl_steps.specs.declared.deed.Deed.TheVariants.{Alter, Gain}
 use Rattle.mdl_steps.specs.declared.view.LatchRecord.{LatchRecord}
 use Rattle.mdl_steps.specs.declared.view.SessionTicket.{SessionTicket}
 use Rattle.mdl_steps.specs.Cells.{own_at, ticket_by}
-use Rattle.mdl_steps.specs.Deeds.{MayJoin, NotWaited, booked}
+use Rattle.mdl_steps.specs.Deeds.{NotWaited, booked}
 use Rattle.mdl_steps.specs.Plays.{IsFresh, Mine}
 use Rattle.mdl_steps.specs.Rule.{Flagged, TellsLists}
 use Rattle.mdl_steps.specs.Seats.{written}
@@ -191,9 +191,6 @@ module _ (who : ℕ) (mode : Mode) (h : LatchRecord) (covered : IsCovered who mo
       may_stand-none kind h.book.granted who mode
       ∙ weaker_stands kind who covered.stronger.mode mode covered.at_least h.book.granted
       (subst (λ (s : ℕ). is_compatible kind h.book.granted s covered.stronger.mode ≡ true) covered.own beside)
-
-  pub joins : MayJoin who h.book h.noted mode
-  joins = inr (inr (covered.stronger, covered.there, covered.own, covered.at_least))
 
   -- flags that told the lists tell them still, with a ticket in the mode
   pub altered_flagged : (number : ℕ) → Flagged (booked who (Alter number mode) h.book) h.slow h.obtrusive

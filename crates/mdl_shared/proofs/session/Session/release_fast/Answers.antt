@@ -1,5 +1,5 @@
 -- The ticket that goes is the fast one of its number.
-use Rattle.std.proofs.Common.{◌≡◌, Some, ap, subst, ℕ}
+use Rattle.std.proofs.Common.{◌≡◌, Some, subst, ℕ}
 use Rattle.mdl_visits.specs.Numbers.{numbered}
 use Rattle.mdl_shared.specs.Passes.{view_of}
 use Rattle.mdl_shared.proofs.FastCalls.{gave-up-fast}
