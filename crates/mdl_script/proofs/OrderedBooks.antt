@@ -10,8 +10,8 @@ use Rattle.std.proofs.lemmas.List.Sorted.{Contains-permutation, IsPermutation-sy
 use Rattle.std.proofs.lemmas.Map.Keys.{IsDistinct-IsPermutation, IsDistinct-cons, IsDistinct-from_apart, apart_from_distinct}
 use Rattle.mdl_core.proofs.PairLemmas.{pairs-head, pairs-tail}
 use Rattle.mdl_key.specs.Keys.{KeyName, key_cmp, key_eq}
+use Rattle.mdl_system.proofs.Deciding.{key-Decides}
 use Rattle.mdl_steps.specs.Lists.{Distinct, Each}
-use Rattle.mdl_steps.proofs.KeyLemmas.{key-Decides}
 use Rattle.mdl_system.proofs.OrderLemmas.{Contains-cons_cases, Contains-here, Contains-later}
 use Rattle.mdl_visits.specs.declared.audited.Audited.{Audited}
 use Rattle.mdl_visits.proofs.Sorting.{key-ties, key-total}

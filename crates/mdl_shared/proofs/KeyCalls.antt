@@ -22,7 +22,7 @@ use Rattle.mdl_steps.specs.Plays.{Mine}
 use Rattle.mdl_steps.specs.SeatStates.{AtItsTable, SeatState}
 use Rattle.mdl_calls.specs.Learning.{LearnsPlace as LearnsAt, LearnsTables}
 use Rattle.mdl_session_laws.specs.SessionJoins.{Joins}
-use Rattle.mdl_session_laws.proofs.KeyLists.{place-of_key}
+use Rattle.mdl_session_laws.proofs.KeyLists.{place-of_key, stays-known}
 use Rattle.mdl_session_laws.proofs.RefusedCalls.{reads-nothing}
 use Rattle.mdl_visits.specs.Lookups.{IsLookupAnswer, TookDirectory, knowing_key}
 use Rattle.mdl_visits.specs.Tables.{AreAllTables, AreWithin, Asked, HasAsked, IsDirectoryTable, defined_places as asked_places, knowing_all}
@@ -43,7 +43,7 @@ use Rattle.mdl_shared.proofs.Debts.{same-debts}
 use Rattle.mdl_shared.proofs.KnownKeys.{all_learnt, apart_and, new_place}
 use Rattle.mdl_shared.proofs.MemberFacts.{keys-apart, speaks}
 use Rattle.mdl_shared.proofs.Members.{DidDeeds, StaysInOrder, visited}
-use Rattle.mdl_shared.proofs.Membership.{counted_and, still_known, within_and}
+use Rattle.mdl_shared.proofs.Membership.{counted_and, within_and}
 use Rattle.mdl_shared.proofs.SameSpace.{Stays, joins-still, keeps-settled, refused, same-stays, sees-same}
 
 -- ---- a session that learns keys
@@ -76,7 +76,7 @@ learnt-order {more} {s} {s′} learnt is within = subst (λ (x : SessionView). S
   last = is.last;
   told = is.told;
   fewer = is.fewer;
-  owed = λ q owed. still_known s.me.0.known more q (is.owed q owed);
+  owed = λ q owed. stays-known s.me.0.known more q (is.owed q owed);
 })
 
 -- steps alone

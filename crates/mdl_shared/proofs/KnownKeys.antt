@@ -1,5 +1,5 @@
 -- The keys that a session has looked up: no key twice and no place, whichever it looks up more, since the directory has each key at one place.
-use Rattle.std.proofs.Common.{◌≡◌, ℕ, zero, suc, ◌-◌, ◌<◌, ◌==◌, ◌||◌, Bool, true, false, not, List, [], ◌∷◌, ◌++◌, length, get_or, Some, None, refl, sym, ap, ◌∙◌, subst, inl, inr, arith}
+use Rattle.std.proofs.Common.{◌≡◌, ℕ, zero, suc, ◌-◌, ◌<◌, ◌==◌, Bool, true, false, not, List, [], ◌∷◌, ◌++◌, length, get_or, Some, None, refl, sym, ap, ◌∙◌, subst, inl, inr, arith}
 use Rattle.std.specs.Prelude.{All, AllPairs, Ok, Option, filter, slice_get, ◌⊎◌}
 use Rattle.std.specs.List.{list_all}
 use Rattle.std.specs.Ordering.{is_eq}
@@ -10,16 +10,17 @@ use Rattle.std.proofs.lemmas.List.Elements.{All-cons, All-head, All-nil, All-tai
 use Rattle.std.proofs.lemmas.List.Folds.{list_all-append, list_any-append}
 use Rattle.mdl_key.specs.Words.{KeyName, key_eq}
 use Rattle.mdl_key.specs.Keys.{key_cmp}
+use Rattle.mdl_system.proofs.Deciding.{key-Decides}
 use Rattle.mdl_steps.specs.declared.view.Keys.{Keys}
 use Rattle.mdl_key.specs.declared.known_key.KnownKey.{KnownKey}
 use Rattle.mdl_steps.specs.declared.view.View.{View}
 use Rattle.mdl_steps.specs.Lists.{Distinct, Each}
 use Rattle.mdl_steps.specs.Rule.{KnowsKeys, key_at}
 use Rattle.mdl_steps.specs.Schemas.{is_key_known, unknown}
-use Rattle.mdl_steps.proofs.KeyLemmas.{key-Decides}
 use Rattle.mdl_steps.proofs.Looking.{there}
 use Rattle.mdl_steps.proofs.NewKeys.{none_after}
 use Rattle.mdl_steps.proofs.Views.{by_bool}
+use Rattle.mdl_session_laws.proofs.KeyLists.{stays-known}
 use Rattle.mdl_visits.specs.Lookups.{IsLookupAnswer}
 use Rattle.mdl_visits.specs.Tables.{AreAllTables}
 use Rattle.mdl_visits.proofs.Sorting.{key-ties}
@@ -196,9 +197,6 @@ place_there keys (k ∷ ks) t distinct each is e =
     (λ hit. let same = one_place keys k t distinct each.0 is ((key-Decides k.key t.key).0 hit) in rw (eq-eqb k.place t.place same) refl)
     (λ miss. let later = place_there keys ks t distinct each.1 is (rw miss at e) in by_bool (k.place == t.place) (λ here. rw here refl) (λ there_not. rw there_not later))
 
-in_first : (known more : List KnownKey) (place : ℕ) → is_known place known ≡ true → is_known place (known ++ more) ≡ true
-in_first known more place e = list_any-append (λ (k : KnownKey). k.place == place) known more ∙ ap (λ b. b || is_known place more) e
-
 in_second : (known more : List KnownKey) (place : ℕ) → is_known place more ≡ true → is_known place (known ++ more) ≡ true
 in_second known more place e =
     list_any-append (λ (k : KnownKey). k.place == place) known more ∙ by_bool (is_known place known) (λ here. rw here refl) (λ elsewhere. rw elsewhere e)
@@ -241,5 +239,5 @@ module _ (schema : List ℕ) (k : Keys) (v : View) (tables : List KnownKey) (kno
       (place_then distinct t is (all_held v.known tables i d short))
     where
       place_then : Distinct k.keys → (t : KnownKey) → IsThere k.keys t → IsHeld v.known (unknown v.known tables) t → is_known t.place (v.known ++ unknown v.known tables) ≡ true
-      place_then distinct t is (inl old) = in_first v.known (unknown v.known tables) t.place (place_there k.keys v.known t distinct knows is old)
+      place_then distinct t is (inl old) = stays-known v.known (unknown v.known tables) t.place (place_there k.keys v.known t distinct knows is old)
       place_then distinct t is (inr new) = in_second v.known (unknown v.known tables) t.place new

@@ -80,11 +80,6 @@ kind_place place kind (k ∷ ks) e = by_bool (k.place == place) (λ hit. rw hit 
 
 -- ---- with keys more that the session knows
 
-pub still_known : (known more : List KnownKey) (place : ℕ) → is_known place known ≡ true → is_known place (known ++ more) ≡ true
-still_known [] more place e = absurd (cc)
-still_known (k ∷ ks) more place e =
-    by_bool (k.place == place) (λ hit. rw hit refl) (λ miss. rw miss (still_known ks more place (rw miss at e)))
-
 pub within_more : (slots : ℕ) (known : List KnownKey) (one : KnownKey) → are_within slots known ≡ true → (0 < one.place) × (one.place < slots) → are_within slots (known ++ one ∷ []) ≡ true
 within_more slots [] one all here = and_from _ _ (and_from _ _ (lt-ltb 0 one.place here.0) (lt-ltb one.place slots here.1)) refl
 within_more slots (k ∷ ks) one all here =

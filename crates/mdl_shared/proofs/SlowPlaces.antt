@@ -3,6 +3,7 @@ use Rattle.std.proofs.Common.{◌≡◌, ◌≢◌, ◌⊎◌, inl, inr, ℕ, �
 use Rattle.std.proofs.lemmas.Bool.{eq-eqb, eqb-true, false≢true}
 use Rattle.std.proofs.lemmas.Bool.Decides.{nat_tests}
 use Rattle.std.specs.Prelude.{nat_lt}
+use Rattle.mdl_steps.proofs.Materialising.{gone_here}
 use Rattle.mdl_calls.specs.declared.space_error.SpaceError.{SpaceError}
 use Rattle.mdl_steps.specs.declared.view.SessionTicket.{SessionTicket}
 use Rattle.mdl_steps.specs.Cells.{own_at}
@@ -20,13 +21,6 @@ use Rattle.mdl_shared.specs.WishSteps.{AllMadeSlow, FullForFast, IsNextFast, Lac
 use Rattle.mdl_shared.proofs.QuietDeeds.{shows-first, shows-later}
 
 -- ---- the tickets of one place, without those of another
-
-pub none-left : (place : ℕ) (tickets : List SessionTicket) → own_at place (but_at place tickets) ≡ []
-none-left place [] = refl
-none-left place (t ∷ ts) =
-    by_bool (t.place == place)
-    (λ here. rw here (none-left place ts))
-    (λ there. rw (there, there) (none-left place ts))
 
 pub all-left : (place q : ℕ) (tickets : List SessionTicket) → (q == place) ≡ false → own_at q (but_at place tickets) ≡ own_at q tickets
 all-left place q [] apart = refl
@@ -70,7 +64,7 @@ slow-more a b c place first later so fast shown q =
     (λ here.
     let is = eqb-true q place here in
     inr (
-      ap (own_at q) fast ∙ ap (λ (p : ℕ). own_at p (but_at place b.me.0.fast)) is ∙ none-left place b.me.0.fast,
+      ap (own_at q) fast ∙ ap (λ (p : ℕ). own_at p (but_at place b.me.0.fast)) is ∙ gone_here place b.me.0.fast,
       subst (λ (p : ℕ). ShowsStep a c (MakesSlow p)) (sym is) (shows-later a b c first shown),
     ))
     (λ there. same-still a b c q later (ap (own_at q) fast ∙ all-left place q b.me.0.fast there) (so q))
@@ -157,7 +151,7 @@ before-more a b c place so some first fast =
       place + 1,
       λ q. (
         λ before. ap (own_at q) fast ∙ by_bool (q == place)
-            (λ here. let is = eqb-true q place here in ap (λ (p : ℕ). own_at p (but_at place b.me.0.fast)) is ∙ none-left place b.me.0.fast)
+            (λ here. let is = eqb-true q place here in ap (λ (p : ℕ). own_at p (but_at place b.me.0.fast)) is ∙ gone_here place b.me.0.fast)
             (λ there. all-left place q b.me.0.fast there ∙ first q (grind (arith, nat_tests, before, there))),
         λ after. ap (own_at q) fast ∙ all-left place q b.me.0.fast (grind (arith, nat_tests, after)) ∙ (so.1 q).1 (omega (arith, past, after)),
       ),

@@ -1,5 +1,5 @@
 -- What a session keeps of its own is found in the space that it is as a lock space: its tickets by their numbers, the keys by their places.
-use Rattle.std.proofs.Common.{◌≡◌, ℕ, Bool, true, false, ◌==◌, List, [], ◌∷◌, map, find, is_some, Option, Some, None, refl, sym, ap, ◌∙◌}
+use Rattle.std.proofs.Common.{◌≡◌, ℕ, Bool, false, ◌==◌, List, [], ◌∷◌, map, find, Option, Some, None, refl, sym, ap, ◌∙◌}
 use Rattle.std.specs.Option.{option_map, option_map_or}
 use Rattle.mdl_key.specs.declared.mode.Mode.{Mode}
 use Rattle.mdl_key.specs.declared.namespace.Kind.{Kind}
@@ -7,11 +7,10 @@ use Rattle.mdl_key.specs.Words.{KeyName, is_mode_of, kind_of}
 use Rattle.mdl_calls.specs.Words.{is_number}
 use Rattle.mdl_key.specs.declared.known_key.KnownKey.{KnownKey}
 use Rattle.mdl_steps.specs.declared.view.SessionTicket.{SessionTicket}
-use Rattle.mdl_session_laws.proofs.KeyLists.{known-some}
 use Rattle.mdl_steps.proofs.Views.{by_bool}
 use Rattle.mdl_visits.specs.Numbers.{numbered}
 use Rattle.mdl_shared.specs.Modes.{is_fit}
-use Rattle.mdl_key.specs.KeyLookups.{is_known, key_known, kind_known}
+use Rattle.mdl_key.specs.KeyLookups.{key_known, kind_known}
 use Rattle.mdl_shared.specs.OwnLists.{as_held}
 
 -- what is found among the images of a list is the image of what is found in it
@@ -38,15 +37,6 @@ option_map-map f g (Some x) = refl
 pub kind-key : (place : ℕ) (known : List KnownKey) → kind_known place known ≡ option_map (λ (key : KeyName). kind_of key.namespace) (key_known place known)
 kind-key place known =
     sym (option_map-map (λ (k : KnownKey). k.key) (λ (key : KeyName). kind_of key.namespace) (find (λ (k : KnownKey). k.place == place) known))
-
--- a place whose kind is known is known
-pub kind-is_known : (place : ℕ) (kind : Kind) (known : List KnownKey) → kind_known place known ≡ Some kind → is_known place known ≡ true
-kind-is_known place kind known is =
-    known-some known place ∙ by (key_known place known) (sym (kind-key place known) ∙ is)
-  where
-    by : (o : Option KeyName) → option_map (λ (key : KeyName). kind_of key.namespace) o ≡ Some kind → is_some o ≡ true
-    by None e = cc
-    by (Some key) e = refl
 
 -- ---- what is known of a place's kind
 

@@ -17,12 +17,13 @@ use Rattle.mdl_steps.specs.declared.view.SessionTicket.{SessionTicket}
 use Rattle.mdl_steps.specs.Cells.{own_at}
 use Rattle.mdl_steps.specs.FastPlays.{but_at}
 use Rattle.mdl_steps.proofs.Views.{by_bool}
+use Rattle.mdl_steps.proofs.Materialising.{gone_here}
 use Rattle.mdl_visits.specs.Numbers.{numbered}
 use Rattle.mdl_shared.specs.declared.tickets.Gained.{Gained}
 use Rattle.mdl_shared.specs.declared.tickets.OfPlace.{OfPlace}
 use Rattle.mdl_shared.specs.OwnTickets.{HaveRisingNumbers, StandsAt, fast_of, is_fast_there, slowed, slowed_as, with_note}
 use Rattle.mdl_shared.specs.TicketLists.{AreByPlace}
-use Rattle.mdl_shared.proofs.SlowPlaces.{all-left, none-anywhere, none-left}
+use Rattle.mdl_shared.proofs.SlowPlaces.{all-left, none-anywhere}
 use Rattle.mdl_shared.proofs.TicketEdits.{alone, find_none, later_stands, lower, rest}
 use Rattle.mdl_shared.proofs.TicketParts.{later_rise, slowed_there, some_of, there}
 
@@ -208,7 +209,7 @@ pub others-by_place : (tickets listed : List SessionTicket) (place count : ℕ) 
 others-by_place tickets listed place count by is = (
   λ q. ap (own_at q) is ∙ by_bool (q == place)
       (λ here. let its = eqb-true q place here in
-      ap (λ (p : ℕ). own_at p (but_at place listed)) its ∙ none-left place listed ∙ sym (ap (λ (p : ℕ). own_at p (but_at place tickets)) its ∙ none-left place tickets))
+      ap (λ (p : ℕ). own_at p (but_at place listed)) its ∙ gone_here place listed ∙ sym (ap (λ (p : ℕ). own_at p (but_at place tickets)) its ∙ gone_here place tickets))
       (λ there. all-left place q listed there ∙ by.0 q ∙ sym (all-left place q tickets there)),
   λ i j d before inside.
       let longer : count + j < length listed = (let short = length-drop count listed in omega (arith, inside, short)) in

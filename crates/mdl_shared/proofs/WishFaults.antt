@@ -19,9 +19,10 @@ use Rattle.mdl_shared.specs.Members.{most_numbers, wish_fault}
 use Rattle.mdl_shared.specs.Modes.{clone_fault, is_fit}
 use Rattle.mdl_shared.specs.SessionViews.{SessionView, data_of, tickets_seen}
 use Rattle.mdl_shared.proofs.SameSpace.{no-asks, waits-asks}
-use Rattle.mdl_shared.proofs.SpaceLists.{fit-known, kind-is_known, no-kind, of-kind}
+use Rattle.mdl_shared.proofs.SpaceLists.{fit-known, no-kind, of-kind}
 use Rattle.mdl_shared.proofs.SpaceTickets.{holds-told, of-held}
 use Rattle.mdl_shared.proofs.TicketFaults.{other-false}
+use Rattle.mdl_shared.proofs.Membership.{kind_place}
 
 -- tests that come one after another
 chain-clear : (waits fits full : Bool) (one two three : SpaceError)
@@ -74,7 +75,7 @@ module _ (m : SessionView) where
       by None is e = cc
       by (Some kind) is e =
           let clear = chain-clear (is_some m.me.0.asks) (is_mode_of kind mode) (nat_le most_numbers m.me.0.next) AlreadyWaiting BadMode CounterFull e in
-          (clear.0, of-kind place m.me.0.known kind mode true is clear.1, kind-is_known place kind m.me.0.known is, leb-false most_numbers m.me.0.next clear.2)
+          (clear.0, of-kind place m.me.0.known kind mode true is clear.1, kind_place place kind m.me.0.known is, leb-false most_numbers m.me.0.next clear.2)
 
   -- the causes of faults
   pub wish-cause : (P : SpaceError → Type 0) (place : ℕ) (mode : Mode) (why : SpaceError) → (IsUnknown knows place → P NoPlace) → (is_waiting own ≡ true → P AlreadyWaiting)

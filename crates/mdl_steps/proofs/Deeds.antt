@@ -3,7 +3,7 @@ use Rattle.std.proofs.Common.{◌≡◌, ◌≢◌, ℕ, zero, suc, ◌<◌, ◌
 use Rattle.std.specs.Prelude.{Option}
 use Rattle.std.specs.List.{list_all}
 use Rattle.std.specs.Option.{option_to_list, option_map}
-use Rattle.std.proofs.lemmas.Bool.{and_parts, and_from, cases_eq}
+use Rattle.std.proofs.lemmas.Bool.{and_parts, and_from, cases_eq, or_right}
 use Rattle.std.proofs.lemmas.List.Folds.{list_all-append}
 use Rattle.std.proofs.lemmas.List.Sums.{AllPass-from_list_all}
 use mathlib.Core.Option.{some, some-injective}
@@ -30,10 +30,6 @@ use Rattle.mdl_steps.proofs.Tickets.{is_itself, of_other, of_other_number, is_pa
 use Rattle.mdl_steps.proofs.Views.{by_bool}
 
 -- ---- lists
-
-or_true : (b : Bool) → (b || true) ≡ true
-or_true true = refl
-or_true false = refl
 
 pub set_twice : {A : Type 0} → (xs : List A) (i : ℕ) (a b : A) → set (set xs i a) i b ≡ set xs i b
 set_twice [] i a b = refl
@@ -62,7 +58,7 @@ unobtrusive_beside kind session mode [] wish all = refl
 unobtrusive_beside kind session mode (t ∷ ts) wish all =
     let parts = and_parts (not (is_obtrusive kind t.mode)) (list_all (λ t. not (is_obtrusive kind t.mode)) ts) all in
     and_from (stands_beside kind session mode t) (is_compatible kind ts session mode)
-    (rw (unobtrusive_pair kind mode t.mode wish (not_true (is_obtrusive kind t.mode) parts.0)) (or_true (t.session == session)))
+    (rw (unobtrusive_pair kind mode t.mode wish (not_true (is_obtrusive kind t.mode) parts.0)) (or_right (t.session == session) true refl))
     (unobtrusive_beside kind session mode ts wish parts.1)
 
 pub weaker_stands : (kind : Kind) (session : ℕ) (strong weak : Mode) → IsAtLeast kind strong weak → (xs : List Ticket) → is_compatible kind xs session strong ≡ true → is_compatible kind xs session weak ≡ true
@@ -73,7 +69,7 @@ weaker_stands kind session strong weak least (x ∷ xs) all =
     (by_bool (clashes kind weak x.mode)
     (λ clash. let strongly : clashes kind strong x.mode ≡ true = least x.mode clash in
     let own : (x.session == session || not true) ≡ true = rw strongly at parts.0 in rw clash own)
-    (λ free. rw free (or_true (x.session == session))))
+    (λ free. rw free (or_right (x.session == session) true refl)))
     (weaker_stands kind session strong weak least xs parts.1)
 
 pub may_join : (session : ℕ) (book : BookView) (fast : List Ticket) (obtrusive : Bool) (noted : Option ℕ) (mode : Mode)

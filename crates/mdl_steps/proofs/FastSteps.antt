@@ -1,8 +1,8 @@
 -- Reading a word, a fast grant and a fast release keep the rule. None of them needs a latch.
-use Rattle.std.proofs.Common.{◌≡◌, ◌≢◌, ℕ, ◌+◌, ◌-◌, ◌%◌, ◌^◌, ◌<◌, ◌≤◌, ◌==◌, ◌||◌, Bool, true, false, not, cond, List, [], ◌∷◌, ◌++◌, map, set, length, get_or, Some, None, refl, sym, ap, ◌∙◌, subst, inl, inr, arith, rules}
+use Rattle.std.proofs.Common.{◌≡◌, ◌≢◌, ℕ, ◌+◌, ◌-◌, ◌%◌, ◌^◌, ◌<◌, ◌≤◌, ◌==◌, Bool, true, false, not, cond, List, [], ◌∷◌, ◌++◌, map, set, length, get_or, Some, None, refl, sym, ap, ◌∙◌, subst, inl, inr, arith, rules}
 use Rattle.std.specs.Prelude.{Option, count_by}
 use Rattle.std.specs.List.{list_all, list_any, filter}
-use Rattle.std.proofs.lemmas.Bool.{and_parts, and_from}
+use Rattle.std.proofs.lemmas.Bool.{and_parts, and_from, or_parts}
 use Rattle.std.proofs.lemmas.List.{length-append, length-set, map-append}
 use Rattle.std.proofs.lemmas.List.Folds.{list_all-append}
 use Rattle.std.proofs.lemmas.List.Sums.{AllPass-from_list_all, list_all-from_AllPass, length-filter, count_by-le-length}
@@ -15,7 +15,7 @@ use Rattle.mdl_key.specs.declared.namespace.Kind.{Kind}
 use Rattle.mdl_key.specs.declared.mode.Mode.{Mode}
 use Rattle.mdl_key.specs.Matrices.{waits_behind}
 use Rattle.mdl_key.specs.Words.{KeyName, kind_of, is_mode_of, is_obtrusive}
-use Rattle.mdl_word.specs.Words.{bit, Encodes, increment_of, obtrusive_flag, one_in, slow_flag}
+use Rattle.mdl_word.specs.Words.{Encodes, increment_of, obtrusive_flag, one_in, slow_flag}
 use Rattle.mdl_word.proofs.WordLemmas.{obtrusive_of, slow_of}
 use Rattle.mdl_book.specs.declared.book_view.BookView.{BookView}
 use Rattle.mdl_book.specs.declared.ticket.Ticket.{Ticket}
@@ -51,6 +51,8 @@ use Rattle.mdl_steps.proofs.Paid.{owes_else, owes_here}
 use Rattle.mdl_steps.proofs.Views.{at_inside, by_bool, each_at}
 use Rattle.mdl_steps.proofs.Waiting.{owned_set, waiting_kept}
 use Rattle.mdl_steps.proofs.WaitEnds.{own_at-push}
+use Rattle.mdl_steps.proofs.Flags.{bit_small}
+use Rattle.mdl_steps.proofs.Interleaving.{each-filtered}
 
 -- ---- the place, where the fast tickets of one session change, and what it owes, and the word with them
 
@@ -111,10 +113,6 @@ module _ (key : Option KeyName) (c : Cell) (ok : PlaceOk key c) (id : ℕ) (x : 
 
 -- ---- a fast ticket is gained
 
-left_false : (a b : Bool) → (a || b) ≡ false → a ≡ false
-left_false true b e = cc
-left_false false b e = refl
-
 not_false : (b : Bool) → not b ≡ false → b ≡ true
 not_false true e = refl
 not_false false e = cc
@@ -122,18 +120,14 @@ not_false false e = cc
 shown_push : (session : ℕ) (own : SessionTicket) (ts : List SessionTicket) → map (ticket_by session) (ts ++ own ∷ []) ≡ map (ticket_by session) ts ++ ticket_by session own ∷ []
 shown_push session own ts = map-append (ticket_by session) ts (own ∷ [])
 
-right_false : (a b : Bool) → (a || b) ≡ false → b ≡ false
-right_false true b e = cc
-right_false false b e = e
-
 -- no obtrusive ticket is granted where the book has none, and none waits
 all_unobtrusive : (book : BookView) → has_obtrusive book ≡ false → list_all (λ (t : Ticket). not (is_obtrusive (lock_kind book) t.mode)) book.granted ≡ true
 all_unobtrusive book nothing =
-    not_false _ (not_all-any (λ (t : Ticket). is_obtrusive (lock_kind book) t.mode) book.granted ∙ left_false _ _ nothing)
+    not_false _ (not_all-any (λ (t : Ticket). is_obtrusive (lock_kind book) t.mode) book.granted ∙ (or_parts _ _ nothing).0)
 
 none_waits : (book : BookView) → has_obtrusive book ≡ false → list_all (λ (t : Ticket). not (is_obtrusive (lock_kind book) t.mode)) book.waiting ≡ true
 none_waits book nothing =
-    not_false _ (not_all-any (λ (t : Ticket). is_obtrusive (lock_kind book) t.mode) book.waiting ∙ right_false _ _ nothing)
+    not_false _ (not_all-any (λ (t : Ticket). is_obtrusive (lock_kind book) t.mode) book.waiting ∙ (or_parts _ _ nothing).1)
 
 -- an unobtrusive wish waits behind no unobtrusive one
 never_behind : (kind : Kind) (a b : Mode) → is_obtrusive kind a ≡ false → is_obtrusive kind b ≡ false → waits_behind kind a b ≡ false
@@ -297,12 +291,6 @@ all_fewer test session part (t ∷ ts) all =
     (λ is. rw is (and_from _ _ p.0 (all_fewer test session part ts p.1)))
     (λ isnt. rw isnt (all_fewer test session part ts p.1))
 
-pub each_fewer : (P : SessionTicket → Type 0) (part : SessionTicket → Bool) (ts : List SessionTicket) → Each P ts → Each P (filter part ts)
-each_fewer P part [] of_all = tt
-each_fewer P part (t ∷ ts) of_all = by_bool (part t)
-    (λ is. subst (λ (b : Bool). Each P (cond {A = List SessionTicket} b (t ∷ filter part ts) (filter part ts))) (sym is) (of_all.0, each_fewer P part ts of_all.1))
-    (λ isnt. subst (λ (b : Bool). Each P (cond {A = List SessionTicket} b (t ∷ filter part ts) (filter part ts))) (sym isnt) (each_fewer P part ts of_all.1))
-
 length_fewer : (part : SessionTicket → Bool) (ts : List SessionTicket) → length (filter part ts) ≤ length ts
 length_fewer part ts = let is = length-filter part ts in let most = count_by-le-length part ts in omega arith
 
@@ -355,10 +343,6 @@ module _ (key : Option KeyName) (c : Cell) (ok : PlaceOk key c) (id : ℕ) (x : 
   fewer_covers noted counts = λ word is. (let was = counts word is in (was.0, covers_fewer (lock_kind ok.book) word (all_fast c.parts) all_then fast_passed fewer_counted was.1))
 
 -- ---- the steps
-
-bit_small : (b : Bool) → bit b < 2
-bit_small true = omega arith
-bit_small false = omega arith
 
 pub encoded_small : (word a b c : ℕ) (slow obtrusive : Bool) → Encodes word a b c slow obtrusive → word < 2 ^ 62
 encoded_small word a b c slow obtrusive e = omega (arith, bit_small slow, bit_small obtrusive)
@@ -664,9 +648,9 @@ module _ (slots id place : ℕ) (me : Mine) (first : 0 < place) (last : place < 
           spare = refl;
           waiter = refl;
           numbered = record {
-            fast = each_fewer _ (λ t. not (is_own place number t)) me.0.fast row.fast;
+            fast = each-filtered _ (λ t. not (is_own place number t)) me.0.fast row.fast;
             slow = row.slow;
-            unmixed = each_fewer _ (λ t. not (is_own place number t)) me.0.fast row.unmixed;
+            unmixed = each-filtered _ (λ t. not (is_own place number t)) me.0.fast row.unmixed;
             asks = row.asks;
             apart = row.apart;
             unfast = λ a e. ap (but_own place number) (row.unfast a e);
@@ -680,7 +664,7 @@ module _ (slots id place : ℕ) (me : Mine) (first : 0 < place) (last : place < 
         (fast_cell key c ok id was part_there left owed (may.counted_so.1.key, key_there)
         (fewer_lawful key c ok id was part_there left owed fewer_pass fewer_count)
         (let less = length_fewer (λ t. not (is_own place number t)) (own_at place me.0.fast) in let few = part_ok.few in omega arith)
-        (each_fewer (NoteAgrees ok.book) (λ t. not (is_own place number t)) (own_at place me.0.fast) part_ok.versions_agree.fast)
+        (each-filtered (NoteAgrees ok.book) (λ t. not (is_own place number t)) (own_at place me.0.fast) part_ok.versions_agree.fast)
         (n - one) left_counted.1
         (fewer_covers key c ok id was part_there left owed fewer_pass fewer_count)
         (exact_still some_number))))

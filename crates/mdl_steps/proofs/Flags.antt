@@ -1,5 +1,5 @@
 -- A step on the word of a place, whose latch the session holds: flags are raised, and the word is read.
-use Rattle.std.proofs.Common.{◌≡◌, ℕ, ◌<◌, Bool, true, false, ◌||◌, ◌≤◌, not, zero, suc, List, length, get_or, Some, refl, sym, ◌∙◌, subst, arith, bit_or}
+use Rattle.std.proofs.Common.{◌≡◌, ℕ, ◌<◌, Bool, true, false, ◌≤◌, not, zero, suc, List, length, get_or, Some, refl, sym, ◌∙◌, subst, arith, bit_or}
 use Rattle.std.specs.Prelude.{Option, slice_index, count_by}
 use Rattle.std.specs.List.{list_all}
 use Rattle.std.proofs.lemmas.List.Sums.{AllPass-from_list_all}
@@ -7,6 +7,7 @@ use mathlib.Core.Option.{some, none}
 use lib.ListN.{get_elem?}
 use Rattle.atomic_table.specs.Table.{Allows, step, keeps}
 use Rattle.atomic_table.proofs.Lists.{at_map}
+use Rattle.std.proofs.lemmas.Bool.{or_right}
 use Rattle.mdl_key.specs.declared.namespace.Kind.{Kind}
 use Rattle.mdl_key.specs.Words.{KeyName, is_obtrusive}
 use Rattle.mdl_word.specs.Words.{bit, flags_alone, counts_of}
@@ -30,10 +31,6 @@ use Rattle.mdl_steps.proofs.Lift.{Table, after, on_word, parts_again, alone, sea
 use Rattle.mdl_steps.proofs.Holder.{Under, under, holder_cell}
 
 -- ---- words and flags
-
-pub or_true : (a b : Bool) → b ≡ true → (a || b) ≡ true
-or_true true b e = refl
-or_true false b e = e
 
 -- the number of some flags tells which they are
 flags_same : (a b x y : Bool) → flags_alone a b ≡ flags_alone x y → (a ≡ x) × (b ≡ y)
@@ -60,13 +57,13 @@ raised_under : (key : Option KeyName) (number word version : ℕ) (parts : List 
     → Under key number word version parts h → Under key number (bit_or word (flags_alone slow obtrusive)) version parts (raised slow obtrusive h)
 raised_under key number word version parts h slow obtrusive u = record {
   counted = raises u.counted slow obtrusive;
-  flagged = ((λ some. or_true slow h.slow (u.flagged.0 some)), λ some. or_true obtrusive h.obtrusive (u.flagged.1 some));
-  noted = λ w e. let was = u.noted w e in (or_true obtrusive h.obtrusive was.0, was.1);
-  exact = λ e. let was = u.exact e in (or_true slow h.slow was.0, or_true obtrusive h.obtrusive was.1, was.2);
+  flagged = ((λ some. or_right slow h.slow (u.flagged.0 some)), λ some. or_right obtrusive h.obtrusive (u.flagged.1 some));
+  noted = λ w e. let was = u.noted w e in (or_right obtrusive h.obtrusive was.0, was.1);
+  exact = λ e. let was = u.exact e in (or_right slow h.slow was.0, or_right obtrusive h.obtrusive was.1, was.2);
   book_ok = u.book_ok;
 }
 
-bit_small : (b : Bool) → bit b < 2
+pub bit_small : (b : Bool) → bit b < 2
 bit_small true = omega arith
 bit_small false = omega arith
 

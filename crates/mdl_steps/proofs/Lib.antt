@@ -40,7 +40,6 @@ pub mod Searching
 pub mod Hands
 pub mod Tells
 pub mod Desks
-pub mod KeyLemmas
 pub mod Looking
 pub mod NewKeys
 pub mod Opens

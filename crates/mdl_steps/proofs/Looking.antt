@@ -7,7 +7,7 @@ use Rattle.std.proofs.lemmas.Grind.{common_steps}
 use mathlib.Core.Option.{some, some-injective, some-ne-none}
 use lib.ListN.{get_elem?}
 use Rattle.mdl_key.specs.Words.{KeyName, key_eq}
-use Rattle.mdl_steps.proofs.KeyLemmas.{key-Decides}
+use Rattle.mdl_system.proofs.Deciding.{key-Decides}
 use Rattle.mdl_steps.specs.Rule.{key_at}
 use Rattle.mdl_steps.specs.Seats.{place_among}
 use Rattle.mdl_steps.proofs.Views.{by_bool}

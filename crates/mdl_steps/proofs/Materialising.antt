@@ -31,9 +31,9 @@ use Rattle.mdl_steps.specs.Plays.{Mine}
 use Rattle.mdl_steps.specs.Rule.{Rule, PlaceOk, BookOk, PartOk, Counted, NoteAgrees, key_at}
 use Rattle.mdl_steps.specs.TableChanges.{Makes}
 use Rattle.mdl_steps.proofs.Histories.{goes_on}
-use Rattle.mdl_steps.proofs.FastSteps.{covers_fewer, each_fewer, encoded_small}
+use Rattle.mdl_steps.proofs.FastSteps.{covers_fewer, encoded_small}
 use Rattle.mdl_steps.proofs.FastLists.{all_fast-all, all_fast-own, counted_set}
-use Rattle.mdl_steps.proofs.Interleaving.{each-interleaved}
+use Rattle.mdl_steps.proofs.Interleaving.{each-interleaved, each-filtered}
 use Rattle.mdl_steps.proofs.JoinedTickets.{joined_elsewhere, joined_found}
 use Rattle.mdl_steps.proofs.Holder.{Under, under, holder_cell}
 use Rattle.mdl_steps.proofs.Lift.{Table, after, on_word, alone, alone_parts, seat_there}
@@ -353,7 +353,7 @@ module _ (slots id place : ℕ) (me : Mine) (some_number : 0 < me.0.number) (fir
 
     below : Each (λ (t : SessionTicket). t.number < me.0.next) joined
     below = let row = (r.views id me.0 seat).0 in
-        each-interleaved (λ (t : SessionTicket). t.number < me.0.next) me.0.slow (own_at place me.0.fast) row.slow (each_fewer _ (λ t. t.place == place) me.0.fast row.fast)
+        each-interleaved (λ (t : SessionTicket). t.number < me.0.next) me.0.slow (own_at place me.0.fast) row.slow (each-filtered _ (λ t. t.place == place) me.0.fast row.fast)
 
     pub materialised_rule : Rule (after s (lock_word place) ((found + (2 ^ 64 - weight)) % 2 ^ 64) id w s.homes)
     unfolding ok below
@@ -367,7 +367,7 @@ module _ (slots id place : ℕ) (me : Mine) (some_number : 0 < me.0.number) (fir
           spare = refl;
           waiter = refl;
           numbered = record {
-            fast = each_fewer _ (λ t. not (t.place == place)) me.0.fast row.fast;
+            fast = each-filtered _ (λ t. not (t.place == place)) me.0.fast row.fast;
             slow = below;
             unmixed = unmixed_joined place me.0.fast me.0.slow joined (joined_elsewhere place me.0.slow me.0.fast) row.unmixed;
             asks = λ a e. (let idle = may.idle in absurd (cc));

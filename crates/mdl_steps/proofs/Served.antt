@@ -31,7 +31,7 @@ use Rattle.mdl_steps.proofs.Holder.{under, put_cell}
 
 -- ---- what is owed at other places stays
 
-unfiltered : (place q : ℕ) (owes : List ℕ) → q ≢ place → list_any (λ p. p == q) (filter (λ p. not (p == place)) owes) ≡ list_any (λ p. p == q) owes
+pub unfiltered : (place q : ℕ) (owes : List ℕ) → q ≢ place → list_any (λ p. p == q) (filter (λ p. not (p == place)) owes) ≡ list_any (λ p. p == q) owes
 unfiltered place q [] else = refl
 unfiltered place q (p ∷ ps) else = by_bool (p == place)
     (λ here. rw (here, other p q (λ e. else (sym e ∙ eqb-true p place here))) (unfiltered place q ps else))

@@ -2,7 +2,7 @@
 use Rattle.std.proofs.Common.{◌≡◌, ℕ, ◌+◌, ◌<◌, ◌≤◌, ◌||◌, Bool, true, false, List, [], ◌∷◌, ◌++◌, length, cond, Some, refl, sym, ap, ◌∙◌, subst, inl, inr, ◌⊎◌, arith}
 use Rattle.std.specs.Prelude.{Option}
 use Rattle.std.specs.Option.{option_to_list}
-use Rattle.std.proofs.lemmas.Bool.{ltb-true, lt-ltb}
+use Rattle.std.proofs.lemmas.Bool.{ltb-true, lt-ltb, or_right, or_cases}
 use Rattle.mdl_key.specs.declared.namespace.Kind.{Kind}
 use Rattle.mdl_key.specs.Words.{is_obtrusive}
 use Rattle.mdl_book.specs.declared.book_view.BookView.{BookView}
@@ -13,23 +13,15 @@ use Rattle.mdl_steps.specs.Rule.{Flagged}
 use Rattle.mdl_steps.proofs.Tickets.{without-hit, without-miss}
 use Rattle.mdl_steps.proofs.Views.{by_bool}
 
-or_either : (a b : Bool) → (a || b) ≡ true → (a ≡ true) ⊎ (b ≡ true)
-or_either true b e = inl refl
-or_either false b e = inr e
-
-or_right : (a : Bool) → (a || true) ≡ true
-or_right true = refl
-or_right false = refl
-
 module _ (kind : Kind) (session number : ℕ) where
   any_without : (ts : List Ticket) → any_obtrusive kind (without session number ts) ≡ true → any_obtrusive kind ts ≡ true
   any_without [] e = e
   any_without (t ∷ ts) e = by_bool (is_ticket session number t)
       (λ hit. let later : any_obtrusive kind ts ≡ true = subst (λ (xs : List Ticket). any_obtrusive kind xs ≡ true) (without-hit session number t ts hit) e in
-      ap (λ b. is_obtrusive kind t.mode || b) later ∙ or_right (is_obtrusive kind t.mode))
-      (λ miss. elim (or_either (is_obtrusive kind t.mode) (any_obtrusive kind (without session number ts)) (subst (λ (xs : List Ticket). any_obtrusive kind xs ≡ true) (without-miss session number t ts miss) e)) [
+      ap (λ b. is_obtrusive kind t.mode || b) later ∙ or_right (is_obtrusive kind t.mode) true refl)
+      (λ miss. elim (or_cases (is_obtrusive kind t.mode) (any_obtrusive kind (without session number ts)) (subst (λ (xs : List Ticket). any_obtrusive kind xs ≡ true) (without-miss session number t ts miss) e)) [
         | inl first ↦ ap (λ b. b || any_obtrusive kind ts) first
-        | inr later ↦ ap (λ b. is_obtrusive kind t.mode || b) (any_without ts later) ∙ or_right (is_obtrusive kind t.mode)
+        | inr later ↦ ap (λ b. is_obtrusive kind t.mode || b) (any_without ts later) ∙ or_right (is_obtrusive kind t.mode) true refl
       ])
 
   -- a ticket that is there is one of those that are asked
@@ -38,14 +30,14 @@ module _ (kind : Kind) (session number : ℕ) where
   any_found (x ∷ xs) t found e = by_bool (is_ticket session number x)
       (λ hit. let is : x ≡ t = (let first : cond (is_ticket session number x) (Some x) (ticket_of session number xs) ≡ Some x = ap (λ b. cond b (Some x) (ticket_of session number xs)) hit in cc) in
       ap (λ b. b || any_obtrusive kind xs) (ap (λ (y : Ticket). is_obtrusive kind y.mode) is ∙ e))
-      (λ miss. ap (λ b. is_obtrusive kind x.mode || b) (any_found xs t (sym (ap (λ b. cond b (Some x) (ticket_of session number xs)) miss) ∙ found) e) ∙ or_right (is_obtrusive kind x.mode))
+      (λ miss. ap (λ b. is_obtrusive kind x.mode || b) (any_found xs t (sym (ap (λ b. cond b (Some x) (ticket_of session number xs)) miss) ∙ found) e) ∙ or_right (is_obtrusive kind x.mode) true refl)
 
   any_push : (ts : List Ticket) (t : Ticket) → any_obtrusive kind (ts ++ t ∷ []) ≡ true → (any_obtrusive kind ts ≡ true) ⊎ (is_obtrusive kind t.mode ≡ true)
-  any_push [] t e = elim (or_either (is_obtrusive kind t.mode) false e) [ inl is ↦ inr is | inr none ↦ inr (absurd (cc)) ]
-  any_push (x ∷ xs) t e = elim (or_either (is_obtrusive kind x.mode) (any_obtrusive kind (xs ++ t ∷ [])) e) [
+  any_push [] t e = elim (or_cases (is_obtrusive kind t.mode) false e) [ inl is ↦ inr is | inr none ↦ inr (absurd (cc)) ]
+  any_push (x ∷ xs) t e = elim (or_cases (is_obtrusive kind x.mode) (any_obtrusive kind (xs ++ t ∷ [])) e) [
     | inl first ↦ inl (ap (λ b. b || any_obtrusive kind xs) first)
     | inr later ↦ elim (any_push xs t later) [
-      | inl old ↦ inl (ap (λ b. is_obtrusive kind x.mode || b) old ∙ or_right (is_obtrusive kind x.mode))
+      | inl old ↦ inl (ap (λ b. is_obtrusive kind x.mode || b) old ∙ or_right (is_obtrusive kind x.mode) true refl)
       | inr new ↦ inr new
     ]
   ]
@@ -64,12 +56,12 @@ module _ (kind : Kind) (session number : ℕ) where
 pub flagged_admitted : (session number : ℕ) (book : BookView) (t : Ticket) (slow obtrusive : Bool) → ticket_of session number book.waiting ≡ Some t → Flagged book slow obtrusive → Flagged (admitting session number book) slow obtrusive
 flagged_admitted session number book t slow obtrusive found flagged = (
   (λ some. flagged.0 (lt-ltb 0 (length book.granted + length book.waiting) (let more = some_found (lock_kind book) session number book.waiting t found in omega arith))),
-  λ some. flagged.1 (elim (or_either (any_obtrusive (lock_kind book) (book.granted ++ option_to_list (ticket_of session number book.waiting))) (any_obtrusive (lock_kind book) (without session number book.waiting)) some) [
+  λ some. flagged.1 (elim (or_cases (any_obtrusive (lock_kind book) (book.granted ++ option_to_list (ticket_of session number book.waiting))) (any_obtrusive (lock_kind book) (without session number book.waiting)) some) [
     | inl granted ↦ elim (any_push (lock_kind book) session number book.granted t (subst (λ (o : Option Ticket). any_obtrusive (lock_kind book) (book.granted ++ option_to_list o) ≡ true) found granted)) [
       | inl old ↦ ap (λ b. b || any_obtrusive (lock_kind book) book.waiting) old
-      | inr new ↦ ap (λ b. any_obtrusive (lock_kind book) book.granted || b) (any_found (lock_kind book) session number book.waiting t found new) ∙ or_right (any_obtrusive (lock_kind book) book.granted)
+      | inr new ↦ ap (λ b. any_obtrusive (lock_kind book) book.granted || b) (any_found (lock_kind book) session number book.waiting t found new) ∙ or_right (any_obtrusive (lock_kind book) book.granted) true refl
     ]
-    | inr waiting ↦ ap (λ b. any_obtrusive (lock_kind book) book.granted || b) (any_without (lock_kind book) session number book.waiting waiting) ∙ or_right (any_obtrusive (lock_kind book) book.granted)
+    | inr waiting ↦ ap (λ b. any_obtrusive (lock_kind book) book.granted || b) (any_without (lock_kind book) session number book.waiting waiting) ∙ or_right (any_obtrusive (lock_kind book) book.granted) true refl
   ]),
 )
 
@@ -78,8 +70,8 @@ pub flagged_cancelled : (session number : ℕ) (book : BookView) (slow obtrusive
 flagged_cancelled session number book slow obtrusive flagged = (
   (λ some. flagged.0 (lt-ltb 0 (length book.granted + length book.waiting)
       (let were = ltb-true 0 (length book.granted + length (without session number book.waiting)) some in let fewer = fewer_without (lock_kind book) session number book.waiting in omega arith))),
-  λ some. flagged.1 (elim (or_either (any_obtrusive (lock_kind book) book.granted) (any_obtrusive (lock_kind book) (without session number book.waiting)) some) [
+  λ some. flagged.1 (elim (or_cases (any_obtrusive (lock_kind book) book.granted) (any_obtrusive (lock_kind book) (without session number book.waiting)) some) [
     | inl granted ↦ ap (λ b. b || any_obtrusive (lock_kind book) book.waiting) granted
-    | inr waiting ↦ ap (λ b. any_obtrusive (lock_kind book) book.granted || b) (any_without (lock_kind book) session number book.waiting waiting) ∙ or_right (any_obtrusive (lock_kind book) book.granted)
+    | inr waiting ↦ ap (λ b. any_obtrusive (lock_kind book) book.granted || b) (any_without (lock_kind book) session number book.waiting waiting) ∙ or_right (any_obtrusive (lock_kind book) book.granted) true refl
   ]),
 )

@@ -1,8 +1,7 @@
 -- A wish that can't be granted by the record isn't grantable in the system.
-use Rattle.std.proofs.Common.{◌≡◌, ◌≢◌, ℕ, zero, suc, ◌<◌, true, false, inl, inr, List, [], ◌∷◌, ◌++◌, map, get_or, Some, refl, sym, ap, ◌∙◌, subst}
-use Rattle.std.specs.Prelude.{Contains}
+use Rattle.std.proofs.Common.{◌≡◌, ℕ, ◌<◌, true, false, List, [], ◌∷◌, ◌++◌, map, get_or, Some, sym, ap, ◌∙◌, subst}
 use Rattle.std.proofs.lemmas.Bool.{and_parts, and_from}
-use Rattle.std.proofs.lemmas.List.Elements.{Contains-append_cases, Contains-get_or}
+use Rattle.std.proofs.lemmas.List.Elements.{Contains-get_or}
 use mathlib.Core.Option.{some, some-injective}
 use lib.ListN.{get_elem?}
 use Rattle.atomic_table.specs.Table.{State}
@@ -19,9 +18,8 @@ use Rattle.mdl_book.proofs.FastLemmas.{can_be_granted-fast}
 use Rattle.mdl_defs.specs.declared.definition.Definition.{Definition}
 use Rattle.mdl_steps.specs.declared.slot.Slot.{Slot}
 use Rattle.mdl_steps.specs.declared.view.LatchRecord.{LatchRecord}
-use Rattle.mdl_steps.specs.declared.view.SessionTicket.{SessionTicket}
 use Rattle.mdl_steps.specs.declared.view.View.{View}
-use Rattle.mdl_steps.specs.Cells.{all_fast, held_at, own_at, part_at, ticket_by, waits}
+use Rattle.mdl_steps.specs.Cells.{held_at, waits}
 use Rattle.mdl_steps.specs.Plays.{Mine}
 use Rattle.mdl_steps.specs.Rule.{Rule}
 use Rattle.mdl_steps.specs.RuleLaws.{fast_at}
@@ -32,19 +30,8 @@ use Rattle.mdl_steps_laws.specs.WaitLaws.{IsTold}
 use Rattle.mdl_steps_laws.proofs.TableLocks.{same_keys}
 use Rattle.mdl_system.specs.Systems.{System, Waiter, IsGrantable}
 use Rattle.mdl_system.proofs.BookLemmas.{grantable-by_lists}
-use Rattle.mdl_system.proofs.MemberLemmas.{Contains-none, Contains-map_from}
 use Rattle.mdl_steps_laws.proofs.Puttings.{unblocked}
-
--- a fast ticket is that of some session
-owner : (f : ℕ → ℕ) (q : ℕ) (views : List View) (t : Ticket) → Contains (all_fast (map (part_at f q) views)) t
-    → (j : ℕ) × (v : View) × (get_elem? views j ≡ some v) × (v.number ≡ t.session) × (v.fast ≢ [])
-owner f q [] t among = absurd (Contains-none t among)
-owner f q (v ∷ vs) t among = elim (Contains-append_cases (map (ticket_by v.number) (own_at q v.fast)) (all_fast (map (part_at f q) vs)) t among) [
-  | inl mine ↦
-      let from = Contains-map_from (ticket_by v.number) (own_at q v.fast) t mine in
-      (zero, v, refl, ap (λ (u : Ticket). u.session) (sym from.2), λ none. Contains-none from.0 (subst (λ (ts : List SessionTicket). Contains (own_at q ts) from.0) none from.1))
-  | inr later ↦ let rest = owner f q vs t later in (suc rest.0, rest.1, rest.2, rest.3, rest.4)
-]
+use Rattle.mdl_steps_laws.proofs.FastRests.{fast_owner}
 
 granted_part : (k : Kind) (xs ys : List Ticket) (session : ℕ) (mode : Mode) → is_compatible k (xs ++ ys) session mode ≡ true → is_compatible k ys session mode ≡ true
 granted_part k [] ys session mode all = all
@@ -77,7 +64,7 @@ module _ (s : State Slot View) (r : Rule s) (place : ℕ) (key : KeyName) (is_ke
 
   of_others : AreOfOthers m.0.number (fast_at s place)
   of_others k d inside own =
-      let its = owner (waits s) place s.views (get_or (fast_at s place) k d) (Contains-get_or (fast_at s place) k d inside) in
+      let its = fast_owner (waits s) place s.views (get_or (fast_at s place) k d) (Contains-get_or (fast_at s place) k d inside) in
       let same : its.0 ≡ id = r.enrolled.apart its.0 id m.0.number
       (at_map (λ (x : View). x.number) s.views its.0 its.1 its.2 ∙ ap (λ (n : ℕ). some n) (its.3 ∙ own))
       (at_map (λ (x : View). x.number) s.views id m.0 seat) some_number in

@@ -1,9 +1,9 @@
 -- What a step leaves of the debts of its session at a place, and of what its record of the place's latch tells of tickets that were freed.
-use Rattle.std.proofs.Common.{◌≡◌, ◌≢◌, ℕ, ◌<◌, ◌==◌, ◌||◌, Bool, true, false, not, cond, inl, inr, List, [], ◌∷◌, map, Some, None, refl, sym, ap, ◌∙◌, subst, arith}
+use Rattle.std.proofs.Common.{◌≡◌, ℕ, ◌<◌, ◌==◌, Bool, true, false, not, cond, inl, inr, List, [], ◌∷◌, map, Some, None, refl, sym, ap, ◌∙◌, subst, arith}
 use Rattle.std.specs.Prelude.{Option, length, slice_index}
 use Rattle.std.specs.List.{filter, list_any}
 use Rattle.std.specs.Option.{option_map_or}
-use Rattle.std.proofs.lemmas.Bool.{eqb-true}
+use Rattle.std.proofs.lemmas.Bool.{or_parts}
 use mathlib.Core.Option.{some}
 use lib.ListN.{get_elem?}
 use Rattle.atomic_table.specs.Table.{Act, State, Step}
@@ -24,8 +24,9 @@ use Rattle.mdl_steps.specs.Plays.{Mine, logged, lowered, noting, raised, restood
 use Rattle.mdl_steps.specs.Rule.{Rule}
 use Rattle.mdl_steps.specs.VersionPlays.{noting_found}
 use Rattle.mdl_steps.specs.WaitPlays.{asked_ticket, wait_in, with_admitted, with_cancelled, with_waiting}
-use Rattle.mdl_steps.proofs.Views.{by_bool, held_at-changed, held_at-past, held_at-unchanged, held_at-undropped, other}
+use Rattle.mdl_steps.proofs.Views.{held_at-changed, held_at-past, held_at-unchanged, held_at-undropped}
 use Rattle.mdl_system.proofs.Deciding.{nat_told}
+use Rattle.mdl_steps.proofs.Served.{unfiltered}
 use Rattle.mdl_steps_laws.specs.EachStep.{IsWhole}
 use Rattle.mdl_steps_laws.specs.SessionSteps.{Makes}
 
@@ -42,24 +43,9 @@ Serves place _ = ⊥
 same_record : (h g : LatchRecord) → Some h ≡ Some g → h ≡ g
 same_record h g e = cc
 
--- more is owed at another place
-unfiltered : (place q : ℕ) (owes : List ℕ) → q ≢ place → list_any (λ p. p == q) (filter (λ p. not (p == place)) owes) ≡ list_any (λ p. p == q) owes
-unfiltered place q [] else = refl
-unfiltered place q (p ∷ ps) else = by_bool (p == place)
-    (λ here. rw (here, other p q (λ e. else (sym e ∙ eqb-true p place here))) (unfiltered place q ps else))
-    (λ away. rw away (ap (λ (b : Bool). (p == q) || b) (unfiltered place q ps else)))
-
 owed_before : (up : Bool) (q place : ℕ) (owes : List ℕ) → list_any (λ p. p == place) (cond up (q ∷ owes) owes) ≡ false → list_any (λ p. p == place) owes ≡ false
 owed_before false q place owes none = none
-owed_before true q place owes none = no_left (q == place) (list_any (λ p. p == place) owes) none
-  where
-    no_left : (a b : Bool) → (a || b) ≡ false → b ≡ false
-    no_left true b e = absurd (cc)
-    no_left false b e = e
-
-or_none : (a b : Bool) → (a || b) ≡ false → a ≡ false
-or_none true b e = e
-or_none false b e = refl
+owed_before true q place owes none = (or_parts (q == place) (list_any (λ p. p == place) owes) none).1
 
 module _ (place : ℕ) (m : Mine) where
   via : (m′ n : Mine) → m′ ≡ n → KeepsDebts place m.0 n.0 → KeepsDebts place m.0 m′.0
@@ -143,7 +129,7 @@ module _ (place : ℕ) (m : Mine) where
     keeps_debts left act st m′ (Makes.RaisesFlags q slow obtrusive at mask play) whole other_place =
         altered q (raised slow obtrusive) (λ h. refl) (λ h none. none) m′ _ (play.1 q slow obtrusive at mask) refl refl
     keeps_debts left act st m′ (Makes.LowersFlags q deeds slow obtrusive may at mask play) whole other_place =
-        altered q (lowered deeds (all_booked m.0.number deeds may.0.book) slow obtrusive) (λ h. refl) (λ h none. or_none h.freed (frees deeds) none)
+        altered q (lowered deeds (all_booked m.0.number deeds may.0.book) slow obtrusive) (λ h. refl) (λ h none. (or_parts h.freed (frees deeds) none).0)
         m′ _ (play.1 q slow obtrusive (all_booked m.0.number deeds may.0.book) at mask may.1.holds.carried) refl refl
     keeps_debts left act st m′ (Makes.ReadsWord q at play) whole other_place =
         altered q (noting (slice_index s.words st.word)) (λ h. refl) (λ h none. none) m′ _ (play.1 q at) refl refl

@@ -63,13 +63,10 @@ use Rattle.mdl_steps_laws.proofs.WaitGrants.{granting_grants_waiters}
 use Rattle.mdl_steps_laws.proofs.WaitLosses.{settling_loses}
 use Rattle.mdl_steps_laws.proofs.WaitMet.{meeting_rests}
 use Rattle.mdl_steps_laws.proofs.WaitOpens.{opening_begins}
+use Rattle.mdl_steps_laws.proofs.KeysStay.{first_slot}
 
 some_same : {A : Type 0} (x y : A) → Some x ≡ Some y → x ≡ y
 some_same x y e = cc
-
-abbrev first_slot : Slot → List (ℕ × Slot) → Slot
-first_slot else [] = else
-first_slot else (x ∷ xs) = x.1
 
 module _ (s t : State Slot View) (r : Rule s) (r′ : Rule t) (id : ℕ) (m m′ : Mine) (st : Step Slot) (left : ℕ) (act : Act Slot) (seat : get_elem? s.views id ≡ some m.0)
     (moves : t ≡ stepped s st.word left id m.1 m′.0 act) (size : st.slots ≡ length s.homes) (valid : Valid s.homes m.1 act) (carried : m′.1 ≡ carried_after m.1 act) where

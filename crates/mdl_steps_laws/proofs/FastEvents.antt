@@ -41,6 +41,7 @@ use Rattle.mdl_system.proofs.BookLemmas.{changes-by_lists, grantable-by_lists}
 use Rattle.mdl_system.proofs.Deciding.{key_told}
 use Rattle.mdl_system.proofs.MemberLemmas.{Contains-map, Contains-map_from, Contains-none, push-gains}
 use Rattle.mdl_system.proofs.OrderLemmas.{Contains-cons_cases, Contains-here, Contains-later}
+use Rattle.mdl_steps.proofs.Noting.{all_fast-noted}
 use Rattle.mdl_steps_laws.specs.Locks.{Lock, AreKeysOf, IsBookAt, granted_of}
 use Rattle.mdl_steps_laws.specs.WaitLaws.{IsTold}
 use Rattle.mdl_steps_laws.specs.WaitsTold.{code_of}
@@ -48,7 +49,7 @@ use Rattle.mdl_steps_laws.specs.FastLaws.{GrantingFastGrants, ReleasingFastRelea
 use Rattle.mdl_steps_laws.proofs.OneLock.{one_lock}
 use Rattle.mdl_steps_laws.proofs.Keeping.{among_filter, own_parts}
 use Rattle.mdl_steps_laws.proofs.OwnTickets.{next_numbers_are_new, none_slow}
-use Rattle.mdl_steps_laws.proofs.SeatSteps.{all_fast-alike, any_waits}
+use Rattle.mdl_steps_laws.proofs.SeatSteps.{any_waits}
 use Rattle.mdl_steps_laws.proofs.TableLocks.{first_place, same_book, same_keys}
 use Rattle.mdl_steps_laws.proofs.TicketMembers.{found-apart, loses-behind, loses-first, loses-later}
 use Rattle.mdl_steps_laws.proofs.ToldDeeds.{lists_stay, turns_by}
@@ -212,7 +213,7 @@ module _ (s : State Slot View) (r : Rule s) (keys : List KeyName) (keys_are : Ar
   fast_else : (q : ℕ) → q ≢ suc i → fast_at then_state q ≡ fast_at s q
   fast_else q else =
       fast_then q
-      ∙ all_fast-alike (map (part_at (waits s) q) s.views) id (part_at (waits s) q me.0) (part_at (waits s) q w) (at_map (part_at (waits s) q) s.views id me.0 seat)
+      ∙ all_fast-noted (map (part_at (waits s) q) s.views) id (part_at (waits s) q me.0) (part_at (waits s) q w) (at_map (part_at (waits s) q) s.views id me.0 seat)
       (λ j. map (ticket_by (number j)) (fast_away q else j))
 
   keys_then : AreKeysOf then_state keys

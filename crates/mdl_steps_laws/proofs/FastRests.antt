@@ -125,7 +125,7 @@ reading_unlatched_rests s r place first last id me seat kind =
 -- ---- who waits has no fast ticket
 
 -- a fast ticket is that of some session
-fast_owner : (f : ℕ → ℕ) (q : ℕ) (views : List View) (t : Ticket) → Contains (all_fast (map (part_at f q) views)) t
+pub fast_owner : (f : ℕ → ℕ) (q : ℕ) (views : List View) (t : Ticket) → Contains (all_fast (map (part_at f q) views)) t
     → (j : ℕ) × (v : View) × (get_elem? views j ≡ some v) × (v.number ≡ t.session) × (v.fast ≢ [])
 fast_owner f q [] t among = absurd (Contains-none t among)
 fast_owner f q (v ∷ vs) t among = elim (Contains-append_cases (map (ticket_by v.number) (own_at q v.fast)) (all_fast (map (part_at f q) vs)) t among) [

@@ -2,7 +2,7 @@
 use Rattle.std.proofs.Common.{◌≡◌, ◌≢◌, ℕ, zero, suc, ◌+◌, ◌*◌, ◌<◌, ◌==◌, ◌||◌, Bool, true, false, cond, inl, inr, List, [], ◌∷◌, ◌++◌, map, length, get_or, Some, refl, sym, ap, ◌∙◌, subst, arith}
 use Rattle.std.specs.Prelude.{Contains}
 use Rattle.std.specs.List.{list_any}
-use Rattle.std.proofs.lemmas.Bool.{lt-ltb}
+use Rattle.std.proofs.lemmas.Bool.{lt-ltb, or_right}
 use Rattle.std.proofs.lemmas.List.Elements.{Contains-append_right}
 use Rattle.std.proofs.lemmas.List.Folds.{list_any-append}
 use mathlib.Core.Option.{some, some-injective}
@@ -78,16 +78,12 @@ found_among session number (x ∷ xs) t e = by_bool (is_ticket session number x)
     let later = found_among session number xs t (sym (ap (λ b. cond b (Some x) (ticket_of session number xs)) miss) ∙ e) in
     (suc later.0, (let inside = later.1 in omega arith), later.2))
 
-or_last : (a b : Bool) → b ≡ true → (a || b) ≡ true
-or_last true b e = refl
-or_last false b e = e
-
 -- who waits obtrusively makes the list obtrusive
 obtrusive_asked : (book : BookView) (t : Ticket) → is_obtrusive (lock_kind book) t.mode ≡ true → has_obtrusive (enqueueing t book) ≡ true
 obtrusive_asked book t loud =
     let test : Ticket → Bool = λ x. is_obtrusive (lock_kind book) x.mode in
-    or_last (list_any test book.granted) (list_any test (book.waiting ++ t ∷ []))
-    (list_any-append test book.waiting (t ∷ []) ∙ or_last (list_any test book.waiting) (test t || false) (ap (λ (b : Bool). b || false) loud))
+    or_right (list_any test book.granted) (list_any test (book.waiting ++ t ∷ []))
+    (list_any-append test book.waiting (t ∷ []) ∙ or_right (list_any test book.waiting) (test t || false) (ap (λ (b : Bool). b || false) loud))
 
 -- lists with no ticket have none that waits
 none_waits : (book : BookView) → has_tickets book ≡ false → book.waiting ≡ []
@@ -240,10 +236,6 @@ module _ (s t : State Slot View) (before : Reached s) (r : Rule s) (r′ : Rule 
         let is : (f h).freed ≡ false = unfreed id m′.0 (f h) seat_then (ap (λ (p : ℕ). held_at p m′.0.latches) (sym here) ∙ ap (held_at q) latches ∙ held_at-changed q f stays m.0.latches h holds) in
         let freed = up h in absurd (cc)
 
-    or_true : (x : Bool) → (x || true) ≡ true
-    or_true true = refl
-    or_true false = refl
-
     lowers : (q : ℕ) (ds : List Deed) (slow obtrusive : Bool) (may : MayLower q ds slow obtrusive m) (at : st.word ≡ lock_word q) (mask : st.first ≡ all_but_flags slow obtrusive) (play : lowers_flags ds st m found m′)
         → IsWhole s left act {st = st} {m = m} {found = found} {m′ = m′} (Makes.LowersFlags q ds slow obtrusive may at mask play)
         → BringsDeedsAt m.0.number q ds s t → NoneForgottenAt b key
@@ -252,12 +244,12 @@ module _ (s t : State Slot View) (before : Reached s) (r : Rule s) (r′ : Rule 
     lowers q (Alter kept mode ∷ Lose lost ∷ []) slow obtrusive may at mask play whole brought =
         quiet (Makes.LowersFlags q (Alter kept mode ∷ Lose lost ∷ []) slow obtrusive may at mask play) whole (λ e. e) tt brought
     lowers q (Lose number ∷ []) slow obtrusive may at mask play whole brought = elim (nat_told q place) [
-      | inl here ↦ absurd (told_freed q (lowered (Lose number ∷ []) (all_booked m.0.number (Lose number ∷ []) may.0.book) slow obtrusive) (λ h. refl) (λ h. or_true h.freed) may.0 may.1.holds.recorded
+      | inl here ↦ absurd (told_freed q (lowered (Lose number ∷ []) (all_booked m.0.number (Lose number ∷ []) may.0.book) slow obtrusive) (λ h. refl) (λ h. or_right h.freed true refl) may.0 may.1.holds.recorded
           (ap (λ (x : Mine). x.0.latches) (play.1 q slow obtrusive (all_booked m.0.number (Lose number ∷ []) may.0.book) at mask may.1.holds.carried)) here)
       | inr else ↦ deeds_elsewhere m.0.number brought.0 (Lose number ∷ []) (apart q brought.0 brought.1 else) brought.2 (old (Makes.LowersFlags q (Lose number ∷ []) slow obtrusive may at mask play) whole (λ e. e))
     ]
     lowers q (Alter number mode ∷ []) slow obtrusive may at mask play whole brought = elim (nat_told q place) [
-      | inl here ↦ absurd (told_freed q (lowered (Alter number mode ∷ []) (all_booked m.0.number (Alter number mode ∷ []) may.0.book) slow obtrusive) (λ h. refl) (λ h. or_true h.freed) may.0 may.1.holds.recorded
+      | inl here ↦ absurd (told_freed q (lowered (Alter number mode ∷ []) (all_booked m.0.number (Alter number mode ∷ []) may.0.book) slow obtrusive) (λ h. refl) (λ h. or_right h.freed true refl) may.0 may.1.holds.recorded
           (ap (λ (x : Mine). x.0.latches) (play.1 q slow obtrusive (all_booked m.0.number (Alter number mode ∷ []) may.0.book) at mask may.1.holds.carried)) here)
       | inr else ↦ deeds_elsewhere m.0.number brought.0 (Alter number mode ∷ []) (apart q brought.0 brought.1 else) brought.2 (old (Makes.LowersFlags q (Alter number mode ∷ []) slow obtrusive may at mask play) whole (λ e. e))
     ]

@@ -35,7 +35,7 @@ use Rattle.mdl_steps_laws.proofs.TableLocks.{one_directory, ruled_keys, same_key
 abbrev pub IsVacantAt : State Slot View → ℕ → Type 0
 IsVacantAt t place = (book : BookView) → IsBookAt t place book → book.waiting ≡ []
 
-abbrev first_slot : Slot → List (ℕ × Slot) → Slot
+abbrev pub first_slot : Slot → List (ℕ × Slot) → Slot
 first_slot else [] = else
 first_slot else (x ∷ xs) = x.1
 

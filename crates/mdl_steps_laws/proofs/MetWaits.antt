@@ -1,12 +1,12 @@
 -- A wait that was met settled stays so, and keeps its number.
-use Rattle.std.proofs.Common.{◌≡◌, ◌⊎◌, ℕ, zero, suc, ◌/◌, ◌%◌, ◌<◌, true, inl, inr, List, [], ◌∷◌, ◌++◌, set, length, get_or, Some, None, refl, sym, ap, ◌∙◌, subst, arith, length-set}
+use Rattle.std.proofs.Common.{◌≡◌, ◌⊎◌, ℕ, zero, suc, ◌/◌, ◌%◌, ◌<◌, true, inl, inr, List, [], ◌∷◌, ◌++◌, set, length, get_or, Some, None, refl, sym, ap, ◌∙◌, subst, arith}
 use Rattle.std.specs.Prelude.{Option, Contains}
 use Rattle.std.specs.Option.{is_some}
 use Rattle.std.proofs.lemmas.Bool.{cases_eq}
 use Rattle.std.proofs.lemmas.List.Elements.{Contains-append_cases}
-use mathlib.Core.Option.{Option as Maybe, some, some-injective, some-ne-none}
+use mathlib.Core.Option.{some, some-injective, some-ne-none}
 use lib.ListN.{get_elem?}
-use Rattle.atomic_table.specs.Table.{State, Step, Act, keeps, takes, gives, chain, carried_after, homes_after, put_back, stepped}
+use Rattle.atomic_table.specs.Table.{State, Step, Act, stepped}
 use Rattle.atomic_table.proofs.Lists.{at_map, at_set, at_snoc, at_longer, set_here, set_else}
 use Rattle.mdl_book.specs.declared.book_view.BookView.{BookView}
 use Rattle.mdl_book.specs.declared.ticket.Ticket.{Ticket}
@@ -20,6 +20,7 @@ use Rattle.mdl_steps.specs.Plays.{Mine}
 use Rattle.mdl_steps.specs.Rule.{Rule}
 use Rattle.mdl_steps.proofs.Views.{at_inside}
 use Rattle.mdl_steps.proofs.WaitTells.{asks_there}
+use Rattle.mdl_steps.proofs.Histories.{homes_length}
 use Rattle.mdl_steps_laws.specs.EachStep.{IsWhole, IsWholeChange}
 use Rattle.mdl_steps_laws.specs.RestLaws.{first_after}
 use Rattle.mdl_steps_laws.specs.SessionSteps.{Makes, TableChange}
@@ -39,16 +40,6 @@ set_cases (x ∷ xs) zero zero n = inr (refl, refl)
 set_cases (x ∷ xs) zero (suc j) n = inl refl
 set_cases (x ∷ xs) (suc i) zero n = inl refl
 set_cases (x ∷ xs) (suc i) (suc j) n = elim (set_cases xs i j n) [ inl same ↦ inl same | inr new ↦ inr (ap (λ k. suc k) new.0, new.1) ]
-
-put_length : (hs : List (Maybe Slot)) (c : List (ℕ × Slot)) → length (put_back hs c) ≡ length hs
-put_length hs [] = refl
-put_length hs (x ∷ xs) = length-set hs x.0 (some x.1)
-
-homes_length : (hs : List (Maybe Slot)) (c : List (ℕ × Slot)) (act : Act Slot) → length (homes_after hs c act) ≡ length hs
-homes_length hs c keeps = refl
-homes_length hs c (takes k y) = length-set hs k _
-homes_length hs c gives = put_length hs c
-homes_length hs c (chain a b) = homes_length (homes_after hs c a) (carried_after c a) b ∙ homes_length hs c a
 
 none_of_one : (x y : StepRecord) → Contains (x ∷ []) y → x ≡ y
 none_of_one x y among = elim (Contains-cons_cases x [] y among) [ inl later ↦ absurd (Contains-none y later) | inr here ↦ sym here ]

@@ -2,7 +2,7 @@
 use Rattle.std.proofs.Common.{◌≡◌, ◌⊎◌, ℕ, suc, ◌%◌, ◌<◌, ◌||◌, not, Bool, true, false, inl, inr, List, [], ◌∷◌, ◌++◌, length, zero, map, get_or, Some, refl, sym, ap, ◌∙◌, subst, arith, rules}
 use Rattle.std.specs.Prelude.{Contains}
 use Rattle.std.specs.List.{list_any}
-use Rattle.std.proofs.lemmas.Bool.{and_parts, and_from}
+use Rattle.std.proofs.lemmas.Bool.{and_parts, and_from, or_parts}
 use mathlib.Core.Option.{some}
 use lib.ListN.{get_elem?}
 use Rattle.atomic_table.specs.Table.{State}
@@ -47,10 +47,6 @@ unblocked kind word ask plain = by_bool (blocks_by (counts_of word) kind ask)
     (λ blocks. let h = clash_from_blocks_by (counts_of word) kind ask blocks in absurd (uncounted kind (counts_of word) ask h.0 plain h.1 h.2))
     (λ free. rw free refl)
 
-pub no_left : (a b : Bool) → (a || b) ≡ false → b ≡ false
-no_left true b e = absurd (cc)
-no_left false b e = e
-
 pub none_any : (test : Ticket → Bool) (ts : List Ticket) → list_any test ts ≡ false → (k : ℕ) (t : Ticket) → k < length ts → get_or ts k t ≡ t → test t ≡ false
 none_any test [] none k t inside is = absurd (omega arith)
 none_any test (x ∷ xs) none zero t inside is = subst (λ (y : Ticket). test y ≡ false) is (first (test x) none)
@@ -58,7 +54,7 @@ none_any test (x ∷ xs) none zero t inside is = subst (λ (y : Ticket). test y 
     first : (b : Bool) → (b || list_any test xs) ≡ false → b ≡ false
     first true e = absurd (cc)
     first false e = refl
-none_any test (x ∷ xs) none (suc k) t inside is = none_any test xs (no_left (test x) (list_any test xs) none) k t (omega arith) is
+none_any test (x ∷ xs) none (suc k) t inside is = none_any test xs (or_parts (test x) (list_any test xs) none).1 k t (omega arith) is
 
 -- ---- the waiter can't be granted
 
@@ -126,7 +122,7 @@ module _ (s : State Slot View) (r : Rule s) (place : ℕ) (key : KeyName) (is_ke
         (λ up. can_be_granted-fast (counts up) h.book.granted h.book.waiting t.session t.mode of_others ∙ by_lists)
         (λ down.
         let none : has_obtrusive h.book ≡ false = sym exact.1 ∙ down in
-        let plain : is_obtrusive (lock_kind h.book) t.mode ≡ false = none_any (λ (x : Ticket). is_obtrusive (lock_kind h.book) x.mode) h.book.waiting (no_left _ _ none) waits_there.0 t waits_there.1 waits_there.2 in
+        let plain : is_obtrusive (lock_kind h.book) t.mode ≡ false = none_any (λ (x : Ticket). is_obtrusive (lock_kind h.book) x.mode) h.book.waiting (or_parts _ _ none).1 waits_there.0 t waits_there.1 waits_there.2 in
         let g = and_parts (is_compatible (lock_kind h.book) (fast_at s place ++ h.book.granted) t.session t.mode) (goes_first (lock_kind h.book) h.book.waiting t.session t.mode) by_lists in
         let beside = granted_part (lock_kind h.book) (fast_at s place) h.book.granted t.session t.mode g.0 in
         and_from _ _ (and_from _ _ beside (unblocked (lock_kind h.book) word t.mode plain)) g.1)

@@ -1,7 +1,7 @@
 -- The steps by which deeds and changes of definitions come to be of the table do them in the locks that it tells.
-use Rattle.std.proofs.Common.{◌≡◌, ◌≢◌, ℕ, zero, suc, ◌==◌, ◌+◌, ◌*◌, ◌<◌, ◌≤◌, Bool, inl, inr, List, [], ◌∷◌, ◌++◌, length, map, set, get_or, Some, refl, sym, ap, ◌∙◌, subst, arith, length-set, get_or-set_other, get_or-set_same}
+use Rattle.std.proofs.Common.{◌≡◌, ◌≢◌, ℕ, suc, ◌==◌, ◌+◌, ◌*◌, ◌<◌, ◌≤◌, Bool, inl, inr, List, [], ◌∷◌, ◌++◌, length, map, set, get_or, Some, refl, sym, ap, ◌∙◌, subst, arith, length-set, get_or-set_other, get_or-set_same}
 use Rattle.std.proofs.lemmas.List.{map-set}
-use mathlib.Core.Option.{Option as Maybe, some, some-injective}
+use mathlib.Core.Option.{Option as Maybe, some}
 use lib.ListN.{get_elem?}
 use Rattle.atomic_table.specs.Table.{State}
 use Rattle.atomic_table.proofs.Lists.{at_map, at_set, set_here, set_else}
@@ -16,7 +16,7 @@ use Rattle.mdl_steps.specs.declared.slot.Slot.TheVariants as slot
 use Rattle.mdl_steps.specs.declared.view.LatchRecord.{LatchRecord}
 use Rattle.mdl_steps.specs.declared.view.SessionTicket.{SessionTicket}
 use Rattle.mdl_steps.specs.declared.view.View.{View}
-use Rattle.mdl_steps.specs.Cells.{Part, all_fast, held_at, holder_at, own_at, part_at, ticket_by, waits}
+use Rattle.mdl_steps.specs.Cells.{all_fast, held_at, holder_at, own_at, part_at, ticket_by, waits}
 use Rattle.mdl_steps.specs.Deeds.{all_booked}
 use Rattle.mdl_steps.specs.Layout.{latch_word, lock_word, version_word}
 use Rattle.mdl_steps.specs.Plays.{Mine, lowered, noting_version, redefined, restood, flags_lowered, unlatched}
@@ -25,6 +25,7 @@ use Rattle.mdl_steps.specs.RuleLaws.{fast_at}
 use Rattle.mdl_steps.proofs.Books.{all_done_fast}
 use Rattle.mdl_steps.proofs.Views.{at_inside, by_bool, held_at-changed, held_at-unchanged, held_at-undropped}
 use Rattle.mdl_system.specs.Events.{SameElsewhere}
+use Rattle.mdl_steps.proofs.Noting.{all_fast-noted}
 use Rattle.mdl_steps_laws.specs.Locks.{Lock, AreKeysOf, AreLocksOf, IsBookAt}
 use Rattle.mdl_steps_laws.proofs.StepLaws.{LoweringDoes, PuttingDoes, WritingRedefines}
 use Rattle.mdl_steps_laws.specs.StepEvents.{after_put}
@@ -35,13 +36,6 @@ use Rattle.mdl_steps_laws.proofs.TableLocks.{first_place, into_rule, last_place,
 pub any_waits : (f g : ℕ → ℕ) (q : ℕ) (views : List View) → all_fast (map (part_at f q) views) ≡ all_fast (map (part_at g q) views)
 any_waits f g q [] = refl
 any_waits f g q (v ∷ vs) = ap (λ ts. map (ticket_by v.number) (own_at q v.fast) ++ ts) (any_waits f g q vs)
-
--- a part with the same fast tickets, whatever is noted under them
-pub all_fast-alike : (parts : List Part) (id : ℕ) (x y : Part) → get_elem? parts id ≡ some x → map (ticket_by y.number) y.fast ≡ map (ticket_by x.number) x.fast → all_fast (set parts id y) ≡ all_fast parts
-all_fast-alike [] id x y at same = refl
-all_fast-alike (z ∷ zs) zero x y at same =
-    ap (λ ts. ts ++ all_fast zs) (same ∙ ap (λ (p : Part). map (ticket_by p.number) p.fast) (sym (some-injective z x at)))
-all_fast-alike (z ∷ zs) (suc id) x y at same = ap (λ ts. map (ticket_by z.number) z.fast ++ ts) (all_fast-alike zs id x y at same)
 
 -- what a step of a seat at one place leaves: its number, its fast tickets, and the records of other latches
 pub record Leaves (place : ℕ) (v w : View) : Type 0 where
@@ -61,7 +55,7 @@ module _ (s : State Slot View) (place n m id : ℕ) (homes : List (Maybe Slot)) 
   fast_same q =
       any_waits (waits after) (waits s) q (set s.views id w)
       ∙ ap all_fast (map-set (part_at (waits s) q) s.views id w)
-      ∙ all_fast-alike (map (part_at (waits s) q) s.views) id (part_at (waits s) q v) (part_at (waits s) q w)
+      ∙ all_fast-noted (map (part_at (waits s) q) s.views) id (part_at (waits s) q v) (part_at (waits s) q w)
       (at_map (part_at (waits s) q) s.views id v seat) (leaves.fast w.number q ∙ ap (λ (n : ℕ). map (ticket_by n) (own_at q v.fast)) leaves.number)
 
   pub keys_same : 0 < place → w.directory ≡ v.directory → (keys : List KeyName) → AreKeysOf s keys → AreKeysOf after keys

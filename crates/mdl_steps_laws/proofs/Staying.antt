@@ -1,11 +1,11 @@
 -- What a session reads under a ticket stays, until it gives the ticket up or changes the definition.
-use Rattle.std.proofs.Common.{◌≡◌, ℕ, ◌<◌, ◌==◌, true, cond, inl, inr, List, [], ◌∷◌, ◌++◌, length, set, Some, refl, sym, ap, ◌∙◌, subst, length-set}
+use Rattle.std.proofs.Common.{◌≡◌, ℕ, ◌<◌, ◌==◌, true, cond, inl, inr, List, [], ◌∷◌, ◌++◌, length, set, Some, refl, sym, ap, ◌∙◌, subst}
 use Rattle.std.specs.Prelude.{Contains, slice_index}
 use Rattle.std.proofs.lemmas.Bool.{eq-eqb}
 use Rattle.std.proofs.lemmas.List.Elements.{Contains-append_cases, Contains-append_left, Contains-append_right, Contains-push}
-use mathlib.Core.Option.{Option as Maybe, some, some-injective}
+use mathlib.Core.Option.{some, some-injective}
 use lib.ListN.{get_elem?}
-use Rattle.atomic_table.specs.Table.{Act, State, carried_after, chain, gives, homes_after, keeps, put_back, takes}
+use Rattle.atomic_table.specs.Table.{State}
 use Rattle.atomic_table.proofs.Lists.{at_longer, at_map, set_else, set_here}
 use Rattle.mdl_defs.specs.declared.versioned_definition.VersionedDefinition.{VersionedDefinition}
 use Rattle.mdl_book.specs.declared.book_view.BookView.{BookView}
@@ -20,6 +20,7 @@ use Rattle.mdl_steps.specs.VersionPlays.{noted_version}
 use Rattle.mdl_steps.proofs.Views.{at_inside, by_bool}
 use Rattle.mdl_system.proofs.Deciding.{nat_told}
 use Rattle.mdl_system.proofs.MemberLemmas.{Contains-map, Contains-map_from}
+use Rattle.mdl_steps.proofs.Histories.{homes_length}
 use Rattle.mdl_steps_laws.specs.Headline.{DefinitionsStay, Follow, HasNoted, HasPlace, HasRead, HitsNote, LearnsOf, NotesStay, ReadingsNote, Stands, VersionsNote}
 use Rattle.mdl_steps_laws.specs.SessionSteps.{TableChange}
 use Rattle.mdl_steps_laws.proofs.Keeping.{Kept, own_is, own_parts}
@@ -78,18 +79,8 @@ notes_stay s t r (TableChange.Splits u first more there fast slow reads moves) p
 
 -- ---- many changes
 
-put_back-length : (hs : List (Maybe Slot)) (c : List (ℕ × Slot)) → length (put_back hs c) ≡ length hs
-put_back-length hs [] = refl
-put_back-length hs (x ∷ xs) = length-set hs x.0 (some x.1)
-
-homes-length : (hs : List (Maybe Slot)) (c : List (ℕ × Slot)) (a : Act Slot) → length (homes_after hs c a) ≡ length hs
-homes-length hs c keeps = refl
-homes-length hs c (takes k y) = length-set hs k Maybe.none
-homes-length hs c gives = put_back-length hs c
-homes-length hs c (chain a b) = homes-length (homes_after hs c a) (carried_after c a) b ∙ homes-length hs c a
-
 turn-places : (s t : State Slot View) → TableChange s t → length t.homes ≡ length s.homes
-turn-places s t (TableChange.Steps id m m′ st left act there made moves) = ap (λ (x : State Slot View). length x.homes) moves ∙ homes-length s.homes m.1 act
+turn-places s t (TableChange.Steps id m m′ st left act there made moves) = ap (λ (x : State Slot View). length x.homes) moves ∙ homes_length s.homes m.1 act
 turn-places s t (TableChange.Splits u first more there fast slow reads moves) = ap (λ (x : State Slot View). length x.homes) moves
 
 all_stay : (s : State Slot View) → Rule s → (place : ℕ) → HasPlace s place → (seat number : ℕ) (v : View) → get_elem? s.views seat ≡ some v → (standing : VersionedDefinition)

@@ -1,5 +1,5 @@
 -- The place of a step has a key where its session knows one there, or where the book there is in use.
-use Rattle.std.proofs.Common.{◌≡◌, ℕ, zero, suc, ◌-◌, ◌<◌, List, [], ◌∷◌, Some, None, refl, sym, ap, ◌∙◌, subst, arith}
+use Rattle.std.proofs.Common.{◌≡◌, ℕ, suc, ◌-◌, ◌<◌, List, [], Some, None, refl, sym, ap, ◌∙◌, subst, arith}
 use Rattle.std.specs.Prelude.{Contains, Option, slice_get}
 use mathlib.Core.Option.{some}
 use lib.ListN.{get_elem?}
@@ -18,14 +18,10 @@ use Rattle.mdl_steps.specs.Rule.{IsUnused, Rule, key_at}
 use Rattle.mdl_steps.proofs.Views.{each_at}
 use Rattle.mdl_system.proofs.MemberLemmas.{Contains-none}
 use Rattle.mdl_steps_laws.specs.Headline.{HasPlace}
-
-slice_at : (keys : List KeyName) (i : ℕ) (key : KeyName) → slice_get keys i ≡ Some key → get_elem? keys i ≡ some key
-slice_at [] i key e = absurd (cc)
-slice_at (k ∷ ks) zero key e = (let same : k ≡ key = cc in ap (λ (x : KeyName). some x) same)
-slice_at (k ∷ ks) (suc i) key e = slice_at ks i key e
+use Rattle.mdl_steps_laws.proofs.WaitAsks.{at_from_get}
 
 key_here : (keys : List KeyName) (i : ℕ) (key : KeyName) → key_at keys (suc i) ≡ Some key → get_elem? keys i ≡ some key
-key_here keys i key e = slice_at keys i key ((let back : i ≡ suc i - 1 = omega arith in ap (slice_get keys) back) ∙ e)
+key_here keys i key e = at_from_get keys i key ((let back : i ≡ suc i - 1 = omega arith in ap (slice_get keys) back) ∙ e)
 
 module _ (s : State Slot View) (r : Rule s) (id : ℕ) (v : View) (seat : get_elem? s.views id ≡ some v) (i : ℕ) where
   -- the session knows a key there

@@ -1,8 +1,8 @@
 -- All deadlocks go through sessions that have yet to search.
-use Rattle.std.proofs.Common.{◌≡◌, ◌≢◌, ◌⊎◌, ℕ, zero, suc, ◌==◌, ◌&&◌, ◌||◌, not, Bool, true, false, inl, inr, List, [], ◌∷◌, ◌++◌, length, set, get_or, refl, sym, ap, ◌∙◌, subst, arith, eq-eqb, eqb-true}
+use Rattle.std.proofs.Common.{◌≡◌, ◌≢◌, ℕ, zero, suc, ◌==◌, ◌&&◌, ◌||◌, not, Bool, true, false, inl, inr, List, [], ◌∷◌, ◌++◌, length, set, get_or, refl, sym, ap, ◌∙◌, subst, arith, eq-eqb, eqb-true}
 use Rattle.std.specs.List.{list_any}
 use Rattle.std.specs.Prelude.{Contains}
-use Rattle.std.proofs.lemmas.Bool.{and_from, and_parts, false≢true}
+use Rattle.std.proofs.lemmas.Bool.{and_from, and_parts, false≢true, or_right, or_cases}
 use mathlib.Core.Option.{some, some-injective, some-ne-none}
 use lib.ListN.{get_elem?}
 use Rattle.atomic_table.specs.Table.{Act, State, Step, stepped}
@@ -34,17 +34,9 @@ use Rattle.mdl_steps_laws.proofs.Openings.{nobody_waits}
 use Rattle.mdl_steps_laws.proofs.Sights.{who_sees_no_deadlock_is_in_none}
 use Rattle.mdl_steps_laws.proofs.Wells.{rule_of, a_system, reached_tables_are_well_numbered}
 
-or_parts : (a b : Bool) → (a || b) ≡ true → (a ≡ true) ⊎ (b ≡ true)
-or_parts true b e = inl refl
-or_parts false b e = inr e
-
 or_left : (a b : Bool) → a ≡ true → (a || b) ≡ true
 or_left true b e = refl
 or_left false b e = absurd (cc)
-
-or_right : (a b : Bool) → b ≡ true → (a || b) ≡ true
-or_right true b e = refl
-or_right false b e = e
 
 abbrev by_number : ℕ → View → Bool
 by_number n v = v.number == n && v.searches
@@ -68,11 +60,11 @@ other_kept n v w else is = (let parts = and_parts (v.number == n) v.searches is 
 any_kept : (n : ℕ) (vs : List View) (id : ℕ) (v w : View) → get_elem? vs id ≡ some v → (by_number n v ≡ true → by_number n w ≡ true)
     → list_any (by_number n) vs ≡ true → list_any (by_number n) (set vs id w) ≡ true
 any_kept n [] id v w at keeps is = is
-any_kept n (x ∷ xs) zero v w at keeps is = elim (or_parts (by_number n x) (list_any (by_number n) xs) is) [
+any_kept n (x ∷ xs) zero v w at keeps is = elim (or_cases (by_number n x) (list_any (by_number n) xs) is) [
   | inl here ↦ or_left _ _ (keeps (subst (λ (y : View). by_number n y ≡ true) (some-injective x v at) here))
   | inr later ↦ or_right (by_number n w) _ later
 ]
-any_kept n (x ∷ xs) (suc id) v w at keeps is = elim (or_parts (by_number n x) (list_any (by_number n) xs) is) [
+any_kept n (x ∷ xs) (suc id) v w at keeps is = elim (or_cases (by_number n x) (list_any (by_number n) xs) is) [
   | inl here ↦ or_left _ _ here
   | inr later ↦ or_right (by_number n x) _ (any_kept n xs id v w at keeps later)
 ]
@@ -84,7 +76,7 @@ any_marked n (x ∷ xs) (suc id) v w at same is = or_right (by_number n x) _ (an
 
 any_longer : (n : ℕ) (vs ws : List View) → list_any (by_number n) vs ≡ true → list_any (by_number n) (vs ++ ws) ≡ true
 any_longer n [] ws is = absurd (cc)
-any_longer n (x ∷ xs) ws is = elim (or_parts (by_number n x) (list_any (by_number n) xs) is) [
+any_longer n (x ∷ xs) ws is = elim (or_cases (by_number n x) (list_any (by_number n) xs) is) [
   | inl here ↦ or_left _ _ here
   | inr later ↦ or_right (by_number n x) _ (any_longer n xs ws later)
 ]
@@ -100,7 +92,7 @@ module _ (s t : State Slot View) (before : Reached s) (rule : Rule t) (none : (a
   -- nothing happens: deadlocks go through those sessions through which they went, if these have yet to search then
   rests_by : (sessions : ℕ → Bool) → DeadlocksGoThrough sessions a → ((n : ℕ) → sessions n ≡ true → has_mark t n ≡ true) → SameSystem a b → DeadlocksGoThrough (has_mark t) b
   rests_by sessions through keeps same =
-      through-more b (λ n. sessions n || false) (has_mark t) (λ n is. keeps n (elim (or_parts (sessions n) false is) [ inl old ↦ old | inr new ↦ absurd (cc) ]))
+      through-more b (λ n. sessions n || false) (has_mark t) (λ n is. keeps n (elim (or_cases (sessions n) false is) [ inl old ↦ old | inr new ↦ absurd (cc) ]))
       (run-through (λ (at : KeyName). applied at.namespace) [] a b sessions (reached_tables_are_well_numbered s before a told_a) same through)
 
   rests : ((n : ℕ) → has_mark s n ≡ true → has_mark t n ≡ true) → SameSystem a b → DeadlocksGoThrough (has_mark t) b
@@ -126,7 +118,7 @@ module _ (s t : State Slot View) (before : Reached s) (rule : Rule t) (none : (a
       elim (marked s t st m (get_or s.words st.word 0) m′ made brought (a_system s (rule_of s before)).0 b (a_system s (rule_of s before)).1 told) [
         | inl e ↦
             through-more b (λ n. has_mark s n || begins_wait e.0 n) (has_mark t)
-            (λ n is. elim (or_parts (has_mark s n) (begins_wait e.0 n) is) [
+            (λ n is. elim (or_cases (has_mark s n) (begins_wait e.0 n) is) [
               | inl old ↦ keeps n old
               | inr new ↦ (let its = e.2 n new in subst (λ (x : State Slot View). has_mark x n ≡ true) (sym moves) (any_marked n s.views id m.0 m′.0 seat its.0 its.1))
             ])
@@ -189,7 +181,7 @@ no_deadlock_is_unseen s reached a told from cycle is =
 
 unmarked : (n : ℕ) (vs : List View) → ((i : ℕ) (v : View) → get_elem? vs i ≡ some v → v.number ≡ n → v.searches ≡ false) → list_any (by_number n) vs ≡ true → ⊥
 unmarked n [] all is = cc
-unmarked n (x ∷ xs) all is = elim (or_parts (by_number n x) (list_any (by_number n) xs) is) [
+unmarked n (x ∷ xs) all is = elim (or_cases (by_number n x) (list_any (by_number n) xs) is) [
   | inl here ↦ (
       let parts = and_parts (x.number == n) x.searches here in
       let marked = parts.1 in

@@ -1,7 +1,7 @@
 -- The ticket that a book finds next may be granted.
-use Rattle.std.proofs.Common.{◌≡◌, ℕ, suc, ◌||◌, Bool, true, false, not, inl, inr, List, [], ◌∷◌, Some, None, refl, sym, ap, ◌∙◌, subst}
+use Rattle.std.proofs.Common.{◌≡◌, ℕ, suc, ◌||◌, true, not, inl, inr, List, [], ◌∷◌, Some, None, refl, sym, ap, ◌∙◌, subst}
 use Rattle.std.specs.Prelude.{Contains}
-use Rattle.std.proofs.lemmas.Bool.{and_parts}
+use Rattle.std.proofs.lemmas.Bool.{and_parts, or_right}
 use Rattle.std.specs.FinSet as set
 use Rattle.atomic_table.proofs.Lists.{at_map}
 use Rattle.mdl_key.specs.declared.namespace.Kind.{Kind}
@@ -27,15 +27,11 @@ use Rattle.mdl_steps_laws.proofs.TableLocks.{first_place}
 use Rattle.mdl_steps_laws.proofs.TicketMembers.{none-passes}
 use Rattle.mdl_steps_laws.proofs.WaitEvents.{in_rule, inside}
 
-or_true : (a : Bool) → (a || true) ≡ true
-or_true true = refl
-or_true false = refl
-
 -- an obtrusive member of a list is one of its obtrusive tickets
 any_among : (kind : Kind) (ts : List Ticket) (t : Ticket) → Contains ts t → is_obtrusive kind t.mode ≡ true → any_obtrusive kind ts ≡ true
 any_among kind [] t among is = absurd (Contains-none t among)
 any_among kind (x ∷ xs) t among is = elim (Contains-cons_cases x xs t among) [
-  | inl later ↦ ap (λ b. is_obtrusive kind x.mode || b) (any_among kind xs t later is) ∙ or_true (is_obtrusive kind x.mode)
+  | inl later ↦ ap (λ b. is_obtrusive kind x.mode || b) (any_among kind xs t later is) ∙ or_right (is_obtrusive kind x.mode) true refl
   | inr here ↦ ap (λ b. b || any_obtrusive kind xs) (ap (λ (u : Ticket). is_obtrusive kind u.mode) (sym here) ∙ is)
 ]
 
@@ -71,7 +67,7 @@ next_may_be_granted s r keys keys_are i key at id me seat h holds word noted uns
       by_bool (is_obtrusive (lock_kind h.book) t.mode)
           (λ is.
           let any : has_obtrusive h.book ≡ true = ap (λ b. any_obtrusive (lock_kind h.book) h.book.granted || b) (any_among (lock_kind h.book) h.book.waiting t among is)
-          ∙ or_true (any_obtrusive (lock_kind h.book) h.book.granted) in
+          ∙ or_right (any_obtrusive (lock_kind h.book) h.book.granted) true refl in
           let up = u.flagged.1 any in
           absurd (cc))
           (λ not_. not_),

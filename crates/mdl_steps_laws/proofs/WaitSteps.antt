@@ -21,9 +21,10 @@ use Rattle.mdl_steps.proofs.WaitFrame.{waits_else}
 use Rattle.mdl_system.specs.Events.{SameMembers}
 use Rattle.mdl_system.specs.Systems.{GrantedWait, System}
 use Rattle.mdl_system.proofs.Deciding.{nat_told}
+use Rattle.mdl_steps.proofs.Noting.{all_fast-noted}
 use Rattle.mdl_steps_laws.specs.Locks.{Lock, AreKeysOf, AreLocksOf, IsBookAt}
 use Rattle.mdl_steps_laws.specs.WaitsTold.{IsGrantedWait, TellsWaits}
-use Rattle.mdl_steps_laws.proofs.SeatSteps.{any_waits, all_fast-alike}
+use Rattle.mdl_steps_laws.proofs.SeatSteps.{any_waits}
 use Rattle.mdl_steps_laws.proofs.TableLocks.{find_key, into_rule, first_place, last_place, same_book, same_keys}
 
 -- a granted wait isn't of a session whose word tells of none
@@ -82,7 +83,7 @@ module _ (s : State Slot View) (r : Rule s) (session n id : ℕ) (v w : View) (s
       λ i. map (ticket_by (stays.number i)) (own_at q (stays.fast i)) in
       any_waits (waits after) (waits s) q (set s.views id w)
       ∙ ap all_fast (map-set (part_at (waits s) q) s.views id w)
-      ∙ all_fast-alike (map (part_at (waits s) q) s.views) id (part_at (waits s) q v) (part_at (waits s) q w) (at_map (part_at (waits s) q) s.views id v seat) fast
+      ∙ all_fast-noted (map (part_at (waits s) q) s.views) id (part_at (waits s) q v) (part_at (waits s) q w) (at_map (part_at (waits s) q) s.views id v seat) fast
 
   keys_same : (keys : List KeyName) → AreKeysOf s keys → AreKeysOf after keys
   keys_same keys are = record {

@@ -15,14 +15,14 @@ use Rattle.indexmap.proofs.IndexTableLemmas.Probe.{pigeonhole}
 use Rattle.mdl_key.specs.declared.namespace.Kind.{Kind}
 use Rattle.mdl_key.specs.Words.{KeyName, key_eq, kind_of}
 use Rattle.mdl_key.specs.declared.known_key.KnownKey.{KnownKey}
-use Rattle.mdl_steps.proofs.KeyLemmas.{key-Decides}
+use Rattle.mdl_system.proofs.Deciding.{key-Decides}
 use Rattle.mdl_steps.proofs.Views.{by_bool}
 use Rattle.mdl_key.specs.KeyLookups.{are_apart, are_two, is_known, kind_known, place_known}
 use Rattle.mdl_visits.specs.OwnKeys.{AreIndexed, AreKinds, known_of}
 
 -- ---- by the key
 
-key_swap : (j k : KeyName) → key_eq j k ≡ key_eq k j
+pub key_swap : (j k : KeyName) → key_eq j k ≡ key_eq k j
 key_swap j k =
     by_bool (key_eq j k)
     (λ same. same ∙ sym ((key-Decides k j).1 (sym ((key-Decides j k).0 same))))

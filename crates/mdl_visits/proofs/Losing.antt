@@ -3,7 +3,7 @@ use Rattle.std.proofs.Common.{◌≡◌, ℕ, ◌+◌, ◌<◌, ◌≤◌, Bool,
 use Rattle.std.specs.Prelude.{is_some, Option, Result, OnOk}
 use Rattle.std.specs.Option.{ok_or}
 use Rattle.std.specs.List.{list_any}
-use Rattle.std.proofs.lemmas.Bool.{ltb-true, lt-ltb}
+use Rattle.std.proofs.lemmas.Bool.{ltb-true, lt-ltb, or_right}
 use Rattle.mdl_book.specs.declared.book_error.BookError.{BookError}
 use Rattle.mdl_book.specs.declared.book_error.BookError.TheVariants.{NotHere}
 use Rattle.mdl_book.specs.declared.book_view.BookView.{BookView}
@@ -53,14 +53,10 @@ module _ (session number : ℕ) where
         flagged.0 (lt-ltb 0 (length book.granted + length book.waiting) more)),
     λ e. flagged.1
         (by_bool (any_obtrusive (lock_kind book) book.waiting)
-        (λ waits. rw waits (or_true (any_obtrusive (lock_kind book) book.granted)))
+        (λ waits. rw waits (or_right (any_obtrusive (lock_kind book) book.granted) true refl))
         (λ none. let granted = rw none at e in rw none (or_false (any_obtrusive (lock_kind book) book.granted) (any_before _ book.granted (or_only (any_obtrusive (lock_kind book) (without session number book.granted)) granted))))),
   )
     where
-      or_true : (b : Bool) → (b || true) ≡ true
-      or_true true = refl
-      or_true false = refl
-
       or_false : (b : Bool) → b ≡ true → (b || false) ≡ true
       or_false true e = refl
       or_false false e = e

@@ -11,14 +11,15 @@ use Rattle.std.proofs.lemmas.List.Elements.{All-append, All-cons, All-nil, Conta
 use Rattle.std.proofs.lemmas.List.Sorted.{All-permutation, Contains-permutation, ranks_by, sorted_far}
 use Rattle.std.proofs.lemmas.Map.Keys.{IsDistinct-IsPermutation, IsDistinct-cons, IsDistinct-from_apart, apart_from_distinct}
 use Rattle.mdl_key.specs.Keys.{KeyName, key_cmp, key_eq}
+use Rattle.mdl_system.proofs.Deciding.{key-Decides}
 use Rattle.mdl_steps.specs.declared.view.Keys.{Keys}
 use Rattle.mdl_key.specs.declared.known_key.KnownKey.{KnownKey}
 use Rattle.mdl_steps.specs.Lists.{Distinct, Each}
 use Rattle.mdl_steps.specs.Schemas.{StandThere, is_table_of, table_at, tables_from}
-use Rattle.mdl_steps.proofs.KeyLemmas.{key-Decides}
 use Rattle.mdl_steps.proofs.SchemaLemmas.{tables_stand}
 use Rattle.mdl_steps.proofs.Views.{by_bool}
 use Rattle.mdl_visits.specs.Tables.{AreAllTables, AreListed, IsDirectoryTable}
+use Rattle.mdl_visits.proofs.KeyLists.{key_swap}
 
 -- ---- keys
 
@@ -31,11 +32,6 @@ key-ties = search (comparing, rules) depth 9
 
 other_key : (j k : KeyName) → ((j ≡ k) → ⊥) → key_eq j k ≡ false
 other_key j k apart = by_bool (key_eq j k) (λ same. absurd (apart ((key-Decides j k).0 same))) (λ differ. differ)
-
-either_way : (j k : KeyName) → key_eq j k ≡ key_eq k j
-either_way j k = by_bool (key_eq k j)
-    (λ same. (key-Decides j k).1 (sym ((key-Decides k j).0 same)) ∙ sym same)
-    (λ differ. other_key j k (λ same. let both : true ≡ false = sym ((key-Decides k j).1 (sym same)) ∙ differ in cc) ∙ sym differ)
 
 -- of two that differ, that which isn't greater is less
 less : (j k : KeyName) → key_eq j k ≡ false → is_lt (key_cmp k j) ≡ false → key_cmp j k ≡ Less
@@ -118,6 +114,6 @@ are_tables schema k tables distinct listed = record {
   in_order = λ i j d before short.
       less (get_or tables i d).key (get_or tables j d).key
       (apart_from_distinct same_key tables i j d
-      (IsDistinct-IsPermutation same_key (λ one other. either_way one.key other.key) (tables_from schema 1 k.keys) tables listed.all (differ_from schema 1 k.keys distinct)) before short)
+      (IsDistinct-IsPermutation same_key (λ one other. key_swap one.key other.key) (tables_from schema 1 k.keys) tables listed.all (differ_from schema 1 k.keys distinct)) before short)
       (sorted_far (λ (one other : KnownKey). is_lt (key_cmp one.key other.key)) (ranks_by key-total (λ (x : KnownKey). x.key)) tables listed.sorted i j d (omega (arith, before)) short);
 }

@@ -5,7 +5,7 @@ use Rattle.std.specs.List.{Contains, after_first, before_first, list_any, positi
 use Rattle.std.specs.Option.{option_map, option_to_list}
 use Rattle.std.specs.FinSet as set
 use Rattle.std.specs.Ordering.{nat_cmp}
-use Rattle.std.proofs.lemmas.Bool.{and_parts, and_from, lt-ltb, cases_eq}
+use Rattle.std.proofs.lemmas.Bool.{and_parts, and_from, lt-ltb, cases_eq, or_right}
 use Rattle.std.proofs.lemmas.List.Elements.{Contains-append_cases, Contains-append_left, Contains-append_right}
 use Rattle.std.proofs.lemmas.List.Folds.{list_any-append}
 use Rattle.mdl_key.specs.Words.{is_obtrusive}
@@ -195,13 +195,9 @@ may_join word h t may there stands = by_bool (is_obtrusive (lock_kind h.book) t.
     let test : Ticket → Bool = λ x. is_obtrusive (lock_kind h.book) x.mode in
     let up : h.obtrusive ≡ true =
     may.0.1.1 ∙ ap (λ b. any_obtrusive (lock_kind h.book) h.book.granted || b) (any_split t.session t.number test h.book.waiting t there ∙ ap (λ b. b || any_obtrusive (lock_kind h.book) (without t.session t.number h.book.waiting)) obtrusive)
-    ∙ or_true (any_obtrusive (lock_kind h.book) h.book.granted) in
+    ∙ or_right (any_obtrusive (lock_kind h.book) h.book.granted) true refl in
     inr (inl (word, may.1 up, stands)))
     (λ plain. inl (plain, (and_parts (is_compatible (lock_kind h.book) h.book.granted t.session t.mode) (not (blocks_by (counts_of word) (lock_kind h.book) t.mode)) stands).0))
-  where
-    or_true : (b : Bool) → (b || true) ≡ true
-    or_true true = refl
-    or_true false = refl
 
 -- ---- with its index
 
