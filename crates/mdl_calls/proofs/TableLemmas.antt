@@ -1,18 +1,11 @@
 -- The keys of a schema's tables.
-use Rattle.std.proofs.Common.{◌≡◌, ◌&&◌, ℕ, Bool, true, false, List, refl, sym}
+use Rattle.std.proofs.Common.{◌≡◌, ℕ, true, List, refl, sym}
 use Rattle.std.proofs.lemmas.Slice.Eq.{bytes_eq-Decides}
+use Rattle.std.proofs.lemmas.Bool.{and_parts}
 use Rattle.mdl_key.specs.declared.namespace.Namespace.{Namespace}
 use Rattle.mdl_key.specs.declared.namespace.Namespace.TheVariants.{Table}
 use Rattle.mdl_key.specs.Keys.{KeyName, table_key}
 use Rattle.mdl_calls.specs.Reads.{is_of_tables, is_table_of}
-
-pub both-left : (p q : Bool) → (p && q) ≡ true → p ≡ true
-both-left true q e = refl
-both-left false q e = cc
-
-pub both-right : (p q : Bool) → (p && q) ≡ true → q ≡ true
-both-right true q e = e
-both-right false q e = cc
 
 of_tables : (n : Namespace) → is_of_tables n ≡ true → n ≡ Table
 of_tables Table e = refl
@@ -21,8 +14,8 @@ of_tables _ e = cc
 -- what passes for the key of a table of a schema is one
 pub table-of : (schema : List ℕ) (key : KeyName) → is_table_of schema key ≡ true → table_key schema key.table ≡ key
 table-of schema key is =
-    let namespace = of_tables key.namespace (both-left _ _ is) in
-    let same : key.schema ≡ schema = (bytes_eq-Decides key.schema schema).0 (both-right (is_of_tables key.namespace) _ is) in
+    let namespace = of_tables key.namespace (and_parts _ _ is).0 in
+    let same : key.schema ≡ schema = (bytes_eq-Decides key.schema schema).0 (and_parts (is_of_tables key.namespace) _ is).1 in
     λ i. record { namespace = sym namespace i; schema = sym same i; table = key.table }
 
 -- and the key of one passes for it

@@ -10,9 +10,10 @@ use Rattle.std.specs.declared.cmp.Ordering.TheVariants.{Less, Equal, Greater}
 use Rattle.std.proofs.lemmas.List.Elements.{All-cons, All-contains, All-contains_itself, All-filter, All-nil, Contains-get_or, filter_passes}
 use Rattle.std.proofs.lemmas.List.FromFn.{get_or-range_with_len, length-range_with_len}
 use Rattle.std.proofs.lemmas.List.Kept.{AllPairs-cons, AllPairs-filter}
+use Rattle.std.proofs.lemmas.Bool.{and_parts}
 use Rattle.mdl_key.specs.Keys.{KeyName, key_cmp, key_eq, table_key}
 use Rattle.mdl_book.specs.declared.book_view.BookView.{BookView}
-use Rattle.mdl_calls.proofs.TableLemmas.{both-left, both-right, of-table, table-of}
+use Rattle.mdl_calls.proofs.TableLemmas.{of-table, table-of}
 use Rattle.mdl_calls.specs.Reads.{AreTablesOf, HasTableOf, is_table_of}
 use Rattle.mdl_calls.specs.Words.{Tables}
 use Rattle.mdl_core.specs.CoreJoins.{Knows}
@@ -199,7 +200,7 @@ module _ (core : Core) (schema : List ℕ) where
     are-tables who = (
       all-from_members (Before core) (HasTableOf (Knows core who) schema) (table_places schema core) (λ place told. (
           let its = told-table place told in
-          ((key_at place core).table, (its.0, sym (table-of schema (key_at place core) (both-left _ _ its.1)))))),
+          ((key_at place core).table, (its.0, sym (table-of schema (key_at place core) (and_parts _ _ its.1).0))))),
       λ i j d lt short key later one other. (λ t. key_cmp (sym one.1 t) (sym other.1 t)) ∙ sorted i j d lt short,
     )
 
@@ -211,10 +212,10 @@ module _ (core : Core) (schema : List ℕ) where
     has-defined : (place : ℕ) → Contains (table_places schema core) place → HasDefinedTable (system_of core) (places_of core) schema place
     has-defined place told =
         let its = told-table place told in
-        let key = table-of schema (key_at place core) (both-left _ _ its.1) in (
+        let key = table-of schema (key_at place core) (and_parts _ _ its.1).0 in (
           (key_at place core).table,
           key_of-place core place its.0 ∙ ap (λ k. Some k) (sym key),
-          ap (λ k. is_some ((system_of core).definitions k).definition) key ∙ sym (defined-there place its.0) ∙ both-right (is_table_of schema (key_at place core)) _ its.1,
+          ap (λ k. is_some ((system_of core).definitions k).definition) key ∙ sym (defined-there place its.0) ∙ (and_parts (is_table_of schema (key_at place core)) _ its.1).1,
         )
 
     of-defined : (place : ℕ) → HasDefinedTable (system_of core) (places_of core) schema place → Contains (table_places schema core) place

@@ -3,6 +3,7 @@ pub use Rattle.mdl_shared.specs.DeedsDone.{DidDeeds, StaysFast}
 use Rattle.std.proofs.Common.{◌≡◌, ◌⊎◌, inl, inr, ℕ, ◌+◌, ◌≤◌, ◌<◌, ◌==◌, ◌||◌, Bool, true, false, List, [], ◌∷◌, Option, Some, None, refl, sym, ap, subst, ◌∙◌, arith}
 use Rattle.std.specs.List.{list_any}
 use Rattle.atomic_table.specs.Seated.{TableId}
+use Rattle.std.proofs.lemmas.Bool.{or_right}
 use Rattle.mdl_calls.specs.declared.space_error.SpaceError.{SpaceError}
 use Rattle.mdl_calls.specs.Words.{Answer, Call}
 use Rattle.mdl_steps.specs.declared.deed.Deed.{Deed}
@@ -143,13 +144,9 @@ visited {place} {ds} seat seat′ sessions {room} {room′} same visits = record
 pub owed-still : (p place : ℕ) (owes : List ℕ) → IsOwed p (all_but place owes) → IsOwed p owes
 owed-still p place [] owed = owed
 owed-still p place (q ∷ qs) owed = by_bool (q == place)
-    (λ here. or-later (q == p) (list_any (λ n. n == p) qs) (owed-still p place qs (rw here at owed)))
+    (λ here. or_right (q == p) (list_any (λ n. n == p) qs) (owed-still p place qs (rw here at owed)))
     (λ away. or-either (q == p) (list_any (λ n. n == p) (all_but place qs)) (list_any (λ n. n == p) qs) (rw away at owed) (owed-still p place qs))
   where
-    or-later : (a b : Bool) → b ≡ true → (a || b) ≡ true
-    or-later true b e = refl
-    or-later false b e = e
-
     or-either : (a b c : Bool) → (a || b) ≡ true → (b ≡ true → c ≡ true) → (a || c) ≡ true
     or-either true b c e more = refl
     or-either false b c e more = more e

@@ -5,7 +5,7 @@ use Rattle.std.specs.List.{list_all, position, position_or_len}
 use Rattle.std.specs.List.Sorted.{IsNonDecreasingBy, IsSortedByKey, IsStableByKey, ties}
 use Rattle.std.specs.Ordering.{is_lt, nat_cmp}
 use Rattle.std.proofs.lemmas.List.Sorted.{IsNonDecreasingBy-from_sort}
-use Rattle.std.proofs.lemmas.Bool.{eqb-true}
+use Rattle.std.proofs.lemmas.Bool.{eqb-true, and_right}
 use Rattle.std.proofs.lemmas.Bool.Decides.{nat_tests}
 use Rattle.std.proofs.lemmas.Cmp.{is_lt_index}
 use Rattle.std.proofs.lemmas.Grind.{take_at_read}
@@ -37,10 +37,6 @@ and_true : (a b : Bool) → b ≡ true → a && b ≡ a
 and_true true b is = is
 and_true false b is = refl
 
-and_false : (a b : Bool) → b ≡ false → a && b ≡ false
-and_false true b is = is
-and_false false b is = refl
-
 -- one that has another number stays as it was
 slowed-other : (id : ℕ) (t : Gained) → (t.id == id) ≡ false → slowed id t ≡ t
 slowed-other id t other = same_flag t (t.fast && not (t.id == id)) (and_true t.fast (not (t.id == id)) (ap not other))
@@ -61,7 +57,7 @@ slowed_at id [] at t rising stands is = absurd (omega (arith, stands.0))
 slowed_at id (x ∷ xs) zero t rising stands is =
     let later = slowed-none id xs (alone id x xs rising (stands.1 x)) in
     let its : (x.id == id) ≡ true = grind (arith, nat_tests, stands.1 x) in
-    let flag : x.fast && not (x.id == id) ≡ false = and_false x.fast (not (x.id == id)) (ap not its) in
+    let flag : x.fast && not (x.id == id) ≡ false = and_right x.fast (not (x.id == id)) (ap not its) in
     (λ k. record (is k) { fast = sym flag k } ∷ sym later k)
 slowed_at id (x ∷ xs) (suc at) t rising stands is =
     let later = slowed_at id xs at t (later_rise x xs rising) (later_stands id x xs at stands) is in

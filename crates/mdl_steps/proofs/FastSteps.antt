@@ -50,7 +50,7 @@ use Rattle.mdl_steps.proofs.Owns.{each-first, own_else-push, owned_else}
 use Rattle.mdl_steps.proofs.Paid.{owes_else, owes_here}
 use Rattle.mdl_steps.proofs.Views.{at_inside, by_bool, each_at}
 use Rattle.mdl_steps.proofs.Waiting.{owned_set, waiting_kept}
-use Rattle.mdl_steps.proofs.WaitEnds.{own_at-push}
+use Rattle.mdl_steps.proofs.WaitEnds.{own_at-push, below_more}
 use Rattle.mdl_steps.proofs.Flags.{bit_small}
 use Rattle.mdl_steps.proofs.Interleaving.{each-filtered}
 
@@ -347,10 +347,6 @@ module _ (key : Option KeyName) (c : Cell) (ok : PlaceOk key c) (id : ℕ) (x : 
 pub encoded_small : (word a b c : ℕ) (slow obtrusive : Bool) → Encodes word a b c slow obtrusive → word < 2 ^ 62
 encoded_small word a b c slow obtrusive e = omega (arith, bit_small slow, bit_small obtrusive)
 
-below_next : (next : ℕ) (ts : List SessionTicket) → Each (λ (t : SessionTicket). t.number < next) ts → Each (λ (t : SessionTicket). t.number < next + 1) ts
-below_next next [] of_all = tt
-below_next next (t ∷ ts) of_all = ((let below = of_all.0 in omega arith), below_next next ts of_all.1)
-
 module _ (slots id place : ℕ) (me : Mine) (first : 0 < place) (last : place < slots) where
   module _ (s : Table) (r : Rule s) (size : length s.homes ≡ slots) (seat : get_elem? s.views id ≡ some me.0) where
     abbrev pub found : ℕ
@@ -448,8 +444,8 @@ module _ (slots id place : ℕ) (me : Mine) (first : 0 < place) (last : place < 
             spare = refl;
             waiter = refl;
             numbered = record {
-              fast = each-append _ me.0.fast (own ∷ []) (below_next me.0.next me.0.fast row.fast) (omega arith, tt);
-              slow = below_next me.0.next me.0.slow row.slow;
+              fast = each-append _ me.0.fast (own ∷ []) (below_more me.0.next me.0.fast row.fast) (omega arith, tt);
+              slow = below_more me.0.next me.0.slow row.slow;
               unmixed = each-append _ me.0.fast (own ∷ []) row.unmixed (unlike_below own me.0.slow row.slow, tt);
               asks = λ a e. (let idle = may.idle in absurd (cc));
               apart = row.apart;

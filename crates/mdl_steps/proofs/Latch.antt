@@ -1,5 +1,5 @@
 -- The latch of a place is taken.
-use Rattle.std.proofs.Common.{◌≡◌, ◌≢◌, ℕ, ◌%◌, ◌<◌, ◌==◌, Bool, true, false, not, ◌&&◌, List, [], ◌∷◌, ◌++◌, map, set, length, get_or, Some, None, refl, sym, ap, ◌∙◌, subst, arith, length-set}
+use Rattle.std.proofs.Common.{◌≡◌, ◌≢◌, ℕ, ◌%◌, ◌<◌, ◌==◌, Bool, true, false, not, List, [], ◌∷◌, ◌++◌, map, set, length, get_or, Some, None, refl, sym, ap, ◌∙◌, subst, arith, length-set}
 use Rattle.std.specs.Prelude.{Option}
 use Rattle.std.specs.List.{list_all}
 use Rattle.std.specs.Option.{option_to_list}
@@ -36,7 +36,7 @@ use Rattle.mdl_steps.proofs.Histories.{Shows, goes_on}
 use Rattle.mdl_steps.proofs.Views.{by_bool, held_at-first, held_at-past, each_at, other}
 use Rattle.mdl_steps.proofs.Lift.{Table, Moved, after, on_latch, only_logged, parts_again, seat_there}
 use Rattle.mdl_steps.proofs.Holder.{taken_cell}
-use Rattle.mdl_steps.proofs.Tickets.{is_passed}
+use Rattle.mdl_steps.proofs.Tickets.{is_passed, and_false}
 
 -- the due ticket is the one that the view asks for
 pub due_asked : (place n word : ℕ) (asks : Option Ask) (t : Ticket) → due (asking_at place n word asks) ≡ Some t → (a : Ask) × (asks ≡ Some a) × (t.number ≡ a.number)
@@ -51,10 +51,6 @@ due_asked place n word (Some a) t e =
           (λ lost. let found = rw (here, lost) at e in absurd (cc)))
           (λ elsewhere. let found = rw elsewhere at e in absurd (cc)),
     )
-
-and_false : (b : Bool) → (b && false) ≡ false
-and_false true = refl
-and_false false = refl
 
 -- a number that isn't waited for is looked up among the view's own tickets
 pub of-unwaited : (n number : ℕ) (due_ticket : Option Ticket) (own : List Ticket) → ((t : Ticket) → due_ticket ≡ Some t → t.number ≢ number)

@@ -39,7 +39,7 @@ use Rattle.mdl_steps.proofs.WaitWords.{opened_wait, ended_wait}
 
 -- ---- tickets' numbers
 
-below_more : (next : ℕ) (ts : List SessionTicket) → Each (λ (t : SessionTicket). t.number < next) ts → Each (λ (t : SessionTicket). t.number < next + 1) ts
+pub below_more : (next : ℕ) (ts : List SessionTicket) → Each (λ (t : SessionTicket). t.number < next) ts → Each (λ (t : SessionTicket). t.number < next + 1) ts
 below_more next [] all = tt
 below_more next (t ∷ ts) all = ((let below = all.0 in omega arith), below_more next ts all.1)
 

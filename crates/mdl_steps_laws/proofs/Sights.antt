@@ -1,8 +1,8 @@
 -- Who sees no deadlock under all latches is in none.
-use Rattle.std.proofs.Common.{◌≡◌, ◌≢◌, ℕ, suc, ◌+◌, ◌*◌, ◌%◌, ◌<◌, ◌≤◌, ◌==◌, ◌&&◌, ◌||◌, not, Bool, true, false, inl, inr, List, length, map, Some, refl, sym, ap, ◌∙◌, subst, arith, eq-eqb, ne_eqb}
+use Rattle.std.proofs.Common.{◌≡◌, ◌≢◌, ℕ, suc, ◌+◌, ◌*◌, ◌%◌, ◌<◌, ◌≤◌, ◌==◌, ◌&&◌, ◌||◌, not, Bool, true, false, inl, inr, List, length, map, Some, sym, ap, ◌∙◌, subst, arith, eq-eqb, ne_eqb}
 use Rattle.std.specs.Prelude.{Option, Contains}
 use Rattle.std.specs.Option.{is_some}
-use Rattle.std.proofs.lemmas.Bool.{and_parts, and_from, eqb-true}
+use Rattle.std.proofs.lemmas.Bool.{and_parts, and_from, eqb-true, or_right, or_left}
 use Rattle.std.proofs.lemmas.List.Elements.{Contains-append_cases}
 use mathlib.Core.Option.{some, some-injective}
 use lib.ListN.{get_elem?}
@@ -147,7 +147,7 @@ module _ (s : State Slot View) (reached : Reached s) (id : ℕ) (v : View) (seat
       let there = waits_there key wish p own.0 in
       let not_self : not (ticket.session == y) ≡ true = ap not (ne_eqb ticket.session y (λ e. apart (sym own.1 ∙ e))) in
       let way : (holds_against p.latch.book ticket.mode y || waits_ahead settled p.latch.book ticket.mode y) ≡ true = elim against [
-        | inl held ↦ left_or (holds_against p.latch.book ticket.mode y) (waits_ahead settled p.latch.book ticket.mode y) (
+        | inl held ↦ or_left (holds_against p.latch.book ticket.mode y) (waits_ahead settled p.latch.book ticket.mode y) (
             let among : Contains (granted_of (told.0 key)) (in_book held.0) = subst (λ (k : KeyName). Contains (granted_of (told.0 k)) (in_book held.0)) held.2 ((told.2.granted held.0).0 held.1) in
             let listed : Contains p.latch.book.granted (in_book held.0) = elim (Contains-append_cases (told.0 key).fast (told.0 key).book.granted (in_book held.0) among) [
               | inl fast ↦ absurd ((waiters_have_no_fast_tickets s (rule_of s reached) a told key (in_book held.0) fast).0 at its wish_of_y.0 (wish_of_y.1 ∙ sym held.3))
@@ -155,7 +155,7 @@ module _ (s : State Slot View) (reached : Reached s) (id : ℕ) (v : View) (seat
             ] in
             any-from (λ (t : Ticket). t.session == y && clashes (lock_kind p.latch.book) ticket.mode t.mode) p.latch.book.granted (in_book held.0) listed
             (and_from (held.0.session == y) (clashes (lock_kind p.latch.book) ticket.mode held.0.mode) (eq-eqb held.0.session y held.3) (ap (λ (k : Kind). clashes k ticket.mode held.0.mode) (kind_is key p) ∙ held.4)))
-        | inr ahead ↦ right_or (holds_against p.latch.book ticket.mode y) (waits_ahead settled p.latch.book ticket.mode y) (
+        | inr ahead ↦ or_right (holds_against p.latch.book ticket.mode y) (waits_ahead settled p.latch.book ticket.mode y) (
             and_from (is_unsettled settled y) _ (ap not (open_ key ahead.0 y ahead.1))
             (any-from (λ (t : Ticket). t.session == y && waits_behind (lock_kind p.latch.book) ticket.mode t.mode) p.latch.book.waiting ahead.0.ticket (waits_there key ahead.0 p ahead.1.0)
             (and_from (ahead.0.ticket.session == y) _ (eq-eqb ahead.0.ticket.session y ahead.1.1) (ap (λ (k : Kind). waits_behind k ticket.mode ahead.0.ticket.mode) (kind_is key p) ∙ ahead.2))))
@@ -164,14 +164,6 @@ module _ (s : State Slot View) (reached : Reached s) (id : ℕ) (v : View) (seat
       (and_from (is_unsettled settled x) _ (ap not (open_ key wish x own))
       (any-from (λ (t : Ticket). t.session == x && is_tied settled p.latch.book y t) p.latch.book.waiting ticket there
       (and_from (ticket.session == x) _ (eq-eqb ticket.session x own.1) (and_from (not (ticket.session == y)) _ not_self way))))
-    where
-      left_or : (u v : Bool) → u ≡ true → (u || v) ≡ true
-      left_or true v e = refl
-      left_or false v e = absurd (cc)
-
-      right_or : (u v : Bool) → v ≡ true → (u || v) ≡ true
-      right_or true v e = refl
-      right_or false v e = e
 
 -- ---- cycles
 

@@ -2,7 +2,7 @@
 use Rattle.std.proofs.Common.{◌≡◌, ℕ, ◌+◌, ◌<◌, ◌==◌, Bool, true, false, not, ◌&&◌, ◌||◌, List, [], ◌∷◌, length, map, Some, refl, sym, ap, ◌∙◌, subst, arith}
 use Rattle.std.specs.Prelude.{Contains, is_some, OnOk, Result, Ok, Err}
 use Rattle.std.specs.List.{list_all, list_any}
-use Rattle.std.proofs.lemmas.Bool.{and_from, eq-eqb, lt-ltb, or_right}
+use Rattle.std.proofs.lemmas.Bool.{and_from, eq-eqb, lt-ltb, or_right, and_right}
 use Rattle.std.proofs.lemmas.List.Folds.{list_any-append}
 use Rattle.std.proofs.lemmas.List.Sums.{AllPass-from_list_all}
 use Rattle.mdl_key.specs.Refusals.{RefusesJust}
@@ -62,14 +62,10 @@ own_listed who number t (x ∷ xs) e =
     rw (here, test) (ap (λ (o : SessionTicket). Some (ticket_by who o)) is))
     (λ miss.
     let rest = own_listed who number t xs (rw miss at e) in
-    let test : is_ticket who number (ticket_by who x) ≡ false = not_second (who == who) (x.number == number) miss in
+    let test : is_ticket who number (ticket_by who x) ≡ false = and_right (who == who) (x.number == number) miss in
     by_bool (x.place == t.place)
     (λ here. rw (here, test) rest)
     (λ away. rw away rest))
-  where
-    not_second : (a b : Bool) → b ≡ false → (a && b) ≡ false
-    not_second true b e = e
-    not_second false b e = refl
 
 -- so it stands in the book that is met under the latch
 pub own_there : (who number : ℕ) (t : SessionTicket) (h : LatchRecord) (m : Mine) → m.0.number ≡ who → IsFresh t.place h m → NotWaited m.0 number → numbered number m.0.slow ≡ Some t
