@@ -1,5 +1,5 @@
 -- Who holds a latch and looked the waiters through leaves none forgotten.
-use Rattle.std.proofs.Common.{◌≡◌, ◌⊎◌, ℕ, suc, ◌%◌, ◌<◌, ◌||◌, not, Bool, true, false, inl, inr, List, [], ◌∷◌, ◌++◌, length, zero, map, get_or, Some, refl, sym, ap, ◌∙◌, subst, arith, rules}
+use Rattle.std.proofs.Common.{◌≡◌, ◌⊎◌, ℕ, suc, ◌%◌, ◌<◌, not, Bool, true, false, inl, inr, List, [], ◌∷◌, ◌++◌, length, zero, map, get_or, Some, refl, sym, ap, ◌∙◌, subst, arith, rules}
 use Rattle.std.specs.Prelude.{Contains}
 use Rattle.std.specs.List.{list_any}
 use Rattle.std.proofs.lemmas.Bool.{and_parts, and_from, or_parts}
@@ -49,11 +49,7 @@ unblocked kind word ask plain = by_bool (blocks_by (counts_of word) kind ask)
 
 pub none_any : (test : Ticket → Bool) (ts : List Ticket) → list_any test ts ≡ false → (k : ℕ) (t : Ticket) → k < length ts → get_or ts k t ≡ t → test t ≡ false
 none_any test [] none k t inside is = absurd (omega arith)
-none_any test (x ∷ xs) none zero t inside is = subst (λ (y : Ticket). test y ≡ false) is (first (test x) none)
-  where
-    first : (b : Bool) → (b || list_any test xs) ≡ false → b ≡ false
-    first true e = absurd (cc)
-    first false e = refl
+none_any test (x ∷ xs) none zero t inside is = subst (λ (y : Ticket). test y ≡ false) is (or_parts (test x) (list_any test xs) none).0
 none_any test (x ∷ xs) none (suc k) t inside is = none_any test xs (or_parts (test x) (list_any test xs) none).1 k t (omega arith) is
 
 -- ---- the waiter can't be granted

@@ -2,7 +2,7 @@
 use Rattle.std.proofs.Common.{◌≡◌, ◌≢◌, ℕ, zero, suc, ◌==◌, ◌&&◌, ◌||◌, not, Bool, true, false, inl, inr, List, [], ◌∷◌, ◌++◌, length, set, get_or, refl, sym, ap, ◌∙◌, subst, arith, eq-eqb, eqb-true}
 use Rattle.std.specs.List.{list_any}
 use Rattle.std.specs.Prelude.{Contains}
-use Rattle.std.proofs.lemmas.Bool.{and_from, and_parts, false≢true, or_right, or_cases}
+use Rattle.std.proofs.lemmas.Bool.{and_from, and_parts, false≢true, or_right, or_cases, or_left}
 use mathlib.Core.Option.{some, some-injective, some-ne-none}
 use lib.ListN.{get_elem?}
 use Rattle.atomic_table.specs.Table.{Act, State, Step, stepped}
@@ -33,10 +33,6 @@ use Rattle.mdl_steps_laws.proofs.Marks.{KeepsMark, mark_kept, marked}
 use Rattle.mdl_steps_laws.proofs.Openings.{nobody_waits}
 use Rattle.mdl_steps_laws.proofs.Sights.{who_sees_no_deadlock_is_in_none}
 use Rattle.mdl_steps_laws.proofs.Wells.{rule_of, a_system, reached_tables_are_well_numbered}
-
-or_left : (a b : Bool) → a ≡ true → (a || b) ≡ true
-or_left true b e = refl
-or_left false b e = absurd (cc)
 
 abbrev by_number : ℕ → View → Bool
 by_number n v = v.number == n && v.searches

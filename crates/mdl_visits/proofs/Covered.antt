@@ -2,7 +2,7 @@
 use Rattle.std.proofs.Common.{◌≡◌, ℕ, ◌+◌, ◌<◌, ◌==◌, Bool, true, false, not, ◌&&◌, ◌||◌, List, [], ◌∷◌, length, map, Some, refl, sym, ap, ◌∙◌, subst, arith}
 use Rattle.std.specs.Prelude.{Contains, is_some, OnOk, Result, Ok, Err}
 use Rattle.std.specs.List.{list_all, list_any}
-use Rattle.std.proofs.lemmas.Bool.{and_from, eq-eqb, lt-ltb, or_right, and_right}
+use Rattle.std.proofs.lemmas.Bool.{and_from, eq-eqb, lt-ltb, or_right, and_right, or_left}
 use Rattle.std.proofs.lemmas.List.Folds.{list_any-append}
 use Rattle.std.proofs.lemmas.List.Sums.{AllPass-from_list_all}
 use Rattle.mdl_key.specs.Refusals.{RefusesJust}
@@ -169,11 +169,7 @@ module _ (who : ℕ) (mode : Mode) (h : LatchRecord) (covered : IsCovered who mo
   granted_obtrusive obtrusive = any_there (λ t. is_obtrusive kind t.mode) h.book.granted covered.stronger covered.there (as_obtrusive kind covered.stronger.mode mode covered.is_mode covered.at_least obtrusive)
 
   flag_up : any_obtrusive kind h.book.granted ≡ true → h.obtrusive ≡ true
-  flag_up some = covered.exact.1 ∙ first_up (any_obtrusive kind h.book.granted) (any_obtrusive kind h.book.waiting) some
-    where
-      first_up : (a b : Bool) → a ≡ true → (a || b) ≡ true
-      first_up true b e = refl
-      first_up false b e = absurd (cc)
+  flag_up some = covered.exact.1 ∙ or_left (any_obtrusive kind h.book.granted) (any_obtrusive kind h.book.waiting) some
 
   waiting_up : any_obtrusive kind h.book.waiting ≡ true → h.obtrusive ≡ true
   waiting_up some = covered.exact.1 ∙ or_right (any_obtrusive kind h.book.granted) _ some
