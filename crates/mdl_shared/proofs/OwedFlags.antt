@@ -1,6 +1,6 @@
 -- The flags of the places of a session's own list of tickets.
 use Rattle.std.proofs.Common.{◌≡◌, inl, inr, ℕ, zero, suc, ◌<◌, ◌≤◌, ◌==◌, ◌&&◌, Bool, true, false, List, [], ◌∷◌, ◌++◌, length, get_or, replicate, take, Option, Some, None, if◌then◌else◌, refl, sym, ap, ◌∙◌, arith, MatchOption}
-use Rattle.std.specs.Prelude.{nat_lt, slice_set}
+use Rattle.std.specs.Prelude.{nat_lt, slice_index_or, slice_set}
 use Rattle.std.specs.List.{position, position_or_len}
 use Rattle.std.proofs.lemmas.Bool.{eqb-false, eqb-true, lt-ltb}
 use Rattle.std.proofs.lemmas.Bool.Decides.{nat_tests}
@@ -9,6 +9,7 @@ use Rattle.std.proofs.lemmas.List.Quantifiers.{position-Some}
 use Rattle.std.proofs.lemmas.List.Sums.{fails_before_first}
 use Rattle.std.proofs.lemmas.Option.{slice_get_cases}
 use lib.ListN.{get_or-map}
+use lib.Seq.{map-set_same}
 use Rattle.mdl_steps.proofs.Views.{by_bool}
 use Rattle.mdl_shared.specs.declared.tickets.OfPlace.{OfPlace}
 use Rattle.mdl_shared.specs.Debts.{owed_in}
@@ -18,6 +19,10 @@ use Rattle.mdl_shared.proofs.TicketParts.{no_place}
 -- a flag is that of its place, and down past the last one
 pub flag-of : (q : ℕ) (ps : List OfPlace) → owed_in q (flags_of ps) ≡ (get_or ps q no_place).owes
 flag-of q ps = get_or-map (λ (p : OfPlace). p.owes) ps q no_place
+
+-- the flags are those that they were where that of a place that was changed is
+pub flags_kept : (ps : List OfPlace) (place : ℕ) (old new : OfPlace) → old ≡ slice_index_or ps place old → new.owes ≡ old.owes → flags_of (slice_set ps place new) ≡ flags_of ps
+flags_kept ps place old new there same = map-set_same (λ (p : OfPlace). p.owes) ps place new old (same ∙ ap (λ (p : OfPlace). p.owes) there)
 
 -- a flag that was set is this one, and the others are as they were
 pub flag_set : (ps : List OfPlace) (place : ℕ) (new : OfPlace) → place < length ps → (q : ℕ)

@@ -1,11 +1,12 @@
 -- Where a key stands in the directory.
-use Rattle.std.proofs.Common.{◌≡◌, ℕ, zero, suc, ◌+◌, ◌-◌, ◌<◌, ◌≤◌, List, [], ◌∷◌, length, Some, None, sym, ap, ◌∙◌, arith}
+use Rattle.std.proofs.Common.{◌≡◌, ℕ, zero, suc, ◌+◌, ◌-◌, ◌<◌, ◌≤◌, List, [], ◌∷◌, ◌++◌, false, refl, length, Some, None, sym, ap, ◌∙◌, arith}
 use Rattle.std.specs.Prelude.{slice_get, nat_lt}
-use Rattle.std.specs.List.{position_or_len}
+use Rattle.std.specs.List.{list_any, position_or_len}
 use Rattle.std.proofs.lemmas.Bool.{ltb-true}
 use Rattle.std.proofs.lemmas.Grind.{common_steps}
 use mathlib.Core.Option.{some, some-injective, some-ne-none}
 use lib.ListN.{get_elem?}
+use Rattle.indexmap.specs.IndexSet.{insert_key}
 use Rattle.mdl_key.specs.Words.{KeyName, key_eq}
 use Rattle.mdl_system.proofs.Deciding.{key-Decides}
 use Rattle.mdl_steps.specs.Rule.{key_at}
@@ -28,6 +29,14 @@ none_before key (x ∷ xs) past (suc i) there =
     (λ same. let at = rw same at past in absurd (omega arith))
     (λ differs. let at = rw differs at past in none_before key xs (omega arith) i there)
 
+none_like : (key : KeyName) (keys : List KeyName) → length keys ≤ before key keys → list_any (key_eq key) keys ≡ false
+unfolding before
+none_like key [] past = refl
+none_like key (x ∷ xs) past =
+    by_bool (key_eq key x)
+    (λ same. let at = rw same at past in absurd (omega arith))
+    (λ differs. let at = rw differs at past in rw differs (none_like key xs (omega arith)))
+
 at_before : (key : KeyName) (keys : List KeyName) → before key keys < length keys → slice_get keys (before key keys) ≡ Some key
 unfolding before
 at_before key [] within = absurd (omega arith)
@@ -45,6 +54,13 @@ unfolding before
 not_there key keys none i there =
     let past : length keys ≤ before key keys = grind (arith, common_steps) in
     none_before key keys past i there
+
+-- it goes last when it is listed
+pub goes_last : (key : KeyName) (keys : List KeyName) → place_among key keys ≡ None → insert_key key_eq keys key ≡ keys ++ key ∷ []
+unfolding before
+goes_last key keys none =
+    let past : length keys ≤ before key keys = grind (arith, common_steps) in
+    rw (none_like key keys past) refl
 
 -- one that has stands there
 pub there : (key : KeyName) (keys : List KeyName) (place : ℕ) → place_among key keys ≡ Some place → (0 < place) × (key_at keys place ≡ Some key)

@@ -1,6 +1,6 @@
--- The keys that a session looked up: found by the key, with an index under each place, and the kinds of their locks.
-use Rattle.std.proofs.Common.{◌≡◌, ℕ, zero, suc, ◌<◌, ◌≤◌, true, false, List, [], ◌∷◌, ◌++◌, get_or, length, set, map, Option, Some, None, refl, sym, ap, subst, ltb, ◌∙◌, arith}
-use Rattle.std.specs.Prelude.{◌==◌, slice_get}
+-- The keys that a session looked up: found by the key, and by the place through an index, and the kinds of their locks.
+use Rattle.std.proofs.Common.{◌≡◌, ◌≢◌, ℕ, zero, suc, ◌<◌, ◌≤◌, true, false, List, [], ◌∷◌, ◌++◌, get_or, length, set, map, Option, Some, None, refl, sym, ap, subst, ltb, ◌∙◌, arith}
+use Rattle.std.specs.Prelude.{◌==◌, is_some, slice_get}
 use Rattle.std.specs.Map.{lookup}
 use Rattle.std.specs.List.{list_all}
 use Rattle.std.specs.Option.{option_and_then}
@@ -16,8 +16,9 @@ use Rattle.mdl_key.specs.declared.namespace.Kind.{Kind}
 use Rattle.mdl_key.specs.Words.{KeyName, key_eq, kind_of}
 use Rattle.mdl_key.specs.declared.known_key.KnownKey.{KnownKey}
 use Rattle.mdl_system.proofs.Deciding.{key-Decides}
+use Rattle.mdl_steps.specs.Schemas.{is_key_known}
 use Rattle.mdl_steps.proofs.Views.{by_bool}
-use Rattle.mdl_key.specs.KeyLookups.{are_apart, are_two, is_known, kind_known, place_known}
+use Rattle.mdl_key.specs.KeyLookups.{are_apart, are_two, is_known, key_known, kind_known, place_known}
 use Rattle.mdl_visits.specs.OwnKeys.{AreIndexed, AreKinds, known_of}
 
 -- ---- by the key
@@ -33,6 +34,58 @@ key_swap j k =
 pub place_found : (key : KeyName) (entries : List (KeyName × ℕ)) → lookup (key_eq key) entries ≡ place_known key (map known_of entries)
 place_found key [] = refl
 place_found key (e ∷ es) = rw (key_swap key e.0) (grind (arith, place_found key es))
+
+-- by an equal key
+pub found_like : (key other : KeyName) (entries : List (KeyName × ℕ)) (place : ℕ) → key_eq other key ≡ true → lookup (key_eq other) entries ≡ Some place
+    → place_known key (map known_of entries) ≡ Some place
+found_like key other entries place same found =
+    sym (place_found key entries) ∙ subst (λ (k : KeyName). lookup (key_eq k) entries ≡ Some place) ((key-Decides other key).0 same) found
+
+pub known_found : (key : KeyName) (known : List KnownKey) → is_some (place_known key known) ≡ is_key_known known key
+known_found key [] = refl
+known_found key (k ∷ ks) = grind (arith, known_found key ks)
+
+-- ---- by the place
+
+abbrev At : ℕ → ℕ → List (KeyName × ℕ) → Type 0
+At place i entries = (e : KeyName × ℕ) × (slice_get entries i ≡ Some e) × (e.1 ≡ place)
+
+nowhere : (place : ℕ) (entries : List (KeyName × ℕ)) → ((i : ℕ) → At place i entries → ⊥) → key_known place (map known_of entries) ≡ None
+nowhere place [] none = refl
+nowhere place (e ∷ es) none =
+    by_bool (e.1 == place)
+    (λ hit. absurd (none 0 (e, refl, eqb-true e.1 place hit)))
+    (λ miss. rw miss (nowhere place es (λ i at. none (suc i) at)))
+
+here : (place at : ℕ) (e : KeyName × ℕ) (entries : List (KeyName × ℕ)) → slice_get entries at ≡ Some e → e.1 ≡ place → ((i : ℕ) → At place i entries → i ≡ at)
+    → key_known place (map known_of entries) ≡ Some e.0
+here place at e [] stands is only = absurd (cc)
+here place zero e (x ∷ xs) stands is only = (let first : x ≡ e = cc in rw first (rw (eq-eqb e.1 place is) refl))
+here place (suc at) e (x ∷ xs) stands is only =
+    by_bool (x.1 == place)
+    (λ hit. (let never = only 0 (x, refl, eqb-true x.1 place hit) in absurd (omega (arith, never))))
+    (λ miss. rw miss (here place at e xs stands is (λ i there. (let next = only (suc i) there in omega (arith, next)))))
+
+module _ (place : ℕ) (entries : List (KeyName × ℕ)) (indexes : List ℕ) (indexed : AreIndexed entries indexes) where
+  under : (i : ℕ) → At place i entries → slice_get indexes place ≡ Some i
+  under i at = subst (λ (q : ℕ). slice_get indexes q ≡ Some i) at.2 (indexed i at.0 at.1)
+
+  -- there is no index under the place
+  pub none_under : slice_get indexes place ≡ None → key_known place (map known_of entries) ≡ None
+  none_under none = nowhere place entries (λ i there. (let stands = under i there in absurd (cc)))
+
+  -- nothing stands at the index
+  pub none_at : (at : ℕ) → slice_get indexes place ≡ Some at → slice_get entries at ≡ None → key_known place (map known_of entries) ≡ None
+  none_at at is none = nowhere place entries (λ i there. (let same = sym is ∙ under i there in let stands = there.1 in absurd (cc)))
+
+  -- the key of another place stands there
+  pub other_at : (at : ℕ) (e : KeyName × ℕ) → slice_get indexes place ≡ Some at → slice_get entries at ≡ Some e → e.1 ≢ place → key_known place (map known_of entries) ≡ None
+  other_at at e is stands other = nowhere place entries (λ i there.
+      (let same = sym is ∙ under i there in let own = there.1 in let one : e ≡ there.0 = cc in other (ap (λ (x : KeyName × ℕ). x.1) one ∙ there.2)))
+
+  -- the key of the place stands there
+  pub found_at : (at : ℕ) (e : KeyName × ℕ) → slice_get indexes place ≡ Some at → slice_get entries at ≡ Some e → e.1 ≡ place → key_known place (map known_of entries) ≡ Some e.0
+  found_at at e is stands own = here place at e entries stands own (λ i there. (let same = sym is ∙ under i there in cc))
 
 -- ---- one key more
 
