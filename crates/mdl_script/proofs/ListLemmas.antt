@@ -126,3 +126,8 @@ find-more p xs i d inside none fails = rw (add-one i) (find-further p xs i d ins
         | true ↦ λ e. cc
         | false ↦ λ e. find-further p xs i d (omega arith) e fails
       ] none
+
+-- where none passes, none is found
+pub find-none : (p : ℕ → Bool) (xs : List ℕ) → ((x : ℕ) → p x ≡ false) → find p xs ≡ None
+find-none p [] none = refl
+find-none p (x ∷ xs) none = rw (none x) (find-none p xs none)

@@ -313,6 +313,9 @@ fn first_settled(space: &mut CoreSpace, waiting: &[u16]) -> Option<u16>
     ensures found { result ≡ find (has_settled space.old) waiting.now }
     ensures same { space.new ≡ space.old }
 {
+    if space.settled_waits() == 0 {
+        return None;
+    }
     for who in waiting {
         if has_settled(space, *who) {
             return Some(*who);

@@ -2,11 +2,12 @@
 ghost use Rattle.std.specs.Prelude.{◌≡◌, ◌++◌, ◌∷◌, [], OnOk, flat_map, codes};
 ghost use Rattle.std.specs.List.{join_by};
 ghost use Rattle.std.specs.String.{string_bytes};
+ghost use Rattle.mdl_key.specs.Keys.{key_text};
 ghost use Rattle.mdl_script.specs.RunTexts.{answer_line, answers_text};
 ghost use Rattle.mdl_script.specs.Texts.{columns_text, end_line, error_text, heading, news_text, number_text, reply_text, table_text, tables_text, told_line, told_text, wait_text};
 
 use mdl_defs::Column;
-use mdl_key::{Key, Mode};
+use mdl_key::{Key, Mode, Namespace};
 use mdl_lines::push_digits;
 use mdl_stmt::{Reply, TableShown};
 use std::alloc::AllocError;
@@ -120,10 +121,41 @@ fn push_heading(out: &mut String, line: u64, who: u16) -> Result<(), AllocError>
 fn push_wait(out: &mut String, key: &Key, mode: Mode) -> Result<(), AllocError>
     ensures { OnOk result (string_bytes out.new ≡ string_bytes out.old ++ wait_text key.now mode) }
 {
-    match write!(out, "WAIT {key} {mode}") {
-        Ok(()) => Ok(()),
-        Err(_) => Err(AllocError),
+    out.push_str("WAIT ")?;
+    push_key(out, key)?;
+    out.push(' ')?;
+    out.push_str(mode.as_str())
+}
+
+// Appends a key as it is displayed. A formatter takes longer.
+fn push_key(out: &mut String, key: &Key) -> Result<(), AllocError>
+    ensures { OnOk result (string_bytes out.new ≡ string_bytes out.old ++ key_text key.now) }
+{
+    match key.namespace() {
+        Namespace::Global => out.push_str("GLOBAL"),
+        Namespace::Schema => {
+            out.push_str("SCHEMA ")?;
+            out.push_str(key.schema_name())
+        }
+        Namespace::Table => {
+            out.push_str("TABLE ")?;
+            push_table_name(out, key)
+        }
+        Namespace::Commit => out.push_str("COMMIT"),
+        Namespace::UserLevelLock => {
+            out.push_str("USER ")?;
+            out.push_str(key.schema_name())
+        }
     }
+}
+
+// Appends the name of a table, after its schema's and a dot.
+fn push_table_name(out: &mut String, key: &Key) -> Result<(), AllocError>
+    ensures { OnOk result (string_bytes out.new ≡ string_bytes out.old ++ key.now.schema ++ codes "." ++ key.now.table) }
+{
+    out.push_str(key.schema_name())?;
+    out.push('.')?;
+    out.push_str(key.table_name())
 }
 
 // Appends a reply.
@@ -156,10 +188,8 @@ fn push_truth(out: &mut String, number: bool) -> Result<(), AllocError>
 fn push_error(out: &mut String, number: u16) -> Result<(), AllocError>
     ensures { OnOk result (string_bytes out.new ≡ string_bytes out.old ++ error_text number) }
 {
-    match write!(out, "ERR {number}") {
-        Ok(()) => Ok(()),
-        Err(_) => Err(AllocError),
-    }
+    out.push_str("ERR ")?;
+    push_digits(out, u64::from(number))
 }
 
 // Appends the tables that a statement read, each after a space.
@@ -177,9 +207,7 @@ fn push_table(out: &mut String, table: &TableShown) -> Result<(), AllocError>
     ensures { OnOk result (string_bytes out.new ≡ string_bytes out.old ++ table_text table.now) }
 {
     out.push(' ')?;
-    out.push_str(table.key.schema_name())?;
-    out.push('.')?;
-    out.push_str(table.key.table_name())?;
+    push_table_name(out, &table.key)?;
     out.push('@')?;
     push_digits(out, table.version)?;
     push_columns(out, table.columns.as_slice())

@@ -4,5 +4,6 @@ pub mod KnownKeyLemmas
 pub mod ModeLemmas
 pub mod SearchLemmas
 pub mod ServingLemmas
+pub mod SettledLemmas
 pub mod SpeakingLemmas
 pub mod TableLemmas

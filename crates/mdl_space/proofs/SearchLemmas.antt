@@ -37,12 +37,15 @@ module _ (xs : List Held) (rising : IsTrue (are_rising xs)) (id : ℕ) where
       let numbers_rise : (get_or xs i d).id ≤ (get_or xs j d).id = grind (arith, rises xs i j d rising, λ (same : i ≡ j). ap (λ k. (get_or xs k d).id) same) in
       grind (arith, nat_tests)
 
-  pub searched : (r : Result ℕ ℕ) → IsSearchInRange r (length xs) → IsBinarySearchResult (λ ticket. nat_cmp ticket.id id) xs r → result_ok r ≡ position (is_number id) xs
-  searched (Ok at) inside equal =
-      let here : (get_or xs at no_ticket).id ≡ id = ranked _ id _ (sym (equal no_ticket)) in
+  -- a ticket of the number is the first of it
+  pub found-at : (at : ℕ) (d : Held) → at < length xs → (get_or xs at d).id ≡ id → Some at ≡ position (is_number id) xs
+  found-at at d inside here =
       let first : position_or_len (is_number id) xs ≡ at =
-      position_or_len_is (is_number id) xs at no_ticket (omega (arith, inside)) (λ k below. grind (arith, nat_tests, rises xs k at no_ticket rising)) (λ _. grind (arith, nat_tests)) in
+      position_or_len_is (is_number id) xs at d (omega (arith, inside)) (λ k below. grind (arith, nat_tests, rises xs k at d rising)) (λ _. grind (arith, nat_tests)) in
       rw first (grind (arith, nat_tests))
+
+  pub searched : (r : Result ℕ ℕ) → IsSearchInRange r (length xs) → IsBinarySearchResult (λ ticket. nat_cmp ticket.id id) xs r → result_ok r ≡ position (is_number id) xs
+  searched (Ok at) inside equal = found-at at no_ticket (omega (arith, inside)) (ranked _ id _ (sym (equal no_ticket)))
   searched (Err at) inside parted =
       let none : position_or_len (is_number id) xs ≡ length xs =
       position_or_len_is (is_number id) xs (length xs) no_ticket (omega arith) (λ k below.

@@ -1,12 +1,15 @@
 -- Granting the waiters of a place, one after another.
-use Rattle.std.proofs.Common.{◌≡◌, ◌≢◌, ℕ, zero, suc, ◌+◌, ◌-◌, ◌<◌, ◌≤◌, Bool, true, false, cond, not, ◌&&◌, ◌||◌, nat_eq, nat_le, List, [], ◌∷◌, length, get_or, Option, Some, None, refl, sym, ◌∙◌, ap, subst, arith, length-set, set as set_at}
-use Rattle.std.specs.Prelude.{find, is_some, IsOk}
+use Rattle.std.proofs.Common.{◌≡◌, ◌≢◌, ℕ, zero, suc, ◌+◌, ◌-◌, ◌<◌, ◌≤◌, Bool, true, false, cond, not, ◌&&◌, ◌||◌, nat_eq, nat_le, List, [], ◌∷◌, length, get_or, take, Option, Some, None, refl, sym, ◌∙◌, ap, subst, arith, length-set, set as set_at}
+use Rattle.std.specs.Prelude.{find, is_some, All, IsOk}
+use Rattle.std.specs.List.{list_any}
 use Rattle.std.specs.Option.{option_map, ok_or}
 use Rattle.std.specs.FinSet as set
 use Rattle.std.specs.Ordering.{nat_cmp}
 use Rattle.std.specs.Cmp.{nat_cmp_total, unsigned_tied}
 use Rattle.std.proofs.lemmas.Bool.Decides.{nat_tests}
 use Rattle.std.proofs.lemmas.List.{get_or_default, get_or-set_same, get_or-set_other}
+use Rattle.std.proofs.lemmas.List.Elements.{All-head, All-tail}
+use Rattle.std.proofs.lemmas.List.Folds.{list_any_at, list_any_more}
 use Rattle.mdl_book.specs.declared.book_view.BookView.{BookView}
 use Rattle.mdl_book.specs.declared.ticket.Ticket.{Ticket}
 use Rattle.mdl_book.specs.Books as book
@@ -14,10 +17,11 @@ use Rattle.mdl_key.specs.Keys.{global_key}
 use Rattle.mdl_book.specs.Books.{lock_kind, empty_book}
 use Rattle.mdl_book.specs.Tickets.{is_ticket, ticket_of, ticket_id}
 use Rattle.mdl_book.proofs.FastLemmas.{can_be_granted-none}
-use Rattle.mdl_book.proofs.TicketLemmas.{find-passes}
+use Rattle.mdl_book.proofs.TicketLemmas.{All-without, find-passes}
 use Rattle.mdl_calls.specs.declared.answers.Settled.TheVariants as settled_as
 use Rattle.mdl_core.specs.declared.pending.Pending.{Pending}
 use Rattle.mdl_core.specs.Words.{SeatView, empty_seat, is_unsettled_wait, with_settled_wait, Core, book_at, seat_at, has_key, has_session, booking, seating, has_unsettled_wait, is_ready_waiter, next_ready, admitting_if, admitting_up_to, serving}
+use Rattle.mdl_space.specs.SettledWaits.{TellsUnsettled}
 
 -- where nobody can be granted, nobody is
 pub none_left : (n place : ℕ) (core : Core) → next_ready place core ≡ None → admitting_up_to n place core ≡ core
@@ -63,17 +67,18 @@ pub all_turns : (place : ℕ) (core : Core) (waiting : List Ticket) (turns : ℕ
 all_turns place core waiting turns is count = ap (λ n. admitting_up_to n place core) (count ∙ ap length is)
 
 -- two tests that agree on each element find the same
-find-same : {X : Type 0} (p q : X → Bool) (xs : List X) → ((x : X) → p x ≡ q x) → find p xs ≡ find q xs
+find-same : {X : Type 0} (p q : X → Bool) (xs : List X) → All (λ x. p x ≡ q x) xs → find p xs ≡ find q xs
 find-same p q [] same = refl
-find-same p q (x ∷ xs) same = rw (same x, find-same p q xs same)
+find-same p q (x ∷ xs) same = rw (All-head (λ y. p y ≡ q y) x xs same, find-same p q xs (All-tail (λ y. p y ≡ q y) x xs same))
 
 -- the book finds the next one, once it knows whose waits are unsettled
-pub next_in_book : (unsettled : set.FinSet nat_cmp) (place : ℕ) (core : Core) → ((who : ℕ) → set.contains unsettled who ≡ has_unsettled_wait who core)
+pub next_in_book : (unsettled : set.FinSet nat_cmp) (place : ℕ) (core : Core) → TellsUnsettled unsettled place core
     → book.next_grantable 0 unsettled (book_at place core) ≡ next_ready place core
 next_in_book unsettled place core tells =
     let lists = book_at place core in
     find-same (book.is_ready 0 unsettled lists) (is_ready_waiter place core) lists.waiting
-    (λ ticket. rw (tells ticket.session, can_be_granted-none (lock_kind lists) lists.granted lists.waiting ticket.session ticket.mode) refl)
+    (λ k d inside. let ticket = get_or lists.waiting k d in
+    rw (tells k d inside, can_be_granted-none (lock_kind lists) lists.granted lists.waiting ticket.session ticket.mode) refl)
 
 found_is : {X : Type 0} (p q : X → Bool) (xs : List X) (x : X) → find p xs ≡ Some x → q x ≡ true → is_some (find q xs) ≡ true
 found_is p q [] x found passes = cc
@@ -132,7 +137,7 @@ module _ (place who number : ℕ) (core : Core) (next : Some (who, number) ≡ o
       ≡ booking place (book.admitting w n (book_at place core)) (seating w (with_settled_wait settled_as.Granted (seat_at w core)) core))
       (next_ready place core) who number next (λ ticket found. ap (λ o. admitting_if place o core) found)
 
--- ---- the set of the sessions whose waits are unsettled
+-- ---- the set of the sessions whose waits are settled
 
 none_yet : (who : ℕ) (b : Bool) → false ≡ (nat_le 1 who && nat_le who 0 && b)
 none_yet who true = grind (arith, nat_tests)
@@ -157,6 +162,51 @@ module _ (sessions : set.FinSet nat_cmp) (index : ℕ) (open_at : ℕ → Bool) 
 
   pub set-passed : open_at (index + 1) ≡ false → (who : ℕ) → set.contains sessions who ≡ (nat_le 1 who && nat_le who (index + 1) && open_at who)
   set-passed is who = before who ∙ one_passed index who (open_at who) (λ same. ap open_at same ∙ is)
+
+-- ---- the set of the sessions that wait at a place and whose waits are unsettled
+
+-- whether a ticket is a session's
+abbrev pub is_of : ℕ → Ticket → Bool
+is_of who ticket = nat_eq ticket.session who
+
+one_noted : (who one : ℕ) (before has : Bool) → (who ≡ one → has ≡ true) → (nat_eq who one || (before && has)) ≡ ((before || nat_eq one who) && has)
+one_noted who one true true is = grind (arith, nat_tests)
+one_noted who one true false is = grind (arith, nat_tests)
+one_noted who one false true is = grind (arith, nat_tests)
+one_noted who one false false is = grind (arith, nat_tests)
+
+one_skipped : (who one : ℕ) (before has : Bool) → (who ≡ one → has ≡ false) → (before && has) ≡ ((before || nat_eq one who) && has)
+one_skipped who one true has is = refl
+one_skipped who one false true is = grind (arith, nat_tests)
+one_skipped who one false false is = grind (arith, nat_tests)
+
+module _ (sessions : set.FinSet nat_cmp) (waiting : List Ticket) (index : ℕ) (d : Ticket) (core : Core) (inside : index < length waiting)
+    (before : (who : ℕ) → set.contains sessions who ≡ (list_any (is_of who) (take index waiting) && has_unsettled_wait who core)) where
+  looked_at : (who : ℕ) → list_any (is_of who) (take (index + 1) waiting) ≡ (list_any (is_of who) (take index waiting) || nat_eq (get_or waiting index d).session who)
+  looked_at who = list_any_more (is_of who) waiting index d inside
+
+  pub set-noted : has_unsettled_wait (get_or waiting index d).session core ≡ true
+      → (who : ℕ) → set.contains (set.insert sessions (get_or waiting index d).session) who ≡ (list_any (is_of who) (take (index + 1) waiting) && has_unsettled_wait who core)
+  set-noted waits who =
+      set.contains-insert nat_cmp_total sessions (get_or waiting index d).session who
+      ∙ rw (unsigned_tied who (get_or waiting index d).session, before who, looked_at who)
+      (one_noted who (get_or waiting index d).session (list_any (is_of who) (take index waiting)) (has_unsettled_wait who core) (λ same. ap (λ w. has_unsettled_wait w core) same ∙ waits))
+
+  pub set-skipped : has_unsettled_wait (get_or waiting index d).session core ≡ false
+      → (who : ℕ) → set.contains sessions who ≡ (list_any (is_of who) (take (index + 1) waiting) && has_unsettled_wait who core)
+  set-skipped waits_not who =
+      before who
+      ∙ rw (looked_at who)
+      (one_skipped who (get_or waiting index d).session (list_any (is_of who) (take index waiting)) (has_unsettled_wait who core) (λ same. ap (λ w. has_unsettled_wait w core) same ∙ waits_not))
+
+-- once all tickets were looked at, the set tells of each
+pub set-tells : (sessions : set.FinSet nat_cmp) (waiting : List Ticket) (core : Core)
+    → ((who : ℕ) → set.contains sessions who ≡ (list_any (is_of who) waiting && has_unsettled_wait who core))
+    → All (λ ticket. set.contains sessions ticket.session ≡ has_unsettled_wait ticket.session core) waiting
+set-tells sessions waiting core all k d inside =
+    let one : Ticket = get_or waiting k d in
+    let itself : is_of one.session one ≡ true = grind (arith, nat_tests) in
+    all one.session ∙ ap (λ b. b && has_unsettled_wait one.session core) (list_any_at (is_of one.session) waiting k d inside itself)
 
 one_taken : (who one : ℕ) (has old new : Bool) → (who ≡ one → new ≡ false) → (has ≡ true → who ≢ one → new ≡ old) → (not (nat_eq who one) && (has && old)) ≡ (has && new)
 one_taken who one true true new same other = grind (arith, nat_tests, same, other refl)
@@ -197,13 +247,12 @@ seat_here core seats who i seat view has same is =
     is ∙ get_or_default seats (i - 1) seat empty_seat inside ∙ rw (view, same) refl
 
 -- what is written there
-pub written : (core view : Core) (place who i j : ℕ) (new lists : BookView) (later seat : SeatView) → view ≡ core → i ≡ place → new ≡ lists → j ≡ who → later ≡ seat
-    → record view { books = set_at view.books (i - 1) new; seats = set_at view.seats (j - 1) later } ≡ booking place lists (seating who seat core)
-written core view place who i j new lists later seat same at is there will = rw (same, at, is, there, will) refl
+pub written_book : (core view : Core) (place i : ℕ) (new lists : BookView) → view ≡ core → i ≡ place → new ≡ lists
+    → record view { books = set_at view.books (i - 1) new } ≡ booking place lists core
+written_book core view place i new lists same at is = rw (same, at, is) refl
 
 -- once a wait is granted its session is no longer among them
-module _ (sessions : set.FinSet nat_cmp) (core : Core) (place one : ℕ) (lists : BookView) (has : has_session one core ≡ true)
-    (before : (who : ℕ) → set.contains sessions who ≡ has_unsettled_wait who core) where
+module _ (sessions : set.FinSet nat_cmp) (core : Core) (place one : ℕ) (lists : BookView) (has : has_session one core ≡ true) where
   after : Core
   after = booking place lists (seating one (with_settled_wait settled_as.Granted (seat_at one core)) core)
 
@@ -226,11 +275,26 @@ module _ (sessions : set.FinSet nat_cmp) (core : Core) (place one : ℕ) (lists 
   unfolding after
   session_stays who = ap (λ n. nat_le 1 who && nat_le who n) (length-set core.seats (one - 1) (with_settled_wait settled_as.Granted (seat_at one core)))
 
-  pub set-granted : (who : ℕ) → set.contains (set.remove sessions one) who ≡ has_unsettled_wait who (booking place lists (seating one (with_settled_wait settled_as.Granted (seat_at one core)) core))
+  pub set-granted : (who : ℕ) → set.contains sessions who ≡ has_unsettled_wait who core
+      → set.contains (set.remove sessions one) who ≡ has_unsettled_wait who (booking place lists (seating one (with_settled_wait settled_as.Granted (seat_at one core)) core))
   unfolding after
-  set-granted who =
+  set-granted who before =
       set.contains-remove nat_cmp_total sessions one who
-      ∙ rw (unsigned_tied who one, before who)
+      ∙ rw (unsigned_tied who one, before)
       (one_taken who one (has_session who core) (is_unsettled_wait (seat_at who core).wait) (is_unsettled_wait (seat_at who after).wait)
       (λ same. ap (λ w. is_unsettled_wait (seat_at w after).wait) same ∙ closed_there) (same_elsewhere who))
       ∙ ap (λ b. b && is_unsettled_wait (seat_at who after).wait) (sym (session_stays who))
+
+-- what the set tells of the waiters of a place it tells of those that are left
+pub tells-granted : (sessions : set.FinSet nat_cmp) (core : Core) (place who number : ℕ) → has_session who core ≡ true → has_key place core ≡ true → TellsUnsettled sessions place core
+    → TellsUnsettled (set.remove sessions who) place
+    (booking place (book.admitting who number (book_at place core)) (seating who (with_settled_wait settled_as.Granted (seat_at who core)) core))
+tells-granted sessions core place who number has key tells =
+    let lists : BookView = book.admitting who number (book_at place core) in
+    let after : Core = booking place lists (seating who (with_settled_wait settled_as.Granted (seat_at who core)) core) in
+    let inside : place - 1 < length core.books = let b = key-bounds place core key in omega arith in
+    let here : lists ≡ book_at place after = sym (get_or-set_same core.books (place - 1) lists (empty_book global_key) inside) in
+    let told : All (λ (ticket : Ticket). set.contains (set.remove sessions who) ticket.session ≡ has_unsettled_wait ticket.session after) (book_at place core).waiting =
+    λ k d at. set-granted sessions core place who lists has (get_or (book_at place core).waiting k d).session (tells k d at) in
+    subst (λ (b : BookView). All (λ (ticket : Ticket). set.contains (set.remove sessions who) ticket.session ≡ has_unsettled_wait ticket.session after) b.waiting) here
+    (All-without (λ (ticket : Ticket). set.contains (set.remove sessions who) ticket.session ≡ has_unsettled_wait ticket.session after) (is_ticket who number) (book_at place core).waiting told)

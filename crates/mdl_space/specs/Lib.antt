@@ -19,3 +19,4 @@ pub use Rattle.mdl_system.specs.Strength
 pub use Rattle.mdl_system.specs.Systems
 pub mod CoreMembers
 pub mod KnownKeys
+pub mod SettledWaits

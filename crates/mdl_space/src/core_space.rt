@@ -32,15 +32,18 @@ pub struct CoreSpace {
     books: Vec<Book>,
     known: HashMap<Key, Place>,
     seats: Vec<Seat>,
+    // How many seats have a settled wait.
+    settled: usize,
     places: usize,
 }
 
 impl Model for CoreSpace {
-    ghost use Rattle.std.specs.Prelude.{◌≤◌, length};
+    ghost use Rattle.std.specs.Prelude.{◌≡◌, ◌≤◌, length};
     ghost use Rattle.std.specs.Vec.{vec_capacity};
     ghost use Rattle.mdl_key.specs.Words.{most_places, most_sessions};
     ghost use Rattle.mdl_core.specs.Cores.{Core};
     ghost use Rattle.mdl_space.specs.KnownKeys.{TellsPlaces};
+    ghost use Rattle.mdl_space.specs.SettledWaits.{settled_waits};
 
     ghost Value = { Core };
 
@@ -52,6 +55,7 @@ impl Model for CoreSpace {
       room : space.places ≤ vec_capacity space.books;
       known : TellsPlaces space.known.entries space.books.items;
       sessions : length space.seats.items ≤ most_sessions;
+      settled : space.settled ≡ settled_waits space.seats.items;
     } };
 }
 
@@ -86,6 +90,7 @@ impl CoreSpace {
             books,
             known: HashMap::new(alloc),
             seats,
+            settled: 0,
             places: usize::from(places),
         })
     }
@@ -204,7 +209,7 @@ impl CoreSpace {
     {
         match self.victim_of(who) {
             Ok(Some(victim)) => {
-                self.seats[usize::from(victim) - 1].settle(Settled::Victim);
+                self.settle(victim, Settled::Victim);
                 Ok(Search::Victim(victim))
             }
             Ok(None) => Ok(Search::NoCycle),
@@ -231,14 +236,13 @@ impl CoreSpace {
         requires { has_session who self.old ≡ true }
         ensures { Makes false (settle_timeout_outcome who) self.old (timed_out result) self.new }
     {
-        let seat = &mut self.seats[usize::from(who) - 1];
-        let Some(wait) = seat.wait() else {
+        let Some(wait) = self.seats[usize::from(who) - 1].wait() else {
             return Err(SpaceError::NoWait);
         };
         if let Some(how) = wait.settled {
             return Ok(TimedOut::Already(how));
         }
-        seat.settle(Settled::Timeout);
+        self.settle(who, Settled::Timeout);
         Ok(TimedOut::ByThisCall)
     }
 
@@ -255,7 +259,7 @@ impl CoreSpace {
         };
         match how {
             Settled::Granted => {
-                self.seats[usize::from(who) - 1].take_up(wait);
+                self.take_up(who, wait);
                 Ok(Ended::Granted(wait.id))
             }
             Settled::Victim => {
@@ -293,14 +297,13 @@ impl CoreSpace {
         if target == 0 || usize::from(target) > self.seats.len() {
             return false;
         }
-        let seat = &mut self.seats[usize::from(target) - 1];
-        let Some(wait) = seat.wait() else {
+        let Some(wait) = self.seats[usize::from(target) - 1].wait() else {
             return false;
         };
         if wait.number != number || wait.settled.is_some() {
             return false;
         }
-        seat.settle(Settled::Killed);
+        self.settle(target, Settled::Killed);
         true
     }
 
@@ -396,9 +399,9 @@ impl CoreSpace {
         requires waits { IsSome (ticket_of who wait.id (book_at wait.place self.old).waiting) }
         ensures { self.new ≡ serving wait.place (ending_lost who wait self.old) }
     {
-        self.seats[usize::from(who) - 1].drop_wait();
         let book = &mut self.books[usize::from(wait.place) - 1];
         book.cancel(who, wait.id).unwrap();
+        self.drop_wait(who);
         self.serve(wait.place);
     }
 
@@ -448,4 +451,5 @@ mod deadlocks;
 mod definitions;
 mod modes;
 mod serving;
+mod settling;
 mod tables;

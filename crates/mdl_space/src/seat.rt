@@ -234,5 +234,9 @@ fn index_of(held: &[Held], id: TicketId) -> Option<usize>
     requires { IsTrue (are_rising held.now) }
     ensures { result ≡ position (is_number id) held.now }
 {
-    held.binary_search_by_key(&id, |ticket| ticket.id).ok()
+    match held {
+        // Most calls ask for the newest ticket.
+        [.., newest] if newest.id == id => Some(held.len() - 1),
+        _ => held.binary_search_by_key(&id, |ticket| ticket.id).ok(),
+    }
 }

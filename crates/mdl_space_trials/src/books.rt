@@ -34,6 +34,9 @@ const TIMED_OUT: &[Row] = &[
 // The session of the change ends its wait, so the reader behind it is granted.
 const ENDED: &[Row] = &[(2, Act::EndWait(Ok(Ended::Timeout)))];
 
+// The reader ends its wait, too.
+const TAKEN_UP: &[Row] = &[(3, Act::EndWait(Ok(Ended::Granted(1))))];
+
 // Whether the books are those of the places from 1 to `last`, in order.
 fn are_of_places(room: &mut Room, last: Place) -> bool {
     for index in 0..last {
@@ -56,17 +59,22 @@ fn first_has(room: &Room, granted: &[Ticket], waiting: &[Ticket]) -> bool {
     }
 }
 
-// Calls, and the granted and the waiting tickets of the first place after them. A lost wait is in its book until its session ends it.
-const LISTED: &[(&[Row], &[Ticket], &[Ticket])] = &[
-    (&[], &[], &[]),
-    (TIMED_OUT, &[READER], &[CHANGE, LATE_READER]),
-    (ENDED, &[READER, LATE_READER], &[]),
+// Calls, the granted and the waiting tickets of the first place after them, and how many waits are settled then. A lost wait is in its book until
+// its session ends it.
+const LISTED: &[(&[Row], &[Ticket], &[Ticket], usize)] = &[
+    (&[], &[], &[], 0),
+    (TIMED_OUT, &[READER], &[CHANGE, LATE_READER], 1),
+    (ENDED, &[READER, LATE_READER], &[], 1),
+    (TAKEN_UP, &[READER, LATE_READER], &[], 0),
 ];
 
-/// Whether the books are those of all places, and list the right tickets.
+/// Whether the books are those of all places and list the right tickets, and the right number of waits is settled.
 pub(crate) fn list_what_stands(room: &mut Room) -> bool {
-    for (rows, granted, waiting) in LISTED {
+    for (rows, granted, waiting, settled) in LISTED {
         if room.first_wrong(rows).is_some() || !first_has(room, granted, waiting) {
+            return false;
+        }
+        if room.settled_waits() != *settled {
             return false;
         }
     }

@@ -153,6 +153,11 @@ impl Room {
         self.space.books()
     }
 
+    /// How many waits are settled and not yet ended.
+    pub(crate) fn settled_waits(&self) -> usize {
+        self.space.settled_waits()
+    }
+
     /// Makes a call. Whether the answer is the wanted one, or None if memory ran out.
     pub(crate) fn make(&mut self, who: u16, act: Act) -> Option<bool> {
         if who == 0 || who > self.sessions {

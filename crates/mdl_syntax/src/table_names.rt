@@ -1,5 +1,5 @@
 //! The names in the words of a line, before memory is taken for them.
-ghost use Rattle.std.specs.Prelude.{◌≡◌, ◌<◌, ◌≤◌, ◌++◌, ◌∷◌, [], List, Some, None, Ok, Err, length, map, position, take, MatchOption, MatchResult};
+ghost use Rattle.std.specs.Prelude.{◌≡◌, ◌<◌, ◌≤◌, ◌++◌, ◌∷◌, [], List, Some, None, Ok, Err, codes, length, map, position, take, MatchOption, MatchResult};
 ghost use Rattle.std.specs.List.{list_any};
 ghost use Rattle.mdl_key.specs.Keys.{KeyName, key_eq, table_key};
 ghost use Rattle.mdl_lines.specs.Lines.{words_of};
@@ -17,7 +17,7 @@ use std::str;
 const MOST_TABLES: usize = 8;
 
 // The schema of a table that is named without one.
-const DEFAULT_SCHEMA: &[u8] = b"test";
+const DEFAULT_SCHEMA: &str = "test";
 
 /// The names of a table's schema and of the table.
 #[derive(Clone, Copy)]
@@ -41,8 +41,19 @@ pub(crate) fn table_of(word: &[u8]) -> Option<TableName<'_>>
 {
     match first_dot(word) {
         Some(at) => table_in(&word[..at], &word[at + 1..]),
-        None => table_in(DEFAULT_SCHEMA, word),
+        None => table_in_default(word),
     }
+}
+
+// Returns the table of this name in the default schema, whose own name needs no check.
+fn table_in_default(table: &[u8]) -> Option<TableName<'_>>
+    ensures { MatchOption result (table_in (codes "test") table.now ≡ None) (λ name. table_in (codes "test") table.now ≡ Some (table_key name.schema.now name.table.now)) }
+{
+    let table = name_of(table)?;
+    Some(TableName {
+        schema: DEFAULT_SCHEMA,
+        table,
+    })
 }
 
 // Returns where the first dot is.

@@ -19,7 +19,7 @@ loop-turn-init c =
     record {
       rest = all_turns c.args.place c.args.self.now _ _ (c.waiting-waiting.ensures ∙ ap (λ (k : BookView). k.waiting) lists) (omega arith);
       key = c.requires;
-      told = c.unsettled_sessions-unsettled.ensures;
+      told = c.unsettled_waiters-unsettled.ensures;
     }
 
 pub loop-turn-preserved : goal.loop-turn-preserved

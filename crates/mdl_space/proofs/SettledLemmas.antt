@@ -1,0 +1,26 @@
+-- Where no wait is settled.
+use Rattle.std.proofs.Common.{◌≡◌, ℕ, ◌-◌, ◌≤◌, Bool, true, false, cond, refl, arith}
+use Rattle.std.proofs.lemmas.List.Sums.{get_or-le-sum_by}
+use Rattle.mdl_core.specs.CoreCalls.{has_settled}
+use Rattle.mdl_core.specs.Words.{SeatView, Core, empty_seat, seat_at, has_session, is_settled_wait}
+use Rattle.mdl_space.specs.SettledWaits.{settled_waits}
+use Rattle.mdl_space.proofs.ServingLemmas.{session-bounds}
+
+-- what a seat adds to the number of settled waits
+abbrev weight : SeatView → ℕ
+weight seat = cond (is_settled_wait seat.wait) 1 0
+
+weightless : (b : Bool) → cond {A = ℕ} b 1 0 ≤ 0 → b ≡ false
+weightless true none = absurd (omega (arith, none))
+weightless false none = refl
+
+-- where none is settled, no session's is
+pub none-settled : (core : Core) → settled_waits core.seats ≡ 0 → (who : ℕ) → has_settled core who ≡ false
+none-settled core none who = by (has_session who core) refl
+  where
+    by : (b : Bool) → has_session who core ≡ b → has_settled core who ≡ false
+    by false there = rw there refl
+    by true there =
+        let bounds = session-bounds who core there in
+        let counts : weight (seat_at who core) ≤ settled_waits core.seats = get_or-le-sum_by weight core.seats (who - 1) empty_seat (omega (arith, bounds.0, bounds.1)) in
+        rw there (weightless (is_settled_wait (seat_at who core).wait) (omega (arith, counts, none)))
