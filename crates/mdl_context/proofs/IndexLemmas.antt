@@ -1,13 +1,13 @@
 -- Numbers by place: one taken out of numbers that rise, and lists without numbers.
-use Rattle.std.proofs.Common.{◌≡◌, ◌≢◌, ℕ, zero, suc, ◌<◌, ◌≤◌, List, [], ◌∷◌, ◌++◌, length, get_or, Result, Ok, Err, refl, arith}
+use Rattle.std.proofs.Common.{◌≡◌, ◌≢◌, ℕ, zero, suc, ◌<◌, ◌≤◌, List, [], ◌∷◌, ◌++◌, ◌-◌, length, get_or, Result, Ok, Err, refl, arith, length-append}
 use Rattle.std.specs.Prelude.{nat_lt, IsTrue}
 use Rattle.std.specs.List.{list_all, remove}
 use Rattle.std.specs.List.Sorted.{IsBinarySearchResult}
 use Rattle.std.specs.Ordering.{nat_cmp}
 use Rattle.std.proofs.lemmas.Bool.Decides.{nat_tests}
+use Rattle.std.proofs.lemmas.List.{take_at}
 use Rattle.std.proofs.lemmas.List.Sorted.{searched}
-use Rattle.smallvec.specs.SmallVec.{SmallVec}
-use Rattle.mdl_context.specs.Indexes.{Index, rises, ticket_numbers, without_one}
+use Rattle.mdl_context.specs.Indexes.{Index, NumberList, rises, ticket_numbers, without_last, without_one}
 
 -- ---- a number among numbers that rise
 
@@ -58,8 +58,12 @@ missed_stays ns id (Err gap) rising told none =
     not_among id ns (λ k below same. grind (arith, nat_tests, parted.1 k, parted.2 k))
 
 -- a list without numbers more changes none
-pub one_empty_more : (index : Index) (list : SmallVec ℕ) (place : ℕ) → list.items ≡ [] → ticket_numbers place (index ++ list ∷ []) ≡ ticket_numbers place index
+pub one_empty_more : (index : Index) (list : NumberList) (place : ℕ) → list.items ≡ [] → ticket_numbers place (index ++ list ∷ []) ≡ ticket_numbers place index
 one_empty_more [] list zero none = none
 one_empty_more [] list (suc place) none = refl
 one_empty_more (x ∷ xs) list zero none = refl
 one_empty_more (x ∷ xs) list (suc place) none = one_empty_more xs list place none
+
+-- without the last number, the others are there
+pub last-dropped : (ns : List ℕ) (n : ℕ) → without_last (ns ++ n ∷ []) ≡ ns
+last-dropped ns n = take_at ns (n ∷ []) (length (ns ++ n ∷ []) - 1) (omega (arith, length-append ns (n ∷ [])))

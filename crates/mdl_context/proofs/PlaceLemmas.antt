@@ -21,9 +21,9 @@ use Rattle.mdl_context.specs.Requests.{suffices, is_reusable}
 use Rattle.mdl_context.specs.declared.wishes.Terms.{Terms}
 use Rattle.mdl_context.specs.Terms.{meets, serves_again, terms_of, wish_for}
 use Rattle.mdl_context.specs.Holdings.{is_kept_at, has_ticket_number, without_number, numbers_among, IsIndexOf, earliest, kept_for, in_transaction, transactional}
-use Rattle.mdl_context.specs.Indexes.{Index, ticket_numbers, has_room_for, rises, without_one}
+use Rattle.mdl_context.specs.Indexes.{Index, ticket_numbers, has_room_for, rises, without_last, without_one}
 use Rattle.mdl_context.proofs.FrontLemmas.{Above, above-filter, rising-filter}
-use Rattle.mdl_context.proofs.IndexLemmas.{AllAbove}
+use Rattle.mdl_context.proofs.IndexLemmas.{AllAbove, last-dropped}
 use Rattle.mdl_context.proofs.ReleaseLemmas.{left, above_mid, newest, older, newer, left-now, left-goes, last, last-parted}
 use Rattle.mdl_context.proofs.SearchLemmas.{no_ticket, all_others}
 
@@ -72,6 +72,19 @@ index-more kept t before after known told q = told q ∙ by_test (t.place == q) 
       → (if test then ticket_numbers t.place before ++ t.id ∷ [] else ticket_numbers q before) ≡ (if test then numbers_among q kept ++ t.id ∷ [] else numbers_among q kept)
   by_test true e = ap (λ ns. ns ++ t.id ∷ []) (known t.place ∙ ap (λ k. numbers_among k kept) (equal t.place q e))
   by_test false e = known q
+
+-- without the last ticket
+pub index-fewer : (kept : List Kept) (t : Kept) (before after : Index) → IsIndexOf (kept ++ t ∷ []) before
+    → ((q : ℕ) → ticket_numbers q after ≡ (if (t.place == q) then without_last (ticket_numbers t.place before) else ticket_numbers q before)) → IsIndexOf kept after
+index-fewer kept t before after known told q = told q ∙ by_test (t.place == q) refl where
+  more : (test : Bool) → (t.place == q) ≡ test → numbers_among q (kept ++ t ∷ []) ≡ (if test then numbers_among q kept ++ t.id ∷ [] else numbers_among q kept)
+  more test e = one_more t q kept ∙ ap (λ (b : Bool). if b then numbers_among q kept ++ t.id ∷ [] else numbers_among q kept) e
+
+  by_test : (test : Bool) → (t.place == q) ≡ test → (if test then without_last (ticket_numbers t.place before) else ticket_numbers q before) ≡ numbers_among q kept
+  by_test true e =
+      ap without_last (known t.place ∙ ap (λ k. numbers_among k (kept ++ t ∷ [])) (equal t.place q e) ∙ more true e)
+      ∙ last-dropped (numbers_among q kept) t.id
+  by_test false e = known q ∙ more false e
 
 numbers-without : (id : ℕ) (q : ℕ) (xs : List Kept) → numbers_among q (without_number id xs) ≡ without_one id (numbers_among q xs)
 numbers-without id q [] = refl

@@ -1,12 +1,14 @@
 -- Tickets whose numbers rise: where a search by halves ends.
-use Rattle.std.proofs.Common.{◌≡◌, ℕ, zero, suc, ◌<◌, ◌≤◌, Bool, true, false, cond, List, [], ◌∷◌, length, get_or, Some, None, Option, Result, Ok, Err, refl, sym, ap, ◌∙◌, ltb, arith}
-use Rattle.std.specs.Prelude.{position, is_some, nat_lt}
+use Rattle.std.proofs.Common.{◌≡◌, ℕ, zero, suc, ◌+◌, ◌-◌, ◌<◌, ◌≤◌, Bool, true, false, cond, List, [], ◌∷◌, ◌++◌, length, get_or, take, Some, None, Option, Result, Ok, Err, refl, sym, ap, ◌∙◌, append-nil, ltb, arith}
+use Rattle.std.specs.Prelude.{position, is_some, nat_lt, slice_get}
 use Rattle.std.specs.List.{list_any, position_or_len, remove}
 use Rattle.std.specs.List.Sorted.{IsSearchInRange, IsBinarySearchResult, IsNonDecreasingBy}
 use Rattle.std.specs.Ordering.{nat_cmp, ordering_index}
 use Rattle.std.specs.Result.{result_ok}
 use Rattle.std.proofs.lemmas.Cmp.{ranked}
 use Rattle.std.proofs.lemmas.Bool.Decides.{nat_tests}
+use Rattle.std.proofs.lemmas.List.{drop_all}
+use Rattle.std.proofs.lemmas.Option.{get_or_from_slice_get}
 use Rattle.std.proofs.lemmas.List.Sums.{position_or_len_is}
 use Rattle.std.proofs.lemmas.List.Quantifiers.{position-Some}
 use Rattle.mdl_key.specs.declared.mode.Mode.TheVariants.{X}
@@ -60,6 +62,15 @@ number-at xs at d rising inside =
     position_or_len_is (has_ticket_number id) xs at d (omega (arith, inside)) (λ k below. grind (arith, nat_tests, rises xs k at d rising)) (λ _. grind (arith, nat_tests)) in
     rw first (grind (arith, nat_tests))
 
+-- the last ticket is found where the list ends
+pub number-last : (xs : List Kept) (t : Kept) → AreRising xs → Some t ≡ slice_get xs (length xs - 1) → Some (length xs - 1) ≡ position (has_ticket_number t.id) xs
+number-last [] t rising there = cc
+number-last (x ∷ xs) t rising there =
+    let at = length (x ∷ xs) - 1 in
+    let inside : at < length (x ∷ xs) = omega arith in
+    let here : get_or (x ∷ xs) at t ≡ t = get_or_from_slice_get (x ∷ xs) at t t (sym there) in
+    sym (ap (λ (y : Kept). position (has_ticket_number y.id) (x ∷ xs)) (sym here) ∙ number-at (x ∷ xs) at t rising inside)
+
 inside-any : (p : Kept → Bool) (xs : List Kept) → nat_lt (position_or_len p xs) (length xs) ≡ list_any p xs
 inside-any p [] = refl
 inside-any p (x ∷ xs) = grind (arith, nat_tests, inside-any p xs)
@@ -92,6 +103,15 @@ without_at id xs at rising place =
     let found = position-Some (has_ticket_number id) xs at no_ticket (sym place) in
     let here : (get_or xs at no_ticket).id ≡ id = grind (arith, nat_tests, found.1) in
     taken_at id xs at no_ticket rising found.0 here
+
+-- and where that is the end, the others are those before it
+pub without_end : (id : ℕ) (xs : List Kept) (at : ℕ) → AreRising xs → Some at ≡ position (has_ticket_number id) xs → at + 1 ≡ length xs → without_number id xs ≡ take (length xs - 1) xs
+without_end id xs at rising place ends =
+    let before : at ≡ length xs - 1 = omega (arith, ends) in
+    without_at id xs at rising place
+    ∙ ap (λ (ys : List Kept). take at xs ++ ys) (drop_all (suc at) xs (omega (arith, ends)))
+    ∙ append-nil (take at xs)
+    ∙ ap (λ (n : ℕ). take n xs) before
 
 none_taken : (id : ℕ) (xs : List Kept) → has_number xs id ≡ false → without_number id xs ≡ xs
 none_taken id [] none = refl

@@ -151,6 +151,16 @@ abbrev pub trying : Wish → ContextView → Program (Outcome Tried)
 trying request context =
     if is_some context.wait then Give (Err Waiting, context) else trying_found (place_known request.key context.known) request context
 
+-- a request that doesn't wait, for a lock of the key that is known at a place, if there is one
+abbrev pub trying_known : Option KeyName → ℕ → Mode → Duration → ContextView → Program (Outcome Tried)
+trying_known None place mode duration context = Give (Err (Space NoPlace), context)
+trying_known (Some key) place mode duration context = trying_at place (record { key = key; mode = mode; duration = duration }) context
+
+-- a request for a lock by the place of its key, that doesn't wait
+abbrev pub trying_by_place : ℕ → Mode → Duration → ContextView → Program (Outcome Tried)
+trying_by_place place mode duration context =
+    if is_some context.wait then Give (Err Waiting, context) else trying_known (key_at place context.known) place mode duration context
+
 -- ---- the state afterwards
 
 -- a context is unchanged, or has learnt the place of a key that it didn't know

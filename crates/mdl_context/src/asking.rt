@@ -20,6 +20,7 @@ pub enum AskResult {
 }
 
 /// Gets a lock at a place, or begins to wait for it. If a ticket to clone is given, the session gets a clone of it.
+#[inline(always)]
 pub(crate) fn gain<S: LockSpace>(
     space: &mut S,
     who: u16,
@@ -89,6 +90,7 @@ fn try_ask<S: LockSpace>(
 }
 
 // Asks for a lock, and begins to wait for it if it can't be granted now.
+#[inline(always)]
 fn ask<S: LockSpace>(
     space: &mut S,
     who: u16,
@@ -109,7 +111,8 @@ fn ask<S: LockSpace>(
     }
 }
 
-/// Begins to wait for a lock, unless it can be granted now after all.
+/// Begins to wait for a lock, unless it can be granted now after all. It isn't inlined, so that the request of a lock is.
+#[inline(never)]
 pub(crate) fn wait_at<S: LockSpace>(
     space: &mut S,
     who: u16,

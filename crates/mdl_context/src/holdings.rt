@@ -1,5 +1,5 @@
 //! The tickets that a context keeps, the places that it knows, and its wait.
-ghost use Rattle.std.specs.Prelude.{◌≡◌, ℕ, true, false, Some, None, [], ◌∷◌, ◌++◌, map, filter, find, length, is_some, OnOk, OnErr, slice_get, position, not, ◌≤◌};
+ghost use Rattle.std.specs.Prelude.{◌≡◌, ℕ, true, false, Some, None, [], ◌∷◌, ◌++◌, map, filter, find, length, is_some, OnOk, OnErr, slice_get, position, take, not, ◌-◌, ◌<◌, ◌≤◌};
 ghost use Rattle.std.specs.Vec.{vec_capacity};
 ghost use Rattle.std.specs.Option.{option_copied, option_map};
 ghost use Rattle.mdl_key.specs.declared.mode.Duration.TheVariants.{Explicit};
@@ -25,8 +25,8 @@ use std::marker::Model;
 /// wait.
 ///
 /// Each request looks up its key once. From then on tickets are found by place, not by key. An index gives the tickets at a
-/// place, and a binary search the ticket of a number, so neither walks all tickets. While there is a wait, room is reserved
-/// for its ticket, so taking it up takes no memory.
+/// place, and a binary search the ticket of a number, unless that is the last one. So neither walks all tickets. While there is
+/// a wait, room is reserved for its ticket, so taking it up takes no memory.
 #[derive(Drop)]
 pub(crate) struct Holdings {
     tickets: Vec<Kept>,
@@ -159,6 +159,29 @@ impl Holdings {
         ensures known { self.new.known ≡ self.old.known }
         ensures wait { self.new.wait ≡ None }
     {
+        if self.has_room(place) {
+            return Ok(());
+        }
+        self.reserve_more(place)
+    }
+
+    // Whether there is room for one more ticket at a place.
+    fn has_room(&self, place: Place) -> bool
+        ensures { result ≡ has_room place self.now }
+    {
+        self.tickets.len() < self.tickets.capacity() && self.by_place.has_room(place)
+    }
+
+    // The same as `reserve`. It is apart so that the check for room is inlined.
+    #[cold]
+    #[inline(never)]
+    fn reserve_more(&mut self, place: Place) -> Result<(), AllocError>
+        requires { self.old.wait ≡ None }
+        ensures room { OnOk result (has_room place self.new ≡ true) }
+        ensures kept { self.new.kept ≡ self.old.kept }
+        ensures known { self.new.known ≡ self.old.known }
+        ensures wait { self.new.wait ≡ None }
+    {
         self.tickets.reserve(1)?;
         self.by_place.reserve(place)
     }
@@ -172,7 +195,7 @@ impl Holdings {
         ensures wait { self.new.wait ≡ None }
     {
         self.by_place.push(ticket.place, ticket.id);
-        self.tickets.push(ticket).unwrap();
+        self.tickets.push_reserved(ticket);
     }
 
     /// Begins a wait.
@@ -291,6 +314,33 @@ impl Holdings {
         ensures known { self.new.known ≡ self.old.known }
         ensures wait { self.new.wait ≡ self.old.wait }
     {
+        let len = self.tickets.len();
+        if at + 1 == len {
+            return self.remove_last();
+        }
+        self.remove_earlier(at, id);
+    }
+
+    // Removes the ticket that the session got last.
+    fn remove_last(&mut self)
+        requires { 0 < length self.old.kept }
+        ensures kept { self.new.kept ≡ take (length self.old.kept - 1) self.old.kept }
+        ensures known { self.new.known ≡ self.old.known }
+        ensures wait { self.new.wait ≡ self.old.wait }
+    {
+        let ticket = self.tickets.pop().unwrap();
+        self.by_place.remove_last(ticket.place);
+    }
+
+    // The same as `remove`, for a ticket that may be before others. It is apart so that the removal of the last one is inlined.
+    #[inline(never)]
+    fn remove_earlier(&mut self, at: usize, id: TicketId)
+        requires rising { AreRising self.old.kept }
+        requires here { position (has_ticket_number id) self.old.kept ≡ Some at }
+        ensures kept { self.new.kept ≡ without_number id self.old.kept }
+        ensures known { self.new.known ≡ self.old.known }
+        ensures wait { self.new.wait ≡ self.old.wait }
+    {
         let ticket = self.tickets.remove(at);
         self.by_place.remove(ticket.place, id);
     }
@@ -346,6 +396,15 @@ impl Holdings {
         if sufficient.is_none() {
             return None;
         }
+        self.first_reusable(place, terms)
+    }
+
+    // The same by a look at the tickets there. It is apart so that the test of what suffices is inlined.
+    #[inline(never)]
+    fn first_reusable(&self, place: Place, terms: &Terms) -> Option<Held>
+        requires { AreRising self.now.kept }
+        ensures { result ≡ earliest (serves_again place terms.now) self.now.kept }
+    {
         for id in self.by_place.numbers(place) {
             let ticket = numbered(&self.tickets, *id)?;
             if terms.can_reuse(place, ticket) {
@@ -357,6 +416,18 @@ impl Holdings {
 
     /// The earliest ticket at a place that suffices on these terms.
     pub(crate) fn sufficient(&self, place: Place, terms: &Terms) -> Option<Held>
+        requires { AreRising self.now.kept }
+        ensures { result ≡ earliest (meets place terms.now) self.now.kept }
+    {
+        if self.by_place.numbers(place).is_empty() {
+            return None;
+        }
+        self.first_sufficient(place, terms)
+    }
+
+    // The same by a look at the tickets there. It is apart so that the check for a ticket is inlined.
+    #[inline(never)]
+    fn first_sufficient(&self, place: Place, terms: &Terms) -> Option<Held>
         requires { AreRising self.now.kept }
         ensures { result ≡ earliest (meets place terms.now) self.now.kept }
     {
@@ -372,6 +443,20 @@ impl Holdings {
 
 // The index of the ticket with a number, among tickets whose numbers rise.
 fn index_of(tickets: &[Kept], id: TicketId) -> Option<usize>
+    requires { AreRising tickets.now }
+    ensures { result ≡ position (has_ticket_number id) tickets.now }
+{
+    if let Some(last) = tickets.last() {
+        if last.id == id {
+            return Some(tickets.len() - 1);
+        }
+    }
+    search(tickets, id)
+}
+
+// The same by binary search. It is apart so that the check of the last ticket is inlined.
+#[inline(never)]
+fn search(tickets: &[Kept], id: TicketId) -> Option<usize>
     requires { AreRising tickets.now }
     ensures { result ≡ position (has_ticket_number id) tickets.now }
 {

@@ -35,6 +35,7 @@ mod known;
 mod laws;
 mod memory_laws;
 mod merging;
+mod numbers;
 mod releasing;
 mod request;
 mod searches;

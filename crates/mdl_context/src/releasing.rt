@@ -82,6 +82,9 @@ fn release_rest<S: LockSpace>(space: &mut S, who: u16, holdings: &mut Holdings, 
     ensures wait { (S.own space.new who).wait ≡ (S.own space.old who).wait }
 {
     let tickets = holdings.tickets();
+    if tickets.is_empty() {
+        return;
+    }
     for at in (0..tickets.len()).rev() {
         let ticket = &tickets[at];
         if going.names(ticket) {

@@ -133,6 +133,7 @@ impl<S: LockSpace> Context<S> {
     }
 
     // Gets a lock on these terms at the place of a known key, or begins to wait for it.
+    #[inline(always)]
     fn gain_at(
         &mut self,
         space: &mut S,

@@ -59,6 +59,8 @@ pub(crate) enum Act {
     AcquireAtPlaceOf(Lock, Mode, Duration),
     // Acquires the lock at a place.
     AcquireAt(Place, Mode, Duration),
+    // The same without a wait.
+    TryAcquireAt(Place, Mode, Duration),
     Last(Lock),
     AwaitsUserLock,
     Upgrade(TicketId, Mode),
@@ -235,6 +237,9 @@ pub(crate) fn make<S: LockSpace>(
             reply
         }
         Act::AcquireAt(place, mode, duration) => acquired(context.acquire_at(
+            space, place, mode, duration,
+        )),
+        Act::TryAcquireAt(place, mode, duration) => tried(context.try_acquire_at(
             space, place, mode, duration,
         )),
         Act::Upgrade(id, mode) => acquired(context.upgrade(space, id, mode)),

@@ -11,6 +11,10 @@ const READ_A: Act = Act::AcquireAt(1, Mode::SR, Duration::Transaction);
 
 const WRITE_A: Act = Act::AcquireAt(1, Mode::X, Duration::Transaction);
 
+const TRY_READ_A: Act = Act::TryAcquireAt(1, Mode::SR, Duration::Transaction);
+
+const TRY_WRITE_A: Act = Act::TryAcquireAt(1, Mode::X, Duration::Transaction);
+
 // What is known by its place is known by its key, and the tickets are the same.
 const BY_PLACE: &[Row] = &[
     (1, READ_A, NO_PLACE),
@@ -111,8 +115,26 @@ const AWAITED: &[Row] = &[
     (2, Act::EndTransaction, Reply::Done),
 ];
 
+// Requests at a place that don't wait.
+const TRIED: &[Row] = &[
+    (1, TRY_READ_A, NO_PLACE),
+    (1, LEARN_A, Reply::Acquired(1)),
+    (1, TRY_READ_A, Reply::Acquired(1)),
+    (2, LEARN_A, Reply::Acquired(1)),
+    (2, TRY_WRITE_A, Reply::WouldWait),
+    (2, Act::Mark, Reply::Stands(0, 1)),
+    (1, Act::EndTransaction, Reply::Done),
+    (2, TRY_WRITE_A, Reply::Acquired(2)),
+    (2, Act::Mark, Reply::Stands(0, 2)),
+    (1, READ_A, Reply::MustWait(1)),
+    (1, TRY_READ_A, WAITS),
+    (2, Act::EndTransaction, Reply::Done),
+    (1, Act::Resume, Reply::Resumed(Resume::Acquired(2))),
+];
+
 pub(crate) const STORIES: &[Story] = &[
     ("by place", BY_PLACE),
     ("places are learnt", LEARNT),
     ("a wait at a place", AWAITED),
+    ("tried at a place", TRIED),
 ];

@@ -1,4 +1,4 @@
--- BookView without numbers are added.
+-- Lists without numbers are added.
 use Rattle.std.proofs.Common.{◌≡◌, ℕ}
 use Rattle.mdl_context.specs.Indexes.{ticket_numbers}
 use Rattle.mdl_context.proofs.by_place.list_up_to.Given as goal

@@ -1,11 +1,25 @@
 -- Each ticket that goes is still held when it is its turn.
-use Rattle.std.proofs.Common.{◌≤◌, ◌∙◌, length, sym, ap, arith}
-use Rattle.std.specs.Prelude.{map}
+use Rattle.std.proofs.Common.{◌≡◌, ◌≤◌, ◌∙◌, List, [], length, sym, ap, arith}
+use Rattle.std.specs.Prelude.{map, filter, not}
+use Rattle.std.proofs.lemmas.Bool.Decides.{nat_tests}
+use Rattle.std.proofs.lemmas.List.{nil_from_length}
 use Rattle.mdl_calls.specs.SessionLocks.{SessionLocks}
-use Rattle.mdl_context.specs.Contexts.{held_of}
+use Rattle.mdl_context.specs.declared.kept.Kept.{Kept}
+use Rattle.mdl_context.specs.Contexts.{held_of, newest_first}
 use Rattle.mdl_context.specs.Goings.{goes}
+use Rattle.mdl_context.proofs.BeyondLemmas.{run-none}
 use Rattle.mdl_context.proofs.ReleaseLemmas.{run-goes, run-stays, left-stays, holds-here, held-goes}
 use Rattle.mdl_context.proofs.releasing.release_rest.Goals as goal
+
+pub returns-then-is_empty-clause-run : goal.returns-then-is_empty-clause-run
+returns-then-is_empty-clause-run g c =
+    let none : c.args.holdings.now.kept ≡ [] = sym c.tickets-tickets.ensures ∙ nil_from_length c.tickets-tickets.result.now (grind (arith, nat_tests)) in
+    run-none g.S.LockSpace.joins c.args.who _ c.args.space.now (ap (λ (kept : List Kept). newest_first (filter (goes c.args.going.now) kept)) none)
+
+pub returns-then-is_empty-clause-kept : goal.returns-then-is_empty-clause-kept
+returns-then-is_empty-clause-kept g c =
+    let none : c.args.holdings.now.kept ≡ [] = sym c.tickets-tickets.ensures ∙ nil_from_length c.tickets-tickets.result.now (grind (arith, nat_tests)) in
+    none ∙ sym (ap (filter (λ ticket. not (goes c.args.going.now ticket))) none)
 
 pub release-requires-clause-held : goal.release-requires-clause-held
 release-requires-clause-held g c =

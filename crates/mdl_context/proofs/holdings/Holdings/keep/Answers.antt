@@ -5,5 +5,5 @@ use Rattle.mdl_context.proofs.holdings.Holdings.keep.Goals as goal
 
 pub invariant_of-self : goal.invariant_of-self
 invariant_of-self c =
-    let items : c.push-2.new.self.items ≡ c.self.inside.tickets.items ++ c.args.ticket ∷ [] = search rules in
+    let items : c.push_reserved.new.self.items ≡ c.self.inside.tickets.items ++ c.args.ticket ∷ [] = c.push_reserved.ensures.items in
     (rw items (index-more c.self.inside.tickets.items c.args.ticket _ _ c.self.invariant.0 c.push.ensures), search rules)

@@ -1,41 +1,24 @@
--- To take the ticket out at its place is to keep the others.
-use Rattle.std.proofs.Common.{◌≡◌, ◌<◌, ◌+◌, length, rules, Some, sym, ap, ◌∙◌}
-use Rattle.std.specs.Prelude.{find}
-use Rattle.std.specs.Vec.{vec_capacity}
-use Rattle.mdl_context.specs.Contexts.{AreRising}
-use Rattle.mdl_context.specs.Holdings.{has_ticket_number, without_number}
-use Rattle.mdl_context.proofs.PlaceLemmas.{found_at, index-less, rising-numbers, room-stays}
-use Rattle.mdl_context.proofs.SearchLemmas.{no_ticket, without_at}
+-- The last ticket is behind all others.
+use Rattle.std.proofs.Common.{◌≡◌, ◌+◌, ◌<◌, length, sym, ◌∙◌, arith}
+use Rattle.mdl_context.specs.Holdings.{has_ticket_number}
+use Rattle.mdl_context.proofs.PlaceLemmas.{found_at}
+use Rattle.mdl_context.proofs.SearchLemmas.{no_ticket, without_end}
 use Rattle.mdl_context.proofs.holdings.Holdings.remove.Goals as goal
 
-pub remove-ticket-requires : goal.remove-ticket-requires
-remove-ticket-requires c =
-    let inside : c.args.at < length c.self.inside.tickets.items = (found_at (has_ticket_number c.args.id) c.self.inside.tickets.items c.args.at no_ticket (sym (rw (← c.self.view_is) at c.requires.here))).0 in
-    search (rules, inside)
-
-pub remove-requires : goal.remove-requires
-remove-requires c =
+pub overflow_add-at : goal.overflow_add-at
+overflow_add-at c =
     let kept = c.self.inside.tickets.items in
-    let rising : AreRising kept = rw (← c.self.view_is) at c.requires.rising in
-    let place = c.remove-ticket.result.place in
-    rw (c.self.invariant.0 place) (rising-numbers place kept rising)
+    let inside : c.args.at < length kept = (found_at (has_ticket_number c.args.id) kept c.args.at no_ticket (sym (rw (← c.self.view_is) at c.requires.here))).0 in
+    omega (arith, inside, c.self.inside.tickets.ok.0, c.self.inside.tickets.ok.1, c.self.inside.tickets.small)
 
-pub invariant_of-self : goal.invariant_of-self
-invariant_of-self c =
-    let kept = c.self.inside.tickets.items in
-    let rising : AreRising kept = rw (← c.self.view_is) at c.requires.rising in
-    let t = c.remove-ticket.result in
-    let place = sym (rw (← c.self.view_is) at c.requires.here) in
-    let found : find (has_ticket_number c.args.id) kept ≡ Some t = (found_at (has_ticket_number c.args.id) kept c.args.at t place).1 ∙ ap (λ x. Some x) (sym c.remove-ticket.ensures.value) in
-    let left : c.remove-ticket.new.self.items ≡ without_number c.args.id kept = c.remove-ticket.ensures.items ∙ sym (without_at c.args.id kept c.args.at rising place) in
-    let less = index-less kept c.args.id t c.self.inside.by_place c.remove.new.self rising found c.self.invariant.0 c.remove.ensures.numbers in
-    let fewer : length c.remove-ticket.new.self.items + 1 ≡ length kept = search rules in
-    let room = room-stays c.self.inside.wait c.self.inside.by_place c.remove.new.self (length kept) (length c.remove-ticket.new.self.items) (vec_capacity c.self.inside.tickets) fewer c.remove.ensures.stays c.self.invariant.1 in
-    (rw left less, rw c.remove-ticket.ensures.capacity room)
+pub remove_last-requires : goal.remove_last-requires
+remove_last-requires c =
+    let kept = c.args.self.now.kept in
+    let inside : c.args.at < length kept = (found_at (has_ticket_number c.args.id) kept c.args.at no_ticket (sym c.requires.here)).0 in
+    omega (arith, inside)
 
-pub returns-clause-kept : goal.returns-clause-kept
-returns-clause-kept c =
-    let kept = c.self.inside.tickets.items in
-    let rising : AreRising kept = rw (← c.self.view_is) at c.requires.rising in
-    let place = sym (rw (← c.self.view_is) at c.requires.here) in
-    rw (← c.self.view_is) (c.remove-ticket.ensures.items ∙ sym (without_at c.args.id kept c.args.at rising place))
+pub returns-then-at-len-clause-kept : goal.returns-then-at-len-clause-kept
+returns-then-at-len-clause-kept c =
+    let kept = c.args.self.now.kept in
+    let ends : c.args.at + 1 ≡ length kept = rw (← c.self.view_is) (omega (arith, c.self.inside.tickets.ok.0)) in
+    c.remove_last.ensures.kept ∙ sym (without_end c.args.id kept c.args.at c.requires.rising (sym c.requires.here) ends)
