@@ -1,5 +1,5 @@
 -- The place is one of the table's, and the session gives up nothing.
-use Rattle.std.proofs.Common.{[], ap, subst, sym, true, ◌∙◌, ◌≡◌}
+use Rattle.std.proofs.Common.{[], ap, subst, sym, true, ◌≡◌}
 use Rattle.mdl_key.specs.KeyLookups.{is_known}
 use Rattle.mdl_steps.specs.Plays.{Mine}
 use Rattle.mdl_visits.proofs.Doing.{does_reschedule}

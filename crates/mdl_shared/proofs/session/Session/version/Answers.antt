@@ -1,5 +1,5 @@
 -- The place is one of the table's, and what stands there is noted under each ticket that the session has there.
-use Rattle.std.proofs.Common.{subst, sym, true, ◌∙◌, ◌≡◌}
+use Rattle.std.proofs.Common.{subst, sym, true, ◌≡◌}
 use Rattle.mdl_key.specs.KeyLookups.{is_known}
 use Rattle.mdl_shared.specs.SessionViews.{SessionView, data_of}
 use Rattle.mdl_shared.proofs.Debts.{owed-both}
