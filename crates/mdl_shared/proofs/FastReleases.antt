@@ -1,7 +1,8 @@
 -- A fast ticket is given up, and the place is rescheduled where that is owed.
-use Rattle.std.proofs.Common.{◌≡◌, ℕ, ◌==◌, true, false, Bool, List, [], ◌∷◌, if◌then◌else◌, refl, sym, ap, subst, ◌∙◌}
+use Rattle.std.proofs.Common.{◌≡◌, inr, ℕ, ◌==◌, true, false, Bool, List, [], ◌∷◌, if◌then◌else◌, Some, refl, sym, ap, subst, ◌∙◌}
 use Rattle.std.proofs.lemmas.Bool.{eqb-true, false≢true}
 use Rattle.atomic_table.specs.Seated.{TableId}
+use Rattle.mdl_calls.specs.Words.{Release}
 use Rattle.mdl_steps.specs.declared.deed.Deed.{Deed}
 use Rattle.mdl_steps.specs.declared.view.SessionTicket.{SessionTicket}
 use Rattle.mdl_steps.specs.Plays.{Mine}
@@ -9,14 +10,23 @@ use Rattle.mdl_steps.specs.SeatStates.{AtItsTable, SeatState}
 use Rattle.mdl_steps.proofs.Views.{by_bool}
 use Rattle.mdl_visits.specs.FastTries.{ReleasesFast}
 use Rattle.mdl_visits.specs.Grantings.{HasRescheduled, VisitsAndReschedules, all_but}
+use Rattle.mdl_visits.specs.Numbers.{numbered}
 use Rattle.mdl_visits.specs.Visits.{VisitsOnce}
+use Rattle.mdl_shared.specs.declared.member.Member.{Member}
 use Rattle.mdl_shared.specs.Debts.{IsOwed, OwesNoMore, but_owing}
 use Rattle.mdl_shared.specs.DeedsDone.{DidDeeds, StaysFast}
 use Rattle.mdl_key.specs.KeyLookups.{is_known}
 use Rattle.mdl_shared.specs.Members.{IsMember}
-use Rattle.mdl_shared.specs.SessionViews.{SessionView, session_at, tickets_seen}
+use Rattle.mdl_shared.specs.Passes.{view_of}
+use Rattle.mdl_shared.specs.SessionViews.{Lists, SessionView, session_at, tickets_seen}
 use Rattle.mdl_shared.specs.Steps.{GivesUpFast}
+use Rattle.mdl_shared.specs.TicketLists.{Room}
 use Rattle.mdl_shared.proofs.Debts.{paid-off, released-due, released-owes, released-quiet, rescheduled-owes}
+use Rattle.mdl_shared.proofs.FastDone.{fast-released}
+use Rattle.mdl_shared.proofs.MemberFacts.{fast-held, ticket-known}
+use Rattle.mdl_shared.proofs.Members.{done-order, kept, member-owing}
+use Rattle.mdl_shared.proofs.Props.{member}
+use Rattle.mdl_shared.proofs.TicketCalls.{release-joins}
 
 -- ---- two parts of a call
 
@@ -92,3 +102,18 @@ module _ (a b : SessionView) (t : SessionTicket) (owes : Bool) (released : Relea
           by_bool (t.place == q)
           (λ same. ap (λ place. is_known place a.me.0.known) (sym (eqb-true t.place q same)) ∙ here)
           (λ apart. is.owed q (rw apart at its))
+
+-- ---- the session is in order then
+
+-- the ticket is one of its view
+pub seen : (m : Member) (t : SessionTicket) → numbered t.number m.tickets.fast ≡ Some t → numbered t.number m.seat.me.0.fast ≡ Some t
+seen m t held = ap (λ (l : Lists). numbered t.number l.fast) (sym m.lists) ∙ held
+
+pub still : (m : Member) (t : SessionTicket) → numbered t.number m.tickets.fast ≡ Some t → (seat : SeatState) (owes : Bool) → AtItsTable m.seat seat (ReleasesFast t.place t.number owes)
+    → (room : Room) → IsMember (session_at seat m.sessions room)
+still m t held seat owes released room =
+    let is = member m in
+    let its = fast-held is t.number t (seen m t held) in
+    let done = (fast-released m.seat seat m.sessions {room = m.tickets.room} is {room′ = room} (seen m t held) released).done in
+    member-owing (view_of m) (session_at seat m.sessions room) (kept (Release _ _) is (done-order done is (inr refl)) (release-joins is t.number t its done))
+    (owed-known (view_of m) (session_at seat m.sessions room) t owes released.1 is (ticket-known is t.number t its))

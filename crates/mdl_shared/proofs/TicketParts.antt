@@ -19,7 +19,7 @@ use Rattle.mdl_shared.specs.OwnTickets.{HaveRisingNumbers, fast_of, is_at_place,
 use Rattle.mdl_shared.proofs.TicketSearch.{no_ticket}
 
 abbrev pub no_place : OfPlace
-no_place = record { tickets = 0; fast = 0; version = 0; is_noted = false; owes = false }
+no_place = record { tickets = 0; version = 0; guess = record { 0 = 0 }; fast = 0; is_noted = false; owes = false }
 
 -- those of the tickets that pass a test, with their notes
 abbrev pub some_of : List OfPlace → (Gained → Bool) → List Gained → List SessionTicket

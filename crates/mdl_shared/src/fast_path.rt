@@ -77,7 +77,10 @@ impl Member {
             return Err(NotFast::Limit);
         }
         let noted = self.tickets.note_of(place);
-        match try_fast(&mut self.seat, place, mode, noted, one) {
+        let mut guess = self.tickets.guess_of(place);
+        let tried = try_fast(&mut self.seat, place, mode, noted, &mut guess, one);
+        self.tickets.keep_guess(place, guess);
+        match tried {
             FastTried::Granted => {}
             FastTried::Obtruded(word) => return Err(NotFast::Obtruded(word)),
             FastTried::Contended(word) => return Err(NotFast::Contended(word)),
@@ -99,8 +102,10 @@ impl Member {
         ensures stays { StaysOn self.old.seat.me self.new.seat.me }
     {
         let one = self.increment(held);
-        let owes = release_fast(&mut self.seat, held.place, held.number, one);
+        let mut guess = self.tickets.guess_of(held.place);
+        let owes = release_fast(&mut self.seat, held.place, held.number, &mut guess, one);
         self.tickets.strike(held.place, held.number);
+        self.tickets.keep_guess(held.place, guess);
         if owes {
             self.tickets.owe(held.place);
         }
@@ -118,8 +123,10 @@ impl Member {
     {
         let place = held.place;
         let one = self.increment(held);
-        let owes = release_fast(&mut self.seat, place, held.number, one);
+        let mut guess = self.tickets.guess_of(place);
+        let owes = release_fast(&mut self.seat, place, held.number, &mut guess, one);
         self.tickets.pop_fast(held);
+        self.tickets.keep_guess(place, guess);
         if owes {
             self.tickets.owe(place);
         }

@@ -10,6 +10,7 @@ ghost use Rattle.mdl_steps.specs.declared.view.SessionTicket.{SessionTicket};
 ghost use Rattle.mdl_steps.specs.Deeds.{is_own};
 ghost use Rattle.mdl_steps.specs.FastPlays.{but_at, fast_own, first_note};
 ghost use Rattle.mdl_steps.specs.Interleavings.{interleaved};
+ghost use Rattle.mdl_steps.specs.Limits.{most_fast};
 ghost use Rattle.mdl_steps.specs.Plays.{noting_version};
 ghost use Rattle.mdl_visits.specs.Numbers.{numbered};
 ghost use Rattle.mdl_shared.specs.Debts.{owed_in};
@@ -24,16 +25,20 @@ ghost use Rattle.mdl_shared.specs.OwnTickets.{KeepsCounts, IsLastGained, StandsA
 use mdl_calls::{Held, Place, TicketId};
 use mdl_key::Mode;
 use mdl_steps::SessionTicket;
+use mdl_word::Word;
 use std::alloc::{AllocError, Global};
 use std::marker::Model;
 
 /// What is kept of a place: how many tickets the session has there, how many of them are fast, the version that is noted under all of them
-/// if one is, and whether the session owes the place a reschedule. An `Option` of the version would take eight bytes more.
+/// if one is, whether the session owes the place a reschedule, and a guess of the place's word: as the session's last fast step there left
+/// or met it. Nothing is promised of the guess. Two of these fit a cache line; an `Option` of the version, or a `usize` of the fast tickets,
+/// would take eight bytes more.
 #[derive(Clone, Copy)]
 pub(crate) struct OfPlace {
     pub(crate) tickets: usize,
-    pub(crate) fast: usize,
     pub(crate) version: u64,
+    pub(crate) guess: Word,
+    pub(crate) fast: u32,
     pub(crate) is_noted: bool,
     pub(crate) owes: bool,
 }
@@ -147,6 +152,19 @@ impl Tickets {
         note_counted(&self.places, place)
     }
 
+    /// Returns a guess of the word of a place: what the session's last fast step there left or met, or 0. Nothing is promised of it.
+    pub(crate) fn guess_of(&self, place: usize) -> Word {
+        guessed(&self.places, place)
+    }
+
+    /// Keeps a guess of the word of a place that the list reaches.
+    pub(crate) fn keep_guess(&mut self, place: usize, guess: Word)
+        requires reached { place < self.old.room.reach }
+        ensures { self.new ≡ self.old }
+    {
+        set_guess(&mut self.places, place, guess);
+    }
+
     /// Whether there is a fast ticket.
     pub(crate) fn has_fast(&self) -> bool
         ensures { result ≡ nat_lt 0 (length self.now.fast) }
@@ -257,6 +275,7 @@ impl Tickets {
     /// Adds a new fast ticket at the end, with the note of those at its place. It takes no memory.
     pub(crate) fn push_fast(&mut self, number: TicketId, place: usize, mode: Mode)
         requires room { HasRoom place self.old.room }
+        requires fewer { length (own_at place self.old.fast) < most_fast }
         requires below { are_below_next number (interleaved self.old.slow self.old.fast) ≡ true }
         ensures gained { self.new.fast ≡ self.old.fast ++ fast_own number place mode (first_note (own_at place self.old.fast ++ own_at place self.old.slow)) ∷ [] }
         ensures same { self.new.slow ≡ self.old.slow }
@@ -536,7 +555,24 @@ fn fast_counted(places: &[OfPlace], place: usize) -> usize
     requires inside { place < length places.now }
     ensures { result ≡ fast_counted_at place places.now }
 {
-    places[place].fast
+    places[place].fast as usize
+}
+
+// The guess of the word of a place.
+fn guessed(places: &[OfPlace], place: usize) -> Word {
+    places.get(place).map_or(Word(0), |here| here.guess)
+}
+
+// Sets the guess of the word of a place.
+#[tactic(auto, using(crate::proofs::OwedFlags::flags_kept))]
+fn set_guess(places: &mut Vec<OfPlace>, place: usize, guess: Word)
+    requires inside { place < length places.old.items }
+    ensures length { length places.new.items ≡ length places.old.items }
+    ensures owes { flags_of places.new.items ≡ flags_of places.old.items }
+    ensures tickets { KeepsCounts places.old.items places.new.items }
+    ensures fast { (q : ℕ) → fast_counted_at q places.new.items ≡ fast_counted_at q places.old.items }
+{
+    places[place].guess = guess;
 }
 
 // The version that is noted at a place.
@@ -591,8 +627,9 @@ fn reach(places: &mut Vec<OfPlace>, count: usize) -> Result<(), AllocError>
     }
     let none = OfPlace {
         tickets: 0,
-        fast: 0,
         version: 0,
+        guess: Word(0),
+        fast: 0,
         is_noted: false,
         owes: false,
     };
@@ -635,7 +672,7 @@ fn uncount_one(places: &mut Vec<OfPlace>, place: usize)
 #[tactic(auto, using(crate::proofs::OwedFlags::flags_kept))]
 fn count_fast(places: &mut Vec<OfPlace>, place: usize)
     requires inside { place < length places.old.items }
-    requires few { fast_counted_at place places.old.items < 2 ^ 63 }
+    requires few { fast_counted_at place places.old.items < 2 ^ 31 }
     ensures length { length places.new.items ≡ length places.old.items }
     ensures owes { flags_of places.new.items ≡ flags_of places.old.items }
     ensures tickets { KeepsCounts places.old.items places.new.items }
@@ -668,7 +705,7 @@ fn clear_fast(places: &mut Vec<OfPlace>, place: usize) -> usize
     if place < places.len() {
         let fast = places[place].fast;
         places[place].fast = 0;
-        fast
+        fast as usize
     } else {
         0
     }

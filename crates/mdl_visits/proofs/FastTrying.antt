@@ -1,24 +1,41 @@
 -- What comes of a try for a fast ticket.
-use Rattle.std.proofs.Common.{◌≡◌, ◌≢◌, ◌<◌, ℕ, ◌+◌, false, List, [], ◌∷◌, ◌++◌, refl, sym, ap, ◌∙◌, subst, append_assoc, length-append, arith}
+use Rattle.std.proofs.Common.{◌≡◌, ◌≢◌, inl, inr, ◌<◌, ℕ, ◌+◌, false, List, [], ◌∷◌, ◌++◌, refl, sym, ap, ◌∙◌, subst, append_assoc, length-append, arith}
 use Rattle.std.specs.Prelude.{Option}
 use Rattle.mdl_key.specs.declared.mode.Mode.{Mode}
 use Rattle.mdl_word.specs.Words.{obtrusive_flag}
 use Rattle.mdl_steps.specs.declared.deed.Deed.{Deed}
 use Rattle.mdl_steps.specs.declared.deed.Deed.TheVariants.{Gain}
 use Rattle.mdl_steps.specs.declared.step_kind.StepKind.{StepKind}
-use Rattle.mdl_steps.specs.declared.step_kind.StepKind.TheVariants.{GrantFast, MissFast, ReadWord}
+use Rattle.mdl_steps.specs.declared.step_kind.StepKind.TheVariants.{GrantFast, MissFast}
 use Rattle.mdl_steps.specs.declared.view.StepRecord.{StepRecord}
-use Rattle.mdl_steps.specs.FastPlays.{MayGrantFast, granted_fast, met_word, missed_fast}
+use Rattle.mdl_steps.specs.FastPlays.{MayGrantFast, granted_fast, missed_fast}
 use Rattle.mdl_steps.specs.Layout.{lock_word}
 use Rattle.mdl_steps.specs.Lists.{Each}
 use Rattle.mdl_steps.specs.Plays.{Mine}
-use Rattle.mdl_visits.specs.FastTries.{AllMiss, GrantsAtLast, GrantsFast, Misses, MissesAfter, last_found, with_fast}
+use Rattle.mdl_visits.specs.FastTries.{AllMiss, GrantsAtLast, GrantsFast, Misses, MissesAfter, MissesFew, last_found, with_fast}
 use Rattle.mdl_visits.specs.Visits.{StaysOn, StaysThere, and_made, gives_back, kind_raises_flags}
 use Rattle.mdl_visits.proofs.Steps.{each_append, none_then}
 
 -- the step that a session with these latches made at a place
 abbrev pub met_at : StepKind → List Deed → ℕ → ℕ → Mine → StepRecord
 met_at kind ds place found m = record { kind = kind; deeds = ds; word = lock_word place; found = found; held = m.0.latches; directory = m.0.directory }
+
+-- the step of a fast grant
+abbrev grant_at : ℕ → Mode → ℕ → Mine → StepRecord
+grant_at place mode found m = met_at GrantFast (Gain m.0.next mode ∷ []) place found m
+
+-- ---- the first one granted the ticket
+
+module _ (place : ℕ) (mode : Mode) (noted : Option ℕ) (found : ℕ) (m m′ : Mine) (is : m′ ≡ granted_fast place mode noted found m) where
+  pub grants_first : GrantsFast place mode noted m m′
+  grants_first = record { made = grant_at place mode found m ∷ []; now = is; did = refl }
+
+  pub lasts_first : obtrusive_flag found ≡ false → GrantsAtLast place (Gain m.0.next mode) m m′
+  lasts_first clear =
+      (m, grant_at place mode found m, inl refl, ap (λ (x : Mine). x.0.log) is, record { kind = refl; did = refl; word = refl; clear = clear })
+
+  pub stays_first : StaysOn m m′
+  stays_first = (grant_at place mode found m ∷ [], ap (λ (x : Mine). x.0.log) is, ((refl, refl), tt))
 
 -- ---- steps that missed
 
@@ -37,14 +54,14 @@ all_stay place before (x ∷ xs) all = ((ap gives_back all.0.kind, ap kind_raise
 
 -- ---- after so many of them
 
--- the word was read
-pub first_read : (place word : ℕ) (m m′ : Mine) → m′ ≡ met_word place word m → Misses place 0 word m m′
-first_read place word m m′ is = record {
-  read = met_at ReadWord [] place word m;
+-- the first one
+pub first_miss : (place word : ℕ) (m m′ : Mine) → m′ ≡ missed_fast place word m → Misses place 0 word m m′
+first_miss place word m m′ is = record {
+  first = met_at MissFast [] place word m;
   tries = [];
   now = is;
   did = refl;
-  reads = (refl, refl);
+  missed = (refl, refl);
   miss = tt;
   often = refl;
   last = refl;
@@ -64,30 +81,30 @@ module _ {place count word : ℕ} {m m′ : Mine} (missed : Misses place count w
       let often = missed.often in
       let longer = length-append missed.tries (e ∷ []) in
       record {
-        read = missed.read;
+        first = missed.first;
         tries = missed.tries ++ e ∷ [];
-        now = is ∙ ap (missed_fast place found) missed.now ∙ (λ i. (record m.0 { log = append_assoc m.0.log (missed.read ∷ missed.tries) (e ∷ []) i }, m.1));
-        did = none_then (missed.read ∷ missed.tries) (e ∷ []) [] missed.did refl;
-        reads = missed.reads;
-        miss = miss_push place missed.read.found missed.tries e missed.miss
+        now = is ∙ ap (missed_fast place found) missed.now ∙ (λ i. (record m.0 { log = append_assoc m.0.log (missed.first ∷ missed.tries) (e ∷ []) i }, m.1));
+        did = none_then (missed.first ∷ missed.tries) (e ∷ []) [] missed.did refl;
+        missed = missed.missed;
+        miss = miss_push place missed.first.found missed.tries e missed.miss
             (record { kind = refl; word = refl; clear = ap obtrusive_flag missed.last ∙ clear; other = λ same. other (same ∙ missed.last) });
         often = omega arith;
-        last = last_push missed.read.found missed.tries e;
+        last = last_push missed.first.found missed.tries e;
       }
 
-  stay_there : Each StaysThere (missed.read ∷ missed.tries)
-  stay_there = ((ap gives_back missed.reads.0, ap kind_raises_flags missed.reads.0), all_stay place missed.read.found missed.tries missed.miss)
+  stay_there : Each StaysThere (missed.first ∷ missed.tries)
+  stay_there = ((ap gives_back missed.missed.0, ap kind_raises_flags missed.missed.0), all_stay place missed.first.found missed.tries missed.miss)
 
   pub stays_missed : StaysOn m m′
-  stays_missed = (missed.read ∷ missed.tries, ap (λ (x : Mine). x.0.log) missed.now, stay_there)
+  stays_missed = (missed.first ∷ missed.tries, ap (λ (x : Mine). x.0.log) missed.now, stay_there)
 
   -- the next one granted the ticket
   module _ (mode : Mode) (noted : Option ℕ) (found : ℕ) (m″ : Mine) (is : m″ ≡ granted_fast place mode noted found m′) where
     grant : StepRecord
-    grant = met_at GrantFast (Gain m.0.next mode ∷ []) place found m
+    grant = grant_at place mode found m
 
     made : List StepRecord
-    made = missed.read ∷ missed.tries
+    made = missed.first ∷ missed.tries
 
     whole : m″ ≡ granted_fast place mode noted found (and_made made m)
     unfolding made
@@ -103,15 +120,11 @@ module _ {place count word : ℕ} {m m′ : Mine} (missed : Misses place count w
 
     pub grants_at_last : count < 8 → found ≡ word → obtrusive_flag found ≡ false → GrantsAtLast place (Gain m.0.next mode) m m″
     grants_at_last few same clear = (
-      word,
       m′,
-      (count, few, missed),
-      (
-        met_at GrantFast (Gain m′.0.next mode ∷ []) place found m′,
-        ap (λ (x : Mine). x.0.log) is,
-        record { kind = refl; did = ap (λ (x : Mine). Gain x.0.next mode ∷ []) missed.now; word = refl; clear = clear },
-        same,
-      ),
+      grant_at place mode found m′,
+      inr (subst (λ (n : ℕ). MissesFew place n m m′) (sym same) (count, few, missed)),
+      ap (λ (x : Mine). x.0.log) is,
+      record { kind = refl; did = ap (λ (x : Mine). Gain x.0.next mode ∷ []) missed.now; word = refl; clear = clear },
     )
 
     pub stays_granted : StaysOn m m″

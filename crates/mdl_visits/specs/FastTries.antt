@@ -1,11 +1,11 @@
 -- The results of a try for a fast ticket, and of its release. After MySQL 5.7, sql/mdl.cc: the fast paths of `MDL_context::try_acquire_lock_impl`
 -- and `MDL_context::release_lock`.
-use Rattle.std.specs.Prelude.{◌≡◌, ◌≢◌, ◌<◌, ℕ, ◌+◌, Bool, true, false, List, [], ◌∷◌, ◌++◌, length, Option}
+use Rattle.std.specs.Prelude.{◌≡◌, ◌≢◌, ◌⊎◌, ◌<◌, ℕ, ◌+◌, Bool, true, false, List, [], ◌∷◌, ◌++◌, length, Option}
 use Rattle.mdl_key.specs.declared.mode.Mode.{Mode}
 use Rattle.mdl_word.specs.Words.{obtrusive_flag, slow_flag}
 use Rattle.mdl_steps.specs.declared.deed.Deed.{Deed}
 use Rattle.mdl_steps.specs.declared.deed.Deed.TheVariants.{Gain, Lose}
-use Rattle.mdl_steps.specs.declared.step_kind.StepKind.TheVariants.{GrantFast, MissFast, ReadWord, ReleaseFast}
+use Rattle.mdl_steps.specs.declared.step_kind.StepKind.TheVariants.{GrantFast, MissFast, ReleaseFast}
 use Rattle.mdl_steps.specs.declared.view.StepRecord.{StepRecord}
 use Rattle.mdl_steps.specs.declared.view.View.{View}
 use Rattle.mdl_steps.specs.FastPlays.{but_own, fast_own, owing}
@@ -52,18 +52,18 @@ abbrev pub last_found : ℕ → List StepRecord → ℕ
 last_found before [] = before
 last_found before (e ∷ later) = last_found e.found later
 
--- the session read the word of a place, and then `count` fast grants missed, one after the other. The last step found this word, and nothing else changed
+-- a first fast grant at a place missed, and then `count` more, one after the other. The last step found this word, and nothing else changed
 pub record Misses (place count word : ℕ) (m m′ : Mine) : Type 0 where
-  pub read : StepRecord
+  pub first : StepRecord
   pub tries : List StepRecord
-  pub now : m′ ≡ and_made (read ∷ tries) m
-  pub did : deeds_of (read ∷ tries) ≡ []
-  pub reads : (read.kind ≡ ReadWord) × (read.word ≡ lock_word place)
-  pub miss : AllMiss place read.found tries
+  pub now : m′ ≡ and_made (first ∷ tries) m
+  pub did : deeds_of (first ∷ tries) ≡ []
+  pub missed : (first.kind ≡ MissFast) × (first.word ≡ lock_word place)
+  pub miss : AllMiss place first.found tries
   pub often : length tries ≡ count
-  pub last : last_found read.found tries ≡ word
+  pub last : last_found first.found tries ≡ word
 
--- the session read the word of a place, and then fewer than eight fast grants missed. The last step found this word
+-- a first fast grant at a place missed, and then fewer than eight more. The last step found this word
 abbrev pub MissesFew : ℕ → ℕ → Mine → Mine → Type 0
 MissesFew place word m m′ = (n : ℕ) × (n < 8) × Misses place n word m m′
 
@@ -71,11 +71,11 @@ MissesFew place word m m′ = (n : ℕ) × (n < 8) × Misses place n word m m′
 abbrev pub FindsObtrusive : ℕ → ℕ → Mine → Mine → Type 0
 FindsObtrusive place word m m′ = MissesFew place word m m′ × (obtrusive_flag word ≡ true)
 
--- fewer than eight fast grants missed, and then one did this deed as the last step: the word that was found last was still there
+-- a fast grant did this deed as the last step. It was the first step, too, or a first one missed, and then fewer than eight more: the word that was found
+-- last was still there
 abbrev pub GrantsAtLast : ℕ → Deed → Mine → Mine → Type 0
 GrantsAtLast place deed m m′ =
-    (word : ℕ) × (mid : Mine) × MissesFew place word m mid
-    × ((e : StepRecord) × (m′.0.log ≡ mid.0.log ++ e ∷ []) × MeetsClear place deed e × (e.found ≡ word))
+    (mid : Mine) × (e : StepRecord) × ((mid ≡ m) ⊎ MissesFew place e.found m mid) × (m′.0.log ≡ mid.0.log ++ e ∷ []) × MeetsClear place deed e
 
 -- the session was granted a fast ticket with its next number in this way
 abbrev pub WasGrantedFast : ℕ → Mode → Option ℕ → SeatState → SeatState → Type 0

@@ -228,6 +228,52 @@ const WAITED_FOR: &[Row] = &[
     (3, Act::ReleaseFast(1), Reply::Owes(false)),
 ];
 
+// A session's guess of the lock's word is old: another session has gained and released tickets since. It is granted a ticket all the same, and
+// finds an obtrusive wait or ticket, also where the word is otherwise the one that it left.
+const OLD_GUESS: &[Row] = &[
+    (1, Act::Resolve(Lock::Sales), Reply::Place(1)),
+    (2, Act::Resolve(Lock::Sales), Reply::Place(1)),
+    (3, Act::Resolve(Lock::Sales), Reply::Place(1)),
+    (1, Act::TryFast(1, Mode::SR), Reply::Granted(1)),
+    (2, Act::TryFast(1, Mode::S), Reply::Granted(1)),
+    (2, Act::TryFast(1, Mode::SW), Reply::Granted(2)),
+    (1, Act::TryFast(1, Mode::S), Reply::Granted(2)),
+    (2, Act::ReleaseFast(1), Reply::Owes(false)),
+    (2, Act::ReleaseFast(2), Reply::Owes(false)),
+    (2, Act::Begin(1, Mode::X), Reply::Waiting(1)),
+    (
+        1,
+        Act::TryFast(1, Mode::S),
+        Reply::Obtruded(Word(0x3000_0000_0010_0001)),
+    ),
+    (1, Act::ReleaseFast(1), Reply::Owes(true)),
+    (1, Act::ReleaseFast(2), Reply::Owes(true)),
+    (1, Act::Reschedule(1), Reply::Done),
+    (2, Act::End, Reply::Ended(Ended::Granted(3))),
+    (
+        1,
+        Act::TryFast(1, Mode::S),
+        Reply::Obtruded(Word(0x3000_0000_0000_0000)),
+    ),
+    (2, Act::Release(3), Reply::Done),
+    (2, Act::TryFast(1, Mode::SW), Reply::Granted(4)),
+    (2, Act::Materialise, Reply::Done),
+    (1, Act::TryFast(1, Mode::S), Reply::Granted(3)),
+    (3, Act::Begin(1, Mode::X), Reply::Waiting(1)),
+    (
+        1,
+        Act::TryFast(1, Mode::S),
+        Reply::Obtruded(Word(0x3000_0000_0000_0001)),
+    ),
+    (3, Act::TimeOut, Reply::Done),
+    (3, Act::End, Reply::Ended(Ended::Timeout)),
+    (1, Act::TryFast(1, Mode::S), Reply::Granted(4)),
+    (1, Act::ReleaseFast(3), Reply::Owes(true)),
+    (1, Act::ReleaseFast(4), Reply::Owes(true)),
+    (1, Act::Reschedule(1), Reply::Done),
+    (2, Act::Release(4), Reply::Done),
+];
+
 const READER: Shown = Shown {
     place: 1,
     lock: Lock::Sales,
@@ -322,6 +368,7 @@ const CASES: &[Case] = &[
     ),
     ("what is not fast is refused", 1, REFUSED),
     ("unobtrusive wishes take the fast path", 1, WAITED_FOR),
+    ("a guess of the word is old", 1, OLD_GUESS),
 ];
 
 #[test]

@@ -256,7 +256,8 @@ impl Visitor {
         let Some(one) = Word::increment(self.kind, mode) else {
             return Answer::Refused;
         };
-        match try_fast(&mut self.seat, place, mode, None, one) {
+        let mut guess = Word(0);
+        match try_fast(&mut self.seat, place, mode, None, &mut guess, one) {
             FastTried::Granted => {
                 self.fast = Some(SessionTicket {
                     number,
@@ -283,7 +284,8 @@ impl Visitor {
         let Some(one) = Word::increment(self.kind, ticket.mode) else {
             return Answer::Refused;
         };
-        let owes = release_fast(&mut self.seat, self.place, ticket.number, one);
+        let mut guess = Word(0);
+        let owes = release_fast(&mut self.seat, self.place, ticket.number, &mut guess, one);
         self.fast = None;
         Answer::Owes(owes)
     }
@@ -353,7 +355,8 @@ fn gain(
         × HasFastAlone place kind next (beside.now ++ mode ∷ []) seat.new) }
 {
     let one = Word::increment(kind, mode)?;
-    match try_fast(seat, place, mode, None, one) {
+    let mut guess = Word(0);
+    match try_fast(seat, place, mode, None, &mut guess, one) {
         FastTried::Granted => Some(SessionTicket {
             number: next + beside.len() as u64,
             place,

@@ -15,6 +15,7 @@ use Rattle.mdl_visits.specs.Visits.{MakesSteps}
 use Rattle.mdl_shared.specs.DeedsDone.{DoesQuietly}
 use Rattle.mdl_shared.specs.Passes.{view_of}
 use Rattle.mdl_shared.specs.SessionViews.{Lists, session_at}
+use Rattle.mdl_shared.specs.TicketLists.{TicketList}
 use Rattle.mdl_shared.proofs.Debts.{owed-both, owed-stepped}
 use Rattle.mdl_shared.proofs.FastDone.{fast-granted, lists-granted}
 use Rattle.mdl_shared.proofs.FastFacts.{may-ask-fast}
@@ -31,12 +32,12 @@ returns-then-fast_at-ge-MOST_FAST-clause-unchanged c = (quiet-none (view_of c.ar
 
 -- ---- the try
 
-pub try_fast-requires-clause-place : goal.try_fast-requires-clause-place
-try_fast-requires-clause-place c =
+pub try_fast-tried-requires-clause-place : goal.try_fast-tried-requires-clause-place
+try_fast-tried-requires-clause-place c =
     (may-ask-fast c.args.self.now c.args.place c.args.mode c.args.one c.requires.may.idle c.requires.may.counted c.requires.may.number).at.is_place
 
-pub try_fast-requires-clause-gained : goal.try_fast-requires-clause-gained
-try_fast-requires-clause-gained c =
+pub try_fast-tried-requires-clause-gained : goal.try_fast-tried-requires-clause-gained
+try_fast-tried-requires-clause-gained c =
     let m = c.args.self.now in
     let may = may-ask-fast m c.args.place c.args.mode c.args.one c.requires.may.idle c.requires.may.counted c.requires.may.number in
     let count = ap (λ (l : Lists). length (own_at c.args.place l.fast)) m.lists in record {
@@ -50,42 +51,42 @@ try_fast-requires-clause-gained c =
 
 -- where each try missed, steps were made and nothing else
 missed_at : {place count word : ℕ} (seat seat′ : SeatState) → AtItsTable seat seat′ (Misses place count word) → AtItsTable seat seat′ MakesSteps
-missed_at seat seat′ missed = (missed.0, (missed.1.read ∷ missed.1.tries, missed.1.now, missed.1.did))
+missed_at seat seat′ missed = (missed.0, (missed.1.first ∷ missed.1.tries, missed.1.now, missed.1.did))
 
 pub invariant_of-self : goal.invariant_of-self
 invariant_of-self c =
     let m = c.args.self.now in
-    let found = c.in-Obtruded.ensures.obtruded c.in-Obtruded.word refl in
-    let made = missed_at m.seat c.try_fast.new.seat (found.0, found.1.0.2) in record {
-      lawful = ∣ still-member (quiet-made {place = 0} m.seat c.try_fast.new.seat m.sessions made).done (member m) ∣₁;
-      lists = lists-made m c.try_fast.new.seat made;
+    let found = c.try_fast-tried.ensures.obtruded c.in-Obtruded.word c.in-Obtruded.is in
+    let made = missed_at m.seat c.try_fast-tried.new.seat (found.0, found.1.0.2) in rw c.keep_guess.ensures (record {
+      lawful = ∣ still-member (quiet-made {place = 0} m.seat c.try_fast-tried.new.seat m.sessions made).done (member m) ∣₁;
+      lists = lists-made m c.try_fast-tried.new.seat made;
       room = m.room;
       owed = owed-stepped m made.1;
-    }
+    })
 
 pub invariant_of-self-in-Contended-1 : goal.invariant_of-self-in-Contended-1
 invariant_of-self-in-Contended-1 c =
     let m = c.args.self.now in
-    let made = missed_at m.seat c.try_fast.new.seat (c.in-Contended.ensures.contended c.in-Contended.word refl) in record {
-      lawful = ∣ still-member (quiet-made {place = 0} m.seat c.try_fast.new.seat m.sessions made).done (member m) ∣₁;
-      lists = lists-made m c.try_fast.new.seat made;
+    let made = missed_at m.seat c.try_fast-tried.new.seat (c.try_fast-tried.ensures.contended c.in-Contended.word c.in-Contended.is) in rw c.keep_guess.ensures (record {
+      lawful = ∣ still-member (quiet-made {place = 0} m.seat c.try_fast-tried.new.seat m.sessions made).done (member m) ∣₁;
+      lists = lists-made m c.try_fast-tried.new.seat made;
       room = m.room;
       owed = owed-stepped m made.1;
-    }
+    })
 
 pub returns-in-Obtruded-clause-unchanged : goal.returns-in-Obtruded-clause-unchanged
 returns-in-Obtruded-clause-unchanged c =
     let m = c.args.self.now in
-    let found = c.in-Obtruded.ensures.obtruded c.in-Obtruded.word refl in
-    (quiet-made m.seat c.try_fast.new.seat m.sessions (missed_at m.seat c.try_fast.new.seat (found.0, found.1.0.2)), refl)
+    let found = c.try_fast-tried.ensures.obtruded c.in-Obtruded.word c.in-Obtruded.is in
+    (quiet-made m.seat c.try_fast-tried.new.seat m.sessions (missed_at m.seat c.try_fast-tried.new.seat (found.0, found.1.0.2)), c.keep_guess.ensures)
 
 pub returns-in-Obtruded-clause-closed : goal.returns-in-Obtruded-clause-closed
-returns-in-Obtruded-clause-closed c = (c.in-Obtruded.ensures.obtruded c.in-Obtruded.word refl).1
+returns-in-Obtruded-clause-closed c = (c.try_fast-tried.ensures.obtruded c.in-Obtruded.word c.in-Obtruded.is).1
 
 pub returns-in-Contended-clause-unchanged : goal.returns-in-Contended-clause-unchanged
 returns-in-Contended-clause-unchanged c =
     let m = c.args.self.now in
-    (quiet-made m.seat c.try_fast.new.seat m.sessions (missed_at m.seat c.try_fast.new.seat (c.in-Contended.ensures.contended c.in-Contended.word refl)), refl)
+    (quiet-made m.seat c.try_fast-tried.new.seat m.sessions (missed_at m.seat c.try_fast-tried.new.seat (c.try_fast-tried.ensures.contended c.in-Contended.word c.in-Contended.is)), c.keep_guess.ensures)
 
 -- ---- the ticket was granted
 
@@ -95,34 +96,34 @@ last_numbered t [] = rw (eq-eqb t.number t.number refl) refl
 last_numbered t (u ∷ us) = by_bool (u.number == t.number) (λ hit. rw hit refl) (λ miss. rw miss (last_numbered t us))
 
 pub push_fast-requires-clause-below : goal.push_fast-requires-clause-below
-push_fast-requires-clause-below c = below-seen c.args.self.now _ _ (refl, refl)
+push_fast-requires-clause-below c = below-seen c.args.self.now _ _ (ap (λ (l : TicketList). l.slow) c.keep_guess.ensures, ap (λ (l : TicketList). l.fast) c.keep_guess.ensures)
 
 pub invariant_of-self-2 : goal.invariant_of-self-2
 invariant_of-self-2 c =
     let m = c.args.self.now in
     let is = member m in
     let may = may-ask-fast m c.args.place c.args.mode c.args.one c.requires.may.idle c.requires.may.counted c.requires.may.number in
-    let granted = c.in-Granted.ensures.granted refl in
+    let granted = c.try_fast-tried.ensures.granted c.in-Granted.is in
     let noted = c.note_of-noted.ensures ∙ ap (λ (l : Lists). first_note (own_at c.args.place l.fast ++ own_at c.args.place l.slow)) m.lists in
-    let done = (fast-granted m.seat c.try_fast.new.seat m.sessions is may.idle may.counted noted granted.0).done in record {
+    let done = (fast-granted m.seat c.try_fast-tried.new.seat m.sessions is may.idle may.counted noted granted.0).done in record {
       lawful = ∣ kept (Try_now _ _ _) is (done-order done is (inl may.idle)) (try-granted is c.args.place c.args.mode may.clear refl done) ∣₁;
-      lists = lists-granted m c.try_fast.new.seat granted.0 c.push_fast.ensures.same
-          (c.push_fast.ensures.gained ∙ ap (λ (n : Option ℕ). m.tickets.fast ++ fast_own m.next c.args.place c.args.mode n ∷ []) (sym c.note_of-noted.ensures));
+      lists = lists-granted m c.try_fast-tried.new.seat granted.0 (rw c.keep_guess.ensures at c.push_fast.ensures.same)
+          ((rw c.keep_guess.ensures at c.push_fast.ensures.gained) ∙ ap (λ (n : Option ℕ). m.tickets.fast ++ fast_own m.next c.args.place c.args.mode n ∷ []) (sym c.note_of-noted.ensures));
       room = unasked m may.idle _;
-      owed = owed-both m c.push_fast.ensures.owes (ap (λ (x : Mine). x.0.owes) granted.0.1.now);
+      owed = owed-both m (rw c.keep_guess.ensures at c.push_fast.ensures.owes) (ap (λ (x : Mine). x.0.owes) granted.0.1.now);
     }
 
 pub returns-clause-granted : goal.returns-clause-granted
 returns-clause-granted c =
     let m = c.args.self.now in
     let may = may-ask-fast m c.args.place c.args.mode c.args.one c.requires.may.idle c.requires.may.counted c.requires.may.number in
-    let granted = c.in-Granted.ensures.granted refl in
+    let granted = c.try_fast-tried.ensures.granted c.in-Granted.is in
     let noted = c.note_of-noted.ensures ∙ ap (λ (l : Lists). first_note (own_at c.args.place l.fast ++ own_at c.args.place l.slow)) m.lists in
     let first = ap (λ (l : Lists). l.next) m.lists in
-    let after = session_at c.try_fast.new.seat m.sessions c.push_fast.new.self.room in
-    let quiet = fast-granted m.seat c.try_fast.new.seat m.sessions (member m) may.idle may.counted noted granted.0 in (
+    let after = session_at c.try_fast-tried.new.seat m.sessions c.push_fast.new.self.room in
+    let quiet = fast-granted m.seat c.try_fast-tried.new.seat m.sessions (member m) may.idle may.counted noted granted.0 in (
       refl,
       subst (λ (n : ℕ). DoesQuietly c.args.place (Gain n c.args.mode ∷ []) (view_of m) after) (sym first) quiet,
-      subst (λ (n : ℕ). GrantsAtLast c.args.place (Gain n c.args.mode) m.seat.me c.try_fast.new.seat.me) (sym first) granted.1,
-      ap (λ (fast : List SessionTicket). is_some (numbered m.next fast)) c.push_fast.ensures.gained ∙ last_numbered _ m.tickets.fast,
+      subst (λ (n : ℕ). GrantsAtLast c.args.place (Gain n c.args.mode) m.seat.me c.try_fast-tried.new.seat.me) (sym first) granted.1,
+      ap (λ (fast : List SessionTicket). is_some (numbered m.next fast)) (rw c.keep_guess.ensures at c.push_fast.ensures.gained) ∙ last_numbered _ m.tickets.fast,
     )

@@ -1,9 +1,21 @@
 -- The new ticket is the last of the fast ones, and its place has one more.
-use Rattle.std.proofs.Common.{ℕ, refl, ◌∙◌}
+use Rattle.std.proofs.Common.{◌<◌, ℕ, length, refl, sym, ◌∙◌, arith}
 use Rattle.std.specs.Prelude.{not}
+use Rattle.mdl_steps.specs.Cells.{own_at}
+use Rattle.mdl_steps.specs.Limits.{most_fast}
+use Rattle.mdl_shared.specs.OwnTickets.{fast_of}
 use Rattle.mdl_shared.proofs.TicketEdits.{below_all, gained, kept_gain_fast, ungained}
-use Rattle.mdl_shared.proofs.TicketParts.{first_there}
+use Rattle.mdl_shared.proofs.TicketParts.{fast_there, first_there}
 use Rattle.mdl_shared.proofs.tickets.Tickets.push_fast.Goals as goal
+
+pub count_fast-requires-clause-few : goal.count_fast-requires-clause-few
+count_fast-requires-clause-few c =
+    let place = c.args.place in
+    let ps = c.self.inside.places.items in
+    let xs = c.self.inside.gained.items in
+    let fewer : length (own_at place (fast_of ps xs)) < most_fast = rw (← c.self.view_is) at c.requires.fewer in
+    let counted = c.count_one.ensures.fast place ∙ c.self.invariant.fast_counted place ∙ sym (fast_there place ps xs) in
+    omega (arith, counted, fewer)
 
 pub invariant_of-self : goal.invariant_of-self
 invariant_of-self c =

@@ -4,16 +4,34 @@ use Rattle.mdl_word.specs.declared.word.Word.{Word}
 use Rattle.mdl_word.specs.Words.{obtrusive_flag}
 use Rattle.mdl_visits.specs.declared.calls.try_fast.FastTried.TheVariants.{Obtruded}
 use Rattle.mdl_visits.specs.FastTries.{FindsObtrusive}
-use Rattle.mdl_visits.proofs.FastTrying.{first_read, grants_at_last, grants_fast, may_again, missed_again, stays_granted, stays_missed}
+use Rattle.mdl_visits.proofs.FastTrying.{first_miss, grants_at_last, grants_fast, grants_first, lasts_first, may_again, missed_again, stays_first, stays_granted, stays_missed}
 use Rattle.mdl_visits.proofs.Seats.{mine, place_there, table_of}
 use Rattle.mdl_visits.proofs.calls.try_fast.try_fast.Goals as goal
+
+-- ---- the first one
+
+pub grant_fast-met-requires-clause-down : goal.grant_fast-met-requires-clause-down
+grant_fast-met-requires-clause-down c = c.unobtruded-expected.ensures.has_obtrusive
+
+pub returns-then-met-expected-clause-granted : goal.returns-then-met-expected-clause-granted
+returns-then-met-expected-clause-granted c = λ is.
+    let met = c.grant_fast-met.result.0 in
+    let granted = c.grant_fast-met.ensures.gained c.if-met-expected.true in
+    let down = ap obtrusive_flag c.if-met-expected.true ∙ c.unobtruded-expected.ensures.has_obtrusive in (
+      (table_of granted, grants_first c.args.place c.args.mode c.args.noted met c.args.seat.now.me _ (mine granted)),
+      lasts_first c.args.place c.args.mode c.args.noted met c.args.seat.now.me _ (mine granted) down,
+    )
+
+pub returns-then-met-expected-clause-stays : goal.returns-then-met-expected-clause-stays
+returns-then-met-expected-clause-stays c =
+    stays_first c.args.place c.args.mode c.args.noted c.grant_fast-met.result.0 c.args.seat.now.me _ (mine (c.grant_fast-met.ensures.gained c.if-met-expected.true))
 
 -- ---- the loop
 
 pub loop-init : goal.loop-init
 loop-init c =
-    let read = c.read_word_unlatched-word.ensures.made in
-    record { table = table_of read; missed = first_read c.args.place c.read_word_unlatched-word.result.0 c.args.seat.now.me _ (mine read) }
+    let missed = c.grant_fast-met.ensures.missed c.if-met-expected.false in
+    record { table = table_of missed; missed = first_miss c.args.place c.grant_fast-met.result.0 c.args.seat.now.me _ (mine missed) }
 
 pub grant_fast-found-requires : goal.grant_fast-found-requires
 grant_fast-found-requires c =
