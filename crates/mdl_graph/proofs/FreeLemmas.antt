@@ -1,11 +1,16 @@
 -- Whoever waits for nobody, or is waited for by nobody, stands in no cycle.
-use Rattle.std.proofs.Common.{◌≡◌, ℕ, Bool, true, false, List, [], ◌∷◌, None, refl, sym, ◌∙◌}
+use Rattle.std.proofs.Common.{◌≡◌, ℕ, Bool, true, false, List, [], ◌∷◌, map, None, refl, sym, ap, ◌∙◌}
 use Rattle.std.specs.Prelude.{◌==◌, ◌&&◌, ◌||◌, not}
 use Rattle.std.specs.List.{list_any}
 use Rattle.std.proofs.lemmas.Bool.{and_parts, false≢true}
+use Rattle.std.specs.Option.{option_map}
+use Rattle.mdl_book.specs.declared.book_view.BookView.{BookView}
+use Rattle.mdl_graph.specs.declared.cycle.Member.{Member}
 use Rattle.mdl_graph.specs.Cycles.{leads}
-use Rattle.mdl_graph.specs.Graphs.{GraphView, waits, deadlock}
+use Rattle.mdl_graph.specs.Graphs.{GraphView, waits, deadlock, deadlock_in, member_of}
 use Rattle.mdl_graph.specs.Searches.{Pairs, are_joined, holds}
+use Rattle.mdl_graph.specs.WaitsFor.{SessionTest, waits_for, wishes_in}
+use Rattle.mdl_graph.proofs.CycleLaws.{none_chosen}
 use Rattle.mdl_graph.proofs.FoundLemmas.{found_free}
 use Rattle.mdl_graph.proofs.WalkLemmas.{cycle_leads}
 
@@ -45,6 +50,14 @@ no_first test from none (next ∷ rest) leading = false≢true (sym (none next) 
 no_last : (test : ℕ → ℕ → Bool) (from : ℕ) → ((waiter : ℕ) → test waiter from ≡ false) → (session : ℕ) (rest : List ℕ) → leads test from session rest ≡ true → ⊥
 no_last test from none session [] leading = false≢true (sym (none session) ∙ leading)
 no_last test from none session (next ∷ rest) leading = no_last test from none next rest (and_parts (test session next) (leads test from next rest) leading).1
+
+-- a session for which nobody waits at some locks is in no deadlock there
+pub none_blocked : (settled : SessionTest) (books : List BookView) (from : ℕ) → ((waiter : ℕ) → waits_for settled books waiter from ≡ false) → deadlock_in settled books from ≡ None
+none_blocked settled books from none =
+    let waiting = waits_for settled books in
+    let wishes = wishes_in settled books in
+    ap (option_map (map (member_of wishes))) (none_chosen waiting (map (λ (wish : Member). wish.session) wishes) from
+    (λ cycle is. let back = cycle_leads waiting from cycle is in no_last waiting from none from back.0 back.2))
 
 module _ (graph : GraphView) (pairs stands : Pairs) (same : (waiter other : ℕ) → are_joined pairs stands waiter other ≡ waits graph waiter other) (from : ℕ) where
   pub waits_for_none : list_any (λ wait. wait.1 == from) pairs ≡ false → deadlock graph from ≡ None

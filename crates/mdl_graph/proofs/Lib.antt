@@ -13,10 +13,10 @@ pub mod MemberLemmas
 pub mod OrderLemmas
 pub mod RoundLemmas
 pub mod SearchLemmas
-pub mod SeenLemmas
 pub mod SettledLemmas
 pub mod SpanLemmas
 pub mod TieLemmas
+pub mod UnsettledLemmas
 pub mod VictimLemmas
 pub mod WaitingLemmas
 pub mod WalkLemmas

@@ -110,3 +110,27 @@ graph-same settled books book one old new key granted waiting was kept grown tie
     graph-more settled books one old new was kept
     (grown ∙ ap (λ (lock : BookView). old.wishes ++ wishes_at (is_settled old) lock) same)
     (λ waiter other. tied waiter other ∙ ap (λ (lock : BookView). waits old waiter other || waits_at (is_settled old) lock waiter other) same)
+
+-- ---- a lock at which nobody waits
+
+none_kept : (b : Bool) → (b && false) ≡ false
+none_kept true = refl
+none_kept false = refl
+
+module _ (settled : SessionTest) (book : BookView) (none : book.waiting ≡ []) where
+  pub wishes-idle : (wishes : List Member) → wishes ≡ wishes ++ wishes_at settled book
+  wishes-idle wishes = sym (append-nil wishes) ∙ ap (λ (waiting : List Ticket). wishes ++ wishes_of settled book waiting) (sym none)
+
+  pub waits-idle : (before : Bool) (waiter other : ℕ) → before ≡ (before || waits_at settled book waiter other)
+  waits-idle before waiter other =
+      let nobody_waits : waits_at settled book waiter other ≡ false =
+      ap (λ (waiting : List Ticket). is_unsettled settled waiter && list_any (λ (wish : Ticket). wish.session == waiter && is_tied settled book other wish) waiting) none
+      ∙ none_kept (is_unsettled settled waiter) in
+      sym (or_false before) ∙ ap (λ (b : Bool). before || b) (sym nobody_waits)
+
+-- such a lock adds nothing
+pub graph-idle : (settled : SessionTest) (books : List BookView) (book : BookView) (graph : GraphView) → book.waiting ≡ [] → IsGraphOf settled books graph
+    → IsGraphOf settled (books ++ book ∷ []) graph
+graph-idle settled books book graph none was =
+    graph-more settled books book graph graph was refl (wishes-idle (is_settled graph) book none graph.wishes)
+    (λ waiter other. waits-idle (is_settled graph) book none (waits graph waiter other) waiter other)

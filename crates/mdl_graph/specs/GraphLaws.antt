@@ -9,8 +9,8 @@ use Rattle.mdl_book.specs.Books.{lock_kind}
 use Rattle.mdl_graph.specs.declared.cycle.Member.{Member}
 use Rattle.mdl_graph.specs.Cycles.{IsCycleThrough, is_chosen_before}
 use Rattle.mdl_graph.specs.Victims.{victim_of}
-use Rattle.mdl_graph.specs.WaitsFor.{SessionTest, WaitsFor, waits_for, wish_of}
-use Rattle.mdl_graph.specs.Graphs.{GraphView, IsGraphOf, empty_graph, deadlock, deadlock_in}
+use Rattle.mdl_graph.specs.WaitsFor.{SessionTest, WaitsFor, nobody, waits_for, wish_of}
+use Rattle.mdl_graph.specs.Graphs.{GraphView, IsGraphOf, empty_graph, deadlock, deadlock_in, unsettled_deadlock}
 
 -- ---- who waits for whom
 
@@ -137,3 +137,9 @@ abbrev pub GraphsFindDeadlocks : Type 0
 GraphsFindDeadlocks =
     (settled : SessionTest) (books : List BookView) (graph : GraphView) (from : ℕ) →
     IsGraphOf settled books graph → deadlock graph from ≡ deadlock_in settled books from
+
+-- the graph of some locks, built with nobody settled, finds the deadlocks among the sessions that aren't settled
+abbrev pub GraphsSettleLater : Type 0
+GraphsSettleLater =
+    (settled : SessionTest) (books : List BookView) (graph : GraphView) (from : ℕ) →
+    IsGraphOf nobody books graph → unsettled_deadlock settled graph from ≡ deadlock_in settled books from

@@ -1,5 +1,5 @@
 -- Graphs of sessions that wait for one another, as they are built lock by lock.
-use Rattle.std.specs.Prelude.{◌≡◌, ℕ, Bool, ◌&&◌, ◌==◌, List, [], map, find, Option, Some, None, refl}
+use Rattle.std.specs.Prelude.{◌≡◌, ℕ, Bool, ◌&&◌, ◌==◌, List, [], ◌∷◌, ◌++◌, map, filter, find, Option, Some, None, refl}
 use Rattle.std.specs.Coded.{Coded, code_by, coded×, coded_list, coded_ℕ}
 use Rattle.std.specs.FinSet as set
 use Rattle.std.specs.List.{list_any}
@@ -12,7 +12,7 @@ use Rattle.mdl_book.specs.Books.{empty_book}
 use Rattle.mdl_graph.specs.declared.cycle.Member.{Member}
 use Rattle.mdl_graph.specs.Cycles.{chosen_cycle}
 use Rattle.mdl_graph.specs.Victims.{victim_of}
-use Rattle.mdl_graph.specs.WaitsFor.{SessionTest, waits_for, wishes_in}
+use Rattle.mdl_graph.specs.WaitsFor.{SessionTest, is_unsettled, waits_for, wishes_in}
 
 -- the value of a graph: the settled sessions, the requests (wishes) of the others, and who waits for whom, in pairs
 pub record GraphView : Type 0 where
@@ -59,6 +59,11 @@ pub record IsGraphOf (settled : SessionTest) (books : List BookView) (graph : Gr
   pub same_wishes : graph.wishes ≡ wishes_in settled books
   pub same_waits : (waiter other : ℕ) → waits graph waiter other ≡ waits_for settled books waiter other
 
+-- whichever locks a graph is of, the later one is of this lock, too
+abbrev pub AddsBook : BookView → GraphView → GraphView → Type 0
+AddsBook book graph later =
+    (settled : SessionTest) (books : List BookView) → IsGraphOf settled books graph → IsGraphOf settled (books ++ book ∷ []) later
+
 -- the weight of a request, the first one of its session: a session waits at one lock at most. Without a request it is 0
 abbrev pub weight_found : Option Member → ℕ
 weight_found None = 0
@@ -76,6 +81,12 @@ cycle_found wishes waits from = option_map (map (member_of wishes)) (chosen_cycl
 -- the chosen cycle of a graph through a session
 abbrev pub deadlock : GraphView → ℕ → Option (List Member)
 deadlock graph from = cycle_found graph.wishes (waits graph) from
+
+-- the chosen cycle of a graph through a session once these sessions are settled, too: that of the others' requests
+abbrev pub unsettled_deadlock : SessionTest → GraphView → ℕ → Option (List Member)
+unsettled_deadlock settled graph from =
+    cycle_found (filter (λ wish. is_unsettled settled wish.session) graph.wishes)
+    (λ waiter other. is_unsettled settled waiter && waits graph waiter other) from
 
 -- the chosen cycle of these locks through a session
 abbrev pub deadlock_in : SessionTest → List BookView → ℕ → Option (List Member)

@@ -1,7 +1,5 @@
 -- How a graph stores who waits for whom, and how a search stores how far each session is from the one that it starts at.
 use Rattle.std.specs.Prelude.{◌≡◌, ℕ, zero, suc, ◌+◌, ◌<◌, ◌≤◌, Bool, true, false, not, ◌&&◌, ◌||◌, ◌==◌, List, [], ◌∷◌, length, map, flat_map, slice_index, slice_index_or, filter, Option, Some, None, if◌then◌else◌}
-use Rattle.std.specs.FinSet as set
-use Rattle.std.specs.Ordering.{nat_cmp}
 use Rattle.std.specs.List.{list_any, count_by, Contains}
 use Rattle.std.specs.Option.{option_or, unwrap_or}
 use Rattle.mdl_book.specs.declared.book_view.BookView.{BookView}
@@ -49,10 +47,6 @@ abbrev pub AreOfModes : SessionTest → BookView → ℕ → List ℕ → Pairs 
 AreOfModes settled book first ranks stands =
     (row : ℕ) → first ≤ row → row < length ranks → (mode : Mode) → mode_rank mode ≡ slice_index ranks row → (session : ℕ)
     → holds stands session row ≡ stands_against settled book mode session
-
--- each of these sessions is known to block a row
-abbrev pub AreSeen : set.FinSet nat_cmp → ℕ → Pairs → Type 0
-AreSeen seen row stands = (session : ℕ) → set.contains seen session ≡ true → holds stands session row ≡ true
 
 -- ---- pairs, each with a link to the previous one of the same key
 

@@ -1,5 +1,5 @@
 -- Who waits for whom, after MySQL 5.7: `MDL_lock::visit_subgraph` and `MDL_context::visit_subgraph` of sql/mdl.cc.
-use Rattle.std.specs.Prelude.{ℕ, Bool, not, ◌&&◌, ◌||◌, ◌==◌, List, filter, flat_map, map, IsTrue}
+use Rattle.std.specs.Prelude.{ℕ, Bool, false, not, ◌&&◌, ◌||◌, ◌==◌, List, filter, flat_map, map, IsTrue}
 use Rattle.std.specs.List.{list_any}
 use Rattle.mdl_key.specs.declared.mode.Mode.{Mode}
 use Rattle.mdl_key.specs.Words.{weight_of, clashes, waits_behind}
@@ -11,6 +11,10 @@ use Rattle.mdl_graph.specs.declared.cycle.Member.{Member}
 -- a set of sessions, as a test of whether a session is in it
 abbrev pub SessionTest : Type 0
 SessionTest = ℕ → Bool
+
+-- no session
+abbrev pub nobody : SessionTest
+nobody session = false
 
 -- whether a session isn't settled
 abbrev pub is_unsettled : SessionTest → ℕ → Bool

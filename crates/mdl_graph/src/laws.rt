@@ -1,5 +1,5 @@
 //! Laws of deadlocks. Each is proved as the contract of a function that does nothing.
-ghost use Rattle.mdl_graph.specs.GraphLaws.{WaitingIsBeingBlocked, CyclesAreRounds, DeadlocksAreChosenCycles, MembersOfCyclesWait, FewerSettledKeepCycles, MembersOfDeadlocksWait, ShorterCyclesComeFirst, VictimsWeighLeast, GraphsBeginEmpty, GraphsFindDeadlocks};
+ghost use Rattle.mdl_graph.specs.GraphLaws.{WaitingIsBeingBlocked, CyclesAreRounds, DeadlocksAreChosenCycles, MembersOfCyclesWait, FewerSettledKeepCycles, MembersOfDeadlocksWait, ShorterCyclesComeFirst, VictimsWeighLeast, GraphsBeginEmpty, GraphsFindDeadlocks, GraphsSettleLater};
 
 /// One session waits for another exactly if it is unsettled and the other blocks its request: by a granted ticket, or, if the
 /// other is unsettled, too, by a waiting one.
@@ -51,4 +51,9 @@ pub fn graphs_begin_empty()
 /// The graph of some locks finds their deadlocks.
 pub fn graphs_find_deadlocks()
     ensures { GraphsFindDeadlocks }
+{}
+
+/// The graph of some locks, built with nobody settled, finds the deadlocks among the sessions that aren't settled.
+pub fn graphs_settle_later()
+    ensures { GraphsSettleLater }
 {}

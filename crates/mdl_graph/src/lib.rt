@@ -47,6 +47,7 @@ mod level_links;
 mod levels;
 mod lists;
 mod rows;
+mod settling;
 mod stands;
 mod wait_graph;
 mod waits;
@@ -56,7 +57,7 @@ mod weights;
 pub use cycle::{Cycle, Member, victim};
 pub use laws::{
     cycles_are_rounds, deadlocks_are_chosen_cycles, fewer_settled_keep_cycles, graphs_begin_empty,
-    graphs_find_deadlocks, members_of_cycles_wait, members_of_deadlocks_wait,
+    graphs_find_deadlocks, graphs_settle_later, members_of_cycles_wait, members_of_deadlocks_wait,
     shorter_cycles_come_first, victims_weigh_least, waiting_is_being_blocked,
 };
 pub use wait_graph::WaitGraph;

@@ -4,7 +4,7 @@ ghost use Rattle.std.specs.FinSet as set;
 ghost use Rattle.std.specs.List.{list_any};
 ghost use Rattle.mdl_key.specs.Modes.{mode_rank};
 ghost use Rattle.mdl_graph.specs.WaitsFor.{holds_against, waits_ahead, waits_at, wishes_at};
-ghost use Rattle.mdl_graph.specs.Searches.{holds, are_joined, AreSeen, AreRows, AreOfModes, stands_against};
+ghost use Rattle.mdl_graph.specs.Searches.{holds, are_joined, AreRows, AreOfModes, stands_against};
 
 use crate::Member;
 use crate::lists::Lists;
@@ -12,32 +12,28 @@ use mdl_book::Sessions;
 use mdl_key::{Mode, conflicts_granted, conflicts_waiting, weight};
 use std::alloc::AllocError;
 
-// What a graph has room for at least, once a session waits.
-const LEAST_ROOM: usize = 64;
+// What a graph has room for, once a session waits.
+const ROOM: usize = 64;
 
-/// Makes room for the sessions that wait at a lock and those that hold it. If no session waits, it takes no memory.
+/// Makes room for many locks before the first one is added, so that the first few don't take memory one by one.
 pub(crate) fn make_room(
     wishes: &mut Vec<Member>,
     ranks: &mut Vec<usize>,
     waits: &mut Vec<(usize, u16)>,
     stands: &mut Vec<(u16, usize)>,
-    book: &Lists,
 ) -> Result<(), AllocError>
     ensures wishes { wishes.new.items ≡ wishes.old.items }
     ensures ranks { ranks.new.items ≡ ranks.old.items }
     ensures waits { waits.new.items ≡ waits.old.items }
     ensures stands { stands.new.items ≡ stands.old.items }
 {
-    let waiting = book.waiting().len();
-    if waiting == 0 {
-        return Ok(());
+    if wishes.is_empty() {
+        wishes.reserve(ROOM)?;
+        ranks.reserve(ROOM)?;
+        waits.reserve(ROOM)?;
+        stands.reserve(ROOM)?;
     }
-    let least = if wishes.is_empty() { LEAST_ROOM } else { 1 };
-    let most = waiting.max(least);
-    wishes.reserve(most)?;
-    ranks.reserve(least)?;
-    waits.reserve(most)?;
-    stands.reserve(most.max(book.granted().len()))
+    Ok(())
 }
 
 /// Whether a session waits in some row.
@@ -116,9 +112,8 @@ fn row_of(
         return Ok(row);
     }
     let row = ranks.len();
-    let mut seen = Sessions::new();
-    stand_holders(stands, &mut seen, book, mode, row)?;
-    stand_waiters(stands, &mut seen, settled, book, mode, row)?;
+    stand_holders(stands, book, mode, row)?;
+    stand_waiters(stands, settled, book, mode, row)?;
     ranks.push(mode as usize)?;
     Ok(row)
 }
@@ -138,22 +133,19 @@ fn known_row(ranks: &[usize], first: usize, mode: Mode) -> Option<usize>
 // Adds which sessions block a mode's row by a granted ticket: it clashes with a request for the mode.
 fn stand_holders(
     stands: &mut Vec<(u16, usize)>,
-    seen: &mut Sessions,
     book: &Lists,
     mode: Mode,
     row: usize,
 ) -> Result<(), AllocError>
-    requires { AreSeen seen.old row stands.old.items }
     ensures len { length stands.old.items ≤ length stands.new.items }
     ensures kept { take (length stands.old.items) stands.new.items ≡ stands.old.items }
-    ensures seen { OnOk result (AreSeen seen.new row stands.new.items) }
     ensures stands { OnOk result ((session one : ℕ) → holds stands.new.items session one
         ≡ (holds stands.old.items session one || (row == one && holds_against book.now mode session))) }
 {
     let kind = book.namespace().kind();
     for held in book.granted() {
         if conflicts_granted(kind, mode, held.mode) {
-            stand_once(stands, seen, held.session, row)?;
+            stand_once(stands, held.session, row)?;
         }
     }
     Ok(())
@@ -162,13 +154,11 @@ fn stand_holders(
 // Adds which unsettled sessions block a mode's row by a waiting ticket: a request for the mode waits behind it.
 fn stand_waiters(
     stands: &mut Vec<(u16, usize)>,
-    seen: &mut Sessions,
     settled: &Sessions,
     book: &Lists,
     mode: Mode,
     row: usize,
 ) -> Result<(), AllocError>
-    requires { AreSeen seen.old row stands.old.items }
     ensures len { length stands.old.items ≤ length stands.new.items }
     ensures kept { take (length stands.old.items) stands.new.items ≡ stands.old.items }
     ensures stands { OnOk result ((session one : ℕ) → holds stands.new.items session one
@@ -177,39 +167,23 @@ fn stand_waiters(
     let kind = book.namespace().kind();
     for pending in book.waiting() {
         if !settled.contains(pending.session) && conflicts_waiting(kind, mode, pending.mode) {
-            stand_once(stands, seen, pending.session, row)?;
+            stand_once(stands, pending.session, row)?;
         }
     }
     Ok(())
 }
 
-// Adds that a session blocks a row, unless that is known: a session that holds many tickets is added once.
-fn stand_once(
-    stands: &mut Vec<(u16, usize)>,
-    seen: &mut Sessions,
-    session: u16,
-    row: usize,
-) -> Result<(), AllocError>
-    requires { AreSeen seen.old row stands.old.items }
+// Adds that a session blocks a row, unless the last pair says that: of tickets of one session that follow each other, one is added.
+fn stand_once(stands: &mut Vec<(u16, usize)>, session: u16, row: usize) -> Result<(), AllocError>
     ensures len { length stands.old.items ≤ length stands.new.items }
     ensures kept { take (length stands.old.items) stands.new.items ≡ stands.old.items }
-    ensures seen { OnOk result (AreSeen seen.new row stands.new.items) }
     ensures stands { OnOk result ((other one : ℕ) → holds stands.new.items other one
         ≡ (holds stands.old.items other one || (session == other && row == one))) }
 {
-    if seen.contains(session) {
+    let count = stands.len();
+    if count > 0 && stands[count - 1].0 == session && stands[count - 1].1 == row {
         return Ok(());
     }
     stands.push((session, row))?;
-    note(seen, session);
     Ok(())
-}
-
-// Notes that a session was seen, if the set can have its number.
-fn note(seen: &mut Sessions, session: u16)
-    ensures { (other : ℕ) → set.contains seen.new other ≡ true → (set.contains seen.old other || session == other) ≡ true }
-{
-    if session >= 1 && session <= 1024 {
-        seen.insert(session);
-    }
 }

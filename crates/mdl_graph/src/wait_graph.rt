@@ -1,13 +1,15 @@
 //! Which session waits for which.
-ghost use Rattle.std.specs.Prelude.{◌≡◌, ℕ, ◌||◌, ◌++◌, [], ◌∷◌, List, false, None, OnOk, OnErr, IfOk};
+ghost use Rattle.std.specs.Prelude.{◌≡◌, ℕ, ◌&&◌, ◌||◌, ◌++◌, [], ◌∷◌, List, false, filter, None, OnOk, OnErr, IfOk};
+ghost use Rattle.std.specs.FinSet as set;
 ghost use Rattle.mdl_book.specs.declared.book_view.BookView.{BookView};
-ghost use Rattle.mdl_graph.specs.Graphs.{empty_graph, is_settled, lock_of, waits, IsGraphOf, deadlock};
-ghost use Rattle.mdl_graph.specs.WaitsFor.{SessionTest, waits_at, wishes_at};
+ghost use Rattle.mdl_graph.specs.Graphs.{empty_graph, is_settled, lock_of, waits, AddsBook, IsGraphOf, deadlock, unsettled_deadlock};
+ghost use Rattle.mdl_graph.specs.WaitsFor.{SessionTest, is_unsettled, waits_at, wishes_at};
 
 use crate::counts::session_count;
 use crate::levels::{level_at, levels_back};
 use crate::lists::Lists;
 use crate::rows::{add_waiters, make_room, stands_in_some, waits_in_some};
+use crate::settling::{unsettled_waits, unsettled_wishes};
 use crate::stands::Stands;
 use crate::waits::Waits;
 use crate::walks::walk;
@@ -65,17 +67,22 @@ impl WaitGraph {
         }
     }
 
-    /// Adds a lock: who waits there, and for whom. If memory runs out, the graph is unchanged.
+    /// Adds a lock: who waits there, and for whom. If memory runs out, the graph is unchanged. A lock at which nobody waits
+    /// takes no memory, and hardly any time.
+    #[inline]
     pub fn add(&mut self, book: &Book) -> Result<(), AllocError>
         ensures settled { self.new.settled ≡ self.old.settled }
         ensures wishes { OnOk result (self.new.wishes ≡ self.old.wishes ++ wishes_at (is_settled self.old) book.now) }
         ensures waits { OnOk result ((waiter other : ℕ) → waits self.new waiter other
             ≡ (waits self.old waiter other || waits_at (is_settled self.old) book.now waiter other)) }
-        ensures graph { OnOk result ((settled : SessionTest) (books : List BookView)
-            → IsGraphOf settled books self.old → IsGraphOf settled (books ++ book.now ∷ []) self.new) }
+        ensures graph { OnOk result (AddsBook book.now self.old self.new) }
         ensures unchanged { OnErr result (self.new ≡ self.old) }
     {
-        self.add_lists(book.key().namespace(), book.granted(), book.waiting())
+        let waiting = book.waiting();
+        if waiting.is_empty() {
+            return Ok(());
+        }
+        self.add_lists(book.key().namespace(), book.granted(), waiting)
     }
 
     /// Adds a lock by its namespace and its two lists, each in order. If memory runs out, the graph is unchanged.
@@ -100,7 +107,6 @@ impl WaitGraph {
             &mut self.ranks,
             &mut self.waits,
             &mut self.stands,
-            &lists,
         )?;
         self.add_reserved(&lists)
     }
@@ -149,6 +155,46 @@ impl WaitGraph {
             return Ok(None);
         }
         self.search(from)
+    }
+
+    /// Returns the cycle that [`WaitGraph::find_cycle`] would return if these sessions were settled, too.
+    pub fn find_unsettled_cycle(
+        &self,
+        from: u16,
+        settled: &Sessions,
+    ) -> Result<Option<Cycle>, AllocError>
+        ensures { IfOk result (λ found. found ≡ unsettled_deadlock (set.contains settled.now) self.now from) }
+    {
+        let unsettled = self.without(settled)?;
+        unsettled.find_cycle(from)
+    }
+
+    // Returns a copy of the graph without the requests of these sessions.
+    fn without(&self, settled: &Sessions) -> Result<WaitGraph, AllocError>
+        ensures wishes { IfOk result (λ graph. graph.wishes ≡ filter (λ wish. is_unsettled (set.contains settled.now) wish.session) self.now.wishes) }
+        ensures waits { IfOk result (λ graph. (waiter other : ℕ) → waits graph waiter other ≡ (is_unsettled (set.contains settled.now) waiter && waits self.now waiter other)) }
+    {
+        let alloc = *self.wishes.allocator();
+        let wishes = unsettled_wishes(alloc, &self.wishes, settled)?;
+        let waits = unsettled_waits(alloc, &self.waits, settled)?;
+        let mut ranks = Vec::new(alloc);
+        ranks.extend_from_slice(&self.ranks)?;
+        let mut stands = Vec::new(alloc);
+        stands.extend_from_slice(&self.stands)?;
+        Ok(WaitGraph {
+            settled: Sessions::new(),
+            wishes,
+            ranks,
+            waits,
+            stands,
+        })
+    }
+
+    /// Returns the requests of the unsettled sessions that wait at the locks, in the order in which they were added.
+    pub fn wishes(&self) -> &[Member]
+        ensures { result.now ≡ self.now.wishes }
+    {
+        &self.wishes
     }
 
     // Whether a session waits and blocks some row. Otherwise it is in no cycle.

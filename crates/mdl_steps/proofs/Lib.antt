@@ -1,6 +1,5 @@
 pub mod Views
 pub mod Seating
-pub mod Copying
 pub mod Waiting
 pub mod Lift
 pub mod Paid

@@ -1,5 +1,4 @@
 pub mod Cells
-pub mod Copies
 pub mod Deeds
 pub mod FastPlays
 pub mod Histories

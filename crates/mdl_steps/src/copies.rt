@@ -1,10 +1,8 @@
 //! Copies of books, which a session keeps after it has given the latches of their places back.
-ghost use Rattle.std.specs.Prelude.{◌≡◌, [], ◌∷◌, ◌++◌, IfOk, OnOk, OnErr};
-ghost use Rattle.mdl_steps.specs.Copies.{queues_of};
+ghost use Rattle.std.specs.Prelude.{◌≡◌, IfOk};
 ghost use Rattle.mdl_steps.specs.SeatStates.{HoldsBook, OfBook};
 
 use crate::hand::book_in_hand;
-use crate::list_copies::ListCopies;
 use crate::table_seat::{Latched, TableSeat};
 use mdl_book::{Book, Ticket};
 use mdl_defs::VersionedDefinition;
@@ -39,18 +37,6 @@ impl Model for BookCopy {
 }
 
 impl TableSeat {
-    /// Appends the lists of the book in hand to `lists`. Nothing else changes. If memory runs out, nothing changes at all.
-    pub fn copy_lists(&mut self, latch: &Latched, lists: &mut ListCopies) -> Result<(), AllocError>
-        requires carried { HoldsBook latch.now.place self.old }
-        ensures same { self.new ≡ self.old }
-        ensures added { OfBook latch.now.place self.old (λ book. OnOk result (lists.new ≡ lists.old ++ queues_of book ∷ [])) }
-        ensures kept { OnErr result (lists.new ≡ lists.old) }
-    {
-        let book = book_in_hand(&mut self.seat, &self.table.shared, latch.place);
-        lists.make_room()?;
-        lists.add(book)
-    }
-
     /// Returns a copy of the book in hand. Nothing changes, even if memory runs out.
     pub fn copy_book(&mut self, latch: &Latched, alloc: Global) -> Result<BookCopy, AllocError>
         requires carried { HoldsBook latch.now.place self.old }

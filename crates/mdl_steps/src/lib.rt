@@ -42,7 +42,6 @@ mod hand;
 mod in_hand;
 mod laws;
 pub mod layout;
-mod list_copies;
 mod maker;
 mod naming;
 mod opening;
@@ -65,7 +64,6 @@ pub use laws::{
     noted_versions_stand, reached_tables_keep_the_rule, reads_are_of_what_stands,
     taken_latches_are_held, waiters_are_as_their_words_tell,
 };
-pub use list_copies::ListCopies;
 pub use maker::{Maker, OwnedTable};
 pub use plays::Order;
 pub use slot::{Directory, Slot};

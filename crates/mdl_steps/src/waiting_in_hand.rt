@@ -4,14 +4,17 @@ ghost use Rattle.std.specs.Option.{ok_or, option_map};
 ghost use Rattle.mdl_key.specs.Refusals.{Refuses};
 ghost use Rattle.mdl_book.specs.Books.{full_fault, ticket_count, enqueueing, admitting_by_index, cancelling, is_ready, next_grantable};
 ghost use Rattle.mdl_book.specs.Tickets.{ticket_of, with_index};
+ghost use Rattle.mdl_graph.specs.Graphs.{AddsBook};
 ghost use Rattle.mdl_steps.specs.SeatStates.{HoldsBook, OfBook};
 ghost use Rattle.mdl_steps.specs.Seats.{written};
 
 use crate::hand::book_in_hand;
 use crate::table_seat::{Latched, TableSeat};
 use mdl_book::{BookError, Sessions, Ticket};
+use mdl_graph::WaitGraph;
 use mdl_key::Mode;
 use mdl_word::Word;
+use std::alloc::AllocError;
 
 impl TableSeat {
     /// Whether the waiting list of the book in hand has a ticket. Nothing changes.
@@ -22,6 +25,21 @@ impl TableSeat {
     {
         let book = book_in_hand(&mut self.seat, &self.table.shared, latch.place);
         !book.waiting().is_empty()
+    }
+
+    /// Adds the book in hand to a graph of who waits for whom. Nothing else changes. If memory runs out, nothing changes at all.
+    pub fn add_to_graph(
+        &mut self,
+        latch: &Latched,
+        graph: &mut WaitGraph,
+    ) -> Result<(), AllocError>
+        requires carried { HoldsBook latch.now.place self.old }
+        ensures same { self.new ≡ self.old }
+        ensures added { OfBook latch.now.place self.old (λ book. OnOk result (AddsBook book graph.old graph.new)) }
+        ensures unchanged { OnErr result (graph.new ≡ graph.old) }
+    {
+        let book = book_in_hand(&mut self.seat, &self.table.shared, latch.place);
+        graph.add(book)
     }
 
     /// Returns the first waiting ticket of the book in hand that can be granted, among those whose sessions are in `unsettled`, after its

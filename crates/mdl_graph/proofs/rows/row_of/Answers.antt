@@ -1,11 +1,7 @@
 -- A row that is made has those who stand against the wish.
 use Rattle.std.proofs.Common.{arith}
 use Rattle.std.proofs.lemmas.Grind.{common_steps}
-use Rattle.mdl_graph.proofs.SeenLemmas.{seen-none}
 use Rattle.mdl_graph.proofs.rows.row_of.Goals as goal
-
-pub stand_holders-requires : goal.stand_holders-requires
-stand_holders-requires c = λ session is. absurd (seen-none c.new-seen.result session c.new-seen.ensures is)
 
 pub returns-in-Some-clause-fresh : goal.returns-in-Some-clause-fresh
 returns-in-Some-clause-fresh c = c.requires.fresh

@@ -1,6 +1,6 @@
 -- The first session that passes is the next one.
 use Rattle.std.specs.Prelude.{◌&&◌, ◌==◌}
-use Rattle.std.proofs.Common.{◌≡◌, ◌∙◌, ◌<◌, ◌≤◌, ◌-◌, true, ℕ, Bool, suc, inl, inr, arith, length, ap, sym}
+use Rattle.std.proofs.Common.{◌≡◌, ◌∙◌, ◌<◌, ◌≤◌, ◌-◌, true, ℕ, Bool, inl, inr, arith, length, ap, sym}
 use Rattle.std.proofs.lemmas.Bool.{and_from, and_parts, cases_lt, eq-eqb, eqb-true, false≢true}
 use Rattle.mdl_graph.specs.Searches.{level_of, waits_by}
 use Rattle.mdl_graph.proofs.ChainLemmas.{fewer_left}
