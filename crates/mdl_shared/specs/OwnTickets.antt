@@ -22,8 +22,9 @@ noted_in place places = option_and_then (λ (p : OfPlace). if p.is_noted then So
 abbrev pub flags_of : List OfPlace → List Bool
 flags_of places = map (λ (p : OfPlace). p.owes) places
 
--- each place counts as many tickets as before, and has the same note
+-- there are as many places as before, each counts as many tickets, and has the same note
 pub record KeepsCounts (before after : List OfPlace) : Type 0 where
+  pub as_many : length after ≡ length before
   pub counted : (q : ℕ) → counted_at q after ≡ counted_at q before
   pub noted : (q : ℕ) → noted_in q after ≡ noted_in q before
 

@@ -567,7 +567,6 @@ fn guessed(places: &[OfPlace], place: usize) -> Word {
 #[tactic(auto, using(crate::proofs::OwedFlags::flags_kept))]
 fn set_guess(places: &mut Vec<OfPlace>, place: usize, guess: Word)
     requires inside { place < length places.old.items }
-    ensures length { length places.new.items ≡ length places.old.items }
     ensures owes { flags_of places.new.items ≡ flags_of places.old.items }
     ensures tickets { KeepsCounts places.old.items places.new.items }
     ensures fast { (q : ℕ) → fast_counted_at q places.new.items ≡ fast_counted_at q places.old.items }
@@ -673,7 +672,6 @@ fn uncount_one(places: &mut Vec<OfPlace>, place: usize)
 fn count_fast(places: &mut Vec<OfPlace>, place: usize)
     requires inside { place < length places.old.items }
     requires few { fast_counted_at place places.old.items < 2 ^ 31 }
-    ensures length { length places.new.items ≡ length places.old.items }
     ensures owes { flags_of places.new.items ≡ flags_of places.old.items }
     ensures tickets { KeepsCounts places.old.items places.new.items }
     ensures fast { (q : ℕ) → fast_counted_at q places.new.items ≡ fast_counted_at q places.old.items + (if q == place then 1 else 0) }
@@ -685,7 +683,6 @@ fn count_fast(places: &mut Vec<OfPlace>, place: usize)
 #[tactic(auto, using(crate::proofs::OwedFlags::flags_kept))]
 fn uncount_fast(places: &mut Vec<OfPlace>, place: usize)
     requires some { 0 < fast_counted_at place places.old.items }
-    ensures length { length places.new.items ≡ length places.old.items }
     ensures owes { flags_of places.new.items ≡ flags_of places.old.items }
     ensures tickets { KeepsCounts places.old.items places.new.items }
     ensures fast { (q : ℕ) → fast_counted_at q places.old.items ≡ fast_counted_at q places.new.items + (if q == place then 1 else 0) }
@@ -697,7 +694,6 @@ fn uncount_fast(places: &mut Vec<OfPlace>, place: usize)
 #[tactic(auto, using(crate::proofs::OwedFlags::flags_kept))]
 fn clear_fast(places: &mut Vec<OfPlace>, place: usize) -> usize
     ensures fast { result ≡ fast_counted_at place places.old.items }
-    ensures length { length places.new.items ≡ length places.old.items }
     ensures owes { flags_of places.new.items ≡ flags_of places.old.items }
     ensures tickets { KeepsCounts places.old.items places.new.items }
     ensures cleared { (q : ℕ) → fast_counted_at q places.new.items ≡ (if q == place then 0 else fast_counted_at q places.old.items) }
@@ -729,7 +725,6 @@ fn note(places: &mut Vec<OfPlace>, place: usize, version: u64)
 
 // Notes whether a place is owed a reschedule, if the list has this place.
 fn set_owes(places: &mut Vec<OfPlace>, place: usize, owes: bool)
-    ensures length { length places.new.items ≡ length places.old.items }
     ensures tickets { KeepsCounts places.old.items places.new.items }
     ensures fast { (q : ℕ) → fast_counted_at q places.new.items ≡ fast_counted_at q places.old.items }
     ensures owes { (q : ℕ) → owed_in q (flags_of places.new.items)

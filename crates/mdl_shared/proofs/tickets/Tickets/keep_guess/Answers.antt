@@ -14,5 +14,5 @@ returns c =
       slow = same (λ t. not t.fast) i;
       fast = same (λ t. t.fast) i;
       owes = c.set_guess.ensures.owes i;
-      room = record { spare = vec_capacity gained - length gained.items; reach = c.set_guess.ensures.length i };
+      room = record { spare = vec_capacity gained - length gained.items; reach = c.set_guess.ensures.tickets.as_many i };
     })

@@ -19,7 +19,7 @@ invariant_of-self c =
     let xs = c.self.inside.gained.items in
     let slow = c.slow_down.ensures.items ∙ slowed_by_place c.args.place ps xs c.args.here.now c.self.invariant.rising (rw (← c.self.view_is) at c.requires.these) in
     rw slow (kept_slowed c.args.place ps c.clear_fast.new.places.items xs c.self.inside.fast c.clear_fast.result
-    c.clear_fast.ensures.fast c.clear_fast.ensures.length c.clear_fast.ensures.tickets.counted c.clear_fast.ensures.cleared c.self.invariant)
+    c.clear_fast.ensures.fast c.clear_fast.ensures.tickets.as_many c.clear_fast.ensures.tickets.counted c.clear_fast.ensures.cleared c.self.invariant)
 
 pub returns-clause-slow : goal.returns-clause-slow
 returns-clause-slow c =

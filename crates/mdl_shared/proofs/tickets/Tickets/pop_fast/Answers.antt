@@ -60,7 +60,7 @@ invariant_of-self c =
     let at = length xs - 1 in
     let inside : at < length xs = (let some = last.0 in omega (arith, some)) in
     rw c.take_last.ensures.items (kept_strike_fast c.args.held.place c.self.inside.places.items c.uncount_fast.new.places.items xs c.self.inside.fast at no_ticket
-    inside (last.2 no_ticket) (last.3 no_ticket) (c.uncount_fast.ensures.length ∙ c.uncount_one.ensures.length) (λ q. rw (c.uncount_fast.ensures.tickets.counted q) (c.uncount_one.ensures.counted q))
+    inside (last.2 no_ticket) (last.3 no_ticket) (c.uncount_fast.ensures.tickets.as_many ∙ c.uncount_one.ensures.length) (λ q. rw (c.uncount_fast.ensures.tickets.counted q) (c.uncount_one.ensures.counted q))
     (λ q. sym (c.uncount_one.ensures.fast q) ∙ c.uncount_fast.ensures.fast q) c.self.invariant)
 
 pub returns-clause-struck : goal.returns-clause-struck

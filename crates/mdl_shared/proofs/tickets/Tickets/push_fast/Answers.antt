@@ -22,7 +22,7 @@ invariant_of-self c =
     let ps = c.self.inside.places.items in
     let xs = c.self.inside.gained.items in
     rw (c.push_reserved.ensures.items, c.new_ticket.ensures) (kept_gain_fast _ ps c.count_fast.new.places.items xs c.self.inside.fast (below_all c.args.number ps xs c.self.invariant.rising (rw (← c.self.view_is) at c.requires.below)) refl
-    (c.count_fast.ensures.length ∙ c.count_one.ensures.length) (λ q. c.count_fast.ensures.tickets.counted q ∙ c.count_one.ensures.counted q)
+    (c.count_fast.ensures.tickets.as_many ∙ c.count_one.ensures.length) (λ q. c.count_fast.ensures.tickets.counted q ∙ c.count_one.ensures.counted q)
     (λ q. rw (c.count_one.ensures.fast q) at (c.count_fast.ensures.fast q)) c.self.invariant)
 
 pub returns-clause-gained : goal.returns-clause-gained

@@ -11,7 +11,7 @@ invariant_of-self c =
     let ticket = c.index.result.now in
     let fast = ap (λ (t : Gained). t.fast) (sym c.index.ensures) ∙ c.if-fast.true in
     rw c.take_out.ensures.items (kept_strike_fast c.args.place c.self.inside.places.items c.uncount_fast.new.places.items c.self.inside.gained.items c.self.inside.fast c.in-Some.at ticket
-    stands.0.0 (stands.1 ticket) fast (c.uncount_fast.ensures.length ∙ c.uncount_one.ensures.length) (λ q. rw (c.uncount_fast.ensures.tickets.counted q) (c.uncount_one.ensures.counted q))
+    stands.0.0 (stands.1 ticket) fast (c.uncount_fast.ensures.tickets.as_many ∙ c.uncount_one.ensures.length) (λ q. rw (c.uncount_fast.ensures.tickets.counted q) (c.uncount_one.ensures.counted q))
     (λ q. sym (c.uncount_one.ensures.fast q) ∙ c.uncount_fast.ensures.fast q) c.self.invariant)
 
 pub invariant_of-self-else-fast : goal.invariant_of-self-else-fast
