@@ -27,8 +27,6 @@ SECONDS = 60
 # This file exists once `make run` has printed answers.
 FIRST_RUN = crates/mdlsim/out/first_run
 
-BENCH = crates/mdl_bench/out/mdl_bench
-
 .PHONY: help run try script test layout docs bench examples commands c fuzz growths race wrong build view install dist dist-check dist-libraries \
     dist-libraries-check clean kit
 
@@ -92,11 +90,8 @@ docs: kit
 # Measures the lines per second and peak memory of scripts of three sizes, of one lock and of statements; the cost of calls, on one thread and on four,
 # each beside what it is compared with; the instructions of a pair of calls; and the cost of the locks of C and Rust.
 bench: build
-	@sh bench/lock.sh $(PROGRAM)
-	@sh bench/replay.sh $(PROGRAM)
 	@sh make/build.sh mdl_bench quick
-	@sh bench/instructions.sh $(BENCH)
-	@sh bench/peers.sh
+	@sh bench/peers.sh $(PROGRAM)
 
 # Checks that each example gives the answers in the file beside it.
 examples: kit

@@ -35,8 +35,8 @@ allocated() {
     sed -n 's/.*total heap usage: \([0-9,]*\) allocs.*/\1/p' "$made/said" | tr -d ,
 }
 
-# Prints NAME, what is counted, the threads, what is known, held or kept, and how many a turn takes. It is called with the function that counts,
-# the first words of that line, and the words of the program without the turns.
+# Prints NAME, what is counted, the threads, what is known, held or kept with `_count` behind it, and how many a turn takes. It is called with the
+# function that counts, the first words of that line, and the words of the program without the turns.
 told() {
     count=$1
     line=$2
@@ -44,7 +44,7 @@ told() {
     shift 3
     less=$($count "$word" "$few" "$@") && more=$($count "$word" "$many" "$@") || exit 1
     tenths=$(((more - less) * 10 / (many - few)))
-    echo "$line $((tenths / 10)).$((tenths % 10))"
+    echo "${line}_count $((tenths / 10)).$((tenths % 10))"
 }
 
 for stock in '1 0' '1 1' '250 0' '250 1' '250 250'; do

@@ -39,7 +39,7 @@ measure() {
         seconds = spent / turns / 1e9
         printf "%-8s %9d lines  %9d bytes  %8.4f s  %9.0f lines/s  %6d KiB, %.1f times the script\n",
             life, lines, bytes, seconds, lines / seconds, memory, memory * 1024 / bytes
-        printf "ROW lock_%s 1 line_of_%d %.0f\n", life, lines, seconds / lines * 1e9
+        printf "ROW lock_%s 1 mdlsim_line_of_%d_mean %.1f\n", life, lines, seconds / lines * 1e9
     }'
 }
 

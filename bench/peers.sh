@@ -1,12 +1,23 @@
 #!/bin/sh
 # Times what calls are compared with: a model of the server's own design, the C library's readers-writer lock, Rust's, and bare atomic steps. Also times
 # calls through the C interface beside plain mutexes, and mdl_bench if it is built, so that all are of one run.
-# Usage: sh bench/peers.sh
+# Usage: sh bench/peers.sh [MDLSIM]
+# With MDLSIM, the program mdlsim, it also times scripts (bench/lock.sh and bench/replay.sh) and counts the instructions of mdl_bench
+# (bench/instructions.sh).
 # It builds the drivers of bench/peers into bench/peers/out, with gcc and rustc. If one of these is missing, a line says what is left out. The library
-# for C is the one that was built last. If there is none, it is proved and built. All figures are also put into bench/peers/out/rows.txt, as lines
-# ROW, the workload, the threads, the name, and the nanoseconds; and how those of mdl_bench compare with the model's into ratios.txt beside it.
+# for C is the one that was built last. If there is none, it is proved and built.
+#
+# All figures of the run are also put into bench/peers/out/rows.txt: ROW, the workload, the threads, the name, and the nanoseconds, parted by a space. A
+# name is who was timed, what a turn is, and `least` or `median` of some rounds, `mean`, or `count`, where the figure is a number of instructions or
+# allocations. It is made for charts and tables: take `least` for one thread and `median` for several, and compare only rows of one file, as another run
+# may meet a busier machine. Two tables are made of it, and put beside it: ratios.txt compares the calls of mdl_bench with the model's, and goals.txt says
+# which goals are met. Both can be made again, also of a file that was kept:
+#     python3 bench/ratios.py FILE
+#     python3 bench/goals.py FILE
+program=${1:+$(readlink -f "$1")}
 cd "$(dirname "$0")/peers" && mkdir -p out || exit 1
 rows=out/rows.txt
+ours=../../crates/mdl_bench/out/mdl_bench
 : > "$rows"
 
 # Whether a compiler is there. If it isn't, prints what is left out: COMPILER WHAT
@@ -25,19 +36,26 @@ build() {
     gcc -std=c11 -D_POSIX_C_SOURCE=200809L -O2 -Wall -Wextra -Werror -pthread -o "out/$driver" "$driver.c" "$@"
 }
 
-# Runs a program. Prints what it prints, and puts its rows into the file: those of a program that prints NAME OF THREADS WHAT NS, too.
+# Runs a program with these words. Prints what it prints, and puts its rows into the file: those of a program that prints NAME OF THREADS WHAT NS, too.
 play() {
-    "$1" > out/said || exit 1
+    "$@" > out/said || exit 1
     cat out/said
     awk '$1 == "ROW" && NF == 5 { print; next }
         NF == 5 && $3 ~ /^[0-9]+$/ && $5 ~ /^[0-9.]+$/ { print "ROW", $1, $3, $2 "_" $4, $5 }' out/said >> "$rows"
 }
 
+if [ -n "$program" ]; then
+    play sh ../lock.sh "$program"
+    play sh ../replay.sh "$program"
+    if [ -x "$ours" ]; then
+        play sh ../instructions.sh "$ours"
+    fi
+fi
 if has gcc 'the model of the server'; then
     build model && play out/model || exit 1
 fi
-if [ -x ../../crates/mdl_bench/out/mdl_bench ]; then
-    play ../../crates/mdl_bench/out/mdl_bench
+if [ -x "$ours" ]; then
+    play "$ours"
 else
     echo "mdl_bench is left out: it isn't built"
 fi
@@ -50,6 +68,8 @@ fi
 if has rustc 'rust_rwlock and bare_steps'; then
     rustc --edition 2021 -O -o out/rust_peers rust_peers.rs && play out/rust_peers || exit 1
 fi
-if has python3 'the table of ratios'; then
-    python3 ../ratios.py --check && python3 ../ratios.py "$rows" > out/ratios.txt && cat out/ratios.txt || exit 1
+if has python3 'the tables of ratios and goals'; then
+    for table in ratios goals; do
+        python3 ../$table.py --check && python3 ../$table.py "$rows" > out/$table.txt && cat out/$table.txt || exit 1
+    done
 fi

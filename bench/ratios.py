@@ -5,7 +5,8 @@ Usage, at the top of the repository: python3 bench/ratios.py [FILE]     bench/pe
 
 A row is ROW, the workload, the threads, the name, and the nanoseconds. A name is who was timed, what a turn is, and `least` or `median`. On one thread the
 least of all rounds is compared, and on several the median. There is a line for each row of ours and each model that played it. A row of ours that no
-model played is listed, as is one of a model that isn't among ours. The bare steps and probes of mdl_bench aren't calls, and are left out.
+model played is listed, as is one of a model that isn't among ours. The bare steps and probes of mdl_bench aren't calls, and are left out. So are rows whose
+name ends with `mean` or `count`: those of scripts, which are timed at once, and of instructions, where the figure is their number.
 The status is 1 if a line isn't a row, or a row is there twice: then the file isn't of one run."""
 
 import pathlib
@@ -15,6 +16,7 @@ ROWS = "bench/peers/out/rows.txt"
 OURS = ("shared", "space", "context", "book", "graph")
 MODELS = ("lite", "pins", "lite_key", "pins_key", "steps", "pthread_rwlock")
 BARE = ("_steps", "_probe")
+KINDS = ("least", "median", "mean", "count")
 LINE = "{:32} {:7} {:12} {:>12} {:15} {:>12} {:>8}"
 
 # A made-up run, and what is printed of it.
@@ -38,6 +40,8 @@ ROW e_mixed 4 shared_alter_median 6000.0
 ROW e_mixed_8 4 lite_transaction_median 800.0
 ROW grant_all_64 1 book_release_least 1900.0
 ROW a_pair 2 peers_rust_rwlock_median 145.0
+ROW lock_mixed 1 mdlsim_line_of_10000_mean 500.0
+ROW a_pair 1 instructions_known_1_held_0_count 150.0
 """
 TOLD = [
     "a_pair 1 pair 30.0 lite 20.0 1.50",
@@ -49,7 +53,7 @@ TOLD = [
     "e_mixed 4 alter 6000.0 pins 5000.0 1.20",
     "grant_all_64 1 release 1900.0 no model",
     "e_mixed_8 4 transaction missing lite 800.0",
-    "rows of ours: 6, without a model: 2; rows of models that aren't among ours: 1; bare steps and probes: 1, and rows of others: 1",
+    "rows of ours: 6, without a model: 2; rows of models that aren't among ours: 1; bare steps and probes: 1, and rows of others: 3",
 ]
 
 
@@ -67,12 +71,12 @@ def parsed(text):
             row, threads, figure = words[0], int(words[2]), float(words[4])
         except (IndexError, ValueError):
             raise Stale(f"line {number} isn't a row: {line}") from None
-        if row != "ROW" or not name or kind not in ("least", "median"):
+        if row != "ROW" or not name or kind not in KINDS:
             raise Stale(f"line {number} isn't a row: {line}")
         if (words[1], threads, words[3]) in seen:
             raise Stale(f"line {number} is a row that was there already: {line}")
         seen.add((words[1], threads, words[3]))
-        if kind == ("least" if threads == 1 else "median"):
+        if kind in ("least" if threads == 1 else "median", "mean", "count"):
             rows[words[1], threads, name] = figure
     return rows
 

@@ -19,6 +19,17 @@ lives() {
     awk -v LINES="$2" -v SEED=7 -v CHANGES=100 -v OPEN="$1" -f "$folder/replay_scripts.awk"
 }
 
+# One transaction with savepoints of different names: SAVEPOINTS
+savepoints() {
+    awk -v SAVEPOINTS="$1" 'BEGIN {
+        print "1 BEGIN"
+        for (i = 1; i <= SAVEPOINTS; i++) {
+            print "1 SAVEPOINT s" i
+        }
+        print "1 COMMIT"
+    }'
+}
+
 # The script of all_forms.awk: LINES
 forms() {
     awk -v LINES="$1" -v SEED=7 -f "$folder/all_forms.awk"
@@ -47,7 +58,7 @@ measure() {
         seconds = ($1 + $2) / turns
         printf "%-9s %9d lines  %9d bytes  %8.4f s  %9.0f lines/s  %6d KiB, %.1f times the script, %4.1f waits of 100 lines\n",
             workload, lines, bytes, seconds, lines / seconds, memory, memory * 1024 / bytes, waits / lines * 100
-        printf "ROW replay_%s 1 line_of_%d %.0f\n", workload, size, seconds / lines * 1e9
+        printf "ROW replay_%s 1 mdlsim_line_of_%d_mean %.1f\n", workload, size, seconds / lines * 1e9
     }' "$scripts/seconds"
 }
 
@@ -61,3 +72,7 @@ for size in 10000 100000 1000000; do
     forms $size > "$scripts/script"
     measure all_forms $size $turns
 done
+
+# Savepoints of one transaction.
+savepoints 100000 > "$scripts/script"
+measure savepoints 100000 5

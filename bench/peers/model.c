@@ -6,16 +6,20 @@
  * - a_pair: a table is locked in SR and released; of _held_250 the session has SR of 250 other tables, and looks through them. a_request: the same by the
  *   table's key. b_hot: by several threads at one table. c_own: each at a table of its own; of _cpu the processor's time counts.
  * - d_transaction: GLOBAL is locked in IX and three tables in SW, and all are released; on several threads each has tables of its own. Of _context the
- *   tables are found by their keys; of _places they aren't, as in d_transaction itself; of _cpu the processor's time counts.
+ *   tables are found by their keys; of _places they aren't, as in d_transaction itself; of _same all threads have the same; of _cpu the processor's time
+ *   counts.
  * - x_exclusive: a table is locked in X and released. try_now_and_release: the same, while the session has SU of it, and of _held_250 of 249 other tables.
  *   A session of the model knows all places, so _known_250 is as _known_1.
  * - acquire_and_release: a_request of a session that has SR of so many other tables. lock_and_go_back: a hundred tables are locked and released.
  * - resolve: a lock is found by its key, and no more.
  * - f_grant: X is released for which 8 or 63 sessions wait in SR. As in mdl_bench no thread sleeps: each waiter is told, and the condition of its slot is
- *   signalled. Of _threads 8 or 63 threads do sleep, and each wants X: it is granted to one after another, from the first release to the last.
+ *   signalled. f_pass: they wait for X, and each gets it from the one before and releases it, from the first release to the last.
+ * - x_passed: 8 or 63 threads lock the same table in X and release it, again and again. Those that wait sleep.
+ * - end_10000: 10,000 tickets of a transaction, 40 of each of 250 tables, are released.
  * - h_again: a lock of a session's own is requested again, beside 0, 9 or 999 others that it has for another duration.
  * - e_mixed: transactions of four threads with the same three tables, and each thread's every ten thousandth is preceded by an ALTER: X of the last table.
- *   `alter` is the mean time of an ALTER. Of _without there is none. Of _8 each transaction has three of eight tables, and an ALTER locks one of the eight.
+ *   `alter` is the mean time of an ALTER. Of _without there is none. Of _8 each transaction has three of eight tables, others after 500 turns, and an ALTER
+ *   locks the last of the three.
  *
  * Usage: model          times all rows
  *        model quick    makes a hundredth of the turns once, and prints nothing */
@@ -24,7 +28,7 @@
 
 #include <string.h>
 
-enum { TABLES = 1001, LAST = TABLES - 1, SESSIONS = 64, HELD = 250, GO_BACK = 100, TURNS_AN_ALTER = 10000, MIXED_TABLES = 8, OWN_FROM = 100 };
+enum { TABLES = 1001, LAST = TABLES - 1, SESSIONS = 64, HELD = 250, GO_BACK = 100, TURNS_AN_ALTER = 10000, MIXED_TABLES = 8, A_BLOCK = 500, OWN_FROM = 100 };
 
 static struct server_session sessions[SESSIONS];
 static char keys[TABLES + 1][16];
@@ -228,16 +232,16 @@ static double mixed(unsigned thread, unsigned turns, int look)
     return spent / alters * turns;
 }
 
-/* The same with three of eight tables, and each ALTER at another one of the eight. */
+/* The same with three of eight tables, others after each block of turns. */
 static double mixed_over_8(unsigned thread, unsigned turns, int look)
 {
     double spent = 0;
     unsigned alters = 0;
     for (unsigned turn = 0; turn < turns; turn += 1) {
-        unsigned first = turn % (MIXED_TABLES - 2);
+        unsigned first = (turn / A_BLOCK + thread + 1) % (MIXED_TABLES - 2);
         const unsigned tables[] = {table(first), table(first + 1), table(first + 2)};
         if (turn % TURNS_AN_ALTER == 0) {
-            spent += alter(&sessions[thread], look, table((3 * alters + thread) % MIXED_TABLES));
+            spent += alter(&sessions[thread], look, tables[2]);
             alters += 1;
         }
         transact(&sessions[thread], look, tables);
@@ -274,57 +278,40 @@ static double grants(unsigned thread, unsigned turns, int waiters)
     return spent;
 }
 
-/* Threads that wait, each with a session. */
-static struct {
-    pthread_barrier_t gate; /* before each turn and after it */
-    unsigned waiters, turns;
-    double ended; /* when the last waiter released the lock */
-} queue;
-
-static void *wait_in_queue(void *argument)
+/* Times chains of releases of X, each of which grants it to the next session, from the first release to the last. */
+static double passes(unsigned thread, unsigned turns, int waiters)
 {
-    struct server_session *session = argument;
-    for (unsigned turn = 0; turn < queue.turns; turn += 1) {
-        pthread_barrier_wait(&queue.gate);
-        server_release(server_end_wait(session));
-        if (session == &sessions[queue.waiters])
-            queue.ended = now();
-        pthread_barrier_wait(&queue.gate);
-    }
-    return NULL;
-}
-
-/* Times one turn, from the first release to the last one. Before it the threads get the time to fall asleep. */
-static double drain(void)
-{
-    static const struct timespec nap = {0, 1000000};
-    struct server_ticket *ticket = fill(queue.waiters, X);
-    pthread_barrier_wait(&queue.gate);
-    nanosleep(&nap, NULL);
-    double began = now();
-    server_release(ticket);
-    pthread_barrier_wait(&queue.gate);
-    return queue.ended - began;
-}
-
-static double thread_grants(unsigned thread, unsigned turns, int waiters)
-{
-    pthread_t threads[SESSIONS];
     double spent = 0;
     (void)thread;
-    queue.waiters = (unsigned)waiters;
-    queue.turns = turns;
-    if (pthread_barrier_init(&queue.gate, NULL, queue.waiters + 1) != 0)
-        fail("a barrier can't be made");
-    for (unsigned i = 1; i <= queue.waiters; i += 1)
-        if (pthread_create(&threads[i], NULL, wait_in_queue, &sessions[i]) != 0)
-            fail("a thread can't be started");
-    for (unsigned turn = 0; turn < turns; turn += 1)
-        spent += drain();
-    for (unsigned i = 1; i <= queue.waiters; i += 1)
-        if (pthread_join(threads[i], NULL) != 0)
-            fail("a thread can't be joined");
-    pthread_barrier_destroy(&queue.gate);
+    for (unsigned turn = 0; turn < turns; turn += 1) {
+        struct server_ticket *ticket = fill((unsigned)waiters, X);
+        double began = now();
+        server_release(ticket);
+        for (int i = 1; i <= waiters; i += 1)
+            server_release(server_end_wait(&sessions[i]));
+        spent += now() - began;
+    }
+    return spent;
+}
+
+/* ---- many tickets */
+
+/* Times ends of transactions with so many tickets, which are spread over tables. */
+static double ends(unsigned thread, unsigned turns, int tickets)
+{
+    struct server_session *session = &sessions[thread];
+    double spent = 0;
+    for (unsigned turn = 0; turn < turns; turn += 1) {
+        for (unsigned i = 0; i < HELD; i += 1) {
+            struct server_wish wish = wish_of(table(i), SR, TRANSACTION);
+            struct server_ticket *ticket = server_acquire(session, LITE, &wish);
+            for (unsigned more = (unsigned)tickets / HELD; more > 1; more -= 1)
+                server_clone(ticket, TRANSACTION);
+        }
+        double began = now();
+        server_release_all(session, TRANSACTION);
+        spent += now() - began;
+    }
     return spent;
 }
 
@@ -393,8 +380,20 @@ static const struct figure exclusive_row[] = {
 static const struct figure grant_row[] = {
     COUNTED(BY_TURNS, 1, "f_grant_8", "lite_release", 500, grants, 8),
     COUNTED(BY_TURNS, 1, "f_grant_63", "lite_release", 500, grants, 63),
-    COUNTED(BY_TURNS, 1, "f_grant_8_threads", "lite_release", 20, thread_grants, 8),
-    COUNTED(BY_TURNS, 1, "f_grant_63_threads", "lite_release", 20, thread_grants, 63),
+    COUNTED(BY_TURNS, 1, "f_pass_8", "lite_chain", 500, passes, 8),
+    COUNTED(BY_TURNS, 1, "f_pass_63", "lite_chain", 100, passes, 63),
+};
+
+static const struct figure passed_row[] = {
+    AMONG(8, "x_passed", "lite_pair", 1000, exclusive_pairs, LITE),
+    AMONG(8, "x_passed", "pins_pair", 1000, exclusive_pairs, PINNED),
+    AMONG(63, "x_passed", "lite_pair", 100, exclusive_pairs, LITE),
+    AMONG(63, "x_passed", "pins_pair", 100, exclusive_pairs, PINNED),
+};
+
+static const struct figure end_row[] = {
+    COUNTED(BY_TURNS, 1, "end_10000_context", "lite_key_end", 3, ends, 10000),
+    COUNTED(BY_TURNS, 1, "end_10000_session", "lite_end", 3, ends, 10000),
 };
 
 static const struct figure again_row[] = {
@@ -451,6 +450,18 @@ static const struct figure crowd_row[] = {
     AMONG(4, "d_transaction", "pins_transaction", 20000, transactions, PINNED),
     AMONG(4, "d_transaction_context", "lite_key_transaction", 20000, transactions, LITE_KEY),
     AMONG(4, "d_transaction_context", "pins_key_transaction", 20000, transactions, PINNED_KEY),
+    AMONG(4, "d_transaction_places", "lite_transaction", 20000, transactions, LITE),
+    AMONG(4, "d_transaction_places", "pins_transaction", 20000, transactions, PINNED),
+};
+
+static const struct figure same_row[] = {
+    AMONG(4, "d_transaction_same_context", "lite_key_transaction", 20000, same_transactions, LITE_KEY),
+    AMONG(4, "d_transaction_same_context", "pins_key_transaction", 20000, same_transactions, PINNED_KEY),
+    AMONG(4, "d_transaction_same_places", "lite_transaction", 20000, same_transactions, LITE),
+    AMONG(4, "d_transaction_same_places", "pins_transaction", 20000, same_transactions, PINNED),
+};
+
+static const struct figure crowd_processor_row[] = {
     COUNTED(BY_PROCESSOR, 1, "d_transaction_cpu", "lite_transaction", 20000, transactions, LITE),
     COUNTED(BY_PROCESSOR, 1, "d_transaction_cpu", "pins_transaction", 20000, transactions, PINNED),
     COUNTED(BY_PROCESSOR, 4, "d_transaction_cpu", "lite_transaction", 20000, transactions, LITE),
@@ -481,7 +492,8 @@ static const struct {
     unsigned count;
 } rows[] = {
     ROW(pair_row), ROW(transaction_row), ROW(exclusive_row), ROW(grant_row), ROW(again_row), ROW(held_row), ROW(look_up_row),
-    ROW(hot_row), ROW(own_row), ROW(own_processor_row), ROW(crowd_row), ROW(mixed_row), ROW(mixed_over_8_row),
+    ROW(end_row), ROW(hot_row), ROW(own_row), ROW(own_processor_row), ROW(crowd_row), ROW(crowd_processor_row), ROW(same_row), ROW(mixed_row),
+    ROW(mixed_over_8_row), ROW(passed_row),
 };
 
 /* Makes GLOBAL's lock and those of all tables, and opens all sessions. */

@@ -8,7 +8,7 @@
 #include <stdatomic.h>
 #include <stdbool.h>
 
-enum { ROW_ROUNDS = 7, MOST_FIGURES = 8, QUICK = 100 };
+enum { ROW_ROUNDS = 7, MOST_FIGURES = 8, MOST_SHARES = 64, QUICK = 100 };
 
 /* What counts: of the thread that took longest the time by the clock, or its processor time; or what the turns themselves say, on the mean of all threads. */
 enum counted { BY_CLOCK, BY_PROCESSOR, BY_TURNS };
@@ -70,9 +70,11 @@ static inline double told_of(const struct figure *figure, const struct share *sh
 /* A round: the nanoseconds of a turn. */
 static inline double round_of(const struct figure *figure, unsigned turns)
 {
-    pthread_t others[MOST_THREADS];
-    struct share shares[MOST_THREADS];
+    pthread_t others[MOST_SHARES];
+    struct share shares[MOST_SHARES];
     _Atomic unsigned here = 0;
+    if (figure->threads > MOST_SHARES)
+        fail("a round has too many threads");
     if (figure->prepare != NULL)
         figure->prepare(figure->how);
     for (unsigned i = 0; i < figure->threads; i += 1)

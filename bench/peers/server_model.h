@@ -413,6 +413,18 @@ static inline struct server_ticket *server_acquire(struct server_session *sessio
     return ticket != NULL ? ticket : server_end_wait(session);
 }
 
+/* Grants another ticket of a lock, in the mode of one that is counted. There too the clone of such a ticket is counted. */
+static inline void server_clone(const struct server_ticket *ticket, enum server_duration duration)
+{
+    struct server_ticket *clone = malloc(sizeof *clone);
+    if (clone == NULL)
+        fail("memory ran out");
+    *clone = *ticket;
+    if (!ticket->is_counted || !count_in(ticket->lock, ticket->lock->rules->weight[ticket->mode]))
+        fail("the model clones only tickets that are counted");
+    keep(clone->session, duration, clone);
+}
+
 /* Takes a ticket out of the lock's word. If a list isn't empty, somebody may wait. */
 static inline void count_out(struct server_lock *lock, uint64_t weight)
 {

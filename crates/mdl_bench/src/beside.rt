@@ -22,6 +22,8 @@ pub enum Part {
     Transaction,
     /// The same. Before the first, and every ten thousandth after it, an ALTER locks the last table in X, and releases it.
     TransactionOrAlter,
+    /// X of the last table is gained, and released.
+    Exclusive,
 }
 
 /// The number of turns for each ALTER.
@@ -48,8 +50,8 @@ pub fn time_part<R: Wait + Clock + CpuClock>(
     Ok(Lap { alters, ..lap })
 }
 
-// Makes `turns` turns. Returns how long all ALTERs among them took.
-fn turn_often<R: Wait + Clock>(
+/// Makes `turns` turns. Returns how long all ALTERs among them took.
+pub fn turn_often<R: Wait + Clock>(
     rt: &R,
     session: &mut Session<&R>,
     places: Places,
@@ -72,6 +74,7 @@ fn turn_often<R: Wait + Clock>(
                 }
                 transaction(rt, session, places)?;
             }
+            Part::Exclusive => exclude(rt, session, places)?,
         }
     }
     Ok(alters)
@@ -104,8 +107,17 @@ fn transaction<R: Wait>(rt: &R, session: &mut Session<&R>, places: Places) -> Re
     give_up(session, places.global, a)
 }
 
-// Locks the last table in X, and releases it. Returns how long that took.
-fn alter<R: Wait + Clock>(
+// Locks the last table in X, and releases it.
+fn exclude<R: Wait>(rt: &R, session: &mut Session<&R>, places: Places) -> Result<(), Failure>
+    requires third { is_known places.third (data_of session.old).known ≡ true }
+    ensures known { (data_of session.new).known ≡ (data_of session.old).known }
+{
+    let id = take(rt, session, places.third, Mode::X)?;
+    give_up(session, places.third, id)
+}
+
+/// Locks the last table in X, and releases it. Returns how long that took.
+pub fn alter<R: Wait + Clock>(
     rt: &R,
     session: &mut Session<&R>,
     places: Places,
@@ -114,7 +126,6 @@ fn alter<R: Wait + Clock>(
     ensures known { (data_of session.new).known ≡ (data_of session.old).known }
 {
     let began = Instant::now(rt)?;
-    let id = take(rt, session, places.third, Mode::X)?;
-    give_up(session, places.third, id)?;
+    exclude(rt, session, places)?;
     Ok(began.elapsed(rt)?)
 }

@@ -4,7 +4,7 @@ ghost use Rattle.mdl_context.specs.Contexts.{Attends};
 ghost use Rattle.mdl_shared.specs.Passes.{manager_table, pass_table};
 
 use crate::failure::Failure;
-use crate::lap::spent_since;
+use crate::lap::{Lap, Race, Start};
 use crate::seat::close;
 use crate::table::table;
 use mdl_calls::{LockSpace, Place, TicketId};
@@ -15,7 +15,7 @@ use mdl_space::CoreSpace;
 use std::alloc::Global;
 use std::sync::Wait;
 use std::time;
-use std::time::{Clock, Instant};
+use std::time::{Clock, CpuClock, Instant};
 
 // The number of tables over which a session's other tickets are spread.
 const SPREAD: u16 = 250;
@@ -24,6 +24,7 @@ const SPREAD: u16 = 250;
 const LOCKED: u16 = 100;
 
 /// What is done in a turn through a context that knows the keys.
+#[derive(Clone, Copy)]
 pub enum Wish {
     /// A table's lock is acquired to read, and released.
     Request,
@@ -44,76 +45,185 @@ struct Names<'a> {
     places: &'a [Place],
 }
 
-/// Times `turns` turns of a session of a new table. The session holds `tickets` tickets.
-pub fn time_shared<R: Wait + Clock>(
-    rt: &R,
-    alloc: Global,
-    wish: &Wish,
-    tickets: u16,
-    turns: u32,
-) -> Result<time::Duration, Failure> {
-    let (manager, mut passes) = Manager::new(alloc, MOST_PLACES, MOST_SESSIONS)?;
-    let pass = passes.remove(0);
-    time_pass(rt, rt, alloc, &manager, pass, wish, tickets, turns)
+/// The lock space of a session.
+pub enum Home {
+    /// A new table that threads share.
+    Shared,
+    /// A new space of one thread, whose only session it is.
+    Alone,
 }
 
-// The same for the session of a pass, which waits with the handle `wait`.
-fn time_pass<R: Wait + Clock, W: Wait + Drop>(
+/// What is timed of a session's context.
+#[derive(Clone, Copy)]
+pub enum Plan {
+    /// Turns of a wish, while the session holds a number of tickets. A transaction has three tables from the index `from` on.
+    Turns { wish: Wish, tickets: u16, from: u16 },
+    /// The ends of transactions with a number of tickets, which the session acquires before.
+    Ends(u16),
+}
+
+/// Times `turns` turns of one session.
+pub fn time_context<R: Wait + Clock + CpuClock>(
+    rt: &R,
+    alloc: Global,
+    home: &Home,
+    plan: Plan,
+    turns: u32,
+) -> Result<time::Duration, Failure> {
+    let race = Race::new(alloc, 1, turns)?;
+    let lap = match home {
+        Home::Shared => time_shared(rt, alloc, plan, &race),
+        Home::Alone => time_alone(rt, alloc, plan, &race),
+    };
+    drop(race);
+    Ok(lap?.clock)
+}
+
+// The same for a session of a new table.
+fn time_shared<R: Wait + Clock + CpuClock>(
+    rt: &R,
+    alloc: Global,
+    plan: Plan,
+    race: &Race,
+) -> Result<Lap, Failure> {
+    let (manager, mut passes) = Manager::new(alloc, MOST_PLACES, MOST_SESSIONS)?;
+    let pass = passes.remove(0);
+    time_pass(rt, rt, alloc, &manager, pass, plan, race)
+}
+
+/// The same for the session of a pass, which waits with the handle `wait`.
+pub fn time_pass<R: Wait + Clock + CpuClock, W: Wait + Drop>(
     rt: &R,
     wait: W,
     alloc: Global,
     manager: &Manager,
     pass: Pass,
-    wish: &Wish,
-    tickets: u16,
-    turns: u32,
-) -> Result<time::Duration, Failure>
+    plan: Plan,
+    race: &Race,
+) -> Result<Lap, Failure>
     requires { pass_table pass ≡ manager_table manager.now }
 {
     let mut session = Session::open(wait, manager, pass);
     let mut context = Context::new(alloc, session.number());
-    let spent = timed(rt, alloc, &mut session, &mut context, wish, tickets, turns);
+    let lap = timed(rt, alloc, &mut session, &mut context, plan, race);
     close(rt, session);
-    spent
+    lap
 }
 
-/// The same for the only session of a new space of one thread.
-pub fn time_alone<R: Clock>(
+// The same for the only session of a new space of one thread.
+fn time_alone<R: Clock + CpuClock>(
     rt: &R,
     alloc: Global,
-    wish: &Wish,
-    tickets: u16,
-    turns: u32,
-) -> Result<time::Duration, Failure> {
+    plan: Plan,
+    race: &Race,
+) -> Result<Lap, Failure> {
     match CoreSpace::new(alloc, MOST_PLACES, 1) {
         Ok(mut space) => {
             let mut context = Context::new(alloc, 1);
-            let spent = timed(rt, alloc, &mut space, &mut context, wish, tickets, turns);
+            let lap = timed(rt, alloc, &mut space, &mut context, plan, race);
             drop(context);
             drop(space);
-            spent
+            lap
         }
         Err(_) => Err(Failure::Unmade),
     }
 }
 
 // The same for a session that has nothing yet.
-fn timed<R: Clock, S: LockSpace>(
+fn timed<R: Clock + CpuClock, S: LockSpace>(
+    rt: &R,
+    alloc: Global,
+    space: &mut S,
+    context: &mut Context<S>,
+    plan: Plan,
+    race: &Race,
+) -> Result<Lap, Failure>
+    requires { Attends S.LockSpace space.old context.old }
+{
+    match plan {
+        Plan::Turns {
+            wish,
+            tickets,
+            from,
+        } => {
+            stock_up(alloc, space, context, tickets)?;
+            let next = u64::from(tickets).wrapping_add(1);
+            time_turns(rt, alloc, space, context, &wish, from, next, race)
+        }
+        Plan::Ends(tickets) => time_ends(rt, alloc, space, context, tickets, race),
+    }
+}
+
+// Times the ends of transactions with `tickets` tickets.
+fn time_ends<R: Clock, S: LockSpace>(
+    rt: &R,
+    alloc: Global,
+    space: &mut S,
+    context: &mut Context<S>,
+    tickets: u16,
+    race: &Race,
+) -> Result<Lap, Failure>
+    requires { Attends S.LockSpace space.old context.old }
+{
+    let mut spent = time::Duration::ZERO;
+    for _turn in 0..race.turns {
+        begin(alloc, space, context, tickets)?;
+        spent = spent.saturating_add(time_end(rt, space, context)?);
+    }
+    Ok(Lap::by_clock(spent))
+}
+
+// Acquires `tickets` tickets for the transaction. At first they are explicit, since otherwise one of the same table would be used again.
+fn begin<S: LockSpace>(
+    alloc: Global,
+    space: &mut S,
+    context: &mut Context<S>,
+    tickets: u16,
+) -> Result<(), Failure>
+    requires { Attends S.LockSpace space.old context.old }
+    ensures { Attends S.LockSpace space.new context.new }
+{
+    stock_up(alloc, space, context, tickets)?;
+    match context.make_transactional() {
+        Ok(()) => Ok(()),
+        Err(_) => Err(Failure::Unexpected),
+    }
+}
+
+// Ends the transaction. Returns how long that took.
+fn time_end<R: Clock, S: LockSpace>(
+    rt: &R,
+    space: &mut S,
+    context: &mut Context<S>,
+) -> Result<time::Duration, Failure>
+    requires { Attends S.LockSpace space.old context.old }
+    ensures { Attends S.LockSpace space.new context.new }
+{
+    let began = Instant::now(rt)?;
+    let ended = context.end_transaction(space);
+    let spent = began.elapsed(rt)?;
+    match ended {
+        Ok(()) => Ok(spent),
+        Err(_) => Err(Failure::Unexpected),
+    }
+}
+
+// Times turns of a wish, of a session that has its tickets. The next one gets the number `next`.
+fn time_turns<R: Clock + CpuClock, S: LockSpace>(
     rt: &R,
     alloc: Global,
     space: &mut S,
     context: &mut Context<S>,
     wish: &Wish,
-    tickets: u16,
-    turns: u32,
-) -> Result<time::Duration, Failure>
+    from: u16,
+    next: TicketId,
+    race: &Race,
+) -> Result<Lap, Failure>
     requires { Attends S.LockSpace space.old context.old }
 {
-    stock_up(alloc, space, context, tickets)?;
-    let next = u64::from(tickets).wrapping_add(1);
     let mut keys = Vec::new(alloc);
     let mut places = Vec::new(alloc);
-    let spent = match list_keys(alloc, wish, &mut keys) {
+    let lap = match list_keys(alloc, wish, from, &mut keys) {
         Ok(()) => {
             let known = list_places(space, context, &keys, &mut places);
             let names = Names {
@@ -121,7 +231,7 @@ fn timed<R: Clock, S: LockSpace>(
                 places: &places,
             };
             match known {
-                Ok(()) => time_wishes(rt, space, context, wish, names, next, turns),
+                Ok(()) => time_wishes(rt, space, context, wish, names, next, race),
                 Err(why) => Err(why),
             }
         }
@@ -129,27 +239,27 @@ fn timed<R: Clock, S: LockSpace>(
     };
     drop(places);
     drop(keys);
-    spent
+    lap
 }
 
-// The same for a session that has its tickets and knows its keys. The first turn isn't timed.
-fn time_wishes<R: Clock, S: LockSpace>(
+// The same for a session that knows the keys, once all threads are ready. The first turn isn't timed.
+fn time_wishes<R: Clock + CpuClock, S: LockSpace>(
     rt: &R,
     space: &mut S,
     context: &mut Context<S>,
     wish: &Wish,
     names: Names<'_>,
     next: TicketId,
-    turns: u32,
-) -> Result<time::Duration, Failure>
+    race: &Race,
+) -> Result<Lap, Failure>
     requires { Attends S.LockSpace space.old context.old }
 {
     if wish_often(space, context, wish, names, next, 1) == 0 {
         return Err(Failure::Unexpected);
     }
-    let began = Instant::now(rt)?;
-    let made = wish_often(space, context, wish, names, next, turns);
-    spent_since(rt, began, made, turns)
+    let start = Start::of(rt, race)?;
+    let made = wish_often(space, context, wish, names, next, race.turns);
+    start.lap(rt, race, made)
 }
 
 // Acquires `tickets` explicit tickets, spread over tables.
@@ -173,12 +283,12 @@ fn stock_up<S: LockSpace>(
     Ok(())
 }
 
-// Adds the keys of a wish.
-fn list_keys(alloc: Global, wish: &Wish, keys: &mut Vec<Key>) -> Result<(), Failure> {
+// Adds the keys of a wish. A transaction has three tables from the index `from` on.
+fn list_keys(alloc: Global, wish: &Wish, from: u16, keys: &mut Vec<Key>) -> Result<(), Failure> {
     match wish {
         Wish::Request | Wish::AskAgain => list_tables(alloc, keys, SPREAD, 1),
         Wish::Transact | Wish::TransactAt => match keys.push(Key::global(alloc)) {
-            Ok(()) => list_tables(alloc, keys, 0, 3),
+            Ok(()) => list_tables(alloc, keys, from, 3),
             Err(_) => Err(Failure::Memory),
         },
         Wish::GoBack => list_tables(alloc, keys, 0, LOCKED),

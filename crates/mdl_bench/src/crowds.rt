@@ -20,6 +20,8 @@ const SEARCHED: u16 = 64;
 pub enum Crowd {
     /// A session releases X, and this number of sessions wait to read.
     Grant(u16),
+    /// A session releases X, and this number of sessions wait for it. Each gets it from the one before, and releases it.
+    Pass(u16),
     /// A session polls its wait.
     Poll,
     /// The first session of a chain looks for a deadlock. In it this number of sessions wait, each for the next one's lock.
@@ -32,7 +34,7 @@ impl Crowd {
     // Returns the number of places of the table, and the number of its sessions.
     fn size(&self) -> (u16, u16) {
         match self {
-            Crowd::Grant(waiters) => (1, waiters.saturating_add(1)),
+            Crowd::Grant(waiters) | Crowd::Pass(waiters) => (1, waiters.saturating_add(1)),
             Crowd::Poll => (1, 2),
             Crowd::Search(waiters) => (SEARCHED, waiters.saturating_add(1)),
             Crowd::LookUp(_) => (MOST_PLACES, 64),
@@ -53,6 +55,7 @@ impl Crowd {
         let first = &mut first.session;
         match self {
             Crowd::Grant(_) => time_grants(rt, alloc, first, others, turns),
+            Crowd::Pass(_) => time_passes(rt, alloc, first, others, turns),
             Crowd::Poll => time_polls(rt, alloc, first, others, turns),
             Crowd::Search(_) => time_searches(rt, alloc, first, others, turns),
             Crowd::LookUp(keys) => time_look_ups(rt, alloc, first, others, *keys, turns),
@@ -88,11 +91,41 @@ fn time_grants<R: Wait + Clock>(
     let place = meet(alloc, first, others)?;
     let mut spent = Duration::ZERO;
     for _turn in 0..turns {
-        let id = fill(first, others, place)?;
+        let id = fill(first, others, place, Mode::SR)?;
         spent = spent.saturating_add(time_release(rt, first, id)?);
         empty(others)?;
     }
     Ok(spent)
+}
+
+// Times `turns` chains of releases of X, each of which grants it to the next session.
+fn time_passes<R: Wait + Clock>(
+    rt: &R,
+    alloc: Global,
+    first: &mut Session<&R>,
+    others: &mut [Guest<'_, R>],
+    turns: u32,
+) -> Result<Duration, Failure> {
+    let place = meet(alloc, first, others)?;
+    let mut spent = Duration::ZERO;
+    for _turn in 0..turns {
+        let id = fill(first, others, place, Mode::X)?;
+        spent = spent.saturating_add(time_chain(rt, first, others, id)?);
+    }
+    Ok(spent)
+}
+
+// Returns how long it took until the first session and all others, one after another, had released the lock.
+fn time_chain<R: Wait + Clock>(
+    rt: &R,
+    first: &mut Session<&R>,
+    others: &mut [Guest<'_, R>],
+    id: TicketId,
+) -> Result<Duration, Failure> {
+    let began = Instant::now(rt)?;
+    first.release(id)?;
+    empty(others)?;
+    Ok(began.elapsed(rt)?)
 }
 
 // Has all sessions look up the same key. Returns its place.
@@ -107,15 +140,16 @@ fn meet<R: Wait>(
     look_table_up(alloc, first, 0, 0)
 }
 
-// The first takes the lock in X, and all others begin to wait for it.
+// The first takes the lock in X, and all others begin to wait for it in a mode.
 fn fill<R: Wait>(
     first: &mut Session<&R>,
     others: &mut [Guest<'_, R>],
     place: Place,
+    mode: Mode,
 ) -> Result<TicketId, Failure> {
     let id = take(first, place, Mode::X)?;
     for other in others {
-        wait_for(&mut other.session, place)?;
+        wait_for(&mut other.session, place, mode)?;
     }
     Ok(id)
 }
@@ -141,9 +175,9 @@ fn time_release<R: Wait + Clock>(
     Ok(spent.saturating_sub(idle))
 }
 
-// Begins to wait to read, for a lock that isn't free.
-fn wait_for<R: Wait>(session: &mut Session<&R>, place: Place) -> Result<(), Failure> {
-    match session.begin_wait(place, Mode::SR)? {
+// Begins to wait for a lock that isn't free.
+fn wait_for<R: Wait>(session: &mut Session<&R>, place: Place, mode: Mode) -> Result<(), Failure> {
+    match session.begin_wait(place, mode)? {
         Begun::Waiting(_) => Ok(()),
         Begun::Granted(_) => Err(Failure::Unexpected),
     }
@@ -166,7 +200,7 @@ fn time_polls<R: Wait + Clock>(
     turns: u32,
 ) -> Result<Duration, Failure> {
     let place = meet(alloc, first, others)?;
-    fill(first, others, place)?;
+    fill(first, others, place, Mode::SR)?;
     let Some(second) = others.first_mut() else {
         return Err(Failure::Unexpected);
     };
@@ -233,7 +267,7 @@ fn take_own<R: Wait>(alloc: Global, session: &mut Session<&R>) -> Result<(), Fai
 fn wait_for_next<R: Wait>(alloc: Global, session: &mut Session<&R>) -> Result<(), Failure> {
     let next = session.number();
     let place = look_table_up(alloc, session, next, 0)?;
-    wait_for(session, place)
+    wait_for(session, place, Mode::SR)
 }
 
 // Looks `turns` times for a deadlock. Returns how often there was none.

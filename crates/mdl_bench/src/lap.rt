@@ -58,6 +58,15 @@ impl Lap {
         alters: Duration::ZERO,
     };
 
+    /// Returns the lap of a thread that tells only its time by the clock.
+    pub fn by_clock(clock: Duration) -> Lap {
+        Lap {
+            clock,
+            processor: Duration::ZERO,
+            alters: Duration::ZERO,
+        }
+    }
+
     /// Returns the lap of two threads: the longer time of each kind, and the sum of their ALTERs.
     pub fn beside(self, other: Lap) -> Lap {
         Lap {

@@ -1,7 +1,7 @@
 //! `mdl_bench` times calls: of sessions of the table that threads share (alone, through a context, on several threads, and compared with the
 //! bare atomic steps of the same work), of a space of one thread, and of one lock's book; and searches for deadlocks.
 //!
-//! A row is a group of figures. Each is timed once in each of ten rounds. For each figure the program prints two lines for other programs: the
+//! A row is a group of figures. Each is timed once in each of seven rounds. For each figure the program prints two lines for other programs: the
 //! time of a turn in the fastest round, and in the median one. For readers it prints how figures compare. With the argument `quick` it makes one
 //! turn of each, which shows that all of them work, and prints nothing. With `pairs TURNS KNOWN HELD` it makes only TURNS pairs of calls, by a
 //! session that knows KNOWN places and holds HELD tickets. With `reads TURNS KEPT` it makes only TURNS reads, through a cache that keeps KEPT
@@ -15,6 +15,8 @@ mod crowds;
 mod failure;
 mod guests;
 mod lap;
+mod many;
+mod mixed;
 mod patient;
 mod places;
 mod play;
@@ -26,6 +28,7 @@ mod seat;
 mod session;
 mod space;
 mod table;
+mod through;
 mod words;
 mod work;
 
@@ -33,7 +36,7 @@ use failure::Failure;
 use play::{Task, time_task};
 use reads::Reading;
 use row::time_rows;
-use rows::ROWS;
+use rows::{LOWER, ONE_THREAD, THREADS};
 use session::Stock;
 use std::alloc::Global;
 use std::process::ExitCode;
@@ -76,13 +79,39 @@ fn answer<R: Threads + Wait + Sync + Clock + CpuClock + Print>(
     Ok(())
 }
 
-// Times all rows.
+// Times all rows. Each group of them has a function of its own: in one the prover would have too many constants at once.
 fn time_all<R: Threads + Wait + Sync + Clock + CpuClock + Print>(
     rt: &R,
     alloc: Global,
     quick: bool,
 ) -> Result<(), Failure> {
-    time_rows(rt, alloc, quick, ROWS)
+    time_one_thread(rt, alloc, quick)?;
+    time_threads(rt, alloc, quick)?;
+    time_lower(rt, alloc, quick)
+}
+
+fn time_one_thread<R: Threads + Wait + Sync + Clock + CpuClock + Print>(
+    rt: &R,
+    alloc: Global,
+    quick: bool,
+) -> Result<(), Failure> {
+    time_rows(rt, alloc, quick, ONE_THREAD)
+}
+
+fn time_threads<R: Threads + Wait + Sync + Clock + CpuClock + Print>(
+    rt: &R,
+    alloc: Global,
+    quick: bool,
+) -> Result<(), Failure> {
+    time_rows(rt, alloc, quick, THREADS)
+}
+
+fn time_lower<R: Threads + Wait + Sync + Clock + CpuClock + Print>(
+    rt: &R,
+    alloc: Global,
+    quick: bool,
+) -> Result<(), Failure> {
+    time_rows(rt, alloc, quick, LOWER)
 }
 
 // What the command line asks for: a word, and the numbers after it.

@@ -3,6 +3,8 @@ use crate::beside::{Part, time_part};
 use crate::failure::Failure;
 use crate::guests::{Guest, open_all};
 use crate::lap::{Lap, Race, Start};
+use crate::many::{Many, time_many};
+use crate::mixed::time_mixed;
 use crate::reads::{Reading, create_all, time_reads};
 use crate::session::{Call, Stock, time_calls, time_pairs, time_transactions};
 use crate::words::Step;
@@ -27,8 +29,12 @@ pub enum Task {
     Transactions,
     /// Transactions and other parts, beside other sessions. If the flag is set each session has tables of its own, otherwise all have the same.
     Beside(Part, bool),
+    /// Transactions with three of eight tables, and ALTERs at times, beside other sessions.
+    Mixed,
     /// Reads of the last of this number of tables, each with this number of columns.
     Reads(Reading, u16, u16),
+    /// What a session with this number of tickets does.
+    Burdened(Many, u16),
 }
 
 impl Task {
@@ -54,9 +60,11 @@ impl Task {
             Task::Calls(call, stock) => time_calls(rt, alloc, session, call, *stock, race),
             Task::Transactions => time_transactions(rt, alloc, session, race),
             Task::Beside(part, own) => time_part(rt, alloc, session, part, *own, race),
+            Task::Mixed => time_mixed(rt, alloc, session, race),
             Task::Reads(reading, tables, _) => {
                 time_reads(rt, alloc, session, reading, *tables, race)
             }
+            Task::Burdened(many, tickets) => time_many(rt, alloc, session, many, *tickets, race),
         }
     }
 }

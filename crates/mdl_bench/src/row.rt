@@ -6,8 +6,8 @@ use std::sync::Wait;
 use std::thread::Threads;
 use std::time::{Clock, CpuClock, Duration};
 
-// The number of rounds. The least and the median time are printed. The median is the upper of the two in the middle.
-const ROUNDS: usize = 10;
+// The number of rounds. The least and the median time are printed.
+const ROUNDS: usize = 7;
 
 /// What a turn is: what its calls are of (`shared` is the table that threads share), the number of threads, its name, and the number of turns in
 /// a round. There are so few that a round takes a millisecond or two, and often ends before other work gets the processor.

@@ -3,8 +3,8 @@ use Rattle.std.proofs.Common.{refl, arith}
 use Rattle.std.proofs.lemmas.List.Elements.{All-nil}
 use Rattle.mdl_bench.proofs.contexts.time_alone.Goals as goal
 
-pub timed-spent-requires : goal.timed-spent-requires
-timed-spent-requires g c =
+pub timed-lap-requires : goal.timed-lap-requires
+timed-lap-requires g c =
     rw c.new-context.ensures (record {
       speaks = c.in-Ok.ensures.speaks 1 (omega arith) (omega arith);
       serves = rw c.in-Ok.ensures.made (record { held = refl; wait = refl });
