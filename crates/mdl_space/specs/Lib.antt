@@ -17,6 +17,7 @@ pub use Rattle.mdl_system.specs.Deadlocks
 pub use Rattle.mdl_system.specs.Events
 pub use Rattle.mdl_system.specs.Strength
 pub use Rattle.mdl_system.specs.Systems
+pub mod Blocking
 pub mod CoreMembers
 pub mod KnownKeys
 pub mod SettledWaits

@@ -140,13 +140,18 @@ fn add_tables(graph: &mut WaitGraph, alloc: Global, tables: &[&[At]]) -> bool {
     true
 }
 
+// Returns the set of this session, if it is a valid one.
+fn set_of(session: u16) -> Sessions {
+    let mut sessions = Sessions::new();
+    if 0 < session && session <= MOST {
+        sessions.insert(session);
+    }
+    sessions
+}
+
 /// Creates an empty graph in which the wait of this session is settled, if it is a valid one.
 pub(super) fn empty_graph(alloc: Global, settled: u16) -> WaitGraph {
-    let mut sessions = Sessions::new();
-    if 0 < settled && settled <= MOST {
-        sessions.insert(settled);
-    }
-    WaitGraph::new(alloc, sessions)
+    WaitGraph::new(alloc, set_of(settled))
 }
 
 // Whether the cycle that is found has these sessions and this victim.
@@ -193,11 +198,37 @@ fn goes_so(alloc: Global, (tables, settled, found): Case) -> bool {
     is_so
 }
 
+// Whether a search finds this once the waits of these sessions are settled, too.
+fn finds_later(graph: &WaitGraph, settled: &Sessions, (from, sessions, falls): Found) -> bool {
+    match graph.find_unsettled_cycle(from, settled) {
+        Ok(found) => is_cycle_of(&found, sessions, falls),
+        Err(_) => false,
+    }
+}
+
+// Whether all searches of a case find the same in a graph that was built with nobody settled.
+fn goes_so_later(alloc: Global, (tables, settled, found): Case) -> bool {
+    let mut graph = empty_graph(alloc, 0);
+    let settled = set_of(settled);
+    let is_so = add_tables(&mut graph, alloc, tables)
+        && found.iter().all(|row| finds_later(&graph, &settled, *row));
+    drop(graph);
+    is_so
+}
+
 #[test]
 fn finds_deadlocks_of_a_few(rt: HostRuntime) {
     for (number, case) in CASES.iter().enumerate() {
         is_right(&rt, number, goes_so(rt.alloc(), *case));
+        is_right(&rt, number, goes_so_later(rt.alloc(), *case));
     }
+}
+
+#[test]
+fn lists_the_requests(rt: HostRuntime) {
+    let mut graph = empty_graph(rt.alloc(), 0);
+    assert!(rt; add_tie(&mut graph, rt.alloc(), 2, 1) && add_tie(&mut graph, rt.alloc(), 1, 3));
+    assert!(rt; are_of(graph.wishes(), &[2, 1]));
 }
 
 const TIED: &[Tied] = &[

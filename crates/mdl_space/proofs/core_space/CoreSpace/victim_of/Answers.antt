@@ -1,8 +1,13 @@
 -- The graph of all books has the deadlock of the locks.
 use Rattle.std.proofs.Common.{None, Some, sym, ap, ◌∙◌}
 use Rattle.mdl_core.specs.Cores.{Core}
-use Rattle.mdl_space.proofs.DeadlockLemmas.{victim-same}
+use Rattle.mdl_space.proofs.DeadlockLemmas.{victim-none, victim-same}
 use Rattle.mdl_space.proofs.core_space.CoreSpace.victim_of.Goals as goal
+
+pub returns-then-not-blocks_some : goal.returns-then-not-blocks_some
+returns-then-not-blocks_some c =
+    victim-none c.args.self.now c.args.who c.deref.result.now c.blocks_some.result
+    (c.deref.ensures.value ∙ ap (λ (core : Core). core.books) c.self.view_is) c.blocks_some.ensures c.if-not-blocks_some.true
 
 pub returns : goal.returns
 returns c =
