@@ -14,7 +14,7 @@ use std::alloc::AllocError;
 use std::sync::Wait;
 
 impl<R: Wait> Session<R> {
-    /// Searches for a deadlock that the session waits in, by the books of all places at one moment, and the words of all waits. If there is
+    /// Searches for a deadlock that the session waits in, by the books of all places at one moment, and the words of the waits there. If there is
     /// one, the wait of its victim is settled, which may be the session's own. If another session settles that wait first, the search is
     /// repeated.
     ///

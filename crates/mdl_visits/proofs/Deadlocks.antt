@@ -1,29 +1,22 @@
--- The settled sessions by the words of waits, and the graph of books that were copied.
-use Rattle.std.proofs.Common.{◌≡◌, ℕ, ◌+◌, ◌<◌, ◌≤◌, ◌==◌, ◌||◌, ◌&&◌, nat_lt, Bool, true, false, not, List, [], ◌∷◌, ◌++◌, length, map, filter, take, get_or, Option, refl, sym, ap, ◌∙◌, subst, arith, append_assoc, append-nil}
-use Rattle.std.specs.Prelude.{◌%◌, if◌then◌else◌}
+-- The settled sessions by the words of waits, and the graph of all books.
+use Rattle.std.proofs.Common.{◌≡◌, ℕ, ◌==◌, ◌||◌, ◌&&◌, Bool, true, false, not, List, [], ◌∷◌, ◌++◌, Option, refl, sym, ap, ◌∙◌, subst, arith}
+use Rattle.std.specs.Prelude.{◌%◌}
 use Rattle.std.specs.Cmp.{nat_cmp_total, unsigned_tied}
 use Rattle.std.specs.FinSet as set
-use Rattle.std.specs.List.{list_any}
 use Rattle.std.specs.Option.{option_map}
 use Rattle.std.specs.Ordering.{nat_cmp}
 use Rattle.std.proofs.lemmas.Bool.Decides.{nat_tests}
-use Rattle.std.proofs.lemmas.List.{get_or-map, length-map, map-append, take_all, take_more}
+use Rattle.std.proofs.lemmas.List.{map-append}
 use Rattle.std.proofs.lemmas.List.Folds.{list_any-append}
-use Rattle.mdl_key.specs.declared.namespace.Namespace.{Namespace}
-use Rattle.mdl_key.specs.Words.{global_key}
-use Rattle.mdl_book.specs.Books.{empty_book}
 use Rattle.mdl_book.specs.declared.book_view.BookView.{BookView}
-use Rattle.mdl_book.specs.declared.ticket.Ticket.{Ticket}
 use Rattle.mdl_graph.specs.declared.cycle.Member.{Member}
-use Rattle.mdl_graph.specs.Graphs.{GraphView, IsGraphOf, cycle_found, deadlock, deadlock_in, member_of, victim_in, waits}
+use Rattle.mdl_graph.specs.Graphs.{AddsBook, GraphView, IsGraphOf, empty_graph, unsettled_deadlock, victim_in, waits}
 use Rattle.mdl_graph.specs.Victims.{victim_of}
-use Rattle.mdl_graph.specs.WaitsFor.{SessionTest, is_tied, is_unsettled, waits_at, waits_for, wish_of, wishes_at, wishes_in}
-use Rattle.mdl_graph.proofs.CycleLaws.{chosen_same}
-use Rattle.mdl_steps.specs.Copies.{Queues, no_queues, queues_of}
+use Rattle.mdl_graph.specs.WaitsFor.{nobody}
+use Rattle.mdl_graph.proofs.UnsettledLemmas.{settles_later}
 use Rattle.mdl_visits.specs.declared.audited.Audited.{Audited}
 use Rattle.mdl_visits.specs.declared.waits_read.WaitRead.{WaitRead}
-use Rattle.mdl_visits.specs.Searches.{AreQueuesOf, books_of, if_waited, settled_by}
-use Rattle.mdl_visits.proofs.Rescheduling.{nobody_waits}
+use Rattle.mdl_visits.specs.Searches.{IsBuiltOf, books_of, settled_by}
 
 -- ---- who is settled
 
@@ -63,102 +56,25 @@ module _ (old : set.FinSet nat_cmp) (words : List WaitRead) (h : WaitRead) (befo
 
 -- ---- the graph
 
--- the deadlock that a graph has is that of the books
-pub deadlock_same : (settled : SessionTest) (books : List BookView) (graph : GraphView) (from : ℕ) → IsGraphOf settled books graph
-    → deadlock graph from ≡ deadlock_in settled books from
-deadlock_same settled books graph from is =
-    ap (option_map (map (member_of graph.wishes)))
-    (chosen_same (waits graph) (waits_for settled books) (map (λ (wish : Member). wish.session) graph.wishes) from is.same_waits)
-    ∙ ap (λ wishes. cycle_found wishes (waits_for settled books) from) is.same_wishes
+-- a graph of no books
+pub built_of_none : (settled : set.FinSet nat_cmp) (graph : GraphView) → settled ≡ set.empty → graph ≡ empty_graph settled → IsGraphOf nobody [] graph
+built_of_none settled graph none made = record {
+  same_settled = λ session. ap (λ (g : GraphView). set.contains g.settled session) made ∙ none_settled settled none session;
+  same_wishes = ap (λ (g : GraphView). g.wishes) made;
+  same_waits = λ waiter other. ap (λ (g : GraphView). waits g waiter other) made;
+}
 
--- the lists at a place are those of the book there
-queues_there : (audited : List Audited) (lists : List Queues) (i : ℕ) (d : Audited) → AreQueuesOf audited lists → i < length lists
-    → (i < length audited) × (get_or lists i no_queues ≡ queues_of (get_or audited i d).book)
-queues_there audited lists i d are inside =
-    let count : length lists ≡ length audited = ap length (sym are) ∙ length-map audited (λ (a : Audited). queues_of a.book) in
-    let here : i < length audited = omega arith in
-    (here, ap (λ (qs : List Queues). get_or qs i no_queues) (sym are) ∙ get_or-map (λ (a : Audited). queues_of a.book) audited i d no_queues here)
+-- the graph of a book more
+pub built_of_more : (before : List Audited) (one : Audited) (graph later : GraphView) → AddsBook one.book graph later → IsBuiltOf before graph → IsBuiltOf (before ++ one ∷ []) later
+built_of_more before one graph later adds built =
+    subst (λ (books : List BookView). IsGraphOf nobody books later) (sym (map-append (λ (a : Audited). a.book) before (one ∷ []))) (adds nobody (books_of before) built)
 
--- a lock more of those whose lists were copied
-pub lock_more : (settled : SessionTest) (audited : List Audited) (lists : List Queues) (i : ℕ) (graph : GraphView) (namespace : Namespace) (granted waiting : List Ticket)
-    → AreQueuesOf audited lists → i < length lists → (namespace, (granted, waiting)) ≡ get_or lists i no_queues
-    → ((book : BookView) → book.key.namespace ≡ namespace → book.granted ≡ granted → book.waiting ≡ waiting
-    → IsGraphOf settled (books_of (take i audited) ++ book ∷ []) graph)
-    → IsGraphOf settled (books_of (take (i + 1) audited)) graph
-lock_more settled audited lists i graph namespace granted waiting are inside listed added =
-    let none : Audited = record { place = 0; book = empty_book global_key } in
-    let there = queues_there audited lists i none are inside in
-    let one = get_or audited i none in
-    let same : queues_of one.book ≡ (namespace, (granted, waiting)) = sym (listed ∙ there.1) in
-    let now = added one.book (ap (λ (q : Queues). q.0) same) (ap (λ (q : Queues). q.1.0) same) (ap (λ (q : Queues). q.1.1) same) in
-    subst (λ (books : List BookView). IsGraphOf settled books graph)
-    (sym (ap books_of (take_more audited i none there.0) ∙ map-append (λ (a : Audited). a.book) (take i audited) (one ∷ []))) now
-
--- once all were added
-pub all_added : (settled : SessionTest) (audited : List Audited) (lists : List Queues) (added : ℕ) (graph : GraphView)
-    → AreQueuesOf audited lists → length lists ≤ added → IsGraphOf settled (books_of (take added audited)) graph → IsGraphOf settled (books_of audited) graph
-all_added settled audited lists added graph are all is =
-    let count : length lists ≡ length audited = ap length (sym are) ∙ length-map audited (λ (a : Audited). queues_of a.book) in
-    subst (λ (some : List Audited). IsGraphOf settled (books_of some) graph) (take_all added audited (omega arith)) is
-
-pub victim_same : (settled : SessionTest) (audited : List Audited) (from : ℕ) (graph : GraphView) (cycle : Option (List Member))
-    → IsGraphOf settled (books_of audited) graph → cycle ≡ deadlock graph from
-    → option_map victim_of cycle ≡ victim_in settled (books_of audited) from
-victim_same settled audited from graph cycle is found = ap (option_map victim_of) (found ∙ deadlock_same settled (books_of audited) graph from is)
-
--- the lists of a book more, if somebody waits by it
-pub one_waited : (copied : List Audited) (one : Audited) (old new : List Queues) → nat_lt 0 (length one.book.waiting) ≡ true → AreQueuesOf copied old
-    → new ≡ old ++ queues_of one.book ∷ [] → AreQueuesOf (copied ++ if_waited one) new
-one_waited copied one old new some are added =
-    let more : if_waited one ≡ one ∷ [] = ap (λ (b : Bool). if b then one ∷ [] else []) some in
-    ap (λ (xs : List Audited). map (λ (a : Audited). queues_of a.book) (copied ++ xs)) more
-    ∙ map-append (λ (a : Audited). queues_of a.book) copied (one ∷ [])
-    ∙ ap (λ (qs : List Queues). qs ++ queues_of one.book ∷ []) are
-    ∙ sym added
-
--- ---- books by which nobody waits
-
-none_kept : (b : Bool) → (b && false) ≡ false
-none_kept true = refl
-none_kept false = refl
-
-module _ (settled : SessionTest) (one : Audited) (nobody : one.book.waiting ≡ []) where
-  ties_nobody : (waiter other : ℕ) → waits_at settled one.book waiter other ≡ false
-  ties_nobody waiter other =
-      ap (λ (waiting : List Ticket). is_unsettled settled waiter && list_any (λ (wish : Ticket). wish.session == waiter && is_tied settled one.book other wish) waiting) nobody
-      ∙ none_kept (is_unsettled settled waiter)
-
-  wishes_nothing : wishes_at settled one.book ≡ []
-  wishes_nothing = ap (λ (waiting : List Ticket). map (wish_of one.book) (filter (λ (ticket : Ticket). is_unsettled settled ticket.session) waiting)) nobody
-
-  same_wishes : (before after : List Audited) → wishes_in settled (books_of (before ++ after)) ≡ wishes_in settled (books_of (before ++ one ∷ after))
-  same_wishes [] after = ap (λ (wishes : List Member). wishes ++ wishes_in settled (books_of after)) (sym wishes_nothing)
-  same_wishes (first ∷ before) after = ap (λ (wishes : List Member). wishes_at settled first.book ++ wishes) (same_wishes before after)
-
-  same_waits : (before after : List Audited) (waiter other : ℕ)
-      → waits_for settled (books_of (before ++ after)) waiter other ≡ waits_for settled (books_of (before ++ one ∷ after)) waiter other
-  same_waits [] after waiter other = ap (λ (b : Bool). b || waits_for settled (books_of after) waiter other) (sym (ties_nobody waiter other))
-  same_waits (first ∷ before) after waiter other = ap (λ (b : Bool). waits_at settled first.book waiter other || b) (same_waits before after waiter other)
-
-  -- it makes no deadlock, and none another one
-  same_without : (before after : List Audited) (from : ℕ) → deadlock_in settled (books_of (before ++ after)) from ≡ deadlock_in settled (books_of (before ++ one ∷ after)) from
-  same_without before after from =
-      let fewer = books_of (before ++ after) in
-      let all = books_of (before ++ one ∷ after) in
-      ap (option_map (map (member_of (wishes_in settled fewer))))
-      (chosen_same (waits_for settled fewer) (waits_for settled all) (map (λ (wish : Member). wish.session) (wishes_in settled fewer)) from (same_waits before after))
-      ∙ ap (λ (wishes : List Member). cycle_found wishes (waits_for settled all) from) (same_wishes before after)
-
--- a book is needed only if somebody waits by it
-module _ (settled : SessionTest) (one : Audited) (before after : List Audited) (from : ℕ) where
-  abbrev SameWith : List Audited → Type 0
-  SameWith taken = deadlock_in settled (books_of ((before ++ taken) ++ after)) from ≡ deadlock_in settled (books_of (before ++ one ∷ after)) from
-
-  same_by : (b : Bool) → nat_lt 0 (length one.book.waiting) ≡ b → SameWith (if b then one ∷ [] else [])
-  same_by true some = ap (λ (books : List Audited). deadlock_in settled (books_of books) from) (append_assoc before (one ∷ []) after)
-  same_by false none =
-      ap (λ (books : List Audited). deadlock_in settled (books_of (books ++ after)) from) (append-nil before)
-      ∙ same_without settled one (nobody_waits one.book.waiting none) before after from
-
-  pub same_if_waited : SameWith (if_waited one)
-  same_if_waited = same_by (nat_lt 0 (length one.book.waiting)) refl
+-- the victim by a graph that was searched once it was known who is settled
+pub victim_same : (settled : set.FinSet nat_cmp) (words : List WaitRead) (audited : List Audited) (from : ℕ) (graph : GraphView) (cycle : Option (List Member))
+    → ((session : ℕ) → set.contains settled session ≡ settled_by words session) → IsBuiltOf audited graph → cycle ≡ unsettled_deadlock (set.contains settled) graph from
+    → option_map victim_of cycle ≡ victim_in (settled_by words) (books_of audited) from
+victim_same settled words audited from graph cycle told built found =
+    ap (option_map victim_of)
+    (found
+    ∙ (λ i. unsettled_deadlock (λ session. told session i) graph from)
+    ∙ settles_later (settled_by words) (books_of audited) graph from built)

@@ -4,12 +4,12 @@ use Rattle.std.specs.Prelude.{slice_get}
 use Rattle.std.proofs.lemmas.Result.{IfOk-weaker, on_err_weaker}
 use Rattle.atomic_table.specs.Seated.{TableId}
 use Rattle.mdl_calls.specs.declared.answers.Search.{Search}
+use Rattle.mdl_graph.specs.Graphs.{AddsBook, GraphView}
 use Rattle.mdl_key.specs.Words.{KeyName}
 use Rattle.mdl_steps.specs.declared.step_kind.StepKind.TheVariants.{PutLatch, TakeLatch}
 use Rattle.mdl_steps.specs.declared.view.LatchRecord.{LatchRecord}
 use Rattle.mdl_steps.specs.declared.view.Keys.{Keys}
 use Rattle.mdl_steps.specs.declared.view.StepRecord.{StepRecord}
-use Rattle.mdl_steps.specs.Copies.{Queues}
 use Rattle.mdl_steps.specs.Layout.{latch_word}
 use Rattle.mdl_steps.specs.Plays.{Mine, consulted, informed, latched, unlatched}
 use Rattle.mdl_steps.specs.SeatStates.{AtItsTable, SeatState}
@@ -18,12 +18,13 @@ use Rattle.mdl_visits.specs.declared.audited.Audited.{Audited}
 use Rattle.mdl_visits.specs.Audits.{AreKeyed, AreRecorded, Audits, Gathers, HadLatches, MayAllStand}
 use Rattle.mdl_visits.specs.Idle.{HoldsNoLatch}
 use Rattle.mdl_visits.specs.Lookups.{HadEither, TookDirectory}
-use Rattle.mdl_visits.specs.Searches.{AreQueuesOf, EndsSearch, FindsFrom, Judges, KnowsVictim, ReadsWaits, ReadsWaitsQuietly, SearchFinds, Searched, Searches, if_waited, with_waits_read}
+use Rattle.mdl_visits.specs.Searches.{EndsSearch, FindsFrom, IsBuiltOf, Judges, KnowsVictim, ReadsWaits, ReadsWaitsQuietly, SearchFinds, Searched, Searches, with_waits_read}
 use Rattle.mdl_visits.specs.Visits.{MakesMoreSteps, IsQuiet, IsStepOf, MakesSteps, and_made, TakesLatch, TakesDirectory}
 use Rattle.mdl_visits.proofs.Asking.{step_within}
 use Rattle.mdl_visits.proofs.Gathering.{as_steps, back, gathers_more, gathers_none}
 use Rattle.mdl_visits.proofs.Lookups.{had_none, no_record}
-use Rattle.mdl_visits.proofs.Outcomes.{judges_if_waited, judges_within, knows_on}
+use Rattle.mdl_visits.proofs.Deadlocks.{built_of_more}
+use Rattle.mdl_visits.proofs.Outcomes.{judges_within, knows_on}
 use Rattle.mdl_visits.proofs.Seats.{mine, table_of}
 use Rattle.mdl_visits.proofs.Steps.{each_map, none_then}
 
@@ -159,8 +160,8 @@ module _ (a b c : SeatState) (taken : TakesDirectory a b) (same : c ≡ b) (idle
 -- ---- a deadlock is looked for
 
 module _ (place q last : ℕ) (a b c d e : SeatState) (at : q ≡ place) (taken : TakesLatch place a.me b.me) (table : b.table ≡ a.table) (same : c ≡ b) (reads : AtItsTable c d ReadsWaitsQuietly)
-    (put : e ≡ record d { me = unlatched q [] d.me }) (rising : IsRising place a.me) (lists more : List Queues)
-    (added : (copied : List Audited) → AreQueuesOf copied lists → AreQueuesOf (copied ++ if_waited (record { place = q; book = taken.0.book })) more) where
+    (put : e ≡ record d { me = unlatched q [] d.me }) (rising : IsRising place a.me) (graph more : GraphView)
+    (adds : AddsBook taken.0.book graph more) where
   abbrev one : Audited
   one = record { place = q; book = taken.0.book }
 
@@ -173,59 +174,60 @@ module _ (place q last : ℕ) (a b c d e : SeatState) (at : q ≡ place) (taken 
   goes_out : MakesMoreSteps d.me e.me
   goes_out = (_ ∷ [], ap (λ (s : SeatState). s.me.0.log) put)
 
-  searches_more : (found : Search) → ((copied : List Audited) → AreQueuesOf copied more → Searches c.table c.me.0.number (place + 1) last copied found c.me d.me)
-      → (before : List Audited) → AreQueuesOf before lists → Searches a.table a.me.0.number place last before found a.me e.me
-  searches_more found searches before are =
+  searches_more : (found : Search) → ((before : List Audited) → IsBuiltOf before more → Searches c.table c.me.0.number (place + 1) last before found c.me d.me)
+      → (before : List Audited) → IsBuiltOf before graph → Searches a.table a.me.0.number place last before found a.me e.me
+  searches_more found searches before built =
       let id = a.table in
       let who = a.me.0.number in
-      let inner = subst (λ (t : TableId). Searches t who (place + 1) last (before ++ if_waited one) found c.me d.me) (table_of same ∙ table)
-      (subst (λ (n : ℕ). Searches c.table n (place + 1) last (before ++ if_waited one) found c.me d.me) (ap (λ (m : Mine). m.0.number) came_there) (searches (before ++ if_waited one) (added before are))) in
+      let inner = subst (λ (t : TableId). Searches t who (place + 1) last (before ++ one ∷ []) found c.me d.me) (table_of same ∙ table)
+      (subst (λ (n : ℕ). Searches c.table n (place + 1) last (before ++ one ∷ []) found c.me d.me) (ap (λ (m : Mine). m.0.number) came_there)
+      (searches (before ++ one ∷ []) (built_of_more before one graph more adds built))) in
       let outer = gathers_more place q a b c at taken table same d reads e put rising last [] [] inner.books (one ∷ inner.books) inner.gathers (ap (λ (xs : List Audited). one ∷ xs) inner.gathers.listed) in
       let latches = inner.gathers.latches in
-      let judged = judges_within id who latches ((before ++ if_waited one) ++ inner.books) found a.me c.me d.me e.me goes_in (ap (λ (m : Mine). m.0.settles) came_there) goes_out
+      let judged = judges_within id who latches ((before ++ one ∷ []) ++ inner.books) found a.me c.me d.me e.me goes_in (ap (λ (m : Mine). m.0.settles) came_there) goes_out
       (ap (λ (s : SeatState). s.me.0.settles) put) inner.judges in
-      let all = judges_if_waited id who latches one before inner.books found a.me e.me judged in
+      let all = subst (λ (those : List Audited). Judges id who latches those found a.me e.me) (append_assoc before (one ∷ []) inner.books) judged in
       record {
         books = one ∷ inner.books;
         gathers = outer.0;
         judges = subst (λ (ls : List LatchRecord). Judges id who ls (before ++ one ∷ inner.books) found a.me e.me) (sym outer.1) all;
       }
 
-  pub finds_more : (found : Search) → FindsFrom (place + 1) last more c d found → FindsFrom place last lists a e found
+  pub finds_more : (found : Search) → FindsFrom (place + 1) last more c d found → FindsFrom place last graph a e found
   finds_more found finds = (
     searches_more found finds.0,
     knows_on a.me.0.number found d.me e.me (ap (λ (s : SeatState). s.me.0.told) put)
         (subst (λ (n : ℕ). KnowsVictim n found d.me) (ap (λ (m : Mine). m.0.number) came_there) finds.1),
   )
 
-  pub ends_more : {E : Type 0} (result : Result Search E) → EndsSearch result (FindsFrom (place + 1) last more c d) c d → EndsSearch result (FindsFrom place last lists a e) a e
+  pub ends_more : {E : Type 0} (result : Result Search E) → EndsSearch result (FindsFrom (place + 1) last more c d) c d → EndsSearch result (FindsFrom place last graph a e) a e
   ends_more result ends = record {
     reads = back place q a b c at taken table same d reads e put rising;
-    found = IfOk-weaker result (FindsFrom (place + 1) last more c d) (FindsFrom place last lists a e) finds_more ends.found;
+    found = IfOk-weaker result (FindsFrom (place + 1) last more c d) (FindsFrom place last graph a e) finds_more ends.found;
     nothing = on_err_weaker result (λ kept. ap (λ (s : SeatState). s.me.0.settles) put ∙ kept ∙ ap (λ (m : Mine). m.0.settles) came_there) ends.nothing;
   }
 
 -- behind the last place it is looked for
-pub finds_here : (place last : ℕ) (lists : List Queues) (a b : SeatState) (found : Search) → place ≡ last + 1 → SearchFinds lists a b found → FindsFrom place last lists a b found
+pub finds_here : (place last : ℕ) (graph : GraphView) (a b : SeatState) (found : Search) → place ≡ last + 1 → SearchFinds graph a b found → FindsFrom place last graph a b found
 unfolding gathers_none
-finds_here place last lists a b found behind finds = (
-  λ copied are. record {
+finds_here place last graph a b found behind finds = (
+  λ before built. record {
     books = [];
     gathers = gathers_none place last [] a.me b.me behind;
-    judges = subst (λ (all : List Audited). Judges a.table a.me.0.number a.me.0.latches all found a.me b.me) (sym (append-nil copied)) (finds.0 copied are);
+    judges = subst (λ (all : List Audited). Judges a.table a.me.0.number a.me.0.latches all found a.me b.me) (sym (append-nil before)) (finds.0 before built);
   },
   finds.1,
 )
 
 -- what was found once all latches were taken is what is found
 pub searched : (a b c d e : SeatState) (taken : TakesDirectory a b) (same : c ≡ b) (idle : HoldsNoLatch a.me) (reads : AtItsTable c d ReadsWaitsQuietly) (put : e ≡ record d { me = informed (learnt d.me 0) d.me })
-    (last : ℕ) → last ≡ length taken.1.keys → (found : Search) → FindsFrom 1 last [] c d found
+    (last : ℕ) → last ≡ length taken.1.keys → (graph : GraphView) → IsBuiltOf [] graph → (found : Search) → FindsFrom 1 last graph c d found
     → Searched a.table a.me.0.number taken.1 found a.me e.me × KnowsVictim a.me.0.number found e.me
-searched a b c d e taken same idle reads put last count found finds =
+searched a b c d e taken same idle reads put last count graph built found finds =
     let id = a.table in
     let who = a.me.0.number in
     let came : c ≡ record a { me = consulted taken.1 (and_made taken.0 a.me) } = same ∙ taken.3 in
-    let searches = subst (λ (s : SeatState). Searches s.table s.me.0.number 1 last [] found c.me d.me) came (finds.0 [] refl) in
+    let searches = subst (λ (s : SeatState). Searches s.table s.me.0.number 1 last [] found c.me d.me) came (finds.0 [] built) in
     let both = audits a b c taken same idle d reads e put last searches.books count searches.gathers in
     let books = both.0 in
     let judged = judges_within id who searches.gathers.latches searches.books found a.me c.me d.me e.me (goes_first a b c taken same idle d reads e put) (ap (λ (s : SeatState). s.me.0.settles) came)

@@ -1,22 +1,25 @@
 -- What a search comes to: nobody waits in a cycle, or the victim's wait was settled.
-use Rattle.std.proofs.Common.{◌≡◌, ◌≢◌, ℕ, Bool, false, ◌+◌, ◌*◌, ◌<◌, ◌==◌, ◌&&◌, nat_lt, List, [], ◌∷◌, ◌++◌, length, take, drop, get_or, Some, None, inl, inr, refl, sym, ap, ◌∙◌, arith, append-nil}
+use Rattle.std.proofs.Common.{◌≡◌, ◌≢◌, ℕ, Bool, false, ◌+◌, ◌*◌, ◌<◌, ◌==◌, ◌&&◌, nat_lt, List, [], ◌∷◌, ◌++◌, length, take, drop, get_or, Some, None, inl, inr, refl, sym, ap, subst, ◌∙◌, arith, append-nil}
 use Rattle.std.specs.Prelude.{◌%◌, All, IfSome, Option}
 use Rattle.std.specs.Option.{option_map, option_or}
 use Rattle.std.proofs.lemmas.Bool.{and_parts, eq-eqb, eqb-true, false≢true}
 use Rattle.std.proofs.lemmas.List.{take-append-drop, take_more}
+use Rattle.std.proofs.lemmas.List.Elements.{All-nil}
 use Rattle.std.proofs.lemmas.List.Folds.{find-append}
 use Rattle.atomic_table.specs.Seated.{TableId}
 use Rattle.mdl_calls.specs.declared.answers.Search.{Search}
 use Rattle.mdl_calls.specs.declared.answers.Search.TheVariants.{NoCycle, Victim}
-use Rattle.mdl_graph.specs.Graphs.{deadlock_in, victim_in}
+use Rattle.mdl_graph.specs.declared.cycle.Member.{Member}
+use Rattle.mdl_graph.specs.Graphs.{GraphView, deadlock, deadlock_in, victim_in}
 use Rattle.mdl_graph.specs.Victims.{victim_of}
+use Rattle.mdl_graph.specs.WaitsFor.{nobody, wishes_in}
+use Rattle.mdl_graph.proofs.DeadlockLemmas.{graph_finds}
 use Rattle.mdl_steps.specs.declared.step_kind.StepKind.TheVariants.{MissWait, SettleWait}
 use Rattle.mdl_steps.specs.declared.view.LatchRecord.{LatchRecord}
 use Rattle.mdl_steps.specs.declared.view.StepRecord.{StepRecord}
 use Rattle.mdl_steps.specs.declared.view.Settlement.{Settlement}
 use Rattle.mdl_steps.specs.declared.view.View.{View}
 use Rattle.mdl_steps.specs.Layout.{wait_word}
-use Rattle.mdl_steps.specs.Copies.{Queues}
 use Rattle.mdl_steps.specs.Plays.{Mine}
 use Rattle.mdl_steps.specs.SeatStates.{AtItsTable, SeatState}
 use Rattle.mdl_steps.specs.WaitPlays.{TellsOwn, meeting, missed_wait, settled_lost, wait_in}
@@ -25,10 +28,9 @@ use Rattle.mdl_visits.specs.declared.audited.Audited.{Audited}
 use Rattle.mdl_visits.specs.declared.waits_read.WaitRead.{WaitRead}
 use Rattle.mdl_visits.specs.Grantings.{StaysTold}
 use Rattle.mdl_visits.specs.Polls.{SettlesNothing}
-use Rattle.mdl_visits.specs.Searches.{AreQueuesOf, AreRead, FindsAtOnce, IsOutcome, Judges, KnowsVictim, OnlyReadsWaits, ReadsWaitsQuietly, SearchFinds, SettlesVictim, TriesToSettle, WasOther, WasRead, books_of, if_waited, read_of, settled_by}
+use Rattle.mdl_visits.specs.Searches.{AreOfWishes, AreRead, FindsAtOnce, IsBuiltOf, IsOutcome, Judges, KnowsVictim, OnlyReadsWaits, ReadsWaitsQuietly, SearchFinds, SettlesVictim, TriesToSettle, WasOther, WasRead, books_of, read_of, settled_by}
 use Rattle.mdl_visits.specs.Visits.{MakesMoreSteps}
 use Rattle.mdl_visits.proofs.Asking.{goes_nowhere, step_within}
-use Rattle.mdl_visits.proofs.Deadlocks.{same_if_waited}
 use Rattle.mdl_visits.proofs.Seats.{mine, table_of}
 use Rattle.mdl_visits.proofs.Steps.{step_after}
 use Rattle.mdl_visits.proofs.Words.{all_within, at_first, goes_reading, reads_none, reads_word}
@@ -165,7 +167,7 @@ pub judges_within : (id : TableId) (who : ℕ) (latches : List LatchRecord) (aud
     → MakesMoreSteps c d → d.0.settles ≡ c.0.settles → Judges id who latches audited found b c → Judges id who latches audited found a d
 judges_within id who latches audited found a b c d before same after kept judges = record {
   words = judges.words;
-  all = judges.all;
+  enough = judges.enough;
   read = all_within id.slots latches a b c d judges.words before after judges.read;
   outcome = outcome_within id.slots who latches audited judges.words a b c d before same after kept found judges.outcome;
 }
@@ -175,66 +177,74 @@ pub knows_on : (who : ℕ) (found : Search) (m m′ : Mine) → m′.0.told ≡ 
 knows_on who NoCycle m m′ same knows = tt
 knows_on who (Victim victim) m m′ same knows = λ own. same ∙ knows own
 
-module _ (lists : List Queues) (a b c : SeatState) (first : OnlyReadsWaits a b) where
-  pub finds_after : (found : Search) → SearchFinds lists b c found → SearchFinds lists a c found
+none_mapped : {A B : Type 0} (f : A → B) (o : Option A) → option_map f o ≡ None → o ≡ None
+none_mapped f None none = refl
+none_mapped f (Some x) none = absurd (cc)
+
+-- where there is no cycle even if nobody is settled, no word is read
+pub finds_free : (graph : GraphView) (a : SeatState) → deadlock graph a.me.0.number ≡ None → SearchFinds graph a a NoCycle
+finds_free graph a free = (
+  λ audited built.
+      let none : deadlock_in nobody (books_of audited) a.me.0.number ≡ None = sym (graph_finds nobody (books_of audited) graph a.me.0.number built) ∙ free in
+      record { words = []; enough = inr none; read = All-nil (WasRead a.table.slots a.me.0.latches a.me a.me); outcome = (none, refl) },
+  tt,
+)
+
+module _ (graph : GraphView) (a b c : SeatState) (first : OnlyReadsWaits a b) where
+  pub finds_after : (found : Search) → SearchFinds graph b c found → SearchFinds graph a c found
   finds_after found finds = (
-    λ audited are.
+    λ audited built.
         judges_within a.table a.me.0.number a.me.0.latches audited found a.me b.me c.me c.me (goes_reading a.me b.me first.0.1) first.1 (goes_nowhere c.me) refl
-        (at_first a b first.0 (λ id latches who. Judges id who latches audited found b.me c.me) (finds.0 audited are)),
+        (at_first a b first.0 (λ id latches who. Judges id who latches audited found b.me c.me) (finds.0 audited built)),
     at_first a b first.0 (λ id latches who. KnowsVictim who found c.me) finds.1,
   )
 
-  -- the words were read, and by these and the lists there is a victim
-  module _ (words : List WaitRead) (victim : ℕ) (read : AreRead words a b) (then : AtItsTable b c ReadsWaitsQuietly)
-      (is : (audited : List Audited) → AreQueuesOf audited lists → victim_in (settled_by words) (books_of audited) a.me.0.number ≡ Some victim) where
-    still : All (WasRead a.table.slots a.me.0.latches a.me c.me) words
-    still = all_within a.table.slots a.me.0.latches a.me a.me b.me c.me words (goes_nowhere a.me) (goes_reading b.me c.me then.1) read.1
+  -- the words were read, and by these and the books there is a victim, or none
+  module _ (words : List WaitRead) (read : AreRead graph.wishes words a b) where
+    of_books : (audited : List Audited) → IsBuiltOf audited graph → AreOfWishes a.table (wishes_in nobody (books_of audited)) words
+    of_books audited built = subst (λ (wishes : List Member). AreOfWishes a.table wishes words) built.same_wishes read.0
 
-    pub finds_victim : SettlesVictim b.table.slots victim b.me.0.latches b.me c.me × KnowsVictim b.me.0.number (Victim victim) c.me → SearchFinds lists a c (Victim victim)
-    finds_victim settled = (
-      λ audited are. record {
+    pub finds_none : b ≡ c → ((audited : List Audited) → IsBuiltOf audited graph → victim_in (settled_by words) (books_of audited) a.me.0.number ≡ None) → SearchFinds graph a c NoCycle
+    finds_none same is = subst (λ (x : SeatState). SearchFinds graph a x NoCycle) same (
+      λ audited built. record {
         words = words;
-        all = read.0;
-        read = still;
-        outcome = (
-          is audited are,
-          victim_within a.table.slots a.me.0.number a.me.0.latches audited words a.me b.me c.me c.me (goes_reading a.me b.me first.0.1) first.1 (goes_nowhere c.me) refl victim
-              (at_first a b first.0 (λ id latches who. SettlesVictim id.slots victim latches b.me c.me) settled.0),
-        );
+        enough = inl (of_books audited built);
+        read = read.1;
+        outcome = (none_mapped victim_of (deadlock_in (settled_by words) (books_of audited) a.me.0.number) (is audited built), first.1);
       },
-      at_first a b first.0 (λ id latches who. KnowsVictim who (Victim victim) c.me) settled.1,
+      tt,
     )
 
-    pub misses_victim : SettlesNothing b.me c.me × IfSome (read_of victim words) (WasOther b.table.slots b.me c.me) → FindsAtOnce lists a c None
-    misses_victim missed = (
-      missed.0 ∙ first.1,
-      λ audited are. record {
-        words = words;
-        all = read.0;
-        read = still;
-        victim = victim;
-        found = is audited are;
-        other = other_after a.table.slots a.me b.me c.me (read_of victim words) (goes_reading a.me b.me first.0.1)
-            (at_first a b first.0 (λ id latches who. IfSome (read_of victim words) (WasOther id.slots b.me c.me)) missed.1);
-      },
-    )
+    module _ (victim : ℕ) (then : AtItsTable b c ReadsWaitsQuietly)
+        (is : (audited : List Audited) → IsBuiltOf audited graph → victim_in (settled_by words) (books_of audited) a.me.0.number ≡ Some victim) where
+      still : All (WasRead a.table.slots a.me.0.latches a.me c.me) words
+      still = all_within a.table.slots a.me.0.latches a.me a.me b.me c.me words (goes_nowhere a.me) (goes_reading b.me c.me then.1) read.1
 
--- ---- by fewer books
+      pub finds_victim : SettlesVictim b.table.slots victim b.me.0.latches b.me c.me × KnowsVictim b.me.0.number (Victim victim) c.me → SearchFinds graph a c (Victim victim)
+      finds_victim settled = (
+        λ audited built. record {
+          words = words;
+          enough = inl (of_books audited built);
+          read = still;
+          outcome = (
+            is audited built,
+            victim_within a.table.slots a.me.0.number a.me.0.latches audited words a.me b.me c.me c.me (goes_reading a.me b.me first.0.1) first.1 (goes_nowhere c.me) refl victim
+                (at_first a b first.0 (λ id latches who. SettlesVictim id.slots victim latches b.me c.me) settled.0),
+          );
+        },
+        at_first a b first.0 (λ id latches who. KnowsVictim who (Victim victim) c.me) settled.1,
+      )
 
--- what is judged without a book by which nobody waits is judged with it
-pub judges_if_waited : (id : TableId) (who : ℕ) (latches : List LatchRecord) (one : Audited) (before after : List Audited) (found : Search) (m m′ : Mine)
-    → Judges id who latches ((before ++ if_waited one) ++ after) found m m′ → Judges id who latches (before ++ one ∷ after) found m m′
-judges_if_waited id who latches one before after found m m′ judges = record {
-  words = judges.words;
-  all = judges.all;
-  read = judges.read;
-  outcome = by_found found judges.outcome;
-}
-  where
-    same : deadlock_in (settled_by judges.words) (books_of (before ++ one ∷ after)) who ≡ deadlock_in (settled_by judges.words) (books_of ((before ++ if_waited one) ++ after)) who
-    same = sym (same_if_waited (settled_by judges.words) one before after who)
-
-    by_found : (f : Search) → IsOutcome id.slots who latches ((before ++ if_waited one) ++ after) judges.words m m′ f
-        → IsOutcome id.slots who latches (before ++ one ∷ after) judges.words m m′ f
-    by_found NoCycle none = (same ∙ none.0, none.1)
-    by_found (Victim victim) one_found = (ap (option_map victim_of) same ∙ one_found.0, one_found.1)
+      pub misses_victim : SettlesNothing b.me c.me × IfSome (read_of victim words) (WasOther b.table.slots b.me c.me) → FindsAtOnce graph a c None
+      misses_victim missed = (
+        missed.0 ∙ first.1,
+        λ audited built. record {
+          words = words;
+          all = of_books audited built;
+          read = still;
+          victim = victim;
+          found = is audited built;
+          other = other_after a.table.slots a.me b.me c.me (read_of victim words) (goes_reading a.me b.me first.0.1)
+              (at_first a b first.0 (λ id latches who. IfSome (read_of victim words) (WasOther id.slots b.me c.me)) missed.1);
+        },
+      )

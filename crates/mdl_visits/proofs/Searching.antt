@@ -1,27 +1,24 @@
 -- A session that holds the latches of all places, and finds no deadlock by the books there, sees that it is in none.
-use Rattle.std.proofs.Common.{◌≡◌, ℕ, suc, ◌+◌, ◌-◌, ◌<◌, ◌≤◌, ◌==◌, ◌&&◌, ◌||◌, nat_lt, not, Bool, true, false, List, [], ◌∷◌, ◌++◌, length, map, Some, inl, inr, refl, sym, ap, ◌∙◌, subst, arith}
-use Rattle.std.specs.Prelude.{Contains, MatchOption, Result, Ok, Err, IfOk, if◌then◌else◌}
+use Rattle.std.proofs.Common.{◌≡◌, ℕ, ◌+◌, ◌-◌, ◌<◌, ◌≤◌, ◌==◌, ◌&&◌, ◌||◌, nat_lt, not, Bool, true, false, List, [], ◌∷◌, ◌++◌, length, map, None, Some, inl, inr, refl, sym, ap, ◌∙◌, subst, arith}
+use Rattle.std.specs.Prelude.{Contains, MatchOption, Result, Ok, Err, IfOk}
 use Rattle.std.specs.List.{list_any}
-use Rattle.std.proofs.lemmas.Bool.{and_from, and_parts, cases_eq, eqb-true, lt-ltb}
+use Rattle.std.proofs.lemmas.Bool.{and_from, and_parts, cases_eq, eqb-true}
 use Rattle.std.proofs.lemmas.Bool.Decides.{nat_tests}
-use Rattle.std.proofs.lemmas.List.{map-append}
 use Rattle.std.proofs.lemmas.List.Elements.{All-contains, Contains-append_left, Contains-push}
 use Rattle.std.proofs.lemmas.List.Folds.{Any-from_list_any, list_any-from_Any}
 use Rattle.mdl_book.specs.declared.book_view.BookView.{BookView}
-use Rattle.mdl_book.specs.declared.ticket.Ticket.{Ticket}
 use Rattle.mdl_calls.specs.declared.answers.Search.{Search}
 use Rattle.mdl_calls.specs.declared.answers.Search.TheVariants.{NoCycle, Victim}
 use Rattle.mdl_graph.specs.Cycles.{IsCycleThrough, are_distinct, leads}
 use Rattle.mdl_graph.specs.GraphLaws.{IsChosen, IsFree}
-use Rattle.mdl_graph.specs.Graphs.{lock_of}
-use Rattle.mdl_graph.specs.WaitsFor.{SessionTest, is_tied, is_unsettled, waits_at, waits_for}
+use Rattle.mdl_graph.specs.Graphs.{AddsBook, GraphView, IsGraphOf, deadlock_in}
+use Rattle.mdl_graph.specs.WaitsFor.{SessionTest, nobody, waits_at, waits_for}
 use Rattle.mdl_graph.proofs.DeadlockLemmas.{deadlock_chosen}
 use Rattle.mdl_steps.specs.declared.view.Keys.{Keys}
 use Rattle.mdl_key.specs.declared.known_key.KnownKey.{KnownKey}
 use Rattle.mdl_steps.specs.declared.view.LatchRecord.{LatchRecord}
 use Rattle.mdl_steps.specs.declared.view.StepRecord.{StepRecord}
 use Rattle.mdl_steps.specs.Cells.{held_at}
-use Rattle.mdl_steps.specs.Copies.{Queues, queues_of}
 use Rattle.mdl_steps.specs.Deeds.{KnowsPlace}
 use Rattle.mdl_steps.specs.Plays.{Mine, informed}
 use Rattle.mdl_steps.specs.Rule.{key_at}
@@ -31,13 +28,13 @@ use Rattle.mdl_steps.specs.Sights.{SeesNoDeadlock, WasMetNow, settled_in}
 use Rattle.mdl_steps.specs.Layout.{wait_word}
 use Rattle.mdl_steps.specs.WaitStates.{unsettled_state, wait_state}
 use Rattle.mdl_steps.proofs.Views.{by_bool, each_at, held_at-first, held_at-past}
-use Rattle.mdl_system.proofs.MemberLemmas.{Contains-map, Contains-map_from, Contains-none}
+use Rattle.mdl_system.proofs.MemberLemmas.{Contains-map_from, Contains-none}
 use Rattle.mdl_system.proofs.OrderLemmas.{Contains-cons_cases, middle}
 use Rattle.mdl_visits.specs.declared.audited.Audited.{Audited}
 use Rattle.mdl_visits.specs.declared.waits_read.WaitRead.{WaitRead}
 use Rattle.mdl_visits.specs.Idle.{HoldsNoLatch}
 use Rattle.mdl_visits.specs.Lookups.{TookDirectory}
-use Rattle.mdl_visits.specs.Searches.{AddsQueues, AreQueuesOf, EndsSearch, FindsFrom, HasTaken, IsOutcome, Judges, ReadsWaitsQuietly, SearchFinds, Searched, WasRead, books_of, but_searching, found_none, if_waited, put_searching, searches_after, settled_by}
+use Rattle.mdl_visits.specs.Searches.{EndsSearch, FindsFrom, HasTaken, IsOutcome, Judges, ReadsWaitsQuietly, SearchFinds, Searched, WasRead, books_of, but_searching, found_none, put_searching, searches_after, settled_by}
 use Rattle.mdl_visits.specs.Visits.{TakesDirectory, TakesLatch}
 use Rattle.mdl_visits.proofs.Lookups.{no_latches, some_there}
 use Rattle.mdl_visits.proofs.Seats.{mine}
@@ -48,9 +45,9 @@ use Rattle.mdl_visits.proofs.Seats.{mine}
 pub still : (a e : SeatState) → AtItsTable a e ReadsWaitsQuietly → but_searching a e ≡ e
 still a e reads = λ i. record e { me = (record e.me.0 { searches = ap (λ (m : Mine). m.0.searches) (sym reads.1.reads.now) i }, e.me.1) }
 
-pub ends_still : {E : Type 0} (result : Result Search E) (place last : ℕ) (lists : List Queues) (a e : SeatState) → AtItsTable a e ReadsWaitsQuietly
-    → EndsSearch result (FindsFrom place last lists a e) a e → EndsSearch result (FindsFrom place last lists a (but_searching a e)) a (but_searching a e)
-ends_still result place last lists a e reads ends = subst (λ (x : SeatState). EndsSearch result (FindsFrom place last lists a x) a x) (sym (still a e reads)) ends
+pub ends_still : {E : Type 0} (result : Result Search E) (place last : ℕ) (graph : GraphView) (a e : SeatState) → AtItsTable a e ReadsWaitsQuietly
+    → EndsSearch result (FindsFrom place last graph a e) a e → EndsSearch result (FindsFrom place last graph a (but_searching a e)) a (but_searching a e)
+ends_still result place last graph a e reads ends = subst (λ (x : SeatState). EndsSearch result (FindsFrom place last graph a x) a x) (sym (still a e reads)) ends
 
 -- a latch may be given back, whether the session has yet to search or not
 pub may_put_still : (place : ℕ) (c d : SeatState) → MayPut place [] (but_searching c d).me → MayPut place [] d.me
@@ -78,7 +75,7 @@ informed_still a c d e same put = ap (but_searching a) put
 -- what was found by steps of the session was found whether it has yet to search or not
 pub judges_still : (a e : SeatState) (who : ℕ) (latches : List LatchRecord) (audited : List Audited) (found : Search)
     → Judges a.table who latches audited found a.me (but_searching a e).me → Judges a.table who latches audited found a.me e.me
-judges_still a e who latches audited found judges = record { words = judges.words; all = judges.all; read = judges.read; outcome = by_found found judges.outcome }
+judges_still a e who latches audited found judges = record { words = judges.words; enough = judges.enough; read = judges.read; outcome = by_found found judges.outcome }
   where
     by_found : (f : Search) → IsOutcome a.table.slots who latches audited judges.words a.me (but_searching a e).me f → IsOutcome a.table.slots who latches audited judges.words a.me e.me f
     by_found NoCycle none = none
@@ -130,52 +127,25 @@ one_taken result place last searches within =
     let next : nat_lt (place + 1) (last + 1) ≡ true = grind (arith, nat_tests) in
     rw (e, next, here) refl)
 
--- ---- lists of books
-
--- books that have these lists
-abbrev books_with : List Queues → List Audited
-books_with lists = map (λ (q : Queues). record { place = 0; book = lock_of q.0 q.1.0 q.1.1 }) lists
-
-have_lists : (lists : List Queues) → AreQueuesOf (books_with lists) lists
-have_lists [] = refl
-have_lists (q ∷ lists) = ap (λ (qs : List Queues). q ∷ qs) (have_lists lists)
-
-lists_added : (one : Audited) (lists more : List Queues) → AddsQueues (if_waited one) lists more → more ≡ lists ++ map (λ (a : Audited). queues_of a.book) (if_waited one)
-lists_added one lists more added =
-    sym (added (books_with lists) (have_lists lists)) ∙ map-append (λ (a : Audited). queues_of a.book) (books_with lists) (if_waited one)
-    ∙ ap (λ (qs : List Queues). qs ++ map (λ (a : Audited). queues_of a.book) (if_waited one)) (have_lists lists)
-
 -- ---- the latches that are held
 
-pub has_taken_none : (last : ℕ) (lists : List Queues) (a b c : SeatState) (taken : TakesDirectory a b) → c ≡ b → HoldsNoLatch a.me → last ≡ length taken.1.keys → HasTaken 1 last lists c.me
-has_taken_none last lists a b c taken same idle count =
-    subst (HasTaken 1 last lists) (sym (mine (same ∙ taken.3))) (record {
+pub has_taken_none : (last : ℕ) (graph : GraphView) (a b c : SeatState) (taken : TakesDirectory a b) → c ≡ b → HoldsNoLatch a.me → last ≡ length taken.1.keys → IsGraphOf nobody [] graph
+    → HasTaken 1 last graph c.me
+has_taken_none last graph a b c taken same idle count built =
+    subst (HasTaken 1 last graph) (sym (mine (same ∙ taken.3))) (record {
       keys = taken.1;
       directory = refl;
       count = count;
       all = λ p some below. absurd (omega arith);
-      copied = λ h among waits. absurd (Contains-none h (subst (λ (hs : List LatchRecord). Contains hs h) (no_latches a.me idle) among));
+      books = [];
+      built = built;
+      added = λ h among. absurd (Contains-none h (subst (λ (hs : List LatchRecord). Contains hs h) (no_latches a.me idle) among));
     })
 
-module _ (place q last : ℕ) (lists more : List Queues) (a b c : SeatState) (taken : TakesLatch place a.me b.me) (same : c ≡ b) (held : HasTaken place last lists a.me)
-    (added : AddsQueues (if_waited (record { place = q; book = taken.0.book })) lists more) where
+module _ (place q last : ℕ) (graph more : GraphView) (a b c : SeatState) (taken : TakesLatch place a.me b.me) (same : c ≡ b) (held : HasTaken place last graph a.me)
+    (adds : AddsBook taken.0.book graph more) where
   abbrev h : LatchRecord
   h = taken.0
-
-  abbrev one : Audited
-  one = record { place = q; book = h.book }
-
-  waits_here : nat_lt 0 (length h.book.waiting) ≡ true → Contains more (queues_of h.book)
-  waits_here some =
-      let listed : map (λ (x : Audited). queues_of x.book) (if_waited one) ≡ queues_of h.book ∷ [] =
-      ap (λ (w : Bool). map (λ (x : Audited). queues_of x.book) (if w then one ∷ [] else [])) some in
-      subst (λ (qs : List Queues). Contains qs (queues_of h.book)) (sym (lists_added one lists more added ∙ ap (λ (qs : List Queues). lists ++ qs) listed))
-      (Contains-push lists (queues_of h.book))
-
-  waits_there : (g : LatchRecord) → Contains lists (queues_of g.book) → Contains more (queues_of g.book)
-  waits_there g there =
-      subst (λ (qs : List Queues). Contains qs (queues_of g.book)) (sym (lists_added one lists more added))
-      (Contains-append_left lists (map (λ (x : Audited). queues_of x.book) (if_waited one)) (queues_of g.book) there)
 
   pub has_taken_more : HasTaken (place + 1) last more c.me
   has_taken_more = subst (HasTaken (place + 1) last more) (sym (mine same ∙ taken.3.1)) (record {
@@ -186,11 +156,11 @@ module _ (place q last : ℕ) (lists more : List Queues) (a b c : SeatState) (ta
       | inl e ↦ (h, subst (λ (k : ℕ). held_at k (h ∷ a.me.0.latches) ≡ Some h) (sym e) (held_at-first place h a.me.0.latches taken.1.here))
       | inr apart ↦ (let was = held.all p some (omega arith) in (was.0, held_at-past place p h a.me.0.latches taken.1.here apart ∙ was.1))
     ];
-    copied = λ g among waits. elim (Contains-cons_cases h a.me.0.latches g among) [
-      | inl later ↦ waits_there g (held.copied g later waits)
-      | inr here ↦
-          subst (λ (x : LatchRecord). Contains more (queues_of x.book)) (sym here)
-          (waits_here (subst (λ (x : LatchRecord). nat_lt 0 (length x.book.waiting) ≡ true) here waits))
+    books = held.books ++ h.book ∷ [];
+    built = adds nobody held.books held.built;
+    added = λ g among. elim (Contains-cons_cases h a.me.0.latches g among) [
+      | inl later ↦ Contains-append_left held.books (h.book ∷ []) g.book (held.added g later)
+      | inr here ↦ subst (λ (x : LatchRecord). Contains (held.books ++ h.book ∷ []) x.book) (sym here) (Contains-push held.books h.book)
     ];
   })
 
@@ -201,10 +171,6 @@ any_found test xs found = let at = Any-from_list_any test xs found in (at.1, (at
 
 any_from : {T : Type 0} (test : T → Bool) (xs : List T) (x : T) → Contains xs x → test x ≡ true → list_any test xs ≡ true
 any_from test xs x among passes = list_any-from_Any test xs (among.0, x, among.1, among.2, passes)
-
-some_waits : (test : Ticket → Bool) (waiting : List Ticket) → list_any test waiting ≡ true → nat_lt 0 (length waiting) ≡ true
-some_waits test [] found = absurd (cc)
-some_waits test (t ∷ waiting) found = (let some : 0 < suc (length waiting) = omega arith in lt-ltb 0 (suc (length waiting)) some)
 
 leads_more : (few many : ℕ → ℕ → Bool) → ((x y : ℕ) → few x y ≡ true → many x y ≡ true) → (target session : ℕ) (rest : List ℕ)
     → leads few target session rest ≡ true → leads many target session rest ≡ true
@@ -220,22 +186,13 @@ cycle_more few many more from (first ∷ rest) is =
     let parts = and_parts begins (leads few from first rest) is in
     and_from begins (leads many from first rest) parts.0 (leads_more few many more from first rest parts.1)
 
--- each tie by the records is one by the lists, since a ticket waits by the record
-module _ (settled : SessionTest) (lists : List Queues) (latches : List LatchRecord)
-    (copied : (h : LatchRecord) → Contains latches h → nat_lt 0 (length h.book.waiting) ≡ true → Contains lists (queues_of h.book)) where
-  tied_by_lists : (x y : ℕ) → waits_for settled (map (λ (h : LatchRecord). h.book) latches) x y ≡ true → waits_for settled (books_of (books_with lists)) x y ≡ true
-  tied_by_lists x y tie =
+-- each tie by the records is one by the books
+module _ (settled : SessionTest) (books : List BookView) (latches : List LatchRecord) (added : (h : LatchRecord) → Contains latches h → Contains books h.book) where
+  tied_by_books : (x y : ℕ) → waits_for settled (map (λ (h : LatchRecord). h.book) latches) x y ≡ true → waits_for settled books x y ≡ true
+  tied_by_books x y tie =
       let at = any_found (λ (b : BookView). waits_at settled b x y) (map (λ (h : LatchRecord). h.book) latches) tie in
       let from = Contains-map_from (λ (h : LatchRecord). h.book) latches at.0 at.1 in
-      let h : LatchRecord = from.0 in
-      let waits : waits_at settled h.book x y ≡ true = subst (λ (b : BookView). waits_at settled b x y ≡ true) from.2 at.2 in
-      let parts = and_parts (is_unsettled settled x) (list_any (λ (t : Ticket). t.session == x && is_tied settled h.book y t) h.book.waiting) waits in
-      let some = some_waits (λ (t : Ticket). t.session == x && is_tied settled h.book y t) h.book.waiting parts.1 in
-      let listed = copied h from.1 some in
-      let q : Queues = queues_of h.book in
-      let one : Audited = record { place = 0; book = lock_of q.0 q.1.0 q.1.1 } in
-      any_from (λ (b : BookView). waits_at settled b x y) (books_of (books_with lists)) one.book
-      (Contains-map (λ (a : Audited). a.book) (books_with lists) one (Contains-map (λ (p : Queues). record { place = 0; book = lock_of p.0 p.1.0 p.1.1 }) lists q listed)) waits
+      any_from (λ (b : BookView). waits_at settled b x y) books at.0 (subst (λ (b : BookView). Contains books b) (sym from.2) (added from.0 from.1)) at.2
 
 -- ---- what the session sees
 
@@ -247,9 +204,17 @@ settled_same : (words : List WaitRead) (session : ℕ) → settled_in (map word_
 settled_same [] session = refl
 settled_same (r ∷ words) session = ap (λ (b : Bool). (r.session == session && not (wait_state r.word.0 == unsettled_state)) || b) (settled_same words session)
 
-module _ (lists : List Queues) (last : ℕ) (c d : SeatState) (held : HasTaken (last + 1) last lists c.me) (reads : AtItsTable c d ReadsWaitsQuietly) (finds : SearchFinds lists c d NoCycle) where
-  abbrev judged : Judges c.table c.me.0.number c.me.0.latches (books_with lists) NoCycle c.me d.me
-  judged = finds.0 (books_with lists) (have_lists lists)
+-- these books, each as if it were that of a place
+abbrev placed : List BookView → List Audited
+placed books = map (λ (b : BookView). record { place = 0; book = b }) books
+
+books_placed : (books : List BookView) → books_of (placed books) ≡ books
+books_placed [] = refl
+books_placed (b ∷ books) = ap (λ (bs : List BookView). b ∷ bs) (books_placed books)
+
+module _ (graph : GraphView) (last : ℕ) (c d : SeatState) (held : HasTaken (last + 1) last graph c.me) (reads : AtItsTable c d ReadsWaitsQuietly) (finds : SearchFinds graph c d NoCycle) where
+  abbrev judged : Judges c.table c.me.0.number c.me.0.latches (placed held.books) NoCycle c.me d.me
+  judged = finds.0 (placed held.books) (subst (λ (books : List BookView). IsGraphOf nobody books graph) (sym (books_placed held.books)) held.built)
 
   same_latches : d.me.0.latches ≡ c.me.0.latches
   same_latches = ap (λ (m : Mine). m.0.latches) reads.1.reads.now
@@ -267,12 +232,13 @@ module _ (lists : List Queues) (last : ℕ) (c d : SeatState) (held : HasTaken (
         was.5 ∙ sym same_latches,
       )
 
-  free : IsFree (settled_by judged.words) (books_of (books_with lists)) c.me.0.number
+  free : IsFree (settled_by judged.words) held.books c.me.0.number
   free =
       let settled = settled_by judged.words in
-      let books = books_of (books_with lists) in
       let who = c.me.0.number in
-      subst (λ o. MatchOption o (IsFree settled books who) (IsChosen settled books who)) judged.outcome.0 (deadlock_chosen settled books who)
+      let none : deadlock_in settled held.books who ≡ None =
+      ap (λ (books : List BookView). deadlock_in settled books who) (sym (books_placed held.books)) ∙ judged.outcome.0 in
+      subst (λ o. MatchOption o (IsFree settled held.books who) (IsChosen settled held.books who)) none (deadlock_chosen settled held.books who)
 
   none : (cycle : List ℕ) → IsCycleThrough (waits_for (settled_in (map word_of judged.words)) (map (λ (h : LatchRecord). h.book) d.me.0.latches)) d.me.0.number cycle → ⊥
   none cycle is =
@@ -280,8 +246,8 @@ module _ (lists : List Queues) (last : ℕ) (c d : SeatState) (held : HasTaken (
       let test : settled_in (map word_of judged.words) ≡ settled = λ i session. settled_same judged.words session i in
       let by_records = subst (λ (t : SessionTest). IsCycleThrough (waits_for t (map (λ (h : LatchRecord). h.book) c.me.0.latches)) c.me.0.number cycle) test
       (subst (λ (m : Mine). IsCycleThrough (waits_for (settled_in (map word_of judged.words)) (map (λ (h : LatchRecord). h.book) m.0.latches)) m.0.number cycle) reads.1.reads.now is) in
-      free cycle (cycle_more (waits_for settled (map (λ (h : LatchRecord). h.book) c.me.0.latches)) (waits_for settled (books_of (books_with lists)))
-      (tied_by_lists settled lists c.me.0.latches held.copied) c.me.0.number cycle by_records)
+      free cycle (cycle_more (waits_for settled (map (λ (h : LatchRecord). h.book) c.me.0.latches)) (waits_for settled held.books)
+      (tied_by_books settled held.books c.me.0.latches held.added) c.me.0.number cycle by_records)
 
   pub sees_none : SeesNoDeadlock d.table.slots d.me
   sees_none = record {
@@ -304,8 +270,8 @@ pub refused_still : (taken searches : Bool) → searches ≡ (not (taken && fals
 refused_still true searches = refl
 refused_still false searches = refl
 
-module _ (place q last : ℕ) (a b c d : SeatState) (at : q ≡ place) (taken : TakesLatch place a.me b.me) (table : b.table ≡ a.table) (same : c ≡ b) (lists more : List Queues)
-    (held : HasTaken place last lists a.me) (added : AddsQueues (if_waited (record { place = q; book = taken.0.book })) lists more) where
+module _ (place q last : ℕ) (a b c d : SeatState) (at : q ≡ place) (taken : TakesLatch place a.me b.me) (table : b.table ≡ a.table) (same : c ≡ b) (graph more : GraphView)
+    (held : HasTaken place last graph a.me) (adds : AddsBook taken.0.book graph more) where
   pub same_search : a.me.0.searches ≡ c.me.0.searches
   same_search = sym (ap (λ (m : Mine). m.0.searches) (mine same ∙ taken.3.1))
 
@@ -316,7 +282,7 @@ module _ (place q last : ℕ) (a b c d : SeatState) (at : q ≡ place) (taken : 
       let is : place ≡ last = eqb-true place last last_is in
       let ends = here (omega arith) in
       let finds : SearchFinds more c d NoCycle = subst (λ r. IfOk r (SearchFinds more c d)) (none_found result (sym told ∙ clear_is)) ends.found in
-      sees_none more last c d (subst (λ (k : ℕ). HasTaken (k + 1) last more c.me) is (has_taken_more place q last lists more a b c taken same held added)) ends.reads finds
+      sees_none more last c d (subst (λ (k : ℕ). HasTaken (k + 1) last more c.me) is (has_taken_more place q last graph more a b c taken same held adds)) ends.reads finds
 
   pub ended_here : {E : Type 0} (result : Result Search E) (clear : Bool) (e : SeatState) → clear ≡ found_none result → place ≤ last
       → e ≡ record d { me = put_searching q (not ((place == last) && clear) && d.me.0.searches) d.me }

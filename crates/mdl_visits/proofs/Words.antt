@@ -1,10 +1,11 @@
 -- The words of waits are read, or settled, while latches are held.
-use Rattle.std.proofs.Common.{◌≡◌, ℕ, suc, ◌+◌, true, false, List, [], ◌∷◌, ◌++◌, map, refl, sym, ap, ◌∙◌, subst, arith, append_assoc, append-nil}
-use Rattle.std.specs.Prelude.{All, Option}
+use Rattle.std.proofs.Common.{◌≡◌, ◌⊎◌, ℕ, true, false, List, [], ◌∷◌, ◌++◌, map, inl, inr, refl, sym, ap, ◌∙◌, subst, append_assoc, append-nil}
+use Rattle.std.specs.Prelude.{All, Contains, Option}
 use Rattle.std.proofs.lemmas.List.{map-append}
-use Rattle.std.proofs.lemmas.List.Elements.{All-nil, All-push, All-weaker}
+use Rattle.std.proofs.lemmas.List.Elements.{All-nil, All-push, All-weaker, Contains-append_cases, Contains-append_left, Contains-push}
 use Rattle.atomic_table.specs.Seated.{TableId}
 use Rattle.mdl_book.specs.SessionSets.{is_session}
+use Rattle.mdl_graph.specs.declared.cycle.Member.{Member}
 use Rattle.mdl_steps.specs.declared.step_kind.StepKind.{StepKind}
 use Rattle.mdl_steps.specs.declared.step_kind.StepKind.TheVariants.{ReadWait}
 use Rattle.mdl_steps.specs.declared.view.LatchRecord.{LatchRecord}
@@ -15,8 +16,10 @@ use Rattle.mdl_steps.specs.SeatStates.{AtItsTable, SeatState}
 use Rattle.mdl_steps.specs.Plays.{Mine}
 use Rattle.mdl_steps.specs.WaitPlays.{TellsOwn, meeting, met_wait_by, met_wait}
 use Rattle.mdl_steps.specs.WaitSeats.{IsSession}
+use Rattle.mdl_system.proofs.MemberLemmas.{Contains-none}
+use Rattle.mdl_system.proofs.OrderLemmas.{Contains-cons_cases}
 use Rattle.mdl_visits.specs.declared.waits_read.WaitRead.{WaitRead}
-use Rattle.mdl_visits.specs.Searches.{OnlyReadsWaits, ReadsWaitsQuietly, WasRead, sessions_to, with_waits_read}
+use Rattle.mdl_visits.specs.Searches.{AreRead, OnlyReadsWaits, ReadsWaitsQuietly, WasRead, with_waits_read}
 use Rattle.mdl_visits.specs.Visits.{AllQuiet, MakesMoreSteps, IsQuiet, kind_raises_flags}
 use Rattle.mdl_visits.proofs.Asking.{goes_nowhere, step_within}
 use Rattle.mdl_visits.proofs.Seats.{mine, table_of}
@@ -103,37 +106,80 @@ was_read slots r m m′ met =
     let e : StepRecord = record { kind = ReadWait; deeds = []; word = wait_word slots r.session; found = r.word.0; held = m.0.latches; directory = m.0.directory } in
     (e, ([], [], ap (λ (x : Mine). x.0.log) met ∙ ap (λ (log : List StepRecord). log ++ e ∷ []) (sym (append-nil m.0.log))), refl, refl, refl, refl)
 
--- the words of the sessions up to so many
-pub record AreUpTo (last : ℕ) (words : List WaitRead) (s s′ : SeatState) : Type 0 where
-  pub sessions : map (λ (r : WaitRead). r.session) words ≡ sessions_to last
-  pub each : All (λ (r : WaitRead). IsSession s.table r.session × (is_session r.session ≡ true)) words
-  pub read : All (WasRead s.table.slots s.me.0.latches s.me s′.me) words
+-- the sessions of requests, and of words
+abbrev wishing : List Member → List ℕ
+wishing wishes = map (λ (wish : Member). wish.session) wishes
 
-sessions_more : (n : ℕ) → sessions_to (n + 1) ≡ sessions_to n ++ (n + 1) ∷ []
-unfolding sessions_to
-sessions_more n = let is : suc n ≡ n + 1 = omega arith in subst (λ (k : ℕ). sessions_to k ≡ sessions_to n ++ k ∷ []) is refl
+abbrev read_of_all : List WaitRead → List ℕ
+read_of_all words = map (λ (r : WaitRead). r.session) words
 
-pub none_read : (words : List WaitRead) (s : SeatState) → words ≡ [] → AreUpTo 0 words s s
-unfolding sessions_to
+pub none_read : (words : List WaitRead) (s : SeatState) → words ≡ [] → AreRead [] words s s
 none_read words s none =
-    subst (λ (xs : List WaitRead). AreUpTo 0 xs s s) (sym none) (record {
-      sessions = refl;
-      each = All-nil (λ (r : WaitRead). IsSession s.table r.session × (is_session r.session ≡ true));
-      read = All-nil (WasRead s.table.slots s.me.0.latches s.me s.me);
-    })
+    subst (λ (xs : List WaitRead). AreRead [] xs s s) (sym none) (
+      record {
+        each = All-nil (λ (r : WaitRead). IsSession s.table r.session × (is_session r.session ≡ true));
+        every = λ session is valid waits. absurd (Contains-none session waits);
+      },
+      All-nil (WasRead s.table.slots s.me.0.latches s.me s.me),
+    )
 
-pub one_read : (last : ℕ) (words more : List WaitRead) (r : WaitRead) (a b c : SeatState) → AreUpTo last words a b → AtItsTable a b ReadsWaitsQuietly → AtItsTable b c ReadsWaitsQuietly
-    → r.session ≡ last + 1 → IsSession a.table (last + 1) → is_session (last + 1) ≡ true → more ≡ words ++ r ∷ [] → WasRead b.table.slots b.me.0.latches b.me c.me r
-    → AreUpTo (last + 1) more a c
-one_read last words more r a b c are before after next known one pushed was =
+module _ (wishes : List Member) (wish : Member) (session : ℕ) where
+  earlier_or_last : Contains (wishing (wishes ++ wish ∷ [])) session → Contains (wishing wishes) session ⊎ (wish.session ≡ session)
+  earlier_or_last waits =
+      let parts = subst (λ (xs : List ℕ). Contains xs session) (map-append (λ (w : Member). w.session) wishes (wish ∷ [])) waits in
+      elim (Contains-append_cases (wishing wishes) (wish.session ∷ []) session parts) [
+        | inl earlier ↦ inl earlier
+        | inr last ↦ elim (Contains-cons_cases wish.session [] session last) [
+          | inl none ↦ absurd (Contains-none session none)
+          | inr here ↦ inr (sym here)
+        ]
+      ]
+
+module _ (words : List WaitRead) (r : WaitRead) (session : ℕ) where
+  joined : read_of_all (words ++ r ∷ []) ≡ read_of_all words ++ r.session ∷ []
+  joined = map-append (λ (x : WaitRead). x.session) words (r ∷ [])
+
+  met_still : Contains (read_of_all words) session → Contains (read_of_all (words ++ r ∷ [])) session
+  met_still before = subst (λ (xs : List ℕ). Contains xs session) (sym joined) (Contains-append_left (read_of_all words) (r.session ∷ []) session before)
+
+  met_now : r.session ≡ session → Contains (read_of_all (words ++ r ∷ [])) session
+  met_now same = subst (λ (xs : List ℕ). Contains xs session) (sym joined)
+      (subst (λ (n : ℕ). Contains (read_of_all words ++ r.session ∷ []) n) same (Contains-push (read_of_all words) r.session))
+
+-- one request more, and the word of its session's wait
+pub one_read : (wishes : List Member) (wish : Member) (words more : List WaitRead) (r : WaitRead) (a b c : SeatState) → AreRead wishes words a b → AtItsTable a b ReadsWaitsQuietly
+    → AtItsTable b c ReadsWaitsQuietly → r.session ≡ wish.session → IsSession b.table wish.session → is_session wish.session ≡ true → more ≡ words ++ r ∷ []
+    → WasRead b.table.slots b.me.0.latches b.me c.me r → AreRead (wishes ++ wish ∷ []) more a c
+one_read wishes wish words more r a b c are before after same known valid pushed was =
     let Was : Mine → WaitRead → Type 0 = λ m. WasRead a.table.slots a.me.0.latches m c.me in
     let here = at_first a b before (λ id latches who. WasRead id.slots latches b.me c.me r) was in
-    subst (λ (xs : List WaitRead). AreUpTo (last + 1) xs a c) (sym pushed) (record {
-      sessions = map-append (λ (x : WaitRead). x.session) words (r ∷ []) ∙ ap (λ (xs : List ℕ). xs ++ r.session ∷ []) are.sessions
-          ∙ ap (λ (n : ℕ). sessions_to last ++ n ∷ []) next ∙ sym (sessions_more last);
-      each = All-push (λ (x : WaitRead). IsSession a.table x.session × (is_session x.session ≡ true)) words r are.each
-          (subst (λ (n : ℕ). IsSession a.table n × (is_session n ≡ true)) (sym next) (known, one));
-      read = All-push (Was a.me) words r
-          (all_within a.table.slots a.me.0.latches a.me a.me b.me c.me words (goes_nowhere a.me) (goes_reading b.me c.me after.1) are.read)
-          (here.0, step_within a.me b.me c.me c.me here.0 (goes_reading a.me b.me before.1) here.1 (goes_nowhere c.me), here.2, here.3, here.4, here.5);
-    })
+    let there : IsSession a.table wish.session = at_first a b before (λ id latches who. IsSession id wish.session) known in
+    subst (λ (xs : List WaitRead). AreRead (wishes ++ wish ∷ []) xs a c) (sym pushed) (
+      record {
+        each = All-push (λ (x : WaitRead). IsSession a.table x.session × (is_session x.session ≡ true)) words r are.0.each
+            (subst (λ (n : ℕ). IsSession a.table n × (is_session n ≡ true)) (sym same) (there, valid));
+        every = λ session is right waits. elim (earlier_or_last wishes wish session waits) [
+          | inl earlier ↦ met_still words r session (are.0.every session is right earlier)
+          | inr its ↦ met_now words r session (same ∙ its)
+        ];
+      },
+      All-push (Was a.me) words r
+          (all_within a.table.slots a.me.0.latches a.me a.me b.me c.me words (goes_nowhere a.me) (goes_reading b.me c.me after.1) are.1)
+          (here.0, step_within a.me b.me c.me c.me here.0 (goes_reading a.me b.me before.1) here.1 (goes_nowhere c.me), here.2, here.3, here.4, here.5),
+    )
+
+-- one request more, whose session the table doesn't have
+pub passed_over : (wishes : List Member) (wish : Member) (words : List WaitRead) (a b : SeatState) → AreRead wishes words a b → AtItsTable a b ReadsWaitsQuietly
+    → (IsSession b.table wish.session → is_session wish.session ≡ true → ⊥) → AreRead (wishes ++ wish ∷ []) words a b
+passed_over wishes wish words a b are before none = (
+  record {
+    each = are.0.each;
+    every = λ session is right waits. elim (earlier_or_last wishes wish session waits) [
+      | inl earlier ↦ are.0.every session is right earlier
+      | inr its ↦
+          absurd (none (subst (λ (n : ℕ). IsSession b.table n) (sym its) (subst (λ (id : TableId). IsSession id session) (sym before.0) is))
+          (subst (λ (n : ℕ). is_session n ≡ true) (sym its) right))
+    ];
+  },
+  are.1,
+)

@@ -1,20 +1,20 @@
 -- A search for a deadlock: what a session meets and does while it has the latches of all places that have a key.
-use Rattle.std.specs.Prelude.{◌≡◌, ◌≢◌, ◌⊎◌, ℕ, zero, suc, ◌<◌, ◌≤◌, ◌==◌, ◌&&◌, nat_lt, not, Bool, true, false, if◌then◌else◌, List, [], ◌∷◌, ◌++◌, length, map, find, All, Contains, Option, Some, None, IfSome, MatchOption, Result, Ok, Err, IfOk, OnErr}
+use Rattle.std.specs.Prelude.{◌≡◌, ◌≢◌, ◌⊎◌, ℕ, ◌<◌, ◌==◌, ◌&&◌, not, Bool, true, false, List, [], ◌∷◌, ◌++◌, length, map, find, All, Contains, Option, Some, None, IfSome, MatchOption, Result, Ok, Err, IfOk, OnErr}
 use Rattle.std.specs.List.{list_any}
 use Rattle.atomic_table.specs.Seated.{TableId}
 use Rattle.mdl_book.specs.declared.book_view.BookView.{BookView}
 use Rattle.mdl_book.specs.SessionSets.{is_session}
 use Rattle.mdl_calls.specs.declared.answers.Search.{Search}
 use Rattle.mdl_calls.specs.declared.answers.Search.TheVariants.{NoCycle, Victim}
-use Rattle.mdl_graph.specs.Graphs.{deadlock_in, victim_in}
-use Rattle.mdl_graph.specs.WaitsFor.{SessionTest}
+use Rattle.mdl_graph.specs.declared.cycle.Member.{Member}
+use Rattle.mdl_graph.specs.Graphs.{GraphView, IsGraphOf, deadlock_in, victim_in}
+use Rattle.mdl_graph.specs.WaitsFor.{SessionTest, nobody, wishes_in}
 use Rattle.mdl_steps.specs.declared.step_kind.StepKind.TheVariants.{PutLatch, ReadWait, SettleWait}
 use Rattle.mdl_steps.specs.declared.view.LatchRecord.{LatchRecord}
 use Rattle.mdl_steps.specs.declared.view.Keys.{Keys}
 use Rattle.mdl_steps.specs.declared.view.StepRecord.{StepRecord}
 use Rattle.mdl_steps.specs.declared.view.Settlement.{Settlement}
 use Rattle.mdl_steps.specs.declared.wait_word.Loss.TheVariants as loss
-use Rattle.mdl_steps.specs.Copies.{Queues, queues_of}
 use Rattle.mdl_steps.specs.Cells.{held_at}
 use Rattle.mdl_steps.specs.Layout.{latch_word, wait_word}
 use Rattle.mdl_steps.specs.Plays.{Mine, dropped, logged}
@@ -36,17 +36,11 @@ use Rattle.mdl_visits.specs.Visits.{AllQuiet, IsStepOf, deeds_of}
 abbrev pub settled_by : List WaitRead → SessionTest
 settled_by words session = list_any (λ (r : WaitRead). r.session == session && not (wait_state r.word.0 == unsettled_state)) words
 
--- the sessions from 1 to a number
-unfoldable pub sessions_to : ℕ → List ℕ
-sessions_to zero = []
-sessions_to (suc n) = sessions_to n ++ suc n ∷ []
-
--- these are the words of all sessions of the table, each once, in order
-pub record AreOfAll (id : TableId) (words : List WaitRead) : Type 0 where
-  pub last : ℕ
-  pub sessions : map (λ (r : WaitRead). r.session) words ≡ sessions_to last
+-- these are words of waits, among them those of all sessions of the table that have one of these requests
+pub record AreOfWishes (id : TableId) (wishes : List Member) (words : List WaitRead) : Type 0 where
   pub each : All (λ (r : WaitRead). IsSession id r.session × (is_session r.session ≡ true)) words
-  pub every : (session : ℕ) → IsSession id session → is_session session ≡ true → session ≤ last
+  pub every : (session : ℕ) → IsSession id session → is_session session ≡ true → Contains (map (λ (wish : Member). wish.session) wishes) session
+      → Contains (map (λ (r : WaitRead). r.session) words) session
 
 -- one of the steps between the two read this word, while the session had just these latches
 abbrev pub WasRead : ℕ → List LatchRecord → Mine → Mine → WaitRead → Type 0
@@ -68,21 +62,21 @@ WasOther slots m m′ r = (wait_state r.word.0 ≢ unsettled_state) ⊎ ((e : St
 
 -- ---- what is found
 
--- the books that were copied
+-- the books that were met
 abbrev pub books_of : List Audited → List BookView
 books_of audited = map (λ (a : Audited). a.book) audited
 
--- these are the lists of the books, each with its lock's namespace
-abbrev pub AreQueuesOf : List Audited → List Queues → Type 0
-AreQueuesOf audited lists = map (λ (a : Audited). queues_of a.book) audited ≡ lists
+-- the graph was built of these books, with nobody settled
+abbrev pub IsBuiltOf : List Audited → GraphView → Type 0
+IsBuiltOf audited graph = IsGraphOf nobody (books_of audited) graph
 
--- by these lists and words this is the victim of the cycle in which a session waits, if it waits in one
-abbrev pub IsVictimBy : List Queues → List WaitRead → ℕ → Option ℕ → Type 0
-IsVictimBy lists words from found = (audited : List Audited) → AreQueuesOf audited lists → found ≡ victim_in (settled_by words) (books_of audited) from
+-- by the books of this graph and these words this is the victim of the cycle in which a session waits, if it waits in one
+abbrev pub IsVictimBy : GraphView → List WaitRead → ℕ → Option ℕ → Type 0
+IsVictimBy graph words from found = (audited : List Audited) → IsBuiltOf audited graph → found ≡ victim_in (settled_by words) (books_of audited) from
 
--- the lists of more books are added to the end of those of any before
-abbrev pub AddsQueues : List Audited → List Queues → List Queues → Type 0
-AddsQueues more lists lists′ = (copied : List Audited) → AreQueuesOf copied lists → AreQueuesOf (copied ++ more) lists′
+-- these words suffice to judge by: they are those of all sessions that wait by these books, or a session is in no cycle even if nobody is settled
+abbrev pub AreEnough : TableId → ℕ → List Audited → List WaitRead → Type 0
+AreEnough id who audited words = AreOfWishes id (wishes_in nobody (books_of audited)) words ⊎ (deadlock_in nobody (books_of audited) who ≡ None)
 
 -- one of the steps between the two met the unsettled wait of a session and settled it, as the victim's, while the session that searches had just
 -- these latches, and no other wait was settled
@@ -108,33 +102,30 @@ abbrev pub KnowsVictim : ℕ → Search → Mine → Type 0
 KnowsVictim who NoCycle m = Unit {0}
 KnowsVictim who (Victim victim) m = victim ≡ who → m.0.told ≡ Some (lost_state loss.Victim)
 
--- this is the outcome by the words of all sessions' waits, as steps between the two met them while the session had just these latches, and by these books
+-- this is the outcome by the words of waits, as steps between the two met them while the session had just these latches, and by these books. The words
+-- are those of all sessions that wait by the books, or no word could change the outcome
 pub record Judges (id : TableId) (who : ℕ) (latches : List LatchRecord) (audited : List Audited) (found : Search) (m m′ : Mine) : Type 0 where
   pub words : List WaitRead
-  pub all : AreOfAll id words
+  pub enough : AreEnough id who audited words
   pub read : All (WasRead id.slots latches m m′) words
   pub outcome : IsOutcome id.slots who latches audited words m m′ found
 
--- by the words of all sessions' waits, as steps between the two met them, and by these books this was the victim, but the word of its wait was another one
--- by then
+-- by the words of the waits of all sessions that wait by these books, as steps between the two met them, this was the victim, but the word of its wait was
+-- another one by then
 pub record MissesVictim (id : TableId) (who : ℕ) (latches : List LatchRecord) (audited : List Audited) (m m′ : Mine) : Type 0 where
   pub words : List WaitRead
-  pub all : AreOfAll id words
+  pub all : AreOfWishes id (wishes_in nobody (books_of audited)) words
   pub read : All (WasRead id.slots latches m m′) words
   pub victim : ℕ
   pub found : victim_in (settled_by words) (books_of audited) who ≡ Some victim
   pub other : IfSome (read_of victim words) (WasOther id.slots m m′)
 
--- this place's book alone, if a ticket waits there, otherwise no book
-abbrev pub if_waited : Audited → List Audited
-if_waited a = if nat_lt 0 (length a.book.waiting) then a ∷ [] else []
-
 -- at one moment the session had the latches of the places from one to another, beside those of lower ones. This is the outcome by their books as they were
--- then, and by those that were copied before
-pub record Searches (id : TableId) (who place last : ℕ) (copied : List Audited) (found : Search) (m m′ : Mine) : Type 0 where
+-- then, and by those that were met before
+pub record Searches (id : TableId) (who place last : ℕ) (before : List Audited) (found : Search) (m m′ : Mine) : Type 0 where
   pub books : List Audited
   pub gathers : Gathers place last [] books m m′
-  pub judges : Judges id who gathers.latches (copied ++ books) found m m′
+  pub judges : Judges id who gathers.latches (before ++ books) found m m′
 
 -- at one step between the two the session had this record of the directory's latch and the latches of the places of all its keys. This is the outcome by
 -- their books as they were then
@@ -172,9 +163,10 @@ pub record ReadsWaitsQuietly (m m′ : Mine) : Type 0 where
 abbrev pub OnlyReadsWaits : SeatState → SeatState → Type 0
 OnlyReadsWaits s s′ = AtItsTable s s′ ReadsWaitsQuietly × SettlesNothing s.me s′.me
 
--- these are the words of all sessions' waits, as steps between the two met them, while the session had just the latches that it had at first
-abbrev pub AreRead : List WaitRead → SeatState → SeatState → Type 0
-AreRead words s s′ = AreOfAll s.table words × All (WasRead s.table.slots s.me.0.latches s.me s′.me) words
+-- these are the words of the waits of all sessions that have one of these requests, as steps between the two met them, while the session had just the
+-- latches that it had at first
+abbrev pub AreRead : List Member → List WaitRead → SeatState → SeatState → Type 0
+AreRead wishes words s s′ = AreOfWishes s.table wishes words × All (WasRead s.table.slots s.me.0.latches s.me s′.me) words
 
 -- ---- who has yet to search
 
@@ -203,14 +195,16 @@ pub record MayPutSearched (place : ℕ) (all_held none : Bool) (s : SeatState) :
   pub put : MayPut place [] s.me
   pub sees : all_held ≡ true → none ≡ true → SeesNoDeadlock s.table.slots s.me
 
--- the session holds the directory's latch, and the latches of the places before one. These are the lists of the books by their records, at least of those
--- by which a ticket waits
-pub record HasTaken (place last : ℕ) (lists : List Queues) (m : Mine) : Type 0 where
+-- the session holds the directory's latch, and the latches of the places before one. The graph was built of books, among them those of its records of
+-- these latches
+pub record HasTaken (place last : ℕ) (graph : GraphView) (m : Mine) : Type 0 where
   pub keys : Keys
   pub directory : m.0.directory ≡ Some keys
   pub count : last ≡ length keys.keys
   pub all : (p : ℕ) → 0 < p → p < place → (h : LatchRecord) × (held_at p m.0.latches ≡ Some h)
-  pub copied : (h : LatchRecord) → Contains m.0.latches h → nat_lt 0 (length h.book.waiting) ≡ true → Contains lists (queues_of h.book)
+  pub books : List BookView
+  pub built : IsGraphOf nobody books graph
+  pub added : (h : LatchRecord) → Contains m.0.latches h → Contains books h.book
 
 -- ---- what the parts of a search come to
 
@@ -227,21 +221,21 @@ pub record EndsSearch {T E : Type 0} (result : Result T E) (Comes : T → Type 0
   pub found : IfOk result Comes
   pub nothing : OnErr result (SettlesNothing s.me s′.me)
 
--- this is the outcome by these lists, of whichever books they are
-abbrev pub SearchFinds : List Queues → SeatState → SeatState → Search → Type 0
-SearchFinds lists s s′ found =
-    ((audited : List Audited) → AreQueuesOf audited lists → Judges s.table s.me.0.number s.me.0.latches audited found s.me s′.me)
+-- this is the outcome by the books of this graph
+abbrev pub SearchFinds : GraphView → SeatState → SeatState → Search → Type 0
+SearchFinds graph s s′ found =
+    ((audited : List Audited) → IsBuiltOf audited graph → Judges s.table s.me.0.number s.me.0.latches audited found s.me s′.me)
     × KnowsVictim s.me.0.number found s′.me
 
 -- likewise, or there is no outcome, since the word of the victim's wait was another one by then
-abbrev pub FindsAtOnce : List Queues → SeatState → SeatState → Option Search → Type 0
-FindsAtOnce lists s s′ tried =
+abbrev pub FindsAtOnce : GraphView → SeatState → SeatState → Option Search → Type 0
+FindsAtOnce graph s s′ tried =
     MatchOption tried
-    (SettlesNothing s.me s′.me × ((audited : List Audited) → AreQueuesOf audited lists → MissesVictim s.table s.me.0.number s.me.0.latches audited s.me s′.me))
-    (SearchFinds lists s s′)
+    (SettlesNothing s.me s′.me × ((audited : List Audited) → IsBuiltOf audited graph → MissesVictim s.table s.me.0.number s.me.0.latches audited s.me s′.me))
+    (SearchFinds graph s s′)
 
--- this is the outcome by these lists, of whichever books they are, and by the books of the places from one to another
-abbrev pub FindsFrom : ℕ → ℕ → List Queues → SeatState → SeatState → Search → Type 0
-FindsFrom place last lists s s′ found =
-    ((copied : List Audited) → AreQueuesOf copied lists → Searches s.table s.me.0.number place last copied found s.me s′.me)
+-- this is the outcome by the books of this graph, and by the books of the places from one to another
+abbrev pub FindsFrom : ℕ → ℕ → GraphView → SeatState → SeatState → Search → Type 0
+FindsFrom place last graph s s′ found =
+    ((before : List Audited) → IsBuiltOf before graph → Searches s.table s.me.0.number place last before found s.me s′.me)
     × KnowsVictim s.me.0.number found s′.me

@@ -8,22 +8,28 @@ ghost use Rattle.mdl_visits.specs.Searches.{EndsSearch, FindsAtOnce, SearchFinds
 use crate::victim::find_victim;
 use crate::waits_read::{WaitRead, read_waits};
 use mdl_calls::Search;
-use mdl_steps::{ListCopies, Loss, TableSeat, WaitWord};
+use mdl_graph::WaitGraph;
+use mdl_steps::{Loss, TableSeat, WaitWord};
 use std::alloc::{AllocError, Global};
 use std::sync::Wait;
 
-/// Searches for a deadlock that the session waits in, by the lists of these locks, while it holds the latches of all places, and settles
-/// the wait of the victim. If another session settles that wait first, the search is repeated. After `MDL_context::find_deadlock`.
+/// Searches for a deadlock that the session waits in, by this graph of all books, while it holds the latches of all places, and settles the
+/// wait of the victim. The words of waits are read only if the graph has a cycle. If another session settles the victim's wait
+/// first, the search is repeated. After `MDL_context::find_deadlock`.
 pub(crate) fn settle_victim<R: Wait>(
     rt: &R,
     seat: &mut TableSeat,
     alloc: Global,
-    lists: &ListCopies,
+    graph: &WaitGraph,
 ) -> Result<Search, AllocError>
-    ensures { EndsSearch result (SearchFinds lists.now seat.old seat.new) seat.old seat.new }
+    ensures { EndsSearch result (SearchFinds graph.now seat.old seat.new) seat.old seat.new }
 {
+    let cycle = graph.find_cycle(seat.number())?;
+    if cycle.is_none() {
+        return Ok(Search::NoCycle);
+    }
     for _ in rt.forever() {
-        if let Some(found) = settle_victim_once(seat, alloc, lists)? {
+        if let Some(found) = settle_victim_once(seat, alloc, graph)? {
             return Ok(found);
         }
     }
@@ -34,13 +40,13 @@ pub(crate) fn settle_victim<R: Wait>(
 fn settle_victim_once(
     seat: &mut TableSeat,
     alloc: Global,
-    lists: &ListCopies,
+    graph: &WaitGraph,
 ) -> Result<Option<Search>, AllocError>
-    ensures { EndsSearch result (FindsAtOnce lists.now seat.old seat.new) seat.old seat.new }
+    ensures { EndsSearch result (FindsAtOnce graph.now seat.old seat.new) seat.old seat.new }
 {
     let mut words = Vec::new(alloc);
-    read_waits(seat, &mut words)?;
-    match find_victim(alloc, lists, &words, seat.number())? {
+    read_waits(seat, graph.wishes(), &mut words)?;
+    match find_victim(graph, &words, seat.number())? {
         None => Ok(Some(Search::NoCycle)),
         Some(victim) if settle_wait_of(seat, victim, &words) => Ok(Some(Search::Victim(victim))),
         Some(_) => Ok(None),

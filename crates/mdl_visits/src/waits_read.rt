@@ -1,8 +1,9 @@
-//! A session reads the words of all sessions' waits.
+//! A session reads the words of other sessions' waits.
 ghost use Rattle.std.specs.Prelude.{◌≡◌, [], OnOk};
 ghost use Rattle.mdl_steps.specs.WaitSeats.{IsSession};
 ghost use Rattle.mdl_visits.specs.Searches.{AddsRead, AreRead, OnlyReadsWaits};
 
+use mdl_graph::Member;
 use mdl_steps::{TableSeat, WaitWord};
 use std::alloc::AllocError;
 
@@ -18,20 +19,21 @@ pub struct WaitRead {
     pub word: WaitWord,
 }
 
-/// Reads the words of all sessions' waits into an empty list.
-pub(crate) fn read_waits(seat: &mut TableSeat, words: &mut Vec<WaitRead>) -> Result<(), AllocError>
+/// Reads the words of the waits of all sessions that have one of these requests into an empty list.
+pub(crate) fn read_waits(
+    seat: &mut TableSeat,
+    wishes: &[Member],
+    words: &mut Vec<WaitRead>,
+) -> Result<(), AllocError>
     requires empty { words.old.items ≡ [] }
     ensures reads { OnlyReadsWaits seat.old seat.new }
-    ensures all { OnOk result (AreRead words.new.items seat.old seat.new) }
+    ensures all { OnOk result (AreRead wishes.now words.new.items seat.old seat.new) }
 {
-    let sessions = seat.session_count();
-    words.reserve(usize::from(GREATEST_SESSION).min(sessions))?;
-    for before in 0..GREATEST_SESSION {
-        let session = before + 1;
-        if !seat.has_session(session) {
-            return Ok(());
+    words.reserve(wishes.len())?;
+    for wish in wishes {
+        if wish.session <= GREATEST_SESSION && seat.has_session(wish.session) {
+            add_wait(seat, wish.session, words)?;
         }
-        add_wait(seat, session, words)?;
     }
     Ok(())
 }

@@ -1,6 +1,6 @@
 -- The victim of a search for a deadlock, by the table's system just before the step that settles the victim's wait.
 --
--- A search judges by the books of all places and by the words of all sessions' waits. While the session has the latches, the books can't change, so the
+-- A search judges by the books of all places and by the words of the waits there. While the session has the latches, the books can't change, so the
 -- requests and the granted tickets that it judges by stand. But any session may settle a wait at any time. So the waits of members that the search met
 -- unsettled may be lost by then, and what it found is a standing deadlock.
 use Rattle.std.specs.Prelude.{◌≡◌, ℕ, List, length, All, Contains, IsFalse, IsTrue, Some}

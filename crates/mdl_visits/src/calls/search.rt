@@ -1,18 +1,20 @@
-//! A search for a deadlock: the latches of all places that have a key are taken one after the other, and the books are searched once all
-//! are taken. Only the lists of locks with a waiting ticket are copied: at the others no session waits for another.
-ghost use Rattle.std.specs.Prelude.{◌≡◌, ℕ, ◌+◌, ◌&&◌, not, nat_lt, true, [], IfOk, OnErr, OnOk};
+//! A search for a deadlock: the latches of all places that have a key are taken one after the other. Each book is added to a graph as its
+//! latch is taken, and the graph is searched once all are taken.
+ghost use Rattle.std.specs.Prelude.{◌≡◌, ℕ, ◌+◌, ◌&&◌, not, nat_lt, true, [], IfOk, OnErr};
 ghost use Rattle.mdl_steps.specs.Deeds.{KnowsPlace};
-ghost use Rattle.mdl_steps.specs.SeatStates.{AtItsTable, HoldsBook, OfBook};
+ghost use Rattle.mdl_steps.specs.SeatStates.{AtItsTable};
 ghost use Rattle.mdl_visits.specs.Audits.{MayTakeAll};
 ghost use Rattle.mdl_visits.specs.Idle.{MayTakeLatches};
 ghost use Rattle.mdl_visits.specs.Lookups.{AsksDirectory};
 ghost use Rattle.mdl_visits.specs.Polls.{SettlesNothing};
-ghost use Rattle.mdl_visits.specs.Searches.{AddsQueues, EndsSearch, FindsFrom, HasTaken, KnowsVictim, MayPutSearched, ReadsWaits, SearchFinds, Searched, but_searching, found_none, if_waited, put_searching, searches_after};
+ghost use Rattle.mdl_visits.specs.Searches.{EndsSearch, FindsFrom, HasTaken, KnowsVictim, MayPutSearched, ReadsWaits, SearchFinds, Searched, but_searching, found_none, put_searching, searches_after};
 
 use crate::latches::{await_directory, await_latch};
 use crate::settle_victim::settle_victim;
+use mdl_book::Sessions;
 use mdl_calls::Search;
-use mdl_steps::{Latched, ListCopies, TableSeat};
+use mdl_graph::WaitGraph;
+use mdl_steps::{Latched, TableSeat};
 use std::alloc::{AllocError, Global};
 use std::sync::Wait;
 
@@ -34,37 +36,36 @@ pub fn search_deadlock<R: Wait>(
 {
     let directory = await_directory(rt, seat);
     let last = seat.key_count(&directory);
-    let mut lists = ListCopies::new(alloc);
-    let outcome = search_from(rt, seat, alloc, 1, last, &mut lists);
+    let mut graph = WaitGraph::new(alloc, Sessions::new()); // so far nobody's wait is known to be settled
+    let outcome = search_from(rt, seat, alloc, 1, last, &mut graph);
     seat.put_directory(directory, 0);
     outcome
 }
 
-// Adds the lists of the places from `place` to `last` that have a waiting ticket to others, and searches by all of them while their
-// latches are held.
+// Adds the books of the places from `place` to `last` to the graph, and searches it while the latches are held.
 fn search_from<R: Wait>(
     rt: &R,
     seat: &mut TableSeat,
     alloc: Global,
     place: usize,
     last: usize,
-    lists: &mut ListCopies,
+    graph: &mut WaitGraph,
 ) -> Result<Search, AllocError>
     requires through { MayTakeAll place last seat.old }
-    requires taken { HasTaken place last lists.old seat.old.me }
-    ensures ends { EndsSearch result (FindsFrom place last lists.old seat.old (but_searching seat.old seat.new)) seat.old (but_searching seat.old seat.new) }
-    ensures here { place ≡ last + 1 → EndsSearch result (SearchFinds lists.old seat.old seat.new) seat.old seat.new }
+    requires taken { HasTaken place last graph.old seat.old.me }
+    ensures ends { EndsSearch result (FindsFrom place last graph.old seat.old (but_searching seat.old seat.new)) seat.old (but_searching seat.old seat.new) }
+    ensures here { place ≡ last + 1 → EndsSearch result (SearchFinds graph.old seat.old seat.new) seat.old seat.new }
     ensures ended { seat.new.me.0.searches ≡ searches_after result (nat_lt place (last + 1)) seat.old.me.0.searches }
 {
     if place > last {
-        return settle_victim(rt, seat, alloc, lists);
+        return settle_victim(rt, seat, alloc, graph);
     }
     let latch = await_latch(rt, seat, place);
-    if let Err(AllocError) = add_if_waited(seat, &latch, lists) {
+    if let Err(AllocError) = seat.add_to_graph(&latch, graph) {
         seat.put_latch(latch, &[]);
         return Err(AllocError);
     }
-    let outcome = search_from(rt, seat, alloc, place + 1, last, lists);
+    let outcome = search_from(rt, seat, alloc, place + 1, last, graph);
     let none = finds_none(&outcome);
     put_once_searched(seat, latch, place == last, none);
     outcome
@@ -86,22 +87,5 @@ fn put_once_searched(seat: &mut TableSeat, latch: Latched, all_held: bool, none:
         seat.put_latch_searched(latch);
     } else {
         seat.put_latch(latch, &[]);
-    }
-}
-
-// Adds the lists of the book in hand to others, if it has a waiting ticket.
-fn add_if_waited(
-    seat: &mut TableSeat,
-    latch: &Latched,
-    lists: &mut ListCopies,
-) -> Result<(), AllocError>
-    requires carried { HoldsBook latch.now.place seat.old }
-    ensures same { seat.new ≡ seat.old }
-    ensures added { OfBook latch.now.place seat.old (λ book. OnOk result (AddsQueues (if_waited (record { place = latch.now.place; book = book })) lists.old lists.new)) }
-{
-    if seat.has_waiters(latch) {
-        seat.copy_lists(latch, lists)
-    } else {
-        Ok(())
     }
 }

@@ -1,10 +1,10 @@
--- The words of the sessions so far.
-use Rattle.mdl_visits.specs.Searches.{OnlyReadsWaits}
-use Rattle.mdl_visits.proofs.Words.{AreUpTo}
+-- The words of the requests so far.
+use Rattle.std.proofs.Common.{take}
+use Rattle.mdl_visits.specs.Searches.{AreRead, OnlyReadsWaits}
 use Rattle.mdl_visits.proofs.waits_read.read_waits.Given as goal
 
-abbrev pub invariant-loop-before : goal.invariant-loop-before
-invariant-loop-before l = record {
+abbrev pub invariant-loop-wish : goal.invariant-loop-wish
+invariant-loop-wish l = record {
   reads : OnlyReadsWaits l.fn.seat l.seat;
-  words : AreUpTo l.before l.words.items l.fn.seat l.seat;
+  words : AreRead (take l.wish-index l.wishes) l.words.items l.fn.seat l.seat;
 }

@@ -1,10 +1,9 @@
 -- All of it happens while the directory's latch is held, by the keys that its record has.
-use Rattle.std.proofs.Common.{true, List, refl, sym, ap, ◌∙◌, subst}
-use Rattle.std.specs.Prelude.{IfOk}
+use Rattle.std.proofs.Common.{true, refl, sym, ap, ◌∙◌}
 use Rattle.std.proofs.lemmas.Result.{IfOk-weaker, on_err_weaker}
-use Rattle.mdl_steps.specs.Copies.{Queues}
 use Rattle.mdl_steps.specs.SeatStates.{SeatState}
-use Rattle.mdl_visits.specs.Searches.{FindsFrom, but_searching, searches_after}
+use Rattle.mdl_visits.specs.Searches.{but_searching, searches_after}
+use Rattle.mdl_visits.proofs.Deadlocks.{built_of_none}
 use Rattle.mdl_visits.proofs.Holding.{in_hand, may_inform, reads_all, searched, took_directory}
 use Rattle.mdl_visits.proofs.Outcomes.{knows_on}
 use Rattle.mdl_visits.proofs.Searching.{has_taken_none, informed_still, known_taken, may_inform_still, searched_still, took_still}
@@ -18,7 +17,8 @@ search_from-outcome-requires-clause-taken g c =
     let taken = c.await_directory-directory.ensures.taken in
     let same = c.key_count-last.ensures.same in
     let count = c.key_count-last.ensures.told taken.1 (in_hand a b counted taken same c.requires.free.idle).carried in
-    has_taken_none c.key_count-last.result c.new-lists.result a b counted taken same c.requires.free.idle count
+    has_taken_none c.key_count-last.result c.new-graph.result a b counted taken same c.requires.free.idle count
+    (built_of_none c.new.result c.new-graph.result c.new.ensures c.new-graph.ensures)
 
 pub put_directory-requires : goal.put_directory-requires
 put_directory-requires g c = record {
@@ -49,12 +49,12 @@ returns-clause-searched g c =
     let reads = c.search_from-outcome.ensures.ends.reads in
     let put = informed_still a counted looked went (sym (ap (λ (s : SeatState). s.me.0.searches) (same ∙ taken.3))) c.put_directory.ensures.made in
     let count = c.key_count-last.ensures.told taken.1 (in_hand a b counted taken same c.requires.free.idle).carried in
-    let found = subst (λ (lists : List Queues). IfOk c.search_from-outcome.result (FindsFrom 1 c.key_count-last.result lists counted (but_searching counted looked))) c.new-lists.ensures
-    c.search_from-outcome.ensures.ends.found in (
+    let built = built_of_none c.new.result c.new-graph.result c.new.ensures c.new-graph.ensures in
+    let found = c.search_from-outcome.ensures.ends.found in (
       taken.1,
       took_still a went taken.1 (took_directory a b counted taken same c.requires.free.idle (but_searching counted looked) reads (but_searching a went) put),
       IfOk-weaker c.search_from-outcome.result _ _ (λ f finds. searched_still a went a.me.0.number taken.1 f
-          (searched a b counted (but_searching counted looked) (but_searching a went) taken same c.requires.free.idle reads put c.key_count-last.result count f finds).0) found,
+          (searched a b counted (but_searching counted looked) (but_searching a went) taken same c.requires.free.idle reads put c.key_count-last.result count c.new-graph.result built f finds).0) found,
     )
 
 pub returns-clause-own : goal.returns-clause-own
@@ -68,10 +68,10 @@ returns-clause-own g c =
     let same = c.key_count-last.ensures.same in
     let put = informed_still a counted looked went (sym (ap (λ (s : SeatState). s.me.0.searches) (same ∙ taken.3))) c.put_directory.ensures.made in
     let count = c.key_count-last.ensures.told taken.1 (in_hand a b counted taken same c.requires.free.idle).carried in
-    let found = subst (λ (lists : List Queues). IfOk c.search_from-outcome.result (FindsFrom 1 c.key_count-last.result lists counted (but_searching counted looked))) c.new-lists.ensures
-    c.search_from-outcome.ensures.ends.found in
+    let built = built_of_none c.new.result c.new-graph.result c.new.ensures c.new-graph.ensures in
+    let found = c.search_from-outcome.ensures.ends.found in
     IfOk-weaker c.search_from-outcome.result _ _ (λ f finds. knows_on a.me.0.number f (but_searching a went).me went.me refl
-    (searched a b counted (but_searching counted looked) (but_searching a went) taken same c.requires.free.idle c.search_from-outcome.ensures.ends.reads put c.key_count-last.result count f finds).1) found
+    (searched a b counted (but_searching counted looked) (but_searching a went) taken same c.requires.free.idle c.search_from-outcome.ensures.ends.reads put c.key_count-last.result count c.new-graph.result built f finds).1) found
 
 pub returns-clause-nothing : goal.returns-clause-nothing
 returns-clause-nothing g c =
