@@ -28,11 +28,7 @@ impl TableSeat {
     }
 
     /// Adds the book in hand to a graph of who waits for whom. Nothing else changes. If memory runs out, nothing changes at all.
-    pub fn add_to_graph(
-        &mut self,
-        latch: &Latched,
-        graph: &mut WaitGraph,
-    ) -> Result<(), AllocError>
+    pub fn add_to_graph(&mut self, latch: &Latched, graph: &mut WaitGraph) -> Result<(), AllocError>
         requires carried { HoldsBook latch.now.place self.old }
         ensures same { self.new ≡ self.old }
         ensures added { OfBook latch.now.place self.old (λ book. OnOk result (AddsBook book graph.old graph.new)) }
