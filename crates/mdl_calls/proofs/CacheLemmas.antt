@@ -1,8 +1,5 @@
 -- What a cache keeps was met.
-use Rattle.std.proofs.Common.{ℕ, List, [], arith}
-use Rattle.mdl_defs.specs.declared.versioned_definition.VersionedDefinition.{VersionedDefinition}
-use Rattle.mdl_defs.specs.Caches.{Kept}
-use Rattle.mdl_calls.specs.Caches.{AreMet}
+use Rattle.mdl_calls.proofs.Common.{AreMet, Kept, List, VersionedDefinition, [], arith, ℕ}
 
 -- an empty one keeps nothing
 pub none-met : (met : ℕ → VersionedDefinition → Type 0) → AreMet met []

@@ -1,11 +1,6 @@
 -- Runs of a session with a cache, and runs without it.
 use Rattle.std.proofs.Common.{◌≡◌, ℕ, false, ap, refl, inl, inr}
-use Rattle.mdl_defs.specs.Caches.{CacheView}
-use Rattle.mdl_calls.specs.Interface.{Answer, Call, Read_kept}
-use Rattle.mdl_calls.specs.Caches.{CacheAfter, with_cache}
-use Rattle.mdl_calls.specs.AllCalls.{reads_with_cache}
-use Rattle.mdl_calls.specs.Faithful.{EachCall}
-use Rattle.mdl_calls.specs.Runs.{Program, Give, Ask, Grow, Runs}
+use Rattle.mdl_calls.proofs.Common.{Answer, Ask, CacheAfter, CacheView, Call, EachCall, Give, Grow, Program, Read_kept, Runs, reads_with_cache, with_cache}
 
 -- a program makes no call that reads with the cache
 abbrev pub ReadsNone : {A : Type 0} → Program A → Type 0

@@ -1,10 +1,6 @@
 -- Programs where memory is wanting: one after another, and that runs and outcomes are the same where it wasn't.
 use Rattle.std.proofs.Common.{◌≡◌, Bool, true, false, if◌then◌else◌, ◌⊎◌, inl, inr, refl, sym, subst}
-use Rattle.mdl_calls.specs.declared.space_error.SpaceError.TheVariants.{OutOfMemory}
-use Rattle.mdl_calls.specs.Interface.{Answer, Refused, Call}
-use Rattle.mdl_calls.specs.AllCalls.{takes_memory}
-use Rattle.mdl_calls.specs.Faithful.{Each, EachCall, IsFaithful, IsFrugal, StepsOrWants}
-use Rattle.mdl_calls.specs.Runs.{Program, Give, Ask, Grow, ◌>>=◌, Runs, outcome_of}
+use Rattle.mdl_calls.proofs.Common.{Answer, Ask, Call, Each, EachCall, Give, Grow, IsFaithful, IsFrugal, OutOfMemory, Program, Refused, Runs, StepsOrWants, outcome_of, takes_memory, ◌>>=◌}
 
 -- one program or the other, by a test
 pub either : {A : Type 0} (P : Program A → Type 0) (test : Bool) (one other : Program A) → P one → P other → P (if test then one else other)

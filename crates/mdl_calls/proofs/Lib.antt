@@ -1,3 +1,4 @@
+pub mod Common
 pub mod CacheLemmas
 pub mod CachedRuns
 pub mod FaithfulLemmas

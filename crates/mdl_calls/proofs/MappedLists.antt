@@ -1,6 +1,5 @@
 -- Lists of what is made of each member of a list.
-use Rattle.std.proofs.Common.{◌<◌, List, [], ◌∷◌, length, map, get_or, sym, subst, arith}
-use Rattle.std.specs.Prelude.{AllPairs}
+use Rattle.std.proofs.Common.{◌<◌, List, [], ◌∷◌, length, map, get_or, sym, subst, arith, AllPairs}
 use Rattle.std.proofs.lemmas.List.{get_or-map, length-map}
 
 -- what is in a relation stays so as it is mapped

@@ -1,7 +1,5 @@
 -- Runs of programs: one after another, and what they keep.
-use Rattle.std.proofs.Common.{inl, inr, subst, sym}
-use Rattle.mdl_calls.specs.Interface.{Call, Answer}
-use Rattle.mdl_calls.specs.Runs.{Program, Give, Ask, Grow, ◌>>=◌, Runs}
+use Rattle.mdl_calls.proofs.Common.{Answer, Ask, Call, Give, Grow, Program, Runs, inl, inr, subst, sym, ◌>>=◌}
 
 -- a run of one program, and then one of what its reply leads to, is a run of both
 pub runs_bind : {S A B : Type 0} (joins : S → Call → Answer → S → Type 0) (first : Program A) (next : A → Program B) (a mid b : S) (x : A) (reply : B) →

@@ -1,11 +1,8 @@
 -- Searches for deadlocks, one after another: which calls they make, and that they fail once one of them found no memory.
-use Rattle.std.proofs.Common.{ℕ, zero, suc, refl}
-use Rattle.std.specs.Prelude.{◌==◌}
-use Rattle.mdl_calls.specs.Interface.{Answer, Victim_is, Call, Search}
-use Rattle.mdl_calls.specs.Faithful.{EachCall, IsFaithful}
-use Rattle.mdl_calls.specs.Runs.{Program}
-use Rattle.mdl_calls.specs.Searches.{SearchEnd, IsStarvedSearch, after_search, seeking}
+use Rattle.std.proofs.Common.{◌==◌, ℕ, zero, suc, refl}
+use Rattle.mdl_calls.proofs.Common.{Answer, Call, EachCall, IsFaithful, Program, Search, Victim_is}
 use Rattle.mdl_calls.proofs.FaithfulLemmas.{either}
+use Rattle.mdl_calls.specs.Searches.{SearchEnd, IsStarvedSearch, after_search, seeking}
 
 module _ (P : Call → Type 0) (who : ℕ) (may : P (Search who)) where
   calls_after : (more : Program SearchEnd) (answer : Answer) → EachCall P more → EachCall P (after_search who more answer)

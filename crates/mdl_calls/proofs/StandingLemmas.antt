@@ -1,28 +1,14 @@
 -- What a space answers to a change of what stands under a key, and why one is refused.
 use Rattle.std.proofs.Common.{◌≡◌, ◌≢◌, inl, inr, ℕ, ◌+◌, true, Option, Some, None, MatchOption, Result, Ok, Err, refl, sym, ap, subst, ◌∙◌}
-use Rattle.mdl_key.specs.declared.namespace.Namespace.{Namespace}
-use Rattle.mdl_defs.specs.declared.change.Change.{Change}
-use Rattle.mdl_defs.specs.declared.change.Change.TheVariants.{Drop}
-use Rattle.mdl_defs.specs.declared.change_error.ChangeError.{ChangeError}
-use Rattle.mdl_defs.specs.declared.change_error.ChangeError.TheVariants.{Def}
-use Rattle.mdl_defs.specs.declared.change_error.ChangeError.TheVariants as error
-use Rattle.mdl_defs.specs.declared.def_error.DefError.{DefError}
-use Rattle.mdl_defs.specs.declared.def_error.DefError.TheVariants as fault
-use Rattle.mdl_defs.specs.declared.versioned_definition.VersionedDefinition.{VersionedDefinition}
-use Rattle.mdl_defs.specs.VersionedDefinitions.{standing_fault}
 use Rattle.mdl_defs.proofs.VersionedDefinitionLemmas.{fault-cases}
-use Rattle.mdl_key.specs.Keys.{KeyName}
+use Rattle.mdl_defs.specs.declared.change.Change.TheVariants.{Drop}
+use Rattle.mdl_defs.specs.declared.change_error.ChangeError.TheVariants as error
+use Rattle.mdl_defs.specs.declared.change_error.ChangeError.TheVariants.{Def}
+use Rattle.mdl_defs.specs.declared.def_error.DefError.TheVariants as fault
+use Rattle.mdl_defs.specs.declared.def_error.DefError.{DefError}
 use Rattle.mdl_key.specs.Refusals.{RefusesJust}
-use Rattle.mdl_key.specs.declared.mode.Mode.TheVariants.{X}
-use Rattle.mdl_key.specs.Words.{same_mode}
-use Rattle.mdl_calls.specs.declared.space_error.SpaceError.{SpaceError}
-use Rattle.mdl_calls.specs.declared.space_error.SpaceError.TheVariants.{OutOfMemory}
+use Rattle.mdl_calls.proofs.Common.{Answer, Change, ChangeError, Change_definition, Changed, IsCause, IsChangeOf, KeyName, Knowledge, Namespace, OfHeld, OutOfMemory, Refused, SessionLocks, SpaceError, VersionedDefinition, X, cause_of, change_takes_memory, same_mode, standing_fault}
 use Rattle.mdl_calls.specs.declared.space_error.SpaceError.TheVariants as space_error
-use Rattle.mdl_calls.specs.Interface.{Answer, Refused, Changed, Change_definition, change_takes_memory}
-use Rattle.mdl_calls.specs.AllCalls.{IsCause}
-use Rattle.mdl_calls.specs.Causes.{Knowledge, OfHeld}
-use Rattle.mdl_calls.specs.SessionLocks.{SessionLocks}
-use Rattle.mdl_calls.specs.Reads.{IsChangeOf, cause_of}
 
 -- want of memory is no fault of what is asked
 fault-known : (namespace : Namespace) (change : Change) (standing : VersionedDefinition) → standing_fault namespace change standing ≡ Some error.OutOfMemory → ⊥

@@ -1,11 +1,8 @@
 -- The keys of a schema's tables.
 use Rattle.std.proofs.Common.{◌≡◌, ℕ, true, List, refl, sym}
-use Rattle.std.proofs.lemmas.Slice.Eq.{bytes_eq-Decides}
 use Rattle.std.proofs.lemmas.Bool.{and_parts}
-use Rattle.mdl_key.specs.declared.namespace.Namespace.{Namespace}
-use Rattle.mdl_key.specs.declared.namespace.Namespace.TheVariants.{Table}
-use Rattle.mdl_key.specs.Keys.{KeyName, table_key}
-use Rattle.mdl_calls.specs.Reads.{is_of_tables, is_table_of}
+use Rattle.std.proofs.lemmas.Slice.Eq.{bytes_eq-Decides}
+use Rattle.mdl_calls.proofs.Common.{KeyName, Namespace, Table, is_of_tables, is_table_of, table_key}
 
 of_tables : (n : Namespace) → is_of_tables n ≡ true → n ≡ Table
 of_tables Table e = refl

@@ -1,13 +1,5 @@
 -- The specification of each call, and each aspect of it as a function of the call.
-use Rattle.std.specs.Prelude.{ℕ, Bool, Option, Some, None}
-use Rattle.std.specs.Option.{option_map}
-use Rattle.mdl_calls.specs.declared.answers.Settled.{Settled}
-use Rattle.mdl_calls.specs.declared.space_error.SpaceError.{SpaceError}
-use Rattle.mdl_calls.specs.Interface.{Call, Resolve, Try_now, Begin_wait, Search, Poll_wait, Settle_timeout, End_wait, Wait_of, Kill, Release, Clone_ticket, Upgrade_now, Merge, Downgrade, Read_definition, Read_kept, Change_definition, Tables_of, Key_of, List_held, Unpin, Answer}
-use Rattle.mdl_calls.specs.SessionLocks.{SessionLocks, Numbers, ticket_held}
-use Rattle.mdl_calls.specs.Effects.{own_by, DrawsBy}
-use Rattle.mdl_calls.specs.Causes.{Knowledge}
-use Rattle.mdl_calls.specs.CallSpec.{CallSpec, Explains}
+use Rattle.mdl_calls.specs.FirstWords.{Answer, Begin_wait, Bool, Call, CallSpec, Change_definition, Clone_ticket, Downgrade, DrawsBy, End_wait, Explains, Key_of, Kill, Knowledge, List_held, Merge, None, Numbers, Option, Poll_wait, Read_definition, Read_kept, Release, Resolve, Search, SessionLocks, Settle_timeout, Settled, Some, SpaceError, Tables_of, Try_now, Unpin, Upgrade_now, Wait_of, option_map, own_by, ticket_held, ℕ}
 use Rattle.mdl_calls.specs.calls.BeginWait.{begin_wait}
 use Rattle.mdl_calls.specs.calls.ChangeDefinition.{change_definition}
 use Rattle.mdl_calls.specs.calls.CloneTicket.{clone_ticket}

@@ -1,7 +1,6 @@
 -- Which definitions a session's cache may hold, and what the session's calls do to it.
 use Rattle.std.specs.Prelude.{◌≡◌, ℕ, List, Some, Contains}
-use Rattle.mdl_defs.specs.declared.versioned_definition.VersionedDefinition.{VersionedDefinition}
-use Rattle.mdl_defs.specs.Caches.{CacheView, Kept}
+use Rattle.mdl_calls.specs.Prelude.{CacheView, Kept, VersionedDefinition}
 use Rattle.mdl_calls.specs.Interface.{Answer, Call, Read_kept}
 
 -- each definition in the cache was met at its place, with its version

@@ -3,20 +3,14 @@
 -- clash. `mdl_system` says by them when a request is grantable (`IsGrantable`), and who is a deadlock's victim (`IsVictimOf`). `mdl_core` says that the
 -- space of one thread answers so (`Determined`).
 use Rattle.std.specs.Prelude.{◌≡◌, ℕ, Bool, true, false, List, Option, Some, None}
-use Rattle.std.specs.Option.{IfSome}
-use Rattle.mdl_key.specs.declared.mode.Mode.{Mode}
-use Rattle.mdl_calls.specs.declared.answers.Settled.{Settled}
-use Rattle.mdl_calls.specs.declared.space_error.SpaceError.{SpaceError}
-use Rattle.mdl_calls.specs.declared.space_error.SpaceError.TheVariants.{NoPlace, NotHeld, AlreadyWaiting, BadMode, NoWait, CounterFull, Full, OutOfMemory}
-use Rattle.mdl_calls.specs.Interface.{Answer, Refused}
-use Rattle.mdl_calls.specs.SessionLocks.{SessionLocks, holds, is_waiting}
-use Rattle.mdl_calls.specs.Effects.{Effect, Keeps, own_by, DrawsBy, place_of, ends}
+use Rattle.mdl_calls.specs.Prelude.{AlreadyWaiting, BadMode, CounterFull, Full, IfSome, KnownKey, Mode, NoPlace, NoWait, NotHeld, OutOfMemory, Settled, SpaceError, is_known}
 use Rattle.mdl_calls.specs.Causes.{Knowledge, IsUnknown, IsFit, IsUnfit}
-use Rattle.mdl_key.specs.declared.known_key.KnownKey.{KnownKey}
-use Rattle.mdl_key.specs.KeyLookups.{is_known}
-use Rattle.mdl_calls.specs.SessionData.{SessionData, SpeaksFor, Knows}
+use Rattle.mdl_calls.specs.Effects.{Effect, Keeps, own_by, DrawsBy, place_of, ends}
+use Rattle.mdl_calls.specs.Interface.{Answer, Refused}
 use Rattle.mdl_calls.specs.Learning.{KeepsSettled}
 use Rattle.mdl_calls.specs.Meetings.{ReadsNothing}
+use Rattle.mdl_calls.specs.SessionData.{SessionData, SpeaksFor, Knows}
+use Rattle.mdl_calls.specs.SessionLocks.{SessionLocks, holds, is_waiting}
 
 -- ---- what several calls share
 

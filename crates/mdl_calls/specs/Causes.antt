@@ -2,11 +2,8 @@
 -- said here only in part. `mdl_core` says it of the space of one thread, by the outcome of each call (`CoreCalls`), and `mdl_shared` of the table that
 -- threads share, by its own specification of each call (`calls`).
 use Rattle.std.specs.Prelude.{◌≡◌, ℕ, Bool, true, false, not, ◌&&◌, ◌||◌, ◌==◌, MatchOption}
-use Rattle.mdl_key.specs.declared.mode.Mode.{Mode}
-use Rattle.mdl_key.specs.Words.{KeyName, kind_of, is_mode_of}
-use Rattle.mdl_calls.specs.declared.answers.Held.{Held}
+use Rattle.mdl_calls.specs.Prelude.{Held, KeyName, Mode, covers, is_mode_of, kind_of, may_downgrade, may_upgrade}
 use Rattle.mdl_calls.specs.SessionLocks.{SessionLocks, ticket_held}
-use Rattle.mdl_system.specs.Strength.{covers, may_upgrade, may_downgrade}
 
 -- what a session knows of keys: which key is at which place
 abbrev pub Knowledge : Type 1

@@ -1,9 +1,7 @@
 -- What a program of calls replies if memory runs out: some programs then only reply faults, and some need no memory.
 use Rattle.std.specs.Prelude.{◌≡◌, ◌⊎◌, true, false}
-use Rattle.mdl_calls.specs.declared.space_error.SpaceError.TheVariants.{OutOfMemory}
-use Rattle.mdl_calls.specs.Interface.{Answer, Refused, Call}
+use Rattle.mdl_calls.specs.FirstWords.{Answer, Ask, Call, Give, Grow, OutOfMemory, Program, Refused}
 use Rattle.mdl_calls.specs.AllCalls.{takes_memory}
-use Rattle.mdl_calls.specs.Runs.{Program, Give, Ask, Grow}
 
 -- each reply that a program can give has the property, whatever its calls answer, and whether memory is refused or found
 abbrev pub Each : {A : Type 0} → (A → Type 0) → Program A → Type 0

@@ -1,30 +1,21 @@
 -- The interface of a lock space, after MySQL 5.7: its calls, which are those of `MDL_context` in sql/mdl.h, here as calls of numbered sessions, and their
 -- answers. What each call promises stands in its own file of `calls`.
-use Rattle.std.specs.Prelude.{ℕ, Bool, true, false, List, Option, Result, Ok, Err, Vec}
-use Rattle.mdl_key.specs.declared.mode.Mode.{Mode}
-use Rattle.mdl_key.specs.Keys.{KeyName}
-use Rattle.mdl_defs.specs.declared.change.Change.{Change}
 use Rattle.mdl_defs.specs.declared.change.Change.TheVariants as change
-use Rattle.mdl_defs.specs.declared.definition.Definition.{Definition}
-use Rattle.mdl_defs.specs.declared.versioned_definition.VersionedDefinition.{VersionedDefinition}
-use Rattle.mdl_calls.specs.declared.space_error.SpaceError.{SpaceError}
-use Rattle.mdl_calls.specs.declared.space_error.SpaceError.TheVariants.{OutOfMemory}
-use Rattle.mdl_calls.specs.declared.answers.Held.{Held}
-use Rattle.mdl_calls.specs.declared.answers.Attempt.{Attempt}
+use Rattle.mdl_calls.specs.Prelude.{Bool, Change, Definition, Err, Held, KeyName, List, Mode, Ok, Option, OutOfMemory, Result, Settled, SpaceError, Vec, VersionedDefinition, false, true, ℕ}
 use Rattle.mdl_calls.specs.declared.answers.Attempt.TheVariants as attempt_at
-use Rattle.mdl_calls.specs.declared.answers.Begun.{Begun}
+use Rattle.mdl_calls.specs.declared.answers.Attempt.{Attempt}
 use Rattle.mdl_calls.specs.declared.answers.Begun.TheVariants as begun_as
-use Rattle.mdl_calls.specs.declared.answers.Search.{Search as Found}
-use Rattle.mdl_calls.specs.declared.answers.Search.TheVariants as search_as
-use Rattle.mdl_calls.specs.declared.answers.Settled.{Settled}
-use Rattle.mdl_calls.specs.declared.answers.Settled.TheVariants as settled_as
-use Rattle.mdl_calls.specs.declared.answers.Poll.{Poll}
-use Rattle.mdl_calls.specs.declared.answers.Poll.TheVariants as poll_as
-use Rattle.mdl_calls.specs.declared.answers.TimedOut.{TimedOut}
-use Rattle.mdl_calls.specs.declared.answers.Ended.{Ended}
+use Rattle.mdl_calls.specs.declared.answers.Begun.{Begun}
 use Rattle.mdl_calls.specs.declared.answers.Ended.TheVariants as ended_as
-use Rattle.mdl_calls.specs.declared.answers.Upgrade.{Upgrade}
+use Rattle.mdl_calls.specs.declared.answers.Ended.{Ended}
+use Rattle.mdl_calls.specs.declared.answers.Poll.TheVariants as poll_as
+use Rattle.mdl_calls.specs.declared.answers.Poll.{Poll}
+use Rattle.mdl_calls.specs.declared.answers.Search.TheVariants as search_as
+use Rattle.mdl_calls.specs.declared.answers.Search.{Search as Found}
+use Rattle.mdl_calls.specs.declared.answers.Settled.TheVariants as settled_as
+use Rattle.mdl_calls.specs.declared.answers.TimedOut.{TimedOut}
 use Rattle.mdl_calls.specs.declared.answers.Upgrade.TheVariants as upgrade_as
+use Rattle.mdl_calls.specs.declared.answers.Upgrade.{Upgrade}
 
 -- ---- calls
 

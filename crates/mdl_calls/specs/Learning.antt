@@ -1,14 +1,9 @@
 -- What a session learns by calls: places of keys, and how its own wait is settled.
 use Rattle.std.specs.Prelude.{◌≡◌, ℕ, Bool, true, false, List, [], ◌∷◌, ◌++◌, map, All, AllPairs, Option, Some, None}
-use Rattle.std.specs.declared.cmp.Ordering.TheVariants.{Less}
-use Rattle.mdl_key.specs.Keys.{key_cmp}
-use Rattle.mdl_key.specs.Words.{KeyName}
-use Rattle.mdl_calls.specs.declared.answers.Settled.{Settled}
-use Rattle.mdl_calls.specs.SessionLocks.{is_waiting}
+use Rattle.mdl_calls.specs.Prelude.{KeyName, KnownKey, Less, Settled, are_apart, is_known, key_cmp, key_known}
 use Rattle.mdl_calls.specs.Reads.{is_table_of}
-use Rattle.mdl_key.specs.declared.known_key.KnownKey.{KnownKey}
-use Rattle.mdl_key.specs.KeyLookups.{are_apart, is_known, key_known}
 use Rattle.mdl_calls.specs.SessionData.{SessionData}
+use Rattle.mdl_calls.specs.SessionLocks.{is_waiting}
 
 -- the session already knew this place of the key; or it knew neither the key's place nor the place's key, and knows them now
 abbrev pub LearnsPlace : KeyName → ℕ → Option ℕ → List KnownKey → List KnownKey → Type 0

@@ -1,3 +1,5 @@
+pub mod Prelude
+pub mod FirstWords
 pub mod AllCalls
 pub mod Caches
 pub mod CallSpec

@@ -1,18 +1,8 @@
 -- What a session meets, reads and changes at a place where it holds a ticket: versions and definitions. And why a change is refused.
 use Rattle.std.specs.Prelude.{◌≡◌, ◌≢◌, ◌⊎◌, ℕ, ◌+◌, true, List, [], ◌∷◌, ◌++◌, Some, None}
-use Rattle.mdl_key.specs.declared.mode.Mode.TheVariants.{X}
-use Rattle.mdl_key.specs.Words.{KeyName, same_mode}
-use Rattle.mdl_defs.specs.declared.change.Change.{Change}
-use Rattle.mdl_defs.specs.declared.change_error.ChangeError.{ChangeError}
-use Rattle.mdl_defs.specs.declared.versioned_definition.VersionedDefinition.{VersionedDefinition}
-use Rattle.mdl_defs.specs.VersionedDefinitions.{MayStand, standing_after, standing_fault}
-use Rattle.mdl_calls.specs.declared.answers.Held.{Held}
-use Rattle.mdl_calls.specs.declared.space_error.SpaceError.{SpaceError}
-use Rattle.mdl_calls.specs.declared.space_error.SpaceError.TheVariants.{OutOfMemory}
+use Rattle.mdl_calls.specs.Prelude.{Change, ChangeError, Held, KeyName, MayStand, OutOfMemory, Reading, SpaceError, VersionedDefinition, X, key_known, same_mode, standing_after, standing_fault}
 use Rattle.mdl_calls.specs.Causes.{OfHeld}
 use Rattle.mdl_calls.specs.Reads.{HoldsAt, cause_of}
-use Rattle.mdl_defs.specs.declared.reading.Reading.{Reading}
-use Rattle.mdl_key.specs.KeyLookups.{key_known}
 use Rattle.mdl_calls.specs.SessionData.{SessionData, noted_at, last_read, is_newest}
 
 -- the version and definition that a session may meet at a place where it holds a ticket: they are valid for the key that it knows there, and the version

@@ -1,20 +1,10 @@
 -- What a session reads and changes under its tickets: the version and definition of a key. And which tables of a schema it is given.
 use Rattle.std.specs.Prelude.{◌≡◌, ◌⊎◌, ℕ, ◌+◌, Bool, true, false, ◌&&◌, List, Some, MatchOption, Contains, All, AllPairs}
-use Rattle.std.specs.Str.{bytes_eq}
-use Rattle.std.specs.declared.cmp.Ordering.TheVariants.{Less}
-use Rattle.mdl_key.specs.declared.namespace.Namespace.{Namespace}
-use Rattle.mdl_key.specs.declared.namespace.Namespace.TheVariants.{Table}
-use Rattle.mdl_key.specs.Keys.{KeyName, table_key, key_cmp}
-use Rattle.mdl_defs.specs.declared.change.Change.{Change}
-use Rattle.mdl_defs.specs.declared.change_error.ChangeError.{ChangeError}
 use Rattle.mdl_defs.specs.declared.change_error.ChangeError.TheVariants as fault
-use Rattle.mdl_defs.specs.declared.versioned_definition.VersionedDefinition.{VersionedDefinition}
-use Rattle.mdl_defs.specs.VersionedDefinitions.{standing_fault}
-use Rattle.mdl_calls.specs.declared.answers.Held.{Held}
-use Rattle.mdl_calls.specs.declared.space_error.SpaceError.{SpaceError}
-use Rattle.mdl_calls.specs.declared.space_error.SpaceError.TheVariants.{VersionFull, WrongKind, Def, OutOfMemory}
-use Rattle.mdl_calls.specs.Interface.{Answer, Refused, Changed}
+use Rattle.std.specs.Str.{bytes_eq}
+use Rattle.mdl_calls.specs.Prelude.{Change, ChangeError, Def, Held, KeyName, Less, Namespace, OutOfMemory, SpaceError, Table, VersionFull, VersionedDefinition, WrongKind, key_cmp, standing_fault, table_key}
 use Rattle.mdl_calls.specs.Causes.{Knowledge}
+use Rattle.mdl_calls.specs.Interface.{Answer, Refused, Changed}
 use Rattle.mdl_calls.specs.SessionLocks.{SessionLocks, Wait}
 
 -- a session holds a ticket at a place

@@ -1,8 +1,7 @@
 -- Searches one after another, until no deadlock is left that the session is part of, after MySQL 5.7:
 -- `MDL_context::find_deadlock` of sql/mdl.cc. That they end after a fixed number is this project's own choice.
 use Rattle.std.specs.Prelude.{◌≡◌, ℕ, zero, suc, ◌==◌, if◌then◌else◌}
-use Rattle.mdl_calls.specs.declared.space_error.SpaceError.{SpaceError}
-use Rattle.mdl_calls.specs.declared.space_error.SpaceError.TheVariants.{OutOfMemory}
+use Rattle.mdl_calls.specs.Prelude.{OutOfMemory, SpaceError}
 use Rattle.mdl_calls.specs.Interface.{Answer, Refused, Victim_is, Search}
 use Rattle.mdl_calls.specs.Runs.{Program, Give, Ask}
 

@@ -1,16 +1,7 @@
 -- A session of a space that threads share, as code above a lock space sees it: its own plain data, what always holds of them, and what it has, knows
 -- and has read by them. It speaks for itself alone.
 use Rattle.std.specs.Prelude.{◌≡◌, ℕ, ◌+◌, Bool, true, false, not, ◌&&◌, ◌||◌, ◌==◌, nat_lt, nat_le, List, [], ◌∷◌, find, Option, Some, None, is_some, MatchOption, Contains, if◌then◌else◌}
-use Rattle.std.specs.List.{list_all, list_any}
-use Rattle.std.specs.Option.{option_map, option_or, IfSome}
-use Rattle.mdl_key.specs.declared.known_key.KnownKey.{KnownKey}
-use Rattle.mdl_key.specs.KeyLookups.{are_apart, is_known, key_known}
-use Rattle.mdl_key.specs.Keys.{KeyName}
-use Rattle.mdl_defs.specs.declared.reading.Reading.{Reading}
-use Rattle.mdl_defs.specs.declared.versioned_definition.VersionedDefinition.{VersionedDefinition}
-use Rattle.mdl_defs.specs.VersionedDefinitions.{MayStand}
-use Rattle.mdl_calls.specs.declared.answers.Held.{Held}
-use Rattle.mdl_calls.specs.declared.answers.Settled.{Settled}
+use Rattle.mdl_calls.specs.Prelude.{Held, IfSome, KeyName, KnownKey, MayStand, Reading, Settled, VersionedDefinition, are_apart, is_known, key_known, list_all, list_any, option_map, option_or}
 use Rattle.mdl_calls.specs.SessionLocks.{SessionLocks, Numbers, IsRising, is_waiting}
 
 -- a version that the session has noted under a ticket at a place

@@ -1,10 +1,6 @@
 -- What a session has in a lock space, and how that changes. What each call does to it is in `Effects`.
 use Rattle.std.specs.Prelude.{◌≡◌, ℕ, ◌+◌, Bool, true, not, ◌&&◌, ◌==◌, nat_lt, List, [], ◌∷◌, ◌++◌, map, filter, find, Option, Some, None, is_some, if◌then◌else◌, IsTrue}
-use Rattle.std.specs.List.{list_all}
-use Rattle.std.specs.Option.{option_map}
-use Rattle.mdl_key.specs.declared.mode.Mode.{Mode}
-use Rattle.mdl_calls.specs.declared.answers.Held.{Held}
-use Rattle.mdl_system.specs.Strength.{covers}
+use Rattle.mdl_calls.specs.Prelude.{Held, Mode, covers, list_all, option_map}
 
 -- a wait that isn't ended: its number, and the place and the mode that the session waits for
 pub record Wait : Type 0 where

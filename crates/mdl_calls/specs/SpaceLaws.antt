@@ -1,20 +1,9 @@
 -- The laws of a lock space: what its calls do to its sessions and tell them. They are one record over the space's ghost members, so a space proves them as
 -- one term, and code over any space cites them as fields.
 use Rattle.std.specs.Prelude.{◌≡◌, ◌≤◌, ◌⊎◌, ℕ, true, false, List, Option, Some, Contains}
-use Rattle.std.specs.Option.{IfSome}
-use Rattle.mdl_key.specs.Words.{KeyName, same_mode}
-use Rattle.mdl_key.specs.declared.mode.Mode.{Mode}
-use Rattle.mdl_key.specs.declared.mode.Mode.TheVariants.{X}
-use Rattle.mdl_defs.specs.declared.change.Change.{Change}
-use Rattle.mdl_defs.specs.declared.definition.Definition.{Definition}
-use Rattle.mdl_defs.specs.declared.versioned_definition.VersionedDefinition.{VersionedDefinition}
-use Rattle.mdl_defs.specs.VersionedDefinitions.{MayStand, standing_after}
-use Rattle.mdl_system.specs.Strength.{covers}
-use Rattle.mdl_calls.specs.declared.answers.Held.{Held}
-use Rattle.mdl_calls.specs.declared.answers.Settled.{Settled}
-use Rattle.mdl_calls.specs.declared.answers.Settled.TheVariants as settled_as
-use Rattle.mdl_calls.specs.declared.space_error.SpaceError.TheVariants.{NoPlace, InUse}
+use Rattle.mdl_calls.specs.FirstWords.{Change, Definition, Held, IfSome, InUse, KeyName, MayStand, Mode, NoPlace, Settled, VersionedDefinition, X, covers, same_mode, standing_after}
 use Rattle.mdl_calls.specs.Words.{Answer, Refused, Done, At_place, Would_wait, Changed, Reads, Tables, Key_is, Victim_is, Has_wait, Has_killed, Holds, is_answer_of, Call, Resolve, Search, End_wait, Wait_of, Kill, Upgrade_now, Change_definition, Tables_of, Key_of, List_held, Unpin, caller, IsExplained, SessionLocks, Wait, Numbers, Draws, IsRising, own_after, wait_number, is_waiting, ticket_held, AreTablesOf, AwaitsAt, HoldsAt, IsChangeOf, read_under, redefined_place, IsToldOf, told}
+use Rattle.mdl_calls.specs.declared.answers.Settled.TheVariants as settled_as
 
 -- what holds of the ghost members of each lock space, which the trait `LockSpace` describes: the sessions that it speaks for, what they have, know, have
 -- read and owe, and how calls join one space to the next

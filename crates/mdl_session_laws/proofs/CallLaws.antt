@@ -1,12 +1,7 @@
 -- The laws of a lock space, of a session: whose calls it speaks for, and what they do to what it has.
 use Rattle.std.proofs.Common.{◌≡◌, ℕ, true, false, List, Option, Some, None, IfSome, refl, sym, ap, subst, ◌∙◌}
-use Rattle.std.proofs.lemmas.Bool.{false≢true}
-use Rattle.mdl_key.specs.declared.mode.Mode.{Mode}
-use Rattle.mdl_calls.specs.declared.answers.Held.{Held}
-use Rattle.mdl_calls.specs.Words.{Answer, Would_wait, Holds, is_answer_of, Call, Wait_of, Kill, List_held, Upgrade_now, caller, IsExplained, SessionLocks, Numbers, Draws, IsRising, own_after, ticket_held}
 use Rattle.mdl_system.specs.Words.{covers}
-use Rattle.mdl_calls.specs.SessionData.{SessionData, SpeaksFor, Knows, own_of, numbers_of}
-use Rattle.mdl_session_laws.specs.SessionJoins.{Joins}
+use Rattle.mdl_session_laws.proofs.FirstLemmas.{Answer, Call, Draws, Held, Holds, IsExplained, IsRising, Joins, Kill, Knows, List_held, Mode, Numbers, SessionData, SessionLocks, SpeaksFor, Upgrade_now, Wait_of, Would_wait, caller, false≢true, is_answer_of, numbers_of, own_after, own_of, ticket_held}
 use Rattle.mdl_session_laws.proofs.KeptSound.{keeps-sound}
 use Rattle.mdl_session_laws.proofs.ReadAfter.{held-of}
 

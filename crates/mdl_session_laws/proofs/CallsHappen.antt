@@ -1,20 +1,7 @@
 -- Sessions after calls, which show that such calls can be.
 use Rattle.std.proofs.Common.{◌≡◌, ℕ, ◌+◌, true, false, [], ◌∷◌, ◌++◌, is_some, Option, Some, None, MatchOption, IfSome, inl, refl, sym, ap, subst, ◌∙◌, arith}
-use Rattle.std.proofs.lemmas.Bool.Decides.{nat_tests}
-use Rattle.mdl_key.specs.Words.{same_mode}
-use Rattle.mdl_key.specs.declared.mode.Mode.TheVariants.{X}
-use Rattle.mdl_defs.specs.declared.versioned_definition.VersionedDefinition.{VersionedDefinition}
-use Rattle.mdl_defs.specs.VersionedDefinitions.{standing_after}
-use Rattle.mdl_calls.specs.declared.answers.Held.{Held}
-use Rattle.mdl_calls.specs.declared.answers.Settled.TheVariants.{Victim}
-use Rattle.mdl_calls.specs.declared.space_error.SpaceError.TheVariants.{OutOfMemory}
-use Rattle.mdl_calls.specs.SessionLocks.{ending, gaining, ticket_drawn, wait_drawn, waiting}
-use Rattle.mdl_calls.specs.Words.{Wait_of, Kill, Release, Downgrade, Poll_wait, Settle_timeout, End_wait, Change_definition, Unpin, caller, OfHeld, SessionLocks, holds, ticket_held}
+use Rattle.mdl_session_laws.proofs.FirstLemmas.{Change_definition, Downgrade, End_wait, Held, IsSound, KeepsAll, KeepsSettled, Kill, LearnsPlace, NotesThere, OfHeld, OutOfMemory, Poll_wait, Release, SessionData, SessionLocks, Settle_timeout, SpeaksFor, Unpin, VersionedDefinition, Victim, Wait_of, X, caller, ending, gaining, holds, nat_tests, reads-nothing, refused-joins, same_mode, standing_after, ticket_drawn, ticket_held, wait_drawn, waiting}
 use Rattle.mdl_session_laws.specs.Happenings.{KeysAreFound, LocksAreHad, WaitsAreBegun, WaitsAreLost, StandingsAreRead, StandingsAreChanged, MemoryRunsOut}
-use Rattle.mdl_calls.specs.Learning.{KeepsSettled, LearnsPlace}
-use Rattle.mdl_calls.specs.Meetings.{NotesThere}
-use Rattle.mdl_calls.specs.SessionData.{SessionData, IsSound, SpeaksFor}
-use Rattle.mdl_session_laws.proofs.RefusedCalls.{KeepsAll, reads-nothing, refused-joins}
 
 -- ---- the wait
 

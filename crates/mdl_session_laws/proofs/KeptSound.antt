@@ -1,16 +1,10 @@
 -- What is always so of a session is so after each call.
 use Rattle.std.proofs.Common.{◌≡◌, ℕ, Bool, true, false, is_some, Option, Some, None, IfSome, inr, refl, sym, ap, subst, ◌∙◌}
-use Rattle.mdl_calls.specs.declared.answers.Settled.{Settled}
-use Rattle.mdl_calls.specs.Words.{Answer, Call, IsRising, SessionLocks, Wait, is_waiting, own_after}
-use Rattle.mdl_calls.specs.Learning.{KeepsSettled}
-use Rattle.mdl_key.specs.KeyLookups.{is_known}
-use Rattle.mdl_calls.specs.SessionData.{SessionData, IsSound, Knows, are_below, are_placed, first_free}
-use Rattle.mdl_session_laws.specs.SessionJoins.{Joins, ends_wait}
-use Rattle.mdl_session_laws.specs.SpaceLaws.{beginning}
+use Rattle.mdl_session_laws.proofs.FirstLemmas.{Answer, Call, IsRising, IsSound, Joins, KeepsSettled, Knows, SessionData, SessionLocks, Settled, Wait, all-weaker, are_below, are_placed, ends_wait, first_free, is_known, is_waiting, own_after}
 use Rattle.mdl_session_laws.proofs.KnownAfter.{known-apart, knows-on, known-on}
 use Rattle.mdl_session_laws.proofs.OwnAfter.{placed-after, awaited-after, counts-after, waits-on}
 use Rattle.mdl_session_laws.proofs.ReadAfter.{HasLearnt, learnt, noted-on, newest-on, fits-on}
-use Rattle.mdl_session_laws.proofs.TicketLists.{all-weaker}
+use Rattle.mdl_session_laws.specs.SpaceLaws.{beginning}
 
 -- where it has no wait, it knows nothing of one
 unsettled : (a : SessionData) → IsSound a → is_waiting a.own ≡ false → a.settled ≡ None

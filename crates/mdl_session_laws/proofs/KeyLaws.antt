@@ -1,20 +1,10 @@
 -- The laws of a lock space, of a session: the keys that it knows, and their places.
 use Rattle.std.proofs.Common.{◌≡◌, ◌⊎◌, ℕ, ◌<◌, true, false, List, length, map, get_or, Option, Some, None, IfSome, All, AllPairs, Contains, refl, sym, ap, subst, ◌∙◌, arith}
-use Rattle.std.proofs.lemmas.List.{get_or-map, length-map}
-use Rattle.mdl_key.specs.Keys.{KeyName, global_key, key_cmp}
-use Rattle.mdl_calls.specs.declared.answers.Held.{Held}
-use Rattle.mdl_calls.specs.declared.space_error.SpaceError.TheVariants.{NoPlace, InUse}
-use Rattle.mdl_calls.specs.Reads.{ComesBefore, HasTableOf}
-use Rattle.mdl_calls.specs.Words.{Answer, Refused, Done, At_place, Key_is, Tables, Call, Resolve, Key_of, Tables_of, Unpin, Wait, AreTablesOf, AwaitsAt, HoldsAt}
 use Rattle.mdl_calls.proofs.TableLemmas.{table-of}
-use Rattle.mdl_calls.specs.Learning.{LearnsPlace, LearnsTables}
-use Rattle.mdl_key.specs.declared.known_key.KnownKey.{KnownKey}
-use Rattle.mdl_key.specs.KeyLookups.{is_known, key_known, place_known}
-use Rattle.mdl_calls.specs.SessionData.{SessionData, SpeaksFor, Knows, Pins, own_of}
-use Rattle.mdl_session_laws.specs.SessionJoins.{Joins}
-use Rattle.mdl_session_laws.proofs.KeyLists.{is-known, known-is, key-of_place, last-known, place-of_key}
+use Rattle.mdl_key.specs.Keys.{global_key, key_cmp}
+use Rattle.std.proofs.lemmas.List.{get_or-map, length-map}
+use Rattle.mdl_session_laws.proofs.FirstLemmas.{Answer, AreTablesOf, At_place, AwaitsAt, Call, ComesBefore, Done, HasTableOf, Held, HoldsAt, InUse, Joins, KeyName, Key_is, Key_of, KnownKey, Knows, LearnsPlace, LearnsTables, NoPlace, Pins, Refused, Resolve, SessionData, SpeaksFor, Tables, Tables_of, Unpin, Wait, all-among, is-known, is_known, key-of_place, key_known, known-is, last-known, own_of, place-of_key, place_known}
 use Rattle.mdl_session_laws.proofs.KnownAfter.{knows-on, known-on}
-use Rattle.mdl_session_laws.proofs.TicketLists.{all-among}
 
 -- ---- keys and places
 

@@ -1,12 +1,7 @@
 -- The keys that a session has looked up: they are found again, whichever are looked up later.
 use Rattle.std.proofs.Common.{◌≡◌, ℕ, true, false, ◌==◌, List, [], ◌∷◌, ◌++◌, is_some, Option, Some, None, refl, sym, ap, ◌∙◌, arith}
-use Rattle.std.specs.List.{list_all}
-use Rattle.std.proofs.lemmas.Bool.Decides.{nat_tests}
-use Rattle.std.proofs.lemmas.List.Folds.{list_all-append}
-use Rattle.mdl_key.specs.Words.{KeyName, key_eq}
 use Rattle.mdl_system.proofs.Deciding.{key-Decides}
-use Rattle.mdl_key.specs.declared.known_key.KnownKey.{KnownKey}
-use Rattle.mdl_key.specs.KeyLookups.{are_apart, are_two, is_known, key_known, place_known}
+use Rattle.mdl_session_laws.proofs.Common.{KeyName, KnownKey, are_apart, are_two, is_known, key_eq, key_known, list_all, list_all-append, nat_tests, place_known}
 
 -- ---- look-ups
 

@@ -1,12 +1,6 @@
 -- The keys that a session knows after a call: all that it knew, and no key twice, and no place.
 use Rattle.std.proofs.Common.{◌≡◌, ℕ, true, List, [], ◌++◌, Option, Some, None, refl, sym, ap, ◌∙◌, append-nil}
-use Rattle.mdl_key.specs.Words.{KeyName}
-use Rattle.mdl_calls.specs.Words.{Answer, At_place, Tables, Call, Resolve, Tables_of}
-use Rattle.mdl_calls.specs.Learning.{LearnsPlace}
-use Rattle.mdl_key.specs.declared.known_key.KnownKey.{KnownKey}
-use Rattle.mdl_key.specs.KeyLookups.{are_apart, is_known, key_known, place_known}
-use Rattle.mdl_session_laws.specs.SessionJoins.{LearnsKeys}
-use Rattle.mdl_session_laws.proofs.KeyLists.{keeps-known, stays-known, apart-last}
+use Rattle.mdl_session_laws.proofs.FirstLemmas.{Answer, At_place, Call, KeyName, KnownKey, LearnsKeys, LearnsPlace, Resolve, Tables, Tables_of, apart-last, are_apart, is_known, keeps-known, key_known, place_known, stays-known}
 
 same-grows : (before after : List KnownKey) → after ≡ before → (more : List KnownKey) × (after ≡ before ++ more)
 same-grows before after e = ([], e ∙ sym (append-nil before))

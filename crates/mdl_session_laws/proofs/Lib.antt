@@ -1,3 +1,5 @@
+pub mod Common
+pub mod FirstLemmas
 pub mod CallLaws
 pub mod CallsHappen
 pub mod KeptSound

@@ -1,14 +1,6 @@
 -- What a session has after a call: tickets of rising numbers, and they and a wait at places that it knows.
 use Rattle.std.proofs.Common.{◌≡◌, ℕ, ◌+◌, Bool, true, false, not, nat_lt, List, [], ◌∷◌, ◌++◌, map, filter, is_some, Option, Some, None, MatchOption, IfSome, if◌then◌else◌, refl, sym, ap, subst, ◌∙◌, lt-ltb, arith}
-use Rattle.mdl_key.specs.declared.mode.Mode.{Mode}
-use Rattle.mdl_calls.specs.declared.answers.Held.{Held}
-use Rattle.mdl_calls.specs.SessionLocks.{DrawsTicket, DrawsWait, changing, cloning, ending, gaining, merging, upgraded, waiting, winning}
-use Rattle.mdl_calls.specs.Words.{Answer, Granted, Waits, Lost, Done, Upgraded, Call, Try_now, Begin_wait, End_wait, Release, Clone_ticket, Upgrade_now, Merge, Downgrade, Knowledge, IsExplained, MayClone, SessionLocks, Wait, Numbers, Draws, IsRising, giving_up, is_number, is_waiting, own_after, ticket_held}
-use Rattle.mdl_key.specs.declared.known_key.KnownKey.{KnownKey}
-use Rattle.mdl_key.specs.KeyLookups.{is_known}
-use Rattle.mdl_calls.specs.SessionData.{are_below, are_placed, first_free}
-use Rattle.mdl_session_laws.specs.SessionJoins.{gained_at, ends_wait}
-use Rattle.mdl_session_laws.proofs.TicketLists.{all-fewer, all-changed, all-last, all-found, rising-fewer, rising-changed, rising-last, below-up}
+use Rattle.mdl_session_laws.proofs.FirstLemmas.{Answer, Begin_wait, Call, Clone_ticket, Done, Downgrade, Draws, DrawsTicket, DrawsWait, End_wait, Granted, Held, IsExplained, IsRising, Knowledge, KnownKey, Lost, MayClone, Merge, Mode, Numbers, Release, SessionLocks, Try_now, Upgrade_now, Upgraded, Wait, Waits, all-changed, all-fewer, all-found, all-last, are_below, are_placed, below-up, changing, cloning, ending, ends_wait, first_free, gained_at, gaining, giving_up, is_known, is_number, is_waiting, merging, own_after, rising-changed, rising-fewer, rising-last, ticket_held, upgraded, waiting, winning}
 
 -- ---- a ticket that gets another mode
 

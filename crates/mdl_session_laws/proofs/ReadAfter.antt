@@ -1,21 +1,7 @@
 -- What a session has read after a call: what it noted is of what it read last, which is the newest and may stand there.
 use Rattle.std.proofs.Common.{◌≡◌, ◌≢◌, ◌⊎◌, ℕ, ◌+◌, true, Option, Some, None, MatchOption, option_map, Contains, inl, inr, refl, sym, ap, subst, ◌∙◌, arith}
-use Rattle.std.proofs.lemmas.Bool.Decides.{eqb_tells}
-use Rattle.mdl_key.specs.Words.{KeyName}
-use Rattle.mdl_defs.specs.declared.change.Change.{Change}
-use Rattle.mdl_defs.specs.declared.versioned_definition.VersionedDefinition.{VersionedDefinition}
-use Rattle.mdl_defs.specs.VersionedDefinitions.{MayStand, standing_after}
 use Rattle.mdl_defs.proofs.VersionedDefinitionLemmas.{changes-keep_standing}
-use Rattle.mdl_calls.specs.declared.answers.Held.{Held}
-use Rattle.mdl_calls.specs.Words.{Answer, Refused, Reads, Changed, Call, Read_definition, Read_kept, Change_definition, OfHeld, SessionLocks, is_number, ticket_held}
-use Rattle.mdl_calls.specs.Meetings.{IsLast, Meets, NotesThere, ReadsNothing, ReadsThere, ChangesThere}
-use Rattle.mdl_defs.specs.declared.reading.Reading.{Reading}
-use Rattle.mdl_key.specs.KeyLookups.{is_known, key_known}
-use Rattle.mdl_calls.specs.SessionData.{SessionData, IsSound, IsNoted, FitsKey, noted_at, last_read, is_newest, was_read}
-use Rattle.mdl_session_laws.specs.SessionJoins.{LetsRead}
-use Rattle.mdl_session_laws.proofs.KeyLists.{is-known}
-use Rattle.mdl_session_laws.proofs.ReadLists.{last-here, last-elsewhere, last-keeps, last-stays, last-newest, last-newest_elsewhere, newest-up}
-use Rattle.mdl_session_laws.proofs.TicketLists.{all-found}
+use Rattle.mdl_session_laws.proofs.FirstLemmas.{Answer, Call, Change, Change_definition, Changed, ChangesThere, FitsKey, Held, IsLast, IsNoted, IsSound, KeyName, LetsRead, MayStand, Meets, NotesThere, OfHeld, Read_definition, Read_kept, Reading, Reads, ReadsNothing, ReadsThere, Refused, SessionData, SessionLocks, VersionedDefinition, all-found, eqb_tells, is-known, is_known, is_newest, is_number, key_known, last-elsewhere, last-here, last-keeps, last-newest, last-newest_elsewhere, last-stays, last_read, newest-up, noted_at, standing_after, ticket_held, was_read}
 
 -- ---- tickets
 

@@ -1,21 +1,8 @@
 -- The laws of a lock space, of a session: what it reads and changes under its tickets.
 use Rattle.std.proofs.Common.{◌≡◌, ◌≢◌, ◌⊎◌, ℕ, ◌+◌, ◌≤◌, true, Option, Some, None, MatchOption, option_map, inl, inr, sym, ap, subst, ◌∙◌}
-use Rattle.std.proofs.lemmas.Bool.Decides.{eqb_tells}
-use Rattle.mdl_key.specs.declared.mode.Mode.TheVariants.{X}
-use Rattle.mdl_key.specs.Words.{KeyName, same_mode}
-use Rattle.mdl_defs.specs.declared.change.Change.{Change}
 use Rattle.mdl_defs.specs.declared.definition.Definition.{Definition}
-use Rattle.mdl_defs.specs.declared.versioned_definition.VersionedDefinition.{VersionedDefinition}
-use Rattle.mdl_defs.specs.VersionedDefinitions.{MayStand, standing_after, standing_fault}
-use Rattle.mdl_calls.specs.declared.answers.Held.{Held}
-use Rattle.mdl_calls.specs.declared.space_error.SpaceError.{SpaceError}
-use Rattle.mdl_calls.specs.declared.space_error.SpaceError.TheVariants.{OutOfMemory}
-use Rattle.mdl_calls.specs.Words.{Answer, Refused, Reads, Changed, Call, Read_definition, Read_kept, Change_definition, caller, HoldsAt, IsChangeOf, cause_of, OfHeld, read_under, redefined_place, ticket_held}
-use Rattle.mdl_calls.specs.Meetings.{Meets, MeetsFault, NotesThere, ReadsNothing, ReadsThere, ChangesThere, IsRefusedFor}
-use Rattle.mdl_calls.specs.SessionData.{SessionData, SpeaksFor, Knows, HasMet, HasRead, HasSeen, own_of, last_read}
-use Rattle.mdl_session_laws.specs.SessionJoins.{Joins}
+use Rattle.mdl_session_laws.proofs.FirstLemmas.{Answer, Call, Change, Change_definition, Changed, ChangesThere, HasMet, HasRead, HasSeen, Held, HoldsAt, IsChangeOf, IsRefusedFor, Joins, KeyName, Knows, MayStand, Meets, MeetsFault, NotesThere, OfHeld, OutOfMemory, Read_definition, Read_kept, Reads, ReadsNothing, ReadsThere, Refused, SessionData, SpaceError, SpeaksFor, VersionedDefinition, X, caller, cause_of, eqb_tells, last-among, last-elsewhere, last-here, last-was_read, last_read, newest-above, own_of, read_under, redefined_place, same_mode, standing_after, standing_fault, ticket_held}
 use Rattle.mdl_session_laws.proofs.ReadAfter.{of-held, held-of, learnt, among-on, was_read-on}
-use Rattle.mdl_session_laws.proofs.ReadLists.{last-among, last-here, last-elsewhere, last-was_read, newest-above}
 
 -- ---- what was met
 

@@ -1,14 +1,8 @@
 -- What a session has read, in order: what was read last at each place, and the greatest version.
-use Rattle.std.proofs.Common.{◌≡◌, ◌≢◌, ℕ, ◌≤◌, Bool, true, false, ◌&&◌, ◌==◌, List, [], ◌∷◌, ◌++◌, Option, Some, None, Contains, inl, inr, if◌then◌else◌, refl, sym, ap, subst, ◌∙◌, eq-eqb, arith}
-use Rattle.std.specs.Option.{option_or}
-use Rattle.std.proofs.lemmas.Bool.{and_from, eqb-true, or_left, or_right}
-use Rattle.std.proofs.lemmas.Bool.Decides.{nat_tests}
+use Rattle.std.proofs.Common.{◌≡◌, ◌≢◌, ℕ, ◌≤◌, Bool, true, false, ◌&&◌, ◌==◌, List, [], ◌∷◌, ◌++◌, Option, Some, None, Contains, inl, inr, if◌then◌else◌, refl, sym, ap, subst, ◌∙◌, eq-eqb, arith, eqb-true}
 use Rattle.std.proofs.lemmas.List.Elements.{Contains-append_left, Contains-append_right}
-use Rattle.std.proofs.lemmas.List.Folds.{list_any-append}
-use Rattle.mdl_defs.specs.declared.versioned_definition.VersionedDefinition.{VersionedDefinition}
-use Rattle.mdl_calls.specs.Meetings.{IsLast}
-use Rattle.mdl_defs.specs.declared.reading.Reading.{Reading}
-use Rattle.mdl_calls.specs.SessionData.{last_read, was_read, is_newest}
+use Rattle.std.specs.Option.{option_or}
+use Rattle.mdl_session_laws.proofs.Common.{IsLast, Reading, VersionedDefinition, and_from, is_newest, last_read, list_any-append, nat_tests, or_left, or_right, was_read}
 
 -- of some readings and one more, the last one at its place
 pub read-last : (reads : List Reading) (place : ℕ) (standing : VersionedDefinition)

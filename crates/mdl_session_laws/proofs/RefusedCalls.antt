@@ -1,13 +1,6 @@
 -- A call that is refused joins a session to one that has, knows and has read the same: what is left to show is the cause, and what was met of the wait.
 use Rattle.std.proofs.Common.{inl, ◌≡◌, ℕ, true, false, Option, Some, IfSome, refl, sym, ap, subst, ◌∙◌}
-use Rattle.mdl_calls.specs.declared.answers.Settled.{Settled}
-use Rattle.mdl_calls.specs.declared.space_error.SpaceError.{SpaceError}
-use Rattle.mdl_calls.specs.Words.{Refused, Call, Resolve, Try_now, Read_definition, Read_kept, Poll_wait, End_wait, caller, is_answer_of, told, IsCause, SessionLocks, Numbers, Draws, own_after}
-use Rattle.mdl_calls.specs.Learning.{KeepsSettled}
-use Rattle.mdl_calls.specs.Meetings.{ReadsNothing}
-use Rattle.mdl_key.specs.KeyLookups.{is_known}
-use Rattle.mdl_calls.specs.SessionData.{SessionData, SpeaksFor, Knows, noted_at}
-use Rattle.mdl_session_laws.specs.SessionJoins.{Joins, LearnsKeys, LetsRead, TellsTruly, ends_wait, gained_at, session_has_call, wait_met}
+use Rattle.mdl_session_laws.proofs.Common.{Call, Draws, End_wait, IsCause, Joins, KeepsSettled, Knows, LearnsKeys, LetsRead, Numbers, Poll_wait, Read_definition, Read_kept, ReadsNothing, Refused, Resolve, SessionData, SessionLocks, Settled, SpaceError, SpeaksFor, TellsTruly, Try_now, caller, ends_wait, gained_at, is_answer_of, is_known, noted_at, own_after, session_has_call, told, wait_met}
 
 -- all is the same but how the wait is settled, which may have been learnt
 pub record KeepsAll (a b : SessionData) : Type 0 where

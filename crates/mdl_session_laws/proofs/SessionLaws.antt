@@ -1,11 +1,9 @@
 -- A session has the laws of a lock space.
-use Rattle.mdl_calls.specs.SpaceLaws.{SpaceLaws}
-use Rattle.mdl_session_laws.specs.SessionJoins.{Joins}
-use Rattle.mdl_calls.specs.SessionData.{SpeaksFor, own_of, Knows, IsSettledAs, numbers_of, HasRead, HasMet, HasSeen, Pins}
+use Rattle.mdl_session_laws.proofs.FirstLemmas.{HasMet, HasRead, HasSeen, IsSettledAs, Joins, Knows, Pins, SpaceLaws, SpeaksFor, numbers_of, own_of}
 use Rattle.mdl_session_laws.proofs.CallLaws.{session-allowed, session-keeps, session-changes, session-others, session-rising, session-fits, session-lists, session-explains, session-draws, session-others_draw, session-upgrades}
 use Rattle.mdl_session_laws.proofs.KeyLaws.{session-resolves, session-remembers, session-one_key, session-one_place, session-held_places, session-wait_place, session-tells_key, session-tells_tables, session-resolved_pinned, session-pins_stay, session-pinned_known, session-held_pinned, session-wait_pinned, session-unpins_none, session-unpins_in_use, session-unpins}
-use Rattle.mdl_session_laws.proofs.WaitLaws.{session-tells, session-waits_settled, session-settled_once, session-stays, session-agrees, session-victims, session-counts, session-kills, session-kills_or_settled}
 use Rattle.mdl_session_laws.proofs.ReadLaws.{session-reads, session-redefines, session-redefines_so, session-reads_one, session-stands, session-reads_fit, session-sees, session-seen_stays, session-seen_below, session-meets, session-met_stays}
+use Rattle.mdl_session_laws.proofs.WaitLaws.{session-tells, session-waits_settled, session-settled_once, session-stays, session-agrees, session-victims, session-counts, session-kills, session-kills_or_settled}
 
 -- by its plain data, which tell of no debt
 pub session-laws : SpaceLaws SpeaksFor own_of Knows IsSettledAs numbers_of HasRead HasMet HasSeen Pins (λ _ _ _. ⊥) Joins

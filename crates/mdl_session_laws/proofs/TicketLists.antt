@@ -1,13 +1,7 @@
 -- Lists of held tickets: what passes a test of all, and numbers that rise, as tickets are gained, given up and changed.
 use Rattle.std.proofs.Common.{◌≡◌, ℕ, Bool, true, nat_lt, List, [], ◌∷◌, ◌++◌, map, filter, find, Some, Contains, refl, sym, ap, subst, arith}
-use Rattle.std.specs.List.{list_all}
-use Rattle.std.proofs.lemmas.Bool.{and_from, and_parts}
-use Rattle.std.proofs.lemmas.Bool.Decides.{nat_tests}
-use Rattle.std.proofs.lemmas.List.Folds.{list_all-append}
 use Rattle.std.proofs.lemmas.List.Sums.{AllPass-from_list_all}
-use Rattle.mdl_calls.specs.declared.answers.Held.{Held}
-use Rattle.mdl_calls.specs.Words.{are_rising}
-use Rattle.mdl_calls.specs.SessionData.{are_below}
+use Rattle.mdl_session_laws.proofs.Common.{Held, and_from, and_parts, are_below, are_rising, list_all, list_all-append, nat_tests}
 
 -- ---- tests of all
 

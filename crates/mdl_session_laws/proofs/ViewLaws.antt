@@ -1,11 +1,7 @@
 -- A space whose ghost members are those of its view has the laws of a lock space, if the view has them and each call does to the view what it does there.
 -- Only the debts may be more than the view tells.
 use Rattle.std.proofs.Common.{◌⊎◌, ℕ, inl, inr}
-use Rattle.mdl_key.specs.Words.{KeyName}
-use Rattle.mdl_defs.specs.declared.versioned_definition.VersionedDefinition.{VersionedDefinition}
-use Rattle.mdl_calls.specs.declared.answers.Settled.{Settled}
-use Rattle.mdl_calls.specs.SpaceLaws.{SpaceLaws}
-use Rattle.mdl_calls.specs.Words.{Answer, Call, SessionLocks, Numbers}
+use Rattle.mdl_session_laws.proofs.Common.{Answer, Call, KeyName, Numbers, SessionLocks, Settled, SpaceLaws, VersionedDefinition}
 
 -- the last of three, for another one
 or-owes : {A B C D : Type 0} → (C → D) → A ⊎ B ⊎ C → A ⊎ B ⊎ D

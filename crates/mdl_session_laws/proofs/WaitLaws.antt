@@ -1,13 +1,8 @@
 -- The laws of a lock space, of a session: how its wait is settled, and what it is told of that.
 use Rattle.std.proofs.Common.{◌≡◌, ℕ, Bool, true, false, is_some, Option, Some, None, refl, sym, ap, subst, ◌∙◌}
-use Rattle.mdl_calls.specs.declared.answers.Settled.{Settled}
 use Rattle.mdl_calls.specs.declared.answers.Settled.TheVariants as settled_as
 use Rattle.mdl_calls.specs.declared.answers.TimedOut.TheVariants.{ByThisCall, Already}
-use Rattle.mdl_calls.specs.declared.space_error.SpaceError.TheVariants.{NoWait, Unsettled}
-use Rattle.mdl_calls.specs.Words.{Answer, Refused, Done, Granted, Upgraded, Waits, Victim_is, Pending, Is_settled, Timed_out, Lost, Has_wait, Has_killed, is_answer_of, Begin_wait, Call, Clone_ticket, Downgrade, Merge, Release, Search, Try_now, Upgrade_now, Poll_wait, Settle_timeout, End_wait, Wait_of, Kill, caller, IsEndOf, IsExplained, IsToldOf, told, wait_number, is_waiting}
-use Rattle.mdl_calls.specs.Learning.{KeepsSettled}
-use Rattle.mdl_calls.specs.SessionData.{SessionData, SpeaksFor, IsSettledAs, Knows, own_of}
-use Rattle.mdl_session_laws.specs.SessionJoins.{Joins, ends_wait, wait_met}
+use Rattle.mdl_session_laws.proofs.FirstLemmas.{Answer, Begin_wait, Call, Clone_ticket, Done, Downgrade, End_wait, Granted, Has_killed, Has_wait, IsEndOf, IsExplained, IsSettledAs, IsToldOf, Is_settled, Joins, KeepsSettled, Kill, Knows, Lost, Merge, NoWait, Pending, Poll_wait, Refused, Release, Search, SessionData, Settle_timeout, Settled, SpeaksFor, Timed_out, Try_now, Unsettled, Upgrade_now, Upgraded, Victim_is, Wait_of, Waits, caller, ends_wait, is_answer_of, is_waiting, own_of, told, wait_met, wait_number}
 use Rattle.mdl_session_laws.proofs.CallLaws.{speaks}
 
 -- an answer that tells how the caller's wait is settled is true

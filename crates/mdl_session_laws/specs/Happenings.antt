@@ -1,19 +1,7 @@
 -- That such calls can happen: the relation of calls to sessions isn't empty. If a session may get a lock, begin a wait, lose it, read or change what it
 -- meets, or be refused, there is a session after the call to which the relation leads.
 use Rattle.std.specs.Prelude.{◌≡◌, ℕ, ◌+◌, true, false, Some, None}
-use Rattle.mdl_key.specs.declared.mode.Mode.{Mode}
-use Rattle.mdl_key.specs.declared.mode.Mode.TheVariants.{X}
-use Rattle.mdl_key.specs.Words.{KeyName, same_mode}
-use Rattle.mdl_defs.specs.declared.change.Change.{Change}
-use Rattle.mdl_defs.specs.declared.versioned_definition.VersionedDefinition.{VersionedDefinition}
-use Rattle.mdl_defs.specs.VersionedDefinitions.{standing_fault}
-use Rattle.mdl_calls.specs.declared.answers.Held.{Held}
-use Rattle.mdl_calls.specs.declared.answers.Settled.TheVariants.{Victim}
-use Rattle.mdl_calls.specs.declared.space_error.SpaceError.TheVariants.{OutOfMemory}
-use Rattle.mdl_calls.specs.Words.{Answer, Refused, At_place, Granted, Waits, Lost, Reads, Changed, Call, Resolve, Try_now, Begin_wait, End_wait, Read_definition, Change_definition, caller, takes_memory, IsFit, is_waiting, ticket_held}
-use Rattle.mdl_calls.specs.Meetings.{Meets}
-use Rattle.mdl_key.specs.KeyLookups.{is_known, key_known, place_known}
-use Rattle.mdl_calls.specs.SessionData.{SessionData, IsSound, Knows}
+use Rattle.mdl_session_laws.specs.Prelude.{Answer, At_place, Begin_wait, Call, Change, Change_definition, Changed, End_wait, Granted, Held, IsFit, IsSound, KeyName, Knows, Lost, Meets, Mode, OutOfMemory, Read_definition, Reads, Refused, Resolve, SessionData, Try_now, VersionedDefinition, Victim, Waits, X, caller, is_known, is_waiting, key_known, place_known, same_mode, standing_fault, takes_memory, ticket_held}
 use Rattle.mdl_session_laws.specs.SessionJoins.{Joins}
 
 -- a session can make this call and get this answer

@@ -1,3 +1,4 @@
+pub mod Prelude
 pub mod Happenings
 pub mod SessionJoins
 pub mod SpaceLaws

@@ -1,12 +1,7 @@
 -- The relation of a call to the session before it and after it, by the call's specification, and some aspects of that as functions of the call.
 use Rattle.std.specs.Prelude.{ℕ, Bool, List, Option}
 use Rattle.mdl_calls.specs.AllCalls.{spec_of}
-use Rattle.mdl_calls.specs.CallSpec.{Transition}
-use Rattle.mdl_calls.specs.Effects.{ends, place_of}
-use Rattle.mdl_key.specs.declared.known_key.KnownKey.{KnownKey}
-use Rattle.mdl_calls.specs.SessionData.{SessionData}
-use Rattle.mdl_calls.specs.declared.answers.Settled.{Settled}
-use Rattle.mdl_calls.specs.Words.{Answer, Call}
+use Rattle.mdl_session_laws.specs.Prelude.{Answer, Call, KnownKey, SessionData, Settled, Transition, ends, place_of}
 
 -- a call with this answer takes the first session to the second
 abbrev pub Joins : SessionData → Call → Answer → SessionData → Type 0

@@ -1,14 +1,6 @@
 -- What follows from the relation of calls to sessions: a session stays sound, and the laws of lock spaces on which code above relies most hold.
 use Rattle.std.specs.Prelude.{◌≡◌, ℕ, ◌≤◌, true, [], Some, None}
-use Rattle.mdl_key.specs.declared.mode.Mode.TheVariants.{X}
-use Rattle.mdl_key.specs.Words.{KeyName, same_mode}
-use Rattle.mdl_defs.specs.declared.change.Change.{Change}
-use Rattle.mdl_defs.specs.declared.versioned_definition.VersionedDefinition.{VersionedDefinition}
-use Rattle.mdl_defs.specs.VersionedDefinitions.{MayStand, standing_after}
-use Rattle.mdl_calls.specs.declared.answers.Held.{Held}
-use Rattle.mdl_calls.specs.declared.answers.Settled.{Settled}
-use Rattle.mdl_calls.specs.Words.{Answer, Changed, At_place, Call, Resolve, End_wait, Change_definition, caller, IsRising, IsToldOf, HoldsAt, IsChangeOf, redefined_place, ticket_held}
-use Rattle.mdl_calls.specs.SessionData.{SessionData, IsSound, SpeaksFor, Knows, IsSettledAs, HasRead, HasSeen, own_of}
+use Rattle.mdl_session_laws.specs.Prelude.{Answer, At_place, Call, Change, Change_definition, Changed, End_wait, HasRead, HasSeen, Held, HoldsAt, IsChangeOf, IsRising, IsSettledAs, IsSound, IsToldOf, KeyName, Knows, MayStand, Resolve, SessionData, Settled, SpeaksFor, VersionedDefinition, X, caller, own_of, redefined_place, same_mode, standing_after, ticket_held}
 use Rattle.mdl_session_laws.specs.SessionJoins.{Joins}
 
 -- a session that has nothing yet

@@ -1,18 +1,6 @@
 -- The tickets of a place have one note, whatever becomes of the tickets.
-use Rattle.std.proofs.Common.{◌≡◌, ℕ, ◌==◌, false, List, [], ◌∷◌, ◌++◌, Option, Some, refl, sym, ap, ◌∙◌, subst}
-use Rattle.std.proofs.lemmas.Bool.{eq-eqb, eqb-true, false≢true}
-use Rattle.mdl_key.specs.declared.mode.Mode.{Mode}
-use Rattle.mdl_steps.specs.declared.deed.Deed.{Deed}
-use Rattle.mdl_steps.specs.declared.deed.Deed.TheVariants.{Gain, Alter, Lose}
-use Rattle.mdl_steps.specs.declared.view.SessionTicket.{SessionTicket}
-use Rattle.mdl_steps.specs.Cells.{note_at}
-use Rattle.mdl_steps.specs.Deeds.{all_owned, is_own, owned}
-use Rattle.mdl_steps.specs.Lists.{Each}
-use Rattle.mdl_steps.specs.Plays.{noting_version}
-use Rattle.mdl_steps.proofs.Views.{by_bool}
-use Rattle.mdl_shared.specs.Members.{without_at}
-use Rattle.mdl_shared.specs.Modes.{in_mode_at}
-use Rattle.mdl_shared.specs.Rememberings.{AreAlike}
+use Rattle.std.proofs.Common.{◌≡◌, ℕ, ◌==◌, false, List, [], ◌∷◌, ◌++◌, Option, Some, refl, sym, ap, ◌∙◌, subst, eq-eqb, eqb-true}
+use Rattle.mdl_shared.proofs.Common.{Alter, AreAlike, Deed, Each, Gain, Lose, Mode, SessionTicket, all_owned, by_bool, false≢true, in_mode_at, is_own, note_at, noting_version, owned, without_at}
 
 -- ---- as the tickets change
 

@@ -1,15 +1,9 @@
 -- What a cache keeps after a look, and after one definition more: each was kept before, or is the new one.
 use Rattle.std.proofs.Common.{rules, ◌≡◌, ℕ, ◌-◌, true, List, [], ◌∷◌, take, Contains, Option, Some, None, inl, inr, refl, sym, subst, ◌∙◌}
-use Rattle.std.specs.Map.{lookup_entry, remove_entry}
-use Rattle.std.specs.Option.{option_map_or}
 use Rattle.lru.proofs.CallerLemmas.{Contains-lookup, Contains-promoted, Contains-remove_entry, Contains-take}
 use Rattle.lru.proofs.Splits.{Contains-cons}
-use Rattle.mdl_defs.specs.declared.definition.Definition.{Definition}
-use Rattle.mdl_defs.specs.declared.versioned_definition.VersionedDefinition.{VersionedDefinition}
-use Rattle.mdl_defs.specs.Caches.{CacheView, Kept, is_of, kept_first, kept_of, looked_at}
-use Rattle.mdl_calls.specs.Words.{AreMet}
-use Rattle.mdl_steps.proofs.Views.{by_bool}
-use Rattle.mdl_shared.specs.KeptReads.{kept_standing}
+use Rattle.std.specs.Map.{lookup_entry, remove_entry}
+use Rattle.mdl_shared.proofs.Common.{AreMet, CacheView, Definition, Kept, VersionedDefinition, by_bool, is_of, kept_first, kept_of, kept_standing, looked_at, option_map_or}
 
 module _ (met : ℕ → VersionedDefinition → Type 0) (place version : ℕ) where
   -- what is kept of a version was met

@@ -1,38 +1,9 @@
 -- Second tickets that are made of held ones.
-use Rattle.std.proofs.Common.{◌≡◌, ◌⊎◌, inl, inr, ℕ, false, Some, None, [], ◌∷◌, Result, Ok, Err, refl, ap, subst₂, ◌∙◌}
-use Rattle.std.specs.Prelude.{IfErr, IfOk, OnErr}
-use Rattle.std.specs.Option.{option_map}
-use Rattle.mdl_key.specs.declared.mode.Mode.{Mode}
-use Rattle.mdl_calls.specs.declared.space_error.SpaceError.{SpaceError}
-use Rattle.mdl_calls.specs.declared.space_error.SpaceError.TheVariants.{Full, OutOfMemory}
-use Rattle.mdl_calls.specs.SessionLocks.{cloning}
-use Rattle.mdl_calls.specs.Words.{Clone_ticket, cloned, Granted, IsCause, MayClone, OfHeld, Refused, is_waiting}
-use Rattle.mdl_steps.specs.declared.deed.Deed.TheVariants.{Gain}
-use Rattle.mdl_steps.specs.declared.view.SessionTicket.{SessionTicket}
-use Rattle.mdl_calls.specs.SessionData.{Knows}
-use Rattle.mdl_session_laws.specs.SessionJoins.{Joins}
-use Rattle.mdl_visits.specs.Leavings.{MeetsOwn}
-use Rattle.mdl_visits.specs.Numbers.{numbered}
-use Rattle.mdl_visits.specs.Visits.{MeetsFull, VisitsOnce}
-use Rattle.mdl_visits.proofs.Numbers.{has_number}
-use Rattle.mdl_shared.specs.DeedsDone.{DoesQuietly}
-use Rattle.mdl_shared.specs.FastWishes.{BecomesSlow, GainsFast}
-use Rattle.mdl_shared.specs.Members.{IsMember}
-use Rattle.mdl_shared.specs.Modes.{clone_fault}
-use Rattle.mdl_shared.specs.OwnLists.{as_held}
-use Rattle.mdl_shared.specs.SessionViews.{SessionView, data_of, tickets_seen}
-use Rattle.mdl_shared.specs.AllSteps.{Shows}
-use Rattle.mdl_shared.specs.Steps.{MeetsTicket, ShowsStep}
-use Rattle.mdl_shared.specs.WishSteps.{FullForFast, IsClosed, IsCloned, LacksMemory, LacksRoomForWish, SlowsAll, StopsSlowing}
-use Rattle.mdl_shared.specs.TicketLists.{KeepsRoom}
-use Rattle.mdl_shared.proofs.FastWishing.{by-latch, number-slow}
+use Rattle.std.proofs.Common.{◌≡◌, ◌⊎◌, inl, inr, ℕ, false, Some, None, [], ◌∷◌, Result, Ok, Err, refl, ap, subst₂, ◌∙◌, IfErr, IfOk, OnErr}
+use Rattle.mdl_shared.proofs.FirstLemmas.{BecomesSlow, Clone_ticket, DidDeeds, DoesQuietly, Full, FullForFast, Gain, GainsFast, Granted, IsCause, IsCloned, IsClosed, IsMember, Joins, KeepsRoom, Knows, LacksMemory, LacksRoomForWish, MayClone, MeetsFull, MeetsOwn, MeetsTicket, Mode, OfHeld, OutOfMemory, Refused, SessionTicket, SessionView, Shows, ShowsStep, SlowsAll, SpaceError, Stays, StopsSlowing, VisitsOnce, as_held, clone_fault, cloned, cloning, data_of, done-nothing, has_number, is_waiting, keeps-before, numbered, option_map, refused, same-stays, speaks, ticket-told, tickets_seen, waits-asks}
 use Rattle.mdl_shared.proofs.FastWishShows.{full-fast, full-one, wish-lack}
-use Rattle.mdl_shared.proofs.MemberFacts.{speaks}
-use Rattle.mdl_shared.proofs.Members.{DidDeeds, done-nothing}
+use Rattle.mdl_shared.proofs.FastWishing.{by-latch, number-slow}
 use Rattle.mdl_shared.proofs.QuietDeeds.{quiet-shows, quiet-then}
-use Rattle.mdl_shared.proofs.Rooms.{keeps-before}
-use Rattle.mdl_shared.proofs.SameSpace.{Stays, refused, same-stays, waits-asks}
-use Rattle.mdl_shared.proofs.SpaceLists.{ticket-told}
 use Rattle.mdl_shared.proofs.WishCalls.{by-cause, gain-joins}
 use Rattle.mdl_shared.proofs.WishFaults.{clone-cause, clone-clear}
 

@@ -1,13 +1,8 @@
 -- A session that can be closed has nothing.
 use Rattle.std.proofs.Common.{◌≡◌, false, List, [], ◌∷◌, length, is_some, Option, Some, None, refl, sym, ap, ◌∙◌, arith}
-use Rattle.mdl_steps.specs.declared.view.Ask.{Ask}
-use Rattle.mdl_steps.specs.declared.view.SessionTicket.{SessionTicket}
-use Rattle.mdl_steps.specs.Interleavings.{interleaved}
-use Rattle.mdl_shared.specs.declared.member.Member.{Member}
-use Rattle.mdl_shared.specs.Closings.{HasNoLocks}
-use Rattle.mdl_shared.specs.Passes.{view_of}
-use Rattle.mdl_shared.specs.SessionViews.{Lists, all_tickets}
+use Rattle.mdl_shared.proofs.Common.{Ask, Lists, Member, SessionTicket, all_tickets, interleaved, view_of}
 use Rattle.mdl_shared.proofs.SameSpace.{own_by}
+use Rattle.mdl_shared.specs.Closings.{HasNoLocks}
 
 none-left : (tickets : List SessionTicket) → length tickets ≡ 0 → tickets ≡ []
 none-left [] none = refl

@@ -1,20 +1,6 @@
 -- What a session owes, by the flags of its own list and by its view.
-use Rattle.std.proofs.Common.{◌≡◌, ℕ, ◌==◌, ◌&&◌, ◌||◌, Bool, true, false, not, List, [], ◌∷◌, if◌then◌else◌, refl, sym, ap, subst, ◌∙◌, arith}
-use Rattle.std.specs.List.{list_any}
-use Rattle.std.proofs.lemmas.Bool.{and_parts, eq-eqb, false≢true}
-use Rattle.std.proofs.lemmas.Bool.Decides.{nat_tests}
-use Rattle.atomic_table.specs.Seated.{TableId}
-use Rattle.mdl_steps.specs.declared.deed.Deed.{Deed}
-use Rattle.mdl_steps.specs.Plays.{Mine}
-use Rattle.mdl_steps.specs.SeatStates.{AtItsTable, SeatState}
-use Rattle.mdl_steps.proofs.Views.{by_bool}
-use Rattle.mdl_visits.specs.FastTries.{ReleasesFast}
-use Rattle.mdl_visits.specs.Grantings.{VisitsAndReschedules, all_but}
-use Rattle.mdl_visits.specs.Visits.{MakesSteps, Visits}
-use Rattle.mdl_shared.specs.declared.member.Member.{Member}
-use Rattle.mdl_shared.specs.Debts.{AreOwed, IsOwed, OwesNoMore, owed_in}
-use Rattle.mdl_shared.specs.SessionViews.{SessionView}
-use Rattle.mdl_shared.specs.TicketLists.{TicketList}
+use Rattle.std.proofs.Common.{◌≡◌, ℕ, ◌==◌, ◌&&◌, ◌||◌, Bool, true, false, not, List, [], ◌∷◌, if◌then◌else◌, refl, sym, ap, subst, ◌∙◌, arith, eq-eqb}
+use Rattle.mdl_shared.proofs.Common.{AreOwed, AtItsTable, Deed, IsOwed, MakesSteps, Member, Mine, OwesNoMore, ReleasesFast, SeatState, SessionView, TableId, TicketList, Visits, VisitsAndReschedules, all_but, and_parts, by_bool, false≢true, list_any, nat_tests, owed_in}
 
 -- ---- what is owed after a visit is the same
 

@@ -1,42 +1,9 @@
 -- The end of a session's wait.
 use Rattle.std.proofs.Common.{◌≡◌, ℕ, ◌+◌, ◌-◌, true, is_some, List, [], ◌∷◌, map, Option, Some, None, Ok, refl, sym, ap, subst, ◌∙◌, arith}
-use Rattle.std.proofs.lemmas.Bool.{and_parts}
-use Rattle.std.proofs.lemmas.Bool.Decides.{nat_tests}
-use Rattle.mdl_calls.specs.declared.answers.Ended.{Ended}
 use Rattle.mdl_calls.specs.declared.answers.Ended.TheVariants as ended_as
-use Rattle.mdl_calls.specs.declared.answers.Settled.{Settled}
 use Rattle.mdl_calls.specs.declared.answers.Settled.TheVariants as settled_as
-use Rattle.mdl_calls.specs.declared.space_error.SpaceError.TheVariants.{NoWait, Unsettled}
-use Rattle.mdl_calls.specs.SessionLocks.{winning}
-use Rattle.mdl_calls.specs.Words.{Granted, Lost, Refused, End_wait, ended, is_answer_of, is_waiting}
-use Rattle.mdl_steps.specs.declared.deed.Deed.TheVariants.{Gain}
-use Rattle.mdl_steps.specs.declared.view.Ask.{Ask}
-use Rattle.mdl_steps.specs.declared.view.StepRecord.{StepRecord}
-use Rattle.mdl_steps.specs.declared.view.SessionTicket.{SessionTicket}
-use Rattle.mdl_steps.specs.declared.view.Settlement.{Settlement}
-use Rattle.mdl_steps.specs.Cells.{note_at}
-use Rattle.mdl_steps.specs.Deeds.{owned}
-use Rattle.mdl_steps.specs.Interleavings.{interleaved}
-use Rattle.mdl_steps.specs.WaitStates.{IsLost}
-use Rattle.mdl_session_laws.specs.SessionJoins.{Joins}
-use Rattle.mdl_visits.specs.Numbers.{is_ask_apart, is_no_number}
-use Rattle.mdl_visits.specs.Polls.{settled_state}
-use Rattle.mdl_shared.specs.Debts.{IsOwed, OwesNoMore}
+use Rattle.mdl_shared.proofs.FirstLemmas.{AllNoted, AreAlike, Ask, DoesSlow, End_wait, Ended, Gain, Granted, IsLost, IsMember, IsOwed, Joins, Lost, NoWait, OwesNoMore, Refused, Room, SessionTicket, SessionView, Settled, Settlement, Stays, StaysInOrder, StepRecord, Unsettled, alike_done, and_parts, apart, are_below_next, as_held, ask-last, below, data_of, does-alone, ended, interleaved, is_answer_of, is_ask_apart, is_no_number, is_waiting, nat_tests, note_at, noted_under, nothing-read, one-note, one-note_done, own_of, owned, refused, same-stays, settled_state, speaks, tickets_seen, told-last, wait_by, waits-asks, winning}
 use Rattle.mdl_shared.specs.Endings.{lost_end}
-use Rattle.mdl_shared.specs.Members.{IsMember}
-use Rattle.mdl_shared.specs.OwnLists.{as_held}
-use Rattle.mdl_shared.specs.Rememberings.{AreAlike}
-use Rattle.mdl_shared.specs.SessionViews.{SessionView, data_of, tickets_seen}
-use Rattle.mdl_shared.specs.TicketLists.{Room}
-use Rattle.mdl_shared.specs.Waitings.{are_below_next}
-use Rattle.mdl_shared.proofs.Alike.{alike_done}
-use Rattle.mdl_shared.proofs.MemberFacts.{apart, ask-last, below, speaks}
-use Rattle.mdl_shared.proofs.Members.{StaysInOrder}
-use Rattle.mdl_shared.proofs.NotedOnce.{one-note, one-note_done}
-use Rattle.mdl_shared.proofs.SameSpace.{Stays, own_of, refused, same-stays, wait_by, waits-asks}
-use Rattle.mdl_shared.proofs.SpaceNotes.{AllNoted, noted_under, nothing-read}
-use Rattle.mdl_shared.proofs.SpaceTickets.{told-last}
-use Rattle.mdl_shared.proofs.TicketOrder.{DoesSlow, does-alone}
 
 -- ---- how it ended
 

@@ -1,37 +1,8 @@
 -- A session reads the word of its wait, and ends the wait where it is settled.
 use Rattle.std.proofs.Common.{◌≡◌, ℕ, true, is_some, [], ◌∷◌, ◌++◌, Option, Some, None, inr, refl, sym, ap, subst, ◌∙◌}
-use Rattle.atomic_table.specs.Seated.{TableId}
-use Rattle.mdl_calls.specs.declared.answers.Settled.{Settled}
 use Rattle.mdl_calls.specs.declared.answers.Settled.TheVariants as settled_as
-use Rattle.mdl_calls.specs.declared.space_error.SpaceError.TheVariants.{Unsettled}
-use Rattle.mdl_calls.specs.Words.{Granted, Is_settled, Lost, Poll_wait, Refused, End_wait, is_answer_of}
-use Rattle.mdl_steps.specs.declared.deed.Deed.TheVariants.{Gain}
-use Rattle.mdl_steps.specs.declared.step_kind.StepKind.TheVariants.{EndWait, ReadWait}
-use Rattle.mdl_steps.specs.declared.view.Ask.{Ask}
-use Rattle.mdl_steps.specs.declared.view.StepRecord.{StepRecord}
-use Rattle.mdl_steps.specs.Deeds.{owned}
-use Rattle.mdl_steps.specs.Layout.{wait_word}
-use Rattle.mdl_steps.specs.Plays.{Mine}
-use Rattle.mdl_steps.specs.SeatStates.{AtItsTable, SeatState}
-use Rattle.mdl_steps.specs.WaitPlays.{TellsOwn, ended_granted, taken_over}
-use Rattle.mdl_steps.specs.WaitStates.{granted_state, wait_in, wait_state}
-use Rattle.mdl_session_laws.specs.SessionJoins.{Joins}
-use Rattle.mdl_visits.specs.Grantings.{HasRescheduled, all_but}
-use Rattle.mdl_visits.specs.Polls.{EndsWait, settled_state}
-use Rattle.mdl_visits.specs.Visits.{Does, VisitsOnce}
-use Rattle.mdl_visits.specs.WaitEndings.{EndsLost, idle, mine_without_wait}
-use Rattle.mdl_visits.proofs.Rescheduling.{rescheduled_after}
-use Rattle.mdl_visits.proofs.Steps.{does_then, goes_by, step_after}
-use Rattle.mdl_shared.specs.Debts.{Pays}
-use Rattle.mdl_shared.specs.Members.{IsMember}
-use Rattle.mdl_shared.specs.SessionViews.{SessionView, data_of, lists_seen, session_at, settled_of}
-use Rattle.mdl_shared.specs.AllSteps.{Shows}
-use Rattle.mdl_shared.specs.Steps.{EndsByOneStep, EndsOwnWait, LooksThen, ShowsStep}
-use Rattle.mdl_shared.specs.TicketLists.{KeepsRoom, Room}
-use Rattle.mdl_shared.specs.Waitings.{wait_fault}
+use Rattle.mdl_shared.proofs.FirstLemmas.{Ask, AtItsTable, Does, EndWait, End_wait, EndsByOneStep, EndsLost, EndsOwnWait, EndsWait, Gain, Granted, HasRescheduled, IsMember, Is_settled, Joins, KeepsRoom, LooksThen, Lost, Mine, Pays, Poll_wait, ReadWait, Refused, Room, SeatState, SessionView, Settled, Shows, ShowsStep, StepRecord, TableId, TellsOwn, Unsettled, VisitsOnce, all_but, data_of, does_then, done-nothing, ended_granted, goes_by, granted_state, idle, if-clear, is_answer_of, lists_seen, mine_without_wait, owed-still, owned, rescheduled_after, session_at, settled_of, settled_state, step_after, taken_over, wait_fault, wait_in, wait_state, wait_word}
 use Rattle.mdl_shared.proofs.EndCalls.{HasEnded, ended-debts, lost-joins, unsettled-joins, won-joins}
-use Rattle.mdl_shared.proofs.Faults.{if-clear}
-use Rattle.mdl_shared.proofs.Members.{done-nothing, owed-still}
 use Rattle.mdl_shared.proofs.PollCalls.{in-state, poll-pending, poll-settled, polls, settled-is, settled-more, unsettled}
 use Rattle.mdl_shared.proofs.WaitSteps.{told-own, word-step}
 

@@ -1,36 +1,12 @@
 -- Calls that try for a fast ticket and give one up: what they tell and do.
 use Rattle.std.proofs.Common.{◌≡◌, ◌⊎◌, inl, inr, ℕ, ◌<◌, ◌≤◌, Bool, true, List, [], ◌∷◌, length, is_some, Option, Some, None, Result, Err, refl, sym, ap, subst, ◌∙◌}
-use Rattle.mdl_key.specs.declared.mode.Mode.{Mode}
-use Rattle.mdl_steps.specs.declared.deed.Deed.TheVariants.{Gain, Lose}
-use Rattle.mdl_steps.specs.declared.view.Ask.{Ask}
-use Rattle.mdl_steps.specs.declared.view.SessionTicket.{SessionTicket}
-use Rattle.mdl_steps.specs.Cells.{own_at}
-use Rattle.mdl_steps.specs.Limits.{most_fast}
-use Rattle.mdl_steps.specs.Lists.{Each}
-use Rattle.mdl_visits.specs.FastTries.{GrantsAtLast, ReleasesFast}
-use Rattle.mdl_visits.specs.Numbers.{numbered}
-use Rattle.mdl_visits.proofs.Numbers.{has_number}
-use Rattle.mdl_shared.specs.declared.fast_path.NotFast.{NotFast}
-use Rattle.mdl_shared.specs.declared.fast_path.NotFast.TheVariants as not_fast
-use Rattle.mdl_shared.specs.declared.member.Member.{Member}
-use Rattle.mdl_shared.specs.declared.try_fast.Fast.{Fast}
-use Rattle.mdl_shared.specs.declared.try_fast.Fast.TheVariants.{Granted, Obtruded, Contended, Limit}
-use Rattle.mdl_shared.specs.Debts.{but_owing}
-use Rattle.mdl_shared.specs.DeedsDone.{DoesQuietly}
-use Rattle.mdl_shared.specs.FastCalls.{GaveUpFast, GetsNothing, HasFewerFast, HasTriedFast}
-use Rattle.mdl_key.specs.KeyLookups.{kind_known}
-use Rattle.mdl_shared.specs.Members.{wish_fault}
-use Rattle.mdl_shared.specs.Passes.{view_of}
-use Rattle.mdl_shared.specs.SessionViews.{Lists, SessionView, StaysSame, lists_seen}
-use Rattle.mdl_shared.specs.Steps.{ShowsStep}
-use Rattle.mdl_shared.specs.WishSteps.{AllMadeSlow, MakesSlow}
-use Rattle.mdl_shared.specs.TicketLists.{KeepsRoom, Room, TicketList}
+use Rattle.mdl_shared.proofs.FirstLemmas.{AllMadeSlow, Ask, DoesQuietly, Each, Fast, Gain, GrantsAtLast, KeepsRoom, Lists, Lose, MakesSlow, Member, Mode, NotFast, ReleasesFast, Room, SessionTicket, SessionView, ShowsStep, StaysSame, TicketList, but_owing, fast-held, has_number, keeps-before, keeps-equal, kind_known, lists_seen, member, most_fast, numbered, own_at, view_of, wish_fault}
 use Rattle.mdl_shared.proofs.FastWishing.{quiet-room}
-use Rattle.mdl_shared.proofs.MemberFacts.{fast-held}
-use Rattle.mdl_shared.proofs.Props.{member}
-use Rattle.mdl_shared.proofs.Rooms.{keeps-before, keeps-equal}
 use Rattle.mdl_shared.proofs.TicketCalls.{release-joins}
 use Rattle.mdl_shared.proofs.WishCalls.{try-granted}
+use Rattle.mdl_shared.specs.FastCalls.{GaveUpFast, GetsNothing, HasFewerFast, HasTriedFast}
+use Rattle.mdl_shared.specs.declared.fast_path.NotFast.TheVariants as not_fast
+use Rattle.mdl_shared.specs.declared.try_fast.Fast.TheVariants.{Granted, Obtruded, Contended, Limit}
 
 -- ---- a try
 

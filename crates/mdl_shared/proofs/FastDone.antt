@@ -1,36 +1,8 @@
 -- What a session has once a fast ticket of its is granted, or released, or once those of a place are slow ones.
-use Rattle.std.proofs.Common.{◌≡◌, ℕ, ◌+◌, ◌==◌, Bool, not, List, [], ◌∷◌, ◌++◌, filter, is_some, Option, Some, None, refl, sym, ap, ◌∙◌}
-use Rattle.std.proofs.lemmas.Bool.{eqb-true}
-use Rattle.mdl_key.specs.declared.mode.Mode.{Mode}
-use Rattle.mdl_steps.specs.declared.deed.Deed.{Deed}
-use Rattle.mdl_steps.specs.declared.deed.Deed.TheVariants.{Gain, Lose}
-use Rattle.mdl_steps.specs.declared.view.Ask.{Ask}
-use Rattle.mdl_key.specs.declared.known_key.KnownKey.{KnownKey}
-use Rattle.mdl_steps.specs.declared.view.SessionTicket.{SessionTicket}
-use Rattle.mdl_steps.specs.Cells.{note_at, own_at}
-use Rattle.mdl_steps.specs.Deeds.{is_own}
-use Rattle.mdl_steps.specs.FastPlays.{but_at, but_own, fast_own, first_note, noted_at}
-use Rattle.mdl_steps.specs.Interleavings.{interleaved}
-use Rattle.mdl_steps.specs.Lists.{Each}
-use Rattle.mdl_steps.specs.Plays.{Mine}
-use Rattle.mdl_steps.specs.SeatStates.{AtItsTable, SeatState}
-use Rattle.mdl_steps.proofs.Interleaving.{each-uninterleaved}
-use Rattle.mdl_steps.proofs.Views.{by_bool}
-use Rattle.mdl_visits.specs.FastTries.{GrantsFast, ReleasesFast}
-use Rattle.mdl_visits.specs.Materialisings.{Materialises}
-use Rattle.mdl_visits.specs.Numbers.{numbered}
-use Rattle.mdl_visits.proofs.Steps.{each_append}
-use Rattle.mdl_shared.specs.declared.member.Member.{Member}
-use Rattle.mdl_shared.specs.Debts.{but_owing}
-use Rattle.mdl_shared.specs.DeedsDone.{DoesQuietly, StaysFast}
-use Rattle.mdl_shared.specs.Members.{IsMember, increment_at}
-use Rattle.mdl_shared.specs.Rememberings.{AreAlike}
-use Rattle.mdl_shared.specs.SessionViews.{Lists, lists_seen, session_at, tickets_seen}
-use Rattle.mdl_shared.specs.TicketLists.{Room}
-use Rattle.mdl_shared.proofs.Alike.{all_noted}
-use Rattle.mdl_shared.proofs.MemberFacts.{below, rising}
-use Rattle.mdl_shared.proofs.Members.{seat-changed}
-use Rattle.mdl_shared.proofs.TicketOrder.{counted-kept, counted-last, gained-fast, made-slow, note-slow, numbers-apart, released-fast}
+use Rattle.std.proofs.Common.{◌≡◌, ℕ, ◌+◌, ◌==◌, Bool, not, List, [], ◌∷◌, ◌++◌, filter, is_some, Option, Some, None, refl, sym, ap, ◌∙◌, eqb-true}
+use Rattle.mdl_steps.specs.FastPlays.{noted_at}
+use Rattle.mdl_shared.proofs.FirstLemmas.{AreAlike, Ask, AtItsTable, Deed, DoesQuietly, Each, Gain, GrantsFast, IsMember, KnownKey, Lists, Lose, Materialises, Member, Mine, Mode, ReleasesFast, Room, SeatState, SessionTicket, StaysFast, all_noted, below, but_at, but_owing, but_own, by_bool, counted-kept, counted-last, each-uninterleaved, each_append, fast_own, first_note, gained-fast, increment_at, interleaved, is_own, lists_seen, made-slow, note-slow, note_at, numbered, numbers-apart, own_at, rising, seat-changed, session_at, tickets_seen}
+use Rattle.mdl_shared.proofs.TicketOrder.{released-fast}
 
 -- ---- the note of a place
 

@@ -1,33 +1,7 @@
 -- What a session with fast tickets, or one that asks for one, gives the steps of its fast path.
-use Rattle.std.proofs.Common.{◌≡◌, ◌≢◌, ℕ, ◌<◌, ◌==◌, Bool, true, List, [], ◌∷◌, filter, map, length, is_some, Option, Some, None, refl, sym, ap, subst, ◌∙◌, arith}
-use Rattle.std.specs.Option.{option_and_then, unwrap_or}
-use Rattle.std.proofs.lemmas.Bool.{and_parts, eq-eqb, eqb-true, lt-leb}
-use Rattle.mdl_key.specs.declared.mode.Mode.{Mode}
-use Rattle.mdl_key.specs.declared.namespace.Kind.{Kind}
-use Rattle.mdl_key.specs.Words.{is_mode_of}
-use Rattle.mdl_word.specs.Words.{increment_of}
+use Rattle.std.proofs.Common.{◌≡◌, ◌≢◌, ℕ, ◌<◌, ◌==◌, Bool, true, List, [], ◌∷◌, filter, map, length, is_some, Option, Some, None, refl, sym, ap, subst, ◌∙◌, arith, eq-eqb, eqb-true}
 use Rattle.mdl_book.specs.Tickets.{ticket_of}
-use Rattle.mdl_key.specs.declared.known_key.KnownKey.{KnownKey}
-use Rattle.mdl_steps.specs.declared.view.SessionTicket.{SessionTicket}
-use Rattle.mdl_steps.specs.declared.view.LatchRecord.{LatchRecord}
-use Rattle.mdl_steps.specs.Cells.{held_at, own_at, ticket_by}
-use Rattle.mdl_steps.specs.Deeds.{is_own}
-use Rattle.mdl_steps.specs.FastPlays.{IsCounted, MayReleaseFast, moved}
-use Rattle.mdl_steps.specs.Lists.{Once}
-use Rattle.mdl_steps.proofs.FastLists.{counted_mode}
-use Rattle.mdl_steps.proofs.Interleaving.{Differ, IsOther, each-filtered}
-use Rattle.mdl_steps.proofs.Views.{by_bool}
-use Rattle.mdl_visits.specs.Numbers.{is_no_number, numbered}
-use Rattle.mdl_visits.specs.Visits.{KnowsKind, MayVisit}
-use Rattle.mdl_shared.specs.declared.member.Member.{Member}
-use Rattle.mdl_key.specs.KeyLookups.{is_known, kind_known}
-use Rattle.mdl_shared.specs.Members.{are_counted, increment_at, most_numbers, wish_fault, without_at}
-use Rattle.mdl_shared.specs.Passes.{view_of}
-use Rattle.mdl_shared.specs.SessionViews.{Lists, SessionView}
-use Rattle.mdl_shared.proofs.MemberFacts.{differ, fast-alone, may-visit}
-use Rattle.mdl_shared.proofs.Membership.{counted_so, kind_place, kind_there}
-use Rattle.mdl_shared.proofs.Props.{member}
-use Rattle.mdl_shared.proofs.TicketOrder.{none-struck}
+use Rattle.mdl_shared.proofs.FirstLemmas.{Differ, IsCounted, IsOther, Kind, KnownKey, KnowsKind, LatchRecord, Lists, MayReleaseFast, MayVisit, Member, Mode, Once, SessionTicket, SessionView, and_parts, are_counted, by_bool, counted_mode, counted_so, differ, each-filtered, fast-alone, held_at, increment_at, increment_of, is_known, is_mode_of, is_no_number, is_own, kind_known, kind_place, kind_there, lt-leb, may-visit, member, most_numbers, moved, none-struck, numbered, option_and_then, own_at, ticket_by, unwrap_or, view_of, wish_fault, without_at}
 
 -- ---- modes that the word counts
 

@@ -1,31 +1,7 @@
 -- A fast ticket is given up, and the place is rescheduled where that is owed.
-use Rattle.std.proofs.Common.{◌≡◌, inr, ℕ, ◌==◌, true, false, Bool, List, [], ◌∷◌, if◌then◌else◌, Some, refl, sym, ap, subst, ◌∙◌}
-use Rattle.std.proofs.lemmas.Bool.{eqb-true, false≢true}
-use Rattle.atomic_table.specs.Seated.{TableId}
-use Rattle.mdl_calls.specs.Words.{Release}
-use Rattle.mdl_steps.specs.declared.deed.Deed.{Deed}
-use Rattle.mdl_steps.specs.declared.view.SessionTicket.{SessionTicket}
-use Rattle.mdl_steps.specs.Plays.{Mine}
-use Rattle.mdl_steps.specs.SeatStates.{AtItsTable, SeatState}
-use Rattle.mdl_steps.proofs.Views.{by_bool}
-use Rattle.mdl_visits.specs.FastTries.{ReleasesFast}
-use Rattle.mdl_visits.specs.Grantings.{HasRescheduled, VisitsAndReschedules, all_but}
-use Rattle.mdl_visits.specs.Numbers.{numbered}
-use Rattle.mdl_visits.specs.Visits.{VisitsOnce}
-use Rattle.mdl_shared.specs.declared.member.Member.{Member}
-use Rattle.mdl_shared.specs.Debts.{IsOwed, OwesNoMore, but_owing}
-use Rattle.mdl_shared.specs.DeedsDone.{DidDeeds, StaysFast}
-use Rattle.mdl_key.specs.KeyLookups.{is_known}
-use Rattle.mdl_shared.specs.Members.{IsMember}
-use Rattle.mdl_shared.specs.Passes.{view_of}
-use Rattle.mdl_shared.specs.SessionViews.{Lists, SessionView, session_at, tickets_seen}
-use Rattle.mdl_shared.specs.Steps.{GivesUpFast}
-use Rattle.mdl_shared.specs.TicketLists.{Room}
-use Rattle.mdl_shared.proofs.Debts.{paid-off, released-due, released-owes, released-quiet, rescheduled-owes}
+use Rattle.std.proofs.Common.{◌≡◌, inr, ℕ, ◌==◌, true, false, Bool, List, [], ◌∷◌, if◌then◌else◌, Some, refl, sym, ap, subst, ◌∙◌, eqb-true}
+use Rattle.mdl_shared.proofs.FirstLemmas.{AtItsTable, Deed, DidDeeds, GivesUpFast, HasRescheduled, IsMember, IsOwed, Lists, Member, Mine, OwesNoMore, Release, ReleasesFast, Room, SeatState, SessionTicket, SessionView, StaysFast, TableId, VisitsAndReschedules, VisitsOnce, all_but, but_owing, by_bool, done-order, false≢true, fast-held, is_known, kept, member, member-owing, numbered, paid-off, released-due, released-owes, released-quiet, rescheduled-owes, session_at, ticket-known, tickets_seen, view_of}
 use Rattle.mdl_shared.proofs.FastDone.{fast-released}
-use Rattle.mdl_shared.proofs.MemberFacts.{fast-held, ticket-known}
-use Rattle.mdl_shared.proofs.Members.{done-order, kept, member-owing}
-use Rattle.mdl_shared.proofs.Props.{member}
 use Rattle.mdl_shared.proofs.TicketCalls.{release-joins}
 
 -- ---- two parts of a call

@@ -1,37 +1,11 @@
 -- What wishes tell and show that were tried on the fast path first.
-use Rattle.std.proofs.Common.{◌≡◌, ◌⊎◌, inl, inr, ℕ, Bool, true, [], ◌∷◌, ◌++◌, None, Result, Ok, Err, refl, sym, ap, subst, ◌∙◌}
-use Rattle.std.specs.Prelude.{IfErr, IfOk, OnErr}
-use Rattle.mdl_key.specs.declared.mode.Mode.{Mode}
-use Rattle.mdl_calls.specs.declared.answers.Attempt.{Attempt}
+use Rattle.std.proofs.Common.{◌≡◌, ◌⊎◌, inl, inr, ℕ, Bool, true, [], ◌∷◌, ◌++◌, None, Result, Ok, Err, refl, sym, ap, subst, ◌∙◌, IfErr, IfOk, OnErr}
 use Rattle.mdl_calls.specs.declared.answers.Attempt.TheVariants as attempt
-use Rattle.mdl_calls.specs.declared.answers.Begun.{Begun}
 use Rattle.mdl_calls.specs.declared.answers.Begun.TheVariants as begin
-use Rattle.mdl_calls.specs.declared.space_error.SpaceError.{SpaceError}
-use Rattle.mdl_calls.specs.declared.space_error.SpaceError.TheVariants.{OutOfMemory}
 use Rattle.mdl_calls.specs.declared.space_error.SpaceError.TheVariants as fault
-use Rattle.mdl_calls.specs.Words.{Begin_wait, Granted, Refused, Try_now, Waits, attempted, begun}
-use Rattle.mdl_steps.specs.declared.deed.Deed.TheVariants.{Gain}
-use Rattle.mdl_steps.specs.declared.view.StepRecord.{StepRecord}
-use Rattle.mdl_steps.specs.Plays.{Mine}
-use Rattle.mdl_calls.specs.SessionData.{SessionData}
-use Rattle.mdl_session_laws.specs.SessionJoins.{Joins}
-use Rattle.mdl_visits.specs.Visits.{AreStepsOf, IsVisit, MeetsBlocked, MeetsFull, MeetsFullWish, MeetsGrantable}
-use Rattle.mdl_visits.specs.WaitOpenings.{MeetsOpening, view_awaiting}
-use Rattle.mdl_visits.proofs.Steps.{does_then}
-use Rattle.mdl_shared.specs.DeedsDone.{DoesQuietly}
-use Rattle.mdl_shared.specs.FastWishes.{BecomesSlow, BeginsToWait, GainsFast, GainsSlow, HasBegun, HasTried}
-use Rattle.mdl_key.specs.KeyLookups.{kind_known}
-use Rattle.mdl_shared.specs.Members.{IsMember, obtrudes_at, wish_fault}
-use Rattle.mdl_shared.specs.SessionViews.{SessionView, data_of}
-use Rattle.mdl_shared.specs.AllSteps.{Shows}
-use Rattle.mdl_shared.specs.Steps.{ShowsStep}
-use Rattle.mdl_shared.specs.WishSteps.{FullForFast, IsClosed, IsGranted, LacksMemory, LacksRoomForFast, LacksRoomForWish, SlowsAll, StopsOrVisits, StopsSlowing}
-use Rattle.mdl_shared.specs.TicketLists.{KeepsRoom}
-use Rattle.mdl_shared.proofs.Debts.{same-debts}
+use Rattle.mdl_shared.proofs.FirstLemmas.{AreStepsOf, Attempt, BecomesSlow, Begin_wait, BeginsToWait, Begun, DoesQuietly, FullForFast, Gain, GainsFast, GainsSlow, Granted, HasBegun, HasTried, IsClosed, IsGranted, IsMember, IsVisit, Joins, KeepsRoom, LacksMemory, LacksRoomForFast, LacksRoomForWish, MeetsBlocked, MeetsFull, MeetsFullWish, MeetsGrantable, MeetsOpening, Mine, Mode, OutOfMemory, Refused, SessionData, SessionView, Shows, ShowsStep, SlowsAll, SpaceError, StepRecord, StopsOrVisits, StopsSlowing, Try_now, Waits, attempted, begun, data_of, does_then, done-nothing, keeps-before, kind_known, obtrudes_at, same-debts, view_awaiting, wish_fault}
 use Rattle.mdl_shared.proofs.FastWishing.{by-latch, closed-more, next-slow, number-slow, same-space}
-use Rattle.mdl_shared.proofs.Members.{done-nothing}
 use Rattle.mdl_shared.proofs.QuietDeeds.{quiet-shows, quiet-then}
-use Rattle.mdl_shared.proofs.Rooms.{keeps-before}
 use Rattle.mdl_shared.proofs.WaitSteps.{still-member}
 use Rattle.mdl_shared.proofs.WishCalls.{begin-granted, begin-refused, begun-joins, try-blocked, try-granted, try-refused, untold-wish}
 use Rattle.mdl_shared.proofs.WishShows.{shows}

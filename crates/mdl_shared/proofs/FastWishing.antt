@@ -1,27 +1,7 @@
 -- Calls whose session goes by the latch of a place once its fast tickets have become slow ones: what is so of the whole call by what is so of a part.
-use Rattle.std.proofs.Common.{◌≡◌, ◌⊎◌, inl, inr, ℕ, ◌<◌, Bool, List, [], Option, length, sym, ap, subst, ◌∙◌}
-use Rattle.std.specs.Prelude.{filter_map}
-use Rattle.mdl_key.specs.declared.mode.Mode.{Mode}
-use Rattle.mdl_calls.specs.declared.space_error.SpaceError.{SpaceError}
-use Rattle.mdl_calls.specs.declared.space_error.SpaceError.TheVariants.{Full, OutOfMemory}
-use Rattle.mdl_steps.specs.declared.deed.Deed.{Deed}
-use Rattle.mdl_steps.specs.declared.view.SessionTicket.{SessionTicket}
-use Rattle.mdl_steps.specs.Cells.{own_at}
-use Rattle.mdl_steps.specs.Lists.{Each}
-use Rattle.mdl_steps.specs.Plays.{Mine}
-use Rattle.mdl_calls.specs.SessionData.{SessionData}
-use Rattle.mdl_visits.specs.Materialisings.{MeetsFullFor}
-use Rattle.mdl_visits.specs.Visits.{IsVisit, MakesMoreSteps}
-use Rattle.mdl_visits.proofs.Steps.{each_map}
-use Rattle.mdl_shared.specs.declared.member.Member.{Member}
-use Rattle.mdl_shared.specs.DeedsDone.{DoesQuietly}
-use Rattle.mdl_shared.specs.FastWishes.{BecomesSlow}
-use Rattle.mdl_shared.specs.SessionViews.{Lists, SessionView, data_of, note_of, settled_told}
-use Rattle.mdl_shared.specs.Steps.{ShowsStep}
-use Rattle.mdl_shared.specs.WishSteps.{AllMadeSlow, ByLatch, ByVisit, FindsClosed, FromUnfast, FullForFast, IsClosed, LacksMemory, LacksRoomForFast, MakesSlow, SlowsAll, StopsSlowing}
-use Rattle.mdl_shared.specs.TicketLists.{Room}
+use Rattle.std.proofs.Common.{◌≡◌, ◌⊎◌, inl, inr, ℕ, ◌<◌, Bool, List, [], Option, length, sym, ap, subst, ◌∙◌, filter_map}
+use Rattle.mdl_shared.proofs.FirstLemmas.{AllMadeSlow, BecomesSlow, ByLatch, ByVisit, Deed, DoesQuietly, Each, FindsClosed, FromUnfast, Full, FullForFast, IsClosed, IsVisit, LacksMemory, LacksRoomForFast, Lists, MakesMoreSteps, MakesSlow, MeetsFullFor, Member, Mine, Mode, OutOfMemory, Room, SessionData, SessionTicket, SessionView, ShowsStep, SlowsAll, SpaceError, StopsSlowing, data_of, each_map, note_of, numbers_by, own_at, own_by, settled_told}
 use Rattle.mdl_shared.proofs.QuietDeeds.{quiet-steps, shows-later}
-use Rattle.mdl_shared.proofs.SameSpace.{numbers_by, own_by}
 
 -- ---- as a lock space
 

@@ -1,13 +1,6 @@
 -- What a session's own lists tell of its tickets' modes.
-use Rattle.std.proofs.Common.{◌≡◌, ℕ, zero, suc, ◌==◌, true, List, [], ◌∷◌, refl}
-use Rattle.std.proofs.lemmas.Bool.{eqb-true}
-use mathlib.Core.Option.{some}
-use lib.ListN.{get_elem?}
-use Rattle.mdl_key.specs.declared.mode.Mode.{Mode}
-use Rattle.mdl_key.specs.Words.{is_mode_of, kind_of}
-use Rattle.mdl_key.specs.declared.known_key.KnownKey.{KnownKey}
-use Rattle.mdl_steps.proofs.Views.{by_bool}
-use Rattle.mdl_shared.specs.Modes.{is_fit}
+use Rattle.std.proofs.Common.{◌≡◌, ℕ, zero, suc, ◌==◌, true, List, [], ◌∷◌, refl, eqb-true}
+use Rattle.mdl_shared.proofs.Common.{KnownKey, Mode, by_bool, get_elem?, is_fit, is_mode_of, kind_of, some}
 
 -- a mode fits the first key of the place that the session knows
 pub fit_there : (place : ℕ) (mode : Mode) (known : List KnownKey) → is_fit place mode known ≡ true

@@ -1,18 +1,6 @@
 -- A ticket that a session holds, as its calls need it.
 use Rattle.std.proofs.Common.{◌≡◌, ℕ, is_some, Some, sym, ap, subst}
-use Rattle.mdl_steps.specs.declared.view.SessionTicket.{SessionTicket}
-use Rattle.mdl_steps.specs.Deeds.{KnowsPlace, NotWaited}
-use Rattle.mdl_steps.specs.Interleavings.{interleaved}
-use Rattle.mdl_visits.specs.Leavings.{HasTicket}
-use Rattle.mdl_visits.specs.Numbers.{numbered}
-use Rattle.mdl_visits.specs.Visits.{MayVisit}
-use Rattle.mdl_visits.proofs.Numbers.{has_number}
-use Rattle.mdl_shared.specs.declared.member.Member.{Member}
-use Rattle.mdl_shared.specs.Passes.{view_of}
-use Rattle.mdl_shared.specs.SessionViews.{SessionView, tickets_seen}
-use Rattle.mdl_shared.proofs.MemberFacts.{may-visit, place-known, slow-there, ticket-known, unwaited}
-use Rattle.mdl_shared.proofs.Members.{held-seen}
-use Rattle.mdl_shared.proofs.Props.{member}
+use Rattle.mdl_shared.proofs.FirstLemmas.{HasTicket, KnowsPlace, MayVisit, Member, NotWaited, SessionTicket, SessionView, has_number, held-seen, interleaved, may-visit, member, numbered, place-known, slow-there, ticket-known, tickets_seen, unwaited, view_of}
 
 -- the session holds a ticket of this number, and may visit its place
 pub record HoldsTicket (id : ℕ) (t : SessionTicket) (s : SessionView) : Type 0 where

@@ -1,39 +1,9 @@
 -- What a session's read with a cache shows, and what the cache keeps then.
 use Rattle.std.proofs.Common.{◌≡◌, ◌⊎◌, ℕ, is_some, List, [], ◌∷◌, ◌++◌, Contains, MatchOption, Option, Some, None, if◌then◌else◌, inl, inr, refl, sym, ap, subst, ◌∙◌}
-use Rattle.mdl_defs.specs.declared.definition.Definition.{Definition}
-use Rattle.mdl_defs.specs.declared.versioned_definition.VersionedDefinition.{VersionedDefinition}
-use Rattle.mdl_defs.specs.Caches.{CacheView, Kept, kept_of, looked_at}
-use Rattle.mdl_calls.specs.declared.answers.Held.{Held}
-use Rattle.mdl_calls.specs.declared.space_error.SpaceError.{SpaceError}
-use Rattle.mdl_calls.specs.declared.space_error.SpaceError.TheVariants.{NotHeld, OutOfMemory}
-use Rattle.mdl_calls.specs.Words.{Answer, AreMet, Call, OfHeld, Read_definition, Read_kept, Reads, Refused, SessionLocks, ticket_held}
-use Rattle.mdl_steps.specs.declared.view.SessionTicket.{SessionTicket}
-use Rattle.mdl_defs.specs.declared.reading.Reading.{Reading}
-use Rattle.mdl_steps.specs.SeatStates.{SeatState}
-use Rattle.mdl_steps.specs.VersionPlays.{ReadNoneNewer, ReadOneStanding, met_version, noted_version}
-use Rattle.mdl_system.proofs.OrderLemmas.{middle}
-use Rattle.mdl_calls.specs.Meetings.{ReadsThere as Read_so}
-use Rattle.mdl_calls.specs.SessionData.{HasMet, SessionData}
-use Rattle.mdl_session_laws.specs.SessionJoins.{Joins}
 use Rattle.mdl_session_laws.proofs.ReadLaws.{session-met_stays}
-use Rattle.mdl_visits.specs.Numbers.{numbered}
-use Rattle.mdl_visits.proofs.Steps.{does_then}
-use Rattle.mdl_shared.specs.declared.member.Member.{Member}
-use Rattle.mdl_shared.specs.KeptReads.{MayKeep, kept_standing}
-use Rattle.mdl_shared.specs.Members.{IsMember, holding_fault}
-use Rattle.mdl_shared.specs.Passes.{view_of}
-use Rattle.mdl_shared.specs.SessionViews.{Lists, SessionView, all_tickets, data_of, lists_seen, session_at, tickets_seen}
-use Rattle.mdl_shared.specs.AllSteps.{Shows}
-use Rattle.mdl_shared.specs.ReadSteps.{FindsVersion, MissesVersion, ReadsByLatch, VisitsInVain}
-use Rattle.mdl_shared.specs.Steps.{OfTicket}
-use Rattle.mdl_shared.specs.TicketLists.{KeepsRoom, Room}
+use Rattle.mdl_shared.proofs.FirstLemmas.{Answer, AreMet, CacheView, Call, Definition, FindsVersion, HasMet, Held, IsMember, Joins, KeepsRoom, Kept, Lists, MayKeep, Member, MissesVersion, NotHeld, OfHeld, OfTicket, OutOfMemory, ReadNoneNewer, ReadOneStanding, Read_definition, Read_kept, Read_so, Reading, Reads, ReadsByLatch, Refused, Room, SeatState, SessionData, SessionLocks, SessionTicket, SessionView, Shows, SpaceError, VersionedDefinition, VisitsInVain, all_tickets, data_of, does_then, holding_fault, if-clear, keeps-before, keeps-same, kept_of, kept_standing, lists_seen, looked_at, member, met_version, middle, noted_version, numbered, same-debts, session_at, speaks, ticket_held, tickets_seen, view_of}
 use Rattle.mdl_shared.proofs.CacheEntries.{kept-met, met-first, met-looked, none-looked}
-use Rattle.mdl_shared.proofs.Debts.{same-debts}
-use Rattle.mdl_shared.proofs.Faults.{if-clear}
-use Rattle.mdl_shared.proofs.MemberFacts.{speaks}
-use Rattle.mdl_shared.proofs.Props.{member}
 use Rattle.mdl_shared.proofs.ReadCalls.{noted-owes}
-use Rattle.mdl_shared.proofs.Rooms.{keeps-before, keeps-same}
 use Rattle.mdl_shared.proofs.VersionCalls.{finds-joins, finds-version, found-does, found-noted, found-now, kept-joins, read-does, read-lists, read-owes, read-searches, read-sessions, read-settles, read-space, read-table, read-told, version-missed}
 
 -- what is so of a held ticket, where it is said more weakly

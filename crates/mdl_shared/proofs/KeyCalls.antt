@@ -1,50 +1,11 @@
 -- Calls by which a session learns keys: the place of a key, and the tables of a schema.
-use Rattle.std.proofs.Common.{◌≡◌, ℕ, true, false, ◌&&◌, ◌<◌, get_or, Option, Some, None, Ok, List, [], ◌∷◌, ◌++◌, map, filter, refl, sym, ap, subst, ◌∙◌, append_assoc, arith}
-use Rattle.std.specs.Prelude.{All, AllPairs}
-use Rattle.std.specs.declared.cmp.Ordering.TheVariants.{Less}
-use Rattle.std.specs.Str.{bytes_eq}
-use Rattle.std.proofs.lemmas.List.{get_or-map, length-map}
-use Rattle.std.proofs.lemmas.List.Elements.{All-cons, All-filter, All-head, All-map, All-nil, All-tail, All-weaker}
-use Rattle.std.proofs.lemmas.List.Kept.{AllPairs-filter}
-use Rattle.mdl_key.specs.declared.namespace.Namespace.{Namespace}
-use Rattle.mdl_key.specs.declared.namespace.Namespace.TheVariants as of
-use Rattle.mdl_key.specs.Keys.{key_cmp}
-use Rattle.mdl_key.specs.Words.{KeyName}
-use Rattle.mdl_calls.specs.declared.space_error.SpaceError.TheVariants.{NoPlace, OutOfMemory}
-use Rattle.mdl_calls.specs.Words.{At_place, Refused, Resolve, Tables, Tables_of, is_table_of as is_table_told}
-use Rattle.mdl_calls.specs.Reads.{is_of_tables as is_of_tables_told}
+use Rattle.std.proofs.Common.{◌≡◌, ℕ, true, false, ◌&&◌, ◌<◌, get_or, Option, Some, None, Ok, List, [], ◌∷◌, ◌++◌, map, filter, refl, sym, ap, subst, ◌∙◌, append_assoc, arith, All, AllPairs}
 use Rattle.mdl_calls.proofs.MappedLists.{pairs-map}
-use Rattle.mdl_steps.specs.declared.view.Keys.{Keys}
-use Rattle.mdl_key.specs.declared.known_key.KnownKey.{KnownKey}
-use Rattle.mdl_steps.specs.declared.view.StepRecord.{StepRecord}
-use Rattle.mdl_steps.specs.Schemas.{is_of_tables, is_table_of, unknown}
-use Rattle.mdl_steps.specs.Plays.{Mine}
-use Rattle.mdl_steps.specs.SeatStates.{AtItsTable, SeatState}
-use Rattle.mdl_calls.specs.Learning.{LearnsPlace as LearnsAt, LearnsTables}
-use Rattle.mdl_session_laws.specs.SessionJoins.{Joins}
-use Rattle.mdl_session_laws.proofs.KeyLists.{place-of_key, stays-known}
-use Rattle.mdl_session_laws.proofs.RefusedCalls.{reads-nothing}
-use Rattle.mdl_visits.specs.Lookups.{IsLookupAnswer, TookDirectory, knowing_key}
-use Rattle.mdl_visits.specs.Tables.{AreAllTables, AreWithin, Asked, HasAsked, IsDirectoryTable, defined_places as asked_places, knowing_all}
-use Rattle.mdl_visits.specs.Visits.{MakesSteps, StaysQuiet, and_made}
-use Rattle.mdl_visits.proofs.Asking.{asked_after, goes_on}
-use Rattle.mdl_visits.proofs.Doing.{does_steps}
-use Rattle.mdl_visits.proofs.Listing.{took_earlier}
-use Rattle.mdl_visits.proofs.Lookups.{no_record}
-use Rattle.mdl_visits.proofs.Steps.{does_then, none_then}
-use Rattle.mdl_shared.specs.declared.member.Member.{Member}
-use Rattle.mdl_shared.specs.Members.{AreLearnt, IsMember}
-use Rattle.mdl_key.specs.KeyLookups.{are_apart, is_known, key_known, place_known}
-use Rattle.mdl_shared.specs.Passes.{view_of}
-use Rattle.mdl_shared.specs.SessionViews.{Lists, SessionView, data_of, lists_seen, session_at}
-use Rattle.mdl_shared.specs.AllSteps.{Shows}
-use Rattle.mdl_shared.specs.TicketLists.{KeepsRoom, Room}
-use Rattle.mdl_shared.proofs.Debts.{same-debts}
+use Rattle.mdl_key.specs.declared.namespace.Namespace.TheVariants as of
+use Rattle.std.proofs.lemmas.List.Kept.{AllPairs-filter}
+use Rattle.std.specs.Str.{bytes_eq}
+use Rattle.mdl_shared.proofs.FirstLemmas.{All-cons, All-filter, All-head, All-map, All-nil, All-tail, All-weaker, AreAllTables, AreLearnt, AreWithin, Asked, AtItsTable, At_place, DidDeeds, HasAsked, IsDirectoryTable, IsLookupAnswer, IsMember, Joins, KeepsRoom, KeyName, Keys, KnownKey, LearnsAt, LearnsTables, Less, Lists, MakesSteps, Member, Mine, Namespace, NoPlace, OutOfMemory, Refused, Resolve, Room, SeatState, SessionView, Shows, Stays, StaysInOrder, StaysQuiet, StepRecord, Tables, Tables_of, TookDirectory, and_made, are_apart, asked_after, asked_places, counted_and, data_of, does_steps, does_then, get_or-map, goes_on, is_known, is_of_tables, is_of_tables_told, is_table_of, is_table_told, joins-still, keeps-settled, key_cmp, key_known, keys-apart, knowing_all, knowing_key, length-map, lists_seen, no_record, none_then, place-of_key, place_known, reads-nothing, refused, same-debts, same-stays, sees-same, session_at, speaks, stays-known, took_earlier, unknown, view_of, visited, within_and}
 use Rattle.mdl_shared.proofs.KnownKeys.{all_learnt, apart_and, new_place}
-use Rattle.mdl_shared.proofs.MemberFacts.{keys-apart, speaks}
-use Rattle.mdl_shared.proofs.Members.{DidDeeds, StaysInOrder, visited}
-use Rattle.mdl_shared.proofs.Membership.{counted_and, within_and}
-use Rattle.mdl_shared.proofs.SameSpace.{Stays, joins-still, keeps-settled, refused, same-stays, sees-same}
 
 -- ---- a session that learns keys
 

@@ -1,33 +1,7 @@
 -- Calls on the words of any session's wait: kills, and the number of a wait.
-use Rattle.std.proofs.Common.{◌≡◌, ◌≢◌, ℕ, ◌<◌, ◌≤◌, ◌==◌, Bool, true, false, is_some, List, [], ◌∷◌, ◌++◌, Option, Some, None, inl, inr, refl, sym, ap, subst, ◌∙◌, arith}
-use Rattle.std.proofs.lemmas.Bool.{eq-eqb, eqb-false, eqb-true, false≢true, ne_eqb}
-use Rattle.std.proofs.lemmas.Bool.Decides.{nat_tests}
-use Rattle.std.specs.Option.{option_map}
-use Rattle.atomic_table.specs.Seated.{TableId}
-use Rattle.mdl_calls.specs.declared.answers.Settled.TheVariants.{Killed}
-use Rattle.mdl_calls.specs.Limits.{is_within}
-use Rattle.mdl_calls.specs.Words.{Has_killed, Has_wait, Kill, Wait, Wait_of, wait_number}
-use Rattle.mdl_steps.specs.declared.step_kind.StepKind.{StepKind}
-use Rattle.mdl_steps.specs.declared.step_kind.StepKind.TheVariants.{MissWait, ReadWait, SettleWait}
-use Rattle.mdl_steps.specs.declared.view.Ask.{Ask}
-use Rattle.mdl_steps.specs.declared.view.Settlement.{Settlement}
-use Rattle.mdl_steps.specs.Cells.{waiter_of}
-use Rattle.mdl_steps.specs.Layout.{wait_word}
-use Rattle.mdl_steps.specs.Rule.{WaitOk}
-use Rattle.mdl_steps.specs.WaitPlays.{TellsOwn}
-use Rattle.mdl_steps.specs.WaitSeats.{IsSession}
-use Rattle.mdl_steps.specs.WaitStates.{wait_in, wait_state}
-use Rattle.mdl_steps.proofs.Views.{by_bool}
-use Rattle.mdl_session_laws.specs.SessionJoins.{Joins}
-use Rattle.mdl_visits.specs.Polls.{MeetsOther, MeetsWait, number_of_wait}
-use Rattle.mdl_visits.proofs.Steps.{goes_staying, step_after}
-use Rattle.mdl_shared.specs.Members.{IsMember}
-use Rattle.mdl_shared.specs.SessionViews.{SessionView, data_of, settled_told}
-use Rattle.mdl_shared.specs.AllSteps.{Shows}
-use Rattle.mdl_shared.specs.Steps.{ShowsStep, StaysFor}
+use Rattle.std.proofs.Common.{◌≡◌, ◌≢◌, ℕ, ◌<◌, ◌≤◌, ◌==◌, Bool, true, false, is_some, List, [], ◌∷◌, ◌++◌, Option, Some, None, inl, inr, refl, sym, ap, subst, ◌∙◌, arith, eq-eqb, eqb-true, ne_eqb}
+use Rattle.mdl_shared.proofs.FirstLemmas.{Ask, Has_killed, Has_wait, IsMember, IsSession, Joins, Kill, Killed, MeetsOther, MeetsWait, MissWait, ReadWait, SessionView, SettleWait, Settlement, Shows, ShowsStep, StaysFor, StepKind, TableId, TellsOwn, Wait, WaitOk, Wait_of, by_bool, data_of, done-nothing, eqb-false, false≢true, goes_staying, is_within, joins-still, nat_tests, number_of_wait, option_map, same-stays, settled_told, step_after, told-settled, wait_by, wait_in, wait_number, wait_state, wait_word, waiter_of}
 use Rattle.mdl_shared.proofs.PollCalls.{settled-some}
-use Rattle.mdl_shared.proofs.Members.{done-nothing}
-use Rattle.mdl_shared.proofs.SameSpace.{joins-still, same-stays, told-settled, wait_by}
 use Rattle.mdl_shared.proofs.WaitSteps.{Watches, met-word, shows, session-there, stays-more, stays-once, stays-twice, told-own, watches, watches-then, word-step}
 
 -- ---- the waits of any session

@@ -1,31 +1,8 @@
 -- The keys that a session has looked up: no key twice and no place, whichever it looks up more, since the directory has each key at one place.
-use Rattle.std.proofs.Common.{◌≡◌, ℕ, zero, suc, ◌-◌, ◌<◌, ◌==◌, Bool, true, false, not, List, [], ◌∷◌, ◌++◌, length, get_or, Some, None, refl, sym, ap, ◌∙◌, subst, inl, inr, arith}
-use Rattle.std.specs.Prelude.{All, AllPairs, Ok, Option, filter, slice_get, ◌⊎◌}
-use Rattle.std.specs.List.{list_all}
-use Rattle.std.specs.Ordering.{is_eq}
-use Rattle.std.specs.declared.cmp.Ordering.TheVariants.{Less}
-use Rattle.std.proofs.lemmas.Bool.{and_parts, and_from, eq-eqb, eqb-true}
-use Rattle.std.proofs.lemmas.Bool.Decides.{nat_tests}
-use Rattle.std.proofs.lemmas.List.Elements.{All-cons, All-head, All-nil, All-tail, All-weaker}
-use Rattle.std.proofs.lemmas.List.Folds.{list_all-append, list_any-append}
-use Rattle.mdl_key.specs.Words.{KeyName, key_eq}
-use Rattle.mdl_key.specs.Keys.{key_cmp}
-use Rattle.mdl_system.proofs.Deciding.{key-Decides}
-use Rattle.mdl_steps.specs.declared.view.Keys.{Keys}
-use Rattle.mdl_key.specs.declared.known_key.KnownKey.{KnownKey}
-use Rattle.mdl_steps.specs.declared.view.View.{View}
-use Rattle.mdl_steps.specs.Lists.{Distinct, Each}
-use Rattle.mdl_steps.specs.Rule.{KnowsKeys, key_at}
-use Rattle.mdl_steps.specs.Schemas.{is_key_known, unknown}
+use Rattle.std.proofs.Common.{◌≡◌, ℕ, zero, suc, ◌-◌, ◌<◌, ◌==◌, Bool, true, false, not, List, [], ◌∷◌, ◌++◌, length, get_or, Some, None, refl, sym, ap, ◌∙◌, subst, inl, inr, arith, All, AllPairs, Ok, Option, filter, slice_get, ◌⊎◌, eq-eqb, eqb-true}
 use Rattle.mdl_steps.proofs.Looking.{there}
-use Rattle.mdl_steps.proofs.NewKeys.{none_after}
-use Rattle.mdl_steps.proofs.Views.{by_bool}
-use Rattle.mdl_session_laws.proofs.KeyLists.{stays-known}
-use Rattle.mdl_visits.specs.Lookups.{IsLookupAnswer}
-use Rattle.mdl_visits.specs.Tables.{AreAllTables}
-use Rattle.mdl_visits.proofs.Sorting.{key-ties}
-use Rattle.mdl_shared.specs.Members.{AreLearnt}
-use Rattle.mdl_key.specs.KeyLookups.{are_apart, are_two, is_known, key_known, place_known}
+use Rattle.mdl_system.proofs.Deciding.{key-Decides}
+use Rattle.mdl_shared.proofs.Common.{All-cons, All-head, All-nil, All-tail, All-weaker, AreAllTables, AreLearnt, Distinct, Each, IsLookupAnswer, KeyName, Keys, KnownKey, KnowsKeys, Less, View, and_from, and_parts, are_apart, are_two, by_bool, is_eq, is_key_known, is_known, key-ties, key_at, key_cmp, key_eq, key_known, list_all, list_all-append, list_any-append, nat_tests, none_after, place_known, stays-known, unknown}
 
 -- ---- one key more
 

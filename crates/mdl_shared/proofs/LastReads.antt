@@ -1,34 +1,7 @@
 -- What a session read of the version that stands at a place is what it read last there, and all that it knows of the place fits it.
-use Rattle.std.proofs.Common.{◌≡◌, ℕ, zero, suc, ◌≤◌, true, not, ◌==◌, ◌&&◌, List, [], ◌∷◌, Contains, Option, Some, None, inl, inr, if◌then◌else◌, refl, sym, ap, subst, ◌∙◌, arith}
-use Rattle.std.specs.Prelude.{MatchOption}
-use Rattle.std.specs.List.{list_all}
-use Rattle.std.specs.Option.{option_map, option_or}
-use Rattle.std.proofs.lemmas.Bool.{and_from, and_parts, eq-eqb, eqb-true, or_left, or_right}
-use mathlib.Core.Option.{some, some-injective, some-ne-none}
-use lib.ListN.{get_elem?}
-use Rattle.mdl_key.specs.Words.{KeyName, key_eq}
-use Rattle.mdl_defs.specs.declared.versioned_definition.VersionedDefinition.{VersionedDefinition}
-use Rattle.mdl_defs.specs.VersionedDefinitions.{MayStand}
+use Rattle.std.proofs.Common.{◌≡◌, ℕ, zero, suc, ◌≤◌, true, not, ◌==◌, ◌&&◌, List, [], ◌∷◌, Contains, Option, Some, None, inl, inr, if◌then◌else◌, refl, sym, ap, subst, ◌∙◌, arith, MatchOption, eq-eqb, eqb-true}
 use Rattle.mdl_system.proofs.MemberLemmas.{Contains-none}
-use Rattle.mdl_system.proofs.OrderLemmas.{Contains-cons_cases, Contains-here, Contains-later}
-use Rattle.mdl_key.specs.declared.known_key.KnownKey.{KnownKey}
-use Rattle.mdl_steps.specs.declared.view.SessionTicket.{SessionTicket}
-use Rattle.mdl_defs.specs.declared.reading.Reading.{Reading}
-use Rattle.mdl_steps.specs.Cells.{note_at, own_at, reads_at}
-use Rattle.mdl_steps.specs.Lists.{Each}
-use Rattle.mdl_steps.specs.VersionPlays.{Follows, ReadNoneNewer, ReadOneStanding}
-use Rattle.mdl_steps.proofs.Interleaving.{each-uninterleaved}
-use Rattle.mdl_steps.proofs.Views.{by_bool}
-use Rattle.mdl_calls.specs.SessionData.{HasMet, last_read, was_read}
-use Rattle.mdl_session_laws.proofs.ReadLists.{last-among, newest-above}
-use Rattle.mdl_visits.specs.Numbers.{numbered}
-use Rattle.mdl_shared.specs.Members.{IsMember}
-use Rattle.mdl_key.specs.KeyLookups.{are_apart, are_two, key_known}
-use Rattle.mdl_shared.specs.SessionViews.{SessionView, data_of, tickets_seen}
-use Rattle.mdl_shared.proofs.Alike.{all_noted}
-use Rattle.mdl_shared.proofs.MemberFacts.{keys-apart}
-use Rattle.mdl_shared.proofs.SpaceNotes.{AllNoted, noted-some}
-use Rattle.mdl_shared.proofs.SpaceReads.{placed-some}
+use Rattle.mdl_shared.proofs.FirstLemmas.{AllNoted, Contains-cons_cases, Contains-here, Contains-later, Each, Follows, HasMet, IsMember, KeyName, KnownKey, MayStand, ReadNoneNewer, ReadOneStanding, Reading, SessionTicket, SessionView, VersionedDefinition, all_noted, and_from, and_parts, are_apart, are_two, by_bool, data_of, each-uninterleaved, get_elem?, key_eq, key_known, keys-apart, last-among, last_read, list_all, newest-above, note_at, noted-some, numbered, option_map, option_or, or_left, or_right, own_at, placed-some, reads_at, some, some-injective, some-ne-none, tickets_seen, was_read}
 
 -- ---- what was read at a place
 

@@ -1,3 +1,6 @@
+pub mod Common
+pub mod FirstLemmas
+pub mod Lemmas
 pub mod Fitting
 pub mod Membership
 pub mod KnownKeys

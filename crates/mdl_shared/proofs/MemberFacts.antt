@@ -1,33 +1,6 @@
 -- What is always so of a session between two calls, in the words that its calls need.
-use Rattle.std.proofs.Common.{◌≡◌, ◌⊎◌, inl, inr, ℕ, ◌<◌, ◌+◌, ◌-◌, ◌==◌, Bool, true, not, ◌&&◌, nat_lt, List, [], ◌∷◌, ◌++◌, find, length, map, is_some, Option, Some, None, refl, sym, ap, subst, ◌∙◌, arith}
-use Rattle.std.specs.Option.{IfSome, option_map}
-use Rattle.std.proofs.lemmas.Bool.{and_from, and_parts, eqb-true, lt-ltb, ltb-true}
-use Rattle.std.proofs.lemmas.List.Folds.{list_all-map}
-use Rattle.mdl_calls.specs.declared.answers.Held.{Held}
-use Rattle.mdl_calls.specs.Words.{Wait}
-use Rattle.mdl_key.specs.declared.mode.Mode.{Mode}
-use Rattle.mdl_steps.specs.declared.deed.Deed.{Deed}
-use Rattle.mdl_steps.specs.declared.deed.Deed.TheVariants.{Gain, Alter, Lose}
-use Rattle.mdl_steps.specs.declared.view.Ask.{Ask}
-use Rattle.mdl_key.specs.declared.known_key.KnownKey.{KnownKey}
-use Rattle.mdl_steps.specs.declared.view.LatchRecord.{LatchRecord}
-use Rattle.mdl_steps.specs.declared.view.SessionTicket.{SessionTicket}
-use Rattle.mdl_steps.specs.Cells.{own_at}
-use Rattle.mdl_steps.specs.Deeds.{KnowsPlace, NotWaited}
-use Rattle.mdl_steps.specs.Lists.{Each}
-use Rattle.mdl_steps.specs.Seats.{IsPlace, IsRising}
-use Rattle.mdl_steps.proofs.Interleaving.{Differ, Rising, numbered-interleaved, rising-uninterleaved}
-use Rattle.mdl_steps.proofs.Views.{by_bool}
-use Rattle.mdl_calls.specs.SessionData.{SpeaksFor, are_below as are_below_told, are_placed as are_placed_told, first_free}
-use Rattle.mdl_visits.specs.Leavings.{HasTicket}
-use Rattle.mdl_visits.specs.Visits.{MayVisit}
-use Rattle.mdl_visits.specs.Numbers.{all_numbers, is_ask_apart, is_no_number, numbered}
-use Rattle.mdl_visits.proofs.Numbers.{not_waited}
-use Rattle.mdl_key.specs.KeyLookups.{are_apart, is_known}
-use Rattle.mdl_shared.specs.Members.{IsMember}
-use Rattle.mdl_shared.specs.OwnLists.{as_held}
-use Rattle.mdl_shared.specs.SessionViews.{SessionView, data_of, tickets_seen}
-use Rattle.mdl_shared.specs.Waitings.{are_below_next, is_ask_last, is_ask_told}
+use Rattle.std.proofs.Common.{◌≡◌, ◌⊎◌, inl, inr, ℕ, ◌<◌, ◌+◌, ◌-◌, ◌==◌, Bool, true, not, ◌&&◌, nat_lt, List, [], ◌∷◌, ◌++◌, find, length, map, is_some, Option, Some, None, refl, sym, ap, subst, ◌∙◌, arith, eqb-true, lt-ltb, ltb-true}
+use Rattle.mdl_shared.proofs.Common.{Alter, Ask, Deed, Differ, Each, Gain, HasTicket, Held, IfSome, IsMember, IsPlace, IsRising, KnownKey, KnowsPlace, LatchRecord, Lose, MayVisit, Mode, NotWaited, Rising, SessionTicket, SessionView, SpeaksFor, Wait, all_numbers, and_from, and_parts, are_apart, are_below_next, are_below_told, are_placed_told, as_held, by_bool, data_of, first_free, is_ask_apart, is_ask_last, is_ask_told, is_known, is_no_number, list_all-map, not_waited, numbered, numbered-interleaved, option_map, own_at, rising-uninterleaved, tickets_seen}
 use Rattle.mdl_shared.proofs.Membership.{are_placed, has_numbered, known_within, placed_at, some_key}
 use Rattle.mdl_shared.proofs.SameSpace.{numbers_by, wait_by}
 use Rattle.mdl_shared.proofs.TicketOrder.{AllLeaveFast, DoesSlow, all-owned-slow, all-parts, apart-numbers, none-numbered, numbers-apart, rising-told}

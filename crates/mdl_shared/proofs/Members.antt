@@ -1,38 +1,7 @@
 -- What is always so of a session between two calls is so after each call.
-pub use Rattle.mdl_shared.specs.DeedsDone.{DidDeeds, StaysFast}
 use Rattle.std.proofs.Common.{◌≡◌, ◌⊎◌, inl, inr, ℕ, ◌+◌, ◌≤◌, ◌<◌, ◌==◌, ◌||◌, Bool, true, false, List, [], ◌∷◌, Option, Some, None, refl, sym, ap, subst, ◌∙◌, arith}
-use Rattle.std.specs.List.{list_any}
-use Rattle.atomic_table.specs.Seated.{TableId}
-use Rattle.std.proofs.lemmas.Bool.{or_right}
-use Rattle.mdl_calls.specs.declared.space_error.SpaceError.{SpaceError}
-use Rattle.mdl_calls.specs.Words.{Answer, Call}
-use Rattle.mdl_steps.specs.declared.deed.Deed.{Deed}
-use Rattle.mdl_steps.specs.declared.deed.Deed.TheVariants.{Gain, Alter, Lose}
-use Rattle.mdl_steps.specs.declared.view.Ask.{Ask}
-use Rattle.mdl_key.specs.declared.known_key.KnownKey.{KnownKey}
-use Rattle.mdl_steps.specs.declared.view.SessionTicket.{SessionTicket}
-use Rattle.mdl_steps.specs.Deeds.{all_next, all_owned}
-use Rattle.mdl_steps.specs.Interleavings.{interleaved}
-use Rattle.mdl_steps.specs.Layout.{word_count}
-use Rattle.mdl_steps.specs.Plays.{Mine}
-use Rattle.mdl_steps.specs.SeatStates.{AtItsTable, SeatState}
-use Rattle.mdl_steps.proofs.Views.{by_bool}
-use Rattle.mdl_calls.specs.SessionData.{IsSound}
-use Rattle.mdl_session_laws.specs.SessionJoins.{Joins}
-use Rattle.mdl_session_laws.proofs.KeptSound.{keeps-sound}
-use Rattle.mdl_visits.specs.Grantings.{StaysTold, VisitsAndReschedules, all_but}
-use Rattle.mdl_visits.specs.Idle.{HoldsNoLatch}
-use Rattle.mdl_visits.specs.Visits.{Visits}
-use Rattle.mdl_visits.specs.Numbers.{is_no_number, numbered}
-use Rattle.mdl_shared.specs.declared.member.Member.{Member}
-use Rattle.mdl_shared.specs.AllSteps.{steps_of}
-use Rattle.mdl_shared.specs.Debts.{IsOwed, OwesNoMore, but_owing}
-use Rattle.mdl_key.specs.KeyLookups.{is_known}
-use Rattle.mdl_shared.specs.Members.{IsMember, are_counted, are_within, most_numbers, without_at}
-use Rattle.mdl_shared.specs.Rememberings.{AreAlike}
-use Rattle.mdl_shared.specs.SessionViews.{Lists, SessionView, all_tickets, data_of, lists_seen, session_at, tickets_seen}
-use Rattle.mdl_shared.specs.TicketLists.{HasRoom, KeepsRoom, Room, TicketList}
-use Rattle.mdl_shared.specs.Waitings.{is_ask_last, is_ask_told}
+use Rattle.mdl_shared.proofs.Common.{Alter, Answer, AreAlike, Ask, AtItsTable, Call, Deed, Gain, HasRoom, HoldsNoLatch, IsMember, IsOwed, IsSound, Joins, KeepsRoom, KnownKey, Lists, Lose, Member, Mine, OwesNoMore, Room, SeatState, SessionTicket, SessionView, SpaceError, StaysTold, TableId, TicketList, Visits, VisitsAndReschedules, all_but, all_next, all_owned, all_tickets, are_counted, are_within, but_owing, by_bool, data_of, interleaved, is_ask_last, is_ask_told, is_known, is_no_number, keeps-sound, list_any, lists_seen, most_numbers, numbered, or_right, session_at, steps_of, tickets_seen, without_at, word_count}
+pub use Rattle.mdl_shared.specs.DeedsDone.{DidDeeds, StaysFast}
 use Rattle.mdl_shared.proofs.Alike.{alike_done}
 use Rattle.mdl_shared.proofs.SameSpace.{KeepsRest, Stays}
 use Rattle.mdl_shared.proofs.TicketOrder.{DoesSlow, none-numbered, none-struck}

@@ -1,26 +1,6 @@
 -- A session's own lists: its tickets are of places that it knows, and these are places of the table.
-use Rattle.std.proofs.Common.{◌≡◌, ℕ, zero, suc, ◌<◌, ◌==◌, ◌&&◌, true, List, [], ◌∷◌, ◌++◌, Option, Some, None, is_some, refl, sym, ap, ◌∙◌, append_assoc, append-nil}
-use Rattle.std.specs.Prelude.{Bool, nat_lt}
-use Rattle.std.specs.List.{list_all}
-use Rattle.std.specs.Option.{option_and_then, option_map}
-use Rattle.std.proofs.lemmas.List.Elements.{All-head, All-tail}
-use Rattle.std.proofs.lemmas.Bool.{and_parts, and_from, eqb-true, lt-ltb, ltb-true}
-use mathlib.Core.Option.{some, some-injective, some-ne-none}
-use lib.ListN.{get_elem?}
-use Rattle.mdl_key.specs.declared.mode.Mode.{Mode}
-use Rattle.mdl_key.specs.declared.namespace.Kind.{Kind}
-use Rattle.mdl_key.specs.Words.{KeyName, key_eq, kind_of}
-use Rattle.mdl_word.specs.Words.{increment_of}
-use Rattle.mdl_key.specs.declared.known_key.KnownKey.{KnownKey}
-use Rattle.mdl_steps.specs.declared.view.SessionTicket.{SessionTicket}
-use Rattle.mdl_steps.specs.declared.view.View.{View}
-use Rattle.mdl_steps.specs.FastPlays.{IsCounted}
-use Rattle.mdl_steps.proofs.Views.{by_bool}
-use Rattle.mdl_visits.specs.Leavings.{HasTicket}
-use Rattle.mdl_key.specs.KeyLookups.{is_known, kind_known, place_known}
-use Rattle.mdl_shared.specs.Members.{are_counted, are_within, increment_at}
-use Rattle.mdl_visits.specs.Numbers.{numbered}
-use Rattle.mdl_visits.specs.Tables.{AreWithin}
+use Rattle.std.proofs.Common.{◌≡◌, ℕ, zero, suc, ◌<◌, ◌==◌, ◌&&◌, true, List, [], ◌∷◌, ◌++◌, Option, Some, None, is_some, refl, sym, ap, ◌∙◌, append_assoc, append-nil, Bool, nat_lt, eqb-true, lt-ltb, ltb-true}
+use Rattle.mdl_shared.proofs.Common.{All-head, All-tail, AreWithin, HasTicket, IsCounted, KeyName, Kind, KnownKey, Mode, SessionTicket, View, and_from, and_parts, are_counted, are_within, by_bool, get_elem?, increment_at, increment_of, is_known, key_eq, kind_known, kind_of, list_all, numbered, option_and_then, option_map, place_known, some, some-injective, some-ne-none}
 
 -- the ticket of a number stands in the list
 pub has_numbered : (place number : ℕ) (tickets : List SessionTicket) → option_map (λ (t : SessionTicket). t.place) (numbered number tickets) ≡ Some place → HasTicket place number tickets

@@ -1,16 +1,6 @@
 -- The tickets of a place have one note.
-use Rattle.std.proofs.Common.{◌≡◌, ℕ, true, not, ◌==◌, List, [], ◌∷◌, Option, Some, None, refl, sym, subst, ◌∙◌}
-use Rattle.std.specs.Prelude.{filter_map}
-use Rattle.std.proofs.lemmas.Bool.{eq-eqb, eqb-true, false≢true}
-use Rattle.mdl_steps.specs.declared.deed.Deed.{Deed}
-use Rattle.mdl_steps.specs.declared.deed.Deed.TheVariants.{Gain, Alter, Lose}
-use Rattle.mdl_steps.specs.declared.view.SessionTicket.{SessionTicket}
-use Rattle.mdl_steps.specs.Deeds.{is_own, owned}
-use Rattle.mdl_steps.specs.Lists.{Each}
-use Rattle.mdl_steps.proofs.Views.{by_bool}
-use Rattle.mdl_shared.specs.Members.{IsMember}
-use Rattle.mdl_shared.specs.Rememberings.{AreAlike}
-use Rattle.mdl_shared.specs.SessionViews.{SessionView, note_of, tickets_seen}
+use Rattle.std.proofs.Common.{◌≡◌, ℕ, true, not, ◌==◌, List, [], ◌∷◌, Option, Some, None, refl, sym, subst, ◌∙◌, filter_map, eq-eqb, eqb-true}
+use Rattle.mdl_shared.proofs.Common.{Alter, AreAlike, Deed, Each, Gain, IsMember, Lose, SessionTicket, SessionView, by_bool, false≢true, is_own, note_of, owned, tickets_seen}
 use Rattle.mdl_shared.proofs.SpaceNotes.{AllNoted, and_note, note-here, note-there, noted-gained, noted-in, noted-less, noted-moded, noted_under}
 
 -- where no ticket has a note, nothing is noted

@@ -1,20 +1,9 @@
 -- The flags of the places of a session's own list of tickets.
-use Rattle.std.proofs.Common.{◌≡◌, inl, inr, ℕ, zero, suc, ◌<◌, ◌≤◌, ◌==◌, ◌&&◌, Bool, true, false, List, [], ◌∷◌, ◌++◌, length, get_or, replicate, take, Option, Some, None, if◌then◌else◌, refl, sym, ap, ◌∙◌, arith, MatchOption}
-use Rattle.std.specs.Prelude.{nat_lt, slice_index_or, slice_set}
-use Rattle.std.specs.List.{position, position_or_len}
-use Rattle.std.proofs.lemmas.Bool.{eqb-false, eqb-true, lt-ltb}
-use Rattle.std.proofs.lemmas.Bool.Decides.{nat_tests}
-use Rattle.std.proofs.lemmas.List.{get_or-set_other, get_or-set_same, get_or_past, length-map, map-set, take_all}
-use Rattle.std.proofs.lemmas.List.Quantifiers.{position-Some}
-use Rattle.std.proofs.lemmas.List.Sums.{fails_before_first}
+use Rattle.std.proofs.Common.{◌≡◌, inl, inr, ℕ, zero, suc, ◌<◌, ◌≤◌, ◌==◌, ◌&&◌, Bool, true, false, List, [], ◌∷◌, ◌++◌, length, get_or, replicate, take, Option, Some, None, if◌then◌else◌, refl, sym, ap, ◌∙◌, arith, MatchOption, nat_lt, slice_index_or, slice_set, eqb-true, lt-ltb, get_or-set_other, get_or-set_same, take_all}
 use Rattle.std.proofs.lemmas.Option.{slice_get_cases}
 use lib.ListN.{get_or-map}
 use lib.Seq.{map-set_same}
-use Rattle.mdl_steps.proofs.Views.{by_bool}
-use Rattle.mdl_shared.specs.declared.tickets.OfPlace.{OfPlace}
-use Rattle.mdl_shared.specs.Debts.{owed_in}
-use Rattle.mdl_shared.specs.OwnTickets.{flags_of}
-use Rattle.mdl_shared.proofs.TicketParts.{no_place}
+use Rattle.mdl_shared.proofs.FirstLemmas.{OfPlace, by_bool, eqb-false, fails_before_first, flags_of, get_or_past, length-map, map-set, nat_tests, no_place, owed_in, position, position-Some, position_or_len}
 
 -- a flag is that of its place, and down past the last one
 pub flag-of : (q : ℕ) (ps : List OfPlace) → owed_in q (flags_of ps) ≡ (get_or ps q no_place).owes

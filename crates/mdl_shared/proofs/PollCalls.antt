@@ -1,30 +1,7 @@
 -- Calls on the session's own wait: polls and timeouts.
 use Rattle.std.proofs.Common.{◌≡◌, ◌≢◌, ℕ, ◌<◌, ◌≤◌, true, false, is_some, List, [], ◌∷◌, ◌++◌, Option, Some, None, inl, inr, refl, sym, ap, subst, ◌∙◌, arith}
-use Rattle.std.proofs.lemmas.Bool.Decides.{nat_tests}
-use Rattle.mdl_calls.specs.declared.answers.Settled.{Settled}
-use Rattle.mdl_calls.specs.declared.answers.Settled.TheVariants.{Granted, Victim, Timeout, Killed}
-use Rattle.mdl_calls.specs.declared.answers.TimedOut.TheVariants.{ByThisCall, Already}
-use Rattle.mdl_calls.specs.declared.space_error.SpaceError.TheVariants.{NoWait}
-use Rattle.mdl_calls.specs.Words.{Is_settled, Pending, Poll_wait, Refused, Settle_timeout, Timed_out}
-use Rattle.mdl_steps.specs.declared.step_kind.StepKind.TheVariants.{MissWait, ReadWait, SettleWait}
-use Rattle.mdl_steps.specs.declared.view.Ask.{Ask}
-use Rattle.mdl_steps.specs.declared.view.Settlement.{Settlement}
-use Rattle.mdl_steps.specs.Cells.{waiter_of}
-use Rattle.mdl_steps.specs.Layout.{wait_word}
-use Rattle.mdl_steps.specs.Rule.{WaitOk}
-use Rattle.mdl_steps.specs.WaitPlays.{TellsOwn}
-use Rattle.mdl_steps.specs.WaitStates.{IsSettled, wait_in, wait_state}
-use Rattle.mdl_session_laws.specs.SessionJoins.{Joins}
-use Rattle.mdl_visits.specs.Polls.{settled_state}
-use Rattle.mdl_shared.specs.Members.{IsMember}
-use Rattle.mdl_shared.specs.SessionViews.{SessionView, data_of, lists_seen, settled_of}
-use Rattle.mdl_shared.specs.AllSteps.{Shows}
-use Rattle.mdl_shared.specs.Steps.{MeetsOwnWait}
-use Rattle.mdl_shared.specs.Waitings.{wait_fault}
-use Rattle.mdl_shared.proofs.Faults.{if-clear}
-use Rattle.mdl_shared.proofs.MemberFacts.{speaks}
-use Rattle.mdl_shared.proofs.Members.{done-nothing}
-use Rattle.mdl_shared.proofs.SameSpace.{joins-still, refused, same-stays, settled-told, told-settled, waits-asks}
+use Rattle.mdl_calls.specs.declared.answers.Settled.TheVariants.{Granted}
+use Rattle.mdl_shared.proofs.FirstLemmas.{Already, Ask, ByThisCall, IsMember, IsSettled, Is_settled, Joins, Killed, MeetsOwnWait, MissWait, NoWait, Pending, Poll_wait, ReadWait, Refused, SessionView, SettleWait, Settle_timeout, Settled, Settlement, Shows, TellsOwn, Timed_out, Timeout, Victim, WaitOk, data_of, done-nothing, if-clear, joins-still, lists_seen, nat_tests, refused, same-stays, settled-told, settled_of, settled_state, speaks, told-settled, wait_fault, wait_in, wait_state, wait_word, waiter_of, waits-asks}
 use Rattle.mdl_shared.proofs.WaitSteps.{Watches, met-word, shows, stays-once, told-own, watches, word-step}
 
 -- ---- how a wait is settled, by the state of its word

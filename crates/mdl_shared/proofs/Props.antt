@@ -1,35 +1,15 @@
 -- What is always so of a session has one proof at most, so that it comes out of a ghost field.
-use Rattle.std.proofs.Common.{◌≡◌, ℕ, ◌<◌, ◌≤◌, List, [], ◌∷◌, true, Option, Some, None, is_some}
-use Rattle.std.specs.Prelude.{MatchOption}
-use Rattle.std.specs.Option.{IfSome}
-use Rattle.std.specs.Coded.{Coded-set, coded_list}
+use Rattle.std.proofs.Common.{◌≡◌, ℕ, ◌<◌, ◌≤◌, List, [], ◌∷◌, true, Option, Some, None, is_some, MatchOption}
+use Rattle.mdl_calls.specs.Words.{IsRising}
+use Rattle.mdl_defs.specs.Definitions.{IsWellFormed}
+use Rattle.mdl_defs.specs.contracts.definition.Definition as definition
+use Rattle.mdl_defs.specs.declared.definition.Definition.TheVariants.{Schema, Table}
+use Rattle.mdl_steps.specs.contracts.view.SessionTicket as view
 use Rattle.std.proofs.Props.{props}
+use Rattle.std.specs.Coded.{Coded-set, coded_list}
 use mathlib.Core.HLevel.{×_prop, Unit-prop, Π_prop}
 use mathlib.Core.Logic.{∥∥₁_elim}
-use Rattle.mdl_key.specs.Words.{KeyName}
-use Rattle.mdl_key.specs.declared.namespace.Namespace.{Namespace}
-use Rattle.mdl_defs.specs.contracts.definition.Definition as definition
-use Rattle.mdl_defs.specs.declared.definition.Definition.{Definition}
-use Rattle.mdl_defs.specs.declared.definition.Definition.TheVariants.{Schema, Table}
-use Rattle.mdl_defs.specs.declared.versioned_definition.VersionedDefinition.{VersionedDefinition}
-use Rattle.mdl_defs.specs.Definitions.{IsWellFormed}
-use Rattle.mdl_defs.specs.VersionedDefinitions.{MayStand, fits}
-use Rattle.mdl_calls.specs.Words.{IsRising, Wait, is_waiting}
-use Rattle.mdl_steps.specs.contracts.view.SessionTicket as view
-use Rattle.mdl_steps.specs.declared.view.Ask.{Ask}
-use Rattle.mdl_steps.specs.declared.view.SessionTicket.{SessionTicket}
-use Rattle.mdl_steps.specs.Layout.{word_count}
-use Rattle.mdl_steps.specs.Lists.{Each}
-use Rattle.mdl_calls.specs.SessionData.{FitsKey, IsNoted, IsSound, SessionData, are_below, are_placed, first_free, is_newest, last_read, noted_at}
-use Rattle.mdl_visits.specs.Idle.{HoldsNoLatch}
-use Rattle.mdl_shared.specs.declared.member.Member.{Member}
-use Rattle.mdl_shared.specs.Debts.{IsOwed}
-use Rattle.mdl_key.specs.KeyLookups.{are_apart, is_known, key_known}
-use Rattle.mdl_shared.specs.Members.{IsMember, are_counted, are_within, most_numbers}
-use Rattle.mdl_shared.specs.Passes.{view_of}
-use Rattle.mdl_shared.specs.Rememberings.{AreAlike}
-use Rattle.mdl_shared.specs.SessionViews.{SessionView, tickets_seen}
-use Rattle.mdl_shared.specs.Waitings.{is_ask_last, is_ask_told}
+use Rattle.mdl_shared.proofs.Common.{AreAlike, Ask, Definition, Each, FitsKey, HoldsNoLatch, IfSome, IsMember, IsNoted, IsOwed, IsSound, KeyName, MayStand, Member, Namespace, SessionData, SessionTicket, SessionView, VersionedDefinition, Wait, are_apart, are_below, are_counted, are_placed, are_within, first_free, fits, is_ask_last, is_ask_told, is_known, is_newest, is_waiting, key_known, last_read, most_numbers, noted_at, tickets_seen, view_of, word_count}
 
 -- ---- what may stand
 

@@ -1,22 +1,6 @@
 -- What a session did by steps that left all waits alone: one part after another, and what a call shows by all of them.
 use Rattle.std.proofs.Common.{◌≡◌, ℕ, List, [], None, refl, sym, ap, subst, ◌∙◌, append-nil}
-use Rattle.mdl_calls.specs.Words.{Answer}
-use Rattle.mdl_steps.specs.declared.deed.Deed.{Deed}
-use Rattle.mdl_steps.specs.declared.view.StepRecord.{StepRecord}
-use Rattle.mdl_steps.specs.Plays.{Mine}
-use Rattle.mdl_steps.specs.SeatStates.{AtItsTable, SeatState}
-use Rattle.mdl_visits.specs.Polls.{SettlesNothing}
-use Rattle.mdl_visits.specs.Visits.{Does, MakesMoreSteps, MakesSteps, Visits}
-use Rattle.mdl_visits.proofs.Steps.{does_then, step_after, step_before}
-use Rattle.mdl_shared.specs.declared.member.Member.{Member}
-use Rattle.mdl_shared.specs.DeedsDone.{DidDeeds, DoesQuietly}
-use Rattle.mdl_shared.specs.Passes.{view_of}
-use Rattle.mdl_shared.specs.SessionViews.{Lists, SessionView, all_tickets, lists_seen, session_at, tickets_seen}
-use Rattle.mdl_shared.specs.StepSpec.{StepSpec, TakesSteps, gained_by}
-use Rattle.mdl_shared.specs.Steps.{ShowsStep}
-use Rattle.mdl_shared.specs.TicketLists.{KeepsRoom, Room}
-use Rattle.mdl_shared.proofs.Faults.{if-clear}
-use Rattle.mdl_shared.proofs.Members.{done-debts, done-then, same-fast, seat-changed}
+use Rattle.mdl_shared.proofs.FirstLemmas.{Answer, AtItsTable, Deed, DidDeeds, Does, DoesQuietly, KeepsRoom, Lists, MakesMoreSteps, MakesSteps, Member, Mine, Room, SeatState, SessionView, SettlesNothing, ShowsStep, StepRecord, StepSpec, TakesSteps, Visits, all_tickets, does_then, done-debts, done-then, gained_by, if-clear, lists_seen, same-fast, seat-changed, session_at, step_after, step_before, tickets_seen, view_of}
 
 -- ---- steps
 

@@ -1,57 +1,11 @@
 -- Calls on what stands under keys: reads and changes.
 use Rattle.std.proofs.Common.{◌≡◌, ℕ, ◌+◌, MatchOption, Bool, true, false, is_some, List, [], ◌∷◌, ◌++◌, Option, Some, None, Err, if◌then◌else◌, map, inl, inr, refl, sym, ap, subst, ◌∙◌}
-use Rattle.std.specs.Option.{option_map}
-use Rattle.std.proofs.lemmas.Bool.{false≢true}
-use Rattle.mdl_key.specs.declared.mode.Mode.TheVariants.{X}
-use Rattle.mdl_key.specs.Refusals.{RefusesJust}
-use Rattle.mdl_key.specs.Words.{KeyName, same_mode}
-use Rattle.mdl_defs.specs.declared.change.Change.{Change}
-use Rattle.mdl_defs.specs.declared.change.Change.TheVariants.{Drop}
-use Rattle.mdl_defs.specs.declared.change_error.ChangeError.{ChangeError}
-use Rattle.mdl_defs.specs.declared.change_error.ChangeError.TheVariants as error
-use Rattle.mdl_defs.specs.declared.versioned_definition.VersionedDefinition.{VersionedDefinition}
-use Rattle.mdl_defs.specs.VersionedDefinitions.{standing_after, standing_fault}
-use Rattle.mdl_calls.specs.declared.answers.Held.{Held}
-use Rattle.mdl_calls.specs.declared.space_error.SpaceError.{SpaceError}
-use Rattle.mdl_calls.specs.declared.space_error.SpaceError.TheVariants.{NotExclusive, NotHeld, OutOfMemory}
-use Rattle.mdl_calls.specs.Words.{Changed, Reads, Refused, Change_definition, Read_definition, IsCause, cause_of, change_takes_memory, ticket_held}
 use Rattle.mdl_calls.proofs.StandingLemmas.{drop-memory, redefined-cause}
-use Rattle.mdl_steps.specs.declared.view.StepRecord.{StepRecord}
-use Rattle.mdl_steps.specs.declared.view.SessionTicket.{SessionTicket}
-use Rattle.mdl_defs.specs.declared.reading.Reading.{Reading}
-use Rattle.mdl_steps.specs.Plays.{Mine, noting_version}
-use Rattle.mdl_steps.specs.SeatStates.{SeatState}
-use Rattle.mdl_steps.specs.VersionPlays.{Follows}
-use Rattle.mdl_calls.specs.Meetings.{ChangesThere, IsLast, MeetsFault as Faulty, ReadsThere as Read_so}
-use Rattle.mdl_key.specs.KeyLookups.{key_known}
-use Rattle.mdl_calls.specs.SessionData.{Knows}
-use Rattle.mdl_session_laws.specs.SessionJoins.{Joins, TellsTruly}
-use Rattle.mdl_visits.specs.Leavings.{Learns, MeetsStanding}
-use Rattle.mdl_visits.specs.Numbers.{numbered}
-use Rattle.mdl_visits.specs.Readings.{WasHeld}
-use Rattle.mdl_visits.specs.Redefinitions.{IsChangeRefused, IsNamed, Redefines, exclusive_fault}
-use Rattle.mdl_visits.specs.Visits.{Does, StaysQuiet, Visits, VisitsOnce}
-use Rattle.mdl_visits.proofs.Doing.{does_visits}
-use Rattle.mdl_shared.specs.declared.member.Member.{Member}
-use Rattle.mdl_shared.specs.Members.{IsMember, holding_fault}
-use Rattle.mdl_shared.specs.OwnLists.{as_held}
-use Rattle.mdl_shared.specs.Passes.{view_of}
-use Rattle.mdl_shared.specs.Rememberings.{AreAlike}
-use Rattle.mdl_shared.specs.SessionViews.{Lists, SessionView, data_of, lists_seen, session_at, tickets_seen}
-use Rattle.mdl_shared.specs.AllSteps.{Shows}
-use Rattle.mdl_shared.specs.Steps.{ShowsStep}
-use Rattle.mdl_shared.specs.TicketLists.{KeepsRoom, Room}
-use Rattle.mdl_shared.proofs.Alike.{alike_noting}
-use Rattle.mdl_shared.proofs.Faults.{if-clear, test-failed}
-use Rattle.mdl_shared.proofs.MemberFacts.{speaks}
-use Rattle.mdl_shared.proofs.Debts.{same-debts}
-use Rattle.mdl_shared.proofs.Members.{StaysInOrder}
-use Rattle.mdl_shared.proofs.SameSpace.{KeepsRest, Stays, joins-held, refused, same-stays, sees-same}
-use Rattle.mdl_shared.proofs.SpaceLists.{ticket-told}
-use Rattle.mdl_shared.proofs.SpaceNotes.{noting-told}
-use Rattle.mdl_shared.proofs.SpaceReads.{known-there, meets-there, notes-there, read-last}
-use Rattle.mdl_shared.proofs.SpaceTickets.{holds-told, of-held}
-use Rattle.mdl_shared.proofs.TicketOrder.{counted-noted, noted-both}
+use Rattle.mdl_defs.specs.declared.change.Change.TheVariants.{Drop}
+use Rattle.mdl_defs.specs.declared.change_error.ChangeError.TheVariants as error
+use Rattle.mdl_defs.specs.declared.change_error.ChangeError.{ChangeError}
+use Rattle.mdl_key.specs.Refusals.{RefusesJust}
+use Rattle.mdl_shared.proofs.FirstLemmas.{AreAlike, Change, Change_definition, Changed, ChangesThere, Does, Faulty, Follows, Held, IsCause, IsChangeRefused, IsLast, IsMember, IsNamed, Joins, KeepsRest, KeepsRoom, KeyName, Knows, Learns, Lists, MeetsStanding, Member, Mine, NotExclusive, NotHeld, OutOfMemory, Read_definition, Read_so, Reading, Reads, Redefines, Refused, Room, SeatState, SessionTicket, SessionView, Shows, ShowsStep, SpaceError, Stays, StaysInOrder, StaysQuiet, StepRecord, TellsTruly, VersionedDefinition, Visits, VisitsOnce, WasHeld, X, alike_noting, as_held, cause_of, change_takes_memory, counted-noted, data_of, does_visits, exclusive_fault, false≢true, holding_fault, holds-told, if-clear, joins-held, key_known, known-there, lists_seen, meets-there, noted-both, notes-there, noting-told, noting_version, numbered, of-held, option_map, read-last, refused, same-debts, same-stays, same_mode, sees-same, session_at, speaks, standing_after, standing_fault, test-failed, ticket-told, ticket_held, tickets_seen, view_of}
 
 -- ---- a session that reads what stands at a place
 

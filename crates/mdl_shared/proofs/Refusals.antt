@@ -1,14 +1,6 @@
 -- A call that is refused for what the session has of its own, before any step.
 use Rattle.std.proofs.Common.{◌≡◌, List, [], Some, IfSome, Option, inl, refl, sym, subst, append-nil}
-use Rattle.mdl_calls.specs.declared.space_error.SpaceError.{SpaceError}
-use Rattle.mdl_calls.specs.Words.{Refused, Call, Resolve, Try_now, Begin_wait, Search, Poll_wait, Settle_timeout, End_wait, Wait_of, Kill, Release, Clone_ticket, Upgrade_now, Merge, Downgrade, Read_definition, Read_kept, Change_definition, Tables_of, Key_of}
-use Rattle.mdl_steps.specs.declared.deed.Deed.{Deed}
-use Rattle.mdl_steps.specs.declared.view.SessionTicket.{SessionTicket}
-use Rattle.mdl_steps.specs.Plays.{Mine}
-use Rattle.mdl_visits.specs.Visits.{Does}
-use Rattle.mdl_shared.specs.SessionViews.{Lists, SessionView, lists_seen, tickets_seen}
-use Rattle.mdl_shared.specs.AllSteps.{Shows, steps_of}
-use Rattle.mdl_shared.specs.Steps.{MakesNoStep}
+use Rattle.mdl_shared.proofs.Common.{Begin_wait, Call, Change_definition, Clone_ticket, Deed, Does, Downgrade, End_wait, Key_of, Kill, Lists, MakesNoStep, Merge, Mine, Poll_wait, Read_definition, Read_kept, Refused, Release, Resolve, Search, SessionTicket, SessionView, Settle_timeout, Shows, SpaceError, Tables_of, Try_now, Upgrade_now, Wait_of, lists_seen, steps_of, tickets_seen}
 use Rattle.mdl_shared.proofs.Rooms.{keeps-same}
 
 -- without a step nothing is done, and the session stays

@@ -1,28 +1,6 @@
 -- A session gives up a ticket, a slow one or a fast one.
 use Rattle.std.proofs.Common.{◌≡◌, ℕ, [], ◌∷◌, Option, Some, None, is_some, if◌then◌else◌, sym, ap, subst, ◌∙◌}
-use Rattle.mdl_calls.specs.declared.space_error.SpaceError.TheVariants.{NotHeld}
-use Rattle.mdl_calls.specs.Words.{Done, Release}
-use Rattle.mdl_steps.specs.declared.deed.Deed.TheVariants.{Lose}
-use Rattle.mdl_steps.specs.declared.view.SessionTicket.{SessionTicket}
-use Rattle.mdl_steps.specs.Plays.{Mine}
-use Rattle.mdl_steps.specs.SeatStates.{AtItsTable, SeatState}
-use Rattle.mdl_session_laws.specs.SessionJoins.{Joins}
-use Rattle.mdl_visits.specs.Grantings.{VisitsAndReschedules}
-use Rattle.mdl_visits.specs.Leavings.{DoesToOwn}
-use Rattle.mdl_visits.specs.Numbers.{numbered}
-use Rattle.mdl_visits.specs.Visits.{Does, VisitsOnce}
-use Rattle.mdl_visits.proofs.Doing.{does_reschedule}
-use Rattle.mdl_visits.proofs.Numbers.{has_number}
-use Rattle.mdl_shared.specs.DeedsDone.{DidDeeds}
-use Rattle.mdl_shared.specs.Members.{IsMember, holding_fault}
-use Rattle.mdl_shared.specs.SessionViews.{SessionView, data_of, session_at, tickets_seen}
-use Rattle.mdl_shared.specs.AllSteps.{Shows}
-use Rattle.mdl_shared.specs.Steps.{GivesUpFast, GivesUpSlow}
-use Rattle.mdl_shared.specs.TicketLists.{KeepsRoom, Room}
-use Rattle.mdl_shared.proofs.Debts.{rescheduled-owes}
-use Rattle.mdl_shared.proofs.Faults.{if-clear}
-use Rattle.mdl_shared.proofs.MemberFacts.{fast-held, loses-slow}
-use Rattle.mdl_shared.proofs.Members.{done-debts, rescheduled}
+use Rattle.mdl_shared.proofs.FirstLemmas.{AtItsTable, DidDeeds, Does, DoesToOwn, Done, GivesUpFast, GivesUpSlow, IsMember, Joins, KeepsRoom, Lose, Mine, NotHeld, Release, Room, SeatState, SessionTicket, SessionView, Shows, VisitsAndReschedules, VisitsOnce, data_of, does_reschedule, done-debts, fast-held, has_number, holding_fault, if-clear, loses-slow, numbered, rescheduled, rescheduled-owes, session_at, tickets_seen}
 use Rattle.mdl_shared.proofs.SlowOrFast.{fast-only}
 use Rattle.mdl_shared.proofs.TicketCalls.{release-joins}
 

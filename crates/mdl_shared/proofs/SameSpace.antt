@@ -1,25 +1,7 @@
 -- A call that leaves a session what it has, but for what it may have learnt of its wait.
-use Rattle.std.proofs.Common.{◌≡◌, ℕ, ◌-◌, Bool, true, false, List, map, is_some, Option, Some, None, IfSome, refl, sym, ap, subst, ◌∙◌}
-use Rattle.std.specs.Option.{option_map}
-use Rattle.std.specs.Prelude.{filter_map}
-use Rattle.mdl_calls.specs.declared.answers.Held.{Held}
-use Rattle.mdl_calls.specs.declared.answers.Settled.{Settled}
+use Rattle.std.proofs.Common.{◌≡◌, ℕ, ◌-◌, Bool, true, false, List, map, is_some, Option, Some, None, IfSome, refl, sym, ap, subst, ◌∙◌, filter_map}
 use Rattle.mdl_calls.specs.declared.answers.Settled.TheVariants as settled_as
-use Rattle.mdl_calls.specs.declared.space_error.SpaceError.{SpaceError}
-use Rattle.mdl_calls.specs.Words.{Answer, Call, Draws, IsCause, IsExplained, Numbers, Refused, SessionLocks, Wait, caller, is_answer_of, own_after, told}
-use Rattle.mdl_steps.specs.declared.view.Ask.{Ask}
-use Rattle.mdl_steps.specs.declared.view.SessionTicket.{SessionTicket}
-use Rattle.mdl_calls.specs.Learning.{KeepsSettled}
-use Rattle.mdl_calls.specs.Meetings.{ReadsNothing}
-use Rattle.mdl_key.specs.KeyLookups.{is_known}
-use Rattle.mdl_calls.specs.SessionData.{SpeaksFor, Knows}
-use Rattle.mdl_session_laws.specs.SessionJoins.{Joins, LearnsKeys, LetsRead, TellsTruly, ends_wait, gained_at, session_has_call, wait_met}
-use Rattle.mdl_session_laws.proofs.RefusedCalls.{KeepsAll, reads-nothing, refused-joins}
-use Rattle.mdl_visits.specs.Grantings.{StaysTold}
-use Rattle.mdl_visits.specs.Polls.{settled_state}
-use Rattle.mdl_visits.specs.Readings.{SeatReadsNothing as ReadNothing}
-use Rattle.mdl_shared.specs.OwnLists.{as_held}
-use Rattle.mdl_shared.specs.SessionViews.{SessionView, data_of, note_of, settled_of, settled_told, tickets_seen}
+use Rattle.mdl_shared.proofs.Common.{Answer, Ask, Call, Draws, Held, IsCause, IsExplained, Joins, KeepsAll, KeepsSettled, Knows, LearnsKeys, LetsRead, Numbers, ReadNothing, ReadsNothing, Refused, SessionLocks, SessionTicket, SessionView, Settled, SpaceError, SpeaksFor, StaysTold, TellsTruly, Wait, as_held, caller, data_of, ends_wait, gained_at, is_answer_of, is_known, note_of, option_map, own_after, reads-nothing, refused-joins, session_has_call, settled_of, settled_state, settled_told, tickets_seen, told, wait_met}
 
 -- ---- what a session has
 

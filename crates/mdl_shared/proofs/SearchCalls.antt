@@ -1,36 +1,10 @@
 -- Searches for deadlocks, which may settle the wait of the session itself. Before it searches the session reads whether its wait is settled already.
-use Rattle.std.proofs.Common.{◌≡◌, ℕ, true, false, is_some, [], Result, Option, Some, None, Ok, Err, inl, inr, refl, sym, ap, subst, ◌∙◌, arith}
-use Rattle.std.specs.Prelude.{IfOk, IfErr}
-use Rattle.mdl_calls.specs.declared.answers.Search.{Search as Found}
+use Rattle.std.proofs.Common.{◌≡◌, ℕ, true, false, is_some, [], Result, Option, Some, None, Ok, Err, inl, inr, refl, sym, ap, subst, ◌∙◌, arith, IfOk, IfErr}
 use Rattle.mdl_calls.specs.declared.answers.Search.TheVariants as found
-use Rattle.mdl_calls.specs.declared.answers.Settled.{Settled}
-use Rattle.mdl_calls.specs.declared.answers.Settled.TheVariants.{Victim}
-use Rattle.mdl_calls.specs.declared.space_error.SpaceError.{SpaceError}
-use Rattle.mdl_calls.specs.declared.space_error.SpaceError.TheVariants.{OutOfMemory}
-use Rattle.mdl_calls.specs.Words.{Answer, No_cycle, Refused, Victim_is, Search, IsCause, searched}
-use Rattle.mdl_steps.specs.declared.step_kind.StepKind.TheVariants.{ReadWait}
-use Rattle.mdl_steps.specs.WaitPlays.{TellsOwn}
-use Rattle.mdl_steps.specs.WaitStates.{wait_in, wait_state}
-use Rattle.mdl_calls.specs.SessionData.{Knows}
-use Rattle.mdl_session_laws.specs.SessionJoins.{Joins}
-use Rattle.mdl_visits.specs.Polls.{SettlesNothing, settled_state}
-use Rattle.mdl_visits.specs.Searches.{KnowsVictim}
-use Rattle.mdl_visits.specs.Visits.{Does}
-use Rattle.mdl_visits.proofs.Steps.{does_then}
-use Rattle.mdl_shared.specs.DeedsDone.{DidDeeds}
-use Rattle.mdl_shared.specs.Members.{IsMember}
-use Rattle.mdl_shared.specs.SessionViews.{SessionView, data_of, lists_seen, settled_of}
-use Rattle.mdl_shared.specs.AllSteps.{Shows}
-use Rattle.mdl_shared.specs.StepSpec.{gained_by}
-use Rattle.mdl_shared.specs.Steps.{LooksAtKeys, ReadsUnsettled, SearchesFor, own_wait_read}
-use Rattle.mdl_shared.specs.TicketLists.{KeepsRoom}
-use Rattle.mdl_shared.specs.calls.Search.{search_deadlock}
-use Rattle.mdl_shared.proofs.MemberFacts.{speaks}
-use Rattle.mdl_shared.proofs.Members.{done-debts, done-nothing, done-then}
+use Rattle.mdl_shared.proofs.FirstLemmas.{Answer, DidDeeds, Does, Found, IsCause, IsMember, Joins, KeepsRoom, Knows, KnowsVictim, LooksAtKeys, No_cycle, OutOfMemory, ReadWait, ReadsUnsettled, Refused, Search, SearchesFor, SessionView, Settled, SettlesNothing, Shows, SpaceError, Stays, TellsOwn, Victim, Victim_is, data_of, does_then, done-debts, done-nothing, done-then, gained_by, joins-still, keeps-before, lists_seen, own_wait_read, refused, searched, settled_of, settled_state, speaks, told-settled, wait_in, wait_state}
 use Rattle.mdl_shared.proofs.PollCalls.{in-state, polls, settled-is, settled-more, unsettled}
-use Rattle.mdl_shared.proofs.Rooms.{keeps-before}
-use Rattle.mdl_shared.proofs.SameSpace.{Stays, joins-still, refused, told-settled}
 use Rattle.mdl_shared.proofs.WaitSteps.{asked, shows, told-own, word-step}
+use Rattle.mdl_shared.specs.calls.Search.{search_deadlock}
 
 pub search-joins : {s s′ : SessionView} → IsMember s → Stays s s′ → (result : Result Found SpaceError)
     → IfOk result (λ f. KnowsVictim s.me.0.number f s′.me) → IfErr result (λ why. why ≡ OutOfMemory)

@@ -1,42 +1,11 @@
 -- Upgrades and merges, before which the fast tickets of their session become slow ones.
 use Rattle.std.proofs.Common.{◌≡◌, inr, ℕ, true, false, List, [], ◌∷◌, Some, None, Ok, if◌then◌else◌, refl, sym, ap, subst, subst₂, ◌∙◌}
-use mathlib.Core.Path.{subst₃}
-use Rattle.mdl_key.specs.declared.mode.Mode.{Mode}
-use Rattle.mdl_system.specs.Strength.{covers}
-use Rattle.mdl_calls.specs.declared.answers.Upgrade.{Upgrade}
 use Rattle.mdl_calls.specs.declared.answers.Upgrade.TheVariants as upgrade
-use Rattle.mdl_calls.specs.declared.space_error.SpaceError.{SpaceError}
-use Rattle.mdl_calls.specs.Words.{Done, IsCause, Merge, Refused, Upgrade_now, Upgraded, Would_wait, upgrade_tried}
-use Rattle.mdl_steps.specs.declared.deed.Deed.TheVariants.{Alter, Lose}
-use Rattle.mdl_steps.specs.declared.view.StepRecord.{StepRecord}
-use Rattle.mdl_steps.specs.declared.view.SessionTicket.{SessionTicket}
-use Rattle.mdl_steps.specs.Interleavings.{interleaved}
-use Rattle.mdl_calls.specs.SessionData.{Knows}
-use Rattle.mdl_session_laws.specs.SessionJoins.{Joins}
-use Rattle.mdl_visits.specs.Leavings.{MeetsOwn}
-use Rattle.mdl_visits.specs.Numbers.{numbered}
-use Rattle.mdl_visits.specs.Visits.{IsStepOf, IsVisit, MeetsBlocked, MeetsGrantable, VisitsOnce}
-use Rattle.mdl_visits.proofs.Numbers.{has_number}
-use Rattle.mdl_shared.specs.declared.member.Member.{Member}
-use Rattle.mdl_shared.specs.DeedsDone.{DidDeeds, DoesQuietly}
-use Rattle.mdl_shared.specs.Doings.{merge_deeds, rise_deeds, upgrade_deeds}
-use Rattle.mdl_shared.specs.FastWishes.{BecomesSlow}
-use Rattle.mdl_shared.specs.Members.{IsMember}
-use Rattle.mdl_shared.specs.Modes.{merge_fault}
-use Rattle.mdl_shared.specs.Passes.{view_of}
-use Rattle.mdl_shared.specs.SessionViews.{SessionView, data_of, tickets_seen}
-use Rattle.mdl_shared.specs.AllSteps.{Shows}
-use Rattle.mdl_shared.specs.Steps.{ShowsStep}
-use Rattle.mdl_shared.specs.WishSteps.{AllMadeSlow, LacksRoomForFast, SlowsAll, StopsSlowing}
-use Rattle.mdl_shared.specs.TicketLists.{KeepsRoom}
-use Rattle.mdl_shared.specs.Upgrades.{upgrade_fault}
-use Rattle.mdl_shared.proofs.FastWishing.{by-visit, number-slow}
+use mathlib.Core.Path.{subst₃}
+use Rattle.mdl_shared.proofs.FirstLemmas.{AllMadeSlow, Alter, BecomesSlow, DidDeeds, DoesQuietly, Done, IsCause, IsMember, IsStepOf, IsVisit, Joins, KeepsRoom, Knows, LacksRoomForFast, Lose, MeetsBlocked, MeetsGrantable, MeetsOwn, Member, Merge, Mode, Refused, SessionTicket, SessionView, Shows, ShowsStep, SlowsAll, SpaceError, StepRecord, StopsSlowing, Upgrade, Upgrade_now, Upgraded, VisitsOnce, Would_wait, covers, data_of, done-nothing, has_number, interleaved, keeps-before, merge_deeds, merge_fault, numbered, refused, rise_deeds, speaks, tickets_seen, upgrade_deeds, upgrade_fault, upgrade_tried, view_of}
 use Rattle.mdl_shared.proofs.FastWishShows.{lack-cause}
-use Rattle.mdl_shared.proofs.MemberFacts.{speaks}
-use Rattle.mdl_shared.proofs.Members.{done-nothing}
+use Rattle.mdl_shared.proofs.FastWishing.{by-visit, number-slow}
 use Rattle.mdl_shared.proofs.QuietDeeds.{quiet-shows, quiet-then, same-lists}
-use Rattle.mdl_shared.proofs.Rooms.{keeps-before}
-use Rattle.mdl_shared.proofs.SameSpace.{refused}
 use Rattle.mdl_shared.proofs.TicketCalls.{blocked-joins, may-rise, merge-joins, upgrade-joins}
 use Rattle.mdl_shared.proofs.TicketFaults.{merge-clear}
 use Rattle.mdl_shared.proofs.WishCalls.{by-cause}

@@ -1,11 +1,6 @@
 -- A slow ticket of a session without fast ones, as the calls need it that go by the latch of its place.
 use Rattle.std.proofs.Common.{◌≡◌, List, [], Some, sym, ap, subst, ◌∙◌}
-use Rattle.mdl_steps.specs.declared.view.SessionTicket.{SessionTicket}
-use Rattle.mdl_steps.specs.Interleavings.{interleaved}
-use Rattle.mdl_visits.specs.Numbers.{numbered}
-use Rattle.mdl_shared.specs.declared.member.Member.{Member}
-use Rattle.mdl_shared.specs.Passes.{view_of}
-use Rattle.mdl_shared.specs.SessionViews.{Lists}
+use Rattle.mdl_shared.proofs.FirstLemmas.{Lists, Member, SessionTicket, interleaved, numbered, view_of}
 use Rattle.mdl_shared.proofs.HeldTickets.{HoldsSlow, HoldsTicket, holds-slow, holds-ticket}
 
 pub slow-held : (m : Member) (t : SessionTicket) → m.tickets.fast ≡ [] → numbered t.number m.tickets.slow ≡ Some t

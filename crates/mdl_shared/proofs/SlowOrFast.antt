@@ -1,22 +1,9 @@
 -- Which of a session's tickets are slow, and which are fast.
 use Rattle.std.proofs.Common.{◌≡◌, inl, inr, ℕ, true, List, Option, Some, None, refl, sym, ap, ◌∙◌}
-use Rattle.std.specs.Option.{option_and_then}
-use Rattle.mdl_key.specs.declared.mode.Mode.{Mode}
 use Rattle.mdl_key.specs.declared.mode.Mode.TheVariants as mode
-use Rattle.mdl_key.specs.declared.namespace.Kind.{Kind}
 use Rattle.mdl_key.specs.declared.namespace.Kind.TheVariants.{Scoped, Object}
-use Rattle.mdl_word.specs.Words.{increment_of}
-use Rattle.mdl_system.specs.Strength.{may_downgrade}
-use Rattle.mdl_key.specs.declared.known_key.KnownKey.{KnownKey}
-use Rattle.mdl_steps.specs.declared.view.SessionTicket.{SessionTicket}
-use Rattle.mdl_visits.specs.Numbers.{numbered}
-use Rattle.mdl_shared.specs.declared.member.Member.{Member}
-use Rattle.mdl_key.specs.KeyLookups.{kind_known}
-use Rattle.mdl_shared.specs.Members.{IsMember, increment_at}
-use Rattle.mdl_shared.specs.SessionViews.{Lists, SessionView, tickets_seen}
+use Rattle.mdl_shared.proofs.FirstLemmas.{IsMember, Kind, KnownKey, Lists, Member, Mode, SessionTicket, SessionView, fast-alone, held-either, increment_at, increment_of, kind_known, may_downgrade, none-numbered, numbered, option_and_then, tickets_seen}
 use Rattle.mdl_shared.proofs.FastFacts.{counted-found}
-use Rattle.mdl_shared.proofs.MemberFacts.{fast-alone, held-either}
-use Rattle.mdl_shared.proofs.TicketOrder.{none-numbered}
 
 -- ---- tickets that no word counts
 

@@ -1,23 +1,6 @@
 -- A session's fast tickets become slow ones, one place after the other.
-use Rattle.std.proofs.Common.{◌≡◌, ◌≢◌, ◌⊎◌, inl, inr, ℕ, ◌+◌, ◌<◌, ◌≤◌, ◌==◌, false, List, [], ◌∷◌, ◌++◌, length, refl, sym, ap, subst, ◌∙◌, arith, append_assoc}
-use Rattle.std.proofs.lemmas.Bool.{eq-eqb, eqb-true, false≢true}
-use Rattle.std.proofs.lemmas.Bool.Decides.{nat_tests}
-use Rattle.std.specs.Prelude.{nat_lt}
-use Rattle.mdl_steps.proofs.Materialising.{gone_here}
-use Rattle.mdl_calls.specs.declared.space_error.SpaceError.{SpaceError}
-use Rattle.mdl_steps.specs.declared.view.SessionTicket.{SessionTicket}
-use Rattle.mdl_steps.specs.Cells.{own_at}
-use Rattle.mdl_steps.specs.FastPlays.{but_at}
-use Rattle.mdl_steps.specs.Lists.{Each}
-use Rattle.mdl_steps.specs.Plays.{Mine}
-use Rattle.mdl_steps.proofs.Views.{by_bool}
-use Rattle.mdl_visits.specs.Materialisings.{MeetsFullFor}
-use Rattle.mdl_visits.specs.Visits.{MakesMoreSteps, VisitsOnce}
-use Rattle.mdl_shared.specs.FastDeeds.{AreSameOrSlow, AreSlowBefore}
-use Rattle.mdl_shared.specs.declared.member.Member.{Member}
-use Rattle.mdl_shared.specs.SessionViews.{Lists, SessionView}
-use Rattle.mdl_shared.specs.Steps.{ShowsStep}
-use Rattle.mdl_shared.specs.WishSteps.{AllMadeSlow, FullForFast, IsNextFast, LacksRoomForFast, MakesSlow, SlowsInTurn, StopsSlowing}
+use Rattle.std.proofs.Common.{◌≡◌, ◌≢◌, ◌⊎◌, inl, inr, ℕ, ◌+◌, ◌<◌, ◌≤◌, ◌==◌, false, List, [], ◌∷◌, ◌++◌, length, refl, sym, ap, subst, ◌∙◌, arith, append_assoc, eq-eqb, eqb-true, nat_lt}
+use Rattle.mdl_shared.proofs.FirstLemmas.{AllMadeSlow, AreSameOrSlow, AreSlowBefore, Each, FullForFast, IsNextFast, LacksRoomForFast, Lists, MakesMoreSteps, MakesSlow, MeetsFullFor, Member, Mine, SessionTicket, SessionView, ShowsStep, SlowsInTurn, SpaceError, StopsSlowing, VisitsOnce, but_at, by_bool, false≢true, gone_here, nat_tests, own_at}
 use Rattle.mdl_shared.proofs.QuietDeeds.{shows-first, shows-later}
 
 -- ---- the tickets of one place, without those of another

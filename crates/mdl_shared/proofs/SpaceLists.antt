@@ -1,17 +1,6 @@
 -- What a session keeps of its own is found in the space that it is as a lock space: its tickets by their numbers, the keys by their places.
 use Rattle.std.proofs.Common.{◌≡◌, ℕ, Bool, false, ◌==◌, List, [], ◌∷◌, map, find, Option, Some, None, refl, sym, ap, ◌∙◌}
-use Rattle.std.specs.Option.{option_map, option_map_or}
-use Rattle.mdl_key.specs.declared.mode.Mode.{Mode}
-use Rattle.mdl_key.specs.declared.namespace.Kind.{Kind}
-use Rattle.mdl_key.specs.Words.{KeyName, is_mode_of, kind_of}
-use Rattle.mdl_calls.specs.Words.{is_number}
-use Rattle.mdl_key.specs.declared.known_key.KnownKey.{KnownKey}
-use Rattle.mdl_steps.specs.declared.view.SessionTicket.{SessionTicket}
-use Rattle.mdl_steps.proofs.Views.{by_bool}
-use Rattle.mdl_visits.specs.Numbers.{numbered}
-use Rattle.mdl_shared.specs.Modes.{is_fit}
-use Rattle.mdl_key.specs.KeyLookups.{key_known, kind_known}
-use Rattle.mdl_shared.specs.OwnLists.{as_held}
+use Rattle.mdl_shared.proofs.Common.{KeyName, Kind, KnownKey, Mode, SessionTicket, as_held, by_bool, is_fit, is_mode_of, is_number, key_known, kind_known, kind_of, numbered, option_map, option_map_or}
 
 -- what is found among the images of a list is the image of what is found in it
 pub find-told : {A B : Type 0} (f : A → B) (test : B → Bool) (xs : List A) → find test (map f xs) ≡ option_map f (find (λ x. test (f x)) xs)

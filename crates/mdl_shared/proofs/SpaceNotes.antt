@@ -1,23 +1,6 @@
 -- The versions that a session noted under its tickets: at each place one, if any.
-use Rattle.std.proofs.Common.{◌≡◌, ◌≢◌, ◌⊎◌, inl, inr, ℕ, Bool, true, false, not, ◌==◌, List, [], ◌∷◌, ◌++◌, map, filter, Contains, Option, Some, None, refl, sym, ap, subst, ◌∙◌}
-use Rattle.std.specs.Prelude.{filter_map}
-use Rattle.std.specs.List.{cons_option, list_all}
-use Rattle.std.specs.Option.{option_map}
-use Rattle.std.proofs.lemmas.Bool.{eqb-true, eq-eqb, false≢true, ne_eqb, not_from_true}
-use Rattle.mdl_key.specs.declared.mode.Mode.{Mode}
-use Rattle.mdl_calls.specs.declared.answers.Held.{Held}
-use Rattle.mdl_steps.specs.declared.view.SessionTicket.{SessionTicket}
-use Rattle.mdl_steps.specs.Cells.{note_at}
-use Rattle.mdl_steps.specs.Deeds.{is_own}
-use Rattle.mdl_steps.specs.Plays.{noting_version}
-use Rattle.mdl_steps.proofs.Views.{by_bool}
-use Rattle.mdl_calls.specs.Meetings.{ReadsNothing}
-use Rattle.mdl_calls.specs.SessionData.{Note, noted_at}
-use Rattle.mdl_session_laws.proofs.TicketLists.{all-among}
-use Rattle.mdl_visits.specs.Readings.{SeatReadsNothing as ReadNothing}
-use Rattle.mdl_shared.specs.Modes.{in_mode_at}
-use Rattle.mdl_shared.specs.OwnLists.{as_held}
-use Rattle.mdl_shared.specs.SessionViews.{SessionView, data_of, note_of, tickets_seen}
+use Rattle.std.proofs.Common.{◌≡◌, ◌≢◌, ◌⊎◌, inl, inr, ℕ, Bool, true, false, not, ◌==◌, List, [], ◌∷◌, ◌++◌, map, filter, Contains, Option, Some, None, refl, sym, ap, subst, ◌∙◌, filter_map, eqb-true, eq-eqb, ne_eqb}
+use Rattle.mdl_shared.proofs.Common.{Held, Mode, Note, ReadNothing, ReadsNothing, SessionTicket, SessionView, all-among, as_held, by_bool, cons_option, data_of, false≢true, in_mode_at, is_own, list_all, not_from_true, note_at, note_of, noted_at, noting_version, option_map, tickets_seen}
 
 -- the version that is noted at a place
 abbrev pub noted_under : ℕ → List SessionTicket → Option ℕ

@@ -1,31 +1,6 @@
 -- What a session read and noted at a place, in its own lists and in the space that it is as a lock space.
-use Rattle.std.proofs.Common.{◌≡◌, ℕ, zero, suc, ◌≤◌, true, false, not, ◌==◌, List, [], ◌∷◌, map, Option, Some, None, inl, if◌then◌else◌, refl, sym, ap, subst, ◌∙◌, arith}
-use Rattle.std.specs.Prelude.{filter_map, nat_le}
-use Rattle.std.specs.List.{list_all}
-use Rattle.std.specs.Option.{option_or}
-use Rattle.std.proofs.lemmas.Bool.{and_from, eqb-true, le-leb, or_left, or_right, not_from_false}
-use Rattle.std.proofs.lemmas.Bool.Decides.{nat_tests}
-use mathlib.Core.Option.{some}
-use lib.ListN.{get_elem?}
-use Rattle.mdl_key.specs.Words.{KeyName}
-use Rattle.mdl_defs.specs.declared.versioned_definition.VersionedDefinition.{VersionedDefinition}
-use Rattle.mdl_defs.specs.VersionedDefinitions.{MayStand}
-use Rattle.mdl_calls.specs.declared.answers.Held.{Held}
-use Rattle.mdl_key.specs.declared.known_key.KnownKey.{KnownKey}
-use Rattle.mdl_steps.specs.declared.view.SessionTicket.{SessionTicket}
-use Rattle.mdl_defs.specs.declared.reading.Reading.{Reading}
-use Rattle.mdl_steps.specs.Cells.{own_at, reads_at}
-use Rattle.mdl_steps.specs.Lists.{Each}
-use Rattle.mdl_steps.specs.Plays.{noting_version}
-use Rattle.mdl_steps.specs.VersionPlays.{Follows}
-use Rattle.mdl_steps.proofs.Views.{by_bool}
-use Rattle.mdl_calls.specs.Meetings.{IsLast, Meets, NotesThere}
-use Rattle.mdl_calls.specs.SessionData.{Note, is_newest, last_read, noted_at}
-use Rattle.mdl_visits.specs.Numbers.{numbered}
-use Rattle.mdl_visits.specs.Readings.{SeatReadsThere}
-use Rattle.mdl_key.specs.KeyLookups.{key_known}
-use Rattle.mdl_shared.specs.OwnLists.{as_held}
-use Rattle.mdl_shared.specs.SessionViews.{SessionView, data_of, note_of, tickets_seen}
+use Rattle.std.proofs.Common.{◌≡◌, ℕ, zero, suc, ◌≤◌, true, false, not, ◌==◌, List, [], ◌∷◌, map, Option, Some, None, inl, if◌then◌else◌, refl, sym, ap, subst, ◌∙◌, arith, filter_map, nat_le, eqb-true, le-leb}
+use Rattle.mdl_shared.proofs.Common.{Each, Follows, Held, IsLast, KeyName, KnownKey, MayStand, Meets, Note, NotesThere, Reading, SeatReadsThere, SessionTicket, SessionView, VersionedDefinition, and_from, as_held, by_bool, data_of, get_elem?, is_newest, key_known, last_read, list_all, nat_tests, not_from_false, note_of, noted_at, noting_version, numbered, option_or, or_left, or_right, own_at, reads_at, some, tickets_seen}
 use Rattle.mdl_shared.proofs.SpaceNotes.{and_note, note-here, note-there, noted_under, noting-elsewhere, noting-placed}
 use Rattle.mdl_shared.proofs.TicketOrder.{each-at}
 

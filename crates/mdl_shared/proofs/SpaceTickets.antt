@@ -1,16 +1,6 @@
 -- A session's tickets after a call, in its own list and as they are told.
 use Rattle.std.proofs.Common.{◌≡◌, ℕ, Bool, true, not, ◌||◌, ◌==◌, nat_lt, List, [], ◌∷◌, ◌++◌, map, filter, find, is_some, Option, Some, None, MatchOption, if◌then◌else◌, refl, sym, ap, subst, ◌∙◌, arith}
-use Rattle.std.specs.List.{list_all}
-use Rattle.std.specs.Option.{option_map}
-use Rattle.std.proofs.lemmas.Bool.Decides.{nat_tests}
-use Rattle.mdl_key.specs.declared.mode.Mode.{Mode}
-use Rattle.mdl_calls.specs.declared.answers.Held.{Held}
-use Rattle.mdl_calls.specs.Words.{are_rising, is_number}
-use Rattle.mdl_steps.specs.declared.view.SessionTicket.{SessionTicket}
-use Rattle.mdl_visits.specs.Numbers.{numbered}
-use Rattle.mdl_shared.specs.Members.{without_at}
-use Rattle.mdl_shared.specs.Modes.{in_mode_at}
-use Rattle.mdl_shared.specs.OwnLists.{as_held}
+use Rattle.mdl_shared.proofs.Common.{Held, Mode, SessionTicket, are_rising, as_held, in_mode_at, is_number, list_all, nat_tests, numbered, option_map, without_at}
 use Rattle.mdl_shared.proofs.SpaceLists.{ticket-told}
 
 -- ---- the ticket of a number

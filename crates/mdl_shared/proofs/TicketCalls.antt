@@ -1,47 +1,8 @@
 -- Calls on held tickets: releases, downgrades, upgrades and merges.
-use Rattle.std.proofs.Common.{◌≡◌, ℕ, true, false, not, ◌&&◌, List, [], ◌∷◌, Some, None, map, filter, is_some, if◌then◌else◌, Ok, refl, sym, ap, subst, ◌∙◌}
-use Rattle.std.specs.Option.{option_map}
-use Rattle.std.proofs.lemmas.Bool.{and_from, and_parts, eq-eqb, not-true, not_from_false}
-use Rattle.mdl_key.specs.declared.mode.Mode.{Mode}
-use Rattle.mdl_system.specs.Strength.{covers}
-use Rattle.mdl_calls.specs.declared.answers.Held.{Held}
+use Rattle.std.proofs.Common.{◌≡◌, ℕ, true, false, not, ◌&&◌, List, [], ◌∷◌, Some, None, map, filter, is_some, if◌then◌else◌, Ok, refl, sym, ap, subst, ◌∙◌, eq-eqb}
 use Rattle.mdl_calls.specs.declared.answers.Upgrade.TheVariants as upgrade
-use Rattle.mdl_calls.specs.declared.space_error.SpaceError.{SpaceError}
-use Rattle.mdl_calls.specs.Words.{Done, Refused, Upgraded, Would_wait, Release, Downgrade, Upgrade_now, Merge, MayUpgrade, OfHeld, is_number, is_waiting}
-use Rattle.mdl_calls.specs.SessionLocks.{merging, upgraded}
-use Rattle.mdl_steps.specs.declared.deed.Deed.{Deed}
-use Rattle.mdl_steps.specs.declared.deed.Deed.TheVariants.{Alter, Lose}
-use Rattle.mdl_steps.specs.declared.view.SessionTicket.{SessionTicket}
-use Rattle.mdl_steps.specs.Plays.{Mine}
-use Rattle.mdl_steps.specs.declared.view.StepRecord.{StepRecord}
-use Rattle.mdl_steps.specs.SeatStates.{AtItsTable, SeatState}
-use Rattle.mdl_calls.specs.Meetings.{ReadsNothing}
-use Rattle.mdl_session_laws.specs.SessionJoins.{Joins}
-use Rattle.mdl_visits.specs.Grantings.{VisitsAndReschedules}
-use Rattle.mdl_visits.specs.Leavings.{MeetsOwn}
-use Rattle.mdl_visits.specs.Numbers.{numbered}
-use Rattle.mdl_visits.specs.Visits.{Does, IsStepOf, VisitsOnce}
-use Rattle.mdl_visits.proofs.Doing.{does_reschedule}
-use Rattle.mdl_shared.specs.Doings.{rise_deeds, upgrade_deeds}
-use Rattle.mdl_shared.specs.Members.{IsMember}
-use Rattle.mdl_shared.specs.Modes.{downgrade_fault, merge_fault}
-use Rattle.mdl_shared.specs.OwnLists.{as_held}
-use Rattle.mdl_shared.specs.SessionViews.{SessionView, data_of, session_at, tickets_seen}
-use Rattle.mdl_shared.specs.AllSteps.{Shows}
-use Rattle.mdl_shared.specs.TicketLists.{KeepsRoom, Room}
-use Rattle.mdl_shared.specs.Upgrades.{upgrade_fault}
-use Rattle.mdl_shared.proofs.Debts.{rescheduled-owes}
-use Rattle.mdl_shared.proofs.Faults.{if-clear}
+use Rattle.mdl_shared.proofs.FirstLemmas.{AllNoted, Alter, AtItsTable, Deed, DidDeeds, Does, Done, Downgrade, Held, IsMember, IsStepOf, Joins, KeepsRoom, Lose, MayUpgrade, MeetsOwn, Merge, Mine, Mode, OfHeld, ReadsNothing, Refused, Release, Room, SeatState, SessionTicket, SessionView, Shows, SpaceError, StepRecord, Upgrade_now, Upgraded, VisitsAndReschedules, VisitsOnce, Would_wait, all_of, alters-slow, and_from, and_parts, as_held, covers, data_of, does-nothing, does_reschedule, done-debts, done-next, done-nothing, done-reads, done-rest, done-tickets, downgrade_fault, given-up, holds-told, if-clear, in-mode, in_mode_told, is_here, is_number, is_waiting, joins-held, joins-still, keeps-same, merge_fault, merged-told, merging, not-true, not_from_false, noted-less, noted-moded, noted_under, nothing-read, numbered, numbers-same, of-held, one-note, one-note_done, only-one, option_map, refused, rescheduled, rescheduled-owes, rise_deeds, same-mode, same-rest, same-stays, session_at, speaks, ticket-told, tickets_seen, upgrade_deeds, upgrade_fault, upgraded}
 use Rattle.mdl_shared.proofs.HeldTickets.{HoldsTicket}
-use Rattle.mdl_shared.proofs.MemberFacts.{alters-slow, speaks}
-use Rattle.mdl_shared.proofs.Members.{DidDeeds, done-debts, done-next, done-nothing, done-reads, done-rest, done-tickets, rescheduled}
-use Rattle.mdl_shared.proofs.NotedOnce.{one-note, one-note_done}
-use Rattle.mdl_shared.proofs.Refusals.{does-nothing}
-use Rattle.mdl_shared.proofs.Rooms.{keeps-same}
-use Rattle.mdl_shared.proofs.SameSpace.{joins-held, joins-still, numbers-same, refused, same-rest, same-stays}
-use Rattle.mdl_shared.proofs.SpaceLists.{ticket-told}
-use Rattle.mdl_shared.proofs.SpaceNotes.{AllNoted, noted-less, noted-moded, nothing-read, noted_under}
-use Rattle.mdl_shared.proofs.SpaceTickets.{all_of, given-up, holds-told, in-mode, in_mode_told, is_here, merged-told, of-held, only-one, same-mode}
 use Rattle.mdl_shared.proofs.TicketFaults.{downgrade-cause, downgrade-clear, knows, merge-cause, merge-clear, merge-here, upgrade-cause, upgrade-clear}
 
 -- ---- a call with one deed

@@ -1,29 +1,7 @@
 -- What a session's list of tickets is after an edit, and the places' counts.
-use Rattle.std.proofs.Common.{◌≡◌, ℕ, zero, suc, ◌+◌, ◌-◌, ◌<◌, ◌≤◌, Bool, true, false, cond, List, [], ◌∷◌, ◌++◌, length, get_or, set, map, Option, Some, None, refl, sym, ap, subst, ltb, ◌∙◌, append-nil, arith}
-use Rattle.std.specs.Prelude.{not, ◌==◌, ◌&&◌, count_by, remove, if◌then◌else◌}
-use Rattle.std.specs.List.{filter, list_all}
-use Rattle.std.specs.Option.{option_map_or}
-use Rattle.std.proofs.lemmas.Bool.Decides.{nat_tests}
-use Rattle.std.proofs.lemmas.List.Sums.{sum_by-append, sum_by-remove, sum_by-set}
-use Rattle.std.proofs.lemmas.List.{length-map, length-set, length_push, get_or_append_left, get_or_push, map_push}
+use Rattle.std.proofs.Common.{◌≡◌, ℕ, zero, suc, ◌+◌, ◌-◌, ◌<◌, ◌≤◌, Bool, true, false, cond, List, [], ◌∷◌, ◌++◌, length, get_or, set, map, Option, Some, None, refl, sym, ap, subst, ltb, ◌∙◌, append-nil, arith, not, ◌==◌, ◌&&◌, count_by, remove, if◌then◌else◌, length-set}
 use Rattle.std.proofs.lemmas.List.Edits.{get_or-remove_above, get_or-remove_below, length-remove}
-use Rattle.std.proofs.lemmas.List.Elements.{filter-append}
-use Rattle.mdl_key.specs.declared.mode.Mode.{Mode}
-use Rattle.mdl_steps.specs.declared.view.SessionTicket.{SessionTicket}
-use Rattle.mdl_steps.specs.Deeds.{is_own}
-use Rattle.mdl_steps.specs.Interleavings.{interleaved}
-use Rattle.mdl_steps.specs.Plays.{noting_version}
-use Rattle.mdl_steps.proofs.Views.{by_bool}
-use Rattle.mdl_visits.specs.Numbers.{numbered}
-use Rattle.mdl_shared.specs.Members.{without_at}
-use Rattle.mdl_shared.specs.Modes.{in_mode_at}
-use Rattle.mdl_shared.specs.OwnLists.{as_held}
-use Rattle.mdl_shared.specs.Waitings.{are_below_next}
-use Rattle.mdl_shared.specs.declared.tickets.Gained.{Gained}
-use Rattle.mdl_shared.specs.declared.tickets.OfPlace.{OfPlace}
-use Rattle.mdl_shared.specs.OwnTickets.{HaveRisingNumbers, AreKept, StandsAt, counted_at, fast_counted_at, fast_of, is_at_place, is_fast_there, noted_in, slow_of, with_note}
-use Rattle.mdl_shared.proofs.TicketParts.{counted, later_rise, parted, slowed_there, some_of}
-use Rattle.mdl_shared.proofs.TicketSearch.{each_at, nowhere}
+use Rattle.mdl_shared.proofs.FirstLemmas.{AreKept, Gained, HaveRisingNumbers, Mode, OfPlace, SessionTicket, StandsAt, are_below_next, as_held, by_bool, counted, counted_at, each_at, fast_counted_at, fast_of, filter, filter-append, get_or_append_left, get_or_push, in_mode_at, interleaved, is_at_place, is_fast_there, is_own, later_rise, length-map, length_push, list_all, map_push, nat_tests, noted_in, noting_version, nowhere, numbered, option_map_or, parted, slow_of, slowed_there, some_of, sum_by-append, sum_by-remove, sum_by-set, with_note, without_at}
 
 -- the first number is below one that stands later
 pub lower : (id : ℕ) (x : Gained) (xs : List Gained) (at : ℕ) → HaveRisingNumbers (x ∷ xs) → StandsAt id (suc at) (x ∷ xs) → x.id < id

@@ -1,20 +1,7 @@
 -- The last ticket of a session's own list, where it is a fast one.
-use Rattle.std.proofs.Common.{◌≡◌, ℕ, suc, ◌+◌, ◌-◌, ◌<◌, true, List, [], ◌∷◌, length, get_or, map, Option, Some, None, refl, sym, ap, ◌∙◌, arith}
-use Rattle.std.specs.Prelude.{◌==◌, if◌then◌else◌, nat_lt}
-use Rattle.std.specs.Option.{option_map_or}
-use Rattle.std.proofs.lemmas.Bool.{eqb-true}
-use Rattle.std.proofs.lemmas.Bool.Decides.{nat_tests}
-use Rattle.mdl_steps.specs.declared.view.SessionTicket.{SessionTicket}
-use Rattle.mdl_steps.specs.Interleavings.{interleaved}
-use Rattle.mdl_steps.proofs.Views.{by_bool}
-use Rattle.mdl_visits.specs.Numbers.{numbered}
-use Rattle.mdl_shared.specs.Waitings.{are_below_next}
-use Rattle.mdl_shared.specs.declared.tickets.Gained.{Gained}
-use Rattle.mdl_shared.specs.declared.tickets.OfPlace.{OfPlace}
-use Rattle.mdl_shared.specs.OwnTickets.{HaveRisingNumbers, IsLastGained, fast_of, slow_of, with_note}
+use Rattle.std.proofs.Common.{◌≡◌, ℕ, suc, ◌+◌, ◌-◌, ◌<◌, true, List, [], ◌∷◌, length, get_or, map, Option, Some, None, refl, sym, ap, ◌∙◌, arith, ◌==◌, if◌then◌else◌, nat_lt, eqb-true}
+use Rattle.mdl_shared.proofs.FirstLemmas.{Gained, HaveRisingNumbers, IsLastGained, OfPlace, SessionTicket, are_below_next, by_bool, fast_of, interleaved, nat_tests, no_ticket, numbered, option_map_or, parted, slow_of, some_of, with_note}
 use Rattle.mdl_shared.proofs.TicketEdits.{find_at, under}
-use Rattle.mdl_shared.proofs.TicketParts.{parted, some_of}
-use Rattle.mdl_shared.proofs.TicketSearch.{no_ticket}
 
 -- all numbers are below one, where each is
 all-below : (ps : List OfPlace) (xs : List Gained) (number : ℕ) → ((i : ℕ) (d : Gained) → i < length xs → (get_or xs i d).id < number) → are_below_next number (map (with_note ps) xs) ≡ true

@@ -1,28 +1,7 @@
 -- Why calls on held tickets are refused, in the words of a lock space.
-use Rattle.std.proofs.Common.{rules, ◌≡◌, ◌≢◌, ℕ, Bool, true, false, not, ◌==◌, ◌&&◌, ◌||◌, is_some, Option, Some, None, List, if◌then◌else◌, refl, sym, ap, subst, ◌∙◌}
-use Rattle.std.proofs.lemmas.Bool.{and_from, and_left, and_parts, and_right, eq-eqb, eqb-true, false≢true}
-use Rattle.mdl_key.specs.declared.mode.Mode.{Mode}
-use Rattle.mdl_key.specs.declared.namespace.Kind.{Kind}
-use Rattle.mdl_key.specs.Words.{is_mode_of, is_obtrusive, kind_of}
-use Rattle.mdl_system.specs.Strength.{covers, may_downgrade, may_upgrade}
+use Rattle.std.proofs.Common.{rules, ◌≡◌, ◌≢◌, ℕ, Bool, true, false, not, ◌==◌, ◌&&◌, ◌||◌, is_some, Option, Some, None, List, if◌then◌else◌, refl, sym, ap, subst, ◌∙◌, eq-eqb, eqb-true}
 use Rattle.mdl_system.proofs.StrengthLemmas.{upgrade-raises}
-use Rattle.mdl_calls.specs.declared.space_error.SpaceError.{SpaceError}
-use Rattle.mdl_calls.specs.declared.space_error.SpaceError.TheVariants.{AlreadyWaiting, BadMode, NotHeld, NotUpgradable}
-use Rattle.mdl_calls.specs.Words.{Downgrade, Upgrade_now, Merge, IsCause, Knowledge, MayDowngrade, MayNotDowngrade, MayUpgrade, MayNotUpgrade, Mergeable, OfHeld, SessionLocks, holds, is_waiting, may_merge as may_merge_told}
-use Rattle.mdl_steps.specs.declared.view.Ask.{Ask}
-use Rattle.mdl_key.specs.declared.known_key.KnownKey.{KnownKey}
-use Rattle.mdl_steps.specs.declared.view.SessionTicket.{SessionTicket}
-use Rattle.mdl_calls.specs.SessionData.{Knows}
-use Rattle.mdl_visits.specs.Numbers.{numbered}
-use Rattle.mdl_key.specs.KeyLookups.{kind_known}
-use Rattle.mdl_shared.specs.Modes.{can_merge, downgrade_fault, is_fit, merge_fault}
-use Rattle.mdl_shared.specs.OwnLists.{as_held}
-use Rattle.mdl_shared.specs.SessionViews.{SessionView, data_of, tickets_seen}
-use Rattle.mdl_shared.specs.Upgrades.{can_have, upgrade_fault}
-use Rattle.mdl_shared.proofs.Faults.{test-failed, test-passed}
-use Rattle.mdl_shared.proofs.SameSpace.{no-asks, waits-asks}
-use Rattle.mdl_shared.proofs.SpaceLists.{fit-known, kind-of_key}
-use Rattle.mdl_shared.proofs.SpaceTickets.{holds-told, is_here, of-held}
+use Rattle.mdl_shared.proofs.FirstLemmas.{AlreadyWaiting, Ask, BadMode, Downgrade, IsCause, Kind, Knowledge, KnownKey, Knows, MayDowngrade, MayNotDowngrade, MayNotUpgrade, MayUpgrade, Merge, Mergeable, Mode, NotHeld, NotUpgradable, OfHeld, SessionLocks, SessionTicket, SessionView, SpaceError, Upgrade_now, and_from, and_left, and_parts, and_right, as_held, can_have, can_merge, covers, data_of, downgrade_fault, false≢true, fit-known, holds, holds-told, is_fit, is_here, is_mode_of, is_obtrusive, is_waiting, kind-of_key, kind_known, kind_of, may_downgrade, may_merge_told, may_upgrade, merge_fault, no-asks, numbered, of-held, test-failed, test-passed, tickets_seen, upgrade_fault, waits-asks}
 
 -- ---- tests
 

@@ -1,30 +1,6 @@
 -- What a session has in all, as its slow tickets or its fast ones change.
-use Rattle.std.proofs.Common.{◌≡◌, ℕ, ◌<◌, ◌==◌, true, false, not, nat_lt, Bool, List, [], ◌∷◌, ◌++◌, map, filter, is_some, if◌then◌else◌, Option, Some, None, refl, sym, ap, subst, ◌∙◌, arith}
-use Rattle.std.specs.Option.{option_and_then}
-use Rattle.std.proofs.lemmas.Bool.{and_from, and_parts, eqb-true, false≢true, ltb-true, not-true}
-use Rattle.mdl_key.specs.declared.mode.Mode.{Mode}
-use Rattle.mdl_calls.specs.Words.{are_rising}
-use Rattle.mdl_calls.specs.declared.answers.Held.{Held}
-use Rattle.std.specs.List.{list_all}
-use Rattle.mdl_steps.specs.declared.deed.Deed.{Deed}
-use Rattle.mdl_steps.specs.declared.deed.Deed.TheVariants.{Gain, Alter, Lose}
-use Rattle.mdl_key.specs.declared.known_key.KnownKey.{KnownKey}
-use Rattle.mdl_steps.specs.declared.view.SessionTicket.{SessionTicket}
-use Rattle.mdl_steps.specs.declared.view.View.{View}
-use Rattle.mdl_steps.specs.Cells.{note_at, own_at}
-use Rattle.mdl_steps.specs.Deeds.{all_owned, is_own, owned}
-use Rattle.mdl_steps.specs.FastPlays.{but_at, but_own}
-use Rattle.mdl_steps.specs.Interleavings.{inserted, interleaved}
-use Rattle.mdl_steps.specs.Lists.{Each}
-use Rattle.mdl_steps.specs.Plays.{noting_version}
-use Rattle.mdl_steps.proofs.Interleaving.{AreOthers, IsOther, Rising, each-interleaved, each-uninterleaved, filter-interleaved, find-inserted_other, interleaved-moved, interleaved-push_fast, interleaved-push_slow, map-interleaved, rising-filtered, rising-uninterleaved}
-use Rattle.mdl_steps.proofs.Views.{by_bool}
-use Rattle.mdl_visits.specs.Numbers.{is_no_number, numbered}
-use Rattle.mdl_shared.specs.Members.{are_counted, increment_at, without_at}
-use Rattle.mdl_shared.specs.Modes.{in_mode_at}
-use Rattle.mdl_shared.specs.OwnLists.{as_held}
-use Rattle.mdl_shared.specs.SessionViews.{tickets_seen}
-use Rattle.mdl_shared.specs.Waitings.{are_below_next}
+use Rattle.std.proofs.Common.{◌≡◌, ℕ, ◌<◌, ◌==◌, true, false, not, nat_lt, Bool, List, [], ◌∷◌, ◌++◌, map, filter, is_some, if◌then◌else◌, Option, Some, None, refl, sym, ap, subst, ◌∙◌, arith, eqb-true, ltb-true}
+use Rattle.mdl_shared.proofs.Common.{Alter, AreOthers, Deed, Each, Gain, Held, IsOther, KnownKey, Lose, Mode, Rising, SessionTicket, View, all_owned, and_from, and_parts, are_below_next, are_counted, are_rising, as_held, but_at, but_own, by_bool, each-interleaved, each-uninterleaved, false≢true, filter-interleaved, find-inserted_other, in_mode_at, increment_at, inserted, interleaved, interleaved-moved, interleaved-push_fast, interleaved-push_slow, is_no_number, is_own, list_all, map-interleaved, not-true, note_at, noting_version, numbered, option_and_then, own_at, owned, rising-filtered, rising-uninterleaved, tickets_seen, without_at}
 
 -- ---- tests of numbers, as they are said of lists
 

@@ -1,21 +1,6 @@
 -- The slow tickets and the fast ones of a session's own list. Both together are the list, since its numbers rise.
-use Rattle.std.proofs.Common.{◌≡◌, ℕ, suc, ◌+◌, ◌<◌, Bool, false, cond, List, [], ◌∷◌, ◌++◌, length, get_or, map, Some, None, refl, sym, ap, ◌∙◌, arith}
-use Rattle.std.specs.Prelude.{not, ◌==◌, ◌&&◌, count_by, Option, if◌then◌else◌}
-use Rattle.std.specs.List.{filter}
-use Rattle.std.proofs.lemmas.Bool.{eqb-true}
-use Rattle.std.proofs.lemmas.Bool.Decides.{nat_tests}
-use Rattle.std.proofs.lemmas.List.{length-append, length-map}
-use Rattle.std.proofs.lemmas.List.Sums.{length-filter, sum_by-append}
-use Rattle.mdl_steps.specs.declared.view.SessionTicket.{SessionTicket}
-use Rattle.mdl_steps.specs.Cells.{note_at, own_at}
-use Rattle.mdl_steps.specs.FastPlays.{but_at, first_note}
-use Rattle.mdl_steps.specs.Interleavings.{interleaved}
-use Rattle.mdl_steps.specs.Lists.{Each}
-use Rattle.mdl_steps.proofs.Interleaving.{inserted-first, interleaved-cons}
-use Rattle.mdl_steps.proofs.Views.{by_bool, other}
-use Rattle.mdl_shared.specs.declared.tickets.Gained.{Gained}
-use Rattle.mdl_shared.specs.declared.tickets.OfPlace.{OfPlace}
-use Rattle.mdl_shared.specs.OwnTickets.{HaveRisingNumbers, fast_of, is_at_place, is_fast_there, noted_in, slow_of, with_note}
+use Rattle.std.proofs.Common.{◌≡◌, ℕ, suc, ◌+◌, ◌<◌, Bool, false, cond, List, [], ◌∷◌, ◌++◌, length, get_or, map, Some, None, refl, sym, ap, ◌∙◌, arith, not, ◌==◌, ◌&&◌, count_by, Option, if◌then◌else◌, eqb-true, length-append}
+use Rattle.mdl_shared.proofs.Common.{Each, Gained, HaveRisingNumbers, OfPlace, SessionTicket, but_at, by_bool, fast_of, filter, first_note, inserted-first, interleaved, interleaved-cons, is_at_place, is_fast_there, length-filter, length-map, nat_tests, note_at, noted_in, other, own_at, slow_of, sum_by-append, with_note}
 use Rattle.mdl_shared.proofs.TicketSearch.{no_ticket}
 
 abbrev pub no_place : OfPlace

@@ -1,16 +1,6 @@
 -- A session's tickets, whose numbers rise: where a search by halves ends.
-use Rattle.std.proofs.Common.{◌≡◌, ℕ, suc, ◌<◌, ◌≤◌, Bool, true, false, List, [], ◌∷◌, length, get_or, Result, Ok, Err, refl, sym, ap, subst, ltb, arith, MatchOption}
-use Rattle.std.specs.Prelude.{not, ◌==◌}
-use Rattle.std.specs.List.{list_all}
-use Rattle.std.specs.List.Sorted.{IsSearchInRange, IsBinarySearchResult, IsNonDecreasingBy}
-use Rattle.std.specs.Ordering.{nat_cmp, ordering_index}
-use Rattle.std.specs.Result.{result_ok}
-use Rattle.std.proofs.lemmas.Cmp.{ranked}
-use Rattle.std.proofs.lemmas.Bool.Decides.{nat_tests}
-use Rattle.mdl_key.specs.declared.mode.Mode.TheVariants.{IX}
-use Rattle.mdl_shared.specs.declared.tickets.Gained.{Gained}
-use Rattle.mdl_steps.specs.Deeds.{is_own}
-use Rattle.mdl_shared.specs.OwnTickets.{HaveRisingNumbers, StandsAt, with_note}
+use Rattle.std.proofs.Common.{◌≡◌, ℕ, suc, ◌<◌, ◌≤◌, Bool, true, false, List, [], ◌∷◌, length, get_or, Result, Ok, Err, refl, sym, ap, subst, ltb, arith, MatchOption, not, ◌==◌}
+use Rattle.mdl_shared.proofs.Common.{Gained, HaveRisingNumbers, IX, IsBinarySearchResult, IsNonDecreasingBy, IsSearchInRange, StandsAt, is_own, list_all, nat_cmp, nat_tests, ordering_index, ranked, result_ok, with_note}
 
 abbrev pub no_ticket : Gained
 no_ticket = record { id = 0; place = 0; mode = IX; fast = false }

@@ -1,31 +1,9 @@
 -- Tickets are made slow by their numbers, and listed by their places.
-use Rattle.std.proofs.Common.{◌≡◌, ℕ, zero, suc, ◌+◌, ◌<◌, ◌≤◌, Bool, true, false, List, [], ◌∷◌, ◌++◌, length, get_or, set, take, drop, map, Some, None, refl, sym, ap, subst, ◌∙◌, arith}
-use Rattle.std.specs.Prelude.{not, ◌==◌, ◌&&◌, filter, is_some}
-use Rattle.std.specs.List.{list_all, position, position_or_len}
-use Rattle.std.specs.List.Sorted.{IsNonDecreasingBy, IsSortedByKey, IsStableByKey, ties}
-use Rattle.std.specs.Ordering.{is_lt, nat_cmp}
-use Rattle.std.proofs.lemmas.List.Sorted.{IsNonDecreasingBy-from_sort}
-use Rattle.std.proofs.lemmas.Bool.{eqb-true, and_right}
-use Rattle.std.proofs.lemmas.Bool.Decides.{nat_tests}
-use Rattle.std.proofs.lemmas.Cmp.{is_lt_index}
+use Rattle.std.proofs.Common.{◌≡◌, ℕ, zero, suc, ◌+◌, ◌<◌, ◌≤◌, Bool, true, false, List, [], ◌∷◌, ◌++◌, length, get_or, set, take, drop, map, Some, None, refl, sym, ap, subst, ◌∙◌, arith, not, ◌==◌, ◌&&◌, filter, is_some, eqb-true, get_or-drop, length-drop}
 use Rattle.std.proofs.lemmas.Grind.{take_at_read}
-use Rattle.std.proofs.lemmas.List.{get_or-drop, length-drop, length-map}
-use Rattle.std.proofs.lemmas.List.Quantifiers.{position-Some}
-use Rattle.std.proofs.lemmas.List.Sums.{fails_before_first}
-use Rattle.mdl_key.specs.declared.mode.Mode.TheVariants.{IX}
-use Rattle.mdl_steps.specs.declared.view.SessionTicket.{SessionTicket}
-use Rattle.mdl_steps.specs.Cells.{own_at}
-use Rattle.mdl_steps.specs.FastPlays.{but_at}
-use Rattle.mdl_steps.proofs.Views.{by_bool}
-use Rattle.mdl_steps.proofs.Materialising.{gone_here}
-use Rattle.mdl_visits.specs.Numbers.{numbered}
-use Rattle.mdl_shared.specs.declared.tickets.Gained.{Gained}
-use Rattle.mdl_shared.specs.declared.tickets.OfPlace.{OfPlace}
-use Rattle.mdl_shared.specs.OwnTickets.{HaveRisingNumbers, StandsAt, fast_of, is_fast_there, slowed, slowed_as, with_note}
-use Rattle.mdl_shared.specs.TicketLists.{AreByPlace}
+use Rattle.mdl_shared.proofs.FirstLemmas.{AreByPlace, Gained, HaveRisingNumbers, IX, IsNonDecreasingBy, IsNonDecreasingBy-from_sort, IsSortedByKey, IsStableByKey, OfPlace, SessionTicket, StandsAt, and_right, but_at, by_bool, fails_before_first, fast_of, gone_here, is_fast_there, is_lt, is_lt_index, later_rise, length-map, list_all, nat_cmp, nat_tests, numbered, own_at, position, position-Some, position_or_len, slowed, slowed_as, slowed_there, some_of, there, ties, with_note}
 use Rattle.mdl_shared.proofs.SlowPlaces.{all-left, none-anywhere}
 use Rattle.mdl_shared.proofs.TicketEdits.{alone, find_none, later_stands, lower, rest}
-use Rattle.mdl_shared.proofs.TicketParts.{later_rise, slowed_there, some_of, there}
 
 -- ---- one ticket
 

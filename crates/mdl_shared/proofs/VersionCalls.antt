@@ -1,33 +1,10 @@
 -- A session's step that reads the version of a place without the latch: the session knows no more than before, or it notes the version of what it read.
 use Rattle.std.proofs.Common.{◌≡◌, ℕ, true, [], ◌∷◌, ◌++◌, map, Option, Some, inr, refl, sym, ap, ◌∙◌}
-use Rattle.mdl_defs.specs.declared.definition.Definition.{Definition}
-use Rattle.mdl_defs.specs.declared.versioned_definition.VersionedDefinition.{VersionedDefinition}
-use Rattle.mdl_calls.specs.Words.{Read_definition, Read_kept, Reads}
-use Rattle.mdl_steps.specs.declared.step_kind.StepKind.TheVariants as step
-use Rattle.mdl_steps.specs.declared.view.StepRecord.{StepRecord}
-use Rattle.mdl_steps.specs.declared.view.SessionTicket.{SessionTicket}
-use Rattle.mdl_steps.specs.Layout.{version_word}
-use Rattle.mdl_steps.specs.Plays.{Mine, noting_version}
-use Rattle.mdl_steps.specs.SeatStates.{SeatState}
-use Rattle.mdl_steps.specs.VersionPlays.{LearnsVersion, ReadNoneNewer, ReadOneStanding, learnt_version, met_version, noted_version}
-use Rattle.mdl_key.specs.KeyLookups.{is_known}
-use Rattle.mdl_calls.specs.SessionData.{HasMet, SessionData}
-use Rattle.mdl_session_laws.specs.SessionJoins.{Joins}
-use Rattle.mdl_session_laws.proofs.KeptSound.{learns-sound}
-use Rattle.mdl_session_laws.proofs.KeyLists.{is-known}
 use Rattle.mdl_session_laws.proofs.ReadAfter.{HasLearnt, meets-fits}
-use Rattle.mdl_visits.specs.Numbers.{numbered}
-use Rattle.mdl_visits.specs.Visits.{Does}
-use Rattle.mdl_shared.specs.Members.{IsMember}
-use Rattle.mdl_shared.specs.OwnLists.{as_held}
-use Rattle.mdl_shared.specs.SessionViews.{SessionView, data_of, lists_seen, session_at, tickets_seen}
-use Rattle.mdl_shared.specs.ReadSteps.{FindsVersion, MissesVersion, ReadsVersion}
-use Rattle.mdl_shared.specs.TicketLists.{KeepsRoom, Room}
+use Rattle.mdl_steps.specs.declared.step_kind.StepKind.TheVariants as step
+use Rattle.mdl_shared.proofs.FirstLemmas.{Definition, DidDeeds, Does, FindsVersion, HasMet, IsMember, Joins, KeepsRoom, LearnsVersion, Mine, MissesVersion, ReadNoneNewer, ReadOneStanding, Read_definition, Read_kept, Reads, ReadsVersion, Room, SeatState, SessionData, SessionTicket, SessionView, StepRecord, VersionedDefinition, as_held, data_of, in-order, is-known, is_known, learns-sound, learnt_version, lists_seen, meets-there, met_version, noted-in, noted_under, noted_version, noting-all, noting-elsewhere, noting-told, noting_version, numbered, read-last, session_at, tickets_seen, version_word}
 use Rattle.mdl_shared.proofs.LastReads.{follows-last, is-last, was-read}
-use Rattle.mdl_shared.proofs.Members.{DidDeeds, in-order}
 use Rattle.mdl_shared.proofs.ReadCalls.{HasNoted, NotesAll, last-joins, noted-order, noted-tickets}
-use Rattle.mdl_shared.proofs.SpaceNotes.{noted-in, noted_under, noting-all, noting-elsewhere, noting-told}
-use Rattle.mdl_shared.proofs.SpaceReads.{meets-there, read-last}
 use Rattle.mdl_shared.proofs.WaitSteps.{quietly}
 
 -- the step

@@ -1,33 +1,6 @@
 -- What becomes of a session that does no deed: it only looks, or it reads the word of a wait, or settles the wait.
-use Rattle.std.proofs.Common.{◌≡◌, ◌⊎◌, ℕ, ◌<◌, ◌≤◌, ◌==◌, ◌&&◌, Bool, true, false, is_some, List, [], ◌∷◌, ◌++◌, length, Option, Some, None, IfSome, inl, inr, refl, sym, ap, subst, ◌∙◌, append_assoc, append-nil, length-append, arith}
-use Rattle.std.specs.Prelude.{nat_lt}
-use Rattle.std.proofs.lemmas.Bool.{and_parts, eq-eqb, eqb-true, false≢true, lt-ltb, ltb-true}
-use Rattle.mdl_calls.specs.Words.{Answer, No_cycle, Refused, Search}
-use Rattle.mdl_steps.specs.declared.step_kind.StepKind.{StepKind}
-use Rattle.mdl_steps.specs.declared.view.StepRecord.{StepRecord}
-use Rattle.mdl_steps.specs.declared.view.Settlement.{Settlement}
-use Rattle.mdl_steps.specs.Layout.{wait_word}
-use Rattle.mdl_steps.specs.Plays.{Mine, logged}
-use Rattle.mdl_steps.specs.SeatStates.{SeatState}
-use Rattle.mdl_steps.specs.WaitPlays.{TellsOwn, meeting}
-use Rattle.mdl_steps.specs.WaitSeats.{IsSession}
-use Rattle.mdl_steps.specs.WaitStates.{IsSettled, wait_state}
-use Rattle.mdl_steps.proofs.Views.{by_bool}
-use Rattle.mdl_visits.specs.Grantings.{StaysTold}
-use Rattle.mdl_visits.specs.Polls.{MeetsWord}
-use Rattle.mdl_visits.specs.Searches.{but_searching}
-use Rattle.mdl_visits.specs.Visits.{Does, IsStepOf, StaysOn, StaysThere, gives_back, kind_raises_flags}
-use Rattle.mdl_visits.proofs.Steps.{does_then, each_append}
-use Rattle.mdl_shared.specs.declared.member.Member.{Member}
-use Rattle.mdl_shared.specs.Members.{IsMember}
-use Rattle.mdl_shared.specs.SessionViews.{Lists, SessionView, lists_seen, session_at, tickets_seen}
-use Rattle.mdl_shared.specs.StepSpec.{StepSpec, TakesSteps, gained_by}
-use Rattle.mdl_shared.specs.Steps.{MakesNoStep, StaysFor}
-use Rattle.mdl_shared.specs.TicketLists.{KeepsRoom, Room}
-use Rattle.mdl_shared.proofs.MemberFacts.{speaks}
-use Rattle.mdl_shared.proofs.Members.{DidDeeds, done-debts, done-nothing, done-order, done-then, kept, same-fast}
-use Rattle.mdl_shared.proofs.Rooms.{keeps-before, keeps-equal, keeps-more}
-use Rattle.mdl_shared.proofs.SameSpace.{joins-still}
+use Rattle.std.proofs.Common.{◌≡◌, ◌⊎◌, ℕ, ◌<◌, ◌≤◌, ◌==◌, ◌&&◌, Bool, true, false, is_some, List, [], ◌∷◌, ◌++◌, length, Option, Some, None, IfSome, inl, inr, refl, sym, ap, subst, ◌∙◌, append_assoc, append-nil, length-append, arith, nat_lt, eq-eqb, eqb-true, lt-ltb, ltb-true}
+use Rattle.mdl_shared.proofs.FirstLemmas.{Answer, DidDeeds, Does, IsMember, IsSession, IsSettled, IsStepOf, KeepsRoom, Lists, MakesNoStep, MeetsWord, Member, Mine, No_cycle, Refused, Room, Search, SeatState, SessionView, Settlement, StaysFor, StaysOn, StaysThere, StaysTold, StepKind, StepRecord, StepSpec, TakesSteps, TellsOwn, and_parts, but_searching, by_bool, does_then, done-debts, done-nothing, done-order, done-then, each_append, false≢true, gained_by, gives_back, joins-still, keeps-before, keeps-equal, keeps-more, kept, kind_raises_flags, lists_seen, logged, meeting, same-fast, session_at, speaks, tickets_seen, wait_state, wait_word}
 
 -- visits without a deed, after which the session may have no search left to make
 pub quietly-searched : {seat seat′ : SeatState} {log : List StepRecord} {told : Option ℕ} {settles : List Settlement} (sessions : ℕ) {room room′ : Room} → seat′.table ≡ seat.table

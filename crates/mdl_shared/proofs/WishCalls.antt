@@ -1,31 +1,6 @@
 -- Calls that ask for tickets: wishes, and waits that begin.
-use Rattle.std.proofs.Common.{◌≡◌, ◌⊎◌, inl, inr, ℕ, ◌+◌, ◌-◌, ◌<◌, true, false, Option, Some, None, IfSome, List, [], ◌∷◌, ◌++◌, map, refl, sym, ap, subst, ◌∙◌, arith}
-use Rattle.std.proofs.lemmas.Bool.{eq-eqb}
-use Rattle.mdl_key.specs.declared.mode.Mode.{Mode}
-use Rattle.mdl_calls.specs.declared.answers.Settled.{Settled}
-use Rattle.mdl_calls.specs.declared.space_error.SpaceError.{SpaceError}
-use Rattle.mdl_calls.specs.declared.space_error.SpaceError.TheVariants.{Full, OutOfMemory}
-use Rattle.mdl_calls.specs.SessionLocks.{DrawsTicket, gaining, ticket_drawn, wait_drawn}
-use Rattle.mdl_calls.specs.Words.{Granted, Refused, Waits, Would_wait, Call, Begin_wait, Try_now, Draws, IsCause, IsExplained, IsFit, caller, is_answer_of, is_waiting, own_after, told}
-use Rattle.mdl_steps.specs.declared.deed.Deed.TheVariants.{Gain}
-use Rattle.mdl_steps.specs.declared.view.StepRecord.{StepRecord}
-use Rattle.mdl_steps.specs.Cells.{note_at}
-use Rattle.mdl_steps.specs.SeatStates.{AtItsTable, SeatState}
-use Rattle.mdl_steps.specs.WaitPlays.{asking}
-use Rattle.mdl_calls.specs.Meetings.{ReadsNothing}
-use Rattle.mdl_calls.specs.SessionData.{SpeaksFor, Knows}
-use Rattle.mdl_session_laws.specs.SessionJoins.{Joins, LearnsKeys, LetsRead, TellsTruly, ends_wait, gained_at, session_has_call, wait_met}
-use Rattle.mdl_session_laws.proofs.RefusedCalls.{reads-nothing}
-use Rattle.mdl_visits.specs.WaitOpenings.{Opens, view_awaiting}
-use Rattle.mdl_key.specs.KeyLookups.{is_known, kind_known}
-use Rattle.mdl_shared.specs.Members.{IsMember, wish_fault}
-use Rattle.mdl_shared.specs.OwnLists.{as_held}
-use Rattle.mdl_shared.specs.SessionViews.{SessionView, data_of, session_at, settled_told, tickets_seen}
-use Rattle.mdl_shared.specs.TicketLists.{Room}
-use Rattle.mdl_shared.proofs.MemberFacts.{next-some, nothing-told, speaks}
-use Rattle.mdl_shared.proofs.Members.{DidDeeds, StaysInOrder, done-next, done-rest, done-tickets}
-use Rattle.mdl_shared.proofs.SameSpace.{Stays, joins-held, joins-still, no-asks, numbers_by, own_by, refused, same-stays, waits-asks}
-use Rattle.mdl_shared.proofs.SpaceTickets.{told-last}
+use Rattle.std.proofs.Common.{◌≡◌, ◌⊎◌, inl, inr, ℕ, ◌+◌, ◌-◌, ◌<◌, true, false, Option, Some, None, IfSome, List, [], ◌∷◌, ◌++◌, map, refl, sym, ap, subst, ◌∙◌, arith, eq-eqb}
+use Rattle.mdl_shared.proofs.FirstLemmas.{AtItsTable, Begin_wait, Call, DidDeeds, Draws, DrawsTicket, Full, Gain, Granted, IsCause, IsExplained, IsFit, IsMember, Joins, Knows, LearnsKeys, LetsRead, Mode, Opens, OutOfMemory, ReadsNothing, Refused, Room, SeatState, SessionView, Settled, SpaceError, SpeaksFor, Stays, StaysInOrder, StepRecord, TellsTruly, Try_now, Waits, Would_wait, as_held, asking, caller, data_of, done-next, done-rest, done-tickets, ends_wait, gained_at, gaining, is_answer_of, is_known, is_waiting, joins-held, joins-still, kind_known, next-some, no-asks, note_at, nothing-told, numbers_by, own_after, own_by, reads-nothing, refused, same-stays, session_at, session_has_call, settled_told, speaks, ticket_drawn, tickets_seen, told, told-last, view_awaiting, wait_drawn, wait_met, waits-asks, wish_fault}
 use Rattle.mdl_shared.proofs.TicketCalls.{deed-reads}
 use Rattle.mdl_shared.proofs.WishFaults.{wish-cause, wish-clear}
 

@@ -1,28 +1,7 @@
 -- Why wishes for locks and clones are refused, in the words of a lock space.
-use Rattle.std.proofs.Common.{◌≡◌, ℕ, Bool, true, false, not, ◌&&◌, is_some, List, Option, Some, None, if◌then◌else◌, refl, sym, ap, subst, ◌∙◌}
-use Rattle.std.specs.Prelude.{◌<◌, nat_le}
-use Rattle.std.proofs.lemmas.Bool.{and_parts, leb-false}
-use Rattle.mdl_key.specs.declared.mode.Mode.{Mode}
-use Rattle.mdl_key.specs.declared.namespace.Kind.{Kind}
-use Rattle.mdl_key.specs.Words.{is_mode_of}
-use Rattle.mdl_system.specs.Strength.{covers}
-use Rattle.mdl_calls.specs.declared.space_error.SpaceError.{SpaceError}
-use Rattle.mdl_calls.specs.declared.space_error.SpaceError.TheVariants.{AlreadyWaiting, BadMode, CounterFull, NoPlace, NotHeld}
-use Rattle.mdl_calls.specs.Words.{IsFit, IsUnfit, IsUnknown, Knowledge, MayClone, MayNotClone, OfHeld, SessionLocks, holds, is_waiting}
-use Rattle.mdl_steps.specs.declared.view.Ask.{Ask}
-use Rattle.mdl_key.specs.declared.known_key.KnownKey.{KnownKey}
-use Rattle.mdl_steps.specs.declared.view.SessionTicket.{SessionTicket}
-use Rattle.mdl_calls.specs.SessionData.{Knows}
-use Rattle.mdl_visits.specs.Numbers.{numbered}
-use Rattle.mdl_key.specs.KeyLookups.{is_known, kind_known}
-use Rattle.mdl_shared.specs.Members.{most_numbers, wish_fault}
-use Rattle.mdl_shared.specs.Modes.{clone_fault, is_fit}
-use Rattle.mdl_shared.specs.SessionViews.{SessionView, data_of, tickets_seen}
-use Rattle.mdl_shared.proofs.SameSpace.{no-asks, waits-asks}
-use Rattle.mdl_shared.proofs.SpaceLists.{fit-known, no-kind, of-kind}
-use Rattle.mdl_shared.proofs.SpaceTickets.{holds-told, of-held}
+use Rattle.std.proofs.Common.{◌≡◌, ℕ, Bool, true, false, not, ◌&&◌, is_some, List, Option, Some, None, if◌then◌else◌, refl, sym, ap, subst, ◌∙◌, ◌<◌, nat_le, leb-false}
+use Rattle.mdl_shared.proofs.FirstLemmas.{AlreadyWaiting, Ask, BadMode, CounterFull, IsFit, IsUnfit, IsUnknown, Kind, Knowledge, KnownKey, Knows, MayClone, MayNotClone, Mode, NoPlace, NotHeld, OfHeld, SessionLocks, SessionTicket, SessionView, SpaceError, and_parts, clone_fault, covers, data_of, fit-known, holds, holds-told, is_fit, is_known, is_mode_of, is_waiting, kind_known, kind_place, most_numbers, no-asks, no-kind, numbered, of-held, of-kind, tickets_seen, waits-asks, wish_fault}
 use Rattle.mdl_shared.proofs.TicketFaults.{other-false}
-use Rattle.mdl_shared.proofs.Membership.{kind_place}
 
 -- tests that come one after another
 chain-clear : (waits fits full : Bool) (one two three : SpaceError)

@@ -1,11 +1,6 @@
 -- What a call shows, put together.
 use Rattle.std.proofs.Common.{◌≡◌, None}
-use Rattle.mdl_calls.specs.Words.{Answer}
-use Rattle.mdl_visits.specs.Visits.{Does}
-use Rattle.mdl_shared.specs.Debts.{OwesNoMore}
-use Rattle.mdl_shared.specs.SessionViews.{SessionView, lists_seen, tickets_seen}
-use Rattle.mdl_shared.specs.StepSpec.{StepSpec, TakesSteps, gained_by}
-use Rattle.mdl_shared.specs.TicketLists.{KeepsRoom}
+use Rattle.mdl_shared.proofs.Common.{Answer, Does, KeepsRoom, OwesNoMore, SessionView, StepSpec, TakesSteps, gained_by, lists_seen, tickets_seen}
 use Rattle.mdl_shared.proofs.Faults.{if-clear}
 
 -- by a call that has no fault of the session's own

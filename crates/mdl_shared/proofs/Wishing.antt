@@ -1,31 +1,6 @@
 -- What a session that may wish for a mode at a place gives the visit, by its own lists.
 use Rattle.std.proofs.Common.{Bool, List, None, Option, Some, [], ap, false, subst, sym, true, ℕ, ◌+◌, ◌<◌, ◌∙◌, ◌∷◌, ◌≡◌}
-use Rattle.mdl_key.specs.declared.mode.Mode.{Mode}
-use Rattle.mdl_key.specs.declared.namespace.Kind.{Kind}
-use Rattle.mdl_key.specs.Words.{is_obtrusive}
-use Rattle.std.specs.Option.{option_map_or}
-use Rattle.mdl_calls.specs.Words.{Try_now}
-use Rattle.mdl_steps.specs.declared.deed.Deed.TheVariants.{Gain}
-use Rattle.mdl_steps.specs.declared.view.Ask.{Ask}
-use Rattle.mdl_steps.specs.declared.view.SessionTicket.{SessionTicket}
-use Rattle.mdl_steps.specs.Cells.{own_at}
-use Rattle.mdl_steps.specs.Interleavings.{interleaved}
-use Rattle.mdl_steps.specs.Plays.{Mine}
-use Rattle.mdl_steps.specs.SeatStates.{AtItsTable, SeatState}
-use Rattle.mdl_visits.specs.Visits.{IsVisit, MayVisit, RequestsMode, Visits}
-use Rattle.mdl_visits.specs.WaitOpenings.{view_awaiting}
-use Rattle.mdl_shared.specs.declared.member.Member.{Member}
-use Rattle.mdl_key.specs.KeyLookups.{kind_known}
-use Rattle.mdl_shared.specs.Members.{most_numbers, obtrudes_at, wish_fault}
-use Rattle.mdl_shared.specs.Passes.{view_of}
-use Rattle.mdl_shared.specs.SessionViews.{Lists, SessionView, all_tickets, lists_seen, session_at}
-use Rattle.mdl_shared.specs.TicketLists.{Room}
-use Rattle.mdl_shared.specs.Waitings.{are_below_next}
-use Rattle.mdl_shared.proofs.MemberFacts.{below, gains-slow, may-visit, none-there}
-use Rattle.mdl_shared.proofs.Membership.{kind_place, kind_there}
-use Rattle.mdl_shared.proofs.Members.{DidDeeds, fault-seen, visited}
-use Rattle.mdl_shared.proofs.Props.{member}
-use Rattle.mdl_shared.proofs.SameSpace.{no-asks, waits-asks}
+use Rattle.mdl_shared.proofs.FirstLemmas.{Ask, AtItsTable, DidDeeds, Gain, IsVisit, Kind, Lists, MayVisit, Member, Mine, Mode, RequestsMode, Room, SeatState, SessionTicket, SessionView, Try_now, Visits, all_tickets, are_below_next, below, fault-seen, gains-slow, interleaved, is_obtrusive, kind_known, kind_place, kind_there, lists_seen, may-visit, member, most_numbers, no-asks, none-there, obtrudes_at, option_map_or, own_at, session_at, view_awaiting, view_of, visited, waits-asks, wish_fault}
 use Rattle.mdl_shared.proofs.WishFaults.{wish-clear, wish-mode}
 
 -- a session may wish for a mode at a place of a kind: it has no fault of its own, and the visit may be made

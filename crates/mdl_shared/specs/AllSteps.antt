@@ -1,7 +1,5 @@
 -- The calls of a lock space, each with the specification of its steps: a session's calls promise it, also to callers that use the trait of lock spaces.
-use Rattle.mdl_calls.specs.Words.{Answer, Call, Resolve, Try_now, Begin_wait, Search, Poll_wait, Settle_timeout, End_wait, Wait_of, Kill, Release, Clone_ticket, Upgrade_now, Merge, Downgrade, Read_definition, Read_kept, Change_definition, Tables_of, Key_of, List_held, Unpin}
-use Rattle.mdl_shared.specs.SessionViews.{SessionView}
-use Rattle.mdl_shared.specs.StepSpec.{StepSpec, TakesSteps, no_steps}
+use Rattle.mdl_shared.specs.FirstWords.{Answer, Begin_wait, Call, Change_definition, Clone_ticket, Downgrade, End_wait, Key_of, Kill, List_held, Merge, Poll_wait, Read_definition, Read_kept, Release, Resolve, Search, SessionView, Settle_timeout, StepSpec, Tables_of, TakesSteps, Try_now, Unpin, Upgrade_now, Wait_of, no_steps}
 use Rattle.mdl_shared.specs.calls.BeginWait.{begin_wait}
 use Rattle.mdl_shared.specs.calls.ChangeDefinition.{change_definition}
 use Rattle.mdl_shared.specs.calls.CloneTicket.{clone_ticket}

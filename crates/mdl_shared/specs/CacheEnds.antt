@@ -1,18 +1,9 @@
 -- What is in a session's cache after it lent a definition.
 use Rattle.std.specs.Prelude.{◌≡◌, ℕ, Result, Ok, Err, Some, ⊤}
-use Rattle.std.specs.Borrow.{Fml, MutBor, follows_so}
-use mathlib.Core.Option.{none}
-use Rattle.mdl_calls.specs.declared.space_error.SpaceError.{SpaceError}
-use Rattle.mdl_calls.specs.Words.{AreMet}
-use Rattle.mdl_defs.specs.Caches.{CacheView, kept_of, looked_at}
 use Rattle.mdl_defs.specs.contracts.def_cache.DefCache.{the_row}
-use Rattle.mdl_calls.specs.SessionData.{HasMet}
-use Rattle.mdl_shared.specs.declared.cached.Cached.{Cached}
-use Rattle.mdl_shared.specs.declared.cached.Cached.TheVariants.{Hit, Stale}
+use Rattle.std.specs.Borrow.{Fml, MutBor, follows_so}
+use Rattle.mdl_shared.specs.FirstWords.{AreMet, CacheView, Cached, FindsVersion, HasMet, Hit, OfTicket, SessionView, SpaceError, Stale, data_of, kept_of, lists_seen, looked_at, none}
 use Rattle.mdl_shared.specs.KeptReads.{kept_standing}
-use Rattle.mdl_shared.specs.SessionViews.{SessionView, data_of, lists_seen}
-use Rattle.mdl_shared.specs.ReadSteps.{FindsVersion}
-use Rattle.mdl_shared.specs.Steps.{OfTicket}
 
 -- what a lookup by the ticket with this number leaves in the session's cache: a definition that is found comes first, and the rest stays in order. If none
 -- is found, the cache is unchanged

@@ -1,14 +1,10 @@
 -- What comes of closing a session.
 use Rattle.std.specs.Prelude.{◌≡◌, ◌⊎◌, ℕ, ◌<◌, ◌==◌, true, false, List, [], None, length}
-use Rattle.std.specs.List.{list_any}
-use Rattle.mdl_calls.specs.Words.{is_waiting}
-use Rattle.mdl_key.specs.KeyLookups.{is_known}
-use Rattle.mdl_shared.specs.declared.close.CloseError.{CloseError}
-use Rattle.mdl_shared.specs.declared.close.CloseError.TheVariants.{HoldsTickets, Owes}
-use Rattle.mdl_shared.specs.declared.pass.Pass.{Pass}
-use Rattle.mdl_shared.specs.Debts.{IsOwed}
+use Rattle.mdl_shared.specs.FirstWords.{IsOwed, SessionView, data_of, is_known, is_waiting, list_any}
 use Rattle.mdl_shared.specs.Passes.{pass_view}
-use Rattle.mdl_shared.specs.SessionViews.{SessionView, data_of}
+use Rattle.mdl_shared.specs.declared.close.CloseError.TheVariants.{HoldsTickets, Owes}
+use Rattle.mdl_shared.specs.declared.close.CloseError.{CloseError}
+use Rattle.mdl_shared.specs.declared.pass.Pass.{Pass}
 
 -- the session has no ticket and no wait
 abbrev pub HasNoLocks : SessionView → Type 0

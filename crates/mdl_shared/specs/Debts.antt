@@ -1,8 +1,6 @@
 -- What a session owes: the places that it has to reschedule, after fast releases that found that tickets may wait there.
 use Rattle.std.specs.Prelude.{◌≡◌, ℕ, ◌==◌, Bool, true, false, List, slice_index_or}
-use Rattle.std.specs.List.{list_any}
-use Rattle.mdl_steps.specs.Plays.{Mine}
-use Rattle.mdl_visits.specs.Grantings.{all_but}
+use Rattle.mdl_shared.specs.Prelude.{Mine, all_but, list_any}
 use Rattle.mdl_shared.specs.SessionViews.{SessionView}
 
 -- a place is owed a reschedule, by the list of places that are owed one

@@ -1,16 +1,6 @@
 -- A session after deeds at a place, whether they were done to slow tickets or to fast ones, and whichever of its tickets became slow meanwhile.
 use Rattle.std.specs.Prelude.{◌≡◌, ℕ, Bool, true, List, [], Option, Some, None}
-use Rattle.mdl_steps.specs.declared.deed.Deed.{Deed}
-use Rattle.mdl_steps.specs.declared.view.Ask.{Ask}
-use Rattle.mdl_steps.specs.declared.view.StepRecord.{StepRecord}
-use Rattle.mdl_key.specs.declared.known_key.KnownKey.{KnownKey}
-use Rattle.mdl_steps.specs.declared.view.SessionTicket.{SessionTicket}
-use Rattle.mdl_steps.specs.declared.view.Settlement.{Settlement}
-use Rattle.mdl_steps.specs.Deeds.{all_next, all_owned}
-use Rattle.mdl_steps.specs.Interleavings.{interleaved}
-use Rattle.mdl_visits.specs.Grantings.{StaysTold}
-use Rattle.mdl_visits.specs.Polls.{SettlesNothing}
-use Rattle.mdl_visits.specs.Visits.{Does}
+use Rattle.mdl_shared.specs.Prelude.{Ask, Deed, Does, KnownKey, SessionTicket, Settlement, SettlesNothing, StaysTold, StepRecord, all_next, all_owned, interleaved}
 use Rattle.mdl_shared.specs.Debts.{IsOwed}
 use Rattle.mdl_shared.specs.Members.{are_counted}
 use Rattle.mdl_shared.specs.SessionViews.{SessionView, tickets_seen}

@@ -1,14 +1,8 @@
 -- What a call does to the session's own tickets, by its answer. The steps of the call do just these deeds (`Does`), so nothing else is done, and nothing
 -- is done and undone on the way.
 use Rattle.std.specs.Prelude.{ℕ, List, [], ◌∷◌, Option, Some, Result, Ok, if◌then◌else◌}
-use Rattle.mdl_key.specs.declared.mode.Mode.{Mode}
-use Rattle.mdl_system.specs.Strength.{covers}
-use Rattle.mdl_calls.specs.declared.answers.Upgrade.{Upgrade}
 use Rattle.mdl_calls.specs.declared.answers.Upgrade.TheVariants.{Upgraded, WouldWait}
-use Rattle.mdl_calls.specs.declared.space_error.SpaceError.{SpaceError}
-use Rattle.mdl_steps.specs.declared.deed.Deed.{Deed}
-use Rattle.mdl_steps.specs.declared.deed.Deed.TheVariants.{Alter, Lose}
-use Rattle.mdl_steps.specs.declared.view.SessionTicket.{SessionTicket}
+use Rattle.mdl_shared.specs.Prelude.{Alter, Deed, Lose, Mode, SessionTicket, SpaceError, Upgrade, covers}
 
 -- the deeds of an upgrade that was tried: the ticket with this number gets the mode if it was granted
 abbrev pub rise_deeds : ℕ → Mode → Upgrade → List Deed

@@ -1,9 +1,7 @@
 -- How a session's lost wait ends.
-use Rattle.std.specs.Prelude.{Option, Some, None}
-use Rattle.mdl_calls.specs.declared.answers.Ended.{Ended}
 use Rattle.mdl_calls.specs.declared.answers.Ended.TheVariants as ended
-use Rattle.mdl_calls.specs.declared.answers.Settled.{Settled}
 use Rattle.mdl_calls.specs.declared.answers.Settled.TheVariants as settled
+use Rattle.mdl_shared.specs.Prelude.{Ended, None, Option, Settled, Some}
 
 -- how a lost wait ends, by how it was settled
 abbrev pub lost_end : Settled → Option Ended

@@ -1,25 +1,8 @@
 -- The results of the session's calls that try for a fast ticket and release one. They aren't calls of a lock space.
 use Rattle.std.specs.Prelude.{◌≡◌, ◌⊎◌, ℕ, ◌<◌, ◌≤◌, Bool, true, not, nat_le, [], ◌∷◌, length, Option, Some, None, is_some, if◌then◌else◌}
-use Rattle.mdl_calls.specs.declared.space_error.SpaceError.{SpaceError}
-use Rattle.mdl_calls.specs.declared.space_error.SpaceError.TheVariants.{AlreadyWaiting, BadMode, CounterFull, NoPlace, OutOfMemory}
-use Rattle.mdl_calls.specs.Words.{Done, Release, Try_now}
 use Rattle.mdl_calls.specs.Words as calls
-use Rattle.mdl_key.specs.declared.mode.Mode.{Mode}
-use Rattle.mdl_steps.specs.declared.deed.Deed.TheVariants.{Gain, Lose}
-use Rattle.mdl_steps.specs.declared.view.SessionTicket.{SessionTicket}
-use Rattle.mdl_steps.specs.Cells.{own_at}
-use Rattle.mdl_steps.specs.Limits.{most_fast}
-use Rattle.mdl_session_laws.specs.SessionJoins.{Joins}
-use Rattle.mdl_visits.specs.FastTries.{FindsObtrusive, GrantsAtLast, Misses, ReleasesFast}
-use Rattle.mdl_visits.specs.Numbers.{numbered}
-use Rattle.mdl_shared.specs.declared.try_fast.Fast.{Fast}
+use Rattle.mdl_shared.specs.FirstWords.{AlreadyWaiting, BadMode, CounterFull, DoesQuietly, Done, Fast, FindsObtrusive, Gain, GrantsAtLast, HasRoom, Joins, KeepsLists, KeepsRoom, Lists, Lose, Misses, Mode, NoPlace, OutOfMemory, Release, ReleasesFast, SessionTicket, SessionView, SpaceError, StaysSame, Try_now, but_owing, data_of, increment_at, kind_known, lists_seen, most_fast, most_numbers, numbered, own_at}
 use Rattle.mdl_shared.specs.declared.try_fast.Fast.TheVariants.{Granted, Obtruded, Contended, Limit}
-use Rattle.mdl_shared.specs.Debts.{but_owing}
-use Rattle.mdl_shared.specs.DeedsDone.{DoesQuietly}
-use Rattle.mdl_key.specs.KeyLookups.{kind_known}
-use Rattle.mdl_shared.specs.Members.{increment_at, most_numbers}
-use Rattle.mdl_shared.specs.SessionViews.{KeepsLists, Lists, SessionView, StaysSame, data_of, lists_seen}
-use Rattle.mdl_shared.specs.TicketLists.{HasRoom, KeepsRoom}
 
 -- why a fast ticket isn't even tried for, the least cause first: the session knows no key of the place, it waits, the word of the place doesn't count the
 -- mode, or it has no number left

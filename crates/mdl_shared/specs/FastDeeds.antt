@@ -1,13 +1,6 @@
 -- What a session does with its fast tickets: it tries for one, releases one, and makes them slow.
 use Rattle.std.specs.Prelude.{◌≡◌, ◌⊎◌, ℕ, ◌<◌, ◌≤◌, [], length}
-use Rattle.mdl_steps.specs.Cells.{own_at}
-use Rattle.mdl_steps.specs.Limits.{most_fast}
-use Rattle.mdl_visits.specs.FastTries.{FindsObtrusive, Misses}
-use Rattle.mdl_shared.specs.declared.fast_path.NotFast.{NotFast}
-use Rattle.mdl_shared.specs.declared.fast_path.NotFast.TheVariants.{Obtruded, Contended, Limit}
-use Rattle.mdl_shared.specs.SessionViews.{SessionView}
-use Rattle.mdl_shared.specs.Steps.{ShowsStep}
-use Rattle.mdl_shared.specs.WishSteps.{MakesSlow}
+use Rattle.mdl_shared.specs.FirstWords.{Contended, FindsObtrusive, Limit, MakesSlow, Misses, NotFast, Obtruded, SessionView, ShowsStep, most_fast, own_at}
 
 -- why the session got no fast ticket at a place: the flag OBTRUSIVE was found up, or eight fast grants missed, or it has as many there as a session may
 -- have, and made no step

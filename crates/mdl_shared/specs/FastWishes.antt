@@ -1,20 +1,8 @@
 -- A session after its request for a ticket (a wish) was tried on the fast path first, and then under the latch of the place.
 use Rattle.std.specs.Prelude.{◌≡◌, ℕ, ◌+◌, [], ◌∷◌}
-use Rattle.mdl_key.specs.declared.mode.Mode.{Mode}
-use Rattle.mdl_calls.specs.declared.answers.Attempt.{Attempt}
 use Rattle.mdl_calls.specs.declared.answers.Attempt.TheVariants as attempt
-use Rattle.mdl_calls.specs.declared.answers.Begun.{Begun}
 use Rattle.mdl_calls.specs.declared.answers.Begun.TheVariants as begun
-use Rattle.mdl_steps.specs.declared.deed.Deed.TheVariants.{Gain}
-use Rattle.mdl_steps.specs.declared.view.StepRecord.{StepRecord}
-use Rattle.mdl_visits.specs.FastTries.{GrantsAtLast}
-use Rattle.mdl_visits.specs.Visits.{AreStepsOf, MeetsBlocked, MeetsGrantable}
-use Rattle.mdl_visits.specs.WaitOpenings.{MeetsOpening, Opens}
-use Rattle.mdl_shared.specs.DeedsDone.{DoesQuietly}
-use Rattle.mdl_shared.specs.SessionViews.{SessionView}
-use Rattle.mdl_shared.specs.Steps.{ShowsStep}
-use Rattle.mdl_shared.specs.WishSteps.{AllMadeSlow}
-use Rattle.mdl_shared.specs.TicketLists.{KeepsRoom}
+use Rattle.mdl_shared.specs.FirstWords.{AllMadeSlow, AreStepsOf, Attempt, Begun, DoesQuietly, Gain, GrantsAtLast, KeepsRoom, MeetsBlocked, MeetsGrantable, MeetsOpening, Mode, Opens, SessionView, ShowsStep, StepRecord}
 
 -- ---- on the fast path
 

@@ -1,16 +1,7 @@
 -- The results of the session's calls that read the version of a place without its latch. A definition that a cache keeps of that version is read without
 -- the latch, too.
 use Rattle.std.specs.Prelude.{◌≡◌, ◌⊎◌, ℕ, List, Some, None, MatchOption}
-use Rattle.mdl_defs.specs.declared.definition.Definition.{Definition}
-use Rattle.mdl_defs.specs.declared.versioned_definition.VersionedDefinition.{VersionedDefinition}
-use Rattle.mdl_defs.specs.Caches.{CacheView, Kept, kept_first, kept_of, looked_at}
-use Rattle.mdl_calls.specs.Words.{Answer, Read_kept, Reads, Refused}
-use Rattle.mdl_session_laws.specs.SessionJoins.{Joins}
-use Rattle.mdl_shared.specs.declared.cached.Cached.{Cached}
-use Rattle.mdl_shared.specs.declared.cached.Cached.TheVariants.{Hit, Stale}
-use Rattle.mdl_shared.specs.SessionViews.{SessionView, data_of, lists_seen}
-use Rattle.mdl_shared.specs.ReadSteps.{FindsVersion, MissesVersion, ReadsByLatch}
-use Rattle.mdl_shared.specs.Steps.{OfTicket}
+use Rattle.mdl_shared.specs.FirstWords.{Answer, CacheView, Cached, Definition, FindsVersion, Hit, Joins, Kept, MissesVersion, OfTicket, Read_kept, Reads, ReadsByLatch, Refused, SessionView, Stale, VersionedDefinition, data_of, kept_first, kept_of, lists_seen, looked_at}
 
 -- a version with the definition that a cache keeps of it
 abbrev pub kept_standing : ℕ → Definition → VersionedDefinition

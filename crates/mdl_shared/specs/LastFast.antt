@@ -1,8 +1,6 @@
 -- The last ticket of a session, where it is a fast one.
 use Rattle.std.specs.Prelude.{◌≡◌, ◌+◌, true, Some}
-use Rattle.mdl_steps.specs.declared.view.SessionTicket.{SessionTicket}
-use Rattle.mdl_steps.specs.Interleavings.{interleaved}
-use Rattle.mdl_visits.specs.Numbers.{numbered}
+use Rattle.mdl_shared.specs.Prelude.{SessionTicket, interleaved, numbered}
 use Rattle.mdl_shared.specs.TicketLists.{TicketList}
 use Rattle.mdl_shared.specs.Waitings.{are_below_next}
 

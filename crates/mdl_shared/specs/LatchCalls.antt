@@ -1,26 +1,8 @@
 -- What a session's own lists say before a call goes on under the latch of a place, and what came of it. Its fast tickets are slow by then.
 use Rattle.std.specs.Prelude.{◌≡◌, ◌⊎◌, ℕ, ◌<◌, [], ◌∷◌, Some, None}
-use Rattle.mdl_key.specs.declared.mode.Mode.{Mode}
-use Rattle.mdl_key.specs.declared.namespace.Kind.{Kind}
-use Rattle.mdl_calls.specs.declared.space_error.SpaceError.{SpaceError}
-use Rattle.mdl_calls.specs.declared.space_error.SpaceError.TheVariants.{Full, OutOfMemory}
-use Rattle.mdl_steps.specs.declared.deed.Deed.TheVariants.{Alter, Gain, Lose}
-use Rattle.mdl_steps.specs.declared.view.SessionTicket.{SessionTicket}
-use Rattle.mdl_visits.specs.Leavings.{MergesOwn}
-use Rattle.mdl_visits.specs.Numbers.{numbered}
-use Rattle.mdl_visits.specs.Visits.{MeetsBlocked, MeetsGrantable, VisitsOnce}
-use Rattle.mdl_shared.specs.declared.member.Member.{Member}
-use Rattle.mdl_shared.specs.DeedsDone.{DoesQuietly}
+use Rattle.mdl_shared.specs.FirstWords.{Alter, DoesQuietly, Full, FullForFast, Gain, HasRoom, IsClosed, KeepsRoom, Kind, LacksMemory, Lose, MeetsBlocked, MeetsGrantable, MeetsTicket, Member, MergesOwn, Mode, OutOfMemory, SessionTicket, SessionView, ShowsStep, SlowsAll, SpaceError, StopsSlowing, VisitsOnce, clone_fault, increment_at, kind_known, merge_fault, most_numbers, numbered, upgrade_fault, wish_fault}
 use Rattle.mdl_shared.specs.FastWishes.{BecomesSlow}
-use Rattle.mdl_key.specs.KeyLookups.{kind_known}
-use Rattle.mdl_shared.specs.Members.{increment_at, most_numbers, wish_fault}
-use Rattle.mdl_shared.specs.Modes.{clone_fault, merge_fault}
 use Rattle.mdl_shared.specs.Passes.{view_of}
-use Rattle.mdl_shared.specs.SessionViews.{SessionView}
-use Rattle.mdl_shared.specs.Steps.{MeetsTicket, ShowsStep}
-use Rattle.mdl_shared.specs.TicketLists.{HasRoom, KeepsRoom}
-use Rattle.mdl_shared.specs.Upgrades.{upgrade_fault}
-use Rattle.mdl_shared.specs.WishSteps.{FullForFast, IsClosed, LacksMemory, SlowsAll, StopsSlowing}
 
 -- ---- before the fast path is tried
 

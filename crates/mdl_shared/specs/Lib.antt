@@ -17,6 +17,8 @@ pub use Rattle.mdl_visits.specs.Tables
 pub use Rattle.mdl_visits.specs.Visits
 pub use Rattle.mdl_visits.specs.WaitEndings
 pub use Rattle.mdl_visits.specs.WaitOpenings
+pub mod Prelude
+pub mod FirstWords
 pub mod AllSteps
 pub mod CacheEnds
 pub mod Closings

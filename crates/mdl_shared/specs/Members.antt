@@ -1,23 +1,6 @@
 -- What a session keeps in its own lists between two calls.
 use Rattle.std.specs.Prelude.{◌≡◌, ◌<◌, ◌≤◌, ℕ, ◌^◌, Bool, true, false, ◌&&◌, not, nat_le, nat_lt, List, [], All, Option, Some, None, filter, is_some, if◌then◌else◌}
-use Rattle.std.specs.List.{list_all}
-use Rattle.std.specs.Option.{option_and_then, option_map_or}
-use Rattle.mdl_key.specs.declared.mode.Mode.{Mode}
-use Rattle.mdl_key.specs.declared.namespace.Kind.{Kind}
-use Rattle.mdl_key.specs.Words.{is_mode_of, is_obtrusive}
-use Rattle.mdl_word.specs.Words.{increment_of}
-use Rattle.mdl_calls.specs.declared.space_error.SpaceError.{SpaceError}
-use Rattle.mdl_calls.specs.declared.space_error.SpaceError.TheVariants.{NoPlace, NotHeld, AlreadyWaiting, BadMode, CounterFull}
-use Rattle.mdl_steps.specs.declared.view.Ask.{Ask}
-use Rattle.mdl_key.specs.declared.known_key.KnownKey.{KnownKey}
-use Rattle.mdl_key.specs.KeyLookups.{is_known, key_known, kind_known}
-use Rattle.mdl_steps.specs.declared.view.SessionTicket.{SessionTicket}
-use Rattle.mdl_steps.specs.Deeds.{is_own}
-use Rattle.mdl_steps.specs.Layout.{word_count}
-use Rattle.mdl_steps.specs.SeatStates.{SeatState, enrolled_seat}
-use Rattle.mdl_calls.specs.SessionData.{IsSound}
-use Rattle.mdl_visits.specs.Idle.{HoldsNoLatch}
-use Rattle.mdl_visits.specs.Numbers.{numbered}
+use Rattle.mdl_shared.specs.Prelude.{AlreadyWaiting, Ask, BadMode, CounterFull, HoldsNoLatch, IsSound, Kind, KnownKey, Mode, NoPlace, NotHeld, SeatState, SessionTicket, SpaceError, enrolled_seat, increment_of, is_known, is_mode_of, is_obtrusive, is_own, key_known, kind_known, list_all, numbered, option_and_then, option_map_or, word_count}
 use Rattle.mdl_shared.specs.Debts.{IsOwed}
 use Rattle.mdl_shared.specs.Rememberings.{AreAlike}
 use Rattle.mdl_shared.specs.SessionViews.{SessionView, data_of, tickets_seen}

@@ -1,17 +1,7 @@
 -- Changes of a ticket's mode, clones and merges: why they are refused, and the session's list of tickets afterwards.
 use Rattle.std.specs.Prelude.{ℕ, ◌==◌, Bool, false, not, ◌&&◌, nat_le, List, map, Option, Some, None, is_some, if◌then◌else◌}
-use Rattle.std.specs.Option.{option_map_or}
-use Rattle.mdl_key.specs.declared.mode.Mode.{Mode}
-use Rattle.mdl_key.specs.Words.{is_mode_of}
-use Rattle.mdl_calls.specs.declared.space_error.SpaceError.{SpaceError}
-use Rattle.mdl_calls.specs.declared.space_error.SpaceError.TheVariants.{NotHeld, NotUpgradable, AlreadyWaiting, BadMode, CounterFull}
-use Rattle.mdl_steps.specs.declared.view.Ask.{Ask}
-use Rattle.mdl_key.specs.declared.known_key.KnownKey.{KnownKey}
-use Rattle.mdl_steps.specs.declared.view.SessionTicket.{SessionTicket}
-use Rattle.mdl_steps.specs.Deeds.{is_own}
-use Rattle.mdl_key.specs.KeyLookups.{kind_known}
+use Rattle.mdl_shared.specs.Prelude.{AlreadyWaiting, Ask, BadMode, CounterFull, KnownKey, Mode, NotHeld, NotUpgradable, SessionTicket, SpaceError, covers, is_mode_of, is_own, kind_known, may_downgrade, option_map_or}
 use Rattle.mdl_shared.specs.Members.{most_numbers}
-use Rattle.mdl_system.specs.Strength.{covers, may_downgrade}
 
 -- whether the session has looked up the key of a place, and the mode is one of its kind
 abbrev pub is_fit : ℕ → Mode → List KnownKey → Bool

@@ -1,11 +1,6 @@
 -- What a session returns of its own lists.
 use Rattle.std.specs.Prelude.{ℕ, List, Option, Some, None, is_some, if◌then◌else◌}
-use Rattle.mdl_calls.specs.declared.answers.Held.{Held}
-use Rattle.mdl_calls.specs.declared.space_error.SpaceError.{SpaceError}
-use Rattle.mdl_calls.specs.declared.space_error.SpaceError.TheVariants.{NoPlace}
-use Rattle.mdl_key.specs.declared.known_key.KnownKey.{KnownKey}
-use Rattle.mdl_key.specs.KeyLookups.{key_known}
-use Rattle.mdl_steps.specs.declared.view.SessionTicket.{SessionTicket}
+use Rattle.mdl_shared.specs.Prelude.{Held, KnownKey, NoPlace, SessionTicket, SpaceError, key_known}
 
 -- a session's ticket in the form that callers get
 abbrev pub as_held : SessionTicket → Held

@@ -1,10 +1,6 @@
 -- How a session keeps its own list of tickets: the tickets without their notes, and what is kept of each place.
 use Rattle.std.specs.Prelude.{◌≡◌, ℕ, ◌-◌, ◌≤◌, Bool, ◌==◌, ◌&&◌, not, List, count_by, filter, if◌then◌else◌, is_some, length, map, slice_get, slice_index_or, ◌<◌, None, Option, Some}
-use Rattle.std.specs.Option.{option_map_or, option_and_then}
-use Rattle.mdl_steps.specs.declared.view.SessionTicket.{SessionTicket}
-use Rattle.mdl_visits.specs.Numbers.{numbered}
-use Rattle.mdl_shared.specs.declared.tickets.Gained.{Gained}
-use Rattle.mdl_shared.specs.declared.tickets.OfPlace.{OfPlace}
+use Rattle.mdl_shared.specs.Prelude.{Gained, OfPlace, SessionTicket, numbered, option_and_then, option_map_or}
 
 -- how many tickets are counted at a place
 abbrev pub counted_at : ℕ → List OfPlace → ℕ

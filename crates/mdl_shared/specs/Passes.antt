@@ -1,13 +1,8 @@
 -- The passes of a space's sessions.
 use Rattle.std.specs.Prelude.{◌≡◌, ℕ, ◌+◌, ◌<◌, List, length, slice_index_or}
-use Rattle.std.specs.Arc.{arc_value}
-use Rattle.atomic_table.specs.Seated.{TableId}
-use Rattle.mdl_steps.specs.Layout.{session_count, word_count}
-use Rattle.mdl_steps.specs.SeatStates.{enrolled_seat}
+use Rattle.mdl_shared.specs.FirstWords.{Member, SessionView, TableId, arc_value, enrolled_seat, session_at, session_count, word_count}
 use Rattle.mdl_shared.specs.declared.manager.Manager.{Manager}
-use Rattle.mdl_shared.specs.declared.member.Member.{Member}
 use Rattle.mdl_shared.specs.declared.pass.Pass.{Pass}
-use Rattle.mdl_shared.specs.SessionViews.{SessionView, session_at}
 
 -- the table of a space
 abbrev pub manager_table : Manager → TableId

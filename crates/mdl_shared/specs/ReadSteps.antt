@@ -1,18 +1,9 @@
 -- How a session reads the version and the definition of the key of a place: by one step without the latch, or in one visit to the place.
 use Rattle.std.specs.Prelude.{◌≡◌, ℕ, ◌≤◌, Contains, [], Some}
-use Rattle.mdl_defs.specs.declared.versioned_definition.VersionedDefinition.{VersionedDefinition}
-use Rattle.mdl_steps.specs.declared.view.SessionTicket.{SessionTicket}
-use Rattle.mdl_defs.specs.declared.reading.Reading.{Reading}
-use Rattle.mdl_steps.specs.Cells.{reads_at}
-use Rattle.mdl_steps.specs.Lists.{Each}
-use Rattle.mdl_steps.specs.VersionPlays.{Follows, LearnsVersion, met_version, noted_version}
-use Rattle.mdl_visits.specs.Leavings.{MeetsStanding}
-use Rattle.mdl_visits.specs.Numbers.{numbered}
-use Rattle.mdl_visits.specs.Readings.{SeatReadsThere, WasHeld}
-use Rattle.mdl_visits.specs.Visits.{StaysQuiet, Visits, VisitsOnce}
+use Rattle.mdl_shared.specs.Prelude.{Each, Follows, LearnsVersion, MeetsStanding, Reading, SeatReadsThere, SessionTicket, StaysQuiet, VersionedDefinition, Visits, VisitsOnce, WasHeld, met_version, noted_version, numbered, reads_at}
 use Rattle.mdl_shared.specs.SessionViews.{SessionView}
-use Rattle.mdl_shared.specs.TicketLists.{KeepsRoom}
 use Rattle.mdl_shared.specs.Steps.{ShowsStep}
+use Rattle.mdl_shared.specs.TicketLists.{KeepsRoom}
 
 -- the version of a place was read by one step without its latch, and nothing else was done. The session notes it under each ticket that it has there. The
 -- definition of this version counts as read, and agrees with all that the session knew of the place

@@ -1,7 +1,6 @@
 -- The versions that a session noted under its tickets as it read them.
 use Rattle.std.specs.Prelude.{◌≡◌, List, [], ◌∷◌}
-use Rattle.mdl_steps.specs.declared.view.SessionTicket.{SessionTicket}
-use Rattle.mdl_steps.specs.Lists.{Each}
+use Rattle.mdl_shared.specs.Prelude.{Each, SessionTicket}
 
 -- the tickets of a place have the same note
 abbrev pub AreAlike : List SessionTicket → Type 0

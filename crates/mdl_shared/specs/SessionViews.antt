@@ -1,20 +1,8 @@
 -- A session of the shared table as a lock space, for the crates that depend on lock spaces, by what the session keeps of its own between two calls.
 use Rattle.std.specs.Prelude.{◌≡◌, ℕ, ◌-◌, ◌==◌, List, map, filter_map, Option, Some, None, if◌then◌else◌}
-use Rattle.std.specs.Option.{option_map}
-use Rattle.atomic_table.specs.Seated.{TableId}
-use Rattle.mdl_calls.specs.declared.answers.Settled.{Settled}
-use Rattle.mdl_calls.specs.declared.answers.Settled.TheVariants.{Granted, Victim, Timeout, Killed}
-use Rattle.mdl_steps.specs.declared.view.Ask.{Ask}
-use Rattle.mdl_key.specs.declared.known_key.KnownKey.{KnownKey}
-use Rattle.mdl_steps.specs.declared.view.SessionTicket.{SessionTicket}
-use Rattle.mdl_defs.specs.declared.reading.Reading.{Reading}
-use Rattle.mdl_steps.specs.declared.view.View.{View}
-use Rattle.mdl_steps.specs.Interleavings.{interleaved}
-use Rattle.mdl_steps.specs.Plays.{Mine}
-use Rattle.mdl_steps.specs.SeatStates.{SeatState}
+use Rattle.mdl_calls.specs.declared.answers.Settled.TheVariants.{Granted}
 use Rattle.mdl_steps.specs.declared.wait_word.Loss.TheVariants as loss
-use Rattle.mdl_steps.specs.WaitStates.{granted_state, lost_state}
-use Rattle.mdl_calls.specs.SessionData.{SessionData, Note}
+use Rattle.mdl_shared.specs.Prelude.{Ask, Killed, KnownKey, Mine, Note, Reading, SeatState, SessionData, SessionTicket, Settled, TableId, Timeout, Victim, View, granted_state, interleaved, lost_state, option_map}
 use Rattle.mdl_shared.specs.OwnLists.{as_held}
 use Rattle.mdl_shared.specs.TicketLists.{KeepsRoom, Room}
 

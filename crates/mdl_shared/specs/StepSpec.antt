@@ -1,16 +1,11 @@
 -- What a session's call promises of its steps on the shared table, by aspects (`StepSpec`), and that it keeps that (`TakesSteps`). `Joins` says beside it,
 -- as plain data, what the session has after the call.
 use Rattle.std.specs.Prelude.{◌≡◌, ℕ, List, [], Option, None, IfSome}
-use Rattle.mdl_calls.specs.declared.space_error.SpaceError.{SpaceError}
-use Rattle.mdl_calls.specs.Words.{Answer, Refused, Granted}
-use Rattle.mdl_steps.specs.declared.deed.Deed.{Deed}
-use Rattle.mdl_steps.specs.declared.view.SessionTicket.{SessionTicket}
-use Rattle.mdl_visits.specs.Polls.{SettlesNothing}
-use Rattle.mdl_visits.specs.Visits.{Does}
+use Rattle.mdl_shared.specs.Prelude.{Answer, Deed, Does, Granted, Refused, SessionTicket, SettlesNothing, SpaceError}
 use Rattle.mdl_shared.specs.Debts.{KeepsDebts, OwesNoMore}
 use Rattle.mdl_shared.specs.SessionViews.{Lists, SessionView, lists_seen, tickets_seen}
-use Rattle.mdl_shared.specs.TicketLists.{KeepsRoom}
 use Rattle.mdl_shared.specs.Steps.{MakesNoStep}
+use Rattle.mdl_shared.specs.TicketLists.{KeepsRoom}
 
 -- a call, by what it promises of its steps
 pub record StepSpec : Type 1 where

@@ -1,27 +1,8 @@
 -- What the steps of a session's calls show, in words: which steps were made, looks at the directory and at the session's own wait, and how a ticket is
 -- given up.
 use Rattle.std.specs.Prelude.{◌≡◌, ℕ, ◌≤◌, Bool, true, false, List, [], ◌∷◌, ◌++◌, length, Some, None, Result}
-use Rattle.mdl_key.specs.Words.{KeyName}
-use Rattle.mdl_calls.specs.declared.answers.Search.{Search as Found}
-use Rattle.mdl_calls.specs.declared.answers.Settled.{Settled}
-use Rattle.mdl_steps.specs.declared.deed.Deed.{Deed}
-use Rattle.mdl_steps.specs.declared.deed.Deed.TheVariants.{Lose}
-use Rattle.mdl_steps.specs.declared.view.Keys.{Keys}
-use Rattle.mdl_steps.specs.declared.view.StepRecord.{StepRecord}
-use Rattle.mdl_steps.specs.declared.view.SessionTicket.{SessionTicket}
-use Rattle.mdl_steps.specs.Lists.{Each}
-use Rattle.mdl_steps.specs.Plays.{Mine}
-use Rattle.mdl_steps.specs.WaitPlays.{met_wait}
-use Rattle.mdl_steps.specs.WaitStates.{unsettled_state, wait_in}
 use Rattle.mdl_visits.specs.declared.resolve_error.ResolveError.{ResolveError}
-use Rattle.mdl_visits.specs.FastTries.{ReleasesFast}
-use Rattle.mdl_visits.specs.Grantings.{HasRescheduled}
-use Rattle.mdl_visits.specs.Leavings.{MeetsOwn}
-use Rattle.mdl_visits.specs.Lookups.{TookDirectory, IsLookupAnswer}
-use Rattle.mdl_visits.specs.Numbers.{numbered}
-use Rattle.mdl_visits.specs.Polls.{EndsWait, MeetsWait, settled_state}
-use Rattle.mdl_visits.specs.Searches.{Searched}
-use Rattle.mdl_visits.specs.Visits.{IsStepOf, StaysThere, VisitsOnce}
+use Rattle.mdl_shared.specs.Prelude.{Deed, Each, EndsWait, Found, HasRescheduled, IsLookupAnswer, IsStepOf, KeyName, Keys, Lose, MeetsOwn, MeetsWait, Mine, ReleasesFast, Searched, SessionTicket, Settled, StaysThere, StepRecord, TookDirectory, VisitsOnce, met_wait, numbered, settled_state, unsettled_state, wait_in}
 use Rattle.mdl_shared.specs.Debts.{Pays}
 use Rattle.mdl_shared.specs.SessionViews.{Lists, SessionView, all_tickets}
 

@@ -1,8 +1,6 @@
 -- A session's own list of its tickets, as the session's calls see it.
 use Rattle.std.specs.Prelude.{◌≡◌, ℕ, ◌+◌, ◌<◌, ◌≤◌, Bool, List}
-use Rattle.std.specs.List.Sorted.{IsNonDecreasingBy}
-use Rattle.mdl_steps.specs.declared.view.SessionTicket.{SessionTicket}
-use Rattle.mdl_steps.specs.Cells.{own_at}
+use Rattle.mdl_shared.specs.Prelude.{IsNonDecreasingBy, SessionTicket, own_at}
 
 -- the room of a session's list: for how many more tickets there is room, and below which place those may be
 pub record Room : Type 0 where

@@ -1,15 +1,6 @@
 -- Which upgrades of tickets are tried.
 use Rattle.std.specs.Prelude.{Bool, false, ◌&&◌, ◌||◌, not, List, Option, Some, None, is_some, if◌then◌else◌}
-use Rattle.mdl_key.specs.declared.mode.Mode.{Mode}
-use Rattle.mdl_key.specs.declared.namespace.Kind.{Kind}
-use Rattle.mdl_key.specs.Words.{is_mode_of}
-use Rattle.mdl_system.specs.Strength.{covers, may_upgrade}
-use Rattle.mdl_calls.specs.declared.space_error.SpaceError.{SpaceError}
-use Rattle.mdl_calls.specs.declared.space_error.SpaceError.TheVariants.{NotHeld, NotUpgradable, AlreadyWaiting}
-use Rattle.mdl_steps.specs.declared.view.Ask.{Ask}
-use Rattle.mdl_key.specs.declared.known_key.KnownKey.{KnownKey}
-use Rattle.mdl_steps.specs.declared.view.SessionTicket.{SessionTicket}
-use Rattle.mdl_key.specs.KeyLookups.{kind_known}
+use Rattle.mdl_shared.specs.Prelude.{AlreadyWaiting, Ask, Kind, KnownKey, Mode, NotHeld, NotUpgradable, SessionTicket, SpaceError, covers, is_mode_of, kind_known, may_upgrade}
 
 -- whether a ticket has a mode or may be upgraded to it, at a place whose key is of this kind, or isn't known: its own mode covers that or may be upgraded
 -- to it, and the mode is one of the kind

@@ -1,11 +1,6 @@
 -- A session's wait, as the session's own lists keep it between two calls.
 use Rattle.std.specs.Prelude.{ℕ, ◌+◌, ◌==◌, Bool, true, not, nat_lt, List, Option, Some, None, is_some}
-use Rattle.std.specs.Option.{option_map_or}
-use Rattle.mdl_calls.specs.declared.space_error.SpaceError.{SpaceError}
-use Rattle.mdl_calls.specs.declared.space_error.SpaceError.TheVariants.{NoWait}
-use Rattle.mdl_steps.specs.declared.view.Ask.{Ask}
-use Rattle.mdl_steps.specs.declared.view.SessionTicket.{SessionTicket}
-use Rattle.mdl_visits.specs.Numbers.{all_numbers}
+use Rattle.mdl_shared.specs.Prelude.{Ask, NoWait, SessionTicket, SpaceError, all_numbers, option_map_or}
 
 -- whether all tickets have numbers below the next one
 abbrev pub are_below_next : ℕ → List SessionTicket → Bool

@@ -1,26 +1,11 @@
 -- How a session's requests are tried: on the fast path first, and past it in one visit to the place, once all fast tickets of the session are slow ones.
 use Rattle.std.specs.Prelude.{◌≡◌, ◌≢◌, ◌⊎◌, ℕ, ◌<◌, ◌≤◌, Bool, false, List, [], ◌∷◌, length, None}
-use Rattle.mdl_key.specs.declared.mode.Mode.{Mode}
-use Rattle.mdl_calls.specs.declared.space_error.SpaceError.{SpaceError}
 use Rattle.mdl_calls.specs.declared.space_error.SpaceError.TheVariants as cause
-use Rattle.mdl_steps.specs.declared.deed.Deed.{Deed}
-use Rattle.mdl_steps.specs.declared.step_kind.StepKind.TheVariants.{Materialise}
-use Rattle.mdl_steps.specs.declared.view.StepRecord.{StepRecord}
-use Rattle.mdl_steps.specs.declared.view.SessionTicket.{SessionTicket}
-use Rattle.mdl_steps.specs.Cells.{own_at}
-use Rattle.mdl_steps.specs.FastPlays.{but_at}
-use Rattle.mdl_steps.specs.Layout.{lock_word}
-use Rattle.mdl_steps.specs.Limits.{most_fast}
-use Rattle.mdl_steps.specs.Lists.{Each}
-use Rattle.mdl_steps.specs.Plays.{Mine}
-use Rattle.mdl_visits.specs.FastTries.{FindsObtrusive, GrantsAtLast, Misses}
-use Rattle.mdl_visits.specs.Leavings.{MeetsOwn}
-use Rattle.mdl_visits.specs.Materialisings.{MeetsFullFor}
-use Rattle.mdl_visits.specs.Visits.{MakesMoreSteps, IsVisit, MeetsGrantable, VisitsOnce}
+use Rattle.mdl_shared.specs.Prelude.{Deed, Each, FindsObtrusive, GrantsAtLast, IsVisit, MakesMoreSteps, Materialise, MeetsFullFor, MeetsGrantable, MeetsOwn, Mine, Misses, Mode, SessionTicket, SpaceError, StepRecord, VisitsOnce, but_at, lock_word, most_fast, own_at}
 use Rattle.mdl_shared.specs.Members.{increment_at, obtrudes_at}
 use Rattle.mdl_shared.specs.SessionViews.{SessionView}
-use Rattle.mdl_shared.specs.TicketLists.{HasRoom}
 use Rattle.mdl_shared.specs.Steps.{ShowsStep, MakesNoStep}
+use Rattle.mdl_shared.specs.TicketLists.{HasRoom}
 
 -- ---- fast tickets become slow
 

@@ -1,32 +1,9 @@
 -- The book of a place, and the part of the session that holds its latch, after deeds of that session.
-use Rattle.std.proofs.Common.{◌≡◌, ◌≢◌, ℕ, ◌+◌, ◌<◌, ◌⊎◌, Bool, List, [], ◌∷◌, ◌++◌, set, Some, refl, sym, ap, ◌∙◌, subst, inl, inr, arith}
-use Rattle.std.specs.Prelude.{Option}
-use Rattle.std.proofs.lemmas.Bool.{cases_eq}
-use mathlib.Core.Option.{some}
-use lib.ListN.{get_elem?}
-use Rattle.atomic_table.proofs.Lists.{at_set, set_here, set_else, set_again}
-use Rattle.mdl_key.specs.Words.{KeyName}
-use Rattle.mdl_key.specs.declared.mode.Mode.{Mode}
-use Rattle.mdl_book.specs.declared.book_view.BookView.{BookView}
-use Rattle.mdl_book.specs.declared.ticket.Ticket.{Ticket}
-use Rattle.mdl_book.specs.Books.{lock_kind}
-use Rattle.mdl_book.specs.Tickets.{without, with_mode}
-use Rattle.mdl_steps.specs.declared.deed.Deed.{Deed}
-use Rattle.mdl_steps.specs.declared.deed.Deed.TheVariants.{Gain, Alter, Lose}
-use Rattle.mdl_steps.specs.declared.view.Ask.{Ask}
-use Rattle.mdl_steps.specs.declared.view.SessionTicket.{SessionTicket}
-use Rattle.mdl_steps.specs.declared.view.View.{View}
-use Rattle.mdl_steps.specs.Cells.{Part, part_at, own_at, due, pending, all_fast}
-use Rattle.mdl_steps.specs.Deeds.{NotWaited, booked, all_booked, done, all_done, owned, next_after}
-use Rattle.mdl_steps.specs.Lists.{Each}
-use Rattle.mdl_steps.specs.Rule.{BookOk, PartOk, NotedCounts, Numbered, NoteAgrees}
+use Rattle.std.proofs.Common.{◌≡◌, ◌≢◌, ℕ, ◌+◌, ◌<◌, ◌⊎◌, Bool, List, [], ◌∷◌, ◌++◌, set, Some, refl, sym, ap, ◌∙◌, subst, inl, inr, arith, Option}
+use Rattle.mdl_steps.proofs.FirstLemmas.{Alter, Ask, BookOk, BookView, Deed, Each, Gain, KeyName, Lose, May, MayAll, Mode, NotWaited, NoteAgrees, NotedCounts, Numbered, Part, PartOk, SessionTicket, Ticket, View, all_booked, all_done, all_fast, at_inside, at_set, booked, cases_eq, done, due, each-from_at, each-note, each-owned, each-to_at, get_elem?, lock_kind, next_after, own_at, owned, part_at, pending, set_again, set_else, set_here, some, waiting_kept, with_mode, without}
 use Rattle.mdl_steps.proofs.Deeds.{Deeded, gains, loses, alters, all_fast-set, set_twice, may_join}
 use Rattle.mdl_steps.proofs.Latch.{due_asked}
-use Rattle.mdl_steps.proofs.OneEvent.{May, MayAll}
 use Rattle.mdl_steps.proofs.Unmixed.{unmixed_deed}
-use Rattle.mdl_steps.proofs.Owns.{each-note, each-owned, each-from_at, each-to_at}
-use Rattle.mdl_steps.proofs.Views.{at_inside}
-use Rattle.mdl_steps.proofs.Waiting.{waiting_kept}
 
 -- the tickets of its next number are still below the next one
 each_below : (next more : ℕ) (ts : List SessionTicket) → next < more + 1 → Each (λ (t : SessionTicket). t.number < next) ts → Each (λ (t : SessionTicket). t.number < more) ts

@@ -1,33 +1,8 @@
 -- A session's deeds under a latch keep what the rule says of the book.
-use Rattle.std.proofs.Common.{◌≡◌, ◌≢◌, ℕ, zero, suc, ◌<◌, ◌==◌, ◌||◌, Bool, true, false, not, cond, List, [], ◌∷◌, ◌++◌, map, set, Some, None, refl, sym, ap, ◌∙◌, subst, inl, inr, arith, rules, append_assoc}
-use Rattle.std.specs.Prelude.{Option}
-use Rattle.std.specs.List.{list_all}
-use Rattle.std.specs.Option.{option_to_list, option_map}
-use Rattle.std.proofs.lemmas.Bool.{and_parts, and_from, cases_eq, or_right}
-use Rattle.std.proofs.lemmas.List.Folds.{list_all-append}
-use Rattle.std.proofs.lemmas.List.Sums.{AllPass-from_list_all}
-use mathlib.Core.Option.{some, some-injective}
-use lib.ListN.{get_elem?}
-use Rattle.mdl_key.specs.declared.namespace.Kind.{Kind}
-use Rattle.mdl_key.specs.declared.mode.Mode.{Mode}
-use Rattle.mdl_key.specs.Words.{IsAtLeast, clashes, is_mode_of, is_obtrusive}
-use Rattle.mdl_book.specs.declared.book_view.BookView.{BookView}
-use Rattle.mdl_book.specs.declared.ticket.Ticket.{Ticket}
-use Rattle.mdl_book.specs.Books.{lock_kind}
-use Rattle.mdl_book.specs.Granting.{is_compatible, is_lawful, stands_beside}
-use Rattle.mdl_book.specs.Tickets.{is_ticket, ticket_of, without, with_mode, in_mode}
+use Rattle.std.proofs.Common.{◌≡◌, ◌≢◌, ℕ, zero, suc, ◌<◌, ◌==◌, ◌||◌, Bool, true, false, not, cond, List, [], ◌∷◌, ◌++◌, map, set, Some, None, refl, sym, ap, ◌∙◌, subst, inl, inr, arith, rules, append_assoc, Option}
 use Rattle.mdl_book.proofs.FastLemmas.{may_stand-covered}
-use Rattle.mdl_book.proofs.GrantingLemmas.{lawful_push, lawful_changed-beside, lawful_without-beside}
-use Rattle.mdl_steps.specs.declared.deed.Deed.TheVariants.{Alter, Lose}
-use Rattle.mdl_steps.specs.declared.view.SessionTicket.{SessionTicket}
-use Rattle.mdl_steps.specs.Cells.{Part, note_at, ticket_by, all_fast}
-use Rattle.mdl_steps.specs.Deeds.{MayJoin, owned}
-use Rattle.mdl_steps.specs.Lists.{Each, Once}
-use Rattle.mdl_steps.specs.Rule.{Lawful, NotedCounts}
+use Rattle.mdl_steps.proofs.FirstLemmas.{AllPass-from_list_all, Alter, BookView, Each, IsAtLeast, Kind, Lawful, Lose, MayJoin, Mode, NotedCounts, Once, Part, SessionTicket, Ticket, all-mode, all-without, all_fast, and_from, and_parts, by_bool, cases_eq, clashes, get_elem?, in_mode, is_compatible, is_itself, is_lawful, is_mode_of, is_obtrusive, is_passed, is_ticket, lawful_changed-beside, lawful_push, lawful_without-beside, list_all, list_all-append, lock_kind, note_at, of-altered, of-altered_other, of-lost, of-lost_other, of-mode_other, of-mode_own, of-push_other, of-without_other, of-without_own, of_other, of_other_number, once-mode, once-push, once-without, option_map, option_to_list, or_right, owned, shown, shown-push, some, some-injective, stands_beside, ticket_by, ticket_of, with_mode, without}
 use Rattle.mdl_steps.proofs.Latch.{of-unwaited}
-use Rattle.mdl_steps.proofs.Owns.{shown, shown-push, of-lost, of-lost_other, of-altered, of-altered_other}
-use Rattle.mdl_steps.proofs.Tickets.{is_itself, of_other, of_other_number, is_passed, of-push_other, once-push, of-without_own, of-without_other, of-mode_own, of-mode_other, once-without, once-mode, all-without, all-mode}
-use Rattle.mdl_steps.proofs.Views.{by_bool}
 
 -- ---- lists
 

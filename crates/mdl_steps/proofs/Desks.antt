@@ -1,30 +1,7 @@
 -- Steps on the latch of the directory: the cells of all places stay as they are.
-use Rattle.std.proofs.Common.{◌≡◌, ◌≢◌, ℕ, ◌+◌, ◌*◌, ◌<◌, ◌==◌, List, [], ◌∷◌, ◌++◌, map, set, length, get_or, Some, None, refl, sym, ap, ◌∙◌, subst, inl, inr, arith, length-set, get_or-set_other, get_or-set_same}
-use Rattle.std.specs.Prelude.{Option, nat_lt}
-use Rattle.std.specs.Option.{option_map, option_to_list}
-use Rattle.std.proofs.lemmas.Bool.{ltb-true}
-use Rattle.std.proofs.lemmas.List.{map-set}
-use mathlib.Core.Option.{some, none}
-use lib.ListN.{get_elem?}
-use prog.Atomic.{either}
-use Rattle.atomic_table.specs.Table.{Allows, step, takes, gives, keeps, put_back}
-use Rattle.atomic_table.proofs.Lists.{at_map, at_set, set_else, set_here, exchanged}
-use Rattle.mdl_key.specs.Words.{KeyName}
+use Rattle.std.proofs.Common.{◌≡◌, ◌≢◌, ℕ, ◌+◌, ◌*◌, ◌<◌, ◌==◌, List, [], ◌∷◌, ◌++◌, map, set, length, get_or, Some, None, refl, sym, ap, ◌∙◌, subst, inl, inr, arith, length-set, get_or-set_other, get_or-set_same, Option, nat_lt, ltb-true}
+use Rattle.mdl_steps.proofs.FirstLemmas.{Allows, Desk, DirectoryOk, Each, HasDirectory, Homes, KeyName, Keys, KnownKey, KnowsKeys, Makes, Mine, Numbered, PlaceOk, ReachedFor, Rule, Shows, Table, View, Waiter, WaitsAgree, after, at_inside, at_map, at_set, at_unmap, by_bool, cell, consulted, desk_of, either, enrol_word, exchanged, get_elem?, gives, goes_on, holder_at, informed, keeps, key_at, latch_word, learnt, lock_word, map-set, map_kept, missed_latch, none, option_map, option_to_list, part_at, put_back, puts_directory, set_else, set_here, some, step, takes, takes_directory, version_word, waiter_of, waits}
 use Rattle.mdl_steps.specs.declared.slot.Slot.TheVariants as slot
-use Rattle.mdl_steps.specs.declared.view.Keys.{Keys}
-use Rattle.mdl_key.specs.declared.known_key.KnownKey.{KnownKey}
-use Rattle.mdl_steps.specs.declared.view.View.{View}
-use Rattle.mdl_steps.specs.Cells.{Desk, Waiter, part_at, holder_at, desk_of, waiter_of, waits, cell}
-use Rattle.mdl_steps.specs.Histories.{ReachedFor}
-use Rattle.mdl_steps.specs.Layout.{latch_word, lock_word, version_word, enrol_word}
-use Rattle.mdl_steps.specs.Lists.{Each}
-use Rattle.mdl_steps.specs.Plays.{Mine, consulted, informed, missed_latch, takes_directory, puts_directory}
-use Rattle.mdl_steps.specs.Rule.{Rule, PlaceOk, DirectoryOk, Numbered, KnowsKeys, WaitsAgree, key_at}
-use Rattle.mdl_steps.specs.Seats.{HasDirectory, learnt}
-use Rattle.mdl_steps.specs.TableChanges.{Makes}
-use Rattle.mdl_steps.proofs.Histories.{Shows, goes_on}
-use Rattle.mdl_steps.proofs.Lift.{Table, Homes, after}
-use Rattle.mdl_steps.proofs.Views.{by_bool, map_kept, at_inside, at_unmap}
 
 -- what such a step changes: the view from v to w, but for what it has at places, and the slot of the directory
 pub record Consults (s : Table) (id : ℕ) (v w : View) (homes : Homes) : Type 0 where

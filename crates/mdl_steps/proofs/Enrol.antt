@@ -1,28 +1,7 @@
 -- Numbers are drawn by the first seat, and seats that have them are split off from it.
-use Rattle.std.proofs.Common.{◌≡◌, ◌≢◌, ℕ, zero, suc, ◌+◌, ◌*◌, ◌%◌, ◌^◌, ◌<◌, List, [], ◌∷◌, ◌++◌, map, set, length, get_or, false, Some, None, refl, sym, ap, ◌∙◌, subst, inl, inr, ◌⊎◌, arith, length-set, get_or-set_other, get_or-set_same, length-append}
-use Rattle.std.specs.Prelude.{Option}
-use Rattle.std.specs.Option.{option_to_list}
-use mathlib.Core.Option.{some, some-ne-none, some-injective, none}
-use lib.ListN.{get_elem?}
-use Rattle.atomic_table.specs.Table.{Splits, Allows, step, keeps}
-use Rattle.atomic_table.proofs.Lists.{at_map, at_set, at_snoc, at_longer, set_here}
-use Rattle.mdl_key.specs.Words.{KeyName}
-use Rattle.mdl_book.specs.declared.ticket.Ticket.{Ticket}
-use Rattle.mdl_book.specs.Tickets.{ticket_of}
+use Rattle.std.proofs.Common.{◌≡◌, ◌≢◌, ℕ, zero, suc, ◌+◌, ◌*◌, ◌%◌, ◌^◌, ◌<◌, List, [], ◌∷◌, ◌++◌, map, set, length, get_or, false, Some, None, refl, sym, ap, ◌∙◌, subst, inl, inr, ◌⊎◌, arith, length-set, get_or-set_other, get_or-set_same, length-append, Option}
+use Rattle.mdl_steps.proofs.FirstLemmas.{Allows, Cell, Desk, Holder, KeyName, KnowsKeys, Makes, Mine, Numbered, Owned, Part, PartOk, PlaceOk, Reached, ReachedFor, Rule, Spare, Splits, StepRecord, Table, TableChange, Ticket, View, WaitOk, Waiter, WaitsAgree, all_fast, at_inside, at_longer, at_map, at_set, at_snoc, at_unmap, blank, blank_wait, cell, desk_of, enrol_word, enrols, get_elem?, goes_on, holder_at, keeps, key_at, latch_word, lock_word, logged, map_kept, no_numbers, none, numbers_for, option_to_list, part_at, pending, reached-rule, set_here, some, some-injective, some-ne-none, step, ticket_of, version_word, waiter_of, waits}
 use Rattle.mdl_steps.specs.declared.step_kind.StepKind.TheVariants as step_kind
-use Rattle.mdl_steps.specs.declared.view.StepRecord.{StepRecord}
-use Rattle.mdl_steps.specs.declared.view.Spare.{Spare}
-use Rattle.mdl_steps.specs.declared.view.View.{View}
-use Rattle.mdl_steps.specs.Cells.{Part, Holder, Cell, Desk, Waiter, blank, numbers_for, no_numbers, cell, part_at, holder_at, desk_of, waiter_of, waits, pending, all_fast}
-use Rattle.mdl_steps.specs.Histories.{Reached, ReachedFor}
-use Rattle.mdl_steps.specs.Layout.{enrol_word, latch_word, lock_word, version_word}
-use Rattle.mdl_steps.specs.Plays.{Mine, enrols, logged}
-use Rattle.mdl_steps.specs.Rule.{Rule, PlaceOk, PartOk, Owned, WaitOk, WaitsAgree, Numbered, KnowsKeys, key_at}
-use Rattle.mdl_steps.specs.TableChanges.{Makes, TableChange}
-use Rattle.mdl_steps.proofs.Histories.{goes_on, reached-rule}
-use Rattle.mdl_steps.proofs.Lift.{Table}
-use Rattle.mdl_steps.proofs.Opens.{blank_wait}
-use Rattle.mdl_steps.proofs.Views.{map_kept, at_unmap, at_inside}
 
 -- ---- lists
 

@@ -1,23 +1,6 @@
 -- Beside an exclusive ticket of a session nobody else has a ticket of that lock, fast or slow.
-use Rattle.std.proofs.Common.{◌≡◌, ◌≢◌, ℕ, zero, suc, ◌==◌, Bool, true, List, [], ◌∷◌, ◌++◌, map, Some, None, refl, sym, ◌∙◌, subst, rules}
-use Rattle.std.specs.Prelude.{Option, Contains}
-use Rattle.std.specs.List.{list_all}
-use Rattle.std.specs.Option.{option_to_list}
-use Rattle.std.proofs.lemmas.Bool.{and_parts, and_from, eqb-true}
-use Rattle.std.proofs.lemmas.List.Folds.{list_all-append}
-use Rattle.std.proofs.lemmas.List.Sums.{AllPass-from_list_all}
-use mathlib.Core.Option.{some, some-injective, some-ne-none}
-use lib.ListN.{get_elem?}
-use Rattle.mdl_key.specs.declared.namespace.Kind.{Kind}
-use Rattle.mdl_key.specs.declared.mode.Mode.{Mode}
-use Rattle.mdl_key.specs.declared.mode.Mode.TheVariants.{X}
-use Rattle.mdl_key.specs.Words.{clashes, is_mode_of}
-use Rattle.mdl_book.specs.declared.ticket.Ticket.{Ticket}
-use Rattle.mdl_book.specs.Granting.{is_compatible, stands_beside}
-use Rattle.mdl_book.specs.Tickets.{is_ticket, ticket_of}
-use Rattle.mdl_steps.specs.declared.view.SessionTicket.{SessionTicket}
-use Rattle.mdl_steps.specs.Cells.{Part, all_fast, due, ticket_by}
-use Rattle.mdl_steps.specs.Rule.{Lawful, SlowHeld}
+use Rattle.std.proofs.Common.{◌≡◌, ◌≢◌, ℕ, zero, suc, ◌==◌, Bool, true, List, [], ◌∷◌, ◌++◌, map, Some, None, refl, sym, ◌∙◌, subst, rules, Option, Contains, eqb-true}
+use Rattle.mdl_steps.proofs.Common.{AllPass-from_list_all, Kind, Lawful, Mode, Part, SessionTicket, SlowHeld, Ticket, X, all_fast, and_from, and_parts, clashes, due, get_elem?, is_compatible, is_mode_of, is_ticket, list_all, list_all-append, option_to_list, some, some-injective, some-ne-none, stands_beside, ticket_by, ticket_of}
 use Rattle.mdl_steps.proofs.Tickets.{is_itself, of_other}
 use Rattle.mdl_steps.proofs.Views.{by_bool}
 

@@ -1,20 +1,6 @@
 -- The fast tickets of all sessions, after those of one session changed.
-use Rattle.std.proofs.Common.{◌≡◌, ℕ, zero, suc, ◌+◌, ◌*◌, ◌^◌, ◌<◌, ◌≤◌, ◌==◌, Bool, true, false, cond, List, [], ◌∷◌, ◌++◌, map, set, length, Some, None, refl, sym, ap, ◌∙◌, subst, arith, rules}
-use Rattle.std.specs.Prelude.{count_by}
-use Rattle.std.specs.List.{list_all}
-use Rattle.std.proofs.lemmas.Bool.{and_parts, and_from}
-use Rattle.std.proofs.lemmas.List.{length-append}
-use Rattle.std.proofs.lemmas.List.Folds.{list_all-append}
-use Rattle.std.proofs.lemmas.List.Sums.{sum_by-append, count_by-le-length}
-use mathlib.Core.Option.{some, some-injective, some-ne-none}
-use lib.ListN.{get_elem?}
-use Rattle.mdl_key.specs.declared.namespace.Kind.{Kind}
-use Rattle.mdl_key.specs.declared.mode.Mode.{Mode}
-use Rattle.mdl_key.specs.Words.{class_of, is_mode_of, is_obtrusive}
-use Rattle.mdl_word.specs.Words.{encode, increment_of, one_in}
-use Rattle.mdl_book.specs.declared.ticket.Ticket.{Ticket}
-use Rattle.mdl_book.specs.FastTickets.{is_of_class}
-use Rattle.mdl_steps.specs.Cells.{Part, all_fast, counted, ticket_by}
+use Rattle.std.proofs.Common.{◌≡◌, ℕ, zero, suc, ◌+◌, ◌*◌, ◌^◌, ◌<◌, ◌≤◌, ◌==◌, Bool, true, false, cond, List, [], ◌∷◌, ◌++◌, map, set, length, Some, None, refl, sym, ap, ◌∙◌, subst, arith, rules, count_by, length-append}
+use Rattle.mdl_steps.proofs.Common.{Kind, Mode, Part, Ticket, all_fast, and_from, and_parts, class_of, count_by-le-length, counted, encode, get_elem?, increment_of, is_mode_of, is_obtrusive, is_of_class, list_all, list_all-append, one_in, some, some-injective, some-ne-none, sum_by-append, ticket_by}
 use Rattle.mdl_steps.proofs.Views.{by_bool}
 
 -- ---- what all of them pass

@@ -1,58 +1,14 @@
 -- Reading a word, a fast grant and a fast release keep the rule. None of them needs a latch.
-use Rattle.std.proofs.Common.{◌≡◌, ◌≢◌, ℕ, ◌+◌, ◌-◌, ◌%◌, ◌^◌, ◌<◌, ◌≤◌, ◌==◌, Bool, true, false, not, cond, List, [], ◌∷◌, ◌++◌, map, set, length, get_or, Some, None, refl, sym, ap, ◌∙◌, subst, inl, inr, arith, rules}
-use Rattle.std.specs.Prelude.{Option, count_by}
-use Rattle.std.specs.List.{list_all, list_any, filter}
-use Rattle.std.proofs.lemmas.Bool.{and_parts, and_from, or_parts}
-use Rattle.std.proofs.lemmas.List.{length-append, length-set, map-append}
-use Rattle.std.proofs.lemmas.List.Folds.{list_all-append}
-use Rattle.std.proofs.lemmas.List.Sums.{AllPass-from_list_all, list_all-from_AllPass, length-filter, count_by-le-length}
-use mathlib.Core.Option.{some, none, some-injective}
-use lib.ListN.{get_elem?}
-use prog.Atomic.{either}
-use Rattle.atomic_table.specs.Table.{Allows, step, keeps}
-use Rattle.atomic_table.proofs.Lists.{at_map, at_set, exchanged, set_here}
-use Rattle.mdl_key.specs.declared.namespace.Kind.{Kind}
-use Rattle.mdl_key.specs.declared.mode.Mode.{Mode}
-use Rattle.mdl_key.specs.Matrices.{waits_behind}
-use Rattle.mdl_key.specs.Words.{KeyName, kind_of, is_mode_of, is_obtrusive}
-use Rattle.mdl_word.specs.Words.{Encodes, increment_of, obtrusive_flag, one_in, slow_flag}
-use Rattle.mdl_word.proofs.WordLemmas.{obtrusive_of, slow_of}
-use Rattle.mdl_book.specs.declared.book_view.BookView.{BookView}
-use Rattle.mdl_book.specs.declared.ticket.Ticket.{Ticket}
-use Rattle.mdl_book.specs.Books.{lock_kind, has_obtrusive}
-use Rattle.mdl_book.specs.FastTickets.{CoversFastTickets, is_of_class}
-use Rattle.mdl_book.specs.Granting.{goes_first, is_compatible, is_grantable, overtakes}
+use Rattle.std.proofs.Common.{◌≡◌, ◌≢◌, ℕ, ◌+◌, ◌-◌, ◌%◌, ◌^◌, ◌<◌, ◌≤◌, ◌==◌, Bool, true, false, not, cond, List, [], ◌∷◌, ◌++◌, map, set, length, get_or, Some, None, refl, sym, ap, ◌∙◌, subst, inl, inr, arith, rules, Option, count_by, length-append, length-set}
 use Rattle.mdl_book.proofs.CountLemmas.{not_all-any}
-use Rattle.mdl_book.proofs.GrantingLemmas.{lawful_push, lawful_part}
-use Rattle.mdl_steps.specs.declared.deed.Deed.TheVariants.{Lose}
-use Rattle.mdl_steps.specs.declared.step_kind.StepKind.{StepKind}
-use Rattle.mdl_steps.specs.declared.step_kind.StepKind.TheVariants as step_kind
-use Rattle.mdl_steps.specs.declared.view.LatchRecord.{LatchRecord}
-use Rattle.mdl_key.specs.declared.known_key.KnownKey.{KnownKey}
-use Rattle.mdl_steps.specs.declared.view.SessionTicket.{SessionTicket}
-use Rattle.mdl_steps.specs.declared.view.View.{View}
-use Rattle.mdl_steps.specs.Cells.{Part, Cell, Holder, all_fast, cell, counted, holder_at, own_at, part_at, ticket_by, waits}
-use Rattle.mdl_steps.specs.Deeds.{is_own}
-use Rattle.mdl_steps.specs.FastPlays.{met_word_by, met_word, missed_fast, fast_own, granted_fast, owing, released_fast, but_own, MayGrantFast, MayReleaseFast, reads_word_unlatched, grants_fast, releases_fast}
-use Rattle.mdl_steps.specs.Histories.{ReachedFor}
-use Rattle.mdl_steps.specs.Layout.{lock_word}
-use Rattle.mdl_steps.specs.Lists.{Each}
-use Rattle.mdl_steps.specs.Plays.{Mine}
-use Rattle.mdl_steps.specs.Rule.{Rule, PlaceOk, BookOk, ExactCounts, PartOk, Counted, Lawful, NoteAgrees, NotedCounts, Numbered, key_at}
-use Rattle.mdl_steps.specs.TableChanges.{Makes}
-use Rattle.mdl_steps.proofs.Histories.{Shows, goes_on}
+use Rattle.mdl_key.specs.Matrices.{waits_behind}
+use Rattle.mdl_steps.proofs.FirstLemmas.{AllPass-from_list_all, Allows, BookOk, BookView, Cell, Counted, CoversFastTickets, Each, Encodes, ExactCounts, Holder, KeyName, Kind, KnownKey, LatchRecord, Lawful, Lose, Makes, MayGrantFast, MayReleaseFast, Mine, Mode, NoteAgrees, NotedCounts, Numbered, Part, PartOk, PlaceOk, ReachedFor, Rule, SessionTicket, Shows, StepKind, Table, Ticket, View, after, all_fast, all_fast-all, alone, and_from, and_parts, at_inside, at_map, at_set, but_own, by_bool, cell, count-append, count_by-le-length, counted, counted_mode, counted_set, counts_small, each-filtered, each-first, each_at, either, exchanged, fast_own, filter, get_elem?, goes_first, goes_on, granted_fast, grants_fast, has_obtrusive, holder_at, holders_again, increment_is, increment_of, increment_small, is_compatible, is_grantable, is_mode_of, is_obtrusive, is_of_class, is_own, keeps, key_at, kind_of, lawful_part, lawful_push, length-filter, length_mapped, list_all, list_all-append, list_all-from_AllPass, list_any, lock_kind, lock_word, map-append, met_word, met_word_by, missed_fast, none, obtrusive_flag, obtrusive_of, on_word, one_counted, one_in, or_parts, overtakes, owes_else, owes_here, owing, own_at, own_else-push, owned_else, owned_set, part_at, parts_again, reads_word_unlatched, released_fast, releases_fast, set_here, slow_flag, slow_of, some, some-injective, step, ticket_by, waiting_kept, waits}
 use Rattle.mdl_steps.proofs.Deeds.{unobtrusive_beside}
 use Rattle.mdl_steps.proofs.Desks.{each-append}
-use Rattle.mdl_steps.proofs.Unmixed.{unlike_below}
-use Rattle.mdl_steps.proofs.FastLists.{all_fast-all, counted_set, count-append, counts_small, counted_mode, increment_is, increment_small, one_counted, length_mapped}
-use Rattle.mdl_steps.proofs.Lift.{Table, after, alone, on_word, holders_again, parts_again}
-use Rattle.mdl_steps.proofs.Owns.{each-first, own_else-push, owned_else}
-use Rattle.mdl_steps.proofs.Paid.{owes_else, owes_here}
-use Rattle.mdl_steps.proofs.Views.{at_inside, by_bool, each_at}
-use Rattle.mdl_steps.proofs.Waiting.{owned_set, waiting_kept}
-use Rattle.mdl_steps.proofs.WaitEnds.{own_at-push, below_more}
 use Rattle.mdl_steps.proofs.Flags.{bit_small}
-use Rattle.mdl_steps.proofs.Interleaving.{each-filtered}
+use Rattle.mdl_steps.proofs.Unmixed.{unlike_below}
+use Rattle.mdl_steps.proofs.WaitEnds.{own_at-push, below_more}
+use Rattle.mdl_steps.specs.declared.step_kind.StepKind.TheVariants as step_kind
 
 -- ---- the place, where the fast tickets of one session change, and what it owes, and the word with them
 

@@ -1,34 +1,7 @@
 -- A step on the word of a place, whose latch the session holds: flags are raised, and the word is read.
-use Rattle.std.proofs.Common.{◌≡◌, ℕ, ◌<◌, Bool, true, false, ◌≤◌, not, zero, suc, List, length, get_or, Some, refl, sym, ◌∙◌, subst, arith, bit_or}
-use Rattle.std.specs.Prelude.{Option, slice_index, count_by}
-use Rattle.std.specs.List.{list_all}
-use Rattle.std.proofs.lemmas.List.Sums.{AllPass-from_list_all}
-use mathlib.Core.Option.{some, none}
-use lib.ListN.{get_elem?}
-use Rattle.atomic_table.specs.Table.{Allows, step, keeps}
-use Rattle.atomic_table.proofs.Lists.{at_map}
-use Rattle.std.proofs.lemmas.Bool.{or_right}
-use Rattle.mdl_key.specs.declared.namespace.Kind.{Kind}
-use Rattle.mdl_key.specs.Words.{KeyName, is_obtrusive}
-use Rattle.mdl_word.specs.Words.{bit, flags_alone, counts_of}
-use Rattle.mdl_word.proofs.WordLemmas.{raises}
-use Rattle.mdl_book.specs.declared.ticket.Ticket.{Ticket}
-use Rattle.mdl_book.specs.Books.{lock_kind}
-use Rattle.mdl_book.specs.FastTickets.{CountsFastTickets, CoversFastTickets, is_of_class}
-use Rattle.mdl_steps.specs.declared.step_kind.StepKind.{StepKind}
+use Rattle.std.proofs.Common.{◌≡◌, ℕ, ◌<◌, Bool, true, false, ◌≤◌, not, zero, suc, List, length, get_or, Some, refl, sym, ◌∙◌, subst, arith, bit_or, Option, slice_index, count_by}
+use Rattle.mdl_steps.proofs.FirstLemmas.{AllPass-from_list_all, Allows, Counted, CountsFastTickets, CoversFastTickets, ExactCounts, HasPlace, IsWhole, KeyName, Kind, LatchRecord, Makes, Mine, Part, ReachedFor, Rule, StepKind, Table, Ticket, Under, View, after, all_fast, alone, at_map, bit, by_bool, cell, counts_of, flags_alone, get_elem?, goes_on, held_at, held_at-changed, held_at-unchanged, holder_at, holder_cell, is_obtrusive, is_of_class, keeps, key_at, list_all, lock_kind, lock_word, none, noting, on_word, or_right, parts_again, raised, raises, raises_flags, reads_word, seat_there, some, step, stepped, under}
 use Rattle.mdl_steps.specs.declared.step_kind.StepKind.TheVariants as step_kind
-use Rattle.mdl_steps.specs.declared.view.LatchRecord.{LatchRecord}
-use Rattle.mdl_steps.specs.declared.view.View.{View}
-use Rattle.mdl_steps.specs.Cells.{Part, holder_at, held_at, cell, all_fast}
-use Rattle.mdl_steps.specs.Histories.{ReachedFor}
-use Rattle.mdl_steps.specs.Layout.{lock_word}
-use Rattle.mdl_steps.specs.Plays.{Mine, stepped, raised, noting, raises_flags, reads_word}
-use Rattle.mdl_steps.specs.Rule.{Rule, Counted, ExactCounts, key_at}
-use Rattle.mdl_steps.specs.TableChanges.{HasPlace, IsWhole, Makes}
-use Rattle.mdl_steps.proofs.Histories.{goes_on}
-use Rattle.mdl_steps.proofs.Views.{by_bool, held_at-changed, held_at-unchanged}
-use Rattle.mdl_steps.proofs.Lift.{Table, after, on_word, parts_again, alone, seat_there}
-use Rattle.mdl_steps.proofs.Holder.{Under, under, holder_cell}
 
 -- ---- words and flags
 

@@ -1,15 +1,6 @@
 -- What a seat has of a latched place stays in its hands from step to step.
-use Rattle.std.proofs.Common.{◌≡◌, ℕ, Bool, not, cond, ◌==◌, List, [], ◌∷◌, map, refl, ap, ◌∙◌, ◌<◌, arith}
-use Rattle.std.specs.List.{filter}
-use Rattle.std.proofs.lemmas.Bool.{eq-eqb}
-use Rattle.mdl_defs.specs.declared.versioned_definition.VersionedDefinition.{VersionedDefinition}
-use Rattle.mdl_book.specs.declared.book_view.BookView.{BookView}
-use Rattle.mdl_steps.specs.declared.deed.Deed.{Deed}
-use Rattle.mdl_steps.specs.declared.step_kind.StepKind.{StepKind}
-use Rattle.mdl_steps.specs.declared.view.LatchRecord.{LatchRecord}
-use Rattle.mdl_steps.specs.Lists.{Each}
-use Rattle.mdl_steps.specs.Plays.{Mine, latched, stepped, flags_lowered, lowered, redefined, restood}
-use Rattle.mdl_steps.specs.Seats.{Holds, elsewhere, written}
+use Rattle.std.proofs.Common.{◌≡◌, ℕ, Bool, not, cond, ◌==◌, List, [], ◌∷◌, map, refl, ap, ◌∙◌, ◌<◌, arith, eq-eqb}
+use Rattle.mdl_steps.proofs.Common.{BookView, Deed, Each, Holds, LatchRecord, Mine, StepKind, VersionedDefinition, elsewhere, filter, flags_lowered, latched, lowered, redefined, restood, stepped, written}
 use Rattle.mdl_steps.proofs.Views.{by_bool, other, held_at-first, held_at-changed}
 
 -- as the latch was taken

@@ -1,15 +1,7 @@
 -- The rule holds of each table that is reached, and a whole step that keeps it may be made there.
 use Rattle.std.proofs.Common.{◌≡◌, ℕ, ◌<◌, List, [], ◌∷◌, length, get_or, refl, sym, ap, ◌∙◌, length-set}
-use mathlib.Core.Option.{Option as Maybe, some, none}
-use lib.ListN.{get_elem?}
-use Rattle.atomic_table.specs.Table.{Act, Allows, Step, Valid, carried_after, chain, gives, homes_after, keeps, put_back, step, stepped, takes}
-use Rattle.mdl_steps.specs.declared.slot.Slot.{Slot}
-use Rattle.mdl_steps.specs.declared.view.View.{View}
-use Rattle.mdl_steps.specs.Histories.{Reached, ReachedFor}
-use Rattle.mdl_steps.specs.Layout.{word_count}
-use Rattle.mdl_steps.specs.Plays.{Mine}
-use Rattle.mdl_steps.specs.Rule.{Rule}
-use Rattle.mdl_steps.specs.TableChanges.{IsWhole, Makes, TableChange}
+use Rattle.atomic_table.specs.Table.{stepped}
+use Rattle.mdl_steps.proofs.Common.{Act, Allows, IsWhole, Makes, Maybe, Mine, Reached, ReachedFor, Rule, Slot, Step, TableChange, Valid, View, carried_after, chain, get_elem?, gives, homes_after, keeps, none, put_back, some, step, takes, word_count}
 use Rattle.mdl_steps.proofs.Lift.{Table}
 use Rattle.mdl_steps.proofs.Opens.{opens}
 

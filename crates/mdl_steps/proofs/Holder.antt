@@ -1,16 +1,7 @@
 -- What the holder of a latch knows, and what it owes after a step.
-use Rattle.std.proofs.Common.{◌≡◌, ℕ, ◌<◌, false, List, set, length, Some, None, refl, sym, ap, ◌∙◌, subst, inl, inr, arith}
-use mathlib.Core.Option.{Option as Maybe, some}
-use lib.ListN.{get_elem?}
-use Rattle.atomic_table.proofs.Lists.{at_set, set_here}
-use Rattle.mdl_key.specs.Words.{KeyName}
-use Rattle.std.specs.Prelude.{Option}
-use Rattle.mdl_book.specs.Books.{lock_kind}
-use Rattle.mdl_steps.specs.declared.slot.Slot.{Slot}
+use Rattle.std.proofs.Common.{◌≡◌, ℕ, ◌<◌, false, List, set, length, Some, None, refl, sym, ap, ◌∙◌, subst, inl, inr, arith, Option}
+use Rattle.mdl_steps.proofs.Common.{BookOk, Cell, Counted, ExactCounts, Flagged, HeldOk, Holder, KeyName, LatchRecord, Maybe, NotedCounts, Part, PlaceOk, Slot, TellsLists, all_fast, at_set, get_elem?, lock_kind, set_here, some}
 use Rattle.mdl_steps.specs.declared.slot.Slot.TheVariants as slot
-use Rattle.mdl_steps.specs.declared.view.LatchRecord.{LatchRecord}
-use Rattle.mdl_steps.specs.Cells.{Part, Holder, Cell, all_fast}
-use Rattle.mdl_steps.specs.Rule.{PlaceOk, BookOk, Counted, ExactCounts, Flagged, NotedCounts, TellsLists, HeldOk}
 
 -- what the rule says of a place whose latch a session holds, by its record of the latch
 pub record Under (key : Option KeyName) (number word version : ℕ) (parts : List Part) (h : LatchRecord) : Type 0 where

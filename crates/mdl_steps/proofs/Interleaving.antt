@@ -1,14 +1,7 @@
 -- Lists of tickets put together in order of their numbers: what is in them, what is found in them, and what is the same before and after.
-use Rattle.std.proofs.Common.{◌≡◌, ◌≢◌, ◌⊎◌, inl, inr, ℕ, ◌+◌, ◌<◌, ◌≤◌, ◌==◌, nat_lt, Bool, true, false, not, cond, List, [], ◌∷◌, ◌++◌, map, length, Some, None, refl, sym, ap, ◌∙◌, subst, arith, append_assoc, append-nil}
-use Rattle.std.specs.Prelude.{Contains, Option}
-use Rattle.std.specs.List.{filter, find}
-use Rattle.std.proofs.lemmas.Bool.{eqb-true, ltb-true, ltb-false, lt-ltb, le-ltb}
-use Rattle.mdl_steps.specs.declared.view.SessionTicket.{SessionTicket}
-use Rattle.mdl_steps.specs.Interleavings.{inserted, interleaved}
-use Rattle.mdl_steps.specs.Lists.{Each}
+use Rattle.std.proofs.Common.{◌≡◌, ◌≢◌, ◌⊎◌, inl, inr, ℕ, ◌+◌, ◌<◌, ◌≤◌, ◌==◌, nat_lt, Bool, true, false, not, cond, List, [], ◌∷◌, ◌++◌, map, length, Some, None, refl, sym, ap, ◌∙◌, subst, arith, append_assoc, append-nil, Contains, Option, eqb-true, ltb-true, ltb-false, lt-ltb, le-ltb}
+use Rattle.mdl_steps.proofs.Common.{Contains-cons_cases, Contains-here, Contains-later, Contains-none, Each, SessionTicket, filter, find, inserted, interleaved}
 use Rattle.mdl_steps.proofs.Views.{by_bool, other}
-use Rattle.mdl_system.proofs.MemberLemmas.{Contains-none}
-use Rattle.mdl_system.proofs.OrderLemmas.{Contains-cons_cases, Contains-here, Contains-later}
 
 -- the numbers of the tickets rise
 abbrev pub Rising : List SessionTicket → Type 0

@@ -1,19 +1,6 @@
 -- A session's slow tickets with its fast ones of a place among them: what is found there by number, and what is there of other places.
-use Rattle.std.proofs.Common.{◌≡◌, ◌≢◌, ◌⊎◌, inl, inr, ℕ, ◌==◌, true, false, List, [], ◌∷◌, ◌++◌, map, Some, None, refl, sym, ap, ◌∙◌, subst}
-use Rattle.std.specs.Prelude.{Option}
-use Rattle.std.specs.List.{find}
-use Rattle.std.specs.Option.{option_map}
-use Rattle.std.proofs.lemmas.Bool.{and_parts, eq-eqb, eqb-true}
-use Rattle.mdl_book.specs.Tickets.{ticket_of}
-use Rattle.mdl_steps.specs.declared.view.SessionTicket.{SessionTicket}
-use Rattle.mdl_steps.specs.Cells.{own_at, ticket_by}
-use Rattle.mdl_steps.specs.Deeds.{is_own}
-use Rattle.mdl_steps.specs.Interleavings.{interleaved}
-use Rattle.mdl_steps.specs.Lists.{Each, Once}
-use Rattle.mdl_steps.proofs.Interleaving.{AtMostOne, filter-interleaved_dropped, find-interleaved}
-use Rattle.mdl_steps.proofs.Owns.{shown}
-use Rattle.mdl_steps.proofs.Tickets.{and_false}
-use Rattle.mdl_steps.proofs.Views.{by_bool, other}
+use Rattle.std.proofs.Common.{◌≡◌, ◌≢◌, ◌⊎◌, inl, inr, ℕ, ◌==◌, true, false, List, [], ◌∷◌, ◌++◌, map, Some, None, refl, sym, ap, ◌∙◌, subst, Option, eq-eqb, eqb-true}
+use Rattle.mdl_steps.proofs.FirstLemmas.{AtMostOne, Each, Once, SessionTicket, and_false, and_parts, by_bool, filter-interleaved_dropped, find, find-interleaved, interleaved, is_own, option_map, other, own_at, shown, ticket_by, ticket_of}
 
 -- ---- tickets of one place
 

@@ -1,42 +1,7 @@
 -- The latch of a place is taken.
-use Rattle.std.proofs.Common.{◌≡◌, ◌≢◌, ℕ, ◌%◌, ◌<◌, ◌==◌, Bool, true, false, not, List, [], ◌∷◌, ◌++◌, map, set, length, get_or, Some, None, refl, sym, ap, ◌∙◌, subst, arith, length-set}
-use Rattle.std.specs.Prelude.{Option}
-use Rattle.std.specs.List.{list_all}
-use Rattle.std.specs.Option.{option_to_list}
-use Rattle.std.proofs.lemmas.Bool.{and_parts, eq-eqb}
-use Rattle.std.proofs.lemmas.List.Folds.{list_all-append}
-use mathlib.Core.Option.{some, none}
-use lib.ListN.{get_elem?}
-use prog.Atomic.{either}
-use Rattle.atomic_table.specs.Table.{Allows, step, takes, keeps}
-use Rattle.atomic_table.proofs.Lists.{at_map, set_else, exchanged}
-use Rattle.mdl_key.specs.declared.mode.Mode.{Mode}
-use Rattle.mdl_key.specs.declared.namespace.Kind.{Kind}
-use Rattle.mdl_key.specs.Words.{KeyName, is_mode_of, is_obtrusive}
-use Rattle.mdl_book.specs.declared.ticket.Ticket.{Ticket}
-use Rattle.mdl_book.specs.Books.{lock_kind}
-use Rattle.mdl_book.specs.Granting.{is_compatible, is_lawful, stands_beside}
-use Rattle.mdl_book.specs.Tickets.{ticket_of, is_ticket}
-use Rattle.mdl_book.proofs.GrantingLemmas.{lawful_part}
+use Rattle.std.proofs.Common.{◌≡◌, ◌≢◌, ℕ, ◌%◌, ◌<◌, ◌==◌, Bool, true, false, not, List, [], ◌∷◌, ◌++◌, map, set, length, get_or, Some, None, refl, sym, ap, ◌∙◌, subst, arith, length-set, Option, eq-eqb}
+use Rattle.mdl_steps.proofs.FirstLemmas.{Allows, Ask, Each, IsFresh, KeyName, Kind, KnownKey, LatchRecord, Makes, Mine, Mode, Moved, Numbered, Part, PlaceOk, ReachedFor, Rule, SessionTicket, Shows, Table, Ticket, View, after, all_fast, all_fast-own, and_false, and_parts, asking_at, at_map, by_bool, cell, desk_of, due, each_at, either, exchanged, get_elem?, goes_on, held_at-first, held_at-past, holder_at, is_compatible, is_lawful, is_mode_of, is_obtrusive, is_passed, is_ticket, keeps, key_at, latch_word, latched, lawful_part, list_all, list_all-append, lock_kind, missed_latch, none, on_latch, only_logged, option_to_list, other, own_at, part_at, parts_again, pending, seat_there, set_else, some, stands_beside, step, taken_cell, takes, takes_latch, ticket_by, ticket_of, waiter_of, waits}
 use Rattle.mdl_steps.specs.declared.slot.Slot.TheVariants as slot
-use Rattle.mdl_steps.specs.declared.view.Ask.{Ask}
-use Rattle.mdl_steps.specs.declared.view.LatchRecord.{LatchRecord}
-use Rattle.mdl_key.specs.declared.known_key.KnownKey.{KnownKey}
-use Rattle.mdl_steps.specs.declared.view.SessionTicket.{SessionTicket}
-use Rattle.mdl_steps.specs.declared.view.View.{View}
-use Rattle.mdl_steps.specs.Cells.{Part, part_at, holder_at, desk_of, waiter_of, cell, waits, ticket_by, own_at, asking_at, due, pending, all_fast}
-use Rattle.mdl_steps.specs.Histories.{ReachedFor}
-use Rattle.mdl_steps.specs.Layout.{latch_word}
-use Rattle.mdl_steps.specs.Plays.{Mine, IsFresh, latched, missed_latch, takes_latch}
-use Rattle.mdl_steps.specs.Lists.{Each}
-use Rattle.mdl_steps.specs.Rule.{Rule, PlaceOk, Numbered, key_at}
-use Rattle.mdl_steps.specs.TableChanges.{Makes}
-use Rattle.mdl_steps.proofs.FastLists.{all_fast-own}
-use Rattle.mdl_steps.proofs.Histories.{Shows, goes_on}
-use Rattle.mdl_steps.proofs.Views.{by_bool, held_at-first, held_at-past, each_at, other}
-use Rattle.mdl_steps.proofs.Lift.{Table, Moved, after, on_latch, only_logged, parts_again, seat_there}
-use Rattle.mdl_steps.proofs.Holder.{taken_cell}
-use Rattle.mdl_steps.proofs.Tickets.{is_passed, and_false}
 
 -- the due ticket is the one that the view asks for
 pub due_asked : (place n word : ℕ) (asks : Option Ask) (t : Ticket) → due (asking_at place n word asks) ≡ Some t → (a : Ask) × (asks ≡ Some a) × (t.number ≡ a.number)

@@ -1,3 +1,6 @@
+pub mod Common
+pub mod FirstLemmas
+pub mod Lemmas
 pub mod Views
 pub mod Seating
 pub mod Waiting

@@ -1,17 +1,6 @@
 -- A step at one place leaves the cells of the others as they are, so the rule holds after it if it holds at that place.
 use Rattle.std.proofs.Common.{◌≡◌, ◌≢◌, ℕ, ◌+◌, ◌*◌, ◌<◌, ◌≤◌, List, map, set, length, get_or, sym, ap, ◌∙◌, subst, inl, inr, arith, refl, length-set, get_or-set_other, get_or-set_same}
-use Rattle.std.proofs.lemmas.List.{map-set}
-use mathlib.Core.Option.{Option as Maybe, some}
-use lib.ListN.{get_elem?}
-use Rattle.atomic_table.specs.Table.{State}
-use Rattle.atomic_table.proofs.Lists.{at_map, at_set, set_again}
-use Rattle.mdl_steps.specs.declared.slot.Slot.{Slot}
-use Rattle.mdl_steps.specs.declared.view.View.{View}
-use Rattle.mdl_steps.specs.Cells.{Part, Holder, Desk, Cell, Waiter, part_at, holder_at, desk_of, waiter_of, waits, cell}
-use Rattle.mdl_steps.specs.Layout.{latch_word, lock_word, version_word, enrol_word}
-use Rattle.mdl_key.specs.Words.{KeyName}
-use Rattle.mdl_steps.specs.Lists.{Distinct}
-use Rattle.mdl_steps.specs.Rule.{Rule, PlaceOk, DirectoryOk, Numbered, KnowsKeys, WaitsAgree, key_at}
+use Rattle.mdl_steps.proofs.Common.{Cell, Desk, DirectoryOk, Distinct, Holder, KeyName, KnowsKeys, Maybe, Numbered, Part, PlaceOk, Rule, Slot, State, View, Waiter, WaitsAgree, at_map, at_set, cell, desk_of, enrol_word, get_elem?, holder_at, key_at, latch_word, lock_word, map-set, part_at, set_again, some, version_word, waiter_of, waits}
 use Rattle.mdl_steps.proofs.Views.{map_kept, at_unmap, at_inside}
 
 abbrev pub Table : Type 0

@@ -1,16 +1,9 @@
 -- Where a key stands in the directory.
-use Rattle.std.proofs.Common.{◌≡◌, ℕ, zero, suc, ◌+◌, ◌-◌, ◌<◌, ◌≤◌, List, [], ◌∷◌, ◌++◌, false, refl, length, Some, None, sym, ap, ◌∙◌, arith}
-use Rattle.std.specs.Prelude.{slice_get, nat_lt}
-use Rattle.std.specs.List.{list_any, position_or_len}
-use Rattle.std.proofs.lemmas.Bool.{ltb-true}
-use Rattle.std.proofs.lemmas.Grind.{common_steps}
-use mathlib.Core.Option.{some, some-injective, some-ne-none}
-use lib.ListN.{get_elem?}
+use Rattle.std.proofs.Common.{◌≡◌, ℕ, zero, suc, ◌+◌, ◌-◌, ◌<◌, ◌≤◌, List, [], ◌∷◌, ◌++◌, false, refl, length, Some, None, sym, ap, ◌∙◌, arith, slice_get, nat_lt, ltb-true}
 use Rattle.indexmap.specs.IndexSet.{insert_key}
-use Rattle.mdl_key.specs.Words.{KeyName, key_eq}
 use Rattle.mdl_system.proofs.Deciding.{key-Decides}
-use Rattle.mdl_steps.specs.Rule.{key_at}
-use Rattle.mdl_steps.specs.Seats.{place_among}
+use Rattle.std.proofs.lemmas.Grind.{common_steps}
+use Rattle.mdl_steps.proofs.Common.{KeyName, get_elem?, key_at, key_eq, list_any, place_among, position_or_len, some, some-injective, some-ne-none}
 use Rattle.mdl_steps.proofs.Views.{by_bool}
 
 -- how many keys stand before the first that is this one

@@ -1,47 +1,9 @@
 -- Materialising at a place keeps the rule.
-use Rattle.std.proofs.Common.{◌≡◌, ◌≢◌, ℕ, ◌+◌, ◌-◌, ◌%◌, ◌^◌, ◌<◌, ◌≤◌, ◌==◌, ◌||◌, Bool, true, false, not, cond, List, [], ◌∷◌, ◌++◌, map, set, length, get_or, Some, None, refl, sym, ap, ◌∙◌, subst, inl, inr, arith}
-use Rattle.std.specs.Prelude.{Option}
-use Rattle.std.specs.List.{list_all}
-use Rattle.std.specs.Option.{option_to_list}
-use Rattle.std.proofs.lemmas.Bool.{and_parts, and_from, eq-eqb, eqb-true}
-use Rattle.std.proofs.lemmas.List.Folds.{list_all-append}
-use mathlib.Core.Option.{some, none}
-use lib.ListN.{get_elem?}
-use Rattle.atomic_table.specs.Table.{Allows, step, keeps}
-use Rattle.atomic_table.proofs.Lists.{at_map, at_set}
-use Rattle.mdl_key.specs.declared.namespace.Kind.{Kind}
-use Rattle.mdl_key.specs.Words.{KeyName, is_mode_of, is_obtrusive}
-use Rattle.mdl_book.specs.declared.book_view.BookView.{BookView}
-use Rattle.mdl_book.specs.declared.ticket.Ticket.{Ticket}
-use Rattle.mdl_book.specs.Books.{any_obtrusive, lock_kind}
-use Rattle.mdl_book.specs.FastTickets.{is_of_class}
-use Rattle.mdl_book.specs.Tickets.{is_ticket, ticket_of}
-use Rattle.mdl_book.proofs.GrantingLemmas.{lawful_part}
-use Rattle.mdl_steps.specs.declared.view.LatchRecord.{LatchRecord}
-use Rattle.mdl_key.specs.declared.known_key.KnownKey.{KnownKey}
-use Rattle.mdl_steps.specs.declared.view.SessionTicket.{SessionTicket}
-use Rattle.mdl_steps.specs.declared.view.View.{View}
-use Rattle.mdl_steps.specs.Cells.{Asking, Part, Cell, all_fast, asking_at, cell, counted, due, holder_at, own_at, part_at, ticket_by, waits}
-use Rattle.mdl_steps.specs.FastPlays.{but_at, granting_all, moved, materialised, materialises, with_granted, MayMaterialise}
-use Rattle.mdl_steps.specs.Histories.{ReachedFor}
-use Rattle.mdl_steps.specs.Interleavings.{interleaved}
-use Rattle.mdl_steps.specs.Layout.{lock_word}
-use Rattle.mdl_steps.specs.Lists.{Each, Once}
-use Rattle.mdl_steps.specs.Plays.{Mine}
-use Rattle.mdl_steps.specs.Rule.{Rule, PlaceOk, BookOk, PartOk, Counted, NoteAgrees, key_at}
-use Rattle.mdl_steps.specs.TableChanges.{Makes}
-use Rattle.mdl_steps.proofs.Histories.{goes_on}
+use Rattle.std.proofs.Common.{◌≡◌, ◌≢◌, ℕ, ◌+◌, ◌-◌, ◌%◌, ◌^◌, ◌<◌, ◌≤◌, ◌==◌, ◌||◌, Bool, true, false, not, cond, List, [], ◌∷◌, ◌++◌, map, set, length, get_or, Some, None, refl, sym, ap, ◌∙◌, subst, inl, inr, arith, Option, eq-eqb, eqb-true}
+use Rattle.mdl_steps.proofs.FirstLemmas.{Allows, Asking, BookOk, BookView, Cell, Counted, Each, KeyName, Kind, KnownKey, LatchRecord, Makes, MayMaterialise, Mine, NoteAgrees, Once, Part, PartOk, PlaceOk, ReachedFor, Rule, SessionTicket, Table, Ticket, Under, View, after, all_fast, all_fast-all, all_fast-own, alone, alone_parts, and_from, and_parts, any_obtrusive, asking_at, at_map, at_set, but_at, by_bool, cell, counted, counted_set, due, each-filtered, each-from_at, each-interleaved, each-to_at, each_at, get_elem?, goes_on, granting_all, held_at-changed, held_at-unchanged, holder_at, holder_cell, interleaved, is_mode_of, is_obtrusive, is_of_class, is_passed, is_ticket, keeps, key_at, lawful_part, list_all, list_all-append, lock_kind, lock_word, materialised, materialises, moved, none, of_other, on_word, option_to_list, other, own_at, owned_set, part_at, seat_there, some, step, ticket_by, ticket_of, under, waiting_kept, waits, with_granted}
 use Rattle.mdl_steps.proofs.FastSteps.{covers_fewer, encoded_small}
-use Rattle.mdl_steps.proofs.FastLists.{all_fast-all, all_fast-own, counted_set}
-use Rattle.mdl_steps.proofs.Interleaving.{each-interleaved, each-filtered}
 use Rattle.mdl_steps.proofs.JoinedTickets.{joined_elsewhere, joined_found}
-use Rattle.mdl_steps.proofs.Holder.{Under, under, holder_cell}
-use Rattle.mdl_steps.proofs.Lift.{Table, after, on_word, alone, alone_parts, seat_there}
-use Rattle.mdl_steps.proofs.Owns.{each-from_at, each-to_at}
 use Rattle.mdl_steps.proofs.Unmixed.{unmixed_apart, unmixed_joined}
-use Rattle.mdl_steps.proofs.Tickets.{is_passed, of_other}
-use Rattle.mdl_steps.proofs.Views.{by_bool, each_at, held_at-changed, held_at-unchanged, other}
-use Rattle.mdl_steps.proofs.Waiting.{owned_set, waiting_kept}
 
 -- ---- look-ups in two lists
 

@@ -1,37 +1,9 @@
 -- The place after all that have a key gets one: its latch is given back with the empty book of a new key.
-use Rattle.std.proofs.Common.{◌≡◌, ◌≢◌, ℕ, zero, suc, ◌+◌, ◌-◌, ◌<◌, false, List, [], ◌∷◌, ◌++◌, map, set, length, Some, None, refl, sym, ap, ◌∙◌, subst, inl, inr, arith, length-set, length-append, get_or-set_other, get_or-set_same}
-use Rattle.std.specs.Prelude.{slice_get}
-use mathlib.Core.Option.{some, none}
-use lib.ListN.{get_elem?}
-use Rattle.atomic_table.specs.Table.{Allows, step, gives, put_back}
-use Rattle.atomic_table.proofs.Lists.{at_map, at_set, set_else, set_here}
-use Rattle.mdl_key.specs.Words.{KeyName}
-use Rattle.mdl_defs.specs.declared.versioned_definition.VersionedDefinition.{VersionedDefinition}
-use Rattle.mdl_defs.proofs.VersionedDefinitionLemmas.{nothing-stands}
-use Rattle.mdl_book.specs.declared.book_view.BookView.{BookView}
-use Rattle.mdl_book.specs.declared.ticket.Ticket.{Ticket}
-use Rattle.mdl_book.specs.Books.{empty_book}
-use Rattle.mdl_book.specs.Tickets.{ticket_of}
-use Rattle.mdl_steps.specs.declared.slot.Slot.TheVariants as slot
-use Rattle.mdl_steps.specs.declared.view.LatchRecord.{LatchRecord}
-use Rattle.mdl_steps.specs.declared.view.Keys.{Keys}
-use Rattle.mdl_key.specs.declared.known_key.KnownKey.{KnownKey}
-use Rattle.mdl_steps.specs.declared.view.View.{View}
-use Rattle.mdl_steps.specs.Cells.{Part, Desk, holder_at, desk_of, cell, all_fast}
-use Rattle.mdl_steps.specs.Histories.{ReachedFor}
-use Rattle.mdl_steps.specs.Layout.{latch_word, lock_word, version_word}
-use Rattle.mdl_steps.specs.Lists.{Each, Distinct}
-use Rattle.mdl_steps.specs.Plays.{Mine, named, listing, puts_key}
-use Rattle.mdl_steps.specs.Rule.{Rule, BookOk, PartOk, SlowHeld, ReadsAgree, IsUnused, key_at}
-use Rattle.mdl_steps.specs.Seats.{MayName}
-use Rattle.mdl_steps.specs.TableChanges.{Makes}
-use Rattle.mdl_steps.proofs.Histories.{goes_on}
-use Rattle.mdl_steps.proofs.Views.{at_inside, held_at-dropped, held_at-undropped}
-use Rattle.mdl_steps.proofs.Lift.{Table, Homes, Keyed, after, lifted, alone, parts_again, seat_there}
+use Rattle.std.proofs.Common.{◌≡◌, ◌≢◌, ℕ, zero, suc, ◌+◌, ◌-◌, ◌<◌, false, List, [], ◌∷◌, ◌++◌, map, set, length, Some, None, refl, sym, ap, ◌∙◌, subst, inl, inr, arith, length-set, length-append, get_or-set_other, get_or-set_same, slice_get}
+use Rattle.mdl_steps.proofs.FirstLemmas.{Allows, BookOk, BookView, Desk, Distinct, Each, Homes, IsUnused, KeyName, Keyed, Keys, KnownKey, LatchRecord, Makes, MayName, Mine, Part, PartOk, ReachedFor, ReadsAgree, Rule, SlowHeld, Table, Ticket, VersionedDefinition, View, after, all_fast, alone, at_inside, at_map, at_set, cell, desk_of, empty_book, get_elem?, gives, goes_on, held_at-dropped, held_at-undropped, holder_at, key_at, latch_word, lifted, listing, lock_word, named, none, not_there, nothing-stands, parts_again, put_back, put_cell, puts_key, seat_there, set_else, set_here, some, step, ticket_of, under, version_word}
 use Rattle.mdl_steps.proofs.Desks.{alone_desk}
-use Rattle.mdl_steps.proofs.Looking.{not_there}
-use Rattle.mdl_steps.proofs.Holder.{under, put_cell}
 use Rattle.mdl_steps.proofs.Put.{one_hand}
+use Rattle.mdl_steps.specs.declared.slot.Slot.TheVariants as slot
 
 -- ---- a list of keys with one more
 

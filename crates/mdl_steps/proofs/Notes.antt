@@ -1,14 +1,6 @@
 -- The version of a place, noted under a session's tickets there, and what it read.
-use Rattle.std.proofs.Common.{◌≡◌, ◌≢◌, ℕ, ◌<◌, ◌==◌, cond, List, [], ◌∷◌, ◌++◌, map, length, Some, refl, sym, ap, ◌∙◌, arith}
-use Rattle.std.proofs.lemmas.Bool.{eq-eqb, eqb-true}
-use Rattle.mdl_defs.specs.declared.versioned_definition.VersionedDefinition.{VersionedDefinition}
-use Rattle.mdl_book.specs.declared.book_view.BookView.{BookView}
-use Rattle.mdl_steps.specs.declared.view.SessionTicket.{SessionTicket}
-use Rattle.mdl_defs.specs.declared.reading.Reading.{Reading}
-use Rattle.mdl_steps.specs.Cells.{own_at, reads_at, ticket_by}
-use Rattle.mdl_steps.specs.Lists.{Each}
-use Rattle.mdl_steps.specs.Plays.{noting_version}
-use Rattle.mdl_steps.specs.Rule.{ReadAgrees, NoteAgrees}
+use Rattle.std.proofs.Common.{◌≡◌, ◌≢◌, ℕ, ◌<◌, ◌==◌, cond, List, [], ◌∷◌, ◌++◌, map, length, Some, refl, sym, ap, ◌∙◌, arith, eq-eqb, eqb-true}
+use Rattle.mdl_steps.proofs.Common.{BookView, Each, NoteAgrees, ReadAgrees, Reading, SessionTicket, VersionedDefinition, noting_version, own_at, reads_at, ticket_by}
 use Rattle.mdl_steps.proofs.Views.{by_bool, other}
 
 -- ---- notes

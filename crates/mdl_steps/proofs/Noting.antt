@@ -1,25 +1,9 @@
 -- A session notes the version of a place under its tickets there, and what it read.
-use Rattle.std.proofs.Common.{◌≡◌, ◌≢◌, ℕ, zero, suc, List, [], ◌∷◌, ◌++◌, map, set, None, refl, sym, ap, ◌∙◌, subst, inl, inr, arith}
-use Rattle.std.specs.Prelude.{Option}
-use Rattle.std.specs.Option.{option_to_list}
-use Rattle.std.proofs.lemmas.Bool.{cases_eq}
-use mathlib.Core.Option.{some, some-injective}
-use lib.ListN.{get_elem?}
-use Rattle.atomic_table.proofs.Lists.{at_set, set_here, set_else}
-use Rattle.mdl_key.specs.Words.{KeyName}
-use Rattle.mdl_defs.specs.declared.versioned_definition.VersionedDefinition.{VersionedDefinition}
-use Rattle.mdl_defs.specs.VersionedDefinitions.{nothing_yet, MayStand}
-use Rattle.mdl_book.specs.declared.book_view.BookView.{BookView}
-use Rattle.mdl_book.specs.Books.{lock_kind}
-use Rattle.mdl_book.specs.Tickets.{ticket_of}
-use Rattle.mdl_steps.specs.declared.view.View.{View}
-use Rattle.mdl_steps.specs.Cells.{Part, part_at, all_fast, due, ticket_by}
-use Rattle.mdl_steps.specs.Lists.{Each}
-use Rattle.mdl_steps.specs.Plays.{noting_version}
-use Rattle.mdl_steps.specs.Rule.{BookOk, PartOk, ReadAgrees}
-use Rattle.mdl_steps.proofs.Waiting.{waiting_kept}
-use Rattle.mdl_steps.proofs.Views.{at_inside}
+use Rattle.std.proofs.Common.{◌≡◌, ◌≢◌, ℕ, zero, suc, List, [], ◌∷◌, ◌++◌, map, set, None, refl, sym, ap, ◌∙◌, subst, inl, inr, arith, Option}
+use Rattle.mdl_steps.proofs.Common.{BookOk, BookView, Each, KeyName, MayStand, Part, PartOk, ReadAgrees, VersionedDefinition, View, all_fast, at_set, cases_eq, due, get_elem?, lock_kind, nothing_yet, noting_version, option_to_list, part_at, set_else, set_here, some, some-injective, ticket_by, ticket_of}
 use Rattle.mdl_steps.proofs.Notes.{with_note, notes_else, notes_here, notes_shown, notes_length, notes_agree, each-push, reads_else, reads_here}
+use Rattle.mdl_steps.proofs.Views.{at_inside}
+use Rattle.mdl_steps.proofs.Waiting.{waiting_kept}
 
 -- a part whose fast tickets are the same but for their notes
 pub all_fast-noted : (parts : List Part) (id : ℕ) (x y : Part) → get_elem? parts id ≡ some x → map (ticket_by y.number) y.fast ≡ map (ticket_by x.number) x.fast → all_fast (set parts id y) ≡ all_fast parts

@@ -1,23 +1,10 @@
 -- What one step may do is what the rule asks of each of its deeds, one after the other.
-use Rattle.std.proofs.Common.{◌≡◌, ℕ, Bool, true, not, ◌||◌, List, [], ◌∷◌, refl, sym, subst, inl, inr, ◌⊎◌}
-use Rattle.std.specs.Prelude.{Option, Contains}
-use Rattle.std.specs.List.{list_all}
-use Rattle.std.proofs.lemmas.List.Sums.{AllPass-from_list_all}
-use Rattle.mdl_key.specs.declared.namespace.Kind.{Kind}
-use Rattle.mdl_key.specs.declared.namespace.Kind.TheVariants.{Scoped, Object}
-use Rattle.mdl_key.specs.declared.mode.Mode.{Mode}
-use Rattle.mdl_key.specs.Words.{IsAtLeast, all_modes, is_at_least, is_mode_of}
-use Rattle.mdl_key.proofs.MatrixLemmas.{each_mode, at_least-exact}
-use Rattle.mdl_system.specs.Strength.{downgrades}
-use Rattle.mdl_system.proofs.LawfulLemmas.{implied}
-use Rattle.mdl_book.specs.declared.book_view.BookView.{BookView}
-use Rattle.mdl_book.specs.Books.{lock_kind}
-use Rattle.mdl_book.specs.Tickets.{is_ticket}
+use Rattle.std.proofs.Common.{◌≡◌, ℕ, Bool, true, not, ◌||◌, List, [], ◌∷◌, refl, sym, subst, inl, inr, ◌⊎◌, Option, Contains}
 use Rattle.mdl_book.proofs.TicketLemmas.{find-contains, find-passes}
-use Rattle.mdl_steps.specs.declared.deed.Deed.{Deed}
-use Rattle.mdl_steps.specs.declared.deed.Deed.TheVariants.{Gain, Alter, Lose}
-use Rattle.mdl_steps.specs.declared.view.View.{View}
-use Rattle.mdl_steps.specs.Deeds.{MayBeGranted, MayClone, MayDowngrade, MayDo, MayJoin, MayMerge, MayUpgrade, NotWaited, booked, done}
+use Rattle.mdl_key.proofs.MatrixLemmas.{each_mode, at_least-exact}
+use Rattle.mdl_key.specs.declared.namespace.Kind.TheVariants.{Scoped, Object}
+use Rattle.mdl_system.proofs.LawfulLemmas.{implied}
+use Rattle.mdl_steps.proofs.Common.{AllPass-from_list_all, Alter, BookView, Deed, Gain, IsAtLeast, Kind, Lose, MayBeGranted, MayClone, MayDo, MayDowngrade, MayJoin, MayMerge, MayUpgrade, Mode, NotWaited, View, all_modes, booked, done, downgrades, is_at_least, is_mode_of, is_ticket, list_all, lock_kind}
 use Rattle.mdl_steps.proofs.Tickets.{is_passed}
 
 -- ---- what the rule asks

@@ -1,22 +1,7 @@
 -- The table at the start meets the rule.
 use Rattle.std.proofs.Common.{◌≡◌, ℕ, zero, suc, ◌+◌, ◌*◌, ◌<◌, false, List, [], ◌∷◌, map, length, None, refl, sym, ap, ◌∙◌, subst, arith}
-use mathlib.Core.Option.{some, some-ne-none, some-injective}
-use lib.ListN.{get_elem?}
-use Rattle.std.proofs.lemmas.List.{length-map}
-use Rattle.atomic_table.specs.Table.{opening}
-use Rattle.atomic_table.proofs.Lists.{at_map}
-use Rattle.mdl_key.specs.Words.{KeyName}
-use Rattle.std.specs.Option.{option_to_list}
-use Rattle.mdl_defs.proofs.VersionedDefinitionLemmas.{nothing-stands}
-use Rattle.mdl_book.specs.Books.{empty_book}
-use Rattle.mdl_book.specs.Tickets.{ticket_of}
-use Rattle.mdl_steps.specs.declared.slot.Slot.{Slot}
+use Rattle.mdl_steps.proofs.Common.{Desk, Holder, IsOpening, KeyName, PartOk, PlaceOk, Rule, Slot, View, WaitOk, Waiter, at_map, blank, cell, desk_of, empty_book, get_elem?, holder_at, latch_word, length-map, lock_word, nothing-stands, numbers_for, opening, option_to_list, part_at, pending, some, some-injective, some-ne-none, ticket_of, version_word, waiter_of, waits}
 use Rattle.mdl_steps.specs.declared.slot.Slot.TheVariants as slot
-use Rattle.mdl_steps.specs.declared.view.View.{View}
-use Rattle.mdl_steps.specs.Cells.{Holder, Desk, Waiter, blank, numbers_for, cell, part_at, holder_at, desk_of, waiter_of, waits, pending}
-use Rattle.mdl_steps.specs.Layout.{latch_word, lock_word, version_word}
-use Rattle.mdl_steps.specs.Openings.{IsOpening}
-use Rattle.mdl_steps.specs.Rule.{Rule, PlaceOk, PartOk, WaitOk}
 
 -- a list of one has only its first
 only : {A : Type 0} → (a b : A) (j : ℕ) → get_elem? (a ∷ []) j ≡ some b → (j ≡ 0) × (a ≡ b)

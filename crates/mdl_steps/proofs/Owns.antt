@@ -1,19 +1,6 @@
 -- A session's own tickets, after a deed at a place: what it has there, and what it has elsewhere.
-use Rattle.std.proofs.Common.{◌≡◌, ◌≢◌, ℕ, ◌==◌, Bool, not, cond, List, [], ◌∷◌, ◌++◌, map, Some, None, refl, sym, ap, ◌∙◌, subst}
-use Rattle.std.specs.Prelude.{is_some}
-use Rattle.std.specs.List.{filter}
-use Rattle.std.specs.Option.{option_map}
-use Rattle.std.proofs.lemmas.Bool.{eq-eqb, eqb-true}
-use Rattle.mdl_key.specs.declared.mode.Mode.{Mode}
-use Rattle.mdl_book.specs.declared.ticket.Ticket.{Ticket}
-use Rattle.mdl_book.specs.Tickets.{is_ticket, ticket_of, in_mode}
-use Rattle.mdl_steps.specs.declared.deed.Deed.{Deed}
-use Rattle.mdl_steps.specs.declared.deed.Deed.TheVariants.{Gain, Alter, Lose}
-use Rattle.mdl_steps.specs.declared.view.SessionTicket.{SessionTicket}
-use Rattle.mdl_steps.specs.Cells.{note_at, own_at, ticket_by}
-use Rattle.mdl_steps.specs.Deeds.{is_own, owned}
-use Rattle.mdl_steps.specs.FastPlays.{first_note}
-use Rattle.mdl_steps.specs.Lists.{Each}
+use Rattle.std.proofs.Common.{◌≡◌, ◌≢◌, ℕ, ◌==◌, Bool, not, cond, List, [], ◌∷◌, ◌++◌, map, Some, None, refl, sym, ap, ◌∙◌, subst, is_some, eq-eqb, eqb-true}
+use Rattle.mdl_steps.proofs.Common.{Alter, Deed, Each, Gain, Lose, Mode, SessionTicket, Ticket, filter, first_note, in_mode, is_own, is_ticket, note_at, option_map, own_at, owned, ticket_by, ticket_of}
 use Rattle.mdl_steps.proofs.Tickets.{of_other_number}
 use Rattle.mdl_steps.proofs.Views.{by_bool, other}
 

@@ -1,16 +1,6 @@
 -- An exact word stays exact where the part of one session changes, but not its fast tickets and what it owes.
-use Rattle.std.proofs.Common.{◌≡◌, ◌≢◌, ℕ, ◌==◌, ◌||◌, Bool, true, false, cond, List, ◌∷◌, set, sym, ap, ◌∙◌, subst, refl, inl, inr}
-use Rattle.std.specs.Prelude.{Option}
-use Rattle.std.specs.List.{list_any}
-use Rattle.std.proofs.lemmas.Bool.{cases_eq, eq-eqb}
-use mathlib.Core.Option.{some, some-injective}
-use lib.ListN.{get_elem?}
-use Rattle.atomic_table.proofs.Lists.{set_here, set_else}
-use Rattle.mdl_key.specs.declared.namespace.Kind.{Kind}
-use Rattle.mdl_book.specs.declared.ticket.Ticket.{Ticket}
-use Rattle.mdl_book.specs.FastTickets.{CountsFastTickets}
-use Rattle.mdl_steps.specs.Cells.{Part, all_fast}
-use Rattle.mdl_steps.specs.Rule.{ExactCounts, IsPaidBut}
+use Rattle.std.proofs.Common.{◌≡◌, ◌≢◌, ℕ, ◌==◌, ◌||◌, Bool, true, false, cond, List, ◌∷◌, set, sym, ap, ◌∙◌, subst, refl, inl, inr, Option, eq-eqb}
+use Rattle.mdl_steps.proofs.Common.{CountsFastTickets, ExactCounts, IsPaidBut, Kind, Part, Ticket, all_fast, cases_eq, get_elem?, list_any, set_else, set_here, some, some-injective}
 use Rattle.mdl_steps.proofs.Views.{at_inside, other}
 
 -- ---- what a session owes after a fast release, by whether that found the flag SLOW up

@@ -1,36 +1,8 @@
 -- The latch of a place is given back, and its flags are lowered, after deeds of the session.
 use Rattle.std.proofs.Common.{◌≡◌, ◌≢◌, ℕ, ◌<◌, ◌⊎◌, ◌&&◌, Bool, true, false, List, [], ◌∷◌, set, length, get_or, Some, None, refl, sym, ap, ◌∙◌, subst, inl, inr, arith, length-set, bit_and}
-use mathlib.Core.Option.{some, none}
-use lib.ListN.{get_elem?}
-use Rattle.atomic_table.specs.Table.{Allows, step, keeps, gives, rest, put_back}
-use Rattle.atomic_table.proofs.Lists.{at_map, set_else, set_here}
-use Rattle.mdl_key.specs.Words.{KeyName}
-use Rattle.mdl_word.specs.Words.{all_but_flags}
-use Rattle.mdl_word.proofs.WordLemmas.{lowers}
-use Rattle.mdl_book.specs.declared.book_view.BookView.{BookView}
-use Rattle.mdl_book.specs.Books.{lock_kind}
-use Rattle.mdl_steps.specs.declared.deed.Deed.{Deed}
-use Rattle.mdl_steps.specs.declared.slot.Slot.{Slot}
-use Rattle.mdl_steps.specs.declared.slot.Slot.TheVariants as slot
-use Rattle.mdl_steps.specs.declared.view.LatchRecord.{LatchRecord}
-use Rattle.mdl_key.specs.declared.known_key.KnownKey.{KnownKey}
-use Rattle.mdl_steps.specs.declared.view.SessionTicket.{SessionTicket}
-use Rattle.mdl_steps.specs.declared.view.View.{View}
-use Rattle.mdl_steps.specs.Cells.{Part, Holder, part_at, holder_at, held_at, own_at, cell, waits, all_fast}
-use Rattle.mdl_steps.specs.Deeds.{FreesNothing, MayDo, MayAct, all_booked, all_done, all_owned, owned}
-use Rattle.mdl_steps.specs.Histories.{ReachedFor}
-use Rattle.mdl_steps.specs.Layout.{latch_word, lock_word}
-use Rattle.mdl_steps.specs.Plays.{Mine, unlatched, flags_lowered, lowered, puts_latch, lowers_flags}
-use Rattle.mdl_steps.specs.Rule.{Rule, PlaceOk, BookOk, Counted, Numbered, TellsLists, Flagged, NotedCounts, key_at}
-use Rattle.mdl_steps.specs.Seats.{HasDone}
-use Rattle.mdl_steps.specs.TableChanges.{Makes}
-use Rattle.mdl_steps.proofs.Histories.{goes_on}
-use Rattle.mdl_steps.proofs.Views.{by_bool, each_at, held_at-changed, held_at-unchanged, held_at-dropped, held_at-undropped}
-use Rattle.mdl_steps.proofs.Lift.{Table, Homes, after, on_latch, on_word, alone, alone_parts, seat_there}
-use Rattle.mdl_steps.proofs.Holder.{Under, under, put_cell, holder_cell}
-use Rattle.mdl_steps.proofs.OneEvent.{may_all}
-use Rattle.mdl_steps.proofs.Owns.{owned_else}
+use Rattle.mdl_steps.proofs.FirstLemmas.{Allows, BookOk, BookView, Counted, Deed, Flagged, FreesNothing, HasDone, Holder, Homes, KeyName, KnownKey, LatchRecord, Makes, MayAct, MayDo, Mine, NotedCounts, Numbered, Part, PlaceOk, ReachedFor, Rule, SessionTicket, Slot, Table, TellsLists, Under, View, after, all_booked, all_but_flags, all_done, all_fast, all_owned, alone, alone_parts, at_map, by_bool, cell, each_at, flags_lowered, get_elem?, gives, goes_on, held_at, held_at-changed, held_at-dropped, held_at-unchanged, held_at-undropped, holder_at, holder_cell, keeps, key_at, latch_word, lock_kind, lock_word, lowered, lowers, lowers_flags, may_all, none, on_latch, on_word, own_at, owned, owned_else, part_at, put_back, put_cell, puts_latch, rest, seat_there, set_else, set_here, some, step, under, unlatched, waits}
 use Rattle.mdl_steps.proofs.Books.{deeds_ok, all_booked_kind}
+use Rattle.mdl_steps.specs.declared.slot.Slot.TheVariants as slot
 
 all_owned_else : (place q : ℕ) (ds : List Deed) (ts : List SessionTicket) → q ≢ place → own_at q (all_owned place ds ts) ≡ own_at q ts
 all_owned_else place q [] ts else = refl

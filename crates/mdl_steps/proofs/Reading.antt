@@ -1,27 +1,9 @@
 -- The latch of a place is given back with nothing changed, and what stands there was read.
 use Rattle.std.proofs.Common.{◌≡◌, ℕ, ◌<◌, false, set, length, None, refl, sym, ap, ◌∙◌, subst, inr, arith, length-set}
-use mathlib.Core.Option.{some, none}
-use lib.ListN.{get_elem?}
-use Rattle.atomic_table.specs.Table.{Allows, step, gives, put_back}
-use Rattle.atomic_table.proofs.Lists.{at_map, set_else, set_here}
-use Rattle.mdl_steps.specs.declared.slot.Slot.TheVariants as slot
-use Rattle.mdl_steps.specs.declared.view.LatchRecord.{LatchRecord}
-use Rattle.mdl_steps.specs.declared.view.View.{View}
-use Rattle.mdl_steps.specs.Cells.{part_at, holder_at, cell, waits}
-use Rattle.mdl_steps.specs.Histories.{ReachedFor}
-use Rattle.mdl_steps.specs.Layout.{latch_word}
-use Rattle.mdl_steps.specs.Plays.{Mine, read_and_put, dropped, noting_version, puts_reading}
-use Rattle.mdl_steps.specs.Rule.{Rule, TellsLists, key_at}
-use Rattle.mdl_steps.specs.Seats.{Holds}
-use Rattle.mdl_steps.specs.TableChanges.{Makes}
-use Rattle.mdl_steps.proofs.Histories.{goes_on}
-use Rattle.mdl_steps.proofs.Views.{held_at-dropped, held_at-undropped}
-use Rattle.mdl_steps.proofs.Lift.{Table, Homes, after, on_latch, alone, seat_there}
-use Rattle.mdl_steps.proofs.Holder.{under, put_cell}
+use Rattle.mdl_steps.proofs.FirstLemmas.{Allows, Holds, Homes, LatchRecord, Makes, Mine, ReachedFor, Rule, Table, TellsLists, View, after, alone, apart_notes, at_map, cell, dropped, fast_same, get_elem?, gives, goes_on, held_at-dropped, held_at-undropped, holder_at, key_at, latch_word, none, noted_away, noted_here, noted_ok, noted_part, noting_version, numbered_notes, on_latch, part_at, put_back, put_cell, puts_reading, read_and_put, seat_there, set_else, set_here, some, step, under, waits}
 use Rattle.mdl_steps.proofs.Put.{one_hand}
-use Rattle.mdl_steps.proofs.Notes.{numbered_notes, apart_notes}
 use Rattle.mdl_steps.proofs.Unmixed.{unmixed_notes}
-use Rattle.mdl_steps.proofs.Noting.{noted_part, noted_here, noted_away, noted_ok, fast_same}
+use Rattle.mdl_steps.specs.declared.slot.Slot.TheVariants as slot
 
 module _ (slots id place : ℕ) (me : Mine) (some_number : 0 < me.0.number) (first : 0 < place) (last : place < slots)
     (h : LatchRecord) (has : Holds place h h.book me) (exact : TellsLists h.book h.slow h.obtrusive) (unfreed : h.freed ≡ false) where

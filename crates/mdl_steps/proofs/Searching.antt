@@ -1,24 +1,7 @@
 -- The latch of a place is given back with nothing changed, by a session that sees no deadlock.
 use Rattle.std.proofs.Common.{◌≡◌, ℕ, ◌<◌, false, [], set, length, None, refl, sym, ap, ◌∙◌, subst, arith, length-set}
-use mathlib.Core.Option.{some, none}
-use lib.ListN.{get_elem?}
-use Rattle.atomic_table.specs.Table.{Allows, step, gives, put_back}
-use Rattle.atomic_table.proofs.Lists.{at_map, set_else, set_here}
+use Rattle.mdl_steps.proofs.FirstLemmas.{Allows, Homes, LatchRecord, Makes, MayPut, Mine, ReachedFor, Rule, SeesNoDeadlock, Table, View, after, alone, at_map, cell, get_elem?, gives, goes_on, held_at-dropped, held_at-undropped, holder_at, key_at, latch_word, none, on_latch, parts_again, put_back, put_cell, puts_searched, searched, seat_there, set_else, set_here, some, step, under}
 use Rattle.mdl_steps.specs.declared.slot.Slot.TheVariants as slot
-use Rattle.mdl_steps.specs.declared.view.LatchRecord.{LatchRecord}
-use Rattle.mdl_steps.specs.declared.view.View.{View}
-use Rattle.mdl_steps.specs.Cells.{holder_at, cell}
-use Rattle.mdl_steps.specs.Histories.{ReachedFor}
-use Rattle.mdl_steps.specs.Layout.{latch_word}
-use Rattle.mdl_steps.specs.Plays.{Mine, searched, puts_searched}
-use Rattle.mdl_steps.specs.Rule.{Rule, key_at}
-use Rattle.mdl_steps.specs.Seats.{MayPut}
-use Rattle.mdl_steps.specs.Sights.{SeesNoDeadlock}
-use Rattle.mdl_steps.specs.TableChanges.{Makes}
-use Rattle.mdl_steps.proofs.Histories.{goes_on}
-use Rattle.mdl_steps.proofs.Views.{held_at-dropped, held_at-undropped}
-use Rattle.mdl_steps.proofs.Lift.{Table, Homes, after, on_latch, alone, parts_again, seat_there}
-use Rattle.mdl_steps.proofs.Holder.{under, put_cell}
 
 module _ (slots id place : ℕ) (me : Mine) (some_number : 0 < me.0.number) (first : 0 < place) (last : place < slots) (may : MayPut place [] me) (sees : SeesNoDeadlock slots me) where
   abbrev h : LatchRecord

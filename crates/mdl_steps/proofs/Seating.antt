@@ -1,11 +1,6 @@
 -- What a step needs to know of its seat, said of the table that the call is made on.
 use Rattle.std.proofs.Common.{◌≡◌, ℕ, ◌<◌, ◌≤◌, sym, ap, ◌∙◌, subst}
-use Rattle.atomic_table.specs.Seated.{TableId}
-use Rattle.mdl_steps.specs.Layout.{word_count}
-use Rattle.mdl_steps.specs.Plays.{Mine}
-use Rattle.mdl_steps.specs.Seats.{IsSized}
-use Rattle.mdl_steps.specs.SeatStates.{IsSeat, SeatState}
-use Rattle.mdl_steps.specs.WaitSeats.{IsSession}
+use Rattle.mdl_steps.proofs.Common.{IsSeat, IsSession, IsSized, Mine, SeatState, TableId, word_count}
 
 -- the seat has this view, and is of this table, of which the same goes as of that of the seat's value
 pub record Sits (s : SeatState) (sessions : ℕ) (that of : TableId) (me : Mine) : Type 1 where

@@ -1,33 +1,8 @@
 -- The latch of a place is given back after all that wait there were looked through.
-use Rattle.std.proofs.Common.{◌≡◌, ◌≢◌, ℕ, ◌<◌, ◌≤◌, ◌==◌, ◌||◌, not, Bool, false, List, [], ◌∷◌, set, length, None, refl, sym, ap, ◌∙◌, subst, inl, inr, arith, length-set}
-use Rattle.std.specs.Prelude.{Option}
-use Rattle.std.specs.List.{filter, list_any}
-use Rattle.std.proofs.lemmas.Bool.{cases_eq, eqb-true}
-use mathlib.Core.Option.{some, none, some-injective}
-use lib.ListN.{get_elem?}
-use Rattle.atomic_table.specs.Seated.{TableId}
-use Rattle.atomic_table.specs.Table.{Allows, step, gives, put_back}
-use Rattle.atomic_table.proofs.Lists.{at_map, at_set, set_else, set_here}
-use Rattle.mdl_key.specs.Words.{KeyName}
-use Rattle.std.specs.Option.{option_to_list}
-use Rattle.mdl_book.specs.declared.book_view.BookView.{BookView}
-use Rattle.mdl_book.specs.declared.ticket.Ticket.{Ticket}
-use Rattle.mdl_book.specs.Books.{lock_kind}
-use Rattle.mdl_book.specs.Tickets.{ticket_of}
-use Rattle.mdl_steps.specs.declared.slot.Slot.TheVariants as slot
-use Rattle.mdl_steps.specs.declared.view.View.{View}
-use Rattle.mdl_steps.specs.Cells.{Part, part_at, holder_at, all_fast, cell, pending, waits}
-use Rattle.mdl_steps.specs.Histories.{ReachedFor}
-use Rattle.mdl_steps.specs.Layout.{latch_word, word_count}
-use Rattle.mdl_steps.specs.Plays.{Mine, puts_served, served}
-use Rattle.mdl_steps.specs.Rule.{BookOk, Lawful, Owned, PartOk, Rule, key_at}
-use Rattle.mdl_steps.specs.Servings.{MayServe}
-use Rattle.mdl_steps.specs.TableChanges.{Makes}
+use Rattle.std.proofs.Common.{◌≡◌, ◌≢◌, ℕ, ◌<◌, ◌≤◌, ◌==◌, ◌||◌, not, Bool, false, List, [], ◌∷◌, set, length, None, refl, sym, ap, ◌∙◌, subst, inl, inr, arith, length-set, Option, eqb-true}
+use Rattle.mdl_steps.proofs.FirstLemmas.{Allows, BookOk, BookView, Homes, KeyName, Lawful, Makes, MayServe, Mine, Owned, Part, PartOk, ReachedFor, Rule, Table, TableId, Ticket, View, after, all_fast, alone, at_inside, at_map, at_set, by_bool, cases_eq, cell, filter, get_elem?, gives, goes_on_for, held_at-dropped, held_at-undropped, holder_at, key_at, latch_word, list_any, lock_kind, none, on_latch, option_to_list, other, part_at, pending, put_back, put_cell, puts_served, seat_there, served, set_else, set_here, some, some-injective, step, ticket_of, under, waits, word_count}
 use Rattle.mdl_steps.proofs.Deeds.{all_fast-set}
-use Rattle.mdl_steps.proofs.Histories.{goes_on_for}
-use Rattle.mdl_steps.proofs.Views.{at_inside, by_bool, held_at-dropped, held_at-undropped, other}
-use Rattle.mdl_steps.proofs.Lift.{Table, Homes, after, on_latch, alone, seat_there}
-use Rattle.mdl_steps.proofs.Holder.{under, put_cell}
+use Rattle.mdl_steps.specs.declared.slot.Slot.TheVariants as slot
 
 -- ---- what is owed at other places stays
 

@@ -1,13 +1,7 @@
 -- What a table is made of is as it is to be at the start.
-use Rattle.std.proofs.Common.{◌≡◌, ℕ, zero, suc, ◌+◌, ◌<◌, ◌≤◌, length, get_or, replicate, refl, sym, ap, ◌∙◌, arith}
-use mathlib.Core.Option.{some}
-use lib.ListN.{get_elem?}
-use Rattle.std.proofs.lemmas.List.{length-replicate, length-set, get_or-set_same, get_or-set_other}
-use Rattle.mdl_key.specs.Keys.{global_key}
-use Rattle.mdl_book.specs.Books.{empty_book}
+use Rattle.std.proofs.Common.{◌≡◌, ℕ, zero, suc, ◌+◌, ◌<◌, ◌≤◌, length, get_or, replicate, refl, sym, ap, ◌∙◌, arith, length-set, get_or-set_same, get_or-set_other}
+use Rattle.mdl_steps.proofs.Common.{IsOpening, empty_book, enrol_word, get_elem?, global_key, length-replicate, opening_slots, opening_words, some, word_count}
 use Rattle.mdl_steps.specs.declared.slot.Slot.TheVariants as slot
-use Rattle.mdl_steps.specs.Layout.{enrol_word, word_count}
-use Rattle.mdl_steps.specs.Openings.{IsOpening, opening_words, opening_slots}
 
 -- a list of equal elements has that one wherever it has any
 at_replicate : {A : Type 0} → (n p : ℕ) (a : A) → p < n → get_elem? (replicate n a) p ≡ some a

@@ -1,23 +1,6 @@
 -- What the rule tells of the words, the books, and what sessions noted and read.
-use Rattle.std.proofs.Common.{◌≡◌, ℕ, zero, suc, ◌<◌, ◌==◌, Bool, cond, List, [], ◌∷◌, ◌++◌, length, Some, refl, sym, ap, ◌∙◌, subst, inl, inr}
-use Rattle.std.specs.Prelude.{◌⊎◌}
-use Rattle.std.proofs.lemmas.Bool.{eq-eqb}
-use mathlib.Core.Option.{some}
-use lib.ListN.{get_elem?}
-use Rattle.atomic_table.specs.Table.{State}
-use Rattle.atomic_table.proofs.Lists.{at_map}
-use Rattle.mdl_book.specs.declared.book_view.BookView.{BookView}
-use Rattle.mdl_steps.specs.declared.slot.Slot.{Slot}
-use Rattle.mdl_steps.specs.declared.view.SessionTicket.{SessionTicket}
-use Rattle.mdl_defs.specs.declared.reading.Reading.{Reading}
-use Rattle.mdl_steps.specs.declared.view.View.{View}
-use Rattle.mdl_steps.specs.Cells.{Holder, holder_at, held_at, part_at, reads_at, waits, cell}
-use Rattle.mdl_steps.specs.Lists.{Each}
-use Rattle.mdl_steps.specs.Rule.{Rule, PlaceOk, NoteAgrees, ReadAgrees, ReadsAgree, key_at}
-use Rattle.mdl_steps.specs.RuleLaws.{FreeLocksAreAsTheirWordsTell, HeldLocksAreAsTheirRecordsTell, TakenLatchesAreHeld, NotedVersionsStand, ReadsAreOfWhatStands}
-use Rattle.mdl_steps.proofs.Owns.{each-from_at}
-use Rattle.mdl_steps.proofs.Views.{by_bool, each_at, at_unmap}
-use Rattle.mdl_steps.proofs.Holder.{under}
+use Rattle.std.proofs.Common.{◌≡◌, ℕ, zero, suc, ◌<◌, ◌==◌, Bool, cond, List, [], ◌∷◌, ◌++◌, length, Some, refl, sym, ap, ◌∙◌, subst, inl, inr, ◌⊎◌, eq-eqb}
+use Rattle.mdl_steps.proofs.FirstLemmas.{BookView, Each, FreeLocksAreAsTheirWordsTell, HeldLocksAreAsTheirRecordsTell, Holder, NoteAgrees, NotedVersionsStand, PlaceOk, ReadAgrees, Reading, ReadsAgree, ReadsAreOfWhatStands, Rule, SessionTicket, Slot, State, TakenLatchesAreHeld, View, at_map, at_unmap, by_bool, cell, each-from_at, each_at, get_elem?, held_at, holder_at, key_at, part_at, reads_at, some, under, waits}
 
 pub free_told : FreeLocksAreAsTheirWordsTell
 free_told s r place first last free =

@@ -1,12 +1,6 @@
 -- Look-ups of tickets by session and number, in a list that gains one, loses one or has one in another mode.
-use Rattle.std.proofs.Common.{◌≡◌, ◌≢◌, ℕ, suc, ◌+◌, ◌==◌, ◌&&◌, Bool, true, false, cond, List, [], ◌∷◌, ◌++◌, take, drop, Some, None, refl, sym, ap, ◌∙◌, subst, arith}
-use Rattle.std.specs.List.{find, list_all, position_or_len}
-use Rattle.std.specs.Option.{option_map, option_to_list}
-use Rattle.std.proofs.lemmas.Bool.{and_parts, and_from, eq-eqb, eqb-true}
-use Rattle.mdl_key.specs.declared.mode.Mode.{Mode}
-use Rattle.mdl_book.specs.declared.ticket.Ticket.{Ticket}
-use Rattle.mdl_book.specs.Tickets.{is_ticket, ticket_of, without, with_mode, in_mode}
-use Rattle.mdl_steps.specs.Lists.{Once}
+use Rattle.std.proofs.Common.{◌≡◌, ◌≢◌, ℕ, suc, ◌+◌, ◌==◌, ◌&&◌, Bool, true, false, cond, List, [], ◌∷◌, ◌++◌, take, drop, Some, None, refl, sym, ap, ◌∙◌, subst, arith, eq-eqb, eqb-true}
+use Rattle.mdl_steps.proofs.Common.{Mode, Once, Ticket, and_from, and_parts, find, in_mode, is_ticket, list_all, option_map, option_to_list, position_or_len, ticket_of, with_mode, without}
 use Rattle.mdl_steps.proofs.Views.{by_bool, other}
 
 -- ---- tests

@@ -1,20 +1,6 @@
 -- No slow ticket of a session has the number of a fast one of its place, whatever is done.
-use Rattle.std.proofs.Common.{◌≡◌, ◌≢◌, ℕ, ◌<◌, ◌==◌, List, [], ◌∷◌, map, None, refl, sym, ◌∙◌, subst, arith}
-use Rattle.std.proofs.lemmas.Bool.{eq-eqb}
-use Rattle.mdl_key.specs.declared.mode.Mode.{Mode}
-use Rattle.mdl_book.specs.Tickets.{ticket_of}
-use Rattle.mdl_steps.specs.declared.deed.Deed.{Deed}
-use Rattle.mdl_steps.specs.declared.deed.Deed.TheVariants.{Gain}
-use Rattle.mdl_steps.specs.declared.view.SessionTicket.{SessionTicket}
-use Rattle.mdl_steps.specs.Cells.{own_at, ticket_by}
-use Rattle.mdl_steps.specs.Deeds.{owned}
-use Rattle.mdl_steps.specs.FastPlays.{but_at}
-use Rattle.mdl_steps.specs.Lists.{Each}
-use Rattle.mdl_steps.specs.Plays.{noting_version}
-use Rattle.mdl_steps.specs.Rule.{AreUnmixed, IsUnlike}
-use Rattle.mdl_steps.proofs.Owns.{each-owned, each-from_at, each-to_at}
-use Rattle.mdl_steps.proofs.Tickets.{of_other_number}
-use Rattle.mdl_steps.proofs.Views.{by_bool}
+use Rattle.std.proofs.Common.{◌≡◌, ◌≢◌, ℕ, ◌<◌, ◌==◌, List, [], ◌∷◌, map, None, refl, sym, ◌∙◌, subst, arith, eq-eqb}
+use Rattle.mdl_steps.proofs.FirstLemmas.{AreUnmixed, Deed, Each, Gain, IsUnlike, Mode, SessionTicket, but_at, by_bool, each-from_at, each-owned, each-to_at, noting_version, of_other_number, own_at, owned, ticket_by, ticket_of}
 
 -- a deed under a latch: what is gained has a number above those of the fast ones
 pub unmixed_deed : (place next : ℕ) (d : Deed) (fast slow : List SessionTicket) → ((number : ℕ) (mode : Mode) → d ≡ Gain number mode → number ≡ next)

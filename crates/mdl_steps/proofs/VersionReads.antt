@@ -1,41 +1,9 @@
 -- The version of a place is read without its latch, and noted under the session's tickets there.
-use Rattle.std.proofs.Common.{◌≡◌, ℕ, ◌<◌, ◌≤◌, List, [], ◌∷◌, ◌++◌, map, set, length, get_or, refl, sym, ap, ◌∙◌, subst, inl, inr, arith}
-use Rattle.std.specs.Prelude.{Option, Some, None, Contains}
-use Rattle.std.specs.Option.{option_map_or, option_to_list}
-use mathlib.Core.Option.{some, none}
-use lib.ListN.{get_elem?}
-use Rattle.atomic_table.specs.Table.{Allows, step, keeps}
-use Rattle.atomic_table.proofs.Lists.{at_map, at_set}
-use Rattle.mdl_key.specs.Words.{KeyName}
-use Rattle.mdl_book.specs.declared.book_view.BookView.{BookView}
-use Rattle.mdl_book.specs.Books.{lock_kind}
-use Rattle.mdl_book.specs.Tickets.{ticket_of}
-use Rattle.mdl_system.proofs.MemberLemmas.{Contains-none}
-use Rattle.mdl_system.proofs.OrderLemmas.{Contains-cons_cases}
+use Rattle.std.proofs.Common.{◌≡◌, ℕ, ◌<◌, ◌≤◌, List, [], ◌∷◌, ◌++◌, map, set, length, get_or, refl, sym, ap, ◌∙◌, subst, inl, inr, arith, Option, Some, None, Contains}
 use Rattle.mdl_defs.specs.declared.definition.Definition.{Definition}
-use Rattle.mdl_defs.specs.declared.versioned_definition.VersionedDefinition.{VersionedDefinition}
-use Rattle.mdl_defs.specs.Caches.{Kept, kept_of}
-use Rattle.mdl_defs.specs.VersionedDefinitions.{MayStand}
-use Rattle.mdl_steps.specs.declared.step_kind.StepKind.TheVariants as step_kind
-use Rattle.mdl_key.specs.declared.known_key.KnownKey.{KnownKey}
-use Rattle.mdl_defs.specs.declared.reading.Reading.{Reading}
-use Rattle.mdl_steps.specs.declared.view.View.{View}
-use Rattle.mdl_steps.specs.Cells.{Part, Cell, all_fast, cell, due, part_at, reads_at, waits}
-use Rattle.mdl_steps.specs.Histories.{ReachedFor}
-use Rattle.mdl_steps.specs.Layout.{version_word}
-use Rattle.mdl_steps.specs.Lists.{Each}
-use Rattle.mdl_steps.specs.Plays.{Mine, logged, noting_version}
-use Rattle.mdl_steps.specs.Rule.{Rule, PlaceOk, BookOk, IsPaidBut, PartOk, ReadAgrees, key_at}
-use Rattle.mdl_steps.specs.VersionPlays.{found_version, learnt_version, met_version, noted_version, noting_found, Follows, LearnsVersion, ReadNoneNewer, ReadOneStanding, finds_version, reads_version}
-use Rattle.mdl_steps.specs.TableChanges.{Makes}
-use Rattle.mdl_steps.proofs.Histories.{Shown, goes_on}
-use Rattle.mdl_steps.proofs.Lift.{Table, after, on_version, holders_again, parts_again}
-use Rattle.mdl_steps.proofs.Notes.{with_note, notes_else, notes_here, notes_shown, notes_length, notes_agree, numbered_notes, apart_notes}
-use Rattle.mdl_steps.proofs.Noting.{all_fast-noted, fast_same as fast_same_noted, noted_part, noted_here, noted_away, noted_ok}
-use Rattle.mdl_steps.proofs.Paid.{paid_before}
+use Rattle.mdl_steps.proofs.FirstLemmas.{Allows, BookOk, BookView, Cell, Contains-cons_cases, Contains-none, Each, Follows, IsPaidBut, Kept, KeyName, KnownKey, LearnsVersion, Makes, MayStand, Mine, Part, PartOk, PlaceOk, ReachedFor, ReadAgrees, ReadNoneNewer, ReadOneStanding, Reading, Rule, Shown, Table, VersionedDefinition, View, after, all_fast, all_fast-noted, apart_notes, at_map, at_set, cell, due, each_at, fast_same_noted, finds_version, found_version, get_elem?, goes_on, holders_again, keeps, kept_of, key_at, learnt_version, lock_kind, logged, met_version, none, noted_away, noted_here, noted_ok, noted_part, noted_version, notes_agree, notes_else, notes_here, notes_length, notes_shown, noting_found, noting_version, numbered_notes, on_version, option_map_or, option_to_list, owned_set, paid_before, part_at, parts_again, reads_at, reads_version, some, step, ticket_of, version_word, waiting_kept, waits, with_note}
 use Rattle.mdl_steps.proofs.Unmixed.{unmixed_notes}
-use Rattle.mdl_steps.proofs.Views.{each_at}
-use Rattle.mdl_steps.proofs.Waiting.{owned_set, waiting_kept}
+use Rattle.mdl_steps.specs.declared.step_kind.StepKind.TheVariants as step_kind
 
 -- ---- the place, where the part of one session changes
 

@@ -1,38 +1,9 @@
 -- The version of a place is written by the holder of its latch, who has an exclusive ticket there.
-use Rattle.std.proofs.Common.{◌≡◌, ◌≢◌, ℕ, ◌<◌, List, set, length, refl, sym, ap, ◌∙◌, arith}
-use Rattle.std.specs.Prelude.{Option, Contains}
-use mathlib.Core.Option.{some, none}
-use lib.ListN.{get_elem?}
-use Rattle.atomic_table.specs.Table.{Allows, step, keeps}
-use Rattle.atomic_table.proofs.Lists.{at_map}
-use Rattle.mdl_key.specs.Words.{KeyName}
-use Rattle.mdl_key.specs.declared.mode.Mode.TheVariants.{X}
-use Rattle.mdl_defs.specs.declared.change.Change.{Change}
-use Rattle.mdl_defs.specs.declared.versioned_definition.VersionedDefinition.{VersionedDefinition}
-use Rattle.mdl_defs.specs.VersionedDefinitions.{standing_after}
-use Rattle.mdl_defs.proofs.VersionedDefinitionLemmas.{changes-keep_standing}
-use Rattle.mdl_book.specs.declared.book_view.BookView.{BookView}
-use Rattle.mdl_book.specs.declared.ticket.Ticket.{Ticket}
-use Rattle.mdl_book.specs.Books.{lock_kind, redefining}
-use Rattle.mdl_steps.specs.declared.view.LatchRecord.{LatchRecord}
-use Rattle.mdl_steps.specs.declared.view.View.{View}
-use Rattle.mdl_steps.specs.Cells.{Part, part_at, holder_at, cell, waits}
-use Rattle.mdl_steps.specs.Histories.{ReachedFor}
-use Rattle.mdl_steps.specs.Layout.{version_word}
-use Rattle.mdl_steps.specs.Plays.{Mine, redefined, restood, changed, noting_version, writes_version}
-use Rattle.mdl_steps.specs.Rule.{Rule, BookOk, PartOk, key_at}
-use Rattle.mdl_steps.specs.Seats.{HasRedefined}
-use Rattle.mdl_steps.specs.TableChanges.{Makes}
-use Rattle.mdl_steps.proofs.Histories.{goes_on}
-use Rattle.mdl_steps.proofs.Views.{held_at-changed, held_at-unchanged}
-use Rattle.mdl_steps.proofs.Lift.{Table, after, on_version, alone, alone_parts, seat_there}
-use Rattle.mdl_steps.proofs.Holder.{under, holder_cell}
-use Rattle.mdl_steps.proofs.Put.{one_hand}
-use Rattle.mdl_steps.proofs.Notes.{numbered_notes, apart_notes, reads_older}
-use Rattle.mdl_steps.proofs.Unmixed.{unmixed_notes}
-use Rattle.mdl_steps.proofs.Paid.{exact_again}
-use Rattle.mdl_steps.proofs.Noting.{noted_part, noted_here, noted_away, noted_ok, fast_same}
+use Rattle.std.proofs.Common.{◌≡◌, ◌≢◌, ℕ, ◌<◌, List, set, length, refl, sym, ap, ◌∙◌, arith, Option, Contains}
+use Rattle.mdl_steps.proofs.FirstLemmas.{Allows, BookOk, BookView, Change, HasRedefined, KeyName, LatchRecord, Makes, Mine, Part, PartOk, ReachedFor, Rule, Table, Ticket, VersionedDefinition, View, X, after, alone, alone_parts, apart_notes, at_map, cell, changed, changes-keep_standing, exact_again, fast_same, get_elem?, goes_on, held_at-changed, held_at-unchanged, holder_at, holder_cell, keeps, key_at, lock_kind, none, noted_away, noted_here, noted_ok, noted_part, noting_version, numbered_notes, on_version, part_at, reads_older, redefined, redefining, restood, seat_there, some, standing_after, step, under, version_word, waits, writes_version}
 use Rattle.mdl_steps.proofs.Exclusive.{others_fast, others_slow}
+use Rattle.mdl_steps.proofs.Put.{one_hand}
+use Rattle.mdl_steps.proofs.Unmixed.{unmixed_notes}
 
 -- nobody else has a note there, and what others read is older
 other_part : (key : Option KeyName) (version : ℕ) (parts : List Part) (book : BookView) (id number : ℕ) (standing : VersionedDefinition)

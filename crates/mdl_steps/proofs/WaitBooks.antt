@@ -1,30 +1,8 @@
 -- The book of a place after a step on the wait of a session, which changes the session's part there.
-use Rattle.std.proofs.Common.{◌≡◌, ◌≢◌, ℕ, Bool, true, false, cond, List, [], ◌∷◌, ◌++◌, map, set, length, Some, None, refl, sym, ap, ◌∙◌, subst, inl, inr, arith, append_assoc}
-use Rattle.std.specs.Prelude.{Option}
-use Rattle.std.specs.List.{list_all}
-use Rattle.std.specs.Option.{option_to_list}
-use Rattle.std.proofs.lemmas.Bool.{and_parts, and_from, cases_eq}
-use Rattle.std.proofs.lemmas.List.Folds.{list_all-append}
-use mathlib.Core.Option.{some}
-use lib.ListN.{get_elem?}
-use Rattle.atomic_table.proofs.Lists.{at_set}
-use Rattle.mdl_key.specs.declared.namespace.Kind.{Kind}
-use Rattle.mdl_key.specs.Words.{KeyName, is_mode_of}
-use Rattle.mdl_book.specs.declared.book_view.BookView.{BookView}
-use Rattle.mdl_book.specs.declared.ticket.Ticket.{Ticket}
-use Rattle.mdl_book.specs.Books.{lock_kind, enqueueing, admitting, cancelling}
-use Rattle.mdl_book.specs.Granting.{is_compatible, is_lawful}
-use Rattle.mdl_book.specs.Tickets.{is_ticket, ticket_of, without}
-use Rattle.mdl_book.proofs.GrantingLemmas.{lawful_push}
-use Rattle.mdl_steps.specs.declared.view.SessionTicket.{SessionTicket}
-use Rattle.mdl_steps.specs.Cells.{Part, ticket_by, due, pending, all_fast}
-use Rattle.mdl_steps.specs.Lists.{Each, Once}
-use Rattle.mdl_steps.specs.Rule.{Lawful, SlowHeld, WaitingOk, NoteAgrees, PartOk, BookOk}
+use Rattle.std.proofs.Common.{◌≡◌, ◌≢◌, ℕ, Bool, true, false, cond, List, [], ◌∷◌, ◌++◌, map, set, length, Some, None, refl, sym, ap, ◌∙◌, subst, inl, inr, arith, append_assoc, Option}
+use Rattle.mdl_steps.proofs.FirstLemmas.{BookOk, BookView, Each, KeyName, Kind, Lawful, NoteAgrees, Once, Part, PartOk, SessionTicket, SlowHeld, Ticket, WaitingOk, admitting, all-without, all_fast, and_from, and_parts, at_set, by_bool, cancelling, cases_eq, due, enqueueing, get_elem?, is_compatible, is_itself, is_lawful, is_mode_of, is_passed, is_ticket, lawful_push, list_all, list_all-append, lock_kind, of-push_other, of-without_other, of-without_own, of_other, of_other_number, once-push, once-without, option_to_list, owned_set, pending, some, ticket_by, ticket_of, waiting_kept, waiting_set, without}
 use Rattle.mdl_steps.proofs.Deeds.{all_fast-set}
 use Rattle.mdl_steps.proofs.Desks.{each-append}
-use Rattle.mdl_steps.proofs.Tickets.{is_itself, is_passed, of_other, of_other_number, of-push_other, once-push, of-without_own, of-without_other, once-without, all-without}
-use Rattle.mdl_steps.proofs.Views.{by_bool}
-use Rattle.mdl_steps.proofs.Waiting.{owned_set, waiting_set, waiting_kept}
 
 -- ---- look-ups
 

@@ -1,41 +1,10 @@
 -- A session opens a wait, and ends it: steps on its own wait's word.
-use Rattle.std.proofs.Common.{◌≡◌, ◌≢◌, ℕ, ◌+◌, ◌*◌, ◌/◌, ◌%◌, ◌<◌, ◌≤◌, ◌==◌, cond, List, [], ◌∷◌, ◌++◌, map, set, length, Some, None, refl, sym, ap, ◌∙◌, subst, arith}
-use Rattle.std.specs.Prelude.{Option}
-use mathlib.Core.Option.{some, none}
-use lib.ListN.{get_elem?}
-use Rattle.atomic_table.specs.Table.{Allows, step, keeps}
-use Rattle.atomic_table.proofs.Lists.{at_map}
-use Rattle.mdl_key.specs.Words.{KeyName}
-use Rattle.mdl_key.specs.declared.mode.Mode.{Mode}
-use Rattle.mdl_book.specs.declared.ticket.Ticket.{Ticket}
-use Rattle.mdl_book.specs.Books.{lock_kind}
-use Rattle.mdl_steps.specs.declared.deed.Deed.TheVariants.{Gain}
-use Rattle.mdl_steps.specs.declared.view.Ask.{Ask}
-use Rattle.mdl_steps.specs.declared.view.LatchRecord.{LatchRecord}
-use Rattle.mdl_key.specs.declared.known_key.KnownKey.{KnownKey}
-use Rattle.mdl_steps.specs.declared.view.SessionTicket.{SessionTicket}
-use Rattle.mdl_steps.specs.declared.view.View.{View}
-use Rattle.mdl_steps.specs.Cells.{Part, asking_at, part_at, holder_at, held_at, note_at, own_at, waiter_of, waits, cell, all_fast}
-use Rattle.mdl_steps.specs.Histories.{ReachedFor}
-use Rattle.mdl_steps.specs.Layout.{wait_word}
-use Rattle.mdl_steps.specs.Lists.{Each}
-use Rattle.mdl_steps.specs.Plays.{Mine}
-use Rattle.mdl_steps.specs.Rule.{AreUnmixed, Rule, PlaceOk, NoteAgrees, WaitOk, key_at}
-use Rattle.mdl_steps.specs.TableChanges.{Makes}
-use Rattle.mdl_steps.specs.WaitPlays.{wait_in, asking, asked_ticket, opened, taken_over, ended_granted, ended_lost, with_waiting, with_cancelled, opens_wait, ends_granted, ends_lost}
-use Rattle.mdl_steps.specs.WaitSeats.{MayOpen, MayCancel}
-use Rattle.mdl_steps.proofs.Histories.{Shown, Shows, goes_on}
+use Rattle.std.proofs.Common.{◌≡◌, ◌≢◌, ℕ, ◌+◌, ◌*◌, ◌/◌, ◌%◌, ◌<◌, ◌≤◌, ◌==◌, cond, List, [], ◌∷◌, ◌++◌, map, set, length, Some, None, refl, sym, ap, ◌∙◌, subst, arith, Option}
+use Rattle.mdl_steps.proofs.FirstLemmas.{Allows, AreUnmixed, Ask, Each, Gain, KeyName, KnownKey, LatchRecord, Makes, MayCancel, MayOpen, Mine, Mode, NoteAgrees, Part, PlaceOk, ReachedFor, Rule, SessionTicket, Shown, Shows, Table, Ticket, Under, View, WaitOk, after, all_fast, alone, alone_parts, asked_ticket, asking, asking_at, at_map, by_bool, cell, each-from_at, each-note, each_at, ended_granted, ended_lost, ended_wait, ends_granted, ends_lost, exact_again, flagged_cancelled, get_elem?, goes_on, held_at, held_at-changed, held_at-unchanged, holder_at, holder_cell, holders_again, keeps, key_at, lock_kind, none, note_at, opened, opened_wait, opens_wait, other, own_at, owned_else, paid_before, part_at, seat_there, some, step, taken_over, under, wait_in, wait_word, waiter_of, waits, with_cancelled, with_waiting}
 use Rattle.mdl_steps.proofs.Desks.{each-append}
-use Rattle.mdl_steps.proofs.Holder.{Under, under, holder_cell}
-use Rattle.mdl_steps.proofs.Lift.{Table, after, alone, alone_parts, seat_there, holders_again}
-use Rattle.mdl_steps.proofs.Paid.{exact_again, paid_before}
-use Rattle.mdl_steps.proofs.Owns.{each-from_at, each-note, owned_else}
-use Rattle.mdl_steps.proofs.Views.{by_bool, each_at, held_at-changed, held_at-unchanged, other}
 use Rattle.mdl_steps.proofs.WaitBooks.{opened_ok, taken_ok, cancelled_ok, fast_kept}
-use Rattle.mdl_steps.proofs.WaitFlags.{flagged_cancelled}
 use Rattle.mdl_steps.proofs.WaitFrame.{on_wait, waits_here, own_parts, own_parts_else, own_waits}
 use Rattle.mdl_steps.proofs.WaitSteps.{wished, asked_here, part_cell}
-use Rattle.mdl_steps.proofs.WaitWords.{opened_wait, ended_wait}
 
 -- ---- tickets' numbers
 

@@ -1,20 +1,7 @@
 -- A step on a wait's word: the cells of all places but one stay as they are, so the rule holds after it if it holds there.
-use Rattle.std.proofs.Common.{◌≡◌, ◌≢◌, ℕ, zero, suc, ◌+◌, ◌*◌, ◌<◌, ◌≤◌, List, [], ◌∷◌, map, set, length, get_or, Some, None, refl, sym, ap, ◌∙◌, subst, inl, inr, arith, length-set, get_or-set_other, get_or-set_same}
-use Rattle.std.specs.Prelude.{Option}
-use Rattle.std.proofs.lemmas.Bool.{cases_eq}
-use Rattle.std.proofs.lemmas.List.{map-set}
-use mathlib.Core.Option.{some, some-injective, some-ne-none}
-use lib.ListN.{get_elem?}
-use Rattle.atomic_table.proofs.Lists.{at_map, at_set, set_again}
-use Rattle.mdl_steps.specs.declared.view.Ask.{Ask}
-use Rattle.mdl_key.specs.declared.known_key.KnownKey.{KnownKey}
-use Rattle.mdl_steps.specs.declared.view.View.{View}
-use Rattle.mdl_steps.specs.Cells.{Part, Waiter, asking_at, part_at, holder_at, desk_of, waiter_of, waits, cell}
-use Rattle.mdl_steps.specs.Layout.{latch_word, lock_word, version_word, wait_word}
-use Rattle.mdl_steps.specs.Rule.{Rule, PlaceOk, Numbered, KnowsKeys, WaitOk, WaitsAgree, key_at}
+use Rattle.std.proofs.Common.{◌≡◌, ◌≢◌, ℕ, zero, suc, ◌+◌, ◌*◌, ◌<◌, ◌≤◌, List, [], ◌∷◌, map, set, length, get_or, Some, None, refl, sym, ap, ◌∙◌, subst, inl, inr, arith, length-set, get_or-set_other, get_or-set_same, Option}
+use Rattle.mdl_steps.proofs.FirstLemmas.{Ask, KnownKey, KnowsKeys, Numbered, Part, PlaceOk, Rule, Table, View, WaitOk, Waiter, WaitsAgree, after, asking_at, at_map, at_set, at_unmap, cases_eq, cell, desk_of, get_elem?, holder_at, key_at, latch_word, lock_word, map-set, map_kept, other, part_at, set_again, some, some-injective, some-ne-none, version_word, wait_word, waiter_of, waits}
 use Rattle.mdl_steps.proofs.Deeds.{set_twice}
-use Rattle.mdl_steps.proofs.Lift.{Table, after}
-use Rattle.mdl_steps.proofs.Views.{map_kept, at_unmap, other}
 
 -- ---- parts by other wait words
 

@@ -1,41 +1,11 @@
 -- A wait of a session is granted, under the latch of the place where its ticket waits.
 use Rattle.std.proofs.Common.{◌≡◌, ◌≢◌, ℕ, ◌%◌, ◌<◌, ◌≤◌, ◌==◌, true, false, List, [], ◌∷◌, ◌++◌, map, set, length, Some, None, refl, sym, ap, ◌∙◌, subst, arith}
-use Rattle.std.specs.Option.{option_to_list}
-use mathlib.Core.Option.{some, none}
-use lib.ListN.{get_elem?}
-use prog.Atomic.{either}
-use Rattle.atomic_table.specs.Table.{Allows, step, keeps}
-use Rattle.atomic_table.proofs.Lists.{at_map, exchanged}
-use Rattle.mdl_book.specs.declared.ticket.Ticket.{Ticket}
-use Rattle.mdl_book.specs.Books.{lock_kind, admitting}
-use Rattle.mdl_book.specs.Granting.{is_compatible}
-use Rattle.mdl_book.specs.Tickets.{is_ticket, ticket_of}
-use Rattle.mdl_steps.specs.declared.step_kind.StepKind.TheVariants as step_kind
-use Rattle.mdl_steps.specs.declared.view.Ask.{Ask}
-use Rattle.mdl_steps.specs.declared.view.LatchRecord.{LatchRecord}
-use Rattle.mdl_steps.specs.declared.view.SessionTicket.{SessionTicket}
-use Rattle.mdl_steps.specs.declared.view.View.{View}
-use Rattle.mdl_steps.specs.Cells.{Part, pending, asking_at, part_at, holder_at, own_at, ticket_by, waits, cell, all_fast}
-use Rattle.mdl_steps.specs.Histories.{ReachedFor}
-use Rattle.mdl_steps.specs.Layout.{wait_word}
-use Rattle.mdl_steps.specs.Lists.{Each}
-use Rattle.mdl_steps.specs.Plays.{Mine}
-use Rattle.mdl_steps.specs.Rule.{Rule, PlaceOk, BookOk, WaitOk, key_at}
-use Rattle.mdl_steps.specs.TableChanges.{Makes}
-use Rattle.mdl_steps.specs.WaitPlays.{wait_in, missed_wait, settled_granted, with_admitted, TellsOwn, settles_granted}
-use Rattle.mdl_steps.specs.WaitSeats.{MayGrant}
-use Rattle.mdl_steps.proofs.Histories.{Shows, goes_on}
+use Rattle.mdl_steps.proofs.FirstLemmas.{Allows, Ask, BookOk, Each, LatchRecord, Makes, MayGrant, Mine, Part, PlaceOk, ReachedFor, Rule, SessionTicket, Shows, Table, TellsOwn, Ticket, Under, View, WaitOk, admitting, after, all_fast, alone, alone_parts, asking_at, at_map, by_bool, cell, either, exact_again, exchanged, flagged_admitted, get_elem?, goes_on, held_at-changed, held_at-unchanged, holder_at, holder_cell, is_compatible, is_passed, is_ticket, keeps, key_at, lock_kind, missed_wait, none, of_other_number, option_to_list, own_at, part_at, pending, seat_there, settled_granted, settled_ok, settles_granted, some, step, ticket_by, ticket_of, under, wait_in, wait_word, waits, with_admitted}
 use Rattle.mdl_steps.proofs.Deeds.{may_join}
-use Rattle.mdl_steps.proofs.Holder.{Under, under, holder_cell}
-use Rattle.mdl_steps.proofs.Lift.{Table, after, alone, alone_parts, seat_there}
-use Rattle.mdl_steps.proofs.Paid.{exact_again}
-use Rattle.mdl_steps.proofs.Tickets.{is_passed, of_other_number}
-use Rattle.mdl_steps.proofs.Views.{by_bool, held_at-changed, held_at-unchanged}
 use Rattle.mdl_steps.proofs.WaitBooks.{granted_ok, fast_kept}
-use Rattle.mdl_steps.proofs.WaitFlags.{flagged_admitted}
 use Rattle.mdl_steps.proofs.WaitFrame.{on_wait, waits_here, their_parts, their_parts_else, part_away}
 use Rattle.mdl_steps.proofs.WaitSteps.{Waiting, waiting_session, wished, asked_here, their_waits, met_rule, tells_own, Steps}
-use Rattle.mdl_steps.proofs.WaitWords.{settled_ok}
+use Rattle.mdl_steps.specs.declared.step_kind.StepKind.TheVariants as step_kind
 
 -- a ticket that waits at a place is that for which its session asks
 pub found_asked : (place n word m : ℕ) (a : Ask) (u : Ticket) → ticket_of n m (option_to_list (pending (asking_at place n word (Some a)))) ≡ Some u

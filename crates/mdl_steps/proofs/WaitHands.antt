@@ -1,13 +1,8 @@
 -- What a seat has in hand after a step on a wait's word.
-use Rattle.std.proofs.Common.{◌≡◌, ℕ, ◌==◌, List, ◌∷◌, map, cond, not, sym, ap, ◌∙◌, subst}
-use Rattle.std.specs.Prelude.{filter}
-use Rattle.mdl_book.specs.declared.book_view.BookView.{BookView}
-use Rattle.mdl_steps.specs.declared.step_kind.StepKind.TheVariants as step_kind
-use Rattle.mdl_steps.specs.declared.view.LatchRecord.{LatchRecord}
-use Rattle.mdl_steps.specs.Cells.{held_at}
-use Rattle.mdl_steps.specs.Plays.{Mine}
-use Rattle.mdl_steps.specs.Seats.{Holds, elsewhere}
+use Rattle.std.proofs.Common.{◌≡◌, ℕ, ◌==◌, List, ◌∷◌, map, cond, not, sym, ap, ◌∙◌, subst, filter}
+use Rattle.mdl_steps.proofs.Common.{BookView, Holds, LatchRecord, Mine, elsewhere, held_at}
 use Rattle.mdl_steps.proofs.Hands.{holds_stepped, elsewhere-stepped}
+use Rattle.mdl_steps.specs.declared.step_kind.StepKind.TheVariants as step_kind
 
 module _ (place : ℕ) (f : LatchRecord → LatchRecord) (stays : (x : LatchRecord) → (f x).place ≡ x.place) (m m′ : Mine) (latches : m′.0.latches ≡ map (λ h. cond (h.place == place) (f h) h) m.0.latches) (hand : m′.1 ≡ m.1) where
   -- the record of the place is changed

@@ -1,35 +1,9 @@
 -- A wait's word is read, or a wait is settled as lost: no step of these needs a latch.
-use Rattle.std.proofs.Common.{◌≡◌, ◌≢◌, ℕ, zero, suc, ◌%◌, ◌<◌, ◌≤◌, ◌==◌, ◌⊎◌, List, [], ◌∷◌, map, set, length, get_or, Some, None, refl, sym, ap, ◌∙◌, subst, inl, inr, arith, eq-eqb}
-use Rattle.std.specs.Prelude.{Option}
-use Rattle.std.proofs.lemmas.Bool.{cases_eq}
-use Rattle.std.proofs.lemmas.List.{map-set}
-use mathlib.Core.Option.{some, none, some-injective, some-ne-none}
-use lib.ListN.{get_elem?}
-use prog.Atomic.{either}
-use Rattle.atomic_table.specs.Table.{Allows, step, keeps}
-use Rattle.atomic_table.proofs.Lists.{at_map, at_set, set_here, set_else, exchanged}
-use Rattle.mdl_key.specs.Words.{KeyName}
-use Rattle.mdl_book.specs.declared.ticket.Ticket.{Ticket}
-use Rattle.mdl_steps.specs.declared.step_kind.StepKind.{StepKind}
-use Rattle.mdl_steps.specs.declared.step_kind.StepKind.TheVariants as step_kind
-use Rattle.mdl_steps.specs.declared.view.Ask.{Ask}
-use Rattle.mdl_steps.specs.declared.view.View.{View}
-use Rattle.mdl_steps.specs.declared.wait_word.Loss.{Loss}
-use Rattle.mdl_steps.specs.Cells.{Part, Cell, Waiter, asking_at, part_at, holder_at, desk_of, waiter_of, waits, cell, all_fast}
-use Rattle.mdl_steps.specs.Histories.{ReachedFor}
-use Rattle.mdl_steps.specs.Layout.{wait_word}
-use Rattle.mdl_steps.specs.Plays.{Mine}
-use Rattle.mdl_steps.specs.Rule.{Rule, PlaceOk, BookOk, IsPaidBut, Numbered, WaitOk, WaitsAgree, KnowsKeys, key_at}
-use Rattle.mdl_steps.specs.TableChanges.{Makes}
-use Rattle.mdl_steps.specs.WaitPlays.{wait_in, meeting, met_wait_by, met_wait, missed_wait, settled_lost, TellsOwn, reads_wait, settles_lost}
-use Rattle.mdl_steps.specs.WaitStates.{lost_state}
-use Rattle.mdl_steps.proofs.Histories.{Shows, goes_on}
-use Rattle.mdl_steps.proofs.Lift.{Table, after, alone_parts, holders_again}
-use Rattle.mdl_steps.proofs.Paid.{paid_before}
-use Rattle.mdl_steps.proofs.Views.{map_kept, at_inside, at_unmap}
+use Rattle.std.proofs.Common.{◌≡◌, ◌≢◌, ℕ, zero, suc, ◌%◌, ◌<◌, ◌≤◌, ◌==◌, ◌⊎◌, List, [], ◌∷◌, map, set, length, get_or, Some, None, refl, sym, ap, ◌∙◌, subst, inl, inr, arith, eq-eqb, Option}
+use Rattle.mdl_steps.proofs.FirstLemmas.{Allows, Ask, BookOk, Cell, IsPaidBut, KeyName, KnowsKeys, Loss, Makes, Mine, Numbered, Part, PlaceOk, ReachedFor, Rule, Shows, StepKind, Table, TellsOwn, Ticket, View, WaitOk, Waiter, WaitsAgree, after, all_fast, alone_parts, asking_at, at_inside, at_map, at_set, at_unmap, cases_eq, cell, desk_of, either, exchanged, get_elem?, goes_on, holder_at, holders_again, keeps, key_at, lost_state, map-set, map_kept, meeting, met_else, met_ok, met_wait, met_wait_by, missed_wait, none, paid_before, part_at, reads_wait, set_else, set_here, settled_lost, settled_ok, settles_lost, some, some-injective, some-ne-none, step, wait_in, wait_word, waiter_of, waits}
 use Rattle.mdl_steps.proofs.WaitBooks.{lost_ok, fast_kept}
 use Rattle.mdl_steps.proofs.WaitFrame.{on_wait, waits_else, waits_here, their_parts, their_parts_else, part_away}
-use Rattle.mdl_steps.proofs.WaitWords.{met_ok, met_else, settled_ok}
+use Rattle.mdl_steps.specs.declared.step_kind.StepKind.TheVariants as step_kind
 
 -- ---- lists
 

@@ -1,26 +1,10 @@
 -- What the rule's clauses on waits come to.
-use Rattle.std.proofs.Common.{◌≡◌, ◌≢◌, ℕ, ◌%◌, ◌<◌, cond, [], ◌++◌, map, length, Some, None, refl, sym, ap, ◌∙◌}
-use Rattle.std.specs.Prelude.{Option}
-use Rattle.std.specs.Option.{option_to_list}
-use Rattle.std.proofs.lemmas.Bool.{eq-eqb}
-use mathlib.Core.Option.{some, some-injective}
-use lib.ListN.{get_elem?}
-use Rattle.atomic_table.specs.Table.{State}
-use Rattle.atomic_table.proofs.Lists.{at_map}
-use Rattle.mdl_book.specs.declared.book_view.BookView.{BookView}
-use Rattle.mdl_book.specs.declared.ticket.Ticket.{Ticket}
-use Rattle.mdl_book.specs.Tickets.{ticket_of}
-use Rattle.mdl_steps.specs.declared.slot.Slot.{Slot}
-use Rattle.mdl_steps.specs.declared.slot.Slot.TheVariants as slot
-use Rattle.mdl_steps.specs.declared.view.Ask.{Ask}
-use Rattle.mdl_steps.specs.declared.view.View.{View}
-use Rattle.mdl_steps.specs.Cells.{Part, asking_at, part_at, own_at, ticket_by, due, pending, waiter_of, waits}
-use Rattle.mdl_steps.specs.Rule.{Rule}
-use Rattle.mdl_steps.specs.RuleLaws.{WaitersAreAsTheirWordsTell, NobodyElseWaits}
-use Rattle.mdl_steps.proofs.Views.{at_unmap}
+use Rattle.std.proofs.Common.{◌≡◌, ◌≢◌, ℕ, ◌%◌, ◌<◌, cond, [], ◌++◌, map, length, Some, None, refl, sym, ap, ◌∙◌, Option, eq-eqb}
+use Rattle.mdl_steps.proofs.FirstLemmas.{Ask, BookView, NobodyElseWaits, Part, Rule, Slot, State, Ticket, View, WaitersAreAsTheirWordsTell, asking_at, at_map, at_unmap, due, get_elem?, option_to_list, own_at, part_at, pending, some, some-injective, ticket_by, ticket_of, waiter_of, waits}
 use Rattle.mdl_steps.proofs.WaitBooks.{first_found}
 use Rattle.mdl_steps.proofs.WaitGrants.{found_asked}
 use Rattle.mdl_steps.proofs.WaitSteps.{wished, asked_here}
+use Rattle.mdl_steps.specs.declared.slot.Slot.TheVariants as slot
 
 pub waiters_told : WaitersAreAsTheirWordsTell
 waiters_told s r i v seat =

@@ -1,12 +1,6 @@
 -- What the rule says of a session's wait word, as the word or what the session knows of it changes.
-use Rattle.std.proofs.Common.{◌≡◌, ◌≢◌, ℕ, ◌+◌, ◌*◌, ◌%◌, ◌<◌, ◌≤◌, ◌==◌, ◌&&◌, cond, Some, None, sym, ap, ◌∙◌, subst, arith}
-use Rattle.std.specs.Prelude.{nat_lt}
-use Rattle.std.proofs.lemmas.Bool.{ltb-true, and_parts}
-use Rattle.mdl_steps.specs.declared.view.Ask.{Ask}
-use Rattle.mdl_steps.specs.declared.view.View.{View}
-use Rattle.mdl_steps.specs.Cells.{Waiter, waiter_of}
-use Rattle.mdl_steps.specs.Rule.{WaitOk}
-use Rattle.mdl_steps.specs.WaitPlays.{wait_in, meeting}
+use Rattle.std.proofs.Common.{◌≡◌, ◌≢◌, ℕ, ◌+◌, ◌*◌, ◌%◌, ◌<◌, ◌≤◌, ◌==◌, ◌&&◌, cond, Some, None, sym, ap, ◌∙◌, subst, arith, nat_lt, ltb-true}
+use Rattle.mdl_steps.proofs.Common.{Ask, View, WaitOk, Waiter, and_parts, meeting, wait_in, waiter_of}
 use Rattle.mdl_steps.proofs.Views.{by_bool, other}
 
 -- a session that met its own word goes on to know it

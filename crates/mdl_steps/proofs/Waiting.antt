@@ -1,18 +1,6 @@
 -- The waiting list and what sessions know of their waits, after the part or the wait of one session changed.
 use Rattle.std.proofs.Common.{◌≡◌, ◌≢◌, ℕ, true, List, set, refl, sym, ap, ◌∙◌, subst, inl, inr}
-use Rattle.std.specs.List.{list_all}
-use Rattle.std.specs.Option.{option_to_list}
-use Rattle.std.proofs.lemmas.Bool.{cases_eq}
-use mathlib.Core.Option.{some, some-injective}
-use lib.ListN.{get_elem?}
-use Rattle.atomic_table.proofs.Lists.{at_set, set_here, set_else}
-use Rattle.mdl_key.specs.declared.namespace.Kind.{Kind}
-use Rattle.mdl_key.specs.Words.{is_mode_of}
-use Rattle.mdl_book.specs.declared.ticket.Ticket.{Ticket}
-use Rattle.mdl_book.specs.Tickets.{ticket_of}
-use Rattle.mdl_steps.specs.Cells.{Part, pending}
-use Rattle.mdl_steps.specs.Lists.{Once}
-use Rattle.mdl_steps.specs.Rule.{Owned, WaitingOk}
+use Rattle.mdl_steps.proofs.Common.{Kind, Once, Owned, Part, Ticket, WaitingOk, at_set, cases_eq, get_elem?, is_mode_of, list_all, option_to_list, pending, set_else, set_here, some, some-injective, ticket_of}
 use Rattle.mdl_steps.proofs.Views.{at_inside}
 
 module _ (parts : List Part) (id : ℕ) (x y : Part) (at : get_elem? parts id ≡ some x) (number : y.number ≡ x.number) where

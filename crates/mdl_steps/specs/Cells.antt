@@ -1,23 +1,7 @@
 -- The cell of a place: its words, its slot, and what each session knows of the place and has there. A step at one place leaves the cells of all
 -- other places unchanged.
 use Rattle.std.specs.Prelude.{ℕ, ◌==◌, Bool, false, List, [], ◌∷◌, ◌++◌, filter, find, map, length, slice_index, if◌then◌else◌, Option, Some, None}
-use Rattle.std.specs.List.{list_any}
-use Rattle.std.specs.Option.{option_and_then, option_to_list}
-use mathlib.Core.Option.{Option as Maybe}
-use lib.ListN.{get_elem?}
-use Rattle.atomic_table.specs.Table.{State}
-use Rattle.mdl_key.specs.declared.namespace.Kind.{Kind}
-use Rattle.mdl_book.specs.declared.ticket.Ticket.{Ticket}
-use Rattle.mdl_book.specs.FastTickets.{is_of_class}
-use Rattle.std.specs.List.{count_by}
-use Rattle.mdl_steps.specs.declared.slot.Slot.{Slot}
-use Rattle.mdl_steps.specs.declared.view.Ask.{Ask}
-use Rattle.mdl_steps.specs.declared.view.LatchRecord.{LatchRecord}
-use Rattle.mdl_steps.specs.declared.view.Keys.{Keys}
-use Rattle.mdl_steps.specs.declared.view.SessionTicket.{SessionTicket}
-use Rattle.mdl_defs.specs.declared.reading.Reading.{Reading}
-use Rattle.mdl_steps.specs.declared.view.Spare.{Spare}
-use Rattle.mdl_steps.specs.declared.view.View.{View}
+use Rattle.mdl_steps.specs.Prelude.{Ask, Keys, Kind, LatchRecord, Maybe, Reading, SessionTicket, Slot, Spare, State, Ticket, View, count_by, get_elem?, is_of_class, list_any, option_and_then, option_to_list}
 use Rattle.mdl_steps.specs.Layout.{latch_word, lock_word, version_word, wait_word}
 use Rattle.mdl_steps.specs.WaitStates.{granted_state, wait_state}
 

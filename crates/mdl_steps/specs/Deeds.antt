@@ -1,23 +1,7 @@
 -- What a session does to its own tickets under a latch, and when it may: `MDL_context::try_acquire_lock`, `clone_ticket`,
 -- `upgrade_shared_lock` and `release_lock` of MySQL 5.7, sql/mdl.cc, without their ways of finding out.
 use Rattle.std.specs.Prelude.{◌≡◌, ◌≢◌, ℕ, ◌+◌, ◌==◌, ◌&&◌, Bool, true, false, not, List, [], ◌∷◌, ◌++◌, map, filter, Contains, Option, Some, None, if◌then◌else◌, ◌⊎◌}
-use lib.ListN.{get_elem?}
-use mathlib.Core.Option.{some}
-use Rattle.mdl_key.specs.declared.mode.Mode.{Mode}
-use Rattle.mdl_key.specs.Words.{IsAtLeast, is_mode_of, is_obtrusive}
-use Rattle.mdl_book.specs.declared.book_view.BookView.{BookView}
-use Rattle.mdl_book.specs.declared.ticket.Ticket.{Ticket}
-use Rattle.mdl_book.specs.Books.{lock_kind, granting, changing, removing}
-use Rattle.mdl_book.specs.FastTickets.{may_stand}
-use Rattle.mdl_book.specs.Granting.{is_compatible, goes_first}
-use Rattle.mdl_book.specs.Tickets.{ticket_of}
-use Rattle.mdl_steps.specs.declared.deed.Deed.{Deed}
-use Rattle.mdl_steps.specs.declared.deed.Deed.TheVariants.{Gain, Alter, Lose}
-use Rattle.mdl_steps.specs.declared.view.Ask.{Ask}
-use Rattle.mdl_key.specs.declared.known_key.KnownKey.{KnownKey}
-use Rattle.mdl_steps.specs.declared.view.SessionTicket.{SessionTicket}
-use Rattle.mdl_steps.specs.declared.view.View.{View}
-use Rattle.mdl_system.specs.Strength.{downgrades}
+use Rattle.mdl_steps.specs.Prelude.{Alter, Ask, BookView, Deed, Gain, IsAtLeast, KnownKey, Lose, Mode, SessionTicket, Ticket, View, changing, downgrades, get_elem?, goes_first, granting, is_compatible, is_mode_of, is_obtrusive, lock_kind, may_stand, removing, some, ticket_of}
 use Rattle.mdl_steps.specs.Cells.{note_at}
 
 -- ---- what is done

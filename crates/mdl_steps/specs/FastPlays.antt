@@ -2,32 +2,9 @@
 -- the lock's word counts it. After MySQL 5.7, sql/mdl.cc: the fast paths of `MDL_context::try_acquire_lock_impl` and
 -- `MDL_context::release_lock`, and `MDL_context::materialize_fast_path_locks`.
 use Rattle.std.specs.Prelude.{◌≡◌, ◌≢◌, ℕ, ◌+◌, ◌<◌, ◌==◌, not, true, false, if◌then◌else◌, List, [], ◌∷◌, ◌++◌, map, filter, find, length, is_some, Option, Some, None}
-use Rattle.std.specs.Option.{option_and_then}
-use lib.ListN.{get_elem?}
-use mathlib.Core.Option.{some}
-use Rattle.atomic_table.specs.Table.{Step}
-use Rattle.mdl_key.specs.declared.mode.Mode.{Mode}
-use Rattle.mdl_key.specs.declared.namespace.Kind.{Kind}
-use Rattle.mdl_key.specs.Words.{kind_of}
-use Rattle.mdl_word.specs.Words.{encode, increment_of, slow_flag}
-use Rattle.mdl_book.specs.declared.book_view.BookView.{BookView}
-use Rattle.mdl_book.specs.declared.ticket.Ticket.{Ticket}
-use Rattle.mdl_book.specs.Books.{lock_kind}
-use Rattle.mdl_steps.specs.declared.deed.Deed.TheVariants.{Gain, Lose}
-use Rattle.mdl_steps.specs.declared.slot.Slot.{Slot}
-use Rattle.mdl_steps.specs.declared.step_kind.StepKind.{StepKind}
-use Rattle.mdl_steps.specs.declared.step_kind.StepKind.TheVariants as step
-use Rattle.mdl_steps.specs.declared.view.LatchRecord.{LatchRecord}
-use Rattle.mdl_key.specs.declared.known_key.KnownKey.{KnownKey}
-use Rattle.mdl_steps.specs.declared.view.SessionTicket.{SessionTicket}
-use Rattle.mdl_steps.specs.declared.view.View.{View}
-use Rattle.mdl_steps.specs.Cells.{counted, held_at, own_at, ticket_by}
-use Rattle.mdl_steps.specs.Deeds.{KnowsPlace, is_own}
-use Rattle.mdl_steps.specs.Interleavings.{interleaved}
-use Rattle.mdl_steps.specs.Layout.{lock_word}
-use Rattle.mdl_steps.specs.Limits.{most_fast}
-use Rattle.mdl_steps.specs.Lists.{Once}
+use Rattle.mdl_steps.specs.FirstWords.{BookView, Gain, Kind, KnownKey, KnowsPlace, LatchRecord, Lose, Mode, Once, SessionTicket, Slot, Step, StepKind, Ticket, View, counted, encode, get_elem?, held_at, increment_of, interleaved, is_own, kind_of, lock_kind, lock_word, most_fast, option_and_then, own_at, slow_flag, some, ticket_by}
 use Rattle.mdl_steps.specs.Plays.{Mine, changed, logged}
+use Rattle.mdl_steps.specs.declared.step_kind.StepKind.TheVariants as step
 
 -- ---- the view
 

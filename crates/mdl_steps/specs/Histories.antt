@@ -1,12 +1,6 @@
 -- The tables that are reached by whole changes from an opening.
 use Rattle.std.specs.Prelude.{◌≡◌, ℕ, List, length}
-use Rattle.atomic_table.specs.Table.{State, opening}
-use Rattle.mdl_steps.specs.declared.slot.Slot.{Slot}
-use Rattle.mdl_steps.specs.declared.view.View.{View}
-use Rattle.mdl_steps.specs.Cells.{blank, numbers_for}
-use Rattle.mdl_steps.specs.Layout.{word_count}
-use Rattle.mdl_steps.specs.Openings.{IsOpening}
-use Rattle.mdl_steps.specs.Rule.{Rule}
+use Rattle.mdl_steps.specs.FirstWords.{IsOpening, Rule, Slot, State, View, blank, numbers_for, opening, word_count}
 use Rattle.mdl_steps.specs.TableChanges.{IsWholeChange, TableChange}
 
 -- a table is reached by whole changes from an opening, and the rule holds after each of them

@@ -1,18 +1,15 @@
 -- What a session has in hand, borrowed for writing: the book of a place, or the directory.
 use Rattle.std.specs.Prelude.{ℕ}
-use Rattle.std.specs.Borrow.{Fml, Lends, MutBor}
 use Rattle.atomic_table.specs.Lent.{seat_with}
 use Rattle.atomic_table.specs.contracts.shared.Seat as seat
 use Rattle.atomic_table.specs.declared.shared.Seat.{Seat}
 use Rattle.mdl_book.specs.contracts.book.Book as book
-use Rattle.mdl_book.specs.declared.book_view.BookView.{BookView}
+use Rattle.std.specs.Borrow.{Fml, Lends, MutBor}
+use Rattle.mdl_steps.specs.Prelude.{BookView, Keys, Slot, View}
 use Rattle.mdl_steps.specs.contracts.slot.Directory as directory
 use Rattle.mdl_steps.specs.contracts.slot.Slot as slot
 use Rattle.mdl_steps.specs.contracts.view.View as view
-use Rattle.mdl_steps.specs.declared.slot.Slot.{Slot}
 use Rattle.mdl_steps.specs.declared.slot.Slot.TheVariants.{Directory, Place}
-use Rattle.mdl_steps.specs.declared.view.Keys.{Keys}
-use Rattle.mdl_steps.specs.declared.view.View.{View}
 
 -- when the borrow ends, the seat has in hand, for the place, the book that the reference last had
 abbrev pub LendsBook : ℕ → MutBor (Seat Slot View) → MutBor BookView → Fml

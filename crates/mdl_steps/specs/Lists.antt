@@ -1,7 +1,6 @@
 -- Definitions on lists, which the rule of the table uses.
 use Rattle.std.specs.Prelude.{◌≡◌, List, [], ◌∷◌, None}
-use Rattle.mdl_book.specs.declared.ticket.Ticket.{Ticket}
-use Rattle.mdl_book.specs.Tickets.{ticket_of}
+use Rattle.mdl_steps.specs.Prelude.{Ticket, ticket_of}
 
 -- `P` holds for each element of the list
 abbrev pub Each : {X : Type 0} → (X → Type 0) → List X → Type 0

@@ -1,14 +1,9 @@
 -- The table at the start, before any session has a number.
 use Rattle.std.specs.Prelude.{◌≡◌, ◌≢◌, ℕ, ◌<◌, ◌≤◌, List, [], ◌∷◌, length, replicate, slice_index, slice_set}
-use mathlib.Core.Option.{some}
-use lib.ListN.{get_elem?}
-use Rattle.mdl_key.specs.Keys.{global_key}
-use Rattle.mdl_key.specs.Words.{KeyName}
-use Rattle.mdl_book.specs.Books.{empty_book}
-use Rattle.mdl_steps.specs.declared.slot.Slot.{Slot}
-use Rattle.mdl_steps.specs.declared.slot.Slot.TheVariants as slot
+use Rattle.mdl_steps.specs.Prelude.{KeyName, Slot, empty_book, get_elem?, global_key, some}
 use Rattle.mdl_steps.specs.Layout.{enrol_word, word_count}
 use Rattle.mdl_steps.specs.Limits.{most_enrolled}
+use Rattle.mdl_steps.specs.declared.slot.Slot.TheVariants as slot
 
 -- the words and slots of a new table: the directory is empty, and so is the book of each place. The first number to be drawn is 1, and every other
 -- word is 0

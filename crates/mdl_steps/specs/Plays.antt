@@ -2,38 +2,9 @@
 -- added to the session's list of steps: its kind, what the session did to its own tickets, its word, the value of the word before, and the
 -- records of the latches that the session held.
 use Rattle.std.specs.Prelude.{◌≡◌, ◌≢◌, ℕ, ◌+◌, ◌-◌, ◌<◌, ◌≤◌, ◌==◌, not, Bool, true, false, ◌&&◌, ◌||◌, List, [], ◌∷◌, ◌++◌, map, filter, length, Some, None, if◌then◌else◌}
-use lib.ListN.{get_elem?}
-use mathlib.Core.Option.{some}
-use Rattle.atomic_table.specs.Table.{Me, Step, rest}
-use Rattle.std.specs.List.{list_all}
-use Rattle.std.specs.Option.{option_map}
-use Rattle.mdl_key.specs.Words.{KeyName, is_mode_of, is_obtrusive}
-use Rattle.mdl_word.specs.Words.{flags_alone, all_but_flags}
-use Rattle.mdl_defs.specs.declared.versioned_definition.VersionedDefinition.{VersionedDefinition}
-use Rattle.mdl_defs.specs.VersionedDefinitions.{MayStand}
-use Rattle.mdl_book.specs.declared.book_view.BookView.{BookView}
-use Rattle.mdl_book.specs.declared.ticket.Ticket.{Ticket}
-use Rattle.mdl_book.specs.Tickets.{ticket_of}
-use Rattle.mdl_book.specs.Granting.{is_compatible, is_lawful}
-use Rattle.mdl_book.specs.Books.{lock_kind}
-use Rattle.mdl_steps.specs.declared.deed.Deed.{Deed}
-use Rattle.mdl_steps.specs.declared.slot.Slot.{Slot}
+use Rattle.mdl_steps.specs.FirstWords.{AreUnmixed, Ask, BookView, Deed, Distinct, Each, IsLost, IsUnused, KeyName, Keys, KnownKey, KnowsKeys, LatchRecord, MayStand, Me, NotWaited, NoteAgrees, Once, ReadAgrees, SessionTicket, Slot, Step, StepKind, TellsLists, Ticket, VersionedDefinition, View, all_but_flags, all_done, flags_alone, frees, get_elem?, is_compatible, is_lawful, is_mode_of, is_obtrusive, key_at, latch_word, list_all, lock_kind, lock_word, most_fast, option_map, own_at, reads_at, rest, some, ticket_by, ticket_of, version_word}
 use Rattle.mdl_steps.specs.declared.slot.Slot.TheVariants as slot
-use Rattle.mdl_steps.specs.declared.step_kind.StepKind.{StepKind}
 use Rattle.mdl_steps.specs.declared.step_kind.StepKind.TheVariants as step
-use Rattle.mdl_steps.specs.declared.view.Ask.{Ask}
-use Rattle.mdl_steps.specs.declared.view.LatchRecord.{LatchRecord}
-use Rattle.mdl_steps.specs.declared.view.Keys.{Keys}
-use Rattle.mdl_key.specs.declared.known_key.KnownKey.{KnownKey}
-use Rattle.mdl_steps.specs.declared.view.SessionTicket.{SessionTicket}
-use Rattle.mdl_steps.specs.declared.view.View.{View}
-use Rattle.mdl_steps.specs.Cells.{own_at, reads_at, ticket_by}
-use Rattle.mdl_steps.specs.Deeds.{all_done, frees, NotWaited}
-use Rattle.mdl_steps.specs.Layout.{latch_word, lock_word, version_word}
-use Rattle.mdl_steps.specs.Limits.{most_fast}
-use Rattle.mdl_steps.specs.Lists.{Distinct, Each, Once}
-use Rattle.mdl_steps.specs.Rule.{AreUnmixed, TellsLists, KnowsKeys, IsUnused, NoteAgrees, ReadAgrees, key_at}
-use Rattle.mdl_steps.specs.WaitStates.{IsLost}
 
 -- a session's seat: its view, and the contents of slots that it has in hand, the latest one first
 abbrev pub Mine : Type 0

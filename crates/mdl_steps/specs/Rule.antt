@@ -17,36 +17,13 @@
 -- * A session's wait word has the number of its last wait, and a state that is idle exactly if the session waits for nothing (`waits_agree`).
 -- * Sessions have different numbers (`enrolled`). A session's ticket numbers are below its next one, and what it knows of keys is true (`views`).
 use Rattle.std.specs.Prelude.{◌≡◌, ◌≢◌, ℕ, ◌+◌, ◌-◌, ◌<◌, ◌≤◌, Bool, true, false, not, List, [], ◌++◌, map, length, slice_index, slice_get, Option, Some, None}
-use Rattle.std.specs.List.{list_all}
-use Rattle.std.specs.Option.{option_to_list}
-use mathlib.Core.Option.{Option as Maybe, some}
-use lib.ListN.{get_elem?}
-use Rattle.atomic_table.specs.Table.{State}
-use Rattle.mdl_key.specs.declared.namespace.Kind.{Kind}
-use Rattle.mdl_key.specs.Words.{is_mode_of, is_obtrusive, KeyName}
-use Rattle.mdl_word.specs.Words.{Encodes}
-use Rattle.mdl_defs.specs.VersionedDefinitions.{nothing_yet, MayStand}
-use Rattle.mdl_book.specs.declared.book_view.BookView.{BookView}
-use Rattle.mdl_book.specs.declared.ticket.Ticket.{Ticket}
-use Rattle.mdl_book.specs.Books.{lock_kind, has_obtrusive, has_tickets}
-use Rattle.mdl_book.specs.FastTickets.{CountsFastTickets, CoversFastTickets}
-use Rattle.mdl_book.specs.Granting.{is_lawful}
-use Rattle.mdl_book.specs.Tickets.{ticket_of}
-use Rattle.mdl_steps.specs.declared.slot.Slot.{Slot}
-use Rattle.mdl_steps.specs.declared.slot.Slot.TheVariants as slot
-use Rattle.mdl_steps.specs.declared.view.Ask.{Ask}
-use Rattle.mdl_steps.specs.declared.view.LatchRecord.{LatchRecord}
-use Rattle.mdl_steps.specs.declared.view.Keys.{Keys}
-use Rattle.mdl_key.specs.declared.known_key.KnownKey.{KnownKey}
-use Rattle.mdl_steps.specs.declared.view.SessionTicket.{SessionTicket}
-use Rattle.mdl_defs.specs.declared.reading.Reading.{Reading}
-use Rattle.mdl_steps.specs.declared.view.Spare.{Spare}
-use Rattle.mdl_steps.specs.declared.view.View.{View}
+use Rattle.mdl_steps.specs.Prelude.{Ask, BookView, CountsFastTickets, CoversFastTickets, Encodes, KeyName, Keys, Kind, KnownKey, LatchRecord, MayStand, Maybe, Reading, SessionTicket, Slot, Spare, State, Ticket, View, get_elem?, has_obtrusive, has_tickets, is_lawful, is_mode_of, is_obtrusive, list_all, lock_kind, nothing_yet, option_to_list, some, ticket_of}
 use Rattle.mdl_steps.specs.Cells.{Part, Holder, Desk, Cell, Waiter, ticket_by, desk_of, waiter_of, waits, cell, all_fast, counted, due, pending, slow_tickets}
 use Rattle.mdl_steps.specs.Layout.{latch_word, enrol_word, word_count}
 use Rattle.mdl_steps.specs.Limits.{most_enrolled, most_fast}
 use Rattle.mdl_steps.specs.Lists.{Each, Distinct, Once}
 use Rattle.mdl_steps.specs.WaitStates.{IsSettled, IsState, idle_state, wait_number, wait_state}
+use Rattle.mdl_steps.specs.declared.slot.Slot.TheVariants as slot
 
 -- ---- the clauses of one place
 

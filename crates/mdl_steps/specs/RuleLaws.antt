@@ -1,24 +1,7 @@
 -- What follows from the rule of the table, in plainer terms. The rule holds between any two steps of all sessions.
 use Rattle.std.specs.Prelude.{◌≡◌, ◌≢◌, ℕ, ◌<◌, true, List, ◌++◌, length, slice_index, Some, None}
-use mathlib.Core.Option.{some}
-use lib.ListN.{get_elem?}
-use Rattle.atomic_table.specs.Table.{State}
-use Rattle.mdl_book.specs.declared.book_view.BookView.{BookView}
-use Rattle.mdl_book.specs.declared.ticket.Ticket.{Ticket}
-use Rattle.mdl_book.specs.Books.{lock_kind, has_obtrusive, has_tickets}
-use Rattle.mdl_book.specs.Granting.{is_lawful}
-use Rattle.mdl_book.specs.Tickets.{ticket_of}
-use Rattle.mdl_steps.specs.declared.slot.Slot.{Slot}
+use Rattle.mdl_steps.specs.FirstWords.{Ask, BookView, Counted, Flagged, IsState, LatchRecord, Reading, Rule, SessionTicket, Slot, State, Ticket, View, all_fast, cell, get_elem?, granted_state, has_obtrusive, has_tickets, held_at, idle_state, is_lawful, latch_word, lock_kind, lock_word, some, ticket_of, version_word, wait_number, wait_state, waits}
 use Rattle.mdl_steps.specs.declared.slot.Slot.TheVariants as slot
-use Rattle.mdl_steps.specs.declared.view.Ask.{Ask}
-use Rattle.mdl_steps.specs.declared.view.LatchRecord.{LatchRecord}
-use Rattle.mdl_steps.specs.declared.view.SessionTicket.{SessionTicket}
-use Rattle.mdl_defs.specs.declared.reading.Reading.{Reading}
-use Rattle.mdl_steps.specs.declared.view.View.{View}
-use Rattle.mdl_steps.specs.Cells.{cell, waits, all_fast, held_at}
-use Rattle.mdl_steps.specs.Layout.{latch_word, lock_word, version_word}
-use Rattle.mdl_steps.specs.Rule.{Rule, Counted, Flagged}
-use Rattle.mdl_steps.specs.WaitStates.{IsState, granted_state, idle_state, wait_number, wait_state}
 
 -- the fast tickets of all sessions at a place
 abbrev pub fast_at : State Slot View → ℕ → List Ticket

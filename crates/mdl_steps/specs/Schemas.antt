@@ -1,13 +1,9 @@
 -- The tables of a schema by the directory.
 use Rattle.std.specs.Prelude.{◌≡◌, ℕ, ◌+◌, ◌<◌, Bool, true, false, not, ◌&&◌, List, [], ◌∷◌, ◌++◌, filter, All, Some, if◌then◌else◌}
-use Rattle.std.specs.List.{list_any}
-use Rattle.std.specs.Str.{bytes_eq}
-use Rattle.mdl_key.specs.declared.namespace.Namespace.{Namespace}
 use Rattle.mdl_key.specs.declared.namespace.Namespace.TheVariants.{Table}
-use Rattle.mdl_key.specs.Words.{KeyName, key_eq}
-use Rattle.mdl_steps.specs.declared.view.Keys.{Keys}
-use Rattle.mdl_key.specs.declared.known_key.KnownKey.{KnownKey}
-use Rattle.mdl_steps.specs.Rule.{key_at}
+use Rattle.mdl_key.specs.declared.namespace.Namespace.{Namespace}
+use Rattle.std.specs.Str.{bytes_eq}
+use Rattle.mdl_steps.specs.FirstWords.{KeyName, Keys, KnownKey, key_at, key_eq, list_any}
 
 -- whether the keys of a namespace are keys of tables
 abbrev pub is_of_tables : Namespace → Bool

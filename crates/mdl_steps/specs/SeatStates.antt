@@ -1,14 +1,11 @@
 -- A session's seat at the table, as contracts see it.
 use Rattle.std.specs.Prelude.{◌≡◌, ℕ, ◌<◌, ◌≤◌, [], ◌∷◌}
-use Rattle.atomic_table.specs.Seated.{TableId}
-use Rattle.mdl_book.specs.declared.book_view.BookView.{BookView}
+use Rattle.mdl_steps.specs.FirstWords.{BookView, TableId, blank, enrol_word, no_numbers, rest, word_count}
+use Rattle.mdl_steps.specs.Plays.{Mine, logged}
+use Rattle.mdl_steps.specs.Seats.{IsSized}
+use Rattle.mdl_steps.specs.WaitSeats.{IsSession}
 use Rattle.mdl_steps.specs.declared.slot.Slot.TheVariants as slot
 use Rattle.mdl_steps.specs.declared.step_kind.StepKind.TheVariants as step
-use Rattle.mdl_steps.specs.Cells.{blank, no_numbers}
-use Rattle.mdl_steps.specs.Layout.{enrol_word, word_count}
-use Rattle.mdl_steps.specs.Plays.{Mine, logged}
-use Rattle.mdl_steps.specs.Seats.{IsSized, rest}
-use Rattle.mdl_steps.specs.WaitSeats.{IsSession}
 
 -- the table of a seat, and what the session knows and has there. The session's number is that of its view
 pub record SeatState : Type 0 where

@@ -1,25 +1,9 @@
 -- What a caller of the steps knows of its seat, and what must hold for it to make a step.
 use Rattle.std.specs.Prelude.{◌≡◌, ℕ, ◌+◌, ◌*◌, ◌^◌, ◌<◌, ◌≤◌, ◌==◌, ◌&&◌, Bool, false, not, nat_lt, if◌then◌else◌, List, ◌∷◌, length, position, filter, Contains, Option, Some, None}
-use Rattle.atomic_table.specs.Seated.{TableId}
 pub use Rattle.atomic_table.specs.Table.{rest}
-use Rattle.std.specs.Option.{option_map, option_to_list}
-use Rattle.mdl_key.specs.Words.{KeyName, key_eq}
-use Rattle.mdl_key.specs.declared.mode.Mode.TheVariants.{X}
-use Rattle.mdl_defs.specs.declared.change.Change.{Change}
-use Rattle.mdl_defs.specs.VersionedDefinitions.{standing_fault}
-use Rattle.mdl_book.specs.declared.book_view.BookView.{BookView}
-use Rattle.mdl_book.specs.declared.ticket.Ticket.{Ticket}
-use Rattle.mdl_book.specs.Books.{empty_book, redefining}
-use Rattle.mdl_steps.specs.declared.deed.Deed.{Deed}
-use Rattle.mdl_steps.specs.declared.slot.Slot.TheVariants as slot
-use Rattle.mdl_steps.specs.declared.view.LatchRecord.{LatchRecord}
-use Rattle.mdl_steps.specs.declared.view.Keys.{Keys}
-use Rattle.mdl_key.specs.declared.known_key.KnownKey.{KnownKey}
-use Rattle.mdl_steps.specs.Cells.{held_at}
-use Rattle.mdl_steps.specs.Deeds.{FreesNothing, MayAct, MayDo, NotWaited, all_booked}
-use Rattle.mdl_steps.specs.Lists.{Each}
+use Rattle.mdl_steps.specs.FirstWords.{BookView, Change, Deed, Each, Flagged, FreesNothing, KeyName, Keys, KnownKey, LatchRecord, MayAct, MayDo, NotWaited, TableId, TellsLists, Ticket, X, all_booked, empty_book, held_at, key_at, key_eq, option_map, option_to_list, redefining, standing_fault}
 use Rattle.mdl_steps.specs.Plays.{Mine}
-use Rattle.mdl_steps.specs.Rule.{TellsLists, Flagged, key_at}
+use Rattle.mdl_steps.specs.declared.slot.Slot.TheVariants as slot
 
 -- the table has words for each of its slots, and fewer than 2^32 slots
 abbrev pub IsSized : TableId → Type 0

@@ -1,24 +1,12 @@
 -- How a session sees that no waiter at a place is forgotten: under the place's latch it meets each ticket that waits there as one that can't be granted, or
 -- whose wait is settled. Who has seen that may give the latch back after something was freed.
 use Rattle.std.specs.Prelude.{◌≡◌, ◌≢◌, ◌⊎◌, ℕ, true, false, List, [], ◌∷◌, ◌++◌, Contains, Some}
-use Rattle.std.specs.Option.{is_some}
-use Rattle.atomic_table.specs.Seated.{TableId}
-use Rattle.mdl_book.specs.declared.ticket.Ticket.{Ticket}
-use Rattle.mdl_book.specs.Books.{lock_kind}
-use Rattle.mdl_book.specs.FastTickets.{can_be_granted}
 use Rattle.mdl_book.specs.SessionSets.{is_session}
-use Rattle.mdl_book.specs.Tickets.{ticket_of}
-use Rattle.mdl_steps.specs.declared.step_kind.StepKind.{StepKind}
-use Rattle.mdl_steps.specs.declared.step_kind.StepKind.TheVariants.{MissWait, ReadWait, ReadWord}
-use Rattle.mdl_steps.specs.declared.view.LatchRecord.{LatchRecord}
-use Rattle.mdl_steps.specs.declared.view.StepRecord.{StepRecord}
-use Rattle.mdl_steps.specs.Cells.{held_at}
-use Rattle.mdl_steps.specs.Layout.{lock_word, wait_word}
+use Rattle.mdl_steps.specs.FirstWords.{LatchRecord, StepKind, StepRecord, TableId, TellsLists, Ticket, can_be_granted, held_at, is_some, lock_kind, lock_word, ticket_of, unsettled_state, wait_in, wait_number, wait_word}
 use Rattle.mdl_steps.specs.Plays.{Mine}
-use Rattle.mdl_steps.specs.Rule.{TellsLists}
 use Rattle.mdl_steps.specs.Seats.{Holds}
 use Rattle.mdl_steps.specs.WaitSeats.{IsSession}
-use Rattle.mdl_steps.specs.WaitStates.{unsettled_state, wait_in, wait_number}
+use Rattle.mdl_steps.specs.declared.step_kind.StepKind.TheVariants.{MissWait, ReadWait, ReadWord}
 
 -- ---- what a step met
 

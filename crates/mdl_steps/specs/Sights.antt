@@ -1,16 +1,10 @@
 -- What a session sees that searches for a deadlock while it holds the latches of all places that have a key.
 use Rattle.std.specs.Prelude.{◌≡◌, ℕ, ◌<◌, ◌≤◌, ◌==◌, ◌&&◌, not, List, length, map, Some, Contains}
-use Rattle.std.specs.List.{list_any}
 use Rattle.mdl_graph.specs.Cycles.{IsCycleThrough}
 use Rattle.mdl_graph.specs.WaitsFor.{SessionTest, waits_for}
-use Rattle.mdl_steps.specs.declared.view.Keys.{Keys}
-use Rattle.mdl_steps.specs.declared.view.LatchRecord.{LatchRecord}
-use Rattle.mdl_steps.specs.declared.view.StepRecord.{StepRecord}
-use Rattle.mdl_steps.specs.Cells.{held_at}
-use Rattle.mdl_steps.specs.Layout.{wait_word}
+use Rattle.mdl_steps.specs.FirstWords.{Keys, LatchRecord, StepRecord, held_at, list_any, unsettled_state, wait_state, wait_word}
 use Rattle.mdl_steps.specs.Plays.{Mine}
 use Rattle.mdl_steps.specs.Servings.{OnlyMeets}
-use Rattle.mdl_steps.specs.WaitStates.{unsettled_state, wait_state}
 
 -- whether a session's wait isn't open by one of these words, each of which stands behind its session
 abbrev pub settled_in : List (ℕ × ℕ) → SessionTest

@@ -1,26 +1,9 @@
 -- The steps of sessions, by their kinds, and how they change the table. A step is whole if it does with its word and with slots what its kind says,
 -- and if its session may make it. The rule of the table admits only whole steps.
 use Rattle.std.specs.Prelude.{◌≡◌, ◌≢◌, ℕ, ◌+◌, ◌-◌, ◌%◌, ◌^◌, ◌<◌, ◌≤◌, Bool, false, List, [], ◌∷◌, ◌++◌, length, Option, Some, slice_index, slice_set}
-use mathlib.Core.Option.{some}
-use lib.ListN.{get_elem?}
-use Rattle.atomic_table.specs.Seated.{TableId}
-use Rattle.atomic_table.specs.Table.{Act, State, Step, Valid, carried_after, gives, keeps, stepped, takes}
-use Rattle.mdl_defs.specs.Caches.{Kept}
-use Rattle.mdl_defs.specs.VersionedDefinitions.{standing_after}
-use Rattle.mdl_key.specs.declared.mode.Mode.{Mode}
-use Rattle.mdl_key.specs.Words.{KeyName}
-use Rattle.mdl_word.specs.Words.{all_but_flags, flags_alone, obtrusive_flag}
-use Rattle.mdl_steps.specs.declared.deed.Deed.{Deed}
-use Rattle.mdl_steps.specs.declared.slot.Slot.{Slot}
-use Rattle.mdl_steps.specs.declared.view.Ask.{Ask}
-use Rattle.mdl_steps.specs.declared.view.LatchRecord.{LatchRecord}
-use Rattle.mdl_steps.specs.declared.view.Keys.{Keys}
-use Rattle.mdl_key.specs.declared.known_key.KnownKey.{KnownKey}
-use Rattle.mdl_steps.specs.declared.view.View.{View}
-use Rattle.mdl_steps.specs.declared.wait_word.Loss.{Loss}
-use Rattle.mdl_steps.specs.Cells.{blank, held_at, no_numbers}
+use Rattle.atomic_table.specs.Table.{stepped}
+use Rattle.mdl_steps.specs.FirstWords.{Act, Ask, Deed, Kept, KeyName, Keys, KnownKey, LatchRecord, Loss, Mode, Slot, State, Step, TableId, Valid, View, all_but_flags, blank, carried_after, enrol_word, flags_alone, get_elem?, gives, granted_state, held_at, idle_state, keeps, latch_word, lock_word, lost_state, no_numbers, obtrusive_flag, some, standing_after, takes, unsettled_state, version_word, wait_in, wait_word}
 use Rattle.mdl_steps.specs.FastPlays.{MayGrantFast, MayMaterialise, MayReleaseFast, grants_fast, materialises, reads_word_unlatched, releases_fast}
-use Rattle.mdl_steps.specs.Layout.{enrol_word, latch_word, lock_word, version_word, wait_word}
 use Rattle.mdl_steps.specs.Plays.{Mine, enrols, lowers_flags, puts_directory, puts_key, puts_latch, puts_reading, puts_searched, puts_served, raises_flags, reads_word, takes_directory, takes_latch, writes_version}
 use Rattle.mdl_steps.specs.Seats.{MayInform, MayLower, MayName, MayPut, MayWriteVersion}
 use Rattle.mdl_steps.specs.Servings.{MayServe}
@@ -28,7 +11,6 @@ use Rattle.mdl_steps.specs.Sights.{SeesNoDeadlock}
 use Rattle.mdl_steps.specs.VersionPlays.{finds_version, reads_version}
 use Rattle.mdl_steps.specs.WaitPlays.{ends_granted, ends_lost, opens_wait, reads_wait, settles_granted, settles_lost}
 use Rattle.mdl_steps.specs.WaitSeats.{MayCancel, MayGrant, MayOpen}
-use Rattle.mdl_steps.specs.WaitStates.{granted_state, idle_state, lost_state, unsettled_state, wait_in}
 
 -- ---- the kinds of step
 

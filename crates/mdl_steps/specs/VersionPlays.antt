@@ -2,23 +2,9 @@
 -- them. After MySQL 5.7, sql/sql_base.cc, `check_and_update_table_version`, which compares the version that is known of a table (`m_table_ref_version`)
 -- with that of its `TABLE_SHARE`.
 use Rattle.std.specs.Prelude.{◌≡◌, ℕ, ◌≤◌, List, [], ◌∷◌, ◌++◌, Some, Contains}
-use Rattle.std.specs.Option.{option_map_or}
-use mathlib.Core.Option.{some}
-use lib.ListN.{get_elem?}
-use Rattle.atomic_table.specs.Table.{Step}
-use Rattle.mdl_defs.specs.Caches.{Kept, kept_of}
-use Rattle.mdl_defs.specs.declared.versioned_definition.VersionedDefinition.{VersionedDefinition}
-use Rattle.mdl_defs.specs.VersionedDefinitions.{MayStand}
-use Rattle.mdl_steps.specs.declared.slot.Slot.{Slot}
-use Rattle.mdl_steps.specs.declared.step_kind.StepKind.TheVariants as step
-use Rattle.mdl_key.specs.declared.known_key.KnownKey.{KnownKey}
-use Rattle.mdl_steps.specs.declared.view.SessionTicket.{SessionTicket}
-use Rattle.mdl_defs.specs.declared.reading.Reading.{Reading}
-use Rattle.mdl_steps.specs.declared.view.View.{View}
-use Rattle.mdl_steps.specs.Cells.{own_at, reads_at}
-use Rattle.mdl_steps.specs.Layout.{version_word}
-use Rattle.mdl_steps.specs.Lists.{Each}
+use Rattle.mdl_steps.specs.FirstWords.{Each, Kept, KnownKey, MayStand, Reading, SessionTicket, Slot, Step, VersionedDefinition, View, get_elem?, kept_of, option_map_or, own_at, reads_at, some, version_word}
 use Rattle.mdl_steps.specs.Plays.{Mine, logged, noting_version}
+use Rattle.mdl_steps.specs.declared.step_kind.StepKind.TheVariants as step
 
 -- ---- the view
 

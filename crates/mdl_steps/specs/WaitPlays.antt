@@ -1,23 +1,9 @@
 -- What a session knows after each kind of step on a wait word.
 use Rattle.std.specs.Prelude.{◌≡◌, ◌≢◌, ℕ, ◌+◌, ◌==◌, ◌&&◌, true, if◌then◌else◌, List, ◌++◌, ◌∷◌, [], Option, Some, None}
-use Rattle.std.specs.Option.{option_map, option_to_list}
-use Rattle.atomic_table.specs.Table.{Step}
-use Rattle.mdl_key.specs.declared.mode.Mode.{Mode}
-use Rattle.mdl_book.specs.declared.ticket.Ticket.{Ticket}
-use Rattle.mdl_book.specs.Books.{enqueueing, admitting, cancelling}
-use Rattle.mdl_steps.specs.declared.slot.Slot.{Slot}
-use Rattle.mdl_steps.specs.declared.step_kind.StepKind.{StepKind}
-use Rattle.mdl_steps.specs.declared.step_kind.StepKind.TheVariants as step
-use Rattle.mdl_steps.specs.declared.view.Ask.{Ask}
-use Rattle.mdl_steps.specs.declared.view.LatchRecord.{LatchRecord}
-use Rattle.mdl_steps.specs.declared.view.SessionTicket.{SessionTicket}
-use Rattle.mdl_steps.specs.declared.view.View.{View}
-use Rattle.mdl_steps.specs.Cells.{note_at, waiter_of}
-use Rattle.mdl_steps.specs.Layout.{wait_word}
-use Rattle.mdl_steps.specs.Plays.{Mine, logged, changed}
-use Rattle.mdl_steps.specs.Rule.{WaitOk}
+use Rattle.mdl_steps.specs.FirstWords.{Ask, LatchRecord, Mode, SessionTicket, Slot, Step, StepKind, Ticket, View, WaitOk, admitting, cancelling, enqueueing, granted_state, idle_state, is_settled, note_at, option_map, option_to_list, unsettled_state, wait_state, wait_word, waiter_of}
 pub use Rattle.mdl_steps.specs.WaitStates.{wait_in}
-use Rattle.mdl_steps.specs.WaitStates.{granted_state, idle_state, is_settled, unsettled_state, wait_state}
+use Rattle.mdl_steps.specs.Plays.{Mine, logged, changed}
+use Rattle.mdl_steps.specs.declared.step_kind.StepKind.TheVariants as step
 
 -- the view after the session met a wait word. If that is its own and settled, the session knows its state from then on
 abbrev pub meeting : ℕ → ℕ → View → View

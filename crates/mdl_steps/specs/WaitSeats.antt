@@ -1,22 +1,8 @@
 -- What must hold for a caller to make a step on a wait word.
 use Rattle.std.specs.Prelude.{◌≡◌, ℕ, ◌<◌, true, false, [], Some, None}
-use Rattle.atomic_table.specs.Seated.{TableId}
-use Rattle.mdl_key.specs.declared.mode.Mode.{Mode}
-use Rattle.mdl_key.specs.Words.{is_mode_of}
-use Rattle.mdl_book.specs.declared.ticket.Ticket.{Ticket}
-use Rattle.mdl_book.specs.Books.{enqueueing, lock_kind}
-use Rattle.mdl_book.specs.FastTickets.{can_be_granted}
-use Rattle.mdl_book.specs.Granting.{goes_first}
-use Rattle.mdl_book.specs.Tickets.{ticket_of}
-use Rattle.mdl_steps.specs.declared.view.Ask.{Ask}
-use Rattle.mdl_steps.specs.declared.view.LatchRecord.{LatchRecord}
-use Rattle.mdl_steps.specs.Cells.{held_at}
-use Rattle.mdl_steps.specs.Deeds.{KnowsPlace, MayJoin}
-use Rattle.mdl_steps.specs.Layout.{wait_word}
+use Rattle.mdl_steps.specs.FirstWords.{Ask, Flagged, IsLost, KnowsPlace, LatchRecord, MayJoin, Mode, TableId, Ticket, can_be_granted, enqueueing, goes_first, held_at, is_mode_of, lock_kind, ticket_of, wait_word}
 use Rattle.mdl_steps.specs.Plays.{Mine}
-use Rattle.mdl_steps.specs.Rule.{Flagged}
 use Rattle.mdl_steps.specs.WaitPlays.{asked_ticket}
-use Rattle.mdl_steps.specs.WaitStates.{IsLost}
 
 -- the table has a wait word for the session
 abbrev pub IsSession : TableId → ℕ → Type 0

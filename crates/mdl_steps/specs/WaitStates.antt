@@ -1,7 +1,6 @@
 -- The word of a session's wait: eight times the number of the session's last wait, plus the state of that wait.
 use Rattle.std.specs.Prelude.{ℕ, ◌+◌, ◌*◌, ◌/◌, ◌%◌, ◌<◌, ◌≤◌, Bool, nat_lt}
-use Rattle.mdl_steps.specs.declared.wait_word.Loss.{Loss}
-use Rattle.mdl_steps.specs.declared.wait_word.Loss.TheVariants.{Victim, Timeout, Killed}
+use Rattle.mdl_steps.specs.Prelude.{Killed, Loss, Timeout, Victim}
 
 -- ---- the states
 

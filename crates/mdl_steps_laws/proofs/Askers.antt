@@ -1,29 +1,8 @@
 -- Who waits is a session: the first seat never waits.
-use Rattle.std.proofs.Common.{◌≡◌, ◌⊎◌, ℕ, zero, suc, ◌<◌, inl, inr, List, [], ◌∷◌, set, get_or, Some, None, refl, sym, ap, ◌∙◌, subst}
-use Rattle.std.specs.Prelude.{Option}
-use Rattle.std.specs.Option.{option_map_or}
-use mathlib.Core.Option.{some, some-injective, some-ne-none}
-use lib.ListN.{get_elem?}
-use Rattle.atomic_table.specs.Table.{State, Step, Act}
-use Rattle.atomic_table.proofs.Lists.{at_set, at_snoc}
-use Rattle.mdl_book.specs.Books.{empty_book, redefining}
-use Rattle.mdl_defs.specs.Caches.{kept_of}
-use Rattle.mdl_defs.specs.declared.definition.Definition.{Definition}
-use Rattle.mdl_steps.specs.declared.slot.Slot.{Slot}
+use Rattle.std.proofs.Common.{◌≡◌, ◌⊎◌, ℕ, zero, suc, ◌<◌, inl, inr, List, [], ◌∷◌, set, get_or, Some, None, refl, sym, ap, ◌∙◌, subst, Option}
 use Rattle.mdl_steps.specs.declared.step_kind.StepKind.TheVariants as step
-use Rattle.mdl_steps.specs.declared.view.Ask.{Ask}
-use Rattle.mdl_steps.specs.declared.view.View.{View}
-use Rattle.mdl_steps.specs.Cells.{blank, numbers_for}
-use Rattle.mdl_steps.specs.Deeds.{all_booked}
-use Rattle.mdl_steps.specs.Histories.{Reached}
-use Rattle.mdl_steps.specs.Layout.{version_word}
-use Rattle.mdl_steps.specs.Plays.{Mine, logged}
-use Rattle.mdl_steps.specs.VersionPlays.{noting_found}
-use Rattle.mdl_steps.specs.WaitPlays.{wait_in}
-use Rattle.mdl_steps_laws.specs.EachStep.{IsWhole, IsWholeChange}
-use Rattle.mdl_steps_laws.specs.SessionSteps.{Makes, TableChange}
+use Rattle.mdl_steps_laws.proofs.Common.{Act, Ask, Definition, IsWhole, IsWholeChange, Makes, Mine, Reached, Slot, State, Step, TableChange, View, all_booked, at_set, at_snoc, blank, empty_book, get_elem?, kept_of, logged, nat_told, noting_found, numbers_for, option_map_or, redefining, some, some-injective, some-ne-none, version_word, wait_in}
 use Rattle.mdl_steps_laws.proofs.Shifts.{shifts}
-use Rattle.mdl_system.proofs.Deciding.{nat_told}
 
 -- the session asks for this ticket already, or has a number
 abbrev pub AsksOrIsNumbered : View → Ask → Type 0

@@ -1,37 +1,8 @@
 -- A wish that can't be granted by the record isn't grantable in the system.
 use Rattle.std.proofs.Common.{◌≡◌, ℕ, ◌<◌, true, false, List, [], ◌∷◌, ◌++◌, map, get_or, Some, sym, ap, ◌∙◌, subst}
-use Rattle.std.proofs.lemmas.Bool.{and_parts, and_from}
-use Rattle.std.proofs.lemmas.List.Elements.{Contains-get_or}
-use mathlib.Core.Option.{some, some-injective}
-use lib.ListN.{get_elem?}
-use Rattle.atomic_table.specs.Table.{State}
-use Rattle.atomic_table.proofs.Lists.{at_map}
-use Rattle.mdl_key.specs.declared.mode.Mode.{Mode}
-use Rattle.mdl_key.specs.declared.namespace.Kind.{Kind}
-use Rattle.mdl_key.specs.Words.{KeyName, kind_of, is_obtrusive}
-use Rattle.mdl_book.specs.declared.book_view.BookView.{BookView}
-use Rattle.mdl_book.specs.declared.ticket.Ticket.{Ticket}
-use Rattle.mdl_book.specs.Books.{lock_kind}
-use Rattle.mdl_book.specs.FastTickets.{AreOfOthers, CountsFastTickets, can_be_granted}
-use Rattle.mdl_book.specs.Granting.{goes_first, is_compatible, is_grantable, stands_beside}
-use Rattle.mdl_book.proofs.FastLemmas.{can_be_granted-fast}
-use Rattle.mdl_defs.specs.declared.definition.Definition.{Definition}
-use Rattle.mdl_steps.specs.declared.slot.Slot.{Slot}
-use Rattle.mdl_steps.specs.declared.view.LatchRecord.{LatchRecord}
-use Rattle.mdl_steps.specs.declared.view.View.{View}
-use Rattle.mdl_steps.specs.Cells.{held_at, waits}
-use Rattle.mdl_steps.specs.Plays.{Mine}
-use Rattle.mdl_steps.specs.Rule.{Rule}
-use Rattle.mdl_steps.specs.RuleLaws.{fast_at}
-use Rattle.mdl_steps.proofs.Views.{by_bool}
-use Rattle.mdl_steps_laws.specs.EachStep.{IsKeyAt}
-use Rattle.mdl_steps_laws.specs.Locks.{granted_of}
-use Rattle.mdl_steps_laws.specs.WaitLaws.{IsTold}
-use Rattle.mdl_steps_laws.proofs.TableLocks.{same_keys}
-use Rattle.mdl_system.specs.Systems.{System, Waiter, IsGrantable}
-use Rattle.mdl_system.proofs.BookLemmas.{grantable-by_lists}
-use Rattle.mdl_steps_laws.proofs.Puttings.{unblocked}
+use Rattle.mdl_steps_laws.proofs.FirstLemmas.{AreOfOthers, BookView, Contains-get_or, CountsFastTickets, Definition, IsGrantable, IsKeyAt, IsTold, KeyName, Kind, LatchRecord, Mine, Mode, Rule, Slot, State, System, Ticket, View, Waiter, and_from, and_parts, at_map, by_bool, can_be_granted, can_be_granted-fast, fast_at, get_elem?, goes_first, grantable-by_lists, granted_of, held_at, is_compatible, is_grantable, is_obtrusive, kind_of, lock_kind, same_keys, some, some-injective, stands_beside, waits}
 use Rattle.mdl_steps_laws.proofs.FastRests.{fast_owner}
+use Rattle.mdl_steps_laws.proofs.Puttings.{unblocked}
 
 granted_part : (k : Kind) (xs ys : List Ticket) (session : ℕ) (mode : Mode) → is_compatible k (xs ++ ys) session mode ≡ true → is_compatible k ys session mode ≡ true
 granted_part k [] ys session mode all = all

@@ -1,34 +1,7 @@
 -- What a step leaves of the debts of its session at a place, and of what its record of the place's latch tells of tickets that were freed.
-use Rattle.std.proofs.Common.{◌≡◌, ℕ, ◌<◌, ◌==◌, Bool, true, false, not, cond, inl, inr, List, [], ◌∷◌, map, Some, None, refl, sym, ap, ◌∙◌, subst, arith}
-use Rattle.std.specs.Prelude.{Option, length, slice_index}
-use Rattle.std.specs.List.{filter, list_any}
-use Rattle.std.specs.Option.{option_map_or}
-use Rattle.std.proofs.lemmas.Bool.{or_parts}
-use mathlib.Core.Option.{some}
-use lib.ListN.{get_elem?}
-use Rattle.atomic_table.specs.Table.{Act, State, Step}
-use Rattle.atomic_table.proofs.Lists.{at_map}
-use Rattle.mdl_book.specs.Books.{empty_book, redefining}
-use Rattle.mdl_defs.specs.Caches.{kept_of}
-use Rattle.mdl_defs.specs.declared.definition.Definition.{Definition}
-use Rattle.mdl_word.specs.Words.{slow_flag}
-use Rattle.mdl_steps.specs.declared.slot.Slot.{Slot}
+use Rattle.std.proofs.Common.{◌≡◌, ℕ, ◌<◌, ◌==◌, Bool, true, false, not, cond, inl, inr, List, [], ◌∷◌, map, Some, None, refl, sym, ap, ◌∙◌, subst, arith, Option, length, slice_index}
 use Rattle.mdl_steps.specs.declared.step_kind.StepKind.TheVariants as step
-use Rattle.mdl_steps.specs.declared.view.LatchRecord.{LatchRecord}
-use Rattle.mdl_steps.specs.declared.view.View.{View}
-use Rattle.mdl_steps.specs.Cells.{held_at, holder_at}
-use Rattle.mdl_steps.specs.Deeds.{all_booked, frees}
-use Rattle.mdl_steps.specs.FastPlays.{moved, with_granted}
-use Rattle.mdl_steps.specs.Layout.{latch_word, version_word}
-use Rattle.mdl_steps.specs.Plays.{Mine, logged, lowered, noting, raised, restood}
-use Rattle.mdl_steps.specs.Rule.{Rule}
-use Rattle.mdl_steps.specs.VersionPlays.{noting_found}
-use Rattle.mdl_steps.specs.WaitPlays.{asked_ticket, wait_in, with_admitted, with_cancelled, with_waiting}
-use Rattle.mdl_steps.proofs.Views.{held_at-changed, held_at-past, held_at-unchanged, held_at-undropped}
-use Rattle.mdl_system.proofs.Deciding.{nat_told}
-use Rattle.mdl_steps.proofs.Served.{unfiltered}
-use Rattle.mdl_steps_laws.specs.EachStep.{IsWhole}
-use Rattle.mdl_steps_laws.specs.SessionSteps.{Makes}
+use Rattle.mdl_steps_laws.proofs.Common.{Act, Definition, IsWhole, LatchRecord, Makes, Mine, Rule, Slot, State, Step, View, all_booked, asked_ticket, at_map, empty_book, filter, frees, get_elem?, held_at, held_at-changed, held_at-past, held_at-unchanged, held_at-undropped, holder_at, kept_of, latch_word, list_any, logged, lowered, moved, nat_told, noting, noting_found, option_map_or, or_parts, raised, redefining, restood, slow_flag, some, unfiltered, version_word, wait_in, with_admitted, with_cancelled, with_granted, with_waiting}
 
 -- what is so of these after the step was so before
 pub record KeepsDebts (place : ℕ) (v w : View) : Type 0 where

@@ -1,28 +1,10 @@
 -- What a session does under a latch is an event of the system of locks.
-use Rattle.std.proofs.Common.{◌≡◌, ℕ, true, inl, inr, List, [], ◌∷◌, ◌++◌, refl, sym, ap, ◌∙◌, subst, append_assoc}
-use Rattle.std.specs.Prelude.{Option}
-use Rattle.std.proofs.lemmas.Bool.{and_from}
-use Rattle.mdl_key.specs.declared.mode.Mode.{Mode}
-use Rattle.mdl_key.specs.Words.{KeyName}
-use Rattle.mdl_defs.specs.declared.definition.Definition.{Definition}
-use Rattle.mdl_book.specs.declared.book_view.BookView.{BookView}
-use Rattle.mdl_book.specs.declared.ticket.Ticket.{Ticket}
+use Rattle.std.proofs.Common.{◌≡◌, ℕ, true, inl, inr, List, [], ◌∷◌, ◌++◌, refl, sym, ap, ◌∙◌, subst, append_assoc, Option}
 use Rattle.mdl_book.specs.Books as books
 use Rattle.mdl_book.specs.Granting as book
 use Rattle.mdl_book.specs.Tickets as tickets
-use Rattle.mdl_book.specs.Tickets.{without, with_mode}
-use Rattle.mdl_steps.specs.declared.deed.Deed.{Deed}
-use Rattle.mdl_steps.specs.declared.deed.Deed.TheVariants.{Gain, Alter, Lose}
-use Rattle.mdl_steps.specs.Deeds.{MayJoin, all_booked, booked}
-use Rattle.mdl_steps.proofs.Deeds.{may_join}
-use Rattle.mdl_system.specs.BookLaws.{of_lock}
-use Rattle.mdl_system.specs.Events.{SameElsewhere, ElseSame, Gains, Loses, Replaces}
-use Rattle.mdl_system.specs.Systems.{Holding, System, Held, HasNoWait, IsGrantable, lock_kind}
-use Rattle.mdl_system.proofs.BookLemmas.{changes-by_lists, grantable-by_lists}
-use Rattle.mdl_system.proofs.Deciding.{key_told}
-use Rattle.mdl_system.proofs.MemberLemmas.{push-gains}
-use Rattle.mdl_steps_laws.specs.Locks.{Lock, Tells, granted_of, versioned}
-use Rattle.mdl_steps_laws.specs.TableLaws.{IsOnly}
+use Rattle.mdl_system.specs.Systems.{lock_kind}
+use Rattle.mdl_steps_laws.proofs.Common.{Alter, BookView, Deed, Definition, ElseSame, Gain, Gains, HasNoWait, Held, Holding, IsGrantable, IsOnly, KeyName, Lock, Lose, Loses, MayJoin, Mode, Replaces, SameElsewhere, System, Tells, Ticket, all_booked, and_from, booked, changes-by_lists, grantable-by_lists, granted_of, key_told, may_join, of_lock, push-gains, versioned, with_mode, without}
 use Rattle.mdl_steps_laws.proofs.DeedLaws.{Does, MayBeJoined, MayTake, LosingReleases, GainingGrants, GainingClones, AlteringDowngrades, AlteringUpgrades}
 use Rattle.mdl_steps_laws.proofs.TicketMembers.{loses-behind, replaces-behind, found-passes, found-apart, without-loses, with_mode-replaces}
 

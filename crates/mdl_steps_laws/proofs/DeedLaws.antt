@@ -1,32 +1,10 @@
 -- What a session does under a latch is an event of the system of locks. Each law says what the session has to know for that.
-use Rattle.std.specs.Prelude.{◌≡◌, ◌≢◌, ℕ, suc, Bool, true, List, [], ◌∷◌, Option, Some, None, Contains}
-use mathlib.Core.Option.{some}
-use lib.ListN.{get_elem?}
-use Rattle.atomic_table.specs.Table.{State}
-use Rattle.mdl_key.specs.declared.mode.Mode.{Mode}
-use Rattle.mdl_key.specs.declared.mode.Mode.TheVariants.{X}
-use Rattle.mdl_key.specs.Words.{KeyName, IsAtLeast}
-use Rattle.mdl_defs.specs.declared.change.Change.{Change}
-use Rattle.mdl_defs.specs.declared.definition.Definition.{Definition}
-use Rattle.mdl_defs.specs.VersionedDefinitions.{applied, standing_fault}
-use Rattle.mdl_book.specs.declared.ticket.Ticket.{Ticket}
+use Rattle.std.proofs.Common.{◌≡◌, ◌≢◌, ℕ, suc, Bool, true, List, [], ◌∷◌, Option, Some, None, Contains}
 use Rattle.mdl_book.specs.Books as books
-use Rattle.mdl_book.specs.Granting.{goes_first}
-use Rattle.mdl_steps.specs.declared.deed.Deed.{Deed}
-use Rattle.mdl_steps.specs.declared.deed.Deed.TheVariants.{Gain, Alter, Lose}
-use Rattle.mdl_steps.specs.declared.slot.Slot.{Slot}
-use Rattle.mdl_steps.specs.declared.view.LatchRecord.{LatchRecord as Record}
-use Rattle.mdl_steps.specs.declared.view.View.{View}
-use Rattle.mdl_steps.specs.Cells.{held_at}
-use Rattle.mdl_steps.specs.Deeds.{MayJoin, all_booked}
-use Rattle.mdl_steps.specs.Lists.{Once}
-use Rattle.mdl_steps.specs.Rule.{Lawful, NotedCounts, Rule}
-use Rattle.mdl_system.specs.BookLaws.{of_lock}
-use Rattle.mdl_system.specs.Events.{SameElsewhere, SameWaits, IsNewNumber, GrantsNew, ClonesTicket, Releases, Upgrades, Merges, Downgrades, ChangesDefinition}
+use Rattle.mdl_key.specs.declared.mode.Mode.TheVariants.{X}
 use Rattle.mdl_system.specs.Strength.{downgrades}
-use Rattle.mdl_system.specs.Systems.{System, Held, HasNoWait, lock_kind}
-use Rattle.mdl_steps_laws.specs.Locks.{Lock, AreLocksOf, Tells}
-use Rattle.mdl_steps_laws.specs.TableLaws.{IsOnly}
+use Rattle.mdl_system.specs.Systems.{lock_kind}
+use Rattle.mdl_steps_laws.proofs.Common.{Alter, AreLocksOf, Change, ChangesDefinition, ClonesTicket, Deed, Definition, Downgrades, Gain, GrantsNew, HasNoWait, Held, IsAtLeast, IsNewNumber, IsOnly, KeyName, Lawful, Lock, Lose, MayJoin, Merges, Mode, NotedCounts, Once, Record, Releases, Rule, SameElsewhere, SameWaits, Slot, State, System, Tells, Ticket, Upgrades, View, all_booked, applied, get_elem?, goes_first, held_at, of_lock, some, standing_fault}
 
 -- ---- what is done
 

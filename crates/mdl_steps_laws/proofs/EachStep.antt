@@ -1,69 +1,22 @@
 -- Each step is one event of the system, or does nothing there: case by case the law of its kind says so.
-use Rattle.std.proofs.Common.{◌≡◌, ℕ, zero, suc, ◌+◌, ◌-◌, ◌%◌, ◌^◌, ◌<◌, Bool, false, inl, inr, List, [], ◌∷◌, ◌++◌, length, set, get_or, Some, refl, sym, ap, ◌∙◌, subst, arith}
-use Rattle.std.specs.Prelude.{Option}
-use mathlib.Core.Option.{Option as Maybe, some, none}
-use lib.ListN.{get_elem?}
-use Rattle.atomic_table.specs.Table.{Act, State, Step, Valid, carried_after, gives, homes_after, keeps, put_back, rest, stepped, takes}
-use Rattle.atomic_table.proofs.Lists.{at_map}
-use Rattle.mdl_key.specs.declared.mode.Mode.{Mode}
-use Rattle.mdl_key.specs.Words.{KeyName}
-use Rattle.mdl_word.specs.Words.{obtrusive_flag}
-use Rattle.mdl_defs.specs.declared.change.Change.{Change}
-use Rattle.mdl_defs.specs.VersionedDefinitions.{standing_after}
-use Rattle.mdl_book.specs.declared.book_view.BookView.{BookView}
-use Rattle.mdl_book.specs.declared.ticket.Ticket.{Ticket}
-use Rattle.mdl_book.specs.Books.{empty_book, redefining}
-use Rattle.mdl_book.specs.Tickets.{ticket_of}
-use Rattle.mdl_steps.specs.declared.deed.Deed.{Deed}
-use Rattle.mdl_steps.specs.declared.slot.Slot.{Slot}
+use Rattle.std.proofs.Common.{◌≡◌, ℕ, zero, suc, ◌+◌, ◌-◌, ◌%◌, ◌^◌, ◌<◌, Bool, false, inl, inr, List, [], ◌∷◌, ◌++◌, length, set, get_or, Some, refl, sym, ap, ◌∙◌, subst, arith, Option}
 use Rattle.mdl_steps.specs.declared.slot.Slot.TheVariants as slot
-use Rattle.mdl_steps.specs.declared.step_kind.StepKind.{StepKind}
 use Rattle.mdl_steps.specs.declared.step_kind.StepKind.TheVariants as step
-use Rattle.mdl_steps.specs.declared.view.Ask.{Ask}
-use Rattle.mdl_steps.specs.declared.view.LatchRecord.{LatchRecord}
-use Rattle.mdl_steps.specs.declared.view.View.{View}
-use Rattle.mdl_steps.specs.declared.wait_word.Loss.{Loss}
-use Rattle.mdl_steps.specs.Cells.{ticket_by, waiter_of, waits}
-use Rattle.mdl_steps.specs.Deeds.{MayAct, all_booked, is_own}
-use Rattle.mdl_steps.specs.FastPlays.{MayGrantFast, MayMaterialise, MayReleaseFast, granted_fast, materialised, met_word_by, released_fast}
-use Rattle.mdl_steps.specs.Layout.{enrol_word, latch_word, lock_word, version_word, wait_word}
-use Rattle.mdl_steps.specs.Plays.{Mine, consulted, flags_lowered, informed, latched, named, read_and_put, redefined, searched, served, takes_directory, takes_latch, unlatched}
-use Rattle.mdl_steps.specs.Rule.{Rule}
-use Rattle.mdl_steps.specs.Seats.{MayLower, MayPut, MayWriteVersion}
-use Rattle.mdl_steps.specs.WaitPlays.{asked_ticket, ended_granted, ended_lost, met_wait_by, opened, settled_granted, settled_lost, wait_in}
-use Rattle.mdl_steps.specs.WaitSeats.{MayCancel, MayGrant, MayOpen}
-use Rattle.mdl_steps.specs.WaitStates.{lost_state}
-use Rattle.mdl_steps.proofs.Tickets.{is_passed}
-use Rattle.mdl_steps.proofs.WaitSteps.{wished}
-use Rattle.mdl_system.specs.BookLaws.{of_lock}
-use Rattle.mdl_system.specs.Events.{BeginWait, ChangeDefinition, EndGrantedWait, EndLostWait, Grant, GrantWaiter, Release, SettleLost}
-use Rattle.mdl_system.specs.Systems.{Unsettled, WaitState}
-use Rattle.mdl_steps_laws.specs.EachStep.{BringsDeedsAt, BringsOrRests, EachStepIsOneEvent, Gives, IsWhole, Takes, Under}
-use Rattle.mdl_steps_laws.specs.FastLaws.{after_word, word_at}
-use Rattle.mdl_steps_laws.specs.Headline.{HasPlace}
-use Rattle.mdl_steps_laws.specs.RestLaws.{IsRest, after_giving, after_step, after_taking}
-use Rattle.mdl_steps_laws.specs.SessionSteps.{Makes, TableChange}
-use Rattle.mdl_steps_laws.specs.StepEvents.{BringsDeeds, IsOf, after_lowering, after_put, after_writing}
-use Rattle.mdl_steps_laws.specs.WaitLaws.{Brings, Rests, after_wait, lost_as}
-use Rattle.mdl_steps_laws.specs.WaitsTold.{code_of}
+use Rattle.mdl_steps_laws.proofs.FirstLemmas.{Act, Ask, BeginWait, BookView, Brings, BringsDeeds, BringsDeedsAt, BringsOrRests, Change, ChangeDefinition, Deed, EachStepIsOneEvent, EndGrantedWait, EndLostWait, Gives, Grant, GrantWaiter, HasPlace, IsOf, IsRest, IsWhole, KeyName, LatchRecord, Loss, Makes, MayAct, MayCancel, MayGrant, MayGrantFast, MayLower, MayMaterialise, MayOpen, MayPut, MayReleaseFast, MayWriteVersion, Maybe, Mine, Mode, Release, Rests, Rule, SettleLost, Slot, State, Step, StepKind, TableChange, Takes, Ticket, Under, Unsettled, Valid, View, WaitState, after_giving, after_lowering, after_put, after_step, after_taking, after_wait, after_word, after_writing, all_booked, asked_ticket, at_map, carried_after, code_of, consulted, empty_book, ended_granted, ended_lost, enrol_word, flags_lowered, found-passes, get_elem?, gives, granted_fast, homes_after, informed, is_own, is_passed, keeps, latch_word, latched, lock_word, lost_as, lost_state, materialised, met_wait_by, met_word_by, named, nat_told, none, obtrusive_flag, of_lock, opened, own_parts, put_back, read_and_put, redefined, redefining, released_fast, rest, ruled_keys, searched, served, settled_granted, settled_lost, some, standing_after, stepped, takes, takes_directory, takes_latch, ticket_by, ticket_of, unlatched, version_word, wait_in, wait_word, waiter_of, waits, wished, word_at}
 use Rattle.mdl_steps_laws.proofs.FastEvents.{granting_fast_grants, only_passes, releasing_fast_releases}
 use Rattle.mdl_steps_laws.proofs.FastRests.{materialising_rests, reading_unlatched_rests}
-use Rattle.mdl_steps_laws.proofs.Keeping.{own_parts}
+use Rattle.mdl_steps_laws.proofs.KeysStay.{first_slot}
 use Rattle.mdl_steps_laws.proofs.RestKeys.{consulting_rests, drawing_rests, informing_rests, naming_rests}
 use Rattle.mdl_steps_laws.proofs.RestKinds.{finding_version_rests, lowering_rests, missing_directory_rests, missing_rests, putting_reading_rests, putting_rests, putting_searched_rests, putting_served_rests, raising_rests, reading_rests, reading_version_rests, taking_rests}
 use Rattle.mdl_steps_laws.proofs.RestSplits.{splitting_rests}
 use Rattle.mdl_steps_laws.proofs.StepEvents.{lowering_brings, putting_brings, writing_brings}
 use Rattle.mdl_steps_laws.proofs.StepKeys.{granted_key, known_key, recorded_book, waiting_key}
-use Rattle.mdl_system.proofs.Deciding.{nat_told}
-use Rattle.mdl_steps_laws.proofs.TableLocks.{ruled_keys}
-use Rattle.mdl_steps_laws.proofs.TicketMembers.{found-passes}
 use Rattle.mdl_steps_laws.proofs.WaitAsks.{asked_at}
 use Rattle.mdl_steps_laws.proofs.WaitEnds.{ending_holds, ending_leaves}
 use Rattle.mdl_steps_laws.proofs.WaitGrants.{granting_grants_waiters}
 use Rattle.mdl_steps_laws.proofs.WaitLosses.{settling_loses}
 use Rattle.mdl_steps_laws.proofs.WaitMet.{meeting_rests}
 use Rattle.mdl_steps_laws.proofs.WaitOpens.{opening_begins}
-use Rattle.mdl_steps_laws.proofs.KeysStay.{first_slot}
 
 some_same : {A : Type 0} (x y : A) → Some x ≡ Some y → x ≡ y
 some_same x y e = cc

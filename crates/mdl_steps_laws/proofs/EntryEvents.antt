@@ -1,52 +1,8 @@
 -- The entries of lists of steps tell the events: case by case the entry is that of the step's kind.
-use Rattle.std.proofs.Common.{◌≡◌, ◌≢◌, ◌⊎◌, ℕ, ◌+◌, ◌<◌, inl, inr, List, [], ◌∷◌, ◌++◌, length, set, get_or, Some, None, refl, sym, ap, ◌∙◌, subst, arith}
-use Rattle.std.specs.Prelude.{Option}
-use Rattle.std.specs.Option.{option_map_or, option_to_list}
-use Rattle.std.proofs.lemmas.Bool.{cases_eq}
-use Rattle.std.proofs.lemmas.List.{append-nil, append_assoc, append_cancel_left, length-append}
-use mathlib.Core.Option.{some, some-injective}
-use lib.ListN.{get_elem?}
-use Rattle.atomic_table.specs.Table.{Act, State, Step, stepped}
-use Rattle.atomic_table.proofs.Lists.{at_longer, at_set, set_else, set_here}
-use Rattle.mdl_key.specs.declared.mode.Mode.{Mode}
-use Rattle.mdl_key.specs.Words.{KeyName}
-use Rattle.mdl_defs.specs.Caches.{kept_of}
-use Rattle.mdl_defs.specs.declared.definition.Definition.{Definition}
-use Rattle.mdl_defs.specs.VersionedDefinitions.{standing_after}
-use Rattle.mdl_book.specs.declared.ticket.Ticket.{Ticket}
-use Rattle.mdl_book.specs.Books.{empty_book, redefining}
-use Rattle.mdl_steps.specs.declared.slot.Slot.{Slot}
+use Rattle.std.proofs.Common.{◌≡◌, ◌≢◌, ◌⊎◌, ℕ, ◌+◌, ◌<◌, inl, inr, List, [], ◌∷◌, ◌++◌, length, set, get_or, Some, None, refl, sym, ap, ◌∙◌, subst, arith, Option, append-nil, append_assoc, length-append}
 use Rattle.mdl_steps.specs.declared.step_kind.StepKind.TheVariants as step
-use Rattle.mdl_steps.specs.declared.view.Ask.{Ask}
-use Rattle.mdl_steps.specs.declared.view.LatchRecord.{LatchRecord}
-use Rattle.mdl_steps.specs.declared.view.StepRecord.{StepRecord}
-use Rattle.mdl_steps.specs.declared.view.View.{View}
-use Rattle.mdl_steps.specs.declared.wait_word.Loss.{Loss}
-use Rattle.mdl_steps.specs.Cells.{held_at}
-use Rattle.mdl_steps.specs.Deeds.{all_booked}
-use Rattle.mdl_steps.specs.Layout.{version_word, wait_word}
-use Rattle.mdl_steps.specs.Plays.{Mine, logged, redefined, restood}
-use Rattle.mdl_steps.specs.Rule.{Rule}
-use Rattle.mdl_steps.specs.Seats.{MayWriteVersion}
-use Rattle.mdl_steps.specs.VersionPlays.{noting_found}
-use Rattle.mdl_steps.specs.WaitPlays.{asked_ticket, ended_granted, ended_lost, opened, settled_granted, settled_lost, with_admitted, with_waiting}
-use Rattle.mdl_steps.specs.WaitSeats.{MayGrant}
-use Rattle.mdl_steps.specs.WaitStates.{lost_state, wait_in, wait_number, wait_state}
-use Rattle.mdl_steps.proofs.Tickets.{is_passed}
-use Rattle.mdl_steps.proofs.Views.{at_inside, held_at-changed}
-use Rattle.mdl_system.specs.BookLaws.{of_lock}
-use Rattle.mdl_system.specs.Events.{BeginWait, ChangeDefinition, EndGrantedWait, EndLostWait, GrantWaiter, SettleLost}
-use Rattle.mdl_system.specs.Systems.{Killed, TimedOut, Unsettled, Victim, WaitState}
-use Rattle.mdl_system.proofs.Deciding.{nat_told}
-use Rattle.mdl_system.proofs.OrderLemmas.{middle}
-use Rattle.mdl_steps_laws.specs.EachStep.{BringsOrRests, IsWhole, IsWholeChange, Under}
-use Rattle.mdl_steps_laws.specs.Entries.{AreItsSteps, AreTableChanges, EachEntryTellsItsEvent, EachTurnAddsOneEntry, EntriesAreSteps, MakesOneStep, TellsEvent}
-use Rattle.mdl_steps_laws.specs.SessionSteps.{Makes, TableChange}
-use Rattle.mdl_steps_laws.specs.StepEvents.{IsOf}
-use Rattle.mdl_steps_laws.specs.WaitLaws.{Brings, Rests, lost_as}
-use Rattle.mdl_steps_laws.specs.WaitsTold.{code_of}
+use Rattle.mdl_steps_laws.proofs.FirstLemmas.{Act, AreItsSteps, AreTableChanges, Ask, BeginWait, Brings, BringsOrRests, ChangeDefinition, Definition, EachEntryTellsItsEvent, EachTurnAddsOneEntry, EndGrantedWait, EndLostWait, EntriesAreSteps, GrantWaiter, IsOf, IsWhole, IsWholeChange, KeyName, Killed, LatchRecord, Loss, Makes, MakesOneStep, MayGrant, MayWriteVersion, Mine, Mode, Rests, Rule, SettleLost, Slot, State, Step, StepRecord, TableChange, TellsEvent, Ticket, TimedOut, Under, Unsettled, Victim, View, WaitState, all_booked, append_cancel_left, asked_ticket, at_inside, at_longer, at_set, cases_eq, code_of, empty_book, ended_granted, ended_lost, found-passes, get_elem?, held_at, held_at-changed, is_passed, kept_of, logged, lost_as, lost_state, middle, nat_told, noting_found, of_lock, opened, option_map_or, option_to_list, redefined, redefining, restood, set_else, set_here, settled_granted, settled_lost, some, some-injective, standing_after, stepped, version_word, wait_in, wait_number, wait_state, wait_word, with_admitted, with_waiting}
 use Rattle.mdl_steps_laws.proofs.EachStep.{each_step_is_one_event}
-use Rattle.mdl_steps_laws.proofs.TicketMembers.{found-passes}
 
 -- ---- the words of waits
 

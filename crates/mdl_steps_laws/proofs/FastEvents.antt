@@ -1,62 +1,13 @@
 -- A fast grant is a grant of the system that the table tells, and a fast release a release.
-use Rattle.std.proofs.Common.{◌≡◌, ◌≢◌, ℕ, zero, suc, ◌+◌, ◌-◌, ◌%◌, ◌^◌, ◌==◌, Bool, true, cond, inl, inr, List, [], ◌∷◌, ◌++◌, length, map, set, get_or, Some, refl, sym, ap, ◌∙◌, subst, arith, get_or-set_other}
-use Rattle.std.specs.Prelude.{◌↔◌, Contains, Option, None}
-use Rattle.std.specs.List.{filter}
-use Rattle.std.specs.Option.{option_to_list}
-use Rattle.std.proofs.lemmas.Bool.{and_parts, and_from, eq-eqb, eqb-true}
-use Rattle.std.proofs.lemmas.List.{map-set, map-append}
-use Rattle.std.proofs.lemmas.List.Elements.{Contains-append_left, Contains-append_right, Contains-append_cases}
-use mathlib.Core.Option.{some, some-injective, some-ne-none}
-use lib.ListN.{get_elem?}
-use Rattle.atomic_table.specs.Table.{State}
-use Rattle.atomic_table.proofs.Lists.{at_map, at_set}
-use Rattle.mdl_key.specs.Words.{KeyName}
-use Rattle.mdl_defs.specs.declared.definition.Definition.{Definition}
-use Rattle.mdl_book.specs.declared.book_view.BookView.{BookView}
-use Rattle.mdl_book.specs.declared.ticket.Ticket.{Ticket}
+use Rattle.std.proofs.Common.{◌≡◌, ◌≢◌, ℕ, zero, suc, ◌+◌, ◌-◌, ◌%◌, ◌^◌, ◌==◌, Bool, true, cond, inl, inr, List, [], ◌∷◌, ◌++◌, length, map, set, get_or, Some, refl, sym, ap, ◌∙◌, subst, arith, get_or-set_other, ◌↔◌, Contains, Option, None, eq-eqb, eqb-true}
 use Rattle.mdl_book.specs.Books as books
 use Rattle.mdl_book.specs.Granting as book
-use Rattle.mdl_book.specs.Tickets.{is_ticket, ticket_of}
-use Rattle.mdl_steps.specs.declared.deed.Deed.TheVariants.{Lose}
-use Rattle.mdl_steps.specs.declared.slot.Slot.{Slot}
-use Rattle.mdl_steps.specs.declared.view.Ask.{Ask}
-use Rattle.mdl_steps.specs.declared.view.SessionTicket.{SessionTicket}
-use Rattle.mdl_steps.specs.declared.view.View.{View}
-use Rattle.mdl_steps.specs.Cells.{Asking, Part, all_fast, asking_at, cell, due, held_at, own_at, part_at, ticket_by, waiter_of, waits}
-use Rattle.mdl_steps.specs.Deeds.{is_own}
-use Rattle.mdl_steps.specs.FastPlays.{but_own, fast_own, granted_fast, released_fast}
-use Rattle.mdl_steps.specs.Layout.{latch_word, lock_word, wait_word}
-use Rattle.mdl_steps.specs.Plays.{Mine}
-use Rattle.mdl_steps.specs.Rule.{Rule}
-use Rattle.mdl_steps.specs.RuleLaws.{fast_at}
-use Rattle.mdl_steps.proofs.FastSteps.{wish_grantable, granted_rule, released_rule, within}
-use Rattle.mdl_steps.proofs.Lift.{alone_parts}
-use Rattle.mdl_steps.proofs.Owns.{own_else-push, owned_else}
-use Rattle.mdl_steps.proofs.Views.{by_bool}
-use Rattle.mdl_steps.proofs.WaitEnds.{own_at-push}
-use Rattle.mdl_system.specs.BookLaws.{in_book, of_lock}
-use Rattle.mdl_system.specs.Events.{ElseSame, Gains, Loses, SameElsewhere, SameMembers, SameWaits}
-use Rattle.mdl_system.specs.Systems.{System, HasNoWait, WaitState, lock_kind}
-use Rattle.mdl_system.proofs.BookLemmas.{changes-by_lists, grantable-by_lists}
-use Rattle.mdl_system.proofs.Deciding.{key_told}
-use Rattle.mdl_system.proofs.MemberLemmas.{Contains-map, Contains-map_from, Contains-none, push-gains}
-use Rattle.mdl_system.proofs.OrderLemmas.{Contains-cons_cases, Contains-here, Contains-later}
-use Rattle.mdl_steps.proofs.Noting.{all_fast-noted}
-use Rattle.mdl_steps_laws.specs.Locks.{Lock, AreKeysOf, IsBookAt, granted_of}
-use Rattle.mdl_steps_laws.specs.WaitLaws.{IsTold}
-use Rattle.mdl_steps_laws.specs.WaitsTold.{code_of}
-use Rattle.mdl_steps_laws.specs.FastLaws.{GrantingFastGrants, ReleasingFastReleases, after_word, word_at}
+use Rattle.mdl_steps.proofs.FastSteps.{within}
+use Rattle.mdl_system.specs.Systems.{lock_kind}
+use Rattle.mdl_steps_laws.proofs.FirstLemmas.{AreKeysOf, Ask, Asking, BookView, Contains-append_cases, Contains-append_left, Contains-append_right, Contains-cons_cases, Contains-here, Contains-later, Contains-map, Contains-map_from, Contains-none, Definition, ElseSame, Gains, GrantingFastGrants, HasNoWait, IsBookAt, IsTold, KeyName, Lock, Lose, Loses, Mine, Part, ReleasingFastReleases, Rule, SameElsewhere, SameMembers, SameWaits, SessionTicket, Slot, State, System, Ticket, View, WaitState, after_word, all_fast, all_fast-noted, alone_parts, among_filter, and_from, and_parts, any_waits, asking_at, at_map, at_set, but_own, by_bool, cell, changes-by_lists, code_most, code_of, code_waits, due, fast_at, fast_own, filter, first_place, found-apart, get_elem?, grantable-by_lists, granted_fast, granted_of, granted_rule, held_at, in_book, in_locks, in_rule, inside, is_own, is_ticket, key_told, latch_word, lock_word, loses-behind, loses-first, loses-later, map-append, map-set, next_numbers_are_new, none_slow, of_lock, option_to_list, other_session, own_at, own_at-push, own_else-push, own_parts, owned_else, part_at, push-gains, released_fast, released_rule, same_book, same_definitions, same_keys, some, some-injective, some-ne-none, ticket_by, ticket_of, wait_word, waiter_of, waits, wish_grantable, word_at}
 use Rattle.mdl_steps_laws.proofs.OneLock.{one_lock}
-use Rattle.mdl_steps_laws.proofs.Keeping.{among_filter, own_parts}
-use Rattle.mdl_steps_laws.proofs.OwnTickets.{next_numbers_are_new, none_slow}
-use Rattle.mdl_steps_laws.proofs.SeatSteps.{any_waits}
-use Rattle.mdl_steps_laws.proofs.TableLocks.{first_place, same_book, same_keys}
-use Rattle.mdl_steps_laws.proofs.TicketMembers.{found-apart, loses-behind, loses-first, loses-later}
 use Rattle.mdl_steps_laws.proofs.ToldDeeds.{lists_stay, turns_by}
-use Rattle.mdl_steps_laws.proofs.WaitEvents.{in_locks, in_rule, inside, same_definitions}
-use Rattle.mdl_steps_laws.proofs.WaitLists.{code_most, code_waits}
 use Rattle.mdl_steps_laws.proofs.WaitMet.{waits_rest}
-use Rattle.mdl_steps_laws.proofs.WaitSteps.{other_session}
 
 -- ---- members
 

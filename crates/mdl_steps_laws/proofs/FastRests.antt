@@ -1,32 +1,8 @@
 -- Steps of the fast path by which nothing is done in the system, and that a session that waits has no fast ticket.
-use Rattle.std.proofs.Common.{◌≡◌, ◌≢◌, ℕ, zero, suc, ◌+◌, ◌-◌, ◌%◌, ◌^◌, inl, inr, List, [], ◌∷◌, ◌++◌, length, map, set, refl, sym, ap, ◌∙◌, subst, arith}
-use Rattle.std.specs.Prelude.{◌⊎◌, Contains}
-use Rattle.std.proofs.lemmas.List.Elements.{Contains-append_left, Contains-append_right, Contains-append_cases}
-use mathlib.Core.Option.{some, some-injective, some-ne-none}
-use lib.ListN.{get_elem?}
-use Rattle.atomic_table.specs.Table.{State}
-use Rattle.atomic_table.proofs.Lists.{at_map, set_here}
-use Rattle.mdl_book.specs.declared.book_view.BookView.{BookView}
-use Rattle.mdl_book.specs.declared.ticket.Ticket.{Ticket}
-use Rattle.mdl_steps.specs.declared.slot.Slot.{Slot}
-use Rattle.mdl_steps.specs.declared.view.SessionTicket.{SessionTicket}
-use Rattle.mdl_steps.specs.declared.view.View.{View}
-use Rattle.mdl_steps.specs.Cells.{Part, all_fast, held_at, own_at, part_at, ticket_by, waits}
-use Rattle.mdl_steps.specs.FastPlays.{granting_all, materialised, met_word_by, moved, with_granted}
-use Rattle.mdl_steps.specs.Layout.{lock_word}
-use Rattle.mdl_steps.specs.Rule.{Rule}
-use Rattle.mdl_steps.specs.RuleLaws.{fast_at}
-use Rattle.mdl_steps.proofs.FastSteps.{met_rule}
-use Rattle.mdl_steps.proofs.Materialising.{gone_here, kept_else, materialised_rule}
-use Rattle.mdl_steps.proofs.Views.{at_inside, held_at-changed, held_at-unchanged}
-use Rattle.mdl_system.specs.Systems.{HasNoWait}
-use Rattle.mdl_system.proofs.MemberLemmas.{Contains-map_from, Contains-none}
-use Rattle.mdl_steps_laws.specs.FastLaws.{MaterialisingRests, ReadingUnlatchedRests, WaitersHaveNoFastTickets, after_word, word_at}
-use Rattle.mdl_steps_laws.specs.Locks.{Lock, IsBookAt}
+use Rattle.std.proofs.Common.{◌≡◌, ◌≢◌, ℕ, zero, suc, ◌+◌, ◌-◌, ◌%◌, ◌^◌, inl, inr, List, [], ◌∷◌, ◌++◌, length, map, set, refl, sym, ap, ◌∙◌, subst, arith, ◌⊎◌, Contains}
+use Rattle.mdl_steps_laws.proofs.FirstLemmas.{BookView, Contains-append_cases, Contains-append_left, Contains-append_right, Contains-map_from, Contains-none, HasNoWait, IsBookAt, Lock, MaterialisingRests, Part, ReadingUnlatchedRests, Rule, SessionTicket, Slot, State, Ticket, View, WaitersHaveNoFastTickets, after_word, all_fast, at_inside, at_map, fast_at, find_key, first_place, get_elem?, gone_here, granting_all, held_at, held_at-changed, held_at-unchanged, in_locks, in_rule, inside, kept_else, lock_word, materialised, materialised_rule, met_rule, met_word_by, moved, own_at, part_at, ruled_book, same_definitions, set_here, some, some-injective, some-ne-none, some_session, ticket_by, waits, with_granted, word_at}
 use Rattle.mdl_steps_laws.proofs.FastEvents.{asks_nothing, fast_then, no_wait, same_by, standing_stays, waits_stay}
 use Rattle.mdl_steps_laws.proofs.RestKinds.{met_rests}
-use Rattle.mdl_steps_laws.proofs.TableLocks.{find_key, first_place, ruled_book}
-use Rattle.mdl_steps_laws.proofs.WaitEvents.{in_locks, in_rule, inside, same_definitions, some_session}
 
 -- ---- all sessions' fast tickets, where one session has none any more
 

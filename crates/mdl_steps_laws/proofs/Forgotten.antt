@@ -1,69 +1,15 @@
 -- By each change nobody becomes forgotten at a place that nobody owes a reschedule, and where no latch's record tells of freed tickets.
-use Rattle.std.proofs.Common.{◌≡◌, ◌≢◌, ℕ, zero, suc, ◌+◌, ◌*◌, ◌<◌, ◌==◌, ◌||◌, Bool, true, false, cond, inl, inr, List, [], ◌∷◌, ◌++◌, map, length, get_or, Some, refl, sym, ap, ◌∙◌, subst, arith}
-use Rattle.std.specs.Prelude.{Contains}
-use Rattle.std.specs.List.{list_any}
-use Rattle.std.proofs.lemmas.Bool.{lt-ltb, or_right}
-use Rattle.std.proofs.lemmas.List.Elements.{Contains-append_right}
-use Rattle.std.proofs.lemmas.List.Folds.{list_any-append}
-use mathlib.Core.Option.{some, some-injective}
-use lib.ListN.{get_elem?}
-use Rattle.atomic_table.specs.Table.{Act, State, Step, stepped}
-use Rattle.atomic_table.proofs.Lists.{at_map, set_else, set_here}
-use Rattle.mdl_key.specs.declared.mode.Mode.{Mode}
-use Rattle.mdl_key.specs.declared.namespace.Kind.{Kind}
-use Rattle.mdl_key.specs.Words.{IsAtLeast, KeyName, is_obtrusive, kind_of}
-use Rattle.mdl_word.specs.Words.{all_but_flags, slow_flag}
-use Rattle.mdl_word.proofs.WordLemmas.{slow_of}
-use Rattle.mdl_book.specs.declared.book_view.BookView.{BookView}
-use Rattle.mdl_book.specs.declared.ticket.Ticket.{Ticket}
-use Rattle.mdl_book.specs.Books.{enqueueing, has_obtrusive, has_tickets, lock_kind}
-use Rattle.mdl_book.specs.FastTickets.{CountsFastTickets}
-use Rattle.mdl_book.specs.Tickets.{is_ticket, ticket_of}
-use Rattle.mdl_defs.specs.declared.change.Change.{Change}
-use Rattle.mdl_defs.specs.declared.definition.Definition.{Definition}
-use Rattle.mdl_defs.specs.VersionedDefinitions.{applied}
-use Rattle.mdl_steps.specs.declared.deed.Deed.{Deed}
-use Rattle.mdl_steps.specs.declared.deed.Deed.TheVariants.{Gain, Alter, Lose}
-use Rattle.mdl_steps.specs.declared.slot.Slot.{Slot}
-use Rattle.mdl_steps.specs.declared.view.LatchRecord.{LatchRecord}
-use Rattle.mdl_steps.specs.declared.view.View.{View}
-use Rattle.mdl_steps.specs.Cells.{Part, held_at, holder_at, part_at, cell, waiter_of, waits}
-use Rattle.mdl_steps.specs.Deeds.{all_booked}
-use Rattle.mdl_steps.specs.Histories.{Reached}
-use Rattle.mdl_steps.specs.Layout.{latch_word, lock_word}
-use Rattle.mdl_steps.specs.Plays.{Mine, lowered, lowers_flags, puts_latch}
-use Rattle.mdl_steps.specs.Rule.{IsPaidBut, Rule}
-use Rattle.mdl_steps.specs.RuleLaws.{fast_at}
-use Rattle.mdl_steps.specs.Seats.{MayLower, MayPut}
-use Rattle.mdl_steps.specs.Servings.{ForgetsNobody}
-use Rattle.mdl_steps.specs.TableChanges.{Makes}
-use Rattle.mdl_steps.specs.WaitPlays.{asked_ticket, asking, with_cancelled}
-use Rattle.mdl_steps.specs.WaitSeats.{MayOpen}
-use Rattle.mdl_steps.proofs.Paid.{owes_here}
-use Rattle.mdl_steps.proofs.Tickets.{is_passed}
-use Rattle.mdl_steps.proofs.Views.{at_inside, at_unmap, by_bool, held_at-changed}
-use Rattle.mdl_system.specs.BlockingLaws.{BlocksAsMuch, IsAbout}
-use Rattle.mdl_system.specs.BookLaws.{of_lock}
-use Rattle.mdl_system.specs.Events.{BeginWait, Clone, Downgrade, ElseSame, EndLostWait, Event, Grant, Merge, Release, Replaces, Upgrade, in_mode}
-use Rattle.mdl_system.specs.Systems.{Holding, System, Unsettled, Waiter, NoneForgottenAt}
+use Rattle.std.proofs.Common.{◌≡◌, ◌≢◌, ℕ, zero, suc, ◌+◌, ◌*◌, ◌<◌, ◌==◌, ◌||◌, Bool, true, false, cond, inl, inr, List, [], ◌∷◌, ◌++◌, map, length, get_or, Some, refl, sym, ap, ◌∙◌, subst, arith, Contains, lt-ltb}
 use Rattle.mdl_system.proofs.BlockingLemmas.{more-blocks}
-use Rattle.mdl_system.proofs.ConcernLemmas.{step-elsewhere, step-forgets}
-use Rattle.mdl_system.proofs.Deciding.{nat_told, ticket_told}
-use Rattle.mdl_system.proofs.MemberLemmas.{Contains-map, Contains-none}
-use Rattle.mdl_system.proofs.OrderLemmas.{within}
-use Rattle.mdl_steps_laws.specs.Cares.{FreesAndOpensNothing, IsPaid, IsUnfreed}
-use Rattle.mdl_steps_laws.specs.EachStep.{BringsDeedsAt, BringsOrRests, IsKeyAt, IsWhole}
-use Rattle.mdl_steps_laws.specs.Headline.{HasPlace}
-use Rattle.mdl_steps_laws.specs.Locks.{IsBookAt}
-use Rattle.mdl_steps_laws.specs.StepEvents.{BringsDeeds, IsOf}
-use Rattle.mdl_steps_laws.specs.WaitLaws.{Brings, IsTold}
+use Rattle.mdl_system.specs.Events.{in_mode}
+use Rattle.mdl_word.proofs.WordLemmas.{slow_of}
+use Rattle.std.proofs.lemmas.List.Folds.{list_any-append}
+use Rattle.mdl_steps_laws.proofs.FirstLemmas.{Act, Alter, BeginWait, BlocksAsMuch, BookView, Brings, BringsDeeds, BringsDeedsAt, BringsOrRests, Change, Clone, Contains-append_right, Contains-map, Contains-none, CountsFastTickets, Deed, Definition, Downgrade, ElseSame, EndLostWait, Event, ForgetsNobody, FreesAndOpensNothing, Gain, Grant, HasPlace, Holding, IsAbout, IsAtLeast, IsBookAt, IsKeyAt, IsOf, IsPaid, IsPaidBut, IsTold, IsUnfreed, IsWhole, KeyName, Kind, LatchRecord, Lose, Makes, MayLower, MayOpen, MayPut, Merge, Mine, Mode, NoneForgottenAt, Part, Reached, Release, Replaces, Rule, Slot, State, Step, System, Ticket, Unsettled, Upgrade, View, Waiter, all_booked, all_but_flags, applied, asked_ticket, asking, at_inside, at_map, at_unmap, by_bool, cell, enqueueing, fast_at, found-passes, get_elem?, has_obtrusive, has_tickets, held_at, held_at-changed, holder_at, is_obtrusive, is_passed, is_ticket, kind_of, latch_word, list_any, lock_kind, lock_word, lowered, lowers_flags, nat_told, of_lock, one_place, or_right, owes_here, part_at, puts_latch, same_book, same_keys, set_else, set_here, slow_flag, some, some-injective, step-elsewhere, step-forgets, stepped, ticket_of, ticket_told, waiter_of, waits, with_cancelled, within}
 use Rattle.mdl_steps_laws.proofs.Causes.{for_cause}
 use Rattle.mdl_steps_laws.proofs.Debts.{KeepsDebts, Serves, keeps_debts}
 use Rattle.mdl_steps_laws.proofs.FreeingNothing.{by_kind, nothing}
 use Rattle.mdl_steps_laws.proofs.Looking.{looked_at}
 use Rattle.mdl_steps_laws.proofs.Puttings.{putting}
-use Rattle.mdl_steps_laws.proofs.TableLocks.{one_place, same_book, same_keys}
-use Rattle.mdl_steps_laws.proofs.TicketMembers.{found-passes}
 use Rattle.mdl_steps_laws.proofs.Wells.{reached_tables_are_well_numbered}
 
 -- ---- lists

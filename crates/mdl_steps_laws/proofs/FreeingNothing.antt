@@ -1,29 +1,7 @@
 -- Steps that free nothing forget nobody.
 use Rattle.std.proofs.Common.{ℕ, inl, inr, List, [], ◌∷◌, get_or, sym}
-use Rattle.atomic_table.specs.Table.{State, Step}
-use Rattle.mdl_key.specs.Words.{KeyName}
-use Rattle.mdl_defs.specs.declared.change.Change.{Change}
-use Rattle.mdl_defs.specs.declared.definition.Definition.{Definition}
-use Rattle.mdl_defs.specs.VersionedDefinitions.{applied}
-use Rattle.mdl_steps.specs.declared.deed.Deed.{Deed}
-use Rattle.mdl_steps.specs.declared.deed.Deed.TheVariants.{Gain, Alter, Lose}
-use Rattle.mdl_steps.specs.declared.slot.Slot.{Slot}
-use Rattle.mdl_steps.specs.declared.view.View.{View}
-use Rattle.mdl_steps.specs.Plays.{Mine}
-use Rattle.mdl_steps.specs.WaitPlays.{wait_in}
-use Rattle.mdl_steps_laws.specs.EachStep.{BringsDeedsAt, BringsOrRests, IfMet}
-use Rattle.mdl_steps_laws.specs.SessionSteps.{Makes, TableChange}
-use Rattle.mdl_steps_laws.specs.StepEvents.{BringsDeeds}
-use Rattle.mdl_steps_laws.specs.WaitLaws.{Brings, IsTold, Rests, lost_as}
+use Rattle.mdl_steps_laws.proofs.FirstLemmas.{Alter, Brings, BringsDeeds, BringsDeedsAt, BringsOrRests, Change, ChangeDefinition, Clone, Deed, DeedsFreeNothing, Definition, EndGrantedWait, Event, FreesAndOpensNothing, FreesNothing, Gain, Grant, GrantWaiter, IfMet, IsTold, KeyName, Lose, Makes, Merge, Mine, NoneForgottenAt, Rests, SettleLost, Slot, State, Step, StepsThatFreeNothingForgetNobody, System, TableChange, Unsettled, View, WaitsForCause, applied, lost_as, nat_told, of_lock, step-forgets, wait_in, within}
 use Rattle.mdl_steps_laws.proofs.EachStep.{each_step_is_one_event}
-use Rattle.mdl_system.specs.BlockingLaws.{FreesNothing, WaitsForCause}
-use Rattle.mdl_system.specs.BookLaws.{of_lock}
-use Rattle.mdl_system.specs.Events.{ChangeDefinition, Clone, EndGrantedWait, Event, Grant, GrantWaiter, Merge, SettleLost}
-use Rattle.mdl_system.specs.Systems.{System, Unsettled, NoneForgottenAt}
-use Rattle.mdl_system.proofs.ConcernLemmas.{step-forgets}
-use Rattle.mdl_system.proofs.Deciding.{nat_told}
-use Rattle.mdl_system.proofs.OrderLemmas.{within}
-use Rattle.mdl_steps_laws.specs.Cares.{DeedsFreeNothing, FreesAndOpensNothing, StepsThatFreeNothingForgetNobody}
 
 module _ (s t : State Slot View) where
   abbrev ForgetsNobody : Type 0

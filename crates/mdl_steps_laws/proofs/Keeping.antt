@@ -1,22 +1,6 @@
 -- Lists of a session's tickets, in which the one of a number at a place keeps the version that is noted under it.
-use Rattle.std.proofs.Common.{◌≡◌, ◌≢◌, ℕ, ◌<◌, ◌==◌, Bool, true, not, cond, inl, inr, List, [], ◌∷◌, ◌++◌, map, Some, refl, sym, ap, ◌∙◌, subst, arith}
-use Rattle.std.specs.Prelude.{Contains, Option}
-use Rattle.std.specs.List.{filter}
-use Rattle.std.proofs.lemmas.Bool.{and_parts, eq-eqb, eqb-true}
-use Rattle.std.proofs.lemmas.List.Elements.{Contains-append_left, Contains-append_right, Contains-append_cases, Contains-push_cases}
-use Rattle.mdl_key.specs.declared.mode.Mode.{Mode}
-use Rattle.mdl_book.specs.declared.book_view.BookView.{BookView}
-use Rattle.mdl_steps.specs.declared.deed.Deed.{Deed}
-use Rattle.mdl_steps.specs.declared.deed.Deed.TheVariants.{Gain, Alter, Lose}
-use Rattle.mdl_steps.specs.declared.view.SessionTicket.{SessionTicket}
-use Rattle.mdl_steps.specs.declared.view.View.{View}
-use Rattle.mdl_steps.specs.Cells.{note_at}
-use Rattle.mdl_steps.specs.Deeds.{all_owned, booked, done, is_own, next_after, owned}
-use Rattle.mdl_steps.specs.Plays.{noting_version}
-use Rattle.mdl_steps.proofs.OneEvent.{May, MayAll}
-use Rattle.mdl_steps.proofs.Views.{by_bool}
-use Rattle.mdl_system.proofs.MemberLemmas.{Contains-none, Contains-map, Contains-map_from}
-use Rattle.mdl_system.proofs.OrderLemmas.{Contains-cons_cases, Contains-here, Contains-later}
+use Rattle.std.proofs.Common.{◌≡◌, ◌≢◌, ℕ, ◌<◌, ◌==◌, Bool, true, not, cond, inl, inr, List, [], ◌∷◌, ◌++◌, map, Some, refl, sym, ap, ◌∙◌, subst, arith, Contains, Option, eq-eqb, eqb-true}
+use Rattle.mdl_steps_laws.proofs.Common.{Alter, BookView, Contains-append_cases, Contains-append_left, Contains-append_right, Contains-cons_cases, Contains-here, Contains-later, Contains-map, Contains-map_from, Contains-none, Contains-push_cases, Deed, Gain, Lose, May, MayAll, Mode, SessionTicket, View, all_owned, and_parts, booked, by_bool, done, filter, is_own, next_after, note_at, noting_version, owned}
 
 -- ---- filtered lists
 

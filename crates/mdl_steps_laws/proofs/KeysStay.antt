@@ -1,35 +1,9 @@
 -- Keys keep their places. By a step the places have the keys that they had, or one more key gets the next place, whose book is empty then.
-use Rattle.std.proofs.Common.{◌≡◌, ◌≢◌, ◌⊎◌, ℕ, ◌+◌, ◌<◌, inl, inr, List, [], ◌∷◌, ◌++◌, set, length, get_or, Some, None, refl, sym, ap, ◌∙◌, subst, arith, get_or-set_other, get_or-set_same}
-use mathlib.Core.Option.{some, none}
-use lib.ListN.{get_elem?}
-use Rattle.atomic_table.specs.Table.{Act, State, Step, Valid, carried_after, gives, homes_after, keeps, put_back, rest, stepped, takes}
-use Rattle.atomic_table.proofs.Lists.{at_map, at_set, set_else, set_here}
-use Rattle.mdl_key.specs.Words.{KeyName}
-use Rattle.mdl_book.specs.declared.book_view.BookView.{BookView}
-use Rattle.mdl_book.specs.Books.{empty_book, redefining}
-use Rattle.mdl_defs.specs.declared.definition.Definition.{Definition}
-use Rattle.mdl_defs.specs.Caches.{kept_of}
-use Rattle.std.specs.Prelude.{Option}
-use Rattle.std.specs.Option.{option_map_or}
-use Rattle.mdl_steps.specs.declared.slot.Slot.{Slot}
+use Rattle.std.proofs.Common.{◌≡◌, ◌≢◌, ◌⊎◌, ℕ, ◌+◌, ◌<◌, inl, inr, List, [], ◌∷◌, ◌++◌, set, length, get_or, Some, None, refl, sym, ap, ◌∙◌, subst, arith, get_or-set_other, get_or-set_same, Option}
 use Rattle.mdl_steps.specs.declared.slot.Slot.TheVariants as slot
 use Rattle.mdl_steps.specs.declared.step_kind.StepKind.TheVariants as step
-use Rattle.mdl_steps.specs.declared.view.Keys.{Keys}
-use Rattle.mdl_steps.specs.declared.view.View.{View}
-use Rattle.mdl_steps.specs.Cells.{desk_of}
-use Rattle.mdl_steps.specs.Deeds.{all_booked}
-use Rattle.mdl_steps.specs.Layout.{latch_word, version_word}
-use Rattle.mdl_steps.specs.Plays.{Mine, listing, logged}
-use Rattle.mdl_steps.specs.Rule.{Rule}
-use Rattle.mdl_steps.specs.VersionPlays.{noting_found}
-use Rattle.mdl_steps.specs.WaitPlays.{wait_in}
-use Rattle.mdl_steps.proofs.Views.{at_inside}
-use Rattle.mdl_system.proofs.Deciding.{nat_told}
-use Rattle.mdl_steps_laws.specs.EachStep.{IsWhole}
-use Rattle.mdl_steps_laws.specs.Locks.{AreKeysOf, IsBookAt}
-use Rattle.mdl_steps_laws.specs.SessionSteps.{Makes}
+use Rattle.mdl_steps_laws.proofs.FirstLemmas.{Act, AreKeysOf, BookView, Definition, IsBookAt, IsWhole, KeyName, Keys, Makes, Mine, Rule, Slot, State, Step, Valid, View, all_booked, at_inside, at_map, at_set, carried_after, desk_of, empty_book, get_elem?, gives, homes_after, keeps, kept_of, latch_word, listing, logged, nat_told, none, noting_found, one_directory, option_map_or, put_back, redefining, rest, ruled_keys, same_keys, set_else, set_here, some, stepped, takes, version_word, wait_in}
 use Rattle.mdl_steps_laws.proofs.RestSteps.{one_book}
-use Rattle.mdl_steps_laws.proofs.TableLocks.{one_directory, ruled_keys, same_keys}
 
 -- nobody waits at the place
 abbrev pub IsVacantAt : State Slot View → ℕ → Type 0

@@ -1,3 +1,5 @@
+pub mod Common
+pub mod FirstLemmas
 pub mod DeedLaws
 pub mod StepLaws
 pub mod ToldLaws

@@ -1,36 +1,11 @@
 -- Who met the words of waits under a latch, and passed all waiting tickets over, knows each of them to be settled or not grantable.
-use Rattle.std.proofs.Common.{◌≡◌, ◌≢◌, ◌⊎◌, ℕ, ◌/◌, ◌%◌, ◌<◌, ◌≤◌, true, false, inl, inr, List, ◌∷◌, ◌++◌, length, Some, sym, ap, ◌∙◌, subst, arith}
-use Rattle.std.specs.Prelude.{Contains}
-use Rattle.std.proofs.lemmas.Bool.Decides.{nat_tests}
-use Rattle.std.proofs.lemmas.List.Elements.{Contains-append_right}
-use mathlib.Core.Option.{some, some-injective}
-use lib.ListN.{get_elem?}
+use Rattle.std.proofs.Common.{◌≡◌, ◌≢◌, ◌⊎◌, ℕ, ◌/◌, ◌%◌, ◌<◌, ◌≤◌, true, false, inl, inr, List, ◌∷◌, ◌++◌, length, Some, sym, ap, ◌∙◌, subst, arith, Contains}
 use Rattle.atomic_table.specs.Seated.{TableId}
-use Rattle.atomic_table.specs.Table.{State}
-use Rattle.atomic_table.proofs.Lists.{at_map}
-use Rattle.mdl_book.specs.declared.book_view.BookView.{BookView}
-use Rattle.mdl_book.specs.declared.ticket.Ticket.{Ticket}
-use Rattle.mdl_book.specs.Books.{lock_kind}
-use Rattle.mdl_book.specs.FastTickets.{can_be_granted}
 use Rattle.mdl_book.specs.SessionSets.{is_session}
-use Rattle.mdl_book.specs.Tickets.{ticket_of}
-use Rattle.mdl_steps.specs.declared.slot.Slot.{Slot}
-use Rattle.mdl_steps.specs.declared.view.Ask.{Ask}
-use Rattle.mdl_steps.specs.declared.view.LatchRecord.{LatchRecord}
-use Rattle.mdl_steps.specs.declared.view.StepRecord.{StepRecord}
-use Rattle.mdl_steps.specs.declared.view.View.{View}
-use Rattle.mdl_steps.specs.Cells.{held_at, holder_at, waiter_of, waits}
-use Rattle.mdl_steps.specs.Histories.{Reached}
-use Rattle.mdl_steps.specs.Plays.{Mine}
-use Rattle.mdl_steps.specs.Rule.{Rule}
-use Rattle.mdl_steps.specs.Servings.{ForgetsNobody, IsStepOf, MeetsWaiter, WasSettled}
-use Rattle.mdl_steps.specs.WaitSeats.{IsSession}
-use Rattle.mdl_steps.proofs.WaitTells.{asks_there}
-use Rattle.mdl_system.proofs.OrderLemmas.{Contains-here}
-use Rattle.mdl_steps_laws.specs.Headline.{HasPlace}
+use Rattle.std.proofs.lemmas.Bool.Decides.{nat_tests}
+use Rattle.mdl_steps_laws.proofs.FirstLemmas.{Ask, BookView, Contains-append_right, Contains-here, ForgetsNobody, HasPlace, IsSession, IsStepOf, LatchRecord, MeetsWaiter, Mine, Reached, Rule, Slot, State, StepRecord, Ticket, View, WasSettled, asks_there, at_map, can_be_granted, found_in, get_elem?, held_at, holder_at, lock_kind, some, some-injective, ticket_of, waiter_of, waits}
 use Rattle.mdl_steps_laws.proofs.MetWaits.{met_waits_stay}
 use Rattle.mdl_steps_laws.proofs.Puttings.{AreLookedAt}
-use Rattle.mdl_steps_laws.proofs.WaitsTold.{found_in}
 
 -- a step that was made is in the list
 among_steps : (start m : Mine) (e : StepRecord) → IsStepOf start m e → Contains m.0.log e

@@ -1,34 +1,7 @@
 -- What a step leaves of the mark of a session that has yet to search, and who begins to wait by it.
-use Rattle.std.proofs.Common.{◌≡◌, ◌⊎◌, ℕ, ◌+◌, Bool, true, false, inl, inr, List, [], ◌∷◌, Some, None, refl, sym, ap, ◌∙◌, eqb-true}
-use Rattle.std.specs.Prelude.{Option}
-use Rattle.std.specs.Option.{option_map_or}
-use Rattle.atomic_table.specs.Table.{State, Step}
-use Rattle.mdl_key.specs.Words.{KeyName}
-use Rattle.mdl_book.specs.Books.{empty_book, redefining}
-use Rattle.mdl_defs.specs.Caches.{kept_of}
-use Rattle.mdl_defs.specs.declared.change.Change.{Change}
-use Rattle.mdl_defs.specs.declared.definition.Definition.{Definition}
-use Rattle.mdl_defs.specs.VersionedDefinitions.{applied}
-use Rattle.mdl_steps.specs.declared.deed.Deed.{Deed}
-use Rattle.mdl_steps.specs.declared.deed.Deed.TheVariants.{Gain, Alter, Lose}
-use Rattle.mdl_steps.specs.declared.slot.Slot.{Slot}
+use Rattle.std.proofs.Common.{◌≡◌, ◌⊎◌, ℕ, ◌+◌, Bool, true, false, inl, inr, List, [], ◌∷◌, Some, None, refl, sym, ap, ◌∙◌, eqb-true, Option}
 use Rattle.mdl_steps.specs.declared.step_kind.StepKind.TheVariants as step
-use Rattle.mdl_steps.specs.declared.view.View.{View}
-use Rattle.mdl_steps.specs.Deeds.{all_booked}
-use Rattle.mdl_steps.specs.Layout.{version_word}
-use Rattle.mdl_steps.specs.Plays.{Mine, logged}
-use Rattle.mdl_steps.specs.Sights.{SeesNoDeadlock}
-use Rattle.mdl_steps.specs.VersionPlays.{noting_found}
-use Rattle.mdl_steps.specs.WaitPlays.{asked_ticket, wait_in}
-use Rattle.mdl_steps_laws.specs.EachStep.{BringsDeedsAt, BringsOrRests, IfMet}
-use Rattle.mdl_steps_laws.specs.SessionSteps.{Makes}
-use Rattle.mdl_steps_laws.specs.StepEvents.{BringsDeeds}
-use Rattle.mdl_steps_laws.specs.WaitLaws.{Brings, IsTold, Rests, lost_as}
-use Rattle.mdl_system.specs.BookLaws.{of_lock}
-use Rattle.mdl_system.specs.DeadlockLaws.{begins_wait}
-use Rattle.mdl_system.specs.Events.{BeginWait, ChangeDefinition, Clone, Downgrade, EndGrantedWait, EndLostWait, Event, Grant, GrantWaiter, Happens, Merge, Release, SameSystem, SettleLost, Upgrade}
-use Rattle.mdl_system.specs.Systems.{System, Unsettled}
-use Rattle.mdl_system.proofs.Deciding.{nat_told}
+use Rattle.mdl_steps_laws.proofs.Common.{Alter, BeginWait, Brings, BringsDeeds, BringsDeedsAt, BringsOrRests, Change, ChangeDefinition, Clone, Deed, Definition, Downgrade, EndGrantedWait, EndLostWait, Event, Gain, Grant, GrantWaiter, Happens, IfMet, IsTold, KeyName, Lose, Makes, Merge, Mine, Release, Rests, SameSystem, SeesNoDeadlock, SettleLost, Slot, State, Step, System, Unsettled, Upgrade, View, all_booked, applied, asked_ticket, begins_wait, empty_book, kept_of, logged, lost_as, nat_told, noting_found, of_lock, option_map_or, redefining, version_word, wait_in}
 
 -- ---- the mark
 

@@ -1,21 +1,8 @@
 -- One ticket takes the mode of another, and that one goes: the two are merged.
-use Rattle.std.proofs.Common.{◌≡◌, ◌≢◌, ◌⊎◌, ◌↔◌, ℕ, true, false, inl, inr, List, [], ◌∷◌, ◌++◌, refl, sym, ap, ◌∙◌, subst}
-use Rattle.std.specs.Prelude.{Contains}
-use Rattle.mdl_key.specs.Words.{KeyName}
-use Rattle.mdl_defs.specs.declared.definition.Definition.{Definition}
-use Rattle.mdl_book.specs.declared.ticket.Ticket.{Ticket}
-use Rattle.mdl_book.specs.Tickets.{is_ticket, without, with_mode, in_mode}
-use Rattle.mdl_steps.specs.declared.deed.Deed.{Deed}
-use Rattle.mdl_steps.specs.declared.deed.Deed.TheVariants.{Alter, Lose}
-use Rattle.mdl_steps.proofs.Tickets.{is_passed, of_other_number, of-mode_other, once-mode}
-use Rattle.mdl_system.specs.BookLaws.{in_book, of_lock}
-use Rattle.mdl_system.specs.Events.{Loses, Replaces}
-use Rattle.mdl_system.specs.Systems.{Holding, System, HasNoWait, Held}
-use Rattle.mdl_system.proofs.Deciding.{key_told}
-use Rattle.mdl_steps_laws.specs.Locks.{Lock, granted_of}
-use Rattle.mdl_steps_laws.proofs.DeedLaws.{Does, MovingMerges}
-use Rattle.mdl_steps_laws.specs.TableLaws.{IsOnly}
+use Rattle.std.proofs.Common.{◌≡◌, ◌≢◌, ◌⊎◌, ◌↔◌, ℕ, true, false, inl, inr, List, [], ◌∷◌, ◌++◌, refl, sym, ap, ◌∙◌, subst, Contains}
+use Rattle.mdl_steps_laws.proofs.Common.{Alter, Deed, Definition, HasNoWait, Held, Holding, IsOnly, KeyName, Lock, Lose, Loses, Replaces, System, Ticket, granted_of, in_book, in_mode, is_passed, is_ticket, key_told, of-mode_other, of_lock, of_other_number, once-mode, with_mode, without}
 use Rattle.mdl_steps_laws.proofs.DeedEvents.{held_by_own, granted_after, rest}
+use Rattle.mdl_steps_laws.proofs.DeedLaws.{Does, MovingMerges}
 use Rattle.mdl_steps_laws.proofs.TicketMembers.{loses-behind, replaces-behind, found-passes, found-apart, without-loses, with_mode-replaces}
 
 -- of two members, the first is replaced and the second goes

@@ -1,36 +1,9 @@
 -- A wait that was met settled stays so, and keeps its number.
-use Rattle.std.proofs.Common.{◌≡◌, ◌⊎◌, ℕ, zero, suc, ◌/◌, ◌%◌, ◌<◌, true, inl, inr, List, [], ◌∷◌, ◌++◌, set, length, get_or, Some, None, refl, sym, ap, ◌∙◌, subst, arith}
-use Rattle.std.specs.Prelude.{Option, Contains}
-use Rattle.std.specs.Option.{is_some}
-use Rattle.std.proofs.lemmas.Bool.{cases_eq}
-use Rattle.std.proofs.lemmas.List.Elements.{Contains-append_cases}
-use mathlib.Core.Option.{some, some-injective, some-ne-none}
-use lib.ListN.{get_elem?}
-use Rattle.atomic_table.specs.Table.{State, Step, Act, stepped}
-use Rattle.atomic_table.proofs.Lists.{at_map, at_set, at_snoc, at_longer, set_here, set_else}
-use Rattle.mdl_book.specs.declared.book_view.BookView.{BookView}
-use Rattle.mdl_book.specs.declared.ticket.Ticket.{Ticket}
-use Rattle.mdl_book.specs.Tickets.{ticket_of}
-use Rattle.mdl_steps.specs.declared.slot.Slot.{Slot}
-use Rattle.mdl_steps.specs.declared.view.StepRecord.{StepRecord}
-use Rattle.mdl_steps.specs.declared.view.View.{View}
-use Rattle.mdl_steps.specs.Cells.{blank, numbers_for, held_at, holder_at, waiter_of, waits}
-use Rattle.mdl_steps.specs.Layout.{wait_word}
-use Rattle.mdl_steps.specs.Plays.{Mine}
-use Rattle.mdl_steps.specs.Rule.{Rule}
-use Rattle.mdl_steps.proofs.Views.{at_inside}
-use Rattle.mdl_steps.proofs.WaitTells.{asks_there}
-use Rattle.mdl_steps.proofs.Histories.{homes_length}
-use Rattle.mdl_steps_laws.specs.EachStep.{IsWhole, IsWholeChange}
-use Rattle.mdl_steps_laws.specs.RestLaws.{first_after}
-use Rattle.mdl_steps_laws.specs.SessionSteps.{Makes, TableChange}
-use Rattle.mdl_steps_laws.specs.Headline.{HasPlace}
-use Rattle.mdl_system.proofs.MemberLemmas.{Contains-none}
-use Rattle.mdl_system.proofs.OrderLemmas.{Contains-cons_cases}
-use Rattle.mdl_steps.specs.Histories.{Reached}
-use Rattle.mdl_steps_laws.specs.Waits.{MeetsWaiter, MetWaitsStay, StaysMet}
+use Rattle.std.proofs.Common.{◌≡◌, ◌⊎◌, ℕ, zero, suc, ◌/◌, ◌%◌, ◌<◌, true, inl, inr, List, [], ◌∷◌, ◌++◌, set, length, get_or, Some, None, refl, sym, ap, ◌∙◌, subst, arith, Option, Contains}
+use Rattle.mdl_steps_laws.proofs.FirstLemmas.{Act, BookView, Contains-append_cases, Contains-cons_cases, Contains-none, HasPlace, IsWhole, IsWholeChange, Makes, MeetsWaiter, Mine, Reached, Rule, Slot, State, Step, StepRecord, TableChange, Ticket, View, asks_there, at_inside, at_longer, at_map, at_set, at_snoc, blank, cases_eq, first_after, get_elem?, held_at, holder_at, homes_length, is_some, numbers_for, set_else, set_here, some, some-injective, some-ne-none, stepped, ticket_of, wait_word, waiter_of, waits}
 use Rattle.mdl_steps_laws.proofs.Shifts.{Shifts, shifts, left_quiet}
 use Rattle.mdl_steps_laws.proofs.Wells.{rule_of}
+use Rattle.mdl_steps_laws.specs.Waits.{MetWaitsStay, StaysMet}
 
 -- ---- words
 

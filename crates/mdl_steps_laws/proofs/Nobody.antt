@@ -1,35 +1,11 @@
 -- Nobody is forgotten where nobody owes a reschedule, in each table that is reached.
-use Rattle.std.proofs.Common.{◌≡◌, ◌≢◌, ◌⊎◌, ℕ, suc, ◌+◌, ◌==◌, inl, inr, List, [], ◌∷◌, ◌++◌, set, map, length, Some, None, refl, sym, ap, ◌∙◌, subst, arith}
-use Rattle.std.specs.Prelude.{Contains}
-use Rattle.std.specs.List.{list_any}
-use mathlib.Core.Option.{some, some-injective}
-use lib.ListN.{get_elem?}
-use Rattle.atomic_table.specs.Table.{State}
-use Rattle.atomic_table.proofs.Lists.{at_longer, at_map, at_set, at_snoc, set_else, set_here}
-use Rattle.mdl_key.specs.Words.{KeyName}
-use Rattle.mdl_book.specs.declared.ticket.Ticket.{Ticket}
-use Rattle.mdl_defs.specs.declared.definition.Definition.{Definition}
-use Rattle.mdl_steps.specs.declared.slot.Slot.{Slot}
-use Rattle.mdl_steps.specs.declared.view.View.{View}
-use Rattle.mdl_steps.specs.Cells.{held_at, holder_at}
-use Rattle.mdl_steps.specs.Histories.{Reached}
-use Rattle.mdl_steps.specs.Rule.{Rule}
-use Rattle.mdl_steps.specs.TableChanges.{IsWholeChange, TableChange, first_after, split_off}
-use Rattle.mdl_steps.proofs.Views.{at_inside}
-use Rattle.mdl_system.proofs.Deciding.{nat_told}
-use Rattle.mdl_system.proofs.MemberLemmas.{Contains-map, Contains-none}
-use Rattle.mdl_system.specs.Systems.{System, Waiter, NoneForgottenAt}
-use Rattle.mdl_steps_laws.specs.Cares.{IsPaid, IsUnfreed, NobodyIsForgotten, NobodyIsForgottenAtRest}
-use Rattle.mdl_steps_laws.specs.EachStep.{IsKeyAt}
-use Rattle.mdl_steps_laws.specs.Locks.{AreKeysOf, IsBookAt, Lock}
-use Rattle.mdl_steps_laws.specs.WaitLaws.{IsTold}
+use Rattle.std.proofs.Common.{◌≡◌, ◌≢◌, ◌⊎◌, ℕ, suc, ◌+◌, ◌==◌, inl, inr, List, [], ◌∷◌, ◌++◌, set, map, length, Some, None, refl, sym, ap, ◌∙◌, subst, arith, Contains}
+use Rattle.mdl_steps_laws.proofs.FirstLemmas.{AreKeysOf, Contains-map, Contains-none, Definition, IsBookAt, IsKeyAt, IsPaid, IsTold, IsUnfreed, IsWholeChange, KeyName, Lock, NobodyIsForgotten, NobodyIsForgottenAtRest, NoneForgottenAt, Reached, Rule, Slot, State, System, TableChange, Ticket, View, Waiter, at_inside, at_longer, at_map, at_set, at_snoc, find_key, first_after, get_elem?, held_at, holder_at, last_place, list_any, nat_told, nobody_waits, ruled_keys, same_keys, set_else, set_here, some, some-injective, split_off}
 use Rattle.mdl_steps_laws.proofs.EachStep.{each_step_is_one_event}
 use Rattle.mdl_steps_laws.proofs.Forgotten.{go}
 use Rattle.mdl_steps_laws.proofs.FreeingNothing.{nothing}
 use Rattle.mdl_steps_laws.proofs.KeysStay.{IsVacantAt, keys_stay}
-use Rattle.mdl_steps_laws.proofs.Openings.{nobody_waits}
 use Rattle.mdl_steps_laws.proofs.RestKeys.{at_end}
-use Rattle.mdl_steps_laws.proofs.TableLocks.{find_key, last_place, ruled_keys, same_keys}
 use Rattle.mdl_steps_laws.proofs.Wells.{a_system, rule_of}
 
 -- what is shown of a table by recursion

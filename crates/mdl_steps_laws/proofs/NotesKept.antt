@@ -1,17 +1,7 @@
 -- The headline: locks with a free latch are in order, and what a session reads under a ticket stays.
-use Rattle.std.proofs.Common.{◌≡◌, ℕ, ◌<◌, List, ◌++◌, length, sym, ap, ◌∙◌, subst}
-use Rattle.std.specs.Prelude.{Contains, slice_index}
-use mathlib.Core.Option.{some}
-use lib.ListN.{get_elem?}
-use Rattle.atomic_table.specs.Table.{State}
-use Rattle.atomic_table.proofs.Lists.{at_index}
-use Rattle.mdl_defs.specs.declared.versioned_definition.VersionedDefinition.{VersionedDefinition}
-use Rattle.mdl_steps.specs.declared.slot.Slot.{Slot}
-use Rattle.mdl_steps.specs.declared.view.View.{View}
-use Rattle.mdl_steps.specs.Layout.{version_word}
-use Rattle.mdl_steps.specs.Rule.{Rule}
+use Rattle.std.proofs.Common.{◌≡◌, ℕ, ◌<◌, List, ◌++◌, length, sym, ap, ◌∙◌, subst, Contains, slice_index}
 use Rattle.mdl_steps.proofs.Tells.{free_told, noted_told, reads_told}
-use Rattle.mdl_steps_laws.specs.Headline.{FreeLocksAreInOrder, HasNoted, HasPlace, HasRead, ReadsStand, Stands}
+use Rattle.mdl_steps_laws.proofs.Common.{FreeLocksAreInOrder, HasNoted, HasPlace, HasRead, ReadsStand, Rule, Slot, Stands, State, VersionedDefinition, View, at_index, get_elem?, some, version_word}
 use Rattle.mdl_steps_laws.proofs.Keeping.{own_parts}
 
 pub free_in_order : FreeLocksAreInOrder

@@ -1,22 +1,6 @@
 -- What changes at one place changes the lock of its key alone.
 use Rattle.std.proofs.Common.{◌≡◌, ◌≢◌, ℕ, suc, ◌<◌, inl, inr, sym, ap, ◌∙◌, subst, arith}
-use mathlib.Core.Option.{some, some-injective}
-use lib.ListN.{get_elem?}
-use Rattle.atomic_table.specs.Table.{State}
-use Rattle.atomic_table.proofs.Lists.{at_map}
-use Rattle.mdl_key.specs.Words.{KeyName}
-use Rattle.mdl_book.specs.declared.book_view.BookView.{BookView}
-use Rattle.mdl_steps.specs.declared.slot.Slot.{Slot}
-use Rattle.mdl_steps.specs.declared.view.View.{View}
-use Rattle.mdl_steps.specs.Cells.{Cell, Holder, all_fast, cell, holder_at}
-use Rattle.mdl_steps.specs.Lists.{Distinct}
-use Rattle.mdl_steps.specs.Rule.{Rule}
-use Rattle.mdl_steps.specs.RuleLaws.{fast_at}
-use Rattle.mdl_steps.proofs.Views.{at_unmap}
-use Rattle.mdl_system.proofs.Deciding.{nat_told}
-use Rattle.mdl_system.specs.Events.{SameElsewhere}
-use Rattle.mdl_steps_laws.specs.Locks.{Lock, AreKeysOf, AreLocksOf, IsBookAt}
-use Rattle.mdl_steps_laws.specs.TableLaws.{OnePlaceIsOneLock}
+use Rattle.mdl_steps_laws.proofs.Common.{AreKeysOf, AreLocksOf, BookView, Cell, Distinct, Holder, IsBookAt, KeyName, Lock, OnePlaceIsOneLock, Rule, SameElsewhere, Slot, State, View, all_fast, at_map, at_unmap, cell, fast_at, get_elem?, holder_at, nat_told, some, some-injective}
 use Rattle.mdl_steps_laws.proofs.TableLocks.{one_place, same_keys}
 
 module _ (s s′ : State Slot View) (place : ℕ) (same : cell s′ place ≡ cell s place) where

@@ -1,24 +1,6 @@
 -- In short, each step of a session is one of the system, or does nothing there.
 use Rattle.std.proofs.Common.{◌⊎◌, ℕ, ◌+◌, inl, inr, List, [], ◌∷◌, get_or}
-use Rattle.atomic_table.specs.Table.{State, Step}
-use Rattle.mdl_key.specs.Words.{KeyName}
-use Rattle.mdl_defs.specs.declared.change.Change.{Change}
-use Rattle.mdl_defs.specs.declared.definition.Definition.{Definition}
-use Rattle.mdl_defs.specs.VersionedDefinitions.{applied}
-use Rattle.mdl_steps.specs.declared.deed.Deed.{Deed}
-use Rattle.mdl_steps.specs.declared.deed.Deed.TheVariants.{Gain, Alter, Lose}
-use Rattle.mdl_steps.specs.declared.slot.Slot.{Slot}
-use Rattle.mdl_steps.specs.declared.view.View.{View}
-use Rattle.mdl_steps.specs.Plays.{Mine}
-use Rattle.mdl_steps.specs.WaitPlays.{asked_ticket, wait_in}
-use Rattle.mdl_system.specs.BookLaws.{of_lock}
-use Rattle.mdl_system.specs.Events.{BeginWait, ChangeDefinition, Clone, Downgrade, EndGrantedWait, EndLostWait, Event, Grant, GrantWaiter, Merge, Release, SameSystem, SettleLost, Step as SystemStep, Upgrade}
-use Rattle.mdl_system.specs.Systems.{System, Unsettled}
-use Rattle.mdl_system.proofs.Deciding.{nat_told}
-use Rattle.mdl_steps_laws.specs.EachStep.{BringsDeedsAt, BringsOrRests, EachStepHappensOrRests, IfMet}
-use Rattle.mdl_steps_laws.specs.SessionSteps.{Makes, TableChange}
-use Rattle.mdl_steps_laws.specs.StepEvents.{BringsDeeds}
-use Rattle.mdl_steps_laws.specs.WaitLaws.{Brings, IsTold, Rests, lost_as}
+use Rattle.mdl_steps_laws.proofs.FirstLemmas.{Alter, BeginWait, Brings, BringsDeeds, BringsDeedsAt, BringsOrRests, Change, ChangeDefinition, Clone, Deed, Definition, Downgrade, EachStepHappensOrRests, EndGrantedWait, EndLostWait, Event, Gain, Grant, GrantWaiter, IfMet, IsTold, KeyName, Lose, Makes, Merge, Mine, Release, Rests, SameSystem, SettleLost, Slot, State, Step, System, SystemStep, TableChange, Unsettled, Upgrade, View, applied, asked_ticket, lost_as, nat_told, of_lock, wait_in}
 use Rattle.mdl_steps_laws.proofs.EachStep.{each_step_is_one_event}
 
 module _ (s t : State Slot View) where

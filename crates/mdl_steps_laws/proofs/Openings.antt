@@ -1,26 +1,8 @@
 -- At the start nobody holds or waits.
-use Rattle.std.proofs.Common.{◌≡◌, ℕ, zero, suc, ◌<◌, List, [], ◌∷◌, length, map, Some, None, refl, sym, ap, ◌∙◌, subst, arith}
-use Rattle.std.specs.Prelude.{Contains}
-use mathlib.Core.Option.{some, some-ne-none, some-injective}
-use lib.ListN.{get_elem?}
-use Rattle.atomic_table.specs.Table.{opening}
-use Rattle.atomic_table.proofs.Lists.{at_map}
-use Rattle.mdl_key.specs.Words.{KeyName}
-use Rattle.mdl_defs.specs.declared.definition.Definition.{Definition}
-use Rattle.mdl_steps.specs.declared.slot.Slot.{Slot}
+use Rattle.std.proofs.Common.{◌≡◌, ℕ, zero, suc, ◌<◌, List, [], ◌∷◌, length, map, Some, None, refl, sym, ap, ◌∙◌, subst, arith, Contains}
 use Rattle.mdl_steps.specs.declared.slot.Slot.TheVariants as slot
-use Rattle.mdl_steps.specs.declared.view.Keys.{Keys}
-use Rattle.mdl_steps.specs.declared.view.View.{View}
-use Rattle.mdl_steps.specs.Cells.{blank, numbers_for}
-use Rattle.mdl_steps.specs.Layout.{latch_word}
-use Rattle.mdl_steps.specs.Openings.{IsOpening}
-use Rattle.mdl_steps.proofs.Views.{at_inside}
-use Rattle.mdl_steps_laws.specs.Locks.{Lock, granted_of, empty_lock}
-use Rattle.mdl_steps_laws.specs.WaitLaws.{IsTold}
+use Rattle.mdl_steps_laws.proofs.Common.{Contains-none, Definition, GrantedWait, Holding, IsOpening, IsTold, KeyName, Keys, Lock, Slot, System, View, Waiter, at_inside, at_map, blank, empty_lock, get_elem?, granted_of, in_book, latch_word, numbers_for, opening, some, some-injective, some-ne-none}
 use Rattle.mdl_steps_laws.proofs.TableLocks.{one_directory}
-use Rattle.mdl_system.specs.BookLaws.{in_book}
-use Rattle.mdl_system.specs.Systems.{System, Holding, Waiter, GrantedWait}
-use Rattle.mdl_system.proofs.MemberLemmas.{Contains-none}
 
 module _ (sessions : ℕ) (words : List ℕ) (slots : List Slot) (open_ : IsOpening sessions words slots) (a : System Definition)
     (told : IsTold (opening words slots (blank 0 (numbers_for sessions 0 0))) a) where

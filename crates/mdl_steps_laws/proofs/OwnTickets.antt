@@ -1,31 +1,6 @@
 -- What a session has by its view: the slow tickets that it holds, and that its next number is new.
-use Rattle.std.proofs.Common.{◌≡◌, ◌≢◌, ℕ, zero, suc, ◌<◌, ◌==◌, Bool, true, cond, inl, inr, List, [], ◌∷◌, map, Some, None, refl, sym, ap, ◌∙◌, subst, arith}
-use Rattle.std.specs.Prelude.{Contains}
-use Rattle.std.proofs.lemmas.Bool.{eq-eqb, eqb-true}
-use Rattle.std.proofs.lemmas.List.Elements.{Contains-append_right, Contains-append_cases}
-use mathlib.Core.Option.{some, some-injective}
-use lib.ListN.{get_elem?}
-use Rattle.atomic_table.specs.Table.{State}
-use Rattle.atomic_table.proofs.Lists.{at_map}
-use Rattle.mdl_key.specs.Words.{KeyName}
-use Rattle.mdl_book.specs.declared.ticket.Ticket.{Ticket}
-use Rattle.mdl_book.specs.Tickets.{is_ticket, ticket_of}
-use Rattle.mdl_book.proofs.TicketLemmas.{find-contains}
-use Rattle.mdl_steps.specs.declared.slot.Slot.{Slot}
-use Rattle.mdl_steps.specs.declared.view.SessionTicket.{SessionTicket}
-use Rattle.mdl_steps.specs.declared.view.View.{View}
-use Rattle.mdl_steps.specs.Cells.{Part, all_fast, cell, due, own_at, part_at, ticket_by, waits}
-use Rattle.mdl_steps.specs.Lists.{Each, Once}
-use Rattle.mdl_steps.specs.Rule.{IsUnlike, Rule}
-use Rattle.mdl_steps.specs.RuleLaws.{fast_at}
-use Rattle.mdl_steps.proofs.Latch.{due_asked, of-unwaited}
-use Rattle.mdl_steps.proofs.Tickets.{is_itself, is_passed, of_other_number}
-use Rattle.mdl_steps.proofs.Views.{at_unmap, by_bool}
-use Rattle.mdl_system.specs.BookLaws.{in_book, of_lock}
-use Rattle.mdl_system.proofs.MemberLemmas.{Contains-none, Contains-map, Contains-map_from}
-use Rattle.mdl_system.proofs.OrderLemmas.{Contains-cons_cases, Contains-here, Contains-later}
-use Rattle.mdl_steps_laws.specs.Locks.{Lock, granted_of}
-use Rattle.mdl_steps_laws.specs.TableLaws.{IsOnly, NextNumbersAreNew, OwnTicketsAreHeld}
+use Rattle.std.proofs.Common.{◌≡◌, ◌≢◌, ℕ, zero, suc, ◌<◌, ◌==◌, Bool, true, cond, inl, inr, List, [], ◌∷◌, map, Some, None, refl, sym, ap, ◌∙◌, subst, arith, Contains, eq-eqb, eqb-true}
+use Rattle.mdl_steps_laws.proofs.Common.{Contains-append_cases, Contains-append_right, Contains-cons_cases, Contains-here, Contains-later, Contains-map, Contains-map_from, Contains-none, Each, IsOnly, IsUnlike, KeyName, Lock, NextNumbersAreNew, Once, OwnTicketsAreHeld, Part, Rule, SessionTicket, Slot, State, Ticket, View, all_fast, at_map, at_unmap, by_bool, cell, due, due_asked, fast_at, find-contains, get_elem?, granted_of, in_book, is_itself, is_passed, is_ticket, of-unwaited, of_lock, of_other_number, own_at, part_at, some, some-injective, ticket_by, ticket_of, waits}
 use Rattle.mdl_steps_laws.proofs.Keeping.{filter_among, filter_passes}
 use Rattle.mdl_steps_laws.proofs.TableLocks.{find_key, into_rule, is_placed, placed}
 use Rattle.mdl_steps_laws.proofs.TicketMembers.{found-passes, none-passes}

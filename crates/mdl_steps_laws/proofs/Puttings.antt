@@ -1,40 +1,8 @@
 -- Who holds a latch and looked the waiters through leaves none forgotten.
-use Rattle.std.proofs.Common.{◌≡◌, ◌⊎◌, ℕ, suc, ◌%◌, ◌<◌, not, Bool, true, false, inl, inr, List, [], ◌∷◌, ◌++◌, length, zero, map, get_or, Some, refl, sym, ap, ◌∙◌, subst, arith, rules}
-use Rattle.std.specs.Prelude.{Contains}
-use Rattle.std.specs.List.{list_any}
-use Rattle.std.proofs.lemmas.Bool.{and_parts, and_from, or_parts}
-use mathlib.Core.Option.{some}
-use lib.ListN.{get_elem?}
-use Rattle.atomic_table.specs.Table.{State}
-use Rattle.mdl_key.specs.declared.mode.Mode.{Mode}
-use Rattle.mdl_key.specs.declared.namespace.Kind.{Kind}
-use Rattle.mdl_key.specs.Words.{KeyName, kind_of, clashes, is_obtrusive}
-use Rattle.mdl_word.specs.Words.{counts_of, blocks_by, count_with}
+use Rattle.std.proofs.Common.{◌≡◌, ◌⊎◌, ℕ, suc, ◌%◌, ◌<◌, not, Bool, true, false, inl, inr, List, [], ◌∷◌, ◌++◌, length, zero, map, get_or, Some, refl, sym, ap, ◌∙◌, subst, arith, rules, Contains}
 use Rattle.mdl_word.proofs.BlockLemmas.{clash_from_blocks_by}
-use Rattle.mdl_book.specs.declared.book_view.BookView.{BookView}
-use Rattle.mdl_book.specs.declared.ticket.Ticket.{Ticket}
-use Rattle.mdl_book.specs.Books.{lock_kind, has_obtrusive}
-use Rattle.mdl_book.specs.FastTickets.{AreOfOthers, CountsFastTickets, can_be_granted}
-use Rattle.mdl_book.specs.Granting.{goes_first, is_compatible, is_grantable}
-use Rattle.mdl_book.proofs.FastLemmas.{can_be_granted-fast}
-use Rattle.mdl_defs.specs.declared.definition.Definition.{Definition}
-use Rattle.mdl_steps.specs.declared.slot.Slot.{Slot}
-use Rattle.mdl_steps.specs.declared.view.LatchRecord.{LatchRecord}
-use Rattle.mdl_steps.specs.declared.view.View.{View}
-use Rattle.mdl_steps.specs.Cells.{held_at, waits}
-use Rattle.mdl_steps.specs.Plays.{Mine}
-use Rattle.mdl_steps.specs.Rule.{Rule, TellsLists}
-use Rattle.mdl_steps.specs.RuleLaws.{fast_at}
-use Rattle.mdl_steps.proofs.Views.{by_bool}
-use Rattle.mdl_steps_laws.specs.EachStep.{IsKeyAt}
-use Rattle.mdl_steps_laws.specs.Locks.{granted_of}
-use Rattle.mdl_steps_laws.specs.WaitLaws.{IsTold}
-use Rattle.mdl_steps_laws.specs.WaitsTold.{code_of}
+use Rattle.mdl_steps_laws.proofs.FirstLemmas.{AreOfOthers, BookView, Contains-map, CountsFastTickets, Definition, IsGrantable, IsKeyAt, IsTold, KeyName, Kind, LatchRecord, Mine, Mode, NoneForgottenAt, Rule, Slot, State, System, TellsLists, Ticket, Unsettled, View, Waiter, and_from, and_parts, blocks_by, by_bool, can_be_granted, can_be_granted-fast, clashes, code_of, count_with, counts_of, fast_at, get_elem?, goes_first, grantable-by_lists, granted_of, has_obtrusive, held_at, is_compatible, is_grantable, is_obtrusive, kind_of, list_any, lock_kind, or_parts, same_keys, some, waits}
 use Rattle.mdl_steps_laws.proofs.FastRests.{waiters_have_no_fast_tickets}
-use Rattle.mdl_steps_laws.proofs.TableLocks.{same_keys}
-use Rattle.mdl_system.specs.Systems.{System, Waiter, Unsettled, IsGrantable, NoneForgottenAt}
-use Rattle.mdl_system.proofs.BookLemmas.{grantable-by_lists}
-use Rattle.mdl_system.proofs.MemberLemmas.{Contains-map}
 
 -- ---- where no ticket of the book is obtrusive, no counts block a request
 

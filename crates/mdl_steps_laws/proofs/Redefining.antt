@@ -1,17 +1,9 @@
 -- A change of what is defined under a key is one of the system.
-use Rattle.std.proofs.Common.{◌≡◌, ◌+◌, inl, inr, Some, refl, sym, ap, ◌∙◌, subst}
-use Rattle.mdl_key.specs.Words.{KeyName}
-use Rattle.mdl_defs.specs.declared.definition.Definition.{Definition}
-use Rattle.mdl_defs.specs.VersionedDefinitions.{applied}
+use Rattle.std.proofs.Common.{◌≡◌, ◌+◌, inl, inr, Some, refl, sym, ap, ◌∙◌, subst, Contains}
 use Rattle.mdl_defs.proofs.VersionedDefinitionLemmas.{applied-changed}
-use Rattle.mdl_system.specs.BookLaws.{in_book, of_lock}
-use Rattle.mdl_system.specs.Events.{SameMembers}
-use Rattle.mdl_system.specs.Systems.{System, Versioned}
-use Rattle.mdl_system.proofs.Deciding.{key_told}
-use Rattle.std.specs.Prelude.{Contains}
-use Rattle.mdl_steps_laws.specs.Locks.{Lock, granted_of, versioned}
-use Rattle.mdl_steps_laws.proofs.DeedLaws.{Turns, RedefiningChanges}
+use Rattle.mdl_steps_laws.proofs.Common.{Definition, KeyName, Lock, SameMembers, System, Versioned, applied, granted_of, in_book, key_told, of_lock, versioned}
 use Rattle.mdl_steps_laws.proofs.DeedEvents.{held_by_own}
+use Rattle.mdl_steps_laws.proofs.DeedLaws.{Turns, RedefiningChanges}
 
 -- where the granted tickets of a lock stay, those of the system do
 same_granted : (key : KeyName) (lock : Lock) (old new : KeyName → Lock) (a b : System Definition) → Turns key lock old new a b → granted_of lock ≡ granted_of (old key) → SameMembers a.granted b.granted

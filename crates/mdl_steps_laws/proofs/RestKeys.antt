@@ -1,32 +1,9 @@
 -- Steps on the directory's latch, the drawing of numbers, and the step by which a key gets a place: nothing is done in the system.
-use Rattle.std.proofs.Common.{◌≡◌, ◌≢◌, ◌⊎◌, ℕ, zero, suc, ◌+◌, ◌-◌, ◌*◌, ◌<◌, ◌≤◌, inl, inr, List, [], ◌∷◌, ◌++◌, length, set, get_or, Some, None, refl, sym, ap, ◌∙◌, subst, arith, length-set, get_or-set_other, get_or-set_same}
-use Rattle.std.specs.Prelude.{slice_get}
-use mathlib.Core.Option.{Option as Maybe, some, none, some-injective, some-ne-none}
-use lib.ListN.{get_elem?}
-use Rattle.atomic_table.specs.Table.{State}
-use Rattle.atomic_table.proofs.Lists.{at_longer, at_map, at_set, set_else, set_here}
-use Rattle.mdl_key.specs.Words.{KeyName}
-use Rattle.mdl_book.specs.Books.{empty_book}
-use Rattle.mdl_steps.specs.declared.slot.Slot.{Slot}
+use Rattle.std.proofs.Common.{◌≡◌, ◌≢◌, ◌⊎◌, ℕ, zero, suc, ◌+◌, ◌-◌, ◌*◌, ◌<◌, ◌≤◌, inl, inr, List, [], ◌∷◌, ◌++◌, length, set, get_or, Some, None, refl, sym, ap, ◌∙◌, subst, arith, length-set, get_or-set_other, get_or-set_same, slice_get}
 use Rattle.mdl_steps.specs.declared.slot.Slot.TheVariants as slot
-use Rattle.mdl_steps.specs.declared.view.Keys.{Keys}
-use Rattle.mdl_steps.specs.declared.view.View.{View}
-use Rattle.mdl_steps.specs.Cells.{desk_of, held_at, holder_at}
-use Rattle.mdl_steps.specs.Layout.{enrol_word, latch_word}
-use Rattle.mdl_steps.specs.Plays.{Mine, consulted, informed, listing, named}
-use Rattle.mdl_steps.specs.Rule.{key_at}
-use Rattle.mdl_steps.specs.RuleLaws.{fast_at}
-use Rattle.mdl_steps.proofs.Desks.{alone_desk}
-use Rattle.mdl_steps.proofs.Lift.{alone}
-use Rattle.mdl_steps.proofs.Looking.{not_there}
-use Rattle.mdl_steps.proofs.NewKeys.{none_after}
-use Rattle.mdl_steps.proofs.Views.{at_inside, held_at-dropped, held_at-undropped}
-use Rattle.mdl_steps_laws.specs.Locks.{Lock, AreKeysOf, AreLocksOf, IsBookAt, empty_lock}
-use Rattle.mdl_steps_laws.specs.RestLaws.{ConsultingRests, DrawingRests, InformingRests, NamingRests, after_giving, after_step, after_taking}
+use Rattle.mdl_steps_laws.proofs.FirstLemmas.{AreKeysOf, AreLocksOf, ConsultingRests, DrawingRests, InformingRests, IsBookAt, KeyName, Keys, Leaves, Lock, Maybe, Mine, NamingRests, Slot, State, View, after_giving, after_step, after_taking, alone, alone_desk, at_inside, at_longer, at_map, at_set, book_else, consulted, desk_of, empty_book, empty_lock, enrol_word, fast_at, fast_same, get_elem?, held_at, held_at-dropped, held_at-undropped, holder_at, informed, key_at, latch_word, listing, named, none, none_after, not_there, one_directory, same_keys, set_else, set_here, some, some-injective, some-ne-none}
 use Rattle.mdl_steps_laws.proofs.RestKinds.{leaves_all, unmoved}
 use Rattle.mdl_steps_laws.proofs.RestSteps.{elsewhere_rests, same_system, waits_same}
-use Rattle.mdl_steps_laws.proofs.SeatSteps.{Leaves, book_else, fast_same}
-use Rattle.mdl_steps_laws.proofs.TableLocks.{one_directory, same_keys}
 
 one_keys : (j k : Keys) → Some j ≡ Some k → j ≡ k
 one_keys j k e = cc

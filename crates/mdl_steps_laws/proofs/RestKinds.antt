@@ -1,31 +1,8 @@
 -- The kinds of step by which nothing is done in the system.
 use Rattle.std.proofs.Common.{◌≡◌, ◌≢◌, ℕ, ◌+◌, ◌*◌, ◌<◌, ◌≤◌, ◌==◌, cond, inl, inr, List, [], map, set, get_or, Option, Some, None, refl, sym, ap, ◌∙◌, subst, arith, length-set, get_or-set_other, get_or-set_same}
-use mathlib.Core.Option.{Option as Maybe, some, none}
-use lib.ListN.{get_elem?}
-use Rattle.atomic_table.specs.Table.{State}
-use Rattle.atomic_table.proofs.Lists.{at_set, set_else, set_here}
-use Rattle.std.specs.Option.{option_map_or}
-use Rattle.mdl_defs.specs.declared.versioned_definition.VersionedDefinition.{VersionedDefinition}
-use Rattle.mdl_defs.specs.declared.definition.Definition.{Definition}
-use Rattle.mdl_defs.specs.Caches.{Kept, kept_of}
-use Rattle.mdl_key.specs.Words.{KeyName}
-use Rattle.mdl_book.specs.declared.book_view.BookView.{BookView}
-use Rattle.mdl_steps.specs.declared.slot.Slot.{Slot}
 use Rattle.mdl_steps.specs.declared.slot.Slot.TheVariants as slot
-use Rattle.mdl_steps.specs.declared.view.LatchRecord.{LatchRecord}
-use Rattle.mdl_steps.specs.declared.view.View.{View}
-use Rattle.mdl_steps.specs.Cells.{held_at, own_at, ticket_by}
-use Rattle.mdl_steps.specs.Layout.{latch_word, lock_word, version_word}
-use Rattle.mdl_steps.specs.Plays.{Mine, flags_lowered, latched, lowered, noting, raised, read_and_put, searched, served, unlatched}
-use Rattle.mdl_steps.specs.Rule.{Rule}
-use Rattle.mdl_steps.specs.VersionPlays.{found_version, learnt_version, noting_found}
-use Rattle.mdl_steps.proofs.Views.{held_at-changed, held_at-dropped, held_at-first, held_at-past, held_at-unchanged, held_at-undropped}
-use Rattle.mdl_steps.proofs.WaitSteps.{set_found}
-use Rattle.mdl_steps_laws.specs.Headline.{HasPlace, IsFree}
-use Rattle.mdl_steps_laws.specs.Locks.{AreKeysOf, IsBookAt}
-use Rattle.mdl_steps_laws.specs.RestLaws.{FindingVersionRests, IsRest, LoweringRests, MissingDirectoryRests, MissingRests, PuttingReadingRests, PuttingRests, PuttingSearchedRests, PuttingServedRests, RaisingRests, ReadingRests, ReadingVersionRests, TakingRests, after_step}
+use Rattle.mdl_steps_laws.proofs.FirstLemmas.{AreKeysOf, BookView, Definition, FindingVersionRests, HasPlace, IsBookAt, IsFree, IsRest, Kept, KeyName, LatchRecord, Leaves, LoweringRests, Maybe, Mine, MissingDirectoryRests, MissingRests, PuttingReadingRests, PuttingRests, PuttingSearchedRests, PuttingServedRests, RaisingRests, ReadingRests, ReadingVersionRests, Rule, Slot, State, TakingRests, VersionedDefinition, View, after_step, at_set, flags_lowered, found_version, get_elem?, held_at, held_at-changed, held_at-dropped, held_at-first, held_at-past, held_at-unchanged, held_at-undropped, kept_of, latch_word, latched, learnt_version, lock_word, lowered, none, noted_alike, noting, noting_found, option_map_or, own_at, raised, read_and_put, searched, served, set_else, set_found, set_here, some, ticket_by, unlatched, version_word}
 use Rattle.mdl_steps_laws.proofs.RestSteps.{elsewhere_rests, one_book, place_rests}
-use Rattle.mdl_steps_laws.proofs.SeatSteps.{Leaves, noted_alike}
 
 one_record : (g h : LatchRecord) → Some g ≡ Some h → g ≡ h
 one_record g h e = cc

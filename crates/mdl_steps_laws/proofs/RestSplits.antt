@@ -1,28 +1,8 @@
 -- A seat is split off: nothing is done in the system.
 use Rattle.std.proofs.Common.{◌≡◌, ℕ, inl, inr, List, [], ◌∷◌, ◌++◌, map, set, Some, None, refl, sym, ap, ◌∙◌, subst}
-use mathlib.Core.Option.{some}
-use lib.ListN.{get_elem?}
-use Rattle.atomic_table.specs.Table.{State}
-use Rattle.atomic_table.proofs.Lists.{at_longer, at_set, at_snoc}
-use Rattle.mdl_key.specs.Words.{KeyName}
-use Rattle.mdl_book.specs.declared.book_view.BookView.{BookView}
-use Rattle.mdl_steps.specs.declared.slot.Slot.{Slot}
-use Rattle.mdl_steps.specs.declared.view.LatchRecord.{LatchRecord}
-use Rattle.mdl_steps.specs.declared.view.Keys.{Keys}
-use Rattle.mdl_steps.specs.declared.view.View.{View}
-use Rattle.mdl_steps.specs.Cells.{all_fast, held_at, own_at, part_at, ticket_by, waits}
-use Rattle.mdl_steps.specs.RuleLaws.{fast_at}
-use Rattle.mdl_steps.proofs.Views.{map_kept}
-use Rattle.mdl_system.specs.Systems.{GrantedWait}
-use Rattle.mdl_steps_laws.specs.Locks.{Lock, AreKeysOf, IsBookAt, granted_of}
-use Rattle.mdl_steps_laws.specs.RestLaws.{SplittingRests, after_split, first_after, split_off}
-use Rattle.mdl_steps_laws.specs.WaitsTold.{IsGrantedWait}
+use Rattle.mdl_steps_laws.proofs.FirstLemmas.{AreKeysOf, BookView, GrantedWait, IsBookAt, IsGrantedWait, KeyName, Keys, LatchRecord, Lock, Slot, SplittingRests, State, View, after_split, all_fast, at_longer, at_set, at_snoc, fast_at, first_after, get_elem?, granted_of, held_at, map_kept, now_there, own_at, part_at, same_definitions, same_members, some, split_off, ticket_by, told_alike, waiter_by, waiting_by, waits, was_there}
 use Rattle.mdl_steps_laws.proofs.RestSteps.{locks_stay}
 use Rattle.mdl_steps_laws.proofs.ToldDeeds.{locks_once}
-use Rattle.mdl_steps_laws.proofs.WaitEvents.{same_definitions, same_members}
-use Rattle.mdl_steps_laws.proofs.WaitLists.{told_alike, waiting_by}
-use Rattle.mdl_steps_laws.proofs.WaitsTold.{waiter_by}
-use Rattle.mdl_steps_laws.proofs.WaitSteps.{now_there, was_there}
 
 -- one more view without a fast ticket
 more_fast : (f : ℕ → ℕ) (q : ℕ) (views : List View) (more : View) → more.fast ≡ [] → all_fast (map (part_at f q) (views ++ more ∷ [])) ≡ all_fast (map (part_at f q) views)

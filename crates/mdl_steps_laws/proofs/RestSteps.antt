@@ -1,28 +1,8 @@
 -- Steps of a seat by which nothing is done in the system that the table tells: they change no book, no fast ticket, no wait and no definition.
 use Rattle.std.proofs.Common.{◌≡◌, ◌≢◌, ℕ, suc, ◌+◌, ◌*◌, ◌<◌, ◌≤◌, inl, inr, List, length, set, get_or, sym, ap, ◌∙◌, subst, arith, get_or-set_other}
-use mathlib.Core.Option.{Option as Maybe, some}
-use lib.ListN.{get_elem?}
-use Rattle.atomic_table.specs.Table.{State}
-use Rattle.mdl_key.specs.Words.{KeyName}
-use Rattle.mdl_defs.specs.declared.definition.Definition.{Definition}
-use Rattle.mdl_book.specs.declared.book_view.BookView.{BookView}
-use Rattle.mdl_steps.specs.declared.slot.Slot.{Slot}
 use Rattle.mdl_steps.specs.declared.slot.Slot.TheVariants as slot
-use Rattle.mdl_steps.specs.declared.view.View.{View}
-use Rattle.mdl_steps.specs.Cells.{waits}
-use Rattle.mdl_steps.specs.Layout.{wait_word}
-use Rattle.mdl_steps.specs.Rule.{Rule}
-use Rattle.mdl_steps.specs.RuleLaws.{fast_at}
-use Rattle.mdl_system.specs.Events.{SameSystem}
-use Rattle.mdl_system.specs.Systems.{System}
-use Rattle.mdl_system.proofs.Deciding.{nat_told}
-use Rattle.mdl_steps_laws.specs.Headline.{HasPlace}
-use Rattle.mdl_steps_laws.specs.Locks.{Lock, AreKeysOf, AreLocksOf, IsBookAt, granted_of}
-use Rattle.mdl_steps_laws.specs.WaitLaws.{IsTold}
-use Rattle.mdl_steps_laws.proofs.SeatSteps.{Leaves, book_else, fast_same, keys_same}
-use Rattle.mdl_steps_laws.proofs.TableLocks.{into_rule, last_place}
+use Rattle.mdl_steps_laws.proofs.FirstLemmas.{AreKeysOf, AreLocksOf, BookView, Definition, HasPlace, IsBookAt, IsTold, KeyName, Leaves, Lock, Maybe, Rule, SameSystem, Slot, State, System, View, book_else, fast_at, fast_same, get_elem?, granted_of, into_rule, keys_same, last_place, nat_told, same_definitions, same_members, some, wait_word, waits}
 use Rattle.mdl_steps_laws.proofs.ToldDeeds.{locks_once}
-use Rattle.mdl_steps_laws.proofs.WaitEvents.{same_definitions, same_members}
 use Rattle.mdl_steps_laws.proofs.WaitMet.{waits_rest}
 
 -- ---- any step of a seat that leaves what its session asks for

@@ -1,35 +1,11 @@
 -- The steps by which deeds and changes of definitions come to be of the table do them in the locks that it tells.
 use Rattle.std.proofs.Common.{◌≡◌, ◌≢◌, ℕ, suc, ◌==◌, ◌+◌, ◌*◌, ◌<◌, ◌≤◌, Bool, inl, inr, List, [], ◌∷◌, ◌++◌, length, map, set, get_or, Some, refl, sym, ap, ◌∙◌, subst, arith, length-set, get_or-set_other, get_or-set_same}
-use Rattle.std.proofs.lemmas.List.{map-set}
-use mathlib.Core.Option.{Option as Maybe, some}
-use lib.ListN.{get_elem?}
-use Rattle.atomic_table.specs.Table.{State}
-use Rattle.atomic_table.proofs.Lists.{at_map, at_set, set_here, set_else}
-use Rattle.mdl_key.specs.Words.{KeyName}
-use Rattle.mdl_defs.specs.declared.versioned_definition.VersionedDefinition.{VersionedDefinition}
-use Rattle.mdl_defs.specs.VersionedDefinitions.{standing_after}
-use Rattle.mdl_book.specs.declared.book_view.BookView.{BookView}
 use Rattle.mdl_book.specs.Books as books
-use Rattle.mdl_steps.specs.declared.deed.Deed.{Deed}
-use Rattle.mdl_steps.specs.declared.slot.Slot.{Slot}
-use Rattle.mdl_steps.specs.declared.slot.Slot.TheVariants as slot
-use Rattle.mdl_steps.specs.declared.view.LatchRecord.{LatchRecord}
-use Rattle.mdl_steps.specs.declared.view.SessionTicket.{SessionTicket}
-use Rattle.mdl_steps.specs.declared.view.View.{View}
-use Rattle.mdl_steps.specs.Cells.{all_fast, held_at, holder_at, own_at, part_at, ticket_by, waits}
-use Rattle.mdl_steps.specs.Deeds.{all_booked}
-use Rattle.mdl_steps.specs.Layout.{latch_word, lock_word, version_word}
-use Rattle.mdl_steps.specs.Plays.{Mine, lowered, noting_version, redefined, restood, flags_lowered, unlatched}
-use Rattle.mdl_steps.specs.Rule.{Rule}
-use Rattle.mdl_steps.specs.RuleLaws.{fast_at}
 use Rattle.mdl_steps.proofs.Books.{all_done_fast}
-use Rattle.mdl_steps.proofs.Views.{at_inside, by_bool, held_at-changed, held_at-unchanged, held_at-undropped}
-use Rattle.mdl_system.specs.Events.{SameElsewhere}
-use Rattle.mdl_steps.proofs.Noting.{all_fast-noted}
-use Rattle.mdl_steps_laws.specs.Locks.{Lock, AreKeysOf, AreLocksOf, IsBookAt}
-use Rattle.mdl_steps_laws.proofs.StepLaws.{LoweringDoes, PuttingDoes, WritingRedefines}
-use Rattle.mdl_steps_laws.specs.StepEvents.{after_put}
+use Rattle.mdl_steps.specs.declared.slot.Slot.TheVariants as slot
+use Rattle.mdl_steps_laws.proofs.Common.{AreKeysOf, AreLocksOf, BookView, Deed, IsBookAt, KeyName, LatchRecord, Lock, Maybe, Mine, Rule, SameElsewhere, SessionTicket, Slot, State, VersionedDefinition, View, after_put, all_booked, all_fast, all_fast-noted, at_inside, at_map, at_set, by_bool, fast_at, flags_lowered, get_elem?, held_at, held_at-changed, held_at-unchanged, held_at-undropped, holder_at, latch_word, lock_word, lowered, map-set, noting_version, own_at, part_at, redefined, restood, set_else, set_here, some, standing_after, ticket_by, unlatched, version_word, waits}
 use Rattle.mdl_steps_laws.proofs.OneLock.{one_lock}
+use Rattle.mdl_steps_laws.proofs.StepLaws.{LoweringDoes, PuttingDoes, WritingRedefines}
 use Rattle.mdl_steps_laws.proofs.TableLocks.{first_place, into_rule, last_place, ruled_book}
 
 -- the waits' words have no part in the fast tickets

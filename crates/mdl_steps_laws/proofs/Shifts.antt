@@ -1,28 +1,7 @@
 -- What each kind of step changes of a session's wait and of its list of steps.
-use Rattle.std.proofs.Common.{◌≡◌, ◌⊎◌, ℕ, ◌%◌, ◌≤◌, inl, inr, List, [], ◌∷◌, ◌++◌, length, Some, None, refl, sym, ap, ◌∙◌, subst, arith}
-use Rattle.std.specs.Prelude.{Option}
-use Rattle.std.specs.Option.{option_map_or}
-use Rattle.atomic_table.specs.Table.{State, Step, Act}
-use Rattle.mdl_book.specs.Books.{empty_book, redefining}
-use Rattle.mdl_defs.specs.Caches.{kept_of}
-use Rattle.mdl_defs.specs.declared.definition.Definition.{Definition}
-use Rattle.mdl_steps.specs.declared.deed.Deed.{Deed}
-use Rattle.mdl_steps.specs.declared.deed.Deed.TheVariants.{Gain, Alter, Lose}
-use Rattle.mdl_steps.specs.declared.slot.Slot.{Slot}
+use Rattle.std.proofs.Common.{◌≡◌, ◌⊎◌, ℕ, ◌%◌, ◌≤◌, inl, inr, List, [], ◌∷◌, ◌++◌, length, Some, None, refl, sym, ap, ◌∙◌, subst, arith, Option}
 use Rattle.mdl_steps.specs.declared.step_kind.StepKind.TheVariants as step
-use Rattle.mdl_steps.specs.declared.view.Ask.{Ask}
-use Rattle.mdl_steps.specs.declared.view.StepRecord.{StepRecord}
-use Rattle.mdl_steps.specs.declared.view.View.{View}
-use Rattle.mdl_steps.specs.Cells.{waits}
-use Rattle.mdl_steps.specs.Deeds.{all_booked, all_next, next_after}
-use Rattle.mdl_steps.specs.Layout.{version_word, wait_word}
-use Rattle.mdl_steps.specs.Plays.{Mine, logged}
-use Rattle.mdl_steps.specs.VersionPlays.{noting_found}
-use Rattle.mdl_steps.specs.WaitPlays.{wait_in}
-use Rattle.mdl_steps_laws.specs.EachStep.{IsWhole}
-use Rattle.mdl_steps_laws.specs.SessionSteps.{Makes}
-use Rattle.mdl_system.proofs.Deciding.{nat_told}
-use Rattle.mdl_steps_laws.specs.Waits.{OnlyMeets}
+use Rattle.mdl_steps_laws.proofs.Common.{Act, Alter, Ask, Deed, Definition, Gain, IsWhole, Lose, Makes, Mine, OnlyMeets, Slot, State, Step, StepRecord, View, all_booked, all_next, empty_book, kept_of, logged, nat_told, next_after, noting_found, option_map_or, redefining, version_word, wait_in, wait_word, waits}
 
 -- the session keeps its number, and gives out rising ones. What it asks for it asked for before, under the same wait, or it is new. One step is added to its list
 pub record Shifts (st : Step Slot) (found : ℕ) (m m′ : Mine) : Type 0 where

@@ -1,51 +1,12 @@
 -- Who sees no deadlock under all latches is in none.
-use Rattle.std.proofs.Common.{◌≡◌, ◌≢◌, ℕ, suc, ◌+◌, ◌*◌, ◌%◌, ◌<◌, ◌≤◌, ◌==◌, ◌&&◌, ◌||◌, not, Bool, true, false, inl, inr, List, length, map, Some, sym, ap, ◌∙◌, subst, arith, eq-eqb, ne_eqb}
-use Rattle.std.specs.Prelude.{Option, Contains}
-use Rattle.std.specs.Option.{is_some}
-use Rattle.std.proofs.lemmas.Bool.{and_parts, and_from, eqb-true, or_right, or_left}
-use Rattle.std.proofs.lemmas.List.Elements.{Contains-append_cases}
-use mathlib.Core.Option.{some, some-injective}
-use lib.ListN.{get_elem?}
-use Rattle.atomic_table.specs.Table.{State}
-use Rattle.atomic_table.proofs.Lists.{at_map}
-use Rattle.mdl_key.specs.declared.namespace.Kind.{Kind}
-use Rattle.mdl_key.specs.Words.{KeyName, kind_of, clashes, waits_behind}
-use Rattle.mdl_book.specs.declared.book_view.BookView.{BookView}
-use Rattle.mdl_book.specs.declared.ticket.Ticket.{Ticket}
-use Rattle.mdl_book.specs.Books.{lock_kind}
-use Rattle.mdl_book.specs.Tickets.{ticket_of}
-use Rattle.mdl_book.proofs.TicketLemmas.{find-contains}
-use Rattle.mdl_defs.specs.declared.definition.Definition.{Definition}
+use Rattle.std.proofs.Common.{◌≡◌, ◌≢◌, ℕ, suc, ◌+◌, ◌*◌, ◌%◌, ◌<◌, ◌≤◌, ◌==◌, ◌&&◌, ◌||◌, not, Bool, true, false, inl, inr, List, length, map, Some, sym, ap, ◌∙◌, subst, arith, eq-eqb, ne_eqb, Option, Contains, eqb-true}
 use Rattle.mdl_graph.specs.WaitsFor.{SessionTest, holds_against, is_tied, is_unsettled, waits_ahead, waits_at, waits_for}
-use Rattle.mdl_steps.specs.declared.slot.Slot.{Slot}
-use Rattle.mdl_steps.specs.declared.view.Keys.{Keys}
-use Rattle.mdl_steps.specs.declared.view.LatchRecord.{LatchRecord}
-use Rattle.mdl_steps.specs.declared.view.StepRecord.{StepRecord}
-use Rattle.mdl_steps.specs.declared.view.View.{View}
-use Rattle.mdl_steps.specs.Cells.{desk_of, held_at, holder_at, waits}
-use Rattle.mdl_steps.specs.Layout.{wait_word}
-use Rattle.mdl_steps.specs.Plays.{Mine}
-use Rattle.mdl_steps.specs.Histories.{Reached}
-use Rattle.mdl_steps.specs.Servings.{OnlyMeets}
-use Rattle.mdl_steps.specs.Sights.{SeesNoDeadlock, settled_in}
-use Rattle.mdl_steps.specs.WaitStates.{unsettled_state, wait_state}
-use Rattle.mdl_steps.proofs.Views.{at_inside, by_bool}
-use Rattle.mdl_steps.proofs.WaitTells.{asks_there}
-use Rattle.mdl_steps_laws.specs.Cares.{WhoSeesNoDeadlockIsInNone}
-use Rattle.mdl_steps_laws.specs.Locks.{Lock, granted_of}
-use Rattle.mdl_steps_laws.specs.WaitLaws.{IsTold}
-use Rattle.mdl_steps_laws.specs.WaitsTold.{code_of}
+use Rattle.mdl_system.proofs.CycleLemmas.{cycle-from}
+use Rattle.mdl_steps_laws.proofs.FirstLemmas.{BookView, Contains-append_cases, Contains-map, Contains-none, Definition, IsDeadlock, IsTold, KeyName, Keys, Kind, LatchRecord, Lock, Mine, OnlyMeets, Reached, SeesNoDeadlock, Slot, State, StepRecord, System, Ticket, View, Waiter, WaitsFor, WhoSeesNoDeadlockIsInNone, Wishes, and_from, and_parts, any-found, any-from, asks_there, at_inside, at_map, by_bool, clashes, code_of, desk_of, find-contains, find_key, found_in, get_elem?, granted_of, held_at, holder_at, in_book, is_some, kind_of, lock_kind, or_left, or_right, same_keys, settled_in, some, some-injective, ticket_of, unsettled_state, wait_state, wait_word, waits, waits_behind}
 use Rattle.mdl_steps_laws.proofs.Askers.{askers_are_sessions}
 use Rattle.mdl_steps_laws.proofs.FastRests.{waiters_have_no_fast_tickets}
 use Rattle.mdl_steps_laws.proofs.MetWaits.{met_waits_stay}
-use Rattle.mdl_steps_laws.proofs.TableLocks.{find_key, same_keys}
-use Rattle.mdl_steps_laws.proofs.WaitsTold.{found_in}
 use Rattle.mdl_steps_laws.proofs.Wells.{rule_of}
-use Rattle.mdl_system.specs.Deadlocks.{WaitsFor, Wishes, IsDeadlock}
-use Rattle.mdl_system.specs.BookLaws.{in_book}
-use Rattle.mdl_system.specs.Systems.{System, Waiter}
-use Rattle.mdl_system.proofs.CycleLemmas.{cycle-from}
-use Rattle.mdl_system.proofs.MemberLemmas.{any-found, any-from, Contains-none, Contains-map}
 
 -- ---- ties
 

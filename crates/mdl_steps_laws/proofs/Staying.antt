@@ -1,28 +1,6 @@
 -- What a session reads under a ticket stays, until it gives the ticket up or changes the definition.
-use Rattle.std.proofs.Common.{◌≡◌, ℕ, ◌<◌, ◌==◌, true, cond, inl, inr, List, [], ◌∷◌, ◌++◌, length, set, Some, refl, sym, ap, ◌∙◌, subst}
-use Rattle.std.specs.Prelude.{Contains, slice_index}
-use Rattle.std.proofs.lemmas.Bool.{eq-eqb}
-use Rattle.std.proofs.lemmas.List.Elements.{Contains-append_cases, Contains-append_left, Contains-append_right, Contains-push}
-use mathlib.Core.Option.{some, some-injective}
-use lib.ListN.{get_elem?}
-use Rattle.atomic_table.specs.Table.{State}
-use Rattle.atomic_table.proofs.Lists.{at_longer, at_map, set_else, set_here}
-use Rattle.mdl_defs.specs.declared.versioned_definition.VersionedDefinition.{VersionedDefinition}
-use Rattle.mdl_book.specs.declared.book_view.BookView.{BookView}
-use Rattle.mdl_steps.specs.declared.slot.Slot.{Slot}
-use Rattle.mdl_steps.specs.declared.view.SessionTicket.{SessionTicket}
-use Rattle.mdl_steps.specs.declared.view.View.{View}
-use Rattle.mdl_steps.specs.Cells.{holder_at}
-use Rattle.mdl_steps.specs.Deeds.{is_own}
-use Rattle.mdl_steps.specs.Plays.{Mine, noting_version, read_and_put}
-use Rattle.mdl_steps.specs.Rule.{Rule}
-use Rattle.mdl_steps.specs.VersionPlays.{noted_version}
-use Rattle.mdl_steps.proofs.Views.{at_inside, by_bool}
-use Rattle.mdl_system.proofs.Deciding.{nat_told}
-use Rattle.mdl_system.proofs.MemberLemmas.{Contains-map, Contains-map_from}
-use Rattle.mdl_steps.proofs.Histories.{homes_length}
-use Rattle.mdl_steps_laws.specs.Headline.{DefinitionsStay, Follow, HasNoted, HasPlace, HasRead, HitsNote, LearnsOf, NotesStay, ReadingsNote, Stands, VersionsNote}
-use Rattle.mdl_steps_laws.specs.SessionSteps.{TableChange}
+use Rattle.std.proofs.Common.{◌≡◌, ℕ, ◌<◌, ◌==◌, true, cond, inl, inr, List, [], ◌∷◌, ◌++◌, length, set, Some, refl, sym, ap, ◌∙◌, subst, Contains, slice_index, eq-eqb}
+use Rattle.mdl_steps_laws.proofs.Common.{BookView, Contains-append_cases, Contains-append_left, Contains-append_right, Contains-map, Contains-map_from, Contains-push, DefinitionsStay, Follow, HasNoted, HasPlace, HasRead, HitsNote, LearnsOf, Mine, NotesStay, ReadingsNote, Rule, SessionTicket, Slot, Stands, State, TableChange, VersionedDefinition, VersionsNote, View, at_inside, at_longer, at_map, by_bool, get_elem?, holder_at, homes_length, is_own, nat_told, noted_version, noting_version, read_and_put, set_else, set_here, some, some-injective}
 use Rattle.mdl_steps_laws.proofs.Keeping.{Kept, own_is, own_parts}
 use Rattle.mdl_steps_laws.proofs.NotesKept.{noted_stands, read_stands}
 use Rattle.mdl_steps_laws.proofs.StepsKeep.{made_keeps}

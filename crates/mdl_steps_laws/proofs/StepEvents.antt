@@ -1,50 +1,13 @@
 -- What a session may do by one step is one event of the system.
-use Rattle.std.proofs.Common.{◌≡◌, ℕ, suc, ◌<◌, true, inl, inr, List, [], ◌∷◌, Some, None, sym, ap, ◌∙◌, subst}
-use Rattle.std.specs.Prelude.{◌⊎◌, Contains}
-use Rattle.std.proofs.lemmas.List.Elements.{Contains-append_right}
-use mathlib.Core.Option.{some}
-use lib.ListN.{get_elem?}
-use Rattle.atomic_table.specs.Table.{State}
-use Rattle.mdl_key.specs.declared.mode.Mode.{Mode}
-use Rattle.mdl_key.specs.declared.namespace.Kind.{Kind}
-use Rattle.mdl_key.specs.declared.namespace.Namespace.{Namespace}
-use Rattle.mdl_key.specs.Words.{KeyName, IsAtLeast}
-use Rattle.mdl_defs.specs.VersionedDefinitions.{standing_fault}
-use Rattle.mdl_defs.specs.declared.definition.Definition.{Definition}
-use Rattle.mdl_book.specs.declared.book_view.BookView.{BookView}
-use Rattle.mdl_book.specs.declared.ticket.Ticket.{Ticket}
+use Rattle.std.proofs.Common.{◌≡◌, ℕ, suc, ◌<◌, true, inl, inr, List, [], ◌∷◌, Some, None, sym, ap, ◌∙◌, subst, ◌⊎◌, Contains}
 use Rattle.mdl_book.specs.Books as books
-use Rattle.mdl_book.specs.Granting.{goes_first}
-use Rattle.mdl_book.specs.Tickets.{ticket_of}
-use Rattle.mdl_steps.specs.declared.deed.Deed.{Deed}
-use Rattle.mdl_steps.specs.declared.deed.Deed.TheVariants.{Gain, Alter, Lose}
-use Rattle.mdl_steps.specs.declared.slot.Slot.{Slot}
-use Rattle.mdl_steps.specs.declared.view.LatchRecord.{LatchRecord}
-use Rattle.mdl_steps.specs.declared.view.View.{View}
-use Rattle.mdl_steps.specs.Cells.{held_at, waits}
-use Rattle.mdl_steps.specs.Deeds.{HoldsTicket, MayBeGranted, MayClone, MayDo, MayDowngrade, MayJoin, MayMerge, MayUpgrade, NotWaited, all_booked}
-use Rattle.mdl_steps.specs.Plays.{Mine}
-use Rattle.mdl_steps.specs.Rule.{Rule}
-use Rattle.mdl_steps.proofs.Latch.{due_asked}
-use Rattle.mdl_steps.proofs.Tickets.{is_passed}
-use Rattle.mdl_system.specs.BookLaws.{of_lock}
-use Rattle.mdl_system.specs.Events.{IsNewNumber}
-use Rattle.mdl_system.specs.Systems.{System, Held as IsHeld, lock_kind}
-use Rattle.mdl_system.proofs.Deciding.{key_told}
-use Rattle.mdl_steps_laws.proofs.DeedLaws.{Does, MayTake}
-use Rattle.mdl_steps_laws.specs.Locks.{Lock, AreKeysOf, IsOfNoWait, granted_of}
-use Rattle.mdl_steps_laws.specs.StepEvents.{BringsDeeds, IsOf, LoweringBrings, PuttingBrings, WritingBrings, after_lowering, after_put}
-use Rattle.mdl_steps_laws.specs.TableLaws.{IsOnly}
-use Rattle.mdl_steps_laws.specs.WaitLaws.{IsTold, Rests}
-use Rattle.mdl_steps_laws.proofs.DeedEvents.{altering_downgrades, altering_upgrades, gaining_clones, gaining_grants, losing_releases}
+use Rattle.mdl_key.specs.declared.namespace.Namespace.{Namespace}
+use Rattle.mdl_system.specs.Systems.{lock_kind}
+use Rattle.mdl_steps_laws.proofs.FirstLemmas.{Alter, AreKeysOf, BookView, BringsDeeds, Contains-append_right, Deed, Definition, Does, Gain, HoldsTicket, IsAtLeast, IsHeld, IsNewNumber, IsOf, IsOfNoWait, IsOnly, IsTold, KeyName, Kind, LatchRecord, Lock, Lose, LoweringBrings, MayBeGranted, MayClone, MayDo, MayDowngrade, MayJoin, MayMerge, MayTake, MayUpgrade, Mine, Mode, NotWaited, PuttingBrings, Rests, Rule, Slot, State, System, Ticket, View, WritingBrings, after_lowering, after_put, all_booked, altering_downgrades, altering_upgrades, due_asked, first_place, found-passes, gaining_clones, gaining_grants, get_elem?, goes_first, granted_of, held_at, holders_may_join, in_locks, in_rule, is_passed, key_told, last_place, losing_releases, next_numbers_are_new, of_lock, of_view, one_seat, own_tickets_are_held, placed, ruled_book, same_definitions, same_members, some, some_session, standing_fault, ticket_of, waits}
 use Rattle.mdl_steps_laws.proofs.FastEvents.{no_wait}
 use Rattle.mdl_steps_laws.proofs.Merging.{moving_merges}
-use Rattle.mdl_steps_laws.proofs.OwnTickets.{next_numbers_are_new, of_view, own_tickets_are_held}
 use Rattle.mdl_steps_laws.proofs.Redefining.{redefining_changes}
-use Rattle.mdl_steps_laws.proofs.TableLocks.{first_place, holders_may_join, last_place, placed, ruled_book}
-use Rattle.mdl_steps_laws.proofs.TicketMembers.{found-passes}
 use Rattle.mdl_steps_laws.proofs.ToldDeeds.{lowering_is_done, putting_is_done, writing_is_done}
-use Rattle.mdl_steps_laws.proofs.WaitEvents.{same_definitions, same_members, in_locks, in_rule, one_seat, some_session}
 
 -- ---- what the seat of a latch holder knows is so of the system
 

@@ -1,23 +1,6 @@
 -- The place of a step has a key where its session knows one there, or where the book there is in use.
-use Rattle.std.proofs.Common.{◌≡◌, ℕ, suc, ◌-◌, ◌<◌, List, [], Some, None, refl, sym, ap, ◌∙◌, subst, arith}
-use Rattle.std.specs.Prelude.{Contains, Option, slice_get}
-use mathlib.Core.Option.{some}
-use lib.ListN.{get_elem?}
-use Rattle.atomic_table.specs.Table.{State}
-use Rattle.atomic_table.proofs.Lists.{at_map}
-use Rattle.mdl_key.specs.Words.{KeyName}
-use Rattle.mdl_book.specs.declared.ticket.Ticket.{Ticket}
-use Rattle.mdl_book.specs.Tickets.{ticket_of}
-use Rattle.mdl_steps.specs.declared.slot.Slot.{Slot}
-use Rattle.mdl_steps.specs.declared.view.LatchRecord.{LatchRecord}
-use Rattle.mdl_key.specs.declared.known_key.KnownKey.{KnownKey}
-use Rattle.mdl_steps.specs.declared.view.View.{View}
-use Rattle.mdl_steps.specs.Cells.{held_at, holder_at}
-use Rattle.mdl_steps.specs.Deeds.{KnowsPlace}
-use Rattle.mdl_steps.specs.Rule.{IsUnused, Rule, key_at}
-use Rattle.mdl_steps.proofs.Views.{each_at}
-use Rattle.mdl_system.proofs.MemberLemmas.{Contains-none}
-use Rattle.mdl_steps_laws.specs.Headline.{HasPlace}
+use Rattle.std.proofs.Common.{◌≡◌, ℕ, suc, ◌-◌, ◌<◌, List, [], Some, None, refl, sym, ap, ◌∙◌, subst, arith, Contains, Option, slice_get}
+use Rattle.mdl_steps_laws.proofs.FirstLemmas.{Contains-none, HasPlace, IsUnused, KeyName, KnownKey, KnowsPlace, LatchRecord, Rule, Slot, State, Ticket, View, at_map, each_at, get_elem?, held_at, holder_at, key_at, some, ticket_of}
 use Rattle.mdl_steps_laws.proofs.WaitAsks.{at_from_get}
 
 key_here : (keys : List KeyName) (i : ℕ) (key : KeyName) → key_at keys (suc i) ≡ Some key → get_elem? keys i ≡ some key

@@ -1,23 +1,7 @@
 -- The steps by which deeds and changes of definitions come to be of the table do them in its locks.
-use Rattle.std.specs.Prelude.{◌≡◌, ℕ, suc, Bool, List, Some}
-use mathlib.Core.Option.{some}
-use lib.ListN.{get_elem?}
-use Rattle.atomic_table.specs.Table.{State}
-use Rattle.mdl_key.specs.Words.{KeyName}
-use Rattle.mdl_defs.specs.declared.change.Change.{Change}
-use Rattle.mdl_defs.specs.VersionedDefinitions.{standing_after}
-use Rattle.mdl_steps.specs.declared.deed.Deed.{Deed}
-use Rattle.mdl_steps.specs.declared.slot.Slot.{Slot}
-use Rattle.mdl_steps.specs.declared.view.LatchRecord.{LatchRecord}
-use Rattle.mdl_steps.specs.declared.view.View.{View}
-use Rattle.mdl_steps.specs.Cells.{held_at}
-use Rattle.mdl_steps.specs.Deeds.{all_booked}
-use Rattle.mdl_steps.specs.Plays.{Mine}
-use Rattle.mdl_steps.specs.Rule.{Rule}
-use Rattle.mdl_system.specs.Events.{SameElsewhere}
+use Rattle.std.proofs.Common.{◌≡◌, ℕ, suc, Bool, List, Some}
+use Rattle.mdl_steps_laws.proofs.Common.{AreLocksOf, Change, Deed, KeyName, LatchRecord, Lock, Mine, Rule, SameElsewhere, Slot, State, View, after_lowering, after_put, after_writing, all_booked, get_elem?, held_at, some, standing_after}
 use Rattle.mdl_steps_laws.proofs.DeedLaws.{lock_after, lock_redefined}
-use Rattle.mdl_steps_laws.specs.Locks.{Lock, AreLocksOf}
-use Rattle.mdl_steps_laws.specs.StepEvents.{after_lowering, after_put, after_writing}
 
 -- the locks after deeds of a session under one key
 abbrev pub AreAfter : ℕ → List Deed → KeyName → (KeyName → Lock) → (KeyName → Lock) → Type 0

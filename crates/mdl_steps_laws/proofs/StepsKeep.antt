@@ -1,44 +1,12 @@
 -- By each kind of step a session keeps the notes of the tickets that it doesn't give up, but where it changes the definition.
-use Rattle.std.proofs.Common.{◌≡◌, ◌≢◌, ◌⊎◌, ℕ, ◌<◌, ◌==◌, not, inl, inr, List, [], ◌∷◌, ◌++◌, get_or, Some, None, refl, sym, ap, ◌∙◌, subst, arith, append-nil}
-use Rattle.std.specs.Prelude.{Contains, Option}
-use Rattle.std.proofs.lemmas.List.Elements.{Contains-append_left, Contains-append_right, Contains-append_cases}
-use Rattle.std.specs.Option.{option_map_or}
-use mathlib.Core.Option.{some}
-use lib.ListN.{get_elem?}
-use Rattle.atomic_table.specs.Table.{State, Step}
-use Rattle.atomic_table.proofs.Lists.{at_map}
-use Rattle.mdl_defs.specs.declared.definition.Definition.{Definition}
-use Rattle.mdl_defs.specs.Caches.{kept_of}
-use Rattle.mdl_book.specs.declared.book_view.BookView.{BookView}
-use Rattle.mdl_book.specs.Books.{empty_book, redefining}
-use Rattle.mdl_steps.specs.declared.deed.Deed.{Deed}
-use Rattle.mdl_steps.specs.declared.deed.Deed.TheVariants.{Lose}
-use Rattle.mdl_steps.specs.declared.slot.Slot.{Slot}
-use Rattle.mdl_steps.specs.declared.step_kind.StepKind.TheVariants as step
-use Rattle.mdl_steps.specs.declared.view.Ask.{Ask}
-use Rattle.mdl_steps.specs.declared.view.LatchRecord.{LatchRecord}
-use Rattle.mdl_steps.specs.declared.view.SessionTicket.{SessionTicket}
+use Rattle.std.proofs.Common.{◌≡◌, ◌≢◌, ◌⊎◌, ℕ, ◌<◌, ◌==◌, not, inl, inr, List, [], ◌∷◌, ◌++◌, get_or, Some, None, refl, sym, ap, ◌∙◌, subst, arith, append-nil, Contains, Option}
 use Rattle.mdl_defs.specs.declared.reading.Reading.{Reading}
-use Rattle.mdl_steps.specs.declared.view.View.{View}
-use Rattle.mdl_steps.specs.Cells.{held_at, holder_at, note_at, own_at}
-use Rattle.mdl_steps.specs.Deeds.{MayDo, all_booked, all_owned, is_own}
-use Rattle.mdl_steps.specs.FastPlays.{but_at, but_own, fast_own}
-use Rattle.mdl_steps.specs.Interleavings.{interleaved}
-use Rattle.mdl_steps.specs.Layout.{version_word}
-use Rattle.mdl_steps.specs.Plays.{Mine, logged, noting_version}
-use Rattle.mdl_steps.specs.Rule.{Rule}
-use Rattle.mdl_steps.specs.VersionPlays.{noting_found}
-use Rattle.mdl_steps.specs.WaitPlays.{taken_over, wait_in}
-use Rattle.mdl_steps.proofs.Interleaving.{Contains-interleaved_cases, Contains-interleaved_fast, Contains-interleaved_slow}
-use Rattle.mdl_steps.proofs.OneEvent.{may_all}
-use Rattle.mdl_steps.proofs.Views.{by_bool}
-use Rattle.mdl_system.proofs.Deciding.{nat_told}
-use Rattle.mdl_system.proofs.MemberLemmas.{Contains-none}
-use Rattle.mdl_steps_laws.specs.Headline.{HasNoted, HasPlace}
-use Rattle.mdl_steps_laws.specs.SessionSteps.{Changes, GivesUp, Makes}
+use Rattle.mdl_steps.specs.declared.step_kind.StepKind.TheVariants as step
+use Rattle.mdl_steps_laws.proofs.Common.{Ask, BookView, Contains-append_cases, Contains-append_left, Contains-append_right, Contains-interleaved_cases, Contains-interleaved_fast, Contains-interleaved_slow, Contains-none, Deed, Definition, HasNoted, HasPlace, LatchRecord, Lose, Makes, MayDo, Mine, Rule, SessionTicket, Slot, State, Step, View, all_booked, all_owned, at_map, but_at, but_own, by_bool, empty_book, fast_own, get_elem?, held_at, holder_at, interleaved, is_own, kept_of, logged, may_all, nat_told, note_at, noting_found, noting_version, option_map_or, own_at, redefining, some, taken_over, version_word, wait_in}
 use Rattle.mdl_steps_laws.proofs.Keeping.{Kept, among_filter, filter_among, kept_both, kept_deeds, kept_filter, kept_noting, kept_push, kept_same, own_parts}
 use Rattle.mdl_steps_laws.proofs.NotesKept.{noted_stands}
 use Rattle.mdl_steps_laws.proofs.OwnTickets.{each_in}
+use Rattle.mdl_steps_laws.specs.SessionSteps.{Changes, GivesUp}
 
 -- ---- what a step keeps
 

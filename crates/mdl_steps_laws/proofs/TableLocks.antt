@@ -1,35 +1,11 @@
 -- The locks that the running table tells, and what the rule says of them.
-use Rattle.std.proofs.Common.{◌≡◌, ◌≢◌, ◌⊎◌, ℕ, zero, suc, ◌<◌, true, inl, inr, List, [], ◌∷◌, ◌-◌, length, map, Some, refl, sym, ap, ◌∙◌, subst, arith}
-use Rattle.std.specs.Prelude.{◌↔◌, Contains, slice_get, slice_index, slice_index_or}
-use Rattle.std.specs.List.{flat_map}
-use mathlib.Core.Option.{some, some-injective, some-ne-none}
-use lib.ListN.{get_elem?}
-use Rattle.atomic_table.specs.Table.{State}
-use Rattle.atomic_table.proofs.Lists.{at_map}
-use Rattle.mdl_key.specs.Words.{KeyName}
-use Rattle.mdl_defs.specs.declared.definition.Definition.{Definition}
-use Rattle.mdl_book.specs.declared.book_view.BookView.{BookView}
-use Rattle.mdl_book.specs.declared.ticket.Ticket.{Ticket}
+use Rattle.std.proofs.Common.{◌≡◌, ◌≢◌, ◌⊎◌, ℕ, zero, suc, ◌<◌, true, inl, inr, List, [], ◌∷◌, ◌-◌, length, map, Some, refl, sym, ap, ◌∙◌, subst, arith, ◌↔◌, Contains, slice_get, slice_index, slice_index_or}
 use Rattle.mdl_book.specs.Books as books
 use Rattle.mdl_book.specs.Granting as book
-use Rattle.mdl_steps.specs.declared.slot.Slot.{Slot}
 use Rattle.mdl_steps.specs.declared.slot.Slot.TheVariants as slot
-use Rattle.mdl_steps.specs.declared.view.Keys.{Keys}
-use Rattle.mdl_steps.specs.declared.view.View.{View}
-use Rattle.mdl_steps.specs.Cells.{Holder, Desk, cell, desk_of, held_at, holder_at}
-use Rattle.mdl_steps.specs.Layout.{latch_word}
-use Rattle.mdl_steps.specs.Lists.{Distinct}
-use Rattle.mdl_steps.specs.Rule.{Rule, PlaceOk, key_at}
-use Rattle.mdl_steps.specs.RuleLaws.{fast_at}
-use Rattle.mdl_steps.proofs.Views.{at_inside, at_unmap, each_at}
-use Rattle.mdl_system.specs.BookLaws.{in_book, of_lock}
-use Rattle.mdl_system.specs.Systems.{Holding, System, Unsettled, Waiter, lock_kind}
-use Rattle.mdl_system.proofs.BookLemmas.{lawful-by_lists}
-use Rattle.mdl_system.proofs.Deciding.{key_told, nat_told}
-use Rattle.mdl_system.proofs.MemberLemmas.{Contains-none, Contains-map, Contains-map_from, Contains-flat_map, Contains-flat_map_from}
+use Rattle.mdl_system.specs.Systems.{lock_kind}
+use Rattle.mdl_steps_laws.proofs.Common.{AreKeysOf, AreLocksOf, BookView, Contains-flat_map, Contains-flat_map_from, Contains-map, Contains-map_from, Contains-none, Definition, Desk, Distinct, Holder, Holding, IsBookAt, KeyName, Keys, Lock, PlaceOk, Rule, RunningTablesAreLawful, RunningTablesTellASystem, Slot, State, System, Ticket, Unsettled, View, Waiter, at_inside, at_map, at_unmap, cell, desk_of, each_at, empty_lock, fast_at, flat_map, get_elem?, granted_of, held_at, holder_at, in_book, key_at, key_told, latch_word, lawful-by_lists, nat_told, of_lock, some, some-injective, some-ne-none, versioned}
 use Rattle.mdl_steps_laws.proofs.DeedLaws.{MayBeJoined, HoldersMayJoin}
-use Rattle.mdl_steps_laws.specs.Locks.{Lock, IsBookAt, AreKeysOf, AreLocksOf, granted_of, empty_lock, versioned}
-use Rattle.mdl_steps_laws.specs.TableLaws.{RunningTablesTellASystem, RunningTablesAreLawful}
 
 -- ---- keys in a list
 

@@ -1,15 +1,6 @@
 -- Members of a granted list that loses a ticket, or has one in another mode.
-use Rattle.std.proofs.Common.{◌≡◌, ◌≢◌, ℕ, true, inl, inr, List, [], ◌∷◌, ◌++◌, Some, None, sym, ap, ◌∙◌, subst}
-use Rattle.std.specs.Prelude.{Contains}
-use Rattle.mdl_key.specs.declared.mode.Mode.{Mode}
-use Rattle.mdl_book.specs.declared.ticket.Ticket.{Ticket}
-use Rattle.mdl_book.specs.Tickets.{is_ticket, ticket_of, without, with_mode, in_mode}
-use Rattle.mdl_steps.specs.Lists.{Once}
-use Rattle.mdl_steps.proofs.Tickets.{is_passed, without-hit, without-miss, with_mode-hit, with_mode-miss}
-use Rattle.mdl_steps.proofs.Views.{by_bool}
-use Rattle.mdl_system.specs.Events.{Loses, Replaces}
-use Rattle.mdl_system.proofs.MemberLemmas.{Contains-none}
-use Rattle.mdl_system.proofs.OrderLemmas.{Contains-cons_cases, Contains-here, Contains-later}
+use Rattle.std.proofs.Common.{◌≡◌, ◌≢◌, ℕ, true, inl, inr, List, [], ◌∷◌, ◌++◌, Some, None, sym, ap, ◌∙◌, subst, Contains}
+use Rattle.mdl_steps_laws.proofs.Common.{Contains-cons_cases, Contains-here, Contains-later, Contains-none, Loses, Mode, Once, Replaces, Ticket, by_bool, in_mode, is_passed, is_ticket, ticket_of, with_mode, with_mode-hit, with_mode-miss, without, without-hit, without-miss}
 
 -- ---- lists that begin alike
 

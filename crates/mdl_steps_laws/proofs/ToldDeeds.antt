@@ -1,31 +1,8 @@
 -- The steps of deeds and of changes of definitions do these in the system that the table tells, and leave all waits.
 use Rattle.std.proofs.Common.{◌≡◌, ◌≢◌, ◌⊎◌, ℕ, suc, inl, inr, List, [], ◌∷◌, length, set, get_or, refl, sym, ap, ◌∙◌, subst, arith, length-set, get_or-set_other}
-use mathlib.Core.Option.{some}
-use lib.ListN.{get_elem?}
-use Rattle.atomic_table.specs.Table.{State}
-use Rattle.mdl_key.specs.Words.{KeyName}
-use Rattle.mdl_defs.specs.declared.versioned_definition.VersionedDefinition.{VersionedDefinition}
-use Rattle.mdl_defs.specs.VersionedDefinitions.{standing_after}
-use Rattle.mdl_book.specs.declared.book_view.BookView.{BookView}
-use Rattle.mdl_steps.specs.declared.deed.Deed.{Deed}
-use Rattle.mdl_steps.specs.declared.deed.Deed.TheVariants.{Gain, Alter, Lose}
-use Rattle.mdl_steps.specs.declared.slot.Slot.{Slot}
 use Rattle.mdl_steps.specs.declared.slot.Slot.TheVariants as slot
-use Rattle.mdl_steps.specs.declared.view.View.{View}
-use Rattle.mdl_steps.specs.Cells.{waits}
-use Rattle.mdl_steps.specs.Deeds.{all_booked, booked}
-use Rattle.mdl_steps.specs.Layout.{latch_word, lock_word, version_word, wait_word}
-use Rattle.mdl_steps.specs.Plays.{redefined, flags_lowered, unlatched}
-use Rattle.mdl_steps.specs.Rule.{Rule}
-use Rattle.mdl_system.specs.Events.{SameElsewhere}
-use Rattle.mdl_system.proofs.Deciding.{key_told}
-use Rattle.mdl_steps_laws.proofs.DeedLaws.{lock_after, lock_redefined}
-use Rattle.mdl_steps_laws.specs.Locks.{Lock, AreLocksOf}
-use Rattle.mdl_steps_laws.specs.StepEvents.{after_lowering, after_put, after_writing}
+use Rattle.mdl_steps_laws.proofs.FirstLemmas.{Alter, AreLocksOf, BookView, Deed, Gain, KeyName, Lock, Lose, Rule, SameElsewhere, Slot, State, VersionedDefinition, View, after_lowering, after_put, after_writing, all_booked, booked, find_key, first_place, flags_lowered, get_elem?, in_locks, inside, into_rule, key_told, last_place, latch_word, lock_after, lock_redefined, lock_word, lowering_does, putting_does, redefined, same_book, same_keys, some, standing_after, unlatched, version_word, wait_word, waits, writing_redefines}
 use Rattle.mdl_steps_laws.proofs.ToldLaws.{LoweringIsDone, PuttingIsDone, WritingIsDone}
-use Rattle.mdl_steps_laws.proofs.SeatSteps.{lowering_does, putting_does, writing_redefines}
-use Rattle.mdl_steps_laws.proofs.TableLocks.{find_key, first_place, into_rule, last_place, same_book, same_keys}
-use Rattle.mdl_steps_laws.proofs.WaitEvents.{in_locks, inside}
 use Rattle.mdl_steps_laws.proofs.WaitMet.{waits_rest}
 
 -- ---- locks are told once

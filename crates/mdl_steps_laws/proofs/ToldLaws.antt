@@ -1,26 +1,8 @@
 -- The steps by which deeds and changes of definitions come to be of the table do them in the system, whichever locks and systems the table has
 -- before and after, and leave all waits as they are: what the laws of deeds ask for is so.
-use Rattle.std.specs.Prelude.{◌≡◌, ℕ, suc, Bool, List, Some}
-use mathlib.Core.Option.{some}
-use lib.ListN.{get_elem?}
-use Rattle.atomic_table.specs.Table.{State}
-use Rattle.mdl_key.specs.Words.{KeyName}
-use Rattle.mdl_defs.specs.declared.change.Change.{Change}
-use Rattle.mdl_defs.specs.declared.definition.Definition.{Definition}
-use Rattle.mdl_defs.specs.VersionedDefinitions.{standing_after}
-use Rattle.mdl_steps.specs.declared.deed.Deed.{Deed}
-use Rattle.mdl_steps.specs.declared.slot.Slot.{Slot}
-use Rattle.mdl_steps.specs.declared.view.LatchRecord.{LatchRecord}
-use Rattle.mdl_steps.specs.declared.view.View.{View}
-use Rattle.mdl_steps.specs.Cells.{held_at}
-use Rattle.mdl_steps.specs.Deeds.{all_booked}
-use Rattle.mdl_steps.specs.Plays.{Mine}
-use Rattle.mdl_steps.specs.Rule.{Rule}
-use Rattle.mdl_system.specs.Systems.{System}
+use Rattle.std.proofs.Common.{◌≡◌, ℕ, suc, Bool, List, Some}
+use Rattle.mdl_steps_laws.proofs.Common.{AreKeysOf, Change, Deed, Definition, IsTold, KeyName, LatchRecord, Mine, Rule, Slot, State, System, View, after_lowering, after_put, after_writing, all_booked, get_elem?, held_at, some, standing_after}
 use Rattle.mdl_steps_laws.proofs.DeedLaws.{Does, Redefines}
-use Rattle.mdl_steps_laws.specs.Locks.{AreKeysOf}
-use Rattle.mdl_steps_laws.specs.StepEvents.{after_lowering, after_put, after_writing}
-use Rattle.mdl_steps_laws.specs.WaitLaws.{IsTold}
 
 -- the latch of a key's place is put after deeds: they are done
 abbrev pub PuttingIsDone : Type 0

@@ -1,36 +1,10 @@
 -- All deadlocks go through sessions that have yet to search.
-use Rattle.std.proofs.Common.{◌≡◌, ◌≢◌, ℕ, zero, suc, ◌==◌, ◌&&◌, ◌||◌, not, Bool, true, false, inl, inr, List, [], ◌∷◌, ◌++◌, length, set, get_or, refl, sym, ap, ◌∙◌, subst, arith, eq-eqb, eqb-true}
-use Rattle.std.specs.List.{list_any}
-use Rattle.std.specs.Prelude.{Contains}
-use Rattle.std.proofs.lemmas.Bool.{and_from, and_parts, false≢true, or_right, or_cases, or_left}
-use mathlib.Core.Option.{some, some-injective, some-ne-none}
-use lib.ListN.{get_elem?}
-use Rattle.atomic_table.specs.Table.{Act, State, Step, stepped}
-use Rattle.mdl_key.specs.Words.{KeyName}
-use Rattle.mdl_defs.specs.declared.definition.Definition.{Definition}
-use Rattle.mdl_defs.specs.VersionedDefinitions.{applied}
-use Rattle.mdl_steps.specs.declared.slot.Slot.{Slot}
-use Rattle.mdl_steps.specs.declared.view.View.{View}
-use Rattle.mdl_steps.specs.Cells.{waits}
-use Rattle.mdl_steps.specs.Plays.{Mine}
-use Rattle.mdl_steps.specs.Rule.{Rule}
-use Rattle.mdl_steps.specs.Sights.{SeesNoDeadlock}
-use Rattle.mdl_steps.specs.WaitStates.{unsettled_state, wait_in, wait_state}
-use Rattle.mdl_steps_laws.specs.EachStep.{BringsOrRests, IsWholeChange}
-use Rattle.mdl_steps_laws.specs.SessionSteps.{Makes, TableChange}
-use Rattle.mdl_steps_laws.specs.WaitLaws.{IsTold}
-use Rattle.mdl_steps_laws.specs.WaitsTold.{code_of}
-use Rattle.mdl_steps_laws.proofs.EachStep.{each_step_is_one_event}
-use Rattle.mdl_system.specs.Deadlocks.{DeadlocksGoThrough, IsDeadlock, Leads, WaitsFor, Wishes}
-use Rattle.mdl_system.specs.DeadlockLaws.{begins_wait}
-use Rattle.mdl_system.specs.Events.{SameSystem}
-use Rattle.mdl_system.specs.Systems.{System, WaitState, Waiter}
-use Rattle.mdl_system.proofs.DeadlockRounds.{deadlock-of_member}
+use Rattle.std.proofs.Common.{◌≡◌, ◌≢◌, ℕ, zero, suc, ◌==◌, ◌&&◌, ◌||◌, not, Bool, true, false, inl, inr, List, [], ◌∷◌, ◌++◌, length, set, get_or, refl, sym, ap, ◌∙◌, subst, arith, eq-eqb, eqb-true, Contains}
 use Rattle.mdl_system.proofs.DeadlockCauses.{debts-end, event-through, run-through, through-more}
-use Rattle.mdl_steps.specs.Histories.{Reached}
-use Rattle.mdl_steps_laws.specs.Cares.{NoDeadlockIsUnseen, NoDeadlockOnceAllHaveSearched}
+use Rattle.mdl_system.proofs.DeadlockRounds.{deadlock-of_member}
+use Rattle.mdl_steps_laws.proofs.FirstLemmas.{Act, BringsOrRests, DeadlocksGoThrough, Definition, IsDeadlock, IsTold, IsWholeChange, KeyName, Leads, Makes, Mine, NoDeadlockIsUnseen, NoDeadlockOnceAllHaveSearched, Reached, Rule, SameSystem, SeesNoDeadlock, Slot, State, Step, System, TableChange, View, WaitState, Waiter, WaitsFor, Wishes, and_from, and_parts, applied, begins_wait, code_of, false≢true, get_elem?, list_any, nobody_waits, or_cases, or_left, or_right, some, some-injective, some-ne-none, stepped, unsettled_state, wait_in, wait_state, waits}
+use Rattle.mdl_steps_laws.proofs.EachStep.{each_step_is_one_event}
 use Rattle.mdl_steps_laws.proofs.Marks.{KeepsMark, mark_kept, marked}
-use Rattle.mdl_steps_laws.proofs.Openings.{nobody_waits}
 use Rattle.mdl_steps_laws.proofs.Sights.{who_sees_no_deadlock_is_in_none}
 use Rattle.mdl_steps_laws.proofs.Wells.{rule_of, a_system, reached_tables_are_well_numbered}
 

@@ -1,31 +1,7 @@
 -- What a session waits for, by the rule and by the locks that the table tells.
-use Rattle.std.proofs.Common.{◌≡◌, ◌≢◌, ℕ, zero, suc, ◌-◌, ◌%◌, ◌<◌, cond, true, inl, inr, List, [], ◌∷◌, length, Some, None, refl, sym, ap, ◌∙◌, subst, arith, ne_eqb}
-use Rattle.std.specs.Prelude.{Contains, Option, slice_get}
-use Rattle.std.specs.Option.{option_to_list}
-use mathlib.Core.Option.{some}
-use lib.ListN.{get_elem?}
-use Rattle.atomic_table.specs.Table.{State}
-use Rattle.atomic_table.proofs.Lists.{at_map}
-use Rattle.mdl_key.specs.Words.{KeyName}
-use Rattle.mdl_book.specs.declared.ticket.Ticket.{Ticket}
-use Rattle.mdl_book.specs.Tickets.{is_ticket, ticket_of, without}
-use Rattle.mdl_book.proofs.TicketLemmas.{find-contains}
-use Rattle.mdl_steps.specs.declared.slot.Slot.{Slot}
-use Rattle.mdl_steps.specs.declared.view.Ask.{Ask}
-use Rattle.mdl_steps.specs.declared.view.View.{View}
-use Rattle.mdl_steps.specs.Cells.{part_at, pending, waits}
-use Rattle.mdl_steps.specs.Lists.{Once}
-use Rattle.mdl_steps.specs.Rule.{Rule, key_at}
-use Rattle.mdl_steps.proofs.Tickets.{is_itself, is_passed, of-without_own}
+use Rattle.std.proofs.Common.{◌≡◌, ◌≢◌, ℕ, zero, suc, ◌-◌, ◌%◌, ◌<◌, cond, true, inl, inr, List, [], ◌∷◌, length, Some, None, refl, sym, ap, ◌∙◌, subst, arith, ne_eqb, Contains, Option, slice_get}
 use Rattle.mdl_steps.proofs.WaitBooks.{first_found}
-use Rattle.mdl_steps.proofs.WaitSteps.{asked_here, wished}
-use Rattle.mdl_steps.proofs.WaitTells.{asks_there}
-use Rattle.mdl_system.proofs.MemberLemmas.{Contains-none}
-use Rattle.mdl_steps_laws.specs.Locks.{Lock, AreLocksOf}
-use Rattle.mdl_steps_laws.proofs.TableLocks.{find_key, first_place, into_rule, is_placed, last_place, placed}
-use Rattle.mdl_steps_laws.proofs.TicketMembers.{found-passes, none-passes, without-loses}
-use Rattle.mdl_steps_laws.proofs.WaitEvents.{one_seat}
-use Rattle.mdl_steps_laws.proofs.WaitsTold.{found_in}
+use Rattle.mdl_steps_laws.proofs.FirstLemmas.{AreLocksOf, Ask, Contains-none, KeyName, Lock, Once, Rule, Slot, State, Ticket, View, asked_here, asks_there, at_map, find-contains, find_key, first_place, found-passes, found_in, get_elem?, into_rule, is_itself, is_passed, is_placed, is_ticket, key_at, last_place, none-passes, of-without_own, one_seat, option_to_list, part_at, pending, placed, some, ticket_of, waits, wished, without, without-loses}
 
 -- what a session asks for, but a granted wait's, waits at its place
 pub asked_at : (s : State Slot View) (r : Rule s) (place : ℕ) (first : 0 < place) (last : place < length s.homes) (j : ℕ) (v : View) → get_elem? s.views j ≡ some v

@@ -1,32 +1,7 @@
 -- To end a wait is to end a granted one or a lost one.
-use Rattle.std.proofs.Common.{◌≡◌, ℕ, suc, ◌*◌, true, inl, inr, ◌∷◌, ◌++◌, length, map, Some, None, refl, sym, ap, ◌∙◌, subst, arith}
-use Rattle.std.specs.Prelude.{Contains, Option}
-use mathlib.Core.Option.{some}
-use lib.ListN.{get_elem?}
-use Rattle.atomic_table.specs.Table.{State}
-use Rattle.atomic_table.proofs.Lists.{at_map}
-use Rattle.mdl_key.specs.Words.{KeyName}
-use Rattle.mdl_book.specs.declared.ticket.Ticket.{Ticket}
-use Rattle.mdl_book.specs.Books.{cancelling}
-use Rattle.mdl_steps.specs.declared.slot.Slot.{Slot}
-use Rattle.mdl_steps.specs.declared.view.Ask.{Ask}
-use Rattle.mdl_steps.specs.declared.view.View.{View}
-use Rattle.mdl_steps.specs.Cells.{waiter_of, waits}
-use Rattle.mdl_steps.specs.Rule.{Rule}
-use Rattle.mdl_steps.specs.WaitPlays.{ended_granted, ended_lost, taken_over, wait_in}
-use Rattle.mdl_steps.proofs.WaitEnds.{gone_rule, taken_rule}
-use Rattle.mdl_steps.proofs.WaitFrame.{waits_here}
-use Rattle.mdl_steps.proofs.WaitSteps.{wished}
-use Rattle.mdl_system.specs.Systems.{GrantedWait, WaitState}
-use Rattle.mdl_system.proofs.Deciding.{nat_told}
-use Rattle.mdl_steps_laws.specs.Locks.{Lock, granted_of}
-use Rattle.mdl_steps_laws.specs.WaitLaws.{EndingHolds, EndingLeaves, after_wait}
-use Rattle.mdl_steps_laws.specs.WaitsTold.{IsGrantedWait, code_of}
+use Rattle.std.proofs.Common.{◌≡◌, ℕ, suc, ◌*◌, true, inl, inr, ◌∷◌, ◌++◌, length, map, Some, None, refl, sym, ap, ◌∙◌, subst, arith, Contains, Option}
+use Rattle.mdl_steps_laws.proofs.FirstLemmas.{Ask, EndingHolds, EndingLeaves, GrantedWait, IsGrantedWait, KeyName, Lock, Rule, Slot, State, Stays, Ticket, View, WaitState, after_wait, at_map, cancelling, code_by, code_of, code_waits, ended_granted, ended_lost, get_elem?, gone_rule, granted_of, in_locks, leaves_order, lock_else, lock_stays, lock_turns, locks_keep, nat_told, not_waiting, number_fits, one_seat, other_session, same_definitions, same_members, some, some_session, state_by, taken_over, taken_rule, unended_else, unended_same, wait_in, waiter_by, waiter_is, waiter_of, waiting_by, waiting_same, waits, waits_here, wished}
 use Rattle.mdl_steps_laws.proofs.WaitAsks.{asked_waits}
-use Rattle.mdl_steps_laws.proofs.WaitEvents.{same_members, same_definitions, number_fits, one_seat, in_locks, some_session, lock_turns, lock_stays, locks_keep, waiting_same}
-use Rattle.mdl_steps_laws.proofs.WaitLists.{code_waits, leaves_order, not_waiting, waiter_is, waiting_by}
-use Rattle.mdl_steps_laws.proofs.WaitSteps.{Stays, lock_else, other_session, unended_else, unended_same}
-use Rattle.mdl_steps_laws.proofs.WaitsTold.{code_by, state_by, waiter_by}
 
 -- ---- granted
 

@@ -1,27 +1,6 @@
 -- What the steps on the words of waits have in common, as events of the system that the table tells.
-use Rattle.std.proofs.Common.{◌≡◌, ◌≢◌, ℕ, suc, ◌<◌, ◌≤◌, ◌==◌, Bool, cond, inl, inr, List, length, map, Some, refl, sym, ap, ◌∙◌, subst, arith}
-use Rattle.std.specs.Prelude.{Contains}
-use mathlib.Core.Option.{some, some-injective}
-use lib.ListN.{get_elem?}
-use Rattle.atomic_table.specs.Table.{State}
-use Rattle.atomic_table.proofs.Lists.{at_map}
-use Rattle.mdl_key.specs.Words.{KeyName}
-use Rattle.mdl_defs.specs.declared.definition.Definition.{Definition}
-use Rattle.mdl_book.specs.declared.book_view.BookView.{BookView}
-use Rattle.mdl_book.specs.declared.ticket.Ticket.{Ticket}
-use Rattle.mdl_steps.specs.declared.slot.Slot.{Slot}
-use Rattle.mdl_steps.specs.declared.view.LatchRecord.{LatchRecord}
-use Rattle.mdl_steps.specs.declared.view.View.{View}
-use Rattle.mdl_steps.specs.Cells.{held_at, holder_at, waits}
-use Rattle.mdl_steps.specs.Rule.{Rule}
-use Rattle.mdl_steps.proofs.Views.{held_at-changed, held_at-unchanged}
-use Rattle.mdl_steps.proofs.WaitFrame.{waits_else}
-use Rattle.mdl_system.specs.BookLaws.{in_book}
-use Rattle.mdl_system.specs.Events.{SameAt, SameMembers}
-use Rattle.mdl_system.specs.Systems.{System}
-use Rattle.mdl_system.proofs.Deciding.{key_told}
-use Rattle.mdl_steps_laws.specs.Locks.{Lock, AreKeysOf, AreLocksOf, Tells, granted_of, versioned}
-use Rattle.mdl_steps_laws.specs.WaitLaws.{IsTold}
+use Rattle.std.proofs.Common.{◌≡◌, ◌≢◌, ℕ, suc, ◌<◌, ◌≤◌, ◌==◌, Bool, cond, inl, inr, List, length, map, Some, refl, sym, ap, ◌∙◌, subst, arith, Contains}
+use Rattle.mdl_steps_laws.proofs.Common.{AreKeysOf, AreLocksOf, BookView, Definition, IsTold, KeyName, LatchRecord, Lock, Rule, SameAt, SameMembers, Slot, State, System, Tells, Ticket, View, at_map, get_elem?, granted_of, held_at, held_at-changed, held_at-unchanged, holder_at, in_book, key_told, some, some-injective, versioned, waits, waits_else}
 use Rattle.mdl_steps_laws.proofs.TableLocks.{first_place, last_place, same_keys}
 use Rattle.mdl_steps_laws.proofs.WaitLists.{told_alike, waiting_by}
 use Rattle.mdl_steps_laws.proofs.WaitSteps.{Stays, after, lock_else, lock_here}

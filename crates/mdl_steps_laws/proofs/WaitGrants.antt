@@ -1,40 +1,9 @@
 -- To grant a wait is to grant the waiter.
-use Rattle.std.proofs.Common.{◌≡◌, ℕ, suc, true, inl, inr, [], ◌∷◌, ◌++◌, length, map, Some, refl, sym, ap, ◌∙◌, subst, arith, append_assoc}
-use Rattle.std.specs.Prelude.{Contains, Option}
-use Rattle.std.specs.Option.{option_to_list}
-use Rattle.atomic_table.specs.Table.{State}
-use Rattle.mdl_book.specs.declared.book_view.BookView.{BookView}
-use Rattle.mdl_book.specs.declared.ticket.Ticket.{Ticket}
+use Rattle.std.proofs.Common.{◌≡◌, ℕ, suc, true, inl, inr, [], ◌∷◌, ◌++◌, length, map, Some, refl, sym, ap, ◌∙◌, subst, arith, append_assoc, Contains, Option}
 use Rattle.mdl_book.specs.Books as books
-use Rattle.mdl_book.specs.Books.{admitting}
-use Rattle.mdl_book.specs.Granting.{goes_first}
-use Rattle.mdl_book.specs.Tickets.{is_ticket, ticket_of}
-use Rattle.mdl_book.proofs.TicketLemmas.{find-contains}
-use Rattle.mdl_steps.specs.declared.slot.Slot.{Slot}
-use Rattle.mdl_steps.specs.declared.view.Ask.{Ask}
-use Rattle.mdl_steps.specs.declared.view.View.{View}
-use Rattle.mdl_steps.specs.Cells.{waits}
-use Rattle.mdl_steps.specs.Deeds.{MayJoin}
-use Rattle.mdl_steps.specs.WaitPlays.{settled_granted, wait_in}
-use Rattle.mdl_steps.proofs.Tickets.{is_passed}
-use Rattle.mdl_steps.proofs.WaitFrame.{waits_else, waits_here}
 use Rattle.mdl_steps.proofs.WaitGrants.{granted_rule}
-use Rattle.mdl_steps.proofs.WaitSteps.{waiting_session}
-use Rattle.mdl_system.specs.Events.{Gains}
-use Rattle.mdl_system.specs.Systems.{GrantedWait, IsGrantable, Unsettled}
-use Rattle.mdl_system.proofs.BookLemmas.{changes-by_lists}
-use Rattle.mdl_system.proofs.Deciding.{nat_told}
-use Rattle.mdl_system.proofs.MemberLemmas.{push-gains}
-use Rattle.mdl_steps_laws.specs.Locks.{Lock, granted_of}
-use Rattle.mdl_steps_laws.specs.WaitLaws.{GrantingGrantsWaiters, after_wait}
-use Rattle.mdl_steps_laws.proofs.DeedEvents.{grantable_by}
-use Rattle.mdl_steps_laws.proofs.TableLocks.{first_place, holders_may_join}
-use Rattle.mdl_steps_laws.proofs.TicketMembers.{found-passes}
+use Rattle.mdl_steps_laws.proofs.FirstLemmas.{Ask, BookView, Gains, GrantedWait, GrantingGrantsWaiters, IsGrantable, Lock, MayJoin, Slot, State, Stays, Ticket, Unsettled, View, admitting, after_wait, book_was, changes-by_lists, code_waits, find-contains, first_place, found-passes, goes_first, grantable_by, granted_of, holders_may_join, in_locks, in_rule, inside, is_passed, is_ticket, leaves_order, lock_stays, lock_turns, locks_keep, nat_told, not_waiting, now_there, one_seat, option_to_list, other_session, push-gains, same_definitions, settled_granted, some_session, ticket_of, unended_else, wait_in, waiter_by, waiter_is, waiting_by, waiting_same, waiting_session, waits, waits_else, waits_here, was_there}
 use Rattle.mdl_steps_laws.proofs.WaitAsks.{asks_for}
-use Rattle.mdl_steps_laws.proofs.WaitEvents.{same_definitions, one_seat, in_locks, in_rule, inside, some_session, book_was, lock_turns, lock_stays, locks_keep, waiting_same}
-use Rattle.mdl_steps_laws.proofs.WaitLists.{code_waits, leaves_order, not_waiting, waiter_is, waiting_by}
-use Rattle.mdl_steps_laws.proofs.WaitSteps.{Stays, now_there, other_session, unended_else, was_there}
-use Rattle.mdl_steps_laws.proofs.WaitsTold.{waiter_by}
 
 pub granting_grants_waiters : GrantingGrantsWaiters
 granting_grants_waiters s r keys keys_are i key at id me seat session ticket number h may some_theirs found =

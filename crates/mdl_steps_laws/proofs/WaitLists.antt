@@ -1,25 +1,6 @@
 -- Who waits, by the tickets of a waiting list and the sessions' wait words.
-use Rattle.std.proofs.Common.{◌≡◌, ◌≢◌, ℕ, ◌/◌, ◌%◌, ◌≤◌, List, [], ◌∷◌, ◌++◌, map, Some, refl, sym, ap, ◌∙◌, subst, arith}
-use Rattle.std.specs.Prelude.{Contains}
-use Rattle.std.specs.List.{before_first, after_first}
-use Rattle.std.specs.Option.{option_to_list}
-use Rattle.std.proofs.lemmas.List.Elements.{Contains-append_left, Contains-append_right}
-use Rattle.atomic_table.specs.Table.{State}
-use Rattle.mdl_key.specs.Words.{KeyName}
-use Rattle.mdl_defs.specs.declared.definition.Definition.{Definition}
-use Rattle.mdl_book.specs.declared.ticket.Ticket.{Ticket}
-use Rattle.mdl_book.specs.Tickets.{is_ticket, ticket_of, without}
-use Rattle.mdl_book.proofs.TicketLemmas.{parted}
-use Rattle.mdl_steps.specs.declared.slot.Slot.{Slot}
-use Rattle.mdl_steps.specs.declared.view.View.{View}
-use Rattle.mdl_steps.specs.Cells.{waits}
-use Rattle.mdl_steps.specs.WaitPlays.{wait_in}
-use Rattle.mdl_system.specs.Events.{LeavesOrder, TakesTurn}
-use Rattle.mdl_system.specs.Systems.{System, Waiter, WaitState, Unsettled, Victim, TimedOut, Killed}
-use Rattle.mdl_system.proofs.MemberLemmas.{Contains-map}
-use Rattle.mdl_system.proofs.OrderLemmas.{Contains-here, Contains-later}
-use Rattle.mdl_steps_laws.specs.Locks.{Lock, Tells}
-use Rattle.mdl_steps_laws.specs.WaitsTold.{TellsWaits, code_of}
+use Rattle.std.proofs.Common.{◌≡◌, ◌≢◌, ℕ, ◌/◌, ◌%◌, ◌≤◌, List, [], ◌∷◌, ◌++◌, map, Some, refl, sym, ap, ◌∙◌, subst, arith, Contains}
+use Rattle.mdl_steps_laws.proofs.Common.{Contains-append_left, Contains-append_right, Contains-here, Contains-later, Contains-map, Definition, KeyName, Killed, LeavesOrder, Lock, Slot, State, System, TakesTurn, Tells, TellsWaits, Ticket, TimedOut, Unsettled, Victim, View, WaitState, Waiter, after_first, before_first, code_of, is_ticket, option_to_list, parted, ticket_of, wait_in, waits, without}
 use Rattle.mdl_steps_laws.proofs.WaitsTold.{state_by, waiter_by}
 
 -- ---- states and words

@@ -1,30 +1,8 @@
 -- To settle a wait as lost is to lose it.
 use Rattle.std.proofs.Common.{◌≡◌, ℕ, suc, ◌-◌, ◌<◌, ◌≤◌, ◌∷◌, ◌++◌, length, map, Some, refl, sym, ap, ◌∙◌, arith}
-use mathlib.Core.Option.{some-injective}
-use lib.ListN.{get_elem?}
-use Rattle.atomic_table.specs.Table.{State}
-use Rattle.mdl_key.specs.Words.{KeyName}
-use Rattle.mdl_book.specs.declared.ticket.Ticket.{Ticket}
-use Rattle.mdl_steps.specs.declared.slot.Slot.{Slot}
-use Rattle.mdl_steps.specs.declared.view.Ask.{Ask}
-use Rattle.mdl_steps.specs.declared.view.View.{View}
-use Rattle.mdl_steps.specs.declared.wait_word.Loss.{Loss}
 use Rattle.mdl_steps.specs.declared.wait_word.Loss.TheVariants as loss
-use Rattle.mdl_steps.specs.Cells.{waits}
-use Rattle.mdl_steps.specs.WaitPlays.{settled_lost, wait_in}
-use Rattle.mdl_steps.specs.WaitStates.{lost_state}
-use Rattle.mdl_steps.proofs.WaitFrame.{waits_else, waits_here}
-use Rattle.mdl_steps.proofs.WaitSteps.{lost_rule, waiting_session, wished}
-use Rattle.mdl_system.specs.Systems.{Unsettled}
-use Rattle.mdl_steps_laws.specs.Locks.{Lock, granted_of}
-use Rattle.mdl_steps_laws.specs.WaitLaws.{SettlingLoses, after_wait, lost_as}
-use Rattle.mdl_steps_laws.specs.WaitsTold.{code_of}
-use Rattle.mdl_steps_laws.proofs.TableLocks.{ruled_keys}
+use Rattle.mdl_steps_laws.proofs.FirstLemmas.{Ask, KeyName, Lock, Loss, SettlingLoses, Slot, State, Stays, Ticket, Unsettled, View, after_wait, code_of, get_elem?, granted_of, in_locks, lock_else, lost_as, lost_rule, lost_state, one_seat, ruled_keys, same_definitions, same_members, settled_lost, some-injective, takes_turn, unended_same, wait_in, waiter_by, waiter_is, waiting_by, waiting_same, waiting_session, waits, waits_else, waits_here, wished}
 use Rattle.mdl_steps_laws.proofs.WaitAsks.{asked_key, asked_waits, asks_for, others_wait}
-use Rattle.mdl_steps_laws.proofs.WaitEvents.{same_members, same_definitions, one_seat, in_locks, waiting_same}
-use Rattle.mdl_steps_laws.proofs.WaitLists.{takes_turn, waiter_is, waiting_by}
-use Rattle.mdl_steps_laws.proofs.WaitSteps.{Stays, lock_else, unended_same}
-use Rattle.mdl_steps_laws.proofs.WaitsTold.{waiter_by}
 
 -- how a wait is lost, as its word and as the system have it
 lost_code : (how : Loss) → code_of (lost_as how) ≡ lost_state how

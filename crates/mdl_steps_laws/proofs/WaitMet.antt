@@ -1,24 +1,7 @@
 -- Steps that leave all waits, and that to meet a wait's word is to do nothing.
 use Rattle.std.proofs.Common.{◌≡◌, ℕ, List, get_or, length, map, set, refl, sym, ap, ◌∙◌}
-use mathlib.Core.Option.{Option as Maybe, some}
-use lib.ListN.{get_elem?}
-use Rattle.atomic_table.specs.Table.{State}
-use Rattle.mdl_key.specs.Words.{KeyName}
-use Rattle.mdl_defs.specs.declared.definition.Definition.{Definition}
-use Rattle.mdl_steps.specs.declared.slot.Slot.{Slot}
-use Rattle.mdl_steps.specs.declared.view.View.{View}
-use Rattle.mdl_steps.specs.Cells.{waits}
-use Rattle.mdl_steps.specs.Layout.{wait_word}
-use Rattle.mdl_steps.specs.WaitPlays.{met_wait_by}
-use Rattle.mdl_steps.proofs.WaitSteps.{met_rule, set_found}
-use Rattle.mdl_system.specs.Events.{SameWaits}
-use Rattle.mdl_system.specs.Systems.{System}
-use Rattle.mdl_steps_laws.specs.Locks.{Lock, granted_of}
-use Rattle.mdl_steps_laws.specs.WaitLaws.{IsTold, MeetingRests, after_wait}
-use Rattle.mdl_steps_laws.proofs.WaitEvents.{same_members, same_definitions}
-use Rattle.mdl_steps_laws.proofs.WaitLists.{told_alike, waiting_by}
-use Rattle.mdl_steps_laws.proofs.WaitSteps.{Stays, lock_else, now_there, was_there}
-use Rattle.mdl_steps_laws.proofs.WaitsTold.{waiter_by}
+use Rattle.mdl_steps.proofs.WaitSteps.{met_rule}
+use Rattle.mdl_steps_laws.proofs.FirstLemmas.{Definition, IsTold, KeyName, Lock, Maybe, MeetingRests, SameWaits, Slot, State, Stays, System, View, after_wait, get_elem?, granted_of, lock_else, met_wait_by, now_there, same_definitions, same_members, set_found, some, told_alike, wait_word, waiter_by, waiting_by, waits, was_there}
 
 -- a seat's step that leaves the words of all waits, what the session asks for, and the waiting lists
 module _ (s : State Slot View) (id : ℕ) (v w : View) (seat : get_elem? s.views id ≡ some v) (number : w.number ≡ v.number) (asks : w.asks ≡ v.asks) (ws : List ℕ) (homes : List (Maybe Slot)) where

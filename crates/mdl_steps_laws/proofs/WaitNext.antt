@@ -1,31 +1,7 @@
 -- The ticket that a book finds next may be granted.
-use Rattle.std.proofs.Common.{◌≡◌, ℕ, suc, ◌||◌, true, not, inl, inr, List, [], ◌∷◌, Some, None, refl, sym, ap, ◌∙◌, subst}
-use Rattle.std.specs.Prelude.{Contains}
-use Rattle.std.proofs.lemmas.Bool.{and_parts, or_right}
+use Rattle.std.proofs.Common.{◌≡◌, ℕ, suc, ◌||◌, true, not, inl, inr, List, [], ◌∷◌, Some, None, refl, sym, ap, ◌∙◌, subst, Contains}
 use Rattle.std.specs.FinSet as set
-use Rattle.atomic_table.proofs.Lists.{at_map}
-use Rattle.mdl_key.specs.declared.namespace.Kind.{Kind}
-use Rattle.mdl_key.specs.Words.{is_obtrusive}
-use Rattle.mdl_word.specs.Words.{blocks_by, counts_of}
-use Rattle.mdl_book.specs.declared.ticket.Ticket.{Ticket}
-use Rattle.mdl_book.specs.Books.{any_obtrusive, has_obtrusive, is_ready, lock_kind}
-use Rattle.mdl_book.specs.FastTickets.{can_be_granted, may_stand}
-use Rattle.mdl_book.specs.Granting.{goes_first, is_compatible}
-use Rattle.mdl_book.specs.Tickets.{is_ticket, ticket_of}
-use Rattle.mdl_book.proofs.TicketLemmas.{find-contains, find-passes}
-use Rattle.mdl_steps.specs.Cells.{cell, holder_at}
-use Rattle.mdl_steps.specs.Deeds.{MayJoin}
-use Rattle.mdl_steps.specs.Lists.{Once}
-use Rattle.mdl_steps.specs.Rule.{key_at}
-use Rattle.mdl_steps.proofs.Holder.{under}
-use Rattle.mdl_steps.proofs.Tickets.{is_itself, is_passed}
-use Rattle.mdl_steps.proofs.Views.{by_bool}
-use Rattle.mdl_system.proofs.MemberLemmas.{Contains-none}
-use Rattle.mdl_system.proofs.OrderLemmas.{Contains-cons_cases}
-use Rattle.mdl_steps_laws.specs.WaitLaws.{NextMayBeGranted}
-use Rattle.mdl_steps_laws.proofs.TableLocks.{first_place}
-use Rattle.mdl_steps_laws.proofs.TicketMembers.{none-passes}
-use Rattle.mdl_steps_laws.proofs.WaitEvents.{in_rule, inside}
+use Rattle.mdl_steps_laws.proofs.FirstLemmas.{Contains-cons_cases, Contains-none, Kind, MayJoin, NextMayBeGranted, Once, Ticket, and_parts, any_obtrusive, at_map, blocks_by, by_bool, can_be_granted, cell, counts_of, find-contains, find-passes, first_place, goes_first, has_obtrusive, holder_at, in_rule, inside, is_compatible, is_itself, is_obtrusive, is_passed, is_ready, is_ticket, key_at, lock_kind, may_stand, none-passes, or_right, ticket_of, under}
 
 -- an obtrusive member of a list is one of its obtrusive tickets
 any_among : (kind : Kind) (ts : List Ticket) (t : Ticket) → Contains ts t → is_obtrusive kind t.mode ≡ true → any_obtrusive kind ts ≡ true

@@ -1,25 +1,6 @@
 -- To open a wait is to begin it.
 use Rattle.std.proofs.Common.{◌≡◌, ◌≢◌, ℕ, suc, ◌+◌, ◌%◌, [], ◌∷◌, ◌++◌, length, map, refl, sym, ap, ◌∙◌, arith}
-use Rattle.atomic_table.specs.Table.{State}
-use Rattle.atomic_table.proofs.Lists.{at_map}
-use Rattle.mdl_book.specs.declared.ticket.Ticket.{Ticket}
-use Rattle.mdl_book.specs.Books.{enqueueing}
-use Rattle.mdl_steps.specs.declared.slot.Slot.{Slot}
-use Rattle.mdl_steps.specs.declared.view.View.{View}
-use Rattle.mdl_steps.specs.Cells.{waiter_of, waits}
-use Rattle.mdl_steps.specs.WaitPlays.{asked_ticket, opened, wait_in}
-use Rattle.mdl_steps.proofs.WaitEnds.{opened_rule}
-use Rattle.mdl_steps.proofs.WaitFrame.{waits_else, waits_here}
-use Rattle.mdl_system.specs.Systems.{Unsettled, WaitState}
-use Rattle.mdl_steps_laws.specs.Locks.{Lock, granted_of}
-use Rattle.mdl_steps_laws.specs.WaitLaws.{OpeningBegins, after_wait}
-use Rattle.mdl_steps_laws.specs.WaitsTold.{code_of}
-use Rattle.mdl_steps_laws.proofs.OwnTickets.{next_numbers_are_new}
-use Rattle.mdl_steps_laws.proofs.TableLocks.{first_place}
-use Rattle.mdl_steps_laws.proofs.WaitEvents.{same_members, same_definitions, number_fits, in_rule, inside, some_session, lock_turns, lock_stays, locks_keep, waiting_same}
-use Rattle.mdl_steps_laws.proofs.WaitLists.{code_waits, map_joined, not_waiting, told_alike, waiter_is, waiting_by}
-use Rattle.mdl_steps_laws.proofs.WaitSteps.{Stays, other_session, unended_same}
-use Rattle.mdl_steps_laws.proofs.WaitsTold.{waiter_by}
+use Rattle.mdl_steps_laws.proofs.FirstLemmas.{Lock, OpeningBegins, Slot, State, Stays, Ticket, Unsettled, View, WaitState, after_wait, asked_ticket, at_map, code_of, code_waits, enqueueing, first_place, granted_of, in_rule, inside, lock_stays, lock_turns, locks_keep, map_joined, next_numbers_are_new, not_waiting, number_fits, opened, opened_rule, other_session, same_definitions, same_members, some_session, told_alike, unended_same, wait_in, waiter_by, waiter_is, waiter_of, waiting_by, waiting_same, waits, waits_else, waits_here}
 
 pub opening_begins : OpeningBegins
 opening_begins s r keys keys_are i key at id me seat mode h may =

@@ -1,29 +1,6 @@
 -- The locks that the table tells after a step on a wait's word, and the waits that are granted and not ended.
-use Rattle.std.proofs.Common.{◌≡◌, ◌≢◌, ℕ, suc, ◌%◌, ◌<◌, ◌≤◌, inl, inr, List, length, map, set, get_or, Some, refl, sym, ap, ◌∙◌, subst, arith, get_or-set_other}
-use Rattle.std.specs.Prelude.{◌↔◌}
-use Rattle.std.proofs.lemmas.List.{map-set}
-use mathlib.Core.Option.{some, some-injective}
-use lib.ListN.{get_elem?}
-use Rattle.atomic_table.specs.Table.{State}
-use Rattle.atomic_table.proofs.Lists.{at_map, at_set, set_here, set_else}
-use Rattle.mdl_key.specs.Words.{KeyName}
-use Rattle.mdl_defs.specs.declared.definition.Definition.{Definition}
-use Rattle.mdl_book.specs.declared.book_view.BookView.{BookView}
-use Rattle.mdl_steps.specs.declared.slot.Slot.{Slot}
-use Rattle.mdl_steps.specs.declared.view.LatchRecord.{LatchRecord}
-use Rattle.mdl_steps.specs.declared.view.View.{View}
-use Rattle.mdl_steps.specs.Cells.{all_fast, held_at, own_at, part_at, ticket_by, waits}
-use Rattle.mdl_steps.specs.Layout.{latch_word, wait_word}
-use Rattle.mdl_steps.specs.Rule.{Rule}
-use Rattle.mdl_steps.specs.RuleLaws.{fast_at}
-use Rattle.mdl_steps.proofs.Views.{at_inside}
-use Rattle.mdl_steps.proofs.WaitFrame.{waits_else}
-use Rattle.mdl_system.specs.Events.{SameMembers}
-use Rattle.mdl_system.specs.Systems.{GrantedWait, System}
-use Rattle.mdl_system.proofs.Deciding.{nat_told}
-use Rattle.mdl_steps.proofs.Noting.{all_fast-noted}
-use Rattle.mdl_steps_laws.specs.Locks.{Lock, AreKeysOf, AreLocksOf, IsBookAt}
-use Rattle.mdl_steps_laws.specs.WaitsTold.{IsGrantedWait, TellsWaits}
+use Rattle.std.proofs.Common.{◌≡◌, ◌≢◌, ℕ, suc, ◌%◌, ◌<◌, ◌≤◌, inl, inr, List, length, map, set, get_or, Some, refl, sym, ap, ◌∙◌, subst, arith, get_or-set_other, ◌↔◌}
+use Rattle.mdl_steps_laws.proofs.Common.{AreKeysOf, AreLocksOf, BookView, Definition, GrantedWait, IsBookAt, IsGrantedWait, KeyName, LatchRecord, Lock, Rule, SameMembers, Slot, State, System, TellsWaits, View, all_fast, all_fast-noted, at_inside, at_map, at_set, fast_at, get_elem?, held_at, latch_word, map-set, nat_told, own_at, part_at, set_else, set_here, some, some-injective, ticket_by, wait_word, waits, waits_else}
 use Rattle.mdl_steps_laws.proofs.SeatSteps.{any_waits}
 use Rattle.mdl_steps_laws.proofs.TableLocks.{find_key, into_rule, first_place, last_place, same_book, same_keys}
 

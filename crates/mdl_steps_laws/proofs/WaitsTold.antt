@@ -1,32 +1,7 @@
 -- The waits of the system that the running table tells.
-use Rattle.std.proofs.Common.{◌≡◌, ◌≢◌, ℕ, zero, suc, ◌/◌, ◌%◌, ◌<◌, ◌≤◌, ◌==◌, true, not, cond, inl, inr, List, [], ◌∷◌, length, map, Some, None, refl, sym, ap, ◌∙◌, subst, arith}
-use Rattle.std.specs.Prelude.{Contains, Option, slice_index_or}
-use Rattle.std.specs.List.{flat_map, list_all}
-use Rattle.std.specs.Option.{option_to_list, option_map}
-use Rattle.std.proofs.lemmas.Bool.{and_from, eq-eqb, eqb-true}
+use Rattle.std.proofs.Common.{◌≡◌, ◌≢◌, ℕ, zero, suc, ◌/◌, ◌%◌, ◌<◌, ◌≤◌, ◌==◌, true, not, cond, inl, inr, List, [], ◌∷◌, length, map, Some, None, refl, sym, ap, ◌∙◌, subst, arith, Contains, Option, slice_index_or, eq-eqb, eqb-true}
 use Rattle.std.proofs.lemmas.List.Sums.{AllPass-from_list_all}
-use mathlib.Core.Option.{some, some-injective, some-ne-none}
-use lib.ListN.{get_elem?}
-use Rattle.atomic_table.specs.Table.{State}
-use Rattle.atomic_table.proofs.Lists.{at_map}
-use Rattle.mdl_key.specs.Words.{KeyName}
-use Rattle.mdl_book.specs.declared.ticket.Ticket.{Ticket}
-use Rattle.mdl_book.specs.Tickets.{is_ticket, ticket_of}
-use Rattle.mdl_steps.specs.declared.slot.Slot.{Slot}
-use Rattle.mdl_steps.specs.declared.view.Ask.{Ask}
-use Rattle.mdl_steps.specs.declared.view.View.{View}
-use Rattle.mdl_steps.specs.Cells.{blank, no_numbers, waiter_of, waits}
-use Rattle.mdl_steps.specs.Rule.{Rule}
-use Rattle.mdl_steps.specs.WaitPlays.{wait_in}
-use Rattle.mdl_steps.proofs.Tickets.{is_itself}
-use Rattle.mdl_steps.proofs.Views.{by_bool, at_inside, other}
-use Rattle.mdl_steps.proofs.WaitTells.{asks_there}
-use Rattle.mdl_system.specs.Systems.{GrantedWait, Waiter, WaitState, Unsettled, Victim, TimedOut, Killed}
-use Rattle.mdl_system.proofs.Deciding.{nat_told}
-use Rattle.mdl_system.proofs.MemberLemmas.{Contains-none, Contains-map_from, Contains-flat_map, Contains-flat_map_from}
-use Rattle.mdl_system.proofs.OrderLemmas.{Contains-here, Contains-cons_cases}
-use Rattle.mdl_steps_laws.specs.Locks.{Lock, AreLocksOf, Tells}
-use Rattle.mdl_steps_laws.specs.WaitsTold.{code_of, RunningTablesTellWaits}
+use Rattle.mdl_steps_laws.proofs.Common.{AreLocksOf, Ask, Contains-cons_cases, Contains-flat_map, Contains-flat_map_from, Contains-here, Contains-map_from, Contains-none, GrantedWait, KeyName, Killed, Lock, Rule, RunningTablesTellWaits, Slot, State, Tells, Ticket, TimedOut, Unsettled, Victim, View, WaitState, Waiter, and_from, asks_there, at_inside, at_map, blank, by_bool, code_of, flat_map, get_elem?, is_itself, is_ticket, list_all, nat_told, no_numbers, option_map, option_to_list, other, some, some-injective, some-ne-none, ticket_of, wait_in, waiter_of, waits}
 use Rattle.mdl_steps_laws.proofs.TableLocks.{find_key, into_rule, is_placed, first_place, last_place, placed, running_tables_tell_a_system}
 
 -- ---- states

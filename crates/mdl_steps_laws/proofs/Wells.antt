@@ -1,22 +1,8 @@
 -- Systems of reached tables are well-numbered.
-use Rattle.std.proofs.Common.{◌≡◌, List, [], inl, inr, sym, subst}
-use Rattle.std.specs.Prelude.{AllPairs}
-use Rattle.atomic_table.specs.Table.{State}
-use Rattle.mdl_key.specs.Words.{KeyName}
-use Rattle.mdl_defs.specs.declared.definition.Definition.{Definition}
-use Rattle.mdl_defs.specs.VersionedDefinitions.{applied}
-use Rattle.mdl_steps.specs.declared.slot.Slot.{Slot}
-use Rattle.mdl_steps.specs.declared.view.View.{View}
-use Rattle.mdl_steps.specs.Rule.{Rule}
-use Rattle.mdl_steps.proofs.Opens.{opens}
-use Rattle.mdl_steps_laws.specs.WaitLaws.{IsTold}
-use Rattle.mdl_steps_laws.proofs.OneStep.{each_step_happens_or_rests}
-use Rattle.mdl_steps_laws.proofs.WaitsTold.{running_tables_tell_waits}
-use Rattle.mdl_system.specs.Systems.{System, Waiter}
+use Rattle.std.proofs.Common.{◌≡◌, List, [], inl, inr, sym, subst, AllPairs}
 use Rattle.mdl_system.proofs.NumberingLemmas.{step-well, run-well, empty-well}
-use Rattle.mdl_steps_laws.specs.Cares.{ReachedTablesAreWellNumbered}
-use Rattle.mdl_steps.specs.Histories.{Reached}
-use Rattle.mdl_steps_laws.proofs.Openings.{none_granted, none_waiting, nobody_waits, none_unended}
+use Rattle.mdl_steps_laws.proofs.FirstLemmas.{Definition, IsTold, KeyName, Reached, ReachedTablesAreWellNumbered, Rule, Slot, State, System, View, Waiter, applied, nobody_waits, none_granted, none_unended, none_waiting, opens, running_tables_tell_waits}
+use Rattle.mdl_steps_laws.proofs.OneStep.{each_step_happens_or_rests}
 
 pub rule_of : (s : State Slot View) → Reached s → Rule s
 rule_of s (Reached.Opens sessions words slots open_) = opens sessions words slots open_

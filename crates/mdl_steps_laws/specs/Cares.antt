@@ -1,31 +1,9 @@
 -- What holds of the table's system between any two steps, since the table was reached by whole changes: numbers are in order, and each deadlock goes through
 -- a session that has yet to search. A step that frees nothing forgets no waiter, and no waiter is forgotten where nobody owes a reschedule.
 use Rattle.std.specs.Prelude.{◌≡◌, ℕ, ◌==◌, ◌&&◌, Bool, false, List, [], ◌∷◌, length, slice_index, Some}
-use Rattle.std.specs.List.{list_any}
-use mathlib.Core.Option.{some}
-use lib.ListN.{get_elem?}
-use Rattle.atomic_table.specs.Table.{State, Step}
-use Rattle.mdl_key.specs.Words.{KeyName}
-use Rattle.mdl_defs.specs.declared.definition.Definition.{Definition}
-use Rattle.mdl_steps.specs.declared.deed.Deed.{Deed}
-use Rattle.mdl_steps.specs.declared.deed.Deed.TheVariants.{Gain, Alter, Lose}
-use Rattle.mdl_steps.specs.declared.slot.Slot.{Slot}
-use Rattle.mdl_steps.specs.declared.view.LatchRecord.{LatchRecord}
-use Rattle.mdl_steps.specs.declared.view.View.{View}
-use Rattle.mdl_steps.specs.Cells.{held_at, waits}
-use Rattle.mdl_steps.specs.Layout.{latch_word}
-use Rattle.mdl_steps.specs.Plays.{Mine}
-use Rattle.mdl_steps.specs.Rule.{Rule}
-use Rattle.mdl_steps.specs.Sights.{SeesNoDeadlock}
-use Rattle.mdl_steps.specs.WaitStates.{unsettled_state, wait_state}
-use Rattle.mdl_system.specs.Deadlocks.{DeadlocksGoThrough, HasNoDeadlock, IsDeadlock}
 use Rattle.mdl_system.specs.NumberingLaws.{IsWellNumbered}
-use Rattle.mdl_system.specs.Systems.{System, NoneForgotten, NoneForgottenAt}
-use Rattle.mdl_steps_laws.specs.EachStep.{IsKeyAt, IsWholeChange}
-use Rattle.mdl_steps_laws.specs.Headline.{HasPlace}
-use Rattle.mdl_steps.specs.Histories.{Reached}
-use Rattle.mdl_steps_laws.specs.SessionSteps.{Makes, TableChange}
-use Rattle.mdl_steps_laws.specs.WaitLaws.{IsTold}
+use Rattle.mdl_steps_laws.specs.FirstWords.{Alter, DeadlocksGoThrough, Deed, Definition, Gain, HasNoDeadlock, HasPlace, IsDeadlock, IsTold, IsWholeChange, KeyName, LatchRecord, Lose, Makes, Mine, NoneForgotten, NoneForgottenAt, Reached, Rule, SeesNoDeadlock, Slot, State, Step, System, TableChange, View, get_elem?, held_at, latch_word, list_any, some, unsettled_state, wait_state, waits}
+use Rattle.mdl_steps_laws.specs.EachStep.{IsKeyAt}
 
 -- ---- numbers
 

@@ -1,31 +1,9 @@
 -- Each step that a session may make is one event of the table's system, or leaves the system unchanged. Its kind decides which event it is. If the
 -- step is at a place, the event is one of the place's key.
 use Rattle.std.specs.Prelude.{◌≡◌, ◌≢◌, ◌⊎◌, ℕ, suc, ◌+◌, List, [], Some}
-use mathlib.Core.Option.{some}
-use lib.ListN.{get_elem?}
-use Rattle.atomic_table.specs.Table.{State, Step}
-use Rattle.mdl_key.specs.Words.{KeyName}
-use Rattle.mdl_defs.specs.declared.definition.Definition.{Definition}
-use Rattle.mdl_defs.specs.VersionedDefinitions.{applied}
-use Rattle.mdl_book.specs.declared.ticket.Ticket.{Ticket}
-use Rattle.mdl_steps.specs.declared.deed.Deed.{Deed}
-use Rattle.mdl_steps.specs.declared.slot.Slot.{Slot}
-use Rattle.mdl_steps.specs.declared.view.Ask.{Ask}
-use Rattle.mdl_steps.specs.declared.view.View.{View}
-use Rattle.mdl_steps.specs.declared.wait_word.Loss.{Loss}
-use Rattle.mdl_steps.specs.Plays.{Mine}
-use Rattle.mdl_steps.specs.Rule.{Rule}
-use Rattle.mdl_steps.specs.WaitPlays.{asked_ticket}
-use Rattle.mdl_steps.specs.WaitStates.{lost_state, unsettled_state, wait_in}
-use Rattle.mdl_system.specs.BookLaws.{of_lock}
-use Rattle.mdl_system.specs.Events.{BeginWait, ChangeDefinition, EndGrantedWait, EndLostWait, Grant, GrantWaiter, Release, SameSystem, SettleLost, Step as SystemStep}
-use Rattle.mdl_system.specs.Systems.{System, Unsettled, WaitState}
-use Rattle.mdl_steps_laws.specs.Locks.{AreKeysOf}
-use Rattle.mdl_steps_laws.specs.SessionSteps.{Makes, TableChange}
-use Rattle.mdl_steps_laws.specs.StepEvents.{BringsDeeds, IsOf}
-use Rattle.mdl_steps_laws.specs.WaitLaws.{Brings, IsTold, Rests, lost_as}
-use Rattle.mdl_steps_laws.specs.WaitsTold.{code_of}
 pub use Rattle.mdl_steps.specs.TableChanges.{Gives, HasLatch, IsWhole, IsWholeChange, Meets, Swaps, Takes, Writes}
+use Rattle.mdl_steps_laws.specs.FirstWords.{AreKeysOf, Ask, BeginWait, Brings, ChangeDefinition, Deed, Definition, EndGrantedWait, EndLostWait, Grant, GrantWaiter, IsTold, KeyName, Loss, Makes, Mine, Release, Rests, Rule, SameSystem, SettleLost, Slot, State, Step, System, SystemStep, TableChange, Ticket, Unsettled, View, WaitState, applied, asked_ticket, code_of, get_elem?, lost_as, lost_state, of_lock, some, unsettled_state, wait_in}
+use Rattle.mdl_steps_laws.specs.StepEvents.{BringsDeeds, IsOf}
 
 -- ---- what it does in the system
 

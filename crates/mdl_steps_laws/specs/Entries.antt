@@ -2,35 +2,10 @@
 -- step, its deeds, its word, the value found there, and the records of latches. They tell which event the step is, or that nothing happens. So the
 -- entries that a call adds to the list, of which its contract speaks, are the events of the call.
 use Rattle.std.specs.Prelude.{◌≡◌, ◌≢◌, ◌⊎◌, ℕ, ◌+◌, ◌<◌, List, [], ◌∷◌, ◌++◌, length, Some, Contains}
-use mathlib.Core.Option.{some}
-use lib.ListN.{get_elem?}
-use Rattle.atomic_table.specs.Table.{State}
-use Rattle.mdl_key.specs.Words.{KeyName}
-use Rattle.mdl_defs.specs.declared.change.Change.{Change}
-use Rattle.mdl_defs.specs.declared.versioned_definition.VersionedDefinition.{VersionedDefinition}
-use Rattle.mdl_defs.specs.VersionedDefinitions.{standing_after}
-use Rattle.mdl_book.specs.declared.ticket.Ticket.{Ticket}
-use Rattle.mdl_steps.specs.declared.deed.Deed.TheVariants.{Gain}
-use Rattle.mdl_steps.specs.declared.slot.Slot.{Slot}
-use Rattle.mdl_steps.specs.declared.step_kind.StepKind.{StepKind}
 use Rattle.mdl_steps.specs.declared.step_kind.StepKind.TheVariants.{EndWait, GrantFast, GrantWait, LowerFlags, OpenWait, PutLatch, ReleaseFast, SettleWait, WriteVersion}
-use Rattle.mdl_steps.specs.declared.view.Ask.{Ask}
-use Rattle.mdl_steps.specs.declared.view.LatchRecord.{LatchRecord}
-use Rattle.mdl_steps.specs.declared.view.StepRecord.{StepRecord}
-use Rattle.mdl_steps.specs.declared.view.View.{View}
-use Rattle.mdl_steps.specs.declared.wait_word.Loss.{Loss}
-use Rattle.mdl_steps.specs.Cells.{held_at}
-use Rattle.mdl_steps.specs.Layout.{latch_word, lock_word, version_word, wait_word}
-use Rattle.mdl_steps.specs.Rule.{Rule}
-use Rattle.mdl_steps.specs.WaitStates.{granted_state, lost_state, wait_number, wait_state}
-use Rattle.mdl_system.specs.BookLaws.{of_lock}
-use Rattle.mdl_system.specs.Events.{BeginWait, ChangeDefinition, EndGrantedWait, EndLostWait, Grant, GrantWaiter, SettleLost}
-use Rattle.mdl_system.specs.Systems.{Unsettled, WaitState}
-use Rattle.mdl_steps_laws.specs.EachStep.{BringsDeedsAt, IsWholeChange, Under}
-use Rattle.mdl_steps_laws.specs.SessionSteps.{TableChange}
+use Rattle.mdl_steps_laws.specs.FirstWords.{Ask, BeginWait, Brings, Change, ChangeDefinition, EndGrantedWait, EndLostWait, Gain, Grant, GrantWaiter, IsWholeChange, KeyName, LatchRecord, Loss, Rests, Rule, SettleLost, Slot, State, StepKind, StepRecord, TableChange, Ticket, Unsettled, VersionedDefinition, View, WaitState, code_of, get_elem?, granted_state, held_at, latch_word, lock_word, lost_as, lost_state, of_lock, some, standing_after, version_word, wait_number, wait_state, wait_word}
+use Rattle.mdl_steps_laws.specs.EachStep.{BringsDeedsAt, Under}
 use Rattle.mdl_steps_laws.specs.StepEvents.{IsOf}
-use Rattle.mdl_steps_laws.specs.WaitLaws.{Brings, Rests, lost_as}
-use Rattle.mdl_steps_laws.specs.WaitsTold.{code_of}
 
 -- ---- the event that an entry tells
 

@@ -1,28 +1,7 @@
 -- The steps of a lock word's fast path, as events of the table's system. Each changes the word of one place and the view of one
 -- session; a materialisation changes the record of the latch, too.
 use Rattle.std.specs.Prelude.{◌≡◌, ℕ, suc, ◌+◌, ◌-◌, ◌%◌, ◌^◌, ◌<◌, false, List, length, Option, Contains, slice_index, slice_set}
-use mathlib.Core.Option.{some}
-use lib.ListN.{get_elem?}
-use Rattle.atomic_table.specs.Table.{State}
-use Rattle.mdl_key.specs.declared.mode.Mode.{Mode}
-use Rattle.mdl_key.specs.Words.{KeyName}
-use Rattle.mdl_word.specs.Words.{obtrusive_flag}
-use Rattle.mdl_defs.specs.declared.definition.Definition.{Definition}
-use Rattle.mdl_book.specs.declared.ticket.Ticket.{Ticket}
-use Rattle.mdl_steps.specs.declared.slot.Slot.{Slot}
-use Rattle.mdl_steps.specs.declared.step_kind.StepKind.{StepKind}
-use Rattle.mdl_steps.specs.declared.view.LatchRecord.{LatchRecord}
-use Rattle.mdl_steps.specs.declared.view.View.{View}
-use Rattle.mdl_steps.specs.Cells.{ticket_by}
-use Rattle.mdl_steps.specs.FastPlays.{granted_fast, released_fast, materialised, met_word_by, MayGrantFast, MayReleaseFast, MayMaterialise}
-use Rattle.mdl_steps.specs.Layout.{lock_word}
-use Rattle.mdl_steps.specs.Plays.{Mine}
-use Rattle.mdl_steps.specs.Rule.{Rule}
-use Rattle.mdl_system.specs.BookLaws.{of_lock}
-use Rattle.mdl_system.specs.Events.{Grant, Release}
-use Rattle.mdl_system.specs.Systems.{System, HasNoWait}
-use Rattle.mdl_steps_laws.specs.Locks.{AreKeysOf}
-use Rattle.mdl_steps_laws.specs.WaitLaws.{Brings, IsTold, Rests}
+use Rattle.mdl_steps_laws.specs.FirstWords.{AreKeysOf, Brings, Definition, Grant, HasNoWait, IsTold, KeyName, LatchRecord, MayGrantFast, MayMaterialise, MayReleaseFast, Mine, Mode, Release, Rests, Rule, Slot, State, StepKind, System, Ticket, View, get_elem?, granted_fast, lock_word, materialised, met_word_by, obtrusive_flag, of_lock, released_fast, some, ticket_by}
 
 -- the word of a place's lock
 abbrev pub word_at : State Slot View → ℕ → ℕ

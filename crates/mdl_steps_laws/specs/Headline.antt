@@ -5,29 +5,10 @@
 --
 -- The rule holds of the table between any two steps of all sessions, in every interleaving: each step has to keep it (`Order`).
 use Rattle.std.specs.Prelude.{◌≡◌, ℕ, true, List, [], ◌∷◌, ◌++◌, slice_index, Some, Contains}
-use mathlib.Core.Option.{some}
-use lib.ListN.{get_elem?}
-use Rattle.atomic_table.specs.Table.{State, Step}
-use Rattle.mdl_defs.specs.declared.definition.Definition.{Definition}
-use Rattle.mdl_defs.specs.declared.versioned_definition.VersionedDefinition.{VersionedDefinition}
-use Rattle.mdl_defs.specs.Caches.{Kept, kept_of}
-use Rattle.mdl_book.specs.declared.book_view.BookView.{BookView}
-use Rattle.mdl_book.specs.Books.{has_obtrusive, has_tickets, lock_kind}
-use Rattle.mdl_steps.specs.declared.slot.Slot.{Slot}
-use Rattle.mdl_steps.specs.declared.slot.Slot.TheVariants as slot
-use Rattle.mdl_steps.specs.declared.view.LatchRecord.{LatchRecord}
-use Rattle.mdl_steps.specs.declared.view.SessionTicket.{SessionTicket}
-use Rattle.mdl_steps.specs.declared.view.View.{View}
-use Rattle.mdl_steps.specs.Cells.{held_at}
-use Rattle.mdl_steps.specs.Deeds.{is_own}
-use Rattle.mdl_steps.specs.Layout.{latch_word, lock_word, version_word}
-use Rattle.mdl_steps.specs.Plays.{Mine, puts_reading}
-use Rattle.mdl_steps.specs.Rule.{Counted, Rule}
-use Rattle.mdl_steps.specs.RuleLaws.{StandsTogether, fast_at}
-use Rattle.mdl_steps.specs.Seats.{MayPut}
-use Rattle.mdl_steps.specs.VersionPlays.{finds_version, reads_version}
-use Rattle.mdl_steps_laws.specs.SessionSteps.{Spares, TableChange}
 pub use Rattle.mdl_steps.specs.TableChanges.{HasPlace}
+use Rattle.mdl_steps.specs.declared.slot.Slot.TheVariants as slot
+use Rattle.mdl_steps_laws.specs.Prelude.{BookView, Counted, Definition, Kept, LatchRecord, MayPut, Mine, Rule, SessionTicket, Slot, StandsTogether, State, Step, TableChange, VersionedDefinition, View, fast_at, finds_version, get_elem?, has_obtrusive, has_tickets, held_at, is_own, kept_of, latch_word, lock_kind, lock_word, puts_reading, reads_version, some, version_word}
+use Rattle.mdl_steps_laws.specs.SessionSteps.{Spares}
 
 -- ---- locks
 

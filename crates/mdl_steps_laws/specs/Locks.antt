@@ -4,25 +4,8 @@
 -- fast tickets are in the sessions' views, and the book is in the place's slot, or with the session that holds its latch. A reader of the
 -- system needs to know nothing of places, latches and views.
 use Rattle.std.specs.Prelude.{◌≡◌, ◌≢◌, ℕ, suc, List, [], ◌++◌, map, slice_index, Some, Contains}
-use mathlib.Core.Option.{some}
-use lib.ListN.{get_elem?}
-use Rattle.atomic_table.specs.Table.{State}
-use Rattle.mdl_key.specs.Words.{KeyName}
-use Rattle.mdl_defs.specs.declared.definition.Definition.{Definition}
-use Rattle.mdl_defs.specs.declared.versioned_definition.VersionedDefinition.{VersionedDefinition}
-use Rattle.mdl_book.specs.declared.book_view.BookView.{BookView}
-use Rattle.mdl_book.specs.declared.ticket.Ticket.{Ticket}
-use Rattle.mdl_book.specs.Books.{empty_book}
-use Rattle.mdl_steps.specs.declared.slot.Slot.{Slot}
 use Rattle.mdl_steps.specs.declared.slot.Slot.TheVariants as slot
-use Rattle.mdl_steps.specs.declared.view.LatchRecord.{LatchRecord}
-use Rattle.mdl_steps.specs.declared.view.Keys.{Keys}
-use Rattle.mdl_steps.specs.declared.view.View.{View}
-use Rattle.mdl_steps.specs.Cells.{held_at}
-use Rattle.mdl_steps.specs.Layout.{latch_word}
-use Rattle.mdl_steps.specs.RuleLaws.{fast_at}
-use Rattle.mdl_system.specs.BookLaws.{IsGrantedByLists}
-use Rattle.mdl_system.specs.Systems.{GrantedWait, System, Versioned, Waiter}
+use Rattle.mdl_steps_laws.specs.Prelude.{BookView, Definition, GrantedWait, IsGrantedByLists, KeyName, Keys, LatchRecord, Slot, State, System, Ticket, Versioned, VersionedDefinition, View, Waiter, empty_book, fast_at, get_elem?, held_at, latch_word, some}
 
 -- a lock: the fast tickets of all sessions, and the book
 pub record Lock : Type 0 where

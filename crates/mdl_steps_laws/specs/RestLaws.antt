@@ -1,28 +1,9 @@
 -- The steps that leave the table's system unchanged, with a law for each kind: whichever systems the table has before and after, they are the same.
 -- (For three more kinds see `WaitLaws` and `FastLaws`.) The rule holds after each step, as it does between any two.
 use Rattle.std.specs.Prelude.{◌≡◌, ◌≢◌, ℕ, ◌<◌, Bool, List, [], ◌∷◌, ◌++◌, length, slice_index, slice_set, Some}
-use mathlib.Core.Option.{some, none}
-use lib.ListN.{get_elem?}
-use Rattle.atomic_table.specs.Table.{State, Step}
-use Rattle.mdl_defs.specs.Caches.{Kept}
-use Rattle.mdl_key.specs.Words.{KeyName}
-use Rattle.mdl_word.specs.Words.{flags_alone}
-use Rattle.mdl_book.specs.Books.{empty_book}
-use Rattle.mdl_steps.specs.declared.slot.Slot.{Slot}
-use Rattle.mdl_steps.specs.declared.slot.Slot.TheVariants as slot
-use Rattle.mdl_steps.specs.declared.view.LatchRecord.{LatchRecord}
-use Rattle.mdl_steps.specs.declared.view.Keys.{Keys}
-use Rattle.mdl_key.specs.declared.known_key.KnownKey.{KnownKey}
-use Rattle.mdl_steps.specs.declared.view.View.{View}
-use Rattle.mdl_steps.specs.Cells.{held_at}
-use Rattle.mdl_steps.specs.Layout.{enrol_word, latch_word, lock_word, version_word}
-use Rattle.mdl_steps.specs.Plays.{IsFresh, Mine, consulted, enrols, flags_lowered, informed, latched, named, raises_flags, read_and_put, reads_word, searched, served, takes_directory, takes_latch, unlatched}
-use Rattle.mdl_steps.specs.Rule.{Rule}
-use Rattle.mdl_steps.specs.Seats.{MayName}
-use Rattle.mdl_steps.specs.VersionPlays.{finds_version, reads_version}
-use Rattle.mdl_steps_laws.specs.Headline.{HasPlace, IsFree}
-use Rattle.mdl_steps_laws.specs.WaitLaws.{Rests}
 pub use Rattle.mdl_steps.specs.TableChanges.{first_after, split_off}
+use Rattle.mdl_steps.specs.declared.slot.Slot.TheVariants as slot
+use Rattle.mdl_steps_laws.specs.FirstWords.{HasPlace, IsFree, IsFresh, Kept, KeyName, Keys, KnownKey, LatchRecord, MayName, Mine, Rests, Rule, Slot, State, Step, View, consulted, empty_book, enrol_word, enrols, finds_version, flags_alone, flags_lowered, get_elem?, held_at, informed, latch_word, latched, lock_word, named, none, raises_flags, read_and_put, reads_version, reads_word, searched, served, some, takes_directory, takes_latch, unlatched, version_word}
 
 -- ---- tables after a step of a seat
 

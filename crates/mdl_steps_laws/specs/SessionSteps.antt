@@ -1,11 +1,7 @@
 -- What steps of sessions do to tickets and definitions.
 use Rattle.std.specs.Prelude.{◌≡◌, ◌⊎◌, ℕ, Contains}
-use Rattle.atomic_table.specs.Table.{State, Step}
-use Rattle.mdl_steps.specs.declared.deed.Deed.TheVariants.{Lose}
-use Rattle.mdl_steps.specs.declared.slot.Slot.{Slot}
-use Rattle.mdl_steps.specs.declared.view.View.{View}
-use Rattle.mdl_steps.specs.Plays.{Mine}
 pub use Rattle.mdl_steps.specs.TableChanges.{Makes, TableChange}
+use Rattle.mdl_steps_laws.specs.Prelude.{Lose, Mine, Slot, State, Step, View}
 
 -- by this step the session loses its ticket with this number at the place
 abbrev pub GivesUp : ℕ → ℕ → {st : Step Slot} {m : Mine} {found : ℕ} {m′ : Mine} → Makes st m found m′ → Type 0

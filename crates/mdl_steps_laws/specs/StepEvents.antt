@@ -1,30 +1,8 @@
 -- Each step that gives a latch back, lowers flags or writes a version is one event of the table's system, or leaves the system unchanged. The laws
 -- require only that the session may make the step, and the rule.
 use Rattle.std.specs.Prelude.{◌≡◌, ◌⊎◌, ℕ, suc, Bool, List, [], ◌∷◌, slice_set}
-use mathlib.Core.Option.{some}
-use lib.ListN.{get_elem?}
-use Rattle.atomic_table.specs.Table.{State}
-use Rattle.mdl_key.specs.Words.{KeyName}
-use Rattle.mdl_defs.specs.declared.change.Change.{Change}
-use Rattle.mdl_defs.specs.declared.versioned_definition.VersionedDefinition.{VersionedDefinition}
-use Rattle.mdl_defs.specs.VersionedDefinitions.{standing_after}
-use Rattle.mdl_book.specs.declared.book_view.BookView.{BookView}
-use Rattle.mdl_book.specs.declared.ticket.Ticket.{Ticket}
-use Rattle.mdl_steps.specs.declared.deed.Deed.{Deed}
-use Rattle.mdl_steps.specs.declared.deed.Deed.TheVariants.{Gain, Alter, Lose}
-use Rattle.mdl_steps.specs.declared.slot.Slot.{Slot}
 use Rattle.mdl_steps.specs.declared.slot.Slot.TheVariants as slot
-use Rattle.mdl_steps.specs.declared.view.LatchRecord.{LatchRecord}
-use Rattle.mdl_steps.specs.declared.view.View.{View}
-use Rattle.mdl_steps.specs.Deeds.{all_booked}
-use Rattle.mdl_steps.specs.Layout.{latch_word, lock_word, version_word}
-use Rattle.mdl_steps.specs.Plays.{Mine, redefined, flags_lowered, unlatched}
-use Rattle.mdl_steps.specs.Rule.{Rule}
-use Rattle.mdl_steps.specs.Seats.{HasDone, HasRedefined}
-use Rattle.mdl_system.specs.BookLaws.{of_lock}
-use Rattle.mdl_system.specs.Events.{ChangeDefinition, Clone, Downgrade, Grant, Merge, Release, Upgrade}
-use Rattle.mdl_steps_laws.specs.Locks.{AreKeysOf}
-use Rattle.mdl_steps_laws.specs.WaitLaws.{Brings, Rests}
+use Rattle.mdl_steps_laws.specs.FirstWords.{Alter, AreKeysOf, BookView, Brings, Change, ChangeDefinition, Clone, Deed, Downgrade, Gain, Grant, HasDone, HasRedefined, KeyName, LatchRecord, Lose, Merge, Mine, Release, Rests, Rule, Slot, State, Ticket, Upgrade, VersionedDefinition, View, all_booked, flags_lowered, get_elem?, latch_word, lock_word, of_lock, redefined, some, standing_after, unlatched, version_word}
 
 -- ---- the table after a step
 

@@ -1,22 +1,6 @@
 -- What the rule of the running table means in the system of locks.
 use Rattle.std.specs.Prelude.{◌≡◌, ◌≢◌, ℕ, suc, ◌<◌, map, Some, None}
-use mathlib.Core.Option.{some}
-use lib.ListN.{get_elem?}
-use Rattle.atomic_table.specs.Table.{State}
-use Rattle.mdl_key.specs.Words.{KeyName}
-use Rattle.mdl_defs.specs.declared.definition.Definition.{Definition}
-use Rattle.mdl_book.specs.declared.ticket.Ticket.{Ticket}
-use Rattle.mdl_book.specs.Tickets.{ticket_of}
-use Rattle.mdl_steps.specs.declared.slot.Slot.{Slot}
-use Rattle.mdl_steps.specs.declared.view.View.{View}
-use Rattle.mdl_steps.specs.Cells.{cell, own_at, ticket_by}
-use Rattle.mdl_steps.specs.Deeds.{NotWaited}
-use Rattle.mdl_steps.specs.Lists.{Once}
-use Rattle.mdl_steps.specs.Rule.{Rule}
-use Rattle.mdl_steps.specs.RuleLaws.{fast_at}
-use Rattle.mdl_system.specs.BookLaws.{of_lock}
-use Rattle.mdl_system.specs.Events.{IsNewNumber, SameElsewhere}
-use Rattle.mdl_system.specs.Systems.{System, Held as IsHeld, IsLawful}
+use Rattle.mdl_steps_laws.specs.Prelude.{Definition, IsHeld, IsLawful, IsNewNumber, KeyName, NotWaited, Once, Rule, SameElsewhere, Slot, State, System, Ticket, View, cell, fast_at, get_elem?, of_lock, own_at, some, ticket_by, ticket_of}
 use Rattle.mdl_steps_laws.specs.Locks.{Lock, AreKeysOf, AreLocksOf, IsBookAt, IsOfNoWait, Tells}
 
 -- at any time the table has a lock for each key, and these make a system

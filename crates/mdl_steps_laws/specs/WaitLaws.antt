@@ -1,34 +1,11 @@
 -- The steps on wait words are events of the table's system. A step changes the word, or only reads it. Opening a wait, granting one, and ending a lost
 -- one change the record of the place's latch, too. What the session writes into the book in hand before or after the step is no part of the system.
 use Rattle.std.specs.Prelude.{◌≡◌, ℕ, suc, ◌+◌, ◌<◌, true, length, List, Some, slice_set}
+use Rattle.mdl_book.specs.Books as books
+use Rattle.mdl_steps.specs.declared.wait_word.Loss.TheVariants as loss
 use Rattle.std.specs.FinSet as set
 use Rattle.std.specs.Ordering.{nat_cmp}
-use mathlib.Core.Option.{some}
-use lib.ListN.{get_elem?}
-use Rattle.atomic_table.specs.Table.{State}
-use Rattle.mdl_key.specs.declared.mode.Mode.{Mode}
-use Rattle.mdl_key.specs.Words.{KeyName}
-use Rattle.mdl_defs.specs.declared.change.Change.{Change}
-use Rattle.mdl_defs.specs.declared.definition.Definition.{Definition}
-use Rattle.mdl_defs.specs.VersionedDefinitions.{applied}
-use Rattle.mdl_book.specs.declared.ticket.Ticket.{Ticket}
-use Rattle.mdl_book.specs.Books as books
-use Rattle.mdl_steps.specs.declared.slot.Slot.{Slot}
-use Rattle.mdl_steps.specs.declared.step_kind.StepKind.{StepKind}
-use Rattle.mdl_steps.specs.declared.view.Ask.{Ask}
-use Rattle.mdl_steps.specs.declared.view.LatchRecord.{LatchRecord}
-use Rattle.mdl_steps.specs.declared.view.View.{View}
-use Rattle.mdl_steps.specs.declared.wait_word.Loss.{Loss}
-use Rattle.mdl_steps.specs.declared.wait_word.Loss.TheVariants as loss
-use Rattle.mdl_steps.specs.Cells.{held_at, waits}
-use Rattle.mdl_steps.specs.Layout.{wait_word}
-use Rattle.mdl_steps.specs.Plays.{Mine}
-use Rattle.mdl_steps.specs.Rule.{Rule}
-use Rattle.mdl_steps.specs.WaitPlays.{asked_ticket, ended_granted, ended_lost, met_wait_by, opened, settled_granted, settled_lost}
-use Rattle.mdl_steps.specs.WaitSeats.{MayCancel, MayGrant, MayOpen}
-use Rattle.mdl_steps.specs.WaitStates.{granted_state, idle_state, lost_state, unsettled_state, wait_in}
-use Rattle.mdl_system.specs.Events.{BeginWait, EndGrantedWait, EndLostWait, Event, GrantWaiter, Happens, SameSystem, SettleLost}
-use Rattle.mdl_system.specs.Systems.{System, WaitState, Unsettled, Victim, TimedOut, Killed}
+use Rattle.mdl_steps_laws.specs.Prelude.{Ask, BeginWait, Change, Definition, EndGrantedWait, EndLostWait, Event, GrantWaiter, Happens, KeyName, Killed, LatchRecord, Loss, MayCancel, MayGrant, MayOpen, Mine, Mode, Rule, SameSystem, SettleLost, Slot, State, StepKind, System, Ticket, TimedOut, Unsettled, Victim, View, WaitState, applied, asked_ticket, ended_granted, ended_lost, get_elem?, granted_state, held_at, idle_state, lost_state, met_wait_by, opened, settled_granted, settled_lost, some, unsettled_state, wait_in, wait_word, waits}
 use Rattle.mdl_steps_laws.specs.Locks.{Lock, AreKeysOf, AreLocksOf, Tells}
 use Rattle.mdl_steps_laws.specs.WaitsTold.{TellsWaits, code_of}
 

@@ -1,17 +1,7 @@
 -- Waits whose words were met. A ticket's number names one wait for ever, so what a session has met of a wait stays so.
 use Rattle.std.specs.Prelude.{◌≡◌, ◌≢◌, ℕ, ◌<◌, length, Some, Contains}
-use mathlib.Core.Option.{some}
-use lib.ListN.{get_elem?}
-use Rattle.atomic_table.specs.Table.{State}
-use Rattle.mdl_steps.specs.declared.slot.Slot.{Slot}
-use Rattle.mdl_steps.specs.declared.view.Ask.{Ask}
-use Rattle.mdl_steps.specs.declared.view.StepRecord.{StepRecord}
-use Rattle.mdl_steps.specs.declared.view.View.{View}
-use Rattle.mdl_steps.specs.Cells.{waits}
 pub use Rattle.mdl_steps.specs.Servings.{MeetsWaiter, OnlyMeets}
-use Rattle.mdl_steps.specs.WaitStates.{unsettled_state, wait_number, wait_state}
-use Rattle.mdl_steps_laws.specs.Headline.{HasPlace}
-use Rattle.mdl_steps.specs.Histories.{Reached}
+use Rattle.mdl_steps_laws.specs.Prelude.{Ask, HasPlace, Reached, Slot, State, StepRecord, View, get_elem?, some, unsettled_state, wait_number, wait_state, waits}
 
 -- the session of the ticket has a seat, and has given out the number. As long as it asks for that ticket, the wait has the number that was met, and isn't
 -- unsettled if it was met so

@@ -1,18 +1,7 @@
 -- The waits of the running table, with their states: each session's wait word has the state of the session's wait.
 use Rattle.std.specs.Prelude.{◌≡◌, ◌↔◌, ℕ, Some, Contains}
-use mathlib.Core.Option.{some}
-use lib.ListN.{get_elem?}
-use Rattle.atomic_table.specs.Table.{State}
-use Rattle.mdl_key.specs.Words.{KeyName}
-use Rattle.mdl_defs.specs.declared.definition.Definition.{Definition}
-use Rattle.mdl_steps.specs.declared.slot.Slot.{Slot}
-use Rattle.mdl_steps.specs.declared.view.Ask.{Ask}
-use Rattle.mdl_steps.specs.declared.view.View.{View}
 use Rattle.mdl_steps.specs.declared.wait_word.Loss.TheVariants as loss
-use Rattle.mdl_steps.specs.Cells.{waits}
-use Rattle.mdl_steps.specs.Rule.{Rule}
-use Rattle.mdl_steps.specs.WaitStates.{granted_state, lost_state, unsettled_state, wait_in}
-use Rattle.mdl_system.specs.Systems.{GrantedWait, System, Waiter, WaitState, Unsettled, Victim, TimedOut, Killed}
+use Rattle.mdl_steps_laws.specs.Prelude.{Ask, Definition, GrantedWait, KeyName, Killed, Rule, Slot, State, System, TimedOut, Unsettled, Victim, View, WaitState, Waiter, get_elem?, granted_state, lost_state, some, unsettled_state, wait_in, waits}
 use Rattle.mdl_steps_laws.specs.Locks.{Lock, AreLocksOf, Tells}
 
 -- the state of a waiter, as a wait word has it

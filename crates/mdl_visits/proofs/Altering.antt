@@ -1,20 +1,6 @@
 -- A ticket in another mode in the book.
-use Rattle.std.proofs.Common.{◌≡◌, ℕ, ◌+◌, ◌<◌, Bool, true, ◌||◌, List, [], ◌∷◌, length, Option, None, Result, Ok, Err, refl, sym, ap, ◌∙◌, arith}
-use Rattle.std.specs.Prelude.{is_some, OnOk}
-use Rattle.std.proofs.lemmas.Bool.{lt-ltb}
-use Rattle.mdl_key.specs.Refusals.{RefusesJust}
-use Rattle.mdl_key.specs.declared.mode.Mode.{Mode}
-use Rattle.mdl_key.specs.declared.namespace.Kind.{Kind}
-use Rattle.mdl_key.specs.Words.{is_obtrusive}
-use Rattle.mdl_book.specs.declared.book_error.BookError.{BookError}
-use Rattle.mdl_book.specs.declared.book_view.BookView.{BookView}
-use Rattle.mdl_book.specs.declared.ticket.Ticket.{Ticket}
-use Rattle.mdl_book.specs.Books.{any_obtrusive, change_fault, changing, lock_kind}
-use Rattle.mdl_book.specs.FastTickets.{may_stand}
-use Rattle.mdl_book.specs.Tickets.{is_ticket, ticket_of, with_mode}
-use Rattle.mdl_steps.specs.Rule.{TellsLists}
-use Rattle.mdl_steps.proofs.Tickets.{with_mode-hit, with_mode-miss}
-use Rattle.mdl_steps.proofs.Views.{by_bool}
+use Rattle.std.proofs.Common.{◌≡◌, ℕ, ◌+◌, ◌<◌, Bool, true, ◌||◌, List, [], ◌∷◌, length, Option, None, Result, Ok, Err, refl, sym, ap, ◌∙◌, arith, is_some, OnOk, lt-ltb}
+use Rattle.mdl_visits.proofs.Common.{BookError, BookView, Kind, Mode, RefusesJust, TellsLists, Ticket, any_obtrusive, by_bool, change_fault, changing, is_obtrusive, is_ticket, lock_kind, may_stand, ticket_of, with_mode, with_mode-hit, with_mode-miss}
 
 module _ (session number : ℕ) (mode : Mode) where
   -- the ticket is one of the list still

@@ -1,30 +1,7 @@
 -- A session that came to a place has its latch, and does its deeds there.
-use Rattle.std.proofs.Common.{Bool, List, Some, [], ◌∷◌, ◌++◌, ap, append_assoc, false, inl, inr, refl, subst, sym, true, ℕ, ◌||◌, ◌∙◌, ◌≡◌}
-use Rattle.std.specs.Prelude.{Option, ◌⊎◌, ◌≤◌, is_some}
-use Rattle.mdl_book.specs.declared.book_error.BookError.{BookError}
+use Rattle.std.proofs.Common.{Bool, List, Some, [], ◌∷◌, ◌++◌, ap, append_assoc, false, inl, inr, refl, subst, sym, true, ℕ, ◌||◌, ◌∙◌, ◌≡◌, Option, ◌⊎◌, ◌≤◌, is_some}
 use Rattle.mdl_book.specs.declared.book_error.BookError.TheVariants as fault
-use Rattle.mdl_book.specs.declared.book_view.BookView.{BookView}
-use Rattle.mdl_book.specs.Books.{ticket_count}
-use Rattle.mdl_book.specs.Tickets.{ticket_of}
-use Rattle.mdl_steps.specs.declared.deed.Deed.{Deed}
-use Rattle.mdl_steps.specs.declared.step_kind.StepKind.TheVariants.{MissLatch}
-use Rattle.mdl_steps.specs.declared.view.Keys.{Keys}
-use Rattle.mdl_steps.specs.declared.view.LatchRecord.{LatchRecord}
-use Rattle.mdl_steps.specs.declared.view.StepRecord.{StepRecord}
-use Rattle.mdl_steps.specs.Cells.{held_at}
-use Rattle.mdl_steps.specs.Deeds.{KnowsPlace, MayDo, NotWaited, all_booked, frees}
-use Rattle.mdl_steps.specs.Layout.{latch_word, lock_word}
-use Rattle.mdl_steps.specs.Plays.{IsFresh, Mine, latched, missed_latch}
-use Rattle.mdl_steps.specs.Rule.{Flagged}
-use Rattle.mdl_steps.specs.SeatStates.{AtItsTable, SeatState}
-use Rattle.mdl_steps.specs.Seats.{Holds, IsPlace, IsRising, written}
-use Rattle.mdl_steps.proofs.Hands.{holds_written}
-use Rattle.mdl_visits.specs.Leavings.{DidUnder, DoesToOwn, HasWorked, MeetsOwn}
-use Rattle.mdl_visits.specs.Visits.{AllQuiet, Arrives, CameTo, HasStep, IsInside, IsStepOf, LacksRoom, MayVisit, StaysOn, StaysWithin, TakesLatch, VisitsOnce, and_made}
-use Rattle.mdl_visits.proofs.Leaving.{step_later}
-use Rattle.mdl_visits.proofs.Seats.{mine, place_there, table_of}
-use Rattle.mdl_visits.proofs.Visiting.{Lingers, fresh_before, inside_at, inside_taken, inside_written, stays_taken}
-use Rattle.mdl_visits.proofs.Within.{plain, visit_after, within_one, within_same, within_taken, within_then, within_written}
+use Rattle.mdl_visits.proofs.FirstLemmas.{AllQuiet, Arrives, AtItsTable, BookError, BookView, CameTo, Deed, DidUnder, DoesToOwn, Flagged, HasStep, HasWorked, Holds, IsFresh, IsInside, IsPlace, IsRising, IsStepOf, Keys, KnowsPlace, LacksRoom, LatchRecord, Lingers, MayDo, MayVisit, MeetsOwn, Mine, MissLatch, NotWaited, SeatState, StaysOn, StaysWithin, StepRecord, TakesLatch, VisitsOnce, all_booked, and_made, frees, fresh_before, held_at, holds_written, inside_at, inside_taken, inside_written, latch_word, latched, lock_word, mine, missed_latch, place_there, plain, stays_taken, step_later, table_of, ticket_count, ticket_of, visit_after, within_one, within_same, within_taken, within_then, within_written, written}
 
 -- by what the wait for the latch promises
 pub arrived : (place : ℕ) (s : SeatState) → MayVisit place s → (q : ℕ) (c : SeatState) → q ≡ place → (h : LatchRecord) → IsFresh place h s.me → Holds place h h.book c.me

@@ -1,13 +1,6 @@
 -- A session asks whether tables have a definition, one after the other.
-use Rattle.std.proofs.Common.{◌≡◌, ℕ, Bool, true, false, cond, List, [], ◌∷◌, ◌++◌, map, refl, sym, ap, ◌∙◌, append_assoc, append-nil}
-use Rattle.std.specs.Prelude.{filter}
-use Rattle.std.proofs.lemmas.List.{map-append}
-use Rattle.std.proofs.lemmas.List.Elements.{All-push, All-weaker, filter-append}
-use Rattle.mdl_key.specs.declared.known_key.KnownKey.{KnownKey}
-use Rattle.mdl_steps.specs.declared.view.StepRecord.{StepRecord}
-use Rattle.mdl_steps.specs.Plays.{Mine}
-use Rattle.mdl_visits.specs.Tables.{Asked, HasAsked, WasAsked, defined_places}
-use Rattle.mdl_visits.specs.Visits.{MakesMoreSteps, IsStepOf, MakesSteps}
+use Rattle.std.proofs.Common.{◌≡◌, ℕ, Bool, true, false, cond, List, [], ◌∷◌, ◌++◌, map, refl, sym, ap, ◌∙◌, append_assoc, append-nil, filter}
+use Rattle.mdl_visits.proofs.Common.{All-push, All-weaker, Asked, HasAsked, IsStepOf, KnownKey, MakesMoreSteps, MakesSteps, Mine, StepRecord, WasAsked, defined_places, filter-append, map-append}
 
 -- ---- steps of a call's parts are steps of the call
 

@@ -1,44 +1,10 @@
 -- What stands under a key is changed in hand, and then its version is written.
-use Rattle.std.proofs.Common.{◌≡◌, ℕ, ◌+◌, ◌-◌, ◌==◌, map, true, false, List, [], ◌∷◌, ◌++◌, Option, Some, None, Result, Ok, Err, refl, sym, ap, ◌∙◌, subst, inl, inr, ⊎_elim, append_assoc, arith}
-use Rattle.std.specs.Prelude.{◌⊎◌, is_some}
-use Rattle.std.proofs.lemmas.Bool.{and_from, eq-eqb}
-use Rattle.mdl_key.specs.Refusals.{Refuses, RefusesJust}
-use Rattle.mdl_defs.specs.declared.change.Change.{Change}
-use Rattle.mdl_defs.specs.declared.change.Change.TheVariants.{Drop}
-use Rattle.mdl_defs.specs.declared.change_error.ChangeError.{ChangeError}
-use Rattle.mdl_defs.specs.declared.change_error.ChangeError.TheVariants.{OutOfMemory}
-use Rattle.mdl_defs.specs.declared.versioned_definition.VersionedDefinition.{VersionedDefinition}
-use Rattle.mdl_defs.specs.VersionedDefinitions.{standing_fault, standing_after}
-use Rattle.mdl_book.specs.declared.book_view.BookView.{BookView}
-use Rattle.mdl_book.specs.Books.{redefining}
-use Rattle.mdl_book.specs.Tickets.{is_ticket, ticket_of}
-use Rattle.mdl_book.proofs.TicketLemmas.{find-contains}
+use Rattle.std.proofs.Common.{◌≡◌, ℕ, ◌+◌, ◌-◌, ◌==◌, map, true, false, List, [], ◌∷◌, ◌++◌, Option, Some, None, Result, Ok, Err, refl, sym, ap, ◌∙◌, subst, inl, inr, ⊎_elim, append_assoc, arith, ◌⊎◌, is_some, eq-eqb}
 use Rattle.mdl_steps.specs.declared.slot.Slot.TheVariants as slot
-use Rattle.mdl_steps.specs.declared.step_kind.StepKind.TheVariants.{PutLatch, TakeLatch, WriteVersion}
-use Rattle.mdl_steps.specs.declared.view.LatchRecord.{LatchRecord}
-use Rattle.mdl_steps.specs.declared.view.StepRecord.{StepRecord}
-use Rattle.mdl_steps.specs.declared.view.SessionTicket.{SessionTicket}
-use Rattle.mdl_steps.specs.Cells.{own_at, ticket_by}
-use Rattle.mdl_steps.specs.Deeds.{NotWaited}
-use Rattle.mdl_steps.specs.Layout.{latch_word, version_word}
-use Rattle.mdl_steps.specs.Plays.{Mine, IsFresh, latched, redefined, restood, unlatched}
-use Rattle.mdl_steps.specs.SeatStates.{AtItsTable, SeatState}
-use Rattle.mdl_steps.specs.Seats.{Holds, HasExclusive, HasRedefined, IsRising, MayPut, written}
-use Rattle.mdl_steps.specs.VersionPlays.{Follows}
-use Rattle.mdl_steps.proofs.Hands.{holds_written, elsewhere-redefined}
-use Rattle.mdl_steps.proofs.Tickets.{and_false}
-use Rattle.mdl_steps.proofs.Views.{by_bool, held_at-first, held_at-changed}
-use Rattle.mdl_visits.specs.Leavings.{Learns, knowing_read}
-use Rattle.mdl_visits.specs.Numbers.{numbered, is_ask_apart}
-use Rattle.mdl_visits.specs.Redefinitions.{HasExclusiveAt, IsChangeRefused, IsNamed, MeetsChangeFault, Redefines, redefined_and_put}
-use Rattle.mdl_visits.specs.Visits.{Arrives, AreStepsOf, IsInside, and_made, TakesLatch, VisitsOnce}
+use Rattle.mdl_visits.proofs.FirstLemmas.{AreStepsOf, Arrives, AtItsTable, BookView, Change, ChangeError, Drop, Follows, HasExclusive, HasExclusiveAt, HasRedefined, Holds, IsChangeRefused, IsFresh, IsInside, IsNamed, IsRising, LatchRecord, Learns, MayPut, MeetsChangeFault, Mine, NotWaited, OutOfMemory, PutLatch, Redefines, Refuses, RefusesJust, SeatState, SessionTicket, StepRecord, TakeLatch, TakesLatch, VersionedDefinition, VisitsOnce, WriteVersion, and_false, and_from, and_made, as_reads, by_bool, elsewhere-redefined, find-contains, has_number, held_at-changed, held_at-first, holds_there, holds_written, is_ask_apart, is_ticket, knowing_read, latch_word, latched, mine, no_steps, none_then, not_waited, numbered, own_at, plain, redefined, redefined_and_put, redefining, restood, standing_after, standing_fault, table_of, ticket_by, ticket_of, unlatched, version_word, visit_put, within_one, within_then, within_written, written}
 use Rattle.mdl_visits.proofs.Arriving.{went_on}
-use Rattle.mdl_visits.proofs.Gathering.{as_reads, gives_back, holds_there, no_steps}
-use Rattle.mdl_visits.proofs.Numbers.{has_number, not_waited}
+use Rattle.mdl_visits.proofs.Gathering.{gives_back}
 use Rattle.mdl_visits.proofs.Reading.{follows}
-use Rattle.mdl_visits.proofs.Seats.{mine, table_of}
-use Rattle.mdl_visits.proofs.Steps.{none_then}
-use Rattle.mdl_visits.proofs.Within.{plain, visit_put, within_one, within_then, within_written}
 
 -- ---- the session's ticket
 

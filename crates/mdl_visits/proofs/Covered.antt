@@ -1,40 +1,9 @@
 -- A session that has a ticket gains a mode that this one covers.
-use Rattle.std.proofs.Common.{◌≡◌, ℕ, ◌+◌, ◌<◌, ◌==◌, Bool, true, false, not, ◌&&◌, ◌||◌, List, [], ◌∷◌, length, map, Some, refl, sym, ap, ◌∙◌, subst, arith}
-use Rattle.std.specs.Prelude.{Contains, is_some, OnOk, Result, Ok, Err}
-use Rattle.std.specs.List.{list_all, list_any}
-use Rattle.std.proofs.lemmas.Bool.{and_from, eq-eqb, lt-ltb, or_right, and_right, or_left}
-use Rattle.std.proofs.lemmas.List.Folds.{list_any-append}
-use Rattle.std.proofs.lemmas.List.Sums.{AllPass-from_list_all}
-use Rattle.mdl_key.specs.Refusals.{RefusesJust}
-use Rattle.mdl_key.specs.declared.mode.Mode.{Mode}
-use Rattle.mdl_key.specs.declared.namespace.Kind.{Kind}
-use Rattle.mdl_key.specs.declared.namespace.Kind.TheVariants.{Scoped, Object}
-use Rattle.mdl_key.specs.Words.{IsAtLeast, KeyName, all_modes, is_at_least, is_mode_of, is_obtrusive, kind_of}
+use Rattle.std.proofs.Common.{◌≡◌, ℕ, ◌+◌, ◌<◌, ◌==◌, Bool, true, false, not, ◌&&◌, ◌||◌, List, [], ◌∷◌, length, map, Some, refl, sym, ap, ◌∙◌, subst, arith, Contains, is_some, OnOk, Result, Ok, Err, eq-eqb, lt-ltb}
 use Rattle.mdl_key.proofs.MatrixLemmas.{each_mode, at_least-exact}
-use Rattle.mdl_book.specs.declared.book_error.BookError.{BookError}
-use Rattle.mdl_book.specs.declared.ticket.Ticket.{Ticket}
-use Rattle.mdl_book.specs.Books.{any_obtrusive, change_fault, lock_kind}
-use Rattle.mdl_book.specs.FastTickets.{may_stand}
-use Rattle.mdl_book.specs.Granting.{is_compatible, is_lawful}
-use Rattle.mdl_book.specs.Tickets.{is_ticket, ticket_of, with_mode}
-use Rattle.mdl_book.proofs.FastLemmas.{may_stand-none}
-use Rattle.mdl_book.proofs.TicketLemmas.{find-contains}
-use Rattle.mdl_steps.specs.declared.deed.Deed.TheVariants.{Alter, Gain}
-use Rattle.mdl_steps.specs.declared.view.LatchRecord.{LatchRecord}
-use Rattle.mdl_steps.specs.declared.view.SessionTicket.{SessionTicket}
-use Rattle.mdl_steps.specs.Cells.{own_at, ticket_by}
-use Rattle.mdl_steps.specs.Deeds.{NotWaited, booked}
-use Rattle.mdl_steps.specs.Plays.{IsFresh, Mine}
-use Rattle.mdl_steps.specs.Rule.{Flagged, TellsLists}
-use Rattle.mdl_steps.specs.Seats.{written}
-use Rattle.mdl_steps.proofs.Deeds.{weaker_stands}
-use Rattle.mdl_steps.proofs.Tickets.{with_mode-hit, with_mode-miss}
-use Rattle.mdl_steps.proofs.Views.{by_bool}
-use Rattle.mdl_visits.specs.Coverings.{FitsAt}
-use Rattle.mdl_visits.specs.Numbers.{numbered}
-use Rattle.mdl_system.specs.Strength.{covers, may_downgrade}
+use Rattle.mdl_key.specs.declared.namespace.Kind.TheVariants.{Scoped, Object}
 use Rattle.mdl_system.proofs.LawfulLemmas.{implied}
-use Rattle.mdl_system.proofs.StrengthLemmas.{covers-at_least}
+use Rattle.mdl_visits.proofs.Common.{AllPass-from_list_all, Alter, BookError, FitsAt, Flagged, Gain, IsAtLeast, IsFresh, KeyName, Kind, LatchRecord, Mine, Mode, NotWaited, RefusesJust, SessionTicket, TellsLists, Ticket, all_modes, and_from, and_right, any_obtrusive, booked, by_bool, change_fault, covers, covers-at_least, find-contains, is_at_least, is_compatible, is_lawful, is_mode_of, is_obtrusive, is_ticket, kind_of, list_all, list_any, list_any-append, lock_kind, may_downgrade, may_stand, may_stand-none, numbered, or_left, or_right, own_at, ticket_by, ticket_of, weaker_stands, with_mode, with_mode-hit, with_mode-miss, written}
 
 -- by the record of a latch that was just taken: the mode is one of the lock's kind, and the session has a granted ticket that is at least as
 -- strong

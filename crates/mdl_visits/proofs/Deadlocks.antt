@@ -1,22 +1,8 @@
 -- The settled sessions by the words of waits, and the graph of all books.
-use Rattle.std.proofs.Common.{◌≡◌, ℕ, ◌==◌, ◌||◌, ◌&&◌, Bool, true, false, not, List, [], ◌∷◌, ◌++◌, Option, refl, sym, ap, ◌∙◌, subst, arith}
-use Rattle.std.specs.Prelude.{◌%◌}
-use Rattle.std.specs.Cmp.{nat_cmp_total, unsigned_tied}
-use Rattle.std.specs.FinSet as set
-use Rattle.std.specs.Option.{option_map}
-use Rattle.std.specs.Ordering.{nat_cmp}
-use Rattle.std.proofs.lemmas.Bool.Decides.{nat_tests}
-use Rattle.std.proofs.lemmas.List.{map-append}
-use Rattle.std.proofs.lemmas.List.Folds.{list_any-append}
-use Rattle.mdl_book.specs.declared.book_view.BookView.{BookView}
-use Rattle.mdl_graph.specs.declared.cycle.Member.{Member}
-use Rattle.mdl_graph.specs.Graphs.{AddsBook, GraphView, IsGraphOf, empty_graph, unsettled_deadlock, victim_in, waits}
-use Rattle.mdl_graph.specs.Victims.{victim_of}
-use Rattle.mdl_graph.specs.WaitsFor.{nobody}
+use Rattle.std.proofs.Common.{◌≡◌, ℕ, ◌==◌, ◌||◌, ◌&&◌, Bool, true, false, not, List, [], ◌∷◌, ◌++◌, Option, refl, sym, ap, ◌∙◌, subst, arith, ◌%◌}
 use Rattle.mdl_graph.proofs.UnsettledLemmas.{settles_later}
-use Rattle.mdl_visits.specs.declared.audited.Audited.{Audited}
-use Rattle.mdl_visits.specs.declared.waits_read.WaitRead.{WaitRead}
-use Rattle.mdl_visits.specs.Searches.{IsBuiltOf, books_of, settled_by}
+use Rattle.std.specs.FinSet as set
+use Rattle.mdl_visits.proofs.Common.{AddsBook, Audited, BookView, GraphView, IsBuiltOf, IsGraphOf, Member, WaitRead, books_of, empty_graph, list_any-append, map-append, nat_cmp, nat_cmp_total, nat_tests, nobody, option_map, settled_by, unsettled_deadlock, unsigned_tied, victim_in, victim_of, waits}
 
 -- ---- who is settled
 

@@ -1,12 +1,5 @@
 -- Which deeds a session did, by what became of it.
-use Rattle.std.proofs.Common.{ℕ, List, [], ap}
-use Rattle.atomic_table.specs.Seated.{TableId}
-use Rattle.mdl_defs.specs.declared.versioned_definition.VersionedDefinition.{VersionedDefinition}
-use Rattle.mdl_steps.specs.declared.deed.Deed.{Deed}
-use Rattle.mdl_steps.specs.Plays.{Mine}
-use Rattle.mdl_visits.specs.Grantings.{VisitsAndReschedules}
-use Rattle.mdl_visits.specs.Leavings.{Learns}
-use Rattle.mdl_visits.specs.Visits.{Does, MakesSteps, Visits}
+use Rattle.mdl_visits.proofs.Common.{Deed, Does, Learns, List, MakesSteps, Mine, TableId, VersionedDefinition, Visits, VisitsAndReschedules, [], ap, ℕ}
 
 module _ (m m′ : Mine) where
   pub does_steps : MakesSteps m m′ → Does [] m m′

@@ -1,19 +1,6 @@
 -- What comes of a try for a fast ticket.
-use Rattle.std.proofs.Common.{◌≡◌, ◌≢◌, inl, inr, ◌<◌, ℕ, ◌+◌, false, List, [], ◌∷◌, ◌++◌, refl, sym, ap, ◌∙◌, subst, append_assoc, length-append, arith}
-use Rattle.std.specs.Prelude.{Option}
-use Rattle.mdl_key.specs.declared.mode.Mode.{Mode}
-use Rattle.mdl_word.specs.Words.{obtrusive_flag}
-use Rattle.mdl_steps.specs.declared.deed.Deed.{Deed}
-use Rattle.mdl_steps.specs.declared.deed.Deed.TheVariants.{Gain}
-use Rattle.mdl_steps.specs.declared.step_kind.StepKind.{StepKind}
-use Rattle.mdl_steps.specs.declared.step_kind.StepKind.TheVariants.{GrantFast, MissFast}
-use Rattle.mdl_steps.specs.declared.view.StepRecord.{StepRecord}
-use Rattle.mdl_steps.specs.FastPlays.{MayGrantFast, granted_fast, missed_fast}
-use Rattle.mdl_steps.specs.Layout.{lock_word}
-use Rattle.mdl_steps.specs.Lists.{Each}
-use Rattle.mdl_steps.specs.Plays.{Mine}
-use Rattle.mdl_visits.specs.FastTries.{AllMiss, GrantsAtLast, GrantsFast, Misses, MissesAfter, MissesFew, last_found, with_fast}
-use Rattle.mdl_visits.specs.Visits.{StaysOn, StaysThere, and_made, gives_back, kind_raises_flags}
+use Rattle.std.proofs.Common.{◌≡◌, ◌≢◌, inl, inr, ◌<◌, ℕ, ◌+◌, false, List, [], ◌∷◌, ◌++◌, refl, sym, ap, ◌∙◌, subst, append_assoc, length-append, arith, Option}
+use Rattle.mdl_visits.proofs.Common.{AllMiss, Deed, Each, Gain, GrantFast, GrantsAtLast, GrantsFast, MayGrantFast, Mine, MissFast, Misses, MissesAfter, MissesFew, Mode, StaysOn, StaysThere, StepKind, StepRecord, and_made, gives_back, granted_fast, kind_raises_flags, last_found, lock_word, missed_fast, obtrusive_flag, with_fast}
 use Rattle.mdl_visits.proofs.Steps.{each_append, none_then}
 
 -- the step that a session with these latches made at a place

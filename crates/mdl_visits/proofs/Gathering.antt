@@ -1,24 +1,7 @@
 -- Latches are taken in turn, something is done while they are held, and they are given back. Meanwhile books are copied, and words of waits are read.
-use Rattle.std.proofs.Common.{◌≡◌, ℕ, ◌+◌, ◌<◌, ◌≤◌, ◌==◌, not, List, [], ◌∷◌, ◌++◌, filter, Some, Option, refl, sym, ap, ◌∙◌, subst, inl, inr, ⊎_elim, arith, append_assoc, append-nil}
-use Rattle.std.proofs.lemmas.Bool.{eq-eqb}
-use Rattle.atomic_table.specs.Seated.{TableId}
+use Rattle.std.proofs.Common.{◌≡◌, ℕ, ◌+◌, ◌<◌, ◌≤◌, ◌==◌, not, List, [], ◌∷◌, ◌++◌, filter, Some, Option, refl, sym, ap, ◌∙◌, subst, inl, inr, ⊎_elim, arith, append_assoc, append-nil, eq-eqb}
 use Rattle.mdl_steps.specs.declared.slot.Slot.TheVariants as slot
-use Rattle.mdl_steps.specs.declared.step_kind.StepKind.TheVariants.{PutLatch, TakeLatch}
-use Rattle.mdl_steps.specs.declared.view.LatchRecord.{LatchRecord}
-use Rattle.mdl_steps.specs.declared.view.Keys.{Keys}
-use Rattle.mdl_steps.specs.declared.view.StepRecord.{StepRecord}
-use Rattle.mdl_steps.specs.Cells.{held_at}
-use Rattle.mdl_steps.specs.Layout.{latch_word}
-use Rattle.mdl_steps.specs.Lists.{Each}
-use Rattle.mdl_steps.specs.Plays.{Mine, latched, unlatched}
-use Rattle.mdl_steps.specs.SeatStates.{AtItsTable, SeatState}
-use Rattle.mdl_steps.specs.Seats.{Holds, IsRising, MayPut, rest}
-use Rattle.mdl_steps.proofs.Hands.{elsewhere-rising}
-use Rattle.mdl_steps.proofs.Views.{held_at-past}
-use Rattle.mdl_visits.specs.declared.audited.Audited.{Audited}
-use Rattle.mdl_visits.specs.Audits.{Gathers, HadLatches, MayTakeAll}
-use Rattle.mdl_visits.specs.Searches.{ReadsWaits, ReadsWaitsQuietly, with_waits_read}
-use Rattle.mdl_visits.specs.Visits.{AllQuiet, MakesMoreSteps, HasStep, IsQuiet, MakesQuietSteps, and_made, TakesLatch}
+use Rattle.mdl_visits.proofs.Common.{AllQuiet, AtItsTable, Audited, Each, Gathers, HadLatches, HasStep, Holds, IsQuiet, IsRising, Keys, LatchRecord, MakesMoreSteps, MakesQuietSteps, MayPut, MayTakeAll, Mine, PutLatch, ReadsWaits, ReadsWaitsQuietly, SeatState, StepRecord, TableId, TakeLatch, TakesLatch, and_made, elsewhere-rising, held_at, held_at-past, latch_word, latched, rest, unlatched, with_waits_read}
 use Rattle.mdl_visits.proofs.Asking.{step_within}
 use Rattle.mdl_visits.proofs.Seats.{mine, table_of}
 use Rattle.mdl_visits.proofs.Steps.{each_append, none_then}

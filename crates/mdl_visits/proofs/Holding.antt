@@ -1,32 +1,7 @@
 -- Something is done while the directory's latch is held: the books of all keys are gathered, and a deadlock is looked for.
-use Rattle.std.proofs.Common.{◌≡◌, ℕ, ◌+◌, ◌-◌, List, [], ◌∷◌, ◌++◌, length, map, Some, Result, refl, sym, ap, ◌∙◌, subst, inl, ⊎_elim, arith, append_assoc, append-nil, length-append}
-use Rattle.std.specs.Prelude.{slice_get}
-use Rattle.std.proofs.lemmas.Result.{IfOk-weaker, on_err_weaker}
-use Rattle.atomic_table.specs.Seated.{TableId}
-use Rattle.mdl_calls.specs.declared.answers.Search.{Search}
-use Rattle.mdl_graph.specs.Graphs.{AddsBook, GraphView}
-use Rattle.mdl_key.specs.Words.{KeyName}
-use Rattle.mdl_steps.specs.declared.step_kind.StepKind.TheVariants.{PutLatch, TakeLatch}
-use Rattle.mdl_steps.specs.declared.view.LatchRecord.{LatchRecord}
-use Rattle.mdl_steps.specs.declared.view.Keys.{Keys}
-use Rattle.mdl_steps.specs.declared.view.StepRecord.{StepRecord}
-use Rattle.mdl_steps.specs.Layout.{latch_word}
-use Rattle.mdl_steps.specs.Plays.{Mine, consulted, informed, latched, unlatched}
-use Rattle.mdl_steps.specs.SeatStates.{AtItsTable, SeatState}
-use Rattle.mdl_steps.specs.Seats.{HasDirectory, IsRising, MayInform, learnt}
-use Rattle.mdl_visits.specs.declared.audited.Audited.{Audited}
-use Rattle.mdl_visits.specs.Audits.{AreKeyed, AreRecorded, Audits, Gathers, HadLatches, MayAllStand}
-use Rattle.mdl_visits.specs.Idle.{HoldsNoLatch}
-use Rattle.mdl_visits.specs.Lookups.{HadEither, TookDirectory}
-use Rattle.mdl_visits.specs.Searches.{EndsSearch, FindsFrom, IsBuiltOf, Judges, KnowsVictim, ReadsWaits, ReadsWaitsQuietly, SearchFinds, Searched, Searches, with_waits_read}
-use Rattle.mdl_visits.specs.Visits.{MakesMoreSteps, IsQuiet, IsStepOf, MakesSteps, and_made, TakesLatch, TakesDirectory}
-use Rattle.mdl_visits.proofs.Asking.{step_within}
-use Rattle.mdl_visits.proofs.Gathering.{as_steps, back, gathers_more, gathers_none}
-use Rattle.mdl_visits.proofs.Lookups.{had_none, no_record}
-use Rattle.mdl_visits.proofs.Deadlocks.{built_of_more}
+use Rattle.std.proofs.Common.{◌≡◌, ℕ, ◌+◌, ◌-◌, List, [], ◌∷◌, ◌++◌, length, map, Some, Result, refl, sym, ap, ◌∙◌, subst, inl, ⊎_elim, arith, append_assoc, append-nil, length-append, slice_get}
+use Rattle.mdl_visits.proofs.FirstLemmas.{AddsBook, AreKeyed, AreRecorded, AtItsTable, Audited, Audits, EndsSearch, FindsFrom, Gathers, GraphView, HadEither, HadLatches, HasDirectory, HoldsNoLatch, IfOk-weaker, IsBuiltOf, IsQuiet, IsRising, IsStepOf, Judges, KeyName, Keys, KnowsVictim, LatchRecord, MakesMoreSteps, MakesSteps, MayAllStand, MayInform, Mine, PutLatch, ReadsWaits, ReadsWaitsQuietly, Search, SearchFinds, Searched, Searches, SeatState, StepRecord, TableId, TakeLatch, TakesDirectory, TakesLatch, TookDirectory, and_made, as_steps, back, built_of_more, consulted, each_map, gathers_more, gathers_none, had_none, informed, latch_word, latched, learnt, mine, no_record, none_then, on_err_weaker, step_within, table_of, unlatched, with_waits_read}
 use Rattle.mdl_visits.proofs.Outcomes.{judges_within, knows_on}
-use Rattle.mdl_visits.proofs.Seats.{mine, table_of}
-use Rattle.mdl_visits.proofs.Steps.{each_map, none_then}
 
 -- ---- the keys of the books
 

@@ -1,24 +1,11 @@
 -- The keys that a session looked up: found by the key, and by the place through an index, and the kinds of their locks.
-use Rattle.std.proofs.Common.{◌≡◌, ◌≢◌, ℕ, zero, suc, ◌<◌, ◌≤◌, true, false, List, [], ◌∷◌, ◌++◌, get_or, length, set, map, Option, Some, None, refl, sym, ap, subst, ltb, ◌∙◌, arith}
-use Rattle.std.specs.Prelude.{◌==◌, is_some, slice_get}
-use Rattle.std.specs.Map.{lookup}
-use Rattle.std.specs.List.{list_all}
-use Rattle.std.specs.Option.{option_and_then}
-use Rattle.std.proofs.lemmas.List.{length-append, length-set}
-use Rattle.std.proofs.lemmas.List.Folds.{list_all-append}
-use Rattle.std.proofs.lemmas.Bool.{and_parts, eq-eqb, eqb-true}
-use Rattle.std.proofs.lemmas.Bool.Decides.{nat_tests}
-use Rattle.std.proofs.lemmas.Option.{slice_get-get_or, slice_get_within}
-use Rattle.indexmap.specs.IndexMap.{IndexMap, insert_entry}
+use Rattle.std.proofs.Common.{◌≡◌, ◌≢◌, ℕ, zero, suc, ◌<◌, ◌≤◌, true, false, List, [], ◌∷◌, ◌++◌, get_or, length, set, map, Option, Some, None, refl, sym, ap, subst, ltb, ◌∙◌, arith, ◌==◌, is_some, slice_get, length-append, length-set, eq-eqb, eqb-true}
 use Rattle.indexmap.proofs.CallerLemmas.{insert_entry-new}
 use Rattle.indexmap.proofs.IndexTableLemmas.Probe.{pigeonhole}
-use Rattle.mdl_key.specs.declared.namespace.Kind.{Kind}
-use Rattle.mdl_key.specs.Words.{KeyName, key_eq, kind_of}
-use Rattle.mdl_key.specs.declared.known_key.KnownKey.{KnownKey}
-use Rattle.mdl_system.proofs.Deciding.{key-Decides}
-use Rattle.mdl_steps.specs.Schemas.{is_key_known}
-use Rattle.mdl_steps.proofs.Views.{by_bool}
-use Rattle.mdl_key.specs.KeyLookups.{are_apart, are_two, is_known, key_known, kind_known, place_known}
+use Rattle.indexmap.specs.IndexMap.{IndexMap, insert_entry}
+use Rattle.std.proofs.lemmas.Option.{slice_get-get_or, slice_get_within}
+use Rattle.std.specs.Map.{lookup}
+use Rattle.mdl_visits.proofs.Common.{KeyName, Kind, KnownKey, and_parts, are_apart, are_two, by_bool, is_key_known, is_known, key-Decides, key_eq, key_known, kind_known, kind_of, list_all, list_all-append, nat_tests, option_and_then, place_known}
 use Rattle.mdl_visits.specs.OwnKeys.{AreIndexed, AreKinds, known_of}
 
 -- ---- by the key

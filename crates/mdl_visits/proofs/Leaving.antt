@@ -1,24 +1,6 @@
 -- A latch is given back after deeds, with just the flags up that the lists ask for.
-use Rattle.std.proofs.Common.{◌≡◌, ℕ, zero, suc, ◌==◌, map, Bool, true, false, ◌&&◌, List, [], ◌∷◌, ◌++◌, refl, sym, ap, ◌∙◌, append_assoc, append-nil}
-use Rattle.std.specs.Prelude.{is_some}
-use Rattle.std.proofs.lemmas.Bool.{and_from, eq-eqb}
-use mathlib.Core.Option.{some, some-injective, some-ne-none}
-use lib.ListN.{get_elem?}
-use Rattle.mdl_book.specs.Tickets.{is_ticket, ticket_of}
-use Rattle.mdl_book.specs.declared.book_view.BookView.{BookView}
-use Rattle.mdl_steps.specs.declared.deed.Deed.{Deed}
-use Rattle.mdl_steps.specs.declared.step_kind.StepKind.TheVariants.{LowerFlags, PutLatch}
-use Rattle.mdl_steps.specs.declared.view.StepRecord.{StepRecord}
-use Rattle.mdl_steps.specs.declared.view.SessionTicket.{SessionTicket}
-use Rattle.mdl_steps.specs.Cells.{own_at, ticket_by}
-use Rattle.mdl_steps.specs.Layout.{lock_word, latch_word}
-use Rattle.mdl_steps.specs.Plays.{Mine, flags_lowered, unlatched}
-use Rattle.mdl_steps.specs.Deeds.{all_done}
-use Rattle.mdl_steps.specs.Seats.{elsewhere, rest}
-use Rattle.mdl_steps.proofs.Hands.{elsewhere-settled}
-use Rattle.mdl_steps.proofs.Views.{by_bool}
-use Rattle.mdl_visits.specs.Leavings.{HasTicket, Leaves, PutsBack}
-use Rattle.mdl_visits.specs.Visits.{IsInside, IsStepOf, Visits, and_made}
+use Rattle.std.proofs.Common.{◌≡◌, ℕ, zero, suc, ◌==◌, map, Bool, true, false, ◌&&◌, List, [], ◌∷◌, ◌++◌, refl, sym, ap, ◌∙◌, append_assoc, append-nil, is_some, eq-eqb}
+use Rattle.mdl_visits.proofs.Common.{BookView, Deed, HasTicket, IsInside, IsStepOf, Leaves, LowerFlags, Mine, PutLatch, PutsBack, SessionTicket, StepRecord, Visits, all_done, and_from, and_made, by_bool, elsewhere, elsewhere-settled, flags_lowered, get_elem?, is_ticket, latch_word, lock_word, own_at, rest, some, some-injective, some-ne-none, ticket_by, ticket_of, unlatched}
 use Rattle.mdl_visits.proofs.Steps.{none_then}
 
 -- a flag that has to be up and is

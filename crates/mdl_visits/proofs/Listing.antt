@@ -1,21 +1,6 @@
 -- What a session has after it asked the directory for the tables of a schema.
-use Rattle.std.proofs.Common.{◌≡◌, ℕ, ◌-◌, ◌<◌, List, [], ◌∷◌, ◌++◌, length, None, Some, refl, ap, ◌∙◌, subst, arith, append_assoc, append-nil}
-use Rattle.std.specs.Prelude.{Option}
-use Rattle.std.proofs.lemmas.List.Elements.{All-weaker}
-use Rattle.mdl_steps.specs.declared.step_kind.StepKind.TheVariants.{PutLatch, TakeLatch}
-use Rattle.mdl_steps.specs.declared.view.Keys.{Keys}
-use Rattle.mdl_key.specs.declared.known_key.KnownKey.{KnownKey}
-use Rattle.mdl_steps.specs.declared.view.StepRecord.{StepRecord}
-use Rattle.mdl_steps.specs.Layout.{latch_word}
-use Rattle.mdl_steps.specs.Plays.{Mine, IsDirectory, consulted, informed}
-use Rattle.mdl_steps.specs.Rule.{key_at}
-use Rattle.mdl_steps.specs.Schemas.{StandThere, unknown}
-use Rattle.mdl_visits.specs.Idle.{HoldsNoLatch}
-use Rattle.mdl_visits.specs.Lookups.{TookDirectory, given_back}
-use Rattle.mdl_visits.specs.Tables.{AreAllTables, AreWithin, knowing_all}
-use Rattle.mdl_visits.specs.Visits.{AllQuiet, IsQuiet, MakesSteps, StaysQuiet, and_made, deeds_of}
-use Rattle.mdl_visits.proofs.Lookups.{had_none, no_record, some_there}
-use Rattle.mdl_visits.proofs.Steps.{each_append, none_then}
+use Rattle.std.proofs.Common.{◌≡◌, ℕ, ◌-◌, ◌<◌, List, [], ◌∷◌, ◌++◌, length, None, Some, refl, ap, ◌∙◌, subst, arith, append_assoc, append-nil, Option}
+use Rattle.mdl_visits.proofs.FirstLemmas.{All-weaker, AllQuiet, AreAllTables, AreWithin, HoldsNoLatch, IsDirectory, IsQuiet, Keys, KnownKey, MakesSteps, Mine, PutLatch, StandThere, StaysQuiet, StepRecord, TakeLatch, TookDirectory, and_made, consulted, deeds_of, each_append, given_back, had_none, informed, key_at, knowing_all, latch_word, no_record, none_then, some_there, unknown}
 
 -- ---- the tables stand where the directory says
 

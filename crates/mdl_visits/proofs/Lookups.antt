@@ -1,29 +1,9 @@
 -- What a session has after the directory's latch was given back.
-use Rattle.std.proofs.Common.{◌≡◌, ℕ, zero, suc, ◌+◌, ◌-◌, ◌<◌, false, List, [], ◌∷◌, ◌++◌, length, Some, None, refl, sym, ap, ◌∙◌, subst, inl, inr, arith, append_assoc, append-nil}
-use Rattle.std.specs.Prelude.{Option, Result, Ok, Err, slice_get, is_some}
-use Rattle.std.specs.Option.{option_map, option_to_list}
-use Rattle.std.proofs.lemmas.Bool.{lt-ltb}
-use Rattle.std.proofs.lemmas.List.{nil_from_length}
-use Rattle.atomic_table.specs.Seated.{TableId}
-use Rattle.mdl_key.specs.Words.{KeyName}
-use Rattle.mdl_steps.specs.declared.slot.Slot.{Slot}
-use Rattle.mdl_steps.specs.declared.step_kind.StepKind.TheVariants.{PutLatch, TakeLatch}
-use Rattle.mdl_steps.specs.declared.view.Keys.{Keys}
-use Rattle.mdl_key.specs.declared.known_key.KnownKey.{KnownKey}
-use Rattle.mdl_steps.specs.declared.view.StepRecord.{StepRecord}
-use Rattle.mdl_steps.specs.Layout.{latch_word}
-use Rattle.mdl_steps.specs.Plays.{Mine, consulted, informed, listing}
-use Rattle.mdl_steps.specs.Rule.{key_at}
-use Rattle.mdl_steps.specs.SeatStates.{AtItsTable, SeatState}
-use Rattle.mdl_steps.specs.Seats.{HasDirectory, MayInform, learnt, place_among, recorded_key}
+use Rattle.std.proofs.Common.{◌≡◌, ℕ, zero, suc, ◌+◌, ◌-◌, ◌<◌, false, List, [], ◌∷◌, ◌++◌, length, Some, None, refl, sym, ap, ◌∙◌, subst, inl, inr, arith, append_assoc, append-nil, Option, Result, Ok, Err, slice_get, is_some, lt-ltb}
 use Rattle.mdl_steps.proofs.Looking.{there}
-use Rattle.mdl_visits.specs.declared.resolve_error.ResolveError.{ResolveError}
-use Rattle.mdl_visits.specs.Idle.{HoldsNoLatch}
-use Rattle.mdl_visits.specs.Lookups.{TookDirectory, HasLooked, HasNamed, IsLookupAnswer, knowing_key, relisted}
-use Rattle.mdl_visits.specs.Visits.{AllQuiet, and_made, deeds_of, MakesSteps, TakesDirectory}
+use Rattle.mdl_visits.proofs.Common.{AllQuiet, AtItsTable, HasDirectory, HasLooked, HasNamed, HoldsNoLatch, IsLookupAnswer, KeyName, Keys, KnownKey, MakesSteps, MayInform, Mine, PutLatch, ResolveError, SeatState, Slot, StepRecord, TableId, TakeLatch, TakesDirectory, TookDirectory, and_made, consulted, deeds_of, informed, key_at, key_last, knowing_key, latch_word, learnt, listing, nil_from_length, option_map, option_to_list, place_among, recorded_key, relisted}
 use Rattle.mdl_visits.proofs.Seats.{mine, table_of}
 use Rattle.mdl_visits.proofs.Steps.{none_then}
-use Rattle.mdl_steps.proofs.NewKeys.{key_last}
 
 -- ---- a session between two calls
 

@@ -1,27 +1,8 @@
 -- A list of tickets that loses one has nothing that it hadn't.
-use Rattle.std.proofs.Common.{◌≡◌, ℕ, ◌+◌, ◌<◌, ◌≤◌, Bool, true, false, ◌||◌, List, [], ◌∷◌, length, Some, None, refl, sym, ap, ◌∙◌, subst, arith}
-use Rattle.std.specs.Prelude.{is_some, Option, Result, OnOk}
-use Rattle.std.specs.Option.{ok_or}
-use Rattle.std.specs.List.{list_any}
-use Rattle.std.proofs.lemmas.Bool.{ltb-true, lt-ltb, or_right}
-use Rattle.mdl_book.specs.declared.book_error.BookError.{BookError}
-use Rattle.mdl_book.specs.declared.book_error.BookError.TheVariants.{NotHere}
-use Rattle.mdl_book.specs.declared.book_view.BookView.{BookView}
-use Rattle.mdl_book.specs.declared.ticket.Ticket.{Ticket}
-use Rattle.mdl_book.specs.Books.{any_obtrusive, lock_kind, removing}
-use Rattle.mdl_book.specs.Tickets.{is_ticket, ticket_of, without}
-use Rattle.mdl_steps.specs.declared.deed.Deed.TheVariants.{Lose}
+use Rattle.std.proofs.Common.{◌≡◌, ℕ, ◌+◌, ◌<◌, ◌≤◌, Bool, true, false, ◌||◌, List, [], ◌∷◌, length, Some, None, refl, sym, ap, ◌∙◌, subst, arith, is_some, Option, Result, OnOk, ltb-true, lt-ltb}
 use Rattle.mdl_steps.specs.declared.slot.Slot.TheVariants as slot
-use Rattle.mdl_steps.specs.Deeds.{KnowsPlace, NotWaited, booked}
-use Rattle.mdl_steps.specs.Rule.{Flagged}
-use Rattle.mdl_steps.specs.SeatStates.{SeatState}
-use Rattle.mdl_steps.specs.Seats.{rest, written}
-use Rattle.mdl_steps.proofs.Tickets.{without-hit, without-miss}
-use Rattle.mdl_steps.proofs.Views.{by_bool}
-use Rattle.mdl_visits.specs.Leavings.{HasTicket, HasWorked}
-use Rattle.mdl_visits.specs.Visits.{Arrives}
+use Rattle.mdl_visits.proofs.FirstLemmas.{Arrives, BookError, BookView, Flagged, HasTicket, HasWorked, KnowsPlace, Lose, NotHere, NotWaited, SeatState, Ticket, any_obtrusive, booked, by_bool, is_ticket, list_any, lock_kind, ok_or, or_right, own_found, removing, rest, ticket_of, without, without-hit, without-miss, written}
 use Rattle.mdl_visits.proofs.Arriving.{has_worked, number_kept, unwaited_there}
-use Rattle.mdl_visits.proofs.Leaving.{own_found}
 
 module _ (session number : ℕ) where
   pub any_before : (p : Ticket → Bool) (ts : List Ticket) → list_any p (without session number ts) ≡ true → list_any p ts ≡ true

@@ -1,46 +1,9 @@
 -- A session's fast tickets at a place come to stand in the book there, under the latch, and the lock's word no longer counts them.
-use Rattle.std.proofs.Common.{◌≡◌, ℕ, ◌+◌, ◌<◌, ◌==◌, ◌||◌, Bool, true, false, cond, List, [], ◌∷◌, ◌++◌, length, map, Some, None, refl, sym, ap, ◌∙◌, subst, inl, inr, arith, append_assoc, append-nil}
-use Rattle.std.specs.Prelude.{◌⊎◌, ◌≢◌, not, nat_lt}
-use Rattle.std.specs.List.{filter}
-use Rattle.std.proofs.lemmas.Bool.{lt-ltb}
-use Rattle.std.proofs.lemmas.List.{length-append}
-use Rattle.std.proofs.lemmas.List.Folds.{list_any-append}
-use Rattle.mdl_key.specs.declared.namespace.Kind.{Kind}
-use Rattle.mdl_key.specs.Words.{KeyName, is_obtrusive, kind_of}
-use Rattle.mdl_book.specs.declared.book_error.BookError.{BookError}
+use Rattle.std.proofs.Common.{◌≡◌, ℕ, ◌+◌, ◌<◌, ◌==◌, ◌||◌, Bool, true, false, cond, List, [], ◌∷◌, ◌++◌, length, map, Some, None, refl, sym, ap, ◌∙◌, subst, inl, inr, arith, append_assoc, append-nil, ◌⊎◌, ◌≢◌, not, nat_lt, lt-ltb, length-append}
 use Rattle.mdl_book.specs.declared.book_error.BookError.TheVariants as fault
-use Rattle.mdl_book.specs.declared.book_view.BookView.{BookView}
-use Rattle.mdl_book.specs.declared.ticket.Ticket.{Ticket}
-use Rattle.mdl_book.specs.Books.{any_obtrusive, lock_kind, ticket_count}
-use Rattle.mdl_book.specs.Granting.{is_compatible}
-use Rattle.mdl_book.specs.Tickets.{ticket_of}
-use Rattle.mdl_steps.specs.declared.step_kind.StepKind.TheVariants.{Materialise, PutLatch, RaiseFlags}
-use Rattle.mdl_steps.specs.declared.view.LatchRecord.{LatchRecord}
-use Rattle.mdl_steps.specs.declared.view.StepRecord.{StepRecord}
-use Rattle.mdl_steps.specs.declared.view.SessionTicket.{SessionTicket}
-use Rattle.mdl_steps.specs.Cells.{held_at, own_at, ticket_by}
-use Rattle.mdl_steps.specs.Deeds.{KnowsPlace}
-use Rattle.mdl_steps.specs.FastPlays.{MayMaterialise, but_at, granting_all, materialised, moved, weight_of, with_granted}
-use Rattle.mdl_steps.specs.Interleavings.{interleaved}
-use Rattle.mdl_steps.specs.Layout.{latch_word, lock_word}
-use Rattle.mdl_steps.specs.Lists.{Each, Once}
-use Rattle.mdl_steps.specs.Plays.{IsFresh, Mine, raised, stepped, unlatched}
-use Rattle.mdl_steps.specs.Rule.{TellsLists}
-use Rattle.mdl_steps.specs.SeatStates.{AtItsTable, SeatState}
-use Rattle.mdl_steps.specs.Seats.{Holds, IsPlace, MayPut}
-use Rattle.mdl_steps.proofs.FastLists.{length_mapped}
-use Rattle.mdl_steps.proofs.Hands.{elsewhere-stepped, holds_written}
 use Rattle.mdl_steps.proofs.Unmixed.{unmixed_apart}
-use Rattle.mdl_steps.proofs.Views.{by_bool}
-use Rattle.mdl_visits.specs.Leavings.{DidUnder, HasWorked}
-use Rattle.mdl_visits.specs.Materialisings.{AreUngranted, CanStand, LacksRoomFor, Materialises, WasMaterialised, all_slow, granting_own, with_book}
-use Rattle.mdl_visits.specs.Visits.{Arrives, HasStep, IsInside, IsStepOf, KnowsKind, StaysWithin, Visits, VisitsOnce}
+use Rattle.mdl_visits.proofs.FirstLemmas.{AreUngranted, Arrives, AtItsTable, BookError, BookView, CanStand, DidUnder, Each, HasStep, HasWorked, Holds, IsFresh, IsInside, IsPlace, IsStepOf, KeyName, Kind, KnowsKind, KnowsPlace, LacksRoomFor, LatchRecord, Materialise, Materialises, MayMaterialise, MayPut, Mine, Once, PutLatch, RaiseFlags, SeatState, SessionTicket, StaysWithin, StepRecord, TellsLists, Ticket, Visits, VisitsOnce, WasMaterialised, all_slow, any_obtrusive, but_at, by_bool, each_map, elsewhere-stepped, filter, granting_all, granting_own, held_at, holds_written, idle_waits_not, inside_at, inside_stepped, inside_written, interleaved, is_compatible, is_obtrusive, kind_of, latch_word, length_mapped, list_any-append, lock_kind, lock_word, materialised, mine, moved, none_then, own_at, place_there, plain, raised, stepped, table_of, ticket_by, ticket_count, ticket_of, unlatched, visit_put, weight_of, with_book, with_granted, within_one, within_then, within_written}
 use Rattle.mdl_visits.proofs.Arriving.{met, went_on}
-use Rattle.mdl_visits.proofs.Numbers.{idle_waits_not}
-use Rattle.mdl_visits.proofs.Seats.{mine, place_there, table_of}
-use Rattle.mdl_visits.proofs.Steps.{each_map, none_then}
-use Rattle.mdl_visits.proofs.Visiting.{inside_at, inside_stepped, inside_written}
-use Rattle.mdl_visits.proofs.Within.{plain, visit_put, within_one, within_then, within_written}
 
 -- ---- flags
 

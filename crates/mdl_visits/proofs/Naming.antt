@@ -1,28 +1,7 @@
 -- The next place gets a new key: what the seat may do then, and what it has afterwards.
-use Rattle.std.proofs.Common.{◌≡◌, ℕ, ◌-◌, ◌<◌, ◌==◌, not, false, List, [], ◌∷◌, ◌++◌, length, Some, None, refl, sym, ap, ◌∙◌, subst, inl, inr, arith, append_assoc}
-use Rattle.std.specs.Prelude.{Option, slice_get}
-use Rattle.std.specs.List.{filter}
-use Rattle.std.specs.Option.{option_map}
-use Rattle.atomic_table.specs.Seated.{TableId}
-use Rattle.mdl_key.specs.Words.{KeyName}
-use Rattle.mdl_book.specs.declared.book_view.BookView.{BookView}
-use Rattle.mdl_book.specs.Books.{empty_book, has_obtrusive, has_tickets}
-use Rattle.mdl_steps.specs.declared.slot.Slot.{Slot}
+use Rattle.std.proofs.Common.{◌≡◌, ℕ, ◌-◌, ◌<◌, ◌==◌, not, false, List, [], ◌∷◌, ◌++◌, length, Some, None, refl, sym, ap, ◌∙◌, subst, inl, inr, arith, append_assoc, Option, slice_get}
 use Rattle.mdl_steps.specs.declared.slot.Slot.TheVariants as slot
-use Rattle.mdl_steps.specs.declared.step_kind.StepKind.TheVariants.{PutLatch, TakeLatch}
-use Rattle.mdl_steps.specs.declared.view.LatchRecord.{LatchRecord}
-use Rattle.mdl_steps.specs.declared.view.Keys.{Keys}
-use Rattle.mdl_steps.specs.declared.view.StepRecord.{StepRecord}
-use Rattle.mdl_steps.specs.Layout.{latch_word}
-use Rattle.mdl_steps.specs.Plays.{Mine, IsFresh, latched, listing, named}
-use Rattle.mdl_steps.specs.Rule.{key_at, IsUnused}
-use Rattle.mdl_steps.specs.Lists.{Each}
-use Rattle.mdl_steps.specs.SeatStates.{AtItsTable, SeatState}
-use Rattle.mdl_steps.specs.Seats.{HasDirectory, IsPlace, IsRising, MayName, rest, written}
-use Rattle.mdl_steps.proofs.Hands.{elsewhere-taken, holds_taken, holds_written}
-use Rattle.mdl_visits.specs.Lookups.{HadEither, HasNamed, IsAddedToDirectory, IsNext}
-use Rattle.mdl_steps.proofs.NewKeys.{none_after}
-use Rattle.mdl_visits.specs.Visits.{AllQuiet, IsQuiet, MayVisit, and_made, deeds_of}
+use Rattle.mdl_visits.proofs.Common.{AllQuiet, AtItsTable, BookView, Each, HadEither, HasDirectory, HasNamed, IsAddedToDirectory, IsFresh, IsNext, IsPlace, IsQuiet, IsRising, IsUnused, KeyName, Keys, LatchRecord, MayName, MayVisit, Mine, PutLatch, SeatState, Slot, StepRecord, TableId, TakeLatch, and_made, deeds_of, elsewhere-taken, empty_book, filter, has_obtrusive, has_tickets, holds_taken, holds_written, key_at, latch_word, latched, listing, named, none_after, option_map, rest, written}
 use Rattle.mdl_visits.proofs.Seats.{mine, table_of}
 use Rattle.mdl_visits.proofs.Steps.{each_append, each_map, none_then}
 

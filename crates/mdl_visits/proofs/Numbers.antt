@@ -1,14 +1,6 @@
 -- No ticket that a session has is the one that it waits for, and a session that waits for nothing waits for none.
-use Rattle.std.proofs.Common.{◌≡◌, ℕ, ◌==◌, true, List, [], ◌∷◌, Option, Some, None, sym, ◌∙◌, subst}
-use Rattle.std.specs.Prelude.{is_some, not}
-use Rattle.std.proofs.lemmas.Bool.{and_parts, eqb-true, eq-eqb}
-use Rattle.mdl_book.proofs.TicketLemmas.{find-passes}
-use Rattle.mdl_steps.specs.declared.view.Ask.{Ask}
-use Rattle.mdl_steps.specs.declared.view.SessionTicket.{SessionTicket}
-use Rattle.mdl_steps.specs.declared.view.View.{View}
-use Rattle.mdl_steps.specs.Deeds.{NotWaited}
-use Rattle.mdl_steps.proofs.Views.{by_bool}
-use Rattle.mdl_visits.specs.Numbers.{is_ask_apart, is_no_number, numbered}
+use Rattle.std.proofs.Common.{◌≡◌, ℕ, ◌==◌, true, List, [], ◌∷◌, Option, Some, None, sym, ◌∙◌, subst, is_some, not, eqb-true, eq-eqb}
+use Rattle.mdl_visits.proofs.Common.{Ask, NotWaited, SessionTicket, View, and_parts, by_bool, find-passes, is_ask_apart, is_no_number, numbered}
 
 other_number : (wanted number : ℕ) (tickets : List SessionTicket) → is_some (numbered number tickets) ≡ true → is_no_number wanted tickets ≡ true → wanted ≡ number → ⊥
 other_number wanted number [] there none same = absurd (cc)

@@ -1,38 +1,6 @@
 -- What a search comes to: nobody waits in a cycle, or the victim's wait was settled.
-use Rattle.std.proofs.Common.{◌≡◌, ◌≢◌, ℕ, Bool, false, ◌+◌, ◌*◌, ◌<◌, ◌==◌, ◌&&◌, nat_lt, List, [], ◌∷◌, ◌++◌, length, take, drop, get_or, Some, None, inl, inr, refl, sym, ap, subst, ◌∙◌, arith, append-nil}
-use Rattle.std.specs.Prelude.{◌%◌, All, IfSome, Option}
-use Rattle.std.specs.Option.{option_map, option_or}
-use Rattle.std.proofs.lemmas.Bool.{and_parts, eq-eqb, eqb-true, false≢true}
-use Rattle.std.proofs.lemmas.List.{take-append-drop, take_more}
-use Rattle.std.proofs.lemmas.List.Elements.{All-nil}
-use Rattle.std.proofs.lemmas.List.Folds.{find-append}
-use Rattle.atomic_table.specs.Seated.{TableId}
-use Rattle.mdl_calls.specs.declared.answers.Search.{Search}
-use Rattle.mdl_calls.specs.declared.answers.Search.TheVariants.{NoCycle, Victim}
-use Rattle.mdl_graph.specs.declared.cycle.Member.{Member}
-use Rattle.mdl_graph.specs.Graphs.{GraphView, deadlock, deadlock_in, victim_in}
-use Rattle.mdl_graph.specs.Victims.{victim_of}
-use Rattle.mdl_graph.specs.WaitsFor.{nobody, wishes_in}
-use Rattle.mdl_graph.proofs.DeadlockLemmas.{graph_finds}
-use Rattle.mdl_steps.specs.declared.step_kind.StepKind.TheVariants.{MissWait, SettleWait}
-use Rattle.mdl_steps.specs.declared.view.LatchRecord.{LatchRecord}
-use Rattle.mdl_steps.specs.declared.view.StepRecord.{StepRecord}
-use Rattle.mdl_steps.specs.declared.view.Settlement.{Settlement}
-use Rattle.mdl_steps.specs.declared.view.View.{View}
-use Rattle.mdl_steps.specs.Layout.{wait_word}
-use Rattle.mdl_steps.specs.Plays.{Mine}
-use Rattle.mdl_steps.specs.SeatStates.{AtItsTable, SeatState}
-use Rattle.mdl_steps.specs.WaitPlays.{TellsOwn, meeting, missed_wait, settled_lost, wait_in}
-use Rattle.mdl_steps.proofs.Views.{by_bool, other}
-use Rattle.mdl_visits.specs.declared.audited.Audited.{Audited}
-use Rattle.mdl_visits.specs.declared.waits_read.WaitRead.{WaitRead}
-use Rattle.mdl_visits.specs.Grantings.{StaysTold}
-use Rattle.mdl_visits.specs.Polls.{SettlesNothing}
-use Rattle.mdl_visits.specs.Searches.{AreOfWishes, AreRead, FindsAtOnce, IsBuiltOf, IsOutcome, Judges, KnowsVictim, OnlyReadsWaits, ReadsWaitsQuietly, SearchFinds, SettlesVictim, TriesToSettle, WasOther, WasRead, books_of, read_of, settled_by}
-use Rattle.mdl_visits.specs.Visits.{MakesMoreSteps}
-use Rattle.mdl_visits.proofs.Asking.{goes_nowhere, step_within}
-use Rattle.mdl_visits.proofs.Seats.{mine, table_of}
-use Rattle.mdl_visits.proofs.Steps.{step_after}
+use Rattle.std.proofs.Common.{◌≡◌, ◌≢◌, ℕ, Bool, false, ◌+◌, ◌*◌, ◌<◌, ◌==◌, ◌&&◌, nat_lt, List, [], ◌∷◌, ◌++◌, length, take, drop, get_or, Some, None, inl, inr, refl, sym, ap, subst, ◌∙◌, arith, append-nil, ◌%◌, All, IfSome, Option, eq-eqb, eqb-true, take-append-drop}
+use Rattle.mdl_visits.proofs.FirstLemmas.{All-nil, AreOfWishes, AreRead, AtItsTable, Audited, FindsAtOnce, GraphView, IsBuiltOf, IsOutcome, Judges, KnowsVictim, LatchRecord, MakesMoreSteps, Member, Mine, MissWait, NoCycle, OnlyReadsWaits, ReadsWaitsQuietly, Search, SearchFinds, SeatState, SettleWait, Settlement, SettlesNothing, SettlesVictim, StaysTold, StepRecord, TableId, TellsOwn, TriesToSettle, Victim, View, WaitRead, WasOther, WasRead, and_parts, books_of, by_bool, deadlock, deadlock_in, false≢true, find-append, goes_nowhere, graph_finds, meeting, mine, missed_wait, nobody, option_map, option_or, other, read_of, settled_by, settled_lost, step_after, step_within, table_of, take_more, victim_in, victim_of, wait_in, wait_word, wishes_in}
 use Rattle.mdl_visits.proofs.Words.{all_within, at_first, goes_reading, reads_none, reads_word}
 
 -- ---- a wait is settled as the victim's

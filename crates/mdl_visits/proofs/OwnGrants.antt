@@ -1,32 +1,7 @@
 -- Tickets of a session come to be the last that are granted in a book, and are taken out of it again.
-use Rattle.std.proofs.Common.{◌≡◌, ℕ, ◌+◌, ◌^◌, ◌<◌, ◌≤◌, true, false, List, [], ◌∷◌, ◌++◌, map, take, drop, length, get_or, Some, None, Err, refl, sym, ap, ◌∙◌, subst, inl, inr, arith, append_assoc}
-use Rattle.std.proofs.lemmas.Bool.{and_from, eq-eqb}
-use Rattle.std.proofs.lemmas.List.{drop_more, length-append, length-take-le, map_more, take-append-drop}
-use Rattle.std.proofs.lemmas.List.Folds.{list_all-append}
-use Rattle.std.proofs.lemmas.List.Sums.{count_by-le-length}
-use Rattle.mdl_key.specs.declared.namespace.Kind.{Kind}
-use Rattle.mdl_key.specs.declared.mode.Mode.TheVariants.{IX}
-use Rattle.mdl_key.specs.Refusals.{Refuses}
-use Rattle.mdl_word.specs.Words.{encode, one_in}
-use Rattle.mdl_book.specs.declared.book_error.BookError.{BookError}
+use Rattle.std.proofs.Common.{◌≡◌, ℕ, ◌+◌, ◌^◌, ◌<◌, ◌≤◌, true, false, List, [], ◌∷◌, ◌++◌, map, take, drop, length, get_or, Some, None, Err, refl, sym, ap, ◌∙◌, subst, inl, inr, arith, append_assoc, eq-eqb, length-append, length-take-le, take-append-drop}
 use Rattle.mdl_book.specs.declared.book_error.BookError.TheVariants as fault
-use Rattle.mdl_book.specs.declared.book_view.BookView.{BookView}
-use Rattle.mdl_book.specs.declared.ticket.Ticket.{Ticket}
-use Rattle.mdl_book.specs.Books.{grant_fault, granting, lock_kind, removing}
-use Rattle.mdl_book.specs.FastTickets.{is_of_class, may_stand}
-use Rattle.mdl_book.specs.Granting.{is_compatible, stands_beside}
-use Rattle.mdl_book.specs.Tickets.{is_ticket, ticket_of, without}
-use Rattle.mdl_book.proofs.FastLemmas.{may_stand-none}
-use Rattle.mdl_steps.specs.declared.view.SessionTicket.{SessionTicket}
-use Rattle.mdl_steps.specs.Cells.{ticket_by}
-use Rattle.mdl_steps.specs.FastPlays.{weight_of}
-use Rattle.mdl_steps.specs.Limits.{most_fast}
-use Rattle.mdl_steps.specs.Lists.{Each}
-use Rattle.mdl_steps.specs.SeatStates.{HasBookInHand, SeatState}
-use Rattle.mdl_steps.proofs.FastLists.{count-append, length_mapped, one_counted}
-use Rattle.mdl_steps.proofs.Tickets.{without-hit, without-miss}
-use Rattle.mdl_steps.proofs.Views.{by_bool}
-use Rattle.mdl_visits.specs.Materialisings.{AreUngranted, CanStand, LacksRoomIn, Stand, granting_own, with_book}
+use Rattle.mdl_visits.proofs.FirstLemmas.{AreUngranted, BookError, BookView, CanStand, Each, HasBookInHand, IX, Kind, LacksRoomIn, Refuses, SeatState, SessionTicket, Stand, Ticket, and_from, by_bool, count-append, count_by-le-length, drop_more, encode, grant_fault, granting, granting_own, is_compatible, is_of_class, is_ticket, length_mapped, list_all-append, lock_kind, map_more, may_stand, may_stand-none, most_fast, one_counted, one_in, removing, stands_beside, ticket_by, ticket_of, weight_of, with_book, without, without-hit, without-miss}
 use Rattle.mdl_visits.proofs.Trying.{refusal}
 
 -- ---- parts of a list

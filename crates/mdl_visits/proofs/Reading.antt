@@ -1,21 +1,6 @@
 -- A visit to read what stands at a place.
-use Rattle.std.proofs.Common.{◌≡◌, ℕ, List, [], ◌∷◌, ◌++◌, Some, ap, ◌∙◌, refl, sym, subst, append_assoc}
-use Rattle.std.specs.Prelude.{is_some}
-use Rattle.mdl_key.specs.Words.{KeyName}
-use Rattle.mdl_defs.specs.VersionedDefinitions.{MayStand}
-use Rattle.mdl_defs.specs.declared.versioned_definition.VersionedDefinition.{VersionedDefinition}
-use Rattle.mdl_steps.specs.declared.step_kind.StepKind.TheVariants.{PutLatch}
-use Rattle.mdl_steps.specs.declared.view.LatchRecord.{LatchRecord}
-use Rattle.mdl_steps.specs.declared.view.StepRecord.{StepRecord}
-use Rattle.mdl_steps.specs.Cells.{held_at}
-use Rattle.mdl_steps.specs.Layout.{latch_word}
-use Rattle.mdl_steps.specs.Plays.{Mine, IsFresh, latched, read_and_put}
-use Rattle.mdl_steps.specs.VersionPlays.{Follows}
-use Rattle.mdl_visits.specs.Leavings.{Learns, MeetsStanding, knowing_read}
-use Rattle.mdl_visits.specs.Readings.{WasHeld, WereHeld}
-use Rattle.mdl_visits.specs.Visits.{AllQuiet, IsInside, IsStepOf, StaysQuiet, and_made}
-use Rattle.mdl_visits.proofs.Leaving.{own_found}
-use Rattle.mdl_visits.proofs.Steps.{none_then, quiet_on, quiet_one, quiet_taken}
+use Rattle.std.proofs.Common.{◌≡◌, ℕ, List, [], ◌∷◌, ◌++◌, Some, ap, ◌∙◌, refl, sym, subst, append_assoc, is_some}
+use Rattle.mdl_visits.proofs.FirstLemmas.{AllQuiet, Follows, IsFresh, IsInside, IsStepOf, KeyName, LatchRecord, Learns, MayStand, MeetsStanding, Mine, PutLatch, StaysQuiet, StepRecord, VersionedDefinition, WasHeld, WereHeld, and_made, held_at, knowing_read, latch_word, latched, none_then, own_found, quiet_on, quiet_one, quiet_taken, read_and_put}
 
 -- what the holder of a fresh latch is told of what it read and noted
 pub follows : {place : ℕ} {h : LatchRecord} {m : Mine} → IsFresh place h m → Follows place h.book.standing m

@@ -1,24 +1,6 @@
 -- Waits are granted, and the latch given back.
-use Rattle.std.proofs.Common.{◌≡◌, ℕ, nat_lt, length, arith, true, false, List, [], ◌∷◌, ◌++◌, refl, sym, ap, ◌∙◌, inl, inr, append_assoc, append-nil}
-use Rattle.std.specs.Prelude.{◌⊎◌}
-use Rattle.std.proofs.lemmas.Bool.{lt-ltb}
-use Rattle.atomic_table.specs.Seated.{TableId}
-use Rattle.mdl_book.specs.declared.book_view.BookView.{BookView}
-use Rattle.mdl_book.specs.declared.ticket.Ticket.{Ticket}
-use Rattle.mdl_steps.specs.declared.deed.Deed.{Deed}
-use Rattle.mdl_steps.specs.declared.deed.Deed.TheVariants.{Gain, Alter, Lose}
-use Rattle.mdl_steps.specs.declared.step_kind.StepKind.TheVariants.{LowerFlags, PutLatch}
-use Rattle.mdl_steps.specs.declared.view.LatchRecord.{LatchRecord}
-use Rattle.mdl_steps.specs.declared.view.StepRecord.{StepRecord}
-use Rattle.mdl_steps.specs.declared.view.Settlement.{Settlement}
-use Rattle.mdl_steps.specs.Deeds.{all_booked, all_done}
-use Rattle.mdl_steps.specs.Layout.{latch_word, lock_word}
-use Rattle.mdl_steps.specs.Plays.{Mine, served}
-use Rattle.mdl_steps.specs.Seats.{Holds, elsewhere, rest}
-use Rattle.mdl_steps.proofs.Hands.{elsewhere-settled}
-use Rattle.mdl_visits.specs.Grantings.{ForgetsNobody, IsLowered, ReschedulesAndLeaves, HasRescheduled, GrantsWaits, VisitsAndReschedules, all_but}
-use Rattle.mdl_visits.specs.Visits.{MakesMoreSteps, IsInside, IsStepOf, StaysOn}
-use Rattle.mdl_visits.proofs.Steps.{goes_none, goes_staying, leaves_after, none_then, step_after, step_before}
+use Rattle.std.proofs.Common.{◌≡◌, ℕ, nat_lt, length, arith, true, false, List, [], ◌∷◌, ◌++◌, refl, sym, ap, ◌∙◌, inl, inr, append_assoc, append-nil, ◌⊎◌, lt-ltb}
+use Rattle.mdl_visits.proofs.FirstLemmas.{Alter, BookView, Deed, ForgetsNobody, Gain, GrantsWaits, HasRescheduled, Holds, IsInside, IsLowered, IsStepOf, LatchRecord, Lose, LowerFlags, MakesMoreSteps, Mine, PutLatch, ReschedulesAndLeaves, Settlement, StaysOn, StepRecord, TableId, Ticket, VisitsAndReschedules, all_booked, all_but, all_done, elsewhere, elsewhere-settled, goes_none, goes_staying, latch_word, leaves_after, lock_word, none_then, rest, served, step_after, step_before}
 use Rattle.mdl_visits.proofs.Way.{granted_within, looked_within, stays_of}
 
 -- ---- of what went before

@@ -1,43 +1,8 @@
 -- A session that holds the latches of all places, and finds no deadlock by the books there, sees that it is in none.
-use Rattle.std.proofs.Common.{◌≡◌, ℕ, ◌+◌, ◌-◌, ◌<◌, ◌≤◌, ◌==◌, ◌&&◌, ◌||◌, nat_lt, not, Bool, true, false, List, [], ◌∷◌, ◌++◌, length, map, None, Some, inl, inr, refl, sym, ap, ◌∙◌, subst, arith}
-use Rattle.std.specs.Prelude.{Contains, MatchOption, Result, Ok, Err, IfOk}
-use Rattle.std.specs.List.{list_any}
-use Rattle.std.proofs.lemmas.Bool.{and_from, and_parts, cases_eq, eqb-true}
-use Rattle.std.proofs.lemmas.Bool.Decides.{nat_tests}
-use Rattle.std.proofs.lemmas.List.Elements.{All-contains, Contains-append_left, Contains-push}
-use Rattle.std.proofs.lemmas.List.Folds.{Any-from_list_any, list_any-from_Any}
-use Rattle.mdl_book.specs.declared.book_view.BookView.{BookView}
-use Rattle.mdl_calls.specs.declared.answers.Search.{Search}
-use Rattle.mdl_calls.specs.declared.answers.Search.TheVariants.{NoCycle, Victim}
+use Rattle.std.proofs.Common.{◌≡◌, ℕ, ◌+◌, ◌-◌, ◌<◌, ◌≤◌, ◌==◌, ◌&&◌, ◌||◌, nat_lt, not, Bool, true, false, List, [], ◌∷◌, ◌++◌, length, map, None, Some, inl, inr, refl, sym, ap, ◌∙◌, subst, arith, Contains, MatchOption, Result, Ok, Err, IfOk, eqb-true}
 use Rattle.mdl_graph.specs.Cycles.{IsCycleThrough, are_distinct, leads}
 use Rattle.mdl_graph.specs.GraphLaws.{IsChosen, IsFree}
-use Rattle.mdl_graph.specs.Graphs.{AddsBook, GraphView, IsGraphOf, deadlock_in}
-use Rattle.mdl_graph.specs.WaitsFor.{SessionTest, nobody, waits_at, waits_for}
-use Rattle.mdl_graph.proofs.DeadlockLemmas.{deadlock_chosen}
-use Rattle.mdl_steps.specs.declared.view.Keys.{Keys}
-use Rattle.mdl_key.specs.declared.known_key.KnownKey.{KnownKey}
-use Rattle.mdl_steps.specs.declared.view.LatchRecord.{LatchRecord}
-use Rattle.mdl_steps.specs.declared.view.StepRecord.{StepRecord}
-use Rattle.mdl_steps.specs.Cells.{held_at}
-use Rattle.mdl_steps.specs.Deeds.{KnowsPlace}
-use Rattle.mdl_steps.specs.Plays.{Mine, informed}
-use Rattle.mdl_steps.specs.Rule.{key_at}
-use Rattle.mdl_steps.specs.SeatStates.{AtItsTable, SeatState}
-use Rattle.mdl_steps.specs.Seats.{learnt, MayInform, MayPut}
-use Rattle.mdl_steps.specs.Sights.{SeesNoDeadlock, WasMetNow, settled_in}
-use Rattle.mdl_steps.specs.Layout.{wait_word}
-use Rattle.mdl_steps.specs.WaitStates.{unsettled_state, wait_state}
-use Rattle.mdl_steps.proofs.Views.{by_bool, each_at, held_at-first, held_at-past}
-use Rattle.mdl_system.proofs.MemberLemmas.{Contains-map_from, Contains-none}
-use Rattle.mdl_system.proofs.OrderLemmas.{Contains-cons_cases, middle}
-use Rattle.mdl_visits.specs.declared.audited.Audited.{Audited}
-use Rattle.mdl_visits.specs.declared.waits_read.WaitRead.{WaitRead}
-use Rattle.mdl_visits.specs.Idle.{HoldsNoLatch}
-use Rattle.mdl_visits.specs.Lookups.{TookDirectory}
-use Rattle.mdl_visits.specs.Searches.{EndsSearch, FindsFrom, HasTaken, IsOutcome, Judges, ReadsWaitsQuietly, SearchFinds, Searched, WasRead, books_of, but_searching, found_none, put_searching, searches_after, settled_by}
-use Rattle.mdl_visits.specs.Visits.{TakesDirectory, TakesLatch}
-use Rattle.mdl_visits.proofs.Lookups.{no_latches, some_there}
-use Rattle.mdl_visits.proofs.Seats.{mine}
+use Rattle.mdl_visits.proofs.FirstLemmas.{AddsBook, All-contains, Any-from_list_any, AtItsTable, Audited, BookView, Contains-append_left, Contains-cons_cases, Contains-map_from, Contains-none, Contains-push, EndsSearch, FindsFrom, GraphView, HasTaken, HoldsNoLatch, IsGraphOf, IsOutcome, Judges, Keys, KnownKey, KnowsPlace, LatchRecord, MayInform, MayPut, Mine, NoCycle, ReadsWaitsQuietly, Search, SearchFinds, Searched, SeatState, SeesNoDeadlock, SessionTest, StepRecord, TakesDirectory, TakesLatch, TookDirectory, Victim, WaitRead, WasMetNow, WasRead, and_from, and_parts, books_of, but_searching, by_bool, cases_eq, deadlock_chosen, deadlock_in, each_at, found_none, held_at, held_at-first, held_at-past, informed, key_at, learnt, list_any, list_any-from_Any, middle, mine, nat_tests, no_latches, nobody, put_searching, searches_after, settled_by, settled_in, some_there, unsettled_state, wait_state, wait_word, waits_at, waits_for}
 
 -- ---- the seat, except for its search
 

@@ -1,8 +1,6 @@
 -- What an equation of a seat's whole value tells.
 use Rattle.std.proofs.Common.{◌≡◌, ℕ, ap, subst, sym}
-use Rattle.atomic_table.specs.Seated.{TableId}
-use Rattle.mdl_steps.specs.SeatStates.{SeatState}
-use Rattle.mdl_steps.specs.Seats.{IsPlace}
+use Rattle.mdl_visits.proofs.Common.{IsPlace, SeatState, TableId}
 
 -- what the session knows and has there
 pub mine : {s t : SeatState} → s ≡ t → s.me ≡ t.me

@@ -1,38 +1,9 @@
 -- A try to grant a waiting ticket, put together of its steps.
-use Rattle.std.proofs.Common.{◌≡◌, ◌≢◌, ℕ, ◌+◌, ◌-◌, ◌*◌, ◌%◌, ◌/◌, ◌<◌, ◌==◌, ◌&&◌, not, cond, true, false, None, List, [], ◌∷◌, ◌++◌, Some, refl, sym, ap, ◌∙◌, subst, inl, inr, append-nil, arith}
-use Rattle.mdl_book.specs.SessionSets.{is_session}
-use Rattle.std.specs.Prelude.{Result, OnOk, is_some, Contains, find, Option, slice_get}
-use Rattle.std.specs.Option.{ok_or}
-use Rattle.std.specs.FinSet as set
-use Rattle.std.specs.Ordering.{nat_cmp}
-use Rattle.std.specs.Cmp.{nat_cmp_total, unsigned_tied}
-use Rattle.std.proofs.lemmas.Bool.{cases_eq}
-use Rattle.std.proofs.lemmas.List.Folds.{find_at}
-use Rattle.atomic_table.specs.Seated.{TableId}
-use Rattle.mdl_book.specs.declared.book_view.BookView.{BookView}
-use Rattle.mdl_book.specs.declared.book_error.BookError.{BookError}
-use Rattle.mdl_book.specs.declared.book_error.BookError.TheVariants.{NotHere}
-use Rattle.mdl_book.specs.declared.ticket.Ticket.{Ticket}
-use Rattle.mdl_book.specs.Books.{admitting, admitting_by_index, is_ready, lock_kind, next_grantable}
-use Rattle.mdl_book.specs.FastTickets.{can_be_granted}
-use Rattle.mdl_book.specs.SessionSets.{IsEverySession}
-use Rattle.mdl_book.specs.Tickets.{is_ticket, ticket_of}
+use Rattle.std.proofs.Common.{◌≡◌, ◌≢◌, ℕ, ◌+◌, ◌-◌, ◌*◌, ◌%◌, ◌/◌, ◌<◌, ◌==◌, ◌&&◌, not, cond, true, false, None, List, [], ◌∷◌, ◌++◌, Some, refl, sym, ap, ◌∙◌, subst, inl, inr, append-nil, arith, Result, OnOk, is_some, Contains, find, Option, slice_get}
 use Rattle.mdl_book.proofs.AdmitLemmas.{by_index-admits}
-use Rattle.mdl_steps.specs.declared.step_kind.StepKind.{StepKind}
-use Rattle.mdl_steps.specs.declared.step_kind.StepKind.TheVariants.{ReadWait, ReadWord}
-use Rattle.mdl_steps.specs.declared.view.LatchRecord.{LatchRecord}
-use Rattle.mdl_steps.specs.declared.view.StepRecord.{StepRecord}
-use Rattle.mdl_steps.specs.Layout.{lock_word, wait_word}
-use Rattle.mdl_steps.specs.Plays.{Mine, changed, noting, stepped}
-use Rattle.mdl_steps.specs.Seats.{Holds, written}
-use Rattle.mdl_steps.specs.WaitPlays.{met_wait_by, settled_granted, wait_in, with_admitted, TellsOwn}
-use Rattle.mdl_steps.proofs.Hands.{holds_written}
-use Rattle.mdl_steps.proofs.Views.{other}
-use Rattle.mdl_visits.specs.Grantings.{ForgetsNobody, HasJustMet, IsGrantedFrom, IsLookedThrough, IsGrantableAt, IsGrantableTicket, IsTriedOrGranted, IsTried, ReschedulesInTurn, MeetsWaiter, OnlyMeets, ahead_of}
-use Rattle.mdl_visits.specs.Visits.{MakesMoreSteps, IsStepOf}
+use Rattle.std.specs.FinSet as set
+use Rattle.mdl_visits.proofs.FirstLemmas.{BookError, BookView, ForgetsNobody, HasJustMet, Holds, IsEverySession, IsGrantableAt, IsGrantableTicket, IsGrantedFrom, IsLookedThrough, IsStepOf, IsTried, IsTriedOrGranted, LatchRecord, MakesMoreSteps, MayReschedule, MeetsWaiter, Mine, NotHere, OnlyMeets, ReadWait, ReadWord, ReschedulesInTurn, StepKind, StepRecord, TableId, TellsOwn, Ticket, admitting, admitting_by_index, ahead_of, can_be_granted, cases_eq, changed, find_at, found_number, goes_by, gone, grants_on, holds_written, is_ready, is_session, is_ticket, lock_kind, lock_word, met_wait_by, nat_cmp, nat_cmp_total, next_grantable, none_ahead, not_ready, noting, ok_or, only_one, other, settled_granted, step_after, step_before, stepped, ticket_of, unsigned_tied, wait_in, wait_word, waits_ahead, waits_still, with_admitted, written}
 use Rattle.mdl_visits.proofs.Losing.{taken_out}
-use Rattle.mdl_visits.proofs.Steps.{goes_by, step_after, step_before}
-use Rattle.mdl_visits.proofs.Waiting.{MayReschedule, found_number, gone, none_ahead, not_ready, only_one, grants_on, waits_ahead, waits_still}
 use Rattle.mdl_visits.proofs.Way.{looked_within, settled_within, rescheduled_granted, rescheduled_met, rescheduled_then, rescheduled_written}
 
 -- a seat has one record of a place's latch

@@ -1,24 +1,9 @@
 -- The tables of a schema, sorted by their keys, of which each is another one.
-use Rattle.std.proofs.Common.{◌≡◌, ℕ, zero, suc, ◌+◌, ◌-◌, Bool, true, false, List, [], ◌∷◌, get_or, Some, refl, sym, ap, ◌∙◌, arith, rules}
-use Rattle.std.specs.Prelude.{All, Contains, slice_get}
-use Rattle.std.specs.List.{IsDistinct}
-use Rattle.std.specs.Cmp.{IsTotalOrder}
-use Rattle.std.specs.Cmp.Rules.{comparing}
-use Rattle.std.specs.Ordering.{is_eq, is_lt, ordering_reverse}
-use Rattle.std.specs.declared.cmp.Ordering.{Ordering}
-use Rattle.std.specs.declared.cmp.Ordering.TheVariants.{Less, Equal, Greater}
-use Rattle.std.proofs.lemmas.List.Elements.{All-append, All-cons, All-nil, Contains-append_left, Contains-append_right, recursion_from_All}
-use Rattle.std.proofs.lemmas.List.Sorted.{All-permutation, Contains-permutation, ranks_by, sorted_far}
+use Rattle.std.proofs.Common.{◌≡◌, ℕ, zero, suc, ◌+◌, ◌-◌, Bool, true, false, List, [], ◌∷◌, get_or, Some, refl, sym, ap, ◌∙◌, arith, rules, All, Contains, slice_get}
 use Rattle.std.proofs.lemmas.Map.Keys.{IsDistinct-IsPermutation, IsDistinct-cons, IsDistinct-from_apart, apart_from_distinct}
-use Rattle.mdl_key.specs.Keys.{KeyName, key_cmp, key_eq}
-use Rattle.mdl_system.proofs.Deciding.{key-Decides}
-use Rattle.mdl_steps.specs.declared.view.Keys.{Keys}
-use Rattle.mdl_key.specs.declared.known_key.KnownKey.{KnownKey}
-use Rattle.mdl_steps.specs.Lists.{Distinct, Each}
-use Rattle.mdl_steps.specs.Schemas.{StandThere, is_table_of, table_at, tables_from}
-use Rattle.mdl_steps.proofs.SchemaLemmas.{tables_stand}
-use Rattle.mdl_steps.proofs.Views.{by_bool}
-use Rattle.mdl_visits.specs.Tables.{AreAllTables, AreListed, IsDirectoryTable}
+use Rattle.std.specs.Cmp.Rules.{comparing}
+use Rattle.std.specs.declared.cmp.Ordering.{Ordering}
+use Rattle.mdl_visits.proofs.Common.{All-append, All-cons, All-nil, All-permutation, AreAllTables, AreListed, Contains-append_left, Contains-append_right, Contains-permutation, Distinct, Each, Equal, Greater, IsDirectoryTable, IsDistinct, IsTotalOrder, KeyName, Keys, KnownKey, Less, StandThere, by_bool, is_eq, is_lt, is_table_of, key-Decides, key_cmp, key_eq, ordering_reverse, ranks_by, recursion_from_All, sorted_far, table_at, tables_from, tables_stand}
 use Rattle.mdl_visits.proofs.KeyLists.{key_swap}
 
 -- ---- keys

@@ -1,15 +1,6 @@
 -- Steps between two of a session's views are steps between any two that are farther apart.
-use Rattle.std.proofs.Common.{◌≡◌, ℕ, List, [], ◌∷◌, ◌++◌, refl, sym, ap, ◌∙◌, subst, append_assoc, append-nil}
-use Rattle.std.specs.Prelude.{Option}
-use Rattle.mdl_steps.specs.declared.deed.Deed.{Deed}
-use Rattle.mdl_steps.specs.declared.step_kind.StepKind.TheVariants.{TakeLatch}
-use Rattle.mdl_steps.specs.declared.view.LatchRecord.{LatchRecord}
-use Rattle.mdl_steps.specs.declared.view.Keys.{Keys}
-use Rattle.mdl_steps.specs.declared.view.StepRecord.{StepRecord}
-use Rattle.mdl_steps.specs.Layout.{latch_word}
-use Rattle.mdl_steps.specs.Lists.{Each}
-use Rattle.mdl_steps.specs.Plays.{Mine, latched}
-use Rattle.mdl_visits.specs.Visits.{AllQuiet, Does, MakesMoreSteps, IsQuiet, IsStepOf, LeavesBy, StaysOn, StaysQuiet, StaysThere, and_made, deeds_of}
+use Rattle.std.proofs.Common.{◌≡◌, ℕ, List, [], ◌∷◌, ◌++◌, refl, sym, ap, ◌∙◌, subst, append_assoc, append-nil, Option}
+use Rattle.mdl_visits.proofs.Common.{AllQuiet, Deed, Does, Each, IsQuiet, IsStepOf, Keys, LatchRecord, LeavesBy, MakesMoreSteps, Mine, StaysOn, StaysQuiet, StaysThere, StepRecord, TakeLatch, and_made, deeds_of, latch_word, latched}
 
 -- ---- what each element of a list is
 

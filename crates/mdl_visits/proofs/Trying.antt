@@ -1,44 +1,9 @@
 -- What a try comes to, by the record of the latch as it was entered.
-use Rattle.std.proofs.Common.{◌≡◌, ℕ, ◌+◌, ◌≤◌, Bool, true, false, cond, ◌||◌, List, [], ◌∷◌, ◌++◌, length, Some, None, Result, Ok, Err, refl, sym, ap, ◌∙◌, subst, inl, inr, append_assoc, length-append, arith}
-use Rattle.std.specs.Prelude.{◌⊎◌, nat_lt, nat_le, is_some, OnOk, Option}
-use Rattle.std.proofs.lemmas.Bool.{and_parts, lt-ltb, leb-true, or_right}
-use Rattle.std.proofs.lemmas.List.Folds.{list_any-append}
-use Rattle.mdl_key.specs.declared.mode.Mode.{Mode}
-use Rattle.mdl_key.specs.declared.namespace.Kind.{Kind}
-use Rattle.mdl_key.specs.Refusals.{Refuses, RefusesJust}
-use Rattle.mdl_key.specs.Words.{IsAtLeast, KeyName, is_mode_of, is_obtrusive, kind_of}
-use Rattle.mdl_book.specs.declared.book_error.BookError.{BookError}
+use Rattle.std.proofs.Common.{◌≡◌, ℕ, ◌+◌, ◌≤◌, Bool, true, false, cond, ◌||◌, List, [], ◌∷◌, ◌++◌, length, Some, None, Result, Ok, Err, refl, sym, ap, ◌∙◌, subst, inl, inr, append_assoc, length-append, arith, ◌⊎◌, nat_lt, nat_le, is_some, OnOk, Option, lt-ltb, leb-true}
 use Rattle.mdl_book.specs.declared.book_error.BookError.TheVariants as fault
-use Rattle.mdl_book.specs.declared.book_view.BookView.{BookView}
-use Rattle.mdl_book.specs.declared.ticket.Ticket.{Ticket}
-use Rattle.mdl_book.specs.Books.{lock_kind, granting, grant_fault, change_fault, any_obtrusive, full_fault, ticket_count}
-use Rattle.mdl_book.specs.FastTickets.{can_be_granted, may_stand}
-use Rattle.mdl_book.specs.Tickets.{ticket_of}
-use Rattle.mdl_steps.specs.declared.deed.Deed.{Deed}
-use Rattle.mdl_steps.specs.declared.deed.Deed.TheVariants.{Gain, Alter}
-use Rattle.mdl_steps.specs.declared.step_kind.StepKind.TheVariants.{PutLatch, RaiseFlags, ReadWord}
-use Rattle.mdl_steps.specs.declared.view.LatchRecord.{LatchRecord}
-use Rattle.mdl_steps.specs.declared.view.StepRecord.{StepRecord}
-use Rattle.mdl_steps.specs.Cells.{ticket_by}
-use Rattle.mdl_steps.specs.Deeds.{FreesNothing, KnowsPlace, MayBeGranted, MayDo, MayJoin, booked}
-use Rattle.mdl_steps.specs.Layout.{latch_word, lock_word}
-use Rattle.mdl_steps.specs.Plays.{IsFresh, Mine, changed, noting, raised, stepped, unlatched}
-use Rattle.mdl_steps.specs.Rule.{TellsLists}
-use Rattle.mdl_steps.specs.SeatStates.{AtItsTable, SeatState}
-use Rattle.mdl_steps.specs.Seats.{Holds, MayPut, written}
-use Rattle.mdl_steps.proofs.Hands.{holds_written}
-use Rattle.mdl_steps.proofs.Views.{by_bool}
-use Rattle.mdl_visits.specs.Coverings.{MayRise}
-use Rattle.mdl_visits.specs.Leavings.{DidUnder, HasWorked}
-use Rattle.mdl_visits.specs.Visits.{Arrives, Enters, HasEntered, HasStep, IsInside, IsVisit, KnowsKind, MeetsFullWish, StaysWithin, Visits, VisitsOnce, WasBlocked, WasGranted, WasRefused, WasRefusedWish, request_fault}
+use Rattle.mdl_visits.proofs.FirstLemmas.{Alter, Arrives, AtItsTable, BookError, BookView, Deed, DidUnder, Enters, FreesNothing, Gain, HasEntered, HasStep, HasWorked, Holds, IsAtLeast, IsFresh, IsInside, IsVisit, KeyName, Kind, KnowsKind, KnowsPlace, LatchRecord, MayBeGranted, MayDo, MayJoin, MayPut, MayRise, MeetsFullWish, Mine, Mode, PutLatch, RaiseFlags, ReadWord, Refuses, RefusesJust, SeatState, StaysWithin, StepRecord, TellsLists, Ticket, Visits, VisitsOnce, WasBlocked, WasGranted, WasRefused, WasRefusedWish, and_parts, any_obtrusive, booked, by_bool, can_be_granted, change_fault, changed, covers-at_least, full_fault, grant_fault, granting, holds_written, idle_waits_not, inside_written, is_mode_of, is_obtrusive, kind_of, latch_word, list_any-append, lock_kind, lock_word, may_stand, mine, noting, or_right, own_mode, own_there, plain, raised, request_fault, stepped, table_of, ticket_by, ticket_count, ticket_of, unlatched, visit_after, visit_any, visit_put, visits_put, within_any, within_one, within_then, within_written, written}
 use Rattle.mdl_visits.proofs.Altering.{altered_exactly, just_done, none_clashes}
-use Rattle.mdl_visits.proofs.Covered.{own_mode, own_there}
 use Rattle.mdl_visits.proofs.Losing.{found_one}
-use Rattle.mdl_visits.proofs.Numbers.{idle_waits_not}
-use Rattle.mdl_visits.proofs.Seats.{mine, table_of}
-use Rattle.mdl_visits.proofs.Visiting.{inside_written, visits_put}
-use Rattle.mdl_system.proofs.StrengthLemmas.{covers-at_least}
-use Rattle.mdl_visits.proofs.Within.{plain, visit_after, visit_any, visit_put, within_any, within_one, within_then, within_written}
 
 -- ---- flags
 

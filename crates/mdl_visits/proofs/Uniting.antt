@@ -1,33 +1,9 @@
 -- One ticket takes the mode of another, and this is taken out of the book in hand.
-use Rattle.std.proofs.Common.{◌≡◌, ◌≢◌, ℕ, true, false, List, [], ◌∷◌, Some, None, refl, sym, ap, ◌∙◌, subst}
-use Rattle.std.specs.Prelude.{is_some, OnOk, Result}
-use Rattle.std.specs.Option.{ok_or}
-use Rattle.mdl_key.specs.declared.mode.Mode.{Mode}
-use Rattle.mdl_key.specs.Refusals.{RefusesJust}
-use Rattle.mdl_book.specs.declared.book_error.BookError.{BookError}
-use Rattle.mdl_book.specs.declared.book_error.BookError.TheVariants.{NotHere}
-use Rattle.mdl_book.specs.declared.book_view.BookView.{BookView}
-use Rattle.mdl_book.specs.declared.ticket.Ticket.{Ticket}
-use Rattle.mdl_book.specs.Books.{change_fault, lock_kind}
-use Rattle.mdl_book.specs.Tickets.{ticket_of, with_mode}
-use Rattle.mdl_steps.specs.declared.deed.Deed.TheVariants.{Alter, Lose}
+use Rattle.std.proofs.Common.{◌≡◌, ◌≢◌, ℕ, true, false, List, [], ◌∷◌, Some, None, refl, sym, ap, ◌∙◌, subst, is_some, OnOk, Result}
 use Rattle.mdl_steps.specs.declared.slot.Slot.TheVariants as slot
-use Rattle.mdl_steps.specs.declared.view.SessionTicket.{SessionTicket}
-use Rattle.mdl_steps.specs.Cells.{ticket_by}
-use Rattle.mdl_steps.specs.Deeds.{KnowsPlace, booked}
-use Rattle.mdl_steps.specs.Plays.{IsFresh, Mine}
-use Rattle.mdl_steps.specs.SeatStates.{SeatState}
-use Rattle.mdl_steps.specs.Seats.{rest, written}
-use Rattle.mdl_steps.proofs.Tickets.{is_passed, of_other_number, of-mode_other}
-use Rattle.mdl_visits.specs.Leavings.{HasWorked}
-use Rattle.mdl_visits.specs.Numbers.{numbered}
-use Rattle.mdl_system.specs.Strength.{covers}
-use Rattle.mdl_system.proofs.StrengthLemmas.{covers-at_least}
-use Rattle.mdl_visits.specs.Visits.{Arrives}
+use Rattle.mdl_visits.proofs.FirstLemmas.{Alter, Arrives, BookError, BookView, HasWorked, IsCovered, IsFresh, KnowsPlace, Lose, Mine, Mode, NotHere, RefusesJust, SeatState, SessionTicket, Ticket, altered, altered_flagged, booked, change_fault, covered_by_own, covers, covers-at_least, idle_waits_not, is_passed, lock_kind, numbered, of-mode_other, of_other_number, ok_or, own_mode, own_there, rest, ticket_by, ticket_of, with_mode, written}
 use Rattle.mdl_visits.proofs.Arriving.{has_worked, number_kept}
-use Rattle.mdl_visits.proofs.Covered.{IsCovered, altered, altered_flagged, covered_by_own, own_mode, own_there}
 use Rattle.mdl_visits.proofs.Losing.{still_flagged, taken_out}
-use Rattle.mdl_visits.proofs.Numbers.{idle_waits_not}
 
 -- a ticket stays where another one gets another mode
 other_there : (who number other : ℕ) (mode : Mode) (ts : List Ticket) → number ≢ other → is_some (ticket_of who other ts) ≡ true → is_some (ticket_of who other (with_mode who number mode ts)) ≡ true

@@ -1,23 +1,7 @@
 -- A visit to a place, put together of its steps.
-use Rattle.std.proofs.Common.{◌≡◌, ℕ, ◌==◌, Bool, true, cond, List, [], ◌∷◌, ◌++◌, map, refl, sym, ap, ◌∙◌, subst, append_assoc, append-nil}
-use Rattle.std.proofs.lemmas.Bool.{eq-eqb}
-use Rattle.mdl_key.specs.declared.mode.Mode.{Mode}
-use Rattle.mdl_book.specs.declared.book_view.BookView.{BookView}
-use Rattle.mdl_book.specs.Books.{lock_kind}
-use Rattle.mdl_book.specs.FastTickets.{can_be_granted}
-use Rattle.mdl_steps.specs.declared.deed.Deed.{Deed}
+use Rattle.std.proofs.Common.{◌≡◌, ℕ, ◌==◌, Bool, true, cond, List, [], ◌∷◌, ◌++◌, map, refl, sym, ap, ◌∙◌, subst, append_assoc, append-nil, eq-eqb}
 use Rattle.mdl_steps.specs.declared.slot.Slot.TheVariants as slot
-use Rattle.mdl_steps.specs.declared.step_kind.StepKind.{StepKind}
-use Rattle.mdl_steps.specs.declared.step_kind.StepKind.TheVariants.{MissLatch, PutLatch, RaiseFlags, ReadWord, TakeLatch}
-use Rattle.mdl_steps.specs.declared.view.LatchRecord.{LatchRecord}
-use Rattle.mdl_steps.specs.declared.view.StepRecord.{StepRecord}
-use Rattle.mdl_steps.specs.Deeds.{all_done}
-use Rattle.mdl_steps.specs.Layout.{latch_word, lock_word}
-use Rattle.mdl_steps.specs.Lists.{Each}
-use Rattle.mdl_steps.specs.Plays.{Mine, IsFresh, latched, unlatched, missed_latch, stepped, raised, noting, changed}
-use Rattle.mdl_steps.specs.Seats.{Holds, IsRising, written}
-use Rattle.mdl_steps.proofs.Hands.{elsewhere-stepped, elsewhere-rising}
-use Rattle.mdl_visits.specs.Visits.{and_made, deeds_of, AllQuiet, MakesSteps, IsInside, IsQuiet, StaysOn, StaysThere, Visits, Enters}
+use Rattle.mdl_visits.proofs.Common.{AllQuiet, BookView, Deed, Each, Enters, Holds, IsFresh, IsInside, IsQuiet, IsRising, LatchRecord, MakesSteps, Mine, MissLatch, Mode, PutLatch, RaiseFlags, ReadWord, StaysOn, StaysThere, StepKind, StepRecord, TakeLatch, Visits, all_done, and_made, can_be_granted, changed, deeds_of, elsewhere-rising, elsewhere-stepped, latch_word, latched, lock_kind, lock_word, missed_latch, noting, raised, stepped, unlatched, written}
 use Rattle.mdl_visits.proofs.Steps.{each_append, none_then}
 
 -- ---- steps

@@ -1,41 +1,8 @@
 -- A session ends its lost wait under the latch, and gives the latch back.
-use Rattle.std.proofs.Common.{◌≡◌, ℕ, ◌+◌, ◌<◌, ◌==◌, map, cond, Bool, true, List, [], ◌∷◌, ◌++◌, length, Some, None, Result, Ok, Err, refl, sym, ap, ◌∙◌, subst, inr, append_assoc, arith}
-use Rattle.std.specs.Prelude.{Option, OnErr, OnOk}
-use Rattle.std.specs.Option.{ok_or}
-use Rattle.std.proofs.lemmas.Bool.{ltb-true, lt-ltb}
-use Rattle.atomic_table.specs.Seated.{TableId}
-use Rattle.mdl_book.specs.declared.book_error.BookError.{BookError}
-use Rattle.mdl_book.specs.declared.book_error.BookError.TheVariants.{NotHere}
-use Rattle.mdl_book.specs.declared.book_view.BookView.{BookView}
-use Rattle.mdl_book.specs.declared.ticket.Ticket.{Ticket}
-use Rattle.mdl_book.specs.Books.{any_obtrusive, cancelling, lock_kind}
-use Rattle.mdl_book.specs.Tickets.{is_ticket, ticket_of, without}
+use Rattle.std.proofs.Common.{◌≡◌, ℕ, ◌+◌, ◌<◌, ◌==◌, map, cond, Bool, true, List, [], ◌∷◌, ◌++◌, length, Some, None, Result, Ok, Err, refl, sym, ap, ◌∙◌, subst, inr, append_assoc, arith, Option, OnErr, OnOk, ltb-true, lt-ltb}
 use Rattle.mdl_steps.specs.declared.slot.Slot.TheVariants as slot
-use Rattle.mdl_steps.specs.declared.step_kind.StepKind.TheVariants.{EndWait}
-use Rattle.mdl_steps.specs.declared.view.Ask.{Ask}
-use Rattle.mdl_steps.specs.declared.view.LatchRecord.{LatchRecord}
-use Rattle.mdl_steps.specs.declared.view.StepRecord.{StepRecord}
-use Rattle.mdl_steps.specs.Cells.{held_at}
-use Rattle.mdl_steps.specs.Layout.{wait_word}
-use Rattle.mdl_steps.specs.Plays.{Mine}
-use Rattle.mdl_steps.specs.Rule.{Flagged}
-use Rattle.mdl_steps.specs.SeatStates.{SeatState}
-use Rattle.mdl_steps.specs.Seats.{Holds, elsewhere, rest, written}
-use Rattle.mdl_steps.specs.WaitPlays.{ended_lost, wait_in, with_cancelled}
-use Rattle.mdl_steps.specs.WaitSeats.{MayCancel}
-use Rattle.mdl_steps.specs.WaitStates.{IsLost}
-use Rattle.mdl_steps.proofs.Hands.{holds_written}
-use Rattle.mdl_steps.proofs.Tickets.{once-without, without-miss}
-use Rattle.mdl_steps.proofs.Views.{by_bool}
-use Rattle.mdl_visits.specs.WaitEndings.{idle, mine_without_wait}
-use Rattle.mdl_visits.specs.Grantings.{StandsOnce}
-use Rattle.mdl_visits.specs.Leavings.{HasWorked}
-use Rattle.mdl_visits.specs.Polls.{EndsWait}
-use Rattle.mdl_visits.specs.Visits.{Arrives, CameTo, IsStepOf, StaysThere}
+use Rattle.mdl_visits.proofs.FirstLemmas.{Arrives, Ask, BookError, BookView, CameTo, EndWait, EndsWait, Flagged, HasWorked, Holds, IsLost, IsStepOf, LatchRecord, MayCancel, Mine, NotHere, SeatState, StandsOnce, StaysThere, StepRecord, TableId, Ticket, any_obtrusive, by_bool, cancelling, each_append, elsewhere, ended_lost, found_before, held_at, holds_written, idle, is_ticket, lock_kind, mine, mine_without_wait, none_then, ok_or, once-without, place_there, rest, table_of, ticket_of, wait_in, wait_word, with_cancelled, without, without-miss, written}
 use Rattle.mdl_visits.proofs.Losing.{any_before, no_longer}
-use Rattle.mdl_visits.proofs.Seats.{mine, place_there, table_of}
-use Rattle.mdl_visits.proofs.Steps.{each_append, none_then}
-use Rattle.mdl_visits.proofs.Waiting.{found_before}
 
 -- ---- the book
 

@@ -1,35 +1,8 @@
 -- A session opens a wait under the latch, and gives the latch back.
-use Rattle.std.proofs.Common.{◌≡◌, ℕ, ◌+◌, ◌==◌, map, Bool, true, false, cond, ◌||◌, List, [], ◌∷◌, ◌++◌, length, Some, refl, sym, ap, ◌∙◌, subst, inr, append_assoc, length-append, arith}
-use Rattle.std.specs.Prelude.{nat_lt}
-use Rattle.std.proofs.lemmas.Bool.{lt-ltb}
-use Rattle.std.proofs.lemmas.List.Folds.{list_any-append}
-use Rattle.atomic_table.specs.Seated.{TableId}
-use Rattle.mdl_key.specs.declared.mode.Mode.{Mode}
-use Rattle.mdl_key.specs.Words.{is_obtrusive}
-use Rattle.mdl_book.specs.declared.book_view.BookView.{BookView}
-use Rattle.mdl_book.specs.declared.ticket.Ticket.{Ticket}
-use Rattle.mdl_book.specs.Books.{any_obtrusive, enqueueing, lock_kind}
+use Rattle.std.proofs.Common.{◌≡◌, ℕ, ◌+◌, ◌==◌, map, Bool, true, false, cond, ◌||◌, List, [], ◌∷◌, ◌++◌, length, Some, refl, sym, ap, ◌∙◌, subst, inr, append_assoc, length-append, arith, nat_lt, lt-ltb}
 use Rattle.mdl_steps.specs.declared.slot.Slot.TheVariants as slot
-use Rattle.mdl_steps.specs.declared.step_kind.StepKind.TheVariants.{OpenWait, PutLatch, ReadWord}
-use Rattle.mdl_steps.specs.declared.view.LatchRecord.{LatchRecord}
-use Rattle.mdl_steps.specs.declared.view.StepRecord.{StepRecord}
-use Rattle.mdl_steps.specs.Cells.{held_at}
-use Rattle.mdl_steps.specs.Layout.{latch_word, lock_word, wait_word}
-use Rattle.mdl_steps.specs.Plays.{Mine, noting, raised, unlatched}
-use Rattle.mdl_steps.specs.Rule.{TellsLists}
-use Rattle.mdl_steps.specs.SeatStates.{SeatState}
-use Rattle.mdl_steps.specs.Seats.{Holds, MayPut, written}
-use Rattle.mdl_steps.specs.WaitPlays.{asked_ticket, opened, with_waiting}
-use Rattle.mdl_steps.specs.WaitSeats.{MayOpen}
-use Rattle.mdl_steps.specs.WaitStates.{idle_state, wait_in}
-use Rattle.mdl_steps.proofs.Hands.{holds_written, elsewhere-stepped}
-use Rattle.mdl_steps.proofs.Views.{held_at-changed}
-use Rattle.mdl_visits.specs.WaitOpenings.{MeetsOpening, Opens, SeatBeginsWait, view_awaiting}
-use Rattle.mdl_visits.specs.Visits.{AreStepsOf, Enters, HasEntered, IsInside, MeetsBlocked, VisitsOnce}
-use Rattle.mdl_visits.proofs.Seats.{mine, table_of}
-use Rattle.mdl_visits.proofs.Steps.{none_then}
+use Rattle.mdl_visits.proofs.FirstLemmas.{AreStepsOf, BookView, Enters, HasEntered, Holds, IsInside, LatchRecord, MayOpen, MayPut, MeetsBlocked, MeetsOpening, Mine, Mode, OpenWait, Opens, PutLatch, ReadWord, SeatBeginsWait, SeatState, StepRecord, TableId, TellsLists, Ticket, VisitsOnce, any_obtrusive, asked_ticket, elsewhere-stepped, enqueueing, held_at, held_at-changed, holds_written, idle_state, is_obtrusive, latch_word, list_any-append, lock_kind, lock_word, mine, none_then, noting, opened, plain, raised, table_of, unlatched, view_awaiting, visit_after, visit_put, wait_in, wait_word, with_waiting, within_one, within_then, within_written, written}
 use Rattle.mdl_visits.proofs.Trying.{asks_here, entered_holds, entered_idle, entered_known, entered_latch, is_mode_here, told_here}
-use Rattle.mdl_visits.proofs.Within.{plain, visit_after, visit_put, within_one, within_then, within_written}
 
 -- ---- flags
 

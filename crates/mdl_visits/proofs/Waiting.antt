@@ -1,32 +1,8 @@
 -- What a record tells of those who wait, before and after one of them is granted.
-use Rattle.std.proofs.Common.{◌≡◌, ℕ, suc, ◌+◌, ◌<◌, Bool, true, false, cond, ◌||◌, List, [], ◌∷◌, ◌++◌, length, take, Some, None, refl, sym, ap, ◌∙◌, subst, inl, inr, arith, length-append}
-use Rattle.std.specs.Prelude.{Option, ◌⊎◌, find, not}
-use Rattle.std.specs.List.{Contains, after_first, before_first, list_any, position_or_len}
-use Rattle.std.specs.Option.{option_map, option_to_list}
-use Rattle.std.specs.FinSet as set
-use Rattle.std.specs.Ordering.{nat_cmp}
-use Rattle.std.proofs.lemmas.Bool.{and_parts, and_from, lt-ltb, cases_eq, or_right}
-use Rattle.std.proofs.lemmas.List.Elements.{Contains-append_cases, Contains-append_left, Contains-append_right}
-use Rattle.std.proofs.lemmas.List.Folds.{list_any-append}
-use Rattle.mdl_key.specs.Words.{is_obtrusive}
-use Rattle.mdl_word.specs.Words.{blocks_by, counts_of}
-use Rattle.mdl_book.specs.declared.book_view.BookView.{BookView}
-use Rattle.mdl_book.specs.declared.ticket.Ticket.{Ticket}
-use Rattle.mdl_book.specs.Books.{lock_kind, any_obtrusive, admitting, has_obtrusive, has_tickets, is_ready, next_grantable}
-use Rattle.mdl_book.specs.FastTickets.{can_be_granted, may_stand}
-use Rattle.mdl_book.specs.Granting.{goes_first, is_compatible}
-use Rattle.mdl_book.specs.Tickets.{is_ticket, ticket_of, with_index, without}
+use Rattle.std.proofs.Common.{◌≡◌, ℕ, suc, ◌+◌, ◌<◌, Bool, true, false, cond, ◌||◌, List, [], ◌∷◌, ◌++◌, length, take, Some, None, refl, sym, ap, ◌∙◌, subst, inl, inr, arith, length-append, Option, ◌⊎◌, find, not, lt-ltb}
 use Rattle.mdl_book.proofs.MemberLemmas.{none-found}
-use Rattle.mdl_book.proofs.TicketLemmas.{find-passes, parted}
-use Rattle.mdl_steps.specs.declared.view.LatchRecord.{LatchRecord}
-use Rattle.mdl_steps.specs.Deeds.{MayJoin}
-use Rattle.mdl_steps.specs.Lists.{Once}
-use Rattle.mdl_steps.specs.Plays.{noting}
-use Rattle.mdl_steps.specs.Rule.{TellsLists}
-use Rattle.mdl_steps.specs.WaitPlays.{with_admitted}
-use Rattle.mdl_steps.proofs.Tickets.{is_itself, is_passed, without-hit, without-miss, of-without_other, of-without_own, once-without}
-use Rattle.mdl_steps.proofs.Views.{by_bool}
-use Rattle.mdl_visits.specs.Grantings.{IsOrderlyLatch, IsGrantableAt, ahead_of}
+use Rattle.std.specs.FinSet as set
+use Rattle.mdl_visits.proofs.Common.{BookView, Contains, Contains-append_cases, Contains-append_left, Contains-append_right, IsGrantableAt, IsOrderlyLatch, LatchRecord, MayJoin, Once, TellsLists, Ticket, admitting, after_first, ahead_of, and_from, and_parts, any_obtrusive, before_first, blocks_by, by_bool, can_be_granted, cases_eq, counts_of, find-passes, goes_first, has_obtrusive, has_tickets, is_compatible, is_itself, is_obtrusive, is_passed, is_ready, is_ticket, list_any, list_any-append, lock_kind, may_stand, nat_cmp, next_grantable, noting, of-without_other, of-without_own, once-without, option_map, option_to_list, or_right, parted, position_or_len, ticket_of, with_admitted, with_index, without, without-hit, without-miss}
 
 -- waits may be granted by a record whose flags tell the lists and this word of the lock, which is noted while the flag OBTRUSIVE is up, and counts exactly
 abbrev pub MayReschedule : ℕ → LatchRecord → Type 0

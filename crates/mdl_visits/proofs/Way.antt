@@ -1,30 +1,8 @@
 -- Waits are granted step by step.
-use Rattle.std.proofs.Common.{◌≡◌, ℕ, ◌%◌, ◌<◌, ◌==◌, ◌&&◌, nat_lt, not, false, List, filter, [], ◌∷◌, ◌++◌, Some, None, refl, sym, ap, ◌∙◌, subst, append_assoc, append-nil, inl, inr, arith}
-use Rattle.std.specs.Prelude.{Option}
-use Rattle.mdl_steps.specs.Lists.{Each}
-use Rattle.std.proofs.lemmas.Bool.{and_parts, eqb-true, ltb-true}
-use Rattle.atomic_table.specs.Seated.{TableId}
-use Rattle.mdl_book.specs.declared.book_view.BookView.{BookView}
-use Rattle.mdl_book.specs.declared.ticket.Ticket.{Ticket}
+use Rattle.std.proofs.Common.{◌≡◌, ℕ, ◌%◌, ◌<◌, ◌==◌, ◌&&◌, nat_lt, not, false, List, filter, [], ◌∷◌, ◌++◌, Some, None, refl, sym, ap, ◌∙◌, subst, append_assoc, append-nil, inl, inr, arith, Option, eqb-true, ltb-true}
 use Rattle.mdl_steps.specs.declared.slot.Slot.TheVariants as slot
-use Rattle.mdl_steps.specs.declared.step_kind.StepKind.{StepKind}
-use Rattle.mdl_steps.specs.declared.step_kind.StepKind.TheVariants.{GrantWait, ReadWord}
-use Rattle.mdl_steps.specs.declared.view.LatchRecord.{LatchRecord}
-use Rattle.mdl_steps.specs.declared.view.Keys.{Keys}
-use Rattle.mdl_steps.specs.declared.view.StepRecord.{StepRecord}
-use Rattle.mdl_steps.specs.declared.view.Settlement.{Settlement}
-use Rattle.mdl_steps.specs.declared.view.View.{View}
-use Rattle.mdl_steps.specs.Cells.{held_at}
-use Rattle.mdl_steps.specs.Layout.{lock_word, wait_word}
-use Rattle.mdl_steps.specs.Plays.{Mine, changed, noting, stepped}
-use Rattle.mdl_steps.specs.Seats.{Holds, elsewhere, rest, written}
-use Rattle.mdl_steps.specs.WaitPlays.{wait_in, met_wait_by, meeting, settled_granted, with_admitted, TellsOwn}
-use Rattle.mdl_steps.proofs.Hands.{elsewhere-stepped}
-use Rattle.mdl_steps.proofs.Views.{by_bool, held_at-changed}
-use Rattle.mdl_visits.specs.Grantings.{AreGranted, ArePassedOver, HasJustMet, IsLookedThrough, IsGrantableTicket, GrantsWaits, MeetsGranted, OnlyMeets, StaysTold, WasSettled, ahead_of}
-use Rattle.mdl_visits.specs.Visits.{MakesMoreSteps, IsStepOf, IsStepAfter, StaysHere, StaysOn, StaysThere, StaysWithin, deeds_of, gives_back, kind_raises_flags}
-use Rattle.mdl_visits.proofs.Steps.{each_append, each_map, goes_none, goes_on, none_then, step_after}
-use Rattle.mdl_visits.proofs.Within.{within_here}
+use Rattle.mdl_visits.proofs.FirstLemmas.{AreGranted, ArePassedOver, BookView, Each, GrantWait, GrantsWaits, HasJustMet, Holds, IsGrantableTicket, IsLookedThrough, IsStepAfter, IsStepOf, Keys, LatchRecord, MakesMoreSteps, MeetsGranted, Mine, OnlyMeets, ReadWord, Settlement, StaysHere, StaysOn, StaysThere, StaysTold, StaysWithin, StepKind, StepRecord, TableId, TellsOwn, Ticket, View, WasSettled, ahead_of, and_parts, by_bool, changed, deeds_of, each_append, each_map, elsewhere, elsewhere-stepped, gives_back, goes_none, held_at, held_at-changed, kind_raises_flags, lock_word, meeting, met_wait_by, none_then, noting, rest, settled_granted, step_after, stepped, wait_in, wait_word, with_admitted, within_here, written}
+use Rattle.mdl_visits.proofs.Steps.{goes_on}
 
 -- ---- what is told of one's own wait
 

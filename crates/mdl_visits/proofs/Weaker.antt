@@ -1,27 +1,8 @@
 -- A session has written into the book in hand what its own ticket covers, and may give the latch back.
-use Rattle.std.proofs.Common.{◌≡◌, ℕ, true, false, [], ◌∷◌, Some, None, Result, Err, ap, sym, ◌∙◌, inr}
-use Rattle.std.specs.Prelude.{◌⊎◌, ◌≤◌, is_some, OnOk}
-use Rattle.mdl_key.specs.declared.mode.Mode.{Mode}
-use Rattle.mdl_key.specs.Refusals.{Refuses, RefusesJust}
-use Rattle.mdl_book.specs.declared.book_error.BookError.{BookError}
+use Rattle.std.proofs.Common.{◌≡◌, ℕ, true, false, [], ◌∷◌, Some, None, Result, Err, ap, sym, ◌∙◌, inr, ◌⊎◌, ◌≤◌, is_some, OnOk}
 use Rattle.mdl_book.specs.declared.book_error.BookError.TheVariants as fault
-use Rattle.mdl_book.specs.Books.{change_fault, grant_fault, ticket_count}
-use Rattle.mdl_book.specs.Tickets.{ticket_of}
-use Rattle.mdl_steps.specs.declared.deed.Deed.TheVariants.{Alter, Gain}
-use Rattle.mdl_steps.specs.declared.view.SessionTicket.{SessionTicket}
-use Rattle.mdl_steps.specs.Cells.{ticket_by}
-use Rattle.mdl_steps.specs.Deeds.{NotWaited, booked}
-use Rattle.mdl_steps.specs.Plays.{Mine}
-use Rattle.mdl_steps.specs.SeatStates.{SeatState}
-use Rattle.mdl_steps.specs.Seats.{written}
-use Rattle.mdl_visits.specs.Coverings.{FitsAt}
-use Rattle.mdl_visits.specs.Leavings.{HasWorked}
-use Rattle.mdl_visits.specs.Numbers.{numbered}
-use Rattle.mdl_system.specs.Strength.{covers, may_downgrade}
-use Rattle.mdl_system.proofs.StrengthLemmas.{downgrade-listed}
-use Rattle.mdl_visits.specs.Visits.{Arrives}
+use Rattle.mdl_visits.proofs.FirstLemmas.{Alter, Arrives, BookError, FitsAt, Gain, HasWorked, IsCovered, Mine, Mode, NotWaited, Refuses, RefusesJust, SeatState, SessionTicket, altered, altered_flagged, booked, change_fault, covered_by, covers, downgrade-listed, fits_lock, gained_flagged, grant_fault, may_downgrade, numbered, own_there, stands, ticket_by, ticket_count, ticket_of, written}
 use Rattle.mdl_visits.proofs.Arriving.{has_worked, number_kept, unwaited_there}
-use Rattle.mdl_visits.proofs.Covered.{IsCovered, altered, altered_flagged, covered_by, fits_lock, gained_flagged, own_there, stands}
 use Rattle.mdl_visits.proofs.Trying.{refusal}
 
 module _ (held : SessionTicket) {s : SeatState} {q : ℕ} {c : SeatState} (a : Arrives held.place s q c) (unwaited : NotWaited s.me.0 held.number) (found : numbered held.number s.me.0.slow ≡ Some held) where

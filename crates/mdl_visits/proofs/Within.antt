@@ -1,19 +1,6 @@
 -- Steps within a visit, and a whole visit, put together of their parts.
-use Rattle.std.proofs.Common.{◌≡◌, ℕ, Bool, true, false, List, [], ◌∷◌, ◌++◌, refl, sym, ap, ◌∙◌, subst, append_assoc, append-nil}
-use Rattle.std.specs.Prelude.{Option}
-use Rattle.mdl_book.specs.declared.book_view.BookView.{BookView}
-use Rattle.mdl_steps.specs.declared.deed.Deed.{Deed}
-use Rattle.mdl_steps.specs.declared.step_kind.StepKind.{StepKind}
-use Rattle.mdl_steps.specs.declared.step_kind.StepKind.TheVariants.{LowerFlags, PutLatch, RaiseFlags, TakeLatch}
-use Rattle.mdl_steps.specs.declared.view.LatchRecord.{LatchRecord}
-use Rattle.mdl_steps.specs.declared.view.Keys.{Keys}
-use Rattle.mdl_steps.specs.declared.view.StepRecord.{StepRecord}
-use Rattle.mdl_steps.specs.Layout.{latch_word, lock_word}
-use Rattle.mdl_steps.specs.Lists.{Each}
-use Rattle.mdl_steps.specs.Plays.{Mine, latched, served, unlatched}
-use Rattle.mdl_steps.specs.Seats.{written}
-use Rattle.mdl_visits.specs.Grantings.{IsLowered}
-use Rattle.mdl_visits.specs.Visits.{AllQuiet, IsQuiet, IsVisit, IsWithinVisit, StaysHere, StaysThere, StaysWithin, and_made, kind_raises_flags, raises_obtrusive}
+use Rattle.std.proofs.Common.{◌≡◌, ℕ, Bool, true, false, List, [], ◌∷◌, ◌++◌, refl, sym, ap, ◌∙◌, subst, append_assoc, append-nil, Option}
+use Rattle.mdl_visits.proofs.Common.{AllQuiet, BookView, Deed, Each, IsLowered, IsQuiet, IsVisit, IsWithinVisit, Keys, LatchRecord, LowerFlags, Mine, PutLatch, RaiseFlags, StaysHere, StaysThere, StaysWithin, StepKind, StepRecord, TakeLatch, and_made, kind_raises_flags, latch_word, latched, lock_word, raises_obtrusive, served, unlatched, written}
 use Rattle.mdl_visits.proofs.Steps.{each_append, each_map}
 
 -- ---- one step

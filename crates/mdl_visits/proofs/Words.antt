@@ -1,29 +1,6 @@
 -- The words of waits are read, or settled, while latches are held.
-use Rattle.std.proofs.Common.{◌≡◌, ◌⊎◌, ℕ, true, false, List, [], ◌∷◌, ◌++◌, map, inl, inr, refl, sym, ap, ◌∙◌, subst, append_assoc, append-nil}
-use Rattle.std.specs.Prelude.{All, Contains, Option}
-use Rattle.std.proofs.lemmas.List.{map-append}
-use Rattle.std.proofs.lemmas.List.Elements.{All-nil, All-push, All-weaker, Contains-append_cases, Contains-append_left, Contains-push}
-use Rattle.atomic_table.specs.Seated.{TableId}
-use Rattle.mdl_book.specs.SessionSets.{is_session}
-use Rattle.mdl_graph.specs.declared.cycle.Member.{Member}
-use Rattle.mdl_steps.specs.declared.step_kind.StepKind.{StepKind}
-use Rattle.mdl_steps.specs.declared.step_kind.StepKind.TheVariants.{ReadWait}
-use Rattle.mdl_steps.specs.declared.view.LatchRecord.{LatchRecord}
-use Rattle.mdl_steps.specs.declared.view.Keys.{Keys}
-use Rattle.mdl_steps.specs.declared.view.StepRecord.{StepRecord}
-use Rattle.mdl_steps.specs.Layout.{wait_word}
-use Rattle.mdl_steps.specs.SeatStates.{AtItsTable, SeatState}
-use Rattle.mdl_steps.specs.Plays.{Mine}
-use Rattle.mdl_steps.specs.WaitPlays.{TellsOwn, meeting, met_wait_by, met_wait}
-use Rattle.mdl_steps.specs.WaitSeats.{IsSession}
-use Rattle.mdl_system.proofs.MemberLemmas.{Contains-none}
-use Rattle.mdl_system.proofs.OrderLemmas.{Contains-cons_cases}
-use Rattle.mdl_visits.specs.declared.waits_read.WaitRead.{WaitRead}
-use Rattle.mdl_visits.specs.Searches.{AreRead, OnlyReadsWaits, ReadsWaitsQuietly, WasRead, with_waits_read}
-use Rattle.mdl_visits.specs.Visits.{AllQuiet, MakesMoreSteps, IsQuiet, kind_raises_flags}
-use Rattle.mdl_visits.proofs.Asking.{goes_nowhere, step_within}
-use Rattle.mdl_visits.proofs.Seats.{mine, table_of}
-use Rattle.mdl_visits.proofs.Steps.{each_append, none_then}
+use Rattle.std.proofs.Common.{◌≡◌, ◌⊎◌, ℕ, true, false, List, [], ◌∷◌, ◌++◌, map, inl, inr, refl, sym, ap, ◌∙◌, subst, append_assoc, append-nil, All, Contains, Option}
+use Rattle.mdl_visits.proofs.FirstLemmas.{All-nil, All-push, All-weaker, AllQuiet, AreRead, AtItsTable, Contains-append_cases, Contains-append_left, Contains-cons_cases, Contains-none, Contains-push, IsQuiet, IsSession, Keys, LatchRecord, MakesMoreSteps, Member, Mine, OnlyReadsWaits, ReadWait, ReadsWaitsQuietly, SeatState, StepKind, StepRecord, TableId, TellsOwn, WaitRead, WasRead, each_append, goes_nowhere, is_session, kind_raises_flags, map-append, meeting, met_wait, met_wait_by, mine, none_then, step_within, table_of, wait_word, with_waits_read}
 use Rattle.mdl_visits.proofs.Way.{own_told}
 
 -- ---- what becomes of the session

@@ -1,18 +1,6 @@
 -- An audit: the books of all places that have a key, as a session's records of their latches had them at one of its steps.
 use Rattle.std.specs.Prelude.{◌≡◌, ◌⊎◌, ℕ, ◌+◌, ◌<◌, ◌≤◌, List, [], ◌∷◌, ◌++◌, length, map, Some}
-use Rattle.mdl_key.specs.Words.{KeyName}
-use Rattle.mdl_defs.specs.VersionedDefinitions.{MayStand}
-use Rattle.mdl_steps.specs.declared.view.LatchRecord.{LatchRecord}
-use Rattle.mdl_steps.specs.declared.view.Keys.{Keys}
-use Rattle.mdl_steps.specs.declared.view.StepRecord.{StepRecord}
-use Rattle.mdl_steps.specs.Cells.{held_at}
-use Rattle.mdl_steps.specs.Lists.{Each}
-use Rattle.mdl_steps.specs.Plays.{Mine}
-use Rattle.mdl_steps.specs.Rule.{key_at}
-use Rattle.mdl_steps.specs.SeatStates.{SeatState}
-use Rattle.mdl_steps.specs.Seats.{IsRising}
-use Rattle.mdl_visits.specs.declared.audited.Audited.{Audited}
-use Rattle.mdl_visits.specs.Visits.{IsStepOf}
+use Rattle.mdl_visits.specs.Prelude.{Audited, Each, IsRising, IsStepOf, KeyName, Keys, LatchRecord, MayStand, Mine, SeatState, StepRecord, held_at, key_at}
 
 -- the place's latch is among these, and its record has this book of the place
 abbrev pub IsRecorded : ℕ → List LatchRecord → Audited → Type 0

@@ -1,14 +1,6 @@
 -- A mode that fits a place, and one that a ticket of the session covers.
 use Rattle.std.specs.Prelude.{◌≡◌, ◌≢◌, ℕ, true, Some, None}
-use lib.ListN.{get_elem?}
-use mathlib.Core.Option.{some}
-use Rattle.mdl_key.specs.declared.mode.Mode.{Mode}
-use Rattle.mdl_key.specs.Words.{is_mode_of, kind_of}
-use Rattle.mdl_key.specs.declared.known_key.KnownKey.{KnownKey}
-use Rattle.mdl_steps.specs.declared.view.SessionTicket.{SessionTicket}
-use Rattle.mdl_steps.specs.declared.view.View.{View}
-use Rattle.mdl_system.specs.Strength.{covers}
-use Rattle.mdl_visits.specs.Numbers.{numbered}
+use Rattle.mdl_visits.specs.FirstWords.{KnownKey, Mode, SessionTicket, View, covers, get_elem?, is_mode_of, kind_of, numbered, some}
 
 -- the session has looked up a key whose place this is, and the mode is one of its kind
 abbrev pub FitsAt : View → ℕ → Mode → Type 0

@@ -1,18 +1,7 @@
 -- The results of a try for a fast ticket, and of its release. After MySQL 5.7, sql/mdl.cc: the fast paths of `MDL_context::try_acquire_lock_impl`
 -- and `MDL_context::release_lock`.
 use Rattle.std.specs.Prelude.{◌≡◌, ◌≢◌, ◌⊎◌, ◌<◌, ℕ, ◌+◌, Bool, true, false, List, [], ◌∷◌, ◌++◌, length, Option}
-use Rattle.mdl_key.specs.declared.mode.Mode.{Mode}
-use Rattle.mdl_word.specs.Words.{obtrusive_flag, slow_flag}
-use Rattle.mdl_steps.specs.declared.deed.Deed.{Deed}
-use Rattle.mdl_steps.specs.declared.deed.Deed.TheVariants.{Gain, Lose}
-use Rattle.mdl_steps.specs.declared.step_kind.StepKind.TheVariants.{GrantFast, MissFast, ReleaseFast}
-use Rattle.mdl_steps.specs.declared.view.StepRecord.{StepRecord}
-use Rattle.mdl_steps.specs.declared.view.View.{View}
-use Rattle.mdl_steps.specs.FastPlays.{but_own, fast_own, owing}
-use Rattle.mdl_steps.specs.Layout.{lock_word}
-use Rattle.mdl_steps.specs.Plays.{Mine}
-use Rattle.mdl_steps.specs.SeatStates.{AtItsTable, SeatState}
-use Rattle.mdl_visits.specs.Visits.{and_made, deeds_of}
+use Rattle.mdl_visits.specs.FirstWords.{AtItsTable, Deed, Gain, GrantFast, Lose, Mine, MissFast, Mode, ReleaseFast, SeatState, StepRecord, View, and_made, but_own, deeds_of, fast_own, lock_word, obtrusive_flag, owing, slow_flag}
 
 -- ---- a fast ticket is granted
 

@@ -1,33 +1,8 @@
 -- How a session reschedules at a place whose latch it holds: it grants the waits there that can be granted, in order of arrival.
 use Rattle.std.specs.Prelude.{◌≡◌, ◌≢◌, ℕ, ◌==◌, not, Bool, true, false, List, [], ◌∷◌, ◌++◌, Contains, filter, Option, Some, None, ◌⊎◌}
-use Rattle.std.specs.List.{before_first, position_or_len}
-use Rattle.atomic_table.specs.Seated.{TableId}
-use Rattle.mdl_book.specs.declared.book_view.BookView.{BookView}
-use Rattle.mdl_book.specs.declared.ticket.Ticket.{Ticket}
-use Rattle.mdl_book.specs.Books.{lock_kind}
-use Rattle.mdl_book.specs.FastTickets.{AreOfOthers, CountsFastTickets}
-use Rattle.mdl_book.specs.Granting.{goes_first, is_grantable}
-use Rattle.mdl_book.specs.SessionSets.{is_session}
-use Rattle.mdl_book.specs.Tickets.{is_ticket, ticket_of}
-use Rattle.mdl_steps.specs.declared.deed.Deed.{Deed}
-use Rattle.mdl_steps.specs.declared.slot.Slot.TheVariants as slot
-use Rattle.mdl_steps.specs.declared.step_kind.StepKind.TheVariants.{GrantWait, PutLatch, ReadWait}
-use Rattle.mdl_steps.specs.declared.view.LatchRecord.{LatchRecord}
-use Rattle.mdl_steps.specs.declared.view.StepRecord.{StepRecord}
-use Rattle.mdl_steps.specs.declared.view.Settlement.{Settlement}
-use Rattle.mdl_steps.specs.Cells.{held_at}
-use Rattle.mdl_steps.specs.Deeds.{MayJoin, all_done}
-use Rattle.mdl_steps.specs.Layout.{latch_word, wait_word}
-use Rattle.mdl_steps.specs.Lists.{Each, Once}
-use Rattle.mdl_steps.specs.Plays.{Mine, flags_lowered}
-use Rattle.mdl_steps.specs.Rule.{Lawful, NotedCounts, TellsLists}
-use Rattle.mdl_steps.specs.SeatStates.{AtItsTable, SeatState}
-use Rattle.mdl_steps.specs.Seats.{Holds, elsewhere, rest}
 pub use Rattle.mdl_steps.specs.Servings.{ArePassedOver, ForgetsNobody, IsLookedThrough, MeetsWaiter, OnlyMeets, WasSettled}
-use Rattle.mdl_steps.specs.WaitPlays.{wait_in, with_admitted}
-use Rattle.mdl_steps.specs.WaitStates.{granted_state, unsettled_state}
-use Rattle.mdl_steps.specs.WaitSeats.{IsSession}
-use Rattle.mdl_visits.specs.Visits.{HasLatched, IsStepAfter, IsStepOf, LeavesBy, StaysHere, VisitsOnce, deeds_of}
+use Rattle.mdl_steps.specs.declared.slot.Slot.TheVariants as slot
+use Rattle.mdl_visits.specs.FirstWords.{AreOfOthers, AtItsTable, BookView, CountsFastTickets, Deed, Each, GrantWait, HasLatched, Holds, IsSession, IsStepAfter, IsStepOf, LatchRecord, Lawful, LeavesBy, MayJoin, Mine, NotedCounts, Once, PutLatch, ReadWait, SeatState, Settlement, StaysHere, StepRecord, TableId, TellsLists, Ticket, VisitsOnce, all_done, before_first, deeds_of, elsewhere, flags_lowered, goes_first, granted_state, held_at, is_grantable, is_session, is_ticket, latch_word, lock_kind, position_or_len, rest, ticket_of, unsettled_state, wait_in, wait_word, with_admitted}
 
 -- ---- what a step met
 

@@ -1,6 +1,5 @@
 -- A session's own list of the keys that it looked up, as the session's calls see it.
-use Rattle.std.specs.Prelude.{ℕ, List}
-use Rattle.mdl_key.specs.declared.known_key.KnownKey.{KnownKey}
+use Rattle.mdl_visits.specs.Prelude.{KnownKey, List, ℕ}
 
 -- the keys with their places, for how many more there is room, and below which place those may be
 pub record KnownList : Type 0 where

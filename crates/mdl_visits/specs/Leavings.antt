@@ -1,25 +1,7 @@
 -- How a session leaves a place whose latch it holds: it gives the latch back, with what it did there.
 use Rattle.std.specs.Prelude.{◌≡◌, ℕ, ◌∷◌, ◌++◌, ◌||◌, Bool, List, [], Some, is_some, true}
-use lib.ListN.{get_elem?}
-use mathlib.Core.Option.{some}
-use Rattle.mdl_defs.specs.declared.versioned_definition.VersionedDefinition.{VersionedDefinition}
-use Rattle.mdl_book.specs.Tickets.{ticket_of}
-use Rattle.mdl_steps.specs.declared.deed.Deed.{Deed}
-use Rattle.mdl_steps.specs.declared.deed.Deed.TheVariants.{Alter, Lose}
-use Rattle.mdl_steps.specs.declared.step_kind.StepKind.TheVariants.{PutLatch}
-use Rattle.mdl_steps.specs.declared.view.LatchRecord.{LatchRecord}
-use Rattle.mdl_steps.specs.declared.view.StepRecord.{StepRecord}
-use Rattle.mdl_steps.specs.declared.view.SessionTicket.{SessionTicket}
-use Rattle.mdl_steps.specs.declared.view.View.{View}
-use Rattle.mdl_steps.specs.Cells.{held_at}
-use Rattle.mdl_steps.specs.Deeds.{all_booked, all_done, frees}
-use Rattle.mdl_steps.specs.Layout.{latch_word, lock_word}
-use Rattle.mdl_steps.specs.Plays.{Mine, noting_version}
-use Rattle.mdl_steps.specs.Rule.{Flagged}
-use Rattle.mdl_steps.specs.SeatStates.{AtItsTable, SeatState}
-use Rattle.mdl_steps.specs.Seats.{HasDone, IsPlace, elsewhere, rest}
+use Rattle.mdl_visits.specs.FirstWords.{Alter, AtItsTable, CameTo, Deed, Flagged, HasDone, HasLatched, HasStep, IsInside, IsPlace, IsStepOf, LatchRecord, LeavesBy, Lose, Mine, PutLatch, SeatState, SessionTicket, StepRecord, VersionedDefinition, View, Visits, VisitsOnce, all_booked, all_done, and_made, deeds_of, elsewhere, frees, get_elem?, held_at, latch_word, lock_word, noting_version, rest, some, ticket_of}
 use Rattle.mdl_visits.specs.Grantings.{IsLowered, IsOrderlyLatch, StandsOnce, VisitsAndReschedules}
-use Rattle.mdl_visits.specs.Visits.{CameTo, HasLatched, HasStep, IsInside, IsStepOf, LeavesBy, Visits, VisitsOnce, and_made, deeds_of}
 
 -- the session gave back the latch of a place, and the slot that it took last, after these deeds. Steps were made that did just these, and nothing else
 -- changed

@@ -1,3 +1,6 @@
+pub mod Prelude
+pub mod FirstWords
+pub mod Words
 pub mod Audits
 pub mod Coverings
 pub mod FastTries

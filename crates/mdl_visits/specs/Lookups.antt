@@ -1,20 +1,8 @@
 -- What a session meets as it looks a key's place up, and what it knows then.
 use Rattle.std.specs.Prelude.{◌≡◌, ℕ, ◌+◌, ◌<◌, ◌≤◌, ◌⊎◌, List, ◌∷◌, [], ◌++◌, length, Some, None, Result, Ok, Err, IfOk}
-use Rattle.mdl_key.specs.Words.{KeyName}
 use Rattle.mdl_steps.specs.declared.slot.Slot.TheVariants as slot
-use Rattle.mdl_steps.specs.declared.step_kind.StepKind.TheVariants.{PutLatch}
-use Rattle.mdl_steps.specs.declared.view.Keys.{Keys}
-use Rattle.mdl_key.specs.declared.known_key.KnownKey.{KnownKey}
-use Rattle.mdl_steps.specs.declared.view.StepRecord.{StepRecord}
-use Rattle.mdl_steps.specs.Layout.{latch_word}
-use Rattle.mdl_steps.specs.Lists.{Each}
-use Rattle.mdl_steps.specs.Plays.{Mine, IsDirectory, consulted, listing}
-use Rattle.mdl_steps.specs.Rule.{key_at}
-use Rattle.mdl_steps.specs.SeatStates.{SeatState}
-use Rattle.mdl_steps.specs.Seats.{HasDirectory, place_among, rest}
-use Rattle.mdl_visits.specs.declared.resolve_error.ResolveError.{ResolveError}
-use Rattle.mdl_visits.specs.declared.resolve_error.ResolveError.TheVariants.{NoPlace, OutOfMemory}
-use Rattle.mdl_visits.specs.Visits.{AllQuiet, IsQuiet, MakesSteps, and_made, deeds_of}
+use Rattle.mdl_visits.specs.FirstWords.{AllQuiet, Each, HasDirectory, IsDirectory, IsQuiet, KeyName, Keys, KnownKey, MakesSteps, Mine, NoPlace, PutLatch, ResolveError, SeatState, StepRecord, and_made, consulted, deeds_of, key_at, latch_word, listing, place_among, rest}
+use Rattle.mdl_visits.specs.declared.resolve_error.ResolveError.TheVariants.{OutOfMemory}
 
 -- what a session has, with one more key that it knows
 abbrev pub knowing_key : KnownKey → Mine → Mine

@@ -1,27 +1,8 @@
 -- How a session's fast tickets at a place become slow: they are granted in the book of the place, and the lock's word no longer counts them.
 -- After MySQL 5.7: `MDL_context::materialize_fast_path_locks` of sql/mdl.cc.
 use Rattle.std.specs.Prelude.{◌≡◌, ◌≢◌, ℕ, ◌+◌, ◌<◌, true, List, [], ◌++◌, map, Some, None, ◌⊎◌}
-use Rattle.mdl_book.specs.declared.book_error.BookError.{BookError}
 use Rattle.mdl_book.specs.declared.book_error.BookError.TheVariants as fault
-use Rattle.mdl_book.specs.declared.book_view.BookView.{BookView}
-use Rattle.mdl_book.specs.declared.ticket.Ticket.{Ticket}
-use Rattle.mdl_book.specs.Books.{lock_kind, ticket_count}
-use Rattle.mdl_book.specs.Granting.{is_compatible}
-use Rattle.mdl_book.specs.Tickets.{ticket_of}
-use Rattle.mdl_steps.specs.declared.step_kind.StepKind.TheVariants.{Materialise}
-use Rattle.mdl_steps.specs.declared.view.LatchRecord.{LatchRecord}
-use Rattle.mdl_steps.specs.declared.view.StepRecord.{StepRecord}
-use Rattle.mdl_steps.specs.declared.view.SessionTicket.{SessionTicket}
-use Rattle.mdl_steps.specs.declared.view.View.{View}
-use Rattle.mdl_steps.specs.Cells.{held_at, own_at, ticket_by}
-use Rattle.mdl_steps.specs.FastPlays.{but_at, granting_all, moved}
-use Rattle.mdl_steps.specs.Interleavings.{interleaved}
-use Rattle.mdl_steps.specs.Layout.{lock_word}
-use Rattle.mdl_steps.specs.Lists.{Each}
-use Rattle.mdl_steps.specs.Plays.{Mine}
-use Rattle.mdl_steps.specs.SeatStates.{AtItsTable, HasBookInHand, SeatState}
-use Rattle.mdl_steps.specs.Seats.{written}
-use Rattle.mdl_visits.specs.Visits.{HasStep, Visits, VisitsOnce, and_made, deeds_of}
+use Rattle.mdl_visits.specs.FirstWords.{AtItsTable, BookError, BookView, Each, HasBookInHand, HasStep, LatchRecord, Materialise, Mine, SeatState, SessionTicket, StepRecord, Ticket, View, Visits, VisitsOnce, and_made, but_at, deeds_of, granting_all, held_at, interleaved, is_compatible, lock_kind, lock_word, moved, own_at, ticket_by, ticket_count, ticket_of, written}
 
 -- ---- what the session has then
 

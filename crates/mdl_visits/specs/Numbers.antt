@@ -1,9 +1,6 @@
 -- The numbers of a session's tickets, and that of the ticket that it waits for.
 use Rattle.std.specs.Prelude.{ℕ, Bool, true, ◌&&◌, ◌==◌, not, nat_lt, List, Option, find}
-use Rattle.std.specs.List.{list_all}
-use Rattle.std.specs.Option.{option_map_or}
-use Rattle.mdl_steps.specs.declared.view.Ask.{Ask}
-use Rattle.mdl_steps.specs.declared.view.SessionTicket.{SessionTicket}
+use Rattle.mdl_visits.specs.Prelude.{Ask, SessionTicket, list_all, option_map_or}
 
 -- the ticket with a number
 abbrev pub numbered : ℕ → List SessionTicket → Option SessionTicket

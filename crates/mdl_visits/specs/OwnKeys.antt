@@ -1,10 +1,6 @@
 -- How a session keeps the keys that it looked up: their places in order of the look-ups, and by places the index in that list and the kind.
 use Rattle.std.specs.Prelude.{◌≡◌, ℕ, ◌≤◌, List, Option, Some, length, map, slice_get}
-use Rattle.std.specs.Option.{option_and_then}
-use Rattle.mdl_key.specs.declared.namespace.Kind.{Kind}
-use Rattle.mdl_key.specs.Words.{KeyName}
-use Rattle.mdl_key.specs.declared.known_key.KnownKey.{KnownKey}
-use Rattle.mdl_key.specs.KeyLookups.{kind_known}
+use Rattle.mdl_visits.specs.Prelude.{KeyName, Kind, KnownKey, kind_known, option_and_then}
 
 -- a key with its place
 abbrev pub known_of : KeyName × ℕ → KnownKey

@@ -1,13 +1,9 @@
 -- What a session meets in the words of waits, its own and those of others.
 use Rattle.std.specs.Prelude.{◌≡◌, ◌≢◌, ℕ, ◌==◌, [], ◌∷◌, ◌++◌, Option, Some, None, if◌then◌else◌}
-use Rattle.mdl_calls.specs.declared.answers.Settled.{Settled}
 use Rattle.mdl_calls.specs.declared.answers.Settled.TheVariants.{Granted, Victim, Timeout, Killed}
-use Rattle.mdl_steps.specs.declared.step_kind.StepKind.TheVariants.{EndWait}
-use Rattle.mdl_steps.specs.declared.view.StepRecord.{StepRecord}
+use Rattle.mdl_calls.specs.declared.answers.Settled.{Settled}
 use Rattle.mdl_steps.specs.declared.wait_word.Loss.TheVariants as loss
-use Rattle.mdl_steps.specs.Layout.{wait_word}
-use Rattle.mdl_steps.specs.Plays.{Mine}
-use Rattle.mdl_steps.specs.WaitStates.{granted_state, idle_state, lost_state, wait_in, wait_number, wait_state}
+use Rattle.mdl_visits.specs.Prelude.{EndWait, Mine, StepRecord, granted_state, idle_state, lost_state, wait_in, wait_number, wait_state, wait_word}
 
 -- the state of a wait that is settled in this way
 abbrev pub settled_state : Settled → ℕ

@@ -1,16 +1,8 @@
 -- What a session read, between two of its views, of versions and definitions. A session that writes a version has read the definition of that version, so
 -- a session that read nothing changed nothing either.
 use Rattle.std.specs.Prelude.{◌≡◌, ℕ, true, [], ◌∷◌, ◌++◌, is_some, Some}
-use Rattle.mdl_defs.specs.declared.versioned_definition.VersionedDefinition.{VersionedDefinition}
-use Rattle.mdl_book.specs.Tickets.{ticket_of}
-use Rattle.mdl_steps.specs.declared.view.LatchRecord.{LatchRecord}
-use Rattle.mdl_steps.specs.declared.view.StepRecord.{StepRecord}
-use Rattle.mdl_steps.specs.Cells.{held_at}
-use Rattle.mdl_steps.specs.Deeds.{NotWaited}
-use Rattle.mdl_steps.specs.Plays.{Mine}
-use Rattle.mdl_steps.specs.SeatStates.{SeatState}
+use Rattle.mdl_visits.specs.FirstWords.{IsStepOf, LatchRecord, Mine, NotWaited, SeatState, StepRecord, VersionedDefinition, held_at, ticket_of}
 use Rattle.mdl_visits.specs.Leavings.{HasTicket, Learns, MeetsStanding}
-use Rattle.mdl_visits.specs.Visits.{IsStepOf}
 
 -- the session read nothing
 abbrev pub SeatReadsNothing : Mine → Mine → Type 0

@@ -1,30 +1,10 @@
 -- A change of a key's definition, as the session that makes it meets it: by its exclusive ticket it changes the definition in the book, under the latch of
 -- the place, and writes the word of the version.
 use Rattle.std.specs.Prelude.{◌≡◌, ◌⊎◌, ℕ, ◌+◌, List, ◌∷◌, [], ◌++◌, Option, Some, None, if◌then◌else◌}
-use lib.ListN.{get_elem?}
-use mathlib.Core.Option.{some}
-use Rattle.mdl_key.specs.declared.mode.Mode.TheVariants.{X}
-use Rattle.mdl_key.specs.Words.{KeyName, same_mode}
-use Rattle.mdl_defs.specs.declared.change.Change.{Change}
-use Rattle.mdl_defs.specs.declared.change.Change.TheVariants.{Drop}
-use Rattle.mdl_defs.specs.declared.change_error.ChangeError.{ChangeError}
-use Rattle.mdl_defs.specs.declared.change_error.ChangeError.TheVariants.{OutOfMemory}
-use Rattle.mdl_defs.specs.declared.versioned_definition.VersionedDefinition.{VersionedDefinition}
-use Rattle.mdl_defs.specs.VersionedDefinitions.{standing_fault, standing_after}
-use Rattle.mdl_calls.specs.declared.space_error.SpaceError.{SpaceError}
-use Rattle.mdl_calls.specs.declared.space_error.SpaceError.TheVariants.{NotHeld, NotExclusive}
 use Rattle.mdl_calls.specs.Reads.{cause_of}
-use Rattle.mdl_steps.specs.declared.step_kind.StepKind.TheVariants.{PutLatch, TakeLatch, WriteVersion}
-use Rattle.mdl_steps.specs.declared.view.LatchRecord.{LatchRecord}
-use Rattle.mdl_key.specs.declared.known_key.KnownKey.{KnownKey}
-use Rattle.mdl_steps.specs.declared.view.StepRecord.{StepRecord}
-use Rattle.mdl_steps.specs.declared.view.SessionTicket.{SessionTicket}
-use Rattle.mdl_steps.specs.Cells.{held_at}
-use Rattle.mdl_steps.specs.Layout.{latch_word, version_word}
-use Rattle.mdl_steps.specs.Plays.{Mine, redefined, restood, unlatched}
-use Rattle.mdl_steps.specs.VersionPlays.{Follows}
-use Rattle.mdl_visits.specs.Numbers.{numbered}
-use Rattle.mdl_visits.specs.Visits.{AreStepsOf, IsStepOf}
+use Rattle.mdl_calls.specs.declared.space_error.SpaceError.TheVariants.{NotHeld, NotExclusive}
+use Rattle.mdl_calls.specs.declared.space_error.SpaceError.{SpaceError}
+use Rattle.mdl_visits.specs.FirstWords.{AreStepsOf, Change, ChangeError, Drop, Follows, IsStepOf, KeyName, KnownKey, LatchRecord, Mine, OutOfMemory, PutLatch, SessionTicket, StepRecord, TakeLatch, VersionedDefinition, WriteVersion, X, get_elem?, held_at, latch_word, numbered, redefined, restood, same_mode, some, standing_after, standing_fault, unlatched, version_word}
 
 -- why a change under a ticket is refused: there is no such ticket, or it isn't exclusive
 abbrev pub exclusive_fault : Option SessionTicket → Option SpaceError

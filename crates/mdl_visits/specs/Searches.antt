@@ -1,34 +1,8 @@
 -- A search for a deadlock: what a session meets and does while it has the latches of all places that have a key.
 use Rattle.std.specs.Prelude.{◌≡◌, ◌≢◌, ◌⊎◌, ℕ, ◌<◌, ◌==◌, ◌&&◌, not, Bool, true, false, List, [], ◌∷◌, ◌++◌, length, map, find, All, Contains, Option, Some, None, IfSome, MatchOption, Result, Ok, Err, IfOk, OnErr}
-use Rattle.std.specs.List.{list_any}
-use Rattle.atomic_table.specs.Seated.{TableId}
-use Rattle.mdl_book.specs.declared.book_view.BookView.{BookView}
-use Rattle.mdl_book.specs.SessionSets.{is_session}
-use Rattle.mdl_calls.specs.declared.answers.Search.{Search}
-use Rattle.mdl_calls.specs.declared.answers.Search.TheVariants.{NoCycle, Victim}
-use Rattle.mdl_graph.specs.declared.cycle.Member.{Member}
-use Rattle.mdl_graph.specs.Graphs.{GraphView, IsGraphOf, deadlock_in, victim_in}
-use Rattle.mdl_graph.specs.WaitsFor.{SessionTest, nobody, wishes_in}
-use Rattle.mdl_steps.specs.declared.step_kind.StepKind.TheVariants.{PutLatch, ReadWait, SettleWait}
-use Rattle.mdl_steps.specs.declared.view.LatchRecord.{LatchRecord}
-use Rattle.mdl_steps.specs.declared.view.Keys.{Keys}
-use Rattle.mdl_steps.specs.declared.view.StepRecord.{StepRecord}
-use Rattle.mdl_steps.specs.declared.view.Settlement.{Settlement}
 use Rattle.mdl_steps.specs.declared.wait_word.Loss.TheVariants as loss
-use Rattle.mdl_steps.specs.Cells.{held_at}
-use Rattle.mdl_steps.specs.Layout.{latch_word, wait_word}
-use Rattle.mdl_steps.specs.Plays.{Mine, dropped, logged}
-use Rattle.mdl_steps.specs.SeatStates.{AtItsTable, SeatState}
-use Rattle.mdl_steps.specs.Seats.{IsPlace, MayPut, rest}
-use Rattle.mdl_steps.specs.Sights.{SeesNoDeadlock}
-use Rattle.mdl_steps.specs.WaitSeats.{IsSession}
-use Rattle.mdl_steps.specs.WaitStates.{lost_state, unsettled_state, wait_state}
-use Rattle.mdl_visits.specs.declared.audited.Audited.{Audited}
-use Rattle.mdl_visits.specs.declared.waits_read.WaitRead.{WaitRead}
-use Rattle.mdl_visits.specs.Audits.{AreRecorded, Gathers}
+use Rattle.mdl_visits.specs.FirstWords.{AllQuiet, AreRecorded, AtItsTable, Audited, BookView, Gathers, GraphView, IsGraphOf, IsPlace, IsSession, IsStepOf, Keys, LatchRecord, MayPut, MeetsOther, MeetsWait, Member, Mine, NoCycle, PutLatch, ReadWait, Search, SeatState, SeesNoDeadlock, SessionTest, SettleWait, Settlement, Settles, SettlesNothing, StepRecord, TableId, Victim, WaitRead, deadlock_in, deeds_of, dropped, held_at, is_session, latch_word, list_any, logged, lost_state, nobody, rest, unsettled_state, victim_in, wait_state, wait_word, wishes_in}
 use Rattle.mdl_visits.specs.Grantings.{StaysTold}
-use Rattle.mdl_visits.specs.Polls.{MeetsOther, MeetsWait, Settles, SettlesNothing}
-use Rattle.mdl_visits.specs.Visits.{AllQuiet, IsStepOf, deeds_of}
 
 -- ---- the words of waits
 

@@ -1,22 +1,8 @@
 -- How a session finds the tables of a schema that have a definition: the directory has the tables, and the session looks at the place of each.
 use Rattle.std.specs.Prelude.{◌≡◌, ℕ, ◌+◌, ◌<◌, ◌≤◌, Bool, if◌then◌else◌, true, List, [], ◌∷◌, ◌++◌, length, map, filter, All, AllPairs, Contains, is_some, Some, Vec}
 use Rattle.std.specs.List.Sorted.{IsPermutation, IsSortedBy}
-use Rattle.std.specs.Ordering.{is_lt}
-use Rattle.std.specs.Vec.{vec_capacity, vec_len}
-use Rattle.std.specs.declared.cmp.Ordering.TheVariants.{Less}
-use Rattle.mdl_key.specs.Keys.{key_cmp}
-use Rattle.mdl_steps.specs.declared.step_kind.StepKind.TheVariants.{PutLatch}
-use Rattle.mdl_steps.specs.declared.view.LatchRecord.{LatchRecord}
-use Rattle.mdl_steps.specs.declared.view.Keys.{Keys}
-use Rattle.mdl_key.specs.declared.known_key.KnownKey.{KnownKey}
-use Rattle.mdl_steps.specs.declared.view.StepRecord.{StepRecord}
-use Rattle.mdl_steps.specs.Cells.{held_at}
-use Rattle.mdl_steps.specs.Layout.{latch_word}
-use Rattle.mdl_steps.specs.Plays.{Mine}
-use Rattle.mdl_steps.specs.Rule.{key_at}
-use Rattle.mdl_steps.specs.Schemas.{is_table_of, tables_from, unknown}
+use Rattle.mdl_visits.specs.FirstWords.{IsStepOf, Keys, KnownKey, LatchRecord, Less, Mine, PutLatch, StepRecord, held_at, is_lt, is_table_of, key_at, key_cmp, latch_word, tables_from, unknown, vec_capacity, vec_len}
 use Rattle.mdl_visits.specs.KnownLists.{KnownList}
-use Rattle.mdl_visits.specs.Visits.{IsStepOf}
 
 -- ---- which tables there are
 

@@ -1,36 +1,10 @@
 -- A visit of a session to a place: the session takes the latch there, does its work, and gives the latch back. What it met there is in its list of steps.
 use Rattle.std.specs.Prelude.{◌≡◌, ℕ, ◌≤◌, ◌==◌, not, Bool, true, false, List, [], ◌∷◌, ◌++◌, filter, Option, Some, None, ◌⊎◌, Result, MatchOption, MatchResult, if◌then◌else◌}
-use lib.ListN.{get_elem?}
-use mathlib.Core.Option.{some}
-use Rattle.mdl_key.specs.declared.mode.Mode.{Mode}
-use Rattle.mdl_key.specs.declared.namespace.Kind.{Kind}
-use Rattle.mdl_key.specs.Words.{is_mode_of, is_obtrusive, kind_of}
-use Rattle.mdl_book.specs.declared.book_error.BookError.{BookError}
-use Rattle.mdl_book.specs.declared.book_error.BookError.TheVariants as fault
-use Rattle.mdl_book.specs.declared.book_view.BookView.{BookView}
-use Rattle.mdl_book.specs.declared.ticket.Ticket.{Ticket}
-use Rattle.mdl_book.specs.Books.{full_fault, lock_kind, ticket_count}
-use Rattle.mdl_book.specs.FastTickets.{AreOfOthers, CountsFastTickets, can_be_granted}
-use Rattle.mdl_book.specs.Granting.{goes_first, is_grantable}
-use Rattle.mdl_steps.specs.declared.deed.Deed.{Deed}
-use Rattle.mdl_steps.specs.declared.slot.Slot.TheVariants as slot
-use Rattle.mdl_steps.specs.declared.step_kind.StepKind.{StepKind}
-use Rattle.mdl_steps.specs.declared.table_seat.Latched.{Latched}
-use Rattle.mdl_steps.specs.declared.step_kind.StepKind.TheVariants.{PutLatch, RaiseFlags, ReadWord}
-use Rattle.mdl_steps.specs.declared.view.LatchRecord.{LatchRecord}
-use Rattle.mdl_steps.specs.declared.view.Keys.{Keys}
-use Rattle.mdl_key.specs.declared.known_key.KnownKey.{KnownKey}
-use Rattle.mdl_steps.specs.declared.view.StepRecord.{StepRecord}
-use Rattle.mdl_steps.specs.declared.view.View.{View}
-use Rattle.mdl_steps.specs.Cells.{held_at}
-use Rattle.mdl_steps.specs.Deeds.{MayJoin, all_done}
-use Rattle.mdl_steps.specs.Layout.{latch_word, lock_word}
-use Rattle.mdl_steps.specs.Lists.{Each}
-use Rattle.mdl_steps.specs.Plays.{Mine, IsDirectory, IsFresh, consulted, latched, noting, raised}
-use Rattle.mdl_steps.specs.Rule.{Lawful, NotedCounts}
-use Rattle.mdl_steps.specs.SeatStates.{AtItsTable, SeatState}
-use Rattle.mdl_steps.specs.Seats.{Holds, IsPlace, IsRising}
 pub use Rattle.mdl_steps.specs.Servings.{IsStepOf}
+use Rattle.mdl_book.specs.declared.book_error.BookError.TheVariants as fault
+use Rattle.mdl_steps.specs.declared.slot.Slot.TheVariants as slot
+use Rattle.mdl_steps.specs.declared.table_seat.Latched.{Latched}
+use Rattle.mdl_visits.specs.Prelude.{AreOfOthers, AtItsTable, BookError, BookView, CountsFastTickets, Deed, Each, Holds, IsDirectory, IsFresh, IsPlace, IsRising, Keys, Kind, KnownKey, LatchRecord, Lawful, MayJoin, Mine, Mode, NotedCounts, PutLatch, RaiseFlags, ReadWord, SeatState, StepKind, StepRecord, Ticket, View, all_done, can_be_granted, consulted, full_fault, get_elem?, goes_first, held_at, is_grantable, is_mode_of, is_obtrusive, kind_of, latch_word, latched, lock_kind, lock_word, noting, raised, some, ticket_count}
 
 -- ---- what a session knows
 

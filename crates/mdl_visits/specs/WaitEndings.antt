@@ -1,12 +1,7 @@
 -- How a session's lost wait ends at its place.
 use Rattle.std.specs.Prelude.{◌≡◌, ℕ, [], Some, None}
-use Rattle.atomic_table.specs.Seated.{TableId}
-use Rattle.mdl_steps.specs.declared.view.View.{View}
-use Rattle.mdl_steps.specs.Plays.{Mine}
-use Rattle.mdl_steps.specs.SeatStates.{SeatState}
+use Rattle.mdl_visits.specs.FirstWords.{EndsWait, HasStep, Mine, SeatState, TableId, View}
 use Rattle.mdl_visits.specs.Grantings.{VisitsAndReschedules}
-use Rattle.mdl_visits.specs.Polls.{EndsWait}
-use Rattle.mdl_visits.specs.Visits.{HasStep}
 
 -- the view without a wait
 abbrev pub idle : View → View

@@ -1,18 +1,6 @@
 -- How a session begins to wait at a place.
 use Rattle.std.specs.Prelude.{◌≡◌, ℕ, ◌+◌, ◌^◌, ◌<◌, true, List, [], ◌∷◌, ◌++◌, Some, None}
-use Rattle.mdl_key.specs.declared.mode.Mode.{Mode}
-use Rattle.mdl_book.specs.declared.ticket.Ticket.{Ticket}
-use Rattle.mdl_steps.specs.declared.step_kind.StepKind.TheVariants.{OpenWait}
-use Rattle.mdl_steps.specs.declared.view.LatchRecord.{LatchRecord}
-use Rattle.mdl_steps.specs.declared.view.StepRecord.{StepRecord}
-use Rattle.mdl_steps.specs.declared.view.View.{View}
-use Rattle.mdl_steps.specs.Cells.{held_at}
-use Rattle.mdl_steps.specs.Layout.{wait_word}
-use Rattle.mdl_steps.specs.Plays.{Mine}
-use Rattle.mdl_steps.specs.SeatStates.{AtItsTable, SeatState}
-use Rattle.mdl_steps.specs.WaitPlays.{asking}
-use Rattle.mdl_steps.specs.WaitStates.{idle_state, wait_in}
-use Rattle.mdl_visits.specs.Visits.{AreStepsOf, MeetsBlocked, and_made, deeds_of}
+use Rattle.mdl_visits.specs.FirstWords.{AreStepsOf, AtItsTable, LatchRecord, MeetsBlocked, Mine, Mode, OpenWait, SeatState, StepRecord, Ticket, View, and_made, asking, deeds_of, held_at, idle_state, wait_in, wait_word}
 
 -- the view of a session that has begun to wait for a mode at a place, and has yet to search for a deadlock
 abbrev pub view_awaiting : ℕ → Mode → View → View

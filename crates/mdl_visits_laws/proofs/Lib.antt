@@ -1,3 +1,4 @@
+pub mod Common
 pub mod Settlings
 pub mod Standings
 pub mod Victims

@@ -1,27 +1,10 @@
 -- What the step that settles a wait shows of its session: the entry in the list has the records of the latches and of the directory's latch that the session
 -- had before the step, and the word as the table had it.
-use Rattle.std.proofs.Common.{◌≡◌, ℕ, inl, inr, [], ◌∷◌, ◌++◌, get_or, Some, None, refl, sym, ap, ◌∙◌, subst}
-use Rattle.std.specs.Prelude.{Option}
-use Rattle.std.specs.Option.{option_map_or}
-use mathlib.Core.Option.{some, some-injective}
-use lib.ListN.{get_elem?}
-use Rattle.atomic_table.specs.Table.{State, Step}
-use Rattle.atomic_table.proofs.Lists.{at_set}
-use Rattle.mdl_book.specs.Books.{empty_book, redefining}
+use Rattle.std.proofs.Common.{◌≡◌, ℕ, inl, inr, [], ◌∷◌, ◌++◌, get_or, Some, None, refl, sym, ap, ◌∙◌, subst, Option}
 use Rattle.mdl_defs.specs.Caches.{kept_of}
-use Rattle.mdl_defs.specs.declared.definition.Definition.{Definition}
-use Rattle.mdl_steps.specs.declared.slot.Slot.{Slot}
 use Rattle.mdl_steps.specs.declared.step_kind.StepKind.TheVariants as step
-use Rattle.mdl_steps.specs.declared.view.StepRecord.{StepRecord}
-use Rattle.mdl_steps.specs.declared.view.View.{View}
-use Rattle.mdl_steps.specs.Deeds.{all_booked}
-use Rattle.mdl_steps.specs.Layout.{version_word}
-use Rattle.mdl_steps.specs.Plays.{Mine, logged}
-use Rattle.mdl_steps.specs.TableChanges.{IsWholeChange, Makes, TableChange}
-use Rattle.mdl_steps.specs.VersionPlays.{noting_found}
-use Rattle.mdl_steps.specs.WaitPlays.{wait_in}
-use Rattle.mdl_system.proofs.Deciding.{nat_told}
 use Rattle.mdl_steps_laws.proofs.EntryEvents.{no_longer, none_gained, same_last}
+use Rattle.mdl_visits_laws.proofs.Common.{Definition, IsWholeChange, Makes, Mine, Slot, State, Step, StepRecord, TableChange, View, all_booked, at_set, empty_book, get_elem?, logged, nat_told, noting_found, option_map_or, redefining, some, some-injective, version_word, wait_in}
 
 -- ---- the kinds of step
 

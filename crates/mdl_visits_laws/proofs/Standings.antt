@@ -1,38 +1,13 @@
 -- Books under latches tell which sessions stand behind which, and with what weights.
-use Rattle.std.proofs.Common.{◌≡◌, ◌≢◌, ℕ, suc, ◌-◌, ◌<◌, ◌==◌, ◌&&◌, ◌||◌, not, Bool, true, inl, inr, List, [], ◌∷◌, Some, None, refl, sym, ap, ◌∙◌, subst, arith}
-use Rattle.std.specs.Prelude.{Contains, Option}
-use Rattle.std.specs.List.{list_any}
-use Rattle.std.proofs.lemmas.Bool.{and_parts, eq-eqb, eqb-true, or_cases}
-use Rattle.std.proofs.lemmas.List.Elements.{Contains-append_right}
-use mathlib.Core.Option.{some}
-use lib.ListN.{get_elem?}
-use Rattle.atomic_table.specs.Table.{State}
-use Rattle.atomic_table.proofs.Lists.{at_map}
-use Rattle.mdl_key.specs.declared.namespace.Kind.{Kind}
-use Rattle.mdl_key.specs.Words.{KeyName, clashes, kind_of, waits_behind, weight_of}
-use Rattle.mdl_book.specs.declared.book_view.BookView.{BookView}
+use Rattle.std.proofs.Common.{◌≡◌, ◌≢◌, ℕ, suc, ◌-◌, ◌<◌, ◌==◌, ◌&&◌, ◌||◌, not, Bool, true, inl, inr, List, [], ◌∷◌, Some, None, refl, sym, ap, ◌∙◌, subst, arith, Contains, Option, eq-eqb, eqb-true}
 use Rattle.mdl_book.specs.declared.ticket.Ticket.{Ticket}
-use Rattle.mdl_book.specs.Books.{lock_kind}
-use Rattle.mdl_defs.specs.declared.definition.Definition.{Definition}
-use Rattle.mdl_graph.specs.declared.cycle.Member.{Member}
-use Rattle.mdl_graph.specs.GraphLaws.{IsWaiting}
-use Rattle.mdl_graph.specs.WaitsFor.{SessionTest, holds_against, is_tied, is_unsettled, waits_ahead, waits_at, waits_for}
-use Rattle.mdl_steps.specs.declared.slot.Slot.{Slot}
-use Rattle.mdl_steps.specs.declared.view.LatchRecord.{LatchRecord}
-use Rattle.mdl_steps.specs.declared.view.View.{View}
-use Rattle.mdl_steps.specs.Cells.{held_at, holder_at}
-use Rattle.mdl_steps.specs.Rule.{Rule, key_at}
-use Rattle.mdl_steps_laws.specs.Headline.{HasPlace}
-use Rattle.mdl_steps_laws.specs.WaitLaws.{IsTold}
+use Rattle.mdl_key.specs.declared.namespace.Kind.{Kind}
 use Rattle.mdl_steps_laws.proofs.TableLocks.{same_keys}
 use Rattle.mdl_steps_laws.proofs.WaitAsks.{at_from_get}
 use Rattle.mdl_system.specs.BookLaws.{of_lock}
-use Rattle.mdl_system.specs.Deadlocks.{AsksAhead, HoldsAgainst, IsDeadlock, IsStandingDeadlock, IsStandingVictimOf, IsVictimOf, Leads, Requests, StandsBehind, StandsWith, WaitsFor}
 use Rattle.mdl_system.specs.NumberingLaws.{IsWellNumbered}
-use Rattle.mdl_system.specs.Systems.{System, Waiter}
-use Rattle.mdl_system.proofs.MemberLemmas.{AreApart, Contains-map_from, Contains-none, any-found, apart-first, apart-rest}
-use Rattle.mdl_system.proofs.OrderLemmas.{Contains-cons_cases, Contains-here, Contains-later}
-use Rattle.mdl_visits_laws.specs.Victims.{AllWait}
+use Rattle.std.specs.List.{list_any}
+use Rattle.mdl_visits_laws.proofs.Common.{AllWait, AreApart, AsksAhead, BookView, Contains-append_right, Contains-cons_cases, Contains-here, Contains-later, Contains-map_from, Contains-none, Definition, HasPlace, HoldsAgainst, IsDeadlock, IsStandingDeadlock, IsStandingVictimOf, IsTold, IsVictimOf, IsWaiting, KeyName, LatchRecord, Leads, Member, Requests, Rule, SessionTest, Slot, StandsBehind, StandsWith, State, System, View, Waiter, WaitsFor, and_parts, any-found, apart-first, apart-rest, at_map, clashes, get_elem?, held_at, holder_at, holds_against, is_tied, is_unsettled, key_at, kind_of, lock_kind, or_cases, some, waits_ahead, waits_at, waits_behind, waits_for, weight_of}
 
 -- ---- a session has one request
 

@@ -1,44 +1,14 @@
 -- The victim of a search falls in a standing deadlock.
-use Rattle.std.proofs.Common.{◌≡◌, ℕ, ◌+◌, ◌*◌, ◌%◌, ◌<◌, ◌≤◌, ◌==◌, ◌&&◌, not, Bool, true, false, inl, inr, List, [], ◌∷◌, length, get_or, Some, None, refl, sym, ap, ◌∙◌, subst, arith}
-use Rattle.std.specs.Prelude.{All, Contains, IsTrue, MatchOption, Option}
-use Rattle.std.specs.Option.{option_map}
-use Rattle.std.proofs.lemmas.Bool.{and_parts, eqb-true}
-use Rattle.std.proofs.lemmas.List.Elements.{All-contains}
-use mathlib.Core.Option.{some}
-use lib.ListN.{get_elem?}
-use Rattle.atomic_table.specs.Table.{State}
-use Rattle.mdl_key.specs.Words.{KeyName}
-use Rattle.mdl_book.specs.declared.book_view.BookView.{BookView}
-use Rattle.mdl_defs.specs.declared.definition.Definition.{Definition}
-use Rattle.mdl_graph.specs.declared.cycle.Member.{Member}
-use Rattle.mdl_graph.specs.Cycles.{is_chosen_before}
-use Rattle.mdl_graph.specs.GraphLaws.{IsWaiting, sessions_of}
+use Rattle.std.proofs.Common.{◌≡◌, ℕ, ◌+◌, ◌*◌, ◌%◌, ◌<◌, ◌≤◌, ◌==◌, ◌&&◌, not, Bool, true, false, inl, inr, List, [], ◌∷◌, length, get_or, Some, None, refl, sym, ap, ◌∙◌, subst, arith, All, Contains, IsTrue, MatchOption, Option, eqb-true}
+use Rattle.mdl_graph.proofs.DeadlockLemmas.{deadlock_waits}
 use Rattle.mdl_graph.specs.Graphs.{deadlock_in}
 use Rattle.mdl_graph.specs.Victims.{victim_of}
-use Rattle.mdl_graph.specs.WaitsFor.{waits_for}
-use Rattle.mdl_graph.proofs.DeadlockLemmas.{deadlock_waits}
-use Rattle.mdl_steps.specs.declared.slot.Slot.{Slot}
-use Rattle.mdl_steps.specs.declared.view.Keys.{Keys}
-use Rattle.mdl_steps.specs.declared.view.LatchRecord.{LatchRecord}
-use Rattle.mdl_steps.specs.declared.view.View.{View}
-use Rattle.mdl_steps.specs.Cells.{held_at, waits}
-use Rattle.mdl_steps.specs.Histories.{Reached}
-use Rattle.mdl_steps.specs.Layout.{wait_word}
-use Rattle.mdl_steps_laws.specs.WaitLaws.{IsTold}
-use Rattle.mdl_steps_laws.specs.WaitsTold.{code_of}
 use Rattle.mdl_steps_laws.proofs.Sights.{IsAmong, WasMetSettled, tied}
 use Rattle.mdl_steps_laws.proofs.Wells.{reached_tables_are_well_numbered, rule_of}
-use Rattle.mdl_system.specs.Deadlocks.{IsCycle, IsDeadlock, IsStandingDeadlock, IsStandingVictimOf, StandsBehind, StandsWith, WaitsFor, Wishes}
-use Rattle.mdl_system.specs.Systems.{Killed, System, TimedOut, Unsettled, Victim, Waiter, WaitState}
 use Rattle.mdl_system.proofs.CycleLemmas.{some-of_books}
-use Rattle.mdl_system.proofs.Deciding.{nat_told}
-use Rattle.mdl_system.proofs.MemberLemmas.{Contains-map_from, Contains-none, any-found}
-use Rattle.mdl_system.proofs.OrderLemmas.{Contains-cons_cases, Contains-here, Contains-later}
+use Rattle.mdl_system.specs.Systems.{Victim}
 use Rattle.mdl_visits.specs.declared.audited.Audited.{Audited}
-use Rattle.mdl_visits.specs.declared.waits_read.WaitRead.{WaitRead}
-use Rattle.mdl_visits.specs.Audits.{AreRecorded}
-use Rattle.mdl_visits.specs.Searches.{books_of, settled_by}
-use Rattle.mdl_visits_laws.specs.Victims.{HasReadAll, VictimsFallInStandingDeadlocks, WasReadBefore, settling_of}
+use Rattle.mdl_visits_laws.proofs.Common.{All-contains, AreRecorded, BookView, Contains-cons_cases, Contains-here, Contains-later, Contains-map_from, Contains-none, Definition, HasReadAll, IsCycle, IsDeadlock, IsStandingDeadlock, IsStandingVictimOf, IsTold, IsWaiting, KeyName, Keys, Killed, LatchRecord, Member, Reached, Slot, StandsBehind, StandsWith, State, System, TimedOut, Unsettled, VictimsFallInStandingDeadlocks, View, WaitRead, WaitState, Waiter, WaitsFor, WasReadBefore, Wishes, and_parts, any-found, books_of, code_of, get_elem?, held_at, is_chosen_before, nat_told, option_map, sessions_of, settled_by, settling_of, some, wait_word, waits, waits_for}
 use Rattle.mdl_visits_laws.proofs.Settlings.{settling_shows}
 use Rattle.mdl_visits_laws.proofs.Standings.{IsOfLatch, deadlock_open, one_weight, stands_behind, stands_with, victim_open}
 

@@ -4,27 +4,9 @@
 -- requests and the granted tickets that it judges by stand. But any session may settle a wait at any time. So the waits of members that the search met
 -- unsettled may be lost by then, and what it found is a standing deadlock.
 use Rattle.std.specs.Prelude.{◌≡◌, ℕ, List, length, All, Contains, IsFalse, IsTrue, Some}
-use Rattle.atomic_table.specs.Table.{State}
-use Rattle.mdl_key.specs.Words.{KeyName}
 use Rattle.mdl_calls.specs.declared.answers.Search.TheVariants.{Victim}
-use Rattle.mdl_defs.specs.declared.definition.Definition.{Definition}
-use Rattle.mdl_graph.specs.Cycles.{is_chosen_before}
-use Rattle.mdl_steps.specs.declared.slot.Slot.{Slot}
 use Rattle.mdl_steps.specs.declared.step_kind.StepKind.TheVariants.{ReadWait}
-use Rattle.mdl_steps.specs.declared.view.Keys.{Keys}
-use Rattle.mdl_steps.specs.declared.view.StepRecord.{StepRecord}
-use Rattle.mdl_steps.specs.declared.view.View.{View}
-use Rattle.mdl_steps.specs.Histories.{Reached}
-use Rattle.mdl_steps.specs.Layout.{wait_word}
-use Rattle.mdl_steps.specs.SeatStates.{SeatState}
-use Rattle.mdl_steps.specs.TableChanges.{IsWholeChange, TableChange}
-use Rattle.mdl_steps_laws.specs.Entries.{MakesOneStep}
-use Rattle.mdl_steps_laws.specs.WaitLaws.{IsTold}
-use Rattle.mdl_system.specs.Deadlocks.{IsDeadlock, IsStandingDeadlock, IsStandingVictimOf, IsVictimOf, Requests, Wishes}
-use Rattle.mdl_system.specs.Systems.{System, Unsettled, Waiter}
-use Rattle.mdl_visits.specs.declared.waits_read.WaitRead.{WaitRead}
-use Rattle.mdl_visits.specs.Lookups.{AsksDirectory}
-use Rattle.mdl_visits.specs.Searches.{Searched, SettlesVictim, settled_by}
+use Rattle.mdl_visits_laws.specs.Prelude.{AsksDirectory, Definition, IsDeadlock, IsStandingDeadlock, IsStandingVictimOf, IsTold, IsVictimOf, IsWholeChange, KeyName, Keys, MakesOneStep, Reached, Requests, Searched, SeatState, SettlesVictim, Slot, State, StepRecord, System, TableChange, Unsettled, View, WaitRead, Waiter, Wishes, is_chosen_before, settled_by, wait_word}
 
 -- ---- what a search did
 

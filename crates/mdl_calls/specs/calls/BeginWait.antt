@@ -1,9 +1,5 @@
 -- `begin_wait`: a lock, or otherwise a wait for it. It is refused for the same reasons as `try_now`. It changes no held ticket, and learns and reads nothing.
-use Rattle.std.specs.Prelude.{ℕ, Bool, true, false}
-use Rattle.mdl_key.specs.declared.mode.Mode.{Mode}
-use Rattle.mdl_calls.specs.Interface.{Answer, Refused, Granted, Waits}
-use Rattle.mdl_calls.specs.Effects.{Effect, Keeps, Gains, Begins}
-use Rattle.mdl_calls.specs.CallSpec.{CallSpec, unchanged, MayAsk, wish_cause}
+use Rattle.mdl_calls.specs.FirstWords.{Answer, Begins, Bool, CallSpec, Effect, Gains, Granted, Keeps, MayAsk, Mode, Refused, Waits, false, true, unchanged, wish_cause, ℕ}
 
 -- its answers
 abbrev pub answers : Answer → Bool

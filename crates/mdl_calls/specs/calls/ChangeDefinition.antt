@@ -1,19 +1,8 @@
 -- `change_definition`: a change of the definition at a held ticket's place, which gets the next version. It is refused if no such ticket is held, if it isn't
 -- held in mode X, if what stands there can't be changed so, or if memory runs out. Dropping a definition takes no memory. It changes no ticket and no wait.
 use Rattle.std.specs.Prelude.{◌≡◌, ℕ, Bool, true, false, Option, Some, None}
-use Rattle.mdl_key.specs.declared.mode.Mode.TheVariants.{X}
-use Rattle.mdl_key.specs.Words.{same_mode}
-use Rattle.mdl_defs.specs.declared.change.Change.{Change}
 use Rattle.mdl_defs.specs.declared.def_error.DefError.TheVariants as fault
-use Rattle.mdl_calls.specs.declared.answers.Held.{Held}
-use Rattle.mdl_calls.specs.declared.space_error.SpaceError.{SpaceError}
-use Rattle.mdl_calls.specs.declared.space_error.SpaceError.TheVariants.{NotHeld, NotExclusive, VersionFull, Def, WrongKind, OutOfMemory}
-use Rattle.mdl_calls.specs.Interface.{change_takes_memory, Answer, Refused, Changed}
-use Rattle.mdl_calls.specs.SessionLocks.{SessionLocks, ticket_held, holds}
-use Rattle.mdl_calls.specs.Causes.{Knowledge, OfHeld}
-use Rattle.mdl_calls.specs.SessionData.{SessionData}
-use Rattle.mdl_calls.specs.Meetings.{ReadsNothing, ChangesThere, IsRefusedFor}
-use Rattle.mdl_calls.specs.CallSpec.{CallSpec, unchanged}
+use Rattle.mdl_calls.specs.FirstWords.{Answer, CallSpec, Change, Changed, ChangesThere, Def, Held, IsRefusedFor, Knowledge, NotExclusive, NotHeld, OfHeld, OutOfMemory, ReadsNothing, Refused, SessionData, SessionLocks, SpaceError, VersionFull, WrongKind, X, change_takes_memory, holds, same_mode, ticket_held, unchanged}
 
 -- its answers
 abbrev pub answers : Answer → Bool

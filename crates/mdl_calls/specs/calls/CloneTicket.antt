@@ -2,14 +2,7 @@
 -- the held ticket doesn't cover the mode or the mode isn't one of the key's kind, if there is no number or no room left for a ticket, or if memory runs out.
 -- It never waits, and the held ticket is unchanged.
 use Rattle.std.specs.Prelude.{◌≡◌, ℕ, Bool, true, false}
-use Rattle.mdl_key.specs.declared.mode.Mode.{Mode}
-use Rattle.mdl_calls.specs.declared.space_error.SpaceError.{SpaceError}
-use Rattle.mdl_calls.specs.declared.space_error.SpaceError.TheVariants.{NotHeld, AlreadyWaiting, BadMode, CounterFull, Full, OutOfMemory}
-use Rattle.mdl_calls.specs.Interface.{Answer, Refused, Granted}
-use Rattle.mdl_calls.specs.SessionLocks.{SessionLocks, holds, is_waiting}
-use Rattle.mdl_calls.specs.Effects.{Effect, Keeps, Clones}
-use Rattle.mdl_calls.specs.Causes.{Knowledge, OfHeld, MayClone, MayNotClone}
-use Rattle.mdl_calls.specs.CallSpec.{CallSpec, unchanged}
+use Rattle.mdl_calls.specs.FirstWords.{AlreadyWaiting, Answer, BadMode, CallSpec, Clones, CounterFull, Effect, Full, Granted, Keeps, Knowledge, MayClone, MayNotClone, Mode, NotHeld, OfHeld, OutOfMemory, Refused, SessionLocks, SpaceError, holds, is_waiting, unchanged}
 
 -- its answers
 abbrev pub answers : Answer → Bool

@@ -1,14 +1,7 @@
 -- `downgrade`: a weaker mode of a held ticket. It takes no memory, and is refused only if no such ticket is held, or if it can't be downgraded so. It changes
 -- no other ticket and no wait.
 use Rattle.std.specs.Prelude.{◌≡◌, ℕ, Bool, true, false}
-use Rattle.mdl_key.specs.declared.mode.Mode.{Mode}
-use Rattle.mdl_calls.specs.declared.space_error.SpaceError.{SpaceError}
-use Rattle.mdl_calls.specs.declared.space_error.SpaceError.TheVariants.{NotHeld, NotUpgradable}
-use Rattle.mdl_calls.specs.Interface.{Answer, Refused, Done}
-use Rattle.mdl_calls.specs.SessionLocks.{SessionLocks, holds}
-use Rattle.mdl_calls.specs.Effects.{Effect, Keeps, Lowers}
-use Rattle.mdl_calls.specs.Causes.{Knowledge, OfHeld, MayDowngrade, MayNotDowngrade}
-use Rattle.mdl_calls.specs.CallSpec.{CallSpec, unchanged}
+use Rattle.mdl_calls.specs.FirstWords.{Answer, CallSpec, Done, Effect, Keeps, Knowledge, Lowers, MayDowngrade, MayNotDowngrade, Mode, NotHeld, NotUpgradable, OfHeld, Refused, SessionLocks, SpaceError, holds, unchanged}
 
 -- its answers
 abbrev pub answers : Answer → Bool

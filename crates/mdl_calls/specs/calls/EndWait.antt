@@ -1,16 +1,9 @@
 -- `end_wait`: the end of the session's settled wait. If the wait was granted, the session now holds the ticket. It takes no memory, and is refused only if
 -- there is no wait, or if the wait isn't settled and then goes on. No answer says that a granted wait was lost.
 use Rattle.std.specs.Prelude.{◌≡◌, ℕ, Bool, true, false, Option, Some, None}
-use Rattle.mdl_calls.specs.declared.answers.Settled.{Settled}
-use Rattle.mdl_calls.specs.declared.answers.Settled.TheVariants as settled_as
-use Rattle.mdl_calls.specs.declared.space_error.SpaceError.{SpaceError}
-use Rattle.mdl_calls.specs.declared.space_error.SpaceError.TheVariants.{NoWait, Unsettled}
-use Rattle.mdl_calls.specs.Interface.{Answer, Refused, Granted, Lost}
-use Rattle.mdl_calls.specs.SessionLocks.{SessionLocks, is_waiting}
-use Rattle.mdl_calls.specs.Effects.{Effect, Keeps, Wins, Ends}
-use Rattle.mdl_calls.specs.Causes.{Knowledge}
+use Rattle.mdl_calls.specs.FirstWords.{Answer, CallSpec, Effect, Ends, Granted, Keeps, Knowledge, Lost, NoWait, Refused, SessionLocks, Settled, SpaceError, Unsettled, Wins, is_waiting, unchanged}
 use Rattle.mdl_calls.specs.Waits.{IsEndOf}
-use Rattle.mdl_calls.specs.CallSpec.{CallSpec, unchanged}
+use Rattle.mdl_calls.specs.declared.answers.Settled.TheVariants as settled_as
 
 -- its answers
 abbrev pub answers : Answer → Bool

@@ -1,13 +1,6 @@
 -- `key_of`: the key of a place. It is refused only if the session doesn't know the place, or if memory runs out. It changes nothing.
 use Rattle.std.specs.Prelude.{◌≡◌, ℕ, Bool, true, false, Some}
-use Rattle.mdl_calls.specs.declared.space_error.SpaceError.{SpaceError}
-use Rattle.mdl_calls.specs.declared.space_error.SpaceError.TheVariants.{NoPlace, OutOfMemory}
-use Rattle.mdl_calls.specs.Interface.{Answer, Refused, Key_is}
-use Rattle.mdl_calls.specs.SessionLocks.{SessionLocks}
-use Rattle.mdl_calls.specs.Causes.{Knowledge, IsUnknown}
-use Rattle.mdl_key.specs.KeyLookups.{key_known}
-use Rattle.mdl_calls.specs.SessionData.{SessionData}
-use Rattle.mdl_calls.specs.CallSpec.{CallSpec, unchanged}
+use Rattle.mdl_calls.specs.FirstWords.{Answer, CallSpec, IsUnknown, Key_is, Knowledge, NoPlace, OutOfMemory, Refused, SessionData, SessionLocks, SpaceError, key_known, unchanged}
 
 -- its answers
 abbrev pub answers : Answer → Bool

@@ -1,11 +1,8 @@
 -- `kill`: the kill of a session's wait of this number, unless it is settled already. It has no caller: any session may make it. It takes no memory, ends no
 -- wait, changes no ticket, and is never refused.
 use Rattle.std.specs.Prelude.{◌≡◌, ℕ, Bool, true, false, Some, None, is_some}
+use Rattle.mdl_calls.specs.FirstWords.{Answer, CallSpec, Has_killed, SessionData, unchanged, wait_number}
 use Rattle.mdl_calls.specs.declared.answers.Settled.TheVariants as settled_as
-use Rattle.mdl_calls.specs.Interface.{Answer, Has_killed}
-use Rattle.mdl_calls.specs.SessionLocks.{wait_number}
-use Rattle.mdl_calls.specs.SessionData.{SessionData}
-use Rattle.mdl_calls.specs.CallSpec.{CallSpec, unchanged}
 
 -- its answers
 abbrev pub answers : Answer → Bool

@@ -1,8 +1,6 @@
 -- `held`: the tickets that the session holds, in the order in which it got them. It is refused only if memory runs out, and changes nothing.
 use Rattle.std.specs.Prelude.{◌≡◌, ℕ, Bool, true, false}
-use Rattle.mdl_calls.specs.Interface.{Answer, Refused, Holds}
-use Rattle.mdl_calls.specs.SessionData.{SessionData}
-use Rattle.mdl_calls.specs.CallSpec.{CallSpec, unchanged, memory_cause}
+use Rattle.mdl_calls.specs.FirstWords.{Answer, CallSpec, Holds, Refused, SessionData, memory_cause, unchanged}
 
 -- its answers
 abbrev pub answers : Answer → Bool

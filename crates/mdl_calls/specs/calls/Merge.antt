@@ -1,13 +1,7 @@
 -- `merge`: two held tickets of one place merged into one: the old one gets the mode of the new one, which is released. It is refused if one of them isn't
 -- held, if the session waits, if they can't be merged, if there is no room left for a ticket, or if memory runs out. It changes no other ticket.
 use Rattle.std.specs.Prelude.{◌≡◌, ℕ, Bool, true, false, ◌&&◌}
-use Rattle.mdl_calls.specs.declared.space_error.SpaceError.{SpaceError}
-use Rattle.mdl_calls.specs.declared.space_error.SpaceError.TheVariants.{NotHeld, AlreadyWaiting, BadMode, Full, OutOfMemory}
-use Rattle.mdl_calls.specs.Interface.{Answer, Refused, Done}
-use Rattle.mdl_calls.specs.SessionLocks.{SessionLocks, holds, is_waiting}
-use Rattle.mdl_calls.specs.Effects.{Effect, Keeps, Merges}
-use Rattle.mdl_calls.specs.Causes.{Knowledge, Mergeable}
-use Rattle.mdl_calls.specs.CallSpec.{CallSpec, unchanged}
+use Rattle.mdl_calls.specs.FirstWords.{AlreadyWaiting, Answer, BadMode, CallSpec, Done, Effect, Full, Keeps, Knowledge, Mergeable, Merges, NotHeld, OutOfMemory, Refused, SessionLocks, SpaceError, holds, is_waiting, unchanged}
 
 -- its answers
 abbrev pub answers : Answer → Bool

@@ -1,9 +1,6 @@
 -- `poll_wait`: the state of the session's wait. It takes no memory, changes nothing, and is refused only if there is no wait.
 use Rattle.std.specs.Prelude.{◌≡◌, ℕ, Bool, true, false, Option, Some, None}
-use Rattle.mdl_calls.specs.declared.answers.Settled.{Settled}
-use Rattle.mdl_calls.specs.Interface.{Answer, Refused, Pending, Is_settled}
-use Rattle.mdl_calls.specs.SessionLocks.{is_waiting}
-use Rattle.mdl_calls.specs.CallSpec.{CallSpec, unchanged, no_wait_cause}
+use Rattle.mdl_calls.specs.FirstWords.{Answer, CallSpec, Is_settled, Pending, Refused, Settled, is_waiting, no_wait_cause, unchanged}
 
 -- its answers
 abbrev pub answers : Answer → Bool

@@ -1,12 +1,7 @@
 -- `read_definition`: the version and the definition at a held ticket's place. It is refused only if no such ticket is held, or if memory runs out, and then
 -- reads nothing. It changes no ticket and no wait.
 use Rattle.std.specs.Prelude.{◌≡◌, ℕ, Bool, true, false, Some}
-use Rattle.mdl_calls.specs.Interface.{Answer, Refused, Reads}
-use Rattle.mdl_calls.specs.SessionLocks.{holds}
-use Rattle.mdl_calls.specs.Causes.{OfHeld}
-use Rattle.mdl_calls.specs.SessionData.{SessionData}
-use Rattle.mdl_calls.specs.Meetings.{ReadsNothing, ReadsThere}
-use Rattle.mdl_calls.specs.CallSpec.{CallSpec, unchanged, read_cause}
+use Rattle.mdl_calls.specs.FirstWords.{Answer, CallSpec, OfHeld, Reads, ReadsNothing, ReadsThere, Refused, SessionData, holds, read_cause, unchanged}
 
 -- its answers
 abbrev pub answers : Answer → Bool

@@ -1,12 +1,7 @@
 -- `read_kept`: like `read_definition`, with the session's cache. If memory runs out it may have read what the session had read before, and nothing else. What
 -- the call does to the cache stands in `Caches`.
 use Rattle.std.specs.Prelude.{◌≡◌, ℕ, Bool, true, false, Some}
-use Rattle.mdl_calls.specs.Interface.{Answer, Refused, Reads}
-use Rattle.mdl_calls.specs.SessionLocks.{holds}
-use Rattle.mdl_calls.specs.Causes.{OfHeld}
-use Rattle.mdl_calls.specs.SessionData.{SessionData}
-use Rattle.mdl_calls.specs.Meetings.{ReadsNothing, ReadsThere, ReadsInVain}
-use Rattle.mdl_calls.specs.CallSpec.{CallSpec, unchanged, read_cause}
+use Rattle.mdl_calls.specs.FirstWords.{Answer, CallSpec, OfHeld, Reads, ReadsInVain, ReadsNothing, ReadsThere, Refused, SessionData, holds, read_cause, unchanged}
 
 -- its answers
 abbrev pub answers : Answer → Bool

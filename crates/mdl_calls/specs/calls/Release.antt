@@ -1,10 +1,7 @@
 -- `release`: the release of a held ticket. It takes no memory, and is refused only if no such ticket is held. It changes no other ticket and no wait, and
 -- learns and reads nothing.
 use Rattle.std.specs.Prelude.{◌≡◌, ℕ, Bool, true, false}
-use Rattle.mdl_calls.specs.Interface.{Answer, Refused, Done}
-use Rattle.mdl_calls.specs.SessionLocks.{holds}
-use Rattle.mdl_calls.specs.Effects.{Effect, Keeps, GivesUp}
-use Rattle.mdl_calls.specs.CallSpec.{CallSpec, unchanged, no_ticket_cause}
+use Rattle.mdl_calls.specs.FirstWords.{Answer, CallSpec, Done, Effect, GivesUp, Keeps, Refused, holds, no_ticket_cause, unchanged}
 
 -- its answers
 abbrev pub answers : Answer → Bool

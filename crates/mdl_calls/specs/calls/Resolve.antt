@@ -1,16 +1,7 @@
 -- `resolve`: the place of a key. The session knows it from then on. That it also pins it is a law of spaces (`resolved_pinned`). A call is refused if no
 -- place is left, in which case the session knows no place of the key, or if memory runs out. It changes no ticket and no wait, and reads nothing.
 use Rattle.std.specs.Prelude.{◌≡◌, ℕ, Bool, true, false, List}
-use Rattle.mdl_key.specs.Words.{KeyName}
-use Rattle.mdl_calls.specs.declared.space_error.SpaceError.{SpaceError}
-use Rattle.mdl_calls.specs.declared.space_error.SpaceError.TheVariants.{NoPlace, OutOfMemory}
-use Rattle.mdl_calls.specs.Interface.{Answer, Refused, At_place}
-use Rattle.mdl_calls.specs.SessionLocks.{SessionLocks}
-use Rattle.mdl_calls.specs.Causes.{Knowledge, IsUnplaced}
-use Rattle.mdl_key.specs.declared.known_key.KnownKey.{KnownKey}
-use Rattle.mdl_key.specs.KeyLookups.{place_known}
-use Rattle.mdl_calls.specs.Learning.{LearnsPlace}
-use Rattle.mdl_calls.specs.CallSpec.{CallSpec, unchanged}
+use Rattle.mdl_calls.specs.FirstWords.{Answer, At_place, CallSpec, IsUnplaced, KeyName, Knowledge, KnownKey, LearnsPlace, NoPlace, OutOfMemory, Refused, SessionLocks, SpaceError, place_known, unchanged}
 
 -- its answers
 abbrev pub answers : Answer → Bool

@@ -2,10 +2,8 @@
 -- is the victim, it then knows that its wait is settled so. Of another victim nothing is said here: that its wait is settled so is a law of a space that
 -- speaks for it (`victims`). The call is refused only if memory runs out. It changes no ticket, ends no wait, learns no key and reads nothing.
 use Rattle.std.specs.Prelude.{◌≡◌, ℕ, Bool, true, false, Some}
+use Rattle.mdl_calls.specs.FirstWords.{Answer, CallSpec, No_cycle, Refused, SessionData, Victim_is, memory_cause, unchanged}
 use Rattle.mdl_calls.specs.declared.answers.Settled.TheVariants as settled_as
-use Rattle.mdl_calls.specs.Interface.{Answer, Refused, No_cycle, Victim_is}
-use Rattle.mdl_calls.specs.SessionData.{SessionData}
-use Rattle.mdl_calls.specs.CallSpec.{CallSpec, unchanged, memory_cause}
 
 -- its answers
 abbrev pub answers : Answer → Bool

@@ -1,12 +1,9 @@
 -- `settle_timeout`: the timeout of the session's wait, unless that is settled already. It takes no memory, and is refused only if there is no wait. It ends no
 -- wait, and changes no ticket.
 use Rattle.std.specs.Prelude.{◌≡◌, ℕ, Bool, true, false, Option, Some, None}
-use Rattle.mdl_calls.specs.declared.answers.Settled.{Settled}
+use Rattle.mdl_calls.specs.FirstWords.{Answer, CallSpec, Refused, Settled, Timed_out, is_waiting, no_wait_cause, unchanged}
 use Rattle.mdl_calls.specs.declared.answers.Settled.TheVariants as settled_as
 use Rattle.mdl_calls.specs.declared.answers.TimedOut.TheVariants.{ByThisCall, Already}
-use Rattle.mdl_calls.specs.Interface.{Answer, Refused, Timed_out}
-use Rattle.mdl_calls.specs.SessionLocks.{is_waiting}
-use Rattle.mdl_calls.specs.CallSpec.{CallSpec, unchanged, no_wait_cause}
 
 -- its answers
 abbrev pub answers : Answer → Bool

@@ -3,10 +3,7 @@
 -- `mdl_shared` says that the place of each table that the directory has of the schema was looked at, and that these are the places that had a definition then
 -- (`calls/TablesOf`). The call is refused only if memory runs out. It changes no ticket and no wait, and reads nothing.
 use Rattle.std.specs.Prelude.{◌≡◌, ℕ, Bool, true, false, List}
-use Rattle.mdl_calls.specs.Interface.{Answer, Refused, Tables}
-use Rattle.mdl_key.specs.declared.known_key.KnownKey.{KnownKey}
-use Rattle.mdl_calls.specs.Learning.{LearnsTables}
-use Rattle.mdl_calls.specs.CallSpec.{CallSpec, unchanged, memory_cause}
+use Rattle.mdl_calls.specs.FirstWords.{Answer, CallSpec, KnownKey, LearnsTables, Refused, Tables, memory_cause, unchanged}
 
 -- its answers
 abbrev pub answers : Answer → Bool

@@ -1,12 +1,6 @@
 -- `unpin`: the end of the session's pin of a place. It takes no memory, and is refused only if the session doesn't pin the place, or if the place is in use:
 -- it has a ticket or a wait there, or owes it a reschedule. Sessions of a shared space have no such call yet.
-use Rattle.std.specs.Prelude.{ℕ, Bool, true, false}
-use Rattle.mdl_calls.specs.declared.space_error.SpaceError.{SpaceError}
-use Rattle.mdl_calls.specs.declared.space_error.SpaceError.TheVariants.{NoPlace, InUse}
-use Rattle.mdl_calls.specs.Interface.{Answer, Refused, Done}
-use Rattle.mdl_calls.specs.SessionLocks.{SessionLocks}
-use Rattle.mdl_calls.specs.Causes.{Knowledge}
-use Rattle.mdl_calls.specs.CallSpec.{CallSpec, unchanged}
+use Rattle.mdl_calls.specs.FirstWords.{Answer, Bool, CallSpec, Done, InUse, Knowledge, NoPlace, Refused, SessionLocks, SpaceError, false, true, unchanged, ℕ}
 
 -- its answers
 abbrev pub answers : Answer → Bool

@@ -3,16 +3,7 @@
 -- waits, if there is no room left for a ticket, or if memory runs out. For the last three reasons, so also for want of room (`Full`), it may be refused even
 -- if the held mode covers the mode. It never begins a wait, and changes no other ticket.
 use Rattle.std.specs.Prelude.{◌≡◌, ℕ, Bool, true, false}
-use Rattle.mdl_key.specs.declared.mode.Mode.{Mode}
-use Rattle.mdl_system.specs.Strength.{covers}
-use Rattle.mdl_calls.specs.declared.space_error.SpaceError.{SpaceError}
-use Rattle.mdl_calls.specs.declared.space_error.SpaceError.TheVariants.{NotHeld, NotUpgradable, AlreadyWaiting, Full, OutOfMemory}
-use Rattle.mdl_calls.specs.Interface.{Answer, Refused, Would_wait, Upgraded}
-use Rattle.mdl_calls.specs.SessionLocks.{SessionLocks, holds, is_waiting}
-use Rattle.mdl_calls.specs.Effects.{Effect, Keeps, Raises}
-use Rattle.mdl_calls.specs.Causes.{Knowledge, OfHeld, MayUpgrade, MayNotUpgrade}
-use Rattle.mdl_calls.specs.SessionData.{SessionData}
-use Rattle.mdl_calls.specs.CallSpec.{CallSpec, unchanged}
+use Rattle.mdl_calls.specs.FirstWords.{AlreadyWaiting, Answer, CallSpec, Effect, Full, Keeps, Knowledge, MayNotUpgrade, MayUpgrade, Mode, NotHeld, NotUpgradable, OfHeld, OutOfMemory, Raises, Refused, SessionData, SessionLocks, SpaceError, Upgraded, Would_wait, covers, holds, is_waiting, unchanged}
 
 -- its answers
 abbrev pub answers : Answer → Bool

@@ -1,10 +1,7 @@
 -- `wait_of`: the number of a session's wait, if it has one. It has no caller: any session may make it. It takes no memory, changes nothing, and is never
 -- refused.
 use Rattle.std.specs.Prelude.{◌≡◌, ℕ, Bool, true, false, None}
-use Rattle.mdl_calls.specs.Interface.{Answer, Has_wait}
-use Rattle.mdl_calls.specs.SessionLocks.{wait_number}
-use Rattle.mdl_calls.specs.SessionData.{SessionData}
-use Rattle.mdl_calls.specs.CallSpec.{CallSpec, unchanged}
+use Rattle.mdl_calls.specs.FirstWords.{Answer, CallSpec, Has_wait, SessionData, unchanged, wait_number}
 
 -- its answers
 abbrev pub answers : Answer → Bool

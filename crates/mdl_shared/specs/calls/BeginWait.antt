@@ -1,21 +1,7 @@
 -- A lock, or otherwise a wait for it: on the fast path, or, where that is closed, in one visit to the place, once all fast tickets of the session are slow
 -- ones. If a step finds the request blocked there, the next step opens the wait.
 use Rattle.std.specs.Prelude.{◌≡◌, ◌⊎◌, ℕ, true, List, [], ◌∷◌, Option, Some}
-use Rattle.mdl_key.specs.declared.mode.Mode.{Mode}
-use Rattle.mdl_calls.specs.declared.space_error.SpaceError.{SpaceError}
-use Rattle.mdl_calls.specs.Words.{Answer, Refused, Granted, Waits}
-use Rattle.mdl_steps.specs.declared.deed.Deed.{Deed}
-use Rattle.mdl_steps.specs.declared.deed.Deed.TheVariants.{Gain}
-use Rattle.mdl_steps.specs.declared.view.StepRecord.{StepRecord}
-use Rattle.mdl_steps.specs.declared.view.SessionTicket.{SessionTicket}
-use Rattle.mdl_visits.specs.Visits.{AreStepsOf, MeetsBlocked, MeetsFull}
-use Rattle.mdl_visits.specs.WaitOpenings.{MeetsOpening}
-use Rattle.mdl_shared.specs.Debts.{KeepsDebts, OwesSame}
-use Rattle.mdl_key.specs.KeyLookups.{kind_known}
-use Rattle.mdl_shared.specs.Members.{obtrudes_at, wish_fault}
-use Rattle.mdl_shared.specs.SessionViews.{Lists, SessionView}
-use Rattle.mdl_shared.specs.WishSteps.{ByLatch, IsGranted, LacksRoomForWish}
-use Rattle.mdl_shared.specs.StepSpec.{StepSpec, no_steps}
+use Rattle.mdl_shared.specs.FirstWords.{Answer, AreStepsOf, ByLatch, Deed, Gain, Granted, IsGranted, KeepsDebts, LacksRoomForWish, Lists, MeetsBlocked, MeetsFull, MeetsOpening, Mode, OwesSame, Refused, SessionTicket, SessionView, SpaceError, StepRecord, StepSpec, Waits, kind_known, no_steps, obtrudes_at, wish_fault}
 
 -- why the session's own lists refuse it
 abbrev pub own_fault : ℕ → Mode → Lists → Option SpaceError

@@ -1,16 +1,7 @@
 -- A change of the definition at the place of a held ticket in mode X: in one visit to the place, at which it is changed, or refused for what stands there
 -- or for lack of memory.
 use Rattle.std.specs.Prelude.{◌≡◌, ◌⊎◌, ℕ, Option, Some}
-use Rattle.mdl_key.specs.declared.mode.Mode.TheVariants.{X}
-use Rattle.mdl_defs.specs.declared.change.Change.{Change}
-use Rattle.mdl_calls.specs.declared.space_error.SpaceError.{SpaceError}
-use Rattle.mdl_calls.specs.Words.{Answer, Refused, Changed}
-use Rattle.mdl_visits.specs.Numbers.{numbered}
-use Rattle.mdl_visits.specs.Redefinitions.{IsRefusedAs, Redefines, exclusive_fault}
-use Rattle.mdl_visits.specs.Visits.{VisitsOnce}
-use Rattle.mdl_shared.specs.SessionViews.{Lists, SessionView, all_tickets}
-use Rattle.mdl_shared.specs.Steps.{OfTicket}
-use Rattle.mdl_shared.specs.StepSpec.{StepSpec, no_steps}
+use Rattle.mdl_shared.specs.FirstWords.{Answer, Change, Changed, IsRefusedAs, Lists, OfTicket, Redefines, Refused, SessionView, SpaceError, StepSpec, VisitsOnce, X, all_tickets, exclusive_fault, no_steps, numbered}
 
 -- why the session's own lists refuse it
 abbrev pub own_fault : ℕ → Lists → Option SpaceError

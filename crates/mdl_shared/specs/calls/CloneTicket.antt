@@ -1,19 +1,7 @@
 -- A second ticket beside a held one: on the fast path, or, where that is closed, in one visit to the place, once all fast tickets of the session are slow
 -- ones.
 use Rattle.std.specs.Prelude.{◌≡◌, ◌⊎◌, ℕ, false, List, [], ◌∷◌, Option, Some}
-use Rattle.mdl_key.specs.declared.mode.Mode.{Mode}
-use Rattle.mdl_calls.specs.declared.space_error.SpaceError.{SpaceError}
-use Rattle.mdl_calls.specs.Words.{Answer, Refused, Granted}
-use Rattle.mdl_steps.specs.declared.deed.Deed.{Deed}
-use Rattle.mdl_steps.specs.declared.deed.Deed.TheVariants.{Gain}
-use Rattle.mdl_steps.specs.declared.view.SessionTicket.{SessionTicket}
-use Rattle.mdl_visits.specs.Numbers.{numbered}
-use Rattle.mdl_visits.specs.Visits.{MeetsFull}
-use Rattle.mdl_shared.specs.Modes.{clone_fault}
-use Rattle.mdl_shared.specs.SessionViews.{Lists, SessionView, all_tickets}
-use Rattle.mdl_shared.specs.Steps.{OfTicket}
-use Rattle.mdl_shared.specs.WishSteps.{IsCloned, LacksRoomForWish}
-use Rattle.mdl_shared.specs.StepSpec.{StepSpec, no_steps}
+use Rattle.mdl_shared.specs.FirstWords.{Answer, Deed, Gain, Granted, IsCloned, LacksRoomForWish, Lists, MeetsFull, Mode, OfTicket, Refused, SessionTicket, SessionView, SpaceError, StepSpec, all_tickets, clone_fault, no_steps, numbered}
 
 -- why the session's own lists refuse it
 abbrev pub own_fault : ℕ → Mode → Lists → Option SpaceError

@@ -1,18 +1,6 @@
 -- A weaker mode of a held ticket: in one visit to its place, where the waits that can be granted then are granted.
 use Rattle.std.specs.Prelude.{◌≡◌, ℕ, List, [], ◌∷◌, Option, Some}
-use Rattle.mdl_key.specs.declared.mode.Mode.{Mode}
-use Rattle.mdl_calls.specs.declared.space_error.SpaceError.{SpaceError}
-use Rattle.mdl_calls.specs.Words.{Answer, Refused, Done}
-use Rattle.mdl_steps.specs.declared.deed.Deed.{Deed}
-use Rattle.mdl_steps.specs.declared.deed.Deed.TheVariants.{Alter}
-use Rattle.mdl_steps.specs.declared.view.SessionTicket.{SessionTicket}
-use Rattle.mdl_visits.specs.Numbers.{numbered}
-use Rattle.mdl_visits.specs.Polls.{SettlesNothing}
-use Rattle.mdl_shared.specs.Debts.{KeepsDebts}
-use Rattle.mdl_shared.specs.Modes.{downgrade_fault}
-use Rattle.mdl_shared.specs.SessionViews.{Lists, SessionView, all_tickets}
-use Rattle.mdl_shared.specs.Steps.{OfTicket, MeetsTicket, Reschedules}
-use Rattle.mdl_shared.specs.StepSpec.{StepSpec, no_steps}
+use Rattle.mdl_shared.specs.FirstWords.{Alter, Answer, Deed, Done, KeepsDebts, Lists, MeetsTicket, Mode, OfTicket, Refused, Reschedules, SessionTicket, SessionView, SettlesNothing, SpaceError, StepSpec, all_tickets, downgrade_fault, no_steps, numbered}
 
 -- why the session's own lists refuse it
 abbrev pub own_fault : ℕ → Mode → Lists → Option SpaceError

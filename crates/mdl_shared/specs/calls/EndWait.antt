@@ -2,18 +2,7 @@
 -- ends by one step more. A lost one ends in one visit to its place, where the waits that can be granted then are granted.
 use Rattle.std.specs.Prelude.{◌≡◌, ◌⊎◌, Some}
 use Rattle.mdl_calls.specs.declared.space_error.SpaceError.TheVariants as cause
-use Rattle.mdl_calls.specs.Words.{Answer, Refused, Granted, Lost}
-use Rattle.mdl_steps.specs.declared.view.Ask.{Ask}
-use Rattle.mdl_steps.specs.WaitStates.{granted_state, unsettled_state}
-use Rattle.mdl_visits.specs.Grantings.{HasRescheduled}
-use Rattle.mdl_visits.specs.Polls.{SettlesNothing, settled_state}
-use Rattle.mdl_visits.specs.Visits.{VisitsOnce}
-use Rattle.mdl_visits.specs.WaitEndings.{mine_without_wait}
-use Rattle.mdl_shared.specs.Debts.{KeepsDebts, Pays}
-use Rattle.mdl_shared.specs.SessionViews.{Lists, SessionView}
-use Rattle.mdl_shared.specs.Waitings.{wait_fault}
-use Rattle.mdl_shared.specs.Steps.{LooksThen, EndsByOneStep, EndsOwnWait}
-use Rattle.mdl_shared.specs.StepSpec.{StepSpec, no_steps}
+use Rattle.mdl_shared.specs.FirstWords.{Answer, Ask, EndsByOneStep, EndsOwnWait, Granted, HasRescheduled, KeepsDebts, Lists, LooksThen, Lost, Pays, Refused, SessionView, SettlesNothing, StepSpec, VisitsOnce, granted_state, mine_without_wait, no_steps, settled_state, unsettled_state, wait_fault}
 
 -- the end of a lost wait may settle waits of others: `HasRescheduled` of mdl_visits/specs/Grantings says which
 abbrev pub settled : Answer → Lists → SessionView → SessionView → Type 0

@@ -1,7 +1,5 @@
 -- The key of a place, by the session's own lists: no step.
-use Rattle.std.specs.Prelude.{ℕ}
-use Rattle.mdl_shared.specs.OwnLists.{naming_fault}
-use Rattle.mdl_shared.specs.StepSpec.{StepSpec, no_steps}
+use Rattle.mdl_shared.specs.FirstWords.{StepSpec, naming_fault, no_steps, ℕ}
 
 -- the call
 abbrev pub key_of : ℕ → StepSpec

@@ -1,14 +1,8 @@
 -- The kill of a session's wait: at most two steps. If it killed the wait, one of them met the wait with this number unsettled; if not, one met another
 -- word. If the space has no such session, no step is made.
 use Rattle.std.specs.Prelude.{◌≡◌, ℕ, true, false}
-use Rattle.mdl_calls.specs.Limits.{is_within}
-use Rattle.mdl_calls.specs.Words.{Answer, Has_killed}
 use Rattle.mdl_steps.specs.declared.wait_word.Loss.TheVariants as loss
-use Rattle.mdl_steps.specs.WaitStates.{lost_state, unsettled_state, wait_in}
-use Rattle.mdl_visits.specs.Polls.{MeetsOther, MeetsWait, Settles, SettlesNothing}
-use Rattle.mdl_shared.specs.SessionViews.{Lists, SessionView}
-use Rattle.mdl_shared.specs.Steps.{ShowsStep, MakesNoStep, StaysFor}
-use Rattle.mdl_shared.specs.StepSpec.{StepSpec, no_steps}
+use Rattle.mdl_shared.specs.FirstWords.{Answer, Has_killed, Lists, MakesNoStep, MeetsOther, MeetsWait, SessionView, Settles, SettlesNothing, ShowsStep, StaysFor, StepSpec, is_within, lost_state, no_steps, unsettled_state, wait_in}
 
 -- the wait is settled if this call did it, and no other
 abbrev pub settled : ℕ → ℕ → Answer → Lists → SessionView → SessionView → Type 0

@@ -1,18 +1,6 @@
 -- Two held tickets of one place merged into one: in one visit to the place, once all fast tickets of the session are slow ones.
 use Rattle.std.specs.Prelude.{◌≡◌, ◌⊎◌, ℕ, false, List, [], ◌∷◌, Option, Some, Ok}
-use Rattle.mdl_calls.specs.declared.space_error.SpaceError.{SpaceError}
-use Rattle.mdl_calls.specs.Words.{Answer, Refused, Done}
-use Rattle.mdl_steps.specs.declared.deed.Deed.{Deed}
-use Rattle.mdl_steps.specs.declared.deed.Deed.TheVariants.{Alter, Lose}
-use Rattle.mdl_steps.specs.declared.view.SessionTicket.{SessionTicket}
-use Rattle.mdl_visits.specs.Leavings.{MeetsOwn}
-use Rattle.mdl_visits.specs.Numbers.{numbered}
-use Rattle.mdl_shared.specs.Doings.{merge_deeds}
-use Rattle.mdl_shared.specs.Modes.{merge_fault}
-use Rattle.mdl_shared.specs.SessionViews.{Lists, SessionView, all_tickets}
-use Rattle.mdl_shared.specs.Steps.{ShowsStep, OfTicket}
-use Rattle.mdl_shared.specs.WishSteps.{StopsSlowing, ByVisit, LacksRoomForFast}
-use Rattle.mdl_shared.specs.StepSpec.{StepSpec, no_steps}
+use Rattle.mdl_shared.specs.FirstWords.{Alter, Answer, ByVisit, Deed, Done, LacksRoomForFast, Lists, Lose, MeetsOwn, OfTicket, Refused, SessionTicket, SessionView, ShowsStep, SpaceError, StepSpec, StopsSlowing, all_tickets, merge_deeds, merge_fault, no_steps, numbered}
 
 -- why the session's own lists refuse it
 abbrev pub own_fault : ℕ → ℕ → Lists → Option SpaceError

@@ -1,12 +1,6 @@
 -- The state of the session's wait: one step, which reads the word of the wait.
 use Rattle.std.specs.Prelude.{◌≡◌, Some}
-use Rattle.mdl_calls.specs.Words.{Answer, Refused, Pending, Is_settled}
-use Rattle.mdl_steps.specs.WaitStates.{unsettled_state}
-use Rattle.mdl_visits.specs.Polls.{settled_state}
-use Rattle.mdl_shared.specs.SessionViews.{Lists, SessionView}
-use Rattle.mdl_shared.specs.Waitings.{wait_fault}
-use Rattle.mdl_shared.specs.Steps.{MeetsOwnWait}
-use Rattle.mdl_shared.specs.StepSpec.{StepSpec, no_steps}
+use Rattle.mdl_shared.specs.FirstWords.{Answer, Is_settled, Lists, MeetsOwnWait, Pending, Refused, SessionView, StepSpec, no_steps, settled_state, unsettled_state, wait_fault}
 
 -- which step was made, and what it met
 abbrev pub met : Answer → Lists → SessionView → SessionView → Type 0

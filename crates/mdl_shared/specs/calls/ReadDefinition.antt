@@ -1,12 +1,7 @@
 -- The version and the definition at a held ticket's place: in one visit to the place.
 use Rattle.std.specs.Prelude.{◌≡◌, ◌⊎◌, ℕ, Some}
 use Rattle.mdl_calls.specs.declared.space_error.SpaceError.TheVariants as cause
-use Rattle.mdl_calls.specs.Words.{Answer, Refused, Reads}
-use Rattle.mdl_shared.specs.Members.{holding_fault}
-use Rattle.mdl_shared.specs.SessionViews.{Lists, SessionView, all_tickets}
-use Rattle.mdl_shared.specs.Steps.{OfTicket}
-use Rattle.mdl_shared.specs.ReadSteps.{ReadsByLatch, VisitsInVain}
-use Rattle.mdl_shared.specs.StepSpec.{StepSpec, no_steps}
+use Rattle.mdl_shared.specs.FirstWords.{Answer, Lists, OfTicket, Reads, ReadsByLatch, Refused, SessionView, StepSpec, VisitsInVain, all_tickets, holding_fault, no_steps}
 
 -- which steps were made, and what they met. For lack of memory the visit is in vain
 abbrev pub met : ℕ → Answer → Lists → SessionView → SessionView → Type 0

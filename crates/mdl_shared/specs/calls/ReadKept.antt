@@ -1,14 +1,8 @@
 -- The version and the definition at a held ticket's place, with the session's cache: one step reads the version without the latch. Either that suffices, or
 -- the place is visited once after it. Which of the two, by the cache: `ReadsKept` of `KeptReads`.
 use Rattle.std.specs.Prelude.{◌≡◌, ◌⊎◌, ℕ, Some}
-use Rattle.mdl_defs.specs.declared.versioned_definition.VersionedDefinition.{VersionedDefinition}
 use Rattle.mdl_calls.specs.declared.space_error.SpaceError.TheVariants as cause
-use Rattle.mdl_calls.specs.Words.{Answer, Refused, Reads}
-use Rattle.mdl_shared.specs.Members.{holding_fault}
-use Rattle.mdl_shared.specs.SessionViews.{Lists, SessionView, all_tickets}
-use Rattle.mdl_shared.specs.Steps.{OfTicket}
-use Rattle.mdl_shared.specs.ReadSteps.{MissesVersion, FindsVersion, ReadsByLatch, VisitsInVain}
-use Rattle.mdl_shared.specs.StepSpec.{StepSpec, no_steps}
+use Rattle.mdl_shared.specs.FirstWords.{Answer, FindsVersion, Lists, MissesVersion, OfTicket, Reads, ReadsByLatch, Refused, SessionView, StepSpec, VersionedDefinition, VisitsInVain, all_tickets, holding_fault, no_steps}
 
 -- which steps were made, and what they met. Memory may run out for a copy of what the cache keeps, or in the visit, which is in vain then
 abbrev pub met : ℕ → Answer → Lists → SessionView → SessionView → Type 0

@@ -1,17 +1,7 @@
 -- The release of a held ticket: of a slow one in one visit to its place, of a fast one by one step on the word of the place. The waits there that can be
 -- granted then are granted. After a fast release the place is visited only if a session may be waiting there.
 use Rattle.std.specs.Prelude.{◌≡◌, ℕ, List, [], ◌∷◌, Some}
-use Rattle.mdl_calls.specs.Words.{Answer, Refused, Done}
-use Rattle.mdl_steps.specs.declared.deed.Deed.{Deed}
-use Rattle.mdl_steps.specs.declared.deed.Deed.TheVariants.{Lose}
-use Rattle.mdl_steps.specs.declared.view.SessionTicket.{SessionTicket}
-use Rattle.mdl_visits.specs.Numbers.{numbered}
-use Rattle.mdl_visits.specs.Polls.{SettlesNothing}
-use Rattle.mdl_shared.specs.Debts.{KeepsDebts}
-use Rattle.mdl_shared.specs.Members.{holding_fault}
-use Rattle.mdl_shared.specs.SessionViews.{Lists, SessionView, all_tickets}
-use Rattle.mdl_shared.specs.Steps.{OfTicket, GivesUpSlow, GivesUpFast}
-use Rattle.mdl_shared.specs.StepSpec.{StepSpec, no_steps}
+use Rattle.mdl_shared.specs.FirstWords.{Answer, Deed, Done, GivesUpFast, GivesUpSlow, KeepsDebts, Lists, Lose, OfTicket, Refused, SessionTicket, SessionView, SettlesNothing, StepSpec, all_tickets, holding_fault, no_steps, numbered}
 
 -- the ticket is lost
 abbrev pub did : ℕ → Answer → List SessionTicket → List Deed

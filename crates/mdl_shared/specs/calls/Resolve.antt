@@ -1,14 +1,9 @@
 -- The place of a key. A key that the session knows takes no step. For another one the session looks in the directory once, which has its place or gives it
 -- the next one.
 use Rattle.std.specs.Prelude.{◌≡◌, ◌⊎◌, ℕ, ◌<◌, Some, None, Ok, Err}
-use Rattle.mdl_key.specs.Words.{KeyName}
 use Rattle.mdl_calls.specs.declared.space_error.SpaceError.TheVariants as cause
-use Rattle.mdl_calls.specs.Words.{Answer, Refused, At_place}
 use Rattle.mdl_visits.specs.declared.resolve_error.ResolveError.TheVariants as resolve_error
-use Rattle.mdl_key.specs.KeyLookups.{place_known}
-use Rattle.mdl_shared.specs.SessionViews.{Lists, SessionView}
-use Rattle.mdl_shared.specs.Steps.{MakesNoStep, LooksUp}
-use Rattle.mdl_shared.specs.StepSpec.{StepSpec, no_steps}
+use Rattle.mdl_shared.specs.FirstWords.{Answer, At_place, KeyName, Lists, LooksUp, MakesNoStep, Refused, SessionView, StepSpec, no_steps, place_known}
 
 -- which steps were made, and what they met. The key is refused if the look finds the directory full. Memory may run out before the look, or at a look that
 -- finds a place left for the key

@@ -2,12 +2,7 @@
 -- wait is unsettled it searches, by one look at the directory.
 use Rattle.std.specs.Prelude.{◌≡◌, ◌⊎◌, true, false, None, is_some}
 use Rattle.mdl_calls.specs.declared.answers.Search.TheVariants as found
-use Rattle.mdl_calls.specs.Words.{Answer, Refused, No_cycle, Victim_is}
-use Rattle.mdl_visits.specs.Polls.{SettlesNothing}
-use Rattle.mdl_shared.specs.Debts.{OwesSame}
-use Rattle.mdl_shared.specs.SessionViews.{Lists, SessionView}
-use Rattle.mdl_shared.specs.Steps.{MakesNoStep, LooksAtKeys, SearchesFor, ReadsSettled, ReadsUnsettled}
-use Rattle.mdl_shared.specs.StepSpec.{StepSpec, no_steps}
+use Rattle.mdl_shared.specs.FirstWords.{Answer, Lists, LooksAtKeys, MakesNoStep, No_cycle, OwesSame, ReadsSettled, ReadsUnsettled, Refused, SearchesFor, SessionView, SettlesNothing, StepSpec, Victim_is, no_steps}
 
 -- a search may settle the victim's wait: `Searched` of mdl_visits/specs/Searches says whose
 abbrev pub settled : Answer → Lists → SessionView → SessionView → Type 0

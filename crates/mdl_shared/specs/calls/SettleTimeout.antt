@@ -1,14 +1,7 @@
 -- The timeout of the session's wait: one step, which settles the wait as timed out if it met it unsettled.
 use Rattle.std.specs.Prelude.{◌≡◌, Some}
-use Rattle.mdl_calls.specs.declared.answers.TimedOut.TheVariants.{ByThisCall, Already}
-use Rattle.mdl_calls.specs.Words.{Answer, Refused, Timed_out}
 use Rattle.mdl_steps.specs.declared.wait_word.Loss.TheVariants as loss
-use Rattle.mdl_steps.specs.WaitStates.{lost_state, unsettled_state}
-use Rattle.mdl_visits.specs.Polls.{Settles, SettlesNothing, settled_state}
-use Rattle.mdl_shared.specs.SessionViews.{Lists, SessionView}
-use Rattle.mdl_shared.specs.Waitings.{wait_fault}
-use Rattle.mdl_shared.specs.Steps.{MeetsOwnWait}
-use Rattle.mdl_shared.specs.StepSpec.{StepSpec, no_steps}
+use Rattle.mdl_shared.specs.FirstWords.{Already, Answer, ByThisCall, Lists, MeetsOwnWait, Refused, SessionView, Settles, SettlesNothing, StepSpec, Timed_out, lost_state, no_steps, settled_state, unsettled_state, wait_fault}
 
 -- the session's own wait is settled if this call did it, and no other
 abbrev pub settled : Answer → Lists → SessionView → SessionView → Type 0

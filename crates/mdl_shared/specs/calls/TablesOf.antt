@@ -1,16 +1,7 @@
 -- The tables of a schema that have a definition: one look at the directory, and a look at the place of each of the schema's tables, in any order.
 -- Afterwards the session knows the keys of all these tables.
 use Rattle.std.specs.Prelude.{◌≡◌, ℕ, List, ◌++◌}
-use Rattle.mdl_calls.specs.Words.{Answer, Refused, Tables}
-use Rattle.mdl_steps.specs.declared.view.Keys.{Keys}
-use Rattle.mdl_key.specs.declared.known_key.KnownKey.{KnownKey}
-use Rattle.mdl_steps.specs.Schemas.{unknown}
-use Rattle.mdl_visits.specs.Lookups.{TookDirectory}
-use Rattle.mdl_visits.specs.Tables.{AreAllTables, HasAsked}
-use Rattle.mdl_shared.specs.Members.{AreLearnt}
-use Rattle.mdl_shared.specs.SessionViews.{Lists, SessionView}
-use Rattle.mdl_shared.specs.Steps.{LooksAtKeys}
-use Rattle.mdl_shared.specs.StepSpec.{StepSpec, no_steps}
+use Rattle.mdl_shared.specs.FirstWords.{Answer, AreAllTables, AreLearnt, HasAsked, Keys, KnownKey, Lists, LooksAtKeys, Refused, SessionView, StepSpec, Tables, TookDirectory, no_steps, unknown}
 
 -- which steps were made, and what they met. A refusal comes at the look at the directory
 abbrev pub met : List ℕ → Answer → Lists → SessionView → SessionView → Type 0

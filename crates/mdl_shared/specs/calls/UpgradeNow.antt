@@ -1,22 +1,8 @@
 -- A stronger mode of a held ticket, if it can be granted without waiting. A mode that the ticket's own covers takes no step. Another one is granted or
 -- blocked in one visit to the place, once all fast tickets of the session are slow ones.
 use Rattle.std.specs.Prelude.{◌≡◌, ◌⊎◌, ℕ, true, false, List, [], Option, Some, Ok}
-use Rattle.mdl_key.specs.declared.mode.Mode.{Mode}
-use Rattle.mdl_system.specs.Strength.{covers}
 use Rattle.mdl_calls.specs.declared.answers.Upgrade.TheVariants as upgrade
-use Rattle.mdl_calls.specs.declared.space_error.SpaceError.{SpaceError}
-use Rattle.mdl_calls.specs.Words.{Answer, Refused, Would_wait, Upgraded}
-use Rattle.mdl_steps.specs.declared.deed.Deed.{Deed}
-use Rattle.mdl_steps.specs.declared.deed.Deed.TheVariants.{Alter}
-use Rattle.mdl_steps.specs.declared.view.SessionTicket.{SessionTicket}
-use Rattle.mdl_visits.specs.Numbers.{numbered}
-use Rattle.mdl_visits.specs.Visits.{MeetsBlocked, MeetsGrantable}
-use Rattle.mdl_shared.specs.Doings.{upgrade_deeds}
-use Rattle.mdl_shared.specs.SessionViews.{Lists, SessionView, all_tickets}
-use Rattle.mdl_shared.specs.Upgrades.{upgrade_fault}
-use Rattle.mdl_shared.specs.Steps.{ShowsStep, OfTicket, MakesNoStep}
-use Rattle.mdl_shared.specs.WishSteps.{StopsSlowing, ByVisit, LacksRoomForFast}
-use Rattle.mdl_shared.specs.StepSpec.{StepSpec, no_steps}
+use Rattle.mdl_shared.specs.FirstWords.{Alter, Answer, ByVisit, Deed, LacksRoomForFast, Lists, MakesNoStep, MeetsBlocked, MeetsGrantable, Mode, OfTicket, Refused, SessionTicket, SessionView, ShowsStep, SpaceError, StepSpec, StopsSlowing, Upgraded, Would_wait, all_tickets, covers, no_steps, numbered, upgrade_deeds, upgrade_fault}
 
 -- why the session's own lists refuse it
 abbrev pub own_fault : ℕ → Mode → Lists → Option SpaceError

@@ -1,11 +1,6 @@
 -- The number of a session's wait: one step, which reads the word of that session's wait. If the space has no such session, no word is read.
 use Rattle.std.specs.Prelude.{◌≡◌, ℕ, true, false, None}
-use Rattle.mdl_calls.specs.Limits.{is_within}
-use Rattle.mdl_calls.specs.Words.{Answer, Has_wait}
-use Rattle.mdl_visits.specs.Polls.{MeetsNumber}
-use Rattle.mdl_shared.specs.SessionViews.{Lists, SessionView}
-use Rattle.mdl_shared.specs.Steps.{ShowsStep, MakesNoStep, StaysFor}
-use Rattle.mdl_shared.specs.StepSpec.{StepSpec, no_steps}
+use Rattle.mdl_shared.specs.FirstWords.{Answer, Has_wait, Lists, MakesNoStep, MeetsNumber, SessionView, ShowsStep, StaysFor, StepSpec, is_within, no_steps}
 
 -- which step was made, and what it met. It gave no latch back and raised no flag
 abbrev pub met : ℕ → Answer → Lists → SessionView → SessionView → Type 0

@@ -1,18 +1,5 @@
 -- The version is that of the ticket's place. Where the cache keeps a definition of it, that was read, is what stands, and comes first in the cache afterwards.
-use Rattle.std.proofs.Common.{arith, option_copied, refl, subst, sym, ap, ◌∙◌}
-use Rattle.mdl_calls.specs.Words.{AreMet, Read_kept}
-use Rattle.mdl_defs.specs.Caches.{CacheView}
-use Rattle.mdl_calls.specs.SessionData.{HasMet}
-use Rattle.mdl_shared.specs.SessionViews.{SessionView, data_of}
-use Rattle.mdl_shared.proofs.Debts.{owed-both, owed-on}
-use Rattle.mdl_shared.proofs.KeptCalls.{after, between, looked-same, seat-finds, seat-joins, seat-met, seat-reads, unfound-met}
-use Rattle.mdl_shared.proofs.MemberFacts.{place-within, ticket-known}
-use Rattle.mdl_shared.proofs.Members.{held-seen, room-kept}
-use Rattle.mdl_shared.proofs.Members.{kept as kept-sound}
-use Rattle.mdl_shared.proofs.Props.{member}
-use Rattle.mdl_shared.proofs.ReadCalls.{lists-noted, noted-order, noted-owes}
-use Rattle.mdl_shared.proofs.VersionCalls.{found-noted, version-done, version-lists, version-owes}
-use Rattle.mdl_shared.proofs.WaitSteps.{still-member}
+use Rattle.mdl_shared.proofs.Lemmas.{AreMet, CacheView, HasMet, Read_kept, SessionView, after, ap, arith, between, data_of, found-noted, held-seen, kept-sound, lists-noted, looked-same, member, noted-order, noted-owes, option_copied, owed-both, owed-on, place-within, refl, room-kept, seat-finds, seat-joins, seat-met, seat-reads, still-member, subst, sym, ticket-known, unfound-met, version-done, version-lists, version-owes, ◌∙◌}
 use Rattle.mdl_shared.proofs.cached.read_cached.Goals as goal
 use Rattle.mdl_shared.proofs.cached.read_cached.Goals.{in-Some-look, in-None-look}
 

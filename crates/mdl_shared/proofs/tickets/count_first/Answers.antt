@@ -1,6 +1,5 @@
 -- The first ones are those before the first one at another place.
-use Rattle.std.proofs.Common.{◌∙◌, sym}
-use Rattle.mdl_shared.proofs.TicketSlowing.{first-none, first-some}
+use Rattle.mdl_shared.proofs.Lemmas.{first-none, first-some, sym, ◌∙◌}
 use Rattle.mdl_shared.proofs.tickets.count_first.Goals as goal
 
 pub returns-in-Some-clause-these : goal.returns-in-Some-clause-these

@@ -1,7 +1,5 @@
 -- One ticket alone has the number.
-use Rattle.std.proofs.Common.{rules}
-use Rattle.mdl_shared.specs.OwnTickets.{StandsAt}
-use Rattle.mdl_shared.proofs.TicketSearch.{elsewhere, no_ticket, nowhere}
+use Rattle.mdl_shared.proofs.Lemmas.{StandsAt, elsewhere, no_ticket, nowhere, rules}
 use Rattle.mdl_shared.proofs.tickets.index_at.Goals as goal
 
 pub returns-in_err-at : goal.returns-in_err-at

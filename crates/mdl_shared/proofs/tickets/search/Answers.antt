@@ -1,6 +1,5 @@
 -- The closure gives a ticket's number, and the numbers rise.
-use Rattle.std.proofs.Common.{rules}
-use Rattle.std.proofs.lemmas.List.Sorted.{answers_always}
+use Rattle.mdl_shared.proofs.Lemmas.{answers_always, rules}
 use Rattle.mdl_shared.proofs.TicketSearch.{searched}
 use Rattle.mdl_shared.proofs.tickets.search.Goals as goal
 

@@ -1,7 +1,5 @@
 -- The next ticket is slow.
-use Rattle.std.proofs.Common.{◌∙◌, arith, refl}
-use Rattle.std.proofs.lemmas.List.{take_all}
-use Rattle.mdl_shared.proofs.TicketSlowing.{rise_slowed, slowed_first, slowed_next}
+use Rattle.mdl_shared.proofs.Lemmas.{arith, refl, rise_slowed, slowed_first, slowed_next, take_all, ◌∙◌}
 use Rattle.mdl_shared.proofs.tickets.slow_down.Goals as goal
 
 pub loop-own-init : goal.loop-own-init

@@ -1,8 +1,6 @@
 -- The tickets with the numbers so far are slow.
-use Rattle.std.proofs.Common.{◌≡◌, take}
-use Rattle.std.specs.Prelude.{map}
-use Rattle.std.specs.Vec.{vec_capacity}
-use Rattle.mdl_shared.specs.OwnTickets.{slowed_as}
+use Rattle.std.proofs.Common.{◌≡◌, take, map}
+use Rattle.mdl_shared.proofs.Lemmas.{slowed_as, vec_capacity}
 use Rattle.mdl_shared.proofs.tickets.slow_down.Given as goal
 
 abbrev pub invariant-loop-own : goal.invariant-loop-own

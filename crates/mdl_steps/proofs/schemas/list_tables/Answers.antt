@@ -1,10 +1,6 @@
 -- The next key is listed, where it is that of a table.
-use Rattle.std.proofs.Common.{◌≡◌, ℕ, ◌+◌, ◌<◌, List, [], ◌∷◌, ◌++◌, length, take, sym, ap, ◌∙◌, arith}
-use Rattle.std.proofs.lemmas.List.{take_more, length-take-le}
-use Rattle.mdl_key.specs.Words.{KeyName}
-use Rattle.mdl_key.specs.declared.known_key.KnownKey.{KnownKey}
-use Rattle.mdl_steps.specs.Schemas.{table_at, tables_from}
-use Rattle.mdl_steps.proofs.SchemaLemmas.{tables_more}
+use Rattle.std.proofs.Common.{◌≡◌, ℕ, ◌+◌, ◌<◌, List, [], ◌∷◌, ◌++◌, length, take, sym, ap, ◌∙◌, arith, length-take-le}
+use Rattle.mdl_steps.proofs.Lemmas.{KeyName, KnownKey, table_at, tables_from, tables_more, take_more}
 use Rattle.mdl_steps.proofs.schemas.list_tables.Goals as goal
 
 pub loop-index-preserved : goal.loop-index-preserved

@@ -1,12 +1,5 @@
 -- The record of the latch stays in hand from the take to the read.
-use Rattle.std.proofs.Common.{ℕ, true, subst, sym, ◌∙◌}
-use Rattle.mdl_book.specs.Books.{lock_kind}
-use Rattle.mdl_book.specs.FastTickets.{can_be_granted}
-use Rattle.mdl_steps.specs.Plays.{IsFresh, raised}
-use Rattle.mdl_visits.specs.Visits.{Enters}
-use Rattle.mdl_visits.proofs.Seats.{mine, place_there, table_of}
-use Rattle.mdl_visits.proofs.Visiting.{enters}
-use Rattle.mdl_visits.proofs.Trying.{entered_within}
+use Rattle.mdl_visits.proofs.Lemmas.{Enters, IsFresh, can_be_granted, entered_within, enters, lock_kind, mine, place_there, raised, subst, sym, table_of, true, ℕ, ◌∙◌}
 use Rattle.mdl_visits.proofs.enter_and_leave.enter.Goals as goal
 
 pub read_word-word-requires-clause-held : goal.read_word-word-requires-clause-held

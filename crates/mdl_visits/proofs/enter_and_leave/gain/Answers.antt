@@ -1,12 +1,7 @@
 -- The ticket is written and the latch given back with it, or the request can't be granted, or there was no room.
 use Rattle.std.proofs.Common.{Bool, [], false, refl, subst, sym, ◌∙◌, ◌∷◌}
-use Rattle.mdl_book.specs.declared.ticket.Ticket.{Ticket}
-use Rattle.mdl_steps.specs.declared.deed.Deed.TheVariants.{Gain}
-use Rattle.mdl_steps.specs.SeatStates.{SeatState}
-use Rattle.mdl_visits.specs.Leavings.{HasWorked}
-use Rattle.mdl_visits.specs.Visits.{VisitsOnce, WasRefusedWish}
-use Rattle.mdl_visits.proofs.Seats.{place_there, table_of}
-use Rattle.mdl_visits.proofs.Trying.{as_told, conflicts, entered_holds, granted, lacks_room, may_gain, ready, refused, rested, told_here, visit_written}
+use Rattle.mdl_visits.proofs.Lemmas.{Gain, HasWorked, SeatState, Ticket, VisitsOnce, WasRefusedWish, as_told, conflicts, entered_holds, granted, may_gain, place_there, refused, rested, table_of, told_here, visit_written}
+use Rattle.mdl_visits.proofs.Trying.{lacks_room, ready}
 use Rattle.mdl_visits.proofs.enter_and_leave.gain.Goals as goal
 
 pub write_if_grantable-requires : goal.write_if_grantable-requires

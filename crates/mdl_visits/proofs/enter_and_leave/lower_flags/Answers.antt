@@ -1,14 +1,6 @@
 -- The flags that stay tell the lists exactly, since those that are up tell of each ticket.
 use Rattle.std.proofs.Common.{◌≡◌, ◌||◌, List, Some, sym, ap, ◌∙◌, subst}
-use Rattle.mdl_book.specs.declared.ticket.Ticket.{Ticket}
-use Rattle.mdl_steps.specs.declared.view.LatchRecord.{LatchRecord}
-use Rattle.mdl_steps.specs.Deeds.{all_booked, frees}
-use Rattle.mdl_steps.specs.Plays.{Mine, lowered, flags_lowered}
-use Rattle.mdl_steps.specs.Seats.{Holds}
-use Rattle.mdl_visits.specs.Grantings.{StandsOnce}
-use Rattle.mdl_visits.proofs.Leaving.{needed}
-use Rattle.mdl_visits.proofs.Seats.{mine, place_there, table_of}
-use Rattle.mdl_visits.proofs.Rescheduling.{waiting_same}
+use Rattle.mdl_visits.proofs.Lemmas.{Holds, LatchRecord, Mine, StandsOnce, Ticket, all_booked, flags_lowered, frees, lowered, mine, needed, place_there, table_of, waiting_same}
 use Rattle.mdl_visits.proofs.enter_and_leave.lower_flags.Goals as goal
 
 same_record : (h before : LatchRecord) → Some h ≡ Some before → h ≡ before

@@ -1,12 +1,5 @@
 -- The flags were lowered, and then the latch was put.
-use Rattle.std.proofs.Common.{[], ap, false, inr, refl, subst, sym, ◌∙◌}
-use Rattle.mdl_steps.specs.declared.view.StepRecord.{StepRecord}
-use Rattle.mdl_steps.specs.Plays.{Mine, unlatched}
-use Rattle.mdl_visits.specs.Leavings.{DidUnder, Leaves, PutsBack}
-use Rattle.mdl_visits.specs.Visits.{IsStepOf}
-use Rattle.mdl_visits.proofs.Leaving.{first_step, leaves, puts_back, visits_left}
-use Rattle.mdl_visits.proofs.Seats.{mine, table_of}
-use Rattle.mdl_visits.proofs.Within.{visit_after, visit_put, within_lowered}
+use Rattle.mdl_visits.proofs.Lemmas.{DidUnder, IsStepOf, Leaves, Mine, PutsBack, StepRecord, [], ap, false, first_step, inr, leaves, mine, puts_back, refl, subst, sym, table_of, unlatched, visit_after, visit_put, visits_left, within_lowered, ◌∙◌}
 use Rattle.mdl_visits.proofs.enter_and_leave.lower_flags_and_put.Goals as goal
 
 pub lower_flags-requires : goal.lower_flags-requires

@@ -1,22 +1,7 @@
 -- The request waits behind nobody, so the book tells whether it can be granted.
-use Rattle.std.proofs.Common.{◌≡◌, ℕ, true, false, List, [], ◌∷◌, length, arith, subst, sym, refl, ◌∙◌}
-use Rattle.std.specs.Prelude.{OnErr, OnOk, nat_lt}
-use Rattle.std.proofs.lemmas.Bool.{and_parts, lt-ltb}
-use Rattle.mdl_key.specs.declared.mode.Mode.{Mode}
-use Rattle.mdl_key.specs.declared.namespace.Kind.{Kind}
-use Rattle.mdl_key.specs.Refusals.{Refuses}
+use Rattle.std.proofs.Common.{◌≡◌, ℕ, true, false, List, [], ◌∷◌, length, arith, subst, sym, refl, ◌∙◌, OnErr, OnOk, nat_lt, lt-ltb}
 use Rattle.mdl_book.specs.declared.book_error.BookError.TheVariants as fault
-use Rattle.mdl_book.specs.declared.book_view.BookView.{BookView}
-use Rattle.mdl_book.specs.declared.ticket.Ticket.{Ticket}
-use Rattle.mdl_book.specs.Books.{grant_fault, lock_kind}
-use Rattle.mdl_book.specs.FastTickets.{may_stand}
-use Rattle.mdl_book.specs.Granting.{goes_first}
-use Rattle.mdl_steps.specs.declared.deed.Deed.TheVariants.{Gain}
-use Rattle.mdl_steps.specs.Deeds.{booked}
-use Rattle.mdl_steps.specs.SeatStates.{HasBookInHand, OfBook, SeatState}
-use Rattle.mdl_steps.specs.Seats.{written}
-use Rattle.mdl_steps.proofs.Views.{by_bool}
-use Rattle.mdl_visits.specs.Visits.{request_fault}
+use Rattle.mdl_visits.proofs.Lemmas.{BookView, Gain, HasBookInHand, Kind, Mode, OfBook, Refuses, SeatState, Ticket, and_parts, booked, by_bool, goes_first, grant_fault, lock_kind, may_stand, request_fault, written}
 use Rattle.mdl_visits.proofs.enter_and_leave.write_if_grantable.Goals as goal
 use Rattle.mdl_visits.proofs.enter_and_leave.write_if_grantable.Goals.{else-has_waiters-via-then-has_waiters+else-not-can_grant, else-has_waiters-via-else-has_waiters}
 

@@ -1,14 +1,6 @@
 -- The exchange grants the wait that was met, or meets another word.
-use Rattle.std.proofs.Common.{◌≡◌, ◌≢◌, ◌+◌, ◌*◌, ℕ, inr, refl, sym, ◌∙◌, subst, arith}
-use Rattle.std.proofs.lemmas.Bool.{eqb-true, eq-eqb}
-use Rattle.mdl_steps.specs.declared.step_kind.StepKind.TheVariants.{MissWait}
-use Rattle.mdl_book.specs.declared.book_view.BookView.{BookView}
-use Rattle.mdl_book.specs.Books.{admitting}
-use Rattle.mdl_steps.specs.Plays.{Mine}
-use Rattle.mdl_steps.specs.Seats.{written}
-use Rattle.mdl_steps.specs.WaitPlays.{TellsOwn}
-use Rattle.mdl_visits.proofs.Seats.{mine, table_of}
-use Rattle.mdl_visits.proofs.Serving.{admitted_at, is_admitted, is_missed, rescheduled_admitted, rescheduling_missed}
+use Rattle.std.proofs.Common.{◌≡◌, ◌≢◌, ◌+◌, ◌*◌, ℕ, inr, refl, sym, ◌∙◌, subst, arith, eqb-true, eq-eqb}
+use Rattle.mdl_visits.proofs.Lemmas.{BookView, Mine, MissWait, TellsOwn, admitted_at, admitting, is_admitted, is_missed, mine, rescheduled_admitted, rescheduling_missed, table_of, written}
 use Rattle.mdl_visits.proofs.grant_waiters.grant_unsettled.Goals as goal
 
 pub returns-then-eq : goal.returns-then-eq

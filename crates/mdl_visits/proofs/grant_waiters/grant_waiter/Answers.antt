@@ -1,14 +1,5 @@
 -- The wait was read unsettled and its grant tried, or it was read settled. Nothing is done for a session that the table doesn't have.
-use Rattle.std.proofs.Common.{inl, refl, sym, ◌∙◌, subst}
-use Rattle.atomic_table.specs.Seated.{TableId}
-use Rattle.mdl_steps.specs.declared.step_kind.StepKind.TheVariants.{ReadWait}
-use Rattle.mdl_steps.specs.declared.view.LatchRecord.{LatchRecord}
-use Rattle.mdl_steps.specs.Plays.{Mine}
-use Rattle.mdl_steps.specs.Seats.{Holds}
-use Rattle.mdl_visits.specs.Grantings.{HasJustMet, IsGrantedFrom, ReschedulesInTurn}
-use Rattle.mdl_visits.proofs.Seats.{mine, place_there, table_of}
-use Rattle.mdl_visits.proofs.Serving.{holds_met, is_settled, is_tried, just_met, rescheduling_missed, rescheduled_tried}
-use Rattle.mdl_visits.proofs.Way.{rescheduled_none}
+use Rattle.mdl_visits.proofs.Lemmas.{HasJustMet, Holds, IsGrantedFrom, LatchRecord, Mine, ReadWait, ReschedulesInTurn, TableId, holds_met, inl, is_settled, is_tried, just_met, mine, place_there, refl, rescheduled_none, rescheduled_tried, rescheduling_missed, subst, sym, table_of, ◌∙◌}
 use Rattle.mdl_visits.proofs.grant_waiters.grant_waiter.Goals as goal
 
 pub grant_unsettled-requires-clause-here : goal.grant_unsettled-requires-clause-here

@@ -1,15 +1,8 @@
 -- Each turn tries one session, until nobody is next.
 use Rattle.std.proofs.Common.{◌≡◌, ◌<◌, sym, ◌∙◌, subst}
 use Rattle.std.specs.FinSet as set
-use Rattle.std.specs.Ordering.{nat_cmp}
-use Rattle.atomic_table.specs.Seated.{TableId}
-use Rattle.mdl_steps.specs.Plays.{Mine, noting}
-use Rattle.mdl_steps.specs.Seats.{Holds}
-use Rattle.mdl_visits.specs.Grantings.{ForgetsNobody, GrantsWaits, IsTriedOrGranted, ReschedulesInTurn}
-use Rattle.mdl_visits.proofs.Seats.{mine, place_there, table_of}
-use Rattle.mdl_visits.proofs.Serving.{AreTried, WasRead, fewer_untried, forgets_nobody, looks_ahead, read_before, read_first, tried_first, turn_done}
-use Rattle.mdl_visits.proofs.Waiting.{grants_read, is_next, nobody_next}
-use Rattle.mdl_visits.proofs.Way.{steps_of, rescheduled_read, rescheduled_then}
+use Rattle.mdl_visits.proofs.Lemmas.{AreTried, ForgetsNobody, GrantsWaits, Holds, IsTriedOrGranted, Mine, ReschedulesInTurn, TableId, fewer_untried, forgets_nobody, grants_read, is_next, looks_ahead, mine, nat_cmp, nobody_next, noting, place_there, read_before, rescheduled_read, rescheduled_then, steps_of, table_of, tried_first, turn_done}
+use Rattle.mdl_visits.proofs.Serving.{WasRead, read_first}
 use Rattle.mdl_visits.proofs.grant_waiters.grant_waiters.Goals as goal
 
 pub loop-index-init : goal.loop-index-init

@@ -1,11 +1,8 @@
 -- The word was read, each session that is left out was tried, and waits were granted so far.
 use Rattle.std.proofs.Common.{◌≡◌}
 use Rattle.std.specs.FinSet as set
-use Rattle.mdl_steps.specs.declared.view.LatchRecord.{LatchRecord}
-use Rattle.mdl_steps.specs.Seats.{Holds}
-use Rattle.mdl_visits.specs.Grantings.{GrantsWaits}
-use Rattle.mdl_visits.proofs.Serving.{AreTried, WasRead}
-use Rattle.mdl_visits.proofs.Waiting.{MayReschedule}
+use Rattle.mdl_visits.proofs.Lemmas.{AreTried, GrantsWaits, Holds, LatchRecord, MayReschedule}
+use Rattle.mdl_visits.proofs.Serving.{WasRead}
 use Rattle.mdl_visits.proofs.grant_waiters.grant_waiters.Given as goal
 
 abbrev pub invariant-loop-index : goal.invariant-loop-index

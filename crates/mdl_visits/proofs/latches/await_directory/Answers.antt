@@ -1,8 +1,5 @@
 -- The steps of the loop take no latch.
-use Rattle.std.proofs.Common.{length, ap, ◌∙◌}
-use Rattle.mdl_steps.specs.Plays.{Mine}
-use Rattle.mdl_visits.proofs.Seats.{mine, table_of}
-use Rattle.mdl_visits.proofs.Visiting.{lingers_one}
+use Rattle.mdl_visits.proofs.Lemmas.{Mine, ap, length, lingers_one, mine, table_of, ◌∙◌}
 use Rattle.mdl_visits.proofs.latches.await_directory.Goals as goal
 
 pub take_directory-requires : goal.take_directory-requires

@@ -1,7 +1,5 @@
 -- The latch was taken at once, or after it was found taken.
-use Rattle.std.proofs.Common.{refl}
-use Rattle.mdl_visits.proofs.Arriving.{arrives_later, may_still, taken_after}
-use Rattle.mdl_visits.proofs.Visiting.{lingers_none}
+use Rattle.mdl_visits.proofs.Lemmas.{arrives_later, lingers_none, may_still, refl, taken_after}
 use Rattle.mdl_visits.proofs.latches.await_latch.Goals as goal
 
 pub await_taken_latch-requires : goal.await_taken_latch-requires

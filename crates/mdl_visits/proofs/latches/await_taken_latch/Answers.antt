@@ -1,8 +1,5 @@
 -- The latch was taken after some steps that only met it.
-use Rattle.std.proofs.Common.{◌∙◌}
-use Rattle.mdl_visits.proofs.Arriving.{taken_after}
-use Rattle.mdl_visits.proofs.Seats.{mine, place_there, table_of}
-use Rattle.mdl_visits.proofs.Visiting.{lingers_one}
+use Rattle.mdl_visits.proofs.Lemmas.{lingers_one, mine, place_there, table_of, taken_after, ◌∙◌}
 use Rattle.mdl_visits.proofs.latches.await_taken_latch.Goals as goal
 
 pub take_latch-requires-clause-place : goal.take_latch-requires-clause-place

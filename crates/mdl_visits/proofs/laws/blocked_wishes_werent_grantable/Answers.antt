@@ -1,6 +1,5 @@
 -- By what a packed word's counts tell of the fast tickets.
-use Rattle.std.proofs.Common.{sym, ◌∙◌}
-use Rattle.mdl_book.proofs.FastLemmas.{can_be_granted-fast}
+use Rattle.mdl_visits.proofs.Lemmas.{can_be_granted-fast, sym, ◌∙◌}
 use Rattle.mdl_visits.proofs.laws.blocked_wishes_werent_grantable.Goals as goal
 
 pub returns : goal.returns

@@ -1,6 +1,5 @@
 -- By what lets a ticket join those that are granted.
-use Rattle.std.proofs.lemmas.Bool.{and_from}
-use Rattle.mdl_steps.proofs.Deeds.{may_join}
+use Rattle.mdl_visits.proofs.Lemmas.{and_from, may_join}
 use Rattle.mdl_visits.proofs.laws.granted_waits_were_grantable.Goals as goal
 
 pub returns : goal.returns

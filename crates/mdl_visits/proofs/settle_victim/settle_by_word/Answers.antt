@@ -1,8 +1,6 @@
 -- The wait was open by its word, and was met so or otherwise.
-use Rattle.std.proofs.Common.{◌≡◌, Some, inl, arith}
-use Rattle.std.specs.Prelude.{◌%◌, ◌/◌}
-use Rattle.std.proofs.lemmas.Bool.Decides.{nat_tests}
-use Rattle.mdl_visits.proofs.Outcomes.{tries_nothing, tries_to_settle}
+use Rattle.std.proofs.Common.{◌≡◌, Some, inl, arith, ◌%◌, ◌/◌}
+use Rattle.mdl_visits.proofs.Lemmas.{nat_tests, tries_nothing, tries_to_settle}
 use Rattle.mdl_visits.proofs.settle_victim.settle_by_word.Goals as goal
 
 pub returns-then-state-ne-UNSETTLED : goal.returns-then-state-ne-UNSETTLED

@@ -1,8 +1,6 @@
 -- What was found at last is what comes of it.
 use Rattle.std.proofs.Common.{◌≡◌, Err, refl, subst, ◌∙◌, rules}
-use Rattle.mdl_visits.specs.Searches.{FindsAtOnce}
-use Rattle.mdl_visits.proofs.Outcomes.{finds_after, finds_free}
-use Rattle.mdl_visits.proofs.Words.{only_reads_on, reads_none, reads_on}
+use Rattle.mdl_visits.proofs.Lemmas.{FindsAtOnce, finds_after, finds_free, only_reads_on, reads_none, reads_on}
 use Rattle.mdl_visits.proofs.settle_victim.settle_victim.Goals as goal
 
 pub returns-then-is_none : goal.returns-then-is_none

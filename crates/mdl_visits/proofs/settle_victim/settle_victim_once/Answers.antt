@@ -1,16 +1,6 @@
 -- The words that were read say what came of it.
-use Rattle.std.proofs.Common.{◌≡◌, ℕ, List, Some, refl, sym, ap, ◌∙◌, subst}
-use Rattle.std.specs.Prelude.{IfSome}
-use Rattle.mdl_graph.specs.declared.cycle.Member.{Member}
-use Rattle.mdl_graph.specs.Graphs.{victim_in}
-use Rattle.mdl_steps.specs.Plays.{Mine}
-use Rattle.mdl_steps.specs.SeatStates.{SeatState}
-use Rattle.mdl_visits.specs.declared.audited.Audited.{Audited}
-use Rattle.mdl_visits.specs.declared.waits_read.WaitRead.{WaitRead}
-use Rattle.mdl_visits.specs.Polls.{SettlesNothing}
-use Rattle.mdl_visits.specs.Searches.{AreRead, IsBuiltOf, WasOther, books_of, read_of, settled_by}
-use Rattle.mdl_visits.proofs.Outcomes.{finds_none, finds_victim, misses_victim}
-use Rattle.mdl_visits.proofs.Words.{reads_on}
+use Rattle.std.proofs.Common.{◌≡◌, ℕ, List, Some, refl, sym, ap, ◌∙◌, subst, IfSome}
+use Rattle.mdl_visits.proofs.Lemmas.{AreRead, Audited, IsBuiltOf, Member, Mine, SeatState, SettlesNothing, WaitRead, WasOther, books_of, finds_none, finds_victim, misses_victim, read_of, reads_on, settled_by, victim_in}
 use Rattle.mdl_visits.proofs.settle_victim.settle_victim_once.Goals as goal
 
 pub returns-in-None : goal.returns-in-None

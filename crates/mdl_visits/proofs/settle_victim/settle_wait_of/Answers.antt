@@ -1,10 +1,6 @@
 -- Where it stands among none of the words, nothing was done.
-use Rattle.std.proofs.Common.{◌≡◌, ℕ, ◌≤◌, false, List, get_or, length, None, Option, Some, sym, ap, ◌∙◌, subst, arith}
-use Rattle.std.proofs.lemmas.List.{take_all}
-use Rattle.mdl_steps.specs.SeatStates.{SeatState}
-use Rattle.mdl_visits.specs.declared.waits_read.WaitRead.{WaitRead}
-use Rattle.mdl_visits.specs.Searches.{TriesToSettle, read_of}
-use Rattle.mdl_visits.proofs.Outcomes.{none_still, read_first, tries_nothing}
+use Rattle.std.proofs.Common.{◌≡◌, ℕ, ◌≤◌, false, List, get_or, length, None, Option, Some, sym, ap, ◌∙◌, subst, arith, take_all}
+use Rattle.mdl_visits.proofs.Lemmas.{SeatState, TriesToSettle, WaitRead, none_still, read_first, read_of, tries_nothing}
 use Rattle.mdl_visits.proofs.settle_victim.settle_wait_of.Goals as goal
 
 pub returns : goal.returns

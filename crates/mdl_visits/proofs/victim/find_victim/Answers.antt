@@ -1,6 +1,5 @@
 -- The graph's cycle among the unsettled is the deadlock of the books.
-use Rattle.std.proofs.Common.{None, Some, sym, ap, ◌∙◌}
-use Rattle.mdl_visits.proofs.Deadlocks.{victim_same}
+use Rattle.mdl_visits.proofs.Lemmas.{None, Some, ap, sym, victim_same, ◌∙◌}
 use Rattle.mdl_visits.proofs.victim.find_victim.Goals as goal
 
 pub returns-in-None : goal.returns-in-None

@@ -1,9 +1,5 @@
 -- Each session whose wait isn't open is put into the set.
-use Rattle.std.proofs.Common.{take, get_or, arith}
-use Rattle.std.proofs.lemmas.Bool.Decides.{nat_tests}
-use Rattle.std.proofs.lemmas.List.{take_more}
-use Rattle.mdl_visits.specs.declared.waits_read.WaitRead.{WaitRead}
-use Rattle.mdl_visits.proofs.Deadlocks.{none_settled, passed_open, put_settled}
+use Rattle.mdl_visits.proofs.Lemmas.{WaitRead, arith, get_or, nat_tests, none_settled, passed_open, put_settled, take, take_more}
 use Rattle.mdl_visits.proofs.victim.settled_of.Goals as goal
 use Rattle.mdl_visits.proofs.victim.settled_of.Goals.{then-state-ne-UNSETTLED, else-state-ne-UNSETTLED}
 

@@ -1,8 +1,5 @@
 -- One step met the word.
-use Rattle.std.proofs.Common.{refl, rules}
-use Rattle.mdl_visits.specs.declared.waits_read.WaitRead.{WaitRead}
-use Rattle.mdl_visits.proofs.Seats.{mine}
-use Rattle.mdl_visits.proofs.Words.{only_reads_word, was_read}
+use Rattle.mdl_visits.proofs.Lemmas.{WaitRead, mine, only_reads_word, refl, rules, was_read}
 use Rattle.mdl_visits.proofs.waits_read.add_wait.Goals as goal
 
 pub returns : goal.returns

@@ -1,11 +1,5 @@
 -- One request more.
-use Rattle.std.proofs.Common.{refl, sym, ◌∙◌, nat_lt, get_or, take, arith}
-use Rattle.std.proofs.lemmas.Bool.{and_from, false≢true, lt-ltb}
-use Rattle.std.proofs.lemmas.Bool.Decides.{nat_tests}
-use Rattle.std.proofs.lemmas.List.{take_more}
-use Rattle.mdl_graph.specs.declared.cycle.Member.{Member}
-use Rattle.mdl_steps.specs.Layout.{wait_word}
-use Rattle.mdl_visits.proofs.Words.{none_read, one_read, only_reads_on, passed_over, reads_none}
+use Rattle.mdl_visits.proofs.Lemmas.{Member, and_from, arith, false≢true, get_or, lt-ltb, nat_lt, nat_tests, none_read, one_read, only_reads_on, passed_over, reads_none, refl, sym, take, take_more, wait_word, ◌∙◌}
 use Rattle.mdl_visits.proofs.waits_read.read_waits.Goals as goal
 use Rattle.mdl_visits.proofs.waits_read.read_waits.Goals.{then-wish-le-GREATEST_SESSION+then-has_session+in_ok-add_wait, else-wish-le-GREATEST_SESSION, else-wish-le-GREATEST_SESSION-via-then-wish-le-GREATEST_SESSION+else-has_session, else-wish-le-GREATEST_SESSION-via-else-wish-le-GREATEST_SESSION}
 

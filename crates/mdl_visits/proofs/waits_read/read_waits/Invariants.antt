@@ -1,6 +1,5 @@
 -- The words of the requests so far.
-use Rattle.std.proofs.Common.{take}
-use Rattle.mdl_visits.specs.Searches.{AreRead, OnlyReadsWaits}
+use Rattle.mdl_visits.proofs.Lemmas.{AreRead, OnlyReadsWaits, take}
 use Rattle.mdl_visits.proofs.waits_read.read_waits.Given as goal
 
 abbrev pub invariant-loop-wish : goal.invariant-loop-wish

@@ -1,12 +1,6 @@
 -- A read of the session that speaks for its own number is one for that number.
-use Rattle.std.proofs.Common.{◌≡◌, ℕ, Ok, Err, Result}
-use Rattle.mdl_defs.specs.declared.versioned_definition.VersionedDefinition.{VersionedDefinition}
-use Rattle.mdl_calls.specs.declared.space_error.SpaceError.{SpaceError}
-use Rattle.mdl_calls.specs.Words.{read as read_as}
-use Rattle.std.specs.Prelude.{IfOk, OnErr}
-use Rattle.mdl_defs.specs.Caches.{CacheView}
-use Rattle.mdl_shared.specs.KeptReads.{ReadsKept, UsesKept}
-use Rattle.mdl_shared.specs.SessionViews.{SessionView}
+use Rattle.std.proofs.Common.{◌≡◌, ℕ, Ok, Err, Result, IfOk, OnErr}
+use Rattle.mdl_shared.proofs.Lemmas.{CacheView, ReadsKept, SessionView, SpaceError, UsesKept, VersionedDefinition, read_as}
 use Rattle.mdl_shared.proofs.lock_space.SessionLockSpace.read_kept.Goals as goal
 
 -- what it does to the cache, by its answer

@@ -1,14 +1,8 @@
 -- The next pass is that of the next number, and there are as many sessions as the table has words for.
 use Rattle.std.proofs.Common.{◌≡◌, ◌+◌, ◌++◌, ◌∷◌, [], ◌<◌, ℕ, rules, arith, ltb, true, false, List, length, get_or, subst, sym, ap, refl, ◌∙◌}
-use Rattle.std.specs.Arc.{arc_value}
-use Rattle.std.proofs.lemmas.Bool.Decides.{nat_tests}
-use Rattle.std.proofs.lemmas.List.{get_or_append_left, get_or_push, length_push}
-use Rattle.atomic_table.specs.Seated.{TableId}
-use Rattle.mdl_steps.specs.Layout.{session_count, word_count}
-use Rattle.mdl_steps.specs.SeatStates.{SeatState, enrolled_seat}
-use Rattle.mdl_shared.specs.declared.pass.Pass.{Pass}
-use Rattle.mdl_shared.specs.Passes.{ArePasses, IsPass}
+use Rattle.mdl_shared.proofs.Lemmas.{ArePasses, IsPass, SeatState, TableId, arc_value, enrolled_seat, get_or_append_left, get_or_push, length_push, nat_tests, session_count, word_count}
 use Rattle.mdl_shared.proofs.manager.Manager.enrol_all.Goals as goal
+use Rattle.mdl_shared.specs.declared.pass.Pass.{Pass}
 
 counted : (slots words sessions : ℕ) → words ≡ word_count slots sessions → sessions ≡ session_count slots words
 counted slots words sessions is = omega (arith, is)

@@ -1,7 +1,6 @@
 -- There are passes for the sessions that have a number so far.
 use Rattle.std.proofs.Common.{◌≡◌, ◌-◌, length}
-use Rattle.std.specs.Arc.{arc_value}
-use Rattle.mdl_shared.specs.Passes.{ArePasses}
+use Rattle.mdl_shared.proofs.Lemmas.{ArePasses, arc_value}
 use Rattle.mdl_shared.proofs.manager.Manager.enrol_all.Given as goal
 
 abbrev pub invariant-loop-passes : goal.invariant-loop-passes

@@ -1,22 +1,7 @@
 -- The session may wish so, and what became of the wish is told by the visit.
 use Rattle.std.proofs.Common.{Ok, Option, [], ap, arith, inl, refl, subst, sym, ℕ, ◌+◌, ◌∙◌, ◌∷◌, ◌≡◌}
-use Rattle.std.specs.Option.{option_map_or}
-use Rattle.mdl_calls.specs.Words.{Begin_wait}
-use Rattle.mdl_steps.specs.declared.deed.Deed.TheVariants.{Gain}
-use Rattle.mdl_steps.specs.declared.view.Ask.{Ask}
-use Rattle.mdl_steps.specs.declared.view.StepRecord.{StepRecord}
-use Rattle.mdl_visits.specs.Visits.{AreStepsOf, MeetsBlocked}
-use Rattle.mdl_visits.specs.WaitOpenings.{MeetsOpening}
-use Rattle.mdl_shared.specs.SessionViews.{Lists, SessionView, lists_seen}
-use Rattle.mdl_shared.specs.TicketLists.{HasRoom}
-use Rattle.mdl_shared.proofs.Debts.{owed-both, owed-on, owed-visited, visited-owes}
-use Rattle.mdl_shared.proofs.Members.{done-order, kept, lists-done, lists-visited, visited}
-use Rattle.mdl_shared.proofs.Props.{member}
-use Rattle.mdl_shared.proofs.QuietDeeds.{quiet-visit}
-use Rattle.mdl_shared.proofs.Rooms.{keeps-same}
-use Rattle.mdl_shared.proofs.WaitSteps.{still-member}
-use Rattle.mdl_shared.proofs.WishCalls.{begun, begun-joins, begun-order, begin-granted}
-use Rattle.mdl_shared.proofs.Wishing.{below-seen, gained-by, may-wish, none-seen, unasked, unfast-seen, waiting-lists}
+use Rattle.mdl_shared.proofs.Lemmas.{AreStepsOf, Ask, Begin_wait, Gain, HasRoom, Lists, MeetsBlocked, MeetsOpening, SessionView, StepRecord, begin-granted, begun-joins, begun-order, below-seen, done-order, gained-by, keeps-same, kept, lists-done, lists-visited, lists_seen, may-wish, member, none-seen, option_map_or, owed-both, owed-on, owed-visited, quiet-visit, still-member, unasked, unfast-seen, visited, visited-owes, waiting-lists}
+use Rattle.mdl_shared.proofs.WishCalls.{begun}
 use Rattle.mdl_shared.proofs.member.Member.begin_by_latch.Goals as goal
 
 pub overflow_add-wait : goal.overflow_add-wait

@@ -1,18 +1,7 @@
 -- The second ticket is the last of the session's, or none is made.
 use Rattle.std.proofs.Common.{Some, [], ◌∷◌, inl, refl, sym, ap, ◌∙◌, arith}
-use Rattle.mdl_calls.specs.Words.{Clone_ticket}
-use Rattle.mdl_steps.specs.declared.deed.Deed.TheVariants.{Gain}
-use Rattle.mdl_shared.specs.Modes.{clone_fault}
-use Rattle.mdl_shared.specs.SessionViews.{Lists}
-use Rattle.mdl_shared.proofs.CloneCalls.{clone-joins}
-use Rattle.mdl_shared.proofs.Debts.{owed-both, owed-visited, visited-owes}
-use Rattle.mdl_shared.proofs.Fitting.{fit_there}
-use Rattle.mdl_shared.proofs.Members.{done-order, kept, lists-done, lists-visited, visited}
-use Rattle.mdl_shared.proofs.Props.{member}
-use Rattle.mdl_shared.proofs.SlowHeld.{slow-held}
-use Rattle.mdl_shared.proofs.WaitSteps.{still-member}
+use Rattle.mdl_shared.proofs.Lemmas.{Clone_ticket, Gain, Lists, below-seen, clone-joins, clone_fault, done-order, fit_there, gained-by, kept, lists-done, lists-visited, member, owed-both, owed-visited, slow-held, still-member, unasked, visited, visited-owes}
 use Rattle.mdl_shared.proofs.WishFaults.{clone-passed}
-use Rattle.mdl_shared.proofs.Wishing.{below-seen, gained-by, unasked}
 use Rattle.mdl_shared.proofs.member.Member.clone_by_latch.Goals as goal
 
 pub clone_ticket-requires-clause-at : goal.clone_ticket-requires-clause-at

@@ -1,8 +1,5 @@
 -- A known key has a kind.
-use Rattle.std.proofs.Common.{Option, subst, sym}
-use Rattle.std.specs.Option.{IsSome}
-use Rattle.mdl_key.specs.declared.namespace.Kind.{Kind}
-use Rattle.mdl_shared.proofs.FastFacts.{known-some}
+use Rattle.mdl_shared.proofs.Lemmas.{IsSome, Kind, Option, known-some, subst, sym}
 use Rattle.mdl_shared.proofs.member.Member.fast_wished.Goals as goal
 
 pub unwrap-kind-requires : goal.unwrap-kind-requires

@@ -1,30 +1,6 @@
 -- The session has one fast ticket more, or made only steps.
-use Rattle.std.proofs.Common.{◌≡◌, inl, ℕ, ◌==◌, true, List, [], ◌∷◌, ◌++◌, length, Option, is_some, refl, sym, ap, subst, ◌∙◌, arith}
-use Rattle.std.proofs.lemmas.Bool.{eq-eqb}
-use Rattle.mdl_calls.specs.Words.{Try_now}
-use Rattle.mdl_steps.specs.Cells.{own_at}
-use Rattle.mdl_steps.specs.FastPlays.{fast_own, first_note}
-use Rattle.mdl_steps.specs.Plays.{Mine}
-use Rattle.mdl_steps.specs.declared.deed.Deed.TheVariants.{Gain}
-use Rattle.mdl_steps.specs.declared.view.SessionTicket.{SessionTicket}
-use Rattle.mdl_steps.specs.SeatStates.{AtItsTable, SeatState}
-use Rattle.mdl_steps.proofs.Views.{by_bool}
-use Rattle.mdl_visits.specs.FastTries.{GrantsAtLast, Misses}
-use Rattle.mdl_visits.specs.Numbers.{numbered}
-use Rattle.mdl_visits.specs.Visits.{MakesSteps}
-use Rattle.mdl_shared.specs.DeedsDone.{DoesQuietly}
-use Rattle.mdl_shared.specs.Passes.{view_of}
-use Rattle.mdl_shared.specs.SessionViews.{Lists, session_at}
-use Rattle.mdl_shared.specs.TicketLists.{TicketList}
-use Rattle.mdl_shared.proofs.Debts.{owed-both, owed-stepped}
-use Rattle.mdl_shared.proofs.FastDone.{fast-granted, lists-granted}
-use Rattle.mdl_shared.proofs.FastFacts.{may-ask-fast}
-use Rattle.mdl_shared.proofs.Members.{done-order, kept}
-use Rattle.mdl_shared.proofs.Props.{member}
-use Rattle.mdl_shared.proofs.QuietDeeds.{lists-made, quiet-made, quiet-none}
-use Rattle.mdl_shared.proofs.WaitSteps.{still-member}
-use Rattle.mdl_shared.proofs.WishCalls.{try-granted}
-use Rattle.mdl_shared.proofs.Wishing.{below-seen, unasked}
+use Rattle.std.proofs.Common.{◌≡◌, inl, ℕ, ◌==◌, true, List, [], ◌∷◌, ◌++◌, length, Option, is_some, refl, sym, ap, subst, ◌∙◌, arith, eq-eqb}
+use Rattle.mdl_shared.proofs.Lemmas.{AtItsTable, DoesQuietly, Gain, GrantsAtLast, Lists, MakesSteps, Mine, Misses, SeatState, SessionTicket, TicketList, Try_now, below-seen, by_bool, done-order, fast-granted, fast_own, first_note, kept, lists-granted, lists-made, may-ask-fast, member, numbered, owed-both, owed-stepped, own_at, quiet-made, quiet-none, session_at, still-member, try-granted, unasked, view_of}
 use Rattle.mdl_shared.proofs.member.Member.gain_fast.Goals as goal
 
 pub returns-then-fast_at-ge-MOST_FAST-clause-unchanged : goal.returns-then-fast_at-ge-MOST_FAST-clause-unchanged

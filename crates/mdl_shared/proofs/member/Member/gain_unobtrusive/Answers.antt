@@ -1,15 +1,6 @@
 -- Without a try nothing happens. One that was in vain found the fast path closed.
-use Rattle.std.proofs.Common.{None, Result, Ok, Err, inl, inr, ℕ, ap, refl, rules, subst, sym, ◌≡◌}
-use Rattle.std.specs.Prelude.{IfErr, IfNone, Option}
-use Rattle.std.specs.Result.{result_ok}
-use Rattle.mdl_key.specs.declared.mode.Mode.{Mode}
-use Rattle.mdl_shared.specs.declared.fast_path.NotFast.{NotFast}
-use Rattle.mdl_shared.specs.declared.fast_path.NotFast.TheVariants.{Obtruded, Contended, Limit}
-use Rattle.mdl_shared.specs.FastDeeds.{HasNoFast}
-use Rattle.mdl_shared.specs.Passes.{view_of}
-use Rattle.mdl_shared.specs.SessionViews.{SessionView}
-use Rattle.mdl_shared.specs.WishSteps.{FindsClosed}
-use Rattle.mdl_shared.proofs.QuietDeeds.{quiet-none}
+use Rattle.std.proofs.Common.{None, Result, Ok, Err, inl, inr, ℕ, ap, refl, rules, subst, sym, ◌≡◌, IfErr, IfNone, Option}
+use Rattle.mdl_shared.proofs.Lemmas.{Contended, FindsClosed, HasNoFast, Limit, Mode, NotFast, Obtruded, SessionView, quiet-none, result_ok, view_of}
 use Rattle.mdl_shared.proofs.member.Member.gain_unobtrusive.Goals as goal
 
 pub returns-in_err-one-clause-unchanged : goal.returns-in_err-one-clause-unchanged

@@ -1,21 +1,6 @@
 -- The ticket is released, and its place is rescheduled where that is owed.
 use Rattle.std.proofs.Common.{◌≡◌, List, [], ◌∷◌, Some, refl, sym, ap, subst, ◌∙◌}
-use Rattle.mdl_steps.specs.declared.deed.Deed.TheVariants.{Lose}
-use Rattle.mdl_key.specs.declared.known_key.KnownKey.{KnownKey}
-use Rattle.mdl_steps.specs.Plays.{Mine}
-use Rattle.mdl_visits.specs.Numbers.{numbered}
-use Rattle.mdl_visits.proofs.Doing.{does_reschedule}
-use Rattle.mdl_visits.proofs.Steps.{does_then}
-use Rattle.mdl_key.specs.KeyLookups.{is_known}
-use Rattle.mdl_shared.specs.Passes.{view_of}
-use Rattle.mdl_shared.specs.SessionViews.{Lists, SessionView, session_at}
-use Rattle.mdl_shared.specs.Steps.{GivesUpFast}
-use Rattle.mdl_shared.specs.TicketLists.{KeepsRoom, Room}
-use Rattle.mdl_shared.proofs.FastReleases.{done-before, gives-up, gives-up_after, gone-quiet, paid-after}
-use Rattle.mdl_shared.proofs.MemberFacts.{fast-held, may-visit, ticket-known}
-use Rattle.mdl_shared.proofs.Members.{DidDeeds, done-rest, rescheduled}
-use Rattle.mdl_shared.proofs.Props.{member}
-use Rattle.mdl_shared.proofs.Rooms.{keeps-freed}
+use Rattle.mdl_shared.proofs.Lemmas.{DidDeeds, GivesUpFast, KeepsRoom, KnownKey, Lists, Lose, Mine, Room, SessionView, does_reschedule, does_then, done-before, done-rest, fast-held, gives-up, gives-up_after, gone-quiet, is_known, keeps-freed, may-visit, member, numbered, paid-after, rescheduled, session_at, ticket-known, view_of}
 use Rattle.mdl_shared.proofs.member.Member.give_up_fast.Goals as goal
 
 pub pay-requires : goal.pay-requires

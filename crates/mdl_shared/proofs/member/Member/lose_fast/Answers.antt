@@ -1,12 +1,5 @@
 -- The ticket is the session's only one of its number, and goes. Its place may be owed a reschedule then.
-use Rattle.std.proofs.Common.{sym, subst, ◌∙◌}
-use Rattle.mdl_shared.specs.TicketLists.{KeepsRoom, Room}
-use Rattle.mdl_shared.proofs.Debts.{owed-both, owed-more, released-due, released-quiet}
-use Rattle.mdl_shared.proofs.FastDone.{fast-released, lists-released}
-use Rattle.mdl_shared.proofs.FastFacts.{fast-place, fast-struck, may-release}
-use Rattle.mdl_shared.proofs.FastReleases.{seen, still}
-use Rattle.mdl_shared.proofs.Members.{room-kept}
-use Rattle.mdl_shared.proofs.Props.{member}
+use Rattle.mdl_shared.proofs.Lemmas.{KeepsRoom, Room, fast-place, fast-released, fast-struck, lists-released, may-release, member, owed-both, owed-more, released-due, released-quiet, room-kept, seen, still, subst, sym, ◌∙◌}
 use Rattle.mdl_shared.proofs.member.Member.lose_fast.Goals as goal
 
 pub release_fast-owes-requires-clause-place : goal.release_fast-owes-requires-clause-place

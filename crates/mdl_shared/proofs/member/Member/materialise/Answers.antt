@@ -1,6 +1,5 @@
 -- Without a fast ticket nothing is done.
-use Rattle.mdl_shared.specs.Passes.{view_of}
-use Rattle.mdl_shared.proofs.QuietDeeds.{quiet-none}
+use Rattle.mdl_shared.proofs.Lemmas.{quiet-none, view_of}
 use Rattle.mdl_shared.proofs.member.Member.materialise.Goals as goal
 
 pub returns-else-has_fast-clause-done : goal.returns-else-has_fast-clause-done

@@ -1,15 +1,7 @@
 -- All places are done, or one has no room.
 use Rattle.std.proofs.Common.{rules, ◌≡◌, ◌<◌, ℕ, List, [], ◌∷◌, ◌++◌, length, Err, refl, sym, ap, subst, ◌∙◌}
-use Rattle.mdl_steps.specs.declared.view.SessionTicket.{SessionTicket}
-use Rattle.mdl_steps.specs.Cells.{own_at}
-use Rattle.mdl_steps.specs.FastPlays.{but_at}
-use Rattle.mdl_shared.specs.Passes.{view_of}
-use Rattle.mdl_shared.specs.SessionViews.{Lists}
-use Rattle.mdl_shared.specs.WishSteps.{SlowsInTurn}
-use Rattle.mdl_shared.proofs.QuietDeeds.{quiet-none, quiet-steps, quiet-then, same-lists}
-use Rattle.mdl_shared.proofs.Rooms.{keeps-before, keeps-same}
+use Rattle.mdl_shared.proofs.Lemmas.{Lists, SessionTicket, SlowsInTurn, but_at, keeps-before, keeps-same, none-listed, others-by_place, own_at, place-first, quiet-none, quiet-steps, quiet-then, same-lists, view_of}
 use Rattle.mdl_shared.proofs.SlowPlaces.{all-slow, before-more, before-still, fewer-left, lacks-after, next-seen, none-before, same-at-first, slow-more, slow-still, stops-more, turn-more}
-use Rattle.mdl_shared.proofs.TicketSlowing.{none-listed, others-by_place, place-first}
 use Rattle.mdl_shared.proofs.member.Member.materialise_all.Goals as goal
 
 pub loop-place-init : goal.loop-place-init

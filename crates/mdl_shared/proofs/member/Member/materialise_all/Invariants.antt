@@ -1,10 +1,6 @@
 -- Some places' fast tickets are slow ones so far.
 use Rattle.std.proofs.Common.{◌≡◌, ℕ, List, None, [], length}
-use Rattle.mdl_shared.specs.DeedsDone.{DoesQuietly}
-use Rattle.mdl_shared.specs.FastDeeds.{AreSameOrSlow, AreSlowBefore}
-use Rattle.mdl_shared.specs.Passes.{view_of}
-use Rattle.mdl_shared.specs.WishSteps.{SlowsInTurn}
-use Rattle.mdl_shared.specs.TicketLists.{AreByPlace, KeepsRoom}
+use Rattle.mdl_shared.proofs.Lemmas.{AreByPlace, AreSameOrSlow, AreSlowBefore, DoesQuietly, KeepsRoom, SlowsInTurn, view_of}
 use Rattle.mdl_shared.proofs.member.Member.materialise_all.Given as goal
 
 abbrev pub invariant-loop-place : goal.invariant-loop-place

@@ -1,17 +1,5 @@
 -- The fast tickets of the place are slow ones then, or stay as they were for want of room.
-use Rattle.std.proofs.Common.{is_some, inr, sym, ap, ◌∙◌}
-use Rattle.std.proofs.lemmas.Bool.{false≢true}
-use Rattle.mdl_steps.specs.Plays.{Mine}
-use Rattle.mdl_steps.specs.Cells.{own_at}
-use Rattle.mdl_shared.specs.Passes.{view_of}
-use Rattle.mdl_shared.specs.SessionViews.{Lists}
-use Rattle.mdl_shared.proofs.Debts.{owed-both, owed-stepped}
-use Rattle.mdl_shared.proofs.FastDone.{fast-materialised, lists-materialised}
-use Rattle.mdl_shared.proofs.FastFacts.{kind-of-fast, may-make-slow, some-seen}
-use Rattle.mdl_shared.proofs.Members.{room-kept}
-use Rattle.mdl_shared.proofs.Props.{member}
-use Rattle.mdl_shared.proofs.QuietDeeds.{lists-made, quiet-made, quiet-none, steps-visited}
-use Rattle.mdl_shared.proofs.WaitSteps.{still-member}
+use Rattle.mdl_shared.proofs.Lemmas.{Lists, Mine, ap, false≢true, fast-materialised, inr, is_some, kind-of-fast, lists-made, lists-materialised, may-make-slow, member, owed-both, owed-stepped, own_at, quiet-made, quiet-none, room-kept, some-seen, steps-visited, still-member, sym, view_of, ◌∙◌}
 use Rattle.mdl_shared.proofs.member.Member.materialise_at.Goals as goal
 
 -- ---- nothing is tried

@@ -1,19 +1,7 @@
 -- The ticket has the other one's mode, and that one goes.
 use Rattle.std.proofs.Common.{Some, [], ◌∷◌, inr, refl, sym, ap, ◌∙◌}
-use Rattle.mdl_calls.specs.Words.{Merge}
-use Rattle.mdl_steps.specs.declared.deed.Deed.TheVariants.{Alter, Lose}
-use Rattle.mdl_shared.specs.Members.{without_at}
-use Rattle.mdl_shared.specs.Modes.{merge_fault}
-use Rattle.mdl_shared.specs.SessionViews.{Lists}
-use Rattle.mdl_shared.proofs.Debts.{owed-both, visited-owes}
-use Rattle.mdl_shared.proofs.MemberFacts.{merges-slow, spared}
-use Rattle.mdl_shared.proofs.Members.{done-order, fast-struck, kept, lists-done, lists-visited, room-kept, unnumbered, visited}
-use Rattle.mdl_shared.proofs.Props.{member}
-use Rattle.mdl_shared.proofs.QuietDeeds.{quiet-visit}
-use Rattle.mdl_shared.proofs.Rooms.{keeps-before}
-use Rattle.mdl_shared.proofs.SlowHeld.{slow-held}
-use Rattle.mdl_shared.proofs.TicketCalls.{merge-joins}
-use Rattle.mdl_shared.proofs.TicketFaults.{merge-idle, merge-passed}
+use Rattle.mdl_shared.proofs.Lemmas.{Alter, Lists, Lose, Merge, done-order, keeps-before, kept, lists-done, lists-visited, member, merge-idle, merge-joins, merge-passed, merge_fault, merges-slow, owed-both, quiet-visit, room-kept, slow-held, spared, unnumbered, visited, visited-owes, without_at}
+use Rattle.mdl_shared.proofs.Members.{fast-struck}
 use Rattle.mdl_shared.proofs.member.Member.merge_by_latch.Goals as goal
 
 pub merge-requires-clause-at : goal.merge-requires-clause-at

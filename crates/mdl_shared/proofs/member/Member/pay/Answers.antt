@@ -1,10 +1,5 @@
 -- The session gives up nothing, and its flag of the place goes down.
-use Rattle.std.proofs.Common.{[], refl}
-use Rattle.mdl_shared.proofs.Debts.{owed-paid, rescheduled-owes}
-use Rattle.mdl_shared.proofs.Members.{lists-done, lists-rescheduled, rescheduled, room-kept}
-use Rattle.mdl_shared.proofs.Props.{member}
-use Rattle.mdl_shared.proofs.Rooms.{keeps-equal}
-use Rattle.mdl_shared.proofs.WaitSteps.{still-member}
+use Rattle.mdl_shared.proofs.Lemmas.{[], keeps-equal, lists-done, lists-rescheduled, member, owed-paid, refl, rescheduled, rescheduled-owes, room-kept, still-member}
 use Rattle.mdl_shared.proofs.member.Member.pay.Goals as goal
 
 pub invariant_of-self : goal.invariant_of-self

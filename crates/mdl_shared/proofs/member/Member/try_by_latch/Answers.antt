@@ -1,16 +1,6 @@
 -- The session may wish so, and what became of the wish is told by the visit.
 use Rattle.std.proofs.Common.{Ok, [], ap, arith, inl, refl, ◌∙◌, ◌∷◌}
-use Rattle.mdl_calls.specs.Words.{Try_now}
-use Rattle.mdl_shared.specs.SessionViews.{Lists}
-use Rattle.mdl_steps.specs.declared.deed.Deed.TheVariants.{Gain}
-use Rattle.mdl_shared.proofs.Debts.{owed-both, owed-visited, visited-owes}
-use Rattle.mdl_shared.proofs.Members.{done-order, kept, lists-done, lists-visited, visited}
-use Rattle.mdl_shared.proofs.Props.{member}
-use Rattle.mdl_shared.proofs.QuietDeeds.{quiet-visit}
-use Rattle.mdl_shared.proofs.Rooms.{keeps-same}
-use Rattle.mdl_shared.proofs.WaitSteps.{still-member}
-use Rattle.mdl_shared.proofs.WishCalls.{try-granted}
-use Rattle.mdl_shared.proofs.Wishing.{below-seen, gained-by, may-wish, none-seen, unasked}
+use Rattle.mdl_shared.proofs.Lemmas.{Gain, Lists, Try_now, below-seen, done-order, gained-by, keeps-same, kept, lists-done, lists-visited, may-wish, member, none-seen, owed-both, owed-visited, quiet-visit, still-member, try-granted, unasked, visited, visited-owes}
 use Rattle.mdl_shared.proofs.member.Member.try_by_latch.Goals as goal
 
 pub try_now-requires : goal.try_now-requires

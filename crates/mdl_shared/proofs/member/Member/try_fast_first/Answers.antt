@@ -1,17 +1,7 @@
 -- The session knows the place. Where no fast ticket is granted its own become slow ones.
 use Rattle.std.proofs.Common.{Err, [], ap, arith, refl, rules, subst, sym, ◌∙◌, ◌≡◌}
-use Rattle.mdl_key.specs.KeyLookups.{kind_known}
-use Rattle.mdl_shared.specs.Passes.{view_of}
-use Rattle.mdl_shared.specs.SessionViews.{Lists}
-use Rattle.mdl_shared.specs.TicketLists.{KeepsRoom, TicketList}
+use Rattle.mdl_shared.proofs.Lemmas.{KeepsRoom, Lists, TicketList, keeps-before, kind_known, kind_place, lists-done, member, member-room, place-within, quiet-steps, quiet-then, room-kept, unfast-seen, view_of}
 use Rattle.mdl_shared.proofs.FastWishing.{fast-still, lacks-later, made-later, quiet-room}
-use Rattle.mdl_shared.proofs.MemberFacts.{place-within}
-use Rattle.mdl_shared.proofs.Membership.{kind_place}
-use Rattle.mdl_shared.proofs.Members.{lists-done, member-room, room-kept}
-use Rattle.mdl_shared.proofs.Props.{member}
-use Rattle.mdl_shared.proofs.QuietDeeds.{quiet-steps, quiet-then}
-use Rattle.mdl_shared.proofs.Rooms.{keeps-before}
-use Rattle.mdl_shared.proofs.Wishing.{unfast-seen}
 use Rattle.mdl_shared.proofs.member.Member.try_fast_first.Goals as goal
 
 pub reserve-requires : goal.reserve-requires

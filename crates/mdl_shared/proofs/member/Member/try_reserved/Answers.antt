@@ -1,6 +1,5 @@
 -- The weight of the mode is what the word counts it by.
-use Rattle.std.proofs.Common.{ap, is_some}
-use Rattle.mdl_shared.proofs.FastFacts.{by-weight}
+use Rattle.mdl_shared.proofs.Lemmas.{ap, by-weight, is_some}
 use Rattle.mdl_shared.proofs.member.Member.try_reserved.Goals as goal
 
 pub try_with_room-requires : goal.try_with_room-requires

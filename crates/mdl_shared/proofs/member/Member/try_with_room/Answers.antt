@@ -1,10 +1,5 @@
 -- What became of the try is told by the fast path.
-use Rattle.std.proofs.Common.{Err, ap, subst, sym, ◌∙◌}
-use Rattle.mdl_shared.specs.declared.fast_path.NotFast.{NotFast}
-use Rattle.mdl_shared.specs.FastDeeds.{HasNoFast}
-use Rattle.mdl_shared.specs.Passes.{view_of}
-use Rattle.mdl_shared.proofs.FastCalls.{fewer-seen, tried-granted, tried-limit, tried-nothing}
-use Rattle.mdl_shared.proofs.FastFacts.{may-ask-fast}
+use Rattle.mdl_shared.proofs.Lemmas.{Err, HasNoFast, NotFast, ap, fewer-seen, may-ask-fast, subst, sym, tried-granted, tried-limit, tried-nothing, view_of, ◌∙◌}
 use Rattle.mdl_shared.proofs.member.Member.try_with_room.Goals as goal
 
 pub returns-in-Ok-clause-tried : goal.returns-in-Ok-clause-tried

@@ -1,19 +1,6 @@
 -- The ticket has the stronger mode, or would have to wait for it.
 use Rattle.std.proofs.Common.{Some, [], ◌∷◌, inr, refl, sym, ap, ◌∙◌}
-use Rattle.mdl_calls.specs.Words.{Upgrade_now}
-use Rattle.mdl_steps.specs.declared.deed.Deed.TheVariants.{Alter}
-use Rattle.mdl_shared.specs.SessionViews.{Lists}
-use Rattle.mdl_shared.specs.Upgrades.{upgrade_fault}
-use Rattle.mdl_shared.proofs.Debts.{owed-both, owed-visited, visited-owes}
-use Rattle.mdl_shared.proofs.MemberFacts.{alters-slow, spared}
-use Rattle.mdl_shared.proofs.Members.{done-order, kept, lists-done, lists-visited, room-kept, unnumbered, visited}
-use Rattle.mdl_shared.proofs.Membership.{kind_there}
-use Rattle.mdl_shared.proofs.Props.{member}
-use Rattle.mdl_shared.proofs.QuietDeeds.{quiet-visit}
-use Rattle.mdl_shared.proofs.SlowHeld.{slow-held}
-use Rattle.mdl_shared.proofs.TicketCalls.{upgrade-joins}
-use Rattle.mdl_shared.proofs.TicketFaults.{upgrade-covers, upgrade-kind}
-use Rattle.mdl_shared.proofs.WaitSteps.{still-member}
+use Rattle.mdl_shared.proofs.Lemmas.{Alter, Lists, Upgrade_now, alters-slow, done-order, kept, kind_there, lists-done, lists-visited, member, owed-both, owed-visited, quiet-visit, room-kept, slow-held, spared, still-member, unnumbered, upgrade-covers, upgrade-joins, upgrade-kind, upgrade_fault, visited, visited-owes}
 use Rattle.mdl_shared.proofs.member.Member.upgrade_by_latch.Goals as goal
 
 pub upgrade_now-requires-clause-at : goal.upgrade_now-requires-clause-at

@@ -1,10 +1,5 @@
 -- An audit only looks.
-use Rattle.std.proofs.Common.{ap, refl, sym, ◌∙◌}
-use Rattle.mdl_steps.specs.Plays.{Mine}
-use Rattle.mdl_shared.specs.SessionViews.{lists_seen}
-use Rattle.mdl_shared.proofs.Debts.{owed-on}
-use Rattle.mdl_shared.proofs.Props.{member}
-use Rattle.mdl_shared.proofs.WaitSteps.{quietly, still-member}
+use Rattle.mdl_shared.proofs.Lemmas.{Mine, ap, lists_seen, member, owed-on, quietly, refl, still-member, sym, ◌∙◌}
 use Rattle.mdl_shared.proofs.session.Session.audit.Goals as goal
 
 pub audit-requires : goal.audit-requires

@@ -1,16 +1,6 @@
 -- The session may wish so. What became of the wish is told by the fast path, or by the latch of the place.
 use Rattle.std.proofs.Common.{Err, Ok, Some, ap, rules, ◌∙◌, ◌≡◌}
-use Rattle.mdl_calls.specs.Words.{Begin_wait}
-use Rattle.mdl_key.specs.KeyLookups.{kind_known}
-use Rattle.mdl_shared.specs.Members.{wish_fault}
-use Rattle.mdl_shared.specs.Passes.{view_of}
-use Rattle.mdl_shared.proofs.FastWishShows.{begin-fast, begin-full, begun-slow, full-fast}
-use Rattle.mdl_shared.proofs.Members.{fault-seen}
-use Rattle.mdl_shared.proofs.Props.{member}
-use Rattle.mdl_shared.proofs.QuietDeeds.{same-lists}
-use Rattle.mdl_shared.proofs.Refusals.{own-shows}
-use Rattle.mdl_shared.proofs.WishCalls.{begin-unfit}
-use Rattle.mdl_shared.proofs.Wishing.{may-wish, visit-seen}
+use Rattle.mdl_shared.proofs.Lemmas.{Begin_wait, begin-fast, begin-full, begin-unfit, begun-slow, fault-seen, full-fast, kind_known, may-wish, member, own-shows, same-lists, view_of, visit-seen, wish_fault}
 use Rattle.mdl_shared.proofs.session.Session.begin_wait.Goals as goal
 
 pub returns-in_err-kind : goal.returns-in_err-kind

@@ -1,19 +1,6 @@
 -- What stands under an exclusive ticket is changed, or the change is refused.
 use Rattle.std.proofs.Common.{Bool, None, Some, [], ap, false, if◌then◌else◌, inr, refl, rules, ◌∙◌, ◌≡◌}
-use Rattle.mdl_calls.specs.Words.{Change_definition}
-use Rattle.mdl_key.specs.declared.mode.Mode.{Mode}
-use Rattle.mdl_key.specs.declared.mode.Mode.TheVariants.{X}
-use Rattle.mdl_key.specs.Words.{same_mode}
-use Rattle.mdl_calls.specs.declared.space_error.SpaceError.TheVariants.{NotExclusive, NotHeld}
-use Rattle.mdl_visits.specs.Redefinitions.{exclusive_fault}
-use Rattle.mdl_shared.specs.SessionViews.{session_at}
-use Rattle.mdl_shared.proofs.Debts.{owed-both, owed-visited}
-use Rattle.mdl_shared.proofs.MemberFacts.{may-visit, slow-apart, ticket-known}
-use Rattle.mdl_shared.proofs.Members.{done-nothing, done-order, held-seen, kept, lists-done, lists-visited, room-kept, visited}
-use Rattle.mdl_shared.proofs.Props.{member}
-use Rattle.mdl_shared.proofs.ReadCalls.{change-joins, lists-noted, noted-by, noted-order, noted-owes, unchanged-joins, unchanged-shows, unfit-joins}
-use Rattle.mdl_shared.proofs.Rooms.{keeps-same}
-use Rattle.mdl_shared.proofs.SlowOrFast.{exclusive-slow}
+use Rattle.mdl_shared.proofs.Lemmas.{Change_definition, Mode, NotExclusive, NotHeld, X, change-joins, done-nothing, done-order, exclusive-slow, exclusive_fault, held-seen, keeps-same, kept, lists-done, lists-noted, lists-visited, may-visit, member, noted-by, noted-order, noted-owes, owed-both, owed-visited, room-kept, same_mode, session_at, slow-apart, ticket-known, unchanged-joins, unchanged-shows, unfit-joins, visited}
 use Rattle.mdl_shared.proofs.session.Session.change_definition.Goals as goal
 
 pub returns-in_default-clause-joined : goal.returns-in_default-clause-joined

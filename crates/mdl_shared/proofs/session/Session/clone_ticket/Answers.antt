@@ -1,19 +1,6 @@
 -- The mode is one of the lock's kind that the ticket's own covers, and the second ticket is the last of the session's.
 use Rattle.std.proofs.Common.{Err, None, Ok, Option, Some, ap, rules, subst, sym, ℕ, ◌∙◌, ◌≡◌}
-use Rattle.std.specs.Option.{IfSome}
-use Rattle.mdl_calls.specs.Words.{Clone_ticket}
-use Rattle.mdl_steps.specs.declared.view.SessionTicket.{SessionTicket}
-use Rattle.mdl_shared.specs.FastWishes.{GainsFast}
-use Rattle.mdl_shared.specs.Modes.{clone_fault}
-use Rattle.mdl_shared.specs.Passes.{view_of}
-use Rattle.mdl_shared.specs.SessionViews.{Lists}
-use Rattle.mdl_shared.proofs.CloneCalls.{clone-unfit, cloned-slow, fast-cloned, full-cloned}
-use Rattle.mdl_shared.proofs.Faults.{just-done, just-refused}
-use Rattle.mdl_shared.proofs.Members.{fault-seen, held-seen}
-use Rattle.mdl_shared.proofs.Props.{member}
-use Rattle.mdl_shared.proofs.QuietDeeds.{same-lists}
-use Rattle.mdl_shared.proofs.Refusals.{own-shows}
-use Rattle.mdl_shared.proofs.SlowFirst.{slow-then}
+use Rattle.mdl_shared.proofs.Lemmas.{Clone_ticket, GainsFast, IfSome, Lists, SessionTicket, clone-unfit, clone_fault, cloned-slow, fast-cloned, fault-seen, full-cloned, held-seen, just-done, just-refused, member, own-shows, same-lists, slow-then, view_of}
 use Rattle.mdl_shared.proofs.session.Session.clone_ticket.Goals as goal
 
 pub returns-in_err-held : goal.returns-in_err-held

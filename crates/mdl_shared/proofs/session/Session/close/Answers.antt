@@ -1,11 +1,7 @@
 -- A session that is closed has no ticket, slow or fast, and owes nothing. One that isn't has one, or owes a place a reschedule.
-use Rattle.std.proofs.Common.{◌≡◌, length, refl, sym, ◌∙◌, arith}
-use Rattle.std.proofs.lemmas.Bool.{eqb-true}
-use Rattle.mdl_steps.specs.Interleavings.{interleaved}
-use Rattle.mdl_steps.proofs.Interleaving.{length-interleaved}
+use Rattle.std.proofs.Common.{◌≡◌, length, refl, sym, ◌∙◌, arith, eqb-true}
+use Rattle.mdl_shared.proofs.Lemmas.{interleaved, length-interleaved, member, none-owed}
 use Rattle.mdl_shared.proofs.ClosedSessions.{has-nothing}
-use Rattle.mdl_shared.proofs.Debts.{none-owed}
-use Rattle.mdl_shared.proofs.Props.{member}
 use Rattle.mdl_shared.proofs.session.Session.close.Goals as goal
 
 pub invariant_of-result-clause-empty : goal.invariant_of-result-clause-empty

@@ -1,27 +1,7 @@
 -- The ticket has the weaker mode, or it can't have it.
 use Rattle.std.proofs.Common.{Err, None, Some, [], inr, refl, sym, subst, rules, ◌∷◌, ◌≡◌, ◌∙◌, ℕ}
-use Rattle.mdl_key.specs.declared.mode.Mode.{Mode}
-use Rattle.mdl_calls.specs.Words.{Downgrade}
-use Rattle.mdl_steps.specs.declared.deed.Deed.TheVariants.{Alter}
-use Rattle.mdl_steps.specs.declared.view.SessionTicket.{SessionTicket}
-use Rattle.mdl_visits.specs.Numbers.{numbered}
-use Rattle.mdl_shared.specs.declared.member.Member.{Member}
-use Rattle.mdl_shared.specs.Modes.{downgrade_fault}
-use Rattle.mdl_shared.specs.Passes.{view_of}
-use Rattle.mdl_shared.specs.SessionViews.{tickets_seen}
-use Rattle.mdl_shared.proofs.Debts.{owed-paid, rescheduled-owes}
-use Rattle.mdl_shared.proofs.MemberFacts.{alters-slow, spared}
-use Rattle.mdl_shared.proofs.Faults.{just-done, just-refused}
-use Rattle.mdl_shared.proofs.Fitting.{fit_there}
-use Rattle.mdl_shared.proofs.HeldTickets.{HoldsTicket, holds-ticket}
-use Rattle.mdl_shared.proofs.Members.{done-order, fault-seen, kept, lists-done, lists-rescheduled, rescheduled, room-kept, unnumbered}
-use Rattle.mdl_shared.proofs.Props.{member}
-use Rattle.mdl_shared.proofs.Refusals.{own-shows}
-use Rattle.mdl_shared.proofs.SlowOrFast.{uncounted-slow, weakened-uncounted}
-use Rattle.mdl_shared.proofs.TicketCalls.{downgrade-unfit, downgraded}
-use Rattle.mdl_shared.proofs.TicketFaults.{downgrade-passed}
+use Rattle.mdl_shared.proofs.Lemmas.{Alter, Downgrade, HoldsTicket, KeepsRoom, Member, Mode, Room, SessionTicket, alters-slow, done-order, downgrade-passed, downgrade-unfit, downgrade_fault, downgraded, fault-seen, fit_there, holds-ticket, just-done, just-refused, kept, lists-done, lists-rescheduled, member, numbered, owed-paid, own-shows, rescheduled, rescheduled-owes, room-kept, spared, tickets_seen, uncounted-slow, unnumbered, view_of, weakened-uncounted}
 use Rattle.mdl_shared.proofs.session.Session.downgrade.Goals as goal
-use Rattle.mdl_shared.specs.TicketLists.{KeepsRoom, Room}
 
 pub returns-in_err-held : goal.returns-in_err-held
 returns-in_err-held g c =

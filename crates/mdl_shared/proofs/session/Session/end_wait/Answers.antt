@@ -1,27 +1,8 @@
 -- The wait is read, and ends where it is settled.
 use Rattle.std.proofs.Common.{[], ◌∷◌, None, Some, is_some, refl, sym, ap, subst, ◌∙◌, arith}
-use Rattle.mdl_calls.specs.Words.{End_wait}
-use Rattle.mdl_calls.specs.declared.answers.Settled.{Settled}
-use Rattle.mdl_steps.specs.declared.deed.Deed.TheVariants.{Gain}
-use Rattle.mdl_steps.specs.Deeds.{owned}
-use Rattle.mdl_steps.specs.Plays.{Mine}
-use Rattle.mdl_steps.specs.Seats.{IsPlace, IsRising}
-use Rattle.mdl_steps.specs.SeatStates.{SeatState}
-use Rattle.mdl_visits.specs.Grantings.{all_but}
-use Rattle.mdl_visits.specs.Polls.{settled_state}
-use Rattle.mdl_shared.specs.Passes.{view_of}
-use Rattle.mdl_shared.specs.SessionViews.{Lists, SessionView, all_tickets, lists_seen, session_at, settled_of}
-use Rattle.mdl_shared.specs.Waitings.{are_below_next}
-use Rattle.mdl_steps.specs.Cells.{own_at}
-use Rattle.mdl_shared.proofs.Debts.{owed-both, owed-on, owed-paid, rescheduled-owes}
+use Rattle.mdl_shared.proofs.Lemmas.{End_wait, Gain, IsPlace, IsRising, Lists, Mine, SeatState, SessionView, Settled, all_but, all_tickets, are_below_next, awaited, keeps-equal, kept, lists_seen, may-visit, member, owed-both, owed-on, owed-paid, own_at, owned, polls, rescheduled-owes, session-there, session_at, settled_of, settled_state, still-member, view_of}
 use Rattle.mdl_shared.proofs.EndCalls.{asked-below, asks-nothing, granted-so, idle-joins, lost-order, lost-so, won-order}
 use Rattle.mdl_shared.proofs.EndSteps.{ended-lost, ended-won, ends-granted, lost-end, told-end, unsettled-end, won-end}
-use Rattle.mdl_shared.proofs.MemberFacts.{awaited, may-visit}
-use Rattle.mdl_shared.proofs.Members.{kept}
-use Rattle.mdl_shared.proofs.Props.{member}
-use Rattle.mdl_shared.proofs.PollCalls.{polls}
-use Rattle.mdl_shared.proofs.Rooms.{keeps-equal}
-use Rattle.mdl_shared.proofs.WaitSteps.{session-there, still-member}
 use Rattle.mdl_shared.proofs.session.Session.end_wait.Goals as goal
 
 pub returns-in_default-clause-joined : goal.returns-in_default-clause-joined

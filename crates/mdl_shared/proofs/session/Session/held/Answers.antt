@@ -1,13 +1,5 @@
 -- The session tells its own tickets, which are those of its view.
-use Rattle.std.proofs.Common.{map, refl, ap, ◌∙◌}
-use Rattle.mdl_calls.specs.declared.space_error.SpaceError.TheVariants.{OutOfMemory}
-use Rattle.mdl_calls.specs.Words.{Holds, List_held}
-use Rattle.mdl_shared.specs.OwnLists.{as_held}
-use Rattle.mdl_shared.specs.Passes.{view_of}
-use Rattle.mdl_shared.specs.SessionViews.{Lists, all_tickets}
-use Rattle.mdl_shared.proofs.MemberFacts.{speaks}
-use Rattle.mdl_shared.proofs.Props.{member}
-use Rattle.mdl_shared.proofs.SameSpace.{joins-still, refused, same-stays}
+use Rattle.mdl_shared.proofs.Lemmas.{Holds, List_held, Lists, OutOfMemory, all_tickets, ap, as_held, joins-still, map, member, refl, refused, same-stays, speaks, view_of, ◌∙◌}
 use Rattle.mdl_shared.proofs.session.Session.held.Goals as goal
 
 pub returns-in-Ok-clause-joined : goal.returns-in-Ok-clause-joined

@@ -1,14 +1,7 @@
 -- The key of a place, by the session's own list, is that by its value.
 use Rattle.std.proofs.Common.{◌≡◌, Some, None, refl, sym, ap, ◌∙◌}
 use Rattle.std.specs.Option.{option_copied}
-use Rattle.mdl_calls.specs.declared.space_error.SpaceError.TheVariants.{NoPlace, OutOfMemory}
-use Rattle.mdl_calls.specs.Words.{Key_is, Key_of}
-use Rattle.mdl_key.specs.KeyLookups.{key_known}
-use Rattle.mdl_shared.specs.Passes.{view_of}
-use Rattle.mdl_shared.specs.SessionViews.{Lists}
-use Rattle.mdl_shared.proofs.MemberFacts.{speaks}
-use Rattle.mdl_shared.proofs.Props.{member}
-use Rattle.mdl_shared.proofs.SameSpace.{joins-still, refused, same-stays}
+use Rattle.mdl_shared.proofs.Lemmas.{Key_is, Key_of, Lists, NoPlace, OutOfMemory, joins-still, key_known, member, refused, same-stays, speaks, view_of}
 use Rattle.mdl_shared.proofs.session.Session.key_of.Goals as goal
 use Rattle.mdl_shared.proofs.session.Session.key_of.Goals.{in-Ok, in-Err}
 

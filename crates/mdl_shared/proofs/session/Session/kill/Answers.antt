@@ -1,14 +1,5 @@
 -- The wait is settled, or another word of it is met.
-use Rattle.std.proofs.Common.{sym, ap, subst, ◌∙◌}
-use Rattle.atomic_table.specs.Seated.{TableId}
-use Rattle.mdl_steps.specs.SeatStates.{SeatState}
-use Rattle.mdl_steps.specs.WaitSeats.{IsSession}
-use Rattle.mdl_shared.specs.Passes.{view_of}
-use Rattle.mdl_shared.specs.SessionViews.{SessionView, session_at}
-use Rattle.mdl_shared.proofs.Debts.{owed-on}
-use Rattle.mdl_shared.proofs.KillCalls.{kill-closed, kill-either, kill-ended, nobody-killed, target-there}
-use Rattle.mdl_shared.proofs.Props.{member}
-use Rattle.mdl_shared.proofs.WaitSteps.{still-member}
+use Rattle.mdl_shared.proofs.Lemmas.{IsSession, SeatState, SessionView, TableId, ap, kill-closed, kill-either, kill-ended, member, nobody-killed, owed-on, session_at, still-member, subst, sym, target-there, view_of, ◌∙◌}
 use Rattle.mdl_shared.proofs.session.Session.kill.Goals as goal
 
 pub returns-then-not-is_session-clause-joined : goal.returns-then-not-is_session-clause-joined

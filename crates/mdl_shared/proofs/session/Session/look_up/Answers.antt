@@ -1,18 +1,6 @@
 -- The place of a key by the directory.
 use Rattle.std.proofs.Common.{◌≡◌, ◌≤◌, ℕ, List, [], ◌∷◌, ◌++◌, None, inr, refl, sym, ap, subst, ◌∙◌, arith}
-use Rattle.mdl_key.specs.Words.{KeyName}
-use Rattle.mdl_calls.specs.declared.space_error.SpaceError.TheVariants.{OutOfMemory}
-use Rattle.mdl_calls.specs.Words.{Resolve}
-use Rattle.mdl_key.specs.declared.known_key.KnownKey.{KnownKey}
-use Rattle.mdl_key.specs.KeyLookups.{is_known, place_known}
-use Rattle.mdl_shared.specs.Passes.{view_of}
-use Rattle.mdl_shared.specs.SessionViews.{Lists, session_at}
-use Rattle.mdl_shared.proofs.Debts.{owed-on, owed-stepped}
-use Rattle.mdl_shared.proofs.KeyCalls.{learnt-order, learnt-owes, lists-learnt, lists-stepped, no_place-joins, resolve-joins, resolved, stepped}
-use Rattle.mdl_shared.proofs.MemberFacts.{speaks}
-use Rattle.mdl_shared.proofs.Members.{done-nothing, done-order, kept}
-use Rattle.mdl_shared.proofs.Props.{member}
-use Rattle.mdl_shared.proofs.SameSpace.{refused, same-stays}
+use Rattle.mdl_shared.proofs.Lemmas.{KeyName, KnownKey, Lists, OutOfMemory, Resolve, done-nothing, done-order, is_known, kept, learnt-order, learnt-owes, lists-learnt, lists-stepped, member, no_place-joins, owed-on, owed-stepped, place_known, refused, resolve-joins, resolved, same-stays, session_at, speaks, stepped, view_of}
 use Rattle.mdl_shared.proofs.session.Session.look_up.Goals as goal
 use Rattle.mdl_shared.proofs.session.Session.look_up.Goals.{in-NoPlace, in-OutOfMemory}
 

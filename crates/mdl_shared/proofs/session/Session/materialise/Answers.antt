@@ -1,8 +1,5 @@
 -- Where the session waits it has no fast ticket, and nothing is done.
-use Rattle.std.proofs.Common.{[], refl, sym, ◌∙◌}
-use Rattle.mdl_shared.specs.Passes.{view_of}
-use Rattle.mdl_shared.proofs.FastCalls.{made-none, waits-unfast}
-use Rattle.mdl_shared.proofs.QuietDeeds.{quiet-none}
+use Rattle.mdl_shared.proofs.Lemmas.{[], made-none, quiet-none, refl, sym, view_of, waits-unfast, ◌∙◌}
 use Rattle.mdl_shared.proofs.session.Session.materialise.Goals as goal
 
 pub returns-then-is_some-clause-quiet : goal.returns-then-is_some-clause-quiet

@@ -1,15 +1,6 @@
 -- The ticket has the other one's mode, and that one goes; or they can't be merged.
 use Rattle.std.proofs.Common.{Err, None, Some, ap, rules, sym, ◌∙◌, ◌≡◌}
-use Rattle.mdl_calls.specs.Words.{Merge}
-use Rattle.mdl_shared.specs.Modes.{merge_fault}
-use Rattle.mdl_shared.specs.Passes.{view_of}
-use Rattle.mdl_shared.proofs.Faults.{just-done, just-refused}
-use Rattle.mdl_shared.proofs.Members.{fault-seen, held-seen}
-use Rattle.mdl_shared.proofs.Props.{member}
-use Rattle.mdl_shared.proofs.QuietDeeds.{same-lists}
-use Rattle.mdl_shared.proofs.Refusals.{own-shows}
-use Rattle.mdl_shared.proofs.SlowFirst.{becomes-slow, merge-refused, merged-slow, slow-then}
-use Rattle.mdl_shared.proofs.TicketCalls.{merge-unfit}
+use Rattle.mdl_shared.proofs.Lemmas.{Merge, becomes-slow, fault-seen, held-seen, just-done, just-refused, member, merge-refused, merge-unfit, merge_fault, merged-slow, own-shows, same-lists, slow-then, view_of}
 use Rattle.mdl_shared.proofs.session.Session.merge.Goals as goal
 
 pub returns-in_err-kept : goal.returns-in_err-kept

@@ -1,12 +1,5 @@
 -- A poll reads the word of the session's wait.
-use Rattle.std.proofs.Common.{true, false, not, sym, ap, ◌∙◌}
-use Rattle.mdl_steps.specs.SeatStates.{SeatState}
-use Rattle.mdl_shared.specs.Passes.{view_of}
-use Rattle.mdl_shared.specs.SessionViews.{session_at, settled_of}
-use Rattle.mdl_shared.proofs.Debts.{owed-on}
-use Rattle.mdl_shared.proofs.Props.{member}
-use Rattle.mdl_shared.proofs.PollCalls.{poll-pending, poll-refused, poll-settled, polls}
-use Rattle.mdl_shared.proofs.WaitSteps.{session-there, still-member, waits-seen}
+use Rattle.mdl_shared.proofs.Lemmas.{SeatState, ap, false, member, not, owed-on, poll-pending, poll-refused, poll-settled, polls, session-there, session_at, settled_of, still-member, sym, true, view_of, waits-seen, ◌∙◌}
 use Rattle.mdl_shared.proofs.session.Session.poll_wait.Goals as goal
 use Rattle.mdl_shared.proofs.session.Session.poll_wait.Goals.{in-Some, in-None}
 

@@ -1,22 +1,6 @@
 -- What stands under a ticket is read, and noted under each ticket of its place.
 use Rattle.std.proofs.Common.{[], false, if◌then◌else◌, inr, is_some, None, Option, Some, refl, ap, ◌∙◌}
-use Rattle.mdl_calls.specs.declared.space_error.SpaceError.TheVariants.{NotHeld}
-use Rattle.mdl_calls.specs.Words.{Read_definition}
-use Rattle.mdl_steps.specs.declared.view.SessionTicket.{SessionTicket}
-use Rattle.mdl_visits.proofs.Doing.{does_learns}
-use Rattle.mdl_shared.specs.Passes.{view_of}
-use Rattle.mdl_shared.specs.SessionViews.{tickets_seen}
-use Rattle.mdl_visits.specs.Visits.{Visits}
-use Rattle.mdl_steps.specs.SeatStates.{AtItsTable}
-use Rattle.mdl_shared.proofs.Debts.{owed-both, owed-visited}
-use Rattle.mdl_shared.proofs.MemberFacts.{may-visit, slow-there, speaks, ticket-known, unwaited}
-use Rattle.mdl_shared.proofs.Members.{done-nothing, done-order, held-seen, kept, lists-done, lists-visited, room-kept, visited}
-use Rattle.mdl_shared.proofs.Props.{member}
-use Rattle.mdl_shared.proofs.ReadCalls.{lists-noted, noted-by, noted-order, noted-owes, read-joins, read-shows, unread-joins, unread-shows}
-use Rattle.mdl_shared.proofs.Refusals.{own-shows}
-use Rattle.mdl_shared.proofs.Rooms.{keeps-same}
-use Rattle.mdl_shared.proofs.SameSpace.{refused, same-stays}
-use Rattle.mdl_shared.proofs.SpaceTickets.{holds-told}
+use Rattle.mdl_shared.proofs.Lemmas.{AtItsTable, NotHeld, Read_definition, SessionTicket, Visits, does_learns, done-nothing, done-order, held-seen, holds-told, keeps-same, kept, lists-done, lists-noted, lists-visited, may-visit, member, noted-by, noted-order, noted-owes, owed-both, owed-visited, own-shows, read-joins, read-shows, refused, room-kept, same-stays, slow-there, speaks, ticket-known, tickets_seen, unread-joins, unread-shows, unwaited, view_of, visited}
 use Rattle.mdl_shared.proofs.session.Session.read_definition.Goals as goal
 
 pub returns-in_default : goal.returns-in_default

@@ -1,24 +1,6 @@
 -- Where the cache keeps a definition of the version that a step found, that is what stands; else what stands is read under the latch.
 use Rattle.std.proofs.Common.{rules, Err, false, is_some, arith, option_copied, refl, subst, sym, ap, ◌∙◌, ◌≡◌}
-use Rattle.mdl_calls.specs.declared.space_error.SpaceError.TheVariants.{NotHeld}
-use Rattle.mdl_defs.specs.Caches.{CacheView}
-use Rattle.mdl_calls.specs.Words.{AreMet, Read_definition, Read_kept, Refused, read as read_as}
-use Rattle.mdl_calls.specs.SessionData.{HasMet}
-use Rattle.mdl_shared.specs.Passes.{view_of}
-use Rattle.mdl_shared.specs.AllSteps.{Shows}
-use Rattle.mdl_shared.specs.SessionViews.{SessionView, data_of, tickets_seen}
-use Rattle.mdl_shared.specs.KeptReads.{kept_standing}
-use Rattle.mdl_shared.proofs.Debts.{owed-both, owed-on}
-use Rattle.mdl_shared.proofs.KeptCalls.{after, between, full-joins, full-shows, hit-shows, kept-still, met-read, miss-full_shows, miss-latch, miss-shows, miss-why, missed-met, seat-finds, seat-joins, seat-met, seat-reads, seat-still}
-use Rattle.mdl_shared.proofs.MemberFacts.{place-within, speaks, ticket-known}
-use Rattle.mdl_shared.proofs.Members.{held-seen, room-kept}
-use Rattle.mdl_shared.proofs.Members.{kept as kept-sound}
-use Rattle.mdl_shared.proofs.Props.{member}
-use Rattle.mdl_shared.proofs.ReadCalls.{lists-noted, noted-order, noted-owes}
-use Rattle.mdl_shared.proofs.SameSpace.{refused, same-stays}
-use Rattle.mdl_shared.proofs.SpaceTickets.{holds-told}
-use Rattle.mdl_shared.proofs.VersionCalls.{found-noted, version-done, version-lists, version-owes}
-use Rattle.mdl_shared.proofs.WaitSteps.{still-member}
+use Rattle.mdl_shared.proofs.Lemmas.{AreMet, CacheView, HasMet, NotHeld, Read_definition, Read_kept, Refused, SessionView, Shows, after, between, data_of, found-noted, full-joins, full-shows, held-seen, hit-shows, holds-told, kept-sound, kept-still, kept_standing, lists-noted, member, met-read, miss-full_shows, miss-latch, miss-shows, miss-why, missed-met, noted-order, noted-owes, owed-both, owed-on, place-within, read_as, refused, room-kept, same-stays, seat-finds, seat-joins, seat-met, seat-reads, seat-still, speaks, still-member, ticket-known, tickets_seen, version-done, version-lists, version-owes, view_of}
 use Rattle.mdl_shared.proofs.session.Session.read_kept.Goals as goal
 
 pub returns-in_default-clause-joined : goal.returns-in_default-clause-joined

@@ -1,27 +1,9 @@
 -- The ticket goes, be it slow or fast, or there is none.
 use Rattle.std.proofs.Common.{◌≡◌, ℕ, Bool, [], ◌∷◌, Some, None, false, inr, is_some, refl, sym, ap, subst, ◌∙◌}
-use Rattle.std.specs.Option.{option_map}
-use Rattle.mdl_calls.specs.declared.space_error.SpaceError.TheVariants.{NotHeld}
-use Rattle.mdl_calls.specs.Words.{Release}
-use Rattle.mdl_steps.specs.declared.deed.Deed.TheVariants.{Lose}
-use Rattle.mdl_steps.specs.declared.view.SessionTicket.{SessionTicket}
-use Rattle.mdl_steps.specs.Deeds.{NotWaited}
-use Rattle.mdl_visits.specs.Numbers.{numbered}
-use Rattle.mdl_visits.proofs.Numbers.{has_number}
-use Rattle.mdl_shared.specs.OwnTickets.{fast_found}
-use Rattle.mdl_shared.specs.Passes.{view_of}
-use Rattle.mdl_shared.specs.SessionViews.{tickets_seen}
-use Rattle.mdl_shared.proofs.Debts.{owed-paid, rescheduled-owes}
-use Rattle.mdl_shared.proofs.HeldTickets.{holds-ticket}
-use Rattle.mdl_shared.proofs.MemberFacts.{loses-slow, slow-there, spared, speaks}
-use Rattle.mdl_shared.proofs.Members.{done-order, fast-struck, held-seen, kept, lists-done, lists-rescheduled, rescheduled, room-kept}
-use Rattle.mdl_shared.proofs.Props.{member}
+use Rattle.mdl_shared.proofs.Lemmas.{KeepsRoom, Lose, NotHeld, NotWaited, Release, Room, SessionTicket, done-order, fast-seen, fast_found, has_number, held-seen, holds-ticket, holds-told, kept, lists-done, lists-rescheduled, loses-slow, member, numbered, option_map, owed-paid, refused, rescheduled, rescheduled-owes, room-kept, same-stays, slow-else, slow-there, spared, speaks, tickets_seen, view_of}
+use Rattle.mdl_shared.proofs.Members.{fast-struck}
 use Rattle.mdl_shared.proofs.ReleaseCalls.{released-fast, released-slow}
-use Rattle.mdl_shared.proofs.SameSpace.{refused, same-stays}
-use Rattle.mdl_shared.proofs.SlowOrFast.{fast-seen, slow-else}
-use Rattle.mdl_shared.proofs.SpaceTickets.{holds-told}
 use Rattle.mdl_shared.proofs.session.Session.release.Goals as goal
-use Rattle.mdl_shared.specs.TicketLists.{KeepsRoom, Room}
 
 -- ---- a fast one
 

@@ -1,7 +1,5 @@
 -- The ticket that goes is the fast one of its number.
-use Rattle.std.proofs.Common.{sym, ◌∙◌}
-use Rattle.mdl_shared.specs.Passes.{view_of}
-use Rattle.mdl_shared.proofs.FastCalls.{gave-up-fast, its-number}
+use Rattle.mdl_shared.proofs.Lemmas.{gave-up-fast, its-number, sym, view_of, ◌∙◌}
 use Rattle.mdl_shared.proofs.session.Session.release_earlier.Goals as goal
 
 pub lose_fast-owes-requires : goal.lose_fast-owes-requires

@@ -1,8 +1,6 @@
 -- The ticket that goes is the fast one of its number.
 use Rattle.std.proofs.Common.{◌≡◌, Some, subst, ℕ}
-use Rattle.mdl_visits.specs.Numbers.{numbered}
-use Rattle.mdl_shared.specs.Passes.{view_of}
-use Rattle.mdl_shared.proofs.FastCalls.{gave-up-fast}
+use Rattle.mdl_shared.proofs.Lemmas.{gave-up-fast, numbered, view_of}
 use Rattle.mdl_shared.proofs.session.Session.release_fast.Goals as goal
 
 pub lose_last-owes-requires : goal.lose_last-owes-requires

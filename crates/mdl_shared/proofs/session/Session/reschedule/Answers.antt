@@ -1,13 +1,6 @@
 -- The place is one of the table's, and the session gives up nothing.
 use Rattle.std.proofs.Common.{[], ap, subst, sym, true, ◌≡◌}
-use Rattle.mdl_key.specs.KeyLookups.{is_known}
-use Rattle.mdl_steps.specs.Plays.{Mine}
-use Rattle.mdl_visits.proofs.Doing.{does_reschedule}
-use Rattle.mdl_shared.specs.SessionViews.{SessionView, data_of, lists_seen}
-use Rattle.mdl_shared.proofs.Debts.{rescheduled-owes}
-use Rattle.mdl_shared.proofs.MemberFacts.{may-visit}
-use Rattle.mdl_shared.proofs.Props.{member}
-use Rattle.mdl_shared.proofs.Rooms.{keeps-equal}
+use Rattle.mdl_shared.proofs.Lemmas.{Mine, SessionView, data_of, does_reschedule, is_known, keeps-equal, lists_seen, may-visit, member, rescheduled-owes}
 use Rattle.mdl_shared.proofs.session.Session.reschedule.Goals as goal
 
 pub pay-requires : goal.pay-requires

@@ -1,7 +1,5 @@
 -- The table has no more places than tickets can tell, and the session has what it had.
-use Rattle.std.proofs.Common.{◌∙◌, arith}
-use Rattle.mdl_shared.proofs.Members.{member-room}
-use Rattle.mdl_shared.proofs.Props.{member}
+use Rattle.mdl_shared.proofs.Lemmas.{arith, member, member-room, ◌∙◌}
 use Rattle.mdl_shared.proofs.session.Session.reserve_tickets.Goals as goal
 
 pub reserve_many-requires : goal.reserve_many-requires

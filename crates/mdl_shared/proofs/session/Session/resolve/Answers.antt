@@ -1,13 +1,6 @@
 -- The place of a key, by the session's own list or by the directory.
 use Rattle.std.proofs.Common.{◌≡◌, Some, refl, sym, ap, ◌∙◌, arith}
-use Rattle.mdl_key.specs.KeyLookups.{place_known}
-use Rattle.mdl_shared.specs.Passes.{view_of}
-use Rattle.mdl_shared.specs.SessionViews.{Lists}
-use Rattle.mdl_shared.proofs.KeyCalls.{known-joins}
-use Rattle.mdl_shared.proofs.Membership.{place_within}
-use Rattle.mdl_shared.proofs.Props.{member}
-use Rattle.mdl_shared.proofs.Refusals.{does-nothing}
-use Rattle.mdl_shared.proofs.Rooms.{keeps-same}
+use Rattle.mdl_shared.proofs.Lemmas.{Lists, does-nothing, keeps-same, known-joins, member, place_known, place_within, view_of}
 use Rattle.mdl_shared.proofs.session.Session.resolve.Goals as goal
 
 -- a place that the session knows is one of the table's, of which there are fewer than 16 bits can tell

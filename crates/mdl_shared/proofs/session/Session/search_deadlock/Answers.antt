@@ -1,26 +1,9 @@
 -- A session that waits reads the word of its wait, and searches where that is unsettled. It does no deed.
 use Rattle.std.proofs.Common.{◌≤◌, not, is_some, true, [], Ok, Err, refl, sym, ap, subst, ◌∙◌}
-use Rattle.std.specs.declared.alloc.AllocError.{AllocError}
-use Rattle.mdl_calls.specs.declared.answers.Search.{Search as Found}
 use Rattle.mdl_calls.specs.declared.answers.Search.TheVariants as found
-use Rattle.mdl_calls.specs.declared.space_error.SpaceError.TheVariants.{OutOfMemory}
-use Rattle.mdl_steps.specs.Deeds.{KnowsPlace}
-use Rattle.mdl_steps.specs.Plays.{Mine}
-use Rattle.mdl_steps.specs.SeatStates.{SeatState}
-use Rattle.mdl_visits.specs.Idle.{HoldsNoLatch}
-use Rattle.mdl_visits.specs.Searches.{searches_after}
-use Rattle.mdl_visits.specs.Visits.{Does}
-use Rattle.mdl_shared.specs.Passes.{view_of}
-use Rattle.mdl_shared.specs.SessionViews.{SessionView, lists_seen, session_at, settled_of}
-use Rattle.mdl_shared.proofs.Debts.{owed-on}
-use Rattle.mdl_shared.proofs.MemberFacts.{awaited, place-known}
-use Rattle.mdl_shared.proofs.Members.{done-then}
-use Rattle.mdl_shared.proofs.PollCalls.{polls}
-use Rattle.mdl_shared.proofs.Props.{member}
-use Rattle.mdl_shared.proofs.Rooms.{keeps-same}
-use Rattle.mdl_shared.proofs.SameSpace.{same-stays}
+use Rattle.std.specs.declared.alloc.AllocError.{AllocError}
+use Rattle.mdl_shared.proofs.Lemmas.{Does, Found, HoldsNoLatch, KnowsPlace, Mine, OutOfMemory, SeatState, SessionView, asked, awaited, done-then, keeps-same, lists_seen, member, owed-on, place-known, polls, quietly-searched, same-stays, searches_after, session-there, session_at, settled_of, still-member, view_of, waits-seen}
 use Rattle.mdl_shared.proofs.SearchCalls.{search-joins, search-settled, search-unsettled, some-there}
-use Rattle.mdl_shared.proofs.WaitSteps.{asked, quietly-searched, session-there, still-member, waits-seen}
 use Rattle.mdl_shared.proofs.session.Session.search_deadlock.Goals as goal
 use Rattle.mdl_shared.proofs.session.Session.search_deadlock.Goals.{in-Ok, in-Err}
 

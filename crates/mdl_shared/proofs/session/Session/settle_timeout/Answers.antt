@@ -1,12 +1,5 @@
 -- A timeout settles the session's wait, or meets it settled.
-use Rattle.std.proofs.Common.{true, false, not, sym, ap, ◌∙◌, arith}
-use Rattle.mdl_steps.specs.SeatStates.{SeatState}
-use Rattle.mdl_shared.specs.Passes.{view_of}
-use Rattle.mdl_shared.specs.SessionViews.{Lists, SessionView, session_at, settled_of}
-use Rattle.mdl_shared.proofs.Debts.{owed-on}
-use Rattle.mdl_shared.proofs.Props.{member}
-use Rattle.mdl_shared.proofs.PollCalls.{timeout-already, timeout-now, timeout-refused, timeouts}
-use Rattle.mdl_shared.proofs.WaitSteps.{session-there, still-member, waits-seen}
+use Rattle.mdl_shared.proofs.Lemmas.{Lists, SeatState, SessionView, ap, arith, false, member, not, owed-on, session-there, session_at, settled_of, still-member, sym, timeout-already, timeout-now, timeout-refused, timeouts, true, view_of, waits-seen, ◌∙◌}
 use Rattle.mdl_shared.proofs.session.Session.settle_timeout.Goals as goal
 use Rattle.mdl_shared.proofs.session.Session.settle_timeout.Goals.{in-Some, in-None}
 

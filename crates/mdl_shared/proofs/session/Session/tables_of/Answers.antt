@@ -1,20 +1,6 @@
 -- The tables of a schema, by the directory and by the place of each.
 use Rattle.std.proofs.Common.{◌<◌, ◌≤◌, not, List, ◌++◌, inr, refl, sym, ap, subst, ◌∙◌}
-use Rattle.std.proofs.lemmas.List.Elements.{All-filter}
-use Rattle.atomic_table.specs.Seated.{TableId}
-use Rattle.mdl_calls.specs.Words.{Tables_of}
-use Rattle.mdl_key.specs.declared.known_key.KnownKey.{KnownKey}
-use Rattle.mdl_steps.specs.Schemas.{is_key_known, unknown}
-use Rattle.mdl_visits.specs.Idle.{HoldsNoLatch}
-use Rattle.mdl_visits.specs.Tables.{AreWithin, HasAsked}
-use Rattle.mdl_key.specs.KeyLookups.{are_apart}
-use Rattle.mdl_shared.specs.Passes.{view_of}
-use Rattle.mdl_shared.specs.SessionViews.{Lists}
-use Rattle.mdl_shared.proofs.Debts.{owed-on, owed-stepped}
-use Rattle.mdl_shared.proofs.KeyCalls.{all-apart, learnt-all, learnt-order, learnt-owes, lists-learnt, lists-stepped, memory-joins, stepped, told-tables}
-use Rattle.mdl_shared.proofs.Members.{done-nothing, done-order, kept}
-use Rattle.mdl_shared.proofs.Props.{member}
-use Rattle.mdl_shared.proofs.Rooms.{keeps-same}
+use Rattle.mdl_shared.proofs.Lemmas.{All-filter, AreWithin, HasAsked, HoldsNoLatch, KnownKey, Lists, TableId, Tables_of, all-apart, are_apart, done-nothing, done-order, is_key_known, keeps-same, kept, learnt-all, learnt-order, learnt-owes, lists-learnt, lists-stepped, member, memory-joins, owed-on, owed-stepped, stepped, told-tables, unknown, view_of}
 use Rattle.mdl_shared.proofs.session.Session.tables_of.Goals as goal
 
 pub find_tables-requires : goal.find_tables-requires

@@ -1,9 +1,5 @@
 -- The try is made by the member, perhaps after it made room.
-use Rattle.std.proofs.Common.{◌∙◌}
-use Rattle.mdl_shared.specs.Passes.{view_of}
-use Rattle.mdl_shared.proofs.FastCalls.{tried-after}
-use Rattle.mdl_shared.proofs.Members.{member-room}
-use Rattle.mdl_shared.proofs.Props.{member}
+use Rattle.mdl_shared.proofs.Lemmas.{member, member-room, tried-after, view_of, ◌∙◌}
 use Rattle.mdl_shared.proofs.session.Session.try_fast.Goals as goal
 
 pub invariant_of-self-inside-clause-lawful : goal.invariant_of-self-inside-clause-lawful

@@ -1,15 +1,7 @@
 -- The ticket has the stronger mode, or would have to wait for it, or can't have it.
 use Rattle.std.proofs.Common.{Err, None, Some, ap, rules, sym, ◌∙◌, ◌≡◌}
-use Rattle.mdl_calls.specs.Words.{Upgrade_now}
-use Rattle.mdl_shared.specs.Passes.{view_of}
-use Rattle.mdl_shared.specs.Upgrades.{upgrade_fault}
-use Rattle.mdl_shared.proofs.Faults.{just-done, just-refused}
-use Rattle.mdl_shared.proofs.Members.{fault-seen, held-seen}
-use Rattle.mdl_shared.proofs.Props.{member}
-use Rattle.mdl_shared.proofs.QuietDeeds.{same-lists}
-use Rattle.mdl_shared.proofs.Refusals.{own-shows}
-use Rattle.mdl_shared.proofs.SlowFirst.{becomes-slow, slow-then, tried-slow, upgrade-refused}
-use Rattle.mdl_shared.proofs.TicketCalls.{covered-joins, covered-shows, upgrade-unfit}
+use Rattle.mdl_shared.proofs.Lemmas.{Upgrade_now, becomes-slow, covered-joins, covered-shows, fault-seen, held-seen, just-done, just-refused, member, own-shows, same-lists, slow-then, upgrade-refused, upgrade-unfit, upgrade_fault, view_of}
+use Rattle.mdl_shared.proofs.SlowFirst.{tried-slow}
 use Rattle.mdl_shared.proofs.session.Session.upgrade_now.Goals as goal
 
 pub returns-in_err-held : goal.returns-in_err-held

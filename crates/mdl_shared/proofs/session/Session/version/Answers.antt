@@ -1,13 +1,6 @@
 -- The place is one of the table's, and what stands there is noted under each ticket that the session has there.
 use Rattle.std.proofs.Common.{subst, sym, true, ◌≡◌}
-use Rattle.mdl_key.specs.KeyLookups.{is_known}
-use Rattle.mdl_shared.specs.SessionViews.{SessionView, data_of}
-use Rattle.mdl_shared.proofs.Debts.{owed-both}
-use Rattle.mdl_shared.proofs.MemberFacts.{place-within}
-use Rattle.mdl_shared.proofs.Members.{room-kept}
-use Rattle.mdl_shared.proofs.Props.{member}
-use Rattle.mdl_shared.proofs.ReadCalls.{lists-noted, noted-owes}
-use Rattle.mdl_shared.proofs.VersionCalls.{learnt-member, learnt-noted, version-reads}
+use Rattle.mdl_shared.proofs.Lemmas.{SessionView, data_of, is_known, learnt-member, learnt-noted, lists-noted, member, noted-owes, owed-both, place-within, room-kept, version-reads}
 use Rattle.mdl_shared.proofs.session.Session.version.Goals as goal
 
 pub read_version-version-requires : goal.read_version-version-requires

@@ -1,11 +1,5 @@
 -- The number is that of the word of the other session's wait.
-use Rattle.std.proofs.Common.{sym, ap, ◌∙◌}
-use Rattle.mdl_steps.specs.SeatStates.{SeatState}
-use Rattle.mdl_shared.specs.SessionViews.{session_at}
-use Rattle.mdl_shared.proofs.Debts.{owed-on}
-use Rattle.mdl_shared.proofs.KillCalls.{nobody-waits, number-met, target-there}
-use Rattle.mdl_shared.proofs.Props.{member}
-use Rattle.mdl_shared.proofs.WaitSteps.{still-member}
+use Rattle.mdl_shared.proofs.Lemmas.{SeatState, ap, member, nobody-waits, number-met, owed-on, session_at, still-member, sym, target-there, ◌∙◌}
 use Rattle.mdl_shared.proofs.session.Session.wait_of.Goals as goal
 
 pub returns-then-not-is_session-clause-joined : goal.returns-then-not-is_session-clause-joined

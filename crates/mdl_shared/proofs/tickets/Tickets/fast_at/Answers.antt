@@ -1,6 +1,5 @@
 -- The fast tickets of each place are counted.
-use Rattle.std.proofs.Common.{◌∙◌, sym}
-use Rattle.mdl_shared.proofs.TicketParts.{fast_there}
+use Rattle.mdl_shared.proofs.Lemmas.{fast_there, sym, ◌∙◌}
 use Rattle.mdl_shared.proofs.tickets.Tickets.fast_at.Goals as goal
 
 pub fast_counted-requires : goal.fast_counted-requires

@@ -1,6 +1,5 @@
 -- The ticket of the number is the only one, and it is a fast one or not.
-use Rattle.std.proofs.Common.{rules, None, Some, ap, ◌∙◌, sym}
-use Rattle.std.specs.Prelude.{if◌then◌else◌}
+use Rattle.std.proofs.Common.{if◌then◌else◌, rules, None, Some, ap, ◌∙◌, sym}
 use Rattle.mdl_shared.proofs.TicketEdits.{find_at, find_none, find_nowhere, find_there}
 use Rattle.mdl_shared.proofs.tickets.Tickets.find.Goals as goal
 

@@ -1,6 +1,5 @@
 -- Both together are the list.
-use Rattle.std.proofs.Common.{rules, Some, ap, ◌∙◌, sym}
-use Rattle.mdl_shared.proofs.TicketEdits.{find_nowhere, find_there}
+use Rattle.mdl_shared.proofs.Lemmas.{Some, ap, find_nowhere, find_there, rules, sym, ◌∙◌}
 use Rattle.mdl_shared.proofs.tickets.Tickets.get.Goals as goal
 
 pub returns-in_err-at : goal.returns-in_err-at

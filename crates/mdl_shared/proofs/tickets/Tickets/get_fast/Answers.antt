@@ -1,6 +1,5 @@
 -- The ticket of the number is the only one, and it is a fast one or not.
-use Rattle.std.proofs.Common.{rules, Some, ap, ◌∙◌, sym}
-use Rattle.mdl_shared.proofs.TicketEdits.{find_at, find_none}
+use Rattle.mdl_shared.proofs.Lemmas.{Some, ap, find_at, find_none, rules, sym, ◌∙◌}
 use Rattle.mdl_shared.proofs.tickets.Tickets.get_fast.Goals as goal
 
 pub returns-in_err-at : goal.returns-in_err-at

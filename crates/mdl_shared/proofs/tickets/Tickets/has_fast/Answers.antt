@@ -1,9 +1,6 @@
 -- The fast tickets are counted.
-use Rattle.std.proofs.Common.{◌∙◌, ap, sym}
-use Rattle.std.specs.Prelude.{filter, nat_lt}
-use Rattle.std.proofs.lemmas.List.{length-map}
-use Rattle.std.proofs.lemmas.List.Sums.{length-filter}
-use Rattle.mdl_shared.specs.OwnTickets.{with_note}
+use Rattle.std.specs.Prelude.{filter}
+use Rattle.mdl_shared.proofs.Lemmas.{ap, length-filter, length-map, nat_lt, sym, with_note, ◌∙◌}
 use Rattle.mdl_shared.proofs.tickets.Tickets.has_fast.Goals as goal
 
 pub returns : goal.returns

@@ -1,10 +1,6 @@
 -- Both together are the list.
-use Rattle.std.proofs.Common.{◌∙◌, sym, ap, arith}
-use Rattle.std.specs.Prelude.{map}
-use Rattle.std.proofs.lemmas.List.{take_all}
-use Rattle.mdl_shared.specs.OwnLists.{as_held}
+use Rattle.mdl_shared.proofs.Lemmas.{ap, arith, as_held, map, parted, sym, take_all, ◌∙◌}
 use Rattle.mdl_shared.proofs.TicketEdits.{told}
-use Rattle.mdl_shared.proofs.TicketParts.{parted}
 use Rattle.mdl_shared.proofs.tickets.Tickets.held.Goals as goal
 
 pub returns : goal.returns

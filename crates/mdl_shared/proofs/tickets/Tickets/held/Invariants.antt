@@ -1,8 +1,6 @@
 -- The tickets so far are told.
-use Rattle.std.proofs.Common.{◌≡◌, take}
-use Rattle.std.specs.Prelude.{[], map}
-use Rattle.mdl_shared.specs.OwnLists.{as_held}
-use Rattle.mdl_shared.specs.OwnTickets.{with_note}
+use Rattle.std.proofs.Common.{◌≡◌, take, [], map}
+use Rattle.mdl_shared.proofs.Lemmas.{as_held, with_note}
 use Rattle.mdl_shared.proofs.tickets.Tickets.held.Given as goal
 
 abbrev pub invariant-loop-ticket : goal.invariant-loop-ticket

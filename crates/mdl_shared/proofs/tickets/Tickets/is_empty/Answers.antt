@@ -1,8 +1,5 @@
 -- Both together are the list.
-use Rattle.std.proofs.Common.{rules}
-use Rattle.std.proofs.lemmas.List.{length-map}
-use Rattle.mdl_shared.specs.OwnTickets.{with_note}
-use Rattle.mdl_shared.proofs.TicketParts.{parted}
+use Rattle.mdl_shared.proofs.Lemmas.{length-map, parted, rules, with_note}
 use Rattle.mdl_shared.proofs.tickets.Tickets.is_empty.Goals as goal
 
 pub returns : goal.returns

@@ -1,8 +1,6 @@
 -- The places count the same tickets, and have the same notes and flags.
-use Rattle.std.proofs.Common.{◌-◌, Bool, length}
-use Rattle.std.specs.Prelude.{not}
-use Rattle.std.specs.Vec.{vec_capacity}
-use Rattle.mdl_shared.specs.declared.tickets.Gained.{Gained}
+use Rattle.std.proofs.Common.{◌-◌, Bool, length, not}
+use Rattle.mdl_shared.proofs.Lemmas.{Gained, vec_capacity}
 use Rattle.mdl_shared.proofs.TicketEdits.{still}
 use Rattle.mdl_shared.proofs.tickets.Tickets.keep_guess.Goals as goal
 

@@ -1,9 +1,5 @@
 -- All tickets were looked at, and sorted by their places.
-use Rattle.std.proofs.Common.{rules, arith}
-use Rattle.std.proofs.lemmas.List.{take_all}
-use Rattle.std.proofs.lemmas.List.Sorted.{answers_always}
-use Rattle.mdl_shared.specs.OwnTickets.{fast_of}
-use Rattle.mdl_shared.proofs.TicketSlowing.{sorted}
+use Rattle.mdl_shared.proofs.Lemmas.{answers_always, arith, fast_of, rules, sorted, take_all}
 use Rattle.mdl_shared.proofs.tickets.Tickets.list_fast.Goals as goal
 
 pub returns : goal.returns

@@ -1,6 +1,5 @@
 -- The fast ones are listed of the tickets so far.
-use Rattle.std.proofs.Common.{◌≡◌, take}
-use Rattle.std.specs.Prelude.{filter, map}
+use Rattle.std.proofs.Common.{◌≡◌, take, filter, map}
 use Rattle.mdl_shared.specs.OwnTickets.{with_note}
 use Rattle.mdl_shared.proofs.tickets.Tickets.list_fast.Given as goal
 

@@ -1,10 +1,6 @@
 -- The fast tickets at the place are slow ones in their places, and none is counted there as a fast one.
-use Rattle.std.proofs.Common.{ap, ◌∙◌}
-use Rattle.std.specs.Prelude.{map, not}
-use Rattle.mdl_shared.specs.OwnTickets.{fast_of, slow_of}
-use Rattle.mdl_shared.proofs.TicketEdits.{fewer_there, kept_slowed, still}
-use Rattle.mdl_shared.proofs.TicketParts.{made_slow, slowed_there, stay_fast}
-use Rattle.mdl_shared.proofs.TicketSlowing.{slowed_by_place}
+use Rattle.mdl_shared.proofs.Lemmas.{ap, fast_of, fewer_there, kept_slowed, made_slow, map, not, slow_of, slowed_by_place, slowed_there, stay_fast, ◌∙◌}
+use Rattle.mdl_shared.proofs.TicketEdits.{still}
 use Rattle.mdl_shared.proofs.tickets.Tickets.make_slow.Goals as goal
 
 pub overflow_sub-self : goal.overflow_sub-self

@@ -1,8 +1,6 @@
 -- The notes of places are changed so.
-use Rattle.std.proofs.Common.{ℕ, ◌<◌}
-use Rattle.std.specs.Prelude.{count_by, not}
-use Rattle.mdl_shared.specs.OwnTickets.{is_at_place}
-use Rattle.mdl_shared.proofs.TicketEdits.{notes}
+use Rattle.std.proofs.Common.{ℕ, ◌<◌, count_by, not}
+use Rattle.mdl_shared.proofs.Lemmas.{is_at_place, notes}
 use Rattle.mdl_shared.proofs.tickets.Tickets.note_all.Goals as goal
 
 pub returns-clause-noted : goal.returns-clause-noted

@@ -1,8 +1,6 @@
 -- The tickets of each place are counted, and all have its note.
-use Rattle.std.proofs.Common.{◌∙◌, sym, ap, None}
-use Rattle.std.specs.Prelude.{◌==◌, if◌then◌else◌}
-use Rattle.mdl_shared.specs.OwnTickets.{noted_in}
-use Rattle.mdl_shared.proofs.TicketParts.{first_there}
+use Rattle.std.proofs.Common.{◌==◌, if◌then◌else◌, ◌∙◌, sym, ap, None}
+use Rattle.mdl_shared.proofs.Lemmas.{first_there, noted_in}
 use Rattle.mdl_shared.proofs.tickets.Tickets.note_of.Goals as goal
 
 pub returns : goal.returns

@@ -1,12 +1,7 @@
 -- The last ticket is taken out, and its place has one less.
-use Rattle.std.proofs.Common.{ℕ, ◌-◌, ◌<◌, Bool, length, sym, ◌∙◌, arith}
-use Rattle.std.specs.Prelude.{not}
-use Rattle.std.proofs.lemmas.Bool.Decides.{nat_tests}
-use Rattle.mdl_shared.specs.declared.tickets.Gained.{Gained}
-use Rattle.mdl_shared.specs.OwnTickets.{is_at_place, is_fast_there}
-use Rattle.mdl_shared.proofs.TicketEdits.{count_struck, kept_strike_fast, struck}
+use Rattle.std.proofs.Common.{ℕ, ◌-◌, ◌<◌, Bool, length, sym, ◌∙◌, arith, not}
+use Rattle.mdl_shared.proofs.Lemmas.{Gained, count_struck, is_at_place, is_fast_there, kept_strike_fast, nat_tests, no_ticket, struck}
 use Rattle.mdl_shared.proofs.TicketEnds.{last-fast}
-use Rattle.mdl_shared.proofs.TicketSearch.{no_ticket}
 use Rattle.mdl_shared.proofs.tickets.Tickets.pop_fast.Goals as goal
 
 pub take_last-requires : goal.take_last-requires

@@ -1,11 +1,6 @@
 -- The new ticket is the last of the fast ones, and its place has one more.
-use Rattle.std.proofs.Common.{◌<◌, ℕ, length, refl, sym, ◌∙◌, arith}
-use Rattle.std.specs.Prelude.{not}
-use Rattle.mdl_steps.specs.Cells.{own_at}
-use Rattle.mdl_steps.specs.Limits.{most_fast}
-use Rattle.mdl_shared.specs.OwnTickets.{fast_of}
-use Rattle.mdl_shared.proofs.TicketEdits.{below_all, gained, kept_gain_fast, ungained}
-use Rattle.mdl_shared.proofs.TicketParts.{fast_there, first_there}
+use Rattle.std.proofs.Common.{◌<◌, ℕ, length, refl, sym, ◌∙◌, arith, not}
+use Rattle.mdl_shared.proofs.Lemmas.{below_all, fast_of, fast_there, first_there, gained, kept_gain_fast, most_fast, own_at, ungained}
 use Rattle.mdl_shared.proofs.tickets.Tickets.push_fast.Goals as goal
 
 pub count_fast-requires-clause-few : goal.count_fast-requires-clause-few

@@ -1,8 +1,5 @@
 -- The new ticket is the last of the slow ones, and its place has one more.
-use Rattle.std.proofs.Common.{refl}
-use Rattle.std.specs.Prelude.{not}
-use Rattle.mdl_shared.proofs.TicketEdits.{below_all, gained, kept_gain, ungained}
-use Rattle.mdl_shared.proofs.TicketParts.{note_slow}
+use Rattle.mdl_shared.proofs.Lemmas.{below_all, gained, kept_gain, not, note_slow, refl, ungained}
 use Rattle.mdl_shared.proofs.tickets.Tickets.push_reserved.Goals as goal
 
 pub invariant_of-self : goal.invariant_of-self

@@ -1,7 +1,5 @@
 -- The numbers and the places are as they were, and no fast ticket has the number.
-use Rattle.std.proofs.Common.{refl, ◌∙◌}
-use Rattle.std.specs.Prelude.{not}
-use Rattle.mdl_shared.proofs.TicketEdits.{kept_mode, mode_at, mode_none, mode_nowhere}
+use Rattle.mdl_shared.proofs.Lemmas.{kept_mode, mode_at, mode_none, mode_nowhere, not, refl, ◌∙◌}
 use Rattle.mdl_shared.proofs.tickets.Tickets.set_mode.Goals as goal
 
 pub invariant_of-self : goal.invariant_of-self

@@ -1,11 +1,6 @@
 -- The last ticket is taken out, and its place has one less.
-use Rattle.std.proofs.Common.{ℕ, ◌-◌, ◌<◌, Bool, length, sym, ◌∙◌, arith}
-use Rattle.std.specs.Prelude.{not}
-use Rattle.std.proofs.lemmas.Bool.Decides.{nat_tests}
-use Rattle.mdl_shared.specs.declared.tickets.Gained.{Gained}
-use Rattle.mdl_shared.specs.OwnTickets.{is_at_place, is_fast_there}
-use Rattle.mdl_shared.proofs.TicketEdits.{count_struck, kept_strike, kept_strike_fast, struck}
-use Rattle.mdl_shared.proofs.TicketSearch.{no_ticket}
+use Rattle.std.proofs.Common.{ℕ, ◌-◌, ◌<◌, Bool, length, sym, ◌∙◌, arith, not}
+use Rattle.mdl_shared.proofs.Lemmas.{Gained, count_struck, is_at_place, is_fast_there, kept_strike, kept_strike_fast, nat_tests, no_ticket, struck}
 use Rattle.mdl_shared.proofs.tickets.Tickets.strike.Goals as goal
 
 pub uncount_one-requires : goal.uncount_one-requires

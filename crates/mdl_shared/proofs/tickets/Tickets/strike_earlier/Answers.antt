@@ -1,8 +1,5 @@
 -- The ticket is taken out where it stands, and its place has one less.
-use Rattle.std.proofs.Common.{ℕ, Bool, ap, sym, ◌∙◌}
-use Rattle.std.specs.Prelude.{not}
-use Rattle.mdl_shared.specs.declared.tickets.Gained.{Gained}
-use Rattle.mdl_shared.proofs.TicketEdits.{kept_strike, kept_strike_fast, strike_none, strikes_some, struck}
+use Rattle.mdl_shared.proofs.Lemmas.{Bool, Gained, ap, kept_strike, kept_strike_fast, not, strike_none, strikes_some, struck, sym, ℕ, ◌∙◌}
 use Rattle.mdl_shared.proofs.tickets.Tickets.strike_earlier.Goals as goal
 
 pub invariant_of-self : goal.invariant_of-self

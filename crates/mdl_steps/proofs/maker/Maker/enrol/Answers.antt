@@ -1,15 +1,9 @@
 -- A number is drawn, and a seat that has it may be split off.
 use Rattle.std.proofs.Common.{◌≡◌, ℕ, ◌+◌, ◌%◌, ◌^◌, ◌<◌, [], sym, ap, ◌∙◌, subst, arith}
-use mathlib.Core.Option.{none}
-use Rattle.atomic_table.specs.Seated.{TableId}
-use Rattle.atomic_table.specs.Table.{Allows, Splits, step}
-use Rattle.mdl_steps.specs.declared.step_kind.StepKind.TheVariants as step_kind
-use Rattle.mdl_steps.specs.Cells.{blank, numbers_for, no_numbers}
-use Rattle.mdl_steps.specs.Histories.{ReachedFor}
-use Rattle.mdl_steps.specs.Layout.{enrol_word}
-use Rattle.mdl_steps.specs.Plays.{Mine, enrols, logged}
+use Rattle.mdl_steps.proofs.Lemmas.{Allows, Mine, ReachedFor, Splits, TableId, blank, enrol_word, enrols, logged, no_numbers, none, numbers_for, step}
 use Rattle.mdl_steps.proofs.Enrol.{splits, draws}
 use Rattle.mdl_steps.proofs.maker.Maker.enrol.Goals as goal
+use Rattle.mdl_steps.specs.declared.step_kind.StepKind.TheVariants as step_kind
 
 pub fetch_add-number-requires : goal.fetch_add-number-requires
 fetch_add-number-requires c =

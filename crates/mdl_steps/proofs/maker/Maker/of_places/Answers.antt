@@ -1,7 +1,6 @@
 -- The words and slots are as at the start.
 use Rattle.std.proofs.Common.{◌≡◌, ℕ, ◌+◌, List, length, sym, ap, ◌∙◌, subst, arith}
-use Rattle.mdl_steps.specs.declared.slot.Slot.{Slot}
-use Rattle.mdl_steps.specs.Openings.{IsOpening, opening_words}
+use Rattle.mdl_steps.proofs.Lemmas.{IsOpening, Slot, opening_words}
 use Rattle.mdl_steps.proofs.Starts.{slot_count, is_opening}
 use Rattle.mdl_steps.proofs.maker.Maker.of_places.Goals as goal
 

@@ -1,9 +1,6 @@
 -- The table at the start is reached.
 use Rattle.std.proofs.Common.{◌≡◌, ℕ, suc, List, [], ◌∷◌, map, length, refl, sym, ap, ◌∙◌}
-use mathlib.Core.Option.{some}
-use Rattle.mdl_steps.specs.declared.slot.Slot.{Slot}
-use Rattle.mdl_steps.specs.Histories.{Reached}
-use Rattle.mdl_steps.specs.Layout.{word_count}
+use Rattle.mdl_steps.proofs.Lemmas.{Reached, Slot, some, word_count}
 use Rattle.mdl_steps.proofs.maker.Maker.open.Goals as goal
 
 pub new-requires : goal.new-requires

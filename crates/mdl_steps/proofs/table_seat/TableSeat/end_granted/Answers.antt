@@ -1,13 +1,6 @@
 -- A session that met its wait granted may end it.
 use Rattle.std.proofs.Common.{◌≡◌, ℕ, ◌+◌, ◌*◌, ◌<◌, Some, sym, ap, ◌∙◌, subst, arith}
-use mathlib.Core.Option.{none}
-use Rattle.atomic_table.specs.Table.{Allows, step}
-use Rattle.mdl_steps.specs.Histories.{ReachedFor}
-use Rattle.mdl_steps.specs.Plays.{Mine}
-use Rattle.mdl_steps.specs.WaitPlays.{ends_granted}
-use Rattle.mdl_steps.specs.WaitStates.{granted_state}
-use Rattle.mdl_steps.proofs.Seating.{sits}
-use Rattle.mdl_steps.proofs.WaitEnds.{ends_granted_allowed}
+use Rattle.mdl_steps.proofs.Lemmas.{Allows, Mine, ReachedFor, ends_granted, ends_granted_allowed, granted_state, none, sits, step}
 use Rattle.mdl_steps.proofs.table_seat.TableSeat.end_granted.Goals as goal
 
 pub store-requires : goal.store-requires

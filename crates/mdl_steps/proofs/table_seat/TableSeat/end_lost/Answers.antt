@@ -1,17 +1,6 @@
 -- A session that met its wait lost may end it, under the latch of the place where its ticket waits.
 use Rattle.std.proofs.Common.{◌≡◌, ℕ, ◌+◌, ◌*◌, ◌<◌, Some, refl, sym, ap, ◌∙◌, subst, arith}
-use mathlib.Core.Option.{none}
-use Rattle.atomic_table.specs.Table.{Allows, step}
-use Rattle.mdl_steps.specs.declared.view.Ask.{Ask}
-use Rattle.mdl_steps.specs.declared.view.LatchRecord.{LatchRecord}
-use Rattle.mdl_steps.specs.Histories.{ReachedFor}
-use Rattle.mdl_steps.specs.Plays.{Mine}
-use Rattle.mdl_steps.specs.Seats.{Holds, elsewhere}
-use Rattle.mdl_steps.specs.WaitPlays.{ends_lost, ended_lost, with_cancelled}
-use Rattle.mdl_steps.specs.WaitSeats.{MayCancel}
-use Rattle.mdl_steps.proofs.Seating.{sits}
-use Rattle.mdl_steps.proofs.WaitEnds.{ends_lost_allowed}
-use Rattle.mdl_steps.proofs.WaitHands.{holds_changed, elsewhere_changed}
+use Rattle.mdl_steps.proofs.Lemmas.{Allows, Ask, Holds, LatchRecord, MayCancel, Mine, ReachedFor, elsewhere, elsewhere_changed, ended_lost, ends_lost, ends_lost_allowed, holds_changed, none, sits, step, with_cancelled}
 use Rattle.mdl_steps.proofs.table_seat.TableSeat.end_lost.Goals as goal
 
 pub store-requires : goal.store-requires

@@ -1,17 +1,6 @@
 -- The exchange is a fast grant, or changes nothing.
-use Rattle.std.proofs.Common.{ℕ, ◌+◌, ◌*◌, ◌%◌, ◌^◌, ◌<◌, ◌==◌, sym, ap, subst, arith}
-use Rattle.std.specs.Prelude.{Option}
-use mathlib.Core.Option.{none}
-use prog.Atomic.{either}
-use Rattle.atomic_table.specs.Seated.{TableId}
-use Rattle.atomic_table.specs.Table.{Allows, step}
-use Rattle.mdl_key.specs.declared.mode.Mode.{Mode}
-use Rattle.mdl_steps.specs.FastPlays.{grants_fast, MayGrantFast}
-use Rattle.mdl_steps.specs.Histories.{ReachedFor}
-use Rattle.mdl_steps.specs.Plays.{Mine}
-use Rattle.mdl_steps.specs.Seats.{IsPlace}
-use Rattle.mdl_steps.proofs.FastSteps.{grants_fast_allowed}
-use Rattle.mdl_steps.proofs.Seating.{sits}
+use Rattle.std.proofs.Common.{ℕ, ◌+◌, ◌*◌, ◌%◌, ◌^◌, ◌<◌, ◌==◌, sym, ap, subst, arith, Option}
+use Rattle.mdl_steps.proofs.Lemmas.{Allows, IsPlace, MayGrantFast, Mine, Mode, ReachedFor, TableId, either, grants_fast, grants_fast_allowed, none, sits, step}
 use Rattle.mdl_steps.proofs.table_seat.TableSeat.grant_fast_as.Goals as goal
 
 pub compare_exchange-requires : goal.compare_exchange-requires

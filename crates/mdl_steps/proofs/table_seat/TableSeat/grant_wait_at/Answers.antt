@@ -1,19 +1,7 @@
 -- The holder of a latch may grant a wait whose ticket may stand beside all that is granted there.
 use Rattle.std.proofs.Common.{◌≡◌, ℕ, ◌+◌, ◌*◌, ◌<◌, ◌==◌, refl, sym, ap, ◌∙◌, subst, inl, inr}
-use mathlib.Core.Option.{none}
-use prog.Atomic.{either}
-use Rattle.atomic_table.specs.Seated.{TableId}
-use Rattle.atomic_table.specs.Table.{Allows, step}
-use Rattle.mdl_steps.specs.declared.view.LatchRecord.{LatchRecord}
-use Rattle.mdl_steps.specs.Histories.{ReachedFor}
-use Rattle.mdl_steps.specs.Layout.{wait_word}
-use Rattle.mdl_steps.specs.Plays.{Mine}
-use Rattle.mdl_steps.specs.Seats.{Holds, IsPlace, elsewhere}
-use Rattle.mdl_steps.specs.WaitPlays.{TellsOwn, settles_granted, settled_granted, missed_wait, with_admitted, wait_in}
-use Rattle.mdl_steps.specs.WaitSeats.{IsSession, MayGrant}
-use Rattle.mdl_steps.proofs.Seating.{sits, value_is}
+use Rattle.mdl_steps.proofs.Lemmas.{Allows, Holds, IsPlace, IsSession, LatchRecord, MayGrant, Mine, ReachedFor, TableId, TellsOwn, either, elsewhere, elsewhere_changed, holds_changed, missed_wait, none, settled_granted, settles_granted, sits, step, value_is, wait_in, wait_word, with_admitted}
 use Rattle.mdl_steps.proofs.WaitGrants.{settles_granted_allowed}
-use Rattle.mdl_steps.proofs.WaitHands.{holds_changed, elsewhere_changed}
 use Rattle.mdl_steps.proofs.table_seat.TableSeat.grant_wait_at.Goals as goal
 
 pub compare_exchange-requires : goal.compare_exchange-requires

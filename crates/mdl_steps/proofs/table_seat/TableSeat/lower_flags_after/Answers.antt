@@ -1,17 +1,6 @@
 -- The holder of the latch may leave just those flags up that tell of each ticket in the lists.
 use Rattle.std.proofs.Common.{ℕ, ◌+◌, ◌*◌, ◌<◌, List, sym, ap, ◌∙◌, subst, arith, bit_and}
-use mathlib.Core.Option.{none}
-use Rattle.atomic_table.specs.Seated.{TableId}
-use Rattle.atomic_table.specs.Table.{Allows, step}
-use Rattle.mdl_steps.specs.declared.deed.Deed.{Deed}
-use Rattle.mdl_steps.specs.Deeds.{all_booked}
-use Rattle.mdl_steps.specs.Histories.{ReachedFor}
-use Rattle.mdl_steps.specs.Plays.{Mine, flags_lowered, lowers_flags, lowered}
-use Rattle.mdl_steps.specs.Seats.{Holds, elsewhere, IsPlace, MayLower}
-use Rattle.mdl_steps.specs.SeatStates.{SeatState}
-use Rattle.mdl_steps.proofs.Put.{lowers_allowed}
-use Rattle.mdl_steps.proofs.Hands.{holds_settled, elsewhere-settled}
-use Rattle.mdl_steps.proofs.Seating.{sits}
+use Rattle.mdl_steps.proofs.Lemmas.{Allows, Deed, Holds, IsPlace, MayLower, Mine, ReachedFor, SeatState, TableId, all_booked, elsewhere, elsewhere-settled, flags_lowered, holds_settled, lowered, lowers_allowed, lowers_flags, none, sits, step}
 use Rattle.mdl_steps.proofs.table_seat.TableSeat.lower_flags_after.Goals as goal
 
 pub fetch_and-requires : goal.fetch_and-requires

@@ -1,17 +1,7 @@
 -- The subtraction makes the session's fast tickets there slow ones.
 use Rattle.std.proofs.Common.{ℕ, ◌+◌, ◌-◌, ◌%◌, ◌^◌, ◌<◌, refl, sym, ap, ◌∙◌, subst, arith}
-use mathlib.Core.Option.{none}
 use Rattle.std.specs.Arc.{arc_value}
-use Rattle.atomic_table.specs.Seated.{TableId}
-use Rattle.atomic_table.specs.Table.{Allows, step}
-use Rattle.mdl_steps.specs.declared.view.LatchRecord.{LatchRecord}
-use Rattle.mdl_steps.specs.FastPlays.{materialised, materialises, moved, with_granted, MayMaterialise}
-use Rattle.mdl_steps.specs.Histories.{ReachedFor}
-use Rattle.mdl_steps.specs.Plays.{Mine}
-use Rattle.mdl_steps.specs.Seats.{Holds, IsPlace, elsewhere}
-use Rattle.mdl_steps.proofs.Materialising.{materialises_allowed}
-use Rattle.mdl_steps.proofs.Seating.{sits}
-use Rattle.mdl_steps.proofs.WaitHands.{holds_changed, elsewhere_changed}
+use Rattle.mdl_steps.proofs.Lemmas.{Allows, Holds, IsPlace, LatchRecord, MayMaterialise, Mine, ReachedFor, TableId, elsewhere, elsewhere_changed, holds_changed, materialised, materialises, materialises_allowed, moved, none, sits, step, with_granted}
 use Rattle.mdl_steps.proofs.table_seat.TableSeat.materialise.Goals as goal
 
 pub fetch_sub-requires : goal.fetch_sub-requires

@@ -1,18 +1,6 @@
 -- The holder of a latch may open a wait there, where it has none and the flags tell of its ticket.
 use Rattle.std.proofs.Common.{◌≡◌, ℕ, ◌+◌, ◌*◌, ◌<◌, refl, sym, ap, ◌∙◌, subst, arith}
-use mathlib.Core.Option.{none}
-use Rattle.atomic_table.specs.Seated.{TableId}
-use Rattle.atomic_table.specs.Table.{Allows, step}
-use Rattle.mdl_key.specs.declared.mode.Mode.{Mode}
-use Rattle.mdl_steps.specs.declared.view.LatchRecord.{LatchRecord}
-use Rattle.mdl_steps.specs.Histories.{ReachedFor}
-use Rattle.mdl_steps.specs.Plays.{Mine}
-use Rattle.mdl_steps.specs.Seats.{Holds, IsPlace, elsewhere}
-use Rattle.mdl_steps.specs.WaitPlays.{opens_wait, opened, asked_ticket, with_waiting}
-use Rattle.mdl_steps.specs.WaitSeats.{MayOpen}
-use Rattle.mdl_steps.proofs.Seating.{sits}
-use Rattle.mdl_steps.proofs.WaitEnds.{opens_allowed}
-use Rattle.mdl_steps.proofs.WaitHands.{holds_changed, elsewhere_changed}
+use Rattle.mdl_steps.proofs.Lemmas.{Allows, Holds, IsPlace, LatchRecord, MayOpen, Mine, Mode, ReachedFor, TableId, asked_ticket, elsewhere, elsewhere_changed, holds_changed, none, opened, opens_allowed, opens_wait, sits, step, with_waiting}
 use Rattle.mdl_steps.proofs.table_seat.TableSeat.open_wait_at.Goals as goal
 
 pub store-requires : goal.store-requires

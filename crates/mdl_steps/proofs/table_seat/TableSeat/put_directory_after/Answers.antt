@@ -1,16 +1,6 @@
 -- The holder of the directory's latch may give it back, and know what it tells of keys by its record.
 use Rattle.std.proofs.Common.{◌<◌, List, subst, arith, ap, ◌≡◌}
-use mathlib.Core.Option.{none}
-use Rattle.atomic_table.specs.Table.{Allows, step}
-use Rattle.mdl_key.specs.declared.known_key.KnownKey.{KnownKey}
-use Rattle.mdl_steps.specs.Histories.{ReachedFor}
-use Rattle.mdl_steps.specs.Plays.{puts_directory, Mine}
-use Rattle.mdl_steps.specs.Schemas.{unknown, StandThere}
-use Rattle.mdl_steps.specs.Seats.{HasDirectory}
-use Rattle.mdl_steps.specs.declared.view.Keys.{Keys}
-use Rattle.mdl_steps.proofs.Desks.{puts_directory_allowed}
-use Rattle.mdl_steps.proofs.SchemaLemmas.{new_stand}
-use Rattle.mdl_steps.proofs.Seating.{sits}
+use Rattle.mdl_steps.proofs.Lemmas.{Allows, HasDirectory, Keys, KnownKey, Mine, ReachedFor, StandThere, new_stand, none, puts_directory, puts_directory_allowed, sits, step, unknown}
 use Rattle.mdl_steps.proofs.table_seat.TableSeat.put_directory_after.Goals as goal
 
 pub store-requires : goal.store-requires

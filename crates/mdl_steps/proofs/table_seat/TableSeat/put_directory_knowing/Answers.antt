@@ -1,13 +1,6 @@
 -- The holder of the directory's latch may give it back, and know what stands there.
 use Rattle.std.proofs.Common.{◌<◌, List, subst, arith, ap, ◌≡◌}
-use mathlib.Core.Option.{none}
-use Rattle.atomic_table.specs.Table.{Allows, step}
-use Rattle.mdl_key.specs.declared.known_key.KnownKey.{KnownKey}
-use Rattle.mdl_steps.specs.Histories.{ReachedFor}
-use Rattle.mdl_steps.specs.Plays.{puts_directory, Mine}
-use Rattle.mdl_steps.specs.Seats.{learnt, MayInform}
-use Rattle.mdl_steps.proofs.Desks.{learnt_known, puts_directory_allowed}
-use Rattle.mdl_steps.proofs.Seating.{sits}
+use Rattle.mdl_steps.proofs.Lemmas.{Allows, KnownKey, MayInform, Mine, ReachedFor, learnt, learnt_known, none, puts_directory, puts_directory_allowed, sits, step}
 use Rattle.mdl_steps.proofs.table_seat.TableSeat.put_directory_knowing.Goals as goal
 
 pub store-requires : goal.store-requires

@@ -1,14 +1,6 @@
 -- The holder of the latch may give it back, where the flags tell the lists exactly.
 use Rattle.std.proofs.Common.{ℕ, ◌*◌, ◌<◌, List, sym, subst, arith, ap}
-use mathlib.Core.Option.{none}
-use Rattle.atomic_table.specs.Seated.{TableId}
-use Rattle.atomic_table.specs.Table.{Allows, step}
-use Rattle.mdl_steps.specs.declared.deed.Deed.{Deed}
-use Rattle.mdl_steps.specs.Histories.{ReachedFor}
-use Rattle.mdl_steps.specs.Plays.{puts_latch}
-use Rattle.mdl_steps.specs.Seats.{IsPlace, MayPut}
-use Rattle.mdl_steps.proofs.Put.{puts_allowed}
-use Rattle.mdl_steps.proofs.Seating.{sits}
+use Rattle.mdl_steps.proofs.Lemmas.{Allows, Deed, IsPlace, MayPut, ReachedFor, TableId, none, puts_allowed, puts_latch, sits, step}
 use Rattle.mdl_steps.proofs.table_seat.TableSeat.put_latch_after.Goals as goal
 
 pub store-requires : goal.store-requires

@@ -1,16 +1,6 @@
 -- The holder of both latches may give the next place to a new key.
 use Rattle.std.proofs.Common.{ℕ, ◌<◌, sym, subst, arith, ap}
-use mathlib.Core.Option.{none}
-use Rattle.atomic_table.specs.Seated.{TableId}
-use Rattle.atomic_table.specs.Table.{Allows, step}
-use Rattle.mdl_steps.specs.Histories.{ReachedFor}
-use Rattle.mdl_steps.specs.Plays.{puts_key, Mine}
-use Rattle.mdl_steps.specs.Seats.{IsPlace, MayName}
-use Rattle.mdl_steps.specs.declared.view.LatchRecord.{LatchRecord}
-use Rattle.mdl_steps.specs.declared.view.Keys.{Keys}
-use Rattle.mdl_key.specs.Words.{KeyName}
-use Rattle.mdl_steps.proofs.NewKeys.{puts_key_allowed}
-use Rattle.mdl_steps.proofs.Seating.{sits}
+use Rattle.mdl_steps.proofs.Lemmas.{Allows, IsPlace, KeyName, Keys, LatchRecord, MayName, Mine, ReachedFor, TableId, none, puts_key, puts_key_allowed, sits, step}
 use Rattle.mdl_steps.proofs.table_seat.TableSeat.put_latch_naming.Goals as goal
 
 pub store-requires : goal.store-requires

@@ -1,13 +1,7 @@
 -- The holder of the latch may give it back and have read what stands, where the flags tell the lists exactly.
 use Rattle.std.proofs.Common.{ℕ, ◌<◌, sym, subst, arith, ap, []}
-use mathlib.Core.Option.{none}
-use Rattle.atomic_table.specs.Seated.{TableId}
-use Rattle.atomic_table.specs.Table.{Allows, step}
-use Rattle.mdl_steps.specs.Histories.{ReachedFor}
-use Rattle.mdl_steps.specs.Plays.{puts_reading}
-use Rattle.mdl_steps.specs.Seats.{IsPlace, MayPut}
+use Rattle.mdl_steps.proofs.Lemmas.{Allows, IsPlace, MayPut, ReachedFor, TableId, none, puts_reading, sits, step}
 use Rattle.mdl_steps.proofs.Reading.{puts_reading_allowed}
-use Rattle.mdl_steps.proofs.Seating.{sits}
 use Rattle.mdl_steps.proofs.table_seat.TableSeat.put_latch_reading.Goals as goal
 
 pub store-requires : goal.store-requires

@@ -1,14 +1,7 @@
 -- The holder of all latches that sees no deadlock may give one back, where the flags tell the lists exactly.
 use Rattle.std.proofs.Common.{ℕ, ◌<◌, [], sym, subst, arith, ap}
-use mathlib.Core.Option.{none}
-use Rattle.atomic_table.specs.Seated.{TableId}
-use Rattle.atomic_table.specs.Table.{Allows, step}
-use Rattle.mdl_steps.specs.Histories.{ReachedFor}
-use Rattle.mdl_steps.specs.Plays.{puts_searched}
-use Rattle.mdl_steps.specs.Seats.{IsPlace, MayPut}
-use Rattle.mdl_steps.specs.Sights.{SeesNoDeadlock}
+use Rattle.mdl_steps.proofs.Lemmas.{Allows, IsPlace, MayPut, ReachedFor, SeesNoDeadlock, TableId, none, puts_searched, sits, step}
 use Rattle.mdl_steps.proofs.Searching.{puts_searched_allowed}
-use Rattle.mdl_steps.proofs.Seating.{sits}
 use Rattle.mdl_steps.proofs.table_seat.TableSeat.put_latch_searched.Goals as goal
 
 pub store-requires : goal.store-requires

@@ -1,16 +1,6 @@
 -- The holder of the latch may give it back who looked all waiters through.
 use Rattle.std.proofs.Common.{ℕ, ◌<◌, ◌≤◌, sym, subst, arith, ap}
-use mathlib.Core.Option.{none}
-use Rattle.atomic_table.specs.Seated.{TableId}
-use Rattle.atomic_table.specs.Table.{Allows, step}
-use Rattle.mdl_steps.specs.Histories.{ReachedFor}
-use Rattle.mdl_steps.specs.Layout.{word_count}
-use Rattle.mdl_steps.specs.Plays.{puts_served}
-use Rattle.mdl_steps.specs.SeatStates.{SeatState}
-use Rattle.mdl_steps.specs.Seats.{IsPlace}
-use Rattle.mdl_steps.specs.Servings.{MayServe}
-use Rattle.mdl_steps.proofs.Seating.{sits}
-use Rattle.mdl_steps.proofs.Served.{puts_served_allowed}
+use Rattle.mdl_steps.proofs.Lemmas.{Allows, IsPlace, MayServe, ReachedFor, SeatState, TableId, none, puts_served, puts_served_allowed, sits, step, word_count}
 use Rattle.mdl_steps.proofs.table_seat.TableSeat.put_latch_served.Goals as goal
 
 pub store-requires : goal.store-requires

@@ -1,18 +1,8 @@
 -- The holder of the latch may raise flags.
 use Rattle.std.proofs.Common.{ℕ, ◌<◌, refl, sym, ap, ◌∙◌, subst, arith, bit_or, ◌≡◌, Some}
-use mathlib.Core.Option.{none}
-use Rattle.atomic_table.specs.Seated.{TableId}
-use Rattle.atomic_table.specs.Table.{Allows, step}
-use Rattle.mdl_steps.specs.declared.step_kind.StepKind.TheVariants as step_kind
-use Rattle.mdl_steps.specs.Histories.{ReachedFor}
-use Rattle.mdl_steps.specs.Plays.{Mine, raises_flags, raised}
-use Rattle.mdl_steps.specs.Seats.{Holds, elsewhere, IsPlace}
-use Rattle.mdl_steps.specs.declared.view.LatchRecord.{LatchRecord}
-use Rattle.mdl_steps.specs.Cells.{held_at}
-use Rattle.mdl_steps.proofs.Flags.{raises_allowed}
-use Rattle.mdl_steps.proofs.Hands.{holds_stepped, elsewhere-stepped}
-use Rattle.mdl_steps.proofs.Seating.{sits}
+use Rattle.mdl_steps.proofs.Lemmas.{Allows, Holds, IsPlace, LatchRecord, Mine, ReachedFor, TableId, elsewhere, elsewhere-stepped, held_at, holds_stepped, none, raised, raises_allowed, raises_flags, sits, step}
 use Rattle.mdl_steps.proofs.table_seat.TableSeat.raise_flags.Goals as goal
+use Rattle.mdl_steps.specs.declared.step_kind.StepKind.TheVariants as step_kind
 
 pub fetch_or-requires : goal.fetch_or-requires
 fetch_or-requires c =

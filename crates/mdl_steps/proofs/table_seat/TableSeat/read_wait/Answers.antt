@@ -1,14 +1,6 @@
 -- Any session may read any wait's word.
 use Rattle.std.proofs.Common.{◌≡◌, ℕ, ◌+◌, ◌*◌, ◌<◌, sym, ap, ◌∙◌, subst}
-use mathlib.Core.Option.{none}
-use Rattle.atomic_table.specs.Seated.{TableId}
-use Rattle.atomic_table.specs.Table.{Allows, step}
-use Rattle.mdl_steps.specs.Histories.{ReachedFor}
-use Rattle.mdl_steps.specs.Layout.{wait_word}
-use Rattle.mdl_steps.specs.WaitPlays.{TellsOwn, reads_wait}
-use Rattle.mdl_steps.specs.WaitSeats.{IsSession}
-use Rattle.mdl_steps.proofs.Seating.{sits}
-use Rattle.mdl_steps.proofs.WaitSteps.{reads_wait_allowed}
+use Rattle.mdl_steps.proofs.Lemmas.{Allows, IsSession, ReachedFor, TableId, TellsOwn, none, reads_wait, reads_wait_allowed, sits, step, wait_word}
 use Rattle.mdl_steps.proofs.table_seat.TableSeat.read_wait.Goals as goal
 
 pub load-requires : goal.load-requires

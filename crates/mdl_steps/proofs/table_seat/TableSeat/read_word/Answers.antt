@@ -1,18 +1,8 @@
 -- The holder of the latch may read the word.
 use Rattle.std.proofs.Common.{◌≡◌, ℕ, ◌<◌, refl, sym, ap, ◌∙◌, subst, arith, Some}
-use mathlib.Core.Option.{none}
-use Rattle.atomic_table.specs.Seated.{TableId}
-use Rattle.atomic_table.specs.Table.{Allows, step}
-use Rattle.mdl_steps.specs.declared.step_kind.StepKind.TheVariants as step_kind
-use Rattle.mdl_steps.specs.declared.view.LatchRecord.{LatchRecord}
-use Rattle.mdl_steps.specs.Cells.{held_at}
-use Rattle.mdl_steps.specs.Histories.{ReachedFor}
-use Rattle.mdl_steps.specs.Plays.{Mine, reads_word, noting}
-use Rattle.mdl_steps.specs.Seats.{Holds, IsPlace, elsewhere}
-use Rattle.mdl_steps.proofs.Flags.{reads_allowed}
-use Rattle.mdl_steps.proofs.Hands.{holds_stepped, elsewhere-stepped}
-use Rattle.mdl_steps.proofs.Seating.{sits}
+use Rattle.mdl_steps.proofs.Lemmas.{Allows, Holds, IsPlace, LatchRecord, Mine, ReachedFor, TableId, elsewhere, elsewhere-stepped, held_at, holds_stepped, none, noting, reads_allowed, reads_word, sits, step}
 use Rattle.mdl_steps.proofs.table_seat.TableSeat.read_word.Goals as goal
+use Rattle.mdl_steps.specs.declared.step_kind.StepKind.TheVariants as step_kind
 
 pub load-requires : goal.load-requires
 load-requires c =

@@ -1,13 +1,6 @@
 -- Any session may read the word of a place.
 use Rattle.std.proofs.Common.{ℕ, ◌<◌, sym, ap, subst, arith}
-use mathlib.Core.Option.{none}
-use Rattle.atomic_table.specs.Seated.{TableId}
-use Rattle.atomic_table.specs.Table.{Allows, step}
-use Rattle.mdl_steps.specs.FastPlays.{reads_word_unlatched}
-use Rattle.mdl_steps.specs.Histories.{ReachedFor}
-use Rattle.mdl_steps.specs.Seats.{IsPlace}
-use Rattle.mdl_steps.proofs.FastSteps.{reads_unlatched_allowed}
-use Rattle.mdl_steps.proofs.Seating.{sits}
+use Rattle.mdl_steps.proofs.Lemmas.{Allows, IsPlace, ReachedFor, TableId, none, reads_unlatched_allowed, reads_word_unlatched, sits, step}
 use Rattle.mdl_steps.proofs.table_seat.TableSeat.read_word_unlatched.Goals as goal
 
 pub load-requires : goal.load-requires

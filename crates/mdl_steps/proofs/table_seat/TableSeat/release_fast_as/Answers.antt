@@ -1,14 +1,6 @@
 -- The subtraction is a fast release.
 use Rattle.std.proofs.Common.{ℕ, ◌+◌, ◌-◌, ◌*◌, ◌%◌, ◌^◌, ◌<◌, sym, ap, subst, arith}
-use mathlib.Core.Option.{none}
-use Rattle.atomic_table.specs.Seated.{TableId}
-use Rattle.atomic_table.specs.Table.{Allows, step}
-use Rattle.mdl_steps.specs.FastPlays.{releases_fast, MayReleaseFast}
-use Rattle.mdl_steps.specs.Histories.{ReachedFor}
-use Rattle.mdl_steps.specs.Plays.{Mine}
-use Rattle.mdl_steps.specs.Seats.{IsPlace}
-use Rattle.mdl_steps.proofs.FastSteps.{releases_fast_allowed}
-use Rattle.mdl_steps.proofs.Seating.{sits}
+use Rattle.mdl_steps.proofs.Lemmas.{Allows, IsPlace, MayReleaseFast, Mine, ReachedFor, TableId, none, releases_fast, releases_fast_allowed, sits, step}
 use Rattle.mdl_steps.proofs.table_seat.TableSeat.release_fast_as.Goals as goal
 
 pub fetch_sub-requires : goal.fetch_sub-requires

@@ -1,18 +1,6 @@
 -- Any session may settle any unsettled wait as lost.
 use Rattle.std.proofs.Common.{◌≡◌, ℕ, ◌+◌, ◌*◌, ◌<◌, ◌≤◌, ◌==◌, refl, sym, ap, ◌∙◌, subst, arith}
-use mathlib.Core.Option.{none}
-use prog.Atomic.{either}
-use Rattle.atomic_table.specs.Seated.{TableId}
-use Rattle.atomic_table.specs.Table.{Allows, step}
-use Rattle.mdl_steps.specs.declared.wait_word.Loss.{Loss}
-use Rattle.mdl_steps.specs.declared.wait_word.Loss.TheVariants.{Victim, Timeout, Killed}
-use Rattle.mdl_steps.specs.Histories.{ReachedFor}
-use Rattle.mdl_steps.specs.Layout.{wait_word}
-use Rattle.mdl_steps.specs.WaitPlays.{TellsOwn, settles_lost, wait_in}
-use Rattle.mdl_steps.specs.WaitSeats.{IsSession}
-use Rattle.mdl_steps.specs.WaitStates.{lost_state}
-use Rattle.mdl_steps.proofs.Seating.{sits}
-use Rattle.mdl_steps.proofs.WaitSteps.{settles_lost_allowed}
+use Rattle.mdl_steps.proofs.Lemmas.{Allows, IsSession, Killed, Loss, ReachedFor, TableId, TellsOwn, Timeout, Victim, either, lost_state, none, settles_lost, settles_lost_allowed, sits, step, wait_in, wait_word}
 use Rattle.mdl_steps.proofs.table_seat.TableSeat.settle_wait.Goals as goal
 
 is_lost : (how : Loss) → (2 < lost_state how) × (lost_state how ≤ 5)

@@ -1,13 +1,6 @@
 -- A free latch of the directory may be taken, and what is recorded then is told.
 use Rattle.std.proofs.Common.{ℕ, ◌<◌, ◌==◌, refl, sym, subst, arith, ap}
-use mathlib.Core.Option.{none}
-use prog.Atomic.{either}
-use Rattle.atomic_table.specs.Table.{Allows, step}
-use Rattle.mdl_steps.specs.Histories.{ReachedFor}
-use Rattle.mdl_steps.specs.Plays.{IsDirectory, Mine, takes_directory}
-use Rattle.mdl_steps.specs.Seats.{HasDirectory}
-use Rattle.mdl_steps.proofs.Desks.{takes_directory_allowed}
-use Rattle.mdl_steps.proofs.Seating.{sits, value_is}
+use Rattle.mdl_steps.proofs.Lemmas.{Allows, HasDirectory, IsDirectory, Mine, ReachedFor, either, none, sits, step, takes_directory, takes_directory_allowed, value_is}
 use Rattle.mdl_steps.proofs.table_seat.TableSeat.take_directory.Goals as goal
 
 pub compare_exchange-found-requires : goal.compare_exchange-found-requires

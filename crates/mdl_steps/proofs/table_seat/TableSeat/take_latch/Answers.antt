@@ -1,15 +1,6 @@
 -- A free latch may be taken, and what is recorded then is told.
 use Rattle.std.proofs.Common.{ℕ, ◌*◌, ◌<◌, ◌==◌, refl, sym, ap, ◌∙◌, subst, arith}
-use mathlib.Core.Option.{none}
-use prog.Atomic.{either}
-use Rattle.atomic_table.specs.Seated.{TableId}
-use Rattle.atomic_table.specs.Table.{Allows, step}
-use Rattle.mdl_steps.specs.Histories.{ReachedFor}
-use Rattle.mdl_steps.specs.Plays.{Mine, takes_latch}
-use Rattle.mdl_steps.specs.Seats.{Holds, IsPlace, elsewhere}
-use Rattle.mdl_steps.proofs.Latch.{takes_latch_allowed}
-use Rattle.mdl_steps.proofs.Hands.{holds_taken, elsewhere-taken}
-use Rattle.mdl_steps.proofs.Seating.{sits, value_is}
+use Rattle.mdl_steps.proofs.Lemmas.{Allows, Holds, IsPlace, Mine, ReachedFor, TableId, either, elsewhere, elsewhere-taken, holds_taken, none, sits, step, takes_latch, takes_latch_allowed, value_is}
 use Rattle.mdl_steps.proofs.table_seat.TableSeat.take_latch.Goals as goal
 
 pub compare_exchange-found-requires : goal.compare_exchange-found-requires

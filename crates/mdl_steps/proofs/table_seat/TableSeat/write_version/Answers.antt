@@ -1,17 +1,7 @@
 -- The holder of the latch may write the version of the book in hand.
 use Rattle.std.proofs.Common.{◌≡◌, ℕ, ◌+◌, ◌*◌, ◌<◌, sym, ap, ◌∙◌, subst, arith}
-use mathlib.Core.Option.{none}
-use Rattle.atomic_table.specs.Seated.{TableId}
-use Rattle.atomic_table.specs.Table.{Allows, step}
-use Rattle.mdl_defs.specs.VersionedDefinitions.{standing_after}
-use Rattle.mdl_book.specs.Books.{redefining}
-use Rattle.mdl_steps.specs.Histories.{ReachedFor}
-use Rattle.mdl_steps.specs.Plays.{Mine, writes_version, restood}
-use Rattle.mdl_steps.specs.Seats.{Holds, IsPlace, MayWriteVersion, elsewhere}
-use Rattle.mdl_steps.specs.SeatStates.{SeatState}
+use Rattle.mdl_steps.proofs.Lemmas.{Allows, Holds, IsPlace, MayWriteVersion, Mine, ReachedFor, SeatState, TableId, elsewhere, elsewhere-redefined, holds_redefined, none, redefining, restood, sits, standing_after, step, writes_version}
 use Rattle.mdl_steps.proofs.Versions.{writes_allowed}
-use Rattle.mdl_steps.proofs.Hands.{holds_redefined, elsewhere-redefined}
-use Rattle.mdl_steps.proofs.Seating.{sits}
 use Rattle.mdl_steps.proofs.table_seat.TableSeat.write_version.Goals as goal
 
 pub store-requires : goal.store-requires

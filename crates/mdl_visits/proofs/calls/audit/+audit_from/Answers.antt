@@ -1,10 +1,6 @@
 -- Each book is copied under its latch, whose record stays until the latches of the places behind it are given back.
-use Rattle.std.proofs.Common.{[], ◌∷◌, refl, ap, ◌∙◌, append_assoc, arith, rules}
-use Rattle.std.specs.Prelude.{◌++◌, List}
-use Rattle.std.proofs.lemmas.Result.{on_ok_weaker}
-use Rattle.mdl_steps.specs.SeatStates.{SeatState}
-use Rattle.mdl_visits.specs.declared.audited.Audited.{Audited}
-use Rattle.mdl_visits.proofs.Gathering.{as_reads, back_steps, carried_there, gathers_more, gathers_none, may_put, may_take_more, no_steps}
+use Rattle.std.proofs.Common.{[], ◌∷◌, refl, ap, ◌∙◌, append_assoc, arith, rules, ◌++◌, List}
+use Rattle.mdl_visits.proofs.Lemmas.{Audited, SeatState, as_reads, back_steps, carried_there, gathers_more, gathers_none, may_put, may_take_more, no_steps, on_ok_weaker}
 use Rattle.mdl_visits.proofs.calls.audit.+audit_from.Goals as goal
 
 pub add_book-requires-clause-carried : goal.add_book-requires-clause-carried

@@ -1,11 +1,5 @@
 -- All of it happens while the directory's latch is held, by the keys that its record has.
-use Rattle.std.proofs.Common.{List, refl, subst}
-use Rattle.std.proofs.lemmas.Result.{on_ok_weaker}
-use Rattle.mdl_steps.specs.SeatStates.{SeatState}
-use Rattle.mdl_visits.specs.declared.audited.Audited.{Audited}
-use Rattle.mdl_visits.specs.Audits.{Gathers}
-use Rattle.mdl_visits.proofs.Gathering.{as_reads}
-use Rattle.mdl_visits.proofs.Holding.{audits, in_hand, steps_all, took_directory}
+use Rattle.mdl_visits.proofs.Lemmas.{Audited, Gathers, List, SeatState, as_reads, audits, in_hand, on_ok_weaker, refl, steps_all, subst, took_directory}
 use Rattle.mdl_visits.proofs.calls.audit.audit.Goals as goal
 
 pub returns-clause-steps : goal.returns-clause-steps

@@ -1,11 +1,5 @@
 -- What came of the wish at the place is told of the seat as it was before.
-use Rattle.std.proofs.Common.{Bool, ap, subst, sym, ◌∙◌}
-use Rattle.mdl_steps.specs.Plays.{Mine}
-use Rattle.mdl_steps.specs.SeatStates.{SeatState}
-use Rattle.mdl_visits.specs.Visits.{IsVisit, StaysWithin}
-use Rattle.mdl_visits.specs.WaitOpenings.{IsNewWait}
-use Rattle.mdl_visits.proofs.Seats.{mine}
-use Rattle.mdl_visits.proofs.Trying.{as_refused, still_entered, visit_entered}
+use Rattle.mdl_visits.proofs.Lemmas.{Bool, IsNewWait, IsVisit, Mine, SeatState, StaysWithin, ap, as_refused, mine, still_entered, subst, sym, visit_entered, ◌∙◌}
 use Rattle.mdl_visits.proofs.calls.begin_wait.begin_wait.Goals as goal
 
 pub enter-requires : goal.enter-requires

@@ -1,10 +1,6 @@
 -- The ticket is written, the wait opened and the latch given back, or there was no room.
 use Rattle.std.proofs.Common.{◌+◌, false, [], sym, ap, subst, ◌∙◌}
-use Rattle.mdl_steps.specs.SeatStates.{SeatState}
-use Rattle.mdl_visits.specs.Leavings.{HasWorked}
-use Rattle.mdl_visits.specs.Visits.{VisitsOnce}
-use Rattle.mdl_visits.proofs.Seats.{place_there, table_of}
-use Rattle.mdl_visits.proofs.Trying.{entered_holds, full, refused, rested}
+use Rattle.mdl_visits.proofs.Lemmas.{HasWorked, SeatState, VisitsOnce, entered_holds, full, place_there, refused, rested, table_of}
 use Rattle.mdl_visits.proofs.WaitOpenings.{begins, visit_opened, wish_opens, wish_puts}
 use Rattle.mdl_visits.proofs.calls.begin_wait.enqueue.Goals as goal
 

@@ -1,13 +1,6 @@
 -- What was changed stood in the book that was met under the latch.
-use Rattle.std.proofs.Common.{false, [], refl, ◌∙◌}
-use Rattle.mdl_defs.specs.VersionedDefinitions.{standing_fault}
-use Rattle.mdl_book.specs.Books.{redefining}
-use Rattle.mdl_steps.specs.SeatStates.{SeatState}
-use Rattle.mdl_visits.proofs.Arriving.{inside_there, went_same}
+use Rattle.mdl_visits.proofs.Lemmas.{SeatState, [], as_reads, back_steps, carried_there, false, inside_there, mine, no_steps, place_there, redefining, refl, standing_fault, table_of, visit_put, went_same, ◌∙◌}
 use Rattle.mdl_visits.proofs.Changing.{changed, has_redefined, may_put_changed, no_fault, refused, went_changed}
-use Rattle.mdl_visits.proofs.Gathering.{as_reads, back_steps, carried_there, no_steps}
-use Rattle.mdl_visits.proofs.Seats.{mine, place_there, table_of}
-use Rattle.mdl_visits.proofs.Within.{visit_put}
 use Rattle.mdl_visits.proofs.calls.change_definition.change_definition.Goals as goal
 
 pub write_change-requires : goal.write_change-requires

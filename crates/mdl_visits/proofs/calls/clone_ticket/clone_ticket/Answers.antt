@@ -1,15 +1,6 @@
 -- The book that is met under the latch has the session's ticket, which covers the mode, so only want of room keeps the second one out.
-use Rattle.std.proofs.Common.{ℕ, false, [], ◌∷◌, ap, sym, subst, ◌∙◌}
-use Rattle.std.specs.Prelude.{is_some}
-use Rattle.mdl_steps.specs.declared.deed.Deed.TheVariants.{Gain}
-use Rattle.mdl_steps.specs.Cells.{held_at}
-use Rattle.mdl_steps.specs.Deeds.{booked}
-use Rattle.mdl_steps.specs.SeatStates.{AtItsTable, SeatState}
-use Rattle.mdl_visits.specs.Leavings.{HasWorked}
-use Rattle.mdl_visits.specs.Visits.{CameTo, Visits}
-use Rattle.mdl_visits.proofs.Arriving.{came_written, has_rested, met_full, met_own, went_same, went_written}
-use Rattle.mdl_visits.proofs.Numbers.{idle_waits_not}
-use Rattle.mdl_visits.proofs.Weaker.{has_gained, no_room, there}
+use Rattle.std.proofs.Common.{ℕ, false, [], ◌∷◌, ap, sym, subst, ◌∙◌, is_some}
+use Rattle.mdl_visits.proofs.Lemmas.{AtItsTable, CameTo, Gain, HasWorked, SeatState, Visits, booked, came_written, has_gained, has_rested, held_at, idle_waits_not, met_full, met_own, no_room, there, went_same, went_written}
 use Rattle.mdl_visits.proofs.calls.clone_ticket.clone_ticket.Goals as goal
 
 pub lower_flags_and_put-requires : goal.lower_flags_and_put-requires

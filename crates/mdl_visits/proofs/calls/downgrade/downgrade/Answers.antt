@@ -1,13 +1,6 @@
 -- The book that is met under the latch has the session's ticket, which covers the mode, so the mode is written.
-use Rattle.std.proofs.Common.{ℕ, true, [], ◌∷◌, ap, subst}
-use Rattle.std.specs.Prelude.{is_some}
-use Rattle.mdl_steps.specs.declared.deed.Deed.TheVariants.{Alter}
-use Rattle.mdl_steps.specs.Deeds.{booked}
-use Rattle.mdl_steps.specs.SeatStates.{AtItsTable, SeatState}
-use Rattle.mdl_visits.specs.Grantings.{VisitsAndReschedules}
-use Rattle.mdl_visits.proofs.Arriving.{came_written, met_own, went_written}
-use Rattle.mdl_visits.proofs.Covered.{downgrade-covered}
-use Rattle.mdl_visits.proofs.Weaker.{has_altered, lowered_to, there}
+use Rattle.std.proofs.Common.{ℕ, true, [], ◌∷◌, ap, subst, is_some}
+use Rattle.mdl_visits.proofs.Lemmas.{Alter, AtItsTable, SeatState, VisitsAndReschedules, booked, came_written, downgrade-covered, has_altered, lowered_to, met_own, there, went_written}
 use Rattle.mdl_visits.proofs.calls.downgrade.downgrade.Goals as goal
 
 pub lower_flags_and_reschedule-requires : goal.lower_flags_and_reschedule-requires

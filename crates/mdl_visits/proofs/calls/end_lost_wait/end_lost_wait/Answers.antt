@@ -1,12 +1,6 @@
 -- The ticket is taken out of the list, and flags that told the lists tell them still.
-use Rattle.std.proofs.Common.{ap, false, refl, subst, sym, true, ℕ, ◌∙◌}
-use Rattle.mdl_steps.specs.SeatStates.{AtItsTable, SeatState}
-use Rattle.mdl_visits.specs.WaitEndings.{EndsLost, mine_without_wait}
-use Rattle.mdl_visits.proofs.Arriving.{went_on}
-use Rattle.mdl_visits.proofs.Seats.{mine, place_there, table_of}
-use Rattle.mdl_visits.proofs.Steps.{goes_by, step_before}
+use Rattle.mdl_visits.proofs.Lemmas.{AtItsTable, EndsLost, SeatState, ap, false, goes_by, mine, mine_without_wait, place_there, plain, refl, step_before, subst, sym, table_of, true, went_on, within_one, within_then, within_written, ℕ, ◌∙◌}
 use Rattle.mdl_visits.proofs.WaitEndings.{asks_there, came_ended, has_ended, holds_less, may_cancel, shows_end, told_there, waits_there, withdrawn}
-use Rattle.mdl_visits.proofs.Within.{plain, within_one, within_then, within_written}
 use Rattle.mdl_visits.proofs.calls.end_lost_wait.end_lost_wait.Goals as goal
 
 pub end_lost-requires : goal.end_lost-requires

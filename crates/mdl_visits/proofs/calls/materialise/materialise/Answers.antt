@@ -1,9 +1,6 @@
 -- The tickets are granted in the book and then counted no longer, or there was no room for all of them.
-use Rattle.std.proofs.Common.{◌≡◌, ◌≢◌, ◌<◌, [], length, sym, ap, ◌∙◌, arith}
-use Rattle.std.proofs.lemmas.Bool.{eqb-true}
-use Rattle.std.proofs.lemmas.Bool.Decides.{nat_tests}
-use Rattle.std.proofs.lemmas.List.{nil_from_length}
-use Rattle.mdl_steps.specs.Cells.{own_at}
+use Rattle.std.proofs.Common.{◌≡◌, ◌≢◌, ◌<◌, [], length, sym, ap, ◌∙◌, arith, eqb-true}
+use Rattle.mdl_visits.proofs.Lemmas.{nat_tests, nil_from_length, own_at}
 use Rattle.mdl_visits.proofs.Materialising.{can_stand, done_once, lacks_room, may_materialise, may_put, nothing_done, nothing_fast, place_last, place_then, ready, refused_once, rests, was_materialised}
 use Rattle.mdl_visits.proofs.calls.materialise.materialise.Goals as goal
 

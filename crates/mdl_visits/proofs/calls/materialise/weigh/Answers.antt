@@ -1,6 +1,5 @@
 -- What one more adds fits, since they are few.
-use Rattle.std.proofs.Common.{arith}
-use Rattle.mdl_visits.proofs.OwnGrants.{no_own, weight-more, weight-small}
+use Rattle.mdl_visits.proofs.Lemmas.{arith, no_own, weight-more, weight-small}
 use Rattle.mdl_visits.proofs.calls.materialise.weigh.Goals as goal
 
 pub overflow_add-weight : goal.overflow_add-weight

@@ -1,15 +1,7 @@
 -- The next one may stand beside all that are granted, and beside the session's own before it, so it is granted, or there is no room for it and those
 -- before it are taken out again.
-use Rattle.std.proofs.Common.{ℕ, List, take, get_or, Err, refl, sym, ap, ◌∙◌, subst}
-use Rattle.mdl_key.specs.Refusals.{Refuses}
 use Rattle.mdl_book.specs.declared.book_error.BookError.TheVariants as fault
-use Rattle.mdl_book.specs.declared.book_view.BookView.{BookView}
-use Rattle.mdl_book.specs.Books.{grant_fault, granting}
-use Rattle.mdl_steps.specs.declared.view.SessionTicket.{SessionTicket}
-use Rattle.mdl_steps.specs.Cells.{ticket_by}
-use Rattle.mdl_steps.specs.SeatStates.{HasBookInHand, SeatState}
-use Rattle.mdl_visits.specs.Materialisings.{granting_own, with_book}
-use Rattle.mdl_visits.proofs.OwnGrants.{first_stand, granting_more, no_own, no_room_then, none_written}
+use Rattle.mdl_visits.proofs.Lemmas.{BookView, Err, HasBookInHand, List, Refuses, SeatState, SessionTicket, ap, first_stand, get_or, grant_fault, granting, granting_more, granting_own, no_own, no_room_then, none_written, refl, subst, sym, take, ticket_by, with_book, ℕ, ◌∙◌}
 use Rattle.mdl_visits.proofs.calls.materialise.write_gains.Goals as goal
 
 pub write_gain-requires : goal.write_gain-requires

@@ -1,7 +1,6 @@
 -- The tickets so far are granted.
 use Rattle.std.proofs.Common.{◌≡◌, take}
-use Rattle.mdl_book.specs.declared.book_view.BookView.{BookView}
-use Rattle.mdl_visits.specs.Materialisings.{CanStand, granting_own, with_book}
+use Rattle.mdl_visits.proofs.Lemmas.{BookView, CanStand, granting_own, with_book}
 use Rattle.mdl_visits.proofs.calls.materialise.write_gains.Given as goal
 
 abbrev pub invariant-loop-at : goal.invariant-loop-at

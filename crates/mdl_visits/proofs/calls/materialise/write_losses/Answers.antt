@@ -1,15 +1,6 @@
 -- The next one is the first that is granted behind what was there before, so it is found and taken out.
-use Rattle.std.proofs.Common.{◌≡◌, ℕ, true, List, drop, get_or, refl, sym, ap, ◌∙◌, subst}
-use Rattle.std.specs.Prelude.{is_some}
-use Rattle.mdl_book.specs.declared.book_error.BookError.TheVariants.{NotHere}
-use Rattle.mdl_book.specs.declared.book_view.BookView.{BookView}
-use Rattle.mdl_book.specs.Books.{removing}
-use Rattle.mdl_book.specs.Tickets.{ticket_of}
-use Rattle.mdl_steps.specs.declared.view.SessionTicket.{SessionTicket}
-use Rattle.mdl_steps.specs.SeatStates.{HasBookInHand, SeatState}
-use Rattle.mdl_visits.specs.Materialisings.{granting_own, with_book}
-use Rattle.mdl_visits.proofs.Losing.{taken_out}
-use Rattle.mdl_visits.proofs.OwnGrants.{next_found, next_out, no_own}
+use Rattle.std.proofs.Common.{◌≡◌, ℕ, true, List, drop, get_or, refl, sym, ap, ◌∙◌, subst, is_some}
+use Rattle.mdl_visits.proofs.Lemmas.{BookView, HasBookInHand, NotHere, SeatState, SessionTicket, granting_own, next_found, next_out, no_own, removing, taken_out, ticket_of, with_book}
 use Rattle.mdl_visits.proofs.calls.materialise.write_losses.Goals as goal
 
 pub loop-ticket-preserved : goal.loop-ticket-preserved

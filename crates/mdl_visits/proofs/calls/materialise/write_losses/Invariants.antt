@@ -1,7 +1,6 @@
 -- The tickets so far are out.
 use Rattle.std.proofs.Common.{◌≡◌, drop}
-use Rattle.mdl_book.specs.declared.book_view.BookView.{BookView}
-use Rattle.mdl_visits.specs.Materialisings.{Stand, granting_own, with_book}
+use Rattle.mdl_visits.proofs.Lemmas.{BookView, Stand, granting_own, with_book}
 use Rattle.mdl_visits.proofs.calls.materialise.write_losses.Given as goal
 
 abbrev pub invariant-loop-ticket : goal.invariant-loop-ticket

@@ -1,12 +1,6 @@
 -- The book that is met under the latch has both tickets, so the one is written in the mode of the other, and this is taken out.
-use Rattle.std.proofs.Common.{ℕ, List, [], ◌∷◌, ap, subst}
-use Rattle.std.specs.Prelude.{is_some}
-use Rattle.mdl_steps.specs.declared.deed.Deed.{Deed}
-use Rattle.mdl_steps.specs.declared.deed.Deed.TheVariants.{Alter, Lose}
-use Rattle.mdl_steps.specs.Deeds.{booked}
-use Rattle.mdl_steps.specs.SeatStates.{AtItsTable, SeatState}
-use Rattle.mdl_visits.specs.Visits.{Visits}
-use Rattle.mdl_visits.proofs.Arriving.{came_written, meets_own, met_here, went_written}
+use Rattle.std.proofs.Common.{ℕ, List, [], ◌∷◌, ap, subst, is_some}
+use Rattle.mdl_visits.proofs.Lemmas.{Alter, AtItsTable, Deed, Lose, SeatState, Visits, booked, came_written, meets_own, met_here, went_written}
 use Rattle.mdl_visits.proofs.Uniting.{carries_changed, changed, first, has_united, second, united}
 use Rattle.mdl_visits.proofs.calls.merge.merge.Goals as goal
 

@@ -1,14 +1,7 @@
 -- What was read stood in the book that was met under the latch.
 use Rattle.std.proofs.Common.{◌≡◌, ℕ, false, [], refl, sym, ap, ◌∙◌, subst}
-use Rattle.mdl_defs.specs.declared.versioned_definition.VersionedDefinition.{VersionedDefinition}
-use Rattle.mdl_steps.specs.Plays.{Mine, read_and_put}
-use Rattle.mdl_steps.specs.SeatStates.{SeatState}
-use Rattle.mdl_steps.specs.VersionPlays.{Follows}
-use Rattle.mdl_visits.proofs.Arriving.{inside_there, went_same}
-use Rattle.mdl_visits.proofs.Gathering.{as_reads, back_steps, carried_there, may_put, no_steps}
+use Rattle.mdl_visits.proofs.Lemmas.{Follows, Mine, SeatState, VersionedDefinition, as_reads, back_steps, carried_there, inside_there, may_put, mine, no_steps, read_and_put, table_of, visit_by, visit_put, went_same}
 use Rattle.mdl_visits.proofs.Reading.{follows, learns, meets_standing, quiet_read}
-use Rattle.mdl_visits.proofs.Seats.{mine, table_of}
-use Rattle.mdl_visits.proofs.Within.{visit_by, visit_put}
 use Rattle.mdl_visits.proofs.calls.read_definition.read_definition.Goals as goal
 
 pub standing-requires : goal.standing-requires

@@ -1,11 +1,7 @@
 -- The book that is met under the latch has the session's ticket, so it is taken out.
 use Rattle.std.proofs.Common.{ℕ, true, [], ◌∷◌, ap, subst}
-use Rattle.mdl_steps.specs.declared.deed.Deed.TheVariants.{Lose}
-use Rattle.mdl_steps.specs.Deeds.{booked}
-use Rattle.mdl_steps.specs.SeatStates.{AtItsTable, SeatState}
-use Rattle.mdl_visits.specs.Grantings.{VisitsAndReschedules}
-use Rattle.mdl_visits.proofs.Arriving.{came_written, met_own, went_written}
-use Rattle.mdl_visits.proofs.Losing.{has_lost, lost, there}
+use Rattle.mdl_visits.proofs.Lemmas.{AtItsTable, Lose, SeatState, VisitsAndReschedules, booked, came_written, has_lost, lost, met_own, went_written}
+use Rattle.mdl_visits.proofs.Losing.{there}
 use Rattle.mdl_visits.proofs.calls.release.release.Goals as goal
 
 pub lower_flags_and_reschedule-requires : goal.lower_flags_and_reschedule-requires

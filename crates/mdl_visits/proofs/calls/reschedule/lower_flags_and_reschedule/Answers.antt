@@ -1,10 +1,5 @@
 -- The flags are lowered with the deeds, and waits are granted with none.
-use Rattle.std.proofs.Common.{false, [], ◌∙◌, subst}
-use Rattle.atomic_table.specs.Seated.{TableId}
-use Rattle.mdl_steps.specs.Plays.{Mine}
-use Rattle.mdl_visits.specs.Grantings.{ReschedulesAndLeaves}
-use Rattle.mdl_visits.proofs.Rescheduling.{leaves_lowered, step_lowered, visits_and_reschedules}
-use Rattle.mdl_visits.proofs.Within.{visit_after, within_lowered}
+use Rattle.mdl_visits.proofs.Lemmas.{Mine, ReschedulesAndLeaves, TableId, [], false, leaves_lowered, step_lowered, subst, visit_after, visits_and_reschedules, within_lowered, ◌∙◌}
 use Rattle.mdl_visits.proofs.calls.reschedule.lower_flags_and_reschedule.Goals as goal
 
 pub reschedule_and_put-requires : goal.reschedule_and_put-requires

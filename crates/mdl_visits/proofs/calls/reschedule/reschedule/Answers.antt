@@ -1,10 +1,5 @@
 -- The session came, granted waits and went.
-use Rattle.std.proofs.Common.{ℕ, [], refl, ◌∙◌, subst}
-use Rattle.atomic_table.specs.Seated.{TableId}
-use Rattle.mdl_steps.specs.Plays.{Mine}
-use Rattle.mdl_visits.specs.Grantings.{ReschedulesAndLeaves}
-use Rattle.mdl_visits.proofs.Arriving.{inside_there, went_same}
-use Rattle.mdl_visits.proofs.Rescheduling.{visits_and_reschedules}
+use Rattle.mdl_visits.proofs.Lemmas.{Mine, ReschedulesAndLeaves, TableId, [], inside_there, refl, subst, visits_and_reschedules, went_same, ℕ, ◌∙◌}
 use Rattle.mdl_visits.proofs.calls.reschedule.reschedule.Goals as goal
 
 pub returns : goal.returns

@@ -1,15 +1,5 @@
 -- Nobody waits, or waits were granted.
-use Rattle.std.proofs.Common.{ap, false, inl, inr, subst, sym, ◌∙◌}
-use Rattle.mdl_steps.specs.Plays.{Mine, served}
-use Rattle.atomic_table.specs.Seated.{TableId}
-use Rattle.mdl_steps.specs.SeatStates.{SeatState}
-use Rattle.mdl_steps.specs.Servings.{MayServe}
-use Rattle.mdl_visits.specs.Grantings.{ForgetsNobody, GrantsWaits, IsOrderlyLatch}
-use Rattle.mdl_visits.specs.Visits.{HasLatched}
-use Rattle.mdl_visits.proofs.Seats.{mine, place_there, table_of}
-use Rattle.mdl_visits.proofs.Rescheduling.{leaves_none, leaves_rescheduled, nobody_waits}
-use Rattle.mdl_visits.proofs.Way.{within_of}
-use Rattle.mdl_visits.proofs.Within.{visit_after, visit_served}
+use Rattle.mdl_visits.proofs.Lemmas.{ForgetsNobody, GrantsWaits, HasLatched, IsOrderlyLatch, MayServe, Mine, SeatState, TableId, ap, false, inl, inr, leaves_none, leaves_rescheduled, mine, nobody_waits, place_there, served, subst, sym, table_of, visit_after, visit_served, within_of, ◌∙◌}
 use Rattle.mdl_visits.proofs.calls.reschedule.reschedule_and_put.Goals as goal
 use Rattle.mdl_visits.proofs.calls.reschedule.reschedule_and_put.Goals.{then-has_waiters, else-has_waiters}
 

@@ -1,11 +1,6 @@
 -- What was listed and what the place gets are copies of the key. Nobody has ever been at the next place, so that the empty book of the key may be
 -- left there.
-use Rattle.std.proofs.Common.{ap, ◌∙◌}
-use Rattle.mdl_book.specs.Books.{empty_book}
-use Rattle.mdl_steps.specs.Plays.{Mine}
-use Rattle.mdl_steps.specs.SeatStates.{SeatState}
-use Rattle.mdl_visits.proofs.Naming.{is_listed, may_name_at, may_visit_next, named_at, named_since}
-use Rattle.mdl_visits.proofs.Seats.{mine, place_there, table_of}
+use Rattle.mdl_visits.proofs.Lemmas.{Mine, SeatState, ap, empty_book, is_listed, may_name_at, may_visit_next, mine, named_at, named_since, place_there, table_of, ◌∙◌}
 use Rattle.mdl_visits.proofs.calls.resolve.name_key.Goals as goal
 
 pub await_latch-latch-requires : goal.await_latch-latch-requires

@@ -1,13 +1,8 @@
 -- The key stands at the place, whether it did before or was given it.
 use Rattle.std.proofs.Common.{ℕ, ◌+◌, ◌<◌, length, sym, ap, ◌∙◌, subst, refl, arith}
-use Rattle.mdl_steps.specs.declared.view.Keys.{Keys}
-use Rattle.mdl_steps.specs.SeatStates.{AtItsTable, SeatState}
-use Rattle.mdl_steps.specs.Seats.{HasDirectory}
-use Rattle.mdl_visits.specs.declared.resolve_error.ResolveError.TheVariants.{NoPlace, OutOfMemory}
-use Rattle.mdl_visits.specs.Lookups.{HasNamed, HoldsKeys}
-use Rattle.mdl_visits.proofs.Lookups.{found_nowhere, found_there, stands_next}
-use Rattle.mdl_visits.proofs.Naming.{same_record}
+use Rattle.mdl_visits.proofs.Lemmas.{AtItsTable, HasDirectory, HasNamed, HoldsKeys, Keys, NoPlace, SeatState, found_nowhere, found_there, same_record, stands_next}
 use Rattle.mdl_visits.proofs.calls.resolve.place_for.Goals as goal
+use Rattle.mdl_visits.specs.declared.resolve_error.ResolveError.TheVariants.{OutOfMemory}
 
 pub overflow_add-place : goal.overflow_add-place
 overflow_add-place g c =

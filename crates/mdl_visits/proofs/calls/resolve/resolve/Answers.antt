@@ -1,12 +1,6 @@
 -- The session knows the key, which stands at its place by the directory's record.
-use Rattle.std.proofs.Common.{ℕ, Ok, Err, refl, subst}
 use Rattle.std.specs.Prelude.{Result}
-use Rattle.mdl_steps.specs.declared.view.Keys.{Keys}
-use Rattle.mdl_steps.specs.SeatStates.{AtItsTable, SeatState}
-use Rattle.mdl_steps.specs.Seats.{HasDirectory}
-use Rattle.mdl_visits.specs.declared.resolve_error.ResolveError.{ResolveError}
-use Rattle.mdl_visits.specs.Lookups.{HasLooked}
-use Rattle.mdl_visits.proofs.Lookups.{answered, idle_then, knows_nothing, knows_one, looked, may_inform_looked}
+use Rattle.mdl_visits.proofs.Lemmas.{AtItsTable, Err, HasDirectory, HasLooked, Keys, Ok, ResolveError, SeatState, answered, idle_then, knows_nothing, knows_one, looked, may_inform_looked, refl, subst, ℕ}
 use Rattle.mdl_visits.proofs.calls.resolve.resolve.Goals as goal
 
 pub put_directory-requires : goal.put_directory-requires

@@ -1,13 +1,6 @@
 -- Each book is added under its latch, whose record stays until the latches of the places behind it are given back.
 use Rattle.std.proofs.Common.{◌<◌, refl, ap, ◌∙◌, arith, rules}
-use Rattle.std.proofs.lemmas.Result.{IfOk-weaker}
-use Rattle.mdl_steps.specs.Plays.{Mine}
-use Rattle.mdl_steps.specs.SeatStates.{SeatState}
-use Rattle.mdl_visits.proofs.Gathering.{back, carried_there, may_put, may_take_more}
-use Rattle.mdl_visits.proofs.Holding.{ends_more, finds_here}
-use Rattle.mdl_visits.proofs.Searching.{ended_here, ends_still, has_taken_more, may_put_still, none_taken, put_still, refused_still, same_search, sees_none_here}
-use Rattle.mdl_visits.proofs.Seats.{mine, place_there, table_of}
-use Rattle.mdl_visits.proofs.Words.{reads_none}
+use Rattle.mdl_visits.proofs.Lemmas.{IfOk-weaker, Mine, SeatState, back, carried_there, ended_here, ends_more, ends_still, finds_here, has_taken_more, may_put, may_put_still, may_take_more, mine, none_taken, place_there, put_still, reads_none, refused_still, same_search, sees_none_here, table_of}
 use Rattle.mdl_visits.proofs.calls.search.+search_from.Goals as goal
 
 pub add_to_graph-requires : goal.add_to_graph-requires

@@ -1,12 +1,5 @@
 -- All of it happens while the directory's latch is held, by the keys that its record has.
-use Rattle.std.proofs.Common.{true, refl, sym, ap, ◌∙◌}
-use Rattle.std.proofs.lemmas.Result.{IfOk-weaker, on_err_weaker}
-use Rattle.mdl_steps.specs.SeatStates.{SeatState}
-use Rattle.mdl_visits.specs.Searches.{but_searching, searches_after}
-use Rattle.mdl_visits.proofs.Deadlocks.{built_of_none}
-use Rattle.mdl_visits.proofs.Holding.{in_hand, may_inform, reads_all, searched, took_directory}
-use Rattle.mdl_visits.proofs.Outcomes.{knows_on}
-use Rattle.mdl_visits.proofs.Searching.{has_taken_none, informed_still, known_taken, may_inform_still, searched_still, took_still}
+use Rattle.mdl_visits.proofs.Lemmas.{IfOk-weaker, SeatState, ap, built_of_none, but_searching, has_taken_none, in_hand, informed_still, known_taken, knows_on, may_inform, may_inform_still, on_err_weaker, reads_all, refl, searched, searched_still, searches_after, sym, took_directory, took_still, true, ◌∙◌}
 use Rattle.mdl_visits.proofs.calls.search.search_deadlock.Goals as goal
 
 pub search_from-outcome-requires-clause-taken : goal.search_from-outcome-requires-clause-taken

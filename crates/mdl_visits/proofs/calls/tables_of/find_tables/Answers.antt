@@ -1,14 +1,7 @@
 -- The tables are those of the directory's record, and the session knows them as its latch is given back.
 use Rattle.std.proofs.Common.{◌≡◌, ℕ, List, [], refl, sym, ap, ◌∙◌, subst}
-use Rattle.mdl_key.specs.declared.known_key.KnownKey.{KnownKey}
-use Rattle.mdl_steps.specs.Plays.{Mine, informed}
-use Rattle.mdl_steps.specs.Schemas.{StandThere, unknown}
-use Rattle.mdl_steps.specs.Seats.{HasDirectory}
-use Rattle.mdl_visits.specs.Visits.{and_made}
-use Rattle.mdl_visits.proofs.Listing.{all_stand, all_within, knows_no_more, knows_tables, told_after, took_directory}
-use Rattle.mdl_visits.proofs.Lookups.{has_taken}
-use Rattle.mdl_visits.proofs.Seats.{mine, table_of}
-use Rattle.mdl_visits.proofs.Sorting.{are_tables}
+use Rattle.mdl_visits.proofs.Lemmas.{HasDirectory, KnownKey, Mine, StandThere, all_stand, all_within, and_made, are_tables, has_taken, informed, knows_no_more, knows_tables, mine, table_of, told_after, unknown}
+use Rattle.mdl_visits.proofs.Listing.{took_directory}
 use Rattle.mdl_visits.proofs.calls.tables_of.find_tables.Goals as goal
 
 pub put_directory_telling-requires : goal.put_directory_telling-requires

@@ -1,9 +1,6 @@
 -- What was found stood in the book that was met under the latch.
-use Rattle.std.proofs.Common.{refl, sym}
-use Rattle.mdl_steps.specs.SeatStates.{SeatState}
-use Rattle.mdl_steps.proofs.Views.{held_at-first}
-use Rattle.mdl_visits.specs.Tables.{MeetsDefinition}
-use Rattle.mdl_visits.proofs.Gathering.{as_reads, back_steps, carried_there, gives_back, may_put, no_steps}
+use Rattle.mdl_visits.proofs.Lemmas.{MeetsDefinition, SeatState, as_reads, back_steps, carried_there, held_at-first, may_put, no_steps, refl, sym}
+use Rattle.mdl_visits.proofs.Gathering.{gives_back}
 use Rattle.mdl_visits.proofs.calls.tables_of.is_defined.Goals as goal
 
 pub has_definition-defined-requires : goal.has_definition-defined-requires

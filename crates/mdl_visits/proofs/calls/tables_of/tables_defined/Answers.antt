@@ -1,11 +1,6 @@
 -- The next table was asked, too.
 use Rattle.std.proofs.Common.{◌≡◌, ℕ, ◌+◌, ◌<◌, List, [], ◌∷◌, ◌++◌, length, take, sym, ap, ◌∙◌, subst, arith}
-use Rattle.std.proofs.lemmas.List.{take_more}
-use Rattle.mdl_key.specs.declared.known_key.KnownKey.{KnownKey}
-use Rattle.mdl_steps.specs.Plays.{Mine}
-use Rattle.mdl_visits.specs.Tables.{Asked, HasAsked, WasAsked}
-use Rattle.mdl_visits.proofs.Asking.{asked_more}
-use Rattle.mdl_visits.proofs.Gathering.{quiet_steps_on}
+use Rattle.mdl_visits.proofs.Lemmas.{Asked, HasAsked, KnownKey, Mine, WasAsked, asked_more, quiet_steps_on, take_more}
 use Rattle.mdl_visits.proofs.calls.tables_of.tables_defined.Goals as goal
 
 pub loop-table-preserved : goal.loop-table-preserved

@@ -1,9 +1,6 @@
 -- The tables so far were asked, and there is room for the others.
 use Rattle.std.proofs.Common.{◌+◌, ◌-◌, ◌≤◌, length, take}
-use Rattle.std.specs.Vec.{vec_capacity, vec_len}
-use Rattle.mdl_steps.specs.SeatStates.{AtItsTable}
-use Rattle.mdl_visits.specs.Tables.{HasAsked}
-use Rattle.mdl_visits.specs.Visits.{MakesQuietSteps}
+use Rattle.mdl_visits.proofs.Lemmas.{AtItsTable, HasAsked, MakesQuietSteps, vec_capacity, vec_len}
 use Rattle.mdl_visits.proofs.calls.tables_of.tables_defined.Given as goal
 
 abbrev pub invariant-loop-table : goal.invariant-loop-table

@@ -1,12 +1,10 @@
 -- The ticket was granted after tries that missed, the flag OBTRUSIVE was up, or each try missed.
 use Rattle.std.proofs.Common.{◌≡◌, sym, ap, ◌∙◌, subst}
 use Rattle.mdl_word.specs.declared.word.Word.{Word}
-use Rattle.mdl_word.specs.Words.{obtrusive_flag}
-use Rattle.mdl_visits.specs.declared.calls.try_fast.FastTried.TheVariants.{Obtruded}
-use Rattle.mdl_visits.specs.FastTries.{FindsObtrusive}
+use Rattle.mdl_visits.proofs.Lemmas.{FindsObtrusive, mine, obtrusive_flag, place_there, table_of}
 use Rattle.mdl_visits.proofs.FastTrying.{first_miss, grants_at_last, grants_fast, grants_first, lasts_first, may_again, missed_again, stays_first, stays_granted, stays_missed}
-use Rattle.mdl_visits.proofs.Seats.{mine, place_there, table_of}
 use Rattle.mdl_visits.proofs.calls.try_fast.try_fast.Goals as goal
+use Rattle.mdl_visits.specs.declared.calls.try_fast.FastTried.TheVariants.{Obtruded}
 
 -- ---- the first one
 

@@ -1,9 +1,5 @@
 -- What came of the wish at the place is told of the seat as it was before.
-use Rattle.std.proofs.Common.{Bool, ap, subst, sym, ◌∙◌}
-use Rattle.mdl_steps.specs.Plays.{Mine}
-use Rattle.mdl_steps.specs.SeatStates.{SeatState}
-use Rattle.mdl_visits.specs.Visits.{IsVisit, StaysWithin}
-use Rattle.mdl_visits.proofs.Trying.{blocked, rested, still_entered, visit_entered}
+use Rattle.mdl_visits.proofs.Lemmas.{Bool, IsVisit, Mine, SeatState, StaysWithin, ap, blocked, rested, still_entered, subst, sym, visit_entered, ◌∙◌}
 use Rattle.mdl_visits.proofs.calls.try_now.try_now.Goals as goal
 
 pub enter-requires : goal.enter-requires

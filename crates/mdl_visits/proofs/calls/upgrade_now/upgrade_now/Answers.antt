@@ -1,10 +1,7 @@
 -- The ticket stands in the book that is met under the latch, so its mode is written where the wish can be granted.
 use Rattle.std.proofs.Common.{true, [], ◌∷◌, refl, sym, subst, ◌∙◌}
-use Rattle.mdl_steps.specs.declared.deed.Deed.TheVariants.{Alter}
-use Rattle.mdl_steps.specs.SeatStates.{SeatState}
-use Rattle.mdl_visits.specs.Visits.{StaysWithin}
-use Rattle.mdl_visits.proofs.Seats.{place_there, table_of}
-use Rattle.mdl_visits.proofs.Trying.{altered, blocked, entered_holds, granted, ready_altered, rested, still_entered, told_here, visit_entered, visit_written}
+use Rattle.mdl_visits.proofs.Lemmas.{Alter, SeatState, StaysWithin, blocked, entered_holds, granted, place_there, ready_altered, rested, still_entered, table_of, told_here, visit_entered, visit_written}
+use Rattle.mdl_visits.proofs.Trying.{altered}
 use Rattle.mdl_visits.proofs.calls.upgrade_now.upgrade_now.Goals as goal
 
 pub enter-requires : goal.enter-requires

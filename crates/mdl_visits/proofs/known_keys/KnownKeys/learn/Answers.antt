@@ -1,11 +1,6 @@
 -- The next key is the first of those that are left.
 use Rattle.std.proofs.Common.{◌≡◌, ◌<◌, ℕ, ◌∷◌, [], ◌++◌, List, length, sym, ap, ◌∙◌, append_assoc, subst, arith}
-use Rattle.std.specs.Vec.Iter.{into_iter_items}
-use Rattle.std.proofs.lemmas.List.Elements.{All-filter, All-tail}
-use Rattle.mdl_key.specs.declared.known_key.KnownKey.{KnownKey}
-use Rattle.mdl_steps.specs.Schemas.{unknown}
-use Rattle.mdl_key.specs.KeyLookups.{are_apart}
-use Rattle.mdl_visits.specs.Tables.{AreWithin}
+use Rattle.mdl_visits.proofs.Lemmas.{All-filter, All-tail, AreWithin, KnownKey, are_apart, into_iter_items, unknown}
 use Rattle.mdl_visits.proofs.KeyLists.{next_new}
 use Rattle.mdl_visits.proofs.known_keys.KnownKeys.learn.Goals as goal
 

@@ -1,8 +1,6 @@
 -- The keys so far and those that are left are all of them, and there is room for what is left.
 use Rattle.std.proofs.Common.{◌≡◌, ◌++◌, ◌≤◌, length}
-use Rattle.std.specs.Vec.Iter.{into_iter_items}
-use Rattle.mdl_steps.specs.Schemas.{unknown}
-use Rattle.mdl_visits.specs.Tables.{AreWithin}
+use Rattle.mdl_visits.proofs.Lemmas.{AreWithin, into_iter_items, unknown}
 use Rattle.mdl_visits.proofs.known_keys.KnownKeys.learn.Given as goal
 
 abbrev pub invariant-loop-table : goal.invariant-loop-table

@@ -1,6 +1,5 @@
 -- The new key is the last, and its index and its kind stand under its place.
-use Rattle.std.proofs.Common.{◌≡◌, ◌<◌, ◌≤◌, ℕ, rules, [], ◌∷◌, ◌++◌, Some, length, subst, sym, arith}
-use Rattle.std.proofs.lemmas.List.{length-set}
+use Rattle.std.proofs.Common.{◌≡◌, ◌<◌, ◌≤◌, ℕ, rules, [], ◌∷◌, ◌++◌, Some, length, subst, sym, arith, length-set}
 use Rattle.mdl_visits.proofs.KeyLists.{fewer_keys, indexed_more, inserted, kinds_more}
 use Rattle.mdl_visits.proofs.known_keys.KnownKeys.push_reserved.Goals as goal
 
