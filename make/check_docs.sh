@@ -30,7 +30,7 @@ library_crates() {
 
 # The files of definitions, as CRATE/specs/NAME: all except those that only gather others.
 spec_files() {
-    grep -L '^-- The words of this crate for those above it' crates/*/specs/*.antt \
+    grep -lvE '^(--|$|(unfoldable )?pub use )' crates/*/specs/*.antt \
         | sed -n '/\/Lib\.antt$/d; /\/Tests\.antt$/d; s|^crates/\(.*\)\.antt$|\1|p'
 }
 
