@@ -43,7 +43,7 @@ BARS = {
     "clause lines a function, mdl_visits": 3.5,
     "repeated clauses, mdl_shared, %": 21,
     "repeated clauses, mdl_visits, %": 16,
-    "(definitions + proofs) / code": 5.9,
+    "(definitions + proofs) / code": 5.6,
 }
 
 CRATES = pathlib.Path("crates")
