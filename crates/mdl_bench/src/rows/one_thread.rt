@@ -11,20 +11,20 @@ use crate::work::Work::{Crowds, Ends, Keys, Plays, Shared, Versions};
 
 /// The rows of the table that threads share, on one thread.
 pub const ONE_THREAD: &[Row] = &[
-    Row(PAIRS, &[Goal(0, 2, 210), Goal(1, 2, 210), Goal(3, 0, 280)]),
+    Row(PAIRS, &[Goal(0, 2, 170), Goal(1, 2, 170), Goal(3, 0, 280)]),
     Row(
         TRANSACTIONS,
-        &[Goal(0, 2, 210), Goal(1, 2, 500), Goal(3, 2, 380)],
+        &[Goal(0, 2, 170), Goal(1, 2, 500), Goal(3, 2, 380)],
     ),
-    Row(EXCLUSIVE, &[Goal(0, 1, 260)]),
+    Row(EXCLUSIVE, &[Goal(0, 1, 250)]),
     Row(GRANTS, &[Goal(1, 2, 300), Goal(1, 0, 900)]),
     Row(PASSES, &[]),
     Row(
         AGAIN,
         &[
-            Goal(0, 1, 300),
-            Goal(2, 3, 300),
-            Goal(4, 5, 300),
+            Goal(0, 1, 200),
+            Goal(2, 3, 200),
+            Goal(4, 5, 200),
             Goal(4, 0, 120),
         ],
     ),

@@ -9,7 +9,7 @@ use crate::work::Work::{Alters, Plays, Processors, Through};
 
 /// The rows of the table that threads share, on several threads.
 pub const THREADS: &[Row] = &[
-    Row(HOT, &[Goal(0, 1, 140), Goal(2, 3, 140)]),
+    Row(HOT, &[Goal(0, 1, 120), Goal(2, 3, 120)]),
     Row(OWN, &[Goal(1, 0, 120), Goal(3, 2, 120)]),
     Row(CROWDS, &[Goal(0, 1, 170)]),
     Row(CONTEXTS, &[]),
