@@ -222,6 +222,7 @@ int main(void)
         {"a_pair", "mdl_c_locked_sr", mdl_c_locked_sr}, {"a_pair", "server_sr", server_sr}, {"a_pair", "pthread_mutex", mutex},
         {"a_pair", "mdl_c_locked_x", mdl_c_locked_x},   {"a_pair", "server_x", server_x},   {"c_transaction", "mdl_c_locked", mdl_c_locked_transaction},
         {"c_transaction", "mdl_c_locked_context", mdl_c_locked_context}, {"c_transaction", "server", server_transaction}};
+    have_threads();
     prepare();
     for (size_t i = 0; i < sizeof alone / sizeof alone[0]; i += 1)
         tell(&alone[i], 1);

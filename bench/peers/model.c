@@ -522,6 +522,7 @@ static void check_end(void)
 int main(int count, char **arguments)
 {
     bool quick = count > 1 && strcmp(arguments[1], "quick") == 0;
+    have_threads();
     make_all();
     for (unsigned i = 0; i < COUNT_OF(rows); i += 1)
         time_row(rows[i].figures, rows[i].count, quick);

@@ -30,6 +30,20 @@ static inline void fail(const char *why)
     exit(1);
 }
 
+static inline void *come_and_go(void *unused)
+{
+    return unused;
+}
+
+/* Starts a thread and waits for its end. A server has threads, so it takes a mutex by an atomic step. In a process that never had a second thread the C
+   library takes it by a plain store. */
+static inline void have_threads(void)
+{
+    pthread_t thread;
+    if (pthread_create(&thread, NULL, come_and_go, NULL) != 0 || pthread_join(thread, NULL) != 0)
+        fail("a thread can't be started and joined");
+}
+
 static inline double now(void)
 {
     struct timespec at;
