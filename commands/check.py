@@ -34,11 +34,11 @@ TAKEN = [
     ("lock", "1 IX\n", 1, "", "line 1: BadWord\n"),
     ("lock --scoped", "1 SR\n", 1, "", "line 1: BadWord\n"),
     ("replay", "1 SR\n", 1, "", "line 1: BadWord\n"),
-    ("run", "1 SELECT t\n65 BEGIN\n", 1, "", "line 2: BadSession\n"),
+    ("run", "1 SELECT t\n0 BEGIN\n", 1, "", "line 2: BadSession\n"),
     ("--version", "", 0, f"mdlsim {VERSION}\n", ""),
     # The other examples of docs/mdlsim.1.
     ("lock", "1 SRO\n2 SW\n1 RELEASE\n", 0, "1 GRANTED SRO\n2 WAITS SW\n1 RELEASED SRO\n2 GRANTED SW\n", ""),
-    ("replay", "1 BEGIN\n65 BEGIN\n", 1, "", "line 2: BadSession\n"),
+    ("replay", "1 BEGIN\n0 BEGIN\n", 1, "", "line 2: BadSession\n"),
 ]
 
 # Ways to say how often a statement that waits looks again, and how many definitions a session keeps. The contract of `command` says which numbers are

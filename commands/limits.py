@@ -4,7 +4,9 @@ a program that reports a lack of memory is wrong, although no contract rules it 
 import itertools
 import subprocess
 
-OTHERS = range(2, 65)
+from sizes import MOST_SESSIONS
+
+OTHERS = range(2, MOST_SESSIONS + 1)
 LONG_NAME = "abcdefghijklmnopqrstuvwxyz_abcdefghijklmnopqrstuvwxyz_12345"
 
 
@@ -26,7 +28,7 @@ def waits():
     script = ["1 CREATE TABLE t x", "1 BEGIN", "1 SELECT t", *by_others("DROP TABLE t")]
     answers = ["1 1 OK", "2 1 OK", "3 1 OK test.t@1(x)", *(f"{who + 2} {who} WAIT TABLE test.t X" for who in OTHERS)]
     yield script, [*answers, *(f"END {it} WAIT" for it in OTHERS)]
-    yield [*script, "1 COMMIT"], [*answers, "67 1 OK", "4 2 OK", *(f"{who + 2} {who} ERR 1146" for who in OTHERS if who > 2)]
+    yield [*script, "1 COMMIT"], [*answers, f"{MOST_SESSIONS + 3} 1 OK", "4 2 OK", *(f"{who + 2} {who} ERR 1146" for who in OTHERS if who > 2)]
 
 
 def columns():
@@ -87,7 +89,7 @@ def rounds():
 
 
 def all_sessions():
-    """63 sessions wait for the first and are granted, and the first is granted beside them. Then 63 wait again, and time out."""
+    """All other sessions wait for the first and are granted, and the first is granted beside them. Then the others wait again, and time out."""
     script = ["1 X", *by_others("SR"), "1 RELEASE", "1 SR", "1 RELEASE", *by_others("RELEASE"), "1 X", *by_others("X"), *by_others("TIMEOUT")]
     answers = ["1 GRANTED X", *by_others("WAITS SR"), "1 RELEASED X", *by_others("GRANTED SR"), "1 GRANTED SR", "1 RELEASED SR"]
     yield script, [*answers, *by_others("RELEASED SR"), "1 GRANTED X", *by_others("WAITS X"), *by_others("TIMEDOUT X")]

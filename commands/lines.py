@@ -2,8 +2,11 @@
 
 import subprocess
 
+from sizes import MOST_SESSIONS
+
 TABLES = b" ".join(b"t%d" % it for it in range(9))
 COLUMNS = b" ".join(b"c%d" % it for it in range(65))
+BEYOND = b"%d" % (MOST_SESSIONS + 1)
 
 # Lines that are refused in scripts of any language.
 REFUSED = [
@@ -13,7 +16,7 @@ REFUSED = [
     (b"#\x80", "NotAscii"),
     (b"0\xff", "NotAscii"),
     (b" # x", "BadSession"),
-    *((it + rest, "BadSession") for rest in (b" BEGIN", b" X", b"") for it in (b"0", b"01", b"+1", b"-1", b"65", b"9" * 20, b"1.", b"\x00")),
+    *((it + rest, "BadSession") for rest in (b" BEGIN", b" X", b"") for it in (b"0", b"01", b"+1", b"-1", BEYOND, b"9999", b"9" * 20, b"1.", b"\x00")),
     (b"1", "BadWord"),
     (b"1 \t", "BadWord"),
     (b"1 begin", "BadWord"),
@@ -21,7 +24,7 @@ REFUSED = [
 ]
 # Lines that are refused in scripts of statements.
 STATEMENTS = [
-    *((b"1 KILL QUERY " + it, "BadSession") for it in (b"0", b"01", b"+1", b"65", b"18446744073709551617")),
+    *((b"1 KILL QUERY " + it, "BadSession") for it in (b"0", b"01", b"+1", BEYOND, b"10000", b"18446744073709551617")),
     *((it, "BadWord") for it in (b"1 SELECT", b"1 CREATE TABLE t", b"1 LOCK TABLES a WRITE b", b"1 X")),
     *((it, "BadWord") for it in (b"1 BEGIN\r\r", b"1 BEGIN\x0b", b"1 BEGIN\x00")),
     (b"1 SELECT " + TABLES, "BadWord"),

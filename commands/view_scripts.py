@@ -3,14 +3,17 @@ there, or the line is complete."""
 
 import subprocess
 
+from sizes import MOST_SESSIONS
+
 MISSING = b"a word is missing behind it\n"
+BEYOND = b"%d" % (MOST_SESSIONS + 1)
+NO_SESSION = b'is no session: sessions are 1 to %d\n' % MOST_SESSIONS
 
 # A script, and what is reported of its refused line.
 REFUSED = [
     (b"# names\n\n1 SELECT Orders\n", b'line 3, word 3: "Orders" is no name: names have a-z, 0-9 and _\n'),
-    (b"1 BEGIN\n65 BEGIN\n", b'line 2, word 1: "65" is no session: sessions are 1 to 64\n'),
-    (b"1 BEGIN\r\n65 BEGIN\r\n", b'line 2, word 1: "65" is no session: sessions are 1 to 64\n'),
-    (b"1 KILL QUERY 0", b'line 1, word 4: "0" is no session: sessions are 1 to 64\n'),
+    *((b"1 BEGIN%b%b BEGIN%b" % (end, BEYOND, end), b'line 2, word 1: "%b" %b' % (BEYOND, NO_SESSION)) for end in (b"\n", b"\r\n")),
+    (b"1 KILL QUERY 0", b'line 1, word 4: "0" ' + NO_SESSION),
     (b"1 SELCT t", b'line 1, word 2: "SELCT" can\'t stand here\n'),
     (b"1 BEGIN  now ", b'line 1, word 3: "now" can\'t stand here\n'),
     (b"1 ALTER TABLE t ADD c SLOWLY", b'line 1, word 7: "SLOWLY" can\'t stand here\n'),

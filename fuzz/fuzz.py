@@ -76,8 +76,8 @@ class Case:
 
     def most_memory(self, written):
         """Returns how many bytes of memory the run may take. The text doubles as it grows, and is copied then. There is a record for each line, which
-        has 8 bytes or more, and for each name, which has 2 with its space; these double too. The answers are kept as records and as text. At
-        most 256 keys and 64 sessions have a part of their own, and those of `run` a stack. An answer has at most 8 tables of 64 columns, some
+        has 8 bytes or more, and for each name, which has 2 with its space; these double too. The answers are kept as records and as text. Each
+        key and session that there can be has a part of its own, and the sessions of `run` a stack. An answer has at most 8 tables of 64 columns, some
         34,000 bytes, for a line of 24, so all this is linear in the script."""
         return 32 * MEGABYTE + 64 * len(self.script) + 4 * written
 

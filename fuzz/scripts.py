@@ -3,7 +3,7 @@
 import pathlib
 import re
 
-from language import MODES
+from language import MODES, MOST_SESSIONS
 
 TOP = pathlib.Path(__file__).resolve().parent.parent
 
@@ -137,7 +137,7 @@ def opening(chance, sessions, names):
 
 def by_chance(chance, language, count=None, sessions=None):
     """Returns a random script of valid lines, with few sessions and few names, so that these conflict."""
-    sessions = range(1, 1 + (sessions or chance.choice([1, 1, 2, 3, 3, 4, 5, 8, 64])))
+    sessions = range(1, 1 + (sessions or chance.choice([1, 1, 2, 3, 3, 4, 5, 8, MOST_SESSIONS])))
     names = [*"abcdefghijkl"[: chance.choice([2, 3, 4, 12])], *chance.choice([[], ["s.a", "s.b"]])]
     words = [*MODES[language].split(" "), "RELEASE", "RELEASE", "TIMEOUT"] if language in MODES else FORMS
     lines = opening(chance, sessions, names) if language not in MODES else []
@@ -172,9 +172,9 @@ def large(chance, language):
         tables = b"".join(b"1 CREATE TABLE %c %s\n" % (it, columns) for it in b"abcdefgh")
         return tables + b"1 SELECT a b c d e f g h\n" * chance.choice([1, 30, 600])
     if kind == 4:
-        return b"".join(b"%d SELECT t%d\n" % (chance.randrange(1, 65), it) for it in range(chance.choice([250, 255, 256, 300])))
+        return b"".join(b"%d SELECT t%d\n" % (chance.randrange(1, MOST_SESSIONS + 1), it) for it in range(chance.choice([250, 255, 256, 300])))
     if kind == 5:
-        waits = b"".join(b"%d DROP TABLE t\n" % it for it in range(2, 65))
+        waits = b"".join(b"%d DROP TABLE t\n" % it for it in range(2, MOST_SESSIONS + 1))
         return b"1 CREATE TABLE t x\n1 BEGIN\n1 SELECT t\n" + waits + chance.choice([b"", b"1 COMMIT\n", b"1 INSERT t\n"])
     return chance.choice([b"1 SELECT a b c d e f g h\n", b"1 BEGIN\n", b"1 SR\n", b"1 IX\n1 RELEASE\n"]) * chance.choice([1_000, 40_000])
 

@@ -20,7 +20,7 @@ alone() {
 }
 
 refuses_a_script() {
-    printf '1 BEGIN\n65 BEGIN\n' | alone bin/mdlsim replay > "$folder/written" 2> "$folder/told"
+    printf '1 BEGIN\n0 BEGIN\n' | alone bin/mdlsim replay > "$folder/written" 2> "$folder/told"
     [ $? -eq 1 ] && [ ! -s "$folder/written" ] && [ "$(cat "$folder/told")" = 'line 2: BadSession' ]
 }
 
@@ -49,7 +49,7 @@ for program in "$@"; do
     [ "$(alone "bin/$program" --version)" = "$program $version${commit:+ ($commit)}" ] || fail "$program --version doesn't print $version and $commit"
     renders "$program" || fail "man has complaints of share/man/man1/$program.1"
 done
-refuses_a_script || fail 'a script with a session 65 is not refused as it ought to be'
+refuses_a_script || fail 'a script with a session 0 is not refused as it ought to be'
 completes || fail "bash doesn't complete mdlsim run --p"
 builds one_thread mdl || fail 'examples/c/one_thread.c has other answers'
 builds text mdl_text || fail 'examples/c/text.c has other answers'

@@ -92,7 +92,7 @@ int main(int count, char **words)
         return 1;
     drive("the lock of a table", MDL_TEXT_OBJECT, "1 SR\n2 X\n1 RELEASE\n");
     drive("that of a schema", MDL_TEXT_SCOPED, "1 IX\n2 S\n");
-    drive("there is no session 65", MDL_TEXT_OBJECT, "1 SR\n65 X\n");
+    drive("there is no session 0", MDL_TEXT_OBJECT, "1 SR\n0 X\n");
     drive("a schema has no SR", MDL_TEXT_SCOPED, "1 SR\n");
     drive("there is no third kind", 2, "");
     refuse("no table", "1 BEGIN\n1 SELECT\n");

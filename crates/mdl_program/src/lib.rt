@@ -11,7 +11,7 @@
 //!
 //! let alloc = rt.alloc();
 //! let asked: Result<Run, KeyError> = Ok(Run::Replay);
-//! let mut input = b"1 BEGIN\n65 BEGIN\n".as_slice();
+//! let mut input = b"1 BEGIN\n0 BEGIN\n".as_slice();
 //! let mut output = Vec::new(alloc);
 //! let mut errors = Vec::new(alloc);
 //! let status = run_asked(&rt, alloc, &asked, &mut input, &mut output, &mut errors);
