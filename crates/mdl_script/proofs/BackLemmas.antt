@@ -8,6 +8,7 @@ use Rattle.std.proofs.lemmas.List.{map-append}
 use Rattle.std.proofs.lemmas.List.Elements.{All-append, All-contains, All-cons, All-head, All-map, All-nil, All-tail, Contains-append_cases, Contains-append_left, Contains-append_right, Contains-get_or, Contains-push_cases, filter_passes}
 use Rattle.std.proofs.lemmas.List.Sorted.{All-permutation, Contains-permutation, IsPermutation-append_comm, IsPermutation-cons, IsPermutation-map, IsPermutation-sym, IsPermutation-trans}
 use Rattle.atomic_table.specs.Seated.{TableId}
+use Rattle.mdl_key.specs.Words.{most_sessions}
 use Rattle.mdl_syntax.specs.declared.script.Line.{Line}
 use Rattle.mdl_shared.specs.declared.pass.Pass.{Pass}
 use Rattle.mdl_shared.specs.Passes.{pass_number, pass_table}
@@ -60,7 +61,7 @@ unfolding named_sessions
 sent-named options lines mine turns are sessions =
     sent-all (λ who. names_session lines who ≡ true) options lines mine turns are
     (all-before (λ (turn : SessionThread). turn.who) (λ who. names_session lines who ≡ true) turns
-    (subst (All (λ who. names_session lines who ≡ true)) (sym sessions) (filter_passes (names_session lines) (range_with_len 1 64))))
+    (subst (All (λ who. names_session lines who ≡ true)) (sym sessions) (filter_passes (names_session lines) (range_with_len 1 most_sessions))))
 
 -- ---- all of them
 

@@ -1,10 +1,11 @@
 -- The world at first: its sessions have nothing, and the space attends to them.
-use Rattle.std.proofs.Common.{◌≡◌, ℕ, zero, suc, ◌<◌, ◌≤◌, ◌+◌, ◌-◌, List, [], ◌∷◌, ◌++◌, length, get_or, map, None, refl, sym, ap, ◌∙◌, subst, arith}
-use Rattle.std.specs.Prelude.{replicate}
+use Rattle.std.proofs.Common.{◌≡◌, ℕ, zero, suc, ◌<◌, ◌≤◌, ◌+◌, ◌-◌, false, List, [], ◌∷◌, ◌++◌, length, get_or, map, None, refl, sym, ap, ◌∙◌, subst, arith}
+use Rattle.std.specs.Prelude.{is_some, replicate}
 use Rattle.std.specs.List.{range_with_len}
 use Rattle.std.proofs.lemmas.List.Elements.{All-nil}
-use Rattle.std.proofs.lemmas.List.FromFn.{length-map-range_with_len}
+use Rattle.std.proofs.lemmas.List.FromFn.{get_or-map-range_with_len, length-map-range_with_len}
 use Rattle.mdl_calls.specs.Words.{SessionLocks}
+use Rattle.mdl_key.specs.Words.{most_sessions}
 use Rattle.mdl_core.specs.Seats.{SeatView, empty_seat, locks_of_seat}
 use Rattle.mdl_core.specs.Words as core
 use Rattle.mdl_core.specs.Words.{Core, SpeaksFor, locks_at}
@@ -13,8 +14,9 @@ use Rattle.mdl_context.specs.Contexts.{Attends}
 use Rattle.mdl_script.specs.declared.play.Play.{Play}
 use Rattle.mdl_script.specs.declared.play.Player as kept
 use Rattle.mdl_script.specs.Plays.{AreSeated, IsManned, new_player, numbered_player}
-use Rattle.mdl_script.specs.Worlds.{World, first_core, first_world, sessions, unasked_player, waiting_in}
-use Rattle.mdl_script.proofs.PlayLemmas.{SpeakForAll}
+use Rattle.mdl_script.specs.Worlds.{World, first_core, first_world, session_waits, sessions, unasked_player, waiting_in}
+use Rattle.mdl_script.proofs.ListLemmas.{filter-none}
+use Rattle.mdl_script.proofs.PlayLemmas.{SpeakForAll, waits-at}
 
 -- ---- players
 
@@ -30,9 +32,9 @@ new-more players who least so =
     ap (λ xs. xs ++ new_player who ∷ []) so ∙ map-more new_player 1 (who - 1) who (omega (arith, least)) ∙ ap (λ n. map new_player (range_with_len 1 n)) count
 
 -- all of them
-pub new-all : (players : List kept.Player) (who : ℕ) → 65 ≤ who → who ≤ 65 → players ≡ map new_player (range_with_len 1 (who - 1)) → players ≡ map new_player sessions
+pub new-all : (players : List kept.Player) (who : ℕ) → most_sessions + 1 ≤ who → who ≤ most_sessions + 1 → players ≡ map new_player (range_with_len 1 (who - 1)) → players ≡ map new_player sessions
 unfolding sessions
-new-all players who least most so = let same : who - 1 ≡ 64 = omega (arith, least, most) in so ∙ ap (λ n. map new_player (range_with_len 1 n)) same
+new-all players who least most so = let same : who - 1 ≡ most_sessions = omega (arith, least, most) in so ∙ ap (λ n. map new_player (range_with_len 1 n)) same
 
 -- ---- the space at first
 
@@ -53,12 +55,12 @@ fresh-at [] i fresh = refl
 fresh-at (seat ∷ seats) zero fresh = fresh.0
 fresh-at (seat ∷ seats) (suc i) fresh = fresh-at seats i fresh.1
 
-first-seats : first_core.seats ≡ record { held = []; wait = None; last_ticket = 1; last_wait = 0 } ∷ replicate 63 empty_seat
+first-seats : first_core.seats ≡ record { held = []; wait = None; last_ticket = 1; last_wait = 0 } ∷ replicate (most_sessions - 1) empty_seat
 unfolding core.admitting_up_to
 first-seats = refl
 
 first-own : (who : ℕ) → locks_at first_core who ≡ nothing
-first-own who = fresh-at first_core.seats (who - 1) (subst AreFresh (sym first-seats) (refl, fresh-replicate 63))
+first-own who = fresh-at first_core.seats (who - 1) (subst AreFresh (sym first-seats) (refl, fresh-replicate (most_sessions - 1)))
 
 -- ---- they are seated
 
@@ -83,16 +85,26 @@ players-first a (suc n) = ap (λ xs. unasked_player a ∷ xs) (players-first (a 
 pub first-of : (core : Core) (players : List kept.Player) → core ≡ first_core → players ≡ map new_player sessions
     → let world : World = record { core = core; players = map numbered_player players } in world ≡ first_world
 unfolding sessions
-first-of core players space all = rw (space, all) (ap (λ ps. let world : World = record { core = first_core; players = ps } in world) (players-first 1 64))
+first-of core players space all = rw (space, all) (ap (λ ps. let world : World = record { core = first_core; players = ps } in world) (players-first 1 most_sessions))
+
+-- none of so many sessions waits
+none-waits : (core : Core) (n who : ℕ) → 1 ≤ who → who < 1 + n
+    → session_waits (record { core = core; players = map numbered_player (map new_player (range_with_len 1 n)) }) who ≡ false
+none-waits core n who least most =
+    waits-at core (map new_player (range_with_len 1 n)) who (new_player who) least (omega (arith, most, length-map-range_with_len new_player 1 n))
+    ∙ ap (λ (player : kept.Player). is_some player.runner.work)
+    (get_or-map-range_with_len new_player 1 n (who - 1) who (new_player who) (omega (arith, least, most)) (omega (arith, least)))
 
 nobody-waits : (core : Core) → let world : World = record { core = core; players = map numbered_player (map new_player sessions) } in waiting_in world ≡ []
 unfolding sessions
-nobody-waits core = refl
+nobody-waits core =
+    let world : World = record { core = core; players = map numbered_player (map new_player (range_with_len 1 most_sessions)) } in
+    filter-none (session_waits world) 1 most_sessions (none-waits core most_sessions)
 
 pub first-manned : (play : Play) → play.space ≡ first_core → SpeakForAll play.space → play.players.items ≡ map new_player sessions → play.waiting.items ≡ [] → IsManned play
 unfolding sessions
 first-manned play space speaks all none = record {
-  all = ap length all ∙ length-map-range_with_len new_player 1 64;
-  seated = subst (AreSeated play.space 1) (sym all) (seated-first play.space 1 64 (λ who least most. speaks who least (omega arith)) (λ who. ap (λ core. locks_at core who) space ∙ first-own who));
+  all = ap length all ∙ length-map-range_with_len new_player 1 most_sessions;
+  seated = subst (AreSeated play.space 1) (sym all) (seated-first play.space 1 most_sessions (λ who least most. speaks who least (omega arith)) (λ who. ap (λ core. locks_at core who) space ∙ first-own who));
   waiting = none ∙ sym (ap (λ ps. let world : World = record { core = play.space; players = map numbered_player ps } in waiting_in world) all ∙ nobody-waits play.space);
 }

@@ -86,6 +86,14 @@ first-or-len p xs = by (leb_tells (suc (position_or_len p xs)) (length xs)) wher
   by (inl inside) = rw inside.0 refl
   by (inr past) = rw past.0 (omega (arith, past.1, prefix_len-le-length (λ x. not (p x)) xs))
 
+-- where none passes, nothing is left
+pub filter-none : (p : ℕ → Bool) (a n : ℕ) → ((k : ℕ) → a ≤ k → k < a + n → p k ≡ false) → filter p (range_with_len a n) ≡ []
+filter-none p a zero none = refl
+filter-none p a (suc n) none =
+    let rest = filter-none p (a + 1) n (λ k least most. none k (omega arith) (omega arith)) in
+    let here = none a (omega arith) (omega arith) in
+    rw (here, rest) refl
+
 -- what is so of all numbers is so of those that pass
 pub All-filter_range : (P : ℕ → Type 0) (p : ℕ → Bool) (a n : ℕ) → ((k : ℕ) → a ≤ k → k < a + n → p k ≡ true → P k) → All P (filter p (range_with_len a n))
 All-filter_range P p a zero each = All-nil P

@@ -7,6 +7,7 @@ use Rattle.std.proofs.lemmas.Bool.Decides.{Decides-eqb}
 use Rattle.std.proofs.lemmas.List.Elements.{All-cons, All-from_get_or, All-nil}
 use Rattle.std.proofs.lemmas.List.Folds.{list_any_at}
 use Rattle.atomic_table.specs.Seated.{TableId}
+use Rattle.mdl_key.specs.Words.{most_sessions}
 use Rattle.mdl_syntax.specs.declared.script.Line.{Line}
 use Rattle.mdl_shared.specs.declared.pass.Pass.{Pass}
 use Rattle.mdl_shared.specs.Passes.{ArePasses, IsPass, pass_number, pass_table}
@@ -36,12 +37,12 @@ pass-there table passes d who are least within =
     list_any_at (λ (pass : Pass). pass_number pass == who) passes (who - 1) d within ((Decides-eqb (pass_number (get_or passes (who - 1) d)) who).1 (number ∙ same))
 
 -- so each session that a script names has one
-pub all-there : (table : TableId) (passes : List Pass) (lines : List Line) → ArePasses table passes → length passes ≡ 64
+pub all-there : (table : TableId) (passes : List Pass) (lines : List Line) → ArePasses table passes → length passes ≡ most_sessions
     → All (λ who. has_pass passes who ≡ true) (named_sessions lines)
 unfolding named_sessions
 all-there table [] lines are many = absurd (cc)
 all-there table (p ∷ ps) lines are many =
-    all-of-range (λ who. has_pass (p ∷ ps) who ≡ true) (names_session lines) 1 64 (λ x least most. pass-there table (p ∷ ps) p x are least (omega (arith, most, many)))
+    all-of-range (λ who. has_pass (p ∷ ps) who ≡ true) (names_session lines) 1 most_sessions (λ x least most. pass-there table (p ∷ ps) p x are least (omega (arith, most, many)))
 
 -- what is found at the first place is the first
 pub first-is : (passes : List Pass) (first : Pass) → 1 ≤ length passes → first ≡ get_or passes 0 first → slice_get passes 0 ≡ Some first

@@ -6,6 +6,7 @@ use Rattle.std.proofs.Math.Dec.{eqb}
 use Rattle.std.proofs.lemmas.Bool.Decides.{eqb_tells}
 use Rattle.std.proofs.lemmas.List.{get_or-map, get_or-set_other}
 use Rattle.mdl_calls.specs.Words.{Answer, Call, outcome_of}
+use Rattle.mdl_key.specs.Words.{most_sessions}
 use Rattle.mdl_core.specs.CoreCalls.{outcome}
 use Rattle.mdl_core.specs.Words.{Core, SpeaksFor}
 use Rattle.mdl_space.specs.CoreMembers.{core_space}
@@ -68,7 +69,7 @@ seated-then before after first (suc i) (y ∷ ys) x seated inside who attends le
 
 -- the space speaks for all
 abbrev pub SpeakForAll : Core → Type 0
-SpeakForAll core = (who : ℕ) → 1 ≤ who → who ≤ 64 → SpeaksFor core who
+SpeakForAll core = (who : ℕ) → 1 ≤ who → who ≤ most_sessions → SpeaksFor core who
 
 -- it goes on to
 pub still-speaks : (a b : Core) (call : Call) (answer : Answer) → SpeakForAll a → Joins a call answer b → SpeakForAll b
@@ -103,7 +104,7 @@ others-wait line who (pause, core) world w least positive other = waits-other wo
 pub waiting-same : (line who : ℕ) (so : Pause × Core) (world after : World) → IsScriptSession who → after ≡ (came line who so world).world
     → session_waits after who ≡ session_waits world who → waiting_in after ≡ waiting_in world
 unfolding sessions
-waiting-same line who so world after session left alike = filter-same (session_waits after) (session_waits world) 1 64 (λ w least most. by w least (eqb_tells w who)) where
+waiting-same line who so world after session left alike = filter-same (session_waits after) (session_waits world) 1 most_sessions (λ w least most. by w least (eqb_tells w who)) where
   by : (w : ℕ) → 1 ≤ w → ((eqb w who ≡ true) × (w ≡ who)) ⊎ ((eqb w who ≡ false) × (w ≢ who)) → session_waits after w ≡ session_waits world w
   by w least (inl same) = subst (λ k. session_waits after k ≡ session_waits world k) (sym same.1) alike
   by w least (inr other) = ap (λ v. session_waits v w) left ∙ others-wait line who so world w session.0 least other.1
@@ -113,7 +114,7 @@ pub waiting-noted : (line who : ℕ) (so : Pause × Core) (world after : World) 
     → session_waits world who ≡ false → session_waits after who ≡ true → waiting_in after ≡ insert (waiting_in world) (insertion_index who (waiting_in world)) who
 unfolding sessions
 waiting-noted line who so world after session left before now =
-    filter-noted (session_waits world) (session_waits after) who 1 64 (λ w least other. ap (λ v. session_waits v w) left ∙ others-wait line who so world w session.0 least other)
+    filter-noted (session_waits world) (session_waits after) who 1 most_sessions (λ w least other. ap (λ v. session_waits v w) left ∙ others-wait line who so world w session.0 least other)
     before now session.0 (omega (arith, session.1))
 
 -- it waits no more: it is struck
@@ -121,12 +122,12 @@ pub waiting-struck : (line who : ℕ) (so : Pause × Core) (world after : World)
     → session_waits after who ≡ false → waiting_in after ≡ filter (λ w. not (w == who)) (waiting_in world)
 unfolding sessions
 waiting-struck line who so world after session left now =
-    filter-struck (session_waits world) (session_waits after) who 1 64 (λ w least other. ap (λ v. session_waits v w) left ∙ others-wait line who so world w session.0 least other) now
+    filter-struck (session_waits world) (session_waits after) who 1 most_sessions (λ w least other. ap (λ v. session_waits v w) left ∙ others-wait line who so world w session.0 least other) now
 
 -- whoever waits is one of the sessions
 pub waiting-sessions : (P : ℕ → Type 0) (world : World) → ((who : ℕ) → IsScriptSession who → session_waits world who ≡ true → P who) → All P (waiting_in world)
 unfolding sessions
-waiting-sessions P world each = All-filter_range P (session_waits world) 1 64 (λ k least most waits. each k (least, omega arith) waits)
+waiting-sessions P world each = All-filter_range P (session_waits world) 1 most_sessions (λ k least most waits. each k (least, omega arith) waits)
 
 -- ---- a play after a turn of a session
 
@@ -136,7 +137,7 @@ world-same : (core after : Core) (players then_ : List kept.Player) → after �
 world-same core after players then_ cores same = rw (cores, same) refl
 
 -- only what is noted has changed, and that tells who waits
-pub manned-again : (play then_ : Play) → then_.space ≡ play.space → then_.players.items ≡ play.players.items → length play.players.items ≡ 64
+pub manned-again : (play then_ : Play) → then_.space ≡ play.space → then_.players.items ≡ play.players.items → length play.players.items ≡ most_sessions
     → AreSeated play.space 1 play.players.items → then_.waiting.items ≡ waiting_in (world_of play) → IsManned then_
 manned-again play then_ spaces players all seated waiting = record {
   all = ap length players ∙ all;

@@ -24,6 +24,7 @@ use Rattle.mdl_core.specs.Ties.{IsSoundCore}
 use Rattle.mdl_core.proofs.CoreSound.{empty-sound}
 use Rattle.mdl_core.proofs.RunOutcomes.{outcomes-are_runs}
 use Rattle.mdl_key.specs.Keys.{KeyName, schema_key}
+use Rattle.mdl_key.specs.Words.{most_places, most_sessions}
 use Rattle.mdl_lines.specs.declared.fault.LineError.{LineError}
 use Rattle.mdl_lines.specs.Sessions.{IsScriptSession}
 use Rattle.mdl_syntax.specs.declared.script.Line.{Line}
@@ -41,7 +42,7 @@ use Rattle.mdl_script.proofs.ListLemmas.{All-find}
 
 -- all sessions are there, each with its own number, and the space speaks for them
 pub record IsStaffed (world : World) : Type 0 where
-  pub all : length world.players ≡ 64
+  pub all : length world.players ≡ most_sessions
   pub named : (who : ℕ) → IsScriptSession who → (player_at who world).session.context.who ≡ who
   pub speaks : SpeakForAll world.core
 
@@ -155,20 +156,20 @@ made-at _ = tt
 pub made-creating : (schema : KeyName) → EachCall (IsMadeFor 1) (creating schema)
 made-creating schema = ((refl, refl), made-at)
 
-pub speak-empty : SpeakForAll (empty_core 256 64)
-speak-empty who least most = (grind (arith, nat_tests, length-replicate 64 empty_seat), empty-sound 256 64)
+pub speak-empty : SpeakForAll (empty_core most_places most_sessions)
+speak-empty who least most = (grind (arith, nat_tests, length-replicate most_sessions empty_seat), empty-sound most_places most_sessions)
 
 speak-first : SpeakForAll first_core
 speak-first who least most =
     let test = creating (schema_key (codes "test")) in
-    (outcomes-are_runs (Unit {0}) test (empty_core 256 64) 1 (speak-empty 1 (omega arith) (omega arith)) (made-creating (schema_key (codes "test")))).1 who (speak-empty who least most)
+    (outcomes-are_runs (Unit {0}) test (empty_core most_places most_sessions) 1 (speak-empty 1 (omega arith) (omega arith)) (made-creating (schema_key (codes "test")))).1 who (speak-empty who least most)
 
 pub staffed-first : IsStaffed first_world
 unfolding sessions
 staffed-first = record {
-  all = length-map-range_with_len unasked_player 1 64;
+  all = length-map-range_with_len unasked_player 1 most_sessions;
   named = λ who session. ap (λ (p : Player). p.session.context.who)
-      (get_or-map-range_with_len unasked_player 1 64 (who - 1) who (unasked_player who) (omega (arith, session.0, session.1)) (omega (arith, session.0)));
+      (get_or-map-range_with_len unasked_player 1 most_sessions (who - 1) who (unasked_player who) (omega (arith, session.0, session.1)) (omega (arith, session.0)));
   speaks = speak-first;
 }
 

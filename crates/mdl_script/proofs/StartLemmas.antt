@@ -8,6 +8,7 @@ use Rattle.std.specs.List.Sorted.{IsPermutation}
 use Rattle.std.proofs.lemmas.List.Sorted.{IsPermutation-append_right, IsPermutation-refl, IsPermutation-trans}
 use Rattle.mdl_syntax.specs.declared.script.Line.{Line}
 use Rattle.atomic_table.specs.Seated.{TableId}
+use Rattle.mdl_key.specs.Words.{most_sessions}
 use Rattle.mdl_shared.specs.declared.pass.Pass.{Pass}
 use Rattle.mdl_shared.specs.Passes.{pass_table}
 use Rattle.mdl_script.specs.declared.turns.SessionThread.{SessionThread}
@@ -49,9 +50,9 @@ all-passing P p a (suc n) x all is least most = by (λ later past. all-passing P
     ]
 
 -- what holds of all sessions that are named holds of each
-pub each_named : (P : ℕ → Type 0) (lines : List Line) (who : ℕ) → All P (named_sessions lines) → names_session lines who ≡ true → 1 ≤ who → who < 65 → P who
+pub each_named : (P : ℕ → Type 0) (lines : List Line) (who : ℕ) → All P (named_sessions lines) → names_session lines who ≡ true → 1 ≤ who → who < most_sessions + 1 → P who
 unfolding named_sessions
-each_named P lines who all is least most = all-passing P (names_session lines) 1 64 who all is least (omega (arith, most))
+each_named P lines who all is least most = all-passing P (names_session lines) 1 most_sessions who all is least (omega (arith, most))
 
 -- ---- turns
 
@@ -113,10 +114,10 @@ started_past options lines mine table all who turns passes was least unnamed = r
 
 -- all are, in the end
 pub started_all : (options : Options) (lines : List Line) (mine : ℕ) (table : TableId) (all : List Pass) (who : ℕ) (turns : List SessionThread) (passes : List Pass) →
-    AreStarted options lines mine table all who turns passes → 65 ≤ who → who ≤ 65 → map (λ (turn : SessionThread). turn.who) turns ≡ named_sessions lines
+    AreStarted options lines mine table all who turns passes → most_sessions + 1 ≤ who → who ≤ most_sessions + 1 → map (λ (turn : SessionThread). turn.who) turns ≡ named_sessions lines
 unfolding named_sessions
 started_all options lines mine table all who turns passes was least most =
-    let count : who - 1 ≡ 64 = omega (arith, least, most) in was.sessions ∙ ap (λ n. filter (names_session lines) (range_with_len 1 n)) count
+    let count : who - 1 ≡ most_sessions = omega (arith, least, most) in was.sessions ∙ ap (λ n. filter (names_session lines) (range_with_len 1 n)) count
 
 -- the same of what is the same
 pub started_as : (options : Options) (lines : List Line) (mine : ℕ) (table : TableId) (all : List Pass) (who : ℕ) (turns later : List SessionThread) (passes left : List Pass) →

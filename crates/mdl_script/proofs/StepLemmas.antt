@@ -9,6 +9,7 @@ use Rattle.mdl_space.specs.CoreMembers.{core_space}
 use Rattle.mdl_context.specs.Contexts.{LeavesOthers}
 use Rattle.mdl_context.specs.MemoryLaws.{IsSureUnless}
 use Rattle.mdl_lines.specs.Sessions.{IsScriptSession}
+use Rattle.mdl_key.specs.Words.{most_sessions}
 use Rattle.mdl_stmt.specs.declared.progress.Progress.{Progress}
 use Rattle.mdl_stmt.specs.declared.progress.Progress.TheVariants.{Waiting, Pending, Done}
 use Rattle.mdl_rows.specs.Endings.{Pause}
@@ -60,7 +61,7 @@ came-so core after players who line runner progress =
     (sym (map-set numbered_player players (who - 1) (record { runner = runner; line = line }))))
 
 pub stepped : (core after : Core) (players : List kept.Player) (who line : ℕ) (player d : kept.Player) (runner : RunnerView) (progress : Progress) (program : Session → Program Pause)
-    → IsScriptSession who → length players ≡ 64 → player ≡ get_or players (who - 1) d → ((session : Session) → IsSureUnless IsFault (program session))
+    → IsScriptSession who → length players ≡ most_sessions → player ≡ get_or players (who - 1) d → ((session : Session) → IsSureUnless IsFault (program session))
     → Runs Joins core (program (session_of player.runner)) (paused progress (session_of runner)) after
     → let world : World = record { core = core; players = map numbered_player players } in
     played line who (program (player_at who world).session) world ≡ after_step after players who line runner progress

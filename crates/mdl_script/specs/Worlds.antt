@@ -134,7 +134,7 @@ unfoldable pub continuing_settled : ℕ → World → Scene
 continuing_settled zero world = unreported world
 continuing_settled (suc turns) world = going_first (first_settled world) (continuing_settled turns) world
 
--- the most turns that there can be, 16,704: with each, the statement of its session ends, or has one lock less to wait for, and while no new line is
+-- the most turns that there can be: with each, the statement of its session ends, or has one lock less to wait for, and while no new line is
 -- played no other session begins to wait
 abbrev pub most_turns : ℕ
 most_turns = most_sessions * most_waits

@@ -19,8 +19,8 @@ use mdl_syntax::{Line, Statement};
 use mdl_work::MOST_WAITS;
 use std::alloc::{AllocError, Global};
 
-/// The most turns that there can be after a line: 16,704.
-pub const MOST_TURNS: u16 = MOST_SESSIONS * MOST_WAITS;
+/// The most turns that there can be after a line.
+pub const MOST_TURNS: u32 = MOST_SESSIONS as u32 * MOST_WAITS as u32;
 
 /// How many definitions a session's cache keeps, unless the command line says otherwise.
 pub const DEFAULT_CACHE: u16 = 64;

@@ -1,4 +1,4 @@
--- A script names only sessions from 1 to 64.
+-- A script names only sessions that there are.
 use Rattle.std.proofs.Common.{◌≡◌, ℕ, List, Ok, subst}
 use Rattle.mdl_syntax.specs.Scripts.{parsed}
 use Rattle.mdl_script.proofs.SettleLemmas.{read-sessions}

@@ -1,4 +1,4 @@
--- A script names only sessions from 1 to 64.
+-- A script names only sessions that there are.
 use Rattle.mdl_script.proofs.SettleLemmas.{read-sessions}
 use Rattle.mdl_script.proofs.replaying.space_after.Goals as goal
 
