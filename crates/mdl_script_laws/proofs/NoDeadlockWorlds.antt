@@ -10,6 +10,7 @@ use Rattle.mdl_core.specs.Cores.{Core, empty_core}
 use Rattle.mdl_core.specs.RunLaws.{IsMadeFor}
 use Rattle.mdl_core.specs.Seats.{empty_seat}
 use Rattle.mdl_system.specs.Deadlocks.{HasNoDeadlock}
+use Rattle.mdl_key.specs.Words.{most_places, most_sessions}
 use Rattle.mdl_lines.specs.Sessions.{IsScriptSession}
 use Rattle.mdl_rows.specs.Endings.{Pause}
 use Rattle.mdl_rows.specs.Playing.{going_on, starting}
@@ -75,14 +76,14 @@ quiet-at (At_place place) = (λ answer session. refl, quiet-under)
 quiet-at _ = tt
 
 -- nobody waits in the empty space
-free-empty : HasNoDeadlock (system_of (empty_core 256 64))
+free-empty : HasNoDeadlock (system_of (empty_core most_places most_sessions))
 free-empty from cycle ([], same, distinct, waits) = let among = waits.1.2.0.1 in absurd (omega arith)
 free-empty from cycle (next ∷ rest, same, distinct, waits) = let among = waits.0.1.2.0.1 in absurd (omega arith)
 
 calm-first : IsCalmSpace first_world.core
 calm-first =
-    calm-calls 1 (creating (schema_key (codes "test"))) (empty_core 256 64) (omega arith, omega arith) speak-empty (made-creating (schema_key (codes "test")))
-    (λ answer session. refl, quiet-at) (omega (arith, length-replicate 64 empty_seat), free-empty)
+    calm-calls 1 (creating (schema_key (codes "test"))) (empty_core most_places most_sessions) (omega arith, omega arith) speak-empty (made-creating (schema_key (codes "test")))
+    (λ answer session. refl, quiet-at) (omega (arith, length-replicate most_sessions empty_seat), free-empty)
 
 -- ---- scripts
 

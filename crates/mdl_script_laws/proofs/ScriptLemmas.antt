@@ -8,6 +8,7 @@ use Rattle.std.proofs.lemmas.List.Elements.{All-append, All-head, All-nil, All-t
 use Rattle.std.proofs.lemmas.List.FromFn.{get_or-map-range_with_len}
 use Rattle.mdl_calls.specs.Words.{Program, outcome_of}
 use Rattle.mdl_core.specs.CoreCalls.{outcome}
+use Rattle.mdl_key.specs.Words.{most_sessions}
 use Rattle.mdl_lines.specs.Sessions.{IsScriptSession}
 use Rattle.mdl_syntax.specs.declared.script.Line.{Line}
 use Rattle.mdl_syntax.specs.declared.statement.Statement.{Statement}
@@ -132,4 +133,4 @@ module _ (I : World → Type 0) (T : Told → Type 0) (keeps : Keeps I T) where
 -- a session that was asked for nothing yet
 pub new-session : (who : ℕ) → IsScriptSession who → player_at who first_world ≡ unasked_player who
 unfolding sessions
-new-session who session = get_or-map-range_with_len unasked_player 1 64 (who - 1) who (unasked_player who) (omega (arith, session.0, session.1)) (omega (arith, session.0))
+new-session who session = get_or-map-range_with_len unasked_player 1 most_sessions (who - 1) who (unasked_player who) (omega (arith, session.0, session.1)) (omega (arith, session.0))

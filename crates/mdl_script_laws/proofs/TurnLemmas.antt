@@ -10,6 +10,7 @@ use Rattle.mdl_key.specs.Keys.{schema_key}
 use Rattle.mdl_calls.specs.Words.{Program, Settle_timeout, outcome_of}
 use Rattle.mdl_core.specs.CoreCalls.{has_settled, outcome}
 use Rattle.mdl_core.specs.Cores.{empty_core}
+use Rattle.mdl_key.specs.Words.{most_places, most_sessions}
 use Rattle.mdl_lines.specs.declared.fault.LineError.{LineError}
 use Rattle.mdl_lines.specs.Lines.{lines_of}
 use Rattle.mdl_lines.specs.Sessions.{IsScriptSession}
@@ -46,7 +47,7 @@ nothing_due = record { line = 0; locks = 0 }
 pub record IsBounded (dues : List Due) (world : World) : Type 0 where
   pub staffed : IsStaffed world
   pub places : HasFewPlaces world.core
-  pub all : length dues ≡ 64
+  pub all : length dues ≡ most_sessions
   pub few : All (λ due. due.locks ≤ most_waits) dues
   pub lines : (who : ℕ) → IsScriptSession who → (get_or dues (who - 1) nothing_due).line ≡ (player_at who world).line
   pub within : (who : ℕ) → IsScriptSession who → IsLeftWithin (get_or dues (who - 1) nothing_due).locks (player_at who world).session.left
@@ -240,24 +241,24 @@ rests-line line world read rest =
 -- ---- scripts
 
 few-first : HasFewPlaces first_world.core
-few-first = few-outcome (creating (schema_key (codes "test"))) (empty_core 256 64) (record { books = omega arith; most = omega arith })
+few-first = few-outcome (creating (schema_key (codes "test"))) (empty_core most_places most_sessions) (record { books = omega arith; most = omega arith })
 
-pub bounded-first : IsBounded (replicate 64 nothing_due) first_world
+pub bounded-first : IsBounded (replicate most_sessions nothing_due) first_world
 bounded-first = record {
   staffed = staffed-first;
   places = few-first;
-  all = length-replicate {A = Due} 64 nothing_due;
-  few = All-replicate (λ (due : Due). due.locks ≤ most_waits) 64 nothing_due (omega arith);
-  lines = λ who is. rw (new-session who is) (ap (λ (due : Due). due.line) (get_or-replicate 64 (who - 1) nothing_due nothing_due (omega (arith, is.0, is.1))));
+  all = length-replicate {A = Due} most_sessions nothing_due;
+  few = All-replicate (λ (due : Due). due.locks ≤ most_waits) most_sessions nothing_due (omega arith);
+  lines = λ who is. rw (new-session who is) (ap (λ (due : Due). due.line) (get_or-replicate most_sessions (who - 1) nothing_due nothing_due (omega (arith, is.0, is.1))));
   within = λ who is.
-      subst (λ (p : Player). IsLeftWithin (get_or (replicate 64 nothing_due) (who - 1) nothing_due).locks p.session.left) (sym (new-session who is)) tt;
+      subst (λ (p : Player). IsLeftWithin (get_or (replicate most_sessions nothing_due) (who - 1) nothing_due).locks p.session.left) (sym (new-session who is)) tt;
 }
 
 rests-first : IsAtRest first_world
 rests-first = record {
-  dues = replicate 64 nothing_due;
+  dues = replicate most_sessions nothing_due;
   bounded = bounded-first;
-  none = none-left first_world (replicate 64 nothing_due) bounded-first
+  none = none-left first_world (replicate most_sessions nothing_due) bounded-first
       (omega arith);
 }
 

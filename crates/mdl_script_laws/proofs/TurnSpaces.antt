@@ -22,6 +22,7 @@ use Rattle.mdl_core.specs.Seats.{SeatView, empty_seat, is_settled_wait, is_unset
 use Rattle.mdl_core.proofs.CallLaws.{core-keeps, core-others}
 use Rattle.mdl_core.proofs.CoreSound.{calls_keep-sound}
 use Rattle.mdl_core.proofs.RunOutcomes.{outcomes-are_runs}
+use Rattle.mdl_key.specs.Words.{most_places, most_sessions}
 use Rattle.mdl_lines.specs.Sessions.{IsScriptSession}
 use Rattle.mdl_syntax.specs.declared.script.Line.{Line}
 use Rattle.mdl_context.specs.declared.kept.Wanted.{Wanted}
@@ -314,8 +315,8 @@ none-at (At_place place) = λ answer is. none-under answer
 none-at _ = refl
 
 -- nobody has a wait in a space to which nothing was done
-none-empty : (who : ℕ) → IsScriptSession who → locks_at (empty_core 256 64) who ≡ locks_of_seat empty_seat
-none-empty who is = ap locks_of_seat (get_or-replicate 64 (who - 1) empty_seat empty_seat (omega (arith, is.0, is.1)))
+none-empty : (who : ℕ) → IsScriptSession who → locks_at (empty_core most_places most_sessions) who ≡ locks_of_seat empty_seat
+none-empty who is = ap locks_of_seat (get_or-replicate most_sessions (who - 1) empty_seat empty_seat (omega (arith, is.0, is.1)))
 
 -- nor in the first one
 none-first : (who : ℕ) → IsScriptSession who → is_some (locks_at first_core who).wait ≡ false
@@ -328,13 +329,13 @@ none-first who is = by (eqb_tells who 1) where
 
   by : ((eqb who 1 ≡ true) × (who ≡ 1)) ⊎ ((eqb who 1 ≡ false) × (who ≢ 1)) → is_some (locks_at first_core who).wait ≡ false
   by (inl same) =
-      let tracks : Tracks HasNone (creating test) (is_some (locks_at (empty_core 256 64) 1).wait) =
+      let tracks : Tracks HasNone (creating test) (is_some (locks_at (empty_core most_places most_sessions) 1).wait) =
       subst (λ (has : SessionLocks). Tracks HasNone (creating test) (is_some has.wait)) (sym (none-empty 1 one)) (λ answer is. none-at answer) in
       subst (λ k. is_some (locks_at first_core k).wait ≡ false) (sym same.1)
-      (tracks-outcome HasNone (creating test) (empty_core 256 64) 1 (speak-empty 1 one.0 one.1) (made-creating test) tracks)
+      (tracks-outcome HasNone (creating test) (empty_core most_places most_sessions) 1 (speak-empty 1 one.0 one.1) (made-creating test) tracks)
   by (inr other) =
       ap (λ (has : SessionLocks). is_some has.wait)
-      (others-outcome (creating test) (empty_core 256 64) 1 who (speak-empty 1 one.0 one.1) (speak-empty who is.0 is.1) other.1
+      (others-outcome (creating test) (empty_core most_places most_sessions) 1 who (speak-empty 1 one.0 one.1) (speak-empty who is.0 is.1) other.1
       (made-creating test) ∙ none-empty who is)
 
 seen-first : IsSeen first_world
@@ -362,8 +363,8 @@ open-same here seat waits is tied unsettled =
 waits-among : (world : World) (who : ℕ) → IsScriptSession who → session_waits world who ≡ true → Contains (waiting_in world) who
 unfolding sessions
 waits-among world who is waits =
-    filter-among (session_waits world) (range_with_len 1 64) who waits (Contains-from_at (range_with_len 1 64) who
-    (who - 1, omega (arith, is.0, is.1, length-range_with_len 1 64), λ d. get_or-range_with_len 1 64 (who - 1) d (omega (arith, is.0, is.1)) ∙ omega (arith, is.0)))
+    filter-among (session_waits world) (range_with_len 1 most_sessions) who waits (Contains-from_at (range_with_len 1 most_sessions) who
+    (who - 1, omega (arith, is.0, is.1, length-range_with_len 1 most_sessions), λ d. get_or-range_with_len 1 most_sessions (who - 1) d (omega (arith, is.0, is.1)) ∙ omega (arith, is.0)))
 
 -- a statement waits exactly where the session has a wait that isn't settled
 pub waits-in-space : StatementsWaitInTheSpace

@@ -8,6 +8,7 @@ use Rattle.std.proofs.lemmas.List.{length-append}
 use Rattle.std.proofs.lemmas.List.Elements.{All-cons, All-head, All-nil, All-tail, filter-append}
 use Rattle.std.proofs.lemmas.List.Folds.{sum_by-replicate}
 use Rattle.std.proofs.lemmas.List.Sums.{sum_by-set}
+use Rattle.mdl_key.specs.Words.{most_sessions}
 use Rattle.mdl_lines.specs.declared.fault.LineError.{LineError}
 use Rattle.mdl_lines.specs.Lines.{lines_of}
 use Rattle.mdl_syntax.specs.declared.script.Line.{Line}
@@ -242,14 +243,14 @@ told-lines number (line ∷ lines) world dues are rise bounded none =
 -- ---- scripts
 
 -- at first nothing is owed
-owed-first : (number : ℕ) → owed number (replicate 64 nothing_due) ≡ 0
-owed-first number = sum_by-replicate (owed_at number) 64 nothing_due ∙ by (eqb 0 number) where
-  by : (same : Bool) → 64 * cond same (0 - 1) 0 ≡ 0
+owed-first : (number : ℕ) → owed number (replicate most_sessions nothing_due) ≡ 0
+owed-first number = sum_by-replicate (owed_at number) most_sessions nothing_due ∙ by (eqb 0 number) where
+  by : (same : Bool) → most_sessions * cond same (0 - 1) 0 ≡ 0
   by true = refl
   by false = refl
 
 pub few-waits : StatementsTellOfFewWaits
 few-waits text lines read =
-    (told-lines 1 lines first_world (replicate 64 nothing_due) (read-limits text lines read) rise bounded-first (λ later less. owed-first later)).each where
+    (told-lines 1 lines first_world (replicate most_sessions nothing_due) (read-limits text lines read) rise bounded-first (λ later less. owed-first later)).each where
       rise : RiseFrom 1 lines
       rise = subst (λ (said : Result (List Line) (ℕ × LineError)). IfOk said (RiseFrom 1)) read (lines_say-rise 1 (lines_of text))
