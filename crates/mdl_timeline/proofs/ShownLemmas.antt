@@ -11,6 +11,7 @@ use Rattle.mdl_book.specs.declared.ticket.Ticket.{Ticket}
 use Rattle.mdl_book.specs.Books.{empty_book}
 use Rattle.mdl_key.specs.declared.namespace.Namespace.TheVariants.{Global}
 use Rattle.mdl_graph.specs.WaitsFor.{waits_at, waits_for}
+use Rattle.mdl_key.specs.Words.{most_sessions}
 use Rattle.mdl_lines.specs.Words.{IsScriptSession}
 use Rattle.mdl_picture.specs.declared.moment.Fate.TheVariants as fate
 use Rattle.mdl_picture.specs.Moments.{HeldView}
@@ -32,15 +33,15 @@ use Rattle.mdl_timeline.specs.TimelineLaws.{HasArrowsOf, HoldsThoseOf}
 session-from : (other : ℕ) → Contains sessions other → IsScriptSession other
 unfolding sessions
 session-from other (k, inside, is) =
-    let short : k < 64 = (let long = length-range_with_len 1 64 in omega arith) in
-    let at = get_or-range_with_len 1 64 k other short in (omega (arith, is, at), omega (arith, is, at, short))
+    let short : k < most_sessions = (let long = length-range_with_len 1 most_sessions in omega arith) in
+    let at = get_or-range_with_len 1 most_sessions k other short in (omega (arith, is, at), omega (arith, is, at, short))
 
 session-to : (other : ℕ) → IsScriptSession other → Contains sessions other
 unfolding sessions
 session-to other (least, most) =
-    let short : other - 1 < 64 = omega arith in
-    let at : get_or (range_with_len 1 64) (other - 1) other ≡ other = (let there = get_or-range_with_len 1 64 (other - 1) other short in omega (arith, there)) in
-    (other - 1, (let long = length-range_with_len 1 64 in omega arith), at)
+    let short : other - 1 < most_sessions = omega arith in
+    let at : get_or (range_with_len 1 most_sessions) (other - 1) other ≡ other = (let there = get_or-range_with_len 1 most_sessions (other - 1) other short in omega (arith, there)) in
+    (other - 1, (let long = length-range_with_len 1 most_sessions in omega arith), at)
 
 -- ---- what a filter keeps
 

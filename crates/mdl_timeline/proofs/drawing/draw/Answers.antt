@@ -1,4 +1,4 @@
--- A script names only sessions from 1 to 64.
+-- A script names only sessions that there are.
 use Rattle.std.proofs.Common.{◌∙◌, All, ap, subst, sym}
 use Rattle.std.specs.List.{position_or_len}
 use Rattle.std.proofs.lemmas.List.Elements.{All-take}
