@@ -4,6 +4,7 @@ use Rattle.std.specs.Prelude.{◌==◌, slice_get}
 use Rattle.std.specs.List.{list_all, range_with_len}
 use Rattle.std.proofs.lemmas.Bool.Decides.{Decides-eqb}
 use Rattle.std.proofs.lemmas.List.Elements.{All-weaker, filter_passes}
+use Rattle.mdl_key.specs.Words.{most_sessions}
 use Rattle.mdl_syntax.specs.declared.script.Line.{Line}
 use Rattle.mdl_shared.specs.declared.pass.Pass.{Pass}
 use Rattle.mdl_script.specs.RunTexts.{named_sessions, names_session}
@@ -30,7 +31,7 @@ pub named_there : (passes : List Pass) (lines : List Line) → list_all (λ (lin
     → All (λ who. has_pass passes who ≡ true) (named_sessions lines)
 unfolding named_sessions
 named_there passes lines all =
-    All-weaker (λ who. names_session lines who ≡ true) (λ who. has_pass passes who ≡ true) (λ who. one-there passes lines who all) _ (filter_passes (names_session lines) (range_with_len 1 64))
+    All-weaker (λ who. names_session lines who ≡ true) (λ who. has_pass passes who ≡ true) (λ who. one-there passes lines who all) _ (filter_passes (names_session lines) (range_with_len 1 most_sessions))
 
 -- where there is a first pass, there is one
 pub first_there : (passes : List Pass) (first : Pass) → slice_get passes 0 ≡ Some first → 1 ≤ length passes

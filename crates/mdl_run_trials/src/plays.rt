@@ -2,6 +2,7 @@
 ghost use Rattle.std.specs.Prelude.{IfOk, OnOk};
 ghost use Rattle.mdl_script.specs.Plays.{IsManned};
 
+use mdl_key::MOST_SESSIONS;
 use mdl_script::{Line, Play, Script, Told, parse, push_end, push_told, space_after};
 use std::alloc::{AllocError, Global};
 use std::test::Fail;
@@ -29,7 +30,7 @@ fn play_line<'s>(
     requires manned { IsManned play.old }
     ensures manned { OnOk result (IsManned play.new) }
 {
-    if line.session == 0 || line.session > 64 {
+    if line.session == 0 || line.session > MOST_SESSIONS {
         return Ok(());
     }
     play.ask(line, told)?;
@@ -60,7 +61,7 @@ fn three_turns<'s>(
     requires manned { IsManned play.old }
     ensures manned { OnOk result (IsManned play.new) }
 {
-    if line.session == 0 || line.session > 64 {
+    if line.session == 0 || line.session > MOST_SESSIONS {
         return Ok([None, None, None]);
     }
     let mut told = Vec::new(alloc);

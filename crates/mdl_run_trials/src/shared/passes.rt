@@ -1,14 +1,15 @@
 //! How many places and sessions a space may have.
+use mdl_key::{MOST_PLACES, MOST_SESSIONS};
 use mdl_shared::{Manager, NewError};
 use std::alloc::Global;
 
 const LIMITS: &[(u16, u16, Option<NewError>)] = &[
     (0, 0, Some(NewError::BadPlaces)),
-    (257, 1, Some(NewError::BadPlaces)),
+    (MOST_PLACES + 1, 1, Some(NewError::BadPlaces)),
     (1, 0, Some(NewError::BadSessions)),
-    (256, 65, Some(NewError::BadSessions)),
+    (MOST_PLACES, MOST_SESSIONS + 1, Some(NewError::BadSessions)),
     (1, 1, None),
-    (256, 64, None),
+    (MOST_PLACES, MOST_SESSIONS, None),
 ];
 
 // Returns why there can't be a space of these numbers of places and sessions, unless there can.
