@@ -2,6 +2,7 @@ pub mod BackLemmas
 pub mod FirstLemmas
 pub mod PlayLemmas
 pub mod ListLemmas
+pub mod NamedLemmas
 pub mod OrderedBooks
 pub mod PassLemmas
 pub mod SettleLemmas

@@ -1,7 +1,12 @@
 //! What the sessions of a run share.
-ghost use Rattle.std.specs.Prelude.{◌≡◌};
+ghost use Rattle.std.specs.Prelude.{◌≡◌, ◌≤◌, ℕ};
+ghost use Rattle.std.specs.FinSet as set;
+ghost use Rattle.mdl_calls.specs.Words.{is_within};
+ghost use Rattle.mdl_key.specs.Words.{most_sessions};
 ghost use Rattle.mdl_script.specs.RunTexts.{names_session};
 
+use mdl_book::Sessions;
+use mdl_key::MOST_SESSIONS;
 use mdl_shared::Manager;
 use mdl_syntax::Script;
 use std::alloc::Global;
@@ -19,9 +24,23 @@ pub(crate) struct SharedRun<'a, R, G> {
     pub(crate) gate: &'a G,
 }
 
-/// Whether the script names a session.
-pub(crate) fn is_named(script: &Script, who: u16) -> bool
-    ensures { result ≡ names_session script.now who }
+/// Returns the sessions that the script names.
+pub(crate) fn named_sessions(script: &Script) -> Sessions
+    ensures { (who : ℕ) → 1 ≤ who → who ≤ most_sessions → set.contains result who ≡ names_session script.now who }
 {
-    script.lines().iter().any(|line| line.session == who)
+    let lines = script.lines();
+    let mut named = Sessions::new();
+    for line in lines {
+        if is_session(line.session) {
+            named.insert(line.session);
+        }
+    }
+    named
+}
+
+// Whether a session can have this number.
+fn is_session(who: u16) -> bool
+    ensures { result ≡ is_within most_sessions who }
+{
+    1 <= who && who <= MOST_SESSIONS
 }

@@ -10,7 +10,7 @@ ghost use Rattle.mdl_script.specs.Runs.{HasMadeFirst};
 ghost use Rattle.mdl_script.specs.Turns.{CameBack, GainsAnswers, IsAboutLines, IsTurn, has_pass, pass_sent, passes_sent};
 
 use crate::on_thread::{Answered, work_pass};
-use crate::run::{SharedRun, is_named};
+use crate::run::{SharedRun, named_sessions};
 use crate::told::push_answers;
 use mdl_key::MOST_SESSIONS;
 use mdl_shared::{Pass, Session};
@@ -142,9 +142,10 @@ pub(crate) fn start_all<'s, E, R: Threads + Wait + Sync, G: Gate + Sync>(
     ensures sent { IfOk result (λ turns. IsPermutation passes.old.items (passes_sent turns.items ++ passes.new.items)) }
 {
     let _asker = asker;
+    let named = named_sessions(run.script);
     let mut turns = Vec::new(run.alloc);
     for who in 1..MOST_SESSIONS + 1 {
-        if is_named(run.script, who) {
+        if named.contains(who) {
             turns.push(start_turn(scope, run, passes, mine, who)?)?;
         }
     }
