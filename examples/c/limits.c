@@ -8,7 +8,7 @@
 #define NAME(text) (const uint8_t *)(text), strlen(text)
 #define TABLE(name) MDL_TABLE, NAME("shop"), NAME(name)
 
-enum { PLACES = 256, SESSIONS = 64, LONGEST = 64, TICKETS = 65535, CODES = 51, TOLD = 20 };
+enum { PLACES = 256, SESSIONS = 64, RING = 64, LONGEST = 64, TICKETS = 65535, CODES = 51, TOLD = 20 };
 
 static const char bytes_of_names[] = "abcdefghijklmnopqrstuvwxyz0123456789_";
 
@@ -175,29 +175,31 @@ static uint32_t acquire_own(uint16_t who, uint16_t whose, uint8_t mode)
     return mdl_acquire(&space, who, TABLE(name), mode, MDL_TRANSACTION, &number);
 }
 
-/* Each session has a table of its own, and waits for that of the next one. The last wait is the victim, and the others are granted in turn. */
+/* Each of these sessions has a table of its own, and waits for that of the next one. The last wait is the victim, and the others are granted in turn. */
 static void wait_in_a_ring(void)
 {
-    uint64_t ticket = 0, settled = 0;
+    uint16_t settled[SESSIONS] = {0};
+    uint64_t ticket = 0;
+    size_t count = 0;
     EXPECT(MDL_DONE, mdl_open(&space, PLACES, SESSIONS));
     EXPECT(MDL_NO_SESSION, mdl_context_begin(&space, SESSIONS + 1));
-    for (uint16_t who = 1; who <= SESSIONS; who += 1) {
+    for (uint16_t who = 1; who <= RING; who += 1) {
         EXPECT(MDL_NO_CONTEXT, acquire_own(who, who, MDL_X));
         EXPECT(MDL_DONE, mdl_context_begin(&space, who));
         EXPECT(MDL_HAS_CONTEXT, mdl_context_begin(&space, who));
         EXPECT(MDL_DONE, acquire_own(who, who, MDL_X));
     }
-    for (uint16_t who = 1; who <= SESSIONS; who += 1)
-        EXPECT(MDL_WAITING, acquire_own(who, who % SESSIONS + 1, MDL_SR));
-    for (uint16_t who = SESSIONS; who >= 1; who -= 1) {
+    for (uint16_t who = 1; who <= RING; who += 1)
+        EXPECT(MDL_WAITING, acquire_own(who, who % RING + 1, MDL_SR));
+    for (uint16_t who = RING; who >= 1; who -= 1) {
         EXPECT(MDL_HAS_WAIT, acquire_own(who, who, MDL_X));
-        EXPECT(MDL_DONE, mdl_settled(&space, &settled));
-        CHECK(settled == UINT64_C(1) << (who - 1));
-        EXPECT(who == SESSIONS ? MDL_VICTIM : MDL_DONE, mdl_resume(&space, who, &ticket));
+        EXPECT(MDL_DONE, mdl_settled(&space, settled, SESSIONS, &count));
+        CHECK(count == 1 && settled[0] == who);
+        EXPECT(who == RING ? MDL_VICTIM : MDL_DONE, mdl_resume(&space, who, &ticket));
         EXPECT(MDL_DONE, mdl_context_end(&space, who));
     }
-    EXPECT(MDL_DONE, mdl_settled(&space, &settled));
-    CHECK(settled == 0);
+    EXPECT(MDL_DONE, mdl_settled(&space, settled, SESSIONS, &count));
+    CHECK(count == 0);
     EXPECT(MDL_DONE, mdl_close(&space));
 }
 
@@ -205,7 +207,8 @@ static void wait_in_a_ring(void)
 static void wait_for_one(void)
 {
     struct mdl_lock locks[SESSIONS];
-    uint64_t first = 0, number = 0, settled = 0;
+    uint16_t settled[SESSIONS] = {0};
+    uint64_t first = 0, number = 0;
     uint16_t place = 0;
     size_t count = 0;
     EXPECT(MDL_DONE, mdl_open(&space, PLACES, SESSIONS));
@@ -220,10 +223,14 @@ static void wait_for_one(void)
     for (uint16_t at = 0; at < SESSIONS; at += 1)
         CHECK(locks[at].session == at + 1 && locks[at].mode == (at == 0 ? MDL_X : MDL_SR) && locks[at].status == (at == 0 ? MDL_GRANTED : MDL_PENDING));
     EXPECT(MDL_DONE, mdl_release(&space, 1, first));
-    EXPECT(MDL_DONE, mdl_settled(&space, &settled));
-    CHECK(settled == UINT64_MAX - 1);
-    for (uint16_t who = 2; who <= SESSIONS; who += 1)
+    EXPECT(MDL_DONE, mdl_settled(&space, settled, 2, &count));
+    CHECK(count == SESSIONS - 1 && settled[0] == 2 && settled[1] == 3 && settled[2] == 0);
+    EXPECT(MDL_DONE, mdl_settled(&space, settled, SESSIONS, &count));
+    CHECK(count == SESSIONS - 1 && settled[SESSIONS - 1] == 0);
+    for (uint16_t who = 2; who <= SESSIONS; who += 1) {
+        CHECK(settled[who - 2] == who);
         EXPECT(MDL_DONE, mdl_end(&space, who, &number));
+    }
     EXPECT(MDL_DONE, mdl_close(&space));
 }
 
@@ -319,7 +326,7 @@ int main(void)
     acquire_all();
     printf("locks of all namespaces, in all modes, for all durations\n");
     wait_in_a_ring();
-    printf("a deadlock of %d sessions with contexts\n", SESSIONS);
+    printf("a deadlock of %d sessions with contexts\n", RING);
     wait_for_one();
     printf("%d waits for one lock\n", SESSIONS - 1);
     fill_a_lock();

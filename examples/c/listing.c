@@ -61,11 +61,12 @@ static void show_held(uint16_t who)
 /* Ends each wait that is settled, as those that wait would do once they are woken. */
 static void wake(void)
 {
-    uint64_t sessions = 0, ticket = 0;
-    mdl_settled(&space, &sessions);
-    for (uint16_t who = 1; who <= SESSIONS; who += 1)
-        if (sessions >> (who - 1) & 1)
-            printf("session %u is woken: %u\n", who, mdl_end(&space, who, &ticket));
+    uint16_t sessions[SESSIONS] = {0};
+    uint64_t ticket = 0;
+    size_t count = 0;
+    mdl_settled(&space, sessions, SESSIONS, &count);
+    for (size_t at = 0; at < count; at += 1)
+        printf("session %u is woken: %u\n", sessions[at], mdl_end(&space, sessions[at], &ticket));
 }
 
 int main(void)

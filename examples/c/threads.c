@@ -36,11 +36,11 @@ static struct timespec in(long milliseconds)
 /* Wakes the sessions whose waits are settled. */
 static void wake(void)
 {
-    uint64_t sessions = 0;
-    mdl_settled(&space, &sessions);
-    for (unsigned at = 0; at < THREADS; at += 1)
-        if (sessions >> at & 1)
-            pthread_cond_signal(&turns[at]);
+    uint16_t sessions[THREADS] = {0};
+    size_t count = 0;
+    mdl_settled(&space, sessions, THREADS, &count);
+    for (size_t at = 0; at < count; at += 1)
+        pthread_cond_signal(&turns[sessions[at] - 1]);
 }
 
 /* Waits until the session's wait is settled, and ends it. Whoever begins to wait looks for the deadlocks that this makes. */

@@ -57,7 +57,7 @@ PARAMETERS = {
     "mdl_end": [c_uint16, POINTER(c_uint64)],
     "mdl_time_out": [c_uint16],
     "mdl_release": [c_uint16, c_uint64],
-    "mdl_settled": [POINTER(c_uint64)],
+    "mdl_settled": [POINTER(c_uint16), c_size_t, POINTER(c_size_t)],
 }
 
 
@@ -100,11 +100,10 @@ class Manager:
 
     def _wake(self):
         """Wakes the sessions whose waits are settled."""
-        sessions = c_uint64()
-        self._call("mdl_settled", byref(sessions))
-        for at, turn in enumerate(self._turns):
-            if sessions.value >> at & 1:
-                turn.notify()
+        sessions, count = (c_uint16 * len(self._turns))(), c_size_t()
+        self._call("mdl_settled", sessions, len(sessions), byref(count))
+        for who in sessions[: count.value]:
+            self._turns[who - 1].notify()
 
     def table(self, schema, table):
         """Returns the place of a table's key."""

@@ -244,12 +244,12 @@ uint32_t mdl_make_transactional(struct mdl_space *space, uint16_t who);
 
 /* ---- lists */
 
-/* The sessions whose waits are settled and not ended: DONE, and a bit for each, 1 << (who - 1). Call it after each call that may settle
-   waits, and wake these sessions. */
-uint32_t mdl_settled(struct mdl_space *space, uint64_t *sessions);
-
 /* The calls below only read the manager. Each writes as many entries as there is room for, from the first on, and
    leaves the rest of the room unchanged. The count is that of all entries. A call that is refused writes nothing. */
+
+/* The sessions whose waits are settled and not ended, in rising order: DONE. Call it after each call that may settle waits, and wake these
+   sessions. Where no wait is settled it looks at no session. */
+uint32_t mdl_settled(struct mdl_space *space, uint16_t *sessions, size_t room, size_t *count);
 
 /* The tickets that a session holds, in the order in which it got them: DONE. The call allocates memory, and frees it again. */
 uint32_t mdl_held(struct mdl_space *space, uint16_t who, struct mdl_ticket *tickets, size_t room, size_t *count);

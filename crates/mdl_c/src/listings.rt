@@ -3,17 +3,23 @@ ghost use Rattle.std.specs.Prelude.{◌≡◌, length};
 ghost use Rattle.mdl_key.specs.Keys.{namespace_rank};
 ghost use Rattle.mdl_calls.specs.Words.{List_held};
 ghost use Rattle.mdl_c_calls.specs.Exports.{ServesCall};
-ghost use Rattle.mdl_c_calls.specs.Listings.{HeldTold, IsKept, IsListWritten, ShowsLock, ShowsSpace, TellsSettled, lock_rows};
+ghost use Rattle.mdl_c_calls.specs.Listings.{HeldTold, IsKept, IsListWritten, ShowsLock, ShowsSpace, lock_rows, settled_sessions};
 
 use mdl_c_calls::{HeldRow, LockRow, MdlSpace};
 use std::alloc::Global;
 
-/// Writes which sessions have waits that are settled and not ended, one bit each. The lowest bit is that of session 1.
+/// Writes the sessions whose waits are settled and not ended, in rising order.
 #[unsafe(no_mangle)]
-pub extern "C" fn mdl_settled(alloc: Global, space: &mut MdlSpace, sessions: &mut u64) -> u32
-    ensures { ShowsSpace space.old.handle.manager result space.new.handle.manager (sessions.new ≡ sessions.old) (λ m. (result ≡ 0) × TellsSettled m sessions.new) }
+pub extern "C" fn mdl_settled(
+    alloc: Global,
+    space: &mut MdlSpace,
+    room: &mut [u16],
+    count: &mut usize,
+) -> u32
+    ensures { ShowsSpace space.old.handle.manager result space.new.handle.manager
+        (IsKept room.old room.new count.old count.new) (λ m. (result ≡ 0) × IsListWritten (settled_sessions m) room.old room.new count.new) }
 {
-    mdl_c_calls::mdl_settled(alloc, space, sessions)
+    mdl_c_calls::mdl_settled(alloc, space, room, count)
 }
 
 /// Writes the tickets that a session holds, in the order in which it got them.

@@ -1,8 +1,8 @@
 -- What C can read of the locks: which waits are settled, what a session holds, which keys there are, and who holds and waits for each lock. That is
 -- what the table metadata_locks of MySQL 5.7's Performance Schema shows. The form is this project's own. Reading changes nothing.
-use Rattle.std.specs.Prelude.{◌≡◌, ◌≤◌, ℕ, ◌-◌, Bool, ◌&&◌, ◌==◌, List, ◌++◌, length, map, take, drop, Option, Some, None, MatchOption, if◌then◌else◌}
-use Rattle.std.specs.Int.{bit_at}
-use Rattle.mdl_key.specs.Words.{mode_rank, most_sessions}
+use Rattle.std.specs.Prelude.{◌≡◌, ℕ, Bool, ◌&&◌, List, ◌++◌, filter, length, map, take, drop, Option, Some, None, MatchOption, if◌then◌else◌}
+use Rattle.std.specs.List.{range_with_len}
+use Rattle.mdl_key.specs.Words.{mode_rank}
 use Rattle.mdl_book.specs.declared.book_view.BookView.{BookView}
 use Rattle.mdl_book.specs.declared.ticket.Ticket.{Ticket}
 use Rattle.mdl_calls.specs.declared.answers.Held.{Held}
@@ -13,7 +13,7 @@ use Rattle.mdl_c_calls.specs.declared.rows.HeldRow.{HeldRow}
 use Rattle.mdl_c_calls.specs.declared.rows.LockRow.{LockRow}
 use Rattle.mdl_c_calls.specs.Codes.{closed, no_place}
 use Rattle.mdl_c_calls.specs.Exports.{Beside, Tells}
-use Rattle.mdl_c_calls.specs.Managers.{Managed, has_member}
+use Rattle.mdl_c_calls.specs.Managers.{Managed, has_member, session_count_of}
 
 -- ---- lists in the caller's memory
 
@@ -52,10 +52,9 @@ ShowsLock place before code after Kept Shown =
 abbrev pub has_settled_wait : Managed → ℕ → Bool
 has_settled_wait manager who = has_member who manager && has_settled manager.space who
 
--- the bits of a number, from the lowest on, are those of the sessions from 1: each is set exactly if its session has a settled wait
-abbrev pub TellsSettled : Managed → ℕ → Type 0
-TellsSettled manager sessions =
-    (who : ℕ) → 1 ≤ who → who ≤ most_sessions → (bit_at sessions (who - 1) == 1) ≡ has_settled_wait manager who
+-- the sessions that have such waits, in rising order
+abbrev pub settled_sessions : Managed → List ℕ
+settled_sessions manager = filter (has_settled_wait manager) (range_with_len 1 (session_count_of manager))
 
 -- ---- tickets
 

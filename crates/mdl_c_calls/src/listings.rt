@@ -5,7 +5,7 @@ ghost use Rattle.mdl_key.specs.Keys.{namespace_rank};
 ghost use Rattle.mdl_calls.specs.Words.{List_held, listed};
 ghost use Rattle.mdl_c_calls.specs.Codes.{code_at, no_place};
 ghost use Rattle.mdl_c_calls.specs.Exports.{ServesCall};
-ghost use Rattle.mdl_c_calls.specs.Listings.{HeldTold, IsKept, IsListWritten, ShowsLock, ShowsSpace, TellsSettled, lock_rows};
+ghost use Rattle.mdl_c_calls.specs.Listings.{HeldTold, IsKept, IsListWritten, ShowsLock, ShowsSpace, lock_rows, settled_sessions};
 
 use crate::codes::{CLOSED, DONE, NO_PLACE, NO_SESSION, cause_code};
 use crate::handle::MdlSpace;
@@ -14,14 +14,15 @@ use mdl_book::Book;
 use mdl_space::{Held, SpaceError};
 use std::alloc::Global;
 
-/// Writes which sessions have waits that are settled and not ended, one bit each. The lowest bit is that of session 1.
-pub fn mdl_settled(alloc: Global, space: &mut MdlSpace, sessions: &mut u64) -> u32
-    ensures { ShowsSpace space.old.handle.manager result space.new.handle.manager (sessions.new ≡ sessions.old) (λ m. (result ≡ 0) × TellsSettled m sessions.new) }
+/// Writes the sessions whose waits are settled and not ended, in rising order.
+pub fn mdl_settled(alloc: Global, space: &mut MdlSpace, room: &mut [u16], count: &mut usize) -> u32
+    ensures { ShowsSpace space.old.handle.manager result space.new.handle.manager
+        (IsKept room.old room.new count.old count.new) (λ m. (result ≡ 0) × IsListWritten (settled_sessions m) room.old room.new count.new) }
 {
     let Some(mut manager) = space.take(alloc) else {
         return CLOSED;
     };
-    *sessions = manager.settled();
+    *count = manager.tell_settled(room);
     space.put(manager);
     DONE
 }

@@ -8,10 +8,11 @@ use std::sync::{Condvar, Mutex, MutexGuard, PoisonError};
 #[derive(Clone, Copy, Debug, PartialEq, Eq)]
 pub struct Place(pub(crate) u16);
 
-/// What is behind the mutex: the manager of the library, and which sessions are taken.
+/// What is behind the mutex: the manager of the library, which sessions are taken, and room for a list of sessions.
 pub(crate) struct Inside {
     pub(crate) space: Space,
     taken: Vec<bool>,
+    settled: Vec<u16>,
 }
 
 /// A manager of metadata locks. It is `Send` and `Sync`: one mutex is held round each call.
@@ -29,7 +30,11 @@ impl Manager {
         let taken = vec![false; usize::from(sessions)];
         let turns = taken.iter().map(|_| Condvar::new()).collect();
         Ok(Manager {
-            inside: Mutex::new(Inside { space, taken }),
+            inside: Mutex::new(Inside {
+                space,
+                taken,
+                settled: vec![0; usize::from(sessions)],
+            }),
             turns,
         })
     }
@@ -103,14 +108,13 @@ impl Manager {
     }
 
     // Wakes the sessions whose waits are settled.
-    pub(crate) fn wake(&self, space: &mut Space) {
-        let mut sessions = 0;
-        // SAFETY: the mutex is held, by whoever has the space.
-        unsafe { raw::mdl_settled(space, &mut sessions) };
-        for (at, turn) in self.turns.iter().enumerate() {
-            if sessions >> at & 1 == 1 {
-                turn.notify_one();
-            }
+    pub(crate) fn wake(&self, inside: &mut Inside) {
+        let Inside { space, settled, .. } = inside;
+        let mut count = 0;
+        // SAFETY: the pointer and the length are those of the room, and the mutex is held, by whoever has what is inside.
+        unsafe { raw::mdl_settled(space, settled.as_mut_ptr(), settled.len(), &mut count) };
+        for who in &settled[..count] {
+            self.turn_of(*who).notify_one();
         }
     }
 

@@ -55,7 +55,12 @@ extern "C" {
     pub fn mdl_poll(space: &mut Space, who: u16) -> u32;
     pub fn mdl_end(space: &mut Space, who: u16, ticket: &mut u64) -> u32;
     pub fn mdl_time_out(space: &mut Space, who: u16) -> u32;
-    pub fn mdl_settled(space: &mut Space, sessions: &mut u64) -> u32;
+    pub fn mdl_settled(
+        space: &mut Space,
+        sessions: *mut u16,
+        room: usize,
+        count: &mut usize,
+    ) -> u32;
     pub fn mdl_release(space: &mut Space, who: u16, ticket: u64) -> u32;
     pub fn mdl_upgrade(space: &mut Space, who: u16, ticket: u64, mode: u8) -> u32;
     pub fn mdl_downgrade(space: &mut Space, who: u16, ticket: u64, mode: u8) -> u32;

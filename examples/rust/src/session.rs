@@ -1,7 +1,7 @@
 //! Sessions, which wait for locks, and the guards of those that they have.
 
 use crate::manager::{done, Inside};
-use crate::raw::{self, Space};
+use crate::raw;
 use crate::{Error, Manager, Mode, Place};
 use std::cell::Cell;
 use std::marker::PhantomData;
@@ -75,7 +75,7 @@ impl<'m> Session<'m> {
         patience: Duration,
     ) -> Result<Guard<'s>, Error> {
         let begun = Instant::now();
-        self.end_deadlocks(&mut inside.space);
+        self.end_deadlocks(&mut inside);
         // SAFETY: the mutex is held, here and below.
         while unsafe { raw::mdl_poll(&mut inside.space, self.who) } == raw::WAITING {
             let left = patience.saturating_sub(begun.elapsed());
@@ -91,18 +91,18 @@ impl<'m> Session<'m> {
         }
         let mut ticket = 0;
         let code = unsafe { raw::mdl_end(&mut inside.space, self.who, &mut ticket) };
-        self.manager.wake(&mut inside.space); // the end of a lost wait makes way
+        self.manager.wake(&mut inside); // the end of a lost wait makes way
         done(code).map(|()| self.guard(ticket))
     }
 
     // Searches until there is no deadlock, or the session itself is a victim. The victims have to learn of it.
-    fn end_deadlocks(&self, space: &mut Space) {
+    fn end_deadlocks(&self, inside: &mut Inside) {
         let mut victim = 0;
         // SAFETY: the mutex is held.
-        while unsafe { raw::mdl_search(space, self.who, &mut victim) } == raw::VICTIM
+        while unsafe { raw::mdl_search(&mut inside.space, self.who, &mut victim) } == raw::VICTIM
             && victim != self.who
         {}
-        self.manager.wake(space);
+        self.manager.wake(inside);
     }
 
     fn guard(&self, ticket: u64) -> Guard<'_> {
@@ -144,7 +144,7 @@ impl Guard<'_> {
         let mut inside = manager.inside();
         // SAFETY: the mutex is held.
         let code = unsafe { raw::mdl_downgrade(&mut inside.space, who, self.ticket, mode as u8) };
-        manager.wake(&mut inside.space);
+        manager.wake(&mut inside);
         done(code)
     }
 }
@@ -155,6 +155,6 @@ impl Drop for Guard<'_> {
         let mut inside = manager.inside();
         // SAFETY: the mutex is held. What the call answers is MDL_DONE, since the session has the ticket.
         unsafe { raw::mdl_release(&mut inside.space, who, self.ticket) };
-        manager.wake(&mut inside.space);
+        manager.wake(&mut inside);
     }
 }

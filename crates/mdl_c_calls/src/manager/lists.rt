@@ -1,30 +1,48 @@
 //! What a manager shows of the locks. It changes nothing.
-ghost use Rattle.std.specs.Prelude.{◌≡◌, MatchOption};
+ghost use Rattle.std.specs.Prelude.{◌≡◌, MatchOption, slice_set};
 ghost use Rattle.std.specs.Option.{option_copied};
 ghost use Rattle.mdl_calls.specs.Words.{List_held, listed};
 ghost use Rattle.mdl_core.specs.CoreCalls.{has_settled};
 ghost use Rattle.mdl_core.specs.Words.{SpeaksFor};
-ghost use Rattle.mdl_c_calls.specs.Listings.{TellsSettled, has_settled_wait, keyed_book};
-ghost use Rattle.mdl_c_calls.specs.Managers.{IsOutside, JoinsFor};
+ghost use Rattle.mdl_c_calls.specs.Listings.{IsListWritten, has_settled_wait, keyed_book, settled_sessions};
+ghost use Rattle.mdl_c_calls.specs.Managers.{IsOutside, JoinsFor, session_count_of};
+ghost use Rattle.mdl_space.specs.SettledWaits.{settled_waits};
 
 use super::ServedSpace;
 use mdl_book::Book;
-use mdl_key::MOST_SESSIONS;
 use mdl_space::{CoreSpace, Held, LockSpace, Place, Poll, SpaceError};
 
 impl ServedSpace {
-    /// Returns the sessions whose waits are settled and not ended, one bit each. The lowest bit is that of session 1.
-    pub fn settled(&mut self) -> u64
-        ensures told { TellsSettled self.old result }
+    /// Writes the sessions whose waits are settled and not ended, in rising order: as many as there is room for. Returns how many there are.
+    pub fn tell_settled(&mut self, room: &mut [u16]) -> usize
+        ensures told { IsListWritten (settled_sessions self.old) room.old room.new result }
         ensures unchanged { self.new ≡ self.old }
     {
-        let mut sessions = 0;
-        for place in 0..MOST_SESSIONS {
-            if self.has_settled_wait(place + 1) {
-                sessions |= 1 << place;
+        if self.settled_waits() == 0 {
+            return 0;
+        }
+        let sessions = self.session_count();
+        let mut count = 0;
+        for index in 0..sessions {
+            if self.has_settled_wait(index + 1) {
+                write_at(room, count, index + 1);
+                count += 1;
             }
         }
-        sessions
+        count
+    }
+
+    // How many waits are settled and not ended. It looks at no session.
+    fn settled_waits(&self) -> usize
+        ensures { result ≡ settled_waits self.now.space.seats }
+    {
+        self.space.settled_waits()
+    }
+
+    fn session_count(&self) -> u16
+        ensures { result ≡ session_count_of self.now }
+    {
+        self.sessions
     }
 
     fn has_settled_wait(&mut self, who: u16) -> bool
@@ -62,6 +80,16 @@ impl ServedSpace {
             return None;
         }
         self.books().get(usize::from(place) - 1)
+    }
+}
+
+// Writes a session at an index of the room, if there is one.
+#[tactic(auto, using(crate::proofs::SettledLemmas::left_past))]
+fn write_at(room: &mut [u16], index: usize, who: u16)
+    ensures { room.new ≡ slice_set room.old index who }
+{
+    if index < room.len() {
+        room[index] = who;
     }
 }
 
