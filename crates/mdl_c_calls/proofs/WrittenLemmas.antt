@@ -39,7 +39,7 @@ written-all f all items room n fits cut =
     ∙ written-fits (map f all) room n (sym same)
 
 -- no items
-written-none : {T : Type 0} (room : List T) → room_written [] room ≡ room
+pub written-none : {T : Type 0} (room : List T) → room_written [] room ≡ room
 written-none [] = refl
 written-none (x ∷ room) = refl
 
