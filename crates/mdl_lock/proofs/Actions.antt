@@ -47,7 +47,7 @@ differs word name ne = by (same_text word name) (bytes_eq-Decides word name).0 w
   by true h = absurd (ne (h refl))
   by false h = refl
 
-found_none : {A : Type 0} (test : A → Bool) (xs : List A) → ((x : A) → test x ≡ false) → find test xs ≡ None
+pub found_none : {A : Type 0} (test : A → Bool) (xs : List A) → ((x : A) → test x ≡ false) → find test xs ≡ None
 found_none test [] h = refl
 found_none test (x ∷ xs) h = ap (λ b. cond b (Some x) (find test xs)) (h x) ∙ found_none test xs h
 

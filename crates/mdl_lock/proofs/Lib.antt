@@ -7,3 +7,4 @@ pub mod MatrixRows
 pub mod OrderLemmas
 pub mod Reading
 pub mod RunLemmas
+pub mod WaiterLemmas

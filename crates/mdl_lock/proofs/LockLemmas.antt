@@ -1,19 +1,13 @@
 -- The waiter that is found first is the one that is admitted.
 use Rattle.std.proofs.Common.{◌≡◌, ℕ, ◌≤◌, Bool, true, false, cond, ◌&&◌, List, [], ◌∷◌, ◌++◌, Option, Some, None, refl, sym, ◌∙◌, ap, subst, arith, append_assoc, append-nil, zero, suc}
 use Rattle.std.specs.List.{find, All, count_by}
-use Rattle.std.proofs.lemmas.List.Elements.{All-head, All-tail}
 use Rattle.std.proofs.lemmas.List.Sums.{sum_by-cons}
 use Rattle.std.proofs.lemmas.Bool.{false_from_ne_true}
 use Rattle.std.proofs.lemmas.Bool.Decides.{nat_tests}
-use Rattle.std.specs.Option.{option_map}
-use Rattle.std.specs.FinSet as set
-use Rattle.std.specs.Ordering.{nat_cmp}
 use Rattle.mdl_book.specs.declared.ticket.Ticket.{Ticket}
-use Rattle.mdl_book.specs.Tickets.{is_ticket, ticket_id, ticket_of}
-use Rattle.mdl_book.specs.SessionSets.{is_session, IsEverySession}
+use Rattle.mdl_book.specs.Tickets.{is_ticket, ticket_of}
 use Rattle.mdl_book.specs.declared.book_view.BookView.{BookView}
-use Rattle.mdl_book.specs.Books.{lock_kind, next_grantable, admitting}
-use Rattle.mdl_book.proofs.FastLemmas.{next_grantable-none}
+use Rattle.mdl_book.specs.Books.{lock_kind, admitting}
 use Rattle.mdl_key.specs.declared.namespace.Kind.{Kind}
 use Rattle.mdl_lock.specs.declared.answer.Answer.TheVariants.{Granted}
 use Rattle.mdl_lock.specs.Answering.{answer_text, text_of}
@@ -49,17 +43,6 @@ ticket_of-found p (x ∷ xs) ticket one found =
           rw other (ticket_of-found p xs ticket (omega arith) e)
     ] found
 
--- where all are of sessions, it makes no difference to ask for it
-pub find-numbered : (everyone : set.FinSet nat_cmp) (p : Ticket → Bool) (waiting : List Ticket) → IsEverySession everyone → All IsScriptTicket waiting
-    → find (λ ticket. set.contains everyone ticket.session && p ticket) waiting ≡ find p waiting
-find-numbered everyone p [] every numbered = refl
-find-numbered everyone p (x ∷ xs) every numbered =
-    let this = All-head IsScriptTicket x xs numbered in
-    let one : is_session x.session ≡ true = grind (arith, nat_tests) in
-    let known : set.contains everyone x.session ≡ true = every x.session ∙ one in
-    let rest = find-numbered everyone p xs every (All-tail IsScriptTicket x xs numbered) in
-    rw (known, rest)
-
 -- nothing more is granted where none can be
 pub grants_end : (kind : Kind) (n : ℕ) (lock : Lock) → next_waiter kind lock ≡ None → grants_at_most kind n lock ≡ silent lock
 grants_end kind zero lock none = refl
@@ -70,40 +53,17 @@ pub grants_more : (kind : Kind) (n m : ℕ) (lock : Lock) (ticket : Ticket) → 
     → grants_at_most kind n lock ≡ after_answers (Granted ticket.session ticket.mode ∷ []) (grants_at_most kind m (admitted ticket lock))
 grants_more kind n m lock ticket same some = rw (same, some)
 
--- what a book names as next, where all sessions are asked for
-pub next-lock_of : (everyone : set.FinSet nat_cmp) (lists : BookView) → IsEverySession everyone → IsOrderly (lock_of lists)
-    → next_grantable 0 everyone lists ≡ next_waiter (lock_kind lists) (lock_of lists)
-next-lock_of everyone lists every orderly = next_grantable-none everyone lists ∙ find-numbered everyone _ lists.waiting every orderly.waiters
+-- the waiter that is granted is found by its session and number
+pub record IsNamed (lists : BookView) (ticket : Ticket) : Type 0 where
+  pub there : ticket_of ticket.session ticket.number lists.waiting ≡ Some ticket
+  pub admits : lock_of (admitting ticket.session ticket.number lists) ≡ admitted ticket (lock_of lists)
 
--- the waiter that a session and a number name
-pub record IsNamed (lists : BookView) (id : ℕ × ℕ) (ticket : Ticket) : Type 0 where
-  pub next : next_waiter (lock_kind lists) (lock_of lists) ≡ Some ticket
-  pub there : ticket_of id.0 id.1 lists.waiting ≡ Some ticket
-  pub admits : lock_of (admitting id.0 id.1 lists) ≡ admitted ticket (lock_of lists)
-
-named_by : (lists : BookView) (id : ℕ × ℕ) (next : Option Ticket) → next_waiter (lock_kind lists) (lock_of lists) ≡ next → IsOrderly (lock_of lists)
-    → Some id ≡ option_map ticket_id next → (ticket : Ticket) × IsNamed lists id ticket
-named_by lists id None is orderly named = cc
-named_by lists id (Some ticket) is orderly named =
-    let same : id ≡ ticket_id ticket = cc in
-    let of_script = All-find IsScriptTicket _ lists.waiting ticket orderly.waiters is in
+pub named-next : (lists : BookView) (ticket : Ticket) → next_waiter (lock_kind lists) (lock_of lists) ≡ Some ticket → IsOrderly (lock_of lists) → IsNamed lists ticket
+named-next lists ticket next orderly =
+    let of_script = All-find IsScriptTicket _ lists.waiting ticket orderly.waiters next in
     let one : count_by (is_ticket ticket.session ticket.number) lists.waiting ≤ 1 = rw of_script.1 (omega (arith, orderly.one_each ticket.session)) in
-    let there : ticket_of id.0 id.1 lists.waiting ≡ Some ticket = rw same (ticket_of-found _ lists.waiting ticket one is) in
-    (ticket, record { next = is; there = there; admits = rw (there, same) })
-
-pub named-next : (everyone : set.FinSet nat_cmp) (lists : BookView) (id : ℕ × ℕ) → IsEverySession everyone → IsOrderly (lock_of lists)
-    → Some id ≡ option_map ticket_id (next_grantable 0 everyone lists) → (ticket : Ticket) × IsNamed lists id ticket
-named-next everyone lists id every orderly named = named_by lists id _ refl orderly (rw (← next-lock_of everyone lists every orderly) named)
-
-map_none : {A B : Type 0} (f : A → B) (o : Option A) → None ≡ option_map f o → o ≡ None
-map_none f None e = refl
-map_none f (Some x) e = cc
-
--- a book of this kind names no waiter, so there is none to grant
-pub none-next : (kind : Kind) (everyone : set.FinSet nat_cmp) (lists : BookView) → lock_kind lists ≡ kind → IsEverySession everyone → IsOrderly (lock_of lists)
-    → None ≡ option_map ticket_id (next_grantable 0 everyone lists) → next_waiter kind (lock_of lists) ≡ None
-none-next kind everyone lists same every orderly named =
-    subst (λ k. next_waiter k (lock_of lists) ≡ None) same (sym (next-lock_of everyone lists every orderly) ∙ map_none ticket_id _ named)
+    let there = ticket_of-found _ lists.waiting ticket one next in
+    record { there = there; admits = rw there refl }
 
 -- what was told where nothing is left to tell
 pub told_end : (kind : Kind) (n : ℕ) (lock : Lock) (out whole : List ℕ) → next_waiter kind lock ≡ None

@@ -25,7 +25,7 @@ use Rattle.mdl_lock.specs.Locks.{lock_of, IsScriptTicket, IsOrderly, tickets_of}
 use Rattle.mdl_lock.proofs.FindLemmas.{All-find, count-first, place_inside}
 
 -- 1 where a ticket passes, and else 0
-abbrev one_if : (Ticket → Bool) → Ticket → ℕ
+abbrev pub one_if : (Ticket → Bool) → Ticket → ℕ
 one_if p ticket = cond (p ticket) 1 0
 
 -- where none passes, none is counted

@@ -4,6 +4,7 @@ use Rattle.mdl_key.specs.Modes.{kind_of}
 use Rattle.mdl_book.specs.Granting.{IsLawful}
 use Rattle.mdl_lock.specs.Answers.{Lock}
 use Rattle.mdl_lock.specs.Locks.{lock_of}
+use Rattle.mdl_lock.specs.Output.{ForgetsNobody}
 use Rattle.mdl_lock.proofs.ForgottenLemmas.{forgets_nobody_throughout}
 use Rattle.mdl_lock.proofs.LawfulLemmas.{lawful_throughout}
 use Rattle.mdl_lock.proofs.OrderLemmas.{orderly_free}
@@ -27,6 +28,13 @@ returns-in_err-obey-clause-none_forgotten c = forgets_nobody_throughout _ _
 
 pub returns-clause-none_forgotten : goal.returns-clause-none_forgotten
 returns-clause-none_forgotten c = forgets_nobody_throughout _ _
+
+pub obey-requires-clause-none_forgotten : goal.obey-requires-clause-none_forgotten
+obey-requires-clause-none_forgotten c =
+    let book = c.loop-command.book in
+    let so = c.loop-command.invariant in
+    let nobody = forgets_nobody_throughout c.args.kind c.args.commands.now c.loop-command.command-index in
+    subst (λ k. ForgetsNobody k (lock_of book)) (sym so.kind) (subst (ForgetsNobody c.args.kind) (sym so.left) nobody)
 
 pub loop-command-init : goal.loop-command-init
 loop-command-init c = rw c.new-book.ensures (record {

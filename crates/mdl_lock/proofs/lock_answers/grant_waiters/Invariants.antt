@@ -4,7 +4,7 @@ use Rattle.std.specs.String.{string_bytes}
 use Rattle.mdl_book.specs.Books.{lock_kind}
 use Rattle.mdl_lock.specs.Answering.{text_of}
 use Rattle.mdl_lock.specs.Answers.{grants_at_most, grants_until_none}
-use Rattle.mdl_lock.specs.Locks.{lock_of, IsOrderly}
+use Rattle.mdl_lock.specs.Locks.{lock_of, AreInModes, IsOrderly}
 use Rattle.mdl_lock.proofs.lock_answers.grant_waiters.Given as goal
 
 abbrev pub invariant-loop-turn : goal.invariant-loop-turn
@@ -17,4 +17,5 @@ invariant-loop-turn l =
       left : rest.lock ≡ whole.lock;
       key : l.book.key ≡ l.fn.book.key;
       orderly : IsOrderly (lock_of l.book);
+      hopeful : AreInModes l.hopeful kind (lock_of l.book);
     }
