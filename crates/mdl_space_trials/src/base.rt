@@ -8,7 +8,7 @@ mod books;
 mod deadlocks;
 mod definitions;
 mod keys;
-mod rows;
+pub(crate) mod rows;
 mod strength;
 mod syntax;
 mod texts;

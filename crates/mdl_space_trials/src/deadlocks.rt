@@ -1,5 +1,7 @@
 //! Deadlocks, and the victims of searches, as rows of calls.
 use crate::acts::{Act, Row};
+use crate::base;
+use crate::base::rows::are_right;
 use crate::room::{COMMIT, GLOBAL, OTHER_TABLE as B, Story, TABLE as A, first_wrong};
 use mdl_key::Mode;
 use mdl_space::{Attempt, Begun, Ended, Place, Poll, Search, Settled, TimedOut};
@@ -100,12 +102,12 @@ const BEHIND_A_KILLED_WAIT: &[Row] = &[
 ];
 
 pub(crate) const DEADLOCKS: &[Story] = &[
-    ("each search breaks one cycle", TWO_CYCLES),
-    ("of the shortest cycles the least is chosen", LEAST_CYCLE),
-    ("the shortest cycle is chosen", SHORTEST_CYCLE),
-    ("of a longer cycle one falls", LONGER_CYCLE),
-    ("lost waits are in no cycle", LOST_WAITS),
-    (
+    Story("each search breaks one cycle", TWO_CYCLES),
+    Story("of the shortest cycles the least is chosen", LEAST_CYCLE),
+    Story("the shortest cycle is chosen", SHORTEST_CYCLE),
+    Story("of a longer cycle one falls", LONGER_CYCLE),
+    Story("lost waits are in no cycle", LOST_WAITS),
+    Story(
         "nobody is waited for behind a killed wait",
         BEHIND_A_KILLED_WAIT,
     ),
@@ -114,16 +116,21 @@ pub(crate) const DEADLOCKS: &[Story] = &[
 // A lock, the mode in which one session holds it, and the mode in which another session requests it.
 type Wish = (Place, Mode, Mode);
 
-// Sessions 1 and 2 each request a lock of the other, and a search has to choose this victim. Returns the index of the first call that goes wrong.
-fn first_wrong_between(alloc: Global, first: Wish, second: Wish, victim: u16) -> Option<usize> {
-    let rows = [
-        (2, Act::TryNow(first.0, first.1, Ok(Attempt::Granted(1)))),
-        (1, Act::TryNow(second.0, second.1, Ok(Attempt::Granted(1)))),
-        (1, Act::BeginWait(first.0, first.2, Ok(Begun::Waiting(1)))),
-        (2, Act::BeginWait(second.0, second.2, Ok(Begun::Waiting(1)))),
-        (1, Act::Search(Ok(Search::Victim(victim)))),
-    ];
-    first_wrong(alloc, &rows)
+// Sessions 1 and 2 each request a lock of the other, and a search has to choose this victim.
+struct Clash(Wish, Wish, u16);
+
+impl base::rows::Row for Clash {
+    fn goes_so(&self, alloc: Global) -> bool {
+        let Clash(first, second, victim) = self;
+        let rows = [
+            (2, Act::TryNow(first.0, first.1, Ok(Attempt::Granted(1)))),
+            (1, Act::TryNow(second.0, second.1, Ok(Attempt::Granted(1)))),
+            (1, Act::BeginWait(first.0, first.2, Ok(Begun::Waiting(1)))),
+            (2, Act::BeginWait(second.0, second.2, Ok(Begun::Waiting(1)))),
+            (1, Act::Search(Ok(Search::Victim(*victim)))),
+        ];
+        first_wrong(alloc, &rows).is_none()
+    }
 }
 
 const LIGHT_COMMIT: Wish = (COMMIT, Mode::X, Mode::S);
@@ -134,23 +141,20 @@ const HEAVY_GLOBAL: Wish = (GLOBAL, Mode::IX, Mode::S);
 
 const HEAVY_TABLE: Wish = (B, Mode::SR, Mode::X);
 
-const VICTIMS: &[(Wish, Wish, u16)] = &[
-    (LIGHT_COMMIT, HEAVY_TABLE, 1),
-    (LIGHT_COMMIT, HEAVY_GLOBAL, 1),
-    (LIGHT_TABLE, HEAVY_GLOBAL, 1),
-    ((A, Mode::X, Mode::SWLP), (B, Mode::SU, Mode::SU), 1),
-    ((A, Mode::X, Mode::SW), (B, Mode::SW, Mode::SRO), 1),
+const VICTIMS: &[Clash] = &[
+    Clash(LIGHT_COMMIT, HEAVY_TABLE, 1),
+    Clash(LIGHT_COMMIT, HEAVY_GLOBAL, 1),
+    Clash(LIGHT_TABLE, HEAVY_GLOBAL, 1),
+    Clash((A, Mode::X, Mode::SWLP), (B, Mode::SU, Mode::SU), 1),
+    Clash((A, Mode::X, Mode::SW), (B, Mode::SW, Mode::SRO), 1),
     // At equal weights the session with the greatest number is the victim.
-    (LIGHT_TABLE, LIGHT_COMMIT, 2),
-    (HEAVY_GLOBAL, HEAVY_TABLE, 2),
-    ((A, Mode::SU, Mode::SU), (GLOBAL, Mode::S, Mode::IX), 2),
-    (HEAVY_TABLE, LIGHT_TABLE, 2),
+    Clash(LIGHT_TABLE, LIGHT_COMMIT, 2),
+    Clash(HEAVY_GLOBAL, HEAVY_TABLE, 2),
+    Clash((A, Mode::SU, Mode::SU), (GLOBAL, Mode::S, Mode::IX), 2),
+    Clash(HEAVY_TABLE, LIGHT_TABLE, 2),
 ];
 
 #[test]
 fn the_lightest_wish_falls(rt: HostRuntime) {
-    for (number, (first, second, victim)) in VICTIMS.iter().enumerate() {
-        let wrong = first_wrong_between(rt.alloc(), *first, *second, *victim);
-        assert!(rt; wrong.is_none(), "case {number}: {wrong:?}");
-    }
+    are_right(&rt, rt.alloc(), VICTIMS);
 }

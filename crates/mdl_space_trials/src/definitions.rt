@@ -130,7 +130,7 @@ const REFUSED: &[Row] = &[
 ];
 
 pub(crate) const DEFINITIONS: &[Story] = &[
-    ("definitions are read and changed", CHANGES),
-    ("definitions are read with a cache", WITH_A_CACHE),
-    ("reads and changes are refused", REFUSED),
+    Story("definitions are read and changed", CHANGES),
+    Story("definitions are read with a cache", WITH_A_CACHE),
+    Story("reads and changes are refused", REFUSED),
 ];

@@ -98,7 +98,11 @@ fn hold_the_same(space: &CoreSpace, contexts: &[Context<CoreSpace>], plain: &Pla
     for who in 1..SESSIONS + 1 {
         let context = &contexts[usize::from(who) - 1];
         let is_held = match space.held(who) {
-            Ok(held) => plain.holds(who, held.as_slice()),
+            Ok(held) => {
+                let is_so = plain.holds(who, held.as_slice());
+                drop(held);
+                is_so
+            }
             Err(_) => false,
         };
         if !is_held || context.savepoint() != plain.mark_of(who) {

@@ -136,14 +136,14 @@ const APART: &[Row] = &[
 ];
 
 pub(crate) const LIVES: &[Story] = &[
-    ("a writer waits for readers", READERS_AND_A_WRITER),
-    ("a granted wait holds its lock", GRANTED_UNENDED),
-    (
+    Story("a writer waits for readers", READERS_AND_A_WRITER),
+    Story("a granted wait holds its lock", GRANTED_UNENDED),
+    Story(
         "those behind wait until a lost wait is ended",
         BEHIND_A_LOST_WAIT,
     ),
-    ("a kill hits one wait", KILLS),
-    ("a clone overtakes", CLONES),
-    ("one release grants all that can be", ONE_RELEASE),
-    ("places and tickets stand apart", APART),
+    Story("a kill hits one wait", KILLS),
+    Story("a clone overtakes", CLONES),
+    Story("one release grants all that can be", ONE_RELEASE),
+    Story("places and tickets stand apart", APART),
 ];

@@ -1,33 +1,34 @@
 //! Limits and places of the space.
 use crate::acts::{Act, Row};
+use crate::base;
+use crate::base::rows::are_right;
 use crate::room::{Of, Room, SCHEMA};
 use crate::wishes::{Shown, Wish};
 use mdl_key::Mode;
 use mdl_space::{Attempt, CoreSpace, NewError, Place, SpaceError};
 use std::alloc::Global;
 
-const LIMITS: &[(u16, u16, Option<NewError>)] = &[
-    (0, 0, Some(NewError::BadPlaces)),
-    (257, 1, Some(NewError::BadPlaces)),
-    (1, 0, Some(NewError::BadSessions)),
-    (256, 65, Some(NewError::BadSessions)),
-    (1, 1, None),
-    (256, 64, None),
-];
+// Numbers of places and of sessions, and why there can't be such a space.
+struct Limit(u16, u16, Option<NewError>);
 
-// Returns why there can't be a space with these numbers of places and sessions.
-fn fault(alloc: Global, places: u16, sessions: u16) -> Option<NewError> {
-    CoreSpace::new(alloc, places, sessions).err()
+impl base::rows::Row for Limit {
+    fn goes_so(&self, alloc: Global) -> bool {
+        CoreSpace::new(alloc, self.0, self.1).err() == self.2
+    }
 }
+
+const LIMITS: &[Limit] = &[
+    Limit(0, 0, Some(NewError::BadPlaces)),
+    Limit(257, 1, Some(NewError::BadPlaces)),
+    Limit(1, 0, Some(NewError::BadSessions)),
+    Limit(256, 65, Some(NewError::BadSessions)),
+    Limit(1, 1, None),
+    Limit(256, 64, None),
+];
 
 #[test]
 fn spaces_have_their_limits(rt: HostRuntime) {
-    for (places, sessions, wanted) in LIMITS {
-        assert!(rt;
-            fault(rt.alloc(), *places, *sessions) == *wanted,
-            "{places} places, {sessions} sessions"
-        );
-    }
+    are_right(&rt, rt.alloc(), LIMITS);
 }
 
 // Whether a place has no key.

@@ -2,6 +2,7 @@
 //!
 //! `rt try --test --fail-alloc N` refuses the allocation of that number. Then the call that needed it is made again.
 use crate::acts::{Act, Row};
+use crate::base::rows::{Story, are_told_so};
 use crate::room::{ORDINARY, OTHER_TABLE, Room, TABLE};
 use crate::wishes::{Shown, Wish};
 use mdl_key::Mode;
@@ -149,24 +150,31 @@ const CHANGES: &[Row] = &[
 ];
 
 // What calls show, the calls that may take memory, and then those that take none.
-const STORIES: &[(&str, &[Row], &[Row])] = &[
-    ("a crowd", CROWD, GRANTED),
-    ("searches", SEARCHES, &[]),
-    ("reads and changes", CHANGES, &[]),
+struct Scarce(&'static str, &'static [Row], &'static [Row]);
+
+const STORIES: &[Scarce] = &[
+    Scarce("a crowd", CROWD, GRANTED),
+    Scarce("searches", SEARCHES, &[]),
+    Scarce("reads and changes", CHANGES, &[]),
 ];
 
-// Returns the index of the first call of a list that goes wrong in a new room.
-fn first_lost_of_new(alloc: Global, taking: &[Row], sparing: &[Row]) -> Option<usize> {
-    match new_room(alloc) {
-        Some(mut room) => first_lost(&mut room, taking).or(room.first_wrong(sparing)),
-        None => Some(taking.len()),
+// The calls are made in a new room.
+impl Story for Scarce {
+    fn name(&self) -> &'static str {
+        self.0
+    }
+
+    fn first_wrong(&self, alloc: Global) -> Option<usize> {
+        let Some(mut room) = new_room(alloc) else {
+            return Some(self.1.len());
+        };
+        let wrong = first_lost(&mut room, self.1).or(room.first_wrong(self.2));
+        drop(room);
+        wrong
     }
 }
 
 #[test]
 fn calls_outlive_want_of_memory(rt: HostRuntime) {
-    for (what, taking, sparing) in STORIES {
-        let wrong = first_lost_of_new(rt.alloc(), taking, sparing);
-        assert!(rt; wrong.is_none(), "{what}: {wrong:?}");
-    }
+    are_told_so(&rt, rt.alloc(), STORIES);
 }

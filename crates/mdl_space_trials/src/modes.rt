@@ -1,5 +1,7 @@
 //! Held tickets that get other modes: upgrades, downgrades and merges, and each refusal, alone and together with those that are checked later.
 use crate::acts::{Act, Row};
+use crate::base;
+use crate::base::rows::are_right;
 use crate::room::{Room, SCHEMA, Story, TABLE};
 use mdl_key::Mode;
 use mdl_space::{Attempt, Begun, Ended, Held, Poll, Settled, SpaceError, TimedOut, Upgrade};
@@ -162,183 +164,185 @@ const WHILE_WAITING: &[Row] = &[
 ];
 
 pub(crate) const LIVES: &[Story] = &[
-    (
+    Story(
         "a session's own tickets are in no upgrade's way",
         BESIDE_OWN_TICKETS,
     ),
-    (
+    Story(
         "an upgrade that would wait leaves the ticket as it was",
         BESIDE_OTHERS,
     ),
-    ("an upgrade goes before no stronger wish", BEHIND_WAITERS),
-    ("a downgrade grants those who wait", DOWNGRADES),
-    ("two tickets become one", MERGES),
-    ("other modes are refused", REFUSED),
-    ("who waits gets no stronger mode", WHILE_WAITING),
+    Story("an upgrade goes before no stronger wish", BEHIND_WAITERS),
+    Story("a downgrade grants those who wait", DOWNGRADES),
+    Story("two tickets become one", MERGES),
+    Story("other modes are refused", REFUSED),
+    Story("who waits gets no stronger mode", WHILE_WAITING),
 ];
 
 // A held mode, a call for another mode, and the ticket's mode afterwards.
-const CHANGES: &[(Mode, Act, Mode)] = &[
-    (
+struct Changed(Mode, Act, Mode);
+
+const CHANGES: &[Changed] = &[
+    Changed(
         Mode::SU,
         Act::Upgrade(1, Mode::SNW, Ok(Upgrade::Upgraded)),
         Mode::SNW,
     ),
-    (
+    Changed(
         Mode::SU,
         Act::Upgrade(1, Mode::SNRW, Ok(Upgrade::Upgraded)),
         Mode::SNRW,
     ),
-    (
+    Changed(
         Mode::SU,
         Act::Upgrade(1, Mode::X, Ok(Upgrade::Upgraded)),
         Mode::X,
     ),
-    (
+    Changed(
         Mode::SNW,
         Act::Upgrade(1, Mode::SNRW, Ok(Upgrade::Upgraded)),
         Mode::SNRW,
     ),
-    (
+    Changed(
         Mode::SNW,
         Act::Upgrade(1, Mode::X, Ok(Upgrade::Upgraded)),
         Mode::X,
     ),
-    (
+    Changed(
         Mode::SNRW,
         Act::Upgrade(1, Mode::X, Ok(Upgrade::Upgraded)),
         Mode::X,
     ),
-    (
+    Changed(
         Mode::X,
         Act::Upgrade(1, Mode::X, Ok(Upgrade::Upgraded)),
         Mode::X,
     ),
-    (
+    Changed(
         Mode::X,
         Act::Upgrade(1, Mode::SNRW, Ok(Upgrade::Upgraded)),
         Mode::X,
     ),
-    (
+    Changed(
         Mode::SNRW,
         Act::Upgrade(1, Mode::SNW, Ok(Upgrade::Upgraded)),
         Mode::SNRW,
     ),
-    (
+    Changed(
         Mode::SU,
         Act::Upgrade(1, Mode::SR, Ok(Upgrade::Upgraded)),
         Mode::SU,
     ),
-    (
+    Changed(
         Mode::SW,
         Act::Upgrade(1, Mode::SR, Ok(Upgrade::Upgraded)),
         Mode::SW,
     ),
-    (
+    Changed(
         Mode::S,
         Act::Upgrade(1, Mode::SH, Ok(Upgrade::Upgraded)),
         Mode::S,
     ),
-    (
+    Changed(
         Mode::SU,
         Act::Upgrade(1, Mode::SW, Err(NOT_UPGRADABLE)),
         Mode::SU,
     ),
-    (
+    Changed(
         Mode::SU,
         Act::Upgrade(1, Mode::SRO, Err(NOT_UPGRADABLE)),
         Mode::SU,
     ),
-    (
+    Changed(
         Mode::SRO,
         Act::Upgrade(1, Mode::SNRW, Err(NOT_UPGRADABLE)),
         Mode::SRO,
     ),
-    (
+    Changed(
         Mode::SW,
         Act::Upgrade(1, Mode::X, Err(NOT_UPGRADABLE)),
         Mode::SW,
     ),
-    (
+    Changed(
         Mode::SWLP,
         Act::Upgrade(1, Mode::SU, Err(NOT_UPGRADABLE)),
         Mode::SWLP,
     ),
-    (
+    Changed(
         Mode::SR,
         Act::Upgrade(1, Mode::X, Err(NOT_UPGRADABLE)),
         Mode::SR,
     ),
-    (
+    Changed(
         Mode::SH,
         Act::Upgrade(1, Mode::SR, Err(NOT_UPGRADABLE)),
         Mode::SH,
     ),
-    (
+    Changed(
         Mode::S,
         Act::Upgrade(1, Mode::IX, Err(NOT_UPGRADABLE)),
         Mode::S,
     ),
-    (
+    Changed(
         Mode::X,
         Act::Upgrade(1, Mode::IX, Err(NOT_UPGRADABLE)),
         Mode::X,
     ),
-    (Mode::X, Act::Downgrade(1, Mode::SU, Ok(())), Mode::SU),
-    (Mode::X, Act::Downgrade(1, Mode::SNW, Ok(())), Mode::SNW),
-    (Mode::X, Act::Downgrade(1, Mode::SNRW, Ok(())), Mode::SNRW),
-    (Mode::SNW, Act::Downgrade(1, Mode::SU, Ok(())), Mode::SU),
-    (
+    Changed(Mode::X, Act::Downgrade(1, Mode::SU, Ok(())), Mode::SU),
+    Changed(Mode::X, Act::Downgrade(1, Mode::SNW, Ok(())), Mode::SNW),
+    Changed(Mode::X, Act::Downgrade(1, Mode::SNRW, Ok(())), Mode::SNRW),
+    Changed(Mode::SNW, Act::Downgrade(1, Mode::SU, Ok(())), Mode::SU),
+    Changed(
         Mode::X,
         Act::Downgrade(1, Mode::X, Err(NOT_UPGRADABLE)),
         Mode::X,
     ),
-    (
+    Changed(
         Mode::X,
         Act::Downgrade(1, Mode::SR, Err(NOT_UPGRADABLE)),
         Mode::X,
     ),
-    (
+    Changed(
         Mode::X,
         Act::Downgrade(1, Mode::IX, Err(NOT_UPGRADABLE)),
         Mode::X,
     ),
-    (
+    Changed(
         Mode::SNRW,
         Act::Downgrade(1, Mode::SNW, Err(NOT_UPGRADABLE)),
         Mode::SNRW,
     ),
-    (
+    Changed(
         Mode::SNRW,
         Act::Downgrade(1, Mode::SU, Err(NOT_UPGRADABLE)),
         Mode::SNRW,
     ),
-    (
+    Changed(
         Mode::SNW,
         Act::Downgrade(1, Mode::SNW, Err(NOT_UPGRADABLE)),
         Mode::SNW,
     ),
-    (
+    Changed(
         Mode::SNW,
         Act::Downgrade(1, Mode::SR, Err(NOT_UPGRADABLE)),
         Mode::SNW,
     ),
-    (
+    Changed(
         Mode::SU,
         Act::Downgrade(1, Mode::SU, Err(NOT_UPGRADABLE)),
         Mode::SU,
     ),
-    (
+    Changed(
         Mode::SU,
         Act::Downgrade(1, Mode::SR, Err(NOT_UPGRADABLE)),
         Mode::SU,
     ),
-    (
+    Changed(
         Mode::SW,
         Act::Downgrade(1, Mode::SR, Err(NOT_UPGRADABLE)),
         Mode::SW,
     ),
-    (
+    Changed(
         Mode::SU,
         Act::Downgrade(1, Mode::X, Err(NOT_UPGRADABLE)),
         Mode::SU,
@@ -352,27 +356,28 @@ fn holds(room: &Room, mode: Mode) -> bool {
         place: TABLE,
         mode,
     }];
-    match room.held(1) {
-        Ok(tickets) => tickets.as_slice() == wanted,
-        Err(_) => false,
-    }
+    let Ok(tickets) = room.held(1) else {
+        return false;
+    };
+    let is_so = tickets.as_slice() == wanted;
+    drop(tickets);
+    is_so
 }
 
 // Whether a ticket of the first session in a new room has the wanted mode after a call.
-fn is_right(alloc: Global, held: Mode, act: Act, mode: Mode) -> bool {
-    let Some(mut room) = Room::new(alloc) else {
-        return false;
-    };
-    let is_so = room.make(1, Act::TryNow(TABLE, held, Ok(Attempt::Granted(1)))) == Some(true)
-        && room.make(1, act) == Some(true)
-        && holds(&room, mode);
-    drop(room);
-    is_so
+impl base::rows::Row for Changed {
+    fn goes_so(&self, alloc: Global) -> bool {
+        let Some(mut room) = Room::new(alloc) else {
+            return false;
+        };
+        let held = Act::TryNow(TABLE, self.0, Ok(Attempt::Granted(1)));
+        let is_so = room.first_wrong(&[(1, held), (1, self.1)]).is_none() && holds(&room, self.2);
+        drop(room);
+        is_so
+    }
 }
 
 #[test]
 fn each_mode_has_its_upgrades_and_downgrades(rt: HostRuntime) {
-    for (number, (held, act, mode)) in CHANGES.iter().enumerate() {
-        assert!(rt; is_right(rt.alloc(), *held, *act, *mode), "case {number}");
-    }
+    are_right(&rt, rt.alloc(), CHANGES);
 }

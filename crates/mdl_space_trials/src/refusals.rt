@@ -104,8 +104,8 @@ const WAITS: &[Row] = &[
 ];
 
 pub(crate) const REFUSALS: &[Story] = &[
-    ("requests are refused", REQUESTS),
-    ("who waits asks for nothing else", WHILE_WAITING),
-    ("clones and releases are refused", CLONES_AND_RELEASES),
-    ("waits are refused", WAITS),
+    Story("requests are refused", REQUESTS),
+    Story("who waits asks for nothing else", WHILE_WAITING),
+    Story("clones and releases are refused", CLONES_AND_RELEASES),
+    Story("waits are refused", WAITS),
 ];

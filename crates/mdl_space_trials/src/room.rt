@@ -3,6 +3,7 @@ ghost use Rattle.mdl_core.specs.CoreJoins.{SpeaksFor};
 ghost use Rattle.mdl_space_trials.specs.Serving.{SpeaksForAll};
 
 use crate::acts::{Act, Row, call};
+use crate::base::rows::{self, are_told_so};
 use crate::{deadlocks, definitions, life, modes, refusals};
 use mdl_book::Book;
 use mdl_key::{Key, KeyError};
@@ -40,7 +41,17 @@ pub(crate) const ORDINARY: &[Of] = &[
 ];
 
 /// What rows of calls show, and the rows.
-pub(crate) type Story = (&'static str, &'static [Row]);
+pub(crate) struct Story(pub(crate) &'static str, pub(crate) &'static [Row]);
+
+impl rows::Story for Story {
+    fn name(&self) -> &'static str {
+        self.0
+    }
+
+    fn first_wrong(&self, alloc: Global) -> Option<usize> {
+        first_wrong(alloc, self.1)
+    }
+}
 
 fn new_key(alloc: Global, of: Of) -> Result<Key, KeyError> {
     match of {
@@ -198,9 +209,6 @@ const STORIES: &[&[Story]] = &[
 #[test]
 fn a_space_does_as_told(rt: HostRuntime) {
     for stories in STORIES {
-        for (what, rows) in *stories {
-            let wrong = first_wrong(rt.alloc(), rows);
-            assert!(rt; wrong.is_none(), "{what}: {wrong:?}");
-        }
+        are_told_so(&rt, rt.alloc(), stories);
     }
 }

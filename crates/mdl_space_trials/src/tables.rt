@@ -27,10 +27,12 @@ pub(crate) const KEYS: &[Of] = &[
 
 // Whether exactly these are the places of a schema's tables, in this order.
 fn tells(room: &mut Room, schema: &str, places: &[Place]) -> bool {
-    match room.tables_of(schema) {
-        Ok(told) => told.as_slice() == places,
-        Err(_) => false,
-    }
+    let Ok(told) = room.tables_of(schema) else {
+        return false;
+    };
+    let is_so = told.as_slice() == places;
+    drop(told);
+    is_so
 }
 
 const CREATED: &[Row] = &[

@@ -1,4 +1,5 @@
 //! Trials of a room that take more than rows of calls.
+use crate::base::rows::{Row, are_right};
 use crate::room::Room;
 use crate::{books, full, limits, tables};
 use std::alloc::Global;
@@ -6,10 +7,15 @@ use std::alloc::Global;
 /// What is tried in a room.
 #[derive(Clone, Copy)]
 enum Trial {
+    // The books list who holds and who waits.
     Books,
+    // The tables of a schema are told.
     Tables,
+    // Keys keep their places.
     Places,
+    // A definition has a last version.
     Versions,
+    // A lock is full.
     FullLock,
 }
 
@@ -34,25 +40,27 @@ impl Trial {
     }
 }
 
-// Whether a trial succeeds in a new room.
-fn succeeds(alloc: Global, trial: Trial) -> bool {
-    match trial.room(alloc) {
-        Some(mut room) => trial.succeeds(&mut room),
-        None => false,
+// Whether the trial succeeds in a new room.
+impl Row for Trial {
+    fn goes_so(&self, alloc: Global) -> bool {
+        let Some(mut room) = self.room(alloc) else {
+            return false;
+        };
+        let succeeds = self.succeeds(&mut room);
+        drop(room);
+        succeeds
     }
 }
 
-const TRIALS: &[(&str, Trial)] = &[
-    ("the books list who holds and who waits", Trial::Books),
-    ("the tables of a schema are told", Trial::Tables),
-    ("keys keep their places", Trial::Places),
-    ("a definition has a last version", Trial::Versions),
-    ("a lock is full", Trial::FullLock),
+const TRIALS: &[Trial] = &[
+    Trial::Books,
+    Trial::Tables,
+    Trial::Places,
+    Trial::Versions,
+    Trial::FullLock,
 ];
 
 #[test]
 fn a_space_stands_its_trials(rt: HostRuntime) {
-    for (what, trial) in TRIALS {
-        assert!(rt; succeeds(rt.alloc(), *trial), "{what}");
-    }
+    are_right(&rt, rt.alloc(), TRIALS);
 }

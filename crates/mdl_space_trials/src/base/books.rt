@@ -7,8 +7,8 @@ mod sessions;
 mod steps;
 mod wishes;
 
-use crate::base::rows::none_is_wrong;
-use steps::{Life, first_wrong};
+use crate::base::rows::are_told_so;
+use steps::Life;
 
 const LIVES: &[&[Life]] = &[
     granting::LIVES,
@@ -21,9 +21,6 @@ const LIVES: &[&[Life]] = &[
 #[test]
 fn answers_step_by_step(rt: HostRuntime) {
     for lives in LIVES {
-        for (what, kind, steps) in *lives {
-            let wrong = first_wrong(rt.alloc(), *kind, steps);
-            none_is_wrong(&rt, what, wrong);
-        }
+        are_told_so(&rt, rt.alloc(), lives);
     }
 }

@@ -3,7 +3,7 @@ mod caches;
 mod columns;
 mod standings;
 
-use crate::base::rows::none_is_wrong;
+use crate::base::rows::{Story, are_told_so};
 use columns::{Names, columns};
 use mdl_defs::{Change, Column, DefError, Definition, apply};
 use std::alloc::Global;
@@ -180,18 +180,22 @@ fn new_change(alloc: Global, act: Act) -> Option<Change> {
 
 // Returns a copy of the change.
 fn change(alloc: Global, act: Act) -> Option<Change> {
-    match new_change(alloc, act) {
-        Some(change) => change.clone().ok(),
-        None => None,
-    }
+    let change = new_change(alloc, act)?;
+    let copy = change.clone().ok();
+    drop(change);
+    copy
 }
 
 // Returns the definition after a change, or the refusal.
 fn outcome(alloc: Global, before: Option<What>, act: Act) -> Result<Option<Definition>, DefError> {
-    match change(alloc, act) {
-        Some(change) => apply(alloc, &standing(alloc, before), &change),
-        None => Err(DefError::OutOfMemory),
-    }
+    let Some(change) = change(alloc, act) else {
+        return Err(DefError::OutOfMemory);
+    };
+    let standing = standing(alloc, before);
+    let outcome = apply(alloc, &standing, &change);
+    drop(standing);
+    drop(change);
+    outcome
 }
 
 // Whether this is the wanted definition.
@@ -214,26 +218,31 @@ fn is_changed_so(alloc: Global, (before, act, want): Row) -> bool {
     is_so
 }
 
-// Returns the index of the first row that is wrong.
-fn first_wrong(alloc: Global, rows: &[Row]) -> Option<usize> {
-    for (place, row) in rows.iter().enumerate() {
-        if !is_changed_so(alloc, *row) {
-            return Some(place);
-        }
+// What rows show, and the rows.
+struct Changed(&'static str, &'static [Row]);
+
+impl Story for Changed {
+    fn name(&self) -> &'static str {
+        self.0
     }
-    None
+
+    fn first_wrong(&self, alloc: Global) -> Option<usize> {
+        for (place, row) in self.1.iter().enumerate() {
+            if !is_changed_so(alloc, *row) {
+                return Some(place);
+            }
+        }
+        None
+    }
 }
 
-const CHANGED: &[(&str, &[Row])] = &[
-    ("created", CREATED),
-    ("dropped and put", DROPPED_AND_PUT),
-    ("gained and lost", GAINED_AND_LOST),
+const CHANGED: &[Changed] = &[
+    Changed("created", CREATED),
+    Changed("dropped and put", DROPPED_AND_PUT),
+    Changed("gained and lost", GAINED_AND_LOST),
 ];
 
 #[test]
 fn changes_what_stands(rt: HostRuntime) {
-    for (what, rows) in CHANGED {
-        let wrong = first_wrong(rt.alloc(), rows);
-        none_is_wrong(&rt, what, wrong);
-    }
+    are_told_so(&rt, rt.alloc(), CHANGED);
 }

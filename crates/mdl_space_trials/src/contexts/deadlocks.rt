@@ -123,13 +123,13 @@ const TWO_CIRCLES: &[Row] = &[
 
 /// Memory may be refused once in these stories.
 pub(super) const STORIES_OF_TWO: &[Story] = &[
-    ("of equals the greater number is the victim", EQUALS),
-    ("whoever weighs less is the victim", LIGHTER),
+    Story("of equals the greater number is the victim", EQUALS),
+    Story("whoever weighs less is the victim", LIGHTER),
 ];
 
 pub(super) const STORIES: &[Story] = &[
-    ("a weak wish in GLOBAL weighs more", WEAK_IN_GLOBAL),
-    ("a weak wish in COMMIT weighs no more", WEAK_IN_COMMIT),
-    ("three in a circle have one victim", THREE),
-    ("one wait closes two circles", TWO_CIRCLES),
+    Story("a weak wish in GLOBAL weighs more", WEAK_IN_GLOBAL),
+    Story("a weak wish in COMMIT weighs no more", WEAK_IN_COMMIT),
+    Story("three in a circle have one victim", THREE),
+    Story("one wait closes two circles", TWO_CIRCLES),
 ];

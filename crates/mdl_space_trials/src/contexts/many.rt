@@ -50,9 +50,10 @@ fn are_locked(hall: &mut Hall) -> bool {
 
 #[test]
 fn many_tables_are_locked(rt: HostRuntime) {
-    let is_done = match Hall::new(rt.alloc(), TABLES) {
-        Ok(mut hall) => are_locked(&mut hall),
-        Err(_) => false,
+    let Ok(mut hall) = Hall::new(rt.alloc(), TABLES) else {
+        panic!(rt; "there is memory for a hall");
     };
-    assert!(rt; is_done);
+    let are_locked = are_locked(&mut hall);
+    drop(hall);
+    assert!(rt; are_locked);
 }

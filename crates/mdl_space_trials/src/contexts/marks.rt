@@ -194,10 +194,10 @@ const FREE_AGAIN: &[Row] = &[
 ];
 
 pub(super) const STORIES: &[Story] = &[
-    ("tickets last as long as they are wanted", WANTED),
-    ("durations change", CHANGED),
-    ("marks are two numbers", TWO_NUMBERS),
-    ("marks are too great", TOO_GREAT),
-    ("explicit tickets slip in front of a mark", IN_FRONT),
-    ("what was locked since a mark is free", FREE_AGAIN),
+    Story("tickets last as long as they are wanted", WANTED),
+    Story("durations change", CHANGED),
+    Story("marks are two numbers", TWO_NUMBERS),
+    Story("marks are too great", TOO_GREAT),
+    Story("explicit tickets slip in front of a mark", IN_FRONT),
+    Story("what was locked since a mark is free", FREE_AGAIN),
 ];

@@ -124,7 +124,7 @@ const TRIES: &[Row] = &[
 
 /// Memory may be refused once in these stories.
 pub(super) const STORIES: &[Story] = &[
-    ("gains and waits outlive it", GAINS_AND_WAITS),
-    ("upgrades outlive it", UPGRADES),
-    ("tries outlive it", TRIES),
+    Story("gains and waits outlive it", GAINS_AND_WAITS),
+    Story("upgrades outlive it", UPGRADES),
+    Story("tries outlive it", TRIES),
 ];

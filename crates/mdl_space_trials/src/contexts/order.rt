@@ -185,35 +185,35 @@ const OF_A_NAME: &[Row] = &[
 ];
 
 pub(super) const STORIES: &[Story] = &[
-    (
+    Story(
         "the statement goes first as the transaction ends",
         X_OF_ENDED_STATEMENT,
     ),
-    (
+    Story(
         "the statement goes first on the way back",
         X_OF_STATEMENT_BACK,
     ),
-    (
+    Story(
         "S of the statement goes first as the transaction ends",
         S_OF_ENDED_STATEMENT,
     ),
-    (
+    Story(
         "S of the statement goes first on the way back",
         S_OF_STATEMENT_BACK,
     ),
-    ("the newest of the statement goes first", STATEMENT),
-    ("the newest of the transaction goes first", TRANSACTION),
-    (
+    Story("the newest of the statement goes first", STATEMENT),
+    Story("the newest of the transaction goes first", TRANSACTION),
+    Story(
         "the newest of the transaction goes first on the way back",
         TRANSACTION_BACK,
     ),
-    (
+    Story(
         "the newest of a name and the transaction goes first",
         NAME_IN_TRANSACTION,
     ),
-    (
+    Story(
         "the newest explicit one of a name goes first",
         EXPLICIT_NAME,
     ),
-    ("the newest of a name goes first", OF_A_NAME),
+    Story("the newest of a name goes first", OF_A_NAME),
 ];

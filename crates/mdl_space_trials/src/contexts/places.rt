@@ -133,8 +133,8 @@ const TRIED: &[Row] = &[
 ];
 
 pub(crate) const STORIES: &[Story] = &[
-    ("by place", BY_PLACE),
-    ("places are learnt", LEARNT),
-    ("a wait at a place", AWAITED),
-    ("tried at a place", TRIED),
+    Story("by place", BY_PLACE),
+    Story("places are learnt", LEARNT),
+    Story("a wait at a place", AWAITED),
+    Story("tried at a place", TRIED),
 ];

@@ -1,4 +1,5 @@
 //! Acts of several sessions as rows.
+use crate::base::rows::{self, are_told_so, none_is_wrong};
 use crate::contexts::acts::{Act, Reply};
 use crate::contexts::{deadlocks, marks, memory, order, places, upgrades, user_locks, waits};
 use crate::hall::Hall;
@@ -40,7 +41,18 @@ fn is_wanted(reply: Option<Reply>, wanted: Reply, lacks_memory: bool) -> bool {
 pub(crate) type Row = (u16, Act, Reply);
 
 /// What rows show, and the rows.
-pub(crate) type Story = (&'static str, &'static [Row]);
+pub(crate) struct Story(pub(crate) &'static str, pub(crate) &'static [Row]);
+
+// Memory is ample.
+impl rows::Story for Story {
+    fn name(&self) -> &'static str {
+        self.0
+    }
+
+    fn first_wrong(&self, alloc: Global) -> Option<usize> {
+        first_wrong(alloc, self.1, false)
+    }
+}
 
 /// Performs acts one after another, and returns the index of the first whose reply isn't the wanted one. If memory may be refused once, the act that
 /// ran out is performed again.
@@ -59,10 +71,12 @@ pub(crate) fn first_wrong_in(hall: &mut Hall, rows: &[Row], lacks_memory: bool) 
 
 // The same in a new hall.
 fn first_wrong(alloc: Global, rows: &[Row], lacks_memory: bool) -> Option<usize> {
-    match Hall::new(alloc, PLACES) {
-        Ok(mut hall) => first_wrong_in(&mut hall, rows, lacks_memory),
-        Err(_) => Some(rows.len()),
-    }
+    let Ok(mut hall) = Hall::new(alloc, PLACES) else {
+        return Some(rows.len());
+    };
+    let wrong = first_wrong_in(&mut hall, rows, lacks_memory);
+    drop(hall);
+    wrong
 }
 
 const STORIES: &[&[Story]] = &[
@@ -78,10 +92,7 @@ const STORIES: &[&[Story]] = &[
 #[test]
 fn contexts_do_as_told(rt: HostRuntime) {
     for stories in STORIES {
-        for (what, rows) in *stories {
-            let wrong = first_wrong(rt.alloc(), rows, false);
-            assert!(rt; wrong.is_none(), "{what}: {wrong:?}");
-        }
+        are_told_so(&rt, rt.alloc(), stories);
     }
 }
 
@@ -96,9 +107,8 @@ const OUTLIVING: &[&[Story]] = &[
 #[test]
 fn contexts_outlive_want_of_memory(rt: HostRuntime) {
     for stories in OUTLIVING {
-        for (what, rows) in *stories {
-            let wrong = first_wrong(rt.alloc(), rows, true);
-            assert!(rt; wrong.is_none(), "{what}: {wrong:?}");
+        for Story(what, rows) in *stories {
+            none_is_wrong(&rt, what, first_wrong(rt.alloc(), rows, true));
         }
     }
 }

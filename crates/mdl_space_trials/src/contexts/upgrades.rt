@@ -147,14 +147,14 @@ const REFUSED: &[Row] = &[
 ];
 
 pub(super) const STORIES: &[Story] = &[
-    ("an upgrade that waited is merged", MERGED),
-    ("a lost upgrade leaves the ticket", LOST),
-    ("a granted upgrade can not be given up", LATE),
-    ("not each mode becomes each other", REFUSED),
+    Story("an upgrade that waited is merged", MERGED),
+    Story("a lost upgrade leaves the ticket", LOST),
+    Story("a granted upgrade can not be given up", LATE),
+    Story("not each mode becomes each other", REFUSED),
 ];
 
 /// Memory may be refused once in these stories.
 pub(super) const STORIES_OF_TWO: &[Story] = &[
-    ("of two upgrades one is the victim", CROSSED),
-    ("own tickets do not block an upgrade", AT_ONCE),
+    Story("of two upgrades one is the victim", CROSSED),
+    Story("own tickets do not block an upgrade", AT_ONCE),
 ];

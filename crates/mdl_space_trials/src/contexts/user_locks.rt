@@ -162,17 +162,17 @@ const BESIDE_A_WRITE: &[Row] = &[
 ];
 
 pub(super) const STORIES: &[Story] = &[
-    ("a wait for a user level lock beside a read", BESIDE_A_READ),
-    (
+    Story("a wait for a user level lock beside a read", BESIDE_A_READ),
+    Story(
         "a wait for a user level lock beside a write",
         BESIDE_A_WRITE,
     ),
-    ("what would be waited for is not had", TRIED),
-    ("a try is refused as a wish is", REFUSED),
-    (
+    Story("what would be waited for is not had", TRIED),
+    Story("a try is refused as a wish is", REFUSED),
+    Story(
         "the ticket of a key that was gained last is found",
         GAINED_LAST,
     ),
-    ("a wait for a user level lock is told", AWAITED),
-    ("user level locks outlast transactions", LASTING),
+    Story("a wait for a user level lock is told", AWAITED),
+    Story("user level locks outlast transactions", LASTING),
 ];

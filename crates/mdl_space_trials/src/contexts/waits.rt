@@ -324,12 +324,12 @@ const REFUSED_BY_THE_SPACE: &[Row] = &[
 ];
 
 pub(super) const STORIES: &[Story] = &[
-    ("who waits does nothing else", MEANWHILE),
-    ("who has a settled wait does nothing else", SETTLED),
-    ("waits end as they are settled", ENDS),
-    ("a lost wait stands in the way", LOST_IN_THE_WAY),
-    ("a granted wait stands in the way", GRANTED_IN_THE_WAY),
-    ("a strong ticket serves behind a waiter", STRONG),
-    ("a weak ticket doesn't serve", WEAK),
-    ("what the space refuses is refused", REFUSED_BY_THE_SPACE),
+    Story("who waits does nothing else", MEANWHILE),
+    Story("who has a settled wait does nothing else", SETTLED),
+    Story("waits end as they are settled", ENDS),
+    Story("a lost wait stands in the way", LOST_IN_THE_WAY),
+    Story("a granted wait stands in the way", GRANTED_IN_THE_WAY),
+    Story("a strong ticket serves behind a waiter", STRONG),
+    Story("a weak ticket doesn't serve", WEAK),
+    Story("what the space refuses is refused", REFUSED_BY_THE_SPACE),
 ];

@@ -72,9 +72,9 @@ const OBTRUSIVE_AT_A_SCHEMA: Steps = &[
 ];
 
 pub(super) const LIVES: &[Life] = &[
-    ("fast tickets of a table", Kind::Object, FAST_AT_A_TABLE),
-    ("fast tickets of a schema", Kind::Scoped, FAST_IN_A_SCHEMA),
-    ("what comes and goes", Kind::Object, NEEDS),
-    ("obtrusive at a table", Kind::Object, OBTRUSIVE_AT_A_TABLE),
-    ("obtrusive at a schema", Kind::Scoped, OBTRUSIVE_AT_A_SCHEMA),
+    Life("fast tickets of a table", Kind::Object, FAST_AT_A_TABLE),
+    Life("fast tickets of a schema", Kind::Scoped, FAST_IN_A_SCHEMA),
+    Life("what comes and goes", Kind::Object, NEEDS),
+    Life("obtrusive at a table", Kind::Object, OBTRUSIVE_AT_A_TABLE),
+    Life("obtrusive at a schema", Kind::Scoped, OBTRUSIVE_AT_A_SCHEMA),
 ];

@@ -125,18 +125,18 @@ const BY_INDEX: Steps = &[
 ];
 
 pub(super) const LIVES: &[Life] = &[
-    ("an ordinary life", Kind::Object, LIFE),
-    ("a schema is served in turn", Kind::Scoped, IN_TURN),
-    (
+    Life("an ordinary life", Kind::Object, LIFE),
+    Life("a schema is served in turn", Kind::Scoped, IN_TURN),
+    Life(
         "other sessions alone are looked at",
         Kind::Object,
         BESIDE_OTHERS,
     ),
-    ("a clone overtakes", Kind::Object, OVERTAKEN),
-    (
+    Life("a clone overtakes", Kind::Object, OVERTAKEN),
+    Life(
         "later and settled waiters count",
         Kind::Object,
         LATER_AND_SETTLED,
     ),
-    ("waiters are granted by their index", Kind::Object, BY_INDEX),
+    Life("waiters are granted by their index", Kind::Object, BY_INDEX),
 ];

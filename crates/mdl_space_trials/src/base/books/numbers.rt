@@ -130,8 +130,8 @@ const CHANGED: Steps = &[
 ];
 
 pub(super) const LIVES: &[Life] = &[
-    ("of twins the first is taken", Kind::Object, TWINS),
-    ("twins change one by one", Kind::Object, TWINS_CHANGED),
-    ("tickets go from each place", Kind::Object, FROM_EACH_PLACE),
-    ("a mode changes in its place", Kind::Object, CHANGED),
+    Life("of twins the first is taken", Kind::Object, TWINS),
+    Life("twins change one by one", Kind::Object, TWINS_CHANGED),
+    Life("tickets go from each place", Kind::Object, FROM_EACH_PLACE),
+    Life("a mode changes in its place", Kind::Object, CHANGED),
 ];

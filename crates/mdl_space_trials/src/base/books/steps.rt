@@ -1,4 +1,5 @@
 //! Calls of a book, and their answers.
+use crate::base::rows::Story;
 use mdl_book::{Book, BookError, Sessions, Ticket};
 use mdl_key::{Key, Kind, Mode};
 use mdl_word::Word;
@@ -58,7 +59,22 @@ pub(crate) const FULL: Answer = Answer::Refuses(BookError::Full);
 pub(crate) type Steps = &'static [(Step, Answer)];
 
 /// What the calls show, the kind of the book's lock, and the calls.
-pub(crate) type Life = (&'static str, Kind, Steps);
+pub(crate) struct Life(pub(crate) &'static str, pub(crate) Kind, pub(crate) Steps);
+
+impl Story for Life {
+    fn name(&self) -> &'static str {
+        self.0
+    }
+
+    fn first_wrong(&self, alloc: Global) -> Option<usize> {
+        let Some(mut book) = new_book(alloc, self.1) else {
+            return Some(0);
+        };
+        let wrong = first_wrong_of(&mut book, self.2);
+        drop(book);
+        wrong
+    }
+}
 
 pub(crate) fn ticket(session: u16, number: u64, mode: Mode) -> Ticket {
     Ticket {
@@ -70,11 +86,12 @@ pub(crate) fn ticket(session: u16, number: u64, mode: Mode) -> Ticket {
 
 // Whether a list has exactly these tickets.
 fn are_listed(tickets: &[Ticket], rows: &[Row]) -> bool {
+    for (held, row) in tickets.iter().zip(rows) {
+        if *held != ticket(row.0, row.1, row.2) {
+            return false;
+        }
+    }
     tickets.len() == rows.len()
-        && tickets
-            .iter()
-            .zip(rows.iter())
-            .all(|(held, row)| *held == ticket(row.0, row.1, row.2))
 }
 
 /// Creates the book of a table or of a schema, without tickets.
@@ -165,14 +182,4 @@ pub(crate) fn first_wrong_of(book: &mut Book, steps: &[(Step, Answer)]) -> Optio
         }
     }
     None
-}
-
-/// The same for a new book of a table or of a schema.
-pub(crate) fn first_wrong(alloc: Global, kind: Kind, steps: &[(Step, Answer)]) -> Option<usize> {
-    let Some(mut book) = new_book(alloc, kind) else {
-        return Some(0);
-    };
-    let wrong = first_wrong_of(&mut book, steps);
-    drop(book);
-    wrong
 }

@@ -36,7 +36,7 @@ const LEFT_MODES: Steps = &[
 ];
 
 pub(super) const LIVES: &[Life] = &[
-    ("own granted tickets", Kind::Object, OWN_GRANTED),
-    ("own waiting tickets", Kind::Object, OWN_WAITING),
-    ("modes that are left", Kind::Scoped, LEFT_MODES),
+    Life("own granted tickets", Kind::Object, OWN_GRANTED),
+    Life("own waiting tickets", Kind::Object, OWN_WAITING),
+    Life("modes that are left", Kind::Scoped, LEFT_MODES),
 ];

@@ -1,5 +1,5 @@
 //! Deadlocks of a few locks, and of many locks whose cycles are easy to see.
-use crate::base::rows::is_right;
+use crate::base::rows::{Row, are_right};
 use mdl_book::{Book, Sessions, Ticket};
 use mdl_graph::{Cycle, Member, WaitGraph, victim};
 use mdl_key::{Key, Mode};
@@ -22,10 +22,10 @@ enum At {
 type Found = (u16, &'static [u16], u16);
 
 // Holders and waiters of some tables, one session whose wait is settled, or 0, and what searches find.
-type Case = (&'static [&'static [At]], u16, &'static [Found]);
+struct Case(&'static [&'static [At]], u16, &'static [Found]);
 
 // Pairs of a waiter and the session that it waits for, each at a table of its own, and what a search finds.
-type Tied = (&'static [(u16, u16)], Found);
+struct Tied(&'static [(u16, u16)], Found);
 
 // Session 4 waits for session 3, and no session waits for session 4.
 const TWO_CYCLES: &[&[At]] = &[
@@ -66,7 +66,7 @@ const FAR_APART: &[&[At]] = &[
 ];
 
 const CASES: &[Case] = &[
-    (
+    Case(
         TWO_CYCLES,
         0,
         &[
@@ -78,11 +78,11 @@ const CASES: &[Case] = &[
             (65_535, &[], 0),
         ],
     ),
-    (THREE_IN_TURN, 0, &[(1, &[1, 2, 3], 3), (3, &[3, 1, 2], 3)]),
-    (THREE_IN_TURN, 2, &[(1, &[], 0), (2, &[], 0), (3, &[], 0)]),
-    (AT_ONE_TABLE, 0, &[(1, &[1, 2], 1), (2, &[2, 1], 1)]),
-    (EQUALS, 0, &[(5, &[5, 7, 6], 7), (6, &[6, 5, 7], 7)]),
-    (
+    Case(THREE_IN_TURN, 0, &[(1, &[1, 2, 3], 3), (3, &[3, 1, 2], 3)]),
+    Case(THREE_IN_TURN, 2, &[(1, &[], 0), (2, &[], 0), (3, &[], 0)]),
+    Case(AT_ONE_TABLE, 0, &[(1, &[1, 2], 1), (2, &[2, 1], 1)]),
+    Case(EQUALS, 0, &[(5, &[5, 7, 6], 7), (6, &[6, 5, 7], 7)]),
+    Case(
         FAR_APART,
         0,
         &[(0, &[0, 65_535], 65_535), (65_535, &[65_535, 0], 65_535)],
@@ -191,9 +191,9 @@ fn finds_all(graph: &WaitGraph, rows: &[Found]) -> bool {
 }
 
 // Whether all searches of a case find what it says.
-fn goes_so(alloc: Global, (tables, settled, found): Case) -> bool {
-    let mut graph = empty_graph(alloc, settled);
-    let is_so = add_tables(&mut graph, alloc, tables) && finds_all(&graph, found);
+fn goes_so(alloc: Global, case: &Case) -> bool {
+    let mut graph = empty_graph(alloc, case.1);
+    let is_so = add_tables(&mut graph, alloc, case.0) && finds_all(&graph, case.2);
     drop(graph);
     is_so
 }
@@ -206,22 +206,33 @@ fn finds_later(graph: &WaitGraph, settled: &Sessions, (from, sessions, falls): F
     }
 }
 
+fn finds_all_later(graph: &WaitGraph, settled: &Sessions, rows: &[Found]) -> bool {
+    for row in rows {
+        if !finds_later(graph, settled, *row) {
+            return false;
+        }
+    }
+    true
+}
+
 // Whether all searches of a case find the same in a graph that was built with nobody settled.
-fn goes_so_later(alloc: Global, (tables, settled, found): Case) -> bool {
+fn goes_so_later(alloc: Global, case: &Case) -> bool {
     let mut graph = empty_graph(alloc, 0);
-    let settled = set_of(settled);
-    let is_so = add_tables(&mut graph, alloc, tables)
-        && found.iter().all(|row| finds_later(&graph, &settled, *row));
+    let is_so = add_tables(&mut graph, alloc, case.0)
+        && finds_all_later(&graph, &set_of(case.1), case.2);
     drop(graph);
     is_so
 }
 
+impl Row for Case {
+    fn goes_so(&self, alloc: Global) -> bool {
+        goes_so(alloc, self) && goes_so_later(alloc, self)
+    }
+}
+
 #[test]
 fn finds_deadlocks_of_a_few(rt: HostRuntime) {
-    for (number, case) in CASES.iter().enumerate() {
-        is_right(&rt, number, goes_so(rt.alloc(), *case));
-        is_right(&rt, number, goes_so_later(rt.alloc(), *case));
-    }
+    are_right(&rt, rt.alloc(), CASES);
 }
 
 #[test]
@@ -229,30 +240,31 @@ fn lists_the_requests(rt: HostRuntime) {
     let mut graph = empty_graph(rt.alloc(), 0);
     assert!(rt; add_tie(&mut graph, rt.alloc(), 2, 1) && add_tie(&mut graph, rt.alloc(), 1, 3));
     assert!(rt; are_of(graph.wishes(), &[2, 1]));
+    drop(graph);
 }
 
 const TIED: &[Tied] = &[
-    (&[(1, 2), (2, 1)], (1, &[1, 2], 2)),
-    (&[(1, 2), (2, 3), (3, 1)], (3, &[3, 1, 2], 3)),
+    Tied(&[(1, 2), (2, 1)], (1, &[1, 2], 2)),
+    Tied(&[(1, 2), (2, 3), (3, 1)], (3, &[3, 1, 2], 3)),
     // The first of two cycles of equal length, and the shorter of two.
-    (&[(1, 3), (3, 1), (1, 2), (2, 1)], (1, &[1, 2], 2)),
-    (&[(1, 2), (2, 3), (3, 1), (1, 4), (4, 1)], (1, &[1, 4], 4)),
-    (
+    Tied(&[(1, 3), (3, 1), (1, 2), (2, 1)], (1, &[1, 2], 2)),
+    Tied(&[(1, 2), (2, 3), (3, 1), (1, 4), (4, 1)], (1, &[1, 4], 4)),
+    Tied(
         &[(5, 3), (3, 2), (2, 5), (5, 1), (1, 4), (4, 5)],
         (5, &[5, 1, 4], 5),
     ),
-    (
+    Tied(
         &[(1, 2), (2, 3), (3, 4), (4, 5), (5, 6), (6, 1)],
         (4, &[4, 5, 6, 1, 2, 3], 6),
     ),
     // The greatest numbers.
-    (
+    Tied(
         &[(1024, 1023), (1023, 65), (65, 1024)],
         (1024, &[1024, 1023, 65], 1024),
     ),
     // A deadlock of other sessions, and none at all.
-    (&[(1, 2), (2, 3), (3, 2)], (1, &[], 0)),
-    (&[(1, 2), (2, 3)], (1, &[], 0)),
+    Tied(&[(1, 2), (2, 3), (3, 2)], (1, &[], 0)),
+    Tied(&[(1, 2), (2, 3)], (1, &[], 0)),
 ];
 
 /// Adds a table at which one session waits for another.
@@ -271,18 +283,18 @@ fn add_ties(graph: &mut WaitGraph, alloc: Global, ties: &[(u16, u16)]) -> bool {
 }
 
 // Whether a search finds this in the graph of some pairs.
-fn finds_tied(alloc: Global, (ties, found): Tied) -> bool {
-    let mut graph = empty_graph(alloc, 0);
-    let is_found = add_ties(&mut graph, alloc, ties) && finds(&graph, found);
-    drop(graph);
-    is_found
+impl Row for Tied {
+    fn goes_so(&self, alloc: Global) -> bool {
+        let mut graph = empty_graph(alloc, 0);
+        let is_found = add_ties(&mut graph, alloc, self.0) && finds(&graph, self.1);
+        drop(graph);
+        is_found
+    }
 }
 
 #[test]
 fn finds_the_shortest_and_of_those_the_first(rt: HostRuntime) {
-    for (number, tied) in TIED.iter().enumerate() {
-        is_right(&rt, number, finds_tied(rt.alloc(), *tied));
-    }
+    are_right(&rt, rt.alloc(), TIED);
 }
 
 // Adds tables at which each session waits for the next, and the last for the first.
@@ -320,6 +332,7 @@ fn goes_round_a_ring(rt: HostRuntime) {
     let mut graph = empty_graph(rt.alloc(), 0);
     assert!(rt; add_ring(&mut graph, rt.alloc()));
     assert!(rt; finds_ring(&graph, 1) && finds_ring(&graph, 65) && finds_ring(&graph, MOST));
+    drop(graph);
 }
 
 // Adds rows for all sessions, each of which holds the lock and waits for it.
@@ -353,4 +366,5 @@ fn finds_a_way_through_a_crowd(rt: HostRuntime) {
     let mut graph = empty_graph(rt.alloc(), 0);
     assert!(rt; add_crowds(&mut graph, rt.alloc()));
     assert!(rt; finds_all(&graph, IN_A_CROWD));
+    drop(graph);
 }

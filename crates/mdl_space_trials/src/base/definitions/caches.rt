@@ -1,6 +1,6 @@
 //! Caches of definitions, step by step.
 use super::{What, X, X_Y, Y, definition, standing};
-use crate::base::rows::{is_right, none_is_wrong};
+use crate::base::rows::{Row, Story, are_right, are_told_so};
 use mdl_defs::{CacheError, DefCache, Definition};
 use std::alloc::Global;
 
@@ -107,13 +107,10 @@ fn goes_so(alloc: Global, cache: &mut DefCache, (call, kept): Step) -> bool {
     is_so && cache.len() == kept
 }
 
-// Returns the index of the first wrong call in a cache of this capacity.
-fn first_wrong(alloc: Global, capacity: u16, steps: &[Step]) -> Option<usize> {
-    let Ok(mut cache) = DefCache::new(alloc, capacity) else {
-        return Some(steps.len());
-    };
+// Returns the index of the first wrong call.
+fn first_wrong(alloc: Global, cache: &mut DefCache, steps: &[Step]) -> Option<usize> {
     for (place, step) in steps.iter().enumerate() {
-        if !goes_so(alloc, &mut cache, *step) {
+        if !goes_so(alloc, cache, *step) {
             return Some(place);
         }
     }
@@ -121,27 +118,43 @@ fn first_wrong(alloc: Global, capacity: u16, steps: &[Step]) -> Option<usize> {
 }
 
 // The name of a story, the capacity of its cache, and its calls.
-const CACHES: &[(&str, u16, &[Step])] = &[
-    ("of two", 2, OF_TWO),
-    ("of two places", 2, OF_TWO_PLACES),
-    ("of two peeked at", 2, OF_TWO_PEEKED_AT),
-    ("of one", 1, OF_ONE),
-    ("of one place", 1, OF_ONE_PLACE),
+struct CacheOf(&'static str, u16, &'static [Step]);
+
+impl Story for CacheOf {
+    fn name(&self) -> &'static str {
+        self.0
+    }
+
+    fn first_wrong(&self, alloc: Global) -> Option<usize> {
+        let Ok(mut cache) = DefCache::new(alloc, self.1) else {
+            return Some(self.2.len());
+        };
+        let wrong = first_wrong(alloc, &mut cache, self.2);
+        drop(cache);
+        wrong
+    }
+}
+
+const CACHES: &[CacheOf] = &[
+    CacheOf("of two", 2, OF_TWO),
+    CacheOf("of two places", 2, OF_TWO_PLACES),
+    CacheOf("of two peeked at", 2, OF_TWO_PEEKED_AT),
+    CacheOf("of one", 1, OF_ONE),
+    CacheOf("of one place", 1, OF_ONE_PLACE),
 ];
 
 #[test]
 fn caches_keep_what_was_used_last(rt: HostRuntime) {
-    for (what, capacity, steps) in CACHES {
-        let wrong = first_wrong(rt.alloc(), *capacity, steps);
-        none_is_wrong(&rt, what, wrong);
-    }
+    are_told_so(&rt, rt.alloc(), CACHES);
 }
 
 // Returns why there is no cache of this capacity.
 fn refusal(alloc: Global, capacity: u16) -> Option<CacheError> {
     match DefCache::new(alloc, capacity) {
         Ok(cache) => {
-            if cache.len() == 0 {
+            let is_empty = cache.len() == 0;
+            drop(cache);
+            if is_empty {
                 None
             } else {
                 Some(CacheError::OutOfMemory)
@@ -152,19 +165,25 @@ fn refusal(alloc: Global, capacity: u16) -> Option<CacheError> {
 }
 
 // The capacity of a cache, and why there is no such cache.
-const CAPACITIES: &[(u16, Option<CacheError>)] = &[
-    (1, None),
-    (2, None),
-    (4_095, None),
-    (4_096, None),
-    (0, Some(CacheError::BadCapacity)),
-    (4_097, Some(CacheError::BadCapacity)),
-    (u16::MAX, Some(CacheError::BadCapacity)),
+struct Capacity(u16, Option<CacheError>);
+
+impl Row for Capacity {
+    fn goes_so(&self, alloc: Global) -> bool {
+        refusal(alloc, self.0) == self.1
+    }
+}
+
+const CAPACITIES: &[Capacity] = &[
+    Capacity(1, None),
+    Capacity(2, None),
+    Capacity(4_095, None),
+    Capacity(4_096, None),
+    Capacity(0, Some(CacheError::BadCapacity)),
+    Capacity(4_097, Some(CacheError::BadCapacity)),
+    Capacity(u16::MAX, Some(CacheError::BadCapacity)),
 ];
 
 #[test]
 fn caches_keep_1_to_4096(rt: HostRuntime) {
-    for (row, (capacity, want)) in CAPACITIES.iter().enumerate() {
-        is_right(&rt, row, refusal(rt.alloc(), *capacity) == *want);
-    }
+    are_right(&rt, rt.alloc(), CAPACITIES);
 }

@@ -1,7 +1,7 @@
 //! The definition in a book, change by change.
 use super::{Act, What, X, X_Y, change, definition};
 use crate::base::keys::names::{Name, key_of};
-use crate::base::rows::{is_right, none_is_wrong};
+use crate::base::rows::{Story, are_told_so, is_right};
 use mdl_book::Book;
 use mdl_defs::{ChangeError, DefError, Definition, VersionedDefinition};
 use mdl_key::Namespace;
@@ -61,28 +61,34 @@ const UNDER_OTHERS: &[Step] = &[
 ];
 
 fn is_copied(standing: &VersionedDefinition) -> bool {
-    match standing.clone() {
-        Ok(copy) => copy == *standing,
-        Err(_) => false,
-    }
+    let Ok(copy) = standing.clone() else {
+        return false;
+    };
+    let is_so = copy == *standing;
+    drop(copy);
+    is_so
 }
 
 // Whether a book has this version and definition, and a copy of them is equal.
 fn is_read(book: &Book, version: u64, wanted: &Option<Definition>) -> bool {
-    match book.read() {
-        Ok(standing) => {
-            standing.version == version && standing.definition == *wanted && is_copied(&standing)
-        }
-        Err(_) => false,
-    }
+    let Ok(standing) = book.read() else {
+        return false;
+    };
+    let is_so = standing.version == version
+        && standing.definition == *wanted
+        && is_copied(&standing);
+    drop(standing);
+    is_so
 }
 
 // Whether a book has this definition and this version, and reads them.
 fn stands(alloc: Global, book: &Book, version: u64, what: Option<What>) -> bool {
     let wanted = super::standing(alloc, what);
-    is_read(book, version, &wanted)
+    let is_so = is_read(book, version, &wanted)
         && book.definition() == wanted.as_ref()
-        && book.version() == version
+        && book.version() == version;
+    drop(wanted);
+    is_so
 }
 
 // Makes a change. Whether its answer, and the definition afterwards, are those of its row.
@@ -109,20 +115,30 @@ fn first_wrong_of(alloc: Global, book: &mut Book, steps: &[Step]) -> Option<usiz
     None
 }
 
-// The same for a new book of the key with this name.
-fn first_wrong(alloc: Global, name: Name, steps: &[Step]) -> Option<usize> {
-    match key_of(alloc, name) {
-        Ok(key) => first_wrong_of(alloc, &mut Book::new(alloc, key), steps),
-        Err(_) => Some(0),
+// The name of a lock, and the calls of its book.
+struct BookOf(&'static str, Name, &'static [Step]);
+
+impl Story for BookOf {
+    fn name(&self) -> &'static str {
+        self.0
+    }
+
+    fn first_wrong(&self, alloc: Global) -> Option<usize> {
+        let Ok(key) = key_of(alloc, self.1) else {
+            return Some(0);
+        };
+        let mut book = Book::new(alloc, key);
+        let wrong = first_wrong_of(alloc, &mut book, self.2);
+        drop(book);
+        wrong
     }
 }
 
-// The name of a lock, and the calls of its book.
-const BOOKS: &[(&str, Name, &[Step])] = &[
-    ("table", (Namespace::Table, "test", "t"), UNDER_A_TABLE),
-    ("schema", (Namespace::Schema, "test", ""), UNDER_A_SCHEMA),
-    ("commit", (Namespace::Commit, "", ""), UNDER_OTHERS),
-    (
+const BOOKS: &[BookOf] = &[
+    BookOf("table", (Namespace::Table, "test", "t"), UNDER_A_TABLE),
+    BookOf("schema", (Namespace::Schema, "test", ""), UNDER_A_SCHEMA),
+    BookOf("commit", (Namespace::Commit, "", ""), UNDER_OTHERS),
+    BookOf(
         "user-level lock",
         (Namespace::UserLevelLock, "t", ""),
         UNDER_OTHERS,
@@ -131,10 +147,7 @@ const BOOKS: &[(&str, Name, &[Step])] = &[
 
 #[test]
 fn books_keep_what_stands(rt: HostRuntime) {
-    for (what, name, steps) in BOOKS {
-        let wrong = first_wrong(rt.alloc(), *name, steps);
-        none_is_wrong(&rt, what, wrong);
-    }
+    are_told_so(&rt, rt.alloc(), BOOKS);
 }
 
 // The last possible change, and changes that come too late.
@@ -153,17 +166,20 @@ fn answers(
     act: Act,
     want: Result<u64, ChangeError>,
 ) -> bool {
-    match change(alloc, act) {
-        Some(change) => standing.change(alloc, Namespace::Table, &change) == want,
-        None => false,
-    }
+    let Some(change) = change(alloc, act) else {
+        return false;
+    };
+    let is_so = standing.change(alloc, Namespace::Table, &change) == want;
+    drop(change);
+    is_so
 }
 
 #[test]
 fn versions_have_an_end(rt: HostRuntime) {
-    let mut standing = VersionedDefinition::new();
-    standing.definition = definition(rt.alloc(), X_Y);
-    standing.version = 999_999;
+    let mut standing = VersionedDefinition {
+        definition: definition(rt.alloc(), X_Y),
+        version: 999_999,
+    };
     for (place, (act, want)) in LATE.iter().enumerate() {
         is_right(&rt, place, answers(rt.alloc(), &mut standing, *act, *want));
     }

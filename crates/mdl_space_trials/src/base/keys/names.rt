@@ -1,5 +1,5 @@
 //! Keys: how they are made, refused, compared and printed.
-use crate::base::rows::is_right;
+use crate::base::rows::{Row, are_right, is_right};
 use crate::base::texts::is_printed;
 use mdl_defs::Column;
 use mdl_key::{Key, KeyError, Kind, Namespace, check_name};
@@ -38,31 +38,38 @@ fn has_names(key: &Key, (namespace, schema, table): Name) -> bool {
 
 // Whether a copy of a key has these names and this kind, and is printed as this text.
 fn is_copied_so(alloc: Global, key: &Key, name: Name, kind: Kind, text: &str) -> bool {
-    match key.clone() {
-        Ok(copy) => has_names(&copy, name) && copy.kind() == kind && is_printed(alloc, &copy, text),
-        Err(_) => false,
-    }
-}
-
-// The same for the key with these names.
-fn is_named(alloc: Global, name: Name, kind: Kind, text: &str) -> bool {
-    match key_of(alloc, name) {
-        Ok(key) => is_copied_so(alloc, &key, name, kind, text),
-        Err(_) => false,
-    }
+    let Ok(copy) = key.clone() else {
+        return false;
+    };
+    let is_so = has_names(&copy, name) && copy.kind() == kind && is_printed(alloc, &copy, text);
+    drop(copy);
+    is_so
 }
 
 // The name of a lock, the kind of its key, and the text that is printed.
-const NAMED: &[(Name, Kind, &str)] = &[
-    ((Namespace::Global, "", ""), Kind::Scoped, "GLOBAL"),
-    ((Namespace::Schema, "test", ""), Kind::Scoped, "SCHEMA test"),
-    (
+struct Named(Name, Kind, &'static str);
+
+impl Row for Named {
+    fn goes_so(&self, alloc: Global) -> bool {
+        let Ok(key) = key_of(alloc, self.0) else {
+            return false;
+        };
+        let is_so = is_copied_so(alloc, &key, self.0, self.1, self.2);
+        drop(key);
+        is_so
+    }
+}
+
+const NAMED: &[Named] = &[
+    Named((Namespace::Global, "", ""), Kind::Scoped, "GLOBAL"),
+    Named((Namespace::Schema, "test", ""), Kind::Scoped, "SCHEMA test"),
+    Named(
         (Namespace::Table, "test", "t_1"),
         Kind::Object,
         "TABLE test.t_1",
     ),
-    ((Namespace::Commit, "", ""), Kind::Scoped, "COMMIT"),
-    (
+    Named((Namespace::Commit, "", ""), Kind::Scoped, "COMMIT"),
+    Named(
         (Namespace::UserLevelLock, "job_1", ""),
         Kind::Object,
         "USER job_1",
@@ -71,9 +78,7 @@ const NAMED: &[(Name, Kind, &str)] = &[
 
 #[test]
 fn names_locks(rt: HostRuntime) {
-    for (row, (name, kind, text)) in NAMED.iter().enumerate() {
-        is_right(&rt, row, is_named(rt.alloc(), *name, *kind, text));
-    }
+    are_right(&rt, rt.alloc(), NAMED);
 }
 
 // Returns why there is no key with these names, or None if there is one.
@@ -81,56 +86,75 @@ fn refusal(alloc: Global, name: Name) -> Option<KeyError> {
     key_of(alloc, name).err()
 }
 
-// Whether a name is refused for this reason, or accepted if there is none, wherever it can be used.
+// Whether a name is refused for this reason, or accepted if there is none, wherever a key has it.
 fn is_refused(alloc: Global, name: &'static str, want: Option<KeyError>) -> bool {
-    check_name(name).err() == want
-        && Column::new(alloc, name).err() == want
-        && refusal(alloc, (Namespace::Schema, name, "")) == want
-        && refusal(alloc, (Namespace::Table, name, "t")) == want
-        && refusal(alloc, (Namespace::Table, "s", name)) == want
-        && refusal(alloc, (Namespace::UserLevelLock, name, "")) == want
+    let names = [
+        (Namespace::Schema, name, ""),
+        (Namespace::Table, name, "t"),
+        (Namespace::Table, "s", name),
+        (Namespace::UserLevelLock, name, ""),
+    ];
+    for name in &names {
+        if refusal(alloc, *name) != want {
+            return false;
+        }
+    }
+    true
 }
 
-// Names, and why each is refused.
-const REFUSED: &[(&str, Option<KeyError>)] = &[
-    ("", Some(KeyError::EmptyName)),
-    (LONGEST, None),
-    (TOO_LONG, Some(KeyError::LongName)),
-    (TOO_LONG_AND_BAD, Some(KeyError::LongName)),
-    ("az09_", None),
-    ("A", Some(KeyError::BadByte(0))),
-    ("ab-c d", Some(KeyError::BadByte(2))),
-    ("a`", Some(KeyError::BadByte(1))),
-    ("a{", Some(KeyError::BadByte(1))),
-    ("a/", Some(KeyError::BadByte(1))),
-    ("a:", Some(KeyError::BadByte(1))),
-    ("naïve", Some(KeyError::BadByte(2))),
+// Names, and why each is refused, wherever it can be used.
+struct Refused(&'static str, Option<KeyError>);
+
+impl Row for Refused {
+    fn goes_so(&self, alloc: Global) -> bool {
+        check_name(self.0).err() == self.1
+            && Column::new(alloc, self.0).err() == self.1
+            && is_refused(alloc, self.0, self.1)
+    }
+}
+
+const REFUSED: &[Refused] = &[
+    Refused("", Some(KeyError::EmptyName)),
+    Refused(LONGEST, None),
+    Refused(TOO_LONG, Some(KeyError::LongName)),
+    Refused(TOO_LONG_AND_BAD, Some(KeyError::LongName)),
+    Refused("az09_", None),
+    Refused("A", Some(KeyError::BadByte(0))),
+    Refused("ab-c d", Some(KeyError::BadByte(2))),
+    Refused("a`", Some(KeyError::BadByte(1))),
+    Refused("a{", Some(KeyError::BadByte(1))),
+    Refused("a/", Some(KeyError::BadByte(1))),
+    Refused("a:", Some(KeyError::BadByte(1))),
+    Refused("naïve", Some(KeyError::BadByte(2))),
 ];
 
 #[test]
 fn refuses_what_is_no_name(rt: HostRuntime) {
     assert!(rt; LONGEST.len() == 64);
-    for (row, (name, want)) in REFUSED.iter().enumerate() {
-        is_right(&rt, row, is_refused(rt.alloc(), name, *want));
-    }
+    are_right(&rt, rt.alloc(), REFUSED);
 }
 
 // Names of a schema and of a table, and why they are refused.
-const TWICE_BAD: &[(&str, &str, KeyError)] = &[
-    ("", "a.b", KeyError::EmptyName),
-    ("", TOO_LONG, KeyError::EmptyName),
-    (TOO_LONG, "", KeyError::LongName),
-    ("a.b", "", KeyError::BadByte(1)),
-    ("abc.", ".", KeyError::BadByte(3)),
-    ("abc", "", KeyError::EmptyName),
+struct TwiceBad(&'static str, &'static str, KeyError);
+
+impl Row for TwiceBad {
+    fn goes_so(&self, alloc: Global) -> bool {
+        refusal(alloc, (Namespace::Table, self.0, self.1)) == Some(self.2)
+    }
+}
+
+const TWICE_BAD: &[TwiceBad] = &[
+    TwiceBad("", "a.b", KeyError::EmptyName),
+    TwiceBad("", TOO_LONG, KeyError::EmptyName),
+    TwiceBad(TOO_LONG, "", KeyError::LongName),
+    TwiceBad("a.b", "", KeyError::BadByte(1)),
+    TwiceBad("abc.", ".", KeyError::BadByte(3)),
+    TwiceBad("abc", "", KeyError::EmptyName),
 ];
 
 #[test]
 fn looks_at_the_schema_first(rt: HostRuntime) {
-    for (row, (schema, table, want)) in TWICE_BAD.iter().enumerate() {
-        let found = refusal(rt.alloc(), (Namespace::Table, schema, table));
-        is_right(&rt, row, found == Some(*want));
-    }
+    are_right(&rt, rt.alloc(), TWICE_BAD);
 }
 
 // Keys in rising order.
@@ -152,17 +176,21 @@ const RISING: &[Name] = &[
 
 // Whether a key compares in this way with the key of these names.
 fn is_ordered_to(alloc: Global, a: &Key, b: Name, want: Ordering) -> bool {
-    match key_of(alloc, b) {
-        Ok(b) => a.cmp(&b) == want && a.partial_cmp(&b) == Some(want),
-        Err(_) => false,
-    }
+    let Ok(b) = key_of(alloc, b) else {
+        return false;
+    };
+    let is_so = a.cmp(&b) == want && a.partial_cmp(&b) == Some(want);
+    drop(b);
+    is_so
 }
 
 fn are_ordered(alloc: Global, a: Name, b: Name, want: Ordering) -> bool {
-    match key_of(alloc, a) {
-        Ok(a) => is_ordered_to(alloc, &a, b, want),
-        Err(_) => false,
-    }
+    let Ok(a) = key_of(alloc, a) else {
+        return false;
+    };
+    let is_so = is_ordered_to(alloc, &a, b, want);
+    drop(a);
+    is_so
 }
 
 // Whether a name is ordered with each as its index says.

@@ -1,118 +1,126 @@
 //! Scripts, and what the parser reads of them or why it refuses them.
 use super::written::is_read_so;
 use crate::base::keys::names::LONGEST;
-use crate::base::rows::{is_right, none_is_wrong};
+use crate::base::rows::{Row, Story, are_right, are_told_so};
 use mdl_key::Key;
 use mdl_syntax::{Name, Tables};
 use std::alloc::Global;
 
 // A script, and what is read: lines with their number and session, or the refusal.
-const READ: &[(&str, &str)] = &[
-    (
+struct Read(&'static str, &'static str);
+
+impl Row for Read {
+    fn goes_so(&self, alloc: Global) -> bool {
+        is_read_so(alloc, self.0.as_bytes(), self.1)
+    }
+}
+
+const READ: &[Read] = &[
+    Read(
         "1 BEGIN\n2 START TRANSACTION\n3 COMMIT\n64 ROLLBACK",
         "1 1 begin / 2 2 begin / 3 3 commit / 4 64 roll back",
     ),
-    (
+    Read(
         "1 SAVEPOINT p\n1 ROLLBACK TO p\n1 SAVEPOINT to",
         "1 1 savepoint p / 2 1 roll back to p / 3 1 savepoint to",
     ),
-    (
+    Read(
         "1 SELECT t\n1 SELECT s.t t test.u",
         "1 1 read TABLE test.t / 2 1 read TABLE s.t TABLE test.t TABLE test.u",
     ),
-    (
+    Read(
         "1 INSERT t\n1 UPDATE s.t\n1 DELETE t",
         "1 1 write TABLE test.t / 2 1 write TABLE s.t / 3 1 write TABLE test.t",
     ),
-    (
+    Read(
         "1 INSERT LOW_PRIORITY t\n1 UPDATE LOW_PRIORITY s.t",
         "1 1 write late TABLE test.t / 2 1 write late TABLE s.t",
     ),
-    (
+    Read(
         "1 DELETE LOW_PRIORITY low_priority\n1 DELETE low_priority",
         "1 1 write late TABLE test.low_priority / 2 1 write TABLE test.low_priority",
     ),
-    (
+    Read(
         "1 CREATE TABLE t x\n1 CREATE TABLE s.t x y x",
         "1 1 create TABLE test.t x / 2 1 create TABLE s.t x y x",
     ),
-    (
+    Read(
         "1 CREATE SCHEMA s\n1 CREATE SCHEMA az09_\n1 CREATE SCHEMA test",
         "1 1 create schema s / 2 1 create schema az09_ / 3 1 create schema test",
     ),
-    (
+    Read(
         "1 DROP TABLE t\n1 DROP TABLE b s.a a",
         "1 1 drop TABLE test.t / 2 1 drop TABLE test.b TABLE s.a TABLE test.a",
     ),
-    (
+    Read(
         "1 DROP SCHEMA s\n1 DROP SCHEMA az09_",
         "1 1 drop schema s / 2 1 drop schema az09_",
     ),
-    (
+    Read(
         "1 RENAME TABLE t TO u\n1 RENAME TABLE t TO s.t\n1 RENAME TABLE s.a TO a\n1 RENAME TABLE to TO table",
         "1 1 rename TABLE test.t to TABLE test.u / 2 1 rename TABLE test.t to TABLE s.t / 3 1 rename TABLE s.a to TABLE \
             test.a / 4 1 rename TABLE test.to to TABLE test.table",
     ),
-    (
+    Read(
         "1 UNLOCK TABLES\n2 FLUSH TABLES WITH READ LOCK",
         "1 1 unlock tables / 2 2 flush tables with read lock",
     ),
-    (
+    Read(
         "1 ALTER TABLE t ADD c COPY\n1 ALTER TABLE s.t ADD copy INPLACE",
         "1 1 alter TABLE test.t add c by copying / 2 1 alter TABLE s.t add copy in place",
     ),
-    (
+    Read(
         "1 ALTER TABLE t DROP c COPY\n1 ALTER TABLE add DROP drop INPLACE",
         "1 1 alter TABLE test.t drop c by copying / 2 1 alter TABLE test.add drop drop in place",
     ),
-    (
+    Read(
         "1 LOCK TABLES t READ\n1 LOCK TABLES s.t WRITE t READ read WRITE",
         "1 1 lock TABLE test.t to read / 2 1 lock TABLE s.t to write TABLE test.t to read TABLE test.read to write",
     ),
-    (
+    Read(
         "1 LOCK TABLES a READ b WRITE c READ d READ e READ f READ g READ h WRITE",
         "1 1 lock TABLE test.a to read TABLE test.b to write TABLE test.c to read TABLE test.d to read TABLE test.e to \
             read TABLE test.f to read TABLE test.g to read TABLE test.h to write",
     ),
-    (
+    Read(
         "1 KILL QUERY 64\n9 KILL QUERY 1\n9 TIMEOUT",
         "1 1 kill 64 / 2 9 kill 1 / 3 9 time out",
     ),
-    (
+    Read(
         "1 GET_LOCK a\n2 RELEASE_LOCK a\n64 GET_LOCK az09_\n1 RELEASE_LOCK get_lock",
         "1 1 get a / 2 2 release a / 3 64 get az09_ / 4 1 release get_lock",
     ),
-    (
+    Read(
         "1 SELECT a b c d e f g h",
         "1 1 read TABLE test.a TABLE test.b TABLE test.c TABLE test.d TABLE test.e TABLE test.f TABLE test.g TABLE test.h",
     ),
-    (
+    Read(
         "1 DROP TABLE a b c d e f g h",
         "1 1 drop TABLE test.a TABLE test.b TABLE test.c TABLE test.d TABLE test.e TABLE test.f TABLE test.g TABLE test.h",
     ),
-    (
+    Read(
         "1 SELECT az09_.az09_ _ 0",
         "1 1 read TABLE az09_.az09_ TABLE test._ TABLE test.0",
     ),
-    (
+    Read(
         "1 SELECT a.t b.t test.t",
         "1 1 read TABLE a.t TABLE b.t TABLE test.t",
     ),
-    (
+    Read(
         "# 1 SELECT T\n\n1 BEGIN\n#2 X\n\t\n\t 2 \t  COMMIT \t",
         "3 1 begin / 6 2 commit",
     ),
-    ("1 BEGIN\n# 1\n2 INSERT low_priority t", "line 3: BadWord"),
-    ("1 BEGIN\n1 CREATE TAB", "line 2: BadWord"),
+    Read("1 BEGIN\n# 1\n2 INSERT low_priority t", "line 3: BadWord"),
+    Read("1 BEGIN\n1 CREATE TAB", "line 2: BadWord"),
     // How lines end.
-    ("", ""),
-    ("\n", ""),
-    ("\r", ""),
-    ("\n\r\n1 BEGIN", "3 1 begin"),
-    ("1 BEGIN\r", "1 1 begin"),
-    ("1 BEGIN\r\r\n", "line 1: BadWord"),
-    ("1 BEGIN\r\r", "line 1: BadWord"),
-    (
+    Read("", ""),
+    Read("\n", ""),
+    Read("\r", ""),
+    Read("\n\r\n1 BEGIN", "3 1 begin"),
+    Read("1 BEGIN\r", "1 1 begin"),
+    Read("1 BEGIN\r\r\n", "line 1: BadWord"),
+    Read("1 BEGIN\r\r", "line 1: BadWord"),
+    Read(
         "1 SELECT t\r\n\r\n2 SELECT t",
         "1 1 read TABLE test.t / 3 2 read TABLE test.t",
     ),
@@ -120,9 +128,7 @@ const READ: &[(&str, &str)] = &[
 
 #[test]
 fn scripts_are_read(rt: HostRuntime) {
-    for (row, (script, want)) in READ.iter().enumerate() {
-        is_right(&rt, row, is_read_so(rt.alloc(), script.as_bytes(), want));
-    }
+    are_right(&rt, rt.alloc(), READ);
 }
 
 // Lines with a bad name, or with one that is repeated.
@@ -300,68 +306,74 @@ const NO_ASCII: &str = "\
 1 SELECT t\u{e9}
 #\u{e9}";
 
-const REFUSED: &[(&str, &str)] = &[
-    ("line 1: BadName", BAD_NAMES),
-    ("line 1: BadWord", BAD_WORDS),
-    ("line 1: BadSession", BAD_SESSIONS),
-    ("line 1: NotAscii", NO_ASCII),
+const REFUSED: &[Refused] = &[
+    Refused("line 1: BadName", BAD_NAMES),
+    Refused("line 1: BadWord", BAD_WORDS),
+    Refused("line 1: BadSession", BAD_SESSIONS),
+    Refused("line 1: NotAscii", NO_ASCII),
 ];
 
-// Returns the index of the first line that isn't refused so.
-fn first_read(alloc: Global, lines: &str, refusal: &str) -> Option<usize> {
-    for (row, line) in lines.split('\n').enumerate() {
-        if !is_read_so(alloc, line.as_bytes(), refusal) {
-            return Some(row);
-        }
+// A refusal, and the lines that are refused so.
+struct Refused(&'static str, &'static str);
+
+impl Story for Refused {
+    fn name(&self) -> &'static str {
+        self.0
     }
-    None
+
+    fn first_wrong(&self, alloc: Global) -> Option<usize> {
+        for (row, line) in self.1.split('\n').enumerate() {
+            if !is_read_so(alloc, line.as_bytes(), self.0) {
+                return Some(row);
+            }
+        }
+        None
+    }
 }
 
 #[test]
 fn lines_are_refused(rt: HostRuntime) {
-    for (refusal, lines) in REFUSED {
-        none_is_wrong(&rt, refusal, first_read(rt.alloc(), lines, refusal));
-    }
+    are_told_so(&rt, rt.alloc(), REFUSED);
 }
 
 // A script as parts, each repeated a number of times, and what is read. After two dots only the end of that is given.
-type Long = (&'static [(&'static str, u16)], &'static str);
+struct Long(&'static [(&'static str, u16)], &'static str);
 
 const LONG: &[Long] = &[
-    (&[("#", 1), ("x", 4095), ("\r\n", 1)], ""),
-    (&[("#", 1), ("x", 4096)], "line 1: LongLine"),
-    (&[("\u{80}", 1), ("x", 4095)], "line 1: LongLine"),
-    (&[("\u{80}", 1), ("x", 4094)], "line 1: NotAscii"),
-    (&[("1 COMMIT", 1), (" ", 4088)], "1 1 commit"),
-    (&[("1 COMMIT", 1), (" ", 4089)], "line 1: LongLine"),
+    Long(&[("#", 1), ("x", 4095), ("\r\n", 1)], ""),
+    Long(&[("#", 1), ("x", 4096)], "line 1: LongLine"),
+    Long(&[("\u{80}", 1), ("x", 4095)], "line 1: LongLine"),
+    Long(&[("\u{80}", 1), ("x", 4094)], "line 1: NotAscii"),
+    Long(&[("1 COMMIT", 1), (" ", 4088)], "1 1 commit"),
+    Long(&[("1 COMMIT", 1), (" ", 4089)], "line 1: LongLine"),
     // The longest names, and longer ones.
-    (&[("1 SELECT ", 1), ("x", 64)], "..xxxx"),
-    (&[("1 INSERT ", 1), ("x", 64)], "..xxxx"),
-    (&[("1 SELECT s.", 1), ("x", 64)], "..xxxx"),
-    (&[("1 SAVEPOINT ", 1), ("x", 64)], "..xxxx"),
-    (&[("1 GET_LOCK ", 1), ("x", 64)], "..xxxx"),
-    (&[("1 RELEASE_LOCK ", 1), ("x", 64)], "..xxxx"),
-    (&[("1 CREATE TABLE t ", 1), ("x", 64)], "..xxxx"),
-    (&[("1 SELECT s.", 1), ("x", 65)], "line 1: BadName"),
-    (&[("1 SAVEPOINT ", 1), ("x", 65)], "line 1: BadName"),
-    (&[("1 GET_LOCK ", 1), ("x", 65)], "line 1: BadName"),
-    (&[("1 CREATE TABLE t ", 1), ("x", 65)], "line 1: BadName"),
+    Long(&[("1 SELECT ", 1), ("x", 64)], "..xxxx"),
+    Long(&[("1 INSERT ", 1), ("x", 64)], "..xxxx"),
+    Long(&[("1 SELECT s.", 1), ("x", 64)], "..xxxx"),
+    Long(&[("1 SAVEPOINT ", 1), ("x", 64)], "..xxxx"),
+    Long(&[("1 GET_LOCK ", 1), ("x", 64)], "..xxxx"),
+    Long(&[("1 RELEASE_LOCK ", 1), ("x", 64)], "..xxxx"),
+    Long(&[("1 CREATE TABLE t ", 1), ("x", 64)], "..xxxx"),
+    Long(&[("1 SELECT s.", 1), ("x", 65)], "line 1: BadName"),
+    Long(&[("1 SAVEPOINT ", 1), ("x", 65)], "line 1: BadName"),
+    Long(&[("1 GET_LOCK ", 1), ("x", 65)], "line 1: BadName"),
+    Long(&[("1 CREATE TABLE t ", 1), ("x", 65)], "line 1: BadName"),
     // A 65th column is one word too many.
-    (
+    Long(
         &[("1 CREATE TABLE t", 1), (" c", 63), (" x", 1)],
         ".. c c x",
     ),
-    (&[("1 CREATE TABLE t", 1), (" c", 65)], "line 1: BadWord"),
-    (
+    Long(&[("1 CREATE TABLE t", 1), (" c", 65)], "line 1: BadWord"),
+    Long(
         &[("1 CREATE TABLE t", 1), (" c", 64), (" C", 1)],
         "line 1: BadWord",
     ),
-    (
+    Long(
         &[("1 CREATE TABLE t", 1), (" c", 63), (" C", 1)],
         "line 1: BadName",
     ),
     // All lines are read, however many there are.
-    (&[("1 SELECT t\n", 3_000)], ".. / 3000 1 read TABLE test.t"),
+    Long(&[("1 SELECT t\n", 3_000)], ".. / 3000 1 read TABLE test.t"),
 ];
 
 fn push_parts(script: &mut String, parts: &[(&str, u16)]) -> bool {
@@ -375,17 +387,19 @@ fn push_parts(script: &mut String, parts: &[(&str, u16)]) -> bool {
     true
 }
 
-// Whether this is what is read of a long script.
-fn is_long_read_so(alloc: Global, (parts, want): Long) -> bool {
-    let mut script = String::new(alloc);
-    push_parts(&mut script, parts) && is_read_so(alloc, script.as_str().as_bytes(), want)
+impl Row for Long {
+    fn goes_so(&self, alloc: Global) -> bool {
+        let mut script = String::new(alloc);
+        let is_so = push_parts(&mut script, self.0)
+            && is_read_so(alloc, script.as_str().as_bytes(), self.1);
+        drop(script);
+        is_so
+    }
 }
 
 #[test]
 fn long_scripts_are_read(rt: HostRuntime) {
-    for (number, long) in LONG.iter().enumerate() {
-        is_right(&rt, number, is_long_read_so(rt.alloc(), *long));
-    }
+    are_right(&rt, rt.alloc(), LONG);
 }
 
 fn add_table(alloc: Global, tables: &mut Tables) -> bool {
@@ -405,10 +419,12 @@ fn add_64_tables(alloc: Global, tables: &mut Tables) -> bool {
 }
 
 fn are_copied(tables: &Tables) -> bool {
-    match tables.clone() {
-        Ok(copy) => copy.as_slice().len() == 64 && copy.as_slice() == tables.as_slice(),
-        Err(_) => false,
-    }
+    let Ok(copy) = tables.clone() else {
+        return false;
+    };
+    let is_so = copy.as_slice().len() == 64 && copy.as_slice() == tables.as_slice();
+    drop(copy);
+    is_so
 }
 
 fn is_copied(name: &Name) -> bool {
