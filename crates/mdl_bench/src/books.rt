@@ -187,18 +187,30 @@ pub fn time_searches<R: Clock>(
     turns: u32,
 ) -> Result<Duration, Failure> {
     let mut books = Vec::new(alloc);
-    let tied = tie(alloc, &mut books, shape, sessions);
+    let spent = match tie(alloc, &mut books, shape, sessions) {
+        Ok(()) => time_tied(rt, alloc, shape, &books, sessions, turns),
+        Err(why) => Err(why),
+    };
+    drop(books);
+    spent
+}
+
+// The same with the books of the shape.
+fn time_tied<R: Clock>(
+    rt: &R,
+    alloc: Global,
+    shape: &Shape,
+    books: &[Book],
+    sessions: u16,
+    turns: u32,
+) -> Result<Duration, Failure> {
     let wanted = match shape {
         Shape::Chain => 0,
         Shape::Ring | Shape::Dense => sessions,
     };
     let began = Instant::now(rt)?;
-    let made = search_often(alloc, &books, sessions, wanted, turns);
-    let spent = spent_since(rt, began, made, turns);
-    match tied {
-        Ok(()) => spent,
-        Err(why) => Err(why),
-    }
+    let made = search_often(alloc, books, sessions, wanted, turns);
+    spent_since(rt, began, made, turns)
 }
 
 // Adds the books of the locks that make a shape.
@@ -260,8 +272,11 @@ fn search(graph: &mut WaitGraph, books: &[Book], who: u16) -> Result<u16, AllocE
     for book in books {
         graph.add(book)?;
     }
-    match graph.find_cycle(who)? {
-        Some(cycle) => Ok(victim(&cycle)),
-        None => Ok(0),
-    }
+    let found = graph.find_cycle(who)?;
+    let fallen = match &found {
+        Some(cycle) => victim(cycle),
+        None => 0,
+    };
+    drop(found);
+    Ok(fallen)
 }

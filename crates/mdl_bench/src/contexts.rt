@@ -88,7 +88,10 @@ fn time_shared<R: Wait + Clock + CpuClock>(
 ) -> Result<Lap, Failure> {
     let (manager, mut passes) = Manager::new(alloc, MOST_PLACES, MOST_SESSIONS)?;
     let pass = passes.remove(0);
-    time_pass(rt, rt, alloc, &manager, pass, plan, race)
+    drop(passes);
+    let lap = time_pass(rt, rt, alloc, &manager, pass, plan, race);
+    drop(manager);
+    lap
 }
 
 /// The same for the session of a pass, which waits with the handle `wait`.
@@ -106,6 +109,7 @@ pub fn time_pass<R: Wait + Clock + CpuClock, W: Wait + Drop>(
     let mut session = Session::open(wait, manager, pass);
     let mut context = Context::new(alloc, session.number());
     let lap = timed(rt, alloc, &mut session, &mut context, plan, race);
+    drop(context);
     close(rt, session);
     lap
 }
@@ -222,23 +226,39 @@ fn time_turns<R: Clock + CpuClock, S: LockSpace>(
     requires { Attends S.LockSpace space.old context.old }
 {
     let mut keys = Vec::new(alloc);
-    let mut places = Vec::new(alloc);
     let lap = match list_keys(alloc, wish, from, &mut keys) {
+        Ok(()) => time_listed(rt, alloc, space, context, wish, &keys, next, race),
+        Err(why) => Err(why),
+    };
+    drop(keys);
+    lap
+}
+
+// The same with the keys of the wish.
+fn time_listed<R: Clock + CpuClock, S: LockSpace>(
+    rt: &R,
+    alloc: Global,
+    space: &mut S,
+    context: &mut Context<S>,
+    wish: &Wish,
+    keys: &[Key],
+    next: TicketId,
+    race: &Race,
+) -> Result<Lap, Failure>
+    requires { Attends S.LockSpace space.old context.old }
+{
+    let mut places = Vec::new(alloc);
+    let lap = match list_places(space, context, keys, &mut places) {
         Ok(()) => {
-            let known = list_places(space, context, &keys, &mut places);
             let names = Names {
-                keys: &keys,
+                keys,
                 places: &places,
             };
-            match known {
-                Ok(()) => time_wishes(rt, space, context, wish, names, next, race),
-                Err(why) => Err(why),
-            }
+            time_wishes(rt, space, context, wish, names, next, race)
         }
         Err(why) => Err(why),
     };
     drop(places);
-    drop(keys);
     lap
 }
 
@@ -287,10 +307,10 @@ fn stock_up<S: LockSpace>(
 fn list_keys(alloc: Global, wish: &Wish, from: u16, keys: &mut Vec<Key>) -> Result<(), Failure> {
     match wish {
         Wish::Request | Wish::AskAgain => list_tables(alloc, keys, SPREAD, 1),
-        Wish::Transact | Wish::TransactAt => match keys.push(Key::global(alloc)) {
-            Ok(()) => list_tables(alloc, keys, from, 3),
-            Err(_) => Err(Failure::Memory),
-        },
+        Wish::Transact | Wish::TransactAt => {
+            list(keys, Key::global(alloc))?;
+            list_tables(alloc, keys, from, 3)
+        }
         Wish::GoBack => list_tables(alloc, keys, 0, LOCKED),
     }
 }
@@ -298,14 +318,21 @@ fn list_keys(alloc: Global, wish: &Wish, from: u16, keys: &mut Vec<Key>) -> Resu
 // Adds the keys of `count` tables from the index `from` on.
 fn list_tables(alloc: Global, keys: &mut Vec<Key>, from: u16, count: u16) -> Result<(), Failure> {
     for index in from..from.saturating_add(count) {
-        let pushed = keys.push(table(alloc, index)?);
-        let is_there = pushed.is_ok();
-        drop(pushed);
-        if !is_there {
-            return Err(Failure::Memory);
-        }
+        list(keys, table(alloc, index)?)?;
     }
     Ok(())
+}
+
+// Adds a key.
+fn list(keys: &mut Vec<Key>, key: Key) -> Result<(), Failure> {
+    let pushed = keys.push(key);
+    let is_there = pushed.is_ok();
+    drop(pushed);
+    if is_there {
+        Ok(())
+    } else {
+        Err(Failure::Memory)
+    }
 }
 
 // Adds the places of keys.

@@ -303,7 +303,9 @@ fn time_look_ups<R: Wait + Clock>(
 ) -> Result<Duration, Failure> {
     let wanted = learn(alloc, first, keys)?;
     let key = table(alloc, keys.saturating_sub(1))?;
-    look_up_by_each(rt, others, &key, wanted, turns)
+    let spent = look_up_by_each(rt, others, &key, wanted, turns);
+    drop(key);
+    spent
 }
 
 // The same once the key has its place.

@@ -32,7 +32,7 @@ pub fn look_all_up<R: Wait>(
     ensures second { IfOk result (λ places. is_known places.second (data_of session.new).known ≡ true) }
     ensures third { IfOk result (λ places. is_known places.third (data_of session.new).known ≡ true) }
 {
-    let global = look_up(session, &Key::global(alloc), 1)?;
+    let global = look_global_up(alloc, session)?;
     let first = look_table_up(alloc, session, from, 2)?;
     let second = look_table_up(alloc, session, from.saturating_add(1), 3)?;
     let third = look_table_up(alloc, session, from.saturating_add(2), 4)?;
@@ -55,5 +55,17 @@ pub fn look_table_up<R: Wait>(
     ensures kept { (place : ℕ) → is_known place (data_of session.old).known ≡ true → is_known place (data_of session.new).known ≡ true }
 {
     let key = table(alloc, index)?;
-    look_up(session, &key, tickets)
+    let place = look_up(session, &key, tickets);
+    drop(key);
+    place
+}
+
+// Returns the place of GLOBAL. The session knows its key from then on, and has room for one more ticket.
+fn look_global_up<R: Wait>(alloc: Global, session: &mut Session<R>) -> Result<Place, Failure>
+    ensures known { IfOk result (λ place. is_known place (data_of session.new).known ≡ true) }
+{
+    let key = Key::global(alloc);
+    let place = look_up(session, &key, 1);
+    drop(key);
+    place
 }

@@ -39,7 +39,9 @@ fn probe_keys<R: Clock>(
     }
     let last = keys.saturating_sub(1);
     let key = table(alloc, last)?;
-    find_key(rt, map, &key, last, turns)
+    let spent = find_key(rt, map, &key, last, turns);
+    drop(key);
+    spent
 }
 
 // Times `turns` look-ups of a key whose place is in the map.

@@ -10,7 +10,7 @@ use crate::patient::gain;
 use crate::places::look_table_up;
 use crate::session::take;
 use mdl_calls::{Place, SpaceError, TicketId};
-use mdl_defs::{Change, Column, Columns, DefCache, Definition};
+use mdl_defs::{Change, Column, Columns, DefCache, Definition, VersionedDefinition};
 use mdl_key::Mode;
 use mdl_shared::{Cached, Session, read_cached};
 use std::alloc::Global;
@@ -173,17 +173,17 @@ fn keeps<R: Wait>(session: &mut Session<R>, id: TicketId, cache: &mut DefCache) 
     requires met { AreMet (HasMet (data_of session.old) session.old.me.0.number) cache.old.kept }
     ensures met { AreMet (HasMet (data_of session.new) session.new.me.0.number) cache.new.kept }
 {
-    match session.read_kept(id, cache) {
-        Ok(standing) => is_table(&standing.definition),
-        Err(_) => false,
-    }
+    is_of_table(session.read_kept(id, cache))
 }
 
-fn is_table(definition: &Option<Definition>) -> bool {
-    match definition {
-        Some(Definition::Table(_)) => true,
-        _ => false,
-    }
+// Whether the definition of a table was read.
+fn is_of_table(read: Result<VersionedDefinition, SpaceError>) -> bool {
+    let is_so = match &read {
+        Ok(standing) => matches!(&standing.definition, Some(Definition::Table(_))),
+        Err(_) => false,
+    };
+    drop(read);
+    is_so
 }
 
 // Copies the key's definition under the latch, `turns` times. Returns how often it was a table.
@@ -199,10 +199,7 @@ fn read_often<R: Wait>(session: &mut Session<R>, id: TicketId, turns: u32) -> u3
 
 // Copies the key's definition under the latch. Whether it is a table.
 fn reads<R: Wait>(session: &mut Session<R>, id: TicketId) -> bool {
-    match session.read_definition(id) {
-        Ok(standing) => is_table(&standing.definition),
-        Err(_) => false,
-    }
+    is_of_table(session.read_definition(id))
 }
 
 /// Defines `tables` tables, each with `columns` columns.
@@ -251,7 +248,9 @@ fn name_columns(alloc: Global, columns: &mut Columns, count: u16) -> Result<(), 
 // One of many columns.
 fn column(alloc: Global, index: u16) -> Result<Column, Failure> {
     let name = format!(in alloc; "column_{index}")?;
-    Ok(Column::new(alloc, name.as_str())?)
+    let column = Column::new(alloc, name.as_str());
+    drop(name);
+    Ok(column?)
 }
 
 // Locks a table in X, changes its definition, and releases it.

@@ -122,7 +122,9 @@ pub fn time_calls<R: Wait + Clock + CpuClock>(
 ) -> Result<Lap, Failure> {
     let last = stock_up(alloc, session, stock, Mode::SU)?;
     let key = table(alloc, stock.last())?;
-    call_often(rt, session, call, &key, last, race)
+    let lap = call_often(rt, session, call, &key, last, race);
+    drop(key);
+    lap
 }
 
 // Times the calls. Fails with [`Failure::Unexpected`] unless all have the right answer.
@@ -166,14 +168,22 @@ pub fn has_place<R: Wait>(session: &mut Session<R>, key: &Key, place: Place) -> 
 
 fn has_key<R>(session: &mut Session<R>, key: &Key, place: Place) -> bool {
     match session.key_of(place) {
-        Ok(found) => found == *key,
+        Ok(found) => {
+            let is_so = found == *key;
+            drop(found);
+            is_so
+        }
         Err(_) => false,
     }
 }
 
 fn finds_nothing<R: Wait>(session: &mut Session<R>, id: TicketId) -> bool {
     match session.read_definition(id) {
-        Ok(standing) => standing.definition.is_none(),
+        Ok(standing) => {
+            let is_none = standing.definition.is_none();
+            drop(standing);
+            is_none
+        }
         Err(_) => false,
     }
 }

@@ -6,5 +6,7 @@ use std::alloc::Global;
 /// The key of one of many tables.
 pub fn table(alloc: Global, index: u16) -> Result<Key, Failure> {
     let name = format!(in alloc; "t{index}")?;
-    Ok(Key::table(alloc, "shop", name.as_str())?)
+    let key = Key::table(alloc, "shop", name.as_str());
+    drop(name);
+    Ok(key?)
 }

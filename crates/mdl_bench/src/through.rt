@@ -27,7 +27,11 @@ pub fn time_through<R: Threads + Wait + Sync + Clock + CpuClock>(
 ) -> Result<Duration, Failure> {
     let race = Race::new(alloc, threads, turns)?;
     let lap = match Manager::new(alloc, MOST_PLACES, threads) {
-        Ok((manager, passes)) => run(rt, alloc, &manager, passes, wish, own, &race),
+        Ok((manager, passes)) => {
+            let lap = run(rt, alloc, &manager, passes, wish, own, &race);
+            drop(manager);
+            lap
+        }
         Err(_) => Err(Failure::Unmade),
     };
     drop(race);
