@@ -2,7 +2,7 @@
 ghost use Rattle.std.specs.Prelude.{◌≡◌, ◌≤◌, All, length};
 ghost use Rattle.mdl_shared.specs.Passes.{manager_table, pass_table};
 
-use crate::playing::{lines, played_on};
+use crate::playing::played_on;
 use mdl_calls::{Attempt, Place, TicketId};
 use mdl_defs::{Column, Definition, VersionedDefinition};
 use mdl_key::{Key, MOST_PLACES, MOST_SESSIONS, Mode};
@@ -15,9 +15,9 @@ use std::sync::Wait;
 use std::test::Fail;
 use std::thread::Threads;
 
-const SCRIPT: &str = "1 CREATE TABLE t x / 1 CREATE TABLE u x";
+const SCRIPT: &str = "1 CREATE TABLE t x\n1 CREATE TABLE u x\n";
 
-const TEXT: &str = "1 1 ERR 1205 / 2 1 OK / FINAL SCHEMA test@1 / FINAL TABLE test.u@1(x)";
+const TEXT: &str = "1 1 ERR 1205\n2 1 OK\nFINAL SCHEMA test@1\nFINAL TABLE test.u@1(x)\n";
 
 // Locks a table of the schema test, if the lock can be granted at once, and returns the ticket.
 fn take<R: Wait>(
@@ -113,18 +113,17 @@ pub(crate) fn close<R: Drop>(rt: &impl Abort, session: Session<R>) {
 
 #[test]
 fn a_table_that_is_not_free_is_missed(rt: HostRuntime) -> Result<(), Fail> {
-    let alloc = rt.alloc();
-    let script = lines(alloc, SCRIPT)?;
-    let wanted = lines(alloc, TEXT)?;
-    let (manager, mut passes) = Manager::new(alloc, MOST_PLACES, MOST_SESSIONS)?;
+    let (manager, mut passes) = Manager::new(rt.alloc(), MOST_PLACES, MOST_SESSIONS)?;
     let Some(last) = passes.pop() else {
-        return Err(Fail::from("there is no session"));
+        panic!(rt; "there is no session");
     };
     let mut own = Session::open(&rt, &manager, last);
-    let (ran, sees_new) = played_beside(&rt, alloc, &manager, passes, script.as_str(), &mut own);
+    let (ran, sees_new) = played_beside(&rt, rt.alloc(), &manager, passes, SCRIPT, &mut own);
+    drop(manager);
     close(&rt, own);
-    let Ran { text, passes: _ } = ran?;
-    assert!(rt; text == wanted, "{text}");
-    assert!(rt; sees_new);
+    let ran = ran?;
+    let has_text = ran.text.as_str() == TEXT;
+    drop(ran);
+    assert!(rt; has_text && sees_new);
     Ok(())
 }

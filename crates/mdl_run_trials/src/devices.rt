@@ -1,4 +1,5 @@
 //! Readers and writers that fail after each possible number of bytes, and slow ones that are interrupted there.
+use crate::checks::is_right;
 use crate::fakes::{Habit, SOUND, Slip};
 use crate::matrices::MATRICES;
 use crate::runs::Words::{Lock, Matrix, OnThreads, Replay};
@@ -67,7 +68,7 @@ fn a_read_that_fails_is_told(rt: HostRuntime) {
         for bytes in 0..=talk.1.len() {
             for failure in FAILURES {
                 let is_so = is_told(&rt, rt.alloc(), *talk, bytes, *failure);
-                assert!(rt; is_so, "{} after {bytes}: {}", talk.1, failure.1);
+                is_right(&rt, talk.1, bytes, is_so);
             }
         }
     }
@@ -100,7 +101,7 @@ fn a_write_that_fails_leaves_a_beginning(rt: HostRuntime) {
         for bytes in 0..talk.2.len() {
             let is_so = is_cut_off(&rt, rt.alloc(), *talk, bytes, broken)
                 && is_cut_off(&rt, rt.alloc(), *talk, bytes, Slip::MovesNothing);
-            assert!(rt; is_so, "{} after {bytes}", talk.2);
+            is_right(&rt, talk.2, bytes, is_so);
         }
     }
 }
@@ -124,7 +125,7 @@ fn slow_and_interrupted_devices_serve(rt: HostRuntime) {
         for bytes in 0..=talk.1.len() {
             let is_so = is_served(&rt, rt.alloc(), *talk, bytes, 1)
                 && is_served(&rt, rt.alloc(), *talk, bytes, usize::MAX);
-            assert!(rt; is_so, "{} after {bytes}", talk.1);
+            is_right(&rt, talk.1, bytes, is_so);
         }
     }
 }

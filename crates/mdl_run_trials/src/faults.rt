@@ -1,4 +1,5 @@
 //! Faults with their lines and exit statuses, and the fault that a run ends with if a device fails.
+use crate::checks::is_right;
 use crate::fakes::{Habit, SOUND, Slip, Source, Target};
 use mdl_key::Kind;
 use mdl_lines::{Fault, LineError, report};
@@ -7,7 +8,7 @@ use mdl_script::replay;
 use std::alloc::Global;
 use std::io::ErrorKind;
 
-const FAULTS: [(Fault, &str, u8); 4] = [
+const FAULTS: &[(Fault, &str, u8)] = &[
     (
         Fault::Refused(7, LineError::BadWord),
         "line 7: BadWord\n",
@@ -32,7 +33,7 @@ fn is_told(alloc: Global, (fault, line, status): (Fault, &str, u8), bytes: usize
 fn faults_are_told(rt: HostRuntime) {
     for row in FAULTS {
         for bytes in 0..=row.1.len() {
-            assert!(rt; is_told(rt.alloc(), row, bytes), "{} after {bytes}", row.1);
+            is_right(&rt, row.1, bytes, is_told(rt.alloc(), *row, bytes));
         }
     }
 }

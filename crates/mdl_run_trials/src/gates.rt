@@ -4,6 +4,7 @@ use crate::room::{Answers, answers_so, new_space};
 use mdl_work::Gate;
 use std::alloc::Global;
 use std::cell::Cell;
+use std::mem::drop;
 
 // A gate that notes each call as a decimal digit: before a statement its line plus the session's number, after it a 0.
 #[derive(Drop)]
@@ -34,10 +35,13 @@ fn noted(alloc: Global, text: &[u8], want: Answers<'_>) -> Option<u64> {
     let notes = Notes {
         digits: Cell::new(0),
     };
-    if !answers_so(alloc, &mut space, 1, text, 0, &notes, want) {
-        return None;
+    let answers_so = answers_so(alloc, &mut space, 1, text, 0, &notes, want);
+    drop(space);
+    if answers_so {
+        Some(notes.digits.get())
+    } else {
+        None
     }
-    Some(notes.digits.get())
 }
 
 // Session 1 has lines 1 and 3, so the digits before its statements are 2 and 4.

@@ -23,6 +23,8 @@ mod again;
 #[cfg(test)]
 mod blocked;
 #[cfg(test)]
+mod checks;
+#[cfg(test)]
 mod devices;
 #[cfg(test)]
 mod examples;

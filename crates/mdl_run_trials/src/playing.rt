@@ -9,6 +9,7 @@ use mdl_script::{DEFAULT_CACHE, Gate, Ran, run_on, run_threads};
 use mdl_shared::{Manager, Pass};
 use mdl_syntax::{Script, parse};
 use std::alloc::{AllocError, Global};
+use std::mem::drop;
 use std::process::Abort;
 use std::sync::Wait;
 use std::test::Fail;
@@ -33,9 +34,19 @@ pub(crate) fn must_be_played_so<R: Threads + Wait + Sync + Abort, G: Gate + Sync
     gate: &G,
 ) -> Result<(), Fail> {
     let asked = lines(alloc, script)?;
-    let wanted = lines(alloc, text)?;
-    let played = played(rt, alloc, asked.as_str(), gate)?;
-    assert!(rt; played == wanted, "{script}: {played}");
+    let played = played(rt, alloc, asked.as_str(), gate);
+    drop(asked);
+    let played = played?;
+    must_be(rt, alloc, played.as_str(), text)?;
+    drop(played);
+    Ok(())
+}
+
+// Fails unless these are the lines of a row.
+fn must_be(rt: &impl Abort, alloc: Global, text: &str, row: &str) -> Result<(), AllocError> {
+    let wanted = lines(alloc, row)?;
+    assert!(rt; text == wanted.as_str(), "{text}");
+    drop(wanted);
     Ok(())
 }
 
@@ -47,7 +58,9 @@ fn played<R: Threads + Wait + Sync, G: Gate + Sync>(
     gate: &G,
 ) -> Result<String, Fail> {
     let script = parse(alloc, script.as_bytes())?;
-    Ok(run_threads(rt, alloc, &script, 0, DEFAULT_CACHE, gate)?)
+    let played = run_threads(rt, alloc, &script, 0, DEFAULT_CACHE, gate);
+    drop(script);
+    Ok(played?)
 }
 
 // Whether one of these passes is that of the session.

@@ -1,10 +1,12 @@
 //! Scripts that are played line by line.
 ghost use Rattle.std.specs.Prelude.{IfOk, OnOk};
+ghost use Rattle.mdl_lines.specs.Sessions.{IsScriptSession};
 ghost use Rattle.mdl_script.specs.Plays.{IsManned};
 
 use mdl_key::MOST_SESSIONS;
-use mdl_script::{Line, Play, Script, Told, parse, push_end, push_told, space_after};
+use mdl_script::{Fault, Line, Play, Script, Told, parse, push_end, push_told, space_after};
 use std::alloc::{AllocError, Global};
+use std::mem::drop;
 use std::test::Fail;
 
 // A wait that is granted, a line of a session that waits, and a wait that never ends.
@@ -65,11 +67,37 @@ fn three_turns<'s>(
         return Ok([None, None, None]);
     }
     let mut told = Vec::new(alloc);
-    play.ask(line, &mut told)?;
-    let first = play.settle_one(&mut told)?;
-    let second = play.settle_one(&mut told)?;
-    let third = play.settle_one(&mut told)?;
+    let turns = turns_after(play, line, &mut told);
+    drop(told);
+    turns
+}
+
+// The same, with a place for the answers.
+fn turns_after<'s>(
+    play: &mut Play<'s>,
+    line: &'s Line,
+    told: &mut Vec<Told>,
+) -> Result<[Option<u16>; 3], AllocError>
+    requires manned { IsManned play.old }
+    requires session { IsScriptSession line.now.session }
+    ensures manned { OnOk result (IsManned play.new) }
+{
+    play.ask(line, told)?;
+    let first = play.settle_one(told)?;
+    let second = play.settle_one(told)?;
+    let third = play.settle_one(told)?;
     Ok([first, second, third])
+}
+
+// Plays a line in one step. Its answers are dropped.
+fn play_unheard<'s>(alloc: Global, play: &mut Play<'s>, line: &'s Line) -> Result<(), AllocError>
+    requires manned { IsManned play.old }
+    ensures manned { OnOk result (IsManned play.new) }
+{
+    let mut told = Vec::new(alloc);
+    let played = play_line(play, line, &mut told);
+    drop(told);
+    played
 }
 
 // Plays all lines of a script but the last in one step each, and returns the turns that follow the last one.
@@ -79,8 +107,7 @@ fn last_turns(alloc: Global, script: &Script) -> Result<[Option<u16>; 3], AllocE
     };
     let mut play = Play::new(alloc)?;
     for line in first {
-        let mut told = Vec::new(alloc);
-        play_line(&mut play, line, &mut told)?;
+        play_unheard(alloc, &mut play, line)?;
     }
     three_turns(alloc, &mut play, last)
 }
@@ -88,8 +115,25 @@ fn last_turns(alloc: Global, script: &Script) -> Result<[Option<u16>; 3], AllocE
 // Returns what is printed for a script that is played line by line, and for each session that still waits.
 fn played(alloc: Global, script: &Script) -> Result<String, AllocError> {
     let mut told = Vec::new(alloc);
-    let play = play_lines(alloc, script, &mut told)?;
-    text_of(alloc, &told, play.waiting())
+    let text = played_into(alloc, script, &mut told);
+    drop(told);
+    text
+}
+
+// The same, with a place for the answers.
+fn played_into(alloc: Global, script: &Script, told: &mut Vec<Told>) -> Result<String, AllocError> {
+    let play = play_lines(alloc, script, told)?;
+    let text = text_of(alloc, told, play.waiting());
+    drop(play);
+    text
+}
+
+// Whether this is what is printed.
+fn is_played_so(alloc: Global, script: &Script, want: &str) -> bool {
+    match played(alloc, script) {
+        Ok(text) => text.as_str() == want,
+        Err(_) => false,
+    }
 }
 
 // Returns the text of these answers, and of these sessions that wait.
@@ -107,8 +151,25 @@ fn text_of(alloc: Global, told: &[Told], waiting: &[u16]) -> Result<String, Allo
 // Returns how many books there are after a script was played line by line.
 fn books_left(alloc: Global, script: &Script) -> Result<usize, AllocError> {
     let mut told = Vec::new(alloc);
-    let play = play_lines(alloc, script, &mut told)?;
-    Ok(play.books().len())
+    let books = count_books(alloc, script, &mut told);
+    drop(told);
+    books
+}
+
+// The same, with a place for the answers.
+fn count_books(alloc: Global, script: &Script, told: &mut Vec<Told>) -> Result<usize, AllocError> {
+    let play = play_lines(alloc, script, told)?;
+    let books = play.books().len();
+    drop(play);
+    Ok(books)
+}
+
+// Returns how many there are after it was played to its end.
+fn books_after(alloc: Global, script: &[u8]) -> Result<usize, Fault> {
+    let space = space_after(alloc, script, u64::MAX)?;
+    let books = space.books().len();
+    drop(space);
+    Ok(books)
 }
 
 const ANSWERS: &str = "\
@@ -129,8 +190,9 @@ END 2 WAIT
 #[test]
 fn a_play_answers_as_replay_does(rt: HostRuntime) -> Result<(), Fail> {
     let script = parse(rt.alloc(), SCRIPT)?;
-    let text = played(rt.alloc(), &script)?;
-    assert_eq!(rt; text.as_str(), ANSWERS);
+    let is_so = is_played_so(rt.alloc(), &script, ANSWERS);
+    drop(script);
+    assert!(rt; is_so);
     Ok(())
 }
 
@@ -138,8 +200,9 @@ fn a_play_answers_as_replay_does(rt: HostRuntime) -> Result<(), Fail> {
 #[test]
 fn a_play_shows_the_books_that_a_script_leaves(rt: HostRuntime) -> Result<(), Fail> {
     let script = parse(rt.alloc(), SCRIPT)?;
-    let space = space_after(rt.alloc(), SCRIPT, u64::MAX)?;
-    assert!(rt; books_left(rt.alloc(), &script)? == space.books().len());
+    let left = books_left(rt.alloc(), &script);
+    drop(script);
+    assert!(rt; left? == books_after(rt.alloc(), SCRIPT)?);
     Ok(())
 }
 
@@ -155,7 +218,8 @@ const TWO_WAIT: &[u8] = b"\
 #[test]
 fn the_least_settled_session_continues_first(rt: HostRuntime) -> Result<(), Fail> {
     let script = parse(rt.alloc(), TWO_WAIT)?;
-    let turns = last_turns(rt.alloc(), &script)?;
-    assert!(rt; turns == [Some(2), Some(3), None]);
+    let turns = last_turns(rt.alloc(), &script);
+    drop(script);
+    assert!(rt; turns? == [Some(2), Some(3), None]);
     Ok(())
 }

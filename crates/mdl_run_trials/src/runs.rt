@@ -6,6 +6,7 @@ use crate::fakes::{Habit, Source, Target};
 use mdl_key::Kind;
 use mdl_program::{Run, run_asked};
 use std::alloc::Global;
+use std::mem::drop;
 use std::sync::Wait;
 use std::thread::Threads;
 
@@ -63,6 +64,13 @@ fn look_at<T: Threads + Wait + Sync>(rt: &T, alloc: Global, row: Row<'_>) -> See
 /// Whether a run gives what its row says.
 pub(crate) fn goes_so<T: Threads + Wait + Sync>(rt: &T, alloc: Global, row: Row<'_>) -> bool {
     let seen = look_at(rt, alloc, row);
+    let goes_so = is_as_told(&seen, row);
+    drop(seen);
+    goes_so
+}
+
+// Whether this is what its row says.
+fn is_as_told(seen: &Seen, row: Row<'_>) -> bool {
     let (.., status, written, told) = row;
     seen.status == status
         && seen.written.as_slice() == written.as_bytes()

@@ -1,4 +1,5 @@
 //! The statuses of a program, and what it writes on which stream.
+use crate::checks::is_right;
 use crate::fakes::{GONE, SOUND};
 use crate::matrices::MATRICES;
 use crate::runs::Words::{Lock, Matrix, OnThreads, Refused, Replay, Scoped};
@@ -7,6 +8,7 @@ use mdl_program::lack_words;
 use std::alloc::Global;
 use std::io;
 use std::io::ErrorKind;
+use std::mem::drop;
 
 const STATEMENTS: &str = "1 BEGIN\n2 COMMIT\n";
 
@@ -63,14 +65,17 @@ const ROWS: &[Row<'static>] = &[
 #[test]
 fn statuses_and_lines_of_a_run(rt: HostRuntime) {
     for (place, row) in ROWS.iter().enumerate() {
-        assert!(rt; goes_so(&rt, rt.alloc(), *row), "row {place}");
+        is_right(&rt, "row", place, goes_so(&rt, rt.alloc(), *row));
     }
 }
 
 // Whether missing words of this kind end with this status and report this line.
 fn is_lack(alloc: Global, kind: ErrorKind, status: u8, line: &str) -> bool {
     let mut told = Vec::new(alloc);
-    lack_words(&io::Error::from(kind), &mut told) == status && told.as_slice() == line.as_bytes()
+    let is_so = lack_words(&io::Error::from(kind), &mut told) == status
+        && told.as_slice() == line.as_bytes();
+    drop(told);
+    is_so
 }
 
 #[test]

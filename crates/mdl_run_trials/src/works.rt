@@ -1,8 +1,10 @@
 //! Sessions execute their own lines, wait for what the other session has locked until their patience ends, and leave nothing at their end.
+use crate::checks::is_right;
 use crate::outcomes::Outcome;
 use crate::room::{Answers, answers_so, holds, new_space};
 use mdl_work::OpenGate;
 use std::alloc::Global;
+use std::mem::drop;
 
 const DONE: Outcome = Outcome::Done;
 
@@ -43,14 +45,16 @@ fn go_so(alloc: Global, (text, one, two): Talk) -> bool {
     let Ok(mut space) = new_space(alloc) else {
         return false;
     };
-    answers_so(alloc, &mut space, 1, text, 0, &OpenGate, one)
-        && answers_so(alloc, &mut space, 2, text, 0, &OpenGate, two)
+    let go_so = answers_so(alloc, &mut space, 1, text, 0, &OpenGate, one)
+        && answers_so(alloc, &mut space, 2, text, 0, &OpenGate, two);
+    drop(space);
+    go_so
 }
 
 #[test]
 fn sessions_work_off_their_lines(rt: HostRuntime) {
     for (place, talk) in TALKS.iter().enumerate() {
-        assert!(rt; go_so(rt.alloc(), *talk), "script {place}");
+        is_right(&rt, "script", place, go_so(rt.alloc(), *talk));
     }
 }
 
@@ -100,14 +104,16 @@ fn waits_so(alloc: Global, (lock, text, patience, want): Wait) -> bool {
         return false;
     };
     let made = &[(1, DONE), (2, DONE)];
-    answers_so(alloc, &mut space, 1, TABLES, 0, &OpenGate, made)
+    let waits_so = answers_so(alloc, &mut space, 1, TABLES, 0, &OpenGate, made)
         && holds(alloc, &mut space, lock)
-        && answers_so(alloc, &mut space, 1, text, patience, &OpenGate, want)
+        && answers_so(alloc, &mut space, 1, text, patience, &OpenGate, want);
+    drop(space);
+    waits_so
 }
 
 #[test]
 fn waits_end_with_patience(rt: HostRuntime) {
     for (place, wait) in WAITS.iter().enumerate() {
-        assert!(rt; waits_so(rt.alloc(), *wait), "wait {place}");
+        is_right(&rt, "wait", place, waits_so(rt.alloc(), *wait));
     }
 }

@@ -352,7 +352,8 @@ fn release_all<R: Wait>(session: &mut Session<R>) -> Reply {
 
 fn reschedule<R: Wait>(session: &mut Session<R>, place: Place) -> Reply {
     match session.key_of(place) {
-        Ok(_key) => {
+        Ok(key) => {
+            drop(key);
             session.reschedule(place);
             Reply::Done
         }
@@ -362,14 +363,20 @@ fn reschedule<R: Wait>(session: &mut Session<R>, place: Place) -> Reply {
 
 fn version<R>(session: &mut Session<R>, place: Place) -> Reply {
     match session.key_of(place) {
-        Ok(_key) => Reply::Version(session.version(place)),
+        Ok(key) => {
+            drop(key);
+            Reply::Version(session.version(place))
+        }
         Err(why) => Reply::Refused(why),
     }
 }
 
 fn try_fast<R>(session: &mut Session<R>, place: Place, mode: Mode) -> Reply {
     match session.key_of(place) {
-        Ok(_key) => tried_fast(session.try_fast(place, mode)),
+        Ok(key) => {
+            drop(key);
+            tried_fast(session.try_fast(place, mode))
+        }
         Err(why) => Reply::Refused(why),
     }
 }
@@ -397,7 +404,9 @@ fn resolve<R: Wait>(alloc: Global, session: &mut Session<R>, lock: Lock) -> Repl
     let Ok(key) = lock.key(alloc) else {
         return NO_MEMORY;
     };
-    match session.resolve(&key) {
+    let outcome = session.resolve(&key);
+    drop(key);
+    match outcome {
         Ok(place) => Reply::Place(place),
         Err(why) => Reply::Refused(why),
     }
@@ -405,7 +414,11 @@ fn resolve<R: Wait>(alloc: Global, session: &mut Session<R>, lock: Lock) -> Repl
 
 fn read<R: Wait>(session: &mut Session<R>, id: TicketId) -> Reply {
     match session.read_definition(id) {
-        Ok(standing) => standing_reply(&standing),
+        Ok(standing) => {
+            let reply = standing_reply(&standing);
+            drop(standing);
+            reply
+        }
         Err(why) => Reply::Refused(why),
     }
 }
@@ -426,7 +439,11 @@ fn standing_reply(standing: &VersionedDefinition) -> Reply {
 
 fn change<R: Wait>(alloc: Global, session: &mut Session<R>, id: TicketId, edit: Edit) -> Reply {
     match edit.change(alloc) {
-        Some(change) => changed(session.change_definition(id, &change)),
+        Some(change) => {
+            let outcome = session.change_definition(id, &change);
+            drop(change);
+            changed(outcome)
+        }
         None => NO_MEMORY,
     }
 }
@@ -441,14 +458,22 @@ fn put_often<R: Wait>(alloc: Global, session: &mut Session<R>, id: TicketId, tim
 
 fn count_tables<R: Wait>(session: &mut Session<R>) -> Reply {
     match session.tables_of("shop") {
-        Ok(places) => Reply::Count(places.len()),
+        Ok(places) => {
+            let count = places.len();
+            drop(places);
+            Reply::Count(count)
+        }
         Err(why) => Reply::Refused(why),
     }
 }
 
 fn holds<R>(session: &Session<R>, tickets: &[Held]) -> Reply {
     match session.held() {
-        Ok(held) => Reply::Is(held.as_slice() == tickets),
+        Ok(held) => {
+            let is_so = held.as_slice() == tickets;
+            drop(held);
+            Reply::Is(is_so)
+        }
         Err(why) => Reply::Refused(why),
     }
 }
@@ -457,15 +482,30 @@ fn names<R>(alloc: Global, session: &mut Session<R>, place: Place, lock: Lock) -
     let Ok(key) = lock.key(alloc) else {
         return NO_MEMORY;
     };
+    let reply = named_so(session, place, &key);
+    drop(key);
+    reply
+}
+
+// Whether this is the key of a place.
+fn named_so<R>(session: &mut Session<R>, place: Place, key: &Key) -> Reply {
     match session.key_of(place) {
-        Ok(named) => Reply::Is(named == key),
+        Ok(named) => {
+            let is_so = named == *key;
+            drop(named);
+            Reply::Is(is_so)
+        }
         Err(why) => Reply::Refused(why),
     }
 }
 
 fn audit<R: Wait>(alloc: Global, session: &mut Session<R>, books: &[Shown]) -> Reply {
     match session.audit() {
-        Ok(audited) => are_shown(alloc, &audited, books),
+        Ok(audited) => {
+            let reply = are_shown(alloc, &audited, books);
+            drop(audited);
+            reply
+        }
         Err(why) => Reply::Refused(why),
     }
 }

@@ -2,6 +2,7 @@
 use crate::shared::acts::{Lock, NO_MEMORY, Reply};
 use mdl_book::Ticket;
 use mdl_calls::Place;
+use mdl_key::Key;
 use mdl_shared::Audited;
 use std::alloc::Global;
 
@@ -32,12 +33,17 @@ fn is_shown(alloc: Global, book: &Audited, shown: &Shown) -> Reply {
     let Ok(key) = shown.lock.key(alloc) else {
         return NO_MEMORY;
     };
-    Reply::Is(
-        book.place == shown.place
-            && book.book.key == key
-            && book.book.granted.as_slice() == shown.granted
-            && book.book.waiting.is_empty()
-            && book.book.standing.version == 0
-            && book.book.standing.definition.is_none(),
-    )
+    let is_so = is_shown_under(book, &key, shown);
+    drop(key);
+    Reply::Is(is_so)
+}
+
+// The same for a book of this key.
+fn is_shown_under(book: &Audited, key: &Key, shown: &Shown) -> bool {
+    book.place == shown.place
+        && book.book.key == *key
+        && book.book.granted.as_slice() == shown.granted
+        && book.book.waiting.is_empty()
+        && book.book.standing.version == 0
+        && book.book.standing.definition.is_none()
 }

@@ -1,11 +1,10 @@
 //! Sessions look up keys, try for locks and release them, and read keys, tickets and books.
-use crate::shared::acts::{Act, Lock, Memory, Reply};
+use crate::shared::acts::{Act, Lock, Reply};
 use crate::shared::audits::Shown;
-use crate::shared::rows::{Case, Row, are_right};
+use crate::shared::rows::{Case, Row};
 use mdl_book::Ticket;
 use mdl_calls::{Held, SpaceError};
 use mdl_key::Mode;
-use std::test::Fail;
 
 const NO_PLACE: Reply = Reply::Refused(SpaceError::NoPlace);
 
@@ -175,7 +174,7 @@ const AUDITS: &[Row] = &[
     (2, Act::Audit(FREE_BOOKS), Reply::Is(true)),
 ];
 
-const CASES: &[Case] = &[
+pub(super) const CASES: &[Case] = &[
     ("keys get places", 2, PLACES),
     ("a writer stands alone", 1, WRITERS),
     ("what cannot be tried is refused", 1, REFUSED),
@@ -186,8 +185,3 @@ const CASES: &[Case] = &[
     ("who asks for tables knows them", 4, ASKED),
     ("an audit tells each book", 3, AUDITS),
 ];
-
-#[test]
-fn sessions_try_for_locks(rt: HostRuntime) -> Result<(), Fail> {
-    are_right(&rt, Memory::Ample, CASES)
-}

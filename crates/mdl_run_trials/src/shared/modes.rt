@@ -1,9 +1,8 @@
 //! Tickets get weaker modes and stronger ones, are cloned and merged.
-use crate::shared::acts::{Act, Lock, Memory, Reply};
-use crate::shared::rows::{Case, Row, are_right};
+use crate::shared::acts::{Act, Lock, Reply};
+use crate::shared::rows::{Case, Row};
 use mdl_calls::SpaceError;
 use mdl_key::Mode;
-use std::test::Fail;
 
 const NOT_HELD: Reply = Reply::Refused(SpaceError::NotHeld);
 
@@ -147,7 +146,7 @@ const NO_UPGRADES: &[Row] = &[
     (1, Act::Release(1), Reply::Done),
 ];
 
-const CASES: &[Case] = &[
+pub(super) const CASES: &[Case] = &[
     ("a downgraded ticket lets others in", 1, DOWNGRADES),
     ("other modes are no downgrades", 2, NO_DOWNGRADES),
     ("a clone outlives its ticket", 1, CLONES),
@@ -161,8 +160,3 @@ const CASES: &[Case] = &[
         NO_UPGRADES,
     ),
 ];
-
-#[test]
-fn tickets_get_other_modes(rt: HostRuntime) -> Result<(), Fail> {
-    are_right(&rt, Memory::Ample, CASES)
-}

@@ -1,4 +1,5 @@
 //! How many places and sessions a space may have.
+use crate::checks::is_right;
 use mdl_key::{MOST_PLACES, MOST_SESSIONS};
 use mdl_shared::{Manager, NewError};
 use std::alloc::Global;
@@ -20,9 +21,7 @@ fn fault(alloc: Global, places: u16, sessions: u16) -> Option<NewError> {
 #[test]
 fn spaces_have_their_limits(rt: HostRuntime) {
     for (places, sessions, wanted) in LIMITS {
-        assert!(rt;
-            fault(rt.alloc(), *places, *sessions) == *wanted,
-            "{places} places, {sessions} sessions"
-        );
+        let right = fault(rt.alloc(), *places, *sessions) == *wanted;
+        is_right(&rt, "places", usize::from(*places), right);
     }
 }

@@ -120,7 +120,11 @@ fn read<S: LockSpace>(
     ensures met { AreMet (S.has_met space.new who) cache.new.kept }
 {
     match space.read_kept(who, id, cache) {
-        Ok(standing) => standing_there(&standing, names),
+        Ok(standing) => {
+            let found = standing_there(&standing, names);
+            drop(standing);
+            found
+        }
         Err(_) => (0, Found::Refused),
     }
 }
@@ -161,7 +165,10 @@ fn take_fast<R>(session: &mut Session<R>, place: Place, _cache: &DefCache) -> Op
     ensures met { AreMet (HasMet (data_of session.new) session.new.me.0.number) _cache.now.kept }
 {
     match session.key_of(place) {
-        Ok(_key) => granted(session.try_fast(place, Mode::SR)),
+        Ok(key) => {
+            drop(key);
+            granted(session.try_fast(place, Mode::SR))
+        }
         Err(_) => None,
     }
 }
@@ -251,9 +258,12 @@ fn first_wrong_at_last<R: Wait>(
 /// Makes the steps of a story and its last look, by two new sessions, the first of which has a cache, and fails the test if a result is wrong.
 pub(crate) fn are_right<R: Wait + Abort + AllocGlobal>(rt: &R, story: Story) -> Result<(), Fail> {
     let (shown, capacity, steps, last) = story;
-    let mut cache = DefCache::new(rt.alloc(), capacity)?;
     let mut sessions = open_three(rt, 4)?;
+    let Ok(mut cache) = DefCache::new(rt.alloc(), capacity) else {
+        panic!(rt; "there is no memory for a cache");
+    };
     let wrong = first_wrong_at_last(rt.alloc(), &mut cache, &mut sessions, steps, last);
+    drop(cache);
     sessions.close(rt);
     none_is_wrong(rt, shown, wrong);
     Ok(())

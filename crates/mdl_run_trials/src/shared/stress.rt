@@ -4,6 +4,7 @@
 ghost use Rattle.std.specs.Prelude.{◌≡◌, ◌+◌, ◌<◌, length};
 ghost use Rattle.mdl_shared.specs.Passes.{ArePasses, manager_table, pass_table};
 
+use crate::checks::is_right;
 use crate::shared::acts::{Act, Reply, make};
 use crate::shared::fast_counts::are_counted;
 use crate::shared::players::{Player, leave, look_all_up, play, was_answered, watch};
@@ -336,20 +337,17 @@ fn ends_of<R: Threads + Wait + Clock + Abort + AllocGlobal + Sync>(
     if well { Some(ends) } else { None }
 }
 
+// Whether a game goes well, and so many waits end in it as are wanted.
+fn goes_well<R: Threads + Wait + Clock + Abort + AllocGlobal + Sync>(rt: &R, game: Game) -> bool {
+    match ends_of(rt, game) {
+        Some(ends) => ends.are(game.2),
+        None => false,
+    }
+}
+
 #[test]
 fn threads_make_all_calls_beside_audits(rt: HostRuntime) {
     for game in GAMES {
-        let (tables, players, wanted) = *game;
-        let Some(ends) = ends_of(&rt, *game) else {
-            panic!(rt; "{tables} tables, {players} players: it went wrong");
-        };
-        assert!(rt;
-            ends.are(wanted),
-            "{tables} tables, {players} players: {} granted, {} victims, {} timeouts, {} killed",
-            ends.granted,
-            ends.victims,
-            ends.timeouts,
-            ends.killed
-        );
+        is_right(&rt, "players", usize::from(game.1), goes_well(&rt, *game));
     }
 }

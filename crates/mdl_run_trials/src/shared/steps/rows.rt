@@ -89,11 +89,18 @@ impl Visitors {
 fn come<R: Wait + Abort + AllocGlobal>(rt: &R) -> Result<Visitors, Fail> {
     let alloc = rt.alloc();
     let sales = Key::table(alloc, "shop", "sales")?;
-    let (table, mut maker) = Maker::of_places(alloc, 1, 3)?;
-    let table = Arc::new(alloc, table)?;
+    let Ok((table, mut maker)) = Maker::of_places(alloc, 1, 3) else {
+        panic!(rt; "there is memory for a table");
+    };
+    let Ok(table) = Arc::new(alloc, table) else {
+        panic!(rt; "there is memory to share it");
+    };
     let one = Visitor::come(rt, alloc, &table, &mut maker, &sales);
     let two = Visitor::come(rt, alloc, &table, &mut maker, &sales);
     let three = Visitor::come(rt, alloc, &table, &mut maker, &sales);
+    drop(sales);
+    drop(table);
+    drop(maker);
     match (one, two, three) {
         (Some(one), Some(two), Some(three)) => Ok(Visitors { one, two, three }),
         _ => panic!(rt; "there is room for three"),
@@ -122,9 +129,10 @@ fn words_tell_of_tickets_and_waits(rt: HostRuntime) -> Result<(), Fail> {
 fn a_fast_ticket_needs_no_latch(rt: HostRuntime) -> Result<(), Fail> {
     let Visitors {
         mut one,
-        two: _,
+        two,
         three,
     } = come(&rt)?;
+    drop(two);
     let free = three.lets_by(&mut one);
     drop(one);
     assert!(rt; free == Some(true));
@@ -134,7 +142,9 @@ fn a_fast_ticket_needs_no_latch(rt: HostRuntime) -> Result<(), Fail> {
 // Three fast tickets of a session that become slow are counted by the word before that, and are in its place's book after it.
 #[test]
 fn three_fast_tickets_become_slow(rt: HostRuntime) -> Result<(), Fail> {
-    let Visitors { one, .. } = come(&rt)?;
+    let Visitors { one, two, three } = come(&rt)?;
+    drop(two);
+    drop(three);
     let words = one.makes_slow(&rt, [Mode::S, Mode::S, Mode::SR]);
     let wanted = (Word(0x0000_0000_0010_0002), Word(0x1000_0000_0000_0000));
     assert!(rt; words == Some(wanted));

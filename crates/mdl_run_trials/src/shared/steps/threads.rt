@@ -24,12 +24,22 @@ fn saw_nobody(mut seat: TableSeat, place: usize, visits: u32) -> bool
 #[test]
 fn two_threads_take_one_latch(rt: HostRuntime) -> Result<(), Fail> {
     let (table, mut maker) = Maker::of_places(rt.alloc(), 1, 2)?;
-    let table = Arc::new(rt.alloc(), table)?;
-    let one = maker.enrol(Arc::try_clone(&table)?);
-    let two = maker.enrol(Arc::try_clone(&table)?);
+    let Ok(table) = Arc::new(rt.alloc(), table) else {
+        panic!(rt; "there is memory to share the table");
+    };
+    let Ok(for_one) = Arc::try_clone(&table) else {
+        panic!(rt; "there may be another owner");
+    };
+    let Ok(for_two) = Arc::try_clone(&table) else {
+        panic!(rt; "there may be a third owner");
+    };
+    let one = maker.enrol(for_one);
+    let two = maker.enrol(for_two);
     let (Some(one), Some(two)) = (one, two) else {
         panic!(rt; "there is room for two");
     };
+    drop(table);
+    drop(maker);
     let (first, second) = thread::join(
         &rt,
         move || saw_nobody(one, 1, 20_000),

@@ -304,10 +304,14 @@ impl Visitor {
             place,
             ..
         } = self;
-        let latch = seat.take_latch(place)?;
+        let Some(latch) = seat.take_latch(place) else {
+            drop(seat);
+            return None;
+        };
         let granted = other.try_fast(Mode::SW) == Answer::Granted;
         let free = other.release_fast() == Answer::Owes(false);
         seat.put_latch(latch, &[]);
+        drop(seat);
         Some(granted && free)
     }
 
