@@ -104,7 +104,9 @@ fn resolve<R: Wait>(session: &mut Session<R>, alloc: Global, name: &str) -> Repl
     let Ok(key) = Key::table(alloc, "test", name) else {
         return Reply::NoMemory;
     };
-    match session.resolve(&key) {
+    let outcome = session.resolve(&key);
+    drop(key);
+    match outcome {
         Ok(place) => Reply::At(place),
         Err(error) => refused(error),
     }

@@ -102,7 +102,11 @@ impl<S: LockSpace> Seat<S> {
             outcome => outcome,
         };
         match held {
-            Ok(held) => held.len() == count && are_kept(context.kept(), &held),
+            Ok(held) => {
+                let is_so = held.len() == count && are_kept(context.kept(), &held);
+                drop(held);
+                is_so
+            }
             Err(_) => false,
         }
     }
@@ -177,7 +181,9 @@ fn acquire<S: LockSpace>(
                 mode,
                 duration,
             };
-            acquired(context.acquire(space, request))
+            let outcome = context.acquire(space, request);
+            drop(key);
+            acquired(outcome)
         }
         Err(_) => Reply::NoMemory,
     }

@@ -14,10 +14,12 @@ FOREIGN KEY\ts\tk\tSHARED\tTRANSACTION\tPENDING\t48300
 
 /// Whether the rows are read completely. Tries a second time if memory runs out.
 pub(crate) fn rows_are_read(alloc: Global) -> bool {
-    match read_lock_rows(alloc, TEXT) {
-        Err(LockRowsError::OutOfMemory) => is_whole(read_lock_rows(alloc, TEXT)),
-        outcome => is_whole(outcome),
+    let outcome = read_lock_rows(alloc, TEXT);
+    if matches!(&outcome, Err(LockRowsError::OutOfMemory)) {
+        drop(outcome);
+        return is_whole(read_lock_rows(alloc, TEXT));
     }
+    is_whole(outcome)
 }
 
 fn is_whole(outcome: Result<LockRows, LockRowsError>) -> bool {

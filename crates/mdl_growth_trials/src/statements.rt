@@ -247,10 +247,12 @@ fn read(alloc: Global, scene: Scene<'_>) -> Option<Script> {
 
 fn script_of(alloc: Global, scene: Scene<'_>) -> Result<Script, Fault> {
     let mut text = String::new(alloc);
-    match put_all(&mut text, scene) {
+    let script = match put_all(&mut text, scene) {
         Ok(()) => parse(alloc, text.as_bytes()),
         Err(AllocError) => Err(Fault::Memory),
-    }
+    };
+    drop(text);
+    script
 }
 
 // Adds all lines of a scene, its looks, and the ends after them.
