@@ -23,7 +23,7 @@ def all_archives():
 
 def words_of(crate, archive):
     """Returns the command that builds the archive with the libraries that are there."""
-    words = wrong_bodies.command_for(crate)
+    words = wrong_bodies.command_for(crate) + wrong_bodies.words_for(wrong_bodies.libraries_of(crate))
     words[words.index("check")] = "build"
     return [*words, "--crate-type", "staticlib", "--toolchain", wrong_bodies.KIT / "toolchain", "--backend", "llvm", "-o", archive]
 

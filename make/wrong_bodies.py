@@ -17,9 +17,10 @@ old texts. That has to be proved, or a line of wrong_bodies/without_control has 
 are then counted apart. (A wrong body that adds a branch or a call has more goals than such a form, so that its refusal says less, too.)
 
 A function is proved with the contracts of the functions that it calls, whatever their bodies are. So all wrong bodies of a crate are put in place
-together, in a copy, and one check covers the functions that they name. If several change one function, the copy gets a twin of it for each of the
-others: the function once more, with its contract and proof, under another name. Only bodies that change the same text outside the function, or a
-function that can't have a twin, take turns. The bodies of the functions that have no wrong one are left out of the copy, since they would only be
+together, in a copy, and one check covers the functions that they name. In the gate it covers those of several crates, if none depends on another one,
+since it takes some fifteen seconds beside the functions, however few they are. If several change one function, the copy gets a twin of it for each
+of the others: the function once more, with its contract and proof, under another name. Only bodies that change the same text outside the function, or
+a function that can't have a twin, take turns. The bodies of the functions that have no wrong one are left out of the copy, since they would only be
 proved again. That a function calls one that is refused, or that was left out, doesn't count: it has to fail by itself.
 
 The check uses the libraries that the crate depends on as `rt ci`, or `rt check` in a crate's folder, built them last.
@@ -55,6 +56,9 @@ CRATES = pathlib.Path("crates")
 
 # The kit's folder, found by its command.
 KIT = pathlib.Path(shutil.which("rt") or "rt").resolve().parent.parent
+
+# The crate without functions that a check of copies is about: they are its libraries.
+NOTHING = "nothing"
 
 # The messages of a check for a proof that names what a body removed. They say nothing about the contract.
 LOST_NAME = re.compile(r"has no field|is not in scope|has no `|was not admitted")
@@ -254,7 +258,8 @@ def has_proof_by_hand(function):
 
 def told_of(function, said):
     """Returns what these lines of a check say of a function: its verdict, and the errors in its proof."""
-    proofs = proofs_of(function)
+    crate = function.split("::")[0]
+    proofs = tuple(f"{crate}/{folder}" for folder in proofs_of(function))
     verdict = [it for it in said if it.startswith(f"fn {function}: ")]
     return verdict, [it for it in messages_of(said) if it.removeprefix("./").startswith(proofs) and ": error: " in it]
 
@@ -279,10 +284,15 @@ def is_refused(function, said):
     return by_itself, by_itself and any(not LOST_NAME.search(it) for it in errors)
 
 
+def uses():
+    """Returns the libraries that each crate names."""
+    lines = [re.match(r"(\w+)[^#:]*:(.*)", line) for line in pathlib.Path("crates.txt").read_text().splitlines()]
+    return {line[1]: line[2].split() for line in lines if line}
+
+
 def libraries_of(crate):
     """Returns the libraries that a crate names, each with the folder that it was built into."""
-    lines = pathlib.Path("crates.txt").read_text().splitlines()
-    names = next(line.partition(":")[2].split() for line in lines if re.match(rf"{crate}\b[^#:]*:", line))
+    names = uses()[crate]
     built = {name: CRATES.resolve() / name / "out/rlib" / f"{name}.rlib" for name in names if (CRATES / name).is_dir()}
     lost = [name for name, folder in built.items() if not folder.is_dir()]
     if lost:
@@ -291,15 +301,25 @@ def libraries_of(crate):
 
 
 def command_for(crate):
-    """Returns the command that checks a crate in a copy of its folder."""
-    root = "src/main.rt" if (CRATES / crate / "src/main.rt").exists() else "src/lib.rt"
-    words = [KIT / "bin/rattle", "check", "--crate-name", crate, root, "--links", f"{crate}=", "--jobs", "1"]
-    words += ["--antt-project", KIT / "rattle/logic/antt-project.json", "--logic-built", KIT / "logic_built"]
-    for name, folder in libraries_of(crate).items():
-        words += ["--extern", f"{name}={folder}"]
-    for folder in [KIT / "rlibs", *CRATES.resolve().glob("*/out/rlib")]:
-        words += ["-L", f"dependency={folder}"]
-    return words
+    """Returns the command that checks a crate in its folder, but for the libraries that it depends on."""
+    words = [KIT / "bin/rattle", "check", "--crate-name", crate, "src/lib.rt", "--links", f"{crate}=", "--jobs", "1"]
+    return [*words, "--antt-project", KIT / "rattle/logic/antt-project.json", "--logic-built", KIT / "logic_built"]
+
+
+def words_for(libraries):
+    """Returns the words of a command that name libraries, and say where those below them are."""
+    words = [word for name, folder in libraries.items() for word in ("--extern", f"{name}={folder}")]
+    return words + [word for folder in [KIT / "rlibs", *CRATES.resolve().glob("*/out/rlib")] for word in ("-L", f"dependency={folder}")]
+
+
+def command_for_all(crates):
+    """Returns the command that checks crates in copies of their folders, beside a crate without functions."""
+    words, libraries = command_for(NOTHING), {}
+    for crate in crates:
+        used = libraries_of(crate)
+        words += ["--lib", f"{crate}:{','.join(used)}={crate}/src/lib.rt"]
+        libraries |= used
+    return words + words_for(libraries)
 
 
 def functions_in(lines, module, types):
@@ -339,6 +359,16 @@ def sources_of(folder):
     return modules, {name: [*module, name] for file, module in modules.items() for name in TYPE.findall(file.read_text())}
 
 
+def make_library(folder):
+    """Makes a program in a folder a library, without its `main`: a check of a library doesn't load the code of those below."""
+    root = folder / "src/main.rt"
+    if root.exists():
+        text = root.read_text()
+        start = text.index("\nfn main(")
+        root.write_text(text[:start] + text[text.index("\n}\n", start) + 2 :])
+        root.rename(folder / "src/lib.rt")
+
+
 def leave_out(folder, but):
     """Empties the functions in a crate's folder, except those in `but` and those of traits and for C, and leaves out their proofs."""
     modules, types = sources_of(folder)
@@ -357,16 +387,23 @@ def leave_out(folder, but):
             (place / "Proof.antt").write_text(NO_PROOF.format(crate=folder.name, path=".".join(path), name=path[-1]))
 
 
-def check(command, folder, functions, change):
-    """Checks functions of a crate in a folder, after a change there, and returns the lines that the check prints."""
-    shutil.rmtree(folder, ignore_errors=True)
-    for part in ("src", "specs", "proofs"):
-        if (CRATES / folder.name / part).is_dir():
-            shutil.copytree(CRATES / folder.name / part, folder / part)
-    change(folder)
-    leave_out(folder, functions)
-    asked = [word for name in functions for word in ("--only", name)]
-    ran = subprocess.run([*command, *asked], cwd=folder, stdout=subprocess.PIPE, stderr=subprocess.STDOUT, text=True)
+def check(parts):
+    """Checks functions of crates, each in a copy after a change there, and returns the lines that the check prints. `parts` has the functions of each
+    crate, and the change. None of the crates may depend on another one."""
+    with tempfile.TemporaryDirectory(prefix="wrong-bodies-") as place:
+        pathlib.Path(place, "src").mkdir()
+        pathlib.Path(place, "src/lib.rt").write_text("//! Nothing.\n")
+        words = command_for_all(parts)
+        for crate, (functions, change) in parts.items():
+            folder = pathlib.Path(place, crate)
+            for part in ("src", "specs", "proofs"):
+                if (CRATES / crate / part).is_dir():
+                    shutil.copytree(CRATES / crate / part, folder / part)
+            change(folder)
+            make_library(folder)
+            leave_out(folder, functions)
+            words += [word for name in functions for word in ("--only", name)]
+        ran = subprocess.run(words, cwd=place, stdout=subprocess.PIPE, stderr=subprocess.STDOUT, text=True)
     return ran.stdout.splitlines()
 
 
@@ -446,13 +483,16 @@ def control_outcome_of(function, said):
     return MISSED
 
 
-def try_controls(crate, bodies):
-    """Tries the right bodies of a crate in another form, and returns how many don't have the right outcome."""
-    functions = controls_of(bodies)
+def try_controls(found):
+    """Tries the right bodies of crates in another form, and returns how many don't have the right outcome."""
+    return sum(try_controls_of(crate, controls_of(bodies)) for crate, bodies in found.items())
+
+
+def try_controls_of(crate, functions):
+    """Tries the right bodies of functions of a crate in another form, and returns how many don't have the right outcome."""
     if not functions:
         return 0
-    with tempfile.TemporaryDirectory(prefix="wrong-bodies-") as place:
-        said = check(command_for(crate), pathlib.Path(place, crate), list(functions), lambda folder: put_same(folder, functions))
+    said = check({crate: (list(functions), lambda folder: put_same(folder, functions))})
     outcomes = collections.Counter(control_outcome_of(it, said) for it in functions)
     told = f"{outcomes[PASSED]} of {len(functions)} functions with proofs by hand are proved in another form, too"
     print(f"{crate}: {told}{', as the others are known not to be' if outcomes[UNSURE] else ''}", flush=True)
@@ -462,37 +502,59 @@ def try_controls(crate, bodies):
 # ---- all
 
 
-def try_crate(crate, bodies, are_right):
-    """Tries the wrong bodies of a crate, or the right ones, in a copy of it, and returns how many don't have the right outcome."""
-    outcomes, unsure = collections.Counter(), []
-    with tempfile.TemporaryDirectory(prefix="wrong-bodies-") as place:
-        command = command_for(crate)
-        for tried in rounds_of(bodies, CRATES / crate):
-            functions = [body.tried for body in tried.bodies]
-            said = check(command, pathlib.Path(place, crate), functions, functools.partial(tried.put_into, are_right=are_right))
-            for body in tried.bodies:
-                outcome = (right_outcome_of if are_right else outcome_of)(crate, body, said)
-                outcomes[outcome] += 1
-                unsure += [body.name] if outcome == UNSURE else []
-    told = f"{len(bodies) - outcomes[MISSED]} of {len(bodies)}"
-    few = f", {outcomes[BY_A_NAME]} of them for a name alone" if outcomes[BY_A_NAME] else ""
-    few += f", {len(unsure)} maybe only since the proof by hand doesn't fit: {' '.join(sorted(unsure))}" if unsure else ""
-    print(f"{crate}: {told} right bodies pass" if are_right else f"{crate}: {told} wrong bodies are refused{few}", flush=True)
-    return outcomes[MISSED]
+def try_bodies(found, are_right):
+    """Tries the wrong bodies of crates, or the right ones, in copies of them, and returns how many don't have the right outcome."""
+    outcomes = {crate: [] for crate in found}
+    rounds = {crate: rounds_of(bodies, CRATES / crate) for crate, bodies in found.items()}
+    for number in range(max(map(len, rounds.values()))):
+        now = {crate: its[number] for crate, its in rounds.items() if number < len(its)}
+        said = check({crate: ([body.tried for body in it.bodies], functools.partial(it.put_into, are_right=are_right)) for crate, it in now.items()})
+        for crate, it in now.items():
+            outcomes[crate] += [(body.name, (right_outcome_of if are_right else outcome_of)(crate, body, said)) for body in it.bodies]
+    for crate in found:
+        print(summary(crate, outcomes[crate], are_right), flush=True)
+    return sum(outcome == MISSED for its in outcomes.values() for _, outcome in its)
 
 
-def size_of(crate):
-    """Returns the size of a crate's code and proofs."""
-    files = [file for part in ("src", "proofs") for file in (CRATES / crate / part).rglob("*") if file.is_file()]
+def summary(crate, outcomes, are_right):
+    """Returns a line on the wrong bodies of a crate, or on the right ones: names, each with its outcome."""
+    names = collections.defaultdict(list)
+    for name, outcome in outcomes:
+        names[outcome].append(name)
+    told = f"{crate}: {len(outcomes) - len(names[MISSED])} of {len(outcomes)}"
+    if are_right:
+        return f"{told} right bodies pass"
+    few = f", {len(names[BY_A_NAME])} of them for a name alone" if names[BY_A_NAME] else ""
+    few += f", {len(names[UNSURE])} maybe only since the proof by hand doesn't fit: {' '.join(sorted(names[UNSURE]))}" if names[UNSURE] else ""
+    return f"{told} wrong bodies are refused{few}"
+
+
+def groups_of(found):
+    """Returns groups of crates, each with its bodies, that can be checked together, since none depends on another: those of the same depth."""
+    used, depths = uses(), {}
+
+    def depth(crate):
+        if crate not in depths:
+            depths[crate] = max((depth(it) for it in used.get(crate, [])), default=0) + (crate in found)
+        return depths[crate]
+
+    groups = collections.defaultdict(dict)
+    for crate, bodies in found.items():
+        groups[depth(crate)][crate] = bodies
+    return list(groups.values())
+
+
+def size_of(crates):
+    """Returns the size of the code and the proofs of crates."""
+    files = [file for crate in crates for part in ("src", "proofs") for file in (CRATES / crate / part).rglob("*") if file.is_file()]
     return sum(file.stat().st_size for file in files)
 
 
-def try_all(found, trials):
-    """Makes trials with the bodies of each crate, the largest crates first, one for each processor, and returns how many don't have the right outcome."""
-    crates = sorted(found, key=size_of, reverse=True)
+def try_all(groups, trials):
+    """Makes trials with the bodies of groups of crates, the largest first, one for each processor, and returns how many don't have the right outcome."""
     lanes = int(os.environ.get("RT_JOBS") or len(os.sched_getaffinity(0)))
     with concurrent.futures.ThreadPoolExecutor(lanes) as pool:
-        return sum(pool.map(lambda crate: sum(it(crate, found[crate]) for it in trials), crates))
+        return sum(pool.map(lambda group: sum(it(group) for it in trials), sorted(groups, key=size_of, reverse=True)))
 
 
 def bodies_of(words):
@@ -525,12 +587,12 @@ def fit_all():
 
 
 def trials_of(words):
-    """Returns the trials that the words name, each a function of a crate and its bodies."""
+    """Returns the trials that the words name, each a function of crates and their bodies."""
     if "--right" in words:
-        return [functools.partial(try_crate, are_right=True)]
+        return [functools.partial(try_bodies, are_right=True)]
     if "--same" in words:
         return [try_controls]
-    wrong = functools.partial(try_crate, are_right=False)
+    wrong = functools.partial(try_bodies, are_right=False)
     return [wrong] if "--gate" in words or len(words) > 1 else [wrong, try_controls]
 
 
@@ -544,9 +606,10 @@ def main(words):
             fit_all()
             return 0
         found = bodies_of([word for word in words if not word.startswith("--")])
+        groups = [{crate: bodies} for crate, bodies in found.items()]
         if "--gate" in words:
-            found = {crate: [body for body in bodies if not body.is_for_all] for crate, bodies in found.items()}
-        return 1 if try_all(found, trials_of(words)) else 0
+            groups = groups_of({crate: [body for body in bodies if not body.is_for_all] for crate, bodies in found.items()})
+        return 1 if try_all(groups, trials_of(words)) else 0
     except Unfit as error:
         print(error, file=sys.stderr)
         return 1
