@@ -151,42 +151,32 @@ fn finds_all_free<R: Wait>(session: &mut Session<R>) -> bool {
     are_free
 }
 
-// Plays a script with caches that keep one definition. Returns the run, and whether a tenth session finds all books free afterwards.
+// Plays a script with caches that keep one definition. Returns the text, and whether a tenth session finds all books free afterwards.
 fn played_alone<R: Threads + Wait + Sync + Abort>(
     rt: &R,
     alloc: Global,
-    script: &str,
-) -> (Result<Ran, Fail>, bool) {
-    let Ok((manager, mut passes)) = Manager::new(alloc, MOST_PLACES, 10) else {
-        panic!(rt; "there is no memory for the lock table");
-    };
+) -> Result<(String, bool), Fail> {
+    let script = script(alloc)?;
+    let (manager, mut passes) = Manager::new(alloc, MOST_PLACES, 10)?;
     let Some(last) = passes.pop() else {
-        panic!(rt; "there is no session");
+        return Err(Fail::from("there is no session"));
     };
-    let played = played_on(rt, alloc, &manager, passes, script, u32::MAX, 1, &OpenGate);
+    let text = script.as_str();
+    let played = played_on(rt, alloc, &manager, passes, text, u32::MAX, 1, &OpenGate);
     let mut watcher = Session::open(rt, &manager, last);
-    drop(manager);
     let are_free = finds_all_free(&mut watcher);
     close(rt, watcher);
-    (played, are_free)
-}
-
-// Fails if the versions of a session fall, or the changes have other answers.
-fn never_fall(rt: &impl Abort, text: &str) {
-    let falls = first_that_falls(text);
-    assert!(rt; falls.is_none(), "session {}", falls.unwrap_or(0));
-    assert!(rt; text.ends_with(CHANGED));
+    let Ran { text, passes: _ } = played?;
+    Ok((text, are_free))
 }
 
 // Each read is of the other table, so the cache, which keeps one definition, has just dropped the one that is needed.
 #[test]
 fn versions_never_fall(rt: HostRuntime) -> Result<(), Fail> {
-    let script = script(rt.alloc())?;
-    let (played, are_free) = played_alone(&rt, rt.alloc(), script.as_str());
-    drop(script);
-    let ran = played?;
-    never_fall(&rt, ran.text.as_str());
-    drop(ran);
+    let (played, are_free) = played_alone(&rt, rt.alloc())?;
+    let falls = first_that_falls(played.as_str());
+    assert!(rt; falls.is_none(), "session {}", falls.unwrap_or(0));
+    assert!(rt; played.ends_with(CHANGED));
     assert!(rt; are_free);
     Ok(())
 }

@@ -88,11 +88,16 @@ const VERSIONS: &[Row] = &[
     (1, Act::Release(3), Reply::Done),
 ];
 
-pub(super) const CASES: &[Case] = &[
+const CASES: &[Case] = &[
     ("a change is one version more", 1, CHANGES),
     ("a change that cannot be made is refused", 2, REFUSED),
     ("versions are read without a ticket", 4, VERSIONS),
 ];
+
+#[test]
+fn sessions_change_what_stands(rt: HostRuntime) -> Result<(), Fail> {
+    are_right(&rt, Memory::Ample, CASES)
+}
 
 // A million changes take some seconds, so this has a test of its own.
 #[test]

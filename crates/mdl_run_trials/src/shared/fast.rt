@@ -1,11 +1,12 @@
 //! Sessions try for fast tickets, release them and make them slow.
-use crate::shared::acts::{Act, Lock, Reply};
+use crate::shared::acts::{Act, Lock, Memory, Reply};
 use crate::shared::audits::Shown;
-use crate::shared::rows::{Case, Row};
+use crate::shared::rows::{Case, Row, are_right};
 use mdl_book::Ticket;
 use mdl_calls::{Ended, Held, Settled, SpaceError};
 use mdl_key::Mode;
 use mdl_word::Word;
+use std::test::Fail;
 
 const NOT_HELD: Reply = Reply::Refused(SpaceError::NotHeld);
 
@@ -354,7 +355,7 @@ const ELSEWHERE: &[Row] = &[
     (1, Act::Release(6), Reply::Done),
 ];
 
-pub(super) const CASES: &[Case] = &[
+const CASES: &[Case] = &[
     ("a session has 1023 fast tickets at a place", 2, MOST),
     ("fast tickets become slow ones", 1, MADE_SLOW),
     ("fast tickets elsewhere become slow", 2, ELSEWHERE),
@@ -369,3 +370,8 @@ pub(super) const CASES: &[Case] = &[
     ("unobtrusive wishes take the fast path", 1, WAITED_FOR),
     ("a guess of the word is old", 1, OLD_GUESS),
 ];
+
+#[test]
+fn fast_tickets_come_and_go(rt: HostRuntime) -> Result<(), Fail> {
+    are_right(&rt, Memory::Ample, CASES)
+}

@@ -1,10 +1,11 @@
 //! Sessions look up keys, try for locks and release them, and read keys, tickets and books.
-use crate::shared::acts::{Act, Lock, Reply};
+use crate::shared::acts::{Act, Lock, Memory, Reply};
 use crate::shared::audits::Shown;
-use crate::shared::rows::{Case, Row};
+use crate::shared::rows::{Case, Row, are_right};
 use mdl_book::Ticket;
 use mdl_calls::{Held, SpaceError};
 use mdl_key::Mode;
+use std::test::Fail;
 
 const NO_PLACE: Reply = Reply::Refused(SpaceError::NoPlace);
 
@@ -174,7 +175,7 @@ const AUDITS: &[Row] = &[
     (2, Act::Audit(FREE_BOOKS), Reply::Is(true)),
 ];
 
-pub(super) const CASES: &[Case] = &[
+const CASES: &[Case] = &[
     ("keys get places", 2, PLACES),
     ("a writer stands alone", 1, WRITERS),
     ("what cannot be tried is refused", 1, REFUSED),
@@ -185,3 +186,8 @@ pub(super) const CASES: &[Case] = &[
     ("who asks for tables knows them", 4, ASKED),
     ("an audit tells each book", 3, AUDITS),
 ];
+
+#[test]
+fn sessions_try_for_locks(rt: HostRuntime) -> Result<(), Fail> {
+    are_right(&rt, Memory::Ample, CASES)
+}

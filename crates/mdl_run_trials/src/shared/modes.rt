@@ -1,8 +1,9 @@
 //! Tickets get weaker modes and stronger ones, are cloned and merged.
-use crate::shared::acts::{Act, Lock, Reply};
-use crate::shared::rows::{Case, Row};
+use crate::shared::acts::{Act, Lock, Memory, Reply};
+use crate::shared::rows::{Case, Row, are_right};
 use mdl_calls::SpaceError;
 use mdl_key::Mode;
+use std::test::Fail;
 
 const NOT_HELD: Reply = Reply::Refused(SpaceError::NotHeld);
 
@@ -146,7 +147,7 @@ const NO_UPGRADES: &[Row] = &[
     (1, Act::Release(1), Reply::Done),
 ];
 
-pub(super) const CASES: &[Case] = &[
+const CASES: &[Case] = &[
     ("a downgraded ticket lets others in", 1, DOWNGRADES),
     ("other modes are no downgrades", 2, NO_DOWNGRADES),
     ("a clone outlives its ticket", 1, CLONES),
@@ -160,3 +161,8 @@ pub(super) const CASES: &[Case] = &[
         NO_UPGRADES,
     ),
 ];
+
+#[test]
+fn tickets_get_other_modes(rt: HostRuntime) -> Result<(), Fail> {
+    are_right(&rt, Memory::Ample, CASES)
+}

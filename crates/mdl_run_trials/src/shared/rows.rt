@@ -4,7 +4,6 @@ ghost use Rattle.mdl_shared.specs.Passes.{ArePasses, manager_table};
 
 use crate::shared::acts::{Act, Memory, Reply, make_at_last};
 use crate::shared::sessions::closed;
-use crate::shared::{changes, fast, locks, modes, searches, waits};
 use mdl_calls::Place;
 use mdl_shared::{CloseError, Manager, NewError, Pass, Session};
 use std::alloc::Global;
@@ -123,23 +122,6 @@ pub(crate) fn are_right<R: Wait + Abort + AllocGlobal>(
         let wrong = sessions.first_wrong(rt.alloc(), rows, memory);
         sessions.close(rt);
         none_is_wrong(rt, shown, wrong);
-    }
-    Ok(())
-}
-
-const TABLES: &[&[Case]] = &[
-    locks::CASES,
-    modes::CASES,
-    changes::CASES,
-    waits::CASES,
-    fast::CASES,
-    searches::CASES,
-];
-
-#[test]
-fn sessions_do_as_told(rt: HostRuntime) -> Result<(), Fail> {
-    for cases in TABLES {
-        are_right(&rt, Memory::Ample, cases)?;
     }
     Ok(())
 }

@@ -6,7 +6,7 @@ ghost use Rattle.mdl_steps.specs.declared.view.StepRecord.{StepRecord};
 ghost use Rattle.mdl_steps.specs.Lists.{Each};
 
 use crate::shared::acts::{Act, Lock, Memory, Reply};
-use crate::shared::rows::{Case, Row, none_is_wrong, open_three};
+use crate::shared::rows::{Case, Row, are_right, none_is_wrong, open_three};
 use mdl_calls::{Ended, Held, Search, Settled, SpaceError};
 use mdl_key::Mode;
 use mdl_shared::Session;
@@ -150,7 +150,7 @@ const CROSSED: &[Row] = &[
     (2, Act::Release(1), Reply::Done),
 ];
 
-pub(super) const CASES: &[Case] = &[
+const CASES: &[Case] = &[
     ("of two in a cycle one falls", 2, A_CYCLE),
     ("another falls than who searches", 2, THE_OTHER),
     ("of three in a round one falls", 3, A_ROUND),
@@ -186,4 +186,9 @@ fn a_settled_wait_needs_no_latch_to_search(rt: HostRuntime) -> Result<(), Fail> 
     none_is_wrong(&rt, "after the timeout", ended);
     assert!(rt; untangled);
     Ok(())
+}
+
+#[test]
+fn deadlocks_are_found(rt: HostRuntime) -> Result<(), Fail> {
+    are_right(&rt, Memory::Ample, CASES)
 }

@@ -1,8 +1,9 @@
 //! Sessions wait for locks, are granted them, and lose their waits.
-use crate::shared::acts::{Act, Lock, Reply};
-use crate::shared::rows::{Case, Row};
+use crate::shared::acts::{Act, Lock, Memory, Reply};
+use crate::shared::rows::{Case, Row, are_right};
 use mdl_calls::{Ended, Settled, SpaceError};
 use mdl_key::Mode;
+use std::test::Fail;
 
 const NO_WAIT: Reply = Reply::Refused(SpaceError::NoWait);
 
@@ -155,7 +156,7 @@ const BEHIND: &[Row] = &[
     (3, Act::Release(1), Reply::Done),
 ];
 
-pub(super) const CASES: &[Case] = &[
+const CASES: &[Case] = &[
     ("a wish that clashes with nothing is granted", 1, ALONE),
     ("a wish that clashes waits", 1, CLASHING),
     ("a release grants who waits", 1, MAKING_WAY),
@@ -165,3 +166,8 @@ pub(super) const CASES: &[Case] = &[
     ("a session that waits has its tickets", 1, ASKING_MORE),
     ("a lost wait that ends makes way", 1, BEHIND),
 ];
+
+#[test]
+fn sessions_wait(rt: HostRuntime) -> Result<(), Fail> {
+    are_right(&rt, Memory::Ample, CASES)
+}
