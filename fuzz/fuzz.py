@@ -100,7 +100,8 @@ def wrong_end(case, seen):
         return f"ends with status {seen.status}"
     if seen.status and seen.written:
         return f"has status {seen.status}, and writes {len(seen.written)} bytes"
-    if seen.memory > case.most_memory(len(seen.written)):
+    # (a run that ended for want of memory had to have less than it was given, whatever it would have written)
+    if seen.status != 3 and seen.memory > case.most_memory(len(seen.written)):
         return f"takes {seen.memory} bytes, for {len(case.script)} read and {len(seen.written)} written"
     if seen.status == 3 and (not case.memory or seen.told != b"fault: memory\n"):
         return f"has status 3, and tells {seen.told}"
