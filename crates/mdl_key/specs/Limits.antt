@@ -3,7 +3,7 @@ use Rattle.std.specs.Prelude.{ℕ}
 
 -- the most sessions that a space can have, numbered from 1
 abbrev pub most_sessions : ℕ
-most_sessions = 64
+most_sessions = 1024
 
 -- the most places that a space can have, numbered from 1, each of one key
 abbrev pub most_places : ℕ

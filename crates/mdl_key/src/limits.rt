@@ -1,7 +1,7 @@
 //! The limits of a lock space and of names. Contracts cite those of `specs/Limits`.
 
 /// The most sessions that a space can have. They are numbered from 1.
-pub const MOST_SESSIONS: u16 = 64;
+pub const MOST_SESSIONS: u16 = 1024;
 
 /// The most places that a space can have. They are numbered from 1, and each is the place of one key.
 pub const MOST_PLACES: u16 = 256;

@@ -32,11 +32,13 @@ from_first (digit ∷ digits) h = omega (arith, value_grows (10 * 0 + (digit - 4
 pub session_of-IsScriptSession : (word : List ℕ) → IfSome (session_of word) IsScriptSession
 session_of-IsScriptSession word = some_if IsScriptSession _ (decimal_value word) (λ h. let t = tested word h in (from_first word t.0, t.1))
 
--- three digits without a leading zero make 100 and more
-pub none_for_long : (word : List ℕ) → 3 ≤ length word → session_of word ≡ None
+-- five digits without a leading zero make 10,000 and more
+pub none_for_long : (word : List ℕ) → 5 ≤ length word → session_of word ≡ None
 none_for_long [] l = absurd (omega arith)
 none_for_long (a ∷ []) l = absurd (omega arith)
 none_for_long (a ∷ b ∷ []) l = absurd (omega arith)
-none_for_long (a ∷ b ∷ c ∷ digits) l =
-    none_unless _ (decimal_value (a ∷ b ∷ c ∷ digits)) (λ h. let t = tested (a ∷ b ∷ c ∷ digits) h in
-    omega (arith, t.0, t.1, value_grows (10 * (10 * (10 * 0 + (a - 48)) + (b - 48)) + (c - 48)) digits))
+none_for_long (a ∷ b ∷ c ∷ []) l = absurd (omega arith)
+none_for_long (a ∷ b ∷ c ∷ d ∷ []) l = absurd (omega arith)
+none_for_long (a ∷ b ∷ c ∷ d ∷ e ∷ digits) l =
+    none_unless _ (decimal_value (a ∷ b ∷ c ∷ d ∷ e ∷ digits)) (λ h. let t = tested (a ∷ b ∷ c ∷ d ∷ e ∷ digits) h in
+    omega (arith, t.0, t.1, value_grows (10 * (10 * (10 * (10 * (10 * 0 + (a - 48)) + (b - 48)) + (c - 48)) + (d - 48)) + (e - 48)) digits))

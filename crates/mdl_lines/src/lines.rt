@@ -79,7 +79,7 @@ pub fn is_blank(byte: u8) -> bool
     byte == b' ' || byte == b'\t'
 }
 
-/// Returns the session that a word names: a number from 1 to [`MOST_SESSIONS`] in one or two digits, without a leading 0.
+/// Returns the session that a word names: a number from 1 to [`MOST_SESSIONS`] in one to four digits, without a leading 0.
 #[tactic(auto, using(crate::proofs::Sessions::none_for_long))]
 pub fn session_of(word: &[u8]) -> Option<u16>
     ensures { result ≡ session_of word.now }
@@ -87,7 +87,26 @@ pub fn session_of(word: &[u8]) -> Option<u16>
     match word {
         [ones @ b'1'..=b'9'] => Some(u16::from(*ones - b'0')),
         [tens @ b'1'..=b'9', ones @ b'0'..=b'9'] => {
-            let session = 10 * u16::from(*tens - b'0') + u16::from(*ones - b'0');
+            Some(10 * u16::from(*tens - b'0') + u16::from(*ones - b'0'))
+        }
+        [
+            hundreds @ b'1'..=b'9',
+            tens @ b'0'..=b'9',
+            ones @ b'0'..=b'9',
+        ] => Some(
+            10 * (10 * u16::from(*hundreds - b'0') + u16::from(*tens - b'0'))
+                + u16::from(*ones - b'0'),
+        ),
+        [
+            thousands @ b'1'..=b'9',
+            hundreds @ b'0'..=b'9',
+            tens @ b'0'..=b'9',
+            ones @ b'0'..=b'9',
+        ] => {
+            let session = 10
+                * (10 * (10 * u16::from(*thousands - b'0') + u16::from(*hundreds - b'0'))
+                    + u16::from(*tens - b'0'))
+                + u16::from(*ones - b'0');
             (session <= MOST_SESSIONS).then_some(session)
         }
         _ => None,

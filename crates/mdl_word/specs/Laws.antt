@@ -83,8 +83,7 @@ FlagsAreLoweredAtOnce =
     HasFlags word new (keep_slow && slow_flag word) (keep_obtrusive && obtrusive_flag word)
     × ((a b c : ℕ) (slow obtrusive : Bool) → Encodes word a b c slow obtrusive → Encodes new a b c (keep_slow && slow) (keep_obtrusive && obtrusive))
 
--- up to 1,024 sessions with up to 1,023 tickets each have at most 1,047,552, and 64 sessions 65,472: a count of 20 bits has
--- room for them
+-- up to 1,024 sessions with up to 1,023 tickets each have at most 1,047,552: a count of 20 bits has room for them
 abbrev pub CountsFit : Type 0
 CountsFit = (tickets : List ℕ) → All (λ n. n ≤ 1023) tickets → length tickets ≤ 1024 → sum tickets < 1048576
 
