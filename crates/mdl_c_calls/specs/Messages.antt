@@ -27,7 +27,7 @@ refusal_rows =
     (17, codes "There is a manager already.") ∷
     (18, codes "The manager has no session of this number.") ∷
     (19, codes "A manager has 1 to 256 places.") ∷
-    (20, codes "A manager has 1 to 64 sessions.") ∷
+    (20, codes "A manager has 1 to 1024 sessions.") ∷
     (21, codes "There is no mode of this number.") ∷
     (22, codes "The name is empty.") ∷
     (23, codes "The name has more than 64 bytes.") ∷

@@ -55,7 +55,7 @@ fn refusal_text(code: u32) -> &'static str
         17 => "There is a manager already.",
         18 => "The manager has no session of this number.",
         19 => "A manager has 1 to 256 places.",
-        20 => "A manager has 1 to 64 sessions.",
+        20 => "A manager has 1 to 1024 sessions.",
         21 => "There is no mode of this number.",
         22 => "The name is empty.",
         23 => "The name has more than 64 bytes.",

@@ -56,7 +56,7 @@ is_of_names byte = is_name_byte byte || byte == 46
 
 -- why a word is refused
 abbrev pub reason_of : LineError → List ℕ → List ℕ
-reason_of BadSession word = codes " is no session: sessions are 1 to 64"
+reason_of BadSession word = codes " is no session: sessions are 1 to 1024"
 reason_of BadName word =
     if list_all is_of_names word then codes " is no name of 1 to 64 bytes, or stands here twice" else codes " is no name: names have a-z, 0-9 and _"
 reason_of error word = codes " can't stand here"

@@ -276,7 +276,7 @@ fn reason_of(error: LineError, word: &[u8]) -> &'static [u8]
     ensures { result.now ≡ reason_of error word.now }
 {
     match error {
-        LineError::BadSession => b" is no session: sessions are 1 to 64",
+        LineError::BadSession => b" is no session: sessions are 1 to 1024",
         LineError::BadName if has_name_bytes(word) => {
             b" is no name of 1 to 64 bytes, or stands here twice"
         }
