@@ -1,3 +1,3 @@
 """The limits that the scripts of these tests go up to."""
 
-MOST_SESSIONS = 64
+MOST_SESSIONS = 1024

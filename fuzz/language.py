@@ -5,7 +5,7 @@ import functools
 import re
 
 MOST_BYTES = 4096
-MOST_SESSIONS = 64
+MOST_SESSIONS = 1024
 MOST_TABLES = 8
 MOST_COLUMNS = 64
 NAME = re.compile(rb"[a-z0-9_]{1,64}")

@@ -8,7 +8,7 @@
 #define NAME(text) (const uint8_t *)(text), strlen(text)
 #define TABLE(name) MDL_TABLE, NAME("shop"), NAME(name)
 
-enum { PLACES = 256, SESSIONS = 64, RING = 64, LONGEST = 64, TICKETS = 65535, CODES = 51, TOLD = 20 };
+enum { PLACES = 256, SESSIONS = 1024, RING = 64, LONGEST = 64, TICKETS = 65535, CODES = 51, TOLD = 20 };
 
 static const char bytes_of_names[] = "abcdefghijklmnopqrstuvwxyz0123456789_";
 

@@ -101,7 +101,7 @@ enum mdl_code {
     MDL_IS_OPEN = 17,        /* there is one already */
     MDL_NO_SESSION = 18,     /* the manager has no session of this number: sessions count from 1 */
     MDL_BAD_PLACES = 19,     /* a manager has 1 to 256 places */
-    MDL_BAD_SESSIONS = 20,   /* and 1 to 64 sessions */
+    MDL_BAD_SESSIONS = 20,   /* and 1 to 1024 sessions */
     MDL_NO_MODE = 21,        /* there is no mode of this number */
     MDL_EMPTY_NAME = 22,     /* a name has 1 to 64 bytes of a-z 0-9 _ */
     MDL_LONG_NAME = 23,
@@ -133,7 +133,7 @@ enum mdl_code {
     MDL_HAS_WAIT = 50        /* the context has a wait that it hasn't ended */
 };
 
-/* Makes a manager of 1 to 256 places, one for each key, and 1 to 64 sessions: DONE. */
+/* Makes a manager of 1 to 256 places, one for each key, and 1 to 1024 sessions: DONE. */
 uint32_t mdl_open(struct mdl_space *space, uint16_t places, uint16_t sessions);
 
 /* Frees it, with all that its sessions hold and wait for: DONE. */

@@ -21,9 +21,10 @@ const LIMITS: &[Limit] = &[
     Limit(0, 0, Some(NewError::BadPlaces)),
     Limit(257, 1, Some(NewError::BadPlaces)),
     Limit(1, 0, Some(NewError::BadSessions)),
-    Limit(256, 65, Some(NewError::BadSessions)),
+    Limit(256, 1025, Some(NewError::BadSessions)),
+    Limit(1, 65535, Some(NewError::BadSessions)),
     Limit(1, 1, None),
-    Limit(256, 64, None),
+    Limit(256, 1024, None),
 ];
 
 #[test]

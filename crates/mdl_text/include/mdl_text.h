@@ -28,7 +28,7 @@ enum mdl_text_code {
     MDL_TEXT_DONE = 0,        /* the answers are written, and *length is set */
     MDL_TEXT_NO_ROOM = 1,     /* the answers don't fit: *length is set, and nothing is written */
     /* the script is refused: *line is set, and nothing is written */
-    MDL_TEXT_BAD_SESSION = 16, /* its first word isn't a session number from 1 to 64 */
+    MDL_TEXT_BAD_SESSION = 16, /* its first word isn't a session number from 1 to 1024 */
     MDL_TEXT_BAD_WORD = 17,    /* a word is missing, misspelled, or one too many */
     MDL_TEXT_BAD_NAME = 18,    /* a word isn't a name, or names a table for the second time */
     MDL_TEXT_LONG_LINE = 19,   /* it has more than 4096 bytes */

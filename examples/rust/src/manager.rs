@@ -22,7 +22,7 @@ pub struct Manager {
 }
 
 impl Manager {
-    /// A manager of 1 to 256 places, one for each key, and 1 to 64 sessions.
+    /// A manager of 1 to 256 places, one for each key, and 1 to 1024 sessions.
     pub fn new(places: u16, sessions: u16) -> Result<Manager, Error> {
         let mut space = Space::new();
         // SAFETY: all bytes of the space are 0.

@@ -13,8 +13,8 @@ fn lines_are_read_and_a_fault_told(rt: HostRuntime) -> Result<(), Fail> {
         _ => false,
     };
     assert!(rt; is_read);
-    // There are 64 sessions at most.
-    assert!(rt; session_of(b"65").is_none());
+    // There are 1,024 sessions at most.
+    assert!(rt; session_of(b"1025").is_none());
     let mut told = Vec::new(rt.alloc());
     let status = report(&Fault::Refused(2, LineError::BadSession), &mut told);
     assert!(rt; status == 1 && told.as_slice() == b"line 2: BadSession\n".as_slice());

@@ -5,8 +5,8 @@ use std::test::Fail;
 
 #[test]
 fn a_script_is_read(rt: HostRuntime) -> Result<(), Fail> {
-    // The first refused line refuses a script. There are 64 sessions at most.
-    let refused = parse(rt.alloc(), b"1 BEGIN\n65 BEGIN\n").err();
+    // The first refused line refuses a script. There are 1,024 sessions at most.
+    let refused = parse(rt.alloc(), b"1 BEGIN\n1025 BEGIN\n").err();
     assert!(rt; refused == Some(Fault::Refused(2, LineError::BadSession)));
     // Here the first line is a comment.
     let script = parse(

@@ -17,8 +17,8 @@ impl Row for Read {
 
 const READ: &[Read] = &[
     Read(
-        "1 BEGIN\n2 START TRANSACTION\n3 COMMIT\n64 ROLLBACK",
-        "1 1 begin / 2 2 begin / 3 3 commit / 4 64 roll back",
+        "1 BEGIN\n2 START TRANSACTION\n3 COMMIT\n64 ROLLBACK\n999 BEGIN\n1000 COMMIT\n1024 BEGIN",
+        "1 1 begin / 2 2 begin / 3 3 commit / 4 64 roll back / 5 999 begin / 6 1000 commit / 7 1024 begin",
     ),
     Read(
         "1 SAVEPOINT p\n1 ROLLBACK TO p\n1 SAVEPOINT to",
@@ -83,8 +83,8 @@ const READ: &[Read] = &[
             read TABLE test.f to read TABLE test.g to read TABLE test.h to write",
     ),
     Read(
-        "1 KILL QUERY 64\n9 KILL QUERY 1\n9 TIMEOUT",
-        "1 1 kill 64 / 2 9 kill 1 / 3 9 time out",
+        "1 KILL QUERY 1024\n9 KILL QUERY 1\n9 TIMEOUT",
+        "1 1 kill 1024 / 2 9 kill 1 / 3 9 time out",
     ),
     Read(
         "1 GET_LOCK a\n2 RELEASE_LOCK a\n64 GET_LOCK az09_\n1 RELEASE_LOCK get_lock",
@@ -289,7 +289,12 @@ const BAD_WORDS: &str = "\
 
 // Lines with a bad session.
 const BAD_SESSIONS: &str = "\
-65 BEGIN
+1025 BEGIN
+2000 BEGIN
+9999 BEGIN
+10000 BEGIN
+0100 BEGIN
+10a BEGIN
 0 BEGIN
 01 BEGIN
 +1 BEGIN
@@ -298,7 +303,7 @@ BEGIN
 0 SELECT T
 1 KILL QUERY 0
 1 KILL QUERY 01
-1 KILL QUERY 65
+1 KILL QUERY 1025
 1 KILL QUERY 0 3";
 
 // Lines that aren't ASCII.
