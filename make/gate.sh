@@ -2,7 +2,8 @@
 # The gate: proves everything from nothing and runs all tests, tries the wrong bodies with the proved libraries, checks the proved programs' answers to
 # the examples and their command lines, plays 8,000 random scripts, draws 2,000, compares the answers
 # to 2,000 rows of locks, refuses every twenty-third growth, looks for memory that isn't freed, and runs the programs of C.
-# At the end it prints how much processor time that took, and which checks this machine can't make. With GATE_STRICT=1 it fails if there are any.
+# After each part, and at the end, it prints how much processor time that took, and at the end which checks this machine can't make. With GATE_STRICT=1
+# it fails if there are any.
 # Usage: sh make/gate.sh, at the top of the repository.
 spent=$(mktemp)
 GATE_SKIPPED=$(mktemp)
@@ -14,14 +15,33 @@ trap 'rm -f "$spent" "$GATE_SKIPPED"' EXIT
 RT_JOBS=$(awk -v most="$(nproc)" '/^MemAvailable:/ { fit = int($2 / 4.5e6); print fit < 1 ? 1 : fit < most ? fit : most }' /proc/meminfo)
 export RT_JOBS
 
-rt ci && python3 make/wrong_bodies.py --gate && MDLSIM=$PWD/crates/mdlsim/out/mdlsim sh examples/check.sh && python3 commands/check.py \
-    && python3 fuzz/fuzz.py --scripts 8000 --seed 1 && python3 commands/check_view.py && python3 fuzz/views.py --scripts 2000 --seed 1 \
-    && python3 fuzz/timelines.py --scripts 2000 --seed 1 && sh growths/check.sh 23 && sh growths/leaks.sh && sh make/c.sh
+# Sets `so_far` to the processor time of this script's children until now, in seconds: of the user, and of the system. (A subshell would not know it.)
+look() {
+    times > "$spent"
+    so_far=$(awk 'NR == 2 { split($1, user, "[ms]"); split($2, kernel, "[ms]"); print 60 * user[1] + user[2], 60 * kernel[1] + kernel[2] }' "$spent")
+}
+
+# Runs a part of the gate, and prints what it took: NAME COMMAND WORD..
+part() {
+    name=$1
+    shift
+    look
+    before=$so_far
+    "$@" || return 1
+    look
+    echo "$before $so_far" | awk -v NAME="$name" '{ printf "%s: %.0f seconds of user time, and %.0f of the system\n", NAME, $3 - $1, $4 - $2 }'
+}
+
+MDLSIM=$PWD/crates/mdlsim/out/mdlsim
+export MDLSIM
+part 'proofs and tests' rt ci && part 'wrong bodies' python3 make/wrong_bodies.py --gate && part examples sh examples/check.sh \
+    && part 'command lines of mdlsim' python3 commands/check.py && part 'random scripts' python3 fuzz/fuzz.py --scripts 8000 --seed 1 \
+    && part 'command lines of mdlview' python3 commands/check_view.py && part 'random rows' python3 fuzz/views.py --scripts 2000 --seed 1 \
+    && part 'random draws' python3 fuzz/timelines.py --scripts 2000 --seed 1 && part growths sh growths/check.sh 23 && part leaks sh growths/leaks.sh \
+    && part 'programs of C' sh make/c.sh
 status=$?
-# (the second line has the children's time: of the user, and of the system)
-times > "$spent"
-awk 'NR == 2 { split($1, user, "[ms]"); split($2, kernel, "[ms]")
-    printf "the gate took %.0f minutes of user time, and %.0f of the system\n", user[1] + user[2] / 60, kernel[1] + kernel[2] / 60 }' "$spent"
+look
+echo "$so_far" | awk '{ printf "the gate took %.0f minutes of user time, and %.0f of the system\n", $1 / 60, $2 / 60 }'
 sort -u "$GATE_SKIPPED"
 if [ -s "$GATE_SKIPPED" ] && [ "$GATE_STRICT" = 1 ]; then
     echo 'the gate fails, since it is strict and checks were skipped' >&2
