@@ -13,6 +13,7 @@ mod clashes;
 mod closing;
 mod columns;
 mod contexts;
+mod crowd;
 mod debts;
 mod fast;
 mod fast_counts;

@@ -1,6 +1,6 @@
 //! Sessions open and close, on two threads.
-ghost use Rattle.std.specs.Prelude.{◌≡◌};
-ghost use Rattle.mdl_shared.specs.Passes.{manager_table, pass_table, pass_view};
+ghost use Rattle.std.specs.Prelude.{◌≡◌, ◌+◌, ◌<◌, length};
+ghost use Rattle.mdl_shared.specs.Passes.{ArePasses, manager_table, pass_table, pass_view};
 
 use mdl_shared::{CloseError, Manager, Pass, Session};
 use std::process::Abort;
@@ -14,6 +14,17 @@ pub(crate) fn closed<R: Drop>(rt: &impl Abort, session: Session<R>) -> Pass {
         Err(CloseError::HoldsTickets(_session)) => panic!(rt; "the session holds no ticket"),
         Err(CloseError::Owes(_session, place)) => panic!(rt; "place {place} is owed nothing"),
     }
+}
+
+/// Removes and returns the pass of the last session.
+pub(crate) fn take_last(_manager: &Manager, passes: &mut Vec<Pass>) -> Pass
+    requires some { 0 < length passes.old.items }
+    requires theirs { ArePasses (manager_table _manager.now) passes.old.items }
+    ensures left { length passes.new.items + 1 ≡ length passes.old.items }
+    ensures theirs { ArePasses (manager_table _manager.now) passes.new.items }
+    ensures table { pass_table result ≡ manager_table _manager.now }
+{
+    passes.remove(passes.len() - 1)
 }
 
 // Opens a pass's session, and closes it. It has no ticket yet.

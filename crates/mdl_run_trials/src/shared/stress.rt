@@ -1,14 +1,14 @@
 //! Sessions make calls on threads of their own, while one more audits the books: eight sessions over eight tables, and sixteen that race for
 //! one. In the end each has some fast tickets, and the words of the locks count just these. Each wait was settled once, as the session that
 //! settled it recorded, and many were, some in each way. Each table's version is the number of its changes.
-ghost use Rattle.std.specs.Prelude.{◌≡◌, ◌+◌, ◌<◌, length};
+ghost use Rattle.std.specs.Prelude.{◌≡◌};
 ghost use Rattle.mdl_shared.specs.Passes.{ArePasses, manager_table, pass_table};
 
 use crate::checks::is_right;
 use crate::shared::acts::{Act, Reply, make};
 use crate::shared::fast_counts::are_counted;
 use crate::shared::players::{Player, leave, look_all_up, play, was_answered, watch};
-use crate::shared::sessions::closed;
+use crate::shared::sessions::{closed, take_last};
 use mdl_calls::{Held, Place, Settled};
 use mdl_key::Mode;
 use mdl_shared::{Audited, Manager, Pass, Session};
@@ -67,17 +67,6 @@ fn act<R: Wait + Clock>(
     } else if number - players == 1 {
         part.well = watch(rt, &mut part.session, &part.player, settled);
     }
-}
-
-// Removes and returns the pass of the last session.
-fn take_last(_manager: &Manager, passes: &mut Vec<Pass>) -> Pass
-    requires some { 0 < length passes.old.items }
-    requires theirs { ArePasses (manager_table _manager.now) passes.old.items }
-    ensures left { length passes.new.items + 1 ≡ length passes.old.items }
-    ensures theirs { ArePasses (manager_table _manager.now) passes.new.items }
-    ensures table { pass_table result ≡ manager_table _manager.now }
-{
-    passes.remove(passes.len() - 1)
 }
 
 // Opens the sessions of all passes, the last one first, if there is memory for their parts.
