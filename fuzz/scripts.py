@@ -129,6 +129,12 @@ def changed(chance, scripts):
 # ---- random scripts
 
 
+def some_sessions(chance, count):
+    """Returns so many sessions, the first of all among them: the first ones, or some of all that there may be."""
+    others = range(2, MOST_SESSIONS + 1)
+    return [1, *(others[: count - 1] if chance.random() < 0.7 else sorted(chance.sample(others, count - 1)))]
+
+
 def opening(chance, sessions, names):
     """Returns the lines that make a schema and tables, and let most sessions begin a transaction."""
     tables = [f"1 CREATE TABLE {it} x y" for it in names]
@@ -137,7 +143,7 @@ def opening(chance, sessions, names):
 
 def by_chance(chance, language, count=None, sessions=None):
     """Returns a random script of valid lines, with few sessions and few names, so that these conflict."""
-    sessions = range(1, 1 + (sessions or chance.choice([1, 1, 2, 3, 3, 4, 5, 8, MOST_SESSIONS])))
+    sessions = some_sessions(chance, sessions or chance.choice([*[1, 1, 2, 3, 3, 4, 5, 8, 64] * 4, MOST_SESSIONS]))
     names = [*"abcdefghijkl"[: chance.choice([2, 3, 4, 12])], *chance.choice([[], ["s.a", "s.b"]])]
     words = [*MODES[language].split(" "), "RELEASE", "RELEASE", "TIMEOUT"] if language in MODES else FORMS
     lines = opening(chance, sessions, names) if language not in MODES else []
@@ -174,7 +180,7 @@ def large(chance, language):
     if kind == 4:
         return b"".join(b"%d SELECT t%d\n" % (chance.randrange(1, MOST_SESSIONS + 1), it) for it in range(chance.choice([250, 255, 256, 300])))
     if kind == 5:
-        waits = b"".join(b"%d DROP TABLE t\n" % it for it in range(2, MOST_SESSIONS + 1))
+        waits = b"".join(b"%d DROP TABLE t\n" % it for it in some_sessions(chance, chance.choice([64, 64, 200]))[1:])
         return b"1 CREATE TABLE t x\n1 BEGIN\n1 SELECT t\n" + waits + chance.choice([b"", b"1 COMMIT\n", b"1 INSERT t\n"])
     return chance.choice([b"1 SELECT a b c d e f g h\n", b"1 BEGIN\n", b"1 SR\n", b"1 IX\n1 RELEASE\n"]) * chance.choice([1_000, 40_000])
 

@@ -8,7 +8,7 @@
 #define NAME(text) (const uint8_t *)(text), strlen(text)
 #define TABLE(name) MDL_TABLE, NAME("shop"), NAME(name)
 
-enum { PLACES = 256, SESSIONS = 1024, RING = 64, LONGEST = 64, TICKETS = 65535, CODES = 51, TOLD = 20 };
+enum { PLACES = 256, SESSIONS = 1024, STEP = 31, RING = 64, LONGEST = 64, TICKETS = 65535, CODES = 51, TOLD = 20 };
 
 static const char bytes_of_names[] = "abcdefghijklmnopqrstuvwxyz0123456789_";
 
@@ -38,7 +38,7 @@ static uint32_t noted(uint32_t code)
 /* Checks a fact. */
 #define CHECK(fact) expect(__LINE__, true, fact)
 
-/* Managers of all sizes. */
+/* Managers with each number of places and each number of sessions, but for most numbers of places with one in 31 of the numbers of sessions. */
 static void open_managers(void)
 {
     EXPECT(MDL_CLOSED, mdl_poll(&space, 1));
@@ -46,8 +46,9 @@ static void open_managers(void)
     EXPECT(MDL_BAD_PLACES, mdl_open(&space, PLACES + 1, 1));
     EXPECT(MDL_BAD_SESSIONS, mdl_open(&space, 1, 0));
     EXPECT(MDL_BAD_SESSIONS, mdl_open(&space, 1, SESSIONS + 1));
-    for (uint16_t places = 1; places <= PLACES; places += 1)
-        for (uint16_t sessions = 1; sessions <= SESSIONS; sessions += 1) {
+    for (uint16_t places = 1; places <= PLACES; places += 1) {
+        uint16_t step = places == 1 || places == PLACES ? 1 : STEP;
+        for (uint16_t sessions = 1; sessions <= SESSIONS; sessions += step) {
             EXPECT(MDL_DONE, mdl_open(&space, places, sessions));
             EXPECT(MDL_IS_OPEN, mdl_open(&space, places, sessions));
             EXPECT(MDL_NO_WAIT, mdl_poll(&space, sessions));
@@ -55,6 +56,7 @@ static void open_managers(void)
             EXPECT(MDL_NO_SESSION, mdl_poll(&space, 0));
             EXPECT(MDL_DONE, mdl_close(&space));
         }
+    }
     EXPECT(MDL_CLOSED, mdl_close(&space));
 }
 
