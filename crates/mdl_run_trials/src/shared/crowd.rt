@@ -98,11 +98,23 @@ fn are_filled<R: Wait>(alloc: Global, sessions: &mut [Session<R>], mode: Mode) -
     right
 }
 
+// Releases a session's tickets, the last one first. Returns how many there were, if each is released.
+fn left<R: Wait>(session: &mut Session<R>) -> Option<usize> {
+    let held = session.held().ok()?;
+    let count = held.len();
+    let mut released = true;
+    for ticket in held.iter().rev() {
+        released = session.release(ticket.id).is_ok() && released;
+    }
+    drop(held);
+    released.then_some(count)
+}
+
 // Whether all sessions release so many tickets each.
-fn are_left<R: Wait>(alloc: Global, sessions: &mut [Session<R>], count: usize) -> bool {
+fn are_left<R: Wait>(sessions: &mut [Session<R>], count: usize) -> bool {
     let mut right = true;
     for session in sessions.iter_mut() {
-        right = make(alloc, session, Act::ReleaseAll) == Reply::Count(count) && right;
+        right = left(session) == Some(count) && right;
     }
     right
 }
@@ -114,10 +126,11 @@ fn goes_well<R: Wait>(alloc: Global, sessions: &mut [Session<R>], mode: Mode, wo
         [asker, reader, others @ ..] => {
             let counted = is_counted(alloc, asker, reader, mode, word);
             let most = usize::from(MOST_FAST);
-            let left = make(alloc, asker, Act::ReleaseAll) == Reply::Count(most)
-                && make(alloc, reader, Act::ReleaseAll) == Reply::Count(most - 1)
-                && are_left(alloc, others, most);
-            filled && counted && left && is_free(alloc, asker)
+            let free = left(asker) == Some(most)
+                && left(reader) == Some(most - 1)
+                && are_left(others, most)
+                && is_free(alloc, asker);
+            filled && counted && free
         }
         _ => false,
     }
