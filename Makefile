@@ -71,7 +71,7 @@ script:
 
 # The gate checks that the files are laid out as they should be and that the docs agree with the tree, proves and tests everything from nothing, and has
 # the prover refuse the wrong bodies (except some of those that `make wrong` tries). Then it checks the answers to the examples, the programs' command
-# lines, random scripts, the programs of C, and that refused growths lose nothing (every twenty-third; `make growths` refuses each). At the end it
+# lines, random scripts, the programs of C, and that refused growths lose nothing (every thirty-seventh; `make growths` refuses each). At the end it
 # says what this machine can't check, as without gcc. With GATE_STRICT=1 it fails then.
 test: layout docs
 	@sh make/gate.sh

@@ -1,21 +1,21 @@
 #!/bin/sh
 # Runs the lives of mdl_growth_trials once for each of their allocations, which is refused: they have to succeed all the same.
 # The program makes the number of allocations that its argument says before its lives, and more of them after the lives, until one is refused. In each
-# run the allocation with the same number is refused, so each argument makes another allocation of the lives fail. The program is built here twice,
+# run the allocation with the same number is refused, so each argument makes another allocation of the lives fail. The program is built here
 # without its proof, which `rt ci` gives, and only its compiled form runs: the kit's interpreter can't run a program that reads its arguments, and one
-# step is enough for it to say so. The first time only the lives' allocations are counted.
+# step is enough for it to say so.
 # Then mdlsim plays scripts on threads. In each run one allocation is refused, and mdlsim has to report just that, unless only a cache lacks the
 # memory. How much memory a script of reads takes shows how many definitions its session keeps.
 # Usage: sh growths/check.sh        each allocation, in some forty minutes
-#        sh growths/check.sh 23     every twenty-third of them
+#        sh growths/check.sh 37     every thirty-seventh of them
 growths=$(cd "$(dirname "$0")" && pwd)
 sh "$growths/../make/needs.sh" rt python3 awk || exit 1
 made=$(mktemp -d)
 trap 'rm -rf "$made"' EXIT
-mkdir "$made/counted" "$made/lives" "$made/plays" "$made/whole"
+mkdir "$made/lives" "$made/plays" "$made/whole"
 
-# The number of the allocation that is refused when those of the lives are counted. It has to be more than a run makes.
-beyond=20000
+# The number of the allocation that a run of the lives is refused. It has to be more than the lives make.
+refused=5000
 
 # The number of the allocation that mdlsim is refused.
 refused_on_threads=400
@@ -25,50 +25,63 @@ rounds=5
 
 # Runs the program of the current folder on each of the cases, and refuses it the allocation with this number: NUMBER CASES
 play() {
-    if ! rt try --steps 1 --seconds 900 --fail-alloc "$1" --cases "$2" > "$made/log" 2>&1; then
+    if ! python3 "$growths/../make/try_cases.py" "$1" "$2" > "$made/log" 2>&1; then
         cat "$made/log" >&2
         exit 1
     fi
 }
 
-# Adds a case: the lives after this number of allocations: FOLDER NUMBER
+# Adds a case: the lives after this number of allocations: NUMBER
 lead() {
-    : > "$made/$1/$2"
-    echo "$2" > "$made/$1/$2.args"
+    : > "$made/lives/$1"
+    echo "$1" > "$made/lives/$1.args"
 }
 
-# Adds a case, and what the program prints of the refused allocation: NUMBER TEXT
-expect() {
-    lead lives "$1"
-    printf 'all went well\n%s\n' "$2" > "$made/lives/$1.stdout"
+# Prints what each case told, one case a line: its name, its exit status, and its lines, each with a / after it.
+told() {
+    awk '/^== / { lines = ""; next }
+        /^allocations: / { next }
+        !/^case=/ { lines = lines $0 "/"; next }
+        { split($1, name, "="); match($0, / status=[0-9]+/); print name[2], substr($0, RSTART + 8, RLENGTH - 8), lines }' "$made/log"
 }
 
-# The number of the refused allocation among those before the lives, or among those after them: WHERE
-refused() {
-    sed -n "s/^refused $1 the lives: \([0-9]*\)\$/\1/p" "$made/log"
+# Compares what the runs of the lives told with where the refused allocation was in each of them, and prints how many were refused one inside the lives.
+# The run that is refused one before the lives tells which of those it is, and the run without any before the lives how many the lives make.
+compare() {
+    told | awk -v MOST="$refused" '
+        { lead = $1; status[lead] = $2; sub(/^[^ ]+ [^ ]+ /, ""); lines[lead] = $0 }
+        END {
+            if (lines[MOST] !~ "/refused before the lives: [0-9]+/$" || lines[0] !~ "/refused after the lives: [0-9]+/$") {
+                print "growths/check.sh: the lives went wrong, or they make " MOST " allocations or more: " lines[0] lines[MOST] > "/dev/stderr"
+                exit 1
+            }
+            split(lines[MOST], before, /[:\/]/)
+            split(lines[0], after, /[:\/]/)
+            count = before[3] - after[3]
+            for (lead in lines) {
+                left = before[3] - lead
+                if (left <= 0) where = "refused before the lives: " (before[3] + 0)
+                else if (left > count) where = "refused after the lives: " (left - count)
+                else { where = "not refused before or after the lives"; inside++ }
+                if (status[lead] != 0 || lines[lead] != "all went well/" where "/") {
+                    print "growths/check.sh: after " lead " allocations the lives told: " lines[lead] > "/dev/stderr"
+                    wrong = 1
+                }
+            }
+            print inside " of the " count " growths of the lives were refused, one in each run, and nothing was lost"
+            exit wrong || inside == 0
+        }'
 }
 
+# Each number of allocations before the lives moves the refused one to another growth of them, or to before or after them.
 cd "$growths/../crates/mdl_growth_trials" || exit 1
-lead counted 0
-lead counted $beyond
-play $beyond "$made/counted"
-before=$(refused before) after=$(refused after)
-if [ -z "$before" ] || [ -z "$after" ]; then
-    cat "$made/log" >&2
-    echo "growths/check.sh: the lives went wrong, or they make $beyond allocations or more" >&2
-    exit 1
-fi
-
-# The lives make so many allocations. The one that is refused is the first one after them, if none are made before. Then each of these brings it one
-# closer to their beginning.
-count=$((before - after))
-expect 0 'refused after the lives: 1'
-expect $((count + 1)) "refused before the lives: $((count + 1))"
-for number in $(seq 1 "${1:-1}" $count); do
-    expect "$number" 'not refused before or after the lives'
+lead 0
+lead "$refused"
+for number in $(seq 1 "${1:-1}" "$((refused - 1))"); do
+    lead "$((refused - number))"
 done
-play $((beyond - after + 1)) "$made/lives"
-echo "$(seq 1 "${1:-1}" $count | grep -c .) of the $count growths of the lives were refused, one in each run, and nothing was lost"
+play "$refused" "$made/lives"
+compare || exit 1
 
 # Lines that read tables that aren't there. The more they are, the earlier in a script that follows them the refused allocation comes: LINES
 in_vain() {
@@ -112,19 +125,18 @@ lay_reads() {
 # Prints how each case ended, by its name: starved, if it reported just that memory ran out; whole, if it gave all answers, because nothing was refused or
 # because a cache of definitions lacked the memory, which is no fault; or wrong.
 ends() {
-    awk -v WHOLE="$made/whole" '/^== / { told = ""; next }
-        /^allocations: / { next }
-        !/^case=/ { told = told $0 "/"; next }
-        {
-            split($1, name, "=")
-            file = WHOLE "/" name[2]
-            answers = ""
-            while ((getline line < file) > 0) answers = answers line "/"
-            close(file)
-            starved = / status=3 / && told == "fault: memory/"
-            whole = / status=0 / && told == answers
-            print name[2], starved ? "starved" : whole ? "whole" : "wrong, it told " told
-        }' "$made/log"
+    told | awk -v WHOLE="$made/whole" '{
+        name = $1
+        status = $2
+        sub(/^[^ ]+ [^ ]+ /, "")
+        file = WHOLE "/" name
+        answers = ""
+        while ((getline line < file) > 0) answers = answers line "/"
+        close(file)
+        starved = status == 3 && $0 == "fault: memory/"
+        whole = status == 0 && $0 == answers
+        print name, starved ? "starved" : whole ? "whole" : "wrong, it told " $0
+    }'
 }
 
 # Says what is not as it should be.

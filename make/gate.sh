@@ -1,7 +1,7 @@
 #!/bin/sh
 # The gate: proves everything from nothing and runs all tests, tries the wrong bodies with the proved libraries, checks the proved programs' answers to
 # the examples and their command lines, plays 8,000 random scripts, draws 2,000, compares the answers
-# to 2,000 rows of locks, refuses every twenty-third growth, looks for memory that isn't freed, and runs the programs of C.
+# to 2,000 rows of locks, refuses every thirty-seventh growth, looks for memory that isn't freed, and runs the programs of C.
 # After each part, and at the end, it prints how much processor time that took, and at the end which checks this machine can't make. With GATE_STRICT=1
 # it fails if there are any.
 # Usage: sh make/gate.sh, at the top of the repository.
@@ -37,7 +37,7 @@ export MDLSIM
 part 'proofs and tests' rt ci && part 'wrong bodies' python3 make/wrong_bodies.py --gate && part examples sh examples/check.sh \
     && part 'command lines of mdlsim' python3 commands/check.py && part 'random scripts' python3 fuzz/fuzz.py --scripts 8000 --seed 1 \
     && part 'command lines of mdlview' python3 commands/check_view.py && part 'random rows' python3 fuzz/views.py --scripts 2000 --seed 1 \
-    && part 'random draws' python3 fuzz/timelines.py --scripts 2000 --seed 1 && part growths sh growths/check.sh 23 && part leaks sh growths/leaks.sh \
+    && part 'random draws' python3 fuzz/timelines.py --scripts 2000 --seed 1 && part growths sh growths/check.sh 37 && part leaks sh growths/leaks.sh \
     && part 'programs of C' sh make/c.sh
 status=$?
 look
