@@ -1,7 +1,7 @@
--- What a call does to its caller's tickets and wait, and which numbers it gives them: its effect.
+-- What a call does to its caller's tickets, wait and pins, and which numbers it gives them: its effect.
 use Rattle.std.specs.Prelude.{◌≡◌, ℕ, Bool, true, false, Option, Some, None}
 use Rattle.mdl_key.specs.declared.mode.Mode.{Mode}
-use Rattle.mdl_calls.specs.SessionLocks.{DrawsTicket, DrawsWait, Numbers, SessionLocks, changing, cloning, ending, gaining, giving_up, merging, ticket_held, upgraded, waiting, winning}
+use Rattle.mdl_calls.specs.SessionLocks.{DrawsTicket, DrawsWait, Numbers, SessionLocks, changing, cloning, ending, gaining, giving_up, merging, pinning, ticket_held, unpinning, upgraded, waiting, winning}
 
 -- the effect of a call
 pub data Effect : Type 0 where
@@ -25,6 +25,10 @@ pub data Effect : Type 0 where
   Merges : (old new : ℕ) → Effect
   -- a ticket gets a mode
   Lowers : (id : ℕ) (mode : Mode) → Effect
+  -- the caller pins a place
+  Pins : (place : ℕ) → Effect
+  -- it gives up its pin of a place
+  Unpins : (place : ℕ) → Effect
 
 -- what the caller has afterwards
 abbrev pub own_by : Effect → SessionLocks → SessionLocks
@@ -38,6 +42,8 @@ own_by (Clones copy id mode) own = cloning copy mode (ticket_held id own) own
 own_by (Raises id mode) own = changing id (upgraded mode) own
 own_by (Merges old new) own = merging old new (ticket_held new own) own
 own_by (Lowers id mode) own = changing id (λ _. mode) own
+own_by (Pins place) own = pinning place own
+own_by (Unpins place) own = unpinning place own
 
 -- which numbers it gets. The ticket of an ended wait has the number that it got when the wait began, which is still the last one.
 abbrev pub DrawsBy : Effect → Numbers → Numbers → Type 0

@@ -6,4 +6,4 @@ use Rattle.mdl_calls.specs.SpaceLaws.{SpaceLaws}
 abbrev pub LawsOf : {S : Type 0} → Ghosts S → Type 0
 LawsOf members =
     SpaceLaws members.speaks_for members.own members.knows members.is_settled members.numbers members.has_read members.has_met members.has_seen
-    members.pins members.owes members.joins
+    members.owes members.joins

@@ -9,7 +9,7 @@ pub record Note : Type 0 where
   pub place : ℕ
   pub version : ℕ
 
--- a session: its number; its held tickets and its wait, and the last numbers that it gave them; the keys that it has looked up; how its wait is
+-- a session: its number; its held tickets, its wait and its pins, and the last numbers that it gave them; the keys that it has looked up; how its wait is
 -- settled, if it has met that; a note for each ticket under which it noted a version; and what it read, the first read first
 pub record SessionData : Type 0 where
   pub number : ℕ
@@ -54,6 +54,10 @@ first_free false numbers = numbers.last_ticket + 1
 abbrev pub are_placed : List KnownKey → List Held → Bool
 are_placed known held = list_all (λ (t : Held). is_known t.place known) held
 
+-- whether the keys of pinned places are known
+abbrev pub are_pins_known : List KnownKey → List ℕ → Bool
+are_pins_known known pins = list_all (λ place. is_known place known) pins
+
 -- this version is that of the last read at the place
 abbrev pub IsNoted : SessionData → ℕ → ℕ → Type 0
 IsNoted a place version = option_map (λ (s : VersionedDefinition). s.version) (last_read place a.reads) ≡ Some version
@@ -63,13 +67,14 @@ abbrev pub FitsKey : SessionData → ℕ → VersionedDefinition → Type 0
 FitsKey a place standing = MatchOption (key_known place a.known) ⊥ (λ key. MayStand key.namespace standing)
 
 -- what always holds of a session: its tickets have rising numbers, below that of the ticket that it waits for. They and its wait are at places that it
--- knows. No key that it knows has two places, and no place two keys. If its wait is settled, it has a wait. A version that it noted at a place is that of its
+-- knows, and it knows the places that it pins. No key that it knows has two places, and no place two keys. If its wait is settled, it has a wait. A version that it noted at a place is that of its
 -- last read there. Of a place it read no version newer than the last one, and what it read last is valid for the place's key.
 pub record IsSound (a : SessionData) : Type 0 where
   pub rising : IsRising a.own
   pub below : are_below (first_free (is_waiting a.own) a.numbers) a.own.held ≡ true
   pub placed : are_placed a.known a.own.held ≡ true
   pub awaited : IfSome a.own.wait (λ wait. is_known wait.place a.known ≡ true)
+  pub pinned : are_pins_known a.known a.own.pins ≡ true
   pub apart : are_apart a.known ≡ true
   pub settled : is_some a.settled ≡ true → is_waiting a.own ≡ true
   pub noted : (place version : ℕ) → noted_at place a.notes ≡ Some version → IsNoted a place version
@@ -82,7 +87,7 @@ pub record IsSound (a : SessionData) : Type 0 where
 abbrev pub SpeaksFor : SessionData → ℕ → Type 0
 SpeaksFor a who = (who ≡ a.number) × IsSound a
 
--- what the session has: its held tickets and its wait
+-- what the session has: its held tickets, its wait and its pins
 abbrev pub own_of : SessionData → ℕ → SessionLocks
 own_of a who = a.own
 
@@ -109,7 +114,3 @@ HasMet a who place standing = Contains a.reads (record { place = place; standing
 -- the session has read this version at the place, now or before
 abbrev pub HasSeen : SessionData → ℕ → ℕ → ℕ → Type 0
 HasSeen a who place version = was_read place version a.reads ≡ true
-
--- a pinned place is one whose key the session knows, which keeps that key: there is no way yet to give one up
-abbrev pub Pins : SessionData → ℕ → ℕ → Type 0
-Pins a who place = is_known place a.known ≡ true

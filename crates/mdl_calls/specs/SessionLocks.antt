@@ -1,6 +1,6 @@
 -- What a session has in a lock space, and how that changes. What each call does to it is in `Effects`.
 use Rattle.std.specs.Prelude.{◌≡◌, ℕ, ◌+◌, Bool, true, not, ◌&&◌, ◌==◌, nat_lt, List, [], ◌∷◌, ◌++◌, map, filter, find, Option, Some, None, is_some, if◌then◌else◌, IsTrue}
-use Rattle.mdl_calls.specs.Prelude.{Held, Mode, covers, list_all, option_map}
+use Rattle.mdl_calls.specs.Prelude.{Held, Mode, covers, list_all, list_any, option_map}
 
 -- a wait that isn't ended: its number, and the place and the mode that the session waits for
 pub record Wait : Type 0 where
@@ -8,10 +8,16 @@ pub record Wait : Type 0 where
   pub place : ℕ
   pub mode : Mode
 
--- what a session has: its held tickets, in the order in which it got them, and its wait
+-- what a session has: its held tickets, in the order in which it got them, its wait, and the places that it pins, as `with_place` puts them in order. A pin
+-- is the session's claim that the place keeps its key.
 pub record SessionLocks : Type 0 where
   pub held : List Held
   pub wait : Option Wait
+  pub pins : List ℕ
+
+-- the session holds no ticket, and has no wait. It may pin places.
+abbrev pub HasNothing : SessionLocks → Type 0
+HasNothing own = (own.held ≡ []) × (own.wait ≡ None)
 
 -- the last numbers that were given to a session's tickets and waits
 pub record Numbers : Type 0 where
@@ -47,7 +53,29 @@ wait_number own = option_map (λ wait. wait.number) own.wait
 abbrev pub is_waiting : SessionLocks → Bool
 is_waiting own = is_some own.wait
 
--- what the session has after it got one more ticket
+-- whether the session pins a place
+abbrev pub is_pinned : ℕ → SessionLocks → Bool
+is_pinned place own = list_any (λ pin. pin == place) own.pins
+
+-- rising places with one more among them, unless it is there already
+abbrev pub with_place : ℕ → List ℕ → List ℕ
+with_place place [] = place ∷ []
+with_place place (pin ∷ pins) =
+    if pin == place then pin ∷ pins else (if nat_lt place pin then place ∷ pin ∷ pins else pin ∷ with_place place pins)
+
+-- places without this one
+abbrev pub without_place : ℕ → List ℕ → List ℕ
+without_place place pins = filter (λ pin. not (pin == place)) pins
+
+-- what the session has after it pinned a place
+abbrev pub pinning : ℕ → SessionLocks → SessionLocks
+pinning place own = record own { pins = with_place place own.pins }
+
+-- what it has after it gave up its pin of a place
+abbrev pub unpinning : ℕ → SessionLocks → SessionLocks
+unpinning place own = record own { pins = without_place place own.pins }
+
+-- what it has after it got one more ticket
 abbrev pub gaining : ℕ → ℕ → Mode → SessionLocks → SessionLocks
 gaining id place mode own = record own { held = own.held ++ record { id = id; place = place; mode = mode } ∷ [] }
 

@@ -1,15 +1,15 @@
 -- The laws of a lock space: what its calls do to its sessions and tell them. They are one record over the space's ghost members, so a space proves them as
 -- one term, and code over any space cites them as fields.
 use Rattle.std.specs.Prelude.{◌≡◌, ◌≤◌, ◌⊎◌, ℕ, true, false, List, Option, Some, Contains}
-use Rattle.mdl_calls.specs.FirstWords.{Change, Definition, Held, IfSome, InUse, KeyName, MayStand, Mode, NoPlace, Settled, VersionedDefinition, X, covers, same_mode, standing_after}
-use Rattle.mdl_calls.specs.Words.{Answer, Refused, Done, At_place, Would_wait, Changed, Reads, Tables, Key_is, Victim_is, Has_wait, Has_killed, Holds, is_answer_of, Call, Resolve, Search, End_wait, Wait_of, Kill, Upgrade_now, Change_definition, Tables_of, Key_of, List_held, Unpin, caller, IsExplained, SessionLocks, Wait, Numbers, Draws, IsRising, own_after, wait_number, is_waiting, ticket_held, AreTablesOf, AwaitsAt, HoldsAt, IsChangeOf, read_under, redefined_place, IsToldOf, told}
+use Rattle.mdl_calls.specs.FirstWords.{Change, Definition, Held, IfSome, InUse, KeyName, MayStand, Mode, Settled, VersionedDefinition, X, covers, same_mode, standing_after}
+use Rattle.mdl_calls.specs.Words.{Answer, Refused, Done, At_place, Would_wait, Changed, Reads, Tables, Key_is, Victim_is, Has_wait, Has_killed, Holds, is_answer_of, Call, Resolve, Search, End_wait, Wait_of, Kill, Upgrade_now, Change_definition, Tables_of, Key_of, List_held, Unpin, caller, IsExplained, SessionLocks, Wait, Numbers, Draws, IsRising, own_after, wait_number, is_pinned, is_waiting, ticket_held, AreTablesOf, AwaitsAt, HoldsAt, IsChangeOf, read_under, redefined_place, IsToldOf, told}
 use Rattle.mdl_calls.specs.declared.answers.Settled.TheVariants as settled_as
 
 -- what holds of the ghost members of each lock space, which the trait `LockSpace` describes: the sessions that it speaks for, what they have, know, have
 -- read and owe, and how calls join one space to the next
 pub record SpaceLaws {S : Type 0} (speaks_for : S → ℕ → Type 0) (own : S → ℕ → SessionLocks) (knows : S → ℕ → ℕ → KeyName → Type 0)
     (is_settled : S → ℕ → Settled → Type 0) (numbers : S → ℕ → Numbers) (has_read has_met : S → ℕ → ℕ → VersionedDefinition → Type 0)
-    (has_seen : S → ℕ → ℕ → ℕ → Type 0) (pins owes : S → ℕ → ℕ → Type 0) (joins : S → Call → Answer → S → Type 0) : Type 0 where
+    (has_seen : S → ℕ → ℕ → ℕ → Type 0) (owes : S → ℕ → ℕ → Type 0) (joins : S → Call → Answer → S → Type 0) : Type 0 where
   -- a call is made for a session that the space speaks for
   pub allowed : (a b : S) (call : Call) (answer : Answer) → joins a call answer b → IfSome (caller call) (speaks_for a)
   -- after a call the space still speaks for the same sessions
@@ -112,30 +112,16 @@ pub record SpaceLaws {S : Type 0} (speaks_for : S → ℕ → Type 0) (own : S �
   -- an upgrade to a mode that the held one covers never has to wait
   pub upgrades : (a b : S) (who id : ℕ) (mode : Mode) (ticket : Held) → ticket_held id (own a who) ≡ Some ticket → covers ticket.mode mode ≡ true
       → joins a (Upgrade_now who id mode) Would_wait b → ⊥
-  -- a session that gets the key of a place knows it
-  pub tells_key : (a b : S) (who place : ℕ) (key : KeyName) → joins a (Key_of who place) (Key_is key) b → knows b who place key
+  -- a session that gets the key of a place that it knows gets that key
+  pub tells_key : (a b : S) (who place : ℕ) (key other : KeyName) → joins a (Key_of who place) (Key_is key) b → knows a who place other → key ≡ other
   -- a session that gets the tables of a schema knows them. They are in the order of their keys.
   pub tells_tables : (a b : S) (who : ℕ) (schema places : List ℕ) → joins a (Tables_of who schema) (Tables places) b
       → AreTablesOf (knows b who) schema places
-  -- a session that resolves a key pins its place
-  pub resolved_pinned : (a b : S) (who place : ℕ) (key : KeyName) → joins a (Resolve who key) (At_place place) b → pins b who place
-  -- a pin stays until its session gives it up
-  pub pins_stay : (a b : S) (call : Call) (answer : Answer) (w place : ℕ) → speaks_for a w → (call ≡ Unpin w place → answer ≡ Done → ⊥)
-      → joins a call answer b → pins a w place → pins b w place
   -- a session that pins a place knows its key
-  pub pinned_known : (a : S) (w place : ℕ) → speaks_for a w → pins a w place → (key : KeyName) × knows a w place key
-  -- the place of a held ticket is pinned
-  pub held_pinned : (a : S) (w : ℕ) (ticket : Held) → speaks_for a w → Contains (own a w).held ticket → pins a w ticket.place
-  -- a session pins the place that it waits for
-  pub wait_pinned : (a : S) (w : ℕ) (wait : Wait) → speaks_for a w → (own a w).wait ≡ Some wait → pins a w wait.place
+  pub pinned_known : (a : S) (w place : ℕ) → speaks_for a w → is_pinned place (own a w) ≡ true → (key : KeyName) × knows a w place key
   -- after a call no session owes a reschedule that it didn't owe before
   pub no_new_debts : (a b : S) (call : Call) (answer : Answer) (w place : ℕ) → speaks_for a w → joins a call answer b → owes b w place
       → owes a w place
-  -- giving up a pin fails with `NoPlace` only if the session doesn't pin the place
-  pub unpins_none : (a b : S) (who place : ℕ) → joins a (Unpin who place) (Refused NoPlace) b → pins a who place → ⊥
   -- giving up a pin fails with `InUse` only if the session has a ticket or a wait at the place, or owes it a reschedule
   pub unpins_in_use : (a b : S) (who place : ℕ) → joins a (Unpin who place) (Refused InUse) b
       → HoldsAt place (own a who) ⊎ AwaitsAt place (own a who) ⊎ owes a who place
-  -- a pin is given up only if the session has it, and has no ticket and no wait at the place
-  pub unpins : (a b : S) (who place : ℕ) → joins a (Unpin who place) Done b
-      → pins a who place × (HoldsAt place (own a who) → ⊥) × (AwaitsAt place (own a who) → ⊥)

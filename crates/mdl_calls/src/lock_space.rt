@@ -30,7 +30,7 @@ pub trait LockSpace {
     // The sessions that the space speaks for: their calls may be made on it.
     ghost speaks_for: { Self → ℕ → Type 0 };
 
-    // A session's held tickets and its wait.
+    // A session's held tickets, its wait and its pins.
     ghost own: { Self → ℕ → SessionLocks };
 
     // A session knows that this place has this key.
@@ -50,9 +50,6 @@ pub trait LockSpace {
 
     // A session has seen that a place's version is at least this one.
     ghost has_seen: { Self → ℕ → ℕ → ℕ → Type 0 };
-
-    // A session pins this place: it claims that the place keeps its key.
-    ghost pins: { Self → ℕ → ℕ → Type 0 };
 
     // A session still owes this place a reschedule: to grant the waiters that can be granted.
     ghost owes: { Self → ℕ → ℕ → Type 0 };
@@ -207,5 +204,5 @@ pub trait LockSpace {
         ensures { joins self.now (List_held who) (listed result) self.now };
 
     // What holds of the ghost members in every space.
-    ghost laws: { SpaceLaws speaks_for own knows is_settled numbers has_read has_met has_seen pins owes joins };
+    ghost laws: { SpaceLaws speaks_for own knows is_settled numbers has_read has_met has_seen owes joins };
 }

@@ -1,6 +1,7 @@
 -- `unpin`: the end of the session's pin of a place. It takes no memory, and is refused only if the session doesn't pin the place, or if the place is in use:
 -- it has a ticket or a wait there, or owes it a reschedule. Sessions of a shared space have no such call yet.
-use Rattle.mdl_calls.specs.FirstWords.{Answer, Bool, CallSpec, Done, InUse, Knowledge, NoPlace, Refused, SessionLocks, SpaceError, false, true, unchanged, ℕ}
+use Rattle.std.specs.Prelude.{◌≡◌, ℕ, Bool, true, false}
+use Rattle.mdl_calls.specs.FirstWords.{Answer, AwaitsAt, CallSpec, Done, Effect, HoldsAt, InUse, Keeps, Knowledge, NoPlace, Refused, SessionLocks, SpaceError, Unpins, is_pinned, unchanged}
 
 -- its answers
 abbrev pub answers : Answer → Bool
@@ -8,13 +9,21 @@ answers (Refused why) = true
 answers Done = true
 answers _ = false
 
--- why it is refused. A session may know the key of a place that it doesn't pin, so this says nothing: that there was no pin is a law of its own
--- (`unpins_none`), and that the place was in use another one (`unpins_in_use`).
-abbrev pub cause : SpaceError → Knowledge → SessionLocks → Type 0
-cause NoPlace knows own = Unit {0}
-cause InUse knows own = Unit {0}
-cause _ knows own = ⊥
+-- the session pins the place, and has no ticket and no wait there
+abbrev pub clear : ℕ → Knowledge → SessionLocks → Type 0
+clear place knows own = (is_pinned place own ≡ true) × (HoldsAt place own → ⊥) × (AwaitsAt place own → ⊥)
+
+-- why it is refused. How a pinned place was in use is a law of its own (`unpins_in_use`).
+abbrev pub cause : ℕ → SpaceError → Knowledge → SessionLocks → Type 0
+cause place NoPlace knows own = is_pinned place own ≡ false
+cause place InUse knows own = is_pinned place own ≡ true
+cause place _ knows own = ⊥
+
+-- the place isn't pinned any more
+abbrev pub effect : ℕ → Answer → Effect
+effect place Done = Unpins place
+effect place _ = Keeps
 
 -- the call
 abbrev pub unpin : ℕ → ℕ → CallSpec
-unpin who place = record (unchanged who) { has = false; answers = answers; cause = cause }
+unpin who place = record (unchanged who) { has = false; answers = answers; clear = clear place; cause = cause place; effect = effect place }
