@@ -1,5 +1,5 @@
 -- The laws of a lock space, of the space of one thread: what its calls do to the sessions, and what they tell them.
-use Rattle.std.proofs.Common.{◌≡◌, ℕ, Bool, true, false, not, ◌&&◌, List, Option, Some, None, MatchOption, IfSome, is_some, option_map, refl, sym, ap, subst, ◌∙◌, inl, inr, eq-eqb}
+use Rattle.std.proofs.Common.{◌≡◌, ℕ, ◌+◌, Bool, true, false, not, ◌&&◌, List, [], ◌∷◌, ◌++◌, length, Option, Some, None, MatchOption, IfSome, is_some, option_map, refl, sym, ap, subst, ◌∙◌, inl, inr, eq-eqb}
 use Rattle.std.proofs.lemmas.Bool.{false≢true}
 use Rattle.std.proofs.lemmas.Bool.Decides.{eqb_tells}
 use Rattle.mdl_key.specs.Keys.{KeyName}
@@ -15,8 +15,10 @@ use Rattle.mdl_core.specs.Changes.{Change, Settle, seat_after, after_change, los
 use Rattle.mdl_core.specs.CoreCalls.{outcome, Makes, wait_at, is_open_wait}
 use Rattle.mdl_core.specs.CoreJoins.{SpeaksFor, locks_at, numbers_at, Knows, IsSettledAs, Joins}
 use Rattle.mdl_core.specs.CoreLaws.{CallsKeepSound, UpgradesWhatIsGrantable}
-use Rattle.mdl_core.specs.Cores.{Core, seat_at, has_session, table_places}
-use Rattle.mdl_core.specs.Seats.{locks_of_seat, numbers_of_seat}
+use Rattle.mdl_book.specs.Books.{empty_book}
+use Rattle.mdl_book.specs.declared.book_view.BookView.{BookView}
+use Rattle.mdl_core.specs.Cores.{Core, seat_at, has_session, pinning, table_places}
+use Rattle.mdl_core.specs.Seats.{locks_of_seat, numbers_of_seat, with_pin}
 use Rattle.mdl_core.specs.SessionLaws.{RefusesForCause}
 use Rattle.mdl_core.specs.Ties.{IsTied}
 use Rattle.mdl_system.specs.Words.{covers}
@@ -24,9 +26,10 @@ use Rattle.mdl_core.proofs.CallCases.{test_cases}
 use Rattle.mdl_core.proofs.ChangeTies.{tied-changing}
 use Rattle.mdl_core.proofs.CoreServing.{serves}
 use Rattle.mdl_core.proofs.KnownPlaces.{spares-opening}
+use Rattle.mdl_core.proofs.PinnedSeats.{has_session-pinning, pinned-same, pinned-other, pinned-bare}
 use Rattle.mdl_core.proofs.MadeCalls.{number-same, refused, made}
 use Rattle.mdl_core.proofs.SparedSeats.{IsSettledWait, HasSettled, settled-seat, seat-settled, wait-of_session, Spares, spares-same, is_end, own-settling, sessions-changed, seat-changed, seat-other, keys-changed, settled-changed, spares-changing}
-use Rattle.mdl_core.proofs.Ways.{HasAtOnce, HasNotAtOnce, Way, Stay, Open, Settle_wait, Make, makes_room, served_if, space_by, seat_by, IsSo, ServesCaller, IsMade, Made, Comes}
+use Rattle.mdl_core.proofs.Ways.{HasAtOnce, HasNotAtOnce, Way, Stay, Pin, Open, Settle_wait, Make, makes_room, served_if, space_by, seat_by, IsSo, ServesCaller, IsMade, Made, Comes}
 use Rattle.mdl_core.proofs.TableLists.{are-tables}
 
 -- ---- calls and what comes of them
@@ -87,6 +90,26 @@ left-spared a call way same spares = record {
   settled = λ w how is apart has. (spares.seats w is).settled how has;
 }
 
+-- a way by which the caller pins a place, whatever books there are then
+left-pinned : (a : Core) (call : Call) (way : Way) (who place : ℕ) (books : List BookView) → has_session who a ≡ true → caller call ≡ Some who
+    → ((w p : ℕ) (k : KeyName) → Knows a w p k → Knows (record a { books = books }) w p k) → ((w : ℕ) → seat_by way w a ≡ with_pin place (seat_at w a))
+    → IsLeft a call way (pinning who place (record a { books = books }))
+left-pinned a call way who place books session mine keys same = record {
+  sessions = has_session-pinning mid who place;
+  keys = keys;
+  own = λ w is called. (
+      let own : who ≡ w = (let e = sym mine ∙ called in cc) in
+      let seat = subst (λ v. seat_at v (pinning who place mid) ≡ with_pin place (seat_at v a)) own (pinned-same mid who place session) ∙ sym (same w) in
+      (ap locks_of_seat seat, ap numbers_of_seat seat));
+  others = λ w is other. (
+      let seat = pinned-other mid who place session w is (λ e. other (mine ∙ ap Some (sym e))) in
+      (ap locks_of_seat seat, ap numbers_of_seat seat));
+  settled = λ w how is apart has. subst (λ s. HasSettled s how) (sym (pinned-bare mid who place session w)) has;
+}
+  where
+    mid : Core
+    mid = record a { books = books }
+
 module _ (a : Core) (call : Call) (answer : Answer) (tied : IsTied a) where
   -- a change that the caller makes
   left-made : (who place : ℕ) (change : Change) → IsMade a call answer who place change → caller call ≡ Some who
@@ -138,7 +161,9 @@ module _ (a : Core) (call : Call) (answer : Answer) (tied : IsTied a) where
   -- any way
   way-left : (way : Way) → Made a call answer way → IsLeft a call way (space_by way a)
   way-left Stay made = left-spared a call Stay (λ w. refl) (spares-same a)
-  way-left (Open key) made = left-spared a call (Open key) (λ w. refl) (spares-opening a key)
+  way-left (Pin who place) made = left-pinned a call (Pin who place) who place a.books made.is_way.0.session made.is_way.0.mine (λ w p k knows. knows) (λ w. refl)
+  way-left (Open who key) made =
+      left-pinned a call (Open who key) who (length a.books + 1) (a.books ++ empty_book key ∷ []) made.is_way.0.session made.is_way.0.mine (spares-opening a key).keys (λ w. refl)
   way-left (Settle_wait who place how) made =
       left-spared a call (Settle_wait who place how) (λ w. refl)
       (spares-changing a who place (Settle how) made.is_way.may refl (own-settling how (seat_at who a)) refl)
@@ -274,8 +299,10 @@ pub core-resolves : (a b : Core) (who place : ℕ) (key : KeyName) → Joins a (
 core-resolves a b who place key joins = (called a b (Resolve who key) (At_place place) who refl joins).so
 
 -- whoever is told the key of a place knows it
-pub core-tells_key : (a b : Core) (who place : ℕ) (key : KeyName) → Joins a (Key_of who place) (Key_is key) b → Knows b who place key
-core-tells_key a b who place key joins = (called a b (Key_of who place) (Key_is key) who refl joins).so
+pub core-tells_key : (a b : Core) (who place : ℕ) (key other : KeyName) → Joins a (Key_of who place) (Key_is key) b → Knows a who place other → key ≡ other
+core-tells_key a b who place key other joins knows =
+    let h = called a b (Key_of who place) (Key_is key) who refl joins in
+    sym h.so.1 ∙ ((joined a b (Key_of who place) (Key_is key) h.speaks.1.tied joins).left.keys who place other knows).1
 
 -- whoever is told the tables of a schema knows them
 pub core-tells_tables : (a b : Core) (who : ℕ) (schema places : List ℕ) → Joins a (Tables_of who schema) (Tables places) b

@@ -134,9 +134,9 @@ module _ (effect : Effect Held) (old now : List Held) (order : InOrder effect ol
   held-has wait other ticket =
       through (either (members ticket).0 (λ won. won), either (members ticket).1 (λ won. won)) (after-beside ticket (Contains old ticket) (Won wait ticket) effect (other ticket))
 
-  held-numbered : (wait : Option Pending) (n m : ℕ) → Joins below effect old → ((ticket : Held) → Contains old ticket → ticket.id ≤ n) → Each (λ (h : Held). h.id ≤ n) effect
+  held-numbered : {pins : List ℕ} (wait : Option Pending) (n m : ℕ) → Joins below effect old → ((ticket : Held) → Contains old ticket → ticket.id ≤ n) → Each (λ (h : Held). h.id ≤ n) effect
       → MatchOption wait (Unit {0}) (λ w. WaitNumbered old n m w × Each (λ (h : Held). h.id < w.id) effect)
-      → HasRisingNumbers (record { held = now; wait = wait; last_ticket = n; last_wait = m })
+      → HasRisingNumbers (record { held = now; wait = wait; pins = pins; last_ticket = n; last_wait = m })
   held-numbered wait n m joins most each waits = record {
     rising = rising-from_pairs now (order-pairs below effect old now joins (pairs-from_rising old rising) order);
     held = λ ticket among. after-all (λ h. h.id ≤ n) effect ticket (Contains old ticket) (most ticket) each ((members ticket).0 among);

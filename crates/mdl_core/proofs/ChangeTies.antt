@@ -226,6 +226,19 @@ made core who place change tied may =
           (waiting-here core who place tied may.session may.key) (wait_effect place change (seat_at who core)) seats.waits books.waiting;
     }
 
+-- a session pins what it pinned
+pins_after : (place : ℕ) (change : Change) (seat : SeatView) → (seat_after place change seat).pins ≡ seat.pins
+pins_after place (Gain mode) was = refl
+pins_after place (Lose ticket) was = refl
+pins_after place (Queue mode) was = refl
+pins_after place (Admit ticket) was = refl
+pins_after place (Settle how) was = refl
+pins_after place (Leave wait) was = refl
+pins_after place (Take_up wait) was = refl
+pins_after place (Alter ticket mode) was = refl
+pins_after place (Fold old new) was = refl
+pins_after place (Redefine ticket change) was = refl
+
 -- what is tied stays so
 pub tied-changing : (core : Core) (who place : ℕ) (change : Change) → IsTied core → May who place change core → IsTied (after_change who place change core)
 tied-changing core who place change tied may =
@@ -243,6 +256,7 @@ tied-changing core who place change tied may =
       granted_once = is.granted.apart;
       waiting_once = is.waiting.apart;
       numbered = is.seats.numbered;
+      pins = pins_after place change seat;
     }))
 
 -- and what stands under a key may stand there

@@ -1,5 +1,5 @@
 -- Each call of the lock space of one thread is an event of the system, and keeps the space sound; so does all that is asked of it.
-use Rattle.std.proofs.Common.{◌≡◌, ◌⊎◌, ℕ, zero, suc, ◌+◌, Bool, true, false, inl, inr, List, [], ◌∷◌, ◌++◌, None, refl, sym, ap, subst, ◌∙◌, arith}
+use Rattle.std.proofs.Common.{◌≡◌, ◌⊎◌, ℕ, zero, suc, ◌+◌, Bool, true, false, inl, inr, List, [], ◌∷◌, ◌++◌, length, None, refl, sym, ap, subst, ◌∙◌, arith}
 use Rattle.std.specs.Prelude.{flat_map, replicate}
 use Rattle.std.proofs.lemmas.Bool.{false≢true}
 use Rattle.std.proofs.lemmas.List.{append-nil}
@@ -16,7 +16,7 @@ use Rattle.mdl_core.specs.ChangeEvents.{IsChangeEvent}
 use Rattle.mdl_core.specs.Changes.{Change, Gain, Lose, Queue, Admit, Settle, Leave, Take_up, Alter, Fold, Redefine, May, after_change, opening}
 use Rattle.mdl_core.specs.CoreJoins.{Joins}
 use Rattle.mdl_core.specs.CoreLaws.{is_change, IsEventOf, CallsAreEvents, CallsKeepSound, GrantsWhatIsGrantable, GrantsInOrder, CallsLeadByEvents, Joined}
-use Rattle.mdl_core.specs.Cores.{Core, empty_core, key_at, has_key, index_of}
+use Rattle.mdl_core.specs.Cores.{Core, empty_core, key_at, has_key, index_of, pinning}
 use Rattle.mdl_core.specs.CoreSystems.{applies, system_of, granted_in, unended_from}
 use Rattle.mdl_core.specs.Seats.{empty_seat}
 use Rattle.mdl_core.specs.Ties.{in_book_of, IsTied, IsSoundCore, AllMayStand}
@@ -24,9 +24,11 @@ use Rattle.mdl_core.proofs.CallLaws.{joins-comes}
 use Rattle.mdl_core.proofs.ChangesHappen.{change-happens}
 use Rattle.mdl_core.proofs.ChangeTies.{tied-changing, stands-changing}
 use Rattle.mdl_core.proofs.CoreServing.{serves}
+use Rattle.mdl_core.proofs.KnownPlaces.{new-known}
+use Rattle.mdl_core.proofs.PinnedSeats.{tied-pinning, system-pinning}
 use Rattle.mdl_core.proofs.SparedSeats.{keys-changed}
 use Rattle.mdl_core.proofs.TiedOpening.{tied-empty, stands-empty, opened, stands-opened, system-opened}
-use Rattle.mdl_core.proofs.Ways.{Way, Stay, Open, Settle_wait, Make, makes_room, served_if, space_by, IsMade, Made}
+use Rattle.mdl_core.proofs.Ways.{Way, Stay, Pin, Open, Settle_wait, Make, makes_room, served_if, space_by, IsMade, Made}
 use Rattle.mdl_system.proofs.ConcernLemmas.{step-forgets, granting-there}
 use Rattle.mdl_system.proofs.LawfulLemmas.{empty-lawful, step-lawful, run-lawful}
 use Rattle.mdl_system.proofs.StrengthLemmas.{covers-at_least, upgrade-raises}
@@ -161,8 +163,16 @@ module _ (a : Core) (call : Call) (answer : Answer) (sound : IsSoundCore a) wher
   -- any way
   follows-way : (way : Way) → Made a call answer way → Follows a call answer (space_by way a)
   follows-way Stay made = follows-calm a sound.tied sound.standing refl made.is_way
-  follows-way (Open key) made =
-      follows-calm (opening key a) (opened key a sound.tied made.is_way.1) (stands-opened key a sound.tied made.is_way.1 sound.standing) (opening-same a key sound.tied made.is_way.1) made.is_way.0
+  follows-way (Pin who place) made =
+      follows-calm (pinning who place a) (tied-pinning a who place made.is_way.0.session sound.tied made.is_way.1) sound.standing
+      (sym (system-pinning a who place made.is_way.0.session)) made.is_way.0.calm
+  follows-way (Open who key) made =
+      let place = length a.books + 1 in
+      let session = made.is_way.0.session in
+      follows-calm (pinning who place (opening key a))
+      (tied-pinning (opening key a) who place session (opened key a sound.tied made.is_way.1) (new-known a key who).0)
+      (stands-opened key a sound.tied made.is_way.1 sound.standing)
+      (opening-same a key sound.tied made.is_way.1 ∙ sym (system-pinning (opening key a) who place session)) made.is_way.0.calm
   follows-way (Settle_wait who place how) made = follows-made who place (Settle how) made.is_way
   follows-way (Make who place change) made = follows-made who place change made.is_way.0
 

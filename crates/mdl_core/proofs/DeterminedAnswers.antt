@@ -324,7 +324,7 @@ kills a target number sound =
 
 determined : (a : Core) (call : Call) → IsSoundCore a → IfSome (caller call) (SpeaksFor a) → has_call call ≡ true
     → IsAnswer (Determines (system_of a) (places_of a) (numbers_at a) call) (outcome call a).0
-determined a (Resolve who key) sound speaks has = resolves a sound.tied key
+determined a (Resolve who key) sound speaks has = resolves a sound.tied who key
 determined a (Try_now who place mode) sound speaks has = asks a who sound speaks.0 place mode _ (Would_wait, a) (λ key. only Would_wait)
 determined a (Begin_wait who place mode) sound speaks has =
     asks a who sound speaks.0 place mode _ (queued_unless_full who place mode a) (λ key. queues a sound.tied place key who mode)

@@ -20,6 +20,7 @@ pub mod Effects
 pub mod KnownPlaces
 pub mod MadeCalls
 pub mod PairLemmas
+pub mod PinnedSeats
 pub mod PlaceAnswers
 pub mod PlacesKept
 pub mod ReadLaws

@@ -40,7 +40,7 @@ use Rattle.mdl_core.proofs.KnownPlaces.{unplaced, new-known, wait_placed}
 use Rattle.mdl_core.proofs.PairLemmas.{below, map-agree, map-same, pairs-from_rising, same-number}
 use Rattle.mdl_core.proofs.SparedSeats.{HasSettled, settled_at, settled-once, none_settled, not_settled, as_wait, is_end}
 use Rattle.mdl_core.proofs.VictimLemmas.{victim-waits}
-use Rattle.mdl_core.proofs.Ways.{HasAtOnce, HasNotAtOnce, Way, Stay, Open, Settle_wait, Make, served_if, space_by, seat_by, IsSo, ServesCaller, Comes}
+use Rattle.mdl_core.proofs.Ways.{HasAtOnce, HasNotAtOnce, Way, Stay, Pin, Open, Settle_wait, Make, served_if, space_by, seat_by, IsSo, ServesCaller, Comes}
 use Rattle.mdl_system.proofs.StrengthLemmas.{covers-at_least, upgrade-raises}
 
 -- ---- tests
@@ -308,15 +308,29 @@ module _ (a : Core) where
     -- each call
     pub made : (call : Call) → has_call call ≡ true → IfSome (caller call) (λ who. has_session who a ≡ true) → F call (outcome call a)
     made (Resolve who key) has is =
-        option_cases (λ o. F (Resolve who key) (placing key o a)) (index_of key a.books)
+        option_cases (λ o. F (Resolve who key) (placing who key o a)) (index_of key a.books)
         (λ none. tested (λ full. refused who NoPlace refl (λ place knows. unplaced a who place key none knows) (λ _ _. tt)
         (at_least a.places (length a.books) full, λ place key_there same. unplaced a who place key none (key_there, same)))
         (λ _. record {
-          way = Open key;
-          is = record { fits = refl; is_way = (refl, none); so = new-known a key who; caller = tells refl refl tt (λ _ _. tt) };
+          way = Open who key;
+          is = record {
+            fits = refl;
+            is_way = (record { calm = refl; session = is; mine = refl }, none);
+            so = new-known a key who;
+            caller = tells refl refl tt (λ _ _. tt);
+          };
           leads = refl;
         }))
-        (λ index e. stays refl refl (found a key index e) (tells refl refl tt (λ _ _. tt)))
+        (λ index e. record {
+          way = Pin who (index + 1);
+          is = record {
+            fits = refl;
+            is_way = (record { calm = refl; session = is; mine = refl }, (found a key index e).0);
+            so = found a key index e;
+            caller = tells refl refl tt (λ _ _. tt);
+          };
+          leads = refl;
+        })
     made (Try_now who place mode) has is =
         asked who place mode is (λ refusal cause limit. refused who refusal refl cause (λ _ _. tt) limit)
         (λ ask. tested (λ busy. stays refl refl (ask.busy busy) (tells refl refl ask.clear (λ _ _. tt)))

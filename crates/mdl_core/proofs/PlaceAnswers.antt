@@ -90,8 +90,8 @@ module _ (core : Core) where
       ap (λ n. slice_index_or core.books n (empty_book global_key)) here ∙ get_or_default core.books at (empty_book global_key) from.0 inside ∙ from.1.2 in
       not_there core key (suc at) tied.keys none has (ap (λ (b : BookView). b.key) book ∙ sym from.2)
 
-  pub resolves : IsTied core → (key : KeyName) → IsAnswer (ToResolve (places_of core) key) (resolve_outcome key core).0
-  resolves tied key = option_cases (λ o. IsAnswer (ToResolve (places_of core) key) (placing key o core).0) (index_of key core.books) next known
+  pub resolves : IsTied core → (who : ℕ) (key : KeyName) → IsAnswer (ToResolve (places_of core) key) (resolve_outcome who key core).0
+  resolves tied who key = option_cases (λ o. IsAnswer (ToResolve (places_of core) key) (placing who key o core).0) (index_of key core.books) next known
     where
       counted : length (places_of core).keys ≡ length core.books
       counted = length-map core.books (λ (book : BookView). book.key)
@@ -119,7 +119,7 @@ module _ (core : Core) where
               absurd (not_there core key place tied.keys none other.0 other.1)
           there (inr (nowhere, rest)) = (its y).0 rest
 
-      next : index_of key core.books ≡ None → IsAnswer (ToResolve (places_of core) key) (placing key None core).0
+      next : index_of key core.books ≡ None → IsAnswer (ToResolve (places_of core) key) (placing who key None core).0
       next none =
           test_cases (λ (r : Answer × Core). IsAnswer (ToResolve (places_of core) key) r.0) (nat_le core.places (length core.books)) _ _
           (λ all. nowhere-else (Refused NoPlace) none (unmet _ NoPlace (Only (At_place (length (places_of core).keys + 1)))

@@ -209,13 +209,13 @@ module _ (a : Core) (who : ℕ) (key : KeyName) (tied : IsTied a) where
   abbrev Follows : Answer × Core → Type 0
   Follows r = PlacesAfter (Resolve who key) r.0 (places_of a) (places_of r.1)
 
-  resolve-follows : Follows (resolve_outcome key a)
-  resolve-follows = option_cases (λ o. Follows (placing key o a)) (index_of key a.books) next known
+  resolve-follows : Follows (resolve_outcome who key a)
+  resolve-follows = option_cases (λ o. Follows (placing who key o a)) (index_of key a.books) next known
     where
-      known : (index : ℕ) → index_of key a.books ≡ Some index → Follows (placing key (Some index) a)
+      known : (index : ℕ) → index_of key a.books ≡ Some index → Follows (placing who key (Some index) a)
       known index e = let at = found a key index e in inl (subst (Contains (places_of a).keys) at.1 (listed a (index + 1) at.0), refl)
 
-      next : index_of key a.books ≡ None → Follows (placing key None a)
+      next : index_of key a.books ≡ None → Follows (placing who key None a)
       next none =
           test_cases Follows (nat_le a.places (length a.books)) _ _ (λ all. refl)
           (λ few. inr (unlisted a tied key none, λ i. record { keys = map-append (λ (b : BookView). b.key) a.books (empty_book key ∷ []) i; most = a.places }))

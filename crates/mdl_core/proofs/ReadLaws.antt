@@ -15,8 +15,8 @@ use Rattle.mdl_book.specs.declared.ticket.Ticket.{Ticket}
 use Rattle.mdl_calls.specs.declared.answers.Held.{Held}
 use Rattle.mdl_calls.specs.declared.space_error.SpaceError.TheVariants.{NotExclusive}
 use Rattle.mdl_calls.specs.declared.answers.TimedOut.TheVariants.{ByThisCall}
-use Rattle.mdl_calls.specs.Words.{Answer, Granted, Waits, Victim_is, Timed_out, Lost, Has_killed, Done, Refused, Reads, Changed, Upgraded, Call, Try_now, Begin_wait, Search, Settle_timeout, End_wait, Kill, Release, Clone_ticket, Upgrade_now, Merge, Downgrade, Unpin, Read_definition, Read_kept, Change_definition, caller, HoldsAt, IsChangeOf, cause_of, is_number, ticket_held, read_under, redefined_place}
-use Rattle.mdl_core.specs.CoreJoins.{SpeaksFor, locks_at, Knows, HasRead, HasSeen, Pins, Joins}
+use Rattle.mdl_calls.specs.Words.{Answer, Granted, Waits, Victim_is, Timed_out, Lost, Has_killed, Done, Refused, Reads, Changed, Upgraded, Call, Try_now, Begin_wait, Search, Settle_timeout, End_wait, Kill, Release, Clone_ticket, Upgrade_now, Merge, Downgrade, Read_definition, Read_kept, Change_definition, caller, HoldsAt, IsChangeOf, cause_of, is_number, ticket_held, read_under, redefined_place}
+use Rattle.mdl_core.specs.CoreJoins.{SpeaksFor, locks_at, Knows, HasRead, HasSeen, Joins}
 use Rattle.mdl_core.specs.Ties.{IsTied, in_book_of}
 use Rattle.mdl_core.specs.Changes.{Change, Gain, Lose, Queue, Admit, Settle, Leave, Take_up, Alter, Fold, Redefine, after_change, book_after, redefining_at, admitting_if, admitting_up_to, next_ready}
 use Rattle.mdl_core.specs.CoreCalls.{held_ticket, redefining_fault, redefined_unless, redefining_of}
@@ -26,8 +26,8 @@ use Rattle.mdl_core.proofs.CoreServing.{found-first}
 use Rattle.mdl_core.specs.ChangeEvents.{IsChangeEvent, holding_of}
 use Rattle.mdl_core.specs.CoreLaws.{IsEventOf}
 use Rattle.mdl_core.proofs.KnownPlaces.{spares-opening}
-use Rattle.mdl_core.proofs.CallLaws.{joins-comes, core-fits, core-remembers}
-use Rattle.mdl_core.proofs.Ways.{Way, Stay, Open, Settle_wait, Make, Made, makes_room, served_if, space_by}
+use Rattle.mdl_core.proofs.CallLaws.{joins-comes, core-fits}
+use Rattle.mdl_core.proofs.Ways.{Way, Stay, Pin, Open, Settle_wait, Make, Made, makes_room, served_if, space_by}
 use Rattle.mdl_key.specs.Words.{Clashes}
 use Rattle.mdl_core.proofs.CoreGranted.{granted-of_held}
 use Rattle.mdl_system.specs.Words.{ChangeDefinition, Holding, lock_kind}
@@ -230,7 +230,8 @@ no_redefinition a call answer ticket change apart is = is
 keeps-way : (a : Core) (call : Call) (answer : Answer) (way : Way) → Made a call answer way → changes_definition call ≡ false
     → (other : ℕ) → has_key other a ≡ true → Keeps other a (space_by way a)
 keeps-way a call answer Stay made apart other has = (has, refl)
-keeps-way a call answer (Open key) made apart other has =
+keeps-way a call answer (Pin who place) made apart other has = (has, refl)
+keeps-way a call answer (Open who key) made apart other has =
     let knows = (spares-opening a key).keys 0 other (key_at other a) (has, refl) in
     let h = within other (length a.books) has in (
       knows.0,
@@ -358,14 +359,6 @@ core-seen_stays a b call answer w place version speaks joins seen = by (kept a b
 pub core-seen_below : (a : Core) (w place version : ℕ) (standing : VersionedDefinition) → SpeaksFor a w → HasSeen a w place version
     → HasRead a w place standing → version ≤ standing.version
 core-seen_below a w place version standing speaks seen read = let e = ap (λ (s : VersionedDefinition). s.version) read.2 in omega (arith, e, seen.1)
-
--- ---- pins
-
--- a place keeps its key
-pub core-pins_stay : (a b : Core) (call : Call) (answer : Answer) (w place : ℕ) → SpeaksFor a w → (call ≡ Unpin w place → answer ≡ Done → ⊥)
-    → Joins a call answer b → Pins a w place → Pins b w place
-core-pins_stay a b call answer w place speaks other joins pins =
-    (core-remembers a b call answer w place (key_at place a) speaks other joins (pins, refl)).0
 
 -- a call that the space hasn't joins nothing
 pub has_not : {A : Type 0} → false ≡ true → A

@@ -1,14 +1,14 @@
 -- The space of one thread has the laws of a lock space.
 use Rattle.std.proofs.Common.{refl}
 use Rattle.mdl_calls.specs.SpaceLaws.{SpaceLaws}
-use Rattle.mdl_core.specs.CoreJoins.{SpeaksFor, locks_at, Knows, IsSettledAs, numbers_at, HasRead, HasSeen, Pins, Joins}
+use Rattle.mdl_core.specs.CoreJoins.{SpeaksFor, locks_at, Knows, IsSettledAs, numbers_at, HasRead, HasSeen, Joins}
 use Rattle.mdl_core.proofs.CallLaws.{core-allowed, core-keeps, core-changes, core-others, core-draws, core-others_draw, core-rising, core-fits, core-explains, core-lists, core-resolves, core-tells_key, core-tells_tables, core-remembers, core-waits_settled, core-settled_once, core-tells, core-stays, core-agrees, core-victims, core-counts, core-kills, core-kills_or_settled, core-upgrades}
 use Rattle.mdl_core.proofs.CoreSound.{calls_keep-sound}
 use Rattle.mdl_core.proofs.KnownPlaces.{core-one_key, core-one_place, core-held_places, core-wait_place}
-use Rattle.mdl_core.proofs.ReadLaws.{core-reads, core-redefines, core-redefines_so, core-reads_one, core-stands, core-reads_fit, core-sees, core-seen_stays, core-seen_below, core-pins_stay, has_not}
+use Rattle.mdl_core.proofs.ReadLaws.{core-reads, core-redefines, core-redefines_so, core-reads_one, core-stands, core-reads_fit, core-sees, core-seen_stays, core-seen_below, has_not}
 
 -- it keeps nothing of what was met, and owes nothing
-pub core-laws : SpaceLaws SpeaksFor locks_at Knows IsSettledAs numbers_at HasRead (λ _ _ _ _. Unit {0}) HasSeen Pins (λ _ _ _. ⊥) Joins
+pub core-laws : SpaceLaws SpeaksFor locks_at Knows IsSettledAs numbers_at HasRead (λ _ _ _ _. Unit {0}) HasSeen (λ _ _ _. ⊥) Joins
 core-laws = record {
   allowed = core-allowed;
   keeps = core-keeps calls_keep-sound;
@@ -49,13 +49,7 @@ core-laws = record {
   upgrades = core-upgrades;
   tells_key = core-tells_key;
   tells_tables = core-tells_tables;
-  resolved_pinned = λ a b who place key j. (core-resolves a b who place key j).0;
-  pins_stay = core-pins_stay;
-  pinned_known = λ a w place speaks pins. (_, (pins, refl));
-  held_pinned = λ a w ticket speaks holds. (core-held_places a w ticket speaks holds).1.0;
-  wait_pinned = λ a w wait speaks its. (core-wait_place a w wait speaks its).1.0;
+  pinned_known = λ a w place speaks pins. (_, (speaks.1.tied.pinned w place speaks.0 pins, refl));
   no_new_debts = λ a b call answer w place speaks j owes. owes;
-  unpins_none = λ a b who place j pins. has_not j.1;
   unpins_in_use = λ a b who place j. has_not j.1;
-  unpins = λ a b who place j. has_not j.1;
 }

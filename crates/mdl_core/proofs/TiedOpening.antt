@@ -14,10 +14,11 @@ use Rattle.mdl_book.specs.Tickets.{ticket_id}
 use Rattle.mdl_defs.specs.VersionedDefinitions.{MayStand}
 use Rattle.mdl_defs.proofs.VersionedDefinitionLemmas.{nothing-stands}
 use Rattle.mdl_calls.specs.declared.answers.Held.{Held}
+use Rattle.mdl_calls.specs.Words.{is_pinned}
 use Rattle.mdl_core.specs.Cores.{Core, empty_core, book_at, seat_at, key_at, index_of, has_key, has_session}
 use Rattle.mdl_core.specs.CoreSystems.{granted_in, book_of, waiter_in, defined_in, system_of}
 use Rattle.mdl_core.specs.Changes.{opening}
-use Rattle.mdl_core.specs.Seats.{SeatView, empty_seat}
+use Rattle.mdl_core.specs.Seats.{SeatView, empty_seat, locks_of_seat}
 use Rattle.mdl_core.specs.Ties.{HasGrantedTicket, Awaits, in_book_of, HasRisingNumbers, IsTied, AllMayStand}
 use Rattle.mdl_core.proofs.CoreReads.{within, of_within, found-at}
 use Rattle.mdl_core.proofs.CoreWaiting.{book-there, place_told, book-nowhere, not_there}
@@ -54,6 +55,7 @@ tied-empty places sessions = record {
   waiting_once = λ place key. absurd (no_key places sessions place key);
   numbered = λ who session. subst HasRisingNumbers (sym (tied-nothing places sessions who session))
       (record { rising = refl; held = λ ticket held. absurd (none-in ticket held); wait = tt });
+  pinned = λ who place session pins. (let h = subst (λ s. is_pinned place (locks_of_seat s) ≡ true) (tied-nothing places sessions who session) pins in cc);
 }
 
 -- ---- a new key
@@ -129,6 +131,7 @@ module _ (key : KeyName) (core : Core) (tied : IsTied core) (new : index_of key 
     granted_once = by-place (λ p b. AreApart ticket_id b.granted) tied.granted_once (λ i j d lt short. absurd (omega arith));
     waiting_once = by-place (λ p b. AreApart (λ (t : Ticket). t.session) b.waiting) tied.waiting_once (λ i j d lt short. absurd (omega arith));
     numbered = tied.numbered;
+    pinned = λ who place session pins. still place (tied.pinned who place session pins);
   }
 
   -- and nothing stands under the new key

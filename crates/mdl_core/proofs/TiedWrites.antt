@@ -1,6 +1,6 @@
 -- What a session has at a place; and that books and sessions tell the same after one book and one seat were written, where that
 -- book and that seat do.
-use Rattle.std.proofs.Common.{◌≡◌, ◌≢◌, ◌⊎◌, ◌↔◌, ℕ, inl, inr, List, true, refl, sym, subst, ◌∙◌}
+use Rattle.std.proofs.Common.{◌≡◌, ◌≢◌, ◌⊎◌, ◌↔◌, ℕ, ◌==◌, inl, inr, List, true, refl, sym, ap, subst, ◌∙◌}
 use Rattle.std.specs.Prelude.{Contains, AllPairs, IsTrue}
 use Rattle.mdl_key.specs.Modes.{is_mode_of, kind_of}
 use Rattle.mdl_book.specs.declared.book_view.BookView.{BookView}
@@ -9,6 +9,7 @@ use Rattle.mdl_book.specs.Books.{lock_kind}
 use Rattle.mdl_book.specs.Tickets.{ticket_id}
 use Rattle.mdl_calls.specs.declared.answers.Held.{Held}
 use Rattle.mdl_core.specs.Cores.{Core, book_at, seat_at, key_at, has_key, has_session, booking, seating}
+use Rattle.std.specs.List.{list_any}
 use Rattle.mdl_core.specs.Seats.{SeatView}
 use Rattle.mdl_core.specs.Ties.{HasGrantedTicket, Awaits, in_book_of, HasRisingNumbers, IsTied}
 use Rattle.mdl_core.proofs.CoreReads.{has_key-booking, has_session-seating, booked-same, booked-other, seated-same, seated-other}
@@ -59,6 +60,7 @@ pub record Fits (core : Core) (who place : ℕ) (book : BookView) (seat : SeatVi
   pub granted_once : AllPairs (λ (one other : Ticket). ticket_id one ≢ ticket_id other) book.granted
   pub waiting_once : AllPairs (λ (one other : Ticket). one.session ≢ other.session) book.waiting
   pub numbered : HasRisingNumbers seat
+  pub pins : seat.pins ≡ (seat_at who core).pins
 
 module _ (core : Core) (who place : ℕ) (book : BookView) (seat : SeatView) (session : has_session who core ≡ true) (key : has_key place core ≡ true) where
   abbrev pub written : Core
@@ -181,4 +183,8 @@ module _ (core : Core) (who place : ℕ) (book : BookView) (seat : SeatView) (se
       waiting_once = λ at has. at_place (λ _ b. AllPairs (λ (one other : Ticket). one.session ≢ other.session) b.waiting)
           fits.waiting_once (λ other has_other _. tied.waiting_once other has_other) at (had_key at has);
       numbered = λ w has. at_session (λ _ s. HasRisingNumbers s) fits.numbered (λ v is_v _. tied.numbered v is_v) w (had_session w has);
+      pinned = λ w p has pins.
+          has_key-booking (seating who seat core) place p book
+          ∙ at_session (λ v s. list_any (λ pin. pin == p) s.pins ≡ true → has_key p core ≡ true)
+          (λ own. tied.pinned who p session (ap (list_any (λ pin. pin == p)) (sym fits.pins) ∙ own)) (λ v is_v _. tied.pinned v p is_v) w (had_session w has) pins;
     }

@@ -15,7 +15,7 @@ use Rattle.mdl_core.specs.Ties.{IsSoundCore}
 abbrev pub SpeaksFor : Core → ℕ → Type 0
 SpeaksFor core who = (has_session who core ≡ true) × IsSoundCore core
 
--- a session's held tickets and its wait
+-- a session's held tickets, its wait and its pins
 abbrev pub locks_at : Core → ℕ → SessionLocks
 locks_at core who = locks_of_seat (seat_at who core)
 
@@ -38,10 +38,6 @@ HasRead core who place standing = HoldsAt place (locks_at core who) × (has_key 
 -- a place's version is this one or a later one
 abbrev pub HasSeen : Core → ℕ → ℕ → ℕ → Type 0
 HasSeen core who place version = (has_key place core ≡ true) × (version ≤ (standing_at place core).version)
-
--- a place that has a key keeps it, for every session
-abbrev pub Pins : Core → ℕ → ℕ → Type 0
-Pins core who place = has_key place core ≡ true
 
 -- the call has exactly its outcome, or is refused because memory ran out if it takes memory
 abbrev pub Joins : Core → Call → Answer → Core → Type 0

@@ -9,7 +9,7 @@ use Rattle.mdl_book.specs.Granting.{is_grantable}
 use Rattle.mdl_book.specs.declared.book_view.BookView.{BookView}
 use Rattle.mdl_defs.specs.declared.versioned_definition.VersionedDefinition.{VersionedDefinition}
 use Rattle.mdl_calls.specs.Reads.{is_table_of}
-use Rattle.mdl_core.specs.Seats.{SeatView, empty_seat}
+use Rattle.mdl_core.specs.Seats.{SeatView, empty_seat, with_pin}
 
 -- the space: the books of the places that have a key, from place 1, the seats of the sessions, from session 1, and the greatest
 -- number of places
@@ -85,3 +85,7 @@ booking place book core = record core { books = slice_set core.books (place - 1)
 -- the space with another seat for a session
 abbrev pub seating : ℕ → SeatView → Core → Core
 seating who seat core = record core { seats = slice_set core.seats (who - 1) seat }
+
+-- the space in which a session pins a place
+abbrev pub pinning : ℕ → ℕ → Core → Core
+pinning who place core = seating who (with_pin place (seat_at who core)) core

@@ -5,30 +5,36 @@ use Rattle.mdl_key.specs.declared.mode.Mode.{Mode}
 use Rattle.mdl_calls.specs.declared.answers.Held.{Held}
 use Rattle.mdl_calls.specs.declared.answers.Settled.{Settled}
 use Rattle.mdl_core.specs.declared.pending.Pending.{Pending}
-use Rattle.mdl_calls.specs.SessionLocks.{SessionLocks, Numbers, is_number}
+use Rattle.mdl_calls.specs.SessionLocks.{SessionLocks, Numbers, is_number, with_place}
 
--- a seat: the held tickets in the order in which the session got them, the wait that isn't ended, and the last numbers that were
--- given to its tickets and waits
+-- a seat: the held tickets in the order in which the session got them, the wait that isn't ended, the pinned places in rising order, and
+-- the last numbers that were given to its tickets and waits
 pub record SeatView : Type 0 where
   pub held : List Held
   pub wait : Option Pending
+  pub pins : List ℕ
   pub last_ticket : ℕ
   pub last_wait : ℕ
 
 -- the seat of a session that never requested a lock
 abbrev pub empty_seat : SeatView
-empty_seat = record { held = []; wait = None; last_ticket = 0; last_wait = 0 }
+empty_seat = record { held = []; wait = None; pins = []; last_ticket = 0; last_wait = 0 }
 
--- the held tickets and the wait, as callers see them
+-- the held tickets, the wait and the pins, as callers see them
 abbrev pub locks_of_seat : SeatView → SessionLocks
 locks_of_seat seat = record {
   held = seat.held;
   wait = option_map (λ wait. record { number = wait.number; place = wait.place; mode = wait.mode }) seat.wait;
+  pins = seat.pins;
 }
 
 -- the last numbers that were given to the session's tickets and waits
 abbrev pub numbers_of_seat : SeatView → Numbers
 numbers_of_seat seat = record { last_ticket = seat.last_ticket; last_wait = seat.last_wait }
+
+-- the seat with a pin of this place
+abbrev pub with_pin : ℕ → SeatView → SeatView
+with_pin place seat = record seat { pins = with_place place seat.pins }
 
 -- the seat with a new ticket
 abbrev pub holding : ℕ → Mode → SeatView → SeatView

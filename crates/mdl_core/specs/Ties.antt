@@ -11,7 +11,7 @@ use Rattle.mdl_core.specs.declared.pending.Pending.{Pending}
 use Rattle.mdl_defs.specs.VersionedDefinitions.{MayStand}
 use Rattle.mdl_core.specs.Cores.{Core, book_at, seat_at, key_at, standing_at, has_key, has_session}
 use Rattle.mdl_core.specs.CoreSystems.{system_of}
-use Rattle.mdl_calls.specs.SessionLocks.{IsRising}
+use Rattle.mdl_calls.specs.SessionLocks.{IsRising, is_pinned}
 use Rattle.mdl_core.specs.Seats.{SeatView, locks_of_seat, ticket_of_wait}
 use Rattle.mdl_system.specs.Systems.{IsLawful, NoneForgotten}
 
@@ -60,6 +60,8 @@ pub record IsTied (core : Core) : Type 0 where
   pub waiting_once : (place : ℕ) → has_key place core ≡ true
       → AllPairs (λ (one other : Ticket). one.session ≢ other.session) (book_at place core).waiting
   pub numbered : (who : ℕ) → has_session who core ≡ true → HasRisingNumbers (seat_at who core)
+  -- each pinned place has a key
+  pub pinned : (who place : ℕ) → has_session who core ≡ true → is_pinned place (locks_of_seat (seat_at who core)) ≡ true → has_key place core ≡ true
 
 -- the version and the definition of each place are valid for its key
 abbrev pub AllMayStand : Core → Type 0
