@@ -39,3 +39,15 @@ one_more_known known after books key told new put = record { tells = λ q. by q 
         put q ∙ rw same (sym (ap (option_map (λ index. index + 1)) (passes_last (λ (lists : BookView). key_eq lists.key q) books (empty_book key) same none)))
     by q false differs =
         put q ∙ rw differs (told.tells q) ∙ sym (ap (option_map (λ index. index + 1)) (fails_last (λ (lists : BookView). key_eq lists.key q) books (empty_book key) differs))
+
+-- and where it is taken out again, the map is right as before
+pub none_more_known : (known after back : List (KeyName × ℕ)) (books : List BookView) (key : KeyName) (place : ℕ) → TellsPlaces known books
+    → lookup (key_eq key) known ≡ None → ((q : KeyName) → lookup (key_eq q) after ≡ cond (key_eq key q) (Some place) (lookup (key_eq q) known))
+    → ((q : KeyName) → lookup (key_eq q) back ≡ cond (key_eq key q) None (lookup (key_eq q) after)) → TellsPlaces back books
+none_more_known known after back books key place told new put taken = record { tells = λ q. by q (key_eq key q) refl }
+  where
+    by : (q : KeyName) (b : Bool) → key_eq key q ≡ b → lookup (key_eq q) back ≡ place_of q books
+    by q true same =
+        let there : key ≡ q = (key-Decides key q).0 same in
+        taken q ∙ rw same (sym new ∙ ap (λ k. lookup (key_eq k) known) there ∙ told.tells q)
+    by q false differs = taken q ∙ rw differs (put q ∙ rw differs (told.tells q))

@@ -1,6 +1,7 @@
 -- Where no wait is settled.
-use Rattle.std.proofs.Common.{◌≡◌, ℕ, ◌-◌, ◌≤◌, Bool, true, false, cond, refl, arith}
-use Rattle.std.proofs.lemmas.List.Sums.{get_or-le-sum_by}
+use Rattle.std.proofs.Common.{◌≡◌, ℕ, ◌-◌, ◌<◌, ◌≤◌, Bool, true, false, cond, List, length, refl, ap, arith}
+use Rattle.std.specs.Prelude.{slice_index_or, slice_set}
+use Rattle.std.proofs.lemmas.List.Sums.{get_or-le-sum_by, sum_by-set}
 use Rattle.mdl_core.specs.CoreCalls.{has_settled}
 use Rattle.mdl_core.specs.Words.{SeatView, Core, empty_seat, seat_at, has_session, is_settled_wait}
 use Rattle.mdl_space.specs.SettledWaits.{settled_waits}
@@ -24,3 +25,12 @@ none-settled core none who = by (has_session who core) refl
         let bounds = session-bounds who core there in
         let counts : weight (seat_at who core) ≤ settled_waits core.seats = get_or-le-sum_by weight core.seats (who - 1) empty_seat (omega (arith, bounds.0, bounds.1)) in
         rw there (weightless (is_settled_wait (seat_at who core).wait) (omega (arith, counts, none)))
+
+-- as many are settled after a seat with the same wait was written
+pub settled-kept : (seats : List SeatView) (index : ℕ) (old new : SeatView) → index < length seats → slice_index_or seats index old ≡ old → new.wait ≡ old.wait
+    → settled_waits (slice_set seats index new) ≡ settled_waits seats
+settled-kept seats index old new lt there same =
+    let sums = sum_by-set weight seats index new old lt in
+    let before : weight (slice_index_or seats index old) ≡ weight old = ap weight there in
+    let after : weight new ≡ weight old = ap (λ wait. cond (is_settled_wait wait) 1 0) same in
+    omega (arith, sums, before, after)

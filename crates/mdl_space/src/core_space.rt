@@ -117,11 +117,14 @@ impl CoreSpace {
         self.books.as_slice()
     }
 
-    /// Returns the place of a key, which is the next free one if the key is new.
-    pub(crate) fn resolve(&mut self, key: &Key) -> Result<Place, SpaceError>
-        ensures { Makes true (resolve_outcome key.now) self.old (placed result) self.new }
+    /// Returns the place of a key, which is the next free one if the key is new. The session pins it.
+    pub(crate) fn resolve(&mut self, who: u16, key: &Key) -> Result<Place, SpaceError>
+        requires { has_session who self.old ≡ true }
+        ensures { Makes true (resolve_outcome who key.now) self.old (placed result) self.new }
     {
+        let seat = &mut self.seats[usize::from(who) - 1];
         if let Some(place) = self.known.get(key) {
+            seat.pin(*place)?;
             return Ok(*place);
         }
         if self.books.len() >= self.places {
@@ -135,6 +138,10 @@ impl CoreSpace {
         };
         let place = self.books.len() as Place + 1;
         if self.known.insert(name, place).is_err() {
+            return Err(SpaceError::OutOfMemory);
+        }
+        if seat.pin(place).is_err() {
+            self.known.remove(&key);
             return Err(SpaceError::OutOfMemory);
         }
         self.books.push(Book::new(self.alloc, key)).unwrap();

@@ -2,7 +2,7 @@
 ghost use Rattle.std.specs.Prelude.{◌≡◌, ℕ, ◌+◌, ◌<◌, ◌^◌, find, position, Some, None, IsTrue, OnOk, OnErr, IsOkUnless};
 ghost use Rattle.mdl_key.specs.declared.mode.Mode.{Mode};
 ghost use Rattle.mdl_calls.specs.SessionLocks.{are_rising, is_number};
-ghost use Rattle.mdl_core.specs.Seats.{SeatView, empty_seat, holding, without_ticket, beginning_wait, is_settled_wait, is_unsettled_wait, with_settled_wait, seat_without_wait, with_ticket_in, with_ticket_of};
+ghost use Rattle.mdl_core.specs.Seats.{SeatView, empty_seat, holding, without_ticket, beginning_wait, is_settled_wait, is_unsettled_wait, with_settled_wait, seat_without_wait, with_pin, with_ticket_in, with_ticket_of};
 
 use crate::{Held, Place, Settled, SpaceError, TicketId};
 use mdl_core::Pending;
@@ -10,13 +10,15 @@ use mdl_key::Mode;
 use std::alloc::Global;
 use std::marker::Model;
 
-/// A session's tickets and its wait.
+/// A session's tickets, its wait and its pins.
 ///
 /// While there is a wait, there is room for the ticket that it is for, so ending the wait with that ticket takes no memory.
 #[derive(Drop)]
 pub(crate) struct Seat {
     held: Vec<Held>,
     wait: Option<Pending>,
+    // The pinned places, in rising order.
+    pins: Vec<Place>,
     last_ticket: u64,
     last_wait: u64,
 }
@@ -25,14 +27,16 @@ impl Model for Seat {
     ghost use Rattle.std.specs.Prelude.{◌<◌, ◌≤◌, length};
     ghost use Rattle.std.specs.Option.{IfSome};
     ghost use Rattle.std.specs.Vec.{vec_capacity};
+    ghost use Rattle.std.specs.List.Sorted.{IsNonDecreasing};
     ghost use Rattle.mdl_core.specs.Seats.{SeatView};
 
     ghost Value = { SeatView };
 
-    ghost view = { λ seat. record { held = seat.held.items; wait = seat.wait; last_ticket = seat.last_ticket; last_wait = seat.last_wait } };
+    ghost view = { λ seat. record { held = seat.held.items; wait = seat.wait; pins = seat.pins.items; last_ticket = seat.last_ticket; last_wait = seat.last_wait } };
 
     ghost invariant = { λ seat. record {
       order : seat.last_wait ≤ seat.last_ticket;
+      pins : IsNonDecreasing seat.pins.items;
       room : IfSome seat.wait (λ _. length seat.held.items < vec_capacity seat.held);
     } };
 }
@@ -45,6 +49,7 @@ impl Seat {
         Seat {
             held: Vec::new(alloc),
             wait: None,
+            pins: Vec::new(alloc),
             last_ticket: 0,
             last_wait: 0,
         }
@@ -96,6 +101,21 @@ impl Seat {
             Some(wait) => wait.settled.is_none(),
             None => false,
         }
+    }
+
+    /// Adds a place to the pinned ones, unless it is there already.
+    pub(crate) fn pin(&mut self, place: Place) -> Result<(), SpaceError>
+        ensures pinned { OnOk result (self.new ≡ with_pin place self.old) }
+        ensures unchanged { OnErr result (self.new ≡ self.old) }
+        ensures memory { IsOkUnless result SpaceError.OutOfMemory }
+    {
+        let Err(at) = self.pins.binary_search(&place) else {
+            return Ok(());
+        };
+        if self.pins.insert(at, place).is_err() {
+            return Err(SpaceError::OutOfMemory);
+        }
+        Ok(())
     }
 
     /// Adds a new ticket at the end of the held ones.

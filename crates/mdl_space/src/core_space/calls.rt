@@ -1,6 +1,6 @@
 //! The space of one thread as a lock space: each call has just one outcome, except that memory may run out.
 ghost use Rattle.std.specs.Prelude.{◌≡◌};
-ghost use Rattle.mdl_core.specs.CoreJoins.{SpeaksFor, locks_at, numbers_at, Knows, IsSettledAs, HasRead, HasSeen, Pins, Joins};
+ghost use Rattle.mdl_core.specs.CoreJoins.{SpeaksFor, locks_at, numbers_at, Knows, IsSettledAs, HasRead, HasSeen, Joins};
 ghost use Rattle.mdl_core.proofs.SpaceLaws.{core-laws};
 
 use super::CoreSpace;
@@ -28,8 +28,6 @@ impl LockSpace for CoreSpace {
 
     ghost has_seen = { HasSeen };
 
-    ghost pins = { Pins };
-
     ghost owes = { λ _ _ _. ⊥ };
 
     ghost joins = { Joins };
@@ -37,8 +35,8 @@ impl LockSpace for CoreSpace {
     // A read leaves the cache unchanged.
     ghost uses_cache = { λ _ _ _ _ before after _. after ≡ before };
 
-    fn resolve(&mut self, _who: u16, key: &Key) -> Result<Place, SpaceError> {
-        CoreSpace::resolve(self, key)
+    fn resolve(&mut self, who: u16, key: &Key) -> Result<Place, SpaceError> {
+        CoreSpace::resolve(self, who, key)
     }
 
     fn try_now(&mut self, who: u16, place: Place, mode: Mode) -> Result<Attempt, SpaceError> {
