@@ -1,6 +1,6 @@
 -- Sessions after calls, which show that such calls can be.
 use Rattle.std.proofs.Common.{◌≡◌, ℕ, ◌+◌, true, false, [], ◌∷◌, ◌++◌, is_some, Option, Some, None, MatchOption, IfSome, inl, refl, sym, ap, subst, ◌∙◌, arith}
-use Rattle.mdl_session_laws.proofs.FirstLemmas.{Change_definition, Downgrade, End_wait, Held, IsSound, KeepsAll, KeepsSettled, Kill, LearnsPlace, NotesThere, OfHeld, OutOfMemory, Poll_wait, Release, SessionData, SessionLocks, Settle_timeout, SpeaksFor, Unpin, VersionedDefinition, Victim, Wait_of, X, caller, ending, gaining, holds, nat_tests, reads-nothing, refused-joins, same_mode, standing_after, ticket_drawn, ticket_held, wait_drawn, waiting}
+use Rattle.mdl_session_laws.proofs.FirstLemmas.{Change_definition, Downgrade, End_wait, Held, IsSound, KeepsAll, KeepsSettled, Kill, LearnsPlace, NotesThere, OfHeld, OutOfMemory, Poll_wait, Release, SessionData, SessionLocks, Settle_timeout, SpeaksFor, Unpin, VersionedDefinition, Victim, Wait_of, X, caller, ending, gaining, holds, nat_tests, pinning, reads-nothing, refused-joins, same_mode, standing_after, ticket_drawn, ticket_held, wait_drawn, waiting}
 use Rattle.mdl_session_laws.specs.Happenings.{KeysAreFound, LocksAreHad, WaitsAreBegun, WaitsAreLost, StandingsAreRead, StandingsAreChanged, MemoryRunsOut}
 
 -- ---- the wait
@@ -33,7 +33,7 @@ keys-found a place key sound new free = (
 )
   where
     b : SessionData
-    b = record a { known = a.known ++ record { key = key; place = place } ∷ [] }
+    b = record a { own = pinning place a.own; known = a.known ++ record { key = key; place = place } ∷ [] }
 
 -- ---- locks and waits
 

@@ -1,8 +1,9 @@
 -- What is always so of a session is so after each call.
 use Rattle.std.proofs.Common.{◌≡◌, ℕ, Bool, true, false, is_some, Option, Some, None, IfSome, inr, refl, sym, ap, subst, ◌∙◌}
-use Rattle.mdl_session_laws.proofs.FirstLemmas.{Answer, Call, IsRising, IsSound, Joins, KeepsSettled, Knows, SessionData, SessionLocks, Settled, Wait, all-weaker, are_below, are_placed, ends_wait, first_free, is_known, is_waiting, own_after}
+use Rattle.mdl_session_laws.proofs.FirstLemmas.{Answer, At_place, Call, IsRising, IsSound, Joins, KeepsSettled, Knows, Resolve, SessionData, SessionLocks, Settled, Wait, all-weaker, are_below, are_pins_known, are_placed, ends_wait, first_free, is_known, is_waiting, known-is, own_after, pins-weaker}
+use Rattle.mdl_session_laws.proofs.KeyLaws.{session-resolves}
 use Rattle.mdl_session_laws.proofs.KnownAfter.{known-apart, knows-on, known-on}
-use Rattle.mdl_session_laws.proofs.OwnAfter.{placed-after, awaited-after, counts-after, waits-on}
+use Rattle.mdl_session_laws.proofs.OwnAfter.{placed-after, awaited-after, counts-after, pins-after, waits-on}
 use Rattle.mdl_session_laws.proofs.ReadAfter.{HasLearnt, learnt, noted-on, newest-on, fits-on}
 use Rattle.mdl_session_laws.specs.SpaceLaws.{beginning}
 
@@ -32,6 +33,14 @@ module _ (a b : SessionData) (call : Call) (answer : Answer) (sound : IsSound a)
       by None at = tt
       by (Some wait) at = known-still wait.place at
 
+  -- and so are pins, also of the place that was resolved
+  pinned-still : are_pins_known b.known (own_after call answer a.own).pins ≡ true
+  pinned-still =
+      pins-after b.known call answer a.own (pins-weaker a.known b.known known-still a.own.pins sound.pinned)
+      (λ who place key is told.
+      let resolves : Joins a (Resolve who key) (At_place place) b = subst (λ x. Joins a x (At_place place) b) is (subst (λ x. Joins a call x b) told joins) in
+      known-is b.known place key (session-resolves a b who place key resolves))
+
   -- only a wait is settled
   settled-still : is_some b.settled ≡ true → is_waiting (own_after call answer a.own) ≡ true
   settled-still some = by (ends_wait call answer) refl joins.settled
@@ -60,6 +69,7 @@ module _ (a b : SessionData) (call : Call) (answer : Answer) (sound : IsSound a)
         below = of-own (λ own. are_below (first_free (is_waiting own) b.numbers) own.held ≡ true) counts.1;
         placed = of-own (λ own. are_placed b.known own.held ≡ true) placed-still;
         awaited = of-own (λ own. IfSome own.wait (λ (w : Wait). is_known w.place b.known ≡ true)) awaited-still;
+        pinned = of-own (λ own. are_pins_known b.known own.pins ≡ true) pinned-still;
         apart = known-apart call answer a.known b.known joins.learns sound.apart;
         settled = λ some. of-own (λ own. is_waiting own ≡ true) (settled-still some);
         noted = noted-on a b sound lets;
@@ -77,6 +87,7 @@ learns-sound a b sound learns same =
       below = sound.below;
       placed = sound.placed;
       awaited = sound.awaited;
+      pinned = sound.pinned;
       apart = sound.apart;
       settled = sound.settled;
       noted = noted-on a c sound lets;
@@ -91,6 +102,7 @@ begins-sound number = record {
   below = refl;
   placed = refl;
   awaited = tt;
+  pinned = refl;
   apart = refl;
   settled = λ some. cc;
   noted = λ place version noted. cc;

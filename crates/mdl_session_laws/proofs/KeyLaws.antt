@@ -3,8 +3,8 @@ use Rattle.std.proofs.Common.{◌≡◌, ◌⊎◌, ℕ, ◌<◌, true, false, L
 use Rattle.mdl_calls.proofs.TableLemmas.{table-of}
 use Rattle.mdl_key.specs.Keys.{global_key, key_cmp}
 use Rattle.std.proofs.lemmas.List.{get_or-map, length-map}
-use Rattle.mdl_session_laws.proofs.FirstLemmas.{Answer, AreTablesOf, At_place, AwaitsAt, Call, ComesBefore, Done, HasTableOf, Held, HoldsAt, InUse, Joins, KeyName, Key_is, Key_of, KnownKey, Knows, LearnsPlace, LearnsTables, NoPlace, Pins, Refused, Resolve, SessionData, SpeaksFor, Tables, Tables_of, Unpin, Wait, all-among, is-known, is_known, key-of_place, key_known, known-is, last-known, own_of, place-of_key, place_known}
-use Rattle.mdl_session_laws.proofs.KnownAfter.{knows-on, known-on}
+use Rattle.mdl_session_laws.proofs.FirstLemmas.{Answer, AreTablesOf, At_place, AwaitsAt, Call, ComesBefore, Done, HasTableOf, Held, HoldsAt, InUse, Joins, KeyName, Key_is, Key_of, KnownKey, Knows, LearnsPlace, LearnsTables, Refused, Resolve, SessionData, SpeaksFor, Tables, Tables_of, Unpin, Wait, all-among, is-known, is_known, is_pinned, key-of_place, key_known, last-known, own_of, pinned-known, place-of_key, place_known}
+use Rattle.mdl_session_laws.proofs.KnownAfter.{knows-on}
 
 -- ---- keys and places
 
@@ -33,9 +33,9 @@ session-one_place a w place other key speaks_for one two =
     let same = sym (place-of_key a.known place key apart one) ∙ place-of_key a.known other key apart two in
     cc
 
--- whoever is told the key of a place knows it
-pub session-tells_key : (a b : SessionData) (who place : ℕ) (key : KeyName) → Joins a (Key_of who place) (Key_is key) b → Knows b who place key
-session-tells_key a b who place key joins = knows-on (Key_of who place) (Key_is key) a.known b.known joins.learns place key joins.truly
+-- whoever is told the key of a place that it knows is told that key
+pub session-tells_key : (a b : SessionData) (who place : ℕ) (key other : KeyName) → Joins a (Key_of who place) (Key_is key) b → Knows a who place other → key ≡ other
+session-tells_key a b who place key other joins knows = let same = sym joins.truly ∙ knows in cc
 
 -- ---- tickets and waits
 
@@ -96,38 +96,14 @@ session-tells_tables a b who schema places joins =
 
 -- ---- pins
 
--- whoever resolves a key pins its place
-pub session-resolved_pinned : (a b : SessionData) (who place : ℕ) (key : KeyName) → Joins a (Resolve who key) (At_place place) b → Pins b who place
-session-resolved_pinned a b who place key joins = known-is b.known place key (session-resolves a b who place key joins)
-
--- a pin stays
-pub session-pins_stay : (a b : SessionData) (call : Call) (answer : Answer) (w place : ℕ) → SpeaksFor a w → (call ≡ Unpin w place → answer ≡ Done → ⊥)
-    → Joins a call answer b → Pins a w place → Pins b w place
-session-pins_stay a b call answer w place speaks_for stays joins = known-on call answer a.known b.known joins.learns place
-
 -- whoever pins a place knows its key
-pub session-pinned_known : (a : SessionData) (w place : ℕ) → SpeaksFor a w → Pins a w place → (key : KeyName) × Knows a w place key
-session-pinned_known a w place speaks_for pins = is-known a.known place pins
-
--- the place of a held ticket is pinned
-pub session-held_pinned : (a : SessionData) (w : ℕ) (ticket : Held) → SpeaksFor a w → Contains (own_of a w).held ticket → Pins a w ticket.place
-session-held_pinned = held-here
-
--- the place that is waited for is pinned
-pub session-wait_pinned : (a : SessionData) (w : ℕ) (wait : Wait) → SpeaksFor a w → (own_of a w).wait ≡ Some wait → Pins a w wait.place
-session-wait_pinned = wait-here
+pub session-pinned_known : (a : SessionData) (w place : ℕ) → SpeaksFor a w → is_pinned place (own_of a w) ≡ true → (key : KeyName) × Knows a w place key
+session-pinned_known a w place speaks_for pins = is-known a.known place (pinned-known a.known place a.own.pins speaks_for.1.pinned pins)
 
 -- no pin is given up yet
 no-unpin : {A : Type 0} → false ≡ true → A
 no-unpin e = cc
 
-pub session-unpins_none : (a b : SessionData) (who place : ℕ) → Joins a (Unpin who place) (Refused NoPlace) b → Pins a who place → ⊥
-session-unpins_none a b who place joins pins = no-unpin joins.has
-
 pub session-unpins_in_use : {Owes : Type 0} (a b : SessionData) (who place : ℕ) → Joins a (Unpin who place) (Refused InUse) b
     → HoldsAt place (own_of a who) ⊎ AwaitsAt place (own_of a who) ⊎ Owes
 session-unpins_in_use a b who place joins = no-unpin joins.has
-
-pub session-unpins : (a b : SessionData) (who place : ℕ) → Joins a (Unpin who place) Done b
-    → Pins a who place × (HoldsAt place (own_of a who) → ⊥) × (AwaitsAt place (own_of a who) → ⊥)
-session-unpins a b who place joins = no-unpin joins.has

@@ -1,6 +1,6 @@
--- What a session has after a call: tickets of rising numbers, and they and a wait at places that it knows.
+-- What a session has after a call: tickets of rising numbers, and they, a wait and pins at places that it knows.
 use Rattle.std.proofs.Common.{◌≡◌, ℕ, ◌+◌, Bool, true, false, not, nat_lt, List, [], ◌∷◌, ◌++◌, map, filter, is_some, Option, Some, None, MatchOption, IfSome, if◌then◌else◌, refl, sym, ap, subst, ◌∙◌, lt-ltb, arith}
-use Rattle.mdl_session_laws.proofs.FirstLemmas.{Answer, Begin_wait, Call, Clone_ticket, Done, Downgrade, Draws, DrawsTicket, DrawsWait, End_wait, Granted, Held, IsExplained, IsRising, Knowledge, KnownKey, Lost, MayClone, Merge, Mode, Numbers, Release, SessionLocks, Try_now, Upgrade_now, Upgraded, Wait, Waits, all-changed, all-fewer, all-found, all-last, are_below, are_placed, below-up, changing, cloning, ending, ends_wait, first_free, gained_at, gaining, giving_up, is_known, is_number, is_waiting, merging, own_after, rising-changed, rising-fewer, rising-last, ticket_held, upgraded, waiting, winning}
+use Rattle.mdl_session_laws.proofs.FirstLemmas.{Answer, At_place, Begin_wait, Call, Clone_ticket, Done, Downgrade, Draws, DrawsTicket, DrawsWait, End_wait, Granted, Held, IsExplained, IsRising, KeyName, Knowledge, KnownKey, Lost, MayClone, Merge, Mode, Numbers, Release, Resolve, SessionLocks, Try_now, Unpin, Upgrade_now, Upgraded, Wait, Waits, all-changed, all-fewer, all-found, all-last, are_below, are_pins_known, are_placed, below-up, changing, cloning, ending, ends_wait, first_free, gained_at, gaining, giving_up, is_known, is_number, is_waiting, merging, own_after, pins-with, pins-without, rising-changed, rising-fewer, rising-last, ticket_held, upgraded, waiting, winning}
 
 -- ---- a ticket that gets another mode
 
@@ -48,6 +48,8 @@ module _ (known : List KnownKey) where
       by None = here
       by (Some t) = here-changed old (λ _. t.mode) (giving_up new own).held (all-fewer is_here (λ ticket. not (is_number new ticket)) own.held here)
   placed-after (Downgrade who id mode) Done own here awaited gained = here-changed id (λ _. mode) own.held here
+  placed-after (Resolve who key) (At_place place) own here awaited gained = here
+  placed-after (Unpin who place) Done own here awaited gained = here
   placed-after _ _ own here awaited gained = here
 
   -- and so is what is waited for
@@ -76,7 +78,30 @@ module _ (known : List KnownKey) where
       ]
   awaited-after (Upgrade_now who id mode) Upgraded own awaited gained = awaited
   awaited-after (Downgrade who id mode) Done own awaited gained = awaited
+  awaited-after (Resolve who key) (At_place place) own awaited gained = awaited
+  awaited-after (Unpin who place) Done own awaited gained = awaited
   awaited-after _ _ own awaited gained = awaited
+
+  -- and pinned places are known, also the one that was resolved
+  pub pins-after : (call : Call) (answer : Answer) (own : SessionLocks) → are_pins_known known own.pins ≡ true
+      → ((who place : ℕ) (key : KeyName) → call ≡ Resolve who key → answer ≡ At_place place → is_known place known ≡ true)
+      → are_pins_known known (own_after call answer own).pins ≡ true
+  pins-after (Resolve who key) (At_place place) own pinned resolved = pins-with known place own.pins pinned (resolved who place key refl refl)
+  pins-after (Unpin who place) Done own pinned resolved = pins-without known place own.pins pinned
+  pins-after (Try_now who place mode) (Granted id) own pinned resolved = pinned
+  pins-after (Begin_wait who place mode) (Granted id) own pinned resolved = pinned
+  pins-after (Begin_wait who place mode) (Waits number) own pinned resolved = pinned
+  pins-after (End_wait who) (Granted id) own pinned resolved =
+      elim own.wait as (λ o. are_pins_known known (winning id o own).pins ≡ true) [ None ↦ pinned | Some wait ↦ pinned ]
+  pins-after (End_wait who) (Lost how) own pinned resolved = pinned
+  pins-after (Release who id) Done own pinned resolved = pinned
+  pins-after (Clone_ticket who id mode) (Granted copy) own pinned resolved =
+      elim (ticket_held id own) as (λ o. are_pins_known known (cloning copy mode o own).pins ≡ true) [ None ↦ pinned | Some t ↦ pinned ]
+  pins-after (Merge who old new) Done own pinned resolved =
+      elim (ticket_held new own) as (λ o. are_pins_known known (merging old new o own).pins ≡ true) [ None ↦ pinned | Some t ↦ pinned ]
+  pins-after (Upgrade_now who id mode) Upgraded own pinned resolved = pinned
+  pins-after (Downgrade who id mode) Done own pinned resolved = pinned
+  pins-after _ _ own pinned resolved = pinned
 
 -- ---- numbers
 
@@ -182,6 +207,8 @@ counts-after knows (Merge who old new) Done own before after counts draws clear 
         counts-changed (giving_up new own) old (λ _. t.mode) before after
         (counts-fewer own (λ ticket. not (is_number new ticket)) before before counts refl) draws
 counts-after knows (Downgrade who id mode) Done own before after counts draws clear = counts-changed own id (λ _. mode) before after counts draws
+counts-after knows (Resolve who key) (At_place place) own before after counts draws clear = counts-same own before after counts draws
+counts-after knows (Unpin who place) Done own before after counts draws clear = counts-same own before after counts draws
 counts-after knows _ _ own before after counts draws clear = counts-same own before after counts draws
 
 -- ---- the wait
@@ -200,4 +227,6 @@ waits-on (Upgrade_now who id mode) Upgraded own on waits = waits
 waits-on (Merge who old new) Done own on waits =
     elim (ticket_held new own) as (λ o. is_waiting (merging old new o own) ≡ true) [ None ↦ waits | Some t ↦ waits ]
 waits-on (Downgrade who id mode) Done own on waits = waits
+waits-on (Resolve who key) (At_place place) own on waits = waits
+waits-on (Unpin who place) Done own on waits = waits
 waits-on _ _ own on waits = waits

@@ -1,12 +1,12 @@
 -- A session has the laws of a lock space.
-use Rattle.mdl_session_laws.proofs.FirstLemmas.{HasMet, HasRead, HasSeen, IsSettledAs, Joins, Knows, Pins, SpaceLaws, SpeaksFor, numbers_of, own_of}
+use Rattle.mdl_session_laws.proofs.FirstLemmas.{HasMet, HasRead, HasSeen, IsSettledAs, Joins, Knows, SpaceLaws, SpeaksFor, numbers_of, own_of}
 use Rattle.mdl_session_laws.proofs.CallLaws.{session-allowed, session-keeps, session-changes, session-others, session-rising, session-fits, session-lists, session-explains, session-draws, session-others_draw, session-upgrades}
-use Rattle.mdl_session_laws.proofs.KeyLaws.{session-resolves, session-remembers, session-one_key, session-one_place, session-held_places, session-wait_place, session-tells_key, session-tells_tables, session-resolved_pinned, session-pins_stay, session-pinned_known, session-held_pinned, session-wait_pinned, session-unpins_none, session-unpins_in_use, session-unpins}
+use Rattle.mdl_session_laws.proofs.KeyLaws.{session-resolves, session-remembers, session-one_key, session-one_place, session-held_places, session-wait_place, session-tells_key, session-tells_tables, session-pinned_known, session-unpins_in_use}
 use Rattle.mdl_session_laws.proofs.ReadLaws.{session-reads, session-redefines, session-redefines_so, session-reads_one, session-stands, session-reads_fit, session-sees, session-seen_stays, session-seen_below, session-meets, session-met_stays}
 use Rattle.mdl_session_laws.proofs.WaitLaws.{session-tells, session-waits_settled, session-settled_once, session-stays, session-agrees, session-victims, session-counts, session-kills, session-kills_or_settled}
 
 -- by its plain data, which tell of no debt
-pub session-laws : SpaceLaws SpeaksFor own_of Knows IsSettledAs numbers_of HasRead HasMet HasSeen Pins (λ _ _ _. ⊥) Joins
+pub session-laws : SpaceLaws SpeaksFor own_of Knows IsSettledAs numbers_of HasRead HasMet HasSeen (λ _ _ _. ⊥) Joins
 session-laws = record {
   allowed = session-allowed;
   keeps = session-keeps;
@@ -47,13 +47,7 @@ session-laws = record {
   upgrades = session-upgrades;
   tells_key = session-tells_key;
   tells_tables = session-tells_tables;
-  resolved_pinned = session-resolved_pinned;
-  pins_stay = session-pins_stay;
   pinned_known = session-pinned_known;
-  held_pinned = session-held_pinned;
-  wait_pinned = session-wait_pinned;
   no_new_debts = λ a b call answer w place speaks joins owes. owes;
-  unpins_none = session-unpins_none;
   unpins_in_use = session-unpins_in_use;
-  unpins = session-unpins;
 }

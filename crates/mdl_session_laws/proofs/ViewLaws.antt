@@ -10,15 +10,15 @@ or-owes f (inr (inl b)) = inr (inl b)
 or-owes f (inr (inr c)) = inr (inr (f c))
 
 module _ {S V : Type 0} {speaks_for : V → ℕ → Type 0} {own : V → ℕ → SessionLocks} {knows : V → ℕ → ℕ → KeyName → Type 0} {is_settled : V → ℕ → Settled → Type 0}
-    {numbers : V → ℕ → Numbers} {has_read has_met : V → ℕ → ℕ → VersionedDefinition → Type 0} {has_seen : V → ℕ → ℕ → ℕ → Type 0} {pins owes : V → ℕ → ℕ → Type 0}
+    {numbers : V → ℕ → Numbers} {has_read has_met : V → ℕ → ℕ → VersionedDefinition → Type 0} {has_seen : V → ℕ → ℕ → ℕ → Type 0} {owes : V → ℕ → ℕ → Type 0}
     {joins : V → Call → Answer → V → Type 0} {debts : S → ℕ → ℕ → Type 0} {joined : S → Call → Answer → S → Type 0}
-    (view : S → V) (laws : SpaceLaws speaks_for own knows is_settled numbers has_read has_met has_seen pins owes joins)
+    (view : S → V) (laws : SpaceLaws speaks_for own knows is_settled numbers has_read has_met has_seen owes joins)
     (leads : (a b : S) (call : Call) (answer : Answer) → joined a call answer b → joins (view a) call answer (view b))
     (still_owes : (a : S) (w place : ℕ) → owes (view a) w place → debts a w place)
     (no_more : (a b : S) (call : Call) (answer : Answer) (w place : ℕ) → speaks_for (view a) w → joined a call answer b → debts b w place → debts a w place)
   where
     pub laws-by_view : SpaceLaws (λ (s : S). speaks_for (view s)) (λ s. own (view s)) (λ s. knows (view s)) (λ s. is_settled (view s)) (λ s. numbers (view s))
-        (λ s. has_read (view s)) (λ s. has_met (view s)) (λ s. has_seen (view s)) (λ s. pins (view s)) debts joined
+        (λ s. has_read (view s)) (λ s. has_met (view s)) (λ s. has_seen (view s)) debts joined
     laws-by_view = record {
       allowed = λ a b call answer j. laws.allowed (view a) (view b) call answer (leads _ _ _ _ j);
       keeps = λ a b call answer w speaks j. laws.keeps (view a) (view b) call answer w speaks (leads _ _ _ _ j);
@@ -57,15 +57,9 @@ module _ {S V : Type 0} {speaks_for : V → ℕ → Type 0} {own : V → ℕ →
       meets = λ a. laws.meets (view a);
       met_stays = λ a b call answer w place standing speaks j. laws.met_stays (view a) (view b) call answer w place standing speaks (leads _ _ _ _ j);
       upgrades = λ a b who id mode ticket its covered j. laws.upgrades (view a) (view b) who id mode ticket its covered (leads _ _ _ _ j);
-      tells_key = λ a b who place key j. laws.tells_key (view a) (view b) who place key (leads _ _ _ _ j);
+      tells_key = λ a b who place key other j. laws.tells_key (view a) (view b) who place key other (leads _ _ _ _ j);
       tells_tables = λ a b who schema places j. laws.tells_tables (view a) (view b) who schema places (leads _ _ _ _ j);
-      resolved_pinned = λ a b who place key j. laws.resolved_pinned (view a) (view b) who place key (leads _ _ _ _ j);
-      pins_stay = λ a b call answer w place speaks kept j. laws.pins_stay (view a) (view b) call answer w place speaks kept (leads _ _ _ _ j);
       pinned_known = λ a. laws.pinned_known (view a);
-      held_pinned = λ a. laws.held_pinned (view a);
-      wait_pinned = λ a. laws.wait_pinned (view a);
       no_new_debts = no_more;
-      unpins_none = λ a b who place j. laws.unpins_none (view a) (view b) who place (leads _ _ _ _ j);
       unpins_in_use = λ a b who place j. or-owes (still_owes a who place) (laws.unpins_in_use (view a) (view b) who place (leads _ _ _ _ j));
-      unpins = λ a b who place j. laws.unpins (view a) (view b) who place (leads _ _ _ _ j);
     }

@@ -2,7 +2,7 @@
 use Rattle.std.proofs.Common.{◌≡◌, ℕ, Bool, true, false, is_some, Option, Some, None, refl, sym, ap, subst, ◌∙◌}
 use Rattle.mdl_calls.specs.declared.answers.Settled.TheVariants as settled_as
 use Rattle.mdl_calls.specs.declared.answers.TimedOut.TheVariants.{ByThisCall, Already}
-use Rattle.mdl_session_laws.proofs.FirstLemmas.{Answer, Begin_wait, Call, Clone_ticket, Done, Downgrade, End_wait, Granted, Has_killed, Has_wait, IsEndOf, IsExplained, IsSettledAs, IsToldOf, Is_settled, Joins, KeepsSettled, Kill, Knows, Lost, Merge, NoWait, Pending, Poll_wait, Refused, Release, Search, SessionData, Settle_timeout, Settled, SpeaksFor, Timed_out, Try_now, Unsettled, Upgrade_now, Upgraded, Victim_is, Wait_of, Waits, caller, ends_wait, is_answer_of, is_waiting, own_of, told, wait_met, wait_number}
+use Rattle.mdl_session_laws.proofs.FirstLemmas.{Answer, At_place, Begin_wait, Call, Clone_ticket, Done, Downgrade, End_wait, Granted, Has_killed, Has_wait, IsEndOf, IsExplained, IsSettledAs, IsToldOf, Is_settled, Joins, KeepsSettled, Kill, Knows, Lost, Merge, NoWait, Pending, Poll_wait, Refused, Release, Resolve, Search, SessionData, Settle_timeout, Settled, SpeaksFor, Timed_out, Try_now, Unpin, Unsettled, Upgrade_now, Upgraded, Victim_is, Wait_of, Waits, caller, ends_wait, is_answer_of, is_waiting, own_of, told, wait_met, wait_number}
 use Rattle.mdl_session_laws.proofs.CallLaws.{speaks}
 
 -- an answer that tells how the caller's wait is settled is true
@@ -29,6 +29,8 @@ ended-by (Clone_ticket who id mode) (Granted copy) ends = cc
 ended-by (Upgrade_now who id mode) Upgraded ends = cc
 ended-by (Merge who old new) Done ends = cc
 ended-by (Downgrade who id mode) Done ends = cc
+ended-by (Resolve who key) (At_place place) ends = cc
+ended-by (Unpin who place) Done ends = cc
 ended-by _ _ ends = cc
 
 -- what a wait is settled as stays, until the wait is ended

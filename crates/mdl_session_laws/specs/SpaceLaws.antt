@@ -7,7 +7,7 @@ use Rattle.mdl_session_laws.specs.SessionJoins.{Joins}
 abbrev pub beginning : ℕ → SessionData
 beginning number = record {
   number = number;
-  own = record { held = []; wait = None };
+  own = record { held = []; wait = None; pins = [] };
   numbers = record { last_ticket = 0; last_wait = 0 };
   known = [];
   settled = None;
