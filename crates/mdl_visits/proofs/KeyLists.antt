@@ -74,6 +74,21 @@ module _ (place : ℕ) (entries : List (KeyName × ℕ)) (indexes : List ℕ) (i
   pub found_at : (at : ℕ) (e : KeyName × ℕ) → slice_get indexes place ≡ Some at → slice_get entries at ≡ Some e → e.1 ≡ place → key_known place (map known_of entries) ≡ Some e.0
   found_at at e is stands own = here place at e entries stands own (λ i there. (let same = sym is ∙ under i there in cc))
 
+-- a place that is known has an entry
+known_entry : (place : ℕ) (entries : List (KeyName × ℕ)) → is_known place (map known_of entries) ≡ true → (i : ℕ) × At place i entries
+known_entry place [] is = absurd (cc)
+known_entry place (e ∷ es) is =
+    by_bool (e.1 == place)
+    (λ hit. (zero, (e, refl, eqb-true e.1 place hit)))
+    (λ miss. (let later = known_entry place es (rw miss at is) in (suc later.0, later.1)))
+
+-- so it has an index
+pub place_within : (place : ℕ) (entries : List (KeyName × ℕ)) (indexes : List ℕ) → AreIndexed entries indexes → is_known place (map known_of entries) ≡ true
+    → place < length indexes
+place_within place entries indexes indexed is =
+    let entry = known_entry place entries is in
+    slice_get_within indexes place entry.0 (under place entries indexes indexed entry.0 entry.1)
+
 -- ---- one key more
 
 get_left : {X : Type 0} (xs ys : List X) (i : ℕ) → i < length xs → slice_get (xs ++ ys) i ≡ slice_get xs i

@@ -1,5 +1,6 @@
--- How a session keeps the keys that it looked up: their places in order of the look-ups, and by places the index in that list and the kind.
-use Rattle.std.specs.Prelude.{◌≡◌, ℕ, ◌≤◌, List, Option, Some, length, map, slice_get}
+-- How a session keeps the keys that it looked up: their places in order of the look-ups, and by places the index in that list, the kind, and a mark if the
+-- session pins the place.
+use Rattle.std.specs.Prelude.{◌≡◌, ℕ, ◌+◌, ◌≤◌, Bool, List, [], ◌∷◌, Option, Some, length, map, slice_get, if◌then◌else◌}
 use Rattle.mdl_visits.specs.Prelude.{KeyName, Kind, KnownKey, kind_known, option_and_then}
 
 -- a key with its place
@@ -22,3 +23,8 @@ kind_in place kinds = option_and_then (λ (kind : Option Kind). kind) (slice_get
 -- the list has the kind of each key's lock at the key's place, and none at other places
 abbrev pub AreKinds : List (KeyName × ℕ) → List (Option Kind) → Type 0
 AreKinds entries kinds = (place : ℕ) → kind_in place kinds ≡ kind_known place (map known_of entries)
+
+-- the places with a mark, in rising order, by the marks of the places from this one on
+abbrev pub marked_from : ℕ → List Bool → List ℕ
+marked_from place [] = []
+marked_from place (mark ∷ marks) = if mark then place ∷ marked_from (place + 1) marks else marked_from (place + 1) marks

@@ -1,10 +1,11 @@
-//! A session's own list of the keys that it looked up.
+//! A session's own list of the keys that it looked up, and of the places that it pins.
 ghost use Rattle.std.specs.Prelude.{None, OnOk, Some, [], false, length, slice_get, true, ℕ, ◌+◌, ◌++◌, ◌∷◌, ◌<◌, ◌≡◌, ◌≤◌};
 ghost use Rattle.std.specs.Option.{is_some, option_copied};
 ghost use Rattle.mdl_steps.specs.Schemas.{is_key_known, unknown};
 ghost use Rattle.mdl_visits.specs.Tables.{AreWithin};
 ghost use Rattle.mdl_key.specs.KeyLookups.{are_apart, is_known, key_known, kind_known, place_known};
-ghost use Rattle.mdl_visits.specs.OwnKeys.{IsNarrow, kind_in};
+ghost use Rattle.mdl_calls.specs.SessionLocks.{with_place};
+ghost use Rattle.mdl_visits.specs.OwnKeys.{IsNarrow, kind_in, marked_from};
 
 use indexmap::IndexMap;
 use mdl_key::{Key, Kind, KnownKey};
@@ -22,35 +23,40 @@ pub struct KnownKeys {
     kinds: Vec<Option<Kind>>,
     // By place: the index of the place's key in `places`. A place that isn't known has any number. Places are numbers of 16 bits.
     indexes: Vec<u16>,
+    // By place: whether the session pins it. The list is at least as long as `indexes`.
+    pinned: Vec<bool>,
 }
 
 impl Model for KnownKeys {
     ghost use Rattle.std.specs.Prelude.{◌≤◌, length, map};
     ghost use Rattle.indexmap.specs.IndexMap.{spare};
     ghost use Rattle.mdl_visits.specs.KnownLists.{KnownList};
-    ghost use Rattle.mdl_visits.specs.OwnKeys.{AreIndexed, AreKinds, IsNarrow, known_of};
+    ghost use Rattle.mdl_visits.specs.OwnKeys.{AreIndexed, AreKinds, IsNarrow, known_of, marked_from};
 
     ghost Value = { KnownList };
 
-    ghost view = { λ s. record { known = map known_of s.places.entries; room = spare s.places; reach = length s.indexes.items } };
+    ghost view = { λ s. record { known = map known_of s.places.entries; room = spare s.places; reach = length s.indexes.items; pins = marked_from 0 s.pinned.items } };
 
     ghost invariant = { λ s. record {
       indexed : AreIndexed s.places.entries s.indexes.items;
       narrow : IsNarrow s.indexes.items;
       kinds : AreKinds s.places.entries s.kinds.items;
       enough : length s.indexes.items ≤ length s.kinds.items;
+      markable : length s.indexes.items ≤ length s.pinned.items;
     } };
 }
 
 impl KnownKeys {
     /// An empty list. It takes no memory.
     pub fn new(alloc: Global) -> KnownKeys
-        ensures { result.known ≡ [] }
+        ensures known { result.known ≡ [] }
+        ensures pins { result.pins ≡ [] }
     {
         KnownKeys {
             places: IndexMap::new(alloc),
             kinds: Vec::new(alloc),
             indexes: Vec::new(alloc),
+            pinned: Vec::new(alloc),
         }
     }
 
@@ -89,10 +95,12 @@ impl KnownKeys {
     pub fn reserve(&mut self, n: usize, slots: usize) -> Result<(), AllocError>
         requires narrow { slots ≤ 65536 }
         ensures same { self.new.known ≡ self.old.known }
+        ensures pins { self.new.pins ≡ self.old.pins }
         ensures room { OnOk result ((n ≤ self.new.room) × (slots ≤ self.new.reach)) }
     {
         self.places.reserve(n)?;
         reach_kinds(&mut self.kinds, slots)?;
+        reach_marks(&mut self.pinned, slots)?;
         reach(&mut self.indexes, slots)
     }
 
@@ -103,6 +111,7 @@ impl KnownKeys {
         requires unknown { (place_known key self.old.known ≡ None) × (is_known place self.old.known ≡ false) }
         ensures known { self.new.known ≡ self.old.known ++ record { key = key; place = place } ∷ [] }
         ensures room { (self.old.room ≤ self.new.room + 1) × (self.new.reach ≡ self.old.reach) }
+        ensures pins { self.new.pins ≡ self.old.pins }
     {
         self.kinds[place] = Some(key.kind());
         self.indexes[place] = self.places.len() as u16;
@@ -114,11 +123,20 @@ impl KnownKeys {
         requires room { (length tables.items ≤ self.old.room) × AreWithin self.old.reach tables.items }
         requires apart { are_apart (self.old.known ++ unknown self.old.known tables.items) ≡ true }
         ensures known { self.new.known ≡ self.old.known ++ unknown self.old.known tables.items }
+        ensures pins { self.new.pins ≡ self.old.pins }
     {
         keep_unknown(self, &mut tables);
         for table in tables {
             self.push_reserved(table.key, table.place);
         }
+    }
+
+    /// Pins a place whose key is known. It takes no memory.
+    pub fn pin(&mut self, place: usize)
+        requires known { is_known place self.old.known ≡ true }
+        ensures pins { self.new ≡ record self.old { pins = with_place place self.old.pins } }
+    {
+        self.pinned[place] = true;
     }
 
     // Whether a key is known.
@@ -160,6 +178,18 @@ fn reach_kinds(kinds: &mut Vec<Option<Kind>>, slots: usize) -> Result<(), AllocE
 {
     if kinds.len() < slots {
         kinds.resize(slots, None)?;
+    }
+    Ok(())
+}
+
+// Adds places that aren't pinned until there are at least `slots`, all at once.
+fn reach_marks(pinned: &mut Vec<bool>, slots: usize) -> Result<(), AllocError>
+    ensures length { length pinned.old.items ≤ length pinned.new.items }
+    ensures reach { OnOk result (slots ≤ length pinned.new.items) }
+    ensures same { marked_from 0 pinned.new.items ≡ marked_from 0 pinned.old.items }
+{
+    if pinned.len() < slots {
+        pinned.resize(slots, false)?;
     }
     Ok(())
 }

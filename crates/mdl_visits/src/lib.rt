@@ -12,7 +12,7 @@
 //! Two calls take no latch: [`try_fast`] grants a fast ticket while the flag OBTRUSIVE of the lock's word is down, and [`release_fast`]
 //! releases one by one step. A fast ticket is in no list: the lock's word counts it.
 //!
-//! Of a session's own lists only that of the keys that it looked up is here ([`KnownKeys`]): `mdl_shared` has the others.
+//! Of a session's own lists only that of the keys that it looked up, with the places that it pins, is here ([`KnownKeys`]): `mdl_shared` has the others.
 //!
 //! After MySQL 5.7, `MDL_lock` and `MDL_context` of `sql/mdl.cc`; that all else is done under latches is this project's own.
 //!

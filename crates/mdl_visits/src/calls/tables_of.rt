@@ -29,6 +29,7 @@ pub fn find_tables<R: Wait>(
 ) -> Result<(Vec<KnownKey>, Vec<Place>), AllocError>
     requires free { MayTakeLatches seat.old }
     ensures same { known.new.known ≡ known.old.known }
+    ensures pins { known.new.pins ≡ known.old.pins }
     ensures found { (k : Keys) × AtItsTable seat.old seat.new (TookDirectory seat.old.table.slots k k)
         × IfOk result (λ found. AreAllTables schema.now k found.0.items × MakesSteps (knowing_all found.0.items seat.old.me) seat.new.me) }
     ensures within { IfOk result (λ found. AreWithin seat.old.table.slots found.0.items) }
@@ -59,6 +60,7 @@ fn list_tables(
     requires held { (k : Keys) × HasDirectory k seat.old.me }
     requires narrow { seat.old.table.slots ≤ 65536 }
     ensures same { (seat.new ≡ seat.old) × (known.new.known ≡ known.old.known) }
+    ensures pins { known.new.pins ≡ known.old.pins }
     ensures listed { (k : Keys) → HasDirectory k seat.old.me → IfOk result (λ found. AreListed schema.now k found.0.items) }
     ensures room { IfOk result (λ found. HaveRoom known.new seat.old.table.slots found.0.items found.1) }
 {

@@ -1,5 +1,5 @@
 -- The next key is the first of those that are left.
-use Rattle.std.proofs.Common.{◌≡◌, ◌<◌, ℕ, ◌∷◌, [], ◌++◌, List, length, sym, ap, ◌∙◌, append_assoc, subst, arith}
+use Rattle.std.proofs.Common.{◌≡◌, ◌<◌, ℕ, ◌∷◌, [], ◌++◌, List, length, refl, sym, ap, ◌∙◌, append_assoc, subst, arith}
 use Rattle.mdl_visits.proofs.Lemmas.{All-filter, All-tail, AreWithin, KnownKey, are_apart, into_iter_items, unknown}
 use Rattle.mdl_visits.proofs.KeyLists.{next_new}
 use Rattle.mdl_visits.proofs.known_keys.KnownKeys.learn.Goals as goal
@@ -17,6 +17,7 @@ loop-table-init c =
       ap (λ (ks : List KnownKey). known ++ ks) all,
       omega (arith, fewer, c.keep_unknown.ensures.fewer, c.requires.room.0),
       subst (AreWithin c.args.self.now.reach) (sym is) (All-filter _ (IsWithin c.args.self.now.reach) c.args.tables.items c.requires.room.1),
+      refl,
     )
 
 pub push_reserved-requires-clause-unknown : goal.push_reserved-requires-clause-unknown
@@ -35,4 +36,5 @@ loop-table-preserved c =
       ap (λ (ks : List KnownKey). ks ++ into_iter_items c.next.new.self) c.push_reserved.ensures.known ∙ append_assoc at.self.known (k ∷ []) _ ∙ ap (λ (ks : List KnownKey). at.self.known ++ ks) (sym steps) ∙ at.invariant.0,
       omega (arith, short, at.invariant.1, c.push_reserved.ensures.room.0),
       subst (λ (reach : ℕ). AreWithin reach (into_iter_items c.next.new.self)) (sym c.push_reserved.ensures.room.1) (All-tail (IsWithin at.self.reach) k _ (subst (AreWithin at.self.reach) steps at.invariant.2)),
+      c.push_reserved.ensures.pins ∙ at.invariant.3,
     )

@@ -7,3 +7,4 @@ abbrev pub invariant-loop-table : goal.invariant-loop-table
 invariant-loop-table l = (l.self.known ++ into_iter_items l.table-iterator ≡ l.fn.self.known ++ unknown l.fn.self.known l.fn.tables.items)
     × (length (into_iter_items l.table-iterator) ≤ l.self.room)
     × AreWithin l.self.reach (into_iter_items l.table-iterator)
+    × (l.self.pins ≡ l.fn.self.pins)

@@ -25,4 +25,5 @@ invariant_of-self c =
       narrow = subst (λ (n : ℕ). n ≤ 65536) (sym (length-set indexes c.args.place c.len.result)) c.self.invariant.narrow;
       kinds = rw more (rw c.kind.ensures (kinds_more entries kinds c.args.key c.args.place c.self.invariant.kinds new (omega (arith, within, enough))));
       enough = rw (length-set indexes c.args.place c.len.result, length-set kinds c.args.place (Some c.kind.result)) enough;
+      markable = rw (length-set indexes c.args.place c.len.result) c.self.invariant.markable;
     }

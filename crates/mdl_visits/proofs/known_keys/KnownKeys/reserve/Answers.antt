@@ -9,4 +9,6 @@ invariant_of-self-2 c = record {
   kinds = λ place. c.reach_kinds.ensures.same place ∙ rw c.in_ok-reserve.ensures.entries (c.self.invariant.kinds place);
   enough = c.reach.ensures.no_more (length c.reach_kinds.new.kinds.items) c.in_ok-reach_kinds.ensures.reach
       (let more = c.in_ok-reach_kinds.ensures.length in let enough = c.self.invariant.enough in omega (arith, more, enough));
+  markable = c.reach.ensures.no_more (length c.reach_marks.new.pinned.items) c.in_ok-reach_marks.ensures.reach
+      (let more = c.in_ok-reach_marks.ensures.length in let markable = c.self.invariant.markable in omega (arith, more, markable));
 }
