@@ -1,5 +1,5 @@
 -- A context goes on to attend to its session over each call.
-use Rattle.std.proofs.Common.{◌≡◌, ℕ, Bool, true, false, List, [], ◌∷◌, ◌++◌, Option, Some, None, refl, sym, ap, ◌∙◌, subst, arith}
+use Rattle.std.proofs.Common.{◌≡◌, ℕ, Bool, true, false, List, [], ◌∷◌, ◌++◌, Option, Some, None, option_map, refl, sym, ap, ◌∙◌, subst, arith}
 use Rattle.std.specs.Prelude.{All, filter, is_some, map, slice_index_or}
 use Rattle.std.specs.Option.{IfSome}
 use Rattle.std.proofs.lemmas.Bool.Decides.{nat_tests}
@@ -8,13 +8,13 @@ use Rattle.mdl_key.specs.Keys.{KeyName, key_eq}
 use Rattle.mdl_system.proofs.Deciding.{key-Decides}
 use Rattle.mdl_calls.specs.declared.answers.Held.{Held}
 use Rattle.mdl_calls.specs.declared.answers.Settled.{Settled}
-use Rattle.mdl_calls.specs.Words.{Answer, Granted, Lost, Call, End_wait, Unpin, caller, SessionLocks, own_after, gaining}
+use Rattle.mdl_calls.specs.Words.{Answer, At_place, Granted, Lost, Call, End_wait, Resolve, Unpin, caller, SessionLocks, own_after, gaining}
 use Rattle.mdl_calls.specs.SessionLocks.{waiting}
 use Rattle.mdl_calls.specs.declared.lock_space.LockSpace.{Ghosts}
 use Rattle.mdl_calls.specs.MemberLaws.{LawsOf}
 use Rattle.mdl_context.specs.declared.kept.Kept.{Kept}
 use Rattle.mdl_context.specs.declared.kept.Wanted.{Wanted}
-use Rattle.mdl_context.specs.Contexts.{ContextView, Attends, IsAwaited, Serves, held_of, place_known, is_known_place}
+use Rattle.mdl_context.specs.Contexts.{ContextView, Attends, IsAwaited, Serves, held_of, place_known, is_known_place, wish_there}
 use Rattle.mdl_context.specs.Holdings.{with_wanted}
 use Rattle.mdl_context.specs.Wishes.{Wish}
 use Rattle.mdl_context.specs.Requests.{remembering, keeping_ticket, awaiting}
@@ -25,6 +25,12 @@ use Rattle.mdl_context.proofs.ServingLemmas.{serves-changed, serves-gaining, ser
 abbrev pub unpins : Call → Bool
 unpins (Unpin _ _) = true
 unpins _ = false
+
+-- to ask for the place of a key changes no ticket and no wait
+pub resolved-keeps : (who : ℕ) (key : KeyName) (answer : Answer) (own : SessionLocks)
+    → ((own_after (Resolve who key) answer own).held ≡ own.held) × ((own_after (Resolve who key) answer own).wait ≡ own.wait)
+resolved-keeps who key (At_place place) own = (refl, refl)
+resolved-keeps who key _ own = (refl, refl)
 
 -- ---- known places
 
@@ -101,6 +107,14 @@ module _ {S : Type 0} {members : Ghosts S} where
     places = subst (λ (es : List (KeyName × ℕ)). ArePlaced es after.kept) (sym known) placed;
     wish = subst (λ (es : List (KeyName × ℕ)). IsAwaitedIn es after.kept after.wait) (sym known) wished;
   }
+
+  -- no ticket and no wait has changed, though there were calls
+  pub attends-kept : (a b : S) (context : ContextView) → Attends members a context → ((place : ℕ) (key : KeyName) → members.knows a context.who place key → members.knows b context.who place key)
+      → members.speaks_for b context.who → (members.own b context.who).held ≡ (members.own a context.who).held → (members.own b context.who).wait ≡ (members.own a context.who).wait
+      → Attends members b context
+  attends-kept a b context attends still speaks held wait =
+      attends-over a b context context attends still speaks
+      (record { held = held ∙ attends.serves.held; wait = ap (option_map wish_there) wait ∙ attends.serves.wait }) refl refl attends.places attends.wish
 
   -- nothing has changed, though there were calls
   pub attends-same : (a b : S) (context : ContextView) → Attends members a context → ((place : ℕ) (key : KeyName) → members.knows a context.who place key → members.knows b context.who place key)
@@ -182,6 +196,14 @@ module _ {S : Type 0} (members : Ghosts S) (laws : LawsOf members) where
       → own_after call answer (members.own a context.who) ≡ members.own a context.who → members.joins a call answer b → Attends members b context
   attends-still a b call answer context attends by stays nothing step =
       attends-after a b call answer context context attends by stays step (subst (λ (o : SessionLocks). Serves o context) (sym nothing) attends.serves) refl refl attends.places attends.wish
+
+  -- the place of a key is asked for
+  pub attends-resolved : (a b : S) (key : KeyName) (answer : Answer) (context : ContextView) → Attends members a context → members.joins a (Resolve context.who key) answer b
+      → Attends members b context
+  attends-resolved a b key answer context attends step =
+      let keeps = resolved-keeps context.who key answer (members.own a context.who) in
+      attends-after a b (Resolve context.who key) answer context context attends refl refl step
+      (record { held = keeps.0 ∙ attends.serves.held; wait = ap (option_map wish_there) keeps.1 ∙ attends.serves.wait }) refl refl attends.places attends.wish
 
   -- a wait ends with its ticket
   pub attends-won : (a b : S) (id : ℕ) (before after : ContextView) → Attends members a before → members.joins a (End_wait before.who) (Granted id) b

@@ -29,7 +29,7 @@ use Rattle.mdl_context.specs.Gains.{gaining_from, trying_from, own_got, OwnWaite
 
 -- a wait that began and was given up leaves nothing
 pub began-and-ended : (number place : ℕ) (mode : Mode) (own : SessionLocks) → own.wait ≡ None → ending (waiting number place mode own) ≡ own
-began-and-ended number place mode own none = ap (λ (wait : Option Wait). let o : SessionLocks = record { held = own.held; wait = wait } in o) (sym none)
+began-and-ended number place mode own none = ap (λ (wait : Option Wait). let o : SessionLocks = record own { wait = wait } in o) (sym none)
 
 -- a wait that began goes on, or is given up
 pub own-waited : (number place : ℕ) (mode : Mode) (result : Result AskResult SpaceError) (before mid after : SessionLocks) → OwnWaited number result mid after → mid ≡ waiting number place mode before

@@ -12,6 +12,7 @@ pub mod NameLemmas
 pub mod OthersLemmas
 pub mod OutcomeLemmas
 pub mod OwnCallLemmas
+pub mod PinLemmas
 pub mod PlaceLemmas
 pub mod ReleaseLemmas
 pub mod SearchLemmas

@@ -70,7 +70,7 @@ without_last id (x ∷ xs) t e h = grind (arith, nat_tests, below_last x.id xs t
 
 pub gained-given_up : (id place : ℕ) (mode : Mode) (own : SessionLocks) → IsRising (gaining id place mode own) → giving_up id (gaining id place mode own) ≡ own
 gained-given_up id place mode own rising =
-    ap (λ (held : List Held). let o : SessionLocks = record { held = held; wait = own.wait } in o) (without_last id own.held (record { id = id; place = place; mode = mode }) refl rising)
+    ap (λ (held : List Held). let o : SessionLocks = record own { held = held } in o) (without_last id own.held (record { id = id; place = place; mode = mode }) refl rising)
 
 -- ---- a wait that is given up
 

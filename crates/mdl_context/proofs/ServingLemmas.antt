@@ -55,26 +55,26 @@ serves-ending own after before then serves end kept wait = record {
   wait = ap (λ (o : SessionLocks). option_map wish_there o.wait) end ∙ sym (ap (option_map wish_here) wait);
 }
 
-won-held : (id : ℕ) (held : List Held) (kept : List Kept) (w : Option Wait) (v : Option Wanted) → held ≡ map held_of kept → option_map wish_there w ≡ option_map wish_here v
-    → (winning id w (record { held = held; wait = w })).held ≡ map held_of (with_wanted id v kept)
-won-held id held kept None None same wish = same
-won-held id held kept None (Some v) same wish = cc
-won-held id held kept (Some w) None same wish = cc
-won-held id held kept (Some w) (Some v) same wish =
+won-held : (id : ℕ) (held : List Held) (pins : List ℕ) (kept : List Kept) (w : Option Wait) (v : Option Wanted) → held ≡ map held_of kept → option_map wish_there w ≡ option_map wish_here v
+    → (winning id w (record { held = held; wait = w; pins = pins })).held ≡ map held_of (with_wanted id v kept)
+won-held id held pins kept None None same wish = same
+won-held id held pins kept None (Some v) same wish = cc
+won-held id held pins kept (Some w) None same wish = cc
+won-held id held pins kept (Some w) (Some v) same wish =
     let place : w.place ≡ v.place = ap (λ (p : ℕ × Mode). p.0) (unwrap wish) in
     let mode : w.mode ≡ v.mode = ap (λ (p : ℕ × Mode). p.1) (unwrap wish) in
     rw (same, place, mode) (sym (map-append held_of kept (record { id = id; place = v.place; mode = v.mode; duration = v.duration } ∷ [])))
 
-won-wait : (id : ℕ) (held : List Held) (w : Option Wait) → (winning id w (record { held = held; wait = w })).wait ≡ None
-won-wait id held None = refl
-won-wait id held (Some w) = refl
+won-wait : (id : ℕ) (held : List Held) (pins : List ℕ) (w : Option Wait) → (winning id w (record { held = held; wait = w; pins = pins })).wait ≡ None
+won-wait id held pins None = refl
+won-wait id held pins (Some w) = refl
 
 -- a wait ends with its ticket
 pub serves-winning : (id : ℕ) (own after : SessionLocks) (before then : ContextView) → Serves own before → after ≡ winning id own.wait own
     → then.kept ≡ with_wanted id before.wait before.kept → then.wait ≡ None → Serves after then
 serves-winning id own after before then serves win kept wait = record {
-  held = ap (λ (o : SessionLocks). o.held) win ∙ won-held id own.held before.kept own.wait before.wait serves.held serves.wait ∙ sym (ap (map held_of) kept);
-  wait = ap (λ (o : SessionLocks). option_map wish_there o.wait) win ∙ ap (option_map wish_there) (won-wait id own.held own.wait) ∙ sym (ap (option_map wish_here) wait);
+  held = ap (λ (o : SessionLocks). o.held) win ∙ won-held id own.held own.pins before.kept own.wait before.wait serves.held serves.wait ∙ sym (ap (map held_of) kept);
+  wait = ap (λ (o : SessionLocks). option_map wish_there o.wait) win ∙ ap (option_map wish_there) (won-wait id own.held own.pins own.wait) ∙ sym (ap (option_map wish_here) wait);
 }
 
 -- what is found is held

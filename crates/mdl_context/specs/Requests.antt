@@ -10,7 +10,7 @@ use Rattle.mdl_key.specs.Modes.{kind_of, is_mode_of}
 use Rattle.mdl_calls.specs.declared.answers.Held.{Held}
 use Rattle.mdl_calls.specs.declared.space_error.SpaceError.{SpaceError}
 use Rattle.mdl_calls.specs.declared.space_error.SpaceError.TheVariants.{NoPlace, OutOfMemory}
-use Rattle.mdl_calls.specs.Words.{Answer, At_place, Resolve, Program, Give, Ask, Grow, ◌>>=◌}
+use Rattle.mdl_calls.specs.Words.{SessionLocks, Answer, At_place, Resolve, pinning, Program, Give, Ask, Grow, ◌>>=◌}
 use Rattle.mdl_system.specs.Strength.{covers}
 use Rattle.mdl_context.specs.declared.asking.AskResult.{AskResult}
 use Rattle.mdl_context.specs.declared.asking.AskResult.TheVariants as got
@@ -173,6 +173,10 @@ abbrev pub WaitsAfter : Result Acquire ContextError → Option Wanted → Option
 WaitsAfter (Ok (Acquired id)) before after = after ≡ None
 WaitsAfter (Ok (MustWait number)) before after = IsSome after
 WaitsAfter (Err error) before after = after ≡ before
+
+-- a session has what it had, and at most one more pin, of a place that it looked up
+abbrev pub PinsAtMost : SessionLocks → SessionLocks → Type 0
+PinsAtMost before after = (after ≡ before) ⊎ ((place : ℕ) × (after ≡ pinning place before))
 
 -- a property holds, unless a ticket was acquired
 abbrev pub UnlessAcquired : Result Tried ContextError → Type 0 → Type 0

@@ -4,7 +4,7 @@ ghost use Rattle.mdl_key.specs.Keys.{KeyName};
 ghost use Rattle.mdl_key.specs.Modes.{kind_of};
 ghost use Rattle.mdl_calls.specs.Words.{Runs};
 ghost use Rattle.mdl_context.specs.Contexts.{Attends, LeavesOthers, is_known_place, place_known};
-ghost use Rattle.mdl_context.specs.Requests.{acquiring, acquiring_at, acquiring_by_place, finding, placing, LearnsAtMost, WaitsAfter};
+ghost use Rattle.mdl_context.specs.Requests.{acquiring, acquiring_at, acquiring_by_place, finding, placing, LearnsAtMost, PinsAtMost, WaitsAfter};
 ghost use Rattle.mdl_context.specs.Terms.{wish_for};
 ghost use Rattle.mdl_context.specs.Wishes.{wish_of_request};
 
@@ -17,7 +17,7 @@ use mdl_space::{LockSpace, Place, SpaceError};
 impl<S: LockSpace> Context<S> {
     /// Gets a lock for the request's duration, or begins to wait for it.
     ///
-    /// The key's place is looked up once and remembered from then on. To remember it takes memory, as a new ticket does. Of the
+    /// The key's place is looked up once and remembered from then on, and the session pins it. To remember it takes memory, as a new ticket does. Of the
     /// tickets there that are at least as strong as the request's mode, the earliest of the same duration is used again, though never an
     /// explicit one. If there is none, the earliest of all that are strong enough is cloned, and the clone gets the request's
     /// duration. If there is none of these either, a new ticket is requested of the space.
@@ -35,7 +35,7 @@ impl<S: LockSpace> Context<S> {
         ensures others { LeavesOthers S.LockSpace self.old.who space.old space.new }
         ensures who { self.new.who ≡ self.old.who }
         ensures unchanged { OnErr result (LearnsAtMost request.entry.key.now self.old self.new) }
-        ensures own { OnErr result (S.own space.new self.old.who ≡ S.own space.old self.old.who) }
+        ensures own { OnErr result (PinsAtMost (S.own space.old self.old.who) (S.own space.new self.old.who)) }
         ensures wait { WaitsAfter result self.old.wait self.new.wait }
     {
         if self.holdings.is_waiting() {
@@ -84,7 +84,7 @@ impl<S: LockSpace> Context<S> {
 
     /// The place of a key, which is looked up if the context doesn't know it.
     ///
-    /// The context remembers the place from then on. That takes memory, and so may the look-up. The session's tickets and its
+    /// The context remembers the place from then on, and the session pins it. That takes memory, and so may the look-up. The session's tickets and its
     /// wait stay as they are.
     pub fn place_of(&mut self, space: &mut S, key: &Key) -> Result<Place, ContextError>
         requires { Attends S.LockSpace space.old self.old }
@@ -95,7 +95,7 @@ impl<S: LockSpace> Context<S> {
         ensures who { self.new.who ≡ self.old.who }
         ensures learns { LearnsAtMost key.now self.old self.new }
         ensures unchanged { OnErr result (self.new ≡ self.old) }
-        ensures own { S.own space.new self.old.who ≡ S.own space.old self.old.who }
+        ensures own { PinsAtMost (S.own space.old self.old.who) (S.own space.new self.old.who) }
     {
         if let Some(place) = self.holdings.place_known(key) {
             return Ok(place);
@@ -119,7 +119,7 @@ impl<S: LockSpace> Context<S> {
         ensures attends { Attends S.LockSpace space.new self.new }
         ensures who { self.new.who ≡ self.old.who }
         ensures unchanged { OnErr result (LearnsAtMost request.entry.key.now self.old self.new) }
-        ensures own { OnErr result (S.own space.new self.old.who ≡ S.own space.old self.old.who) }
+        ensures own { OnErr result (PinsAtMost (S.own space.old self.old.who) (S.own space.new self.old.who)) }
         ensures wait { WaitsAfter result None self.new.wait }
     {
         let place = match space.resolve(self.who, request.key) {

@@ -4,7 +4,7 @@ ghost use Rattle.mdl_key.specs.Keys.{KeyName};
 ghost use Rattle.mdl_key.specs.Modes.{kind_of};
 ghost use Rattle.mdl_calls.specs.Words.{Runs};
 ghost use Rattle.mdl_context.specs.Contexts.{Attends, LeavesOthers, is_known_place, place_known};
-ghost use Rattle.mdl_context.specs.Requests.{trying, trying_at, trying_by_place, trying_found, LearnsAtMost, UnlessAcquired};
+ghost use Rattle.mdl_context.specs.Requests.{trying, trying_at, trying_by_place, trying_found, LearnsAtMost, PinsAtMost, UnlessAcquired};
 ghost use Rattle.mdl_context.specs.Terms.{wish_for};
 ghost use Rattle.mdl_context.specs.Wishes.{wish_of_request};
 
@@ -32,7 +32,7 @@ impl<S: LockSpace> Context<S> {
         ensures others { LeavesOthers S.LockSpace self.old.who space.old space.new }
         ensures who { self.new.who ≡ self.old.who }
         ensures unchanged { UnlessAcquired result (LearnsAtMost request.entry.key.now self.old self.new) }
-        ensures own { UnlessAcquired result (S.own space.new self.old.who ≡ S.own space.old self.old.who) }
+        ensures own { UnlessAcquired result (PinsAtMost (S.own space.old self.old.who) (S.own space.new self.old.who)) }
         ensures wait { self.new.wait ≡ self.old.wait }
     {
         if self.holdings.is_waiting() {
@@ -91,7 +91,7 @@ impl<S: LockSpace> Context<S> {
         ensures attends { Attends S.LockSpace space.new self.new }
         ensures who { self.new.who ≡ self.old.who }
         ensures unchanged { UnlessAcquired result (LearnsAtMost request.entry.key.now self.old self.new) }
-        ensures own { UnlessAcquired result (S.own space.new self.old.who ≡ S.own space.old self.old.who) }
+        ensures own { UnlessAcquired result (PinsAtMost (S.own space.old self.old.who) (S.own space.new self.old.who)) }
         ensures wait { self.new.wait ≡ None }
     {
         let place = match space.resolve(self.who, request.key) {

@@ -1,7 +1,7 @@
 //! How the mode of a held ticket changes.
 ghost use Rattle.std.specs.Prelude.{◌≡◌, true, false, Some, None, MatchOption, Err, OnOk, OnErr, IfErr};
 ghost use Rattle.std.specs.Option.{IfSome};
-ghost use Rattle.mdl_calls.specs.Words.{Runs};
+ghost use Rattle.mdl_calls.specs.Words.{Runs, giving_up};
 ghost use Rattle.mdl_system.specs.Strength.{covers};
 ghost use Rattle.mdl_context.specs.Contexts.{Attends, LeavesOthers, ticket_kept};
 ghost use Rattle.mdl_context.specs.declared.kept.Kept.{Kept};
@@ -137,6 +137,7 @@ impl<S: LockSpace> Context<S> {
         ensures who { self.new.who ≡ self.old.who }
         ensures done { OnOk result (self.new ≡ with_ticket_mode id (λ _. mode) self.old) }
         ensures unchanged { OnErr result (self.new ≡ self.old) }
+        ensures own { OnErr result (S.own space.new self.old.who ≡ giving_up new (S.own space.old self.old.who)) }
     {
         match merge(space, self.who, id, new) {
             Ok(()) => {

@@ -4,6 +4,7 @@ use Rattle.mdl_context.specs.Requests.{acquiring_at, finding}
 use Rattle.mdl_context.specs.Wishes.{wish_of_request}
 use Rattle.mdl_context.proofs.AttendLemmas.{known-place}
 use Rattle.mdl_context.proofs.OthersLemmas.{leaves, for_reusing, for_finding}
+use Rattle.mdl_context.proofs.PinLemmas.{pins-nothing}
 use Rattle.mdl_context.proofs.context.Context.acquire.Goals as goal
 
 pub gain_at-requires-clause-known : goal.gain_at-requires-clause-known
@@ -19,3 +20,6 @@ pub returns-in-None-clause-others : goal.returns-in-None-clause-others
 returns-in-None-clause-others g c =
     let laws = g.met.S.LockSpace.laws in
     leaves g.S.LockSpace laws c.args.self.now.who (finding None (wish_of_request c.args.request) c.args.self.now) _ _ (c.look_up.result, c.look_up.new.self) (for_finding None (wish_of_request c.args.request) c.args.self.now) c.look_up.ensures.run
+
+pub returns-in-Some-clause-own : goal.returns-in-Some-clause-own
+returns-in-Some-clause-own g c = pins-nothing c.gain_at.result _ _ c.gain_at.ensures.own

@@ -1,8 +1,9 @@
 -- The second ticket is held beside the kept ones, and then it is gone.
-use Rattle.std.proofs.Common.{refl, ap}
+use Rattle.std.proofs.Common.{◌≡◌, refl, ap}
 use Rattle.std.specs.Prelude.{is_some}
 use Rattle.mdl_context.proofs.GainLemmas.{idle-there}
 use Rattle.mdl_context.proofs.UpgradeLemmas.{has-mergeable, has-rising, attends-united, attends-parted}
+use Rattle.mdl_context.specs.Contexts.{ContextView}
 use Rattle.mdl_context.proofs.context.Context.merge_ticket.Goals as goal
 
 pub merge-requires-clause-idle : goal.merge-requires-clause-idle
@@ -35,3 +36,8 @@ returns-in-Err-clause-attends g c =
     rw (← c.self.view_is)
     (attends-parted c.args.id c.args.new c.args.mode c.args.space.now _ (g.met.S.LockSpace.laws.rising _ _ second.4.speaks) second c.merge.new.space _ c.merge.ensures.remembers c.merge.ensures.speaks
     (rw c.in-Err.is at c.merge.ensures.own) refl refl refl refl (ap is_some idle))
+
+pub returns-in-Err-clause-own : goal.returns-in-Err-clause-own
+returns-in-Err-clause-own g c =
+    let same : c.self.inside.who ≡ c.args.self.now.who = ap (λ (v : ContextView). v.who) c.self.view_is in
+    rw (same, c.in-Err.is) at c.merge.ensures.own

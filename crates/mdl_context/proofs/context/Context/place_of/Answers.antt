@@ -1,8 +1,8 @@
 -- To ask for a place changes nothing that the session has, and then the place is known.
-use Rattle.std.proofs.Common.{rules, ◌≡◌, [], ◌∷◌, ◌++◌, inr, refl, sym, ap, ◌∙◌, subst}
+use Rattle.std.proofs.Common.{rules, ◌≡◌, [], ◌∷◌, ◌++◌, inl, inr, refl, sym, ap, ◌∙◌, subst}
 use Rattle.mdl_context.specs.Contexts.{ContextView, Attends, place_known}
 use Rattle.mdl_context.specs.Requests.{remembering}
-use Rattle.mdl_context.proofs.AttendLemmas.{attends-still, attends-learnt, known-last}
+use Rattle.mdl_context.proofs.AttendLemmas.{attends-resolved, attends-learnt, known-last}
 use Rattle.mdl_context.proofs.BeyondLemmas.{same-context}
 use Rattle.mdl_context.proofs.OthersLemmas.{leaves-call}
 use Rattle.mdl_context.proofs.context.Context.place_of.Goals as goal
@@ -11,7 +11,7 @@ pub returns-in-Err-clause-attends : goal.returns-in-Err-clause-attends
 returns-in-Err-clause-attends g c =
     let laws = g.met.S.LockSpace.laws in
     let same : c.self.inside.who ≡ c.args.self.now.who = ap (λ (v : ContextView). v.who) c.self.view_is in
-    attends-still g.S.LockSpace laws _ _ _ _ c.args.self.now c.requires refl refl refl (rw (same, c.in-Err.is) at c.resolve.ensures)
+    attends-resolved g.S.LockSpace laws _ _ c.args.key.now _ c.args.self.now c.requires (rw (same, c.in-Err.is) at c.resolve.ensures)
 
 pub returns-in-Err-clause-others : goal.returns-in-Err-clause-others
 returns-in-Err-clause-others g c =
@@ -21,13 +21,13 @@ returns-in-Err-clause-others g c =
 pub returns-in-Err-clause-own : goal.returns-in-Err-clause-own
 returns-in-Err-clause-own g c =
     let same : c.self.inside.who ≡ c.args.self.now.who = ap (λ (v : ContextView). v.who) c.self.view_is in
-    g.met.S.LockSpace.laws.changes _ _ _ _ _ refl (rw (same, c.in-Err.is) at c.resolve.ensures)
+    inl (g.met.S.LockSpace.laws.changes _ _ _ _ _ refl (rw (same, c.in-Err.is) at c.resolve.ensures))
 
 pub returns-then-is_err-clause-attends : goal.returns-then-is_err-clause-attends
 returns-then-is_err-clause-attends g c =
     let same : c.self.inside.who ≡ c.args.self.now.who = ap (λ (v : ContextView). v.who) c.self.view_is in
     let laws = g.met.S.LockSpace.laws in
-    let still = attends-still g.S.LockSpace laws _ _ _ _ c.args.self.now c.requires refl refl refl (rw (same, c.in-Ok.is) at c.resolve.ensures) in
+    let still = attends-resolved g.S.LockSpace laws _ _ c.args.key.now _ c.args.self.now c.requires (rw (same, c.in-Ok.is) at c.resolve.ensures) in
     let forgot : c.remember.new.self.known ≡ c.self.inside.holdings.known = search rules in
     subst (Attends g.S.LockSpace c.resolve.new.self)
     (sym (same-context c.self.inside.who _ _ _ _ _ _ c.remember.ensures.kept forgot c.remember.ensures.wait ∙ c.self.view_is)) still
@@ -40,7 +40,7 @@ returns-then-is_err-clause-others g c =
 pub returns-then-is_err-clause-own : goal.returns-then-is_err-clause-own
 returns-then-is_err-clause-own g c =
     let same : c.self.inside.who ≡ c.args.self.now.who = ap (λ (v : ContextView). v.who) c.self.view_is in
-    g.met.S.LockSpace.laws.changes _ _ _ _ _ refl (rw (same, c.in-Ok.is) at c.resolve.ensures)
+    inr (c.in-Ok.place, g.met.S.LockSpace.laws.changes _ _ _ _ _ refl (rw (same, c.in-Ok.is) at c.resolve.ensures))
 
 pub returns-clause-found : goal.returns-clause-found
 returns-clause-found g c =
@@ -52,7 +52,7 @@ pub returns-clause-attends : goal.returns-clause-attends
 returns-clause-attends g c =
     let same : c.self.inside.who ≡ c.args.self.now.who = ap (λ (v : ContextView). v.who) c.self.view_is in
     let laws = g.met.S.LockSpace.laws in
-    let still = attends-still g.S.LockSpace laws _ _ _ _ c.args.self.now c.requires refl refl refl (rw (same, c.in-Ok.is) at c.resolve.ensures) in
+    let still = attends-resolved g.S.LockSpace laws _ _ c.args.key.now _ c.args.self.now c.requires (rw (same, c.in-Ok.is) at c.resolve.ensures) in
     let learnt : c.remember.new.self.known ≡ c.self.inside.holdings.known ++ (c.args.key.now, c.in-Ok.place) ∷ [] = search rules in
     attends-learnt c.resolve.new.self c.args.key.now c.in-Ok.place c.args.self.now _ still (laws.resolves _ _ _ _ _ (rw (same, c.in-Ok.is) at c.resolve.ensures))
     (same-context c.self.inside.who _ _ _ _ _ _ c.remember.ensures.kept learnt c.remember.ensures.wait ∙ ap (remembering c.args.key.now c.in-Ok.place) c.self.view_is)
@@ -70,4 +70,4 @@ returns-clause-learns g c =
 pub returns-clause-own : goal.returns-clause-own
 returns-clause-own g c =
     let same : c.self.inside.who ≡ c.args.self.now.who = ap (λ (v : ContextView). v.who) c.self.view_is in
-    g.met.S.LockSpace.laws.changes _ _ _ _ _ refl (rw (same, c.in-Ok.is) at c.resolve.ensures)
+    inr (c.in-Ok.place, g.met.S.LockSpace.laws.changes _ _ _ _ _ refl (rw (same, c.in-Ok.is) at c.resolve.ensures))

@@ -4,6 +4,7 @@ use Rattle.mdl_context.specs.Requests.{trying_at, trying_found}
 use Rattle.mdl_context.specs.Wishes.{wish_of_request}
 use Rattle.mdl_context.proofs.AttendLemmas.{known-place}
 use Rattle.mdl_context.proofs.OthersLemmas.{leaves, for_trying_again, for_trying_found}
+use Rattle.mdl_context.proofs.PinLemmas.{pins-nothing-tried}
 use Rattle.mdl_context.proofs.context.Context.try_acquire.Goals as goal
 
 pub try_at-requires-clause-known : goal.try_at-requires-clause-known
@@ -20,3 +21,6 @@ returns-in-None-clause-others g c =
     let laws = g.met.S.LockSpace.laws in
     leaves g.S.LockSpace laws c.args.self.now.who (trying_found None (wish_of_request c.args.request) c.args.self.now) _ _ (c.look_up_and_try.result, c.look_up_and_try.new.self)
     (for_trying_found None (wish_of_request c.args.request) c.args.self.now) c.look_up_and_try.ensures.run
+
+pub returns-in-Some-clause-own : goal.returns-in-Some-clause-own
+returns-in-Some-clause-own g c = pins-nothing-tried c.try_at.result _ _ c.try_at.ensures.own

@@ -1,7 +1,7 @@
 -- The mode is changed here as it is there, or a second ticket is asked for, or nothing is changed.
 use Rattle.std.proofs.Common.{◌≡◌, Ok, Err, refl, sym, ap, ◌∙◌, subst}
 use Rattle.mdl_calls.specs.Causes.{Knowledge}
-use Rattle.mdl_calls.specs.Words.{Refused, Upgraded, Would_wait, Runs}
+use Rattle.mdl_calls.specs.Words.{Refused, Upgraded, Would_wait, SessionLocks, Runs}
 use Rattle.mdl_calls.specs.SessionLocks.{upgraded}
 use Rattle.mdl_context.specs.declared.context_error.ContextError.TheVariants.{Space}
 use Rattle.mdl_context.specs.declared.kept.Wanted.{Wanted}
@@ -18,6 +18,7 @@ use Rattle.mdl_context.proofs.UpgradeLemmas.{HasAsked, attends-in_mode, fault-no
 use Rattle.mdl_calls.proofs.FaithfulLemmas.{each_reply}
 use Rattle.mdl_context.specs.Outcomes.{UpgradeComesTo}
 use Rattle.mdl_context.proofs.OutcomeLemmas.{raised_upgrading}
+use Rattle.std.specs.Prelude.{OnErr}
 use Rattle.mdl_context.proofs.context.Context.upgrade.Goals as goal
 
 pub returns-in_default-clause-refused : goal.returns-in_default-clause-refused
@@ -118,3 +119,10 @@ pub returns-in-Ok-WouldWait-clause-outcome : goal.returns-in-Ok-WouldWait-clause
 returns-in-Ok-WouldWait-clause-outcome g c =
     each_reply g.S.LockSpace.joins (UpgradeComesTo c.args.id c.args.mode c.args.self.now) (upgrading c.args.id c.args.mode c.args.self.now) _ _ (c.wait_to_upgrade.result, c.wait_to_upgrade.new.self)
     (raised_upgrading c.args.id c.args.mode c.args.self.now) (returns-in-Ok-WouldWait-clause-run g c)
+
+pub returns-in-Ok-WouldWait-clause-own : goal.returns-in-Ok-WouldWait-clause-own
+returns-in-Ok-WouldWait-clause-own g c =
+    let same : c.self.inside.who ≡ c.args.self.now.who = ap (λ (v : ContextView). v.who) c.self.view_is in
+    let still : g.S.LockSpace.own c.upgrade_now.new.self c.args.self.now.who ≡ g.S.LockSpace.own c.args.space.now c.args.self.now.who =
+    g.met.S.LockSpace.laws.changes _ _ _ _ _ refl (rw (same, c.in-Ok-WouldWait.is, c.in-Ok-WouldWait.field-0-is) at c.upgrade_now.ensures) in
+    subst (λ (own : SessionLocks). OnErr c.wait_to_upgrade.result (g.S.LockSpace.own c.wait_to_upgrade.new.space c.args.self.now.who ≡ own)) still c.wait_to_upgrade.ensures.own

@@ -1,5 +1,5 @@
 -- A second ticket is had beside the kept ones, or waited for, or nothing has changed.
-use Rattle.std.proofs.Common.{◌≡◌, Some, Ok, Err, refl, sym, ap, ◌∙◌, subst}
+use Rattle.std.proofs.Common.{◌≡◌, ℕ, Some, Ok, Err, refl, sym, ap, ◌∙◌, subst}
 use Rattle.std.specs.Prelude.{is_some}
 use Rattle.mdl_context.specs.declared.context_error.ContextError.TheVariants.{Space}
 use Rattle.mdl_context.specs.declared.kept.Wanted.{Wanted}
@@ -8,6 +8,9 @@ use Rattle.mdl_context.specs.Holdings.{context_of}
 use Rattle.mdl_context.specs.Upgrades.{HasSecond, with_ticket_mode}
 use Rattle.mdl_context.proofs.BeyondLemmas.{same-context}
 use Rattle.mdl_context.proofs.UpgradeLemmas.{HasAsked, has-gained, kept-number, attends-to-upgrade, run-united, run-parted, run-awaiting, run-unasked}
+use Rattle.mdl_calls.specs.Words.{IsRising, giving_up}
+use Rattle.mdl_context.specs.Contexts.{ContextView}
+use Rattle.mdl_context.proofs.SeekLemmas.{gained-given_up}
 use Rattle.mdl_context.proofs.context.Context.wait_to_upgrade.Goals as goal
 
 pub merge_ticket-requires-clause-second : goal.merge_ticket-requires-clause-second
@@ -70,3 +73,13 @@ returns-in-Err-clause-run g c =
     let place : c.args.wanted.place ≡ ticket.place = ap (λ (w : Wanted). w.place) fits.0 in
     run-unasked g.S.LockSpace.joins ticket c.args.id c.args.wanted.mode _ _ (kept-number c.args.id c.self.inside.holdings.kept ticket found) c.in-Err.refusal _ _
     (rw (place, c.in-Err.is) at c.wait_at.ensures.run) same)
+
+pub returns-in-Err-merge_ticket-clause-own : goal.returns-in-Err-merge_ticket-clause-own
+returns-in-Err-merge_ticket-clause-own g c =
+    let same : c.self.inside.who ≡ c.args.self.now.who = ap (λ (v : ContextView). v.who) c.self.view_is in
+    let new = c.in-Ok-Granted.new in
+    let gained = rw (c.in-Ok-Granted.is, c.in-Ok-Granted.field-0-is) at c.wait_at.ensures.own in
+    let gone = rw c.in-Err-merge_ticket.is at c.merge_ticket.ensures.own in
+    subst (λ (who : ℕ). g.S.LockSpace.own c.merge_ticket.new.space who ≡ g.S.LockSpace.own c.args.space.now who) same
+    (gone ∙ ap (giving_up new) gained
+    ∙ gained-given_up new c.args.wanted.place c.args.wanted.mode _ (subst IsRising gained (g.met.S.LockSpace.laws.rising _ _ c.wait_at.ensures.speaks)))
