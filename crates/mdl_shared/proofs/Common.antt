@@ -23,5 +23,5 @@ pub use Rattle.mdl_shared.specs.FirstWords.{Alter, Answer, AreAllTables, AreLear
 pub use Rattle.mdl_shared.specs.KeptReads.{MayKeep, ReadsKept, UsesKept, kept_standing}
 pub use Rattle.mdl_shared.specs.OwnTickets.{AreKept, HaveRisingNumbers, IsLastGained, StandsAt, counted_at, fast_counted_at, fast_found, fast_of, flags_of, is_at_place, is_fast_there, noted_in, slow_of, slowed, slowed_as, with_note}
 pub use Rattle.mdl_shared.specs.Passes.{ArePasses, IsPass, view_of}
-pub use Rattle.mdl_shared.specs.Prelude.{AreWithin, AtItsTable, Distinct, Does, Draws, Each, FitsKey, Follows, Gained, HasTicket, Held, HoldsNoLatch, IfSome, IsBinarySearchResult, IsCause, IsCounted, IsExplained, IsLast, IsLookupAnswer, IsNonDecreasingBy, IsNoted, IsPlace, IsRising, IsSearchInRange, IsSound, KeepsSettled, Knows, KnowsKeys, KnowsPlace, MakesSteps, MayVisit, Meets, Mine, NotWaited, Note, NotesThere, Numbers, OfPlace, ReadNothing, Reading, ReadsNothing, SeatReadsThere, SeatState, SessionData, SessionLocks, Settled, SpeaksFor, StaysTold, View, Visits, VisitsAndReschedules, Wait, all_but, all_next, all_numbers, all_owned, are_apart, are_below, are_below_told, are_placed, are_placed_told, are_rising, are_two, but_at, but_own, caller, cons_option, filter, first_free, first_note, increment_of, inserted, interleaved, is_answer_of, is_ask_apart, is_key_known, is_mode_of, is_newest, is_no_number, is_number, is_own, key_at, key_eq, key_known, kind_of, last_read, list_all, note_at, noted_at, noting_version, option_and_then, option_map, option_map_or, option_or, own_after, owned, reads_at, told}
+pub use Rattle.mdl_shared.specs.Prelude.{AreWithin, AtItsTable, Distinct, Does, Draws, Each, FitsKey, Follows, Gained, HasTicket, Held, HoldsNoLatch, IfSome, IsBinarySearchResult, IsCause, IsCounted, IsExplained, IsLast, IsLookupAnswer, IsNonDecreasingBy, IsNoted, IsPlace, IsRising, IsSearchInRange, IsSound, KeepsSettled, Knows, KnowsKeys, KnowsPlace, MakesSteps, MayVisit, Meets, Mine, NotWaited, Note, NotesThere, Numbers, OfPlace, ReadNothing, Reading, ReadsNothing, SeatReadsThere, SeatState, SessionData, SessionLocks, Settled, SpeaksFor, StaysTold, View, Visits, VisitsAndReschedules, Wait, all_but, all_next, all_numbers, all_owned, are_apart, are_below, are_below_told, are_pins_known, are_placed, are_placed_told, are_rising, are_two, but_at, but_own, caller, cons_option, filter, first_free, first_note, increment_of, inserted, interleaved, is_answer_of, is_ask_apart, is_key_known, is_mode_of, is_newest, is_no_number, is_number, is_own, key_at, key_eq, key_known, kind_of, last_read, list_all, note_at, noted_at, noting_version, option_and_then, option_map, option_map_or, option_or, own_after, owned, reads_at, told, with_place}
 pub use Rattle.mdl_shared.specs.Rememberings.{AreAlike}

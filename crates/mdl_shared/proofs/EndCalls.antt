@@ -103,8 +103,8 @@ module _ {s s′ : SessionView} (is : IsMember s) where
           has = refl;
           fits = refl;
           number = refl;
-          own = ap (λ (ts : List SessionTicket). own_of (map as_held ts) None) (gains is a asks)
-              ∙ ap (λ held. own_of held None) (told-last (tickets_seen s.me.0) (record { number = a.number; place = a.place; mode = a.mode; noted = note_at a.place (tickets_seen s.me.0) }))
+          own = ap (λ (ts : List SessionTicket). own_of (map as_held ts) None s.pins) (gains is a asks)
+              ∙ ap (λ held. own_of held None s.pins) (told-last (tickets_seen s.me.0) (record { number = a.number; place = a.place; mode = a.mode; noted = note_at a.place (tickets_seen s.me.0) }))
               ∙ sym (ap (λ (o : Option Ask). winning a.number (wait_by s.me.0.waits o) (data_of s).own) asks);
           numbers = (id, refl);
           explained = waits s a asks;

@@ -1,5 +1,5 @@
 -- A session reads the word of its wait, and ends the wait where it is settled.
-use Rattle.std.proofs.Common.{◌≡◌, ℕ, true, is_some, [], ◌∷◌, ◌++◌, Option, Some, None, inr, refl, sym, ap, subst, ◌∙◌}
+use Rattle.std.proofs.Common.{◌≡◌, ℕ, true, is_some, List, [], ◌∷◌, ◌++◌, Option, Some, None, inr, refl, sym, ap, subst, ◌∙◌}
 use Rattle.mdl_calls.specs.declared.answers.Settled.TheVariants as settled_as
 use Rattle.mdl_shared.proofs.FirstLemmas.{Ask, AtItsTable, Does, EndWait, End_wait, EndsByOneStep, EndsLost, EndsOwnWait, EndsWait, Gain, Granted, HasRescheduled, IsMember, Is_settled, Joins, KeepsRoom, LooksThen, Lost, Mine, Pays, Poll_wait, ReadWait, Refused, Room, SeatState, SessionView, Settled, Shows, ShowsStep, StepRecord, TableId, TellsOwn, Unsettled, VisitsOnce, all_but, data_of, does_then, done-nothing, ended_granted, goes_by, granted_state, idle, if-clear, is_answer_of, lists_seen, mine_without_wait, owed-still, owned, rescheduled_after, session_at, settled_of, settled_state, step_after, taken_over, wait_fault, wait_in, wait_state, wait_word}
 use Rattle.mdl_shared.proofs.EndCalls.{HasEnded, ended-debts, lost-joins, unsettled-joins, won-joins}
@@ -146,11 +146,11 @@ ends-granted mid seat′ made =
     let e : StepRecord = record { kind = EndWait; deeds = []; word = wait_word mid.table.slots mid.me.0.number; found = wait_in mid.me.0.waits granted_state; held = mid.me.0.latches; directory = mid.me.0.directory } in
     (e, ap (λ (x : SeatState). x.me.0.log) made, record { kind = refl; wait = record { word = refl; found = refl } })
 
-module _ {seat mid seat′ : SeatState} (sessions session found : ℕ) {room : Room}
-    (now : session_at mid sessions room ≡ word-step ReadWait session found found seat.me.0.settles (session_at seat sessions room)) where
+module _ {seat mid seat′ : SeatState} (sessions session found : ℕ) {room : Room} {pins : List ℕ}
+    (now : session_at mid sessions room pins ≡ word-step ReadWait session found found seat.me.0.settles (session_at seat sessions room pins)) where
   -- as lost
   pub ended-lost : {room′ : Room} {place : ℕ} → AtItsTable mid seat′ (EndsLost mid.table place)
-      → HasEnded seat.me.0.slow (session_at seat sessions room) (session_at seat′ sessions room′)
+      → HasEnded seat.me.0.slow (session_at seat sessions room pins) (session_at seat′ sessions room′ pins)
   ended-lost {room′} {place} ends =
       let went = ends.1 in
       let table : seat′.table ≡ seat.table = ends.0 ∙ ap (λ (x : SessionView). x.table) now in
@@ -164,13 +164,13 @@ module _ {seat mid seat′ : SeatState} (sessions session found : ℕ) {room : R
         settles = went.settles;
         log = mid.me.0.log ++ went.made;
         room = room′;
-        now = λ i. record { table = table i; sessions = sessions; me = me i; room = room′ };
+        now = λ i. record { table = table i; sessions = sessions; me = me i; room = room′; pins = pins };
         owed = λ q owed. owed-still q place seat.me.0.owes owed;
       }
 
   -- as granted, without settling any wait, or paying a debt
   pub ended-won : {room′ : Room} (a : Ask) → seat.me.0.asks ≡ Some a → seat′ ≡ record mid { me = ended_granted mid.table.slots mid.me }
-      → (ended : HasEnded (owned a.place (Gain a.number a.mode) seat.me.0.slow) (session_at seat sessions room) (session_at seat′ sessions room′)) × (ended.settles ≡ seat.me.0.settles)
+      → (ended : HasEnded (owned a.place (Gain a.number a.mode) seat.me.0.slow) (session_at seat sessions room pins) (session_at seat′ sessions room′ pins)) × (ended.settles ≡ seat.me.0.settles)
       × (ended.owes ≡ seat.me.0.owes)
   ended-won {room′} a asks made =
       let log = (ended_granted mid.table.slots mid.me).0.log in (
@@ -180,9 +180,9 @@ module _ {seat mid seat′ : SeatState} (sessions session found : ℕ) {room : R
           log = log;
           room = room′;
           now =
-              ap (λ (x : SeatState). session_at x sessions room′) made
+              ap (λ (x : SeatState). session_at x sessions room′ pins) made
               ∙ ap (λ (x : SessionView). record x { me = (record x.me.0 { slow = x.me.0.slow ++ taken_over x.me.0.asks x.me.0.slow; asks = None; told = None; log = log }, x.me.1); room = room′ }) now
-              ∙ ap (λ (o : Option Ask). record (session_at seat sessions room) { me = (record seat.me.0 { slow = seat.me.0.slow ++ taken_over o seat.me.0.slow; asks = None; told = None; log = log }, seat.me.1); room = room′ }) asks;
+              ∙ ap (λ (o : Option Ask). record (session_at seat sessions room pins) { me = (record seat.me.0 { slow = seat.me.0.slow ++ taken_over o seat.me.0.slow; asks = None; told = None; log = log }, seat.me.1); room = room′ }) asks;
           owed = λ q owed. owed;
         },
         refl,

@@ -48,6 +48,7 @@ module _ (m m′ : Member) (place : ℕ) (fewer : HasFewerFast place (view_of m)
           number = ap (λ (x : SessionView). x.me.0.number) now;
           table = ap (λ (x : SessionView). x.table) now;
           sessions = ap (λ (x : SessionView). x.sessions) now;
+          pins = ap (λ (x : SessionView). x.pins) now;
           lists = lists ∙ (λ i. record (lists_seen me) { slow = slows i; fast = fasts i });
           reads = ap (λ (x : SessionView). x.me.0.reads) now;
           room = keeps-equal m.tickets.room m′.tickets.room (ap (λ (l : TicketList). l.room) missed.1);
@@ -72,6 +73,7 @@ module _ (a b : SessionView) (room : Room) (made : KeepsRoom 0 a.room room) (pla
           table = kept.table;
           sessions = kept.sessions;
           lists = kept.lists;
+          pins = kept.pins;
           reads = kept.reads;
           room = keeps-before 0 a.room room b.room made kept.room;
         },

@@ -49,11 +49,11 @@ fewer-fast known asks fast keep = record {
   plain = counted-kept keep known fast;
 }
 
-module _ (seat seat′ : SeatState) (sessions : ℕ) {room : Room} (is : IsMember (session_at seat sessions room)) where
+module _ (seat seat′ : SeatState) (sessions : ℕ) {room : Room} {pins : List ℕ} (is : IsMember (session_at seat sessions room pins)) where
   -- a fast ticket was granted
   pub fast-granted : {room′ : Room} {place one : ℕ} {mode : Mode} {noted : Option ℕ} → seat.me.0.asks ≡ None → increment_at place mode seat.me.0.known ≡ Some one
       → noted ≡ noted_at place seat.me.0 → AtItsTable seat seat′ (GrantsFast place mode noted)
-      → DoesQuietly place (Gain seat.me.0.next mode ∷ []) (session_at seat sessions room) (session_at seat′ sessions room′)
+      → DoesQuietly place (Gain seat.me.0.next mode ∷ []) (session_at seat sessions room pins) (session_at seat′ sessions room′ pins)
   fast-granted {room′} {place} {one} {mode} {noted} idle counted it granted =
       let v = seat.me.0 in
       let its : noted ≡ note_at place (tickets_seen v) = it ∙ one-noted place v.slow v.fast is.alike in
@@ -87,7 +87,7 @@ module _ (seat seat′ : SeatState) (sessions : ℕ) {room : Room} (is : IsMembe
 
   -- one was released. What the session owes then is left out
   pub fast-released : {room′ : Room} {place number : ℕ} {owes : Bool} {t : SessionTicket} → numbered number seat.me.0.fast ≡ Some t → AtItsTable seat seat′ (ReleasesFast place number owes)
-      → DoesQuietly place (Lose number ∷ []) (session_at seat sessions room) (but_owing (session_at seat sessions room) (session_at seat′ sessions room′))
+      → DoesQuietly place (Lose number ∷ []) (session_at seat sessions room pins) (but_owing (session_at seat sessions room pins) (session_at seat′ sessions room′ pins))
   fast-released {room′} {place} {number} {owes} {t} its released =
       let v = seat.me.0 in
       let now = released.1.now in record {
@@ -100,7 +100,7 @@ module _ (seat seat′ : SeatState) (sessions : ℕ) {room : Room} (is : IsMembe
           settles = v.settles;
           log = _;
           room = room′;
-          now = ap (but_owing (session_at seat sessions room)) (seat-changed seat seat′ sessions {room = room′} released.0 _ now);
+          now = ap (but_owing (session_at seat sessions room pins)) (seat-changed seat seat′ sessions {room = room′} released.0 _ now);
           tickets = released-fast place number v.slow v.fast (rising is) (numbers-apart number t v.slow v.fast (rising is) its);
           fasts = fewer-fast v.known v.asks v.fast (λ u. not (is_own place number u));
           stays = λ state told. told;
@@ -115,7 +115,7 @@ module _ (seat seat′ : SeatState) (sessions : ℕ) {room : Room} (is : IsMembe
       }
 
   -- those of a place became slow ones
-  pub fast-materialised : {room′ : Room} {place : ℕ} → AtItsTable seat seat′ (Materialises place) → DoesQuietly 0 [] (session_at seat sessions room) (session_at seat′ sessions room′)
+  pub fast-materialised : {room′ : Room} {place : ℕ} → AtItsTable seat seat′ (Materialises place) → DoesQuietly 0 [] (session_at seat sessions room pins) (session_at seat′ sessions room′ pins)
   fast-materialised {room′} {place} moved =
       let v = seat.me.0 in
       let now = moved.1.now in record {

@@ -53,7 +53,7 @@ module _ (a b : SessionView) (t : SessionTicket) (owes : Bool) (released : Relea
   -- and where it is the place was rescheduled then
   pub gives-up_after : {at : ℕ} {ds : List Deed} {seat : SeatState} → DidDeeds at ds a (but_owing a b) → owes ≡ true
       → AtItsTable (record { table = b.table; me = b.me }) seat (VisitsAndReschedules b.table t.place []) → VisitsOnce t.place b.me seat.me
-      → GivesUpFast t.number a (session_at seat b.sessions b.room) t
+      → GivesUpFast t.number a (session_at seat b.sessions b.room b.pins) t
   gives-up_after {seat = seat} lost due visit once = (
     b.me,
     owes,
@@ -64,7 +64,7 @@ module _ (a b : SessionView) (t : SessionTicket) (owes : Bool) (released : Relea
 
   -- by which the debt is paid
   pub paid-after : {seat : SeatState} → owes ≡ true → AtItsTable (record { table = b.table; me = b.me }) seat (VisitsAndReschedules b.table t.place [])
-      → OwesNoMore a (session_at seat b.sessions b.room)
+      → OwesNoMore a (session_at seat b.sessions b.room b.pins)
   paid-after due visit q owed =
       paid-off q t.place a.me.0.owes (subst (IsOwed q) (ap (λ (m : Mine). m.0.owes) visit.1.now ∙ ap (all_but t.place) (released-due released due)) owed)
 
@@ -86,10 +86,10 @@ pub seen : (m : Member) (t : SessionTicket) → numbered t.number m.tickets.fast
 seen m t held = ap (λ (l : Lists). numbered t.number l.fast) (sym m.lists) ∙ held
 
 pub still : (m : Member) (t : SessionTicket) → numbered t.number m.tickets.fast ≡ Some t → (seat : SeatState) (owes : Bool) → AtItsTable m.seat seat (ReleasesFast t.place t.number owes)
-    → (room : Room) → IsMember (session_at seat m.sessions room)
+    → (room : Room) → IsMember (session_at seat m.sessions room m.known.pins)
 still m t held seat owes released room =
     let is = member m in
     let its = fast-held is t.number t (seen m t held) in
     let done = (fast-released m.seat seat m.sessions {room = m.tickets.room} is {room′ = room} (seen m t held) released).done in
-    member-owing (view_of m) (session_at seat m.sessions room) (kept (Release _ _) is (done-order done is (inr refl)) (release-joins is t.number t its done))
-    (owed-known (view_of m) (session_at seat m.sessions room) t owes released.1 is (ticket-known is t.number t its))
+    member-owing (view_of m) (session_at seat m.sessions room m.known.pins) (kept (Release _ _) is (done-order done is (inr refl)) (release-joins is t.number t its done))
+    (owed-known (view_of m) (session_at seat m.sessions room m.known.pins) t owes released.1 is (ticket-known is t.number t its))

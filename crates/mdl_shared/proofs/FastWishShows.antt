@@ -111,7 +111,7 @@ module _ {a : SessionView} (is : IsMember a) (place : ℕ) (mode : Mode) (clear 
     waits-joins {number} begins =
         let still = ap (λ (x : SessionView). wish_fault (kind_known place x.me.0.known) x.me.0.asks mode x.me.0.next) slow.quiet.done.now ∙ clear in
         let now : c ≡ record b { me = (record (view_awaiting place mode b.me.0) { log = b.me.0.log ++ begins.opens.made }, b.me.1); room = c.room }
-        = λ i. record { table = begins.table i; sessions = begins.sessions i; me = begins.opens.now i; room = c.room } in
+        = λ i. record { table = begins.table i; sessions = begins.sessions i; me = begins.opens.now i; room = c.room; pins = begins.pins i } in
         let joins = begun-joins (still-member slow.quiet.done is) still now begins.next in
         let by = subst (λ (n : ℕ). Joins (data_of b) (Begin_wait n place mode) (Waits number) (data_of c)) (number-slow slow) joins in
         subst (λ (s : SessionData). Joins s (Begin_wait a.me.0.number place mode) (Waits number) (data_of c)) (same-space slow.quiet) by

@@ -11,7 +11,7 @@ same-space {a = a} quiet =
     let told : quiet.done.told ≡ a.me.0.told = sym (ap (λ (x : SessionView). x.me.0.told) quiet.done.now) ∙ quiet.told in
     let space : List SessionTicket → Option ℕ → SessionData = λ tickets told. record {
       number = a.me.0.number;
-      own = own_by tickets a.me.0.asks a.me.0.waits;
+      own = own_by tickets a.me.0.asks a.me.0.waits a.pins;
       numbers = numbers_by a.me.0.next a.me.0.waits;
       known = a.me.0.known;
       settled = settled_told told;

@@ -5,7 +5,7 @@ pub use Rattle.mdl_steps.specs.declared.step_kind.StepKind.{StepKind}
 pub use Rattle.mdl_system.proofs.OrderLemmas.{Contains-cons_cases, Contains-here, Contains-later, middle}
 pub use Rattle.mdl_visits.proofs.Doing.{does_learns, does_reschedule, does_steps, does_visits}
 pub use Rattle.mdl_shared.proofs.Alike.{alike_done, alike_noting, all_noted}
-pub use Rattle.mdl_shared.proofs.Common.{All-cons, All-filter, All-head, All-map, All-nil, All-tail, All-weaker, Alter, Answer, AreAlike, AreAllTables, AreKept, AreLearnt, AreMet, AreWithin, Ask, AtItsTable, Begin_wait, CacheView, Call, Change_definition, Clone_ticket, Deed, Definition, Differ, Does, Downgrade, Draws, Each, End_wait, Follows, Gain, Gained, HasTicket, HaveRisingNumbers, Held, IX, IsCause, IsCounted, IsExplained, IsLast, IsLastGained, IsLookupAnswer, IsMember, IsNonDecreasingBy, IsOther, IsOwed, Joins, KeepsRoom, Kept, KeyName, Keys, Kill, Kind, KnownKey, Knows, KnowsPlace, LatchRecord, LearnsKeys, Less, LetsRead, Lists, Lose, MakesNoStep, MakesSteps, MayKeep, MayStand, MayVisit, Member, Merge, Mine, Mode, Namespace, NotWaited, OfPlace, OwesNoMore, Poll_wait, Read_definition, Read_kept, Reading, ReadsNothing, Refused, Release, ReleasesFast, Resolve, Room, Search, SeatState, SessionData, SessionLocks, SessionTicket, SessionView, Settle_timeout, Settled, Shows, SpaceError, SpeaksFor, StandsAt, StaysTold, StepSpec, TableId, Tables_of, TakesSteps, TellsTruly, TicketList, Try_now, Upgrade_now, VersionedDefinition, Visits, VisitsAndReschedules, Wait, Wait_of, all_but, all_tickets, and_from, and_left, and_parts, and_right, are_apart, are_below_next, are_counted, are_two, as_held, asked_after, but_at, but_owing, but_own, by_bool, caller, counted_at, counted_mode, data_of, does_then, each-filtered, each-uninterleaved, each_append, each_map, ends_wait, eqb-false, fails_before_first, false≢true, fast_counted_at, fast_of, filter, filter-append, first_note, flags_of, gained_at, gained_by, get_elem?, get_or-map, get_or_append_left, get_or_past, get_or_push, goes_by, goes_on, goes_staying, gone_here, has_number, in_mode_at, increment_at, increment_of, interleaved, is-known, is_answer_of, is_ask_apart, is_at_place, is_fast_there, is_fit, is_known, is_lt, is_lt_index, is_mode_of, is_no_number, is_number, is_own, is_waiting, kept_of, kept_standing, key_cmp, key_eq, key_known, kind_known, kind_of, last-among, last_read, learns-sound, length-map, length_push, list_all, lists_seen, looked_at, lt-leb, map-set, map_push, most_numbers, nat_cmp, nat_tests, newest-above, no_record, none_then, not-true, not_from_false, note_at, note_of, noted_in, noting_version, numbered, option_and_then, option_map, option_map_or, option_or, or_left, or_right, owed_in, own_after, own_at, owned, place-of_key, place_known, reads-nothing, reads_at, rescheduled_after, session_at, session_has_call, settled_of, settled_state, settled_told, slow_of, slowed, slowed_as, some, some-injective, some-ne-none, standing_after, standing_fault, stays-known, step_after, step_before, sum_by-append, sum_by-remove, sum_by-set, tickets_seen, told, took_earlier, unknown, view_of, wait_met, with_note, without_at}
+pub use Rattle.mdl_shared.proofs.Common.{All-cons, All-filter, All-head, All-map, All-nil, All-tail, All-weaker, Alter, Answer, AreAlike, AreAllTables, AreKept, AreLearnt, AreMet, AreWithin, Ask, AtItsTable, Begin_wait, CacheView, Call, Change_definition, Clone_ticket, Deed, Definition, Differ, Does, Downgrade, Draws, Each, End_wait, Follows, Gain, Gained, HasTicket, HaveRisingNumbers, Held, IX, IsCause, IsCounted, IsExplained, IsLast, IsLastGained, IsLookupAnswer, IsMember, IsNonDecreasingBy, IsOther, IsOwed, Joins, KeepsRoom, Kept, KeyName, Keys, Kill, Kind, KnownKey, Knows, KnowsPlace, LatchRecord, LearnsKeys, Less, LetsRead, Lists, Lose, MakesNoStep, MakesSteps, MayKeep, MayStand, MayVisit, Member, Merge, Mine, Mode, Namespace, NotWaited, OfPlace, OwesNoMore, Poll_wait, Read_definition, Read_kept, Reading, ReadsNothing, Refused, Release, ReleasesFast, Resolve, Room, Search, SeatState, SessionData, SessionLocks, SessionTicket, SessionView, Settle_timeout, Settled, Shows, SpaceError, SpeaksFor, StandsAt, StaysTold, StepSpec, TableId, Tables_of, TakesSteps, TellsTruly, TicketList, Try_now, Upgrade_now, VersionedDefinition, Visits, VisitsAndReschedules, Wait, Wait_of, all_but, all_tickets, and_from, and_left, and_parts, and_right, are_apart, are_below_next, are_counted, are_two, as_held, asked_after, but_at, but_owing, but_own, by_bool, caller, counted_at, counted_mode, data_of, does_then, each-filtered, each-uninterleaved, each_append, each_map, ends_wait, eqb-false, fails_before_first, false≢true, fast_counted_at, fast_of, filter, filter-append, first_note, flags_of, gained_at, gained_by, get_elem?, get_or-map, get_or_append_left, get_or_past, get_or_push, goes_by, goes_on, goes_staying, gone_here, has_number, in_mode_at, increment_at, increment_of, interleaved, is-known, is_answer_of, is_ask_apart, is_at_place, is_fast_there, is_fit, is_known, is_lt, is_lt_index, is_mode_of, is_no_number, is_number, is_own, is_waiting, kept_of, kept_standing, key_cmp, key_eq, key_known, kind_known, kind_of, last-among, last_read, learns-sound, length-map, length_push, list_all, lists_seen, looked_at, lt-leb, map-set, map_push, most_numbers, nat_cmp, nat_tests, newest-above, no_record, none_then, not-true, not_from_false, note_at, note_of, noted_in, noting_version, numbered, option_and_then, option_map, option_map_or, option_or, or_left, or_right, owed_in, own_after, own_at, owned, place-of_key, place_known, reads-nothing, reads_at, rescheduled_after, session_at, session_has_call, settled_of, settled_state, settled_told, slow_of, slowed, slowed_as, some, some-injective, some-ne-none, standing_after, standing_fault, stays-known, step_after, step_before, sum_by-append, sum_by-remove, sum_by-set, tickets_seen, told, took_earlier, unknown, view_of, wait_met, with_note, with_place, without_at}
 pub use Rattle.mdl_shared.proofs.Debts.{none-owed, owed-both, owed-more, owed-on, owed-paid, owed-stepped, owed-visited, paid-off, released-due, released-owes, released-quiet, rescheduled-owes, same-debts, visited-owes}
 pub use Rattle.mdl_shared.proofs.Faults.{if-clear, just-done, just-refused, test-failed, test-passed}
 pub use Rattle.mdl_shared.proofs.MemberFacts.{alters-slow, apart, ask-last, awaited, below, differ, fast-alone, fast-held, gains-slow, held-either, keys-apart, loses-slow, may-visit, merges-slow, next-some, none-there, nothing-told, place-known, place-within, rising, slow-apart, slow-there, spared, speaks, ticket-known, unwaited}

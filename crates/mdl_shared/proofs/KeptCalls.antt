@@ -164,13 +164,13 @@ module _ (m : Member) (id : ℕ) (t : SessionTicket) (its : numbered id (tickets
     (hit : kept_of t.place version kept ≡ Some d) (newest : ReadNoneNewer t.place version m.seat.me) (one : ReadOneStanding t.place version m.seat.me)
     (made : seat′ ≡ record m.seat { me = noted_version t.place version m.seat.me }) (room′ : Room) (keeps : KeepsRoom 0 m.tickets.room room′) where
   abbrev pub after : SessionView
-  after = session_at seat′ m.sessions room′
+  after = session_at seat′ m.sessions room′ m.known.pins
 
   now : seat′.me ≡ noted_version t.place version m.seat.me
   now = ap (λ (x : SeatState). x.me) made
 
   same : after ≡ record (view_of m) { me = seat′.me; room = room′ }
-  same = λ i. record { table = (made i).table; sessions = m.sessions; me = seat′.me; room = room′ }
+  same = λ i. record { table = (made i).table; sessions = m.sessions; me = seat′.me; room = room′; pins = m.known.pins }
 
   pub seat-finds : FindsVersion t.place (kept_standing version d) (view_of m) after
   seat-finds = hit-finds {s′ = after} (member m) id t its kept met version d hit newest one now same keeps
@@ -193,7 +193,7 @@ module _ (m : Member) (id : ℕ) (t : SessionTicket) (its : numbered id (tickets
     (none : kept_of t.place version kept ≡ None) (newest : ReadNoneNewer t.place version m.seat.me)
     (made : seat′ ≡ record m.seat { me = met_version t.place version m.seat.me }) where
   abbrev pub between : SessionView
-  between = session_at seat′ m.sessions m.tickets.room
+  between = session_at seat′ m.sessions m.tickets.room m.known.pins
 
   pub seat-reads : MissesVersion t.place version (view_of m) between
   seat-reads = version-missed m.seat seat′ m.sessions t.place version made newest (keeps-same m.tickets.room)

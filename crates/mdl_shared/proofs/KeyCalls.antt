@@ -4,7 +4,7 @@ use Rattle.mdl_calls.proofs.MappedLists.{pairs-map}
 use Rattle.mdl_key.specs.declared.namespace.Namespace.TheVariants as of
 use Rattle.std.proofs.lemmas.List.Kept.{AllPairs-filter}
 use Rattle.std.specs.Str.{bytes_eq}
-use Rattle.mdl_shared.proofs.FirstLemmas.{All-cons, All-filter, All-head, All-map, All-nil, All-tail, All-weaker, AreAllTables, AreLearnt, AreWithin, Asked, AtItsTable, At_place, DidDeeds, HasAsked, IsDirectoryTable, IsLookupAnswer, IsMember, Joins, KeepsRoom, KeyName, Keys, KnownKey, LearnsAt, LearnsTables, Less, Lists, MakesSteps, Member, Mine, Namespace, NoPlace, OutOfMemory, Refused, Resolve, Room, SeatState, SessionView, Shows, Stays, StaysInOrder, StaysQuiet, StepRecord, Tables, Tables_of, TookDirectory, and_made, are_apart, asked_after, asked_places, counted_and, data_of, does_steps, does_then, get_or-map, goes_on, is_known, is_of_tables, is_of_tables_told, is_table_of, is_table_told, joins-still, keeps-settled, key_cmp, key_known, keys-apart, knowing_all, knowing_key, length-map, lists_seen, no_record, none_then, place-of_key, place_known, reads-nothing, refused, same-debts, same-stays, sees-same, session_at, speaks, stays-known, took_earlier, unknown, view_of, visited, within_and}
+use Rattle.mdl_shared.proofs.FirstLemmas.{All-cons, All-filter, All-head, All-map, All-nil, All-tail, All-weaker, AreAllTables, AreLearnt, AreWithin, Asked, AtItsTable, At_place, DidDeeds, HasAsked, IsDirectoryTable, IsLookupAnswer, IsMember, Joins, KeepsRoom, KeyName, Keys, KnownKey, LearnsAt, LearnsTables, Less, Lists, MakesSteps, Member, Mine, Namespace, NoPlace, OutOfMemory, Refused, Resolve, Room, SeatState, SessionView, Shows, Stays, StaysInOrder, StaysQuiet, StepRecord, Tables, Tables_of, TookDirectory, and_made, are_apart, asked_after, asked_places, counted_and, data_of, does_steps, does_then, get_or-map, goes_on, is_known, is_of_tables, is_of_tables_told, is_table_of, is_table_told, keeps-settled, key_cmp, key_known, keys-apart, knowing_all, knowing_key, length-map, lists_seen, nat_tests, no_record, none_then, place-of_key, place_known, reads-nothing, refused, same-debts, sees-same, session_at, speaks, stays-known, took_earlier, unknown, view_of, visited, with_place, within_and}
 use Rattle.mdl_shared.proofs.KnownKeys.{all_learnt, apart_and, new_place}
 
 -- ---- a session that learns keys
@@ -16,13 +16,13 @@ pub record HasLearnt (more : List KnownKey) (s s′ : SessionView) : Type 0 wher
   pub now : s′ ≡ record s { me = (record s.me.0 { known = s.me.0.known ++ more; log = log }, s.me.1); room = room }
 
 -- what its seat's visit tells
-pub learnt-by : (seat seat′ : SeatState) (sessions : ℕ) {room room′ : Room} (more : List KnownKey) → seat′.table ≡ seat.table
+pub learnt-by : (seat seat′ : SeatState) (sessions : ℕ) {room room′ : Room} {pins : List ℕ} (more : List KnownKey) → seat′.table ≡ seat.table
     → MakesSteps (record seat.me.0 { known = seat.me.0.known ++ more }, seat.me.1) seat′.me
-    → HasLearnt more (session_at seat sessions room) (session_at seat′ sessions room′)
-learnt-by seat seat′ sessions {room′ = room′} more table steps = record {
+    → HasLearnt more (session_at seat sessions room pins) (session_at seat′ sessions room′ pins)
+learnt-by seat seat′ sessions {room′ = room′} {pins = pins} more table steps = record {
   log = seat.me.0.log ++ steps.0;
   room = room′;
-  now = λ i. record { table = table i; sessions = sessions; me = steps.1 i; room = room′ };
+  now = λ i. record { table = table i; sessions = sessions; me = steps.1 i; room = room′; pins = pins };
 }
 
 pub learnt-order : {more : List KnownKey} {s s′ : SessionView} → HasLearnt more s s′ → IsMember s → AreWithin s.table.slots more → StaysInOrder s s′
@@ -41,8 +41,8 @@ learnt-order {more} {s} {s′} learnt is within = subst (λ (x : SessionView). S
 })
 
 -- steps alone
-pub stepped : (seat seat′ : SeatState) (sessions : ℕ) {room room′ : Room} → seat′.table ≡ seat.table → MakesSteps seat.me seat′.me
-    → DidDeeds 0 [] (session_at seat sessions room) (session_at seat′ sessions room′)
+pub stepped : (seat seat′ : SeatState) (sessions : ℕ) {room room′ : Room} {pins : List ℕ} → seat′.table ≡ seat.table → MakesSteps seat.me seat′.me
+    → DidDeeds 0 [] (session_at seat sessions room pins) (session_at seat′ sessions room′ pins)
 stepped seat seat′ sessions table steps = visited seat seat′ sessions refl (table, record { made = steps.0; now = steps.1; did = steps.2 })
 
 -- what is owed is the same
@@ -62,22 +62,80 @@ lists-learnt m {more} {known} {s} learnt same =
 
 -- ---- the place of a key
 
+-- the session that pins a place, too
+abbrev pub with_pin : ℕ → SessionView → SessionView
+with_pin place s = record s { pins = with_place place s.pins }
+
+-- which is as much in order
+pub order-pinned : {s s′ : SessionView} (place : ℕ) → StaysInOrder s s′ → StaysInOrder s (with_pin place s′)
+order-pinned place order = record {
+  table = order.table;
+  sessions = order.sessions;
+  idle = order.idle;
+  unfast = order.unfast;
+  plain = order.plain;
+  within = order.within;
+  alike = order.alike;
+  last = order.last;
+  told = order.told;
+  fewer = order.fewer;
+  owed = order.owed;
+}
+
+-- as a session is that stays as it is
+pub order-same : {s : SessionView} → IsMember s → StaysInOrder s s
+order-same is = record {
+  table = refl;
+  sessions = refl;
+  idle = is.idle;
+  unfast = is.unfast;
+  plain = is.plain;
+  within = is.within;
+  alike = is.alike;
+  last = is.last;
+  told = is.told;
+  fewer = is.fewer;
+  owed = is.owed;
+}
+
+-- a key's place is known
+pub place-is_known : (known : List KnownKey) (key : KeyName) (place : ℕ) → place_known key known ≡ Some place → is_known place known ≡ true
+place-is_known [] key place found = cc
+place-is_known (k ∷ later) key place found = grind (arith, nat_tests, place-is_known later key place)
+
+-- and so is that of the last one
+pub last-is_known : (known : List KnownKey) (k : KnownKey) → is_known k.place (known ++ k ∷ []) ≡ true
+last-is_known [] k = grind (arith, nat_tests)
+last-is_known (x ∷ later) k = grind (arith, last-is_known later k)
+
 module _ {s : SessionView} (is : IsMember s) (key : KeyName) where
   -- that it knows
-  pub known-joins : (place : ℕ) → place_known key s.me.0.known ≡ Some place → Joins (data_of s) (Resolve s.me.0.number key) (At_place place) (data_of s)
-  known-joins place found =
-      joins-still s s (Resolve s.me.0.number key) (At_place place) (same-stays s) (speaks is) refl refl refl refl tt tt
-      (subst (λ (o : Option ℕ). LearnsAt key place o s.me.0.known s.me.0.known) (sym found) (refl, refl))
-      (λ state how met. cc) (λ how told. cc) refl (λ r. r) tt
+  pub known-joins : (place : ℕ) → place_known key s.me.0.known ≡ Some place → Joins (data_of s) (Resolve s.me.0.number key) (At_place place) (data_of (with_pin place s))
+  known-joins place found = record {
+    mine = speaks is;
+    has = refl;
+    fits = refl;
+    number = refl;
+    own = refl;
+    numbers = refl;
+    explained = tt;
+    gained = tt;
+    learns = subst (λ (o : Option ℕ). LearnsAt key place o s.me.0.known s.me.0.known) (sym found) (refl, refl);
+    agreed = λ state how met. cc;
+    told = λ how told. cc;
+    settled = keeps-settled s (with_pin place s) (sees-same s (with_pin place s) refl refl refl);
+    reads = reads-nothing (data_of s) (data_of (with_pin place s)) refl refl;
+    truly = tt;
+  }
 
   module _ (none : place_known key s.me.0.known ≡ None) where
     -- that it learns
     pub resolve-joins : {s′ : SessionView} (place : ℕ) → is_known place s.me.0.known ≡ false → HasLearnt (record { key = key; place = place } ∷ []) s s′
-        → Joins (data_of s) (Resolve s.me.0.number key) (At_place place) (data_of s′)
+        → Joins (data_of s) (Resolve s.me.0.number key) (At_place place) (data_of (with_pin place s′))
     resolve-joins {s′} place new learnt =
         let one : KnownKey = record { key = key; place = place } in
         let x : SessionView = record s { me = (record s.me.0 { known = s.me.0.known ++ one ∷ []; log = learnt.log }, s.me.1); room = learnt.room } in
-        subst (λ (t : SessionView). Joins (data_of s) (Resolve s.me.0.number key) (At_place place) (data_of t)) (sym learnt.now) (record {
+        subst (λ (t : SessionView). Joins (data_of s) (Resolve s.me.0.number key) (At_place place) (data_of (with_pin place t))) (sym learnt.now) (record {
           mine = speaks is;
           has = refl;
           fits = refl;
@@ -89,8 +147,8 @@ module _ {s : SessionView} (is : IsMember s) (key : KeyName) where
           learns = subst (λ (o : Option ℕ). LearnsAt key place o s.me.0.known (s.me.0.known ++ one ∷ [])) (sym none) (new, refl);
           agreed = λ state how met. cc;
           told = λ how told. cc;
-          settled = keeps-settled s x (sees-same s x refl refl refl);
-          reads = reads-nothing (data_of s) (data_of x) refl refl;
+          settled = keeps-settled s (with_pin place x) (sees-same s (with_pin place x) refl refl refl);
+          reads = reads-nothing (data_of s) (data_of (with_pin place x)) refl refl;
           truly = tt;
         })
 
@@ -104,10 +162,10 @@ module _ {s : SessionView} (is : IsMember s) (key : KeyName) where
         (λ state how met. cc) tt
 
 -- what the directory answers of a key that it doesn't know
-pub resolved : (seat seat′ : SeatState) (sessions place : ℕ) {room room′ : Room} (key : KeyName) → place_known key seat.me.0.known ≡ None
+pub resolved : (seat seat′ : SeatState) (sessions place : ℕ) {room room′ : Room} {pins : List ℕ} (key : KeyName) → place_known key seat.me.0.known ≡ None
     → ((0 < place) × (place < seat.table.slots) × MakesSteps (knowing_key (record { key = key; place = place }) seat.me) seat′.me)
     → ((k left : Keys) × AtItsTable seat seat′ (TookDirectory seat.table.slots k left) × IsLookupAnswer seat.table.slots key k left (Ok place))
-    → HasLearnt (record { key = key; place = place } ∷ []) (session_at seat sessions room) (session_at seat′ sessions room′)
+    → HasLearnt (record { key = key; place = place } ∷ []) (session_at seat sessions room pins) (session_at seat′ sessions room′ pins)
     × AreWithin seat.table.slots (record { key = key; place = place } ∷ []) × (is_known place seat.me.0.known ≡ false)
 resolved seat seat′ sessions place key none knows answer =
     let one : KnownKey = record { key = key; place = place } in
@@ -210,21 +268,21 @@ steps-then m m′ m″ first second = (
 )
 
 -- what the directory tells of them, and then the place of each
-module _ (seat mid seat′ : SeatState) (sessions : ℕ) {room : Room} (schema : List ℕ) (k : Keys) (tables : List KnownKey) (is : IsMember (session_at seat sessions room))
+module _ (seat mid seat′ : SeatState) (sessions : ℕ) {room : Room} {pins : List ℕ} (schema : List ℕ) (k : Keys) (tables : List KnownKey) (is : IsMember (session_at seat sessions room pins))
     (took : AtItsTable seat mid (TookDirectory seat.table.slots k k)) (are : AreAllTables schema k tables) (knows : MakesSteps (knowing_all tables seat.me) mid.me)
     (steps : AtItsTable mid seat′ MakesSteps) where
   abbrev all : List KnownKey
   all = seat.me.0.known ++ unknown seat.me.0.known tables
 
-  pub learnt-all : {room′ : Room} → HasLearnt (unknown seat.me.0.known tables) (session_at seat sessions room) (session_at seat′ sessions room′)
+  pub learnt-all : {room′ : Room} → HasLearnt (unknown seat.me.0.known tables) (session_at seat sessions room pins) (session_at seat′ sessions room′ pins)
   learnt-all = learnt-by seat seat′ sessions (unknown seat.me.0.known tables) (steps.0 ∙ took.0) (steps-then (knowing_all tables seat.me) mid.me seat′.me knows steps.1)
 
   pub all-apart : are_apart all ≡ true
   all-apart = apart_and schema k seat.me.0 tables took.1.recorded.known are (keys-apart is)
 
   pub told-tables : {room′ : Room} (places : List ℕ) → StaysQuiet mid.me seat′.me → HasAsked mid.me.0.number tables places mid.me seat′.me
-      → KeepsRoom 0 room room′ → Joins (data_of (session_at seat sessions room)) (Tables_of seat.me.0.number schema) (Tables places) (data_of (session_at seat′ sessions room′))
-      × Shows (Tables_of seat.me.0.number schema) (Tables places) (session_at seat sessions room) (session_at seat′ sessions room′)
+      → KeepsRoom 0 room room′ → Joins (data_of (session_at seat sessions room pins)) (Tables_of seat.me.0.number schema) (Tables places) (data_of (session_at seat′ sessions room′ pins))
+      × Shows (Tables_of seat.me.0.number schema) (Tables places) (session_at seat sessions room pins) (session_at seat′ sessions room′ pins)
   told-tables {room′} places quiet asked keeps =
       let old : Mine = seat.me in
       let new : Mine = seat′.me in
@@ -248,7 +306,7 @@ module _ (seat mid seat′ : SeatState) (sessions : ℕ) {room : Room} (schema :
             (tables, are, has, ap (λ (x : SessionView). x.me.0.known) learnt.now, subst (AreLearnt tables) (sym (ap (λ (x : SessionView). x.me.0.known) learnt.now)) known),
           );
           room = keeps;
-          debts = same-debts (session_at seat sessions room) (session_at seat′ sessions room′) (learnt-owes learnt);
+          debts = same-debts (session_at seat sessions room pins) (session_at seat′ sessions room′ pins) (learnt-owes learnt);
           owes = (learnt-owes learnt, ap (λ (x : SessionView). x.me.0.searches) learnt.now);
         },
       )

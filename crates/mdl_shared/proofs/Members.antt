@@ -86,12 +86,12 @@ pub same-fast : (known : List KnownKey) (asks : Option Ask) (fast : List Session
 same-fast known asks fast = record { unfast = λ a waits e. e; plain = λ e. e }
 
 -- what its seat's visit tells
-pub seat-changed : (seat seat′ : SeatState) (sessions : ℕ) {room : Room} → seat′.table ≡ seat.table → (m : Mine) → seat′.me ≡ m
-    → session_at seat′ sessions room ≡ record (session_at seat sessions room) { me = m }
-seat-changed seat seat′ sessions {room} table m me = λ i. record { table = table i; sessions = sessions; me = me i; room = room }
+pub seat-changed : (seat seat′ : SeatState) (sessions : ℕ) {room : Room} {pins : List ℕ} → seat′.table ≡ seat.table → (m : Mine) → seat′.me ≡ m
+    → session_at seat′ sessions room pins ≡ record (session_at seat sessions room pins) { me = m }
+seat-changed seat seat′ sessions {room} {pins} table m me = λ i. record { table = table i; sessions = sessions; me = me i; room = room; pins = pins }
 
-pub visited : {place : ℕ} {ds : List Deed} (seat seat′ : SeatState) (sessions : ℕ) {room room′ : Room} → DoesSlow place ds seat.me.0 → AtItsTable seat seat′ (Visits place ds)
-    → DidDeeds place ds (session_at seat sessions room) (session_at seat′ sessions room′)
+pub visited : {place : ℕ} {ds : List Deed} (seat seat′ : SeatState) (sessions : ℕ) {room room′ : Room} {pins : List ℕ} → DoesSlow place ds seat.me.0 → AtItsTable seat seat′ (Visits place ds)
+    → DidDeeds place ds (session_at seat sessions room pins) (session_at seat′ sessions room′ pins)
 visited {place} {ds} seat seat′ sessions {room} {room′} same visits = record {
   slow = all_owned place ds seat.me.0.slow;
   fast = seat.me.0.fast;
@@ -120,8 +120,8 @@ owed-still p place (q ∷ qs) owed = by_bool (q == place)
     or-either true b c e more = refl
     or-either false b c e more = more e
 
-pub rescheduled : {place : ℕ} {ds : List Deed} (seat seat′ : SeatState) (sessions : ℕ) {room room′ : Room} → DoesSlow place ds seat.me.0 → AtItsTable seat seat′ (VisitsAndReschedules seat.table place ds)
-    → DidDeeds place ds (session_at seat sessions room) (session_at seat′ sessions room′)
+pub rescheduled : {place : ℕ} {ds : List Deed} (seat seat′ : SeatState) (sessions : ℕ) {room room′ : Room} {pins : List ℕ} → DoesSlow place ds seat.me.0 → AtItsTable seat seat′ (VisitsAndReschedules seat.table place ds)
+    → DidDeeds place ds (session_at seat sessions room pins) (session_at seat′ sessions room′ pins)
 rescheduled {place} {ds} seat seat′ sessions {room} {room′} same visits =
     let told : seat′.me.0.told ≡ visits.1.told = ap (λ (m : Mine). m.0.told) visits.1.now in
     record {
@@ -182,6 +182,7 @@ module _ {place : ℕ} {ds : List Deed} {s s′ : SessionView} (done : DidDeeds 
   done-rest = subst (λ (x : SessionView). KeepsRest s x) (sym done.now) (record {
     number = refl;
     known = refl;
+    pins = refl;
     wait = record { asks = refl; waits = refl; stays = done.stays; unasked = done.unasked };
   })
 
@@ -206,6 +207,7 @@ done-nothing done =
       tickets = done-tickets done;
       next = done-next done;
       known = rest.known;
+      pins = rest.pins;
       wait = rest.wait;
       reads = done-reads done;
     }

@@ -9,7 +9,7 @@ use Rattle.std.proofs.Props.{props}
 use Rattle.std.specs.Coded.{Coded-set, coded_list}
 use mathlib.Core.HLevel.{×_prop, Unit-prop, Π_prop}
 use mathlib.Core.Logic.{∥∥₁_elim}
-use Rattle.mdl_shared.proofs.Common.{AreAlike, Ask, Definition, Each, FitsKey, HoldsNoLatch, IfSome, IsMember, IsNoted, IsOwed, IsSound, KeyName, MayStand, Member, Namespace, SessionData, SessionTicket, SessionView, VersionedDefinition, Wait, are_apart, are_below, are_counted, are_placed, are_within, first_free, fits, is_ask_last, is_ask_told, is_known, is_newest, is_waiting, key_known, last_read, most_numbers, noted_at, tickets_seen, view_of, word_count}
+use Rattle.mdl_shared.proofs.Common.{AreAlike, Ask, Definition, Each, FitsKey, HoldsNoLatch, IfSome, IsMember, IsNoted, IsOwed, IsSound, KeyName, MayStand, Member, Namespace, SessionData, SessionTicket, SessionView, VersionedDefinition, Wait, are_apart, are_below, are_counted, are_pins_known, are_placed, are_within, first_free, fits, is_ask_last, is_ask_told, is_known, is_newest, is_waiting, key_known, last_read, most_numbers, noted_at, tickets_seen, view_of, word_count}
 
 -- ---- what may stand
 
@@ -70,6 +70,7 @@ IsSound-prop a x y =
     let rising_prop : IsProp (IsRising a.own) = hlevel props in
     let below_prop : IsProp (are_below (first_free (is_waiting a.own) a.numbers) a.own.held ≡ true) = hlevel props in
     let placed_prop : IsProp (are_placed a.known a.own.held ≡ true) = hlevel props in
+    let pinned_prop : IsProp (are_pins_known a.known a.own.pins ≡ true) = hlevel props in
     let apart_prop : IsProp (are_apart a.known ≡ true) = hlevel props in
     let settled_prop : IsProp (is_some a.settled ≡ true → is_waiting a.own ≡ true) = hlevel props in
     let noted_prop : IsProp ((place version : ℕ) → noted_at place a.notes ≡ Some version → IsNoted a place version) = hlevel props in
@@ -81,6 +82,7 @@ IsSound-prop a x y =
       below = below_prop x.below y.below i;
       placed = placed_prop x.placed y.placed i;
       awaited = awaited-prop a x.awaited y.awaited i;
+      pinned = pinned_prop x.pinned y.pinned i;
       apart = apart_prop x.apart y.apart i;
       settled = settled_prop x.settled y.settled i;
       noted = noted_prop x.noted y.noted i;

@@ -55,8 +55,8 @@ quiet-none s = record {
 }
 
 -- steps and nothing else
-pub quiet-made : {place : ℕ} (seat seat′ : SeatState) (sessions : ℕ) {room room′ : Room} → AtItsTable seat seat′ MakesSteps
-    → DoesQuietly place [] (session_at seat sessions room) (session_at seat′ sessions room′)
+pub quiet-made : {place : ℕ} (seat seat′ : SeatState) (sessions : ℕ) {room room′ : Room} {pins : List ℕ} → AtItsTable seat seat′ MakesSteps
+    → DoesQuietly place [] (session_at seat sessions room pins) (session_at seat′ sessions room′ pins)
 quiet-made seat seat′ sessions {room} {room′} made = record {
   done = record {
     slow = seat.me.0.slow;

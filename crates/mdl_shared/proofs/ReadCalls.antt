@@ -31,12 +31,12 @@ abbrev pub HasNoted : ℕ → VersionedDefinition → SessionView → SessionVie
 HasNoted place standing s s′ = NotesAll place standing.version (s.me.0.reads ++ record { place = place; standing = standing } ∷ []) s s′
 
 -- what its seat's visit tells
-pub noted-by : {place : ℕ} (standing : VersionedDefinition) (seat seat′ : SeatState) (sessions : ℕ) {room room′ : Room} → seat′.table ≡ seat.table → Learns place standing seat.me seat′.me
-    → HasNoted place standing (session_at seat sessions room) (session_at seat′ sessions room′)
-noted-by standing seat seat′ sessions {room′ = room′} table learns = record {
+pub noted-by : {place : ℕ} (standing : VersionedDefinition) (seat seat′ : SeatState) (sessions : ℕ) {room room′ : Room} {pins : List ℕ} → seat′.table ≡ seat.table → Learns place standing seat.me seat′.me
+    → HasNoted place standing (session_at seat sessions room pins) (session_at seat′ sessions room′ pins)
+noted-by standing seat seat′ sessions {room′ = room′} {pins = pins} table learns = record {
   log = seat.me.0.log ++ learns.0;
   room = room′;
-  now = λ i. record { table = table i; sessions = sessions; me = learns.1 i; room = room′ };
+  now = λ i. record { table = table i; sessions = sessions; me = learns.1 i; room = room′; pins = pins };
 }
 
 module _ {place version : ℕ} {reads : List Reading} {s s′ : SessionView} (noted : NotesAll place version reads s s′) where
@@ -56,7 +56,7 @@ module _ {place version : ℕ} {reads : List Reading} {s s′ : SessionView} (no
   })
 
   noted-rest : KeepsRest s s′
-  noted-rest = subst (λ (x : SessionView). KeepsRest s x) (sym noted.now) (record { number = refl; known = refl; wait = sees-same s _ refl refl refl })
+  noted-rest = subst (λ (x : SessionView). KeepsRest s x) (sym noted.now) (record { number = refl; known = refl; pins = refl; wait = sees-same s _ refl refl refl })
 
   pub noted-tickets : tickets_seen s′.me.0 ≡ noting_version place version (tickets_seen s.me.0)
   noted-tickets = ap (λ (x : SessionView). tickets_seen x.me.0) noted.now ∙ sym (noted-both place version s.me.0.slow s.me.0.fast)

@@ -1,5 +1,5 @@
 -- A session gives up a ticket, a slow one or a fast one.
-use Rattle.std.proofs.Common.{◌≡◌, ℕ, [], ◌∷◌, Option, Some, None, is_some, if◌then◌else◌, sym, ap, subst, ◌∙◌}
+use Rattle.std.proofs.Common.{◌≡◌, ℕ, List, [], ◌∷◌, Option, Some, None, is_some, if◌then◌else◌, sym, ap, subst, ◌∙◌}
 use Rattle.mdl_shared.proofs.FirstLemmas.{AtItsTable, DidDeeds, Does, DoesToOwn, Done, GivesUpFast, GivesUpSlow, IsMember, Joins, KeepsRoom, Lose, Mine, NotHeld, Release, Room, SeatState, SessionTicket, SessionView, Shows, VisitsAndReschedules, VisitsOnce, data_of, does_reschedule, done-debts, fast-held, has_number, holding_fault, if-clear, loses-slow, numbered, rescheduled, rescheduled-owes, session_at, tickets_seen}
 use Rattle.mdl_shared.proofs.SlowOrFast.{fast-only}
 use Rattle.mdl_shared.proofs.TicketCalls.{release-joins}
@@ -22,13 +22,13 @@ release-shows {a} {b} id t its done did met searches keeps = record {
 }
 
 -- a slow one, by a visit of its place
-pub released-slow : (seat seat′ : SeatState) (sessions id : ℕ) {room room′ : Room} (t : SessionTicket) → IsMember (session_at seat sessions room) → numbered id (tickets_seen seat.me.0) ≡ Some t
+pub released-slow : (seat seat′ : SeatState) (sessions id : ℕ) {room room′ : Room} {pins : List ℕ} (t : SessionTicket) → IsMember (session_at seat sessions room pins) → numbered id (tickets_seen seat.me.0) ≡ Some t
     → numbered id seat.me.0.slow ≡ Some t → numbered id seat.me.0.fast ≡ None → AtItsTable seat seat′ (VisitsAndReschedules seat.table t.place (Lose id ∷ []))
     → DoesToOwn t.place id (Lose id ∷ []) seat seat′ → VisitsOnce t.place seat.me seat′.me → KeepsRoom 0 room room′
-    → Joins (data_of (session_at seat sessions room)) (Release seat.me.0.number id) Done (data_of (session_at seat′ sessions room′))
-    × Shows (Release seat.me.0.number id) Done (session_at seat sessions room) (session_at seat′ sessions room′)
-released-slow seat seat′ sessions id {room} {room′} t is its slow none visit step once keeps =
-    let done = rescheduled seat seat′ sessions {room = room} {room′ = room′} (loses-slow is t.place id t slow) visit in (
+    → Joins (data_of (session_at seat sessions room pins)) (Release seat.me.0.number id) Done (data_of (session_at seat′ sessions room′ pins))
+    × Shows (Release seat.me.0.number id) Done (session_at seat sessions room pins) (session_at seat′ sessions room′ pins)
+released-slow seat seat′ sessions id {room} {room′} {pins} t is its slow none visit step once keeps =
+    let done = rescheduled seat seat′ sessions {room = room} {room′ = room′} {pins = pins} (loses-slow is t.place id t slow) visit in (
       release-joins is id t its done,
       release-shows id t its done (does_reschedule seat.me seat′.me seat.table t.place (Lose id ∷ []) visit.1) (
         (λ its_slow. ((step.0, step.1, (step.2, step.3)), (visit.1.way, once, rescheduled-owes visit))),

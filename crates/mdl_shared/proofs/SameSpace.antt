@@ -9,21 +9,20 @@ use Rattle.mdl_shared.proofs.Common.{Answer, Ask, Call, Draws, Held, IsCause, Is
 abbrev pub wait_by : ℕ → Option Ask → Option Wait
 wait_by waits asks = option_map (λ (a : Ask). record { number = waits; place = a.place; mode = a.mode }) asks
 
-abbrev pub own_of : List Held → Option Wait → SessionLocks
-own_of held wait = record { held = held; wait = wait }
+abbrev pub own_of : List Held → Option Wait → List ℕ → SessionLocks
+own_of held wait pins = record { held = held; wait = wait; pins = pins }
 
--- by its tickets and its wait
-abbrev pub own_by : List SessionTicket → Option Ask → ℕ → SessionLocks
-own_by tickets asks waits = record { held = map as_held tickets; wait = wait_by waits asks }
+-- by its tickets, its wait and its pins
+abbrev pub own_by : List SessionTicket → Option Ask → ℕ → List ℕ → SessionLocks
+own_by tickets asks waits pins = record { held = map as_held tickets; wait = wait_by waits asks; pins = pins }
 
 -- and the last numbers that it gave
 abbrev pub numbers_by : ℕ → ℕ → Numbers
 numbers_by next waits = record { last_ticket = next - 1; last_wait = waits }
 
-pub own-same : (tickets tickets′ : List SessionTicket) (asks asks′ : Option Ask) (waits waits′ : ℕ) → tickets′ ≡ tickets → asks′ ≡ asks → waits′ ≡ waits
-    → own_by tickets′ asks′ waits′ ≡ own_by tickets asks waits
-own-same tickets tickets′ asks asks′ waits waits′ t a w =
-    ap (λ x. own_by x asks′ waits′) t ∙ ap (λ x. own_by tickets x waits′) a ∙ ap (λ x. own_by tickets asks x) w
+pub own-same : (tickets tickets′ : List SessionTicket) (asks asks′ : Option Ask) (waits waits′ : ℕ) (pins pins′ : List ℕ) → tickets′ ≡ tickets → asks′ ≡ asks
+    → waits′ ≡ waits → pins′ ≡ pins → own_by tickets′ asks′ waits′ pins′ ≡ own_by tickets asks waits pins
+own-same tickets tickets′ asks asks′ waits waits′ pins pins′ t a w p = λ i. own_by (t i) (a i) (w i) (p i)
 
 -- a session waits where it asks
 pub waits-asks : (asks : Option Ask) (waits : ℕ) → is_some (wait_by waits asks) ≡ is_some asks
@@ -31,10 +30,9 @@ waits-asks None waits = refl
 waits-asks (Some a) waits = refl
 
 -- by what it is told to hold, where its wait is the same
-own-with : (held held′ : List Held) (asks asks′ : Option Ask) (waits waits′ : ℕ) → held′ ≡ held → asks′ ≡ asks → waits′ ≡ waits
-    → own_of held′ (wait_by waits′ asks′) ≡ own_of held (wait_by waits asks)
-own-with held held′ asks asks′ waits waits′ h a w =
-    ap (λ x. own_of x (wait_by waits′ asks′)) h ∙ ap (λ x. own_of held (wait_by waits′ x)) a ∙ ap (λ x. own_of held (wait_by x asks)) w
+own-with : (held held′ : List Held) (asks asks′ : Option Ask) (waits waits′ : ℕ) (pins pins′ : List ℕ) → held′ ≡ held → asks′ ≡ asks → waits′ ≡ waits
+    → pins′ ≡ pins → own_of held′ (wait_by waits′ asks′) pins′ ≡ own_of held (wait_by waits asks) pins
+own-with held held′ asks asks′ waits waits′ pins pins′ h a w p = λ i. own_of (h i) (wait_by (w i) (a i)) (p i)
 
 -- ---- how its wait is settled
 
@@ -72,6 +70,7 @@ pub record SeesWait (m m′ : SessionView) : Type 0 where
 pub record KeepsRest (m m′ : SessionView) : Type 0 where
   pub number : m′.me.0.number ≡ m.me.0.number
   pub known : m′.me.0.known ≡ m.me.0.known
+  pub pins : m′.pins ≡ m.pins
   pub wait : SeesWait m m′
 
 -- nothing else than that has changed
@@ -80,6 +79,7 @@ pub record Stays (m m′ : SessionView) : Type 0 where
   pub tickets : tickets_seen m′.me.0 ≡ tickets_seen m.me.0
   pub next : m′.me.0.next ≡ m.me.0.next
   pub known : m′.me.0.known ≡ m.me.0.known
+  pub pins : m′.pins ≡ m.pins
   pub wait : SeesWait m m′
   pub reads : ReadNothing m.me m′.me
 
@@ -93,10 +93,10 @@ sees-same m m′ asks waits told = record { asks = asks; waits = waits; stays = 
 
 -- a session that hasn't changed
 pub same-rest : (m : SessionView) → KeepsRest m m
-same-rest m = record { number = refl; known = refl; wait = sees-same m m refl refl refl }
+same-rest m = record { number = refl; known = refl; pins = refl; wait = sees-same m m refl refl refl }
 
 pub same-stays : (m : SessionView) → Stays m m
-same-stays m = record { number = refl; tickets = refl; next = refl; known = refl; wait = sees-same m m refl refl refl; reads = refl }
+same-stays m = record { number = refl; tickets = refl; next = refl; known = refl; pins = refl; wait = sees-same m m refl refl refl; reads = refl }
 
 -- ---- what it is as a lock space
 
@@ -115,7 +115,7 @@ keeps-settled m m′ sees = (
 pub keeps-all : (m m′ : SessionView) → Stays m m′ → KeepsAll (data_of m) (data_of m′)
 keeps-all m m′ stays = record {
   number = stays.number;
-  own = own-same (tickets_seen m.me.0) (tickets_seen m′.me.0) m.me.0.asks m′.me.0.asks m.me.0.waits m′.me.0.waits stays.tickets stays.wait.asks stays.wait.waits;
+  own = own-same (tickets_seen m.me.0) (tickets_seen m′.me.0) m.me.0.asks m′.me.0.asks m.me.0.waits m′.me.0.waits m.pins m′.pins stays.tickets stays.wait.asks stays.wait.waits stays.pins;
   numbers = numbers-same m.me.0.next m′.me.0.next m.me.0.waits m′.me.0.waits stays.next stays.wait.waits;
   known = stays.known;
   settled = keeps-settled m m′ stays.wait;
@@ -166,7 +166,7 @@ joins-still m m′ call answer stays mine has fits own draws explained gained le
 -- and one that leaves it other tickets, and the wait as it is
 pub joins-held : (m m′ : SessionView) (call : Call) (answer : Answer) (held : List Held) → KeepsRest m m′ → IfSome (caller call) (SpeaksFor (data_of m))
     → session_has_call call ≡ true → is_answer_of call answer ≡ true → map as_held (tickets_seen m′.me.0) ≡ held
-    → own_after call answer (data_of m).own ≡ own_of held (wait_by m.me.0.waits m.me.0.asks)
+    → own_after call answer (data_of m).own ≡ own_of held (wait_by m.me.0.waits m.me.0.asks) m.pins
     → Draws call answer (data_of m).numbers (data_of m′).numbers
     → IsExplained (Knows (data_of m) m.me.0.number) call answer (data_of m).own
     → IfSome (gained_at call answer) (λ place. is_known place (data_of m).known ≡ true)
@@ -180,7 +180,7 @@ joins-held m m′ call answer held rest mine has fits its own draws explained ga
   has = has;
   fits = fits;
   number = rest.number;
-  own = own-with held (map as_held (tickets_seen m′.me.0)) m.me.0.asks m′.me.0.asks m.me.0.waits m′.me.0.waits its rest.wait.asks rest.wait.waits ∙ sym own;
+  own = own-with held (map as_held (tickets_seen m′.me.0)) m.me.0.asks m′.me.0.asks m.me.0.waits m′.me.0.waits m.pins m′.pins its rest.wait.asks rest.wait.waits rest.pins ∙ sym own;
   numbers = draws;
   explained = explained;
   gained = gained;

@@ -123,19 +123,19 @@ module _ {s : SessionView} (is : IsMember s) (why : SpaceError) where
 
 -- ---- what a downgrade comes to
 
-pub downgraded : (seat seat′ : SeatState) (sessions id : ℕ) {room room′ : Room} (mode : Mode) (t : SessionTicket) → IsMember (session_at seat sessions room)
-    → HoldsTicket id t (session_at seat sessions room)
+pub downgraded : (seat seat′ : SeatState) (sessions id : ℕ) {room room′ : Room} {pins : List ℕ} (mode : Mode) (t : SessionTicket) → IsMember (session_at seat sessions room pins)
+    → HoldsTicket id t (session_at seat sessions room pins)
     → numbered t.number seat.me.0.slow ≡ Some t → downgrade_fault (numbered id (tickets_seen seat.me.0)) mode seat.me.0.known ≡ None
     → AtItsTable seat seat′ (VisitsAndReschedules seat.table t.place (Alter t.number mode ∷ []))
     → ((e : StepRecord) × IsStepOf seat.me seat′.me e × MeetsOwn t.place seat.me.0.number t.number e × (e.deeds ≡ Alter t.number mode ∷ []))
     → VisitsOnce t.place seat.me seat′.me → KeepsRoom 0 room room′
-    → Joins (data_of (session_at seat sessions room)) (Downgrade seat.me.0.number id mode) Done (data_of (session_at seat′ sessions room′))
-    × Shows (Downgrade seat.me.0.number id mode) Done (session_at seat sessions room) (session_at seat′ sessions room′)
-downgraded seat seat′ sessions id {room} {room′} mode t is held slow clear visit step once keeps =
+    → Joins (data_of (session_at seat sessions room pins)) (Downgrade seat.me.0.number id mode) Done (data_of (session_at seat′ sessions room′ pins))
+    × Shows (Downgrade seat.me.0.number id mode) Done (session_at seat sessions room pins) (session_at seat′ sessions room′ pins)
+downgraded seat seat′ sessions id {room} {room′} {pins} mode t is held slow clear visit step once keeps =
     let free = ap (λ o. downgrade_fault o mode seat.me.0.known) (held.own ∙ sym held.its) ∙ clear in
-    let done = rescheduled seat seat′ sessions {room = room} {room′ = room′} (alters-slow is t.place t.number mode t slow) visit in
-    subst (λ (n : ℕ). Joins (data_of (session_at seat sessions room)) (Downgrade seat.me.0.number n mode) Done (data_of (session_at seat′ sessions room′))
-    × Shows (Downgrade seat.me.0.number n mode) Done (session_at seat sessions room) (session_at seat′ sessions room′)) held.number (
+    let done = rescheduled seat seat′ sessions {room = room} {room′ = room′} {pins = pins} (alters-slow is t.place t.number mode t slow) visit in
+    subst (λ (n : ℕ). Joins (data_of (session_at seat sessions room pins)) (Downgrade seat.me.0.number n mode) Done (data_of (session_at seat′ sessions room′ pins))
+    × Shows (Downgrade seat.me.0.number n mode) Done (session_at seat sessions room pins) (session_at seat′ sessions room′ pins)) held.number (
       downgrade-joins is t.number t held.own mode free done,
       record {
         table = visit.0;

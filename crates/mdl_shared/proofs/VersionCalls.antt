@@ -1,5 +1,5 @@
 -- A session's step that reads the version of a place without the latch: the session knows no more than before, or it notes the version of what it read.
-use Rattle.std.proofs.Common.{◌≡◌, ℕ, true, [], ◌∷◌, ◌++◌, map, Option, Some, inr, refl, sym, ap, ◌∙◌}
+use Rattle.std.proofs.Common.{◌≡◌, ℕ, true, List, [], ◌∷◌, ◌++◌, map, Option, Some, inr, refl, sym, ap, ◌∙◌}
 use Rattle.mdl_session_laws.proofs.ReadAfter.{HasLearnt, meets-fits}
 use Rattle.mdl_steps.specs.declared.step_kind.StepKind.TheVariants as step
 use Rattle.mdl_shared.proofs.FirstLemmas.{Definition, DidDeeds, Does, FindsVersion, HasMet, IsMember, Joins, KeepsRoom, LearnsVersion, Mine, MissesVersion, ReadNoneNewer, ReadOneStanding, Read_definition, Read_kept, Reads, ReadsVersion, Room, SeatState, SessionData, SessionTicket, SessionView, StepRecord, VersionedDefinition, as_held, data_of, in-order, is-known, is_known, learns-sound, learnt_version, lists_seen, meets-there, met_version, noted-in, noted_under, noted_version, noting-all, noting-elsewhere, noting-told, noting_version, numbered, read-last, session_at, tickets_seen, version_word}
@@ -20,16 +20,16 @@ version-owes seat seat′ place version made = ap (λ (x : SeatState). x.me.0.ow
 pub version-lists : (seat seat′ : SeatState) (place version : ℕ) → seat′ ≡ record seat { me = met_version place version seat.me } → lists_seen seat′.me.0 ≡ lists_seen seat.me.0
 version-lists seat seat′ place version made = ap (λ (x : SeatState). lists_seen x.me.0) made
 
-module _ (seat seat′ : SeatState) (sessions : ℕ) {room room′ : Room} (place version : ℕ) (made : seat′ ≡ record seat { me = met_version place version seat.me }) where
-  pub version-done : DidDeeds 0 [] (session_at seat sessions room) (session_at seat′ sessions room′)
+module _ (seat seat′ : SeatState) (sessions : ℕ) {room room′ : Room} {pins : List ℕ} (place version : ℕ) (made : seat′ ≡ record seat { me = met_version place version seat.me }) where
+  pub version-done : DidDeeds 0 [] (session_at seat sessions room pins) (session_at seat′ sessions room′ pins)
   version-done =
       quietly {seat = seat} {seat′ = seat′} {log = _} {told = seat.me.0.told} {settles = seat.me.0.settles} sessions (ap (λ (x : SeatState). x.table) made)
       (ap (λ (x : SeatState). x.me) made) (λ state told. told) (λ none. refl)
 
-  pub version-missed : ReadNoneNewer place version seat.me → KeepsRoom 0 room room′ → MissesVersion place version (session_at seat sessions room) (session_at seat′ sessions room′)
+  pub version-missed : ReadNoneNewer place version seat.me → KeepsRoom 0 room room′ → MissesVersion place version (session_at seat sessions room pins) (session_at seat′ sessions room′ pins)
   version-missed newest keeps = record {
     now = ap (λ (x : SeatState). x.me) made;
-    same = λ i. record { table = (made i).table; sessions = sessions; me = seat′.me; room = room′ };
+    same = λ i. record { table = (made i).table; sessions = sessions; me = seat′.me; room = room′; pins = pins };
     room = keeps;
     newest = newest;
   }
@@ -105,12 +105,12 @@ module _ {s s′ : SessionView} (is : IsMember s) (id : ℕ) (t : SessionTicket)
 
 -- ---- the version is read, and what is defined in it counts as read
 
-abbrev pub version-reads : {place version : ℕ} (seat seat′ : SeatState) (sessions : ℕ) {room room′ : Room} → seat′ ≡ record seat { me = seat′.me }
+abbrev pub version-reads : {place version : ℕ} (seat seat′ : SeatState) (sessions : ℕ) {room room′ : Room} {pins : List ℕ} → seat′ ≡ record seat { me = seat′.me }
     → LearnsVersion place version seat.me seat′.me → KeepsRoom 0 room room′
-    → ReadsVersion place version (session_at seat sessions room) (session_at seat′ sessions room′)
-version-reads seat seat′ sessions {room′ = room′} same learns keeps = record {
+    → ReadsVersion place version (session_at seat sessions room pins) (session_at seat′ sessions room′ pins)
+version-reads seat seat′ sessions {room′ = room′} {pins = pins} same learns keeps = record {
   learnt = learns;
-  same = λ i. record { table = (same i).table; sessions = sessions; me = seat′.me; room = room′ };
+  same = λ i. record { table = (same i).table; sessions = sessions; me = seat′.me; room = room′; pins = pins };
   room = keeps;
 }
 
@@ -150,7 +150,7 @@ module _ {place version : ℕ} {s s′ : SessionView} (reads : ReadsVersion plac
         ap (map as_held) (noted-tickets learnt-noted) ∙ noting-told place learnt-found.version (tickets_seen s.me.0) in
         λ i. record {
           number = ap (λ (x : SessionView). (data_of x).number) learnt-now i;
-          own = record { held = held i; wait = ap (λ (x : SessionView). (data_of x).own.wait) learnt-now i };
+          own = record { held = held i; wait = ap (λ (x : SessionView). (data_of x).own.wait) learnt-now i; pins = ap (λ (x : SessionView). x.pins) learnt-now i };
           numbers = ap (λ (x : SessionView). (data_of x).numbers) learnt-now i;
           known = ap (λ (x : SessionView). (data_of x).known) learnt-now i;
           settled = ap (λ (x : SessionView). (data_of x).settled) learnt-now i;

@@ -3,10 +3,10 @@ use Rattle.std.proofs.Common.{◌≡◌, ◌⊎◌, ℕ, ◌<◌, ◌≤◌, ◌
 use Rattle.mdl_shared.proofs.FirstLemmas.{Answer, DidDeeds, Does, IsMember, IsSession, IsSettled, IsStepOf, KeepsRoom, Lists, MakesNoStep, MeetsWord, Member, Mine, No_cycle, Refused, Room, Search, SeatState, SessionView, Settlement, StaysFor, StaysOn, StaysThere, StaysTold, StepKind, StepRecord, StepSpec, TakesSteps, TellsOwn, and_parts, but_searching, by_bool, does_then, done-debts, done-nothing, done-order, done-then, each_append, false≢true, gained_by, gives_back, joins-still, keeps-before, keeps-equal, keeps-more, kept, kind_raises_flags, lists_seen, logged, meeting, same-fast, session_at, speaks, tickets_seen, wait_state, wait_word}
 
 -- visits without a deed, after which the session may have no search left to make
-pub quietly-searched : {seat seat′ : SeatState} {log : List StepRecord} {told : Option ℕ} {settles : List Settlement} (sessions : ℕ) {room room′ : Room} → seat′.table ≡ seat.table
+pub quietly-searched : {seat seat′ : SeatState} {log : List StepRecord} {told : Option ℕ} {settles : List Settlement} (sessions : ℕ) {room room′ : Room} {pins : List ℕ} → seat′.table ≡ seat.table
     → (but_searching seat seat′).me ≡ (record seat.me.0 { told = told; settles = settles; log = log }, seat.me.1) → StaysTold seat.me.0.told told
-    → (seat.me.0.asks ≡ None → told ≡ seat.me.0.told) → DidDeeds 0 [] (session_at seat sessions room) (session_at seat′ sessions room′)
-quietly-searched {seat = seat} {seat′ = seat′} {log = log} {told = told} {settles = settles} sessions {room′ = room′} table me stays unasked = record {
+    → (seat.me.0.asks ≡ None → told ≡ seat.me.0.told) → DidDeeds 0 [] (session_at seat sessions room pins) (session_at seat′ sessions room′ pins)
+quietly-searched {seat = seat} {seat′ = seat′} {log = log} {told = told} {settles = settles} sessions {room′ = room′} {pins = pins} table me stays unasked = record {
   slow = seat.me.0.slow;
   fast = seat.me.0.fast;
   told = told;
@@ -15,7 +15,7 @@ quietly-searched {seat = seat} {seat′ = seat′} {log = log} {told = told} {se
   settles = settles;
   log = log;
   room = room′;
-  now = λ i. record { table = table i; sessions = sessions; me = (record (me i).0 { searches = seat′.me.0.searches }, (me i).1); room = room′ };
+  now = λ i. record { table = table i; sessions = sessions; me = (record (me i).0 { searches = seat′.me.0.searches }, (me i).1); room = room′; pins = pins };
   tickets = refl;
   fasts = same-fast seat.me.0.known seat.me.0.asks seat.me.0.fast;
   stays = stays;
@@ -24,9 +24,9 @@ quietly-searched {seat = seat} {seat′ = seat′} {log = log} {told = told} {se
 }
 
 -- a visit without a deed
-pub quietly : {seat seat′ : SeatState} {log : List StepRecord} {told : Option ℕ} {settles : List Settlement} (sessions : ℕ) {room room′ : Room} → seat′.table ≡ seat.table
+pub quietly : {seat seat′ : SeatState} {log : List StepRecord} {told : Option ℕ} {settles : List Settlement} (sessions : ℕ) {room room′ : Room} {pins : List ℕ} → seat′.table ≡ seat.table
     → seat′.me ≡ (record seat.me.0 { told = told; settles = settles; log = log }, seat.me.1) → StaysTold seat.me.0.told told
-    → (seat.me.0.asks ≡ None → told ≡ seat.me.0.told) → DidDeeds 0 [] (session_at seat sessions room) (session_at seat′ sessions room′)
+    → (seat.me.0.asks ≡ None → told ≡ seat.me.0.told) → DidDeeds 0 [] (session_at seat sessions room pins) (session_at seat′ sessions room′ pins)
 quietly {seat = seat} {seat′ = seat′} sessions table me = quietly-searched {seat = seat} {seat′ = seat′} sessions table (λ i. (record (me i).0 { searches = seat.me.0.searches }, (me i).1))
 
 -- of a session that waits what is told of no wait is so

@@ -105,9 +105,9 @@ module _ {s : SessionView} (is : IsMember s) (place : ℕ) (mode : Mode) where
 -- ---- waits that begin
 
 -- what the visit tells
-pub begun : {place : ℕ} {mode : Mode} (seat seat′ : SeatState) (sessions : ℕ) {room : Room} (opens : AtItsTable seat seat′ (Opens place mode))
-    → session_at seat′ sessions room ≡ record (session_at seat sessions room) { me = (record (view_awaiting place mode seat.me.0) { log = seat.me.0.log ++ opens.1.made }, seat.me.1) }
-begun seat seat′ sessions {room} opens = λ i. record { table = opens.0 i; sessions = sessions; me = opens.1.now i; room = room }
+pub begun : {place : ℕ} {mode : Mode} (seat seat′ : SeatState) (sessions : ℕ) {room : Room} {pins : List ℕ} (opens : AtItsTable seat seat′ (Opens place mode))
+    → session_at seat′ sessions room pins ≡ record (session_at seat sessions room pins) { me = (record (view_awaiting place mode seat.me.0) { log = seat.me.0.log ++ opens.1.made }, seat.me.1) }
+begun seat seat′ sessions {room} {pins} opens = λ i. record { table = opens.0 i; sessions = sessions; me = opens.1.now i; room = room; pins = pins }
 
 module _ {s s′ : SessionView} (is : IsMember s) {place : ℕ} {mode : Mode} (clear : wish_fault (kind_known place s.me.0.known) s.me.0.asks mode s.me.0.next ≡ None)
     {log : List StepRecord} {room : Room} (now : s′ ≡ record s { me = (record (view_awaiting place mode s.me.0) { log = log }, s.me.1); room = room }) where
@@ -138,7 +138,7 @@ module _ {s s′ : SessionView} (is : IsMember s) {place : ℕ} {mode : Mode} (c
         has = refl;
         fits = refl;
         number = refl;
-        own = ap (λ (n : ℕ). own_by (tickets_seen s.me.0) (Some (asking place mode s.me.0)) n) (sym drawn);
+        own = ap (λ (n : ℕ). own_by (tickets_seen s.me.0) (Some (asking place mode s.me.0)) n s.pins) (sym drawn);
         numbers = (drawn, numbers-waited s.me.0.next (s.me.0.next + 1) s.me.0.waits (s.me.0.waits + 1) (next-some is) refl refl);
         explained = clear-wish is place mode clear;
         gained = (wish-clear s place mode clear).2;

@@ -54,7 +54,7 @@ unasked m idle P ask asks = let no = sym asks ∙ ap (λ (l : Lists). l.asks) m.
 
 -- a visit that gained the next ticket did that
 pub gained-by : (m : Member) (seat′ : SeatState) {room : Room} (place : ℕ) (mode : Mode) → m.tickets.fast ≡ []
-    → AtItsTable m.seat seat′ (Visits place (Gain m.next mode ∷ [])) → DidDeeds place (Gain m.next mode ∷ []) (view_of m) (session_at seat′ m.sessions room)
+    → AtItsTable m.seat seat′ (Visits place (Gain m.next mode ∷ [])) → DidDeeds place (Gain m.next mode ∷ []) (view_of m) (session_at seat′ m.sessions room m.known.pins)
 gained-by m seat′ place mode none visit =
     visited m.seat seat′ m.sessions (gains-slow (member m) place m.next mode (ap (λ (l : Lists). l.next) m.lists) (none-there (member m) (unfast-seen m none) place)) visit
 

@@ -1,6 +1,6 @@
 -- What comes of closing a session.
-use Rattle.std.specs.Prelude.{◌≡◌, ◌⊎◌, ℕ, ◌<◌, ◌==◌, true, false, List, [], None, length}
-use Rattle.mdl_shared.specs.FirstWords.{IsOwed, SessionView, data_of, is_known, is_waiting, list_any}
+use Rattle.std.specs.Prelude.{◌≡◌, ◌⊎◌, ℕ, ◌<◌, ◌==◌, true, false, List, [], length}
+use Rattle.mdl_shared.specs.FirstWords.{HasNothing, IsOwed, SessionView, data_of, is_known, is_waiting, list_any}
 use Rattle.mdl_shared.specs.Passes.{pass_view}
 use Rattle.mdl_shared.specs.declared.close.CloseError.TheVariants.{HoldsTickets, Owes}
 use Rattle.mdl_shared.specs.declared.close.CloseError.{CloseError}
@@ -8,7 +8,7 @@ use Rattle.mdl_shared.specs.declared.pass.Pass.{Pass}
 
 -- the session has no ticket and no wait
 abbrev pub HasNoLocks : SessionView → Type 0
-HasNoLocks s = (data_of s).own ≡ record { held = []; wait = None }
+HasNoLocks s = HasNothing (data_of s).own
 
 -- a place is owed a reschedule, by the list of places that are owed one, and no lesser one is
 abbrev pub IsFirstOwed : ℕ → List ℕ → Type 0

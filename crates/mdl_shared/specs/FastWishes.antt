@@ -40,6 +40,7 @@ pub record BeginsToWait (place : ℕ) (mode : Mode) (number : ℕ) (a b : Sessio
   pub next : number ≡ a.me.0.waits + 1
   pub table : b.table ≡ a.table
   pub sessions : b.sessions ≡ a.sessions
+  pub pins : b.pins ≡ a.pins
   pub opens : Opens place mode a.me b.me
   pub met : (e f : StepRecord) × AreStepsOf a.me b.me e f × MeetsBlocked place a.me.0.number mode e
       × MeetsOpening a.table.slots place a.me.0.number a.me.0.waits a.me.0.next mode f

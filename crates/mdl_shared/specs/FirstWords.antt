@@ -1,6 +1,7 @@
 -- What `Prelude` passes on, and the first words of this crate, for the definitions that stand on them.
 pub use Rattle.std.specs.Arc.{arc_value}
 pub use Rattle.mdl_calls.specs.Limits.{is_within}
+pub use Rattle.mdl_calls.specs.SessionLocks.{HasNothing}
 pub use Rattle.mdl_calls.specs.declared.answers.Attempt.{Attempt}
 pub use Rattle.mdl_calls.specs.declared.answers.Begun.{Begun}
 pub use Rattle.mdl_calls.specs.declared.answers.TimedOut.TheVariants.{Already, ByThisCall}

@@ -5,8 +5,8 @@ pub use Rattle.std.specs.List.Sorted.{IsBinarySearchResult, IsNonDecreasingBy, I
 pub use Rattle.std.specs.Option.{IfSome, IsSome, option_and_then, option_map, option_map_or, option_or, unwrap_or}
 pub use Rattle.std.specs.Prelude.{None, map, nat_lt, not}
 pub use Rattle.atomic_table.specs.Seated.{TableId}
-pub use Rattle.mdl_calls.specs.FirstWords.{ChangesThere, DrawsTicket, MeetsFault as Faulty, FitsKey, HasMet, IsLast, IsNoted, IsSound, KeepsSettled, Knows, LearnsPlace as LearnsAt, LearnsTables, Meets, Note, NotesThere, ReadsThere as Read_so, ReadsNothing, SessionData, SpeaksFor, are_below, are_below as are_below_told, are_placed, are_placed as are_placed_told, cloning, first_free, gaining, is_newest, is_of_tables as is_of_tables_told, last_read, merging, noted_at, ticket_drawn, upgraded, wait_drawn, was_read, winning}
-pub use Rattle.mdl_calls.specs.Words.{Answer, AreMet, At_place, Begin_wait, Call, Change_definition, Changed, Clone_ticket, Done, Downgrade, Draws, End_wait, Granted, Has_killed, Has_wait, Holds, IsCause, IsExplained, IsFit, IsUnfit, IsUnknown, Is_settled, Key_is, Key_of, Kill, Knowledge, List_held, Lost, MayClone, MayDowngrade, MayNotClone, MayNotDowngrade, MayNotUpgrade, MayUpgrade, Merge, Mergeable, No_cycle, Numbers, OfHeld, Pending, Poll_wait, Read_definition, Read_kept, Reads, Refused, Release, Resolve, Search, SessionLocks, Settle_timeout, Tables, Tables_of, Timed_out, Try_now, Unpin, Upgrade_now, Upgraded, Victim_is, Wait, Wait_of, Waits, Would_wait, are_rising, attempted, begun, caller, cause_of, change_takes_memory, cloned, ended, holds, is_answer_of, is_number, is_table_of as is_table_told, is_waiting, may_merge as may_merge_told, own_after, read as read_as, searched, ticket_held, told, upgrade_tried, wait_number}
+pub use Rattle.mdl_calls.specs.FirstWords.{ChangesThere, DrawsTicket, MeetsFault as Faulty, FitsKey, HasMet, IsLast, IsNoted, IsSound, KeepsSettled, Knows, LearnsPlace as LearnsAt, LearnsTables, Meets, Note, NotesThere, ReadsThere as Read_so, ReadsNothing, SessionData, SpeaksFor, are_below, are_below as are_below_told, are_pins_known, are_placed, are_placed as are_placed_told, cloning, first_free, gaining, is_newest, is_of_tables as is_of_tables_told, last_read, merging, noted_at, ticket_drawn, upgraded, wait_drawn, was_read, winning}
+pub use Rattle.mdl_calls.specs.Words.{Answer, AreMet, At_place, Begin_wait, Call, Change_definition, Changed, Clone_ticket, Done, Downgrade, Draws, End_wait, Granted, Has_killed, Has_wait, Holds, IsCause, IsExplained, IsFit, IsUnfit, IsUnknown, Is_settled, Key_is, Key_of, Kill, Knowledge, List_held, Lost, MayClone, MayDowngrade, MayNotClone, MayNotDowngrade, MayNotUpgrade, MayUpgrade, Merge, Mergeable, No_cycle, Numbers, OfHeld, Pending, Poll_wait, Read_definition, Read_kept, Reads, Refused, Release, Resolve, Search, SessionLocks, Settle_timeout, Tables, Tables_of, Timed_out, Try_now, Unpin, Upgrade_now, Upgraded, Victim_is, Wait, Wait_of, Waits, Would_wait, are_rising, attempted, begun, caller, cause_of, change_takes_memory, cloned, ended, holds, is_answer_of, is_number, is_table_of as is_table_told, is_waiting, may_merge as may_merge_told, own_after, read as read_as, searched, ticket_held, told, upgrade_tried, wait_number, with_place}
 pub use Rattle.mdl_calls.specs.declared.answers.Ended.{Ended}
 pub use Rattle.mdl_calls.specs.declared.answers.Held.{Held}
 pub use Rattle.mdl_calls.specs.declared.answers.Search.{Search as Found}

@@ -24,17 +24,18 @@ note_of t = option_map (λ version. record { place = t.place; version = version 
 
 -- ---- a session
 
--- a session: the table at which it has its seat, how many sessions the space has, what it knows and has there, with its steps, and the room of its own
--- list of tickets
+-- a session: the table at which it has its seat, how many sessions the space has, what it knows and has there, with its steps, the room of its own list of
+-- tickets, and the places that it pins
 pub record SessionView : Type 0 where
   pub table : TableId
   pub sessions : ℕ
   pub me : Mine
   pub room : Room
+  pub pins : List ℕ
 
--- the session of a seat, in a space with this number of sessions, with this room
-abbrev pub session_at : SeatState → ℕ → Room → SessionView
-session_at seat sessions room = record { table = seat.table; sessions = sessions; me = seat.me; room = room }
+-- the session of a seat, in a space with this number of sessions, with this room and these pins
+abbrev pub session_at : SeatState → ℕ → Room → List ℕ → SessionView
+session_at seat sessions room pins = record { table = seat.table; sessions = sessions; me = seat.me; room = room; pins = pins }
 
 -- nothing of the session changed, except that it may have more room
 abbrev pub StaysSame : SessionView → SessionView → Type 0
@@ -68,24 +69,26 @@ all_tickets l = interleaved l.slow l.fast
 abbrev pub tickets_seen : View → List SessionTicket
 tickets_seen me = all_tickets (lists_seen me)
 
--- the session has the same number, at the same table of the same space, the same lists and at least the same room, and read nothing
+-- the session has the same number, at the same table of the same space, the same lists, the same pins and at least the same room, and read nothing
 pub record KeepsLists (a b : SessionView) : Type 0 where
   pub number : b.me.0.number ≡ a.me.0.number
   pub table : b.table ≡ a.table
   pub sessions : b.sessions ≡ a.sessions
   pub lists : lists_seen b.me.0 ≡ lists_seen a.me.0
+  pub pins : b.pins ≡ a.pins
   pub reads : b.me.0.reads ≡ a.me.0.reads
   pub room : KeepsRoom 0 a.room b.room
 
 -- ---- as a lock space
 
--- the session with this number as a lock space, by its lists, by what it knows of its wait's state, and by what it read
-abbrev pub data_by : ℕ → Lists → Option ℕ → List Reading → SessionData
-data_by number lists told reads = record {
+-- the session with this number as a lock space, by its lists and its pins, by what it knows of its wait's state, and by what it read
+abbrev pub data_by : ℕ → Lists → List ℕ → Option ℕ → List Reading → SessionData
+data_by number lists pins told reads = record {
   number = number;
   own = record {
     held = map as_held (all_tickets lists);
     wait = option_map (λ (a : Ask). record { number = lists.waits; place = a.place; mode = a.mode }) lists.asks;
+    pins = pins;
   };
   numbers = record { last_ticket = lists.next - 1; last_wait = lists.waits };
   known = lists.known;
@@ -96,4 +99,4 @@ data_by number lists told reads = record {
 
 -- a session as a lock space: what it has of the space, as plain data
 abbrev pub data_of : SessionView → SessionData
-data_of s = data_by s.me.0.number (lists_seen s.me.0) s.me.0.told s.me.0.reads
+data_of s = data_by s.me.0.number (lists_seen s.me.0) s.pins s.me.0.told s.me.0.reads

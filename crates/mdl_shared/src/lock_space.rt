@@ -1,6 +1,6 @@
 //! A session as a lock space. It speaks for itself only.
 ghost use Rattle.std.proofs.Common.{◌∙◌};
-ghost use Rattle.mdl_calls.specs.SessionData.{SpeaksFor, own_of, numbers_of, Knows, IsSettledAs, HasMet, HasRead, HasSeen, Pins};
+ghost use Rattle.mdl_calls.specs.SessionData.{SpeaksFor, own_of, numbers_of, Knows, IsSettledAs, HasMet, HasRead, HasSeen};
 ghost use Rattle.mdl_session_laws.specs.SessionJoins.{Joins};
 ghost use Rattle.mdl_session_laws.proofs.SessionLaws.{session-laws};
 ghost use Rattle.mdl_session_laws.proofs.ViewLaws.{laws-by_view};
@@ -36,8 +36,6 @@ impl<R: Wait> LockSpace for Session<R> {
     ghost has_met = { λ s. HasMet (data_of s) };
 
     ghost has_seen = { λ s. HasSeen (data_of s) };
-
-    ghost pins = { λ s. Pins (data_of s) };
 
     ghost owes = { λ s. Owes s };
 

@@ -19,7 +19,7 @@ pub(crate) struct Member {
     pub(crate) seat: TableSeat,
     /// The tickets that it has.
     pub(crate) tickets: Tickets,
-    /// The keys that it looked up.
+    /// The keys that it looked up, and the places that it pins.
     pub(crate) known: KnownKeys,
     /// The number of its next ticket.
     pub(crate) next: u64,
@@ -29,7 +29,7 @@ pub(crate) struct Member {
     pub(crate) waits: u64,
     /// The number of sessions of the space.
     pub(crate) sessions: usize,
-    ghost lawful: { ∥ IsMember (session_at seat sessions tickets.room) ∥₁ },
+    ghost lawful: { ∥ IsMember (session_at seat sessions tickets.room known.pins) ∥₁ },
     ghost lists: { record { slow = tickets.slow; fast = tickets.fast; known = known.known; next = next; asks = asks; waits = waits } ≡ lists_seen seat.me.0 },
     ghost room: { ForSome asks (λ ask. HasRoom ask.place tickets.room) },
     ghost owed: { AreOwed tickets.owes seat.me.0.owes },
@@ -41,6 +41,7 @@ impl Member {
         requires new { IsNewSeat sessions seat }
         ensures made { (result.seat ≡ seat) × (result.sessions ≡ sessions) }
         ensures nothing { (result.tickets.slow ≡ []) × (result.tickets.fast ≡ []) × (result.asks ≡ None) }
+        ensures unpinned { result.known.pins ≡ [] }
     {
         Member {
             alloc,

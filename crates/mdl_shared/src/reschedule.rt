@@ -34,7 +34,7 @@ impl Member {
         requires at { MayVisit place self.old.seat }
         ensures rescheduled { AtItsTable self.old.seat self.new.seat (VisitsAndReschedules self.old.seat.table place []) }
         ensures once { VisitsOnce place self.old.seat.me self.new.seat.me }
-        ensures same { (self.new.sessions ≡ self.old.sessions) × (self.new.tickets.room ≡ self.old.tickets.room) }
+        ensures same { (self.new.sessions ≡ self.old.sessions) × (self.new.tickets.room ≡ self.old.tickets.room) × (self.new.known.pins ≡ self.old.known.pins) }
     {
         reschedule(rt, &mut self.seat, place);
         self.tickets.pay(place);

@@ -25,6 +25,7 @@ impl<R> Model for Session<R> {
 
 impl<R> Session<R> {
     ghost use Rattle.mdl_calls.specs.SessionData.{SpeaksFor};
+    ghost use Rattle.mdl_calls.specs.SessionLocks.{HasNothing};
     ghost use Rattle.mdl_shared.specs.Members.{IsMember};
     ghost use Rattle.mdl_shared.specs.Passes.{manager_table, pass_table, pass_view};
     ghost use Rattle.mdl_shared.specs.SessionViews.{data_of};
@@ -33,7 +34,7 @@ impl<R> Session<R> {
     pub fn open(rt: R, manager: &Manager, pass: Pass) -> Session<R>
         requires theirs { pass_table pass ≡ manager_table manager.now }
         ensures opened { result ≡ pass_view pass }
-        ensures nothing { (data_of result).own ≡ record { held = []; wait = None } }
+        ensures nothing { HasNothing (data_of result).own }
         ensures paid { result.me.0.owes ≡ [] }
     {
         let _manager = manager;

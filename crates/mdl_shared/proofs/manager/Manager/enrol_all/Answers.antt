@@ -29,5 +29,6 @@ loop-passes-preserved c =
         numbered = ap (λ (s : SeatState). s.me.0.number) is;
         sessions = c.new-member.ensures.made.1 ∙ counted _ _ c.args.sessions c.requires.sessions.1;
         fresh = ap (λ (s : SeatState). s.me) is;
+        unpinned = c.new-member.ensures.unpinned;
       }));
     }

@@ -83,7 +83,7 @@ pub invariant_of-self-2 : goal.invariant_of-self-2
 invariant_of-self-2 g c =
     let m = c.args.self.now in
     let may = may-wish m c.args.place c.args.kind c.args.mode (c.requires.may.known, c.requires.may.clear) in
-    let now = begun m.seat c.begin_wait.new.seat m.sessions {room = m.tickets.room} (c.begin_wait.ensures.waiting (c.in-Ok-Waiting.is ∙ ap Ok c.in-Ok-Waiting.field-0-is)).0 in
+    let now = begun m.seat c.begin_wait.new.seat m.sessions {room = m.tickets.room} {pins = m.known.pins} (c.begin_wait.ensures.waiting (c.in-Ok-Waiting.is ∙ ap Ok c.in-Ok-Waiting.field-0-is)).0 in
     record {
       lawful = ∣ kept (Begin_wait _ _ _) (member m) (begun-order (member m) may.clear now (unfast-seen m c.requires.may.unfast)) (begun-joins (member m) may.clear now refl) ∣₁;
       lists = waiting-lists m c.args.place c.args.mode ∙ sym (ap (λ (x : SessionView). lists_seen x.me.0) now);
@@ -99,6 +99,7 @@ returns g c =
         next = ap (λ (l : Lists). l.waits + 1) m.lists;
         table = went.0.0;
         sessions = refl;
+        pins = refl;
         opens = went.0.1;
         met = subst (λ (n : ℕ). (e f : StepRecord) × AreStepsOf m.seat.me c.begin_wait.new.seat.me e f × MeetsBlocked c.args.place m.seat.me.0.number c.args.mode e
             × MeetsOpening m.seat.table.slots c.args.place m.seat.me.0.number m.seat.me.0.waits n c.args.mode f) (ap (λ (l : Lists). l.next) m.lists) went.1;

@@ -96,7 +96,7 @@ returns-clause-granted c =
     let granted = c.try_fast-tried.ensures.granted c.in-Granted.is in
     let noted = c.note_of-noted.ensures ∙ ap (λ (l : Lists). first_note (own_at c.args.place l.fast ++ own_at c.args.place l.slow)) m.lists in
     let first = ap (λ (l : Lists). l.next) m.lists in
-    let after = session_at c.try_fast-tried.new.seat m.sessions c.push_fast.new.self.room in
+    let after = session_at c.try_fast-tried.new.seat m.sessions c.push_fast.new.self.room m.known.pins in
     let quiet = fast-granted m.seat c.try_fast-tried.new.seat m.sessions (member m) may.idle may.counted noted granted.0 in (
       refl,
       subst (λ (n : ℕ). DoesQuietly c.args.place (Gain n c.args.mode ∷ []) (view_of m) after) (sym first) quiet,

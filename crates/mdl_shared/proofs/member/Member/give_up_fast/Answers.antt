@@ -22,8 +22,8 @@ returns-then-lose_fast g c =
     let lost = c.lose_fast.ensures.lost in
     let released = c.lose_fast.ensures.released in
     let t = c.args.held in
-    let now : session_at end.seat mid.sessions mid.tickets.room ≡ view_of end = λ i. session_at end.seat (sym c.pay.ensures.same.0 i) (sym c.pay.ensures.same.1 i) in
-    let later = rescheduled {place = t.place} {ds = []} mid.seat end.seat mid.sessions {room = mid.tickets.room} {room′ = mid.tickets.room} refl visit in
+    let now : session_at end.seat mid.sessions mid.tickets.room mid.known.pins ≡ view_of end = λ i. session_at end.seat (sym c.pay.ensures.same.0 i) (sym c.pay.ensures.same.1 i) (sym c.pay.ensures.same.2 i) in
+    let later = rescheduled {place = t.place} {ds = []} mid.seat end.seat mid.sessions {room = mid.tickets.room} {room′ = mid.tickets.room} {pins = mid.known.pins} refl visit in
     let less = paid-after (view_of m) (view_of mid) t c.lose_fast.result released c.if-lose_fast.true visit in
     record {
       lost = subst (λ (s : SessionView). DidDeeds t.place (Lose t.number ∷ []) (view_of m) s) now (done-before lost.done later less);

@@ -37,7 +37,7 @@ pub invariant_of-self : goal.invariant_of-self
 invariant_of-self g c =
     let m = c.args.self.now in
     let made = steps-visited m.seat c.materialise.new.seat c.in-Err.ensures.refused.0 in record {
-      lawful = ∣ still-member (quiet-made {place = 0} m.seat c.materialise.new.seat m.sessions {room = m.tickets.room} {room′ = m.tickets.room} made).done (member m) ∣₁;
+      lawful = ∣ still-member (quiet-made {place = 0} m.seat c.materialise.new.seat m.sessions {room = m.tickets.room} {room′ = m.tickets.room} {pins = m.known.pins} made).done (member m) ∣₁;
       lists = lists-made m c.materialise.new.seat made;
       room = m.room;
       owed = owed-stepped m made.1;

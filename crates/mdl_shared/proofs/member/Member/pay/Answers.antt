@@ -7,7 +7,7 @@ invariant_of-self g c =
     let m = c.args.self.now in
     let visit = c.reschedule.ensures.rescheduled in
     let keeps = keeps-equal m.tickets.room c.pay.new.self.room c.pay.ensures.same.2 in
-    let done = rescheduled {place = c.args.place} {ds = []} m.seat c.reschedule.new.seat m.sessions {room = m.tickets.room} {room′ = c.pay.new.self.room} refl visit in record {
+    let done = rescheduled {place = c.args.place} {ds = []} m.seat c.reschedule.new.seat m.sessions {room = m.tickets.room} {room′ = c.pay.new.self.room} {pins = m.known.pins} refl visit in record {
       lawful = ∣ still-member done (member m) ∣₁;
       lists = lists-done m c.args.place [] (lists-rescheduled visit) c.pay.ensures.same.0 c.pay.ensures.same.1;
       room = λ ask asks. room-kept m.tickets c.pay.new.self keeps (m.room ask asks);

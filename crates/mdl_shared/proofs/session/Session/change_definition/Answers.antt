@@ -36,7 +36,7 @@ invariant_of-member g c =
     let did = c.in-Err.ensures in
     let visit = did.unchanged in
     let done = visited m.seat c.change_definition.new.seat m.sessions refl visit in
-    let joins = unchanged-joins is c.args.id t its (session_at c.change_definition.new.seat m.sessions m.tickets.room) c.args.change.now (ap (λ (mode : Mode). same_mode mode X) own) (done-nothing done) c.in-Err.why did.refused in
+    let joins = unchanged-joins is c.args.id t its (session_at c.change_definition.new.seat m.sessions m.tickets.room m.known.pins) c.args.change.now (ap (λ (mode : Mode). same_mode mode X) own) (done-nothing done) c.in-Err.why did.refused in
     record { lawful = ∣ kept (Change_definition _ _ _) is (done-order done is (inr refl)) joins ∣₁; lists = lists-done m t.place [] (lists-visited visit) refl refl; room = m.room; owed = owed-visited m visit }
 
 pub returns-in-Err : goal.returns-in-Err
@@ -48,7 +48,7 @@ returns-in-Err g c =
     let own : t.mode ≡ X = search (rules, c.ne.ensures, c.if-ne.false) in
     let exclusive = ap (λ (mode : Mode). same_mode mode X) own in
     let did = c.in-Err.ensures in
-    let s′ = session_at c.change_definition.new.seat m.sessions m.tickets.room in
+    let s′ = session_at c.change_definition.new.seat m.sessions m.tickets.room m.known.pins in
     let done = visited m.seat c.change_definition.new.seat m.sessions refl did.unchanged in
     rw (c.from.ensures, ← c.self.view_is) (record {
       joined = unchanged-joins is c.args.id t its s′ c.args.change.now exclusive (done-nothing done) c.in-Err.why did.refused;
@@ -64,7 +64,7 @@ invariant_of-member-2 g c =
     let own : t.mode ≡ X = search (rules, c.ne.ensures, c.if-ne.false) in
     let changed = c.in-Ok.ensures.changed in
     let noted = noted-by changed.1.0 m.seat c.change_definition.new.seat m.sessions changed.0.0 changed.1.2 in
-    let joins = change-joins is c.args.id t its (session_at c.change_definition.new.seat m.sessions c.note_all.new.self.room) c.args.change.now (ap (λ (mode : Mode). same_mode mode X) own) changed.1.0 c.in-Ok.version noted changed.1.1 changed.0.1 in
+    let joins = change-joins is c.args.id t its (session_at c.change_definition.new.seat m.sessions c.note_all.new.self.room m.known.pins) c.args.change.now (ap (λ (mode : Mode). same_mode mode X) own) changed.1.0 c.in-Ok.version noted changed.1.1 changed.0.1 in
     record {
       lawful = ∣ kept (Change_definition _ _ _) is (noted-order noted is) joins ∣₁;
       lists = lists-noted m noted changed.1.1 c.note_all.ensures.noted;
@@ -81,4 +81,4 @@ returns-clause-joined g c =
     let changed = c.in-Ok.ensures.changed in
     let noted = noted-by changed.1.0 m.seat c.change_definition.new.seat m.sessions changed.0.0 changed.1.2 in
     rw (← c.self.view_is)
-    (change-joins (member m) c.args.id t its (session_at c.change_definition.new.seat m.sessions c.note_all.new.self.room) c.args.change.now (ap (λ (mode : Mode). same_mode mode X) own) changed.1.0 c.in-Ok.version noted changed.1.1 changed.0.1)
+    (change-joins (member m) c.args.id t its (session_at c.change_definition.new.seat m.sessions c.note_all.new.self.room m.known.pins) c.args.change.now (ap (λ (mode : Mode). same_mode mode X) own) changed.1.0 c.in-Ok.version noted changed.1.1 changed.0.1)

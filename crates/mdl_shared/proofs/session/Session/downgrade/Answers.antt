@@ -58,7 +58,7 @@ invariant_of-member g c =
     let slow = slow-held m c.args.id c.args.mode t held clear in
     let done = rescheduled m.seat c.downgrade.new.seat m.sessions (alters-slow is t.place t.number c.args.mode t slow) visit in
     record {
-      lawful = ∣ kept (Downgrade _ _ _) is (done-order done is (inr refl)) (downgraded m.seat c.downgrade.new.seat m.sessions c.args.id {room′ = c.pay.new.self.room} c.args.mode t is held slow clear visit did.step did.once keeps).0 ∣₁;
+      lawful = ∣ kept (Downgrade _ _ _) is (done-order done is (inr refl)) (downgraded m.seat c.downgrade.new.seat m.sessions c.args.id {room = m.tickets.room} {room′ = c.pay.new.self.room} {pins = m.known.pins} c.args.mode t is held slow clear visit did.step did.once keeps).0 ∣₁;
       lists = lists-done m t.place (Alter t.number c.args.mode ∷ []) (lists-rescheduled visit) (c.pay.ensures.same.0 ∙ c.set_mode.ensures.changed.0) (c.pay.ensures.same.1 ∙ c.set_mode.ensures.changed.1);
       room = λ ask asks. room-kept m.tickets c.pay.new.self keeps (m.room ask asks);
       owed = owed-paid m c.set_mode.new.self c.pay.new.self t.place c.set_mode.ensures.rest.owes c.pay.ensures.owes (rescheduled-owes visit);
@@ -72,5 +72,5 @@ returns g c =
     let clear = fault-seen m (Downgrade m.seat.me.0.number c.args.id c.args.mode) None (just-done _ _ c.in_ok-held.ensures.just) in
     let did = c.downgrade.ensures in
     let keeps = subst (λ (r : Room). KeepsRoom 0 m.tickets.room r) (sym c.pay.ensures.same.2) c.set_mode.ensures.rest.room in
-    let both = downgraded m.seat c.downgrade.new.seat m.sessions c.args.id {room′ = c.pay.new.self.room} c.args.mode t (member m) held (slow-held m c.args.id c.args.mode t held clear) clear did.downgraded did.step did.once keeps in
+    let both = downgraded m.seat c.downgrade.new.seat m.sessions c.args.id {room = m.tickets.room} {room′ = c.pay.new.self.room} {pins = m.known.pins} c.args.mode t (member m) held (slow-held m c.args.id c.args.mode t held clear) clear did.downgraded did.step did.once keeps in
     rw (← c.self.view_is) (record { joined = both.0; shown = both.1 })

@@ -17,7 +17,7 @@ invariant_of-member g c =
     let m = c.self.inside.member in
     let did = c.read_wait.ensures in
     let watched = (kill-closed c.args.target c.args.number c.read_wait.result.0 (sym c.is_session.ensures ∙ c.if-not-is_session.false) did.own
-    (ap (λ (x : SeatState). session_at x m.sessions m.tickets.room) did.made) (c.is_open.ensures.other c.if-not-is_open.true)).0 in
+    (ap (λ (x : SeatState). session_at x m.sessions m.tickets.room m.known.pins) did.made) (c.is_open.ensures.other c.if-not-is_open.true)).0 in
     record {
       lawful = ∣ still-member watched.done (member m) ∣₁;
       lists = m.lists ∙ sym watched.lists;
@@ -30,7 +30,7 @@ returns-then-not-is_open g c =
     let m = c.self.inside.member in
     let did = c.read_wait.ensures in
     let h = kill-closed c.args.target c.args.number c.read_wait.result.0 (sym c.is_session.ensures ∙ c.if-not-is_session.false) did.own
-    (ap (λ (x : SeatState). session_at x m.sessions m.tickets.room) did.made) (c.is_open.ensures.other c.if-not-is_open.true) in
+    (ap (λ (x : SeatState). session_at x m.sessions m.tickets.room m.known.pins) did.made) (c.is_open.ensures.other c.if-not-is_open.true) in
     rw (← c.self.view_is) (record { joined = h.1; shown = h.2 })
 
 -- ---- it is
@@ -44,7 +44,7 @@ settle_wait-requires-clause-session g c =
 pub invariant_of-member-2 : goal.invariant_of-member-2
 invariant_of-member-2 g c =
     let m = c.self.inside.member in
-    let at : SeatState → SessionView = λ seat. session_at seat m.sessions m.tickets.room in
+    let at : SeatState → SessionView = λ seat. session_at seat m.sessions m.tickets.room m.known.pins in
     let did = c.settle_wait.ensures in
     let watched = (kill-either (view_of m) (at c.read_wait.new.self) (at c.settle_wait.new.self) c.args.target c.args.number c.read_wait.result.0 c.settle_wait.result.0
     (sym c.is_session.ensures ∙ c.if-not-is_session.false) c.read_wait.ensures.own (ap at c.read_wait.ensures.made) did.own (λ hit. ap at (did.settled hit)) (λ miss. ap at (did.missed miss))) in
@@ -58,7 +58,7 @@ invariant_of-member-2 g c =
 pub returns : goal.returns
 returns g c =
     let m = c.self.inside.member in
-    let at : SeatState → SessionView = λ seat. session_at seat m.sessions m.tickets.room in
+    let at : SeatState → SessionView = λ seat. session_at seat m.sessions m.tickets.room m.known.pins in
     let did = c.settle_wait.ensures in
     let h = kill-ended (view_of m) (at c.read_wait.new.self) (at c.settle_wait.new.self) c.args.target c.args.number c.read_wait.result.0 c.settle_wait.result.0
     (sym c.is_session.ensures ∙ c.if-not-is_session.false) c.read_wait.ensures.own (ap at c.read_wait.ensures.made) did.own (λ hit. ap at (did.settled hit)) (λ miss. ap at (did.missed miss))

@@ -1,6 +1,8 @@
 -- The place of a key by the directory.
 use Rattle.std.proofs.Common.{◌≡◌, ◌≤◌, ℕ, List, [], ◌∷◌, ◌++◌, None, inr, refl, sym, ap, subst, ◌∙◌, arith}
-use Rattle.mdl_shared.proofs.Lemmas.{KeyName, KnownKey, Lists, OutOfMemory, Resolve, done-nothing, done-order, is_known, kept, learnt-order, learnt-owes, lists-learnt, lists-stepped, member, no_place-joins, owed-on, owed-stepped, place_known, refused, resolve-joins, resolved, same-stays, session_at, speaks, stepped, view_of}
+use Rattle.mdl_shared.proofs.Lemmas.{At_place, IsMember, Joins, KeyName, KnownKey, Lists, NoPlace, OutOfMemory, Refused, Resolve, SpaceError, data_of, done-nothing, done-order, is_known, kept, last-is_known, learnt-order, learnt-owes, lists-learnt, lists-stepped, member, no_place-joins, order-pinned, owed-on, owed-stepped, place_known, refused, resolve-joins, resolved, same-stays, session_at, speaks, stepped, view_of}
+use Rattle.mdl_shared.proofs.FirstLemmas.{with_place}
+use Rattle.mdl_visits.specs.KnownLists.{KnownList}
 use Rattle.mdl_shared.proofs.session.Session.look_up.Goals as goal
 use Rattle.mdl_shared.proofs.session.Session.look_up.Goals.{in-NoPlace, in-OutOfMemory}
 
@@ -8,13 +10,15 @@ pub returns-then-is_err-clause-joined : goal.returns-then-is_err-clause-joined
 returns-then-is_err-clause-joined g c =
     let m = c.self.inside.member in
     let s = view_of m in
-    rw (← c.self.view_is) (refused s s (Resolve s.me.0.number c.args.key.now) OutOfMemory (same-stays s) (speaks (member m)) refl refl tt (λ state how met. cc) tt)
+    rw (← c.self.view_is) (subst (λ (ps : List ℕ). Joins (data_of s) (Resolve s.me.0.number c.args.key.now) (Refused OutOfMemory) (data_of (session_at m.seat m.sessions m.tickets.room ps)))
+    (sym c.reserve.ensures.pins) (refused s s (Resolve s.me.0.number c.args.key.now) OutOfMemory (same-stays s) (speaks (member m)) refl refl tt (λ state how met. cc) tt))
 
 pub returns-in_default-clause-joined : goal.returns-in_default-clause-joined
 returns-in_default-clause-joined g c =
     let m = c.self.inside.member in
     let s = view_of m in
-    rw (← c.self.view_is) (refused s s (Resolve s.me.0.number c.args.key.now) OutOfMemory (same-stays s) (speaks (member m)) refl refl tt (λ state how met. cc) tt)
+    rw (← c.self.view_is) (subst (λ (ps : List ℕ). Joins (data_of s) (Resolve s.me.0.number c.args.key.now) (Refused OutOfMemory) (data_of (session_at m.seat m.sessions m.tickets.room ps)))
+    (sym c.reserve.ensures.pins) (refused s s (Resolve s.me.0.number c.args.key.now) OutOfMemory (same-stays s) (speaks (member m)) refl refl tt (λ state how met. cc) tt))
 
 pub reserve-requires : goal.reserve-requires
 reserve-requires g c = record { narrow = subst (λ (n : ℕ). n ≤ 65536) (sym c.slot_count-slots.ensures) (member c.self.inside.member).narrow.1 }
@@ -27,8 +31,9 @@ invariant_of-member-in-Err-resolve g c =
     let m = c.self.inside.member in
     let s = view_of m in
     let is = member m in
-    let done = stepped m.seat c.resolve.new.seat m.sessions c.in-Err.ensures.answer.2.0 c.in-Err.ensures.refused in record {
-      lawful = ∣ kept (Resolve _ _) is (done-order done is (inr refl)) (refused s (session_at c.resolve.new.seat m.sessions m.tickets.room) (Resolve s.me.0.number c.args.key.now) OutOfMemory (done-nothing done) (speaks is) refl refl tt (λ state how met. cc) tt) ∣₁;
+    let done = stepped m.seat c.resolve.new.seat m.sessions {room = m.tickets.room} {room′ = m.tickets.room} {pins = m.known.pins} c.in-Err.ensures.answer.2.0 c.in-Err.ensures.refused in record {
+      lawful = ∣ subst (λ (ps : List ℕ). IsMember (session_at c.resolve.new.seat m.sessions m.tickets.room ps)) (sym c.reserve.ensures.pins)
+          (kept (Resolve _ _) is (done-order done is (inr refl)) (refused s (session_at c.resolve.new.seat m.sessions m.tickets.room m.known.pins) (Resolve s.me.0.number c.args.key.now) OutOfMemory (done-nothing done) (speaks is) refl refl tt (λ state how met. cc) tt)) ∣₁;
       lists = ap (λ (ks : List KnownKey). record { slow = m.tickets.slow; fast = m.tickets.fast; known = ks; next = m.next; asks = m.asks; waits = m.waits }) c.reserve.ensures.same ∙ m.lists ∙ sym (lists-stepped m.seat.me c.resolve.new.seat.me c.in-Err.ensures.refused);
       room = m.room;
       owed = owed-stepped m c.in-Err.ensures.refused;
@@ -41,12 +46,13 @@ returns-in-Err-clause-joined g c =
     let is = member m in
     let key = c.args.key.now in
     let none : place_known key s.me.0.known ≡ None = rw (← c.self.view_is) at c.requires.unknown in
-    let stays = done-nothing (stepped m.seat c.resolve.new.seat m.sessions {room′ = m.tickets.room} c.in-Err.ensures.answer.2.0 c.in-Err.ensures.refused) in
+    let stays = done-nothing (stepped m.seat c.resolve.new.seat m.sessions {room = m.tickets.room} {room′ = m.tickets.room} {pins = m.known.pins} c.in-Err.ensures.answer.2.0 c.in-Err.ensures.refused) in
+    let joins : SpaceError → List ℕ → Type 0 = λ why ps. Joins (data_of s) (Resolve s.me.0.number key) (Refused why) (data_of (session_at c.resolve.new.seat m.sessions m.tickets.room ps)) in
     rw (← c.self.view_is) (elim c.match-why.branch [
-      | in-NoPlace w ↦ rw w.result-is (no_place-joins is key none stays)
-      | in-OutOfMemory w ↦ rw w.result-is (
-          refused s (session_at c.resolve.new.seat m.sessions m.tickets.room) (Resolve s.me.0.number key) OutOfMemory stays (speaks is) refl refl tt (λ state how met. cc) tt
-          )
+      | in-NoPlace w ↦ rw w.result-is (subst (joins NoPlace) (sym c.reserve.ensures.pins) (no_place-joins is key none stays))
+      | in-OutOfMemory w ↦ rw w.result-is (subst (joins OutOfMemory) (sym c.reserve.ensures.pins) (
+          refused s (session_at c.resolve.new.seat m.sessions m.tickets.room m.known.pins) (Resolve s.me.0.number key) OutOfMemory stays (speaks is) refl refl tt (λ state how met. cc) tt
+          ))
     ])
 
 pub push_reserved-requires-clause-unknown : goal.push_reserved-requires-clause-unknown
@@ -57,10 +63,15 @@ push_reserved-requires-clause-unknown g c =
     let none : place_known key m.seat.me.0.known ≡ None = rw (← c.self.view_is) at c.requires.unknown in
     let own : place_known key m.known.known ≡ None = ap (λ (l : Lists). place_known key l.known) m.lists ∙ none in
     let same = c.reserve.ensures.same in
-    let told = resolved m.seat c.resolve.new.seat m.sessions place {room = m.tickets.room} {room′ = m.tickets.room} key none c.in-Ok-resolve.ensures.known c.in-Ok-resolve.ensures.answer in (
+    let told = resolved m.seat c.resolve.new.seat m.sessions place {room = m.tickets.room} {room′ = m.tickets.room} {pins = m.known.pins} key none c.in-Ok-resolve.ensures.known c.in-Ok-resolve.ensures.answer in (
       ap (λ (k : KeyName). place_known k c.reserve.new.self.known) c.in-Ok.ensures.cases ∙ ap (place_known key) same ∙ own,
       ap (λ (ks : List KnownKey). is_known place ks) same ∙ ap (λ (l : Lists). is_known place l.known) m.lists ∙ told.2,
     )
+
+pub pin-requires : goal.pin-requires
+pin-requires g c =
+    let place = c.in-Ok-resolve.place in
+    record { known = ap (is_known place) c.push_reserved.ensures.known ∙ last-is_known c.reserve.new.self.known (record { key = c.in-Ok.key_kept; place = place }) }
 
 pub invariant_of-member-2 : goal.invariant_of-member-2
 invariant_of-member-2 g c =
@@ -69,10 +80,13 @@ invariant_of-member-2 g c =
     let key = c.args.key.now in
     let place = c.in-Ok-resolve.place in
     let none : place_known key m.seat.me.0.known ≡ None = rw (← c.self.view_is) at c.requires.unknown in
-    let told = resolved m.seat c.resolve.new.seat m.sessions place key none c.in-Ok-resolve.ensures.known c.in-Ok-resolve.ensures.answer in
+    let told = resolved m.seat c.resolve.new.seat m.sessions place {room = m.tickets.room} {room′ = m.tickets.room} {pins = m.known.pins} key none c.in-Ok-resolve.ensures.known c.in-Ok-resolve.ensures.answer in
+    let pins : c.pin.new.self.pins ≡ with_place place m.known.pins =
+    ap (λ (k : KnownList). k.pins) c.pin.ensures.pins ∙ ap (with_place place) (c.push_reserved.ensures.pins ∙ c.reserve.ensures.pins) in
     record {
-      lawful = ∣ kept (Resolve _ _) is (learnt-order told.0 is told.1) (resolve-joins is key none place told.2 told.0) ∣₁;
-      lists = lists-learnt m told.0 (c.push_reserved.ensures.known
+      lawful = ∣ subst (λ (ps : List ℕ). IsMember (session_at c.resolve.new.seat m.sessions m.tickets.room ps)) (sym pins)
+          (kept (Resolve _ _) is (order-pinned place (learnt-order told.0 is told.1)) (resolve-joins is key none place told.2 told.0)) ∣₁;
+      lists = lists-learnt m told.0 (ap (λ (k : KnownList). k.known) c.pin.ensures.pins ∙ c.push_reserved.ensures.known
           ∙ ap (λ (k : KeyName). c.reserve.new.self.known ++ record { key = k; place = place } ∷ []) c.in-Ok.ensures.cases
           ∙ ap (λ (ks : List KnownKey). ks ++ record { key = key; place = place } ∷ []) c.reserve.ensures.same);
       room = m.room;
@@ -91,5 +105,8 @@ returns-clause-joined g c =
     let key = c.args.key.now in
     let place = c.in-Ok-resolve.place in
     let none : place_known key m.seat.me.0.known ≡ None = rw (← c.self.view_is) at c.requires.unknown in
-    let told = resolved m.seat c.resolve.new.seat m.sessions place {room′ = m.tickets.room} key none c.in-Ok-resolve.ensures.known c.in-Ok-resolve.ensures.answer in
-    rw (← c.self.view_is) (resolve-joins (member m) key none place told.2 told.0)
+    let told = resolved m.seat c.resolve.new.seat m.sessions place {room = m.tickets.room} {room′ = m.tickets.room} {pins = m.known.pins} key none c.in-Ok-resolve.ensures.known c.in-Ok-resolve.ensures.answer in
+    let pins : c.pin.new.self.pins ≡ with_place place m.known.pins =
+    ap (λ (k : KnownList). k.pins) c.pin.ensures.pins ∙ ap (with_place place) (c.push_reserved.ensures.pins ∙ c.reserve.ensures.pins) in
+    rw (← c.self.view_is) (subst (λ (ps : List ℕ). Joins (data_of (view_of m)) (Resolve m.seat.me.0.number key) (At_place place) (data_of (session_at c.resolve.new.seat m.sessions m.tickets.room ps)))
+    (sym pins) (resolve-joins (member m) key none place told.2 told.0))

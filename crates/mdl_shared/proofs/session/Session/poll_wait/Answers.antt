@@ -18,7 +18,7 @@ pub invariant_of-self-inside : goal.invariant_of-self-inside
 invariant_of-self-inside g c =
     let m = c.self.inside.member in
     let did = c.read_wait-word.ensures in
-    let now = ap (λ (x : SeatState). session_at x m.sessions m.tickets.room) did.made in
+    let now = ap (λ (x : SeatState). session_at x m.sessions m.tickets.room m.known.pins) did.made in
     let watched = (polls (member m) (waits-seen m true (c.is_none.ensures ∙ ap not c.if-is_none.false)) c.number-session.result c.read_wait-word.result.0 c.number-session.ensures did.own now) in
     record {
       lawful = ∣ still-member watched.done (member m) ∣₁;
@@ -32,7 +32,7 @@ returns g c =
     let m = c.self.inside.member in
     let is = member m in
     let did = c.read_wait-word.ensures in
-    let now = ap (λ (x : SeatState). session_at x m.sessions m.tickets.room) did.made in
+    let now = ap (λ (x : SeatState). session_at x m.sessions m.tickets.room m.known.pins) did.made in
     let waiting = waits-seen m true (c.is_none.ensures ∙ ap not c.if-is_none.false) in
     let mine = c.number-session.ensures in
     let state = sym (ap settled_of c.state.ensures) ∙ sym c.settled_in.ensures in

@@ -44,7 +44,7 @@ returns-in_default-read_definition g c =
     let its = held-seen m c.args.id c.get.result c.get.ensures.found ∙ c.in-Some.is in
     let did = c.in_default-read_definition.ensures in
     rw (← c.self.view_is) (record {
-      joined = unread-joins is c.args.id c.in-Some.held its (done-nothing (visited m.seat c.read_definition.new.seat m.sessions {room′ = m.tickets.room} refl (did.quiet.0, did.unchanged)));
+      joined = unread-joins is c.args.id c.in-Some.held its (done-nothing (visited m.seat c.read_definition.new.seat m.sessions {room = m.tickets.room} {room′ = m.tickets.room} {pins = m.known.pins} refl (did.quiet.0, did.unchanged)));
       shown = unread-shows is c.args.id c.in-Some.held its did.quiet.0 refl did.unchanged did.quiet.1 did.once (keeps-same m.tickets.room);
     })
 

@@ -61,8 +61,8 @@ invariant_of-member g c =
     let slow = slow-else is id t none its in
     let visit = c.release.ensures.released in
     let keeps = subst (λ (r : Room). KeepsRoom 0 m.tickets.room r) (sym c.pay.ensures.same.2) c.strike.ensures.rest.room in
-    let done = rescheduled m.seat c.release.new.seat m.sessions {room′ = c.pay.new.self.room} (loses-slow is t.place id t slow) visit in
-    let both = released-slow m.seat c.release.new.seat m.sessions id {room′ = c.pay.new.self.room} t is its slow none visit c.release.ensures.step c.release.ensures.once keeps in record {
+    let done = rescheduled m.seat c.release.new.seat m.sessions {room = m.tickets.room} {room′ = c.pay.new.self.room} {pins = m.known.pins} (loses-slow is t.place id t slow) visit in
+    let both = released-slow m.seat c.release.new.seat m.sessions id {room = m.tickets.room} {room′ = c.pay.new.self.room} {pins = m.known.pins} t is its slow none visit c.release.ensures.step c.release.ensures.once keeps in record {
       lawful = ∣ kept (Release _ _) is (done-order done is (inr refl)) both.0 ∣₁;
       lists = lists-done m t.place (Lose id ∷ []) (lists-rescheduled visit) (c.pay.ensures.same.0 ∙ c.strike.ensures.struck.0) (fast-struck m t.place id (spared is id t slow) (c.pay.ensures.same.1 ∙ c.strike.ensures.struck.1));
       room = λ ask asks. room-kept m.tickets c.pay.new.self keeps (m.room ask asks);
@@ -78,5 +78,5 @@ returns g c =
     let none = fast-seen m id None (sym (ap fast_found c.in-Some.is ∙ rw c.if-fast.false refl) ∙ c.find.ensures.fast) in
     let its = held-seen m id (Some t) (sym (ap (option_map (λ (f : SessionTicket × Bool). f.0)) c.in-Some.is) ∙ c.find.ensures.found) in
     let keeps = subst (λ (r : Room). KeepsRoom 0 m.tickets.room r) (sym c.pay.ensures.same.2) c.strike.ensures.rest.room in
-    let both = released-slow m.seat c.release.new.seat m.sessions id {room′ = c.pay.new.self.room} t is its (slow-else is id t none its) none c.release.ensures.released c.release.ensures.step c.release.ensures.once keeps in
+    let both = released-slow m.seat c.release.new.seat m.sessions id {room = m.tickets.room} {room′ = c.pay.new.self.room} {pins = m.known.pins} t is its (slow-else is id t none its) none c.release.ensures.released c.release.ensures.step c.release.ensures.once keeps in
     rw (← c.self.view_is) (record { joined = both.0; shown = both.1 })

@@ -22,6 +22,7 @@ returns g c =
           table = visit.0;
           sessions = c.pay.ensures.same.0;
           lists = ap (λ (x : Mine). lists_seen x.0) visit.1.now;
+          pins = c.pay.ensures.same.2;
           reads = ap (λ (x : Mine). x.0.reads) visit.1.now;
           room = keeps-equal m.tickets.room now.tickets.room c.pay.ensures.same.1;
         },

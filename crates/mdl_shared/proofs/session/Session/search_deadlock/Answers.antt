@@ -24,7 +24,7 @@ pub invariant_of-self-inside : goal.invariant_of-self-inside
 invariant_of-self-inside g c =
     let m = c.self.inside.member in
     let did = c.read_wait-word.ensures in
-    let now = ap (λ (x : SeatState). session_at x m.sessions m.tickets.room) did.made in
+    let now = ap (λ (x : SeatState). session_at x m.sessions m.tickets.room m.known.pins) did.made in
     let watched = polls (member m) (waits-seen m true (c.is_none.ensures ∙ ap not c.if-is_none.false)) c.number-session.result c.read_wait-word.result.0 c.number-session.ensures did.own now in
     record {
       lawful = ∣ still-member watched.done (member m) ∣₁;
@@ -37,7 +37,7 @@ pub returns-then-is_some : goal.returns-then-is_some
 returns-then-is_some g c =
     let m = c.self.inside.member in
     let did = c.read_wait-word.ensures in
-    let now = ap (λ (x : SeatState). session_at x m.sessions m.tickets.room) did.made in
+    let now = ap (λ (x : SeatState). session_at x m.sessions m.tickets.room m.known.pins) did.made in
     let h = search-settled (member m) (waits-seen m true (c.is_none.ensures ∙ ap not c.if-is_none.false)) c.number-session.result c.read_wait-word.result.0 c.number-session.ensures did.own now
     (ap is_some (sym (ap settled_of c.state.ensures) ∙ sym c.settled_in.ensures) ∙ sym c.is_some.ensures ∙ c.if-is_some.true) in
     rw (← c.self.view_is) (record { joined = h.0; shown = h.1 })
@@ -54,7 +54,7 @@ search_deadlock-requires g c =
 pub invariant_of-self-inside-2 : goal.invariant_of-self-inside-2
 invariant_of-self-inside-2 g c =
     let m = c.self.inside.member in
-    let at : SeatState → SessionView = λ seat. session_at seat m.sessions m.tickets.room in
+    let at : SeatState → SessionView = λ seat. session_at seat m.sessions m.tickets.room m.known.pins in
     let waiting = waits-seen m true (c.is_none.ensures ∙ ap not c.if-is_none.false) in
     let now = ap at c.read_wait-word.ensures.made in
     let watched = polls (member m) waiting c.number-session.result c.read_wait-word.result.0 c.number-session.ensures c.read_wait-word.ensures.own now in
@@ -65,7 +65,7 @@ invariant_of-self-inside-2 g c =
 pub returns : goal.returns
 returns g c =
     let m = c.self.inside.member in
-    let at : SeatState → SessionView = λ seat. session_at seat m.sessions m.tickets.room in
+    let at : SeatState → SessionView = λ seat. session_at seat m.sessions m.tickets.room m.known.pins in
     let waiting = waits-seen m true (c.is_none.ensures ∙ ap not c.if-is_none.false) in
     let now = ap at c.read_wait-word.ensures.made in
     let did = c.search_deadlock.ensures.reads in

@@ -22,7 +22,7 @@ pub invariant_of-self-inside : goal.invariant_of-self-inside
 invariant_of-self-inside g c =
     let m = c.self.inside.member in
     let did = c.settle_wait-word.ensures in
-    let at : SeatState → SessionView = λ seat. session_at seat m.sessions m.tickets.room in
+    let at : SeatState → SessionView = λ seat. session_at seat m.sessions m.tickets.room m.known.pins in
     let watched = (timeouts (member m) (waits-seen m true (c.is_none.ensures ∙ ap not c.if-is_none.false)) c.number-session.result c.settle_wait-word.result.0 c.number-session.ensures did.own
     m.waits (ap (λ (l : Lists). l.waits) m.lists) (λ hit. ap at (did.settled hit)) (λ miss. ap at (did.missed miss))) in
     record {
@@ -37,7 +37,7 @@ returns g c =
     let m = c.self.inside.member in
     let is = member m in
     let did = c.settle_wait-word.ensures in
-    let at : SeatState → SessionView = λ seat. session_at seat m.sessions m.tickets.room in
+    let at : SeatState → SessionView = λ seat. session_at seat m.sessions m.tickets.room m.known.pins in
     let waiting = waits-seen m true (c.is_none.ensures ∙ ap not c.if-is_none.false) in
     let state = sym (ap settled_of c.state.ensures) ∙ sym c.settled_in.ensures in
     rw (← c.self.view_is) (elim c.match-settled_in.branch [

@@ -16,7 +16,7 @@ pub invariant_of-self-inside : goal.invariant_of-self-inside
 invariant_of-self-inside g c =
     let m = c.self.inside.member in
     let did = c.read_wait.ensures in
-    let watched = (number-met c.args.target c.read_wait.result.0 (sym c.is_session.ensures ∙ c.if-not-is_session.false) did.own (ap (λ (x : SeatState). session_at x m.sessions m.tickets.room) did.made)).0 in
+    let watched = (number-met c.args.target c.read_wait.result.0 (sym c.is_session.ensures ∙ c.if-not-is_session.false) did.own (ap (λ (x : SeatState). session_at x m.sessions m.tickets.room m.known.pins) did.made)).0 in
     record {
       lawful = ∣ still-member watched.done (member m) ∣₁;
       lists = m.lists ∙ sym watched.lists;
@@ -28,5 +28,5 @@ pub returns : goal.returns
 returns g c =
     let m = c.self.inside.member in
     let did = c.read_wait.ensures in
-    let h = number-met c.args.target c.read_wait.result.0 (sym c.is_session.ensures ∙ c.if-not-is_session.false) did.own (ap (λ (x : SeatState). session_at x m.sessions m.tickets.room) did.made) in
+    let h = number-met c.args.target c.read_wait.result.0 (sym c.is_session.ensures ∙ c.if-not-is_session.false) did.own (ap (λ (x : SeatState). session_at x m.sessions m.tickets.room m.known.pins) did.made) in
     rw (← c.self.view_is) (rw c.number_in.ensures (record { joined = h.1; shown = h.2 }))
