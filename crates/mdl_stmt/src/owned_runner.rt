@@ -1,6 +1,6 @@
 //! A session's statements, not borrowed while they wait.
 ghost use Rattle.std.specs.Prelude.{◌≡◌, None, IfOk, IsSome, is_some, []};
-ghost use Rattle.mdl_calls.specs.Words.{Runs};
+ghost use Rattle.mdl_calls.specs.Words.{HasNothing, Runs};
 ghost use Rattle.mdl_context.specs.Contexts.{Attends, LeavesOthers};
 ghost use Rattle.mdl_stmt.specs.Attendance.{AttendsWith, IsCapacity, cached};
 ghost use Rattle.mdl_stmt.specs.Gets.{ran};
@@ -101,7 +101,7 @@ impl<S: LockSpace> OwnedRunner<S> {
     pub fn leave(self, space: &mut S)
         requires attends { Attends S.LockSpace space.old self.context }
         ensures run { Runs S.joins space.old (leaving (session_kept self)) tt space.new }
-        ensures nothing { S.own space.new self.context.who ≡ record { held = []; wait = None } }
+        ensures nothing { HasNothing (S.own space.new self.context.who) }
         ensures speaks { S.speaks_for space.new self.context.who }
         ensures others { LeavesOthers S.LockSpace self.context.who space.old space.new }
     {

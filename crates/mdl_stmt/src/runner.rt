@@ -1,6 +1,6 @@
 //! A session's statements, one after the other.
 ghost use Rattle.std.specs.Prelude.{◌≡◌, None, IfOk, IsSome, IfSome, is_some, []};
-ghost use Rattle.mdl_calls.specs.Words.{Runs};
+ghost use Rattle.mdl_calls.specs.Words.{HasNothing, Runs};
 ghost use Rattle.mdl_context.specs.Contexts.{Attends, LeavesOthers};
 ghost use Rattle.mdl_stmt.specs.Attendance.{AttendsWith, GoesOn, IsCapacity, IsReady, cached};
 ghost use Rattle.mdl_rows.specs.Endings.{closing};
@@ -119,7 +119,7 @@ impl<'s, S: LockSpace> Runner<'s, S> {
     pub fn leave(self, space: &mut S)
         requires attends { Attends S.LockSpace space.old self.context }
         ensures run { Runs S.joins space.old (leaving (session_of self.entry)) tt space.new }
-        ensures nothing { S.own space.new self.entry.context.who ≡ record { held = []; wait = None } }
+        ensures nothing { HasNothing (S.own space.new self.entry.context.who) }
         ensures speaks { S.speaks_for space.new self.entry.context.who }
         ensures others { LeavesOthers S.LockSpace self.entry.context.who space.old space.new }
     {

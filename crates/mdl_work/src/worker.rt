@@ -1,6 +1,6 @@
 //! A session that executes its lines.
 ghost use Rattle.std.specs.Prelude.{◌≡◌, [], map, None, IsSome, IfOk, OnOk};
-ghost use Rattle.mdl_calls.specs.Words.{Runs};
+ghost use Rattle.mdl_calls.specs.Words.{HasNothing, Runs};
 ghost use Rattle.mdl_context.specs.Contexts.{Attends, LeavesOthers};
 ghost use Rattle.mdl_stmt.specs.Attendance.{AttendsWith, IsCapacity, cached};
 ghost use Rattle.mdl_stmt.specs.Gets.{paused, ran};
@@ -84,7 +84,7 @@ impl<'s, S: LockSpace> Worker<'s, S> {
     pub(crate) fn leave(self, space: &mut S)
         requires attends { Attends S.LockSpace space.old self.runner.context }
         ensures run { Runs S.joins space.old (leaving (session_of self.entry.runner)) tt space.new }
-        ensures nothing { S.own space.new self.entry.runner.context.who ≡ record { held = []; wait = None } }
+        ensures nothing { HasNothing (S.own space.new self.entry.runner.context.who) }
         ensures speaks { S.speaks_for space.new self.entry.runner.context.who }
         ensures others { LeavesOthers S.LockSpace self.entry.runner.context.who space.old space.new }
     {

@@ -1,6 +1,6 @@
 //! Sessions execute their lines, and then release all that they have.
-ghost use Rattle.std.specs.Prelude.{◌≡◌, [], map, None, Some, IfOk, OnErr};
-ghost use Rattle.mdl_calls.specs.Words.{Runs};
+ghost use Rattle.std.specs.Prelude.{◌≡◌, map, None, Some, IfOk, OnErr};
+ghost use Rattle.mdl_calls.specs.Words.{HasNothing, Runs};
 ghost use Rattle.mdl_context.specs.Contexts.{LeavesOthers};
 ghost use Rattle.mdl_stmt.specs.Attendance.{IsCapacity, cached};
 ghost use Rattle.mdl_work.specs.Paces.{answers_in};
@@ -34,12 +34,12 @@ pub fn work<S: LockSpace, G: Gate>(
 ) -> Result<Vec<(u64, Reply)>, AllocError>
     requires capacity { IsCapacity cache }
     requires speaks { S.speaks_for space.old who }
-    requires nothing { S.own space.old who ≡ record { held = []; wait = None } }
+    requires nothing { HasNothing (S.own space.old who) }
     ensures answered { IfOk result (λ answers. Runs S.joins space.old (working_off patience (lines_of_session who script.now) (newcomer who)) (Some answers.items) space.new) }
     ensures starved { OnErr result (Runs S.joins space.old (working_off patience (lines_of_session who script.now) (newcomer who)) None space.new) }
     ensures reads { RunsFromEmpty (cached S.LockSpace) cache space.old (working_off patience (lines_of_session who script.now) (newcomer who)) (answers_in result) space.new }
     ensures lines { IfOk result (λ answers. map (λ answer. answer.0) answers.items ≡ map (λ line. line.number) (lines_of_session who script.now)) }
-    ensures nothing { S.own space.new who ≡ record { held = []; wait = None } }
+    ensures nothing { HasNothing (S.own space.new who) }
     ensures speaks { S.speaks_for space.new who }
     ensures others { LeavesOthers S.LockSpace who space.old space.new }
 {
@@ -58,12 +58,12 @@ pub fn work_lines<S: LockSpace, G: Gate>(
 ) -> Result<Vec<(u64, Reply)>, AllocError>
     requires capacity { IsCapacity cache }
     requires speaks { S.speaks_for space.old who }
-    requires nothing { S.own space.old who ≡ record { held = []; wait = None } }
+    requires nothing { HasNothing (S.own space.old who) }
     ensures answered { IfOk result (λ answers. Runs S.joins space.old (working_off patience (lines_of_session who lines.now) (newcomer who)) (Some answers.items) space.new) }
     ensures starved { OnErr result (Runs S.joins space.old (working_off patience (lines_of_session who lines.now) (newcomer who)) None space.new) }
     ensures reads { RunsFromEmpty (cached S.LockSpace) cache space.old (working_off patience (lines_of_session who lines.now) (newcomer who)) (answers_in result) space.new }
     ensures lines { IfOk result (λ answers. map (λ answer. answer.0) answers.items ≡ map (λ line. line.number) (lines_of_session who lines.now)) }
-    ensures nothing { S.own space.new who ≡ record { held = []; wait = None } }
+    ensures nothing { HasNothing (S.own space.new who) }
     ensures speaks { S.speaks_for space.new who }
     ensures others { LeavesOthers S.LockSpace who space.old space.new }
 {
