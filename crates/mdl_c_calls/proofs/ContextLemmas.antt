@@ -10,17 +10,24 @@ use Rattle.mdl_core.specs.CoreJoins.{Joins}
 use Rattle.mdl_core.specs.Words.{Core, Knows, SpeaksFor, locks_at}
 use Rattle.mdl_core.proofs.CallLaws.{core-changes, core-keeps, core-others, core-remembers}
 use Rattle.mdl_core.proofs.CoreSound.{calls_keep-sound}
-use Rattle.mdl_context.proofs.AttendLemmas.{attends-same}
+use Rattle.mdl_context.proofs.AttendLemmas.{attends-kept}
 use Rattle.mdl_c_calls.specs.Managers.{AreAttended, IsAttended}
 use Rattle.mdl_c_calls.specs.declared.seat.Seat.{Seat}
 use Rattle.mdl_c_calls.specs.declared.seat.Seat.TheVariants.{Direct, Kept}
 
--- the space goes on to speak for a session, and nothing changes for it
+-- a session has the tickets and the wait that it had
+abbrev pub HasStill : SessionLocks → SessionLocks → Type 0
+HasStill before after = (after.held ≡ before.held) × (after.wait ≡ before.wait)
+
+-- the space goes on to speak for a session, which has the tickets and the wait that it had, and knows what it knew
 abbrev pub IsSpared : Core → Core → ℕ → Type 0
 IsSpared a b w =
-    SpeaksFor a w → SpeaksFor b w × (locks_at b w ≡ locks_at a w) × ((place : ℕ) (key : KeyName) → Knows a w place key → Knows b w place key)
+    SpeaksFor a w → SpeaksFor b w × HasStill (locks_at a w) (locks_at b w) × ((place : ℕ) (key : KeyName) → Knows a w place key → Knows b w place key)
 
 -- ---- calls
+
+pub same-still : (before after : SessionLocks) → after ≡ before → HasStill before after
+same-still before after same = (ap (λ (own : SessionLocks). own.held) same, ap (λ (own : SessionLocks). own.wait) same)
 
 -- no call gives a place up
 remembered : (a b : Core) (call : Call) (answer : Answer) (w : ℕ) → Joins a call answer b → SpeaksFor a w
@@ -32,23 +39,27 @@ remembered a b call answer w joined speaks place key =
 pub spared-other : (a b : Core) (call : Call) (answer : Answer) (w : ℕ) → (caller call ≡ Some w → ⊥) → Joins a call answer b → IsSpared a b w
 spared-other a b call answer w other joined speaks = (
   core-keeps calls_keep-sound a b call answer w speaks joined,
-  core-others a b call answer w speaks other joined,
+  same-still _ _ (core-others a b call answer w speaks other joined),
   remembered a b call answer w joined speaks,
 )
 
--- and its caller, too, where it leaves what that has
-pub spared-still : (a b : Core) (call : Call) (answer : Answer) (w : ℕ) → ((own : SessionLocks) → own_after call answer own ≡ own) → Joins a call answer b → IsSpared a b w
+-- and its caller, too, where it leaves the tickets and the wait of that
+pub spared-still : (a b : Core) (call : Call) (answer : Answer) (w : ℕ) → ((own : SessionLocks) → HasStill own (own_after call answer own)) → Joins a call answer b → IsSpared a b w
 spared-still a b call answer w still joined speaks = (
   core-keeps calls_keep-sound a b call answer w speaks joined,
   same (caller call) refl,
   remembered a b call answer w joined speaks,
 )
   where
-    same : (o : Option ℕ) → caller call ≡ o → locks_at b w ≡ locks_at a w
-    same None nobody = core-others a b call answer w speaks (λ mine. let no = sym nobody ∙ mine in cc) joined
+    caller-still : locks_at b w ≡ own_after call answer (locks_at a w) → HasStill (locks_at a w) (locks_at b w)
+    caller-still now =
+        let kept = still (locks_at a w) in let there = same-still _ _ now in (there.0 ∙ kept.0, there.1 ∙ kept.1)
+
+    same : (o : Option ℕ) → caller call ≡ o → HasStill (locks_at a w) (locks_at b w)
+    same None nobody = same-still _ _ (core-others a b call answer w speaks (λ mine. let no = sym nobody ∙ mine in cc) joined)
     same (Some v) theirs = elim (eqb_tells w v) [
-      | inl is ↦ core-changes a b call answer w (theirs ∙ ap Some (sym is.1)) joined ∙ still (locks_at a w)
-      | inr not ↦ core-others a b call answer w speaks (λ mine. let no = sym theirs ∙ mine in not.1 (cc)) joined
+      | inl is ↦ caller-still (core-changes a b call answer w (theirs ∙ ap Some (sym is.1)) joined)
+      | inr not ↦ same-still _ _ (core-others a b call answer w speaks (λ mine. let no = sym theirs ∙ mine in not.1 (cc)) joined)
     ]
 
 -- ---- contexts
@@ -58,7 +69,7 @@ still-attended : (a b : Core) (w : ℕ) (seat : Seat) → IsSpared a b w → IsA
 still-attended a b w Direct spared attended = tt
 still-attended a b w (Kept context) spared attended =
     let kept = subst (IsSpared a b) (sym attended.0) spared attended.1.speaks in
-    (attended.0, attends-same a b context attended.1 kept.2 kept.0 kept.1)
+    (attended.0, attends-kept a b context attended.1 kept.2 kept.0 kept.1.0 kept.1.1)
 
 -- so are all
 pub all-attended : (a b : Core) (first : ℕ) (seats : List Seat) → ((w : ℕ) → first ≤ w → IsSpared a b w) → AreAttended a first seats → AreAttended b first seats

@@ -21,7 +21,7 @@ use Rattle.mdl_c_calls.specs.declared.seat.Seat.{Seat}
 use Rattle.mdl_c_calls.specs.declared.seat.Seat.TheVariants.{Direct, Kept}
 use Rattle.mdl_c_calls.specs.declared.unserved.Unserved.{Unserved}
 use Rattle.mdl_c_calls.specs.declared.unserved.Unserved.TheVariants.{InUse}
-use Rattle.mdl_c_calls.proofs.ContextLemmas.{all-attended, attended-at, direct-attended, none-attended, set-attended, spared-other, spared-still}
+use Rattle.mdl_c_calls.proofs.ContextLemmas.{HasStill, all-attended, attended-at, direct-attended, none-attended, same-still, set-attended, spared-other, spared-still}
 
 -- ---- seats
 
@@ -50,8 +50,8 @@ direct-seat who manager direct = by (who == 0) refl where
 
 -- ---- serving
 
--- a call that leaves what its caller has
-pub serves-still : (a b : Core) (call : Call) (answer : Answer) (sessions : ℕ) (seats : List Seat) → ((own : SessionLocks) → own_after call answer own ≡ own)
+-- a call that leaves its caller's tickets and wait
+pub serves-still : (a b : Core) (call : Call) (answer : Answer) (sessions : ℕ) (seats : List Seat) → ((own : SessionLocks) → HasStill own (own_after call answer own))
     → ServesAll a sessions seats → core_space.joins a call answer b → ServesAll b sessions seats
 serves-still a b call answer sessions seats still serves joined = record {
   seated = serves.seated;
@@ -92,7 +92,7 @@ pub serves-seated : (a b : Core) (i sessions : ℕ) (seats : List Seat) (seat : 
 serves-seated a b i sessions seats seat serves inside attended leaves = record {
   seated = length-set seats i seat ∙ serves.seated;
   speaks = λ w least most. (leaves.1 w (serves.speaks w least most)).0;
-  attended = set-attended a b 1 i seats seat (λ w other speaks. leaves.0 w other speaks) attended serves.attended;
+  attended = set-attended a b 1 i seats seat (λ w other speaks. let left = leaves.0 w other speaks in (left.0, same-still _ _ left.1, left.2)) attended serves.attended;
 }
 
 -- ---- contexts that begin
