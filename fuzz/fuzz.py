@@ -69,6 +69,11 @@ class Case:
         """Returns how many lines there are."""
         return self.script.count(b"\n") + 1
 
+    def sessions(self):
+        """Returns how many sessions of `run` there are, at most."""
+        words = {it.split(maxsplit=1)[0] for it in self.script.split(b"\n") if it.strip()}
+        return min(len(words), language.MOST_SESSIONS) if self.subcommand == "run" else 0
+
     def most_seconds(self):
         """Returns how many seconds the run may take, on a busy machine. A session that waits looks again."""
         polls = self.patience * 20e-6 if self.subcommand == "run" else 0
@@ -77,9 +82,9 @@ class Case:
     def most_memory(self, written):
         """Returns how many bytes of memory the run may take. The text doubles as it grows, and is copied then. There is a record for each line, which
         has 8 bytes or more, and for each name, which has 2 with its space; these double too. The answers are kept as records and as text. Each
-        key and session that there can be has a part of its own, and the sessions of `run` a stack. An answer has at most 8 tables of 64 columns, some
-        34,000 bytes, for a line of 24, so all this is linear in the script."""
-        return 32 * MEGABYTE + 64 * len(self.script) + 4 * written
+        key and session that there can be has a part of its own. An answer has at most 8 tables of 64 columns, some 34,000 bytes, for a line of 24, so all
+        this is linear in the script. Each session of `run` has a stack, and lists of all others while it looks for a deadlock."""
+        return 32 * MEGABYTE + 64 * len(self.script) + 4 * written + self.sessions() * (65536 + 512 * self.sessions())
 
 
 def play(runner, case):
