@@ -18,7 +18,7 @@ mkdir "$made/lives" "$made/plays" "$made/whole"
 refused=5000
 
 # The number of the allocation that mdlsim is refused.
-refused_on_threads=400
+refused_on_threads=414
 
 # How often a script reads three tables in turn. So it takes fewer allocations than that if each table is read once, and more if each is read each time.
 rounds=5
@@ -165,7 +165,7 @@ play $refused_on_threads "$made/plays"
 ends > "$made/ends"
 [ "$(number_of '' wrong)" -eq 0 ] || fail 'a run of mdlsim reports something else than that memory ran out'
 
-# The example makes fewer than 300 allocations, however its threads interleave.
+# The example makes fewer than 400 allocations, however its threads interleave.
 grep -q '^threads_0 whole' "$made/ends" || fail 'the example of two threads takes more memory than it may here'
 
 # After so many lines it makes more than what it is refused. Which one that is depends on how the threads interleave, and if a cache asks for it, all
