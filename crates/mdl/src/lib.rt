@@ -11,7 +11,8 @@
 //! # Example
 //!
 //! ```
-//! ghost use Rattle.std.specs.Prelude.{◌≡◌, [], None};
+//! ghost use Rattle.std.specs.Prelude.{◌≡◌};
+//! ghost use Rattle.mdl.specs.mdl_calls.Words.{HasNothing};
 //! ghost use Rattle.mdl.specs.mdl_shared.Passes.{manager_table, pass_table};
 //! ghost use Rattle.mdl.specs.mdl_shared.SessionViews.{data_of};
 //!
@@ -54,8 +55,8 @@
 //!     text: &mut String,
 //! ) -> Result<(), AllocError>
 //!     requires speaks { S.speaks_for space.old who }
-//!     requires nothing { S.own space.old who ≡ record { held = []; wait = None } }
-//!     ensures { S.own space.new who ≡ record { held = []; wait = None } }
+//!     requires nothing { HasNothing (S.own space.old who) }
+//!     ensures { HasNothing (S.own space.new who) }
 //! {
 //!     let Ok(mut runner) = OwnedRunner::new(alloc, who, CACHE) else {
 //!         return Err(AllocError);
@@ -67,7 +68,7 @@
 //!
 //! // Closes a session that has nothing. If it owed a place a reschedule, after a fast release, it would make that first.
 //! fn close<R: Wait + Drop>(rt: &impl Wait, session: Session<R>)
-//!     requires { (data_of session).own ≡ record { held = []; wait = None } }
+//!     requires { HasNothing (data_of session).own }
 //! {
 //!     let mut session = session;
 //!     for _ in rt.forever() {

@@ -1,16 +1,16 @@
 -- The world at first: its sessions have nothing, and the space attends to them.
-use Rattle.std.proofs.Common.{◌≡◌, ℕ, zero, suc, ◌<◌, ◌≤◌, ◌+◌, ◌-◌, false, List, [], ◌∷◌, ◌++◌, length, get_or, map, None, refl, sym, ap, ◌∙◌, subst, arith}
+use Rattle.std.proofs.Common.{◌≡◌, ℕ, zero, suc, ◌<◌, ◌≤◌, ◌+◌, ◌-◌, false, List, [], ◌∷◌, ◌++◌, length, get_or, map, None, option_map, refl, sym, ap, ◌∙◌, subst, arith}
 use Rattle.std.specs.Prelude.{is_some, replicate}
 use Rattle.std.specs.List.{range_with_len}
 use Rattle.std.proofs.lemmas.List.Elements.{All-nil}
 use Rattle.std.proofs.lemmas.List.FromFn.{get_or-map-range_with_len, length-map-range_with_len}
-use Rattle.mdl_calls.specs.Words.{SessionLocks}
+use Rattle.mdl_calls.specs.Words.{HasNothing}
 use Rattle.mdl_key.specs.Words.{most_sessions}
 use Rattle.mdl_core.specs.Seats.{SeatView, empty_seat, locks_of_seat}
 use Rattle.mdl_core.specs.Words as core
 use Rattle.mdl_core.specs.Words.{Core, SpeaksFor, locks_at}
 use Rattle.mdl_space.specs.CoreMembers.{core_space}
-use Rattle.mdl_context.specs.Contexts.{Attends}
+use Rattle.mdl_context.specs.Contexts.{Attends, wish_there}
 use Rattle.mdl_script.specs.declared.play.Play.{Play}
 use Rattle.mdl_script.specs.declared.play.Player as kept
 use Rattle.mdl_script.specs.Plays.{AreSeated, IsManned, new_player, numbered_player}
@@ -38,37 +38,34 @@ new-all players who least most so = let same : who - 1 ≡ most_sessions = omega
 
 -- ---- the space at first
 
-abbrev nothing : SessionLocks
-nothing = record { held = []; wait = None }
-
 -- what these have is nothing
 abbrev AreFresh : List SeatView → Type 0
 AreFresh [] = Unit {0}
-AreFresh (seat ∷ seats) = (locks_of_seat seat ≡ nothing) × AreFresh seats
+AreFresh (seat ∷ seats) = HasNothing (locks_of_seat seat) × AreFresh seats
 
 fresh-replicate : (n : ℕ) → AreFresh (replicate n empty_seat)
 fresh-replicate zero = tt
-fresh-replicate (suc n) = (refl, fresh-replicate n)
+fresh-replicate (suc n) = ((refl, refl), fresh-replicate n)
 
-fresh-at : (seats : List SeatView) (i : ℕ) → AreFresh seats → locks_of_seat (get_or seats i empty_seat) ≡ nothing
-fresh-at [] i fresh = refl
+fresh-at : (seats : List SeatView) (i : ℕ) → AreFresh seats → HasNothing (locks_of_seat (get_or seats i empty_seat))
+fresh-at [] i fresh = (refl, refl)
 fresh-at (seat ∷ seats) zero fresh = fresh.0
 fresh-at (seat ∷ seats) (suc i) fresh = fresh-at seats i fresh.1
 
-first-seats : first_core.seats ≡ record { held = []; wait = None; last_ticket = 1; last_wait = 0 } ∷ replicate (most_sessions - 1) empty_seat
+first-seats : first_core.seats ≡ record { held = []; wait = None; pins = 1 ∷ []; last_ticket = 1; last_wait = 0 } ∷ replicate (most_sessions - 1) empty_seat
 unfolding core.admitting_up_to
 first-seats = refl
 
-first-own : (who : ℕ) → locks_at first_core who ≡ nothing
-first-own who = fresh-at first_core.seats (who - 1) (subst AreFresh (sym first-seats) (refl, fresh-replicate (most_sessions - 1)))
+first-own : (who : ℕ) → HasNothing (locks_at first_core who)
+first-own who = fresh-at first_core.seats (who - 1) (subst AreFresh (sym first-seats) ((refl, refl), fresh-replicate (most_sessions - 1)))
 
 -- ---- they are seated
 
-attended-first : (core : Core) (who : ℕ) → SpeaksFor core who → locks_at core who ≡ nothing → Attends core_space core (new_player who).runner.context
+attended-first : (core : Core) (who : ℕ) → SpeaksFor core who → HasNothing (locks_at core who) → Attends core_space core (new_player who).runner.context
 attended-first core who speaks has =
-    record { speaks = speaks; serves = rw has (record { held = refl; wait = refl }); known = All-nil _; places = All-nil _; wish = tt }
+    record { speaks = speaks; serves = record { held = has.0; wait = ap (option_map wish_there) has.1 }; known = All-nil _; places = All-nil _; wish = tt }
 
-seated-first : (core : Core) (a n : ℕ) → ((who : ℕ) → a ≤ who → who < a + n → SpeaksFor core who) → ((who : ℕ) → locks_at core who ≡ nothing) → AreSeated core a (map new_player (range_with_len a n))
+seated-first : (core : Core) (a n : ℕ) → ((who : ℕ) → a ≤ who → who < a + n → SpeaksFor core who) → ((who : ℕ) → HasNothing (locks_at core who)) → AreSeated core a (map new_player (range_with_len a n))
 seated-first core a zero speaks has = tt
 seated-first core a (suc n) speaks has = (
   refl,
@@ -105,6 +102,6 @@ pub first-manned : (play : Play) → play.space ≡ first_core → SpeakForAll p
 unfolding sessions
 first-manned play space speaks all none = record {
   all = ap length all ∙ length-map-range_with_len new_player 1 most_sessions;
-  seated = subst (AreSeated play.space 1) (sym all) (seated-first play.space 1 most_sessions (λ who least most. speaks who least (omega arith)) (λ who. ap (λ core. locks_at core who) space ∙ first-own who));
+  seated = subst (AreSeated play.space 1) (sym all) (seated-first play.space 1 most_sessions (λ who least most. speaks who least (omega arith)) (λ who. subst (λ core. HasNothing (locks_at core who)) (sym space) (first-own who)));
   waiting = none ∙ sym (ap (λ ps. let world : World = record { core = play.space; players = map numbered_player ps } in waiting_in world) all ∙ nobody-waits play.space);
 }

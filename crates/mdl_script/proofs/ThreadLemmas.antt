@@ -3,7 +3,7 @@ use Rattle.std.proofs.Common.{◌≡◌, ◌∙◌, ◌==◌, ◌||◌, inl, inr
 use Rattle.std.specs.List.{list_any}
 use Rattle.std.proofs.lemmas.Bool.{eq-eqb, false≢true}
 use Rattle.mdl_defs.specs.Caches.{CacheView}
-use Rattle.mdl_calls.specs.Words.{Program, Give, Ask, Grow, Runs}
+use Rattle.mdl_calls.specs.Words.{HasNothing, Program, Give, Ask, Grow, Runs}
 use Rattle.mdl_calls.specs.SessionData.{SpeaksFor}
 use Rattle.mdl_rows.specs.declared.reply.Reply.{Reply}
 use Rattle.mdl_syntax.specs.declared.script.Line.{Line}
@@ -13,7 +13,7 @@ use Rattle.mdl_shared.specs.Passes.{pass_number, pass_table, pass_view}
 use Rattle.mdl_shared.specs.SessionViews.{SessionView, data_of}
 use Rattle.mdl_work.specs.Paces.{answers_in}
 use Rattle.mdl_work.specs.Works.{RunsFromEmpty, lines_of_session, newcomer, working_off}
-use Rattle.mdl_script.specs.Answers.{AreAnswers, CachedSteps, Options, WorksOff, no_locks}
+use Rattle.mdl_script.specs.Answers.{AreAnswers, CachedSteps, Options, WorksOff}
 
 -- a session stays at its table
 table-stays : {A : Type 0} (program : Program A) (a b : SessionView × CacheView) (reply : A) → Runs CachedSteps a program reply b → b.0.table ≡ a.0.table
@@ -53,7 +53,7 @@ paid_behind options lines who a b result run =
 
 -- a session that had nothing, and worked its lines off until it had nothing again, answered so
 pub answers-are : {Z E : Type 0} (options : Options) (lines : List Line) (who : ℕ) (a b : SessionView) (result : Result (Vec (ℕ × Reply) Z) E) →
-    SpeaksFor (data_of a) who → (data_of a).own ≡ no_locks → (data_of b).own ≡ no_locks → Ends options lines who a result b →
+    SpeaksFor (data_of a) who → HasNothing (data_of a).own → HasNothing (data_of b).own → Ends options lines who a result b →
     IfOk result (λ answers. map (λ (answer : ℕ × Reply). answer.0) answers.items ≡ map (λ (line : Line). line.number) (lines_of_session who lines)) →
     IfOk result (λ answers. AreAnswers options lines who a answers.items b)
 answers-are options lines who a b (Ok answers) speaks had has run numbers =

@@ -1,8 +1,8 @@
 -- The answers that the sessions of a script can have given, each over a lock table that threads share.
-use Rattle.std.specs.Prelude.{◌≡◌, ◌≢◌, ◌⊎◌, ℕ, List, [], Contains, map, Some, None}
+use Rattle.std.specs.Prelude.{◌≡◌, ◌≢◌, ◌⊎◌, ℕ, List, Contains, map, Some}
 use Rattle.atomic_table.specs.Seated.{TableId}
 use Rattle.mdl_defs.specs.Caches.{CacheView}
-use Rattle.mdl_calls.specs.Words.{Answer, Call, SessionLocks, with_cache}
+use Rattle.mdl_calls.specs.Words.{Answer, Call, HasNothing, with_cache}
 use Rattle.mdl_calls.specs.SessionData.{SpeaksFor, own_of}
 use Rattle.mdl_session_laws.specs.SessionJoins.{Joins}
 use Rattle.mdl_rows.specs.declared.reply.Reply.{Reply}
@@ -14,15 +14,11 @@ use Rattle.mdl_shared.specs.SessionViews.{SessionView, data_of}
 use Rattle.mdl_shared.specs.AllSteps.{Shows}
 use Rattle.mdl_work.specs.Works.{RunsFromEmpty, lines_of_session, newcomer, working_off}
 
--- no ticket and no wait
-abbrev pub no_locks : SessionLocks
-no_locks = record { held = []; wait = None }
-
 -- a session of this table and with this number that has no ticket and no wait
 pub record IsIdleAt (table : TableId) (who : ℕ) (session : SessionView) : Type 0 where
   pub there : session.table ≡ table
   pub speaks : SpeaksFor (data_of session) who
-  pub has_nothing : (data_of session).own ≡ no_locks
+  pub has_nothing : HasNothing (data_of session).own
 
 -- a call takes a session from one state to the next, as far as its tickets and its wait go, and its steps show what the call read and did
 abbrev pub JoinsSteps : SessionView → Call → Answer → SessionView → Type 0
@@ -50,9 +46,9 @@ WorksOff options lines who s answers t =
 -- has its answer, in order
 pub record AreAnswers (options : Options) (lines : List Line) (who : ℕ) (before : SessionView) (answers : List (ℕ × Reply)) (after : SessionView) : Type 0 where
   pub speaks : SpeaksFor (data_of before) who
-  pub had_nothing : own_of (data_of before) who ≡ no_locks
+  pub had_nothing : HasNothing (own_of (data_of before) who)
   pub run : WorksOff options lines who before answers after
-  pub has_nothing : own_of (data_of after) who ≡ no_locks
+  pub has_nothing : HasNothing (own_of (data_of after) who)
   pub numbers : map (λ (answer : ℕ × Reply). answer.0) answers ≡ map (λ (line : Line). line.number) (lines_of_session who lines)
 
 -- a session gave these answers between the state of a pass that was given (`opened`) and that of a pass that came back (`closed`)

@@ -2,9 +2,10 @@
 //! end.
 ghost use Rattle.std.specs.Prelude.{◌≡◌, [], IfOk, OnOk};
 ghost use Rattle.mdl_calls.specs.SessionData.{SpeaksFor};
+ghost use Rattle.mdl_calls.specs.Words.{HasNothing};
 ghost use Rattle.mdl_stmt.specs.Attendance.{IsCapacity};
 ghost use Rattle.mdl_shared.specs.SessionViews.{KeepsLists, data_of};
-ghost use Rattle.mdl_script.specs.Answers.{AreAnswers, no_locks, options_of};
+ghost use Rattle.mdl_script.specs.Answers.{AreAnswers, options_of};
 ghost use Rattle.mdl_script.specs.Books.{AreOfOneAudit};
 ghost use Rattle.mdl_script.specs.Runs.{HasMadeFirst, MakesFirst};
 
@@ -27,9 +28,9 @@ pub(crate) fn make_first_schema<R: Wait, G>(
 ) -> Result<(), AllocError>
     requires capacity { IsCapacity run.now.cache }
     requires speaks { SpeaksFor (data_of asker.old) who }
-    requires nothing { (data_of asker.old).own ≡ no_locks }
+    requires nothing { HasNothing (data_of asker.old).own }
     requires paid { asker.old.me.0.owes ≡ [] }
-    ensures nothing { (data_of asker.new).own ≡ no_locks }
+    ensures nothing { HasNothing (data_of asker.new).own }
     ensures paid { asker.new.me.0.owes ≡ [] }
     ensures speaks { SpeaksFor (data_of asker.new) who }
     ensures first { OnOk result (MakesFirst (options_of run.now.patience run.now.cache) who asker.old asker.new) }
@@ -63,9 +64,9 @@ pub(crate) fn take_turn<R: Wait, G: Gate>(
 ) -> Result<Transcript, AllocError>
     requires capacity { IsCapacity run.now.cache }
     requires speaks { SpeaksFor (data_of asker.old) who }
-    requires nothing { (data_of asker.old).own ≡ no_locks }
+    requires nothing { HasNothing (data_of asker.old).own }
     requires paid { asker.old.me.0.owes ≡ [] }
-    ensures nothing { (data_of asker.new).own ≡ no_locks }
+    ensures nothing { HasNothing (data_of asker.new).own }
     ensures paid { asker.new.me.0.owes ≡ [] }
     ensures speaks { SpeaksFor (data_of asker.new) who }
     ensures who { IfOk result (λ own. own.who ≡ who) }
@@ -85,9 +86,9 @@ pub(crate) fn take_turn<R: Wait, G: Gate>(
 
 /// Returns the books of all keys.
 pub(crate) fn books<R: Wait>(asker: &mut Session<&R>) -> Result<Vec<Audited>, AllocError>
-    requires nothing { (data_of asker.old).own ≡ no_locks }
+    requires nothing { HasNothing (data_of asker.old).own }
     requires paid { asker.old.me.0.owes ≡ [] }
-    ensures nothing { (data_of asker.new).own ≡ no_locks }
+    ensures nothing { HasNothing (data_of asker.new).own }
     ensures paid { asker.new.me.0.owes ≡ [] }
     ensures same { KeepsLists asker.old asker.new }
     ensures audited { IfOk result (λ books. AreOfOneAudit books.items asker.old asker.new) }

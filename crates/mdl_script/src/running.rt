@@ -1,10 +1,11 @@
 //! Plays a script of statements with a thread for each of its sessions.
 ghost use Rattle.std.specs.Prelude.{◌≡◌, ◌≢◌, ◌≤◌, [], ◌∷◌, true, All, IfOk, length};
 ghost use Rattle.std.specs.String.{string_bytes};
+ghost use Rattle.mdl_calls.specs.Words.{HasNothing};
 ghost use Rattle.mdl_shared.specs.Passes.{manager_table, pass_number, pass_table, pass_view};
 ghost use Rattle.mdl_shared.specs.SessionViews.{data_of};
 ghost use Rattle.mdl_stmt.specs.Attendance.{IsCapacity};
-ghost use Rattle.mdl_script.specs.Answers.{IsIdleAt, no_locks, options_of};
+ghost use Rattle.mdl_script.specs.Answers.{IsIdleAt, options_of};
 ghost use Rattle.mdl_script.specs.RunTexts.{named_sessions};
 ghost use Rattle.mdl_script.specs.Runs.{ComeBack, IsRunBetween, IsRunFrom, IsRunOf};
 ghost use Rattle.mdl_script.specs.Turns.{has_pass};
@@ -127,7 +128,7 @@ fn ran_by<'s, E, R: Threads + Wait + Sync, G: Gate + Sync>(
     ensures theirs { IfOk result (λ ran. All (λ pass. pass_table pass ≡ manager_table run.now.manager.now) ran.passes.items) }
     ensures there { IfOk result (λ ran. asker.new.table ≡ manager_table run.now.manager.now) }
     ensures number { IfOk result (λ ran. asker.new.me.0.number ≡ who) }
-    ensures nothing { (data_of asker.new).own ≡ no_locks }
+    ensures nothing { HasNothing (data_of asker.new).own }
     ensures paid { asker.new.me.0.owes ≡ [] }
 {
     let mut passes = others;

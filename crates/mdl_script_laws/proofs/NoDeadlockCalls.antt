@@ -1,5 +1,5 @@
 -- A space without a deadlock: what calls leave it so.
-use Rattle.std.proofs.Common.{◌≡◌, ℕ, zero, suc, ◌-◌, ◌≤◌, Bool, true, false, length, Option, Some, None, refl, sym, ap, subst, ◌∙◌}
+use Rattle.std.proofs.Common.{◌≡◌, ℕ, zero, suc, ◌+◌, ◌-◌, ◌≤◌, Bool, true, false, length, Option, Some, None, refl, sym, ap, subst, ◌∙◌}
 use Rattle.std.proofs.lemmas.Bool.{false≢true}
 use Rattle.std.proofs.lemmas.List.{length-set}
 use Rattle.mdl_calls.specs.Words.{Answer, Call, Begin_wait, takes_memory}
@@ -9,13 +9,14 @@ use Rattle.mdl_core.specs.CoreJoins.{Joins, SpeaksFor}
 use Rattle.mdl_core.specs.CoreSystems.{system_of}
 use Rattle.mdl_core.specs.Cores.{Core, book_at, seat_at, seating}
 use Rattle.mdl_core.specs.RunLaws.{IsMadeFor}
+use Rattle.mdl_core.specs.Seats.{with_pin}
 use Rattle.mdl_core.specs.SearchLaws.{call_begins_wait}
 use Rattle.mdl_core.specs.Ties.{IsTied}
 use Rattle.mdl_book.specs.declared.ticket.Ticket.{Ticket}
 use Rattle.mdl_core.proofs.CallDeadlocks.{only-new_waits}
 use Rattle.mdl_core.proofs.CallLaws.{core-keeps, joins-comes}
 use Rattle.mdl_core.proofs.CoreSound.{calls_keep-sound}
-use Rattle.mdl_core.proofs.Ways.{Way, Stay, Open, Settle_wait, Make, makes_room, served_if, space_by}
+use Rattle.mdl_core.proofs.Ways.{Way, Stay, Pin, Open, Settle_wait, Make, makes_room, served_if, space_by}
 use Rattle.mdl_system.specs.Deadlocks.{DeadlocksGoThrough, HasNoDeadlock}
 use Rattle.mdl_script_laws.proofs.OutcomeLemmas.{joins-outcome}
 
@@ -47,7 +48,8 @@ seats-served a false place = refl
 -- whichever way it goes
 seats-by : (a : Core) (way : Way) → length (space_by way a).seats ≡ length a.seats
 seats-by a Stay = refl
-seats-by a (Open key) = refl
+seats-by a (Pin who place) = length-set a.seats (who - 1) (with_pin place (seat_at who a))
+seats-by a (Open who key) = length-set a.seats (who - 1) (with_pin (length a.books + 1) (seat_at who a))
 seats-by a (Settle_wait who place how) = seats-changing a who place (Settle how)
 seats-by a (Make who place change) = seats-served (after_change who place change a) (makes_room change) place ∙ seats-changing a who place change
 

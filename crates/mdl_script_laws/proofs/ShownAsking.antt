@@ -106,10 +106,10 @@ won-by a b who id speaks joins = go (locks_at a who).wait refl
           e,
           record {
             spares = spares;
-            fresh = gained-fresh id w.place w.mode (record { held = (locks_at a who).held; wait = None }) (subst IsRising own (core-rising b who spares.speaks));
+            fresh = gained-fresh id w.place w.mode (record (locks_at a who) { wait = None }) (subst IsRising own (core-rising b who spares.speaks));
             ticket = record { id = id; place = w.place; mode = w.mode };
             there = subst (λ (o : SessionLocks). Contains o.held (record { id = id; place = w.place; mode = w.mode })) (sym own)
-                (gained-there id w.place w.mode (record { held = (locks_at a who).held; wait = None }));
+                (gained-there id w.place w.mode (record (locks_at a who) { wait = None }));
             number = refl;
             at = refl;
           },

@@ -7,7 +7,7 @@ use Rattle.mdl_key.specs.declared.mode.Mode.{Mode}
 use Rattle.mdl_key.specs.Keys.{KeyName}
 use Rattle.mdl_calls.specs.declared.answers.Held.{Held}
 use Rattle.mdl_calls.specs.SessionLocks.{Wait}
-use Rattle.mdl_calls.specs.Words.{Answer, Granted, Lost, Done, Call, caller, Try_now, Begin_wait, End_wait, Release, Clone_ticket, Upgrade_now, Merge, Downgrade, Change_definition, Unpin, SessionLocks, own_after, ticket_held, is_number, cloning, winning, redefined_place, Program, Give, Ask, Grow, ◌>>=◌, Each, EachCall, outcome_of}
+use Rattle.mdl_calls.specs.Words.{Answer, At_place, Granted, Lost, Done, Call, caller, Resolve, Try_now, Begin_wait, End_wait, Release, Clone_ticket, Upgrade_now, Merge, Downgrade, Change_definition, Unpin, SessionLocks, own_after, ticket_held, is_number, cloning, winning, redefined_place, Program, Give, Ask, Grow, ◌>>=◌, Each, EachCall, outcome_of}
 use Rattle.mdl_core.specs.CoreCalls.{outcome}
 use Rattle.mdl_core.specs.CoreJoins.{Joins, Knows, SpeaksFor, locks_at}
 use Rattle.mdl_core.specs.Cores.{Core, has_key, standing_at}
@@ -47,6 +47,8 @@ other_number id t other = go (is_number id t) refl
 
 held-after : (gone : ℕ → Type 0) (call : Call) (answer : Answer) (own : SessionLocks) (t : Held) → IsMild gone call → (gone t.id → ⊥) → Contains own.held t
     → Contains (own_after call answer own).held t
+held-after gone (Resolve who key) (At_place place) own t mild stays among = among
+held-after gone (Unpin who place) answer own t mild stays among = absurd mild
 held-after gone (Try_now who place mode) (Granted id) own t mild stays among = Contains-append_left own.held _ t among
 held-after gone (Begin_wait who place mode) (Granted id) own t mild stays among = Contains-append_left own.held _ t among
 held-after gone (End_wait who) (Granted id) own t mild stays among = won-among id own.wait own t among
@@ -134,6 +136,8 @@ cloned-wait id mode (Some ticket) own w e = e
 wait-after : (gone : ℕ → Type 0) (call : Call) (answer : Answer) (own : SessionLocks) (w : Wait) → IsMild gone call → begins_wait call ≡ false
     → (own_after call answer own).wait ≡ Some w → own.wait ≡ Some w
 wait-after gone (Begin_wait who place mode) answer own w mild begins e = cc
+wait-after gone (Resolve who key) (At_place place) own w mild begins e = e
+wait-after gone (Unpin who place) answer own w mild begins e = absurd mild
 wait-after gone (Try_now who place mode) (Granted id) own w mild begins e = e
 wait-after gone (Release who id) Done own w mild begins e = e
 wait-after gone (End_wait who) (Granted id) own w mild begins e = won-wait id own.wait own w refl e

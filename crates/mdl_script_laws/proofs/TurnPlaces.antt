@@ -35,14 +35,14 @@ few-same a b same few =
     record { books = omega (arith, there, here, keys, most, books); most = omega (arith, most, least) }
 
 -- a key is given a place only where one is left
-few-placing : (key : KeyName) (core : Core) → HasFewPlaces core → HasFewPlaces (placing key (index_of key core.books) core).1
-few-placing key core few =
-    option_cases (λ found. HasFewPlaces (placing key found core).1) (index_of key core.books)
+few-placing : (who : ℕ) (key : KeyName) (core : Core) → HasFewPlaces core → HasFewPlaces (placing who key (index_of key core.books) core).1
+few-placing who key core few =
+    option_cases (λ found. HasFewPlaces (placing who key found core).1) (index_of key core.books)
     (λ none. test_cases (λ (r : Answer × Core). HasFewPlaces r.1) (nat_le core.places (length core.books)) _ _ (λ full. few) (λ room. record {
       books = (let longer = length-append core.books (empty_book key ∷ []) in let least = few.books in grind (arith, nat_tests));
       most = few.most;
     }))
-    (λ index found. few)
+    (λ index found. record { books = few.books; most = few.most })
 
 never : true ≡ false → ⊥
 never e = cc
@@ -63,7 +63,7 @@ few-call call core few = by (is_resolve call) refl (has_call call) refl
     by resolves e false has = few-same core (outcome call core).1 (ap places_of (left-alone call core has)) few
     by false e true has = few-same core (outcome call core).1 (places-kept core call e has) few
     by true e true has =
-        let it = resolved-key call e in subst (λ (c : Call). HasFewPlaces (outcome c core).1) (sym it.2) (few-placing it.1 core few)
+        let it = resolved-key call e in subst (λ (c : Call). HasFewPlaces (outcome c core).1) (sym it.2) (few-placing it.0 it.1 core few)
 
 -- so it is after a program
 pub few-outcome : {A : Type 0} (program : Program A) (core : Core) → HasFewPlaces core → HasFewPlaces (outcome_of outcome program core).1

@@ -3,7 +3,7 @@ use Rattle.std.proofs.Common.{◌≡◌, ◌≢◌, ℕ, Bool, true, false, Opti
 use Rattle.std.specs.Prelude.{is_some}
 use Rattle.mdl_calls.specs.SessionLocks.{SessionLocks, ticket_held}
 use Rattle.mdl_calls.specs.SessionLocks as own
-use Rattle.mdl_calls.specs.Words.{Answer, Refused, Done, Granted, Waits, Lost, Upgraded, Call, caller, Try_now, Begin_wait, Search, End_wait, Release, Clone_ticket, Upgrade_now, Merge, Downgrade, Program, Give, Ask, Grow, ◌>>=◌, EachCall, outcome_of, own_after}
+use Rattle.mdl_calls.specs.Words.{Answer, Refused, Done, At_place, Granted, Waits, Lost, Upgraded, Call, caller, Resolve, Unpin, Try_now, Begin_wait, Search, End_wait, Release, Clone_ticket, Upgrade_now, Merge, Downgrade, Program, Give, Ask, Grow, ◌>>=◌, EachCall, outcome_of, own_after}
 use Rattle.mdl_core.specs.CoreCalls.{outcome, searching_of, victim_at}
 use Rattle.mdl_core.specs.CoreJoins.{Joins, SpeaksFor, locks_at}
 use Rattle.mdl_core.specs.Cores.{Core}
@@ -29,6 +29,8 @@ own-wait (Clone_ticket who id mode) (Granted copy) has =
     elim (ticket_held id has) as (λ ticket. is_some (own.cloning copy mode ticket has).wait ≡ is_some has.wait) [ None ↦ refl | Some ticket ↦ refl ]
 own-wait (Merge who old new) Done has =
     elim (ticket_held new has) as (λ ticket. is_some (own.merging old new ticket has).wait ≡ is_some has.wait) [ None ↦ refl | Some ticket ↦ refl ]
+own-wait (Resolve who key) (At_place place) has = refl
+own-wait (Unpin who place) Done has = refl
 own-wait (Try_now who place mode) (Granted id) has = refl
 own-wait (Release who id) Done has = refl
 own-wait (Upgrade_now who id mode) Upgraded has = refl

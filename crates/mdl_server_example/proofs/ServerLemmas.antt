@@ -1,13 +1,13 @@
 -- Sessions over one lock space, of which one makes calls.
-use Rattle.std.proofs.Common.{◌≡◌, ◌≢◌, ℕ, zero, suc, ◌<◌, ◌≤◌, ◌+◌, ◌-◌, List, [], ◌∷◌, ◌++◌, length, get_or, set, map, None, refl, sym, ap, ◌∙◌, subst, arith}
+use Rattle.std.proofs.Common.{◌≡◌, ◌≢◌, ℕ, zero, suc, ◌<◌, ◌≤◌, ◌+◌, ◌-◌, List, [], ◌∷◌, ◌++◌, length, get_or, set, map, option_map, refl, sym, ap, ◌∙◌, subst, arith}
 use Rattle.std.specs.Prelude.{replicate}
 use Rattle.std.specs.List.{range_with_len}
 use Rattle.std.proofs.lemmas.List.Elements.{All-nil}
-use Rattle.mdl_calls.specs.Words.{SessionLocks}
+use Rattle.mdl_calls.specs.Words.{HasNothing}
 use Rattle.mdl_core.specs.Seats.{SeatView, empty_seat, locks_of_seat}
 use Rattle.mdl_core.specs.Words.{Core, SpeaksFor, empty_core, locks_at}
 use Rattle.mdl_space.specs.CoreMembers.{core_space}
-use Rattle.mdl_context.specs.Contexts.{LeavesOthers}
+use Rattle.mdl_context.specs.Contexts.{LeavesOthers, wish_there}
 use Rattle.mdl_stmt.specs.Attendance.{AttendsWith}
 use Rattle.mdl_stmt.proofs.AttendanceLemmas.{attends-besides, attends-empty}
 use Rattle.mdl_stmt.specs.KeptStages.{OwnedView}
@@ -81,29 +81,26 @@ new-more xs n so =
     let count : suc n ≡ n + 1 = omega arith in
     ap (λ ys. ys ++ new_session (n + 1) ∷ []) so ∙ map-more new_session 1 n (n + 1) (omega arith) ∙ ap (λ k. map new_session (range_with_len 1 k)) count
 
-abbrev nothing : SessionLocks
-nothing = record { held = []; wait = None }
-
 -- what these have is nothing
 abbrev AreFresh : List SeatView → Type 0
 AreFresh [] = Unit {0}
-AreFresh (seat ∷ seats) = (locks_of_seat seat ≡ nothing) × AreFresh seats
+AreFresh (seat ∷ seats) = HasNothing (locks_of_seat seat) × AreFresh seats
 
 fresh-replicate : (n : ℕ) → AreFresh (replicate n empty_seat)
 fresh-replicate zero = tt
-fresh-replicate (suc n) = (refl, fresh-replicate n)
+fresh-replicate (suc n) = ((refl, refl), fresh-replicate n)
 
-fresh-at : (seats : List SeatView) (i : ℕ) → AreFresh seats → locks_of_seat (get_or seats i empty_seat) ≡ nothing
-fresh-at [] i fresh = refl
+fresh-at : (seats : List SeatView) (i : ℕ) → AreFresh seats → HasNothing (locks_of_seat (get_or seats i empty_seat))
+fresh-at [] i fresh = (refl, refl)
 fresh-at (seat ∷ seats) zero fresh = fresh.0
 fresh-at (seat ∷ seats) (suc i) fresh = fresh-at seats i fresh.1
 
-attended-new : (space : Core) (who : ℕ) → SpeaksFor space who → locks_at space who ≡ nothing → AttendsWith core_space space (new_session who).context (new_session who).cache
+attended-new : (space : Core) (who : ℕ) → SpeaksFor space who → HasNothing (locks_at space who) → AttendsWith core_space space (new_session who).context (new_session who).cache
 attended-new space who speaks has =
     attends-empty core_space space (new_session who).context (new_session who).cache refl
-    (record { speaks = speaks; serves = rw has (record { held = refl; wait = refl }); known = All-nil _; places = All-nil _; wish = tt })
+    (record { speaks = speaks; serves = record { held = has.0; wait = ap (option_map wish_there) has.1 }; known = All-nil _; places = All-nil _; wish = tt })
 
-served-new : (space : Core) (a n : ℕ) → ((who : ℕ) → a ≤ who → who < a + n → SpeaksFor space who) → ((who : ℕ) → locks_at space who ≡ nothing)
+served-new : (space : Core) (a n : ℕ) → ((who : ℕ) → a ≤ who → who < a + n → SpeaksFor space who) → ((who : ℕ) → HasNothing (locks_at space who))
     → AreServed space a (map new_session (range_with_len a n))
 served-new space a zero speaks has = tt
 served-new space a (suc n) speaks has =
@@ -115,4 +112,4 @@ pub served-first : (space : Core) (places n : ℕ) (xs : List OwnedView) → spa
 served-first space places n xs made speaks new =
     subst (AreServed space 1) (sym new)
     (served-new space 1 n (λ who least most. speaks who least (omega (arith, most)))
-    (λ who. ap (λ (core : Core). locks_at core who) made ∙ fresh-at (replicate n empty_seat) (who - 1) (fresh-replicate n)))
+    (λ who. subst (λ (core : Core). HasNothing (locks_at core who)) (sym made) (fresh-at (replicate n empty_seat) (who - 1) (fresh-replicate n))))

@@ -1,5 +1,6 @@
 //! `mdl`: a session of the shared table is opened with its pass, has its statements done, gives all up, and is closed.
-ghost use Rattle.std.specs.Prelude.{◌≡◌, [], None};
+ghost use Rattle.std.specs.Prelude.{◌≡◌};
+ghost use Rattle.mdl.specs.mdl_calls.Words.{HasNothing};
 ghost use Rattle.mdl.specs.mdl_shared.Passes.{manager_table, pass_table};
 ghost use Rattle.mdl.specs.mdl_shared.SessionViews.{data_of};
 
@@ -42,8 +43,8 @@ fn work<S: LockSpace>(
     text: &mut String,
 ) -> Result<(), AllocError>
     requires speaks { S.speaks_for space.old who }
-    requires nothing { S.own space.old who ≡ record { held = []; wait = None } }
-    ensures { S.own space.new who ≡ record { held = []; wait = None } }
+    requires nothing { HasNothing (S.own space.old who) }
+    ensures { HasNothing (S.own space.new who) }
 {
     let Ok(mut runner) = OwnedRunner::new(alloc, who, CACHE) else {
         return Err(AllocError);
@@ -55,7 +56,7 @@ fn work<S: LockSpace>(
 
 // Closes a session that has nothing. If it owed a place a reschedule, after a fast release, it would make that first.
 fn close<R: Wait + Drop>(rt: &impl Wait, session: Session<R>)
-    requires { (data_of session).own ≡ record { held = []; wait = None } }
+    requires { HasNothing (data_of session).own }
 {
     let mut session = session;
     for _ in rt.forever() {

@@ -1,10 +1,11 @@
 -- Two sessions over one lock space, of which one makes calls.
-use Rattle.std.proofs.Common.{◌≡◌, ◌≢◌, ℕ, [], Some, None, refl, ◌∙◌, arith}
+use Rattle.std.proofs.Common.{◌≡◌, ◌≢◌, ℕ, [], Some, None, refl, ap, ◌∙◌, option_map, arith}
 use Rattle.std.proofs.lemmas.List.Elements.{All-nil}
 use Rattle.mdl_defs.specs.Caches.{CacheView}
+use Rattle.mdl_calls.specs.Words.{HasNothing}
 use Rattle.mdl_core.specs.Words.{Core, SpeaksFor, locks_at}
 use Rattle.mdl_space.specs.CoreMembers.{core_space}
-use Rattle.mdl_context.specs.Contexts.{ContextView, Attends, LeavesOthers}
+use Rattle.mdl_context.specs.Contexts.{ContextView, Attends, LeavesOthers, wish_there}
 use Rattle.mdl_stmt.specs.Attendance.{AttendsWith}
 use Rattle.mdl_stmt.proofs.AttendanceLemmas.{attends-besides, attends-empty}
 use Rattle.mdl_run_trials.specs.used_up.Rooms.{ServesBoth}
@@ -29,13 +30,13 @@ other_then before after context cache both speaks by = record {
 
 -- a new context of a session that has nothing
 pub attends-new : (space : Core) (who : ℕ) (x : ContextView) → x ≡ record { who = who; kept = []; known = []; wait = None } → SpeaksFor space who
-    → locks_at space who ≡ record { held = []; wait = None } → Attends core_space space x
+    → HasNothing (locks_at space who) → Attends core_space space x
 attends-new space who x new speaks nothing =
-    rw new (record { speaks = speaks; serves = rw nothing (record { held = refl; wait = refl }); known = All-nil _; places = All-nil _; wish = tt })
+    rw new (record { speaks = speaks; serves = record { held = nothing.0; wait = ap (option_map wish_there) nothing.1 }; known = All-nil _; places = All-nil _; wish = tt })
 
 -- neither session has anything, and nothing is cached
 pub fresh_both : (space : Core) (context : ContextView) (cache : CacheView) → context ≡ record { who = 1; kept = []; known = []; wait = None }
-    → cache.kept ≡ [] → SpeaksFor space 1 → SpeaksFor space 2 → locks_at space 1 ≡ record { held = []; wait = None } → ServesBoth space context cache
+    → cache.kept ≡ [] → SpeaksFor space 1 → SpeaksFor space 2 → HasNothing (locks_at space 1) → ServesBoth space context cache
 fresh_both space context cache new empty speaks speaks_other nothing = record {
   one = rw new refl;
   served = attends-empty core_space space context cache empty (attends-new space 1 context new speaks nothing);

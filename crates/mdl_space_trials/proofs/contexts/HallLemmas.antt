@@ -1,12 +1,12 @@
 -- Contexts of several sessions over the lock space of one thread.
-use Rattle.std.proofs.Common.{◌≡◌, ◌≢◌, ℕ, zero, suc, ◌<◌, ◌≤◌, ◌+◌, ◌-◌, List, [], ◌∷◌, length, get_or, set, Some, None, refl, sym, ap, ◌∙◌, subst, arith}
+use Rattle.std.proofs.Common.{◌≡◌, ◌≢◌, ℕ, zero, suc, ◌<◌, ◌≤◌, ◌+◌, ◌-◌, List, [], ◌∷◌, length, get_or, set, Some, None, refl, sym, ap, ◌∙◌, subst, option_map, arith}
 use Rattle.std.proofs.lemmas.List.Elements.{All-nil}
 use Rattle.mdl_core.specs.Words.{Core, SpeaksFor, locks_at}
 use Rattle.mdl_space.specs.CoreMembers.{core_space}
-use Rattle.mdl_calls.specs.Words.{Answer, Call, caller}
+use Rattle.mdl_calls.specs.Words.{Answer, Call, HasNothing, caller}
 use Rattle.mdl_calls.specs.declared.lock_space.LockSpace.{Ghosts}
 use Rattle.mdl_calls.specs.MemberLaws.{LawsOf}
-use Rattle.mdl_context.specs.Contexts.{ContextView, Attends, LeavesOthers}
+use Rattle.mdl_context.specs.Contexts.{ContextView, Attends, LeavesOthers, wish_there}
 use Rattle.mdl_space_trials.specs.contexts.Halls.{AreServed}
 use Rattle.mdl_context.proofs.AttendLemmas.{attends-same}
 
@@ -54,9 +54,9 @@ served_then before after first (suc i) (y ∷ ys) x served inside who attends le
 
 -- a new context of a session that has nothing
 pub fresh : (space : Core) (who : ℕ) (x : ContextView) → x ≡ record { who = who; kept = []; known = []; wait = None } → SpeaksFor space who
-    → locks_at space who ≡ record { held = []; wait = None } → (x.who ≡ who) × Attends core_space space x
+    → HasNothing (locks_at space who) → (x.who ≡ who) × Attends core_space space x
 fresh space who x new speaks nothing =
-    rw new (refl, record { speaks = speaks; serves = rw nothing (record { held = refl; wait = refl }); known = All-nil _; places = All-nil _; wish = tt })
+    rw new (refl, record { speaks = speaks; serves = record { held = nothing.0; wait = ap (option_map wish_there) nothing.1 }; known = All-nil _; places = All-nil _; wish = tt })
 
 -- so the space speaks for their sessions
 pub speaks_for_each : (space : Core) (who : ℕ) (xs : List ContextView) → AreServed space 1 xs → 1 ≤ who → who ≤ length xs → SpeaksFor space who

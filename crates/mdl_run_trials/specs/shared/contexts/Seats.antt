@@ -1,5 +1,5 @@
 -- Sessions of a space that threads share, which run statements.
-use Rattle.mdl_calls.specs.SessionData.{SpeaksFor, own_of, numbers_of, Knows, IsSettledAs, HasMet, HasRead, HasSeen, Pins}
+use Rattle.mdl_calls.specs.SessionData.{SpeaksFor, own_of, numbers_of, Knows, IsSettledAs, HasMet, HasRead, HasSeen}
 use Rattle.mdl_session_laws.specs.SessionJoins.{Joins}
 use Rattle.mdl_calls.specs.declared.lock_space.LockSpace.{Ghosts}
 use Rattle.mdl_shared.specs.Debts.{Owes}
@@ -18,7 +18,6 @@ session_space = record {
   has_read = λ s. HasRead (data_of s);
   has_met = λ s. HasMet (data_of s);
   has_seen = λ s. HasSeen (data_of s);
-  pins = λ s. Pins (data_of s);
   owes = λ s. Owes s;
   joins = λ s call answer t. Joins (data_of s) call answer (data_of t) × Shows call answer s t;
   uses_cache = λ s who id answer before after t. UsesKept id answer s t before after;
