@@ -1,20 +1,22 @@
 -- Two sessions over one lock space, of which one makes calls.
-use Rattle.std.proofs.Common.{◌≡◌, ℕ, [], None, refl, ◌∙◌, arith}
+use Rattle.std.proofs.Common.{◌≡◌, ℕ, [], None, refl, ap, ◌∙◌, arith}
 use Rattle.std.proofs.lemmas.List.Elements.{All-nil}
 use Rattle.mdl_defs.specs.Caches.{CacheView}
+use Rattle.std.specs.Option.{option_map}
+use Rattle.mdl_calls.specs.Words.{HasNothing}
 use Rattle.mdl_calls.specs.declared.lock_space.LockSpace.{Ghosts}
 use Rattle.mdl_core.specs.Words.{Core, SpeaksFor, locks_at}
 use Rattle.mdl_space.specs.CoreMembers.{core_space}
-use Rattle.mdl_context.specs.Contexts.{ContextView, Attends, LeavesOthers}
+use Rattle.mdl_context.specs.Contexts.{ContextView, Attends, LeavesOthers, wish_there}
 use Rattle.mdl_stmt.specs.Attendance.{AttendsWith}
 use Rattle.mdl_stmt.proofs.AttendanceLemmas.{attends-besides, attends-empty}
 use Rattle.mdl_growth_trials.specs.Pairs.{AreRunners}
 
 -- a new context of a session that has nothing
 pub fresh : {S : Type 0} (members : Ghosts S) (space : S) (who : ℕ) (x : ContextView) → x ≡ record { who = who; kept = []; known = []; wait = None }
-    → members.speaks_for space who → members.own space who ≡ record { held = []; wait = None } → Attends members space x
+    → members.speaks_for space who → HasNothing (members.own space who) → Attends members space x
 fresh members space who x new speaks nothing =
-    rw new (record { speaks = speaks; serves = rw nothing (record { held = refl; wait = refl }); known = All-nil _; places = All-nil _; wish = tt })
+    rw new (record { speaks = speaks; serves = record { held = nothing.0; wait = ap (option_map wish_there) nothing.1 }; known = All-nil _; places = All-nil _; wish = tt })
 
 -- the first has made a statement
 pub first_runs : (before after : Core) (first second x : ContextView) (c d y : CacheView) → AreRunners before first c second d → x.who ≡ first.who
@@ -39,7 +41,7 @@ second_runs before after first second x c d y two who attends by = record {
 -- neither has anything, and nothing is cached
 pub fresh_runners : (space : Core) (first second : ContextView) (c d : CacheView) → first ≡ record { who = 1; kept = []; known = []; wait = None }
     → second ≡ record { who = 2; kept = []; known = []; wait = None } → c.kept ≡ [] → d.kept ≡ [] → SpeaksFor space 1 → SpeaksFor space 2
-    → locks_at space 1 ≡ record { held = []; wait = None } → locks_at space 2 ≡ record { held = []; wait = None } → AreRunners space first c second d
+    → HasNothing (locks_at space 1) → HasNothing (locks_at space 2) → AreRunners space first c second d
 fresh_runners space first second c d is_first is_second none nothing speaks_first speaks_second first_own second_own = record {
   one = rw is_first refl;
   two = rw is_second refl;

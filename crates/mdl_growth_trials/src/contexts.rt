@@ -1,7 +1,7 @@
 //! The contexts of two sessions of a space that threads share, on one thread: tickets by duration, waits, a deadlock and stronger modes. If a
 //! call runs out of memory, the session holds what it held and waits for nothing, and the call is made again. Calls that release or give up take
 //! no memory.
-ghost use Rattle.std.specs.Prelude.{◌≡◌, [], None};
+ghost use Rattle.mdl_calls.specs.Words.{HasNothing};
 ghost use Rattle.mdl_context.specs.Contexts.{Attends};
 
 use crate::passes::{closes, new_passes};
@@ -81,7 +81,7 @@ impl<S: LockSpace> Seat<S> {
     // Returns a session of this number, which has nothing, with a new context.
     fn new(alloc: Global, session: S, who: u16) -> Seat<S>
         requires speaks { S.speaks_for session who }
-        requires nothing { S.own session who ≡ record { held = []; wait = None } }
+        requires nothing { HasNothing (S.own session who) }
     {
         Seat {
             session,
@@ -345,9 +345,9 @@ fn sessions_outlive<S: LockSpace>(
     two: u16,
 ) -> (bool, S, S)
     requires first_speaks { S.speaks_for first one }
-    requires first_nothing { S.own first one ≡ record { held = []; wait = None } }
+    requires first_nothing { HasNothing (S.own first one) }
     requires second_speaks { S.speaks_for second two }
-    requires second_nothing { S.own second two ≡ record { held = []; wait = None } }
+    requires second_nothing { HasNothing (S.own second two) }
 {
     let mut first = Seat::new(alloc, first, one);
     let mut second = Seat::new(alloc, second, two);

@@ -1,5 +1,6 @@
 //! Two sessions of a space that threads share, on one thread, and their statements.
 ghost use Rattle.std.specs.Prelude.{◌≡◌, [], None};
+ghost use Rattle.mdl_calls.specs.Words.{HasNothing};
 ghost use Rattle.mdl_shared.specs.Passes.{manager_table, pass_table};
 
 use crate::alike::Tickets;
@@ -35,7 +36,7 @@ impl<'s, S: LockSpace> Desk<'s, S> {
     // Returns a session of this number, which has nothing, with a runner that has run nothing.
     fn new(session: S, who: u16, runner: Runner<'s, S>) -> Desk<'s, S>
         requires speaks { S.speaks_for session who }
-        requires nothing { S.own session who ≡ record { held = []; wait = None } }
+        requires nothing { HasNothing (S.own session who) }
         requires context { runner.context ≡ record { who = who; kept = []; known = []; wait = None } }
         requires cache { runner.cache.kept ≡ [] }
     {

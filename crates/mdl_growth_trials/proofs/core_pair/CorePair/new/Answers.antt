@@ -11,4 +11,4 @@ invariant_of-result c =
     let first = c.in-Some.ensures in
     let second = c.in-Some-new_runner.ensures in
     fresh_runners c.in_ok-space.space _ _ _ _ first.context second.context first.cache second.cache
-    (speaks 1 (omega arith) (omega arith)) (speaks 2 (omega arith) (omega arith)) (ap (λ s. locks_at s 1) made) (ap (λ s. locks_at s 2) made)
+    (speaks 1 (omega arith) (omega arith)) (speaks 2 (omega arith) (omega arith)) (ap (λ s. (locks_at s 1).held) made, ap (λ s. (locks_at s 1).wait) made) (ap (λ s. (locks_at s 2).held) made, ap (λ s. (locks_at s 2).wait) made)
