@@ -72,7 +72,8 @@ class Case:
     def sessions(self):
         """Returns how many sessions of `run` there are, at most."""
         words = {it.split(maxsplit=1)[0] for it in self.script.split(b"\n") if it.strip()}
-        return min(len(words), language.MOST_SESSIONS) if self.subcommand == "run" else 0
+        numbers = {word for word in words if word.isdigit() and 1 <= int(word) <= language.MOST_SESSIONS}
+        return len(numbers) if self.subcommand == "run" else 0
 
     def most_seconds(self):
         """Returns how many seconds the run may take, on a busy machine. A session that waits looks again."""

@@ -2,8 +2,8 @@
 # The gate: proves everything from nothing and runs all tests, tries the wrong bodies with the proved libraries, checks the proved programs' answers to
 # the examples and their command lines, plays 8,000 random scripts, draws 2,000, compares the answers
 # to 2,000 rows of locks, refuses every thirty-seventh growth, looks for memory that isn't freed, and runs the programs of C.
-# After each part, and at the end, it prints how much processor time that took, and at the end which checks this machine can't make. With GATE_STRICT=1
-# it fails if there are any.
+# It prints how much processor time each part and the whole took, and at the end which checks this machine can't make. With GATE_STRICT=1 it fails if
+# there are any.
 # Usage: sh make/gate.sh, at the top of the repository.
 spent=$(mktemp)
 GATE_SKIPPED=$(mktemp)
@@ -27,7 +27,7 @@ part() {
     shift
     look
     before=$so_far
-    "$@" || return 1
+    "$@" || { echo "make/gate.sh: $name failed" >&2; return 1; }
     look
     echo "$before $so_far" | awk -v NAME="$name" '{ printf "%s: %.0f seconds of user time, and %.0f of the system\n", NAME, $3 - $1, $4 - $2 }'
 }

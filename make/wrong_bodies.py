@@ -284,9 +284,9 @@ def is_refused(function, said):
     return by_itself, by_itself and any(not LOST_NAME.search(it) for it in errors)
 
 
-def uses():
-    """Returns the libraries that each crate names."""
-    lines = [re.match(r"(\w+)[^#:]*:(.*)", line) for line in pathlib.Path("crates.txt").read_text().splitlines()]
+def uses(top="."):
+    """Returns the libraries that each crate of the repository at `top` names."""
+    lines = [re.match(r"(\w+)[^#:]*:(.*)", line) for line in pathlib.Path(top, "crates.txt").read_text().splitlines()]
     return {line[1]: line[2].split() for line in lines if line}
 
 

@@ -38,7 +38,7 @@ static uint32_t noted(uint32_t code)
 /* Checks a fact. */
 #define CHECK(fact) expect(__LINE__, true, fact)
 
-/* Managers with each number of places and each number of sessions, but for most numbers of places with one in 31 of the numbers of sessions. */
+/* Managers. With 1 and with 256 places each number of sessions is tried, otherwise every thirty-first. */
 static void open_managers(void)
 {
     EXPECT(MDL_CLOSED, mdl_poll(&space, 1));
