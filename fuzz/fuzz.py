@@ -84,8 +84,8 @@ class Case:
         """Returns how many bytes of memory the run may take. The text doubles as it grows, and is copied then. There is a record for each line, which
         has 8 bytes or more, and for each name, which has 2 with its space; these double too. The answers are kept as records and as text. Each
         key and session that there can be has a part of its own. An answer has at most 8 tables of 64 columns, some 34,000 bytes, for a line of 24, so all
-        this is linear in the script. Each session of `run` has a stack, and lists of all others while it looks for a deadlock."""
-        return 32 * MEGABYTE + 64 * len(self.script) + 4 * written + self.sessions() * (65536 + 512 * self.sessions())
+        this is linear in the script. Each session of `run` has a stack."""
+        return 32 * MEGABYTE + 64 * len(self.script) + 4 * written + 65536 * self.sessions()
 
 
 def play(runner, case):
