@@ -1,3 +1,4 @@
+pub mod Gains
 pub mod Moments
 pub mod Statements
 pub mod TimelineLaws

@@ -1,14 +1,17 @@
 //! The sessions that block one that begins to wait.
-ghost use Rattle.std.specs.Prelude.{◌≡◌, IfOk, filter};
-ghost use Rattle.mdl_view.specs.ViewLaws.{is_told};
+ghost use Rattle.std.specs.Prelude.{◌≡◌, ◌&&◌, ◌==◌, IfOk, not};
+ghost use Rattle.std.specs.FinSet as set;
+ghost use Rattle.mdl_calls.specs.Words.{is_within};
+ghost use Rattle.mdl_graph.specs.WaitsFor.{holds_against, waits_ahead, waits_at, waits_for};
+ghost use Rattle.mdl_key.specs.Words.{most_sessions};
+ghost use Rattle.mdl_view.specs.ViewLaws.{nobody};
 ghost use Rattle.mdl_script.specs.Texts.{is_wait_news};
-ghost use Rattle.mdl_script.specs.Worlds.{sessions};
+ghost use Rattle.mdl_timeline.specs.Gains.{Gains};
 ghost use Rattle.mdl_timeline.specs.Moments.{in_the_way_of, waited_for};
 
-use mdl_book::Book;
-use mdl_key::MOST_SESSIONS;
+use mdl_book::{Book, Sessions, Ticket};
+use mdl_key::{MOST_SESSIONS, conflicts_granted, conflicts_waiting};
 use mdl_script::{News, Told};
-use mdl_view::{Blocking, blockings, locks_of};
 use std::alloc::{AllocError, Global};
 
 /// Returns the sessions that block the one with this answer at these books, if it begins to wait, in order of their numbers.
@@ -36,24 +39,74 @@ fn is_wait(news: &News) -> bool
 fn waited_for(alloc: Global, who: u16, books: &[Book]) -> Result<Vec<u16>, AllocError>
     ensures { IfOk result (λ sessions. sessions.items ≡ waited_for who books.now) }
 {
-    let locks = locks_of(alloc, books)?;
-    let found = blockings(alloc, &locks)?;
-    sessions_before(alloc, who, &found)
-}
-
-// The sessions that block a session according to these blockings.
-fn sessions_before(alloc: Global, who: u16, found: &[Blocking]) -> Result<Vec<u16>, AllocError>
-    ensures { IfOk result (λ those. those.items ≡ filter (is_told found.now who) sessions) }
-{
+    let those = sessions_before(who, books);
     (1..MOST_SESSIONS + 1)
-        .filter(|session| is_in_the_way(found, who, *session))
+        .filter(|session| those.contains(*session))
         .collect(alloc)
 }
 
-// Whether a session blocks another one according to these blockings.
-fn is_in_the_way(found: &[Blocking], who: u16, session: u16) -> bool
-    ensures { result ≡ is_told found.now who session }
+// The set of the sessions that a session waits for.
+fn sessions_before(who: u16, books: &[Book]) -> Sessions
+    ensures { Gains (waits_for nobody books.now who) set.empty result }
 {
-    let (who, session) = (usize::from(who), usize::from(session));
-    found.iter().any(|blocking| blocking.waiter.session == who && blocking.other.session == session)
+    let mut those = Sessions::new();
+    for book in books {
+        add_those_at(&mut those, who, book);
+    }
+    those
+}
+
+// Adds the sessions that a session waits for at one lock.
+fn add_those_at(those: &mut Sessions, who: u16, book: &Book)
+    ensures { Gains (waits_at nobody book.now who) those.old those.new }
+{
+    let waiting = book.waiting();
+    for wish in waiting {
+        if wish.session == who {
+            add_holders(those, book, *wish);
+            add_waiters(those, book, *wish);
+        }
+    }
+}
+
+// Adds the other sessions whose granted tickets clash with a request.
+fn add_holders(those: &mut Sessions, book: &Book, wish: Ticket)
+    ensures { Gains (λ session. not (wish.session == session) && holds_against book.now wish.mode session) those.old those.new }
+{
+    let kind = book.key().kind();
+    let granted = book.granted();
+    for held in granted {
+        if conflicts_granted(kind, wish.mode, held.mode) {
+            add_other(those, wish.session, held.session);
+        }
+    }
+}
+
+// Adds the other sessions behind whose waiting tickets a request waits.
+fn add_waiters(those: &mut Sessions, book: &Book, wish: Ticket)
+    ensures { Gains (λ session. not (wish.session == session) && waits_ahead nobody book.now wish.mode session) those.old those.new }
+{
+    let kind = book.key().kind();
+    let waiting = book.waiting();
+    for pending in waiting {
+        if conflicts_waiting(kind, wish.mode, pending.mode) {
+            add_other(those, wish.session, pending.session);
+        }
+    }
+}
+
+// Adds the session of a ticket that blocks one of `who`, unless it is `who` itself.
+fn add_other(those: &mut Sessions, who: u16, session: u16)
+    ensures { Gains (λ other. not (who == other) && session == other) those.old those.new }
+{
+    if session != who && is_session(session) {
+        those.insert(session);
+    }
+}
+
+// Whether a session can have this number.
+fn is_session(who: u16) -> bool
+    ensures { result ≡ is_within most_sessions who }
+{
+    1 <= who && who <= MOST_SESSIONS
 }
