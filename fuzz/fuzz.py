@@ -19,6 +19,7 @@ import math
 import os
 import pathlib
 import random
+import re
 import subprocess
 import sys
 import time
@@ -72,7 +73,7 @@ class Case:
     def sessions(self):
         """Returns how many sessions of `run` there are, at most."""
         words = {it.split(maxsplit=1)[0] for it in self.script.split(b"\n") if it.strip()}
-        numbers = {word for word in words if word.isdigit() and 1 <= int(word) <= language.MOST_SESSIONS}
+        numbers = {word for word in words if re.fullmatch(rb"[1-9][0-9]{0,3}", word) and int(word) <= language.MOST_SESSIONS}
         return len(numbers) if self.subcommand == "run" else 0
 
     def most_seconds(self):
