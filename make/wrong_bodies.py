@@ -7,7 +7,8 @@ A wrong body is a file wrong_bodies/CRATE/NAME.edit of such lines:
     old: if name.len() > LONGEST_NAME {    a text that occurs there once, in one line
     new: if name.len() > 65 {              what is put in its place
 
-It may have more pairs of `old` and `new`, and more files. The line `tried: among all` leaves it out of the gate, because another body shows as much.
+It may have more pairs of `old` and `new`, and more files. The line `tried: among all` leaves it out of the gate, where other bodies of its
+crate stand for it.
 A wrong body has to be refused by a goal. If the function's proof only misses a name that the body removed, that says little about the contract: then a
 line `by a name: REASON` has to say why the body is wrong by the contract all the same, and why it can't keep the names.
 
