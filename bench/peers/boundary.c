@@ -197,11 +197,13 @@ static void mutex(unsigned thread, unsigned turn)
 static void prepare(void)
 {
     done(mdl_open(&space, TABLES + 1, SESSIONS));
-    done(mdl_global(&space, 1, &global));
+    for (uint16_t who = 1; who <= SESSIONS; who += 1)
+        done(mdl_global(&space, who, &global));
     server_make(GLOBAL_PLACE, keys[GLOBAL_PLACE], key_lengths[GLOBAL_PLACE]);
     for (unsigned i = 0; i < TABLES; i += 1) {
         name_lengths[i] = (size_t)snprintf(names[i], sizeof names[i], "t%u", i);
-        done(mdl_table(&space, 1, (const uint8_t *)"test", 4, (const uint8_t *)names[i], name_lengths[i], &places[i]));
+        for (uint16_t who = 1; who <= SESSIONS; who += 1)
+            done(mdl_table(&space, who, (const uint8_t *)"test", 4, (const uint8_t *)names[i], name_lengths[i], &places[i]));
         key_lengths[i + 1] = (size_t)snprintf(keys[i + 1], LONGEST_KEY, "%ctest%c%s", TABLE_KEY, 0, names[i]);
         server_make(i + 1, keys[i + 1], key_lengths[i + 1]);
     }

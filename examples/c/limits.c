@@ -217,6 +217,9 @@ static void wait_for_one(void)
     EXPECT(MDL_DONE, mdl_table(&space, 1, NAME("shop"), NAME("orders"), &place));
     EXPECT(MDL_DONE, mdl_try(&space, 1, place, MDL_X, &first));
     for (uint16_t who = 2; who <= SESSIONS; who += 1) {
+        EXPECT(MDL_NO_PLACE, mdl_try(&space, who, place, MDL_SR, &number));
+        EXPECT(MDL_NO_PLACE, mdl_begin(&space, who, place, MDL_SR, &number));
+        EXPECT(MDL_DONE, mdl_table(&space, who, NAME("shop"), NAME("orders"), &place));
         EXPECT(MDL_WOULD_WAIT, mdl_try(&space, who, place, MDL_SR, &number));
         EXPECT(MDL_WAITING, mdl_begin(&space, who, place, MDL_SR, &number));
     }
@@ -250,6 +253,7 @@ static void fill_a_lock(void)
         EXPECT(MDL_DONE, mdl_try(&space, 1, place, MDL_SR, &ticket));
         CHECK(ticket == wanted);
     }
+    EXPECT(MDL_DONE, mdl_table(&space, 2, NAME("shop"), NAME("orders"), &place));
     EXPECT(MDL_FULL, mdl_try(&space, 2, place, MDL_SR, &ticket));
     EXPECT(MDL_FULL, mdl_clone(&space, 1, 1, MDL_SR, &ticket));
     EXPECT(MDL_DONE, mdl_held(&space, 1, tickets, TICKETS, &count));
@@ -270,6 +274,7 @@ static void end_waits(void)
     uint16_t place = 0;
     EXPECT(MDL_DONE, mdl_open(&space, PLACES, 2));
     EXPECT(MDL_DONE, mdl_table(&space, 1, NAME("shop"), NAME("orders"), &place));
+    EXPECT(MDL_DONE, mdl_table(&space, 2, NAME("shop"), NAME("orders"), &place));
     EXPECT(MDL_NO_MODE, mdl_try(&space, 1, place, MDL_X + 1, &first));
     EXPECT(MDL_DONE, mdl_try(&space, 1, place, MDL_SU, &first));
     EXPECT(MDL_NOT_HELD, mdl_release(&space, 1, first + 1));

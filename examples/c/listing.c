@@ -76,7 +76,8 @@ int main(void)
     say(mdl_places(&space, &(size_t){0}));
     say(mdl_open(&space, 4, SESSIONS));
     mdl_schema(&space, 1, NAME("shop"), &schema);
-    mdl_table(&space, 1, NAME("shop"), NAME("orders"), &orders);
+    for (uint16_t who = 1; who <= SESSIONS; who += 1)
+        mdl_table(&space, who, NAME("shop"), NAME("orders"), &orders);
     mdl_global(&space, 1, &global);
 
     mdl_try(&space, 1, schema, MDL_IX, &ticket);

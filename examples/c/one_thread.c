@@ -38,6 +38,8 @@ static void break_a_deadlock(uint16_t orders, uint16_t items)
     uint64_t first = 0, second = 0, number = 0;
     uint16_t victim = 0;
     tell("1 writes orders", mdl_try(&space, 1, orders, MDL_X, &first));
+    tell("2 hasn't looked items up", mdl_try(&space, 2, items, MDL_X, &second));
+    tell("it does so", mdl_table(&space, 2, NAME("shop"), NAME("items"), &items));
     tell("2 writes items", mdl_try(&space, 2, items, MDL_X, &second));
     tell("1 waits for items", mdl_begin(&space, 1, items, MDL_SR, &number));
     tell("2 waits for orders", mdl_begin(&space, 2, orders, MDL_SR, &number));
@@ -72,6 +74,7 @@ int main(void)
     tell("of shop.orders", mdl_table(&space, 1, NAME("shop"), NAME("orders"), &orders));
     tell("of shop.items", mdl_table(&space, 1, NAME("shop"), NAME("items"), &items));
     printf("the places are %u, %u and %u\n", global, orders, items);
+    tell("2 looks shop.orders up, too", mdl_table(&space, 2, NAME("shop"), NAME("orders"), &orders));
     wait_for_a_reader(orders);
     be_refused(orders);
     break_a_deadlock(orders, items);

@@ -76,6 +76,8 @@ static void call_directly(void)
     EXPECT(MDL_DONE, mdl_open(&space, 16, 3));
     EXPECT(MDL_DONE, mdl_table(&space, 1, NAME("shop"), NAME("orders"), &orders));
     EXPECT(MDL_DONE, mdl_table(&space, 1, NAME("shop"), NAME("items"), &items));
+    EXPECT(MDL_DONE, mdl_table(&space, 2, NAME("shop"), NAME("orders"), &orders));
+    EXPECT(MDL_DONE, mdl_table(&space, 3, NAME("shop"), NAME("orders"), &orders));
     EXPECT(MDL_DONE, mdl_try(&space, 1, orders, MDL_SR, &first));
     EXPECT(MDL_DONE, mdl_try(&space, 1, items, MDL_X, &second));
     EXPECT(MDL_DONE, mdl_held(&space, 1, tickets, 4, &count));

@@ -117,8 +117,13 @@ static int open_all(void)
     for (unsigned at = 0; at < THREADS; at += 1)
         if (pthread_cond_init(&turns[at], &by_clock) != 0)
             return 0;
-    return mdl_open(&space, 256, THREADS) == MDL_DONE && mdl_table(&space, 1, NAME("shop"), NAME("orders"), &places[0]) == MDL_DONE
-        && mdl_table(&space, 1, NAME("shop"), NAME("items"), &places[1]) == MDL_DONE;
+    if (mdl_open(&space, 256, THREADS) != MDL_DONE)
+        return 0;
+    for (uint16_t who = 1; who <= THREADS; who += 1)
+        if (mdl_table(&space, who, NAME("shop"), NAME("orders"), &places[0]) != MDL_DONE
+            || mdl_table(&space, who, NAME("shop"), NAME("items"), &places[1]) != MDL_DONE)
+            return 0;
+    return 1;
 }
 
 int main(void)

@@ -3,7 +3,7 @@
 A Manager has the locks, behind a mutex; threads share it. A session is a number. `lock` waits by sleeping, for so many seconds:
 
     with Manager("libmdl_c.so", places=256, sessions=2) as manager:
-        orders = manager.table("shop", "orders")
+        orders = manager.table(1, "shop", "orders")
         with manager.lock(1, orders, Mode.SR, patience=1.0):
             ...
 """
@@ -105,10 +105,10 @@ class Manager:
         for who in sessions[: count.value]:
             self._turns[who - 1].notify()
 
-    def table(self, schema, table):
-        """Returns the place of a table's key."""
+    def table(self, who, schema, table):
+        """Returns the place of a table's key, at which the session may then ask for locks."""
         place, schema, table = c_uint16(), schema.encode(), table.encode()
-        self._done(self._call("mdl_table", 1, schema, len(schema), table, len(table), byref(place)))
+        self._done(self._call("mdl_table", who, schema, len(schema), table, len(table), byref(place)))
         return place.value
 
     def begin(self, who, place, mode):

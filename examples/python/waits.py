@@ -59,12 +59,13 @@ def break_a_deadlock(manager, orders, items):
 def main():
     """Shows the three."""
     with Manager(sys.argv[1], places=256, sessions=2) as manager:
-        orders, items = manager.table("shop", "orders"), manager.table("shop", "items")
+        for who in (1, 2):
+            orders, items = manager.table(who, "shop", "orders"), manager.table(who, "shop", "items")
         wait_for_a_reader(manager, orders)
         wait_too_long(manager, orders)
         break_a_deadlock(manager, orders, items)
         try:
-            manager.table("shop", "or ders")
+            manager.table(1, "shop", "or ders")
         except Refused as refused:
             print(f"a name with a space: {refused}")
 

@@ -22,7 +22,7 @@ still_speaks = core-keeps calls_keep-sound
 pub attends_new : (space : Core) (who : ℕ) (x : ContextView) → x ≡ record { who = who; kept = []; known = []; wait = None } → SpeaksFor space who
     → HasNothing (locks_at space who) → Attends core_space space x
 attends_new space who x new speaks nothing =
-    rw new (record { speaks = speaks; serves = record { held = nothing.0; wait = ap (option_map wish_there) nothing.1 }; known = All-nil _; places = All-nil _; wish = tt })
+    rw new (record { speaks = speaks; serves = record { held = nothing.0; wait = ap (option_map wish_there) nothing.1 }; known = All-nil _; pinned = All-nil _; places = All-nil _; wish = tt })
 
 -- the space attends to a session's context as before, where another session has made calls
 pub still_attends : (before after : Core) (x : ContextView) (who : ℕ) → LeavesOthers core_space who before after → x.who ≢ who

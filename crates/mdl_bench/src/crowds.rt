@@ -26,6 +26,8 @@ pub enum Crowd {
     Poll,
     /// The first session of a chain looks for a deadlock. In it this number of sessions wait, each for the next one's lock.
     Search(u16),
+    /// The last of this number of sessions that wait for one lock in X looks for a deadlock.
+    Queue(u16),
     /// A session looks up a key, among this number of keys. Each turn it is another one, which knows no key.
     LookUp(u16),
 }
@@ -34,7 +36,9 @@ impl Crowd {
     // Returns the number of places of the table, and the number of its sessions.
     fn size(&self) -> (u16, u16) {
         match self {
-            Crowd::Grant(waiters) | Crowd::Pass(waiters) => (1, waiters.saturating_add(1)),
+            Crowd::Grant(waiters) | Crowd::Pass(waiters) | Crowd::Queue(waiters) => {
+                (1, waiters.saturating_add(1))
+            }
             Crowd::Poll => (1, 2),
             Crowd::Search(waiters) => (SEARCHED, waiters.saturating_add(1)),
             Crowd::LookUp(_) => (MOST_PLACES, 64),
@@ -58,6 +62,7 @@ impl Crowd {
             Crowd::Pass(_) => time_passes(rt, alloc, first, others, turns),
             Crowd::Poll => time_polls(rt, alloc, first, others, turns),
             Crowd::Search(_) => time_searches(rt, alloc, first, others, turns),
+            Crowd::Queue(_) => time_searches_in_queue(rt, alloc, first, others, turns),
             Crowd::LookUp(keys) => time_look_ups(rt, alloc, first, others, *keys, turns),
         }
     }
@@ -234,6 +239,24 @@ fn time_searches<R: Wait + Clock>(
     link(alloc, first, others)?;
     let began = Instant::now(rt)?;
     let untangled = search_often(first, turns);
+    spent_since(rt, began, untangled, turns)
+}
+
+// Times `turns` searches for a deadlock by the last of those that wait for one lock.
+fn time_searches_in_queue<R: Wait + Clock>(
+    rt: &R,
+    alloc: Global,
+    first: &mut Session<&R>,
+    others: &mut [Guest<'_, R>],
+    turns: u32,
+) -> Result<Duration, Failure> {
+    let place = meet(alloc, first, others)?;
+    fill(first, others, place, Mode::X)?;
+    let Some(last) = others.last_mut() else {
+        return Err(Failure::Unexpected);
+    };
+    let began = Instant::now(rt)?;
+    let untangled = search_often(&mut last.session, turns);
     spent_since(rt, began, untangled, turns)
 }
 

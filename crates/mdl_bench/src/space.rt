@@ -34,7 +34,8 @@ fn timed<R: Clock, S: LockSpace>(
     requires first { S.speaks_for space.old 1 }
     requires second { S.speaks_for space.old 2 }
 {
-    name_places(alloc, space)?;
+    name_places(alloc, space, 1)?;
+    name_places(alloc, space, 2)?;
     hold(space, 1, tickets)?;
     hold(space, 2, tickets)?;
     let began = Instant::now(rt)?;
@@ -42,16 +43,16 @@ fn timed<R: Clock, S: LockSpace>(
     spent_since(rt, began, made, turns)
 }
 
-// Gives each place the key of a table.
-fn name_places<S: LockSpace>(alloc: Global, space: &mut S) -> Result<(), Failure>
-    requires { S.speaks_for space.old 1 }
+// Looks up the key of a table for each place, which a session pins.
+fn name_places<S: LockSpace>(alloc: Global, space: &mut S, who: u16) -> Result<(), Failure>
+    requires { S.speaks_for space.old who }
     ensures { (w : ℕ) → S.speaks_for space.old w → S.speaks_for space.new w }
 {
     for index in 0..MOST_PLACES {
         let key = table(alloc, index)?;
-        let is_known = space.resolve(1, &key).is_ok();
+        let is_pinned = space.resolve(who, &key).is_ok();
         drop(key);
-        if !is_known {
+        if !is_pinned {
             return Err(Failure::Refused);
         }
     }

@@ -112,7 +112,7 @@ enum mdl_code {
     MDL_NO_DURATION = 28,    /* there is no duration of this number */
     MDL_NO_NAMESPACE = 29,   /* there is no namespace of this number */
     /* refusals of the space, in the order in which they are checked */
-    MDL_NO_PLACE = 32,       /* the place has no key, or there is no place for one more key */
+    MDL_NO_PLACE = 32,       /* the session doesn't pin the place, or it has no key, or there is no place for one more key */
     MDL_NOT_HELD = 33,       /* the session holds no such ticket */
     MDL_NOT_UPGRADABLE = 34, /* the held mode can't become the other */
     MDL_NOT_EXCLUSIVE = 35,
@@ -139,7 +139,8 @@ uint32_t mdl_open(struct mdl_space *space, uint16_t places, uint16_t sessions);
 /* Frees it, with all that its sessions hold and wait for: DONE. */
 uint32_t mdl_close(struct mdl_space *space);
 
-/* The place of a key, which stays its place: DONE. A new key takes the next free one. */
+/* The place of a key, which stays its place: DONE. A new key takes the next free one. The session pins the place: mdl_try and mdl_begin
+   are refused (NO_PLACE) at others. */
 uint32_t mdl_table(struct mdl_space *space, uint16_t who, const uint8_t *schema, size_t schema_length,
                    const uint8_t *table, size_t table_length, uint16_t *place);
 uint32_t mdl_schema(struct mdl_space *space, uint16_t who, const uint8_t *schema, size_t schema_length, uint16_t *place);
@@ -148,10 +149,10 @@ uint32_t mdl_commit(struct mdl_space *space, uint16_t who, uint16_t *place);
 
 /* ---- direct: not for sessions that have a context, except mdl_poll, mdl_time_out and mdl_kill */
 
-/* Requests a lock, without waiting: DONE and its ticket, or WOULD_WAIT. */
+/* Requests a lock at a place that the session pins, without waiting: DONE and its ticket, or WOULD_WAIT. */
 uint32_t mdl_try(struct mdl_space *space, uint16_t who, uint16_t place, uint8_t mode, uint64_t *ticket);
 
-/* Requests a lock, and begins to wait if it can't be granted now: DONE and its ticket, or WAITING and the wait's number. */
+/* The same, and begins to wait if the lock can't be granted now: DONE and its ticket, or WAITING and the wait's number. */
 uint32_t mdl_begin(struct mdl_space *space, uint16_t who, uint16_t place, uint8_t mode, uint64_t *number);
 
 /* Looks for a deadlock that the session is part of: DONE if there is none, or VICTIM and the session whose wait is settled by this. */

@@ -9,7 +9,7 @@ ghost use Rattle.mdl_c_calls.specs.Names.{MakesKey};
 use mdl_c_calls::MdlSpace;
 use std::alloc::Global;
 
-/// Writes the place of a table's key.
+/// Writes the place of a table's key, which the session then pins.
 #[unsafe(no_mangle)]
 pub extern "C" fn mdl_table(
     alloc: Global,
@@ -26,7 +26,7 @@ pub extern "C" fn mdl_table(
     mdl_c_calls::mdl_table(alloc, space, who, schema, table, place)
 }
 
-/// Writes the place of a schema's key.
+/// Writes the place of a schema's key, which the session then pins.
 #[unsafe(no_mangle)]
 pub extern "C" fn mdl_schema(
     alloc: Global,
@@ -42,7 +42,7 @@ pub extern "C" fn mdl_schema(
     mdl_c_calls::mdl_schema(alloc, space, who, schema, place)
 }
 
-/// Writes the place of the key of the global read lock.
+/// Writes the place of the key of the global read lock, which the session then pins.
 #[unsafe(no_mangle)]
 pub extern "C" fn mdl_global(alloc: Global, space: &mut MdlSpace, who: u16, place: &mut u16) -> u32
     ensures { ServesCall who (Resolve who global_key) space.old.handle.manager result space.new.handle.manager (Number place.old place.new) }
@@ -50,7 +50,7 @@ pub extern "C" fn mdl_global(alloc: Global, space: &mut MdlSpace, who: u16, plac
     mdl_c_calls::mdl_global(alloc, space, who, place)
 }
 
-/// Writes the place of the key that commits take.
+/// Writes the place of the key that commits take, which the session then pins.
 #[unsafe(no_mangle)]
 pub extern "C" fn mdl_commit(alloc: Global, space: &mut MdlSpace, who: u16, place: &mut u16) -> u32
     ensures { ServesCall who (Resolve who commit_key) space.old.handle.manager result space.new.handle.manager (Number place.old place.new) }

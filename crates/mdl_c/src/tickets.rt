@@ -6,7 +6,7 @@ ghost use Rattle.mdl_c_calls.specs.Exports.{Nothing, Number, ServesDirect, Serve
 use mdl_c_calls::MdlSpace;
 use std::alloc::Global;
 
-/// Requests a lock, without waiting.
+/// Requests a lock at a place that the session pins, without waiting.
 #[unsafe(no_mangle)]
 pub extern "C" fn mdl_try(
     alloc: Global,

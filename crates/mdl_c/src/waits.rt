@@ -6,7 +6,7 @@ ghost use Rattle.mdl_c_calls.specs.Exports.{Nothing, Number, ServesAnybody, Serv
 use mdl_c_calls::MdlSpace;
 use std::alloc::Global;
 
-/// Requests a lock, and begins to wait for it if it can't be granted now.
+/// Requests a lock at a place that the session pins, and begins to wait for it if it can't be granted now.
 #[unsafe(no_mangle)]
 pub extern "C" fn mdl_begin(
     alloc: Global,

@@ -1,25 +1,24 @@
 -- The sessions of a manager that have a context, and what the calls of the others leave them.
 use Rattle.std.proofs.Common.{◌≡◌, ◌≢◌, ℕ, zero, suc, ◌<◌, ◌≤◌, ◌+◌, List, [], ◌∷◌, length, get_or, set, Option, Some, None, refl, sym, ap, ◌∙◌, subst, arith, inl, inr}
 use Rattle.std.specs.Prelude.{replicate}
-use Rattle.std.proofs.lemmas.Bool.{false≢true}
 use Rattle.std.proofs.lemmas.Bool.Decides.{eqb_tells}
 use Rattle.mdl_key.specs.Keys.{KeyName}
-use Rattle.mdl_calls.specs.Words.{Answer, Call, caller, SessionLocks, own_after}
-use Rattle.mdl_core.specs.CoreCalls.{has_call}
+use Rattle.mdl_calls.specs.Words.{Answer, Call, Resolve, caller, SessionLocks, own_after}
 use Rattle.mdl_core.specs.CoreJoins.{Joins}
 use Rattle.mdl_core.specs.Words.{Core, Knows, SpeaksFor, locks_at}
-use Rattle.mdl_core.proofs.CallLaws.{core-changes, core-keeps, core-others, core-remembers}
+use Rattle.mdl_core.proofs.CallLaws.{core-changes, core-keeps, core-keeps_keys, core-others}
 use Rattle.mdl_core.proofs.CoreSound.{calls_keep-sound}
-use Rattle.mdl_context.proofs.AttendLemmas.{attends-kept}
+use Rattle.mdl_context.proofs.AttendLemmas.{attends-kept, resolved-keeps}
+use Rattle.mdl_context.proofs.PinLemmas.{PinsStay, pins-rest, pins-same}
 use Rattle.mdl_c_calls.specs.Managers.{AreAttended, IsAttended}
 use Rattle.mdl_c_calls.specs.declared.seat.Seat.{Seat}
 use Rattle.mdl_c_calls.specs.declared.seat.Seat.TheVariants.{Direct, Kept}
 
--- a session has the tickets and the wait that it had
+-- a session has the tickets and the wait that it had, and pins what it pinned
 abbrev pub HasStill : SessionLocks → SessionLocks → Type 0
-HasStill before after = (after.held ≡ before.held) × (after.wait ≡ before.wait)
+HasStill before after = (after.held ≡ before.held) × (after.wait ≡ before.wait) × PinsStay before after
 
--- the space goes on to speak for a session, which has the tickets and the wait that it had, and knows what it knew
+-- the space goes on to speak for a session, which has what it had, and knows what it knew
 abbrev pub IsSpared : Core → Core → ℕ → Type 0
 IsSpared a b w =
     SpeaksFor a w → SpeaksFor b w × HasStill (locks_at a w) (locks_at b w) × ((place : ℕ) (key : KeyName) → Knows a w place key → Knows b w place key)
@@ -27,33 +26,37 @@ IsSpared a b w =
 -- ---- calls
 
 pub same-still : (before after : SessionLocks) → after ≡ before → HasStill before after
-same-still before after same = (ap (λ (own : SessionLocks). own.held) same, ap (λ (own : SessionLocks). own.wait) same)
+same-still before after same = (
+  ap (λ (own : SessionLocks). own.held) same,
+  ap (λ (own : SessionLocks). own.wait) same,
+  pins-same before after (ap (λ (own : SessionLocks). own.pins) same),
+)
 
--- no call gives a place up
-remembered : (a b : Core) (call : Call) (answer : Answer) (w : ℕ) → Joins a call answer b → SpeaksFor a w
-    → (place : ℕ) (key : KeyName) → Knows a w place key → Knows b w place key
-remembered a b call answer w joined speaks place key =
-    core-remembers a b call answer w place key speaks (λ gives done. false≢true (ap has_call (sym gives) ∙ joined.1)) joined
+-- to ask for the place of a key takes nothing from a session
+pub resolved-still : (who : ℕ) (key : KeyName) (answer : Answer) (own : SessionLocks) → HasStill own (own_after (Resolve who key) answer own)
+resolved-still who key answer own =
+    let kept = resolved-keeps who key answer own in (kept.0, kept.1, pins-rest (Resolve who key) answer own refl)
 
 -- a call spares those for whom it isn't made
 pub spared-other : (a b : Core) (call : Call) (answer : Answer) (w : ℕ) → (caller call ≡ Some w → ⊥) → Joins a call answer b → IsSpared a b w
 spared-other a b call answer w other joined speaks = (
   core-keeps calls_keep-sound a b call answer w speaks joined,
   same-still _ _ (core-others a b call answer w speaks other joined),
-  remembered a b call answer w joined speaks,
+  λ place key. core-keeps_keys a b call answer w place key speaks joined,
 )
 
--- and its caller, too, where it leaves the tickets and the wait of that
+-- and its caller, too, where it leaves the tickets, the wait and the pins of that
 pub spared-still : (a b : Core) (call : Call) (answer : Answer) (w : ℕ) → ((own : SessionLocks) → HasStill own (own_after call answer own)) → Joins a call answer b → IsSpared a b w
 spared-still a b call answer w still joined speaks = (
   core-keeps calls_keep-sound a b call answer w speaks joined,
   same (caller call) refl,
-  remembered a b call answer w joined speaks,
+  λ place key. core-keeps_keys a b call answer w place key speaks joined,
 )
   where
     caller-still : locks_at b w ≡ own_after call answer (locks_at a w) → HasStill (locks_at a w) (locks_at b w)
     caller-still now =
-        let kept = still (locks_at a w) in let there = same-still _ _ now in (there.0 ∙ kept.0, there.1 ∙ kept.1)
+        let kept = still (locks_at a w) in
+        let there = same-still _ _ now in (there.0 ∙ kept.0, there.1 ∙ kept.1, λ place pinned. there.2 place (kept.2 place pinned))
 
     same : (o : Option ℕ) → caller call ≡ o → HasStill (locks_at a w) (locks_at b w)
     same None nobody = same-still _ _ (core-others a b call answer w speaks (λ mine. let no = sym nobody ∙ mine in cc) joined)
@@ -69,7 +72,7 @@ still-attended : (a b : Core) (w : ℕ) (seat : Seat) → IsSpared a b w → IsA
 still-attended a b w Direct spared attended = tt
 still-attended a b w (Kept context) spared attended =
     let kept = subst (IsSpared a b) (sym attended.0) spared attended.1.speaks in
-    (attended.0, attends-kept a b context attended.1 kept.2 kept.0 kept.1.0 kept.1.1)
+    (attended.0, attends-kept a b context attended.1 kept.2 kept.1.2 kept.0 kept.1.0 kept.1.1)
 
 -- so are all
 pub all-attended : (a b : Core) (first : ℕ) (seats : List Seat) → ((w : ℕ) → first ≤ w → IsSpared a b w) → AreAttended a first seats → AreAttended b first seats

@@ -50,7 +50,7 @@ direct-seat who manager direct = by (who == 0) refl where
 
 -- ---- serving
 
--- a call that leaves its caller's tickets and wait
+-- a call that leaves its caller's tickets, wait and pins
 pub serves-still : (a b : Core) (call : Call) (answer : Answer) (sessions : ℕ) (seats : List Seat) → ((own : SessionLocks) → HasStill own (own_after call answer own))
     → ServesAll a sessions seats → core_space.joins a call answer b → ServesAll b sessions seats
 serves-still a b call answer sessions seats still serves joined = record {
@@ -124,6 +124,7 @@ serves-begun space who sessions seats context none new serves =
       speaks = direct-speaks space who sessions seats can.0 serves;
       serves = record { held = has.0; wait = ap (option_map wish_there) has.1 };
       known = All-nil _;
+      pinned = All-nil _;
       places = All-nil _;
       wish = tt;
     } in

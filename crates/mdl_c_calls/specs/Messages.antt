@@ -41,7 +41,7 @@ refusal_rows =
 -- the texts of the space's refusals
 abbrev pub cause_rows : List MessageRow
 cause_rows =
-    (32, codes "The place has no key, or there is no place for one more key.") ∷
+    (32, codes "The session doesn't pin the place, or it has no key, or no place is left.") ∷
     (33, codes "The session holds no ticket of this number.") ∷
     (34, codes "The mode of the ticket can't become the other.") ∷
     (35, codes "The key isn't locked exclusively.") ∷

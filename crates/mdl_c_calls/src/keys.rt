@@ -24,7 +24,7 @@ fn resolve(alloc: Global, space: &mut MdlSpace, who: u16, key: &Key, place: &mut
     code
 }
 
-/// Writes the place of a table's key.
+/// Writes the place of a table's key, which the session then pins.
 pub fn mdl_table(
     alloc: Global,
     space: &mut MdlSpace,
@@ -43,7 +43,7 @@ pub fn mdl_table(
     }
 }
 
-/// Writes the place of a schema's key.
+/// Writes the place of a schema's key, which the session then pins.
 pub fn mdl_schema(
     alloc: Global,
     space: &mut MdlSpace,
@@ -61,14 +61,14 @@ pub fn mdl_schema(
     }
 }
 
-/// Writes the place of the key of the global read lock.
+/// Writes the place of the key of the global read lock, which the session then pins.
 pub fn mdl_global(alloc: Global, space: &mut MdlSpace, who: u16, place: &mut u16) -> u32
     ensures { ServesCall who (Resolve who global_key) space.old.handle.manager result space.new.handle.manager (Number place.old place.new) }
 {
     resolve(alloc, space, who, &Key::global(alloc), place)
 }
 
-/// Writes the place of the key that commits take.
+/// Writes the place of the key that commits take, which the session then pins.
 pub fn mdl_commit(alloc: Global, space: &mut MdlSpace, who: u16, place: &mut u16) -> u32
     ensures { ServesCall who (Resolve who commit_key) space.old.handle.manager result space.new.handle.manager (Number place.old place.new) }
 {

@@ -73,7 +73,7 @@ fn cause_text(code: u32) -> &'static str
     ensures { result.now ≡ text_in cause_rows code }
 {
     match code {
-        32 => "The place has no key, or there is no place for one more key.",
+        32 => "The session doesn't pin the place, or it has no key, or no place is left.",
         33 => "The session holds no ticket of this number.",
         34 => "The mode of the ticket can't become the other.",
         35 => "The key isn't locked exclusively.",

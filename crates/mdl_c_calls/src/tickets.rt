@@ -8,7 +8,7 @@ use crate::codes::{CLOSED, NO_MODE, attempt_code, clone_code, done_code, mode_of
 use crate::handle::MdlSpace;
 use std::alloc::Global;
 
-/// Requests a lock, without waiting.
+/// Requests a lock at a place that the session pins, without waiting.
 pub fn mdl_try(
     alloc: Global,
     space: &mut MdlSpace,

@@ -10,7 +10,7 @@ use crate::codes::{
 use crate::handle::MdlSpace;
 use std::alloc::Global;
 
-/// Requests a lock, and begins to wait for it if it can't be granted now.
+/// Requests a lock at a place that the session pins, and begins to wait for it if it can't be granted now.
 pub fn mdl_begin(
     alloc: Global,
     space: &mut MdlSpace,

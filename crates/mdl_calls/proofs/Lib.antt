@@ -3,6 +3,8 @@ pub mod CacheLemmas
 pub mod CachedRuns
 pub mod FaithfulLemmas
 pub mod MappedLists
+pub mod MarkLemmas
+pub mod PinLemmas
 pub mod RunLemmas
 pub mod SeekingLemmas
 pub mod StandingLemmas

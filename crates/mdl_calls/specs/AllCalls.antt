@@ -67,15 +67,15 @@ reads_with_cache call = (spec_of call).reads_with_cache
 abbrev pub is_answer_of : Call → Answer → Bool
 is_answer_of call answer = (spec_of call).answers answer
 
--- what must hold of the caller's tickets and wait for a call not to be refused
+-- what must hold of what the caller has for a call not to be refused
 abbrev pub IsClear : Knowledge → Call → SessionLocks → Type 0
 IsClear knows call own = (spec_of call).clear knows own
 
--- which errors a call can be refused with, and what each says of the caller's tickets and wait
+-- which errors a call can be refused with, and what each says of what the caller has
 abbrev pub IsCause : Knowledge → Call → SpaceError → SessionLocks → Type 0
 IsCause knows call why own = (spec_of call).cause why knows own
 
--- what an answer says of the caller's tickets and wait: if it is a refusal, its cause; otherwise what must hold for the call not to be refused (`IsClear`)
+-- what an answer says of what the caller has: if it is a refusal, its cause; otherwise what must hold for the call not to be refused (`IsClear`)
 abbrev pub IsExplained : Knowledge → Call → Answer → SessionLocks → Type 0
 IsExplained knows call answer own = Explains (spec_of call) knows answer own
 

@@ -3,14 +3,14 @@
 -- clash. `mdl_system` says by them when a request is grantable (`IsGrantable`), and who is a deadlock's victim (`IsVictimOf`). `mdl_core` says that the
 -- space of one thread answers so (`Determined`).
 use Rattle.std.specs.Prelude.{◌≡◌, ℕ, Bool, true, false, List, Option, Some, None}
-use Rattle.mdl_calls.specs.Prelude.{AlreadyWaiting, BadMode, CounterFull, Full, IfSome, KnownKey, Mode, NoPlace, NoWait, NotHeld, OutOfMemory, Settled, SpaceError, is_known}
-use Rattle.mdl_calls.specs.Causes.{Knowledge, IsUnknown, IsFit, IsUnfit}
-use Rattle.mdl_calls.specs.Effects.{Effect, Keeps, own_by, DrawsBy, place_of, ends}
+use Rattle.mdl_calls.specs.Prelude.{AlreadyWaiting, BadMode, CounterFull, Full, IfSome, KnownKey, Mode, NoPlace, NoWait, NotHeld, OutOfMemory, Settled, SpaceError}
+use Rattle.mdl_calls.specs.Causes.{Knowledge, IsFit, IsUnfit}
+use Rattle.mdl_calls.specs.Effects.{Effect, Keeps, own_by, DrawsBy, ends}
 use Rattle.mdl_calls.specs.Interface.{Answer, Refused}
 use Rattle.mdl_calls.specs.Learning.{KeepsSettled}
 use Rattle.mdl_calls.specs.Meetings.{ReadsNothing}
 use Rattle.mdl_calls.specs.SessionData.{SessionData, SpeaksFor, Knows}
-use Rattle.mdl_calls.specs.SessionLocks.{SessionLocks, holds, is_waiting}
+use Rattle.mdl_calls.specs.SessionLocks.{SessionLocks, holds, is_pinned, is_waiting}
 
 -- ---- what several calls share
 
@@ -35,17 +35,16 @@ abbrev pub memory_cause : SpaceError → Knowledge → SessionLocks → Type 0
 memory_cause OutOfMemory knows own = Unit {0}
 memory_cause _ knows own = ⊥
 
--- the caller may request a lock: it has no wait, and the mode fits the place, as any mode does if the caller doesn't know the place (`IsFit`). That the
--- caller knows the place is said only where it gets a ticket or a wait there (`gained` of `Transition`), and not where it would have to wait (`Would_wait`).
+-- the caller may request a lock: it pins the place, it has no wait, and the mode fits the place
 abbrev pub MayAsk : ℕ → Mode → Knowledge → SessionLocks → Type 0
-MayAsk place mode knows own = (is_waiting own ≡ false) × IsFit knows place mode
+MayAsk place mode knows own = (is_pinned place own ≡ true) × (is_waiting own ≡ false) × IsFit knows place mode
 
--- why a request is refused: the caller doesn't know the place, or waits already, or the mode doesn't fit, or there is no number or no room left, or memory
--- ran out. It is refused for want of a number or of room only if it may be made (`MayAsk`).
+-- why a request is refused: the caller doesn't pin the place, or waits already, or the mode doesn't fit, or there is no number or no room left, or memory
+-- ran out. Of the first three causes the first one counts. A request is refused for want of a number or of room only if it may be made (`MayAsk`).
 abbrev pub wish_cause : ℕ → Mode → SpaceError → Knowledge → SessionLocks → Type 0
-wish_cause place mode NoPlace knows own = IsUnknown knows place
-wish_cause place mode AlreadyWaiting knows own = is_waiting own ≡ true
-wish_cause place mode BadMode knows own = (is_waiting own ≡ false) × IsUnfit knows place mode
+wish_cause place mode NoPlace knows own = is_pinned place own ≡ false
+wish_cause place mode AlreadyWaiting knows own = (is_pinned place own ≡ true) × (is_waiting own ≡ true)
+wish_cause place mode BadMode knows own = (is_pinned place own ≡ true) × (is_waiting own ≡ false) × IsUnfit knows place mode
 wish_cause place mode CounterFull knows own = MayAsk place mode knows own
 wish_cause place mode Full knows own = MayAsk place mode knows own
 wish_cause place mode OutOfMemory knows own = Unit {0}
@@ -65,9 +64,9 @@ pub record CallSpec : Type 1 where
   pub reads_with_cache : Bool
   -- whether it can have this answer, by the answer's form
   pub answers : Answer → Bool
-  -- what must hold of the caller's tickets and wait for it not to be refused
+  -- what must hold of what the caller has for it not to be refused
   pub clear : Knowledge → SessionLocks → Type 0
-  -- which errors it can be refused with, and what each says of the caller's tickets and wait
+  -- which errors it can be refused with, and what each says of what the caller has
   pub cause : SpaceError → Knowledge → SessionLocks → Type 0
   -- what it does to them
   pub effect : Answer → Effect
@@ -89,8 +88,8 @@ pub record CallSpec : Type 1 where
   pub says : Answer → SessionData → SessionData → Type 0
 
 -- a call of this session that sessions have, with the other aspects as most calls have them. Some promise the most that they can: it has no answer and no
--- cause of a refusal, takes no memory, reads without a cache, leaves its caller's tickets and wait as they are, and changes no definition. Its caller learns
--- and reads nothing. The others say nothing: `clear`, `met`, `told`, `told_of`, `reads_under` and `says`.
+-- cause of a refusal, takes no memory, reads without a cache, leaves its caller's tickets, wait and pins as they are, and changes no definition. Its caller
+-- learns and reads nothing. The others say nothing: `clear`, `met`, `told`, `told_of`, `reads_under` and `says`.
 abbrev pub unchanged : ℕ → CallSpec
 unchanged who = record {
   caller = Some who;
@@ -113,19 +112,18 @@ unchanged who = record {
 
 -- ---- what it is to a session
 
--- what an answer says of the caller's tickets and wait: if it is a refusal, its cause; otherwise what must hold for the call not to be refused
+-- what an answer says of what the caller has: if it is a refusal, its cause; otherwise what must hold for the call not to be refused
 abbrev pub Explains : CallSpec → Knowledge → Answer → SessionLocks → Type 0
 Explains call knows (Refused why) own = call.cause why knows own
 Explains call knows _ own = call.clear knows own
 
 -- a call with this answer takes the session from the one state to the other. The caller, if there is one, is the session itself (`mine`). Sessions have such
 -- a call (`has`), and it can have such an answer (`fits`). The session keeps its number (`number`), and has what the call leaves it (`own`, `numbers`). A
--- refusal has a cause; with any other answer, what must hold for the call not to be refused holds (`explained`). If the call named a place, and the session
--- got a ticket or a wait there, it knew the place (`gained`). It knows the keys that it learnt (`learns`). If the answer says in which state the call met the
--- caller's wait, and the session knew how its wait is settled, that is the state (`agreed`). If the answer says how the wait is settled from then on, the
--- session knows that afterwards (`told`). If the call ended the wait, the session afterwards knows of no settled wait. Otherwise it still knows what it knew;
--- what it didn't know it may have learnt, but only if it had a wait (`settled`). It has read what the call lets it read (`reads`), and what else the answer
--- says of it is true (`truly`). No clause says anything of other sessions.
+-- refusal has a cause; with any other answer, what must hold for the call not to be refused holds (`explained`). The session knows the keys that it learnt
+-- (`learns`). If the answer says in which state the call met the caller's wait, and the session knew how its wait is settled, that is the state (`agreed`).
+-- If the answer says how the wait is settled from then on, the session knows that afterwards (`told`). If the call ended the wait, the session afterwards
+-- knows of no settled wait. Otherwise it still knows what it knew; what it didn't know it may have learnt, but only if it had a wait (`settled`). It has read
+-- what the call lets it read (`reads`), and what else the answer says of it is true (`truly`). No clause says anything of other sessions.
 pub record Transition (call : CallSpec) (answer : Answer) (a b : SessionData) : Type 0 where
   pub mine : IfSome call.caller (SpeaksFor a)
   pub has : call.has ≡ true
@@ -134,7 +132,6 @@ pub record Transition (call : CallSpec) (answer : Answer) (a b : SessionData) : 
   pub own : b.own ≡ own_by (call.effect answer) a.own
   pub numbers : DrawsBy (call.effect answer) a.numbers b.numbers
   pub explained : Explains call (Knows a a.number) answer a.own
-  pub gained : IfSome (place_of (call.effect answer)) (λ place. is_known place a.known ≡ true)
   pub learns : call.learns answer a.known b.known
   pub agreed : (state : Option Settled) (how : Settled) → call.met answer ≡ Some state → a.settled ≡ Some how → state ≡ Some how
   pub told : (how : Settled) → call.told answer ≡ Some how → b.settled ≡ Some how

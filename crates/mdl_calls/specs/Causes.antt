@@ -1,4 +1,4 @@
--- When a lock space refuses a call, as far as the caller's own tickets and wait and the keys that it knows decide it. Which of several causes comes first is
+-- When a lock space refuses a call, as far as what the caller has and the keys that it knows decide it. Which of several causes comes first is
 -- said here only in part. `mdl_core` says it of the space of one thread, by the outcome of each call (`CoreCalls`), and `mdl_shared` of the table that
 -- threads share, by its own specification of each call (`calls`).
 use Rattle.std.specs.Prelude.{◌≡◌, ℕ, Bool, true, false, not, ◌&&◌, ◌||◌, ◌==◌, MatchOption}

@@ -1,5 +1,5 @@
 -- What a call does to its caller's tickets, wait and pins, and which numbers it gives them: its effect.
-use Rattle.std.specs.Prelude.{◌≡◌, ℕ, Bool, true, false, Option, Some, None}
+use Rattle.std.specs.Prelude.{◌≡◌, ℕ, Bool, true, false}
 use Rattle.mdl_key.specs.declared.mode.Mode.{Mode}
 use Rattle.mdl_calls.specs.SessionLocks.{DrawsTicket, DrawsWait, Numbers, SessionLocks, changing, cloning, ending, gaining, giving_up, merging, pinning, ticket_held, unpinning, upgraded, waiting, winning}
 
@@ -52,12 +52,6 @@ DrawsBy (Begins number place mode) before after = DrawsWait number before after
 DrawsBy (Wins id) before after = (id ≡ before.last_ticket) × (after ≡ before)
 DrawsBy (Clones copy id mode) before after = DrawsTicket copy before after
 DrawsBy _ before after = after ≡ before
-
--- the place that the call named, if the caller got a ticket or a wait there
-abbrev pub place_of : Effect → Option ℕ
-place_of (Gains id place mode) = Some place
-place_of (Begins number place mode) = Some place
-place_of _ = None
 
 -- whether the caller's wait ended
 abbrev pub ends : Effect → Bool

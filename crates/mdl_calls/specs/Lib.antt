@@ -9,6 +9,7 @@ pub mod Faithful
 pub mod Interface
 pub mod Learning
 pub mod Limits
+pub mod Marks
 pub mod Meetings
 pub mod MemberLaws
 pub mod Reads

@@ -2,7 +2,7 @@
 -- and has read by them. It speaks for itself alone.
 use Rattle.std.specs.Prelude.{◌≡◌, ℕ, ◌+◌, Bool, true, false, not, ◌&&◌, ◌||◌, ◌==◌, nat_lt, nat_le, List, [], ◌∷◌, find, Option, Some, None, is_some, MatchOption, Contains, if◌then◌else◌}
 use Rattle.mdl_calls.specs.Prelude.{Held, IfSome, KeyName, KnownKey, MayStand, Reading, Settled, VersionedDefinition, are_apart, is_known, key_known, list_all, list_any, option_map, option_or}
-use Rattle.mdl_calls.specs.SessionLocks.{SessionLocks, Numbers, IsRising, is_waiting}
+use Rattle.mdl_calls.specs.SessionLocks.{SessionLocks, Numbers, IsRising, are_at_pins, are_rising_places, is_pinned, is_waiting}
 
 -- a version that the session has noted under a ticket at a place
 pub record Note : Type 0 where
@@ -50,10 +50,6 @@ abbrev pub first_free : Bool → Numbers → ℕ
 first_free true numbers = numbers.last_ticket
 first_free false numbers = numbers.last_ticket + 1
 
--- whether the tickets are at places whose keys are known
-abbrev pub are_placed : List KnownKey → List Held → Bool
-are_placed known held = list_all (λ (t : Held). is_known t.place known) held
-
 -- whether the keys of pinned places are known
 abbrev pub are_pins_known : List KnownKey → List ℕ → Bool
 are_pins_known known pins = list_all (λ place. is_known place known) pins
@@ -67,13 +63,15 @@ abbrev pub FitsKey : SessionData → ℕ → VersionedDefinition → Type 0
 FitsKey a place standing = MatchOption (key_known place a.known) ⊥ (λ key. MayStand key.namespace standing)
 
 -- what always holds of a session: its tickets have rising numbers, below that of the ticket that it waits for. They and its wait are at places that it
--- knows, and it knows the places that it pins. No key that it knows has two places, and no place two keys. If its wait is settled, it has a wait. A version that it noted at a place is that of its
--- last read there. Of a place it read no version newer than the last one, and what it read last is valid for the place's key.
+-- pins. The pinned places rise, and it knows their keys. No key that it knows has two places, and no place two keys. If its wait is settled, it has a wait. A
+-- version that it noted at a place is that of its last read there. Of a place it read no version newer than the last one, and what it read last is valid for
+-- the place's key.
 pub record IsSound (a : SessionData) : Type 0 where
   pub rising : IsRising a.own
   pub below : are_below (first_free (is_waiting a.own) a.numbers) a.own.held ≡ true
-  pub placed : are_placed a.known a.own.held ≡ true
-  pub awaited : IfSome a.own.wait (λ wait. is_known wait.place a.known ≡ true)
+  pub placed : are_at_pins a.own a.own.held ≡ true
+  pub awaited : IfSome a.own.wait (λ wait. is_pinned wait.place a.own ≡ true)
+  pub in_order : are_rising_places a.own.pins ≡ true
   pub pinned : are_pins_known a.known a.own.pins ≡ true
   pub apart : are_apart a.known ≡ true
   pub settled : is_some a.settled ≡ true → is_waiting a.own ≡ true

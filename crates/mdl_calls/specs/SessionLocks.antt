@@ -57,6 +57,15 @@ is_waiting own = is_some own.wait
 abbrev pub is_pinned : ℕ → SessionLocks → Bool
 is_pinned place own = list_any (λ pin. pin == place) own.pins
 
+-- whether the places rise: each is below all later ones
+abbrev pub are_rising_places : List ℕ → Bool
+are_rising_places [] = true
+are_rising_places (place ∷ later) = list_all (λ other. nat_lt place other) later && are_rising_places later
+
+-- whether the places of these tickets are pinned
+abbrev pub are_at_pins : SessionLocks → List Held → Bool
+are_at_pins own tickets = list_all (λ (ticket : Held). is_pinned ticket.place own) tickets
+
 -- rising places with one more among them, unless it is there already
 abbrev pub with_place : ℕ → List ℕ → List ℕ
 with_place place [] = place ∷ []

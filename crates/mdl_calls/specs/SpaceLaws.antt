@@ -2,7 +2,7 @@
 -- one term, and code over any space cites them as fields.
 use Rattle.std.specs.Prelude.{◌≡◌, ◌≤◌, ◌⊎◌, ℕ, true, false, List, Option, Some, Contains}
 use Rattle.mdl_calls.specs.FirstWords.{Change, Definition, Held, IfSome, InUse, KeyName, MayStand, Mode, Settled, VersionedDefinition, X, covers, same_mode, standing_after}
-use Rattle.mdl_calls.specs.Words.{Answer, Refused, Done, At_place, Would_wait, Changed, Reads, Tables, Key_is, Victim_is, Has_wait, Has_killed, Holds, is_answer_of, Call, Resolve, Search, End_wait, Wait_of, Kill, Upgrade_now, Change_definition, Tables_of, Key_of, List_held, Unpin, caller, IsExplained, SessionLocks, Wait, Numbers, Draws, IsRising, own_after, wait_number, is_pinned, is_waiting, ticket_held, AreTablesOf, AwaitsAt, HoldsAt, IsChangeOf, read_under, redefined_place, IsToldOf, told}
+use Rattle.mdl_calls.specs.Words.{Answer, Refused, Done, At_place, Would_wait, Changed, Reads, Tables, Key_is, Victim_is, Has_wait, Has_killed, Holds, is_answer_of, Call, Resolve, Search, End_wait, Wait_of, Kill, Upgrade_now, Change_definition, Tables_of, Key_of, List_held, Unpin, caller, IsExplained, SessionLocks, Wait, Numbers, Draws, IsRising, own_after, wait_number, are_rising_places, is_pinned, is_waiting, ticket_held, AreTablesOf, AwaitsAt, HoldsAt, IsChangeOf, read_under, redefined_place, IsToldOf, told}
 use Rattle.mdl_calls.specs.declared.answers.Settled.TheVariants as settled_as
 
 -- what holds of the ghost members of each lock space, which the trait `LockSpace` describes: the sessions that it speaks for, what they have, know, have
@@ -38,11 +38,14 @@ pub record SpaceLaws {S : Type 0} (speaks_for : S → ℕ → Type 0) (own : S �
   pub one_key : (a : S) (w place : ℕ) (key other : KeyName) → speaks_for a w → knows a w place key → knows a w place other → key ≡ other
   -- a key has one place
   pub one_place : (a : S) (w place other : ℕ) (key : KeyName) → speaks_for a w → knows a w place key → knows a w other key → place ≡ other
-  -- a session that holds a ticket knows the key of its place
-  pub held_places : (a : S) (w : ℕ) (ticket : Held) → speaks_for a w → Contains (own a w).held ticket
-      → (key : KeyName) × knows a w ticket.place key
-  -- a session that waits knows the key of the place that it waits for
-  pub wait_place : (a : S) (w : ℕ) (wait : Wait) → speaks_for a w → (own a w).wait ≡ Some wait → (key : KeyName) × knows a w wait.place key
+  -- pinned places rise, so none is listed twice
+  pub pins_rise : (a : S) (w : ℕ) → speaks_for a w → are_rising_places (own a w).pins ≡ true
+  -- a session that pins a place knows its key
+  pub pinned_known : (a : S) (w place : ℕ) → speaks_for a w → is_pinned place (own a w) ≡ true → (key : KeyName) × knows a w place key
+  -- a session pins the places of its tickets
+  pub held_pinned : (a : S) (w : ℕ) (ticket : Held) → speaks_for a w → Contains (own a w).held ticket → is_pinned ticket.place (own a w) ≡ true
+  -- a session pins the place that it waits for
+  pub wait_pinned : (a : S) (w : ℕ) (wait : Wait) → speaks_for a w → (own a w).wait ≡ Some wait → is_pinned wait.place (own a w) ≡ true
   -- an answer that says how the caller's wait is settled is true
   pub tells : (a b : S) (call : Call) (answer : Answer) (who : ℕ) (how : Settled) → caller call ≡ Some who → told call answer ≡ Some how
       → joins a call answer b → is_settled b who how
@@ -117,8 +120,6 @@ pub record SpaceLaws {S : Type 0} (speaks_for : S → ℕ → Type 0) (own : S �
   -- a session that gets the tables of a schema knows them. They are in the order of their keys.
   pub tells_tables : (a b : S) (who : ℕ) (schema places : List ℕ) → joins a (Tables_of who schema) (Tables places) b
       → AreTablesOf (knows b who) schema places
-  -- a session that pins a place knows its key
-  pub pinned_known : (a : S) (w place : ℕ) → speaks_for a w → is_pinned place (own a w) ≡ true → (key : KeyName) × knows a w place key
   -- after a call no session owes a reschedule that it didn't owe before
   pub no_new_debts : (a b : S) (call : Call) (answer : Answer) (w place : ℕ) → speaks_for a w → joins a call answer b → owes b w place
       → owes a w place

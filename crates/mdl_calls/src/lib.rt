@@ -20,6 +20,7 @@
 mod answers;
 mod lock_space;
 mod new_error;
+mod pins;
 mod space_error;
 
 pub use answers::{
@@ -27,4 +28,5 @@ pub use answers::{
 };
 pub use lock_space::LockSpace;
 pub use new_error::NewError;
+pub use pins::Pins;
 pub use space_error::SpaceError;

@@ -5,7 +5,7 @@ ghost use Rattle.mdl_defs.specs.Caches.{CacheView};
 ghost use Rattle.mdl_defs.specs.declared.versioned_definition.VersionedDefinition.{VersionedDefinition};
 ghost use Rattle.mdl_calls.specs.declared.answers.Settled.{Settled};
 ghost use Rattle.mdl_calls.specs.SpaceLaws.{SpaceLaws};
-ghost use Rattle.mdl_calls.specs.Words.{AreMet, Call, Resolve, Try_now, Begin_wait, Search as Search_by, Poll_wait, Settle_timeout, End_wait, Wait_of, Kill, Release, Clone_ticket, Upgrade_now, Merge, Downgrade, List_held, Read_definition, Read_kept, Change_definition, Tables_of, Key_of, Answer, Has_wait, Has_killed, placed, attempted, begun, searched, polled, timed_out, ended, done, cloned, upgrade_tried, listed, SessionLocks, Numbers, keyed, read, redefined, tables_told};
+ghost use Rattle.mdl_calls.specs.Words.{AreMet, Call, Resolve, Try_now, Begin_wait, Search as Search_by, Poll_wait, Settle_timeout, End_wait, Wait_of, Kill, Release, Clone_ticket, Upgrade_now, Merge, Downgrade, List_held, Read_definition, Read_kept, Change_definition, Tables_of, Key_of, Unpin, Answer, Has_wait, Has_killed, placed, attempted, begun, searched, polled, timed_out, ended, done, cloned, upgrade_tried, listed, SessionLocks, Numbers, keyed, read, redefined, tables_told};
 
 use crate::{
     Attempt, Begun, Ended, Held, Place, Poll, Search, SpaceError, TicketId, TimedOut, Upgrade,
@@ -13,9 +13,9 @@ use crate::{
 use mdl_defs::{Change, DefCache, VersionedDefinition};
 use mdl_key::{Key, Mode};
 
-/// A lock space: keys at their places, and the tickets and waits of numbered sessions.
+/// A lock space: keys at their places, and the tickets, waits and pins of numbered sessions.
 ///
-/// A session holds tickets, and has at most one wait. A call is made for one session, and the space has to speak for that
+/// A session holds tickets, pins places, and has at most one wait. A call is made for one session, and the space has to speak for that
 /// session (`speaks_for`). Only [`LockSpace::wait_of`] and [`LockSpace::kill`] may name any session. What a call does to its own
 /// session is the same in every space. No call changes what another session holds. A space in which other sessions act at the
 /// same time promises less about the rest than a space of one thread.
@@ -60,17 +60,27 @@ pub trait LockSpace {
     // A session's read under a ticket, with this answer, takes the first cache to the second, and the first space to the second.
     ghost uses_cache: { Self → ℕ → ℕ → Answer → CacheView → CacheView → Self → Type 0 };
 
-    /// Returns the place of a key, which keeps that place. A new key takes the next free one.
+    /// Returns the place of a key, and pins it for the session: the place keeps this key at least until
+    /// [`LockSpace::unpin`]. A new key takes the next free place.
     fn resolve(&mut self, who: u16, key: &Key) -> Result<Place, SpaceError>
         requires { speaks_for self.old who }
         ensures { joins self.old (Resolve who key.now) (placed result) self.new };
 
-    /// Requests a lock, without waiting.
+    /// Gives up the session's pin of a place. It takes no memory.
+    ///
+    /// Fails with [`SpaceError::NoPlace`] if the session doesn't pin the place, and with [`SpaceError::InUse`] if it has a
+    /// ticket or a wait there. However often it resolved the key, one call ends the pin.
+    fn unpin(&mut self, who: u16, place: Place) -> Result<(), SpaceError>
+        requires { speaks_for self.old who }
+        ensures { joins self.old (Unpin who place) (done result) self.new };
+
+    /// Requests a lock at a pinned place, without waiting. Fails with [`SpaceError::NoPlace`] if the session doesn't pin the
+    /// place, which [`LockSpace::resolve`] does.
     fn try_now(&mut self, who: u16, place: Place, mode: Mode) -> Result<Attempt, SpaceError>
         requires { speaks_for self.old who }
         ensures { joins self.old (Try_now who place mode) (attempted result) self.new };
 
-    /// Requests a lock, and begins to wait for it if it can't be granted now.
+    /// Requests a lock at a pinned place, and begins to wait for it if it can't be granted now.
     fn begin_wait(&mut self, who: u16, place: Place, mode: Mode) -> Result<Begun, SpaceError>
         requires { speaks_for self.old who }
         ensures { joins self.old (Begin_wait who place mode) (begun result) self.new };

@@ -8,11 +8,11 @@ use thiserror::Error;
 /// Why a call of a lock space is refused.
 ///
 /// Of several causes the first in this order is returned, except that `WrongKind` comes before `Def`, and `OutOfMemory`
-/// may come before any. A refused call changes no held ticket, no definition and no wait.
+/// may come before any. A refused call changes no held ticket, no definition, no wait and no pin.
 #[derive(Clone, Copy, Debug, PartialEq, Eq, Error)]
 pub enum SpaceError {
-    /// The place has no key, or (in the table that threads share) the session hasn't looked its key up, or there is no
-    /// place left for a new key.
+    /// The session doesn't pin the place. Or the key of a place was asked for that has none, or (in the table that threads
+    /// share) whose key the session hasn't looked up. Or there is no place left for a new key.
     #[error("no such place")]
     NoPlace,
     /// The session holds no such ticket.

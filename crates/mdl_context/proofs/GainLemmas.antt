@@ -1,11 +1,13 @@
--- What a session has after it asked for a lock.
-use Rattle.std.proofs.Common.{inl, inr, arith, ◌≡◌, ℕ, Bool, true, false, Option, Some, None, Result, Ok, Err, List, [], ◌∷◌, refl, sym, ap, ◌∙◌}
+-- What a session has after it asked for a lock, and that it isn't refused for want of a pinned place.
+use Rattle.std.proofs.Common.{inl, inr, arith, ◌≡◌, ◌≢◌, ℕ, Bool, true, false, Option, Some, None, Result, Ok, Err, List, [], ◌∷◌, refl, sym, ap, ◌∙◌, subst}
+use Rattle.std.specs.Prelude.{IfErr, IsOkUnless}
 use Rattle.mdl_key.specs.declared.mode.Mode.{Mode}
 use Rattle.mdl_calls.specs.declared.space_error.SpaceError.{SpaceError}
 use Rattle.std.specs.Option.{IfSome, option_map}
 use Rattle.mdl_calls.specs.declared.answers.Held.{Held}
 use Rattle.mdl_calls.specs.SessionLocks.{SessionLocks, Wait, IsRising, ticket_held, waiting, ending}
-use Rattle.mdl_calls.specs.Words.{Answer, Call, Runs, Give}
+use Rattle.mdl_calls.specs.CallSpec.{wish_cause}
+use Rattle.mdl_calls.specs.Words.{Answer, Call, Clone_ticket, IsCause, Knowledge, Upgrade_now, is_pinned, Runs, Give}
 use Rattle.mdl_calls.proofs.RunLemmas.{runs_bind}
 use Rattle.mdl_context.specs.declared.kept.Kept.{Kept}
 use Rattle.mdl_context.specs.declared.kept.Wanted.{Wanted}
@@ -14,18 +16,51 @@ use Rattle.mdl_context.specs.declared.request.Acquire.{Acquire}
 use Rattle.mdl_context.specs.declared.request.Acquire.TheVariants.{Acquired}
 use Rattle.mdl_context.specs.declared.request.Tried.{Tried}
 use Rattle.mdl_context.specs.declared.request.Tried.TheVariants as try_as
+use Rattle.mdl_context.specs.declared.context_error.ContextError.{ContextError}
 use Rattle.mdl_context.specs.declared.context_error.ContextError.TheVariants.{Space}
-use Rattle.mdl_calls.specs.declared.space_error.SpaceError.TheVariants.{OutOfMemory}
+use Rattle.mdl_calls.specs.declared.space_error.SpaceError.TheVariants.{NoPlace, OutOfMemory}
 use Rattle.mdl_context.specs.Contexts.{ContextView, Serves, wish_there, wish_here}
 use Rattle.mdl_context.specs.Holdings.{earliest, is_kept_at}
 use Rattle.mdl_context.specs.declared.wishes.Terms.{Terms}
 use Rattle.mdl_context.specs.Terms.{meets}
-use Rattle.mdl_context.specs.Requests.{Outcome, suffices, is_reusable, outcome_got, acquiring_at, outcome_tried, trying_at}
+use Rattle.mdl_context.specs.Requests.{IsNoPlace, Outcome, suffices, is_reusable, outcome_got, acquiring_at, outcome_tried, trying_at}
 use Rattle.mdl_context.proofs.PlaceLemmas.{meets-at, equal}
 use Rattle.mdl_context.proofs.ServingLemmas.{earliest-held}
 use Rattle.mdl_context.specs.declared.asking.AskResult.{AskResult}
 use Rattle.mdl_context.specs.declared.asking.AskResult.TheVariants as got
 use Rattle.mdl_context.specs.Gains.{gaining_from, trying_from, own_got, OwnWaited}
+use Rattle.mdl_context.specs.Upgrades.{is_merge_refusal}
+
+-- ---- refusals
+
+-- a request at a pinned place isn't refused for want of a place
+pub placed-wish : (knows : Knowledge) (place : ℕ) (mode : Mode) (why : SpaceError) (own : SessionLocks) → wish_cause place mode why knows own → is_pinned place own ≡ true → why ≢ NoPlace
+placed-wish knows place mode why own cause pinned e =
+    let unpinned : is_pinned place own ≡ false = subst (λ refusal. wish_cause place mode refusal knows own) e cause in grind (arith, pinned, unpinned)
+
+-- neither is a clone, nor an upgrade
+pub placed-clone : (knows : Knowledge) (who id : ℕ) (mode : Mode) (why : SpaceError) (own : SessionLocks) → IsCause knows (Clone_ticket who id mode) why own → why ≢ NoPlace
+placed-clone knows who id mode why own cause e = subst (λ refusal. IsCause knows (Clone_ticket who id mode) refusal own) e cause
+
+pub placed-upgrade : (knows : Knowledge) (who id : ℕ) (mode : Mode) (why : SpaceError) (own : SessionLocks) → IsCause knows (Upgrade_now who id mode) why own → why ≢ NoPlace
+placed-upgrade knows who id mode why own cause e = subst (λ refusal. IsCause knows (Upgrade_now who id mode) refusal own) e cause
+
+-- nor a merge, nor a search
+pub placed-merge : (why : SpaceError) → is_merge_refusal why ≡ true → why ≢ NoPlace
+placed-merge why is e = let so : is_merge_refusal NoPlace ≡ true = subst (λ refusal. is_merge_refusal refusal ≡ true) e is in cc
+
+pub placed-want : {A : Type 0} (result : Result A SpaceError) → IsOkUnless result OutOfMemory → IfErr result (λ why. why ≢ NoPlace)
+placed-want (Ok x) only = tt
+placed-want (Err why) only = λ e. (let so : OutOfMemory ≡ NoPlace = sym only ∙ e in cc)
+
+-- and what the space refuses a context, it refuses for that
+pub refused-for : {A : Type 0} (result : Result A ContextError) (why : SpaceError) → result ≡ Err (Space why) → IsNoPlace result → why ≡ NoPlace
+refused-for result why is e = let so = sym is ∙ e in cc
+
+pub placed-space : {A : Type 0} (why : SpaceError) → why ≢ NoPlace → IsNoPlace {A = A} (Err (Space why)) → ⊥
+placed-space {A} why placed e = placed (refused-for {A = A} (Err (Space why)) why refl e)
+
+-- ---- tickets and waits
 
 -- a wait that began and was given up leaves nothing
 pub began-and-ended : (number place : ℕ) (mode : Mode) (own : SessionLocks) → own.wait ≡ None → ending (waiting number place mode own) ≡ own

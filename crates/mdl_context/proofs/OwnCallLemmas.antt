@@ -265,7 +265,7 @@ own_downgrading id mode context =
 
 -- a call of the session is made for it or for nobody
 pub own_made : (who : ℕ) (call : Call) → IsOwnCall who call → IsMadeFor who call
-own_made who call own = (own.1, subst (λ maker. IfSome maker (λ w. w ≡ who)) (sym own.0) refl)
+own_made who call own = subst (λ maker. IfSome maker (λ w. w ≡ who)) (sym own.0) refl
 
 -- what is so of each such call, is so of all calls of a program
 pub calls_weaker : {A : Type 0} (P Q : Call → Type 0) → ((call : Call) → P call → Q call) → (program : Program A) → EachCall P program → EachCall Q program

@@ -16,7 +16,7 @@ use Rattle.mdl_calls.specs.declared.space_error.SpaceError.{SpaceError}
 use Rattle.mdl_calls.specs.Causes.{Knowledge, IsFit, Mergeable}
 use Rattle.mdl_calls.specs.SessionLocks.{changing, waiting}
 use Rattle.mdl_calls.specs.SessionLocks as owned
-use Rattle.mdl_calls.specs.Words.{Answer, Call, Upgrade_now, caller, SessionLocks, IsRising, own_after, gaining, giving_up, is_number, ticket_held, Runs, Give, Ask, IsClear}
+use Rattle.mdl_calls.specs.Words.{Answer, Call, Upgrade_now, caller, SessionLocks, IsRising, is_pinned, own_after, gaining, giving_up, is_number, ticket_held, Runs, Give, Ask, IsClear}
 use Rattle.mdl_calls.proofs.RunLemmas.{runs_bind}
 use Rattle.mdl_calls.specs.declared.lock_space.LockSpace.{Ghosts}
 use Rattle.mdl_calls.specs.MemberLaws.{LawsOf}
@@ -30,13 +30,15 @@ use Rattle.mdl_context.specs.declared.request.Acquire.TheVariants.{Acquired, Mus
 use Rattle.mdl_context.specs.Contexts.{ContextView, Attends, IsAwaited, IsUpgradedBy, Serves, AreRising, held_of, has_number, is_known_place, ticket_kept, wish_here, wish_there}
 use Rattle.mdl_context.specs.Gains.{waiting_at}
 use Rattle.mdl_context.specs.Holdings.{wanted_upgrade, with_kept_mode}
+use Rattle.mdl_context.specs.MemoryLaws.{unpins}
 use Rattle.mdl_context.specs.Requests.{Outcome}
 use Rattle.mdl_context.specs.Upgrades.{HasSecond, with_ticket_mode, with_ticket, merging_new, merged, awaiting_upgrade, waiting_to_upgrade, second_got, upgrade_answered, upgrading_ticket, upgrading}
 use Rattle.mdl_context.specs.Releases.{release_fault, waiting_fault}
-use Rattle.mdl_context.proofs.AttendLemmas.{ArePlaced, IsAwaitedIn, attends-over, attends-after, awaited-idle, placed-push, unpins}
+use Rattle.mdl_context.proofs.AttendLemmas.{ArePlaced, IsAwaitedIn, attends-over, attends-after, attends-pins, awaited-idle, placed-push}
 use Rattle.mdl_context.proofs.BeyondLemmas.{no-wait, run-unless}
 use Rattle.mdl_context.proofs.MergeLemmas.{can-merge, others-rising, serves-in_mode, serves-merged, serves-released}
 use Rattle.mdl_context.proofs.ModeLemmas.{changed, changed-place}
+use Rattle.mdl_context.proofs.PinLemmas.{pins-same}
 
 unwrap : {X : Type 0} {x y : X} → Some x ≡ Some y → x ≡ y
 unwrap e = cc
@@ -63,6 +65,11 @@ placed-kept known id xs t placed found =
 pub kept-number : (id : ℕ) (xs : List Kept) (t : Kept) → ticket_kept id xs ≡ Some t → t.id ≡ id
 kept-number id xs t found = eqb-true t.id id (find-passes (λ (x : Kept). x.id == id) xs t found)
 
+-- a merge leaves what is pinned
+pins-merged : (id new : ℕ) (o : Option Held) (own : SessionLocks) → (owned.merging id new o own).pins ≡ own.pins
+pins-merged id new None own = refl
+pins-merged id new (Some t) own = refl
+
 -- ---- what the context attends to
 
 -- a ticket is gained
@@ -79,8 +86,20 @@ module _ {S : Type 0} {members : Ghosts S} where
       → members.speaks_for b before.who → members.own b before.who ≡ gaining t.id t.place t.mode (members.own a before.who) → is_known_place before.known t.place ≡ true → is_some before.wait ≡ false
       → Attends members b (with_ticket t before)
   attends-second a b before t attends still speaks gains there idle =
-      attends-over a b before (with_ticket t before) attends still speaks (serves-more _ _ before (with_ticket t before) t attends.serves gains refl refl) refl refl
+      attends-over a b before (with_ticket t before) attends still (pins-same (members.own a before.who) (members.own b before.who) (ap (λ (o : SessionLocks). o.pins) gains)) speaks (serves-more _ _ before (with_ticket t before) t attends.serves gains refl refl) refl refl
       (placed-push before.known before.kept (before.kept ++ t ∷ []) t refl attends.places there) (awaited-idle before.known (before.kept ++ t ∷ []) before.wait idle)
+
+  -- its place is pinned
+  pub wanted-pinned : (space : S) (before : ContextView) (id : ℕ) (wanted : Wanted) → Attends members space before
+      → MatchOption (ticket_kept id before.kept) ⊥ (λ ticket. (wanted ≡ wanted_upgrade ticket wanted.mode false) × (covers wanted.mode ticket.mode ≡ true))
+      → is_pinned wanted.place (members.own space before.who) ≡ true
+  wanted-pinned space before id wanted attends fits = go (ticket_kept id before.kept) refl fits where
+    go : (o : Option Kept) → ticket_kept id before.kept ≡ o → MatchOption o ⊥ (λ ticket. (wanted ≡ wanted_upgrade ticket wanted.mode false) × (covers wanted.mode ticket.mode ≡ true))
+        → is_pinned wanted.place (members.own space before.who) ≡ true
+    go None found fits = absurd fits
+    go (Some t) found fits =
+        let place : wanted.place ≡ t.place = ap (λ (w : Wanted). w.place) fits.0 in
+        attends-pins space before wanted.place attends (ap (is_known_place before.known) place ∙ placed-kept before.known id before.kept t attends.places found)
 
   -- that is one to be merged into the first
   pub has-gained : (a b : S) (before : ContextView) (id new : ℕ) (wanted : Wanted) → Attends members a before
@@ -109,7 +128,7 @@ module _ {S : Type 0} {members : Ghosts S} where
       → MatchOption (ticket_kept id before.kept) ⊥ (λ ticket. (wanted ≡ wanted_upgrade ticket wanted.mode false) × (covers wanted.mode ticket.mode ≡ true))
       → after.who ≡ before.who → after.known ≡ before.known → after.kept ≡ before.kept → after.wait ≡ Some (record wanted { searched = searched }) → Attends members b after
   attends-to-upgrade a b before after id number wanted searched attends still speaks begins fits who known kept wait =
-      attends-over a b before after attends still speaks (record {
+      attends-over a b before after attends still (pins-same (members.own a before.who) (members.own b before.who) (ap (λ (o : SessionLocks). o.pins) begins)) speaks (record {
         held = ap (λ (o : SessionLocks). o.held) begins ∙ attends.serves.held ∙ sym (ap (map held_of) kept);
         wait = ap (λ (o : SessionLocks). option_map wish_there o.wait) begins ∙ sym (ap (option_map wish_here) wait);
       }) who known (subst (ArePlaced before.known) (sym kept) attends.places)
@@ -128,18 +147,20 @@ module _ {S : Type 0} {members : Ghosts S} where
 
   -- it is gone, and tickets may be in other modes
   pub attends-one : (a b : S) (before after : ContextView) (t : Kept) (id : ℕ) (f : Mode → Mode) → Attends members a (with_ticket t before)
-      → ((at : ℕ) (key : KeyName) → members.knows a before.who at key → members.knows b before.who at key) → members.speaks_for b before.who → Serves (members.own b before.who) after → after.who ≡ before.who
+      → ((at : ℕ) (key : KeyName) → members.knows a before.who at key → members.knows b before.who at key) → (members.own b before.who).pins ≡ (members.own a before.who).pins
+      → members.speaks_for b before.who → Serves (members.own b before.who) after → after.who ≡ before.who
       → after.known ≡ before.known → after.kept ≡ with_kept_mode id f before.kept → after.wait ≡ before.wait → is_some before.wait ≡ false → Attends members b after
-  attends-one a b before after t id f attends still speaks serves who known kept wait idle =
-      attends-over a b (with_ticket t before) after attends still speaks serves who known
+  attends-one a b before after t id f attends still pins speaks serves who known kept wait idle =
+      attends-over a b (with_ticket t before) after attends still (pins-same (members.own a before.who) (members.own b before.who) pins) speaks serves who known
       (subst (ArePlaced before.known) (sym kept) (placed-in_mode before.known id f before.kept (placed-front before.known before.kept (t ∷ []) attends.places)))
       (awaited-idle before.known after.kept after.wait (ap is_some wait ∙ idle))
 
   pub attends-back : (a b : S) (before after : ContextView) (t : Kept) → Attends members a (with_ticket t before)
-      → ((at : ℕ) (key : KeyName) → members.knows a before.who at key → members.knows b before.who at key) → members.speaks_for b before.who → Serves (members.own b before.who) after → after.who ≡ before.who
+      → ((at : ℕ) (key : KeyName) → members.knows a before.who at key → members.knows b before.who at key) → (members.own b before.who).pins ≡ (members.own a before.who).pins
+      → members.speaks_for b before.who → Serves (members.own b before.who) after → after.who ≡ before.who
       → after.known ≡ before.known → after.kept ≡ before.kept → after.wait ≡ before.wait → is_some before.wait ≡ false → Attends members b after
-  attends-back a b before after t attends still speaks serves who known kept wait idle =
-      attends-over a b (with_ticket t before) after attends still speaks serves who known
+  attends-back a b before after t attends still pins speaks serves who known kept wait idle =
+      attends-over a b (with_ticket t before) after attends still (pins-same (members.own a before.who) (members.own b before.who) pins) speaks serves who known
       (subst (ArePlaced before.known) (sym kept) (placed-front before.known before.kept (t ∷ []) attends.places))
       (awaited-idle before.known after.kept after.wait (ap is_some wait ∙ idle))
 
@@ -163,7 +184,7 @@ module _ {S : Type 0} {members : Ghosts S} where
         let o = members.own space context.who in
         let here = ap (λ n. owned.merging id n (ticket_held n o) o) (sym has.1) in
         let in_its = ap (λ m. with_kept_mode id (λ _. m) context.kept) (sym has.2) in
-        attends-one space b context after has.0 id (λ _. mode) has.4 still speaks
+        attends-one space b context after has.0 id (λ _. mode) has.4 still (ap (λ (own : SessionLocks). own.pins) merged ∙ pins-merged id new (ticket_held new o) o) speaks
         (serves-merged o context has.0 rising has.4.serves id (members.own b context.who) after (merged ∙ here) (kept ∙ in_its) wait) who known kept wait idle
 
     -- it is released
@@ -172,7 +193,7 @@ module _ {S : Type 0} {members : Ghosts S} where
         → is_some context.wait ≡ false → Attends members b after
     attends-parted b after still speaks gone who known kept wait idle =
         let o = members.own space context.who in
-        attends-back space b context after has.0 has.4 still speaks
+        attends-back space b context after has.0 has.4 still (ap (λ (own : SessionLocks). own.pins) gone) speaks
         (serves-released o context has.0 rising has.4.serves (members.own b context.who) after (gone ∙ ap (λ n. giving_up n o) (sym has.1)) kept wait) who known kept wait idle
 
 -- ---- over a call

@@ -15,7 +15,7 @@ use Rattle.mdl_key.specs.Modes.{kind_of}
 use Rattle.mdl_defs.specs.declared.versioned_definition.VersionedDefinition.{VersionedDefinition}
 use Rattle.mdl_calls.specs.declared.answers.Held.{Held}
 use Rattle.mdl_calls.specs.declared.answers.Settled.{Settled}
-use Rattle.mdl_calls.specs.SessionLocks.{SessionLocks, Wait, are_rising}
+use Rattle.mdl_calls.specs.SessionLocks.{SessionLocks, Wait, are_rising, is_pinned}
 use Rattle.mdl_system.specs.Strength.{covers}
 use Rattle.mdl_calls.specs.declared.lock_space.LockSpace.{Ghosts}
 use Rattle.mdl_context.specs.declared.kept.Kept.{Kept}
@@ -155,12 +155,13 @@ IsAwaited known kept wanted =
     (is_known_place known wanted.place ≡ true) × IfSome wanted.upgrades (λ id. MatchOption (ticket_kept id kept) ⊥ (IsUpgradedBy wanted))
 
 -- the lock space speaks for the context's session, and the context keeps what the session has there. The session knows each
--- place that the context knows, with its key. Each ticket is at one of these places, and so is the wait. The members are the
--- space's definitions of the trait `LockSpace`
+-- place that the context knows, with its key, and pins it. So the place keeps its key, and locks can be requested there. Each
+-- ticket is at one of these places, and so is the wait. The members are the space's definitions of the trait `LockSpace`
 pub record Attends {S : Type 0} (members : Ghosts S) (space : S) (context : ContextView) : Type 0 where
   pub speaks : members.speaks_for space context.who
   pub serves : Serves (members.own space context.who) context
   pub known : All (λ entry. members.knows space context.who entry.1 entry.0) context.known
+  pub pinned : All (λ entry. is_pinned entry.1 (members.own space context.who) ≡ true) context.known
   pub places : All (λ ticket. is_known_place context.known ticket.place ≡ true) context.kept
   pub wish : IfSome context.wait (IsAwaited context.known context.kept)
 

@@ -10,7 +10,8 @@ use Rattle.mdl_key.specs.Modes.{kind_of, is_mode_of}
 use Rattle.mdl_calls.specs.declared.answers.Held.{Held}
 use Rattle.mdl_calls.specs.declared.space_error.SpaceError.{SpaceError}
 use Rattle.mdl_calls.specs.declared.space_error.SpaceError.TheVariants.{NoPlace, OutOfMemory}
-use Rattle.mdl_calls.specs.Words.{SessionLocks, Answer, At_place, Resolve, pinning, Program, Give, Ask, Grow, ◌>>=◌}
+use Rattle.mdl_calls.specs.declared.lock_space.LockSpace.{Ghosts}
+use Rattle.mdl_calls.specs.Words.{Answer, At_place, Call, Refused, Resolve, pinning, Program, Give, Ask, Grow, ◌>>=◌}
 use Rattle.mdl_system.specs.Strength.{covers}
 use Rattle.mdl_context.specs.declared.asking.AskResult.{AskResult}
 use Rattle.mdl_context.specs.declared.asking.AskResult.TheVariants as got
@@ -163,6 +164,16 @@ trying_by_place place mode duration context =
 
 -- ---- the state afterwards
 
+-- a call was refused for want of a place
+abbrev pub IsNoPlace : {A : Type 0} → Result A ContextError → Type 0
+IsNoPlace result = result ≡ Err (Space NoPlace)
+
+-- a request is refused for want of a place only if the context doesn't know the key's place, and the space refused to give it one. Then
+-- that was the only call
+abbrev pub LacksPlaceOf : {S A : Type 0} → (S → Call → Answer → S → Type 0) → KeyName → ContextView → S → Result A ContextError → S → Type 0
+LacksPlaceOf joins key context before result after =
+    IsNoPlace result → (place_known key context.known ≡ None) × joins before (Resolve context.who key) (Refused NoPlace) after
+
 -- a context is unchanged, or has learnt the place of a key that it didn't know
 abbrev pub LearnsAtMost : KeyName → ContextView → ContextView → Type 0
 LearnsAtMost key before after =
@@ -174,9 +185,11 @@ WaitsAfter (Ok (Acquired id)) before after = after ≡ None
 WaitsAfter (Ok (MustWait number)) before after = IsSome after
 WaitsAfter (Err error) before after = after ≡ before
 
--- a session has what it had, and at most one more pin, of a place that it looked up
-abbrev pub PinsAtMost : SessionLocks → SessionLocks → Type 0
-PinsAtMost before after = (after ≡ before) ⊎ ((place : ℕ) × (after ≡ pinning place before))
+-- a session has what it had, and pins at most one more place, that of a key
+abbrev pub PinsAtMost : {S : Type 0} → Ghosts S → ℕ → KeyName → S → S → Type 0
+PinsAtMost members who key before after =
+    (members.own after who ≡ members.own before who)
+    ⊎ ((place : ℕ) × members.knows after who place key × (members.own after who ≡ pinning place (members.own before who)))
 
 -- a property holds, unless a ticket was acquired
 abbrev pub UnlessAcquired : Result Tried ContextError → Type 0 → Type 0

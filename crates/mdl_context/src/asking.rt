@@ -1,8 +1,8 @@
 //! Requests for locks in a lock space of any kind.
-ghost use Rattle.std.specs.Prelude.{◌≡◌, ℕ, Some, None, true};
+ghost use Rattle.std.specs.Prelude.{◌≡◌, ◌≢◌, ℕ, Some, None, true, IfErr, IsOkUnless};
 ghost use Rattle.std.specs.Option.{IfSome};
 ghost use Rattle.mdl_key.specs.Keys.{KeyName};
-ghost use Rattle.mdl_calls.specs.Words.{is_waiting, ticket_held, Runs};
+ghost use Rattle.mdl_calls.specs.Words.{is_pinned, is_waiting, ticket_held, Runs};
 ghost use Rattle.mdl_context.specs.Gains.{gaining_from, requesting_at, trying_from, waiting_at, waiting_on, own_got, own_tried, OwnWaited};
 
 use crate::Tried;
@@ -19,7 +19,7 @@ pub enum AskResult {
     Waits(u64, bool),
 }
 
-/// Gets a lock at a place, or begins to wait for it. If a ticket to clone is given, the session gets a clone of it.
+/// Gets a lock at a pinned place, or begins to wait for it. If a ticket to clone is given, the session gets a clone of it.
 #[inline(always)]
 pub(crate) fn gain<S: LockSpace>(
     space: &mut S,
@@ -30,11 +30,13 @@ pub(crate) fn gain<S: LockSpace>(
 ) -> Result<AskResult, SpaceError>
     requires speaks { S.speaks_for space.old who }
     requires idle { (S.own space.old who).wait ≡ None }
+    requires pinned { is_pinned place (S.own space.old who) ≡ true }
     requires held { IfSome ticket (λ held. (ticket_held held.id (S.own space.old who) ≡ Some held) × (held.place ≡ place)) }
     ensures run { Runs S.joins space.old (gaining_from ticket who place mode) result space.new }
     ensures speaks { S.speaks_for space.new who }
     ensures remembers { (at : ℕ) (key : KeyName) → S.knows space.old who at key → S.knows space.new who at key }
     ensures own { S.own space.new who ≡ own_got place mode result (S.own space.old who) }
+    ensures placed { IfErr result (λ refusal. refusal ≢ SpaceError.NoPlace) }
 {
     match ticket {
         Some(held) => match space.clone_ticket(who, held.id, mode) {
@@ -45,7 +47,7 @@ pub(crate) fn gain<S: LockSpace>(
     }
 }
 
-/// Gets a lock at a place if that needs no wait. If a ticket to clone is given, the session gets a clone of it.
+/// Gets a lock at a pinned place if that needs no wait. If a ticket to clone is given, the session gets a clone of it.
 pub(crate) fn try_gain<S: LockSpace>(
     space: &mut S,
     who: u16,
@@ -54,11 +56,13 @@ pub(crate) fn try_gain<S: LockSpace>(
     mode: Mode,
 ) -> Result<Tried, SpaceError>
     requires speaks { S.speaks_for space.old who }
+    requires pinned { is_pinned place (S.own space.old who) ≡ true }
     requires held { IfSome ticket (λ held. (ticket_held held.id (S.own space.old who) ≡ Some held) × (held.place ≡ place)) }
     ensures run { Runs S.joins space.old (trying_from ticket who place mode) result space.new }
     ensures speaks { S.speaks_for space.new who }
     ensures remembers { (at : ℕ) (key : KeyName) → S.knows space.old who at key → S.knows space.new who at key }
     ensures own { S.own space.new who ≡ own_tried place mode result (S.own space.old who) }
+    ensures placed { IfErr result (λ refusal. refusal ≢ SpaceError.NoPlace) }
 {
     match ticket {
         Some(held) => match space.clone_ticket(who, held.id, mode) {
@@ -77,10 +81,12 @@ fn try_ask<S: LockSpace>(
     mode: Mode,
 ) -> Result<Tried, SpaceError>
     requires speaks { S.speaks_for space.old who }
+    requires pinned { is_pinned place (S.own space.old who) ≡ true }
     ensures run { Runs S.joins space.old (trying_from None who place mode) result space.new }
     ensures speaks { S.speaks_for space.new who }
     ensures remembers { (at : ℕ) (key : KeyName) → S.knows space.old who at key → S.knows space.new who at key }
     ensures own { S.own space.new who ≡ own_tried place mode result (S.own space.old who) }
+    ensures placed { IfErr result (λ refusal. refusal ≢ SpaceError.NoPlace) }
 {
     match space.try_now(who, place, mode) {
         Ok(Attempt::Granted(id)) => Ok(Tried::Acquired(id)),
@@ -99,10 +105,12 @@ fn ask<S: LockSpace>(
 ) -> Result<AskResult, SpaceError>
     requires speaks { S.speaks_for space.old who }
     requires idle { (S.own space.old who).wait ≡ None }
+    requires pinned { is_pinned place (S.own space.old who) ≡ true }
     ensures run { Runs S.joins space.old (requesting_at who place mode) result space.new }
     ensures speaks { S.speaks_for space.new who }
     ensures remembers { (at : ℕ) (key : KeyName) → S.knows space.old who at key → S.knows space.new who at key }
     ensures own { S.own space.new who ≡ own_got place mode result (S.own space.old who) }
+    ensures placed { IfErr result (λ refusal. refusal ≢ SpaceError.NoPlace) }
 {
     match space.try_now(who, place, mode) {
         Ok(Attempt::Granted(id)) => Ok(AskResult::Granted(id)),
@@ -121,10 +129,12 @@ pub(crate) fn wait_at<S: LockSpace>(
 ) -> Result<AskResult, SpaceError>
     requires speaks { S.speaks_for space.old who }
     requires idle { (S.own space.old who).wait ≡ None }
+    requires pinned { is_pinned place (S.own space.old who) ≡ true }
     ensures run { Runs S.joins space.old (waiting_at who place mode) result space.new }
     ensures speaks { S.speaks_for space.new who }
     ensures remembers { (at : ℕ) (key : KeyName) → S.knows space.old who at key → S.knows space.new who at key }
     ensures own { S.own space.new who ≡ own_got place mode result (S.own space.old who) }
+    ensures placed { IfErr result (λ refusal. refusal ≢ SpaceError.NoPlace) }
 {
     match space.begin_wait(who, place, mode) {
         Ok(Begun::Granted(id)) => Ok(AskResult::Granted(id)),
@@ -141,6 +151,7 @@ fn wait_on<S: LockSpace>(space: &mut S, who: u16, number: u64) -> Result<AskResu
     ensures speaks { S.speaks_for space.new who }
     ensures remembers { (at : ℕ) (key : KeyName) → S.knows space.old who at key → S.knows space.new who at key }
     ensures own { OwnWaited number result (S.own space.old who) (S.own space.new who) }
+    ensures refused { IsOkUnless result SpaceError.OutOfMemory }
 {
     match seek(space, who) {
         Ok(searched) => Ok(AskResult::Waits(number, searched)),

@@ -39,6 +39,7 @@ pub(crate) fn release_all<S: LockSpace>(
     ensures known { holdings.new.known ≡ holdings.old.known }
     ensures waits { holdings.new.wait ≡ holdings.old.wait }
     ensures wait { (S.own space.new who).wait ≡ (S.own space.old who).wait }
+    ensures pins { (S.own space.new who).pins ≡ (S.own space.old who).pins }
 {
     release_newest(space, who, holdings, going);
     release_rest(space, who, holdings, going);
@@ -56,6 +57,7 @@ fn release_newest<S: LockSpace>(space: &mut S, who: u16, holdings: &mut Holdings
     ensures known { holdings.new.known ≡ holdings.old.known }
     ensures waits { holdings.new.wait ≡ holdings.old.wait }
     ensures wait { (S.own space.new who).wait ≡ (S.own space.old who).wait }
+    ensures pins { (S.own space.new who).pins ≡ (S.own space.old who).pins }
 {
     for at in (0..holdings.tickets().len()).rev() {
         let ticket = &holdings.tickets()[at];
@@ -80,6 +82,7 @@ fn release_rest<S: LockSpace>(space: &mut S, who: u16, holdings: &mut Holdings, 
     ensures known { holdings.new.known ≡ holdings.old.known }
     ensures waits { holdings.new.wait ≡ holdings.old.wait }
     ensures wait { (S.own space.new who).wait ≡ (S.own space.old who).wait }
+    ensures pins { (S.own space.new who).pins ≡ (S.own space.old who).pins }
 {
     let tickets = holdings.tickets();
     if tickets.is_empty() {

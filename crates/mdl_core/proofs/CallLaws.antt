@@ -1,5 +1,5 @@
 -- The laws of a lock space, of the space of one thread: what its calls do to the sessions, and what they tell them.
-use Rattle.std.proofs.Common.{◌≡◌, ℕ, ◌+◌, Bool, true, false, not, ◌&&◌, List, [], ◌∷◌, ◌++◌, length, Option, Some, None, MatchOption, IfSome, is_some, option_map, refl, sym, ap, subst, ◌∙◌, inl, inr, eq-eqb}
+use Rattle.std.proofs.Common.{◌≡◌, ◌⊎◌, ℕ, ◌+◌, Bool, true, false, not, ◌&&◌, List, [], ◌∷◌, ◌++◌, length, Option, Some, None, MatchOption, IfSome, is_some, option_map, refl, sym, ap, subst, ◌∙◌, inl, inr, eq-eqb}
 use Rattle.std.proofs.lemmas.Bool.{false≢true}
 use Rattle.std.proofs.lemmas.Bool.Decides.{eqb_tells}
 use Rattle.mdl_key.specs.Keys.{KeyName}
@@ -8,8 +8,8 @@ use Rattle.mdl_calls.specs.declared.answers.Held.{Held}
 use Rattle.mdl_calls.specs.declared.answers.Settled.{Settled}
 use Rattle.mdl_calls.specs.declared.answers.Settled.TheVariants as settled_as
 use Rattle.mdl_calls.specs.declared.answers.TimedOut.TheVariants.{ByThisCall, Already}
-use Rattle.mdl_calls.specs.declared.space_error.SpaceError.TheVariants.{OutOfMemory}
-use Rattle.mdl_calls.specs.Words.{Answer, Refused, Done, At_place, Would_wait, Upgraded, Is_settled, Timed_out, Has_wait, Has_killed, Victim_is, Key_is, Tables, Holds, is_answer_of, Call, Resolve, Search, Poll_wait, Settle_timeout, End_wait, Wait_of, Kill, Release, Upgrade_now, Downgrade, Change_definition, Key_of, Tables_of, List_held, Unpin, caller, takes_memory, AreTablesOf, IsCause, IsExplained, own_after, wait_number, is_waiting, IsRising, Draws, ticket_held, told, IsToldOf}
+use Rattle.mdl_calls.specs.declared.space_error.SpaceError.TheVariants.{InUse, OutOfMemory}
+use Rattle.mdl_calls.specs.Words.{Answer, Refused, Done, At_place, Would_wait, Upgraded, Is_settled, Timed_out, Has_wait, Has_killed, Victim_is, Key_is, Tables, Holds, is_answer_of, Call, Resolve, Search, Poll_wait, Settle_timeout, End_wait, Wait_of, Kill, Release, Upgrade_now, Downgrade, Change_definition, Key_of, Tables_of, List_held, Unpin, caller, takes_memory, AreTablesOf, IsCause, IsExplained, own_after, wait_number, is_waiting, IsRising, Draws, ticket_held, told, with_place, HoldsAt, AwaitsAt, IsToldOf}
 use Rattle.mdl_core.specs.declared.pending.Pending.{Pending}
 use Rattle.mdl_core.specs.Changes.{Change, Settle, seat_after, after_change, losing}
 use Rattle.mdl_core.specs.CoreCalls.{outcome, Makes, wait_at, is_open_wait}
@@ -17,8 +17,8 @@ use Rattle.mdl_core.specs.CoreJoins.{SpeaksFor, locks_at, numbers_at, Knows, IsS
 use Rattle.mdl_core.specs.CoreLaws.{CallsKeepSound, UpgradesWhatIsGrantable}
 use Rattle.mdl_book.specs.Books.{empty_book}
 use Rattle.mdl_book.specs.declared.book_view.BookView.{BookView}
-use Rattle.mdl_core.specs.Cores.{Core, seat_at, has_session, pinning, table_places}
-use Rattle.mdl_core.specs.Seats.{locks_of_seat, numbers_of_seat, with_pin}
+use Rattle.mdl_core.specs.Cores.{Core, seat_at, has_session, table_places}
+use Rattle.mdl_core.specs.Seats.{locks_of_seat, numbers_of_seat}
 use Rattle.mdl_core.specs.SessionLaws.{RefusesForCause}
 use Rattle.mdl_core.specs.Ties.{IsTied}
 use Rattle.mdl_system.specs.Words.{covers}
@@ -26,10 +26,10 @@ use Rattle.mdl_core.proofs.CallCases.{test_cases}
 use Rattle.mdl_core.proofs.ChangeTies.{tied-changing}
 use Rattle.mdl_core.proofs.CoreServing.{serves}
 use Rattle.mdl_core.proofs.KnownPlaces.{spares-opening}
-use Rattle.mdl_core.proofs.PinnedSeats.{has_session-pinning, pinned-same, pinned-other, pinned-bare}
+use Rattle.mdl_core.proofs.PinnedSeats.{repinned, repinning, has_session-repinning, repinned-same, repinned-other, repinned-bare}
 use Rattle.mdl_core.proofs.MadeCalls.{number-same, refused, made}
 use Rattle.mdl_core.proofs.SparedSeats.{IsSettledWait, HasSettled, settled-seat, seat-settled, wait-of_session, Spares, spares-same, is_end, own-settling, sessions-changed, seat-changed, seat-other, keys-changed, settled-changed, spares-changing}
-use Rattle.mdl_core.proofs.Ways.{HasAtOnce, HasNotAtOnce, Way, Stay, Pin, Open, Settle_wait, Make, makes_room, served_if, space_by, seat_by, IsSo, ServesCaller, IsMade, Made, Comes}
+use Rattle.mdl_core.proofs.Ways.{HasAtOnce, HasNotAtOnce, Way, Stay, Repin, Open, Settle_wait, Make, makes_room, served_if, space_by, seat_by, IsSo, ServesCaller, IsMade, Made, Comes}
 use Rattle.mdl_core.proofs.TableLists.{are-tables}
 
 -- ---- calls and what comes of them
@@ -56,7 +56,7 @@ memory-told a _ who takes = (tt, λ how. tt)
 
 -- whatever a call answers comes of it
 pub joins-comes : (a b : Core) (call : Call) (answer : Answer) → IsTied a → Joins a call answer b → Comes a call (answer, b)
-joins-comes a b call answer tied (speaks, has, makes) = by makes
+joins-comes a b call answer tied (speaks, makes) = by makes
   where
     sessions : (o : Option ℕ) → IfSome o (SpeaksFor a) → IfSome o (λ who. has_session who a ≡ true)
     sessions None speaks = tt
@@ -68,7 +68,7 @@ joins-comes a b call answer tied (speaks, has, makes) = by makes
         let told = memory-told a call who.0 takes in
         subst (λ r. Comes a call (r, b)) (sym out) (subst (λ c. Comes a call (Refused OutOfMemory, c)) (sym same)
         (refused a who.0 OutOfMemory who.1 told.0 (λ how has. told.1 how) tt))
-    by (inr e) = subst (Comes a call) e (made a tied call has (sessions (caller call) speaks))
+    by (inr e) = subst (Comes a call) e (made a tied call (sessions (caller call) speaks))
 
 -- ---- what a call leaves to the sessions
 
@@ -90,21 +90,21 @@ left-spared a call way same spares = record {
   settled = λ w how is apart has. (spares.seats w is).settled how has;
 }
 
--- a way by which the caller pins a place, whatever books there are then
-left-pinned : (a : Core) (call : Call) (way : Way) (who place : ℕ) (books : List BookView) → has_session who a ≡ true → caller call ≡ Some who
-    → ((w p : ℕ) (k : KeyName) → Knows a w p k → Knows (record a { books = books }) w p k) → ((w : ℕ) → seat_by way w a ≡ with_pin place (seat_at w a))
-    → IsLeft a call way (pinning who place (record a { books = books }))
-left-pinned a call way who place books session mine keys same = record {
-  sessions = has_session-pinning mid who place;
+-- a way by which the caller pins other places, whatever books there are then
+left-pinned : (a : Core) (call : Call) (way : Way) (who : ℕ) (pins : List ℕ) (books : List BookView) → has_session who a ≡ true → caller call ≡ Some who
+    → ((w p : ℕ) (k : KeyName) → Knows a w p k → Knows (record a { books = books }) w p k) → seat_by way who a ≡ repinned pins (seat_at who a)
+    → IsLeft a call way (repinning who pins (record a { books = books }))
+left-pinned a call way who pins books session mine keys same = record {
+  sessions = has_session-repinning mid who pins;
   keys = keys;
   own = λ w is called. (
       let own : who ≡ w = (let e = sym mine ∙ called in cc) in
-      let seat = subst (λ v. seat_at v (pinning who place mid) ≡ with_pin place (seat_at v a)) own (pinned-same mid who place session) ∙ sym (same w) in
+      let seat = subst (λ v. seat_at v (repinning who pins mid) ≡ seat_by way v a) own (repinned-same mid who pins session ∙ sym same) in
       (ap locks_of_seat seat, ap numbers_of_seat seat));
   others = λ w is other. (
-      let seat = pinned-other mid who place session w is (λ e. other (mine ∙ ap Some (sym e))) in
+      let seat = repinned-other mid who pins session w is (λ e. other (mine ∙ ap Some (sym e))) in
       (ap locks_of_seat seat, ap numbers_of_seat seat));
-  settled = λ w how is apart has. subst (λ s. HasSettled s how) (sym (pinned-bare mid who place session w)) has;
+  settled = λ w how is apart has. subst (λ s. HasSettled s how) (sym (repinned-bare mid who pins session w)) has;
 }
   where
     mid : Core
@@ -161,9 +161,11 @@ module _ (a : Core) (call : Call) (answer : Answer) (tied : IsTied a) where
   -- any way
   way-left : (way : Way) → Made a call answer way → IsLeft a call way (space_by way a)
   way-left Stay made = left-spared a call Stay (λ w. refl) (spares-same a)
-  way-left (Pin who place) made = left-pinned a call (Pin who place) who place a.books made.is_way.0.session made.is_way.0.mine (λ w p k knows. knows) (λ w. refl)
+  way-left (Repin who pins) made =
+      left-pinned a call (Repin who pins) who pins a.books made.is_way.0.session made.is_way.0.mine (λ w p k knows. knows) refl
   way-left (Open who key) made =
-      left-pinned a call (Open who key) who (length a.books + 1) (a.books ++ empty_book key ∷ []) made.is_way.0.session made.is_way.0.mine (spares-opening a key).keys (λ w. refl)
+      left-pinned a call (Open who key) who (with_place (length a.books + 1) (seat_at who a).pins) (a.books ++ empty_book key ∷ [])
+      made.is_way.0.session made.is_way.0.mine (spares-opening a key).keys refl
   way-left (Settle_wait who place how) made =
       left-spared a call (Settle_wait who place how) (λ w. refl)
       (spares-changing a who place (Settle how) made.is_way.may refl (own-settling how (seat_at who a)) refl)
@@ -253,11 +255,11 @@ core-rising a w speaks = (speaks.1.tied.numbered w speaks.0).rising
 
 -- an answer is one of its call's
 pub core-fits : (a b : Core) (call : Call) (answer : Answer) → Joins a call answer b → is_answer_of call answer ≡ true
-core-fits a b (Wait_of target) answer joins = elim joins.2 [
+core-fits a b (Wait_of target) answer joins = elim joins.1 [
   | inl out ↦ (let e = out.0 in cc)
   | inr e ↦ subst (λ (r : Answer × Core). is_answer_of (Wait_of target) r.0 ≡ true) e refl
 ]
-core-fits a b (Kill target number) answer joins = elim joins.2 [
+core-fits a b (Kill target number) answer joins = elim joins.1 [
   | inl out ↦ (let e = out.0 in cc)
   | inr e ↦ subst (λ (r : Answer × Core). is_answer_of (Kill target number) r.0 ≡ true) e
       (test_cases (λ (r : Answer × Core). is_answer_of (Kill target number) r.0 ≡ true) (is_open_wait number (wait_at target a))
@@ -270,7 +272,7 @@ pub core-explains : (a b : Core) (call : Call) (answer : Answer) (who : ℕ) →
     → IsExplained (Knows a who) call answer (locks_at a who)
 core-explains a b call answer who mine joins = (called a b call answer who mine joins).explained
 
--- no call is refused by a limit that isn't met
+-- no call is refused by a limit that isn't met, nor by a place that isn't in use
 pub refuses-caused : RefusesForCause
 refuses-caused a b (Wait_of target) refusal joins = let e = core-fits a b (Wait_of target) (Refused refusal) joins in cc
 refuses-caused a b (Kill target number) refusal joins = let e = core-fits a b (Kill target number) (Refused refusal) joins in cc
@@ -298,7 +300,7 @@ core-upgrades a b who id mode ticket its covered joins = false≢true (sym ((upg
 pub core-resolves : (a b : Core) (who place : ℕ) (key : KeyName) → Joins a (Resolve who key) (At_place place) b → Knows b who place key
 core-resolves a b who place key joins = (called a b (Resolve who key) (At_place place) who refl joins).so
 
--- whoever is told the key of a place knows it
+-- whoever is told the key of a place, and knows it, is told the key that it knows
 pub core-tells_key : (a b : Core) (who place : ℕ) (key other : KeyName) → Joins a (Key_of who place) (Key_is key) b → Knows a who place other → key ≡ other
 core-tells_key a b who place key other joins knows =
     let h = called a b (Key_of who place) (Key_is key) who refl joins in
@@ -312,10 +314,20 @@ core-tells_tables a b who schema places joins =
     subst (AreTablesOf (Knows b who) schema) (sym so.0)
     (subst (λ c. AreTablesOf (Knows c who) schema (table_places schema a)) (sym so.1) (are-tables a schema joins.0.1.tied who))
 
--- a place keeps its key, for all who know it
+-- a place keeps its key, for all who know it, whether they pin it or not
+pub core-keeps_keys : (a b : Core) (call : Call) (answer : Answer) (w place : ℕ) (key : KeyName) → SpeaksFor a w → Joins a call answer b
+    → Knows a w place key → Knows b w place key
+core-keeps_keys a b call answer w place key speaks joins = (joined a b call answer speaks.1.tied joins).left.keys w place key
+
+-- so it does unless its pin is given up
 pub core-remembers : (a b : Core) (call : Call) (answer : Answer) (w place : ℕ) (key : KeyName) → SpeaksFor a w
     → (call ≡ Unpin w place → answer ≡ Done → ⊥) → Joins a call answer b → Knows a w place key → Knows b w place key
-core-remembers a b call answer w place key speaks stays joins = (joined a b call answer speaks.1.tied joins).left.keys w place key
+core-remembers a b call answer w place key speaks stays joins = core-keeps_keys a b call answer w place key speaks joins
+
+-- a pin is kept for a ticket or a wait of its session
+pub core-unpins_in_use : (a b : Core) (who place : ℕ) → Joins a (Unpin who place) (Refused InUse) b
+    → HoldsAt place (locks_at a who) ⊎ AwaitsAt place (locks_at a who)
+core-unpins_in_use a b who place joins = refuses-caused a b (Unpin who place) InUse joins
 
 -- ---- waits
 

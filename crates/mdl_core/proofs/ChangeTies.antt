@@ -256,6 +256,7 @@ tied-changing core who place change tied may =
       granted_once = is.granted.apart;
       waiting_once = is.waiting.apart;
       numbered = is.seats.numbered;
+      pin = may.pin;
       pins = pins_after place change seat;
     }))
 

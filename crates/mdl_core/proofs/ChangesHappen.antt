@@ -21,6 +21,7 @@ use Rattle.mdl_core.specs.Ties.{in_book_of, IsTied}
 use Rattle.mdl_core.proofs.ChangeSeats.{wait_turned, merged_numbers, merged_mode}
 use Rattle.mdl_core.proofs.ChangeSystems.{waits_as, SystemMade, system-made, same-at}
 use Rattle.mdl_core.proofs.CoreGranted.{held-in, new_number}
+use Rattle.mdl_core.proofs.CoreReads.{ticket-key}
 use Rattle.mdl_core.proofs.CoreUnended.{own-unended}
 use Rattle.mdl_core.proofs.CoreWaiting.{no_wait}
 use Rattle.mdl_core.proofs.Effects.{InOrder, turned, through, either}
@@ -104,7 +105,7 @@ module _ (core : Core) (who place : ℕ) (tied : IsTied core) (session : has_ses
   -- a held ticket is in a mode of its lock's kind
   legal : (ticket : Held) → Contains seat.held ticket → is_mode_of (lock_kind (key_at ticket.place core)) ticket.mode ≡ true
   legal ticket held =
-      let there = tied.placed who ticket session (inl (inl held)) in
+      let there = ticket-key core who ticket tied session (inl (inl held)) in
       (tied.granted_by ticket.place there (in_book_of who ticket) ((tied.granted who ticket session there).1 (inl held))).1
 
   happens : (change : Change) (event : Event Redefinition) → Allows who place change seat (book_at place core) → Made change

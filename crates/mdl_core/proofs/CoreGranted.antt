@@ -17,7 +17,7 @@ use Rattle.mdl_core.specs.CoreSystems.{granted_in, book_found, book_of, waiter_i
 use Rattle.mdl_core.specs.Seats.{SeatView, ticket_of_wait}
 use Rattle.mdl_core.specs.Ties.{IsTied, HasRisingNumbers, HasGrantedTicket, in_book_of}
 use Rattle.mdl_system.proofs.BookLemmas.{grantable-by_lists}
-use Rattle.mdl_core.proofs.CoreReads.{within, of_within, found}
+use Rattle.mdl_core.proofs.CoreReads.{within, of_within, found, ticket-key}
 use Rattle.mdl_core.proofs.CoreUnended.{not_unended}
 use Rattle.mdl_core.proofs.CoreWaiting.{book-there, ticket_of-waiter}
 use Rattle.mdl_system.proofs.MemberLemmas.{Contains-none, Contains-map, Contains-map_from, Contains-flat_map, Contains-flat_map_from}
@@ -94,7 +94,7 @@ free-grantable core who place mode tied has =
 pub granted-of_held : (core : Core) (who : ℕ) (ticket : Held) → IsTied core → has_session who core ≡ true → Contains (seat_at who core).held ticket
     → Contains (system_of core).granted (holding_of who ticket core)
 granted-of_held core who ticket tied has held =
-    let there : has_key ticket.place core ≡ true = tied.placed who ticket has (inl (inl held)) in
+    let there = ticket-key core who ticket tied has (inl (inl held)) in
     granted-from_place core ticket.place (holding_of who ticket core) there refl ((tied.granted who ticket has there).1 (inl held))
 
 -- what a session has in hand it holds in the system

@@ -15,6 +15,7 @@ use Rattle.mdl_core.specs.Seats.{SeatView, ticket_of_wait}
 use Rattle.mdl_core.specs.SessionLaws.{HasWon, WaitsAt, HasWhatTheSystemSays, HasNothingInSystem}
 use Rattle.mdl_core.specs.Ties.{HasGrantedTicket, HasRisingNumbers, IsSoundCore}
 use Rattle.mdl_core.proofs.CoreGranted.{granted-place, granted-from_place}
+use Rattle.mdl_core.proofs.CoreReads.{ticket-key}
 use Rattle.mdl_core.proofs.CoreUnended.{unended-members}
 use Rattle.mdl_core.proofs.CoreWaiting.{place_told, book-there, book-nowhere}
 use Rattle.mdl_core.proofs.DeadlockWaits.{waiter-ticket}
@@ -164,7 +165,7 @@ module _ (core : Core) (sound : IsSoundCore core) where
       let mine : HasGrantedTicket (seat_at wait.session core) ticket =
       inr (subst (λ o. MatchOption o ⊥ (λ (p : Pending). (p.settled ≡ Some settled_as.Granted) × (ticket ≡ ticket_of_wait p))) (sym w.1) (w.2, refl)) in
       let own = ((unended-members core wait).0 among).0 in
-      let there = sound.tied.placed wait.session ticket own (inl mine) in
+      let there = ticket-key core wait.session ticket sound.tied own (inl mine) in
       let held = holding_of wait.session ticket core in
       (held, granted-from_place core w.0.place held there refl ((sound.tied.granted wait.session ticket own there).1 mine), refl, w.4)
 

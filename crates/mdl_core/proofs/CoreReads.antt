@@ -1,5 +1,5 @@
--- Books and seats after one of them was written, and the book of a key.
-use Rattle.std.proofs.Common.{◌≡◌, ◌≢◌, ℕ, suc, ◌+◌, ◌-◌, ◌<◌, ◌≤◌, ◌&&◌, Bool, true, false, inl, inr, List, length, Some, refl, ap, ◌∙◌, arith}
+-- Books and seats after one of them was written, the book of a key, and the key of a ticket's place.
+use Rattle.std.proofs.Common.{◌≡◌, ◌≢◌, ◌⊎◌, ℕ, suc, ◌+◌, ◌-◌, ◌<◌, ◌≤◌, ◌&&◌, Bool, true, false, inl, inr, List, length, Some, refl, ap, ◌∙◌, arith}
 use Rattle.std.specs.Prelude.{nat_le, position, slice_index_or}
 use Rattle.std.specs.List.{position_or_len}
 use Rattle.std.proofs.lemmas.Bool.Decides.{nat_tests}
@@ -10,8 +10,10 @@ use Rattle.mdl_system.proofs.Deciding.{key_told, key-Decides}
 use Rattle.mdl_key.specs.Keys.{KeyName, key_eq, global_key}
 use Rattle.mdl_book.specs.declared.book_view.BookView.{BookView}
 use Rattle.mdl_book.specs.Books.{empty_book}
+use Rattle.mdl_calls.specs.declared.answers.Held.{Held}
 use Rattle.mdl_core.specs.Cores.{Core, book_at, seat_at, key_at, has_key, has_session, index_of, booking, seating}
 use Rattle.mdl_core.specs.Seats.{SeatView, empty_seat}
+use Rattle.mdl_core.specs.Ties.{Awaits, HasGrantedTicket, IsTied}
 
 -- a number from 1 up to the most
 pub within : (n most : ℕ) → (nat_le 1 n && nat_le n most) ≡ true → (1 ≤ n) × (n ≤ most)
@@ -97,3 +99,10 @@ found core key index e =
       of_within (index + 1) (length core.books) (omega arith) (omega arith),
       ap (λ n. (slice_index_or core.books n (empty_book global_key)).key) here ∙ (key-Decides _ _).0 at.1,
     )
+
+-- ---- tickets
+
+-- the place of a session's ticket has a key, since the session pins it
+pub ticket-key : (core : Core) (who : ℕ) (ticket : Held) → IsTied core → has_session who core ≡ true
+    → HasGrantedTicket (seat_at who core) ticket ⊎ Awaits (seat_at who core) ticket → has_key ticket.place core ≡ true
+ticket-key core who ticket tied is has = tied.pinned who ticket.place is (tied.placed who ticket is has)

@@ -19,6 +19,7 @@ use Rattle.mdl_core.proofs.ChangesHappen.{change-happens}
 use Rattle.mdl_core.proofs.ChangeTies.{tied-changing, stands-changing}
 use Rattle.mdl_core.proofs.CoreGranted.{book_of-at, free-grantable}
 use Rattle.mdl_core.proofs.CoreWaiting.{ticket_of-waiter, waiter-found, unsettled-found}
+use Rattle.mdl_core.proofs.TiedWrites.{held_at, waiting-own}
 use Rattle.mdl_core.proofs.SparedSeats.{Spares, spares-same, spares-then, open_wait, own-settling, keys-changed, spares-changing}
 use Rattle.mdl_system.proofs.MemberLemmas.{Contains-map_from}
 use Rattle.mdl_system.proofs.RunLemmas.{same_system, Leads}
@@ -149,7 +150,13 @@ module _ (place : ℕ) (a : Core) (ticket : Ticket) (tied : IsTied a) (key : has
   may-next : May ticket.session place (Admit ticket) a
   may-next =
       let unsettled = and_parts _ _ (and_parts _ _ found.1).0 in
-      record { session = unsettled.0; key = key; allows = (found.0, refl, open_wait (seat_at ticket.session a).wait unsettled.1) }
+      record {
+        session = unsettled.0;
+        key = key;
+        pin = tied.placed ticket.session (held_at place ticket) unsettled.0
+            (inr (waiting-own a ticket.session place tied unsettled.0 key ticket refl found.0));
+        allows = (found.0, refl, open_wait (seat_at ticket.session a).wait unsettled.1);
+      }
 
   next-tied : IsTied next
   next-tied = tied-changing a ticket.session place (Admit ticket) tied may-next

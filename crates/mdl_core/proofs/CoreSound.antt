@@ -10,13 +10,13 @@ use Rattle.mdl_defs.specs.declared.change.Change.{Change as Redefinition}
 use Rattle.mdl_defs.specs.declared.definition.Definition.{Definition}
 use Rattle.mdl_book.specs.Books.{empty_book}
 use Rattle.mdl_calls.specs.declared.answers.Held.{Held}
-use Rattle.mdl_calls.specs.Words.{Answer, Granted, Would_wait, Waits, Call, Try_now, Begin_wait}
+use Rattle.mdl_calls.specs.Words.{Answer, Granted, Would_wait, Waits, Call, Try_now, Begin_wait, with_place}
 use Rattle.mdl_system.specs.Words.{IsAbout, FreesNothing, Event, Grant, Happens, SameSystem, GrantsNew, System, empty_system, IsGrantable, IsLawful, NoneForgotten, lock_kind, may_upgrade, may_downgrade}
 use Rattle.mdl_core.specs.ChangeEvents.{IsChangeEvent}
 use Rattle.mdl_core.specs.Changes.{Change, Gain, Lose, Queue, Admit, Settle, Leave, Take_up, Alter, Fold, Redefine, May, after_change, opening}
 use Rattle.mdl_core.specs.CoreJoins.{Joins}
 use Rattle.mdl_core.specs.CoreLaws.{is_change, IsEventOf, CallsAreEvents, CallsKeepSound, GrantsWhatIsGrantable, GrantsInOrder, CallsLeadByEvents, Joined}
-use Rattle.mdl_core.specs.Cores.{Core, empty_core, key_at, has_key, index_of, pinning}
+use Rattle.mdl_core.specs.Cores.{Core, empty_core, seat_at, key_at, has_key, index_of}
 use Rattle.mdl_core.specs.CoreSystems.{applies, system_of, granted_in, unended_from}
 use Rattle.mdl_core.specs.Seats.{empty_seat}
 use Rattle.mdl_core.specs.Ties.{in_book_of, IsTied, IsSoundCore, AllMayStand}
@@ -25,10 +25,10 @@ use Rattle.mdl_core.proofs.ChangesHappen.{change-happens}
 use Rattle.mdl_core.proofs.ChangeTies.{tied-changing, stands-changing}
 use Rattle.mdl_core.proofs.CoreServing.{serves}
 use Rattle.mdl_core.proofs.KnownPlaces.{new-known}
-use Rattle.mdl_core.proofs.PinnedSeats.{tied-pinning, system-pinning}
+use Rattle.mdl_core.proofs.PinnedSeats.{repinning, system-repinning, tied-repinning, may-pin}
 use Rattle.mdl_core.proofs.SparedSeats.{keys-changed}
 use Rattle.mdl_core.proofs.TiedOpening.{tied-empty, stands-empty, opened, stands-opened, system-opened}
-use Rattle.mdl_core.proofs.Ways.{Way, Stay, Pin, Open, Settle_wait, Make, makes_room, served_if, space_by, IsMade, Made}
+use Rattle.mdl_core.proofs.Ways.{Way, Stay, Repin, Open, Settle_wait, Make, makes_room, served_if, space_by, IsMade, Made}
 use Rattle.mdl_system.proofs.ConcernLemmas.{step-forgets, granting-there}
 use Rattle.mdl_system.proofs.LawfulLemmas.{empty-lawful, step-lawful, run-lawful}
 use Rattle.mdl_system.proofs.StrengthLemmas.{covers-at_least, upgrade-raises}
@@ -163,16 +163,18 @@ module _ (a : Core) (call : Call) (answer : Answer) (sound : IsSoundCore a) wher
   -- any way
   follows-way : (way : Way) → Made a call answer way → Follows a call answer (space_by way a)
   follows-way Stay made = follows-calm a sound.tied sound.standing refl made.is_way
-  follows-way (Pin who place) made =
-      follows-calm (pinning who place a) (tied-pinning a who place made.is_way.0.session sound.tied made.is_way.1) sound.standing
-      (sym (system-pinning a who place made.is_way.0.session)) made.is_way.0.calm
+  follows-way (Repin who pins) made =
+      follows-calm (repinning who pins a) (tied-repinning a who pins made.is_way.0.session sound.tied made.is_way.1) sound.standing
+      (sym (system-repinning a who pins made.is_way.0.session)) made.is_way.0.calm
   follows-way (Open who key) made =
       let place = length a.books + 1 in
       let session = made.is_way.0.session in
-      follows-calm (pinning who place (opening key a))
-      (tied-pinning (opening key a) who place session (opened key a sound.tied made.is_way.1) (new-known a key who).0)
+      let pins = with_place place (seat_at who a).pins in
+      let tied = opened key a sound.tied made.is_way.1 in
+      follows-calm (repinning who pins (opening key a))
+      (tied-repinning (opening key a) who pins session tied (may-pin (opening key a) who place tied session (new-known a key who).0))
       (stands-opened key a sound.tied made.is_way.1 sound.standing)
-      (opening-same a key sound.tied made.is_way.1 ∙ sym (system-pinning (opening key a) who place session)) made.is_way.0.calm
+      (opening-same a key sound.tied made.is_way.1 ∙ sym (system-repinning (opening key a) who pins session)) made.is_way.0.calm
   follows-way (Settle_wait who place how) made = follows-made who place (Settle how) made.is_way
   follows-way (Make who place change) made = follows-made who place change made.is_way.0
 

@@ -21,7 +21,7 @@ use Rattle.mdl_core.specs.SessionLaws.{HoldsBy, ReadsTellWhatStands, ChangesTell
 use Rattle.mdl_core.specs.Ties.{IsTied}
 use Rattle.mdl_core.proofs.CallCases.{exclusive-is}
 use Rattle.mdl_core.proofs.CoreGranted.{book_of-at, held-in}
-use Rattle.mdl_core.proofs.CoreReads.{has_key-booking, booked-same}
+use Rattle.mdl_core.proofs.CoreReads.{has_key-booking, booked-same, ticket-key}
 use Rattle.mdl_core.proofs.CoreServing.{found-first}
 use Rattle.mdl_core.proofs.CoreSound.{calls_keep-sound}
 use Rattle.mdl_core.proofs.CoreWaiting.{book-there}
@@ -39,7 +39,7 @@ module _ (a : Core) (who id : ℕ) (ticket : Held) (tied : IsTied a) (session : 
 
   -- and its place has a key
   pub held-place : has_key ticket.place a ≡ true
-  held-place = tied.placed who ticket session (inl (inl among))
+  held-place = ticket-key a who ticket tied session (inl (inl among))
 
 -- ---- reads
 
@@ -63,16 +63,16 @@ reads-tell a b who id = (tells, leaves)
   where
     tells : (version : ℕ) (definition : Option Definition) → Joins a (Read_definition who id) (Reads version definition) b
         → (ticket : Holding) × HoldsBy a who id ticket × ((system_of a).definitions ticket.key ≡ record { version = version; definition = definition })
-    tells version definition (speaks, has, inl none) = let e = none.1 in cc
-    tells version definition (speaks, has, inr made) =
+    tells version definition (speaks, inl none) = let e = none.1 in cc
+    tells version definition (speaks, inr made) =
         let h = read-of (held_ticket who id a) a b version definition made in
         let tied = speaks.1.tied in
         let key : has_key (h.0).place a ≡ true = held-place a who id h.0 tied speaks.0 h.1 in
         (holding_of who h.0 a, holds-by a who id h.0 tied speaks.0 h.1, ap defined_in (book_of-at a (h.0).place tied key) ∙ h.2)
 
     leaves : (answer : Answer) → Joins a (Read_definition who id) answer b → b ≡ a
-    leaves answer (speaks, has, inl none) = none.2
-    leaves answer (speaks, has, inr made) = read-leaves (held_ticket who id a) a b answer made
+    leaves answer (speaks, inl none) = none.2
+    leaves answer (speaks, inr made) = read-leaves (held_ticket who id a) a b answer made
 
 -- ---- changes
 
@@ -130,11 +130,11 @@ changes-tell a b who id change = (tells, refused)
   where
     tells : (version : ℕ) → Joins a (Change_definition who id change) (Changed version) b
         → (ticket : Holding) × HoldsBy a who id ticket × (ticket.mode ≡ X) × (((system_of b).definitions ticket.key).version ≡ version)
-    tells version (speaks, has, inl none) = let e = none.1 in cc
-    tells version (speaks, has, inr made) =
+    tells version (speaks, inl none) = let e = none.1 in cc
+    tells version (speaks, inr made) =
         let h = redefined-of (held_ticket who id a) change a b version made in
         let tied = speaks.1.tied in
-        let after = (calls_keep-sound a b (Change_definition who id change) (Changed version) speaks.1 (speaks, has, inr made)).tied in
+        let after = (calls_keep-sound a b (Change_definition who id change) (Changed version) speaks.1 (speaks, inr made)).tied in
         let key = held-place a who id h.ticket tied speaks.0 h.held in (
           holding_of who h.ticket a,
           holds-by a who id h.ticket tied speaks.0 h.held,
@@ -143,5 +143,5 @@ changes-tell a b who id change = (tells, refused)
         )
 
     refused : (refusal : SpaceError) → Joins a (Change_definition who id change) (Refused refusal) b → b ≡ a
-    refused refusal (speaks, has, inl none) = none.2
-    refused refusal (speaks, has, inr made) = refused-of (held_ticket who id a) change a b refusal made
+    refused refusal (speaks, inl none) = none.2
+    refused refusal (speaks, inr made) = refused-of (held_ticket who id a) change a b refusal made

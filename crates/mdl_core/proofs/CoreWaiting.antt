@@ -15,7 +15,7 @@ use Rattle.mdl_core.specs.Changes.{has_unsettled_wait}
 use Rattle.mdl_core.specs.Seats.{SeatView, is_unsettled_wait, ticket_of_wait}
 use Rattle.mdl_system.specs.Systems.{Unsettled, Waiter, GrantedWait, HasNoWait}
 use Rattle.mdl_core.specs.Ties.{Awaits, in_book_of, IsTied}
-use Rattle.mdl_core.proofs.CoreReads.{within, found-at, found}
+use Rattle.mdl_core.proofs.CoreReads.{within, found-at, found, ticket-key}
 use Rattle.mdl_core.proofs.CoreUnended.{own-unended, granted_of}
 use Rattle.mdl_system.proofs.MemberLemmas.{Contains-map_from}
 
@@ -97,7 +97,7 @@ pub place_of_wait : (core : Core) (who : ℕ) (wait : Pending) → IsTied core �
 place_of_wait core who wait tied has is other =
     let waits : Awaits (seat_at who core) (ticket_of_wait wait) =
     subst (λ o. MatchOption o ⊥ (λ (w : Pending). (w.settled ≢ Some settled_as.Granted) × (ticket_of_wait wait ≡ ticket_of_wait w))) (sym is) (other, refl) in
-    let key = tied.placed who (ticket_of_wait wait) has (inr waits) in
+    let key = ticket-key core who (ticket_of_wait wait) tied has (inr waits) in
     (key, (tied.waiting who (ticket_of_wait wait) has key).1 waits)
 
 -- a session with no wait has no waiting ticket

@@ -16,15 +16,15 @@ use Rattle.mdl_calls.specs.declared.answers.Held.{Held}
 use Rattle.mdl_calls.specs.declared.answers.Settled.{Settled}
 use Rattle.mdl_calls.specs.declared.answers.Settled.TheVariants as settled_as
 use Rattle.mdl_calls.specs.declared.space_error.SpaceError.TheVariants.{NotHeld, NotUpgradable, NotExclusive, AlreadyWaiting, BadMode, VersionFull, CounterFull, Def, WrongKind}
-use Rattle.mdl_calls.specs.Words.{Answer, Refused, Done, Would_wait, No_cycle, Victim_is, Has_wait, Has_killed, Changed, Upgraded, finds_no_memory, Call, Resolve, Try_now, Begin_wait, Search, Poll_wait, Settle_timeout, End_wait, Wait_of, Kill, Release, Clone_ticket, Upgrade_now, Merge, Downgrade, Read_definition, Read_kept, Change_definition, Key_of, Tables_of, List_held, caller, may_merge}
+use Rattle.mdl_calls.specs.Words.{Answer, Refused, Done, Would_wait, No_cycle, Victim_is, Has_wait, Has_killed, Changed, Upgraded, finds_no_memory, Call, Resolve, Try_now, Begin_wait, Search, Poll_wait, Settle_timeout, End_wait, Wait_of, Kill, Release, Clone_ticket, Upgrade_now, Merge, Downgrade, Read_definition, Read_kept, Change_definition, Key_of, Tables_of, List_held, Unpin, caller, may_merge}
 use Rattle.mdl_core.specs.declared.pending.Pending.{Pending}
 use Rattle.mdl_core.specs.ChangeEvents.{holding_of}
-use Rattle.mdl_core.specs.CoreCalls.{has_call, outcome, refused_or, first_cause, request_causes, clone_causes, granted_unless_full, queued_unless_full, cloning_of, upgrade_causes, upgraded_if_free, upgrading_of, is_lower, downgrading_of, merge_causes, merging_of, held_ticket, releasing_of, poll_answer, polling_of, timing_out_at, timing_out_of, ending_at, ending_of, wait_at, is_open_wait, wait_of_outcome, kill_outcome, searching_of, search_deadlock_outcome, victim_at, reading_of, redefining_of, redefining_fault, redefined_unless}
+use Rattle.mdl_core.specs.CoreCalls.{outcome, refused_or, first_cause, request_causes, clone_causes, granted_unless_full, queued_unless_full, cloning_of, upgrade_causes, upgraded_if_free, upgrading_of, is_lower, downgrading_of, merge_causes, merging_of, held_ticket, releasing_of, poll_answer, polling_of, timing_out_at, timing_out_of, ending_at, ending_of, wait_at, is_open_wait, wait_of_outcome, kill_outcome, searching_of, search_deadlock_outcome, victim_at, reading_of, redefining_of, redefining_fault, redefined_unless}
 use Rattle.mdl_core.specs.CoreJoins.{SpeaksFor, numbers_at}
 use Rattle.mdl_core.specs.Cores.{Core, book_at, seat_at, key_at, standing_at, has_key, has_session, is_free_for}
 use Rattle.mdl_core.specs.Changes.{altering, folding, serving}
 use Rattle.mdl_core.specs.CoreSystems.{defined_in, system_of}
-use Rattle.mdl_core.specs.Determined.{Right, Only, Where, RefusedUnless, places_of, ToAsk, ToGrant, ToClone, ToUpgrade, ToDowngrade, ToMerge, ToRead, ToChange, OfHolding, OfWait, to_poll, to_time_out, to_end, ToSearch, Determines, AnswersAreDetermined}
+use Rattle.mdl_core.specs.Determined.{Right, Only, Where, RefusedUnless, places_of, pins_at, ToAsk, ToGrant, ToClone, ToUpgrade, ToDowngrade, ToMerge, ToRead, ToChange, OfHolding, OfWait, to_poll, to_time_out, to_end, ToSearch, Determines, AnswersAreDetermined}
 use Rattle.mdl_core.specs.SessionLaws.{HasWhatTheSystemSays, WaitsSomewhere}
 use Rattle.mdl_core.specs.Ties.{IsTied, IsSoundCore}
 use Rattle.mdl_system.specs.Words.{Holding, HasNoWait, IsGrantable, IsChosenDeadlock, IsVictimOf, covers}
@@ -33,7 +33,7 @@ use Rattle.mdl_core.proofs.ChangeSeats.{merged_numbers, merged_place, merged_mod
 use Rattle.mdl_core.proofs.CoreGranted.{book_of-at, free-grantable}
 use Rattle.mdl_core.proofs.CoreStandings.{held-place}
 use Rattle.mdl_core.proofs.MadeCalls.{killed_wait}
-use Rattle.mdl_core.proofs.PlaceAnswers.{at-place, at-nowhere, names, resolves, grants, queues}
+use Rattle.mdl_core.proofs.PlaceAnswers.{pin-listed, pin-unlisted, at-pin, not-pinned, names, resolves, grants, queues}
 use Rattle.mdl_core.proofs.RightAnswers.{IsAnswer, only, where-so, where-not, met, unmet}
 use Rattle.mdl_core.proofs.SearchRuns.{nothing-found, victim-found}
 use Rattle.mdl_core.proofs.SessionAnswers.{without-wait, of-wait, of-ticket, no-ticket, lists}
@@ -41,6 +41,7 @@ use Rattle.mdl_core.proofs.TableLists.{tells-tables}
 use Rattle.mdl_core.proofs.SessionHas.{sessions-have, waits-somewhere}
 use Rattle.mdl_core.proofs.SessionWaits.{found-open}
 use Rattle.mdl_core.proofs.SparedSeats.{wait-of_session}
+use Rattle.mdl_core.proofs.UnpinAnswers.{unpins}
 
 -- a limit that is met, and one that isn't
 at_limit : (m n : ℕ) → nat_le m n ≡ true → n < m → ⊥
@@ -155,25 +156,28 @@ module _ (a : Core) (who : ℕ) (sound : IsSoundCore a) (has : has_session who a
   -- a lock is asked for
   asks : (place : ℕ) (mode : Mode) (Otherwise : KeyName → Right) (otherwise : Answer × Core)
       → (has_key place a ≡ true → IsAnswer (Otherwise (key_at place a)) otherwise.0)
-      → IsAnswer (ToAsk (system_of a) (places_of a) (numbers_at a who) who place mode Otherwise)
+      → IsAnswer (ToAsk (system_of a) (places_of a) (pins_at a who) (numbers_at a who) who place mode Otherwise)
       (refused_or (first_cause (request_causes who place mode a)) a (if not (is_free_for who place mode a) then otherwise else granted_unless_full who place mode a)).0
   asks place mode Otherwise otherwise other =
-      cause_cases (λ (r : Answer × Core). IsAnswer (ToAsk (system_of a) (places_of a) (numbers_at a who) who place mode Otherwise) r.0) a
+      cause_cases (λ (r : Answer × Core). IsAnswer (ToAsk (system_of a) (places_of a) (pins_at a who) (numbers_at a who) who place mode Otherwise) r.0) a
       (if not (is_free_for who place mode a) then otherwise else granted_unless_full who place mode a) (request_causes who place mode a) (
-        (λ absent. at-nowhere a place _ (not_true _ absent)),
-        λ there. (let key : has_key place a ≡ true = not_false _ there in (
-          (λ waits. at-place a place _ _ key (unmet _ AlreadyWaiting _ (waiting-so waits))),
-          λ idle. (
-            (λ unfit. at-place a place _ _ key (met _ AlreadyWaiting _ _ (idle-so idle) (unmet _ BadMode _ (not-so _ unfit)))),
-            λ fits. (
-              (λ out. at-place a place _ _ key (met _ AlreadyWaiting _ _ (idle-so idle)
-                  (met _ BadMode _ _ (not_false _ fits) (unmet _ CounterFull _ (at_limit _ _ out))))),
-              λ some. at-place a place _ _ key (met _ AlreadyWaiting _ _ (idle-so idle)
-                  (met _ BadMode _ _ (not_false _ fits) (met _ CounterFull _ _ (below_limit _ _ some)
-                  (granted-or place mode Otherwise otherwise key (other key))))),
-            ),
-          ),
-        )),
+        (λ absent. not-pinned a (pins_at a who) place _ (pin-unlisted a who place (not_true _ absent))),
+        λ there. (
+            let pin = not_false _ there in
+            let among = pin-listed a who place pin in
+            let key = sound.tied.pinned who place has pin in (
+              (λ waits. at-pin a (pins_at a who) place _ _ among key (unmet _ AlreadyWaiting _ (waiting-so waits))),
+              λ idle. (
+                (λ unfit. at-pin a (pins_at a who) place _ _ among key (met _ AlreadyWaiting _ _ (idle-so idle) (unmet _ BadMode _ (not-so _ unfit)))),
+                λ fits. (
+                  (λ out. at-pin a (pins_at a who) place _ _ among key (met _ AlreadyWaiting _ _ (idle-so idle)
+                      (met _ BadMode _ _ (not_false _ fits) (unmet _ CounterFull _ (at_limit _ _ out))))),
+                  λ some. at-pin a (pins_at a who) place _ _ among key (met _ AlreadyWaiting _ _ (idle-so idle)
+                      (met _ BadMode _ _ (not_false _ fits) (met _ CounterFull _ _ (below_limit _ _ some)
+                      (granted-or place mode Otherwise otherwise key (other key))))),
+                ),
+              ),
+            )),
       )
 
   -- a second ticket is asked for beside a held one
@@ -322,43 +326,43 @@ kills a target number sound =
 
 -- ---- all calls
 
-determined : (a : Core) (call : Call) → IsSoundCore a → IfSome (caller call) (SpeaksFor a) → has_call call ≡ true
-    → IsAnswer (Determines (system_of a) (places_of a) (numbers_at a) call) (outcome call a).0
-determined a (Resolve who key) sound speaks has = resolves a sound.tied who key
-determined a (Try_now who place mode) sound speaks has = asks a who sound speaks.0 place mode _ (Would_wait, a) (λ key. only Would_wait)
-determined a (Begin_wait who place mode) sound speaks has =
+determined : (a : Core) (call : Call) → IsSoundCore a → IfSome (caller call) (SpeaksFor a)
+    → IsAnswer (Determines (system_of a) (places_of a) (pins_at a) (numbers_at a) call) (outcome call a).0
+determined a (Resolve who key) sound speaks = resolves a sound.tied who key
+determined a (Try_now who place mode) sound speaks = asks a who sound speaks.0 place mode _ (Would_wait, a) (λ key. only Would_wait)
+determined a (Begin_wait who place mode) sound speaks =
     asks a who sound speaks.0 place mode _ (queued_unless_full who place mode a) (λ key. queues a sound.tied place key who mode)
-determined a (Search who) sound speaks has = searches a who sound.tied
-determined a (Poll_wait who) sound speaks has =
+determined a (Search who) sound speaks = searches a who sound.tied
+determined a (Poll_wait who) sound speaks =
     by-wait a who sound speaks.0 _ _ (λ o. polling_of o a) (only _) (λ wait. subst (IsAnswer _) (sym (poll-same wait.settled)) (only _))
-determined a (Settle_timeout who) sound speaks has =
+determined a (Settle_timeout who) sound speaks =
     by-wait a who sound speaks.0 _ _ (λ o. timing_out_of who o a) (only _) (λ wait. subst (IsAnswer _) (sym (time_out-same a who wait.settled)) (only _))
-determined a (End_wait who) sound speaks has =
+determined a (End_wait who) sound speaks =
     by-wait a who sound speaks.0 _ _ (λ o. ending_of who o a) (only _) (λ wait. subst (IsAnswer _) (sym (end-same a who wait wait.settled)) (only _))
-determined a (Wait_of target) sound speaks has = looks a target sound
-determined a (Kill target number) sound speaks has = kills a target number sound
-determined a (Release who id) sound speaks has = by-ticket a who sound speaks.0 id _ (λ o. releasing_of who o a) refl (λ ticket key. only Done)
-determined a (Clone_ticket who id mode) sound speaks has =
+determined a (Wait_of target) sound speaks = looks a target sound
+determined a (Kill target number) sound speaks = kills a target number sound
+determined a (Release who id) sound speaks = by-ticket a who sound speaks.0 id _ (λ o. releasing_of who o a) refl (λ ticket key. only Done)
+determined a (Clone_ticket who id mode) sound speaks =
     by-ticket a who sound speaks.0 id _ (λ o. cloning_of who mode o a) refl (λ ticket key. clones a who sound speaks.0 ticket mode key)
-determined a (Upgrade_now who id mode) sound speaks has =
+determined a (Upgrade_now who id mode) sound speaks =
     by-ticket a who sound speaks.0 id _ (λ o. upgrading_of who mode o a) refl (upgrades a who sound speaks.0 mode)
-determined a (Merge who old new) sound speaks has =
+determined a (Merge who old new) sound speaks =
     by-ticket a who sound speaks.0 old (λ kept. OfHolding (system_of a) who new (ToMerge (system_of a) who kept)) (λ o. merging_of who o (held_ticket who new a) a) refl
     (λ kept here. by-ticket a who sound speaks.0 new _ (λ o. merging_of who (Some kept) o a) refl (λ gone there. merges a who sound speaks.0 kept gone here there))
-determined a (Downgrade who id mode) sound speaks has =
+determined a (Downgrade who id mode) sound speaks =
     by-ticket a who sound speaks.0 id _ (λ o. downgrading_of who mode o a) refl (λ ticket key. downgrades_to a who sound speaks.0 mode ticket)
-determined a (Read_definition who id) sound speaks has =
+determined a (Read_definition who id) sound speaks =
     by-ticket a who sound speaks.0 id _ (λ o. reading_of o a) refl (reads a who sound speaks.0)
-determined a (Read_kept who id) sound speaks has =
+determined a (Read_kept who id) sound speaks =
     by-ticket a who sound speaks.0 id _ (λ o. reading_of o a) refl (reads a who sound speaks.0)
-determined a (Change_definition who id change) sound speaks has =
+determined a (Change_definition who id change) sound speaks =
     by-ticket a who sound speaks.0 id _ (λ o. redefining_of o change a) refl (redefines a who sound speaks.0 change)
-determined a (Key_of who place) sound speaks has = names a place
-determined a (Tables_of who schema) sound speaks has = tells-tables a schema sound.tied
-determined a (List_held who) sound speaks has = lists a who sound.tied speaks.0 ((sessions-have a who sound).0 speaks.0)
-determined a _ sound speaks has = cc
+determined a (Key_of who place) sound speaks = names a place
+determined a (Tables_of who schema) sound speaks = tells-tables a schema sound.tied
+determined a (List_held who) sound speaks = lists a who sound.tied speaks.0 ((sessions-have a who sound).0 speaks.0)
+determined a (Unpin who place) sound speaks = unpins a who place sound.tied speaks.0
 
 pub answers-determined : AnswersAreDetermined
-answers-determined a b call answer other sound (speaks, has, inl out) memory = absurd (false≢true (sym memory ∙ ap finds_no_memory out.1))
-answers-determined a b call answer other sound (speaks, has, inr made) memory =
-    subst (λ (r : Answer × Core). IsAnswer (Determines (system_of a) (places_of a) (numbers_at a) call) r.0) made (determined a call sound speaks has) other
+answers-determined a b call answer other sound (speaks, inl out) memory = absurd (false≢true (sym memory ∙ ap finds_no_memory out.1))
+answers-determined a b call answer other sound (speaks, inr made) memory =
+    subst (λ (r : Answer × Core). IsAnswer (Determines (system_of a) (places_of a) (pins_at a) (numbers_at a) call) r.0) made (determined a call sound speaks) other

@@ -1,5 +1,5 @@
--- Which keys are at which places in the space of one thread, and who knows them.
-use Rattle.std.proofs.Common.{◌≡◌, ◌≢◌, ◌⊎◌, ℕ, ◌+◌, ◌-◌, ◌<◌, ◌≤◌, Bool, true, false, List, [], ◌∷◌, ◌++◌, length, position, get_or, Option, Some, None, option_map, MatchOption, Contains, inl, inr, refl, sym, ap, subst, ◌∙◌, arith}
+-- Which keys are at which places in the space of one thread, and who knows and pins them.
+use Rattle.std.proofs.Common.{◌≡◌, ℕ, ◌+◌, ◌-◌, ◌<◌, ◌≤◌, Bool, true, false, List, [], ◌∷◌, ◌++◌, length, position, get_or, Option, Some, None, option_map, Contains, inl, refl, sym, ap, subst, ◌∙◌, arith}
 use Rattle.std.specs.List.{position_or_len}
 use Rattle.std.proofs.lemmas.Bool.Decides.{nat_tests}
 use Rattle.std.proofs.lemmas.Grind.{common_steps}
@@ -10,16 +10,15 @@ use Rattle.mdl_book.specs.Books.{empty_book}
 use Rattle.mdl_book.specs.declared.book_view.BookView.{BookView}
 use Rattle.mdl_key.specs.Keys.{KeyName, global_key, key_eq}
 use Rattle.mdl_calls.specs.declared.answers.Held.{Held}
-use Rattle.mdl_calls.specs.declared.answers.Settled.{Settled}
-use Rattle.mdl_calls.specs.declared.answers.Settled.TheVariants as settled_as
-use Rattle.mdl_calls.specs.SessionLocks.{Wait}
+use Rattle.mdl_calls.specs.SessionLocks.{Wait, are_rising_places, is_pinned}
 use Rattle.mdl_core.specs.declared.pending.Pending.{Pending}
 use Rattle.mdl_core.specs.Changes.{opening}
 use Rattle.mdl_core.specs.CoreJoins.{SpeaksFor, locks_at, Knows}
-use Rattle.mdl_core.specs.Cores.{Core, seat_at, key_at, has_key, has_session, index_of}
-use Rattle.mdl_core.specs.Seats.{SeatView, ticket_of_wait}
-use Rattle.mdl_core.specs.Ties.{IsTied, HasGrantedTicket, Awaits}
+use Rattle.mdl_core.specs.Cores.{Core, seat_at, key_at, has_key, has_pin, has_session, index_of}
+use Rattle.mdl_core.specs.Seats.{ticket_of_wait}
+use Rattle.mdl_core.specs.Ties.{IsTied}
 use Rattle.mdl_core.proofs.CoreReads.{within}
+use Rattle.mdl_core.proofs.NeededPlaces.{waits-ticket}
 use Rattle.mdl_core.proofs.SparedSeats.{Spares, as_wait}
 use Rattle.mdl_system.proofs.Deciding.{key-Decides}
 
@@ -68,25 +67,15 @@ module _ (a : Core) (key : KeyName) where
     seats = λ w is. record { own = refl; numbers = refl; settled = λ how settled. settled };
   }
 
--- ---- the places of tickets and waits
+-- ---- the place of a wait
 
--- the ticket of a wait is had or waited for
-waits-ticket : (seat : SeatView) (wait : Pending) → seat.wait ≡ Some wait → HasGrantedTicket seat (ticket_of_wait wait) ⊎ Awaits seat (ticket_of_wait wait)
-waits-ticket seat wait its = go wait.settled refl
-  where
-    at : (P : Pending → Type 0) → P wait → MatchOption seat.wait ⊥ P
-    at P h = subst (λ (o : Option Pending). MatchOption o ⊥ P) (sym its) h
+-- the place of a wait is pinned, and has a key
+pub wait_pinned : (a : Core) (who : ℕ) (wait : Pending) → IsTied a → has_session who a ≡ true → (seat_at who a).wait ≡ Some wait
+    → has_pin who wait.place a ≡ true
+wait_pinned a who wait tied is its = tied.placed who (ticket_of_wait wait) is (waits-ticket (seat_at who a) wait its)
 
-    other : (s : Option Settled) → wait.settled ≡ s → s ≢ Some settled_as.Granted → Awaits seat (ticket_of_wait wait)
-    other s e apart = at _ ((λ f. apart (sym e ∙ f)), refl)
-
-    go : (s : Option Settled) → wait.settled ≡ s → HasGrantedTicket seat (ticket_of_wait wait) ⊎ Awaits seat (ticket_of_wait wait)
-    go (Some settled_as.Granted) e = inl (inr (at _ (e, refl)))
-    go s e = inr (other s e (λ f. cc))
-
--- so its place has a key
 pub wait_placed : (a : Core) (who : ℕ) (wait : Pending) → IsTied a → has_session who a ≡ true → (seat_at who a).wait ≡ Some wait → has_key wait.place a ≡ true
-wait_placed a who wait tied is its = tied.placed who (ticket_of_wait wait) is (waits-ticket (seat_at who a) wait its)
+wait_placed a who wait tied is its = tied.pinned who wait.place is (wait_pinned a who wait tied is its)
 
 -- ---- laws of a space
 
@@ -98,19 +87,26 @@ core-one_key a w place key other speaks one two = sym one.1 ∙ two.1
 pub core-one_place : (a : Core) (w place other : ℕ) (key : KeyName) → SpeaksFor a w → Knows a w place key → Knows a w other key → place ≡ other
 core-one_place a w place other key speaks one two = speaks.1.tied.keys place other one.0 two.0 (one.1 ∙ sym two.1)
 
--- whoever holds a ticket knows the key of its place
-pub core-held_places : (a : Core) (w : ℕ) (ticket : Held) → SpeaksFor a w → Contains (locks_at a w).held ticket
-    → (key : KeyName) × Knows a w ticket.place key
-core-held_places a w ticket speaks holds = (key_at ticket.place a, (speaks.1.tied.placed w ticket speaks.0 (inl (inl holds)), refl))
+-- pinned places rise
+pub core-pins_rise : (a : Core) (w : ℕ) → SpeaksFor a w → are_rising_places (locks_at a w).pins ≡ true
+core-pins_rise a w speaks = speaks.1.tied.in_order w speaks.0
 
--- whoever waits knows the key of the place that is waited for
-pub core-wait_place : (a : Core) (w : ℕ) (wait : Wait) → SpeaksFor a w → (locks_at a w).wait ≡ Some wait
-    → (key : KeyName) × Knows a w wait.place key
-core-wait_place a w wait speaks = go (seat_at w a).wait refl
+-- whoever pins a place knows its key
+pub core-pinned_known : (a : Core) (w place : ℕ) → SpeaksFor a w → is_pinned place (locks_at a w) ≡ true → (key : KeyName) × Knows a w place key
+core-pinned_known a w place speaks pins = (key_at place a, (speaks.1.tied.pinned w place speaks.0 pins, refl))
+
+-- whoever holds a ticket pins its place
+pub core-held_pinned : (a : Core) (w : ℕ) (ticket : Held) → SpeaksFor a w → Contains (locks_at a w).held ticket
+    → is_pinned ticket.place (locks_at a w) ≡ true
+core-held_pinned a w ticket speaks holds = speaks.1.tied.placed w ticket speaks.0 (inl (inl holds))
+
+-- whoever waits pins the place that is waited for
+pub core-wait_pinned : (a : Core) (w : ℕ) (wait : Wait) → SpeaksFor a w → (locks_at a w).wait ≡ Some wait
+    → is_pinned wait.place (locks_at a w) ≡ true
+core-wait_pinned a w wait speaks = go (seat_at w a).wait refl
   where
-    go : (o : Option Pending) → (seat_at w a).wait ≡ o → option_map as_wait o ≡ Some wait → (key : KeyName) × Knows a w wait.place key
+    go : (o : Option Pending) → (seat_at w a).wait ≡ o → option_map as_wait o ≡ Some wait → is_pinned wait.place (locks_at a w) ≡ true
     go None its e = cc
     go (Some pending) its e =
         let same : as_wait pending ≡ wait = cc in
-        subst (λ (x : Wait). (key : KeyName) × Knows a w x.place key) same
-        (key_at pending.place a, (wait_placed a w pending speaks.1.tied speaks.0 its, refl))
+        subst (λ (x : Wait). is_pinned x.place (locks_at a w) ≡ true) same (wait_pinned a w pending speaks.1.tied speaks.0 its)

@@ -19,6 +19,7 @@ pub mod DeterminedAnswers
 pub mod Effects
 pub mod KnownPlaces
 pub mod MadeCalls
+pub mod NeededPlaces
 pub mod PairLemmas
 pub mod PinnedSeats
 pub mod PlaceAnswers
@@ -37,5 +38,6 @@ pub mod TableLists
 pub mod TicketLists
 pub mod TiedOpening
 pub mod TiedWrites
+pub mod UnpinAnswers
 pub mod VictimLemmas
 pub mod Ways

@@ -1,5 +1,5 @@
 -- What comes of each call of the space of one thread, by its causes.
-use Rattle.std.proofs.Common.{◌≡◌, ◌≢◌, ℕ, ◌+◌, ◌<◌, ◌≤◌, Bool, true, false, not, ◌&&◌, ◌||◌, ◌==◌, nat_le, length, drop, Option, Some, None, MatchOption, Contains, IfSome, is_some, option_map, if◌then◌else◌, refl, sym, ap, subst, ◌∙◌, arith, inl, inr, eqb-true}
+use Rattle.std.proofs.Common.{◌≡◌, ◌≢◌, ◌↔◌, ℕ, ◌+◌, ◌<◌, ◌≤◌, Bool, true, false, not, ◌&&◌, ◌||◌, ◌==◌, nat_le, length, drop, Option, Some, None, MatchOption, Contains, IfSome, is_some, option_map, if◌then◌else◌, refl, sym, ap, subst, ◌∙◌, arith, inl, inr, eqb-true}
 use Rattle.std.specs.Prelude.{AllPairs}
 use Rattle.std.proofs.lemmas.Bool.{and_parts, and_cases, false≢true}
 use Rattle.std.proofs.lemmas.Bool.Decides.{nat_tests}
@@ -11,21 +11,22 @@ use Rattle.mdl_defs.specs.declared.change.Change.{Change as Redefinition}
 use Rattle.mdl_defs.specs.declared.def_error.DefError.{DefError}
 use Rattle.mdl_defs.specs.declared.def_error.DefError.TheVariants as fault
 use Rattle.mdl_defs.proofs.VersionedDefinitionLemmas.{fault-cases}
+use Rattle.mdl_calls.specs.CallSpec.{MayAsk}
 use Rattle.mdl_calls.specs.declared.answers.Held.{Held}
 use Rattle.mdl_calls.specs.declared.answers.Settled.{Settled}
 use Rattle.mdl_calls.specs.declared.answers.Settled.TheVariants as settled_as
 use Rattle.mdl_calls.specs.declared.answers.TimedOut.TheVariants.{Already}
 use Rattle.mdl_calls.specs.declared.space_error.SpaceError.{SpaceError}
-use Rattle.mdl_calls.specs.declared.space_error.SpaceError.TheVariants.{NoPlace, NotHeld, NotUpgradable, NotExclusive, AlreadyWaiting, BadMode, VersionFull, NoWait, Unsettled as Not_settled, CounterFull, Full, Def, WrongKind}
-use Rattle.mdl_calls.specs.Words.{Answer, Refused, Granted, Is_settled, Done, Timed_out, Lost, Changed, Upgraded, is_answer_of, Call, Resolve, Try_now, Begin_wait, Search, Poll_wait, Settle_timeout, End_wait, Wait_of, Kill, Release, Clone_ticket, Upgrade_now, Merge, Downgrade, Read_definition, Read_kept, Change_definition, Key_of, Tables_of, List_held, caller, OfHeld, IsFit, IsUnfit, IsUnknown, MayClone, MayNotClone, MayUpgrade, MayNotUpgrade, MayDowngrade, MayNotDowngrade, Mergeable, may_merge, IsCause, IsExplained, SessionLocks, Numbers, is_number, is_waiting, wait_number, own_after, winning, cloning as cloning_own, holds, giving_up, Draws, IsEndOf, IsToldOf, cause_of}
+use Rattle.mdl_calls.specs.declared.space_error.SpaceError.TheVariants.{NoPlace, NotHeld, NotUpgradable, NotExclusive, AlreadyWaiting, BadMode, InUse, VersionFull, NoWait, Unsettled as Not_settled, CounterFull, Full, Def, WrongKind}
+use Rattle.mdl_calls.specs.Words.{Answer, Refused, Granted, Is_settled, Done, Timed_out, Lost, Changed, Upgraded, is_answer_of, Call, Resolve, Try_now, Begin_wait, Search, Poll_wait, Settle_timeout, End_wait, Wait_of, Kill, Release, Clone_ticket, Upgrade_now, Merge, Downgrade, Read_definition, Read_kept, Change_definition, Key_of, Tables_of, List_held, Unpin, caller, OfHeld, IsFit, IsUnfit, IsUnknown, MayClone, MayNotClone, MayUpgrade, MayNotUpgrade, MayDowngrade, MayNotDowngrade, Mergeable, may_merge, IsCause, IsExplained, SessionLocks, Numbers, is_number, is_waiting, wait_number, own_after, winning, cloning as cloning_own, holds, giving_up, with_place, without_place, Draws, IsEndOf, IsToldOf, cause_of}
 use Rattle.mdl_calls.specs.SessionLocks.{changing as changing_own, merging as merging_own, upgraded}
 use Rattle.mdl_core.specs.declared.pending.Pending.{Pending}
 use Rattle.mdl_core.specs.ChangeEvents.{holding_of, ticket_of_wait, IsChangeEvent}
-use Rattle.mdl_core.specs.Changes.{Change, Gain, Lose, Queue, Leave, Take_up, Alter, Fold, Redefine, May, next_ticket, losing, ending_lost, altering, serving}
-use Rattle.mdl_core.specs.CoreCalls.{has_call, outcome, refused_or, first_cause, placing, request_causes, clone_causes, cloning_of, upgrade_causes, upgraded_if_free, upgrading_of, is_lower, downgrading_of, merge_causes, merging_of, held_ticket, releasing_of, poll_answer, polling_of, timing_out_at, timing_out_of, ending_at, ending_of, wait_at, is_open_wait, victim_at, searching_of, reading_of, redefining_fault, redefined_unless, redefining_of}
+use Rattle.mdl_core.specs.Changes.{Change, Gain, Lose, Queue, Leave, Take_up, Alter, Fold, Redefine, Allows, May, next_ticket, losing, ending_lost, altering, serving}
+use Rattle.mdl_core.specs.CoreCalls.{outcome, refused_or, first_cause, placing, unpin_causes, request_causes, clone_causes, cloning_of, upgrade_causes, upgraded_if_free, upgrading_of, is_lower, downgrading_of, merge_causes, merging_of, held_ticket, releasing_of, poll_answer, polling_of, timing_out_at, timing_out_of, ending_at, ending_of, wait_at, is_open_wait, victim_at, searching_of, reading_of, redefining_fault, redefined_unless, redefining_of}
 use Rattle.mdl_core.specs.CoreJoins.{locks_at, numbers_at, Knows}
 use Rattle.mdl_core.specs.CoreLaws.{is_weaker, is_change, IsEventOf}
-use Rattle.mdl_core.specs.Cores.{Core, book_at, seat_at, key_at, standing_at, has_key, has_session, index_of, is_free_for, booking}
+use Rattle.mdl_core.specs.Cores.{Core, book_at, seat_at, key_at, standing_at, has_key, has_pin, has_session, index_of, is_free_for, booking, unpinning}
 use Rattle.mdl_core.specs.CoreSystems.{system_of, system_waiter, wait_state_of}
 use Rattle.mdl_system.specs.Words.{WaitsForCause, Event, Grant, Clone, BeginWait, SettleLost, EndGrantedWait, EndLostWait, Release as Give_up, Upgrade as Raise, Merge as Unite, Downgrade as Lower, ChangeDefinition, covers, may_upgrade, may_downgrade, Unsettled, IsGrantable}
 use Rattle.mdl_core.specs.Seats.{SeatView, without_ticket, with_ticket_in, locks_of_seat, numbers_of_seat, with_settled_wait, with_ticket_of}
@@ -34,13 +35,15 @@ use Rattle.mdl_core.specs.Ties.{IsTied, HasRisingNumbers, in_book_of}
 use Rattle.mdl_core.proofs.CallCases.{Through, test_cases, option_cases, not_false, not_true, exclusive-is, cause_cases}
 use Rattle.mdl_core.proofs.ChangeSeats.{merged_place}
 use Rattle.mdl_core.proofs.CoreGranted.{free-grantable}
-use Rattle.mdl_core.proofs.CoreReads.{found, seated-same, seat-kept}
+use Rattle.mdl_core.proofs.CoreReads.{found, seated-same, seat-kept, ticket-key}
 use Rattle.mdl_core.proofs.CoreServing.{found-first}
-use Rattle.mdl_core.proofs.KnownPlaces.{unplaced, new-known, wait_placed}
+use Rattle.mdl_core.proofs.KnownPlaces.{unplaced, new-known, wait_pinned}
+use Rattle.mdl_core.proofs.NeededPlaces.{needs-told, needs-from}
 use Rattle.mdl_core.proofs.PairLemmas.{below, map-agree, map-same, pairs-from_rising, same-number}
+use Rattle.mdl_core.proofs.PinnedSeats.{may-pin, may-unpin}
 use Rattle.mdl_core.proofs.SparedSeats.{HasSettled, settled_at, settled-once, none_settled, not_settled, as_wait, is_end}
 use Rattle.mdl_core.proofs.VictimLemmas.{victim-waits}
-use Rattle.mdl_core.proofs.Ways.{HasAtOnce, HasNotAtOnce, Way, Stay, Pin, Open, Settle_wait, Make, served_if, space_by, seat_by, IsSo, ServesCaller, Comes}
+use Rattle.mdl_core.proofs.Ways.{HasAtOnce, HasNotAtOnce, Way, Stay, Repin, Open, Settle_wait, Make, served_if, space_by, seat_by, IsSo, ServesCaller, Comes}
 use Rattle.mdl_system.proofs.StrengthLemmas.{covers-at_least, upgrade-raises}
 
 -- ---- tests
@@ -226,6 +229,19 @@ module _ (a : Core) where
       stays plain.0 plain.1 limit
       (subst (λ o. IfSome o (ServesCaller a call (Refused refusal) Stay)) (sym mine) (tells (plain.2 (locks_at a who)) (plain.3 (numbers_at a who)) cause agrees))
 
+  -- a change may be made where the session pins the place, at the place of a ticket that it holds, and at that of its wait
+  may-at : {change : Change} (who place : ℕ) → IsTied a → has_session who a ≡ true → has_pin who place a ≡ true
+      → Allows who place change (seat_at who a) (book_at place a) → May who place change a
+  may-at who place tied is pin allows = record { session = is; key = tied.pinned who place is pin; pin = pin; allows = allows }
+
+  may-at_ticket : {change : Change} (who : ℕ) (ticket : Held) → IsTied a → has_session who a ≡ true → Contains (seat_at who a).held ticket
+      → Allows who ticket.place change (seat_at who a) (book_at ticket.place a) → May who ticket.place change a
+  may-at_ticket who ticket tied is mine allows = may-at who ticket.place tied is (tied.placed who ticket is (inl (inl mine))) allows
+
+  may-at_wait : {change : Change} (who : ℕ) (wait : Pending) → IsTied a → has_session who a ≡ true → (seat_at who a).wait ≡ Some wait
+      → Allows who wait.place change (seat_at who a) (book_at wait.place a) → May who wait.place change a
+  may-at_wait who wait tied is its allows = may-at who wait.place tied is (wait_pinned a who wait tied is its) allows
+
   -- the caller makes a change
   makes : {call : Call} {answer : Answer} (who place : ℕ) (change : Change) → May who place change a → (event : Event Redefinition)
       → IsChangeEvent who place change a event × IsEventOf a call answer event × WaitsForCause event (system_of a)
@@ -244,17 +260,17 @@ module _ (a : Core) where
   }
 
   -- a wait is lost, and is settled so then
-  loses : {call : Call} {answer : Answer} (who : ℕ) (how : Settled) (wait : Pending) → has_key wait.place a ≡ true → has_session who a ≡ true
+  loses : {call : Call} {answer : Answer} (who : ℕ) (how : Settled) (wait : Pending) → IsTied a → has_session who a ≡ true
       → (seat_at who a).wait ≡ Some wait → wait.settled ≡ None → how ≢ settled_as.Granted
       → IsEventOf a call answer (SettleLost (key_at wait.place a) (system_waiter (ticket_of_wait who wait) (Some wait)) (wait_state_of (Some how)))
       → is_answer_of call answer ≡ true → (HasSettled (seat_at who (losing who how a)) how → IsSo a call answer (losing who how a))
       → IfSome (caller call) (ServesCaller a call answer (Settle_wait who wait.place how)) → F call (answer, losing who how a)
-  loses who how wait key is its free other call_is fits so caller = record {
+  loses who how wait tied is its free other call_is fits so caller = record {
     way = Settle_wait who wait.place how;
     is = record {
       fits = fits;
       is_way = record {
-        may = record { session = is; key = key; allows = ((wait, its, free, refl), other) };
+        may = may-at_wait who wait tied is its ((wait, its, free, refl), other);
         event = SettleLost (key_at wait.place a) (system_waiter (ticket_of_wait who wait) (Some wait)) (wait_state_of (Some how));
         change_is = (wait, its, refl);
         call_is = call_is;
@@ -272,7 +288,7 @@ module _ (a : Core) where
     -- a lock that may be asked for, and is free or not
     record IsAskable (who place : ℕ) (mode : Mode) : Type 0 where
       may : May who place (Gain mode) a
-      clear : (is_waiting (locks_at a who) ≡ false) × IsFit (Knows a who) place mode
+      clear : MayAsk place mode (Knows a who) (locks_at a who)
       free : is_free_for who place mode a ≡ true → IsGrantable (system_of a) who (key_at place a) mode
       busy : not (is_free_for who place mode a) ≡ true → IsGrantable (system_of a) who (key_at place a) mode → ⊥
 
@@ -282,32 +298,36 @@ module _ (a : Core) where
         → F call (Refused refusal, a))
         → (IsAskable who place mode → F call outcome) → F call (refused_or (first_cause (request_causes who place mode a)) a outcome)
     asked {call} {outcome} who place mode is refuse other =
-        cause_cases (F call) a outcome (request_causes who place mode a) ((λ e. refuse NoPlace (unknown who place (not_true _ e)) (not_true _ e)), by)
+        cause_cases (F call) a outcome (request_causes who place mode a)
+        ((λ e. refuse NoPlace (not_true _ e) (not_true _ e)), λ e. by (not_false _ e))
       where
-        clear : is_some (seat_at who a).wait ≡ false → not (is_mode_of (lock_kind (book_at place a)) mode) ≡ false
-            → (is_waiting (locks_at a who) ≡ false) × IsFit (Knows a who) place mode
-        clear idle fits = (waits_so who false idle, fit who place mode (not_false _ fits))
-
-        by : not (has_key place a) ≡ false → Through (F call) a outcome (drop 1 (request_causes who place mode a))
-        by key = (
-          (λ e. refuse AlreadyWaiting (waits_so who true e) tt),
+        by : has_pin who place a ≡ true → Through (F call) a outcome (drop 1 (request_causes who place mode a))
+        by pin = (
+          (λ e. refuse AlreadyWaiting (pin, waits_so who true e) tt),
           λ idle. (
-            (λ e. refuse BadMode (waits_so who false idle, unfit who place mode (not_true _ e)) tt),
+            (λ e. refuse BadMode (pin, waits_so who false idle, unfit who place mode (not_true _ e)) tt),
             λ fits. (
               (λ e. refuse CounterFull (clear idle fits) (at_least _ _ e)),
               λ _. other (record {
-                may = record { session = is; key = not_false _ key; allows = (none_there _ idle, not_false _ fits) };
+                may = may-at who place tied is pin (none_there _ idle, not_false _ fits);
                 clear = clear idle fits;
-                free = (free-grantable a who place mode tied (not_false _ key)).0;
-                busy = λ e grantable. (let f = (free-grantable a who place mode tied (not_false _ key)).1 grantable in let g = not_true _ e in cc);
+                free = free.0;
+                busy = λ e grantable. (let f = free.1 grantable in let g = not_true _ e in cc);
               }),
             ),
           ),
         )
+          where
+            clear : is_some (seat_at who a).wait ≡ false → not (is_mode_of (lock_kind (book_at place a)) mode) ≡ false
+                → MayAsk place mode (Knows a who) (locks_at a who)
+            clear idle fits = (pin, waits_so who false idle, fit who place mode (not_false _ fits))
+
+            free : (is_free_for who place mode a ≡ true) ↔ IsGrantable (system_of a) who (key_at place a) mode
+            free = free-grantable a who place mode tied (tied.pinned who place is pin)
 
     -- each call
-    pub made : (call : Call) → has_call call ≡ true → IfSome (caller call) (λ who. has_session who a ≡ true) → F call (outcome call a)
-    made (Resolve who key) has is =
+    pub made : (call : Call) → IfSome (caller call) (λ who. has_session who a ≡ true) → F call (outcome call a)
+    made (Resolve who key) is =
         option_cases (λ o. F (Resolve who key) (placing who key o a)) (index_of key a.books)
         (λ none. tested (λ full. refused who NoPlace refl (λ place knows. unplaced a who place key none knows) (λ _ _. tt)
         (at_least a.places (length a.books) full, λ place key_there same. unplaced a who place key none (key_there, same)))
@@ -322,25 +342,25 @@ module _ (a : Core) where
           leads = refl;
         }))
         (λ index e. record {
-          way = Pin who (index + 1);
+          way = Repin who (with_place (index + 1) (seat_at who a).pins);
           is = record {
             fits = refl;
-            is_way = (record { calm = refl; session = is; mine = refl }, (found a key index e).0);
+            is_way = (record { calm = refl; session = is; mine = refl }, may-pin a who (index + 1) tied is (found a key index e).0);
             so = found a key index e;
             caller = tells refl refl tt (λ _ _. tt);
           };
           leads = refl;
         })
-    made (Try_now who place mode) has is =
+    made (Try_now who place mode) is =
         asked who place mode is (λ refusal cause limit. refused who refusal refl cause (λ _ _. tt) limit)
         (λ ask. tested (λ busy. stays refl refl (ask.busy busy) (tells refl refl ask.clear (λ _ _. tt)))
         (λ free. tested (λ full. refused who Full refl ask.clear (λ _ _. tt) (at_least _ _ full))
         (λ _. makes who place (Gain mode) ask.may (Grant (record { session = who; number = _; key = key_at place a; mode = mode }))
         (inl (refl, ask.free (not_false _ free)), refl, tt) (refl, λ e. cc) refl tt (tells refl (refl, refl) ask.clear (λ _ _. tt)))))
-    made (Begin_wait who place mode) has is =
+    made (Begin_wait who place mode) is =
         asked who place mode is refuse
         (λ ask. tested (λ busy. tested (λ full. refused who Full refl ask.clear (λ _ _. tt) (at_least _ _ full))
-        (λ _. makes who place (Queue mode) (record { session = is; key = ask.may.key; allows = ask.may.allows })
+        (λ _. makes who place (Queue mode) (may-at who place tied is ask.may.pin ask.may.allows)
         (BeginWait (key_at place a) (record { ticket = next_ticket who mode a; wait = (seat_at who a).last_wait + 1; state = Unsettled }))
         (refl, (_, refl), ask.busy busy) (refl, λ e. cc) refl (ask.busy busy) (tells refl (refl, refl) ask.clear (λ _ _. tt))))
         (λ free. tested (λ full. refused who Full refl ask.clear (λ _ _. tt) (at_least _ _ full))
@@ -351,28 +371,28 @@ module _ (a : Core) where
             → F (Begin_wait who place mode) (Refused refusal, a)
         refuse NoPlace cause limit = refused who NoPlace refl cause (λ _ _. tt) limit
         refuse _ cause limit = refused who _ refl cause (λ _ _. tt) limit
-    made (Search who) has is =
+    made (Search who) is =
         option_cases (λ o. F (Search who) (searching_of o a)) (victim_at who a)
         (λ none. stays refl refl tt (tells refl refl tt (λ _ _. tt)))
         (λ victim e. (let h = victim-waits a who victim tied e in
-        loses victim settled_as.Victim h.0 (wait_placed a victim h.0 tied h.1 h.2) h.1 h.2 h.3 (λ x. cc)
+        loses victim settled_as.Victim h.0 tied h.1 h.2 h.3 (λ x. cc)
         (_, _, refl, refl) refl (λ lost. lost) (tells refl refl tt (λ _ _. tt))))
-    made (Poll_wait who) has is =
+    made (Poll_wait who) is =
         option_cases (λ o. F (Poll_wait who) (polling_of o a)) (seat_at who a).wait
         (λ none. (let idle = idle_so who none in refused who NoWait refl idle.0 (λ how has. absurd (idle.1 how has)) tt))
         (λ wait its. option_cases (λ s. F (Poll_wait who) (poll_answer s, a)) wait.settled
         (λ free. stays refl refl tt (tells refl refl (waiting_so who wait its) (λ how has. absurd (not_so who wait its free how has))))
         (λ how settled. stays refl refl (settled_at (seat_at who a) wait how its settled)
         (tells refl refl (waiting_so who wait its) (λ other has. ap (λ h. Is_settled h) (same_settled who wait its how other settled has)))))
-    made (Settle_timeout who) has is =
+    made (Settle_timeout who) is =
         option_cases (λ o. F (Settle_timeout who) (timing_out_of who o a)) (seat_at who a).wait
         (λ none. (let idle = idle_so who none in refused who NoWait refl idle.0 (λ how has. absurd (idle.1 how has)) tt))
         (λ wait its. option_cases (λ s. F (Settle_timeout who) (timing_out_at who s a)) wait.settled
-        (λ free. loses who settled_as.Timeout wait (wait_placed a who wait tied is its) is its free (λ x. cc)
+        (λ free. loses who settled_as.Timeout wait tied is its free (λ x. cc)
         (_, _, refl, refl) refl (λ lost. lost) (tells refl refl (waiting_so who wait its) (λ how has. absurd (not_so who wait its free how has))))
         (λ how settled. stays refl refl (settled_at (seat_at who a) wait how its settled)
         (tells refl refl (waiting_so who wait its) (λ other has. ap (λ h. Timed_out (Already h)) (same_settled who wait its how other settled has)))))
-    made (End_wait who) has is =
+    made (End_wait who) is =
         option_cases (λ o. F (End_wait who) (ending_of who o a)) (seat_at who a).wait
         (λ none. (let idle = idle_so who none in refused who NoWait refl idle.0 (λ how has. absurd (idle.1 how has)) tt))
         (λ wait its. at wait its wait.settled refl)
@@ -381,7 +401,7 @@ module _ (a : Core) where
             → is_answer_of (End_wait who) (Lost how) ≡ true → IsEndOf how (Lost how) → F (End_wait who) (Lost how, serving wait.place (ending_lost who wait a))
         left wait its how settled other fits end =
             makes who wait.place (Leave wait)
-            (record { session = is; key = wait_placed a who wait tied is its; allows = (its, (λ e. other (let f = sym settled ∙ e in cc)), refl) })
+            (may-at_wait who wait tied is its (its, (λ e. other (let f = sym settled ∙ e in cc)), refl))
             (EndLostWait (key_at wait.place a) (system_waiter (ticket_of_wait who wait) (Some wait)))
             ((refl, λ e. (let f = sym settled ∙ e in cc)), (_, _, refl, ap wait_state_of settled, refl), tt) (refl, λ e. refl) fits tt
             (tells refl refl (waiting_so who wait its) (λ h has. subst (λ g. IsEndOf g (Lost how)) (same_settled who wait its how h settled has) end))
@@ -390,7 +410,7 @@ module _ (a : Core) where
         at wait its None free = refused who Not_settled refl (waiting_so who wait its) (λ how has. absurd (not_so who wait its free how has)) tt
         at wait its (Some settled_as.Granted) won =
             makes who wait.place (Take_up wait)
-            (record { session = is; key = wait_placed a who wait tied is its; allows = (its, won, refl) })
+            (may-at_wait who wait tied is its (its, won, refl))
             (EndGrantedWait (record { session = who; wait = wait.number; ticket = wait.id })) (refl, (wait.number, refl), tt) (refl, λ e. refl) refl tt
             (tells (subst (λ (o : Option Pending). locks_of_seat (with_ticket_of wait (seat_at who a)) ≡ winning wait.id (option_map as_wait o) (locks_at a who)) (sym its) refl)
             (last-waits (seat_at who a) wait (tied.numbered who is) its, refl) (waiting_so who wait its)
@@ -398,20 +418,20 @@ module _ (a : Core) where
         at wait its (Some settled_as.Victim) e = left wait its settled_as.Victim e (λ x. cc) refl refl
         at wait its (Some settled_as.Timeout) e = left wait its settled_as.Timeout e (λ x. cc) refl refl
         at wait its (Some settled_as.Killed) e = left wait its settled_as.Killed e (λ x. cc) refl refl
-    made (Wait_of target) has is = stays refl refl refl tt
-    made (Kill target number) has is =
+    made (Wait_of target) is = stays refl refl refl tt
+    made (Kill target number) is =
         tested (λ e. (let h = killed_wait a target number e in
-        loses target settled_as.Killed h.0 (wait_placed a target h.0 tied h.1 h.2) h.1 h.2 h.4 (λ x. cc)
+        loses target settled_as.Killed h.0 tied h.1 h.2 h.4 (λ x. cc)
         (_, _, refl, h.3, refl) refl (λ lost. (sym (number-same (seat_at target a)) ∙ ap (option_map (λ (x : Pending). x.number)) h.2 ∙ ap Some h.3, lost)) tt))
         (λ shut. stays refl refl (shut, refl) tt)
-    made (Release who id) has is =
+    made (Release who id) is =
         option_cases (λ o. F (Release who id) (releasing_of who o a)) (held_ticket who id a)
         (λ none. refused who NotHeld refl (ap is_some none) (λ _ _. tt) tt)
         (λ ticket e. (let mine = in_hand who id ticket e in
         makes who ticket.place (Lose ticket)
-        (record { session = is; key = tied.placed who ticket is (inl (inl mine.0)); allows = (mine.0, refl) }) (Give_up (holding_of who ticket a))
+        (may-at_ticket who ticket tied is mine.0 (mine.0, refl)) (Give_up (holding_of who ticket a))
         (refl, (_, refl, mine.1, refl), tt) (refl, λ f. cc) refl tt (tells (ap (λ n. giving_up n (locks_at a who)) mine.1) refl (ap is_some e) (λ _ _. tt))))
-    made (Clone_ticket who id mode) has is =
+    made (Clone_ticket who id mode) is =
         option_cases (λ o. F (Clone_ticket who id mode) (cloning_of who mode o a)) (held_ticket who id a)
         (λ none. refused who NotHeld refl (ap is_some none) (λ _ _. tt) tt)
         (λ ticket e. cause_cases (F (Clone_ticket who id mode)) a _ (clone_causes who mode ticket a) (
@@ -423,11 +443,11 @@ module _ (a : Core) where
                 let clear : (is_waiting (locks_at a who) ≡ false) × OfHeld id (locks_at a who) (MayClone (Knows a who) mode) =
                 (waits_so who false idle, of_held who id ticket (MayClone (Knows a who) mode) e (able.0, fit who ticket.place mode able.1)) in
                 let mine = in_hand who id ticket e in
-                let key : has_key ticket.place a ≡ true = tied.placed who ticket is (inl (inl mine.0)) in
+                let key = ticket-key a who ticket tied is (inl (inl mine.0)) in
                 let legal = (tied.granted_by ticket.place key (in_book_of who ticket) ((tied.granted who ticket is key).1 (inl mine.0))).1 in (
                   (λ f. refused who CounterFull refl clear (λ _ _. tt) (at_least _ _ f)),
                   λ _. tested (λ full. refused who Full refl clear (λ _ _. tt) (ticket, e, at_least _ _ full))
-                      (λ _. makes who ticket.place (Gain mode) (record { session = is; key = key; allows = (none_there _ idle, able.1) })
+                      (λ _. makes who ticket.place (Gain mode) (may-at_ticket who ticket tied is mine.0 (none_there _ idle, able.1))
                       (Clone (holding_of who ticket a) (record { session = who; number = _; key = key_at ticket.place a; mode = mode }))
                       (inr (ticket, mine.0, refl, covers-at_least (lock_kind (book_at ticket.place a)) ticket.mode mode legal able.1 able.0, refl), (_, refl, mine.1, refl), tt)
                       (refl, λ f. cc) refl tt
@@ -435,7 +455,7 @@ module _ (a : Core) where
                 )),
           ),
         ))
-    made (Upgrade_now who id mode) has is =
+    made (Upgrade_now who id mode) is =
         option_cases (λ o. F (Upgrade_now who id mode) (upgrading_of who mode o a)) (held_ticket who id a)
         (λ none. refused who NotHeld refl (ap is_some none) (λ _ _. tt) tt)
         (λ ticket e. cause_cases (F (Upgrade_now who id mode)) a _ (upgrade_causes who mode ticket a) (
@@ -456,7 +476,7 @@ module _ (a : Core) where
             let mine = in_hand who id ticket e in
             let clear : (is_waiting (locks_at a who) ≡ false) × OfHeld id (locks_at a who) (MayUpgrade (Knows a who) mode) = (waits_so who false idle, may) in
             let rising = pairs-from_rising (seat_at who a).held (tied.numbered who is).rising in
-            let key : has_key ticket.place a ≡ true = tied.placed who ticket is (inl (inl mine.0)) in
+            let key = ticket-key a who ticket tied is (inl (inl mine.0)) in
             let free = free-grantable a who ticket.place mode tied key in
             tested
             (λ strong. stays refl (ap (is_weaker mode) e ∙ ap not strong) (of_held who id ticket (HasAtOnce a who mode) e (inl strong))
@@ -465,11 +485,11 @@ module _ (a : Core) where
             (of_held who id ticket (HasNotAtOnce a who mode) e (weak, λ grantable. false≢true (sym (not_true _ busy) ∙ free.1 grantable))) (tells refl refl clear (λ _ _. tt)))
             (λ may_have. (let up = or-right _ _ able weak in
             subst (λ room. F (Upgrade_now who id mode) (Upgraded, served_if room ticket.place (altering who ticket mode a))) (upgrade-raises ticket.mode mode up).1
-            (makes who ticket.place (Alter ticket mode) (record { session = is; key = key; allows = (mine.0, refl, fits) }) (Raise (holding_of who ticket a) mode)
+            (makes who ticket.place (Alter ticket mode) (may-at_ticket who ticket tied is mine.0 (mine.0, refl, fits)) (Raise (holding_of who ticket a) mode)
             (inl (refl, none_there _ idle, up, free.0 (not_false _ may_have)), (_, refl, mine.1, refl), tt) (refl, λ f. cc) refl
             (of_held who id ticket (HasAtOnce a who mode) e (inr (free.0 (not_false _ may_have))))
             (tells (own-changed (seat_at who a) rising id ticket mine.0 mine.1 (upgraded mode) mode (ap (λ b. if b then ticket.mode else mode) weak)) refl clear (λ _ _. tt))))))
-    made (Merge who old new) has is =
+    made (Merge who old new) is =
         option_cases (λ o. F (Merge who old new) (merging_of who o (held_ticket who new a) a)) (held_ticket who old a)
         (λ none. refused who NotHeld refl (ap (λ (o : Option Held). is_some o && holds new (locks_at a who)) none) (λ _ _. tt) tt)
         (λ kept e. option_cases (λ o. F (Merge who old new) (merging_of who (Some kept) o a)) (held_ticket who new a)
@@ -482,11 +502,9 @@ module _ (a : Core) where
                 let mine = in_hand who old kept e in
                 let other = in_hand who new gone g in
                 let fits = not_false _ may in
-                makes who kept.place (Fold kept gone) (record {
-                  session = is;
-                  key = tied.placed who kept is (inl (inl mine.0));
-                  allows = (none_there _ idle, mine.0, other.0, refl, sym (merged_place kept gone fits), fits);
-                }) (Unite (holding_of who kept a) (holding_of who gone a)) (refl, (_, _, refl, mine.1, refl, other.1, refl), tt) (refl, λ f. cc) refl tt
+                makes who kept.place (Fold kept gone)
+                (may-at_ticket who kept tied is mine.0 (none_there _ idle, mine.0, other.0, refl, sym (merged_place kept gone fits), fits))
+                (Unite (holding_of who kept a) (holding_of who gone a)) (refl, (_, _, refl, mine.1, refl, other.1, refl), tt) (refl, λ f. cc) refl tt
                 (tells (own-merged kept gone mine.1 other.1 ∙ ap (λ o. merging_own old new o (locks_at a who)) (sym g)) refl
                 (waits_so who false idle, both kept gone e g true fits) (λ _ _. tt))),
           ),
@@ -500,7 +518,7 @@ module _ (a : Core) where
         own-merged : (kept gone : Held) → kept.id ≡ old → gone.id ≡ new
             → locks_of_seat (with_ticket_in kept.id gone.mode (without_ticket gone.id (seat_at who a))) ≡ changing_own old (λ _. gone.mode) (giving_up new (locks_at a who))
         own-merged kept gone one other = λ i. changing_own (one i) (λ _. gone.mode) (giving_up (other i) (locks_at a who))
-    made (Downgrade who id mode) has is =
+    made (Downgrade who id mode) is =
         option_cases (λ o. F (Downgrade who id mode) (downgrading_of who mode o a)) (held_ticket who id a)
         (λ none. refused who NotHeld refl (ap is_some none) (λ _ _. tt) tt)
         (λ ticket e. tested
@@ -509,19 +527,19 @@ module _ (a : Core) where
         let mine = in_hand who id ticket e in
         subst (λ room. F (Downgrade who id mode) (Done, served_if room ticket.place (altering who ticket mode a))) able.0
         (makes who ticket.place (Alter ticket mode)
-        (record { session = is; key = tied.placed who ticket is (inl (inl mine.0)); allows = (mine.0, refl, able.1) }) (Lower (holding_of who ticket a) mode)
+        (may-at_ticket who ticket tied is mine.0 (mine.0, refl, able.1)) (Lower (holding_of who ticket a) mode)
         (inr (refl, able.0), (_, refl, mine.1, refl), tt) (refl, λ g. cc) refl tt
         (tells (ap (λ n. changing_own n (λ _. mode) (locks_at a who)) mine.1) refl
         (of_held who id ticket (MayDowngrade (Knows a who) mode) e (able.0, fit who ticket.place mode able.1)) (λ _ _. tt))))))
-    made (Read_definition who id) has is =
+    made (Read_definition who id) is =
         option_cases (λ o. F (Read_definition who id) (reading_of o a)) (held_ticket who id a)
         (λ none. refused who NotHeld refl (ap is_some none) (λ _ _. tt) tt)
         (λ ticket e. stays refl refl tt (tells refl refl (ap is_some e) (λ _ _. tt)))
-    made (Read_kept who id) has is =
+    made (Read_kept who id) is =
         option_cases (λ o. F (Read_kept who id) (reading_of o a)) (held_ticket who id a)
         (λ none. refused who NotHeld refl (ap is_some none) (λ _ _. tt) tt)
         (λ ticket e. stays refl refl tt (tells refl refl (ap is_some e) (λ _ _. tt)))
-    made (Change_definition who id change) has is =
+    made (Change_definition who id change) is =
         option_cases (λ o. F (Change_definition who id change) (redefining_of o change a)) (held_ticket who id a)
         (λ none. refused who NotHeld refl (ap is_some none) (λ _ _. tt) tt)
         (λ ticket e. tested
@@ -539,12 +557,11 @@ module _ (a : Core) where
         under_x ticket e exclusive =
             let mine = in_hand who id ticket e in
             let clear = of_held who id ticket (λ t. same_mode t.mode X ≡ true) e exclusive in
-            let key : has_key ticket.place a ≡ true = tied.placed who ticket is (inl (inl mine.0)) in
             option_cases (λ o. F (Change_definition who id change) (redefined_unless o ticket.place change a)) (redefining_fault ticket.place change a)
             (λ free. subst (λ b. F (Change_definition who id change) (Changed ((standing_at ticket.place a).version + 1), b))
             (ap (booking ticket.place (redefining change (book_at ticket.place a))) (seat-kept a who))
             (makes who ticket.place (Redefine ticket change)
-            (record { session = is; key = key; allows = (mine.0, refl, exclusive-is ticket.mode exclusive, free) }) (ChangeDefinition (holding_of who ticket a) change)
+            (may-at_ticket who ticket tied is mine.0 (mine.0, refl, exclusive-is ticket.mode exclusive, free)) (ChangeDefinition (holding_of who ticket a) change)
             (refl, (_, refl, mine.1, refl), tt) (refl, λ f. cc) refl tt (tells refl refl clear (λ _ _. tt))))
             (λ why faulted. fault-cases (λ w. F (Change_definition who id change) (Refused (cause_of w), a))
             (key_at ticket.place a).namespace change (standing_at ticket.place a)
@@ -552,9 +569,29 @@ module _ (a : Core) where
             (refused who WrongKind refl clear (λ _ _. tt) tt)
             (λ one apart. refused who (Def one) refl (own_cause one apart clear) (λ _ _. tt) tt)
             why faulted)
-    made (Key_of who place) has is =
+    made (Key_of who place) is =
         tested (λ absent. refused who NoPlace refl (unknown who place (not_true _ absent)) (λ _ _. tt) (not_true _ absent))
         (λ there. stays refl refl (not_false _ there, refl) (tells refl refl tt (λ _ _. tt)))
-    made (Tables_of who schema) has is = stays refl refl (refl, refl) (tells refl refl tt (λ _ _. tt))
-    made (List_held who) has is = stays refl refl refl (tells refl refl tt (λ _ _. tt))
-    made _ has is = cc
+    made (Tables_of who schema) is = stays refl refl (refl, refl) (tells refl refl tt (λ _ _. tt))
+    made (List_held who) is = stays refl refl refl (tells refl refl tt (λ _ _. tt))
+    made (Unpin who place) is =
+        cause_cases (F (Unpin who place)) a (Done, unpinning who place a) (unpin_causes who place a) (
+          (λ e. refused who NoPlace refl (not_true _ e) (λ _ _. tt) (not_true _ e)),
+          λ pin. (
+            (λ needed. refused who InUse refl (not_false _ pin) (λ _ _. tt) (needs-told a who place needed)),
+            λ free. record {
+              way = Repin who (without_place place (seat_at who a).pins);
+              is = record {
+                fits = refl;
+                is_way = (record { calm = refl; session = is; mine = refl }, may-unpin a who place tied is free);
+                so = tt;
+                caller = tells refl refl (
+                  not_false _ pin,
+                  (λ holds. false≢true (sym free ∙ needs-from a who place (inl holds))),
+                  λ awaits. false≢true (sym free ∙ needs-from a who place (inr awaits)),
+                ) (λ _ _. tt);
+              };
+              leads = refl;
+            },
+          ),
+        )

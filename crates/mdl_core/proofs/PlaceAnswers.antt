@@ -1,6 +1,7 @@
 -- What is answered by the places of keys, and by the room that their locks have.
-use Rattle.std.proofs.Common.{◌≡◌, ◌≢◌, ◌↔◌, ℕ, zero, suc, ◌+◌, ◌-◌, ◌<◌, ◌≤◌, Bool, true, false, not, inl, inr, length, Some, None, option_map, nat_le, refl, sym, ap, subst, ◌∙◌, arith}
+use Rattle.std.proofs.Common.{◌≡◌, ◌≢◌, ◌↔◌, ℕ, zero, suc, ◌+◌, ◌-◌, ◌<◌, ◌≤◌, ◌==◌, Bool, true, false, not, inl, inr, List, length, Some, None, option_map, nat_le, refl, sym, ap, subst, ◌∙◌, arith, eq-eqb, eqb-true}
 use Rattle.std.specs.Prelude.{Contains, AllPairs, MatchOption, slice_index_or}
+use Rattle.std.proofs.lemmas.Bool.{false≢true}
 use Rattle.std.proofs.lemmas.Bool.Decides.{nat_tests}
 use Rattle.std.proofs.lemmas.List.{length-map, get_or_default}
 use Rattle.std.proofs.lemmas.List.Elements.{Contains-get_or}
@@ -16,9 +17,9 @@ use Rattle.mdl_calls.specs.Words.{Answer, Refused, At_place, Granted, Waits, Key
 use Rattle.mdl_calls.proofs.MappedLists.{pairs-map}
 use Rattle.mdl_core.specs.CoreCalls.{is_full, placing, resolve_outcome, key_of_outcome, granted_unless_full, queued_unless_full}
 use Rattle.mdl_core.specs.CoreJoins.{numbers_at}
-use Rattle.mdl_core.specs.Cores.{Core, book_at, seat_at, key_at, has_key, index_of}
+use Rattle.mdl_core.specs.Cores.{Core, book_at, seat_at, key_at, has_key, has_pin, index_of}
 use Rattle.mdl_core.specs.CoreSystems.{granted_in, book_of, waiter_in, system_of}
-use Rattle.mdl_core.specs.Determined.{Right, Only, RefusedUnless, key_of_place, AtPlace, ToResolve, LockHasRoom, ToGrant, ToWait, places_of}
+use Rattle.mdl_core.specs.Determined.{Right, Only, RefusedUnless, key_of_place, pins_at, AtPlace, AtPin, ToResolve, LockHasRoom, ToGrant, ToWait, places_of}
 use Rattle.mdl_core.specs.Ties.{IsTied}
 use Rattle.mdl_system.specs.Words.{in_book, of_lock, Holding}
 use Rattle.mdl_core.proofs.CallCases.{test_cases, option_cases, not_false, not_true}
@@ -27,7 +28,7 @@ use Rattle.mdl_core.proofs.CoreReads.{within, of_within, found}
 use Rattle.mdl_core.proofs.CoreWaiting.{not_there}
 use Rattle.mdl_core.proofs.RightAnswers.{IsAnswer, only, met, unmet}
 use Rattle.mdl_core.proofs.TicketLists.{at_most}
-use Rattle.mdl_system.proofs.MemberLemmas.{Contains-map, Contains-map_from}
+use Rattle.mdl_system.proofs.MemberLemmas.{any-found, any-from, Contains-map, Contains-map_from}
 
 -- ---- the key of a place
 
@@ -55,14 +56,40 @@ module _ (core : Core) where
       go true has = (has, (let e = sym (key_of-place place has) ∙ is in cc))
       go false absent = (let e = sym (key_of-nowhere place absent) ∙ is in cc)
 
-  pub at-place : (place : ℕ) (Then : KeyName → Right) (x : Answer) → has_key place core ≡ true → IsAnswer (Then (key_at place core)) x
+  at-place : (place : ℕ) (Then : KeyName → Right) (x : Answer) → has_key place core ≡ true → IsAnswer (Then (key_at place core)) x
       → IsAnswer (AtPlace (places_of core) place Then) x
   at-place place Then x has its y =
       subst (λ o. MatchOption o (y ≡ Refused NoPlace) (λ key. Then key y) ↔ (y ≡ x)) (sym (key_of-place place has)) (its y)
 
-  pub at-nowhere : (place : ℕ) (Then : KeyName → Right) → has_key place core ≡ false → IsAnswer (AtPlace (places_of core) place Then) (Refused NoPlace)
+  at-nowhere : (place : ℕ) (Then : KeyName → Right) → has_key place core ≡ false → IsAnswer (AtPlace (places_of core) place Then) (Refused NoPlace)
   at-nowhere place Then absent y =
       subst (λ o. MatchOption o (y ≡ Refused NoPlace) (λ key. Then key y) ↔ (y ≡ Refused NoPlace)) (sym (key_of-nowhere place absent)) (only (Refused NoPlace) y)
+
+  -- the pins of a session, and what is answered by them
+  pub pin-listed : (who place : ℕ) → has_pin who place core ≡ true → Contains (pins_at core who) place
+  pin-listed who place pin =
+      let h = any-found (λ (p : ℕ). p == place) (pins_at core who) pin in
+      subst (Contains (pins_at core who)) (eqb-true h.0 place h.2) h.1
+
+  pub pin-unlisted : (who place : ℕ) → has_pin who place core ≡ false → Contains (pins_at core who) place → ⊥
+  pin-unlisted who place none among =
+      false≢true (sym none ∙ any-from (λ (p : ℕ). p == place) (pins_at core who) place among (eq-eqb place place refl))
+
+  -- the right answers by the key of a place that has one
+  abbrev Keyed : ℕ → (KeyName → Right) → Right
+  Keyed place Then y = (key : KeyName) × (key_of_place (places_of core) place ≡ Some key) × Then key y
+
+  pub at-pin : (pins : List ℕ) (place : ℕ) (Then : KeyName → Right) (x : Answer) → Contains pins place → has_key place core ≡ true
+      → IsAnswer (Then (key_at place core)) x → IsAnswer (AtPin (places_of core) pins place Then) x
+  at-pin pins place Then x among has its =
+      met (Contains pins place) NoPlace (Keyed place Then) x among (λ y. (there y, λ is. (key_at place core, key_of-place place has, (its y).1 is)))
+    where
+      there : (y : Answer) → Keyed place Then y → y ≡ x
+      there y (key, at, rest) = (its y).0 (subst (λ k. Then k y) (sym (place-of_key place key at).1) rest)
+
+  pub not-pinned : (pins : List ℕ) (place : ℕ) (Then : KeyName → Right) → (Contains pins place → ⊥)
+      → IsAnswer (AtPin (places_of core) pins place Then) (Refused NoPlace)
+  not-pinned pins place Then none = unmet (Contains pins place) NoPlace (Keyed place Then) none
 
   pub names : (place : ℕ) → IsAnswer (AtPlace (places_of core) place (λ key. Only (Key_is key))) (key_of_outcome place core).0
   names place =

@@ -1,4 +1,4 @@
--- Which keys have which places after a call, and which numbers were given last.
+-- Which keys have which places after a call, which places are pinned, and which numbers were given last.
 use Rattle.std.proofs.Common.{◌≡◌, ℕ, zero, suc, ◌+◌, ◌-◌, Bool, true, false, not, inl, inr, List, [], ◌∷◌, length, map, Option, Some, None, nat_le, refl, sym, ap, subst, ◌∙◌, if◌then◌else◌}
 use Rattle.std.specs.Prelude.{Contains, slice_set, slice_index_or}
 use Rattle.std.proofs.lemmas.List.{map-append}
@@ -11,22 +11,25 @@ use Rattle.mdl_book.specs.declared.ticket.Ticket.{Ticket}
 use Rattle.mdl_book.specs.Books.{empty_book, redefining}
 use Rattle.mdl_defs.specs.declared.change.Change.{Change as Redefinition}
 use Rattle.mdl_defs.specs.declared.change_error.ChangeError.{ChangeError}
+use Rattle.mdl_calls.specs.AllCalls.{spec_of}
 use Rattle.mdl_calls.specs.declared.answers.Held.{Held}
 use Rattle.mdl_calls.specs.declared.answers.Settled.{Settled}
 use Rattle.mdl_calls.specs.declared.answers.Settled.TheVariants as settled_as
 use Rattle.mdl_calls.specs.declared.space_error.SpaceError.{SpaceError}
 use Rattle.mdl_calls.specs.declared.space_error.SpaceError.TheVariants.{OutOfMemory}
-use Rattle.mdl_calls.specs.Words.{Answer, Refused, takes_memory, Call, Resolve, Try_now, Begin_wait, Search, Poll_wait, Settle_timeout, End_wait, Wait_of, Kill, Release, Clone_ticket, Upgrade_now, Merge, Downgrade, Read_definition, Read_kept, Change_definition, Key_of, Tables_of, List_held}
+use Rattle.mdl_calls.specs.Words.{Answer, Refused, Done, At_place, Granted, Upgraded, takes_memory, Call, Resolve, Try_now, Begin_wait, Search, Poll_wait, Settle_timeout, End_wait, Wait_of, Kill, Release, Clone_ticket, Upgrade_now, Merge, Downgrade, Read_definition, Read_kept, Change_definition, Key_of, Tables_of, List_held, Unpin, SessionLocks, own_after}
+use Rattle.mdl_calls.proofs.PinLemmas.{pins_by, pins-after}
 use Rattle.mdl_core.specs.declared.pending.Pending.{Pending}
 use Rattle.mdl_core.specs.Changes.{Change, Gain, Lose, Queue, Admit, Settle, Leave, Take_up, Alter, Fold, Redefine, seat_after, book_after, is_of_book, booked_if, after_change, next_ready, admitting_if, serving}
 unfoldable use Rattle.mdl_core.specs.Changes.{admitting_up_to}
-use Rattle.mdl_core.specs.CoreCalls.{has_call, outcome, Makes, placing, resolve_outcome, refused_or, is_full, granted_unless_full, queued_unless_full, cloning_of, upgrading_of, is_lower, downgrading_of, merging_of, held_ticket, releasing_of, polling_of, timing_out_at, timing_out_of, ending_at, ending_of, is_open_wait, wait_at, searching_of, victim_at, reading_of, redefining_of, redefining_fault, redefined_unless}
-use Rattle.mdl_core.specs.Cores.{Core, book_at, seat_at, index_of, is_free_for, has_key}
-use Rattle.mdl_core.specs.Determined.{Places, places_of, PlacesAfter, PlacesAndNumbersFollow}
+use Rattle.mdl_core.specs.CoreCalls.{outcome, Makes, placing, resolve_outcome, refused_or, first_cause, unpin_causes, is_full, granted_unless_full, queued_unless_full, cloning_of, upgrading_of, is_lower, downgrading_of, merging_of, held_ticket, releasing_of, polling_of, timing_out_at, timing_out_of, ending_at, ending_of, is_open_wait, wait_at, searching_of, victim_at, reading_of, redefining_of, redefining_fault, redefined_unless}
+use Rattle.mdl_core.specs.CoreJoins.{locks_at}
+use Rattle.mdl_core.specs.Cores.{Core, book_at, seat_at, index_of, is_free_for, has_key, unpinning}
+use Rattle.mdl_core.specs.Determined.{Places, places_of, PlacesAfter, pins_after, PlacesAndNumbersFollow}
 use Rattle.mdl_core.specs.Seats.{SeatView}
 use Rattle.mdl_core.specs.Ties.{IsTied}
 use Rattle.mdl_core.proofs.CallCases.{test_cases, option_cases}
-use Rattle.mdl_core.proofs.CallLaws.{core-draws, core-others_draw}
+use Rattle.mdl_core.proofs.CallLaws.{core-changes, core-others, core-draws, core-others_draw}
 use Rattle.mdl_core.proofs.CoreReads.{found}
 use Rattle.mdl_core.proofs.PlaceAnswers.{listed, unlisted}
 use Rattle.mdl_system.specs.Strength.{covers}
@@ -178,29 +181,29 @@ is_resolve (Resolve who key) = true
 is_resolve _ = false
 
 -- no other call changes the places
-pub places-kept : (a : Core) (call : Call) → is_resolve call ≡ false → has_call call ≡ true → places_of (outcome call a).1 ≡ places_of a
-places-kept a (Resolve who key) other has = cc
-places-kept a (Try_now who place mode) other has = unless-refused a _ _ (either a (not (is_free_for who place mode a)) _ _ refl (grant-keeps a who place mode))
-places-kept a (Begin_wait who place mode) other has =
+pub places-kept : (a : Core) (call : Call) → is_resolve call ≡ false → places_of (outcome call a).1 ≡ places_of a
+places-kept a (Resolve who key) other = cc
+places-kept a (Try_now who place mode) other = unless-refused a _ _ (either a (not (is_free_for who place mode a)) _ _ refl (grant-keeps a who place mode))
+places-kept a (Begin_wait who place mode) other =
     unless-refused a _ _ (either a (not (is_free_for who place mode a)) _ _ (queue-keeps a who place mode) (grant-keeps a who place mode))
-places-kept a (Search who) other has = search-keeps a (victim_at who a)
-places-kept a (Poll_wait who) other has = poll-keeps a (seat_at who a).wait
-places-kept a (Settle_timeout who) other has = time_out-keeps a who (seat_at who a).wait
-places-kept a (End_wait who) other has = end-keeps a who (seat_at who a).wait
-places-kept a (Wait_of target) other has = refl
-places-kept a (Kill target number) other has = either a (is_open_wait number (wait_at target a)) _ _ refl refl
-places-kept a (Release who id) other has = release-keeps a who (held_ticket who id a)
-places-kept a (Clone_ticket who id mode) other has = clone-keeps a who mode (held_ticket who id a)
-places-kept a (Upgrade_now who id mode) other has = upgrade-keeps a who mode (held_ticket who id a)
-places-kept a (Merge who old new) other has = merge-keeps a who (held_ticket who old a) (held_ticket who new a)
-places-kept a (Downgrade who id mode) other has = downgrade-keeps a who mode (held_ticket who id a)
-places-kept a (Read_definition who id) other has = read-keeps a (held_ticket who id a)
-places-kept a (Read_kept who id) other has = read-keeps a (held_ticket who id a)
-places-kept a (Change_definition who id change) other has = redefine-keeps a change (held_ticket who id a)
-places-kept a (Key_of who place) other has = either a (not (has_key place a)) _ _ refl refl
-places-kept a (Tables_of who schema) other has = refl
-places-kept a (List_held who) other has = refl
-places-kept a _ other has = cc
+places-kept a (Search who) other = search-keeps a (victim_at who a)
+places-kept a (Poll_wait who) other = poll-keeps a (seat_at who a).wait
+places-kept a (Settle_timeout who) other = time_out-keeps a who (seat_at who a).wait
+places-kept a (End_wait who) other = end-keeps a who (seat_at who a).wait
+places-kept a (Wait_of target) other = refl
+places-kept a (Kill target number) other = either a (is_open_wait number (wait_at target a)) _ _ refl refl
+places-kept a (Release who id) other = release-keeps a who (held_ticket who id a)
+places-kept a (Clone_ticket who id mode) other = clone-keeps a who mode (held_ticket who id a)
+places-kept a (Upgrade_now who id mode) other = upgrade-keeps a who mode (held_ticket who id a)
+places-kept a (Merge who old new) other = merge-keeps a who (held_ticket who old a) (held_ticket who new a)
+places-kept a (Downgrade who id mode) other = downgrade-keeps a who mode (held_ticket who id a)
+places-kept a (Read_definition who id) other = read-keeps a (held_ticket who id a)
+places-kept a (Read_kept who id) other = read-keeps a (held_ticket who id a)
+places-kept a (Change_definition who id change) other = redefine-keeps a change (held_ticket who id a)
+places-kept a (Key_of who place) other = either a (not (has_key place a)) _ _ refl refl
+places-kept a (Tables_of who schema) other = refl
+places-kept a (List_held who) other = refl
+places-kept a (Unpin who place) other = unless-refused a (first_cause (unpin_causes who place a)) (Done, unpinning who place a) refl
 
 -- ---- a key is given a place
 
@@ -228,15 +231,45 @@ other-follows : (call : Call) (answer : Answer) (before after : Places) → is_r
 other-follows (Resolve who key) answer before after other same = cc
 other-follows _ answer before after other same = same
 
-call-follows : (a : Core) (call : Call) → IsTied a → has_call call ≡ true → PlacesAfter call (outcome call a).0 (places_of a) (places_of (outcome call a).1)
-call-follows a (Resolve who key) tied has = resolve-follows a who key tied
-call-follows a call tied has =
-    other-follows call (outcome call a).0 (places_of a) (places_of (outcome call a).1) refl (places-kept a call refl has)
+call-follows : (a : Core) (call : Call) → IsTied a → PlacesAfter call (outcome call a).0 (places_of a) (places_of (outcome call a).1)
+call-follows a (Resolve who key) tied = resolve-follows a who key tied
+call-follows a call tied =
+    other-follows call (outcome call a).0 (places_of a) (places_of (outcome call a).1) refl (places-kept a call refl)
+
+-- ---- pins
+
+-- a call's effect on pins is what its answer says of them
+effect-pins : (call : Call) (answer : Answer) (pins : List ℕ) → pins_by ((spec_of call).effect answer) pins ≡ pins_after call answer pins
+effect-pins (Resolve who key) (At_place place) pins = refl
+effect-pins (Unpin who place) Done pins = refl
+effect-pins (Try_now who place mode) (Granted id) pins = refl
+effect-pins (Begin_wait who place mode) (Granted id) pins = refl
+effect-pins (End_wait who) (Granted id) pins = refl
+effect-pins (Release who id) Done pins = refl
+effect-pins (Clone_ticket who id mode) (Granted copy) pins = refl
+effect-pins (Upgrade_now who id mode) Upgraded pins = refl
+effect-pins (Merge who old new) Done pins = refl
+effect-pins (Downgrade who id mode) Done pins = refl
+effect-pins _ _ pins = refl
+
+pins-follow : (call : Call) (answer : Answer) (own : SessionLocks) → (own_after call answer own).pins ≡ pins_after call answer own.pins
+pins-follow call answer own = pins-after ((spec_of call).effect answer) own ∙ effect-pins call answer own.pins
+
+-- ---- all that follows
 
 pub places-follow : PlacesAndNumbersFollow
 places-follow a b call answer sound joins = (
-  places joins.2,
-  λ who has. ((λ mine. core-draws a b call answer who mine joins), λ other. core-others_draw a b call answer who (has, sound) other joins),
+  places joins.1,
+  λ who has. (
+    (λ mine. (
+      ap (λ (own : SessionLocks). own.pins) (core-changes a b call answer who mine joins) ∙ pins-follow call answer (locks_at a who),
+      core-draws a b call answer who mine joins,
+    )),
+    λ other. (
+      ap (λ (own : SessionLocks). own.pins) (core-others a b call answer who (has, sound) other joins),
+      core-others_draw a b call answer who (has, sound) other joins,
+    ),
+  ),
 )
   where
     places : Makes (takes_memory call) (outcome call) a answer b → PlacesAfter call answer (places_of a) (places_of b)
@@ -244,4 +277,4 @@ places-follow a b call answer sound joins = (
         subst (λ told. PlacesAfter call told (places_of a) (places_of b)) (sym out.1)
         (refused-follows call OutOfMemory (places_of a) (places_of b) (ap places_of out.2))
     places (inr made) =
-        subst (λ (r : Answer × Core). PlacesAfter call r.0 (places_of a) (places_of r.1)) made (call-follows a call sound.tied joins.1)
+        subst (λ (r : Answer × Core). PlacesAfter call r.0 (places_of a) (places_of r.1)) made (call-follows a call sound.tied)

@@ -21,13 +21,13 @@ use Rattle.mdl_core.specs.Ties.{IsTied, in_book_of}
 use Rattle.mdl_core.specs.Changes.{Change, Gain, Lose, Queue, Admit, Settle, Leave, Take_up, Alter, Fold, Redefine, after_change, book_after, redefining_at, admitting_if, admitting_up_to, next_ready}
 use Rattle.mdl_core.specs.CoreCalls.{held_ticket, redefining_fault, redefined_unless, redefining_of}
 use Rattle.mdl_core.specs.Cores.{Core, book_at, seat_at, key_at, standing_at, has_key, has_session, booking}
-use Rattle.mdl_core.proofs.CoreReads.{within, has_key-booking, booked-same, booked-other}
+use Rattle.mdl_core.proofs.CoreReads.{within, has_key-booking, booked-same, booked-other, ticket-key}
 use Rattle.mdl_core.proofs.CoreServing.{found-first}
 use Rattle.mdl_core.specs.ChangeEvents.{IsChangeEvent, holding_of}
 use Rattle.mdl_core.specs.CoreLaws.{IsEventOf}
 use Rattle.mdl_core.proofs.KnownPlaces.{spares-opening}
 use Rattle.mdl_core.proofs.CallLaws.{joins-comes, core-fits}
-use Rattle.mdl_core.proofs.Ways.{Way, Stay, Pin, Open, Settle_wait, Make, Made, makes_room, served_if, space_by}
+use Rattle.mdl_core.proofs.Ways.{Way, Stay, Repin, Open, Settle_wait, Make, Made, makes_room, served_if, space_by}
 use Rattle.mdl_key.specs.Words.{Clashes}
 use Rattle.mdl_core.proofs.CoreGranted.{granted-of_held}
 use Rattle.mdl_system.specs.Words.{ChangeDefinition, Holding, lock_kind}
@@ -47,8 +47,8 @@ same_ticket o one other e f = let h = sym e ∙ f in cc
 -- what is read under a ticket stands at its place
 read-there : (a b : Core) (who id version : ℕ) (definition : Option Definition) (ticket : Held) → held_ticket who id a ≡ Some ticket
     → Joins a (Read_definition who id) (Reads version definition) b → HasRead b who ticket.place (record { version = version; definition = definition })
-read-there a b who id version definition ticket its (speaks, has, inl none) = let e = none.1 in cc
-read-there a b who id version definition ticket its (speaks, has, inr made) =
+read-there a b who id version definition ticket its (speaks, inl none) = let e = none.1 in cc
+read-there a b who id version definition ticket its (speaks, inr made) =
     let h = read-of (held_ticket who id a) a b version definition made in
     let same : h.0 ≡ ticket = same_ticket (held_ticket who id a) h.0 ticket h.1 its in
     let stands : standing_at (h.0).place a ≡ record { version = version; definition = definition } =
@@ -95,8 +95,8 @@ redefined-there a b who id version change ticket speaks its is =
 pub core-redefines : (a b : Core) (who id version : ℕ) (change : Redefinition) (ticket : Held) → ticket_held id (locks_at a who) ≡ Some ticket
     → Joins a (Change_definition who id change) (Changed version) b
     → (definition : Option Definition) × HasRead b who ticket.place (record { version = version; definition = definition })
-core-redefines a b who id version change ticket its (speaks, has, inl none) = let e = none.1 in cc
-core-redefines a b who id version change ticket its (speaks, has, inr made) =
+core-redefines a b who id version change ticket its (speaks, inl none) = let e = none.1 in cc
+core-redefines a b who id version change ticket its (speaks, inr made) =
     let is = redefined-of (held_ticket who id a) change a b version made in
     let same : is.ticket ≡ ticket = same_ticket (held_ticket who id a) is.ticket ticket is.held its in
     let counted : (standing_at ticket.place a).version + 1 ≡ version = ap (λ (t : Held). (standing_at t.place a).version + 1) (sym same) ∙ is.counted in
@@ -119,8 +119,8 @@ core-redefines_so a b who id change answer ticket key standing its exclusive kno
   where
     after : (version : ℕ) → Joins a (Change_definition who id change) (Changed version) b
         → HasRead b who ticket.place (standing_after change (standing_at ticket.place a))
-    after version (speaks, has, inl none) = let e = none.1 in cc
-    after version (speaks, has, inr made) = redefined-there a b who id version change ticket speaks its (redefined-of (held_ticket who id a) change a b version made)
+    after version (speaks, inl none) = let e = none.1 in cc
+    after version (speaks, inr made) = redefined-there a b who id version change ticket speaks its (redefined-of (held_ticket who id a) change a b version made)
 
     by : (why : Option ChangeError) → redefined_unless why ticket.place change a ≡ (answer, b)
         → MatchOption why (answer ≡ Changed ((standing_at ticket.place a).version + 1)) (λ why. answer ≡ Refused (cause_of why))
@@ -128,8 +128,8 @@ core-redefines_so a b who id change answer ticket key standing its exclusive kno
     by (Some why) e = sym (ap (λ (x : Answer × Core). x.0) e)
 
     told : Joins a (Change_definition who id change) answer b → IsChangeOf (key_at ticket.place a) change (standing_at ticket.place a) answer
-    told (speaks, has, inl none) = inl none.1
-    told (speaks, has, inr made) =
+    told (speaks, inl none) = inl none.1
+    told (speaks, inr made) =
         let of_it : redefining_of (Some ticket) change a ≡ (answer, b) = subst (λ o. redefining_of o change a ≡ (answer, b)) its made in
         let made_so : redefined_unless (redefining_fault ticket.place change a) ticket.place change a ≡ (answer, b) =
         subst (λ x. (if not x then (Refused NotExclusive, a) else redefined_unless (redefining_fault ticket.place change a) ticket.place change a) ≡ (answer, b)) exclusive of_it in
@@ -230,7 +230,7 @@ no_redefinition a call answer ticket change apart is = is
 keeps-way : (a : Core) (call : Call) (answer : Answer) (way : Way) → Made a call answer way → changes_definition call ≡ false
     → (other : ℕ) → has_key other a ≡ true → Keeps other a (space_by way a)
 keeps-way a call answer Stay made apart other has = (has, refl)
-keeps-way a call answer (Pin who place) made apart other has = (has, refl)
+keeps-way a call answer (Repin who pins) made apart other has = (has, refl)
 keeps-way a call answer (Open who key) made apart other has =
     let knows = (spares-opening a key).keys 0 other (key_at other a) (has, refl) in
     let h = within other (length a.books) has in (
@@ -304,8 +304,8 @@ kept : (a b : Core) (call : Call) (answer : Answer) → IsTied a → Joins a cal
 kept a b (Change_definition who id change) answer tied joins place has = by answer joins
   where
     by : (r : Answer) → Joins a (Change_definition who id change) r b → Keeps place a b ⊎ IsChanged a b (Change_definition who id change) r place
-    by (Changed version) (speaks, call, inl none) = let e = none.1 in cc
-    by (Changed version) (speaks, call, inr made) =
+    by (Changed version) (speaks, inl none) = let e = none.1 in cc
+    by (Changed version) (speaks, inr made) =
         changed-at a b who id change version speaks (redefined-of (held_ticket who id a) change a b version made) place has
     by (Refused refusal) j = let same = (changes-tell a b who id change).1 refusal j in inl (subst (Keeps place a) (sym same) (has, refl))
     by r j = let e = core-fits a b (Change_definition who id change) r j in cc
@@ -321,7 +321,7 @@ exclusive-alone : (a : Core) (w who : ℕ) (one other : Held) → SpeaksFor a w 
 exclusive-alone a w who one other speaks session apart mine theirs here exclusive =
     let tied = speaks.1.tied in
     let granted = granted-of_held a w one tied speaks.0 mine in
-    let place : has_key one.place a ≡ true = tied.placed w one speaks.0 (inl (inl mine)) in
+    let place = ticket-key a w one tied speaks.0 (inl (inl mine)) in
     let fits = (tied.granted_by one.place place (in_book_of w one) ((tied.granted w one speaks.0 place).1 (inl mine))).1 in
     let clash : Clashes (lock_kind (key_at one.place a)) other.mode one.mode =
     subst (λ m. Clashes (lock_kind (key_at one.place a)) m one.mode) (sym exclusive) (exclusive-clash (lock_kind (key_at one.place a)) one.mode fits) in
@@ -359,7 +359,3 @@ core-seen_stays a b call answer w place version speaks joins seen = by (kept a b
 pub core-seen_below : (a : Core) (w place version : ℕ) (standing : VersionedDefinition) → SpeaksFor a w → HasSeen a w place version
     → HasRead a w place standing → version ≤ standing.version
 core-seen_below a w place version standing speaks seen read = let e = ap (λ (s : VersionedDefinition). s.version) read.2 in omega (arith, e, seen.1)
-
--- a call that the space hasn't joins nothing
-pub has_not : {A : Type 0} → false ≡ true → A
-has_not e = cc

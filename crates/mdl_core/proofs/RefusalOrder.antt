@@ -12,15 +12,16 @@ use Rattle.mdl_defs.specs.declared.def_error.DefError.{DefError}
 use Rattle.mdl_defs.specs.Changes.{change_fault}
 use Rattle.mdl_calls.specs.declared.answers.Held.{Held}
 use Rattle.mdl_calls.specs.declared.space_error.SpaceError.{SpaceError}
-use Rattle.mdl_calls.specs.declared.space_error.SpaceError.TheVariants.{NoPlace, NotHeld, NotUpgradable, NotExclusive, AlreadyWaiting, BadMode, VersionFull, CounterFull, Full, Def, WrongKind}
+use Rattle.mdl_calls.specs.declared.space_error.SpaceError.TheVariants.{NoPlace, NotHeld, NotUpgradable, NotExclusive, AlreadyWaiting, BadMode, InUse, VersionFull, CounterFull, Full, Def, WrongKind}
 use Rattle.mdl_calls.specs.Words.{Answer, Refused, Done, Would_wait, may_merge}
-use Rattle.mdl_core.specs.CoreCalls.{refused_or, first_cause, request_causes, clone_causes, held_ticket, upgrade_causes, upgraded_if_free, is_lower, downgrading_of, merge_causes, merging_of, queued_unless_full, granted_unless_full, is_counted_out, is_full, redefining_fault, redefined_unless, redefining_of}
+use Rattle.mdl_core.specs.CoreCalls.{is_needed, unpin_causes, refused_or, first_cause, request_causes, clone_causes, held_ticket, upgrade_causes, upgraded_if_free, is_lower, downgrading_of, merge_causes, merging_of, queued_unless_full, granted_unless_full, is_counted_out, is_full, redefining_fault, redefined_unless, redefining_of}
 use Rattle.mdl_core.specs.Changes.{folding, serving}
-use Rattle.mdl_core.specs.Cores.{Core, seat_at, standing_at, has_key, is_free_for}
+use Rattle.mdl_core.specs.Cores.{Core, seat_at, standing_at, has_pin, is_free_for, unpinning}
 use Rattle.mdl_core.specs.declared.pending.Pending.{Pending}
-use Rattle.mdl_core.specs.RefusalLaws.{IsIdle, is_mode_at, serves_for, is_upgradable, suits_place, MayChangeThere, RefusesWishesInOrder, RefusesClonesInOrder, RefusesNewModesInOrder, RefusesMergesInOrder, RefusesChangesInOrder}
-use Rattle.mdl_core.specs.SessionLaws.{HasWait, HasNoNumber, HasNoRoom, HasNoVersion}
+use Rattle.mdl_core.specs.RefusalLaws.{IsIdle, is_mode_at, serves_for, is_upgradable, suits_place, MayChangeThere, RefusesWishesInOrder, RefusesUnpinsInOrder, RefusesClonesInOrder, RefusesNewModesInOrder, RefusesMergesInOrder, RefusesChangesInOrder}
+use Rattle.mdl_core.specs.SessionLaws.{HasWait, Needs, HasNoNumber, HasNoRoom, HasNoVersion}
 use Rattle.mdl_core.proofs.CallCases.{not-exclusive}
+use Rattle.mdl_core.proofs.NeededPlaces.{needs-told, needs-from}
 
 -- a cause that stands is answered, and one that doesn't is passed over
 module _ (core : Core) (end : Answer × Core) where
@@ -59,27 +60,27 @@ abbrev pub wished : ℕ → Core → ℕ → ℕ → Mode → Answer × Core →
 wished past core who place mode end = refused_or (first_cause (drop past (request_causes who place mode core))) core end
 
 module _ (core : Core) (who place : ℕ) (mode : Mode) (end : Answer × Core) where
-  no-place : has_key place core ≡ false → wished 0 core who place mode end ≡ (Refused NoPlace, core)
-  no-place absent = answered core end (not (has_key place core)) NoPlace (drop 1 (request_causes who place mode core)) (ap not absent)
+  no-place : has_pin who place core ≡ false → wished 0 core who place mode end ≡ (Refused NoPlace, core)
+  no-place absent = answered core end (not (has_pin who place core)) NoPlace (drop 1 (request_causes who place mode core)) (ap not absent)
 
-  past-place : has_key place core ≡ true → wished 0 core who place mode end ≡ wished 1 core who place mode end
-  past-place there = passed core end (not (has_key place core)) NoPlace (drop 1 (request_causes who place mode core)) (ap not there)
+  past-place : has_pin who place core ≡ true → wished 0 core who place mode end ≡ wished 1 core who place mode end
+  past-place there = passed core end (not (has_pin who place core)) NoPlace (drop 1 (request_causes who place mode core)) (ap not there)
 
-  wish-waiting : has_key place core ≡ true → (wait : Pending) → HasWait core who wait
+  wish-waiting : has_pin who place core ≡ true → (wait : Pending) → HasWait core who wait
       → wished 0 core who place mode end ≡ (Refused AlreadyWaiting, core)
   wish-waiting there wait waits =
       past-place there ∙ answered core end (is_some (seat_at who core).wait) AlreadyWaiting (drop 2 (request_causes who place mode core)) (ap is_some waits)
 
-  past-wait : has_key place core ≡ true → IsIdle core who → wished 0 core who place mode end ≡ wished 2 core who place mode end
+  past-wait : has_pin who place core ≡ true → IsIdle core who → wished 0 core who place mode end ≡ wished 2 core who place mode end
   past-wait there idle =
       past-place there ∙ passed core end (is_some (seat_at who core).wait) AlreadyWaiting (drop 2 (request_causes who place mode core)) (ap is_some idle)
 
-  bad-mode : has_key place core ≡ true → IsIdle core who → is_mode_at place mode core ≡ false
+  bad-mode : has_pin who place core ≡ true → IsIdle core who → is_mode_at place mode core ≡ false
       → wished 0 core who place mode end ≡ (Refused BadMode, core)
   bad-mode there idle bad =
       past-wait there idle ∙ answered core end (not (is_mode_at place mode core)) BadMode (drop 3 (request_causes who place mode core)) (ap not bad)
 
-  no-number : has_key place core ≡ true → IsIdle core who → is_mode_at place mode core ≡ true → HasNoNumber core who
+  no-number : has_pin who place core ≡ true → IsIdle core who → is_mode_at place mode core ≡ true → HasNoNumber core who
       → wished 0 core who place mode end ≡ (Refused CounterFull, core)
   no-number there idle fits none =
       past-wait there idle ∙ passed core end (not (is_mode_at place mode core)) BadMode (drop 3 (request_causes who place mode core)) (ap not fits)
@@ -97,6 +98,29 @@ refuses-wishes_in_order core who place mode call asks = elim asks [
 
     begun : Answer × Core
     begun = if not (is_free_for who place mode core) then queued_unless_full who place mode core else granted_unless_full who place mode core
+
+-- ---- a pin is given up
+
+module _ (core : Core) (who place : ℕ) where
+  -- it is, if so many causes are passed over and no other stands
+  abbrev unpinned : ℕ → Answer × Core
+  unpinned past = refused_or (first_cause (drop past (unpin_causes who place core))) core (Done, unpinning who place core)
+
+  past-pin : has_pin who place core ≡ true → unpinned 0 ≡ unpinned 1
+  past-pin pin = passed core (Done, unpinning who place core) (not (has_pin who place core)) NoPlace (drop 1 (unpin_causes who place core)) (ap not pin)
+
+  not-needed : (needed : Bool) → is_needed who place core ≡ needed → (Needs core who place → ⊥) → is_needed who place core ≡ false
+  not-needed true e none = absurd (none (needs-told core who place e))
+  not-needed false e none = e
+
+pub refuses-unpins_in_order : RefusesUnpinsInOrder
+refuses-unpins_in_order core who place = (
+  (λ none. answered core (Done, unpinning who place core) (not (has_pin who place core)) NoPlace (drop 1 (unpin_causes who place core)) (ap not none)),
+  (λ pin needs. past-pin core who place pin
+      ∙ answered core (Done, unpinning who place core) (is_needed who place core) InUse [] (needs-from core who place needs)),
+  λ pin none. past-pin core who place pin
+      ∙ passed core (Done, unpinning who place core) (is_needed who place core) InUse [] (not-needed core who place (is_needed who place core) refl none),
+)
 
 -- ---- a second ticket is asked for
 

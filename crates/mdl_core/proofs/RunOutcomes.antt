@@ -12,7 +12,7 @@ use Rattle.mdl_core.proofs.CoreSound.{calls_keep-sound}
 
 -- a call makes its outcome, or finds no memory
 pub steps-or_wants : StepsOrWants Joins outcome
-steps-or_wants a b call answer joins = joins.2
+steps-or_wants a b call answer joins = joins.1
 
 -- a run of a faithful program whose reply is no fault is its outcome
 pub sure-run : {A : Type 0} (F : A → Type 0) (program : Program A) (a b : Core) (reply : A) →
@@ -27,7 +27,7 @@ frugal-runs A program a b reply frugal run = runs_frugal Joins outcome steps-or_
 
 -- a call for the session or for nobody joins by its outcome
 makes : (who : ℕ) (a : Core) (call : Call) → SpeaksFor a who → IsMadeFor who call → Joins a call (outcome call a).0 (outcome call a).1
-makes who a call speaks made = (allowed (caller call) made.1, made.0, inr refl)
+makes who a call speaks made = (allowed (caller call) made, inr refl)
   where
     allowed : (maker : Option ℕ) → IfSome maker (λ w. w ≡ who) → IfSome maker (SpeaksFor a)
     allowed None same = tt

@@ -55,26 +55,26 @@ none-memory e = cc
 
 -- a search that names no victim
 pub none-joined : (a b : Core) (who : ℕ) → Joins a (Search who) No_cycle b → (victim_at who a ≡ None) × (b ≡ a)
-none-joined a b who (speaks, has, inl made) = absurd (none-memory made.1)
-none-joined a b who (speaks, has, inr made) = told-none (victim_at who a) a b made
+none-joined a b who (speaks, inl made) = absurd (none-memory made.1)
+none-joined a b who (speaks, inr made) = told-none (victim_at who a) a b made
 
 -- and one that does
 some-joined : (a b : Core) (who victim : ℕ) → Joins a (Search who) (Victim_is victim) b
     → (victim_at who a ≡ Some victim) × (b ≡ losing victim settled_as.Victim a)
-some-joined a b who victim (speaks, has, inl made) = absurd (not_memory victim made.1)
-some-joined a b who victim (speaks, has, inr made) = told-some (victim_at who a) a b victim made
+some-joined a b who victim (speaks, inl made) = absurd (not_memory victim made.1)
+some-joined a b who victim (speaks, inr made) = told-some (victim_at who a) a b victim made
 
 -- a search that finds no memory, or is one of these
 pub which-joined : (a b : Core) (who : ℕ) (answer : Answer) → Joins a (Search who) answer b
     → (answer ≡ Refused OutOfMemory) ⊎ ((answer ≡ No_cycle) ⊎ ((victim : ℕ) × (answer ≡ Victim_is victim)))
-which-joined a b who answer (speaks, has, inl made) = inl made.1
-which-joined a b who answer (speaks, has, inr made) = inr (told-other (victim_at who a) a b answer made)
+which-joined a b who answer (speaks, inl made) = inl made.1
+which-joined a b who answer (speaks, inr made) = inr (told-other (victim_at who a) a b answer made)
 
 -- a search that finds memory is one of these
 pub either-joined : (a b : Core) (who : ℕ) (answer : Answer) → Joins a (Search who) answer b → finds_no_memory answer ≡ false
     → (answer ≡ No_cycle) ⊎ ((victim : ℕ) × (answer ≡ Victim_is victim))
-either-joined a b who answer (speaks, has, inl made) memory = absurd (false≢true (sym memory ∙ ap finds_no_memory made.1))
-either-joined a b who answer (speaks, has, inr made) memory = told-other (victim_at who a) a b answer made
+either-joined a b who answer (speaks, inl made) memory = absurd (false≢true (sym memory ∙ ap finds_no_memory made.1))
+either-joined a b who answer (speaks, inr made) memory = told-other (victim_at who a) a b answer made
 
 -- ---- what a search finds
 

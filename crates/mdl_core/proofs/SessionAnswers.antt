@@ -13,13 +13,14 @@ use Rattle.mdl_calls.specs.Words.{Answer, Refused, Holds, is_number}
 use Rattle.mdl_core.specs.declared.pending.Pending.{Pending}
 use Rattle.mdl_core.specs.ChangeEvents.{holding_of}
 use Rattle.mdl_core.specs.CoreCalls.{held_ticket}
-use Rattle.mdl_core.specs.Cores.{Core, seat_at, key_at, has_key, has_session}
+use Rattle.mdl_core.specs.Cores.{Core, seat_at, key_at, has_session}
 use Rattle.mdl_core.specs.CoreSystems.{system_of, wait_state_of}
 use Rattle.mdl_core.specs.Determined.{Right, places_of, OfHolding, HoldsAtPlace, ToList, IsWait, OfWait}
 use Rattle.mdl_core.specs.SessionLaws.{HasWait, waiter_for, HasWhatTheSystemSays}
 use Rattle.mdl_core.specs.Ties.{IsTied}
 use Rattle.mdl_system.specs.Words.{WaitState, Unsettled, Victim, TimedOut, Killed, Holding, Waiter, System, Held as IsHeld, HasNoWait}
 use Rattle.mdl_core.proofs.CoreGranted.{held-in}
+use Rattle.mdl_core.proofs.CoreReads.{ticket-key}
 use Rattle.mdl_core.proofs.CoreServing.{found-first}
 use Rattle.mdl_core.proofs.PairLemmas.{below, pairs-from_rising, same-number}
 use Rattle.mdl_core.proofs.PlaceAnswers.{key_of-place, place-of_key}
@@ -169,13 +170,13 @@ module _ (a : Core) (who : ℕ) (tied : IsTied a) (has : has_session who a ≡ t
 
   hand-to : (held : Held) → Contains (seat_at who a).held held → HoldsAtPlace (system_of a) (places_of a) who held
   hand-to held among =
-      (key_at held.place a, key_of-place a held.place (tied.placed who held has (inl (inl among))), held-in a who held tied has among)
+      (key_at held.place a, key_of-place a held.place (ticket-key a who held tied has (inl (inl among))), held-in a who held tied has among)
 
   hand-from : (held : Held) → HoldsAtPlace (system_of a) (places_of a) who held → Contains (seat_at who a).held held
   hand-from held (key, there, is) =
       let at = place-of_key a held.place key there in
       let mine = in-hand (record { session = who; number = held.id; key = key; mode = held.mode }) is in
-      let placed : has_key (mine.0).place a ≡ true = tied.placed who mine.0 has (inl (inl mine.1)) in
+      let placed = ticket-key a who mine.0 tied has (inl (inl mine.1)) in
       let keys : key_at held.place a ≡ key_at (mine.0).place a = at.1 ∙ ap (λ (h : Holding). h.key) mine.2 in
       let place : held.place ≡ (mine.0).place = tied.keys held.place (mine.0).place at.0 placed keys in
       let number : held.id ≡ (mine.0).id = ap (λ (h : Holding). h.number) mine.2 in

@@ -41,7 +41,7 @@ kills-so a target number =
 -- the number that is told is that of the wait which is found
 told : (a b : Core) (target : ℕ) (number : Option ℕ) → Joins a (Wait_of target) (Has_wait number) b
     → number ≡ option_map (λ (wait : Pending). wait.number) (wait_at target a)
-told a b target number joins = elim joins.2 [ inl out ↦ (let e = out.0 in cc) | inr e ↦ is (ap (λ (r : Answer × Core). r.0) e) ]
+told a b target number joins = elim joins.1 [ inl out ↦ (let e = out.0 in cc) | inr e ↦ is (ap (λ (r : Answer × Core). r.0) e) ]
   where
     is : Has_wait (option_map (λ (wait : Pending). wait.number) (wait_at target a)) ≡ Has_wait number
         → number ≡ option_map (λ (wait : Pending). wait.number) (wait_at target a)
@@ -49,7 +49,7 @@ told a b target number joins = elim joins.2 [ inl out ↦ (let e = out.0 in cc) 
 
 pub kills-just : KillsJustThatWait
 kills-just = (
-  (λ a b target number killed joins. elim joins.2 [
+  (λ a b target number killed joins. elim joins.1 [
     | inl out ↦ (let e = out.0 in cc)
     | inr e ↦ subst (Kills a target number) e (kills-so a target number) killed refl
   ]),

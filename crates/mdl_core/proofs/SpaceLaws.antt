@@ -1,11 +1,11 @@
 -- The space of one thread has the laws of a lock space.
-use Rattle.std.proofs.Common.{refl}
+use Rattle.std.proofs.Common.{inl, inr}
 use Rattle.mdl_calls.specs.SpaceLaws.{SpaceLaws}
 use Rattle.mdl_core.specs.CoreJoins.{SpeaksFor, locks_at, Knows, IsSettledAs, numbers_at, HasRead, HasSeen, Joins}
-use Rattle.mdl_core.proofs.CallLaws.{core-allowed, core-keeps, core-changes, core-others, core-draws, core-others_draw, core-rising, core-fits, core-explains, core-lists, core-resolves, core-tells_key, core-tells_tables, core-remembers, core-waits_settled, core-settled_once, core-tells, core-stays, core-agrees, core-victims, core-counts, core-kills, core-kills_or_settled, core-upgrades}
+use Rattle.mdl_core.proofs.CallLaws.{core-allowed, core-keeps, core-changes, core-others, core-draws, core-others_draw, core-rising, core-fits, core-explains, core-lists, core-resolves, core-tells_key, core-tells_tables, core-remembers, core-waits_settled, core-settled_once, core-tells, core-stays, core-agrees, core-victims, core-counts, core-kills, core-kills_or_settled, core-upgrades, core-unpins_in_use}
 use Rattle.mdl_core.proofs.CoreSound.{calls_keep-sound}
-use Rattle.mdl_core.proofs.KnownPlaces.{core-one_key, core-one_place, core-held_places, core-wait_place}
-use Rattle.mdl_core.proofs.ReadLaws.{core-reads, core-redefines, core-redefines_so, core-reads_one, core-stands, core-reads_fit, core-sees, core-seen_stays, core-seen_below, has_not}
+use Rattle.mdl_core.proofs.KnownPlaces.{core-one_key, core-one_place, core-pins_rise, core-pinned_known, core-held_pinned, core-wait_pinned}
+use Rattle.mdl_core.proofs.ReadLaws.{core-reads, core-redefines, core-redefines_so, core-reads_one, core-stands, core-reads_fit, core-sees, core-seen_stays, core-seen_below}
 
 -- it keeps nothing of what was met, and owes nothing
 pub core-laws : SpaceLaws SpeaksFor locks_at Knows IsSettledAs numbers_at HasRead (λ _ _ _ _. Unit {0}) HasSeen (λ _ _ _. ⊥) Joins
@@ -22,8 +22,10 @@ core-laws = record {
   remembers = core-remembers;
   one_key = core-one_key;
   one_place = core-one_place;
-  held_places = core-held_places;
-  wait_place = core-wait_place;
+  pins_rise = core-pins_rise;
+  pinned_known = core-pinned_known;
+  held_pinned = core-held_pinned;
+  wait_pinned = core-wait_pinned;
   tells = core-tells;
   waits_settled = core-waits_settled;
   settled_once = core-settled_once;
@@ -49,7 +51,6 @@ core-laws = record {
   upgrades = core-upgrades;
   tells_key = core-tells_key;
   tells_tables = core-tells_tables;
-  pinned_known = λ a w place speaks pins. (_, (speaks.1.tied.pinned w place speaks.0 pins, refl));
   no_new_debts = λ a b call answer w place speaks j owes. owes;
-  unpins_in_use = λ a b who place j. has_not j.1;
+  unpins_in_use = λ a b who place joins. elim (core-unpins_in_use a b who place joins) [ inl holds ↦ inl holds | inr awaits ↦ inr (inl awaits) ];
 }

@@ -14,13 +14,13 @@ use Rattle.mdl_book.specs.Tickets.{ticket_id}
 use Rattle.mdl_defs.specs.VersionedDefinitions.{MayStand}
 use Rattle.mdl_defs.proofs.VersionedDefinitionLemmas.{nothing-stands}
 use Rattle.mdl_calls.specs.declared.answers.Held.{Held}
-use Rattle.mdl_calls.specs.Words.{is_pinned}
+use Rattle.mdl_calls.specs.SessionLocks.{are_rising_places, is_pinned}
 use Rattle.mdl_core.specs.Cores.{Core, empty_core, book_at, seat_at, key_at, index_of, has_key, has_session}
 use Rattle.mdl_core.specs.CoreSystems.{granted_in, book_of, waiter_in, defined_in, system_of}
 use Rattle.mdl_core.specs.Changes.{opening}
 use Rattle.mdl_core.specs.Seats.{SeatView, empty_seat, locks_of_seat}
 use Rattle.mdl_core.specs.Ties.{HasGrantedTicket, Awaits, in_book_of, HasRisingNumbers, IsTied, AllMayStand}
-use Rattle.mdl_core.proofs.CoreReads.{within, of_within, found-at}
+use Rattle.mdl_core.proofs.CoreReads.{within, of_within, found-at, ticket-key}
 use Rattle.mdl_core.proofs.CoreWaiting.{book-there, place_told, book-nowhere, not_there}
 use Rattle.mdl_core.proofs.PairLemmas.{none-in}
 use Rattle.mdl_system.specs.Words.{SameSystem, Holding}
@@ -56,6 +56,7 @@ tied-empty places sessions = record {
   numbered = λ who session. subst HasRisingNumbers (sym (tied-nothing places sessions who session))
       (record { rising = refl; held = λ ticket held. absurd (none-in ticket held); wait = tt });
   pinned = λ who place session pins. (let h = subst (λ s. is_pinned place (locks_of_seat s) ≡ true) (tied-nothing places sessions who session) pins in cc);
+  in_order = λ who session. subst (λ s. are_rising_places s.pins ≡ true) (sym (tied-nothing places sessions who session)) refl;
 }
 
 -- ---- a new key
@@ -125,13 +126,14 @@ module _ (key : KeyName) (core : Core) (tied : IsTied core) (new : index_of key 
         tied.granted_by (λ ticket among. absurd (none-in ticket among));
     waiting_by = by-place (λ p b. (ticket : Ticket) → Contains b.waiting ticket → (has_session ticket.session core ≡ true) × IsTrue (is_mode_of (lock_kind b) ticket.mode))
         tied.waiting_by (λ ticket among. absurd (none-in ticket among));
-    granted = matches (λ b. b.granted) HasGrantedTicket refl tied.granted (λ who ticket session had. tied.placed who ticket session (inl had));
-    waiting = matches (λ b. b.waiting) Awaits refl tied.waiting (λ who ticket session waits. tied.placed who ticket session (inr waits));
-    placed = λ who ticket session has. still ticket.place (tied.placed who ticket session has);
+    granted = matches (λ b. b.granted) HasGrantedTicket refl tied.granted (λ who ticket session had. ticket-key core who ticket tied session (inl had));
+    waiting = matches (λ b. b.waiting) Awaits refl tied.waiting (λ who ticket session waits. ticket-key core who ticket tied session (inr waits));
+    placed = tied.placed;
     granted_once = by-place (λ p b. AreApart ticket_id b.granted) tied.granted_once (λ i j d lt short. absurd (omega arith));
     waiting_once = by-place (λ p b. AreApart (λ (t : Ticket). t.session) b.waiting) tied.waiting_once (λ i j d lt short. absurd (omega arith));
     numbered = tied.numbered;
     pinned = λ who place session pins. still place (tied.pinned who place session pins);
+    in_order = tied.in_order;
   }
 
   -- and nothing stands under the new key

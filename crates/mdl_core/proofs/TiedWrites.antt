@@ -8,9 +8,10 @@ use Rattle.mdl_book.specs.declared.ticket.Ticket.{Ticket}
 use Rattle.mdl_book.specs.Books.{lock_kind}
 use Rattle.mdl_book.specs.Tickets.{ticket_id}
 use Rattle.mdl_calls.specs.declared.answers.Held.{Held}
-use Rattle.mdl_core.specs.Cores.{Core, book_at, seat_at, key_at, has_key, has_session, booking, seating}
+use Rattle.mdl_calls.specs.SessionLocks.{are_rising_places, is_pinned}
+use Rattle.mdl_core.specs.Cores.{Core, book_at, seat_at, key_at, has_key, has_pin, has_session, booking, seating}
 use Rattle.std.specs.List.{list_any}
-use Rattle.mdl_core.specs.Seats.{SeatView}
+use Rattle.mdl_core.specs.Seats.{SeatView, locks_of_seat}
 use Rattle.mdl_core.specs.Ties.{HasGrantedTicket, Awaits, in_book_of, HasRisingNumbers, IsTied}
 use Rattle.mdl_core.proofs.CoreReads.{has_key-booking, has_session-seating, booked-same, booked-other, seated-same, seated-other}
 use Rattle.mdl_core.proofs.Effects.{through, back}
@@ -60,6 +61,8 @@ pub record Fits (core : Core) (who place : ℕ) (book : BookView) (seat : SeatVi
   pub granted_once : AllPairs (λ (one other : Ticket). ticket_id one ≢ ticket_id other) book.granted
   pub waiting_once : AllPairs (λ (one other : Ticket). one.session ≢ other.session) book.waiting
   pub numbered : HasRisingNumbers seat
+  -- the session pins the place, and its pins stay
+  pub pin : has_pin who place core ≡ true
   pub pins : seat.pins ≡ (seat_at who core).pins
 
 module _ (core : Core) (who place : ℕ) (book : BookView) (seat : SeatView) (session : has_session who core ≡ true) (key : has_key place core ≡ true) where
@@ -138,10 +141,10 @@ module _ (core : Core) (who place : ℕ) (book : BookView) (seat : SeatView) (se
         (λ v is_v _. before v ticket is_v (subst (λ p. has_key p core ≡ true) (sym there) has_other)) w is))
         ticket.place (had_key ticket.place is_key) w ticket (had_session w is_session) refl
 
-    -- what the session has stands at places that have keys
-    own-placed : (ticket : Held) → HasGrantedTicket seat ticket ⊎ Awaits seat ticket → has_key ticket.place core ≡ true
+    -- what the session has stands at places that it pins
+    own-placed : (ticket : Held) → HasGrantedTicket seat ticket ⊎ Awaits seat ticket → has_pin who ticket.place core ≡ true
     own-placed ticket has = elim (nat_told ticket.place place) [
-      | inl here ↦ subst (λ p. has_key p core ≡ true) (sym here) key
+      | inl here ↦ subst (λ p. has_pin who p core ≡ true) (sym here) fits.pin
       | inr there ↦ tied.placed who ticket session (elim has [
         | inl held ↦ inl ((fits.granted.elsewhere ticket there).0 held)
         | inr waits ↦ inr ((fits.waiting.elsewhere ticket there).0 waits)
@@ -175,8 +178,8 @@ module _ (core : Core) (who place : ℕ) (book : BookView) (seat : SeatView) (se
       granted = matches (λ b. b.granted) HasGrantedTicket fits.granted tied.granted;
       waiting = matches (λ b. b.waiting) Awaits fits.waiting tied.waiting;
       placed = λ w ticket has_w has.
-          has_key-booking (seating who seat core) place ticket.place book
-          ∙ at_session (λ v s. HasGrantedTicket s ticket ⊎ Awaits s ticket → has_key ticket.place core ≡ true) (own-placed ticket)
+          at_session (λ v s. HasGrantedTicket s ticket ⊎ Awaits s ticket → is_pinned ticket.place (locks_of_seat s) ≡ true)
+          (λ own. ap (list_any (λ pin. pin == ticket.place)) fits.pins ∙ own-placed ticket own)
           (λ v is_v _. tied.placed v ticket is_v) w (had_session w has_w) has;
       granted_once = λ at has. at_place (λ _ b. AllPairs (λ (one other : Ticket). ticket_id one ≢ ticket_id other) b.granted)
           fits.granted_once (λ other has_other _. tied.granted_once other has_other) at (had_key at has);
@@ -187,4 +190,6 @@ module _ (core : Core) (who place : ℕ) (book : BookView) (seat : SeatView) (se
           has_key-booking (seating who seat core) place p book
           ∙ at_session (λ v s. list_any (λ pin. pin == p) s.pins ≡ true → has_key p core ≡ true)
           (λ own. tied.pinned who p session (ap (list_any (λ pin. pin == p)) (sym fits.pins) ∙ own)) (λ v is_v _. tied.pinned v p is_v) w (had_session w has) pins;
+      in_order = λ w has. at_session (λ v s. are_rising_places s.pins ≡ true) (ap are_rising_places fits.pins ∙ tied.in_order who session)
+          (λ v is_v _. tied.in_order v is_v) w (had_session w has);
     }

@@ -1,5 +1,5 @@
 -- What comes of a call in the space of one thread: the way that it goes, what is asked of it, and what it leaves to the sessions.
-use Rattle.std.proofs.Common.{◌≡◌, ◌⊎◌, ℕ, ◌+◌, Bool, true, false, Some, None, MatchOption, IfSome, length, option_map}
+use Rattle.std.proofs.Common.{◌≡◌, ◌⊎◌, ℕ, ◌+◌, Bool, true, false, List, Some, None, MatchOption, IfSome, length, option_map}
 use Rattle.mdl_key.specs.Keys.{KeyName}
 use Rattle.mdl_key.specs.declared.mode.Mode.{Mode}
 use Rattle.mdl_defs.specs.declared.change.Change.{Change as Redefinition}
@@ -14,19 +14,21 @@ use Rattle.mdl_core.specs.Changes.{Change, Lose, Settle, Leave, Alter, Fold, May
 use Rattle.mdl_core.specs.CoreCalls.{wait_at, is_open_wait, held_ticket}
 use Rattle.mdl_core.specs.CoreJoins.{locks_at, numbers_at, Knows}
 use Rattle.mdl_core.specs.CoreLaws.{is_change, IsEventOf}
-use Rattle.mdl_core.specs.Cores.{Core, seat_at, key_at, has_key, has_session, index_of, pinning, table_places}
+use Rattle.mdl_core.specs.Cores.{Core, seat_at, key_at, has_session, index_of, pinning, table_places}
 use Rattle.mdl_core.specs.CoreSystems.{system_of}
 use Rattle.mdl_core.specs.Seats.{SeatView, locks_of_seat, numbers_of_seat, with_pin}
 use Rattle.mdl_core.specs.SessionLaws.{MeetsLimit}
 use Rattle.mdl_system.specs.Words.{WaitsForCause, Event, IsGrantable, covers, may_downgrade}
+use Rattle.mdl_core.proofs.PinnedSeats.{MayPin, repinned, repinning}
 use Rattle.mdl_core.proofs.SparedSeats.{HasSettled, is_end}
 
 -- ---- ways
 
--- nothing changes; the caller pins a place that has a key; a key is given the next place, which the caller pins; a session's wait is lost; or the caller makes a change of its own at a place
+-- nothing changes; the caller pins these places instead of those that it pinned; a key is given the next place, which the caller pins;
+-- a session's wait is lost; or the caller makes a change of its own at a place
 pub data Way : Type 0 where
   Stay : Way
-  Pin : (who place : ℕ) → Way
+  Repin : (who : ℕ) → List ℕ → Way
   Open : (who : ℕ) → KeyName → Way
   Settle_wait : (who place : ℕ) → Settled → Way
   Make : (who place : ℕ) → Change → Way
@@ -46,7 +48,7 @@ served_if false place core = core
 -- the space after it, before waiters are granted
 abbrev pub mid_by : Way → Core → Core
 mid_by Stay a = a
-mid_by (Pin who place) a = pinning who place a
+mid_by (Repin who pins) a = repinning who pins a
 mid_by (Open who key) a = pinning who (length a.books + 1) (opening key a)
 mid_by (Settle_wait who place how) a = after_change who place (Settle how) a
 mid_by (Make who place change) a = after_change who place change a
@@ -59,7 +61,7 @@ space_by way a = mid_by way a
 -- the caller's seat after it, but for how its wait is settled
 abbrev pub seat_by : Way → ℕ → Core → SeatView
 seat_by (Make who place change) w a = seat_after place change (seat_at w a)
-seat_by (Pin who place) w a = with_pin place (seat_at w a)
+seat_by (Repin who pins) w a = repinned pins (seat_at w a)
 seat_by (Open who key) w a = with_pin (length a.books + 1) (seat_at w a)
 seat_by way w a = seat_at w a
 
@@ -116,7 +118,7 @@ pub record IsCalm (a : Core) (call : Call) (answer : Answer) (who : ℕ) : Type 
 
 abbrev pub IsWay : Core → Call → Answer → Way → Type 0
 IsWay a call answer Stay = is_change a call answer ≡ false
-IsWay a call answer (Pin who place) = IsCalm a call answer who × (has_key place a ≡ true)
+IsWay a call answer (Repin who pins) = IsCalm a call answer who × MayPin a who pins
 IsWay a call answer (Open who key) = IsCalm a call answer who × (index_of key a.books ≡ None)
 IsWay a call answer (Settle_wait who place how) = IsMade a call answer who place (Settle how)
 IsWay a call answer (Make who place change) =

@@ -14,7 +14,7 @@ use Rattle.mdl_calls.specs.declared.answers.Settled.TheVariants as settled_as
 use Rattle.mdl_calls.specs.Words.{may_merge}
 use Rattle.mdl_core.specs.declared.pending.Pending.{Pending}
 use Rattle.mdl_core.specs.Seats.{SeatView, holding, without_ticket, beginning_wait, is_unsettled_wait, with_settled_wait, seat_without_wait, with_ticket_of, with_ticket_in}
-use Rattle.mdl_core.specs.Cores.{Core, book_at, seat_at, has_key, has_session, is_free_for, booking, seating}
+use Rattle.mdl_core.specs.Cores.{Core, book_at, seat_at, has_key, has_pin, has_session, is_free_for, booking, seating}
 
 -- ---- one change
 
@@ -108,10 +108,12 @@ Allows who place (Redefine ticket change) seat book =
     Contains seat.held ticket × (ticket.place ≡ place) × (ticket.mode ≡ X)
     × (standing_fault book.key.namespace change book.standing ≡ None)
 
--- a change may be made: there are such a session and such a place, and the seat and the book are as it requires
+-- a change may be made: there are such a session and such a place, the session pins the place, and the seat and the book are as the
+-- change requires
 pub record May (who place : ℕ) (change : Change) (core : Core) : Type 0 where
   pub session : has_session who core ≡ true
   pub key : has_key place core ≡ true
+  pub pin : has_pin who place core ≡ true
   pub allows : Allows who place change (seat_at who core) (book_at place core)
 
 -- ---- each change by its name

@@ -1,5 +1,6 @@
 -- What each call of the lock space of one thread answers, and what it does to the space.
 use Rattle.std.specs.Prelude.{◌≡◌, ℕ, ◌+◌, ◌-◌, ◌^◌, ◌⊎◌, Bool, true, false, not, ◌&&◌, ◌||◌, ◌==◌, nat_le, List, [], ◌∷◌, length, find, Option, Some, None, is_some, if◌then◌else◌}
+use Rattle.std.specs.List.{list_any}
 use Rattle.std.specs.Option.{option_map}
 use Rattle.mdl_key.specs.declared.mode.Mode.{Mode}
 use Rattle.mdl_key.specs.declared.mode.Mode.TheVariants.{X}
@@ -12,14 +13,14 @@ use Rattle.mdl_book.specs.declared.book_error.BookError.{BookError}
 use Rattle.mdl_book.specs.declared.book_error.BookError.TheVariants as book_error
 use Rattle.mdl_graph.specs.Graphs.{victim_in}
 use Rattle.mdl_calls.specs.declared.space_error.SpaceError.{SpaceError}
-use Rattle.mdl_calls.specs.declared.space_error.SpaceError.TheVariants.{NoPlace, NotHeld, NotUpgradable, NotExclusive, AlreadyWaiting, BadMode, NoWait, Unsettled, CounterFull, Full, OutOfMemory}
+use Rattle.mdl_calls.specs.declared.space_error.SpaceError.TheVariants.{NoPlace, NotHeld, NotUpgradable, NotExclusive, AlreadyWaiting, BadMode, InUse, NoWait, Unsettled, CounterFull, Full, OutOfMemory}
 use Rattle.mdl_calls.specs.declared.answers.Held.{Held}
 use Rattle.mdl_calls.specs.declared.answers.Settled.{Settled}
 use Rattle.mdl_calls.specs.declared.answers.Settled.TheVariants as settled_as
 use Rattle.mdl_calls.specs.declared.answers.TimedOut.TheVariants.{ByThisCall, Already}
 use Rattle.mdl_core.specs.declared.pending.Pending.{Pending}
-use Rattle.mdl_calls.specs.Words.{Answer, Refused, Done, At_place, Granted, Would_wait, Waits, No_cycle, Victim_is, Pending as Is_pending, Is_settled, Timed_out, Lost, Has_wait, Has_killed, Holds, Reads, Changed, Key_is, Tables, Upgraded, Call, Resolve, Try_now, Begin_wait, Search, Poll_wait, Settle_timeout, End_wait, Wait_of, Kill, Release, Clone_ticket, Upgrade_now, Merge, Downgrade, Read_definition, Read_kept, Change_definition, Key_of, Tables_of, List_held, is_number, may_merge, cause_of}
-use Rattle.mdl_core.specs.Cores.{Core, book_at, seat_at, key_at, standing_at, has_key, has_session, index_of, is_free_for, pinning, table_places}
+use Rattle.mdl_calls.specs.Words.{Answer, Refused, Done, At_place, Granted, Would_wait, Waits, No_cycle, Victim_is, Pending as Is_pending, Is_settled, Timed_out, Lost, Has_wait, Has_killed, Holds, Reads, Changed, Key_is, Tables, Upgraded, Call, Resolve, Try_now, Begin_wait, Search, Poll_wait, Settle_timeout, End_wait, Wait_of, Kill, Release, Clone_ticket, Upgrade_now, Merge, Downgrade, Read_definition, Read_kept, Change_definition, Key_of, Tables_of, List_held, Unpin, is_number, may_merge, cause_of}
+use Rattle.mdl_core.specs.Cores.{Core, book_at, seat_at, key_at, standing_at, has_key, has_pin, has_session, index_of, is_free_for, pinning, table_places, unpinning}
 use Rattle.mdl_core.specs.Changes.{opening, granting_to, queueing, losing, ending_granted, ending_lost, freeing, altering, folding, redefining_at, serving}
 use Rattle.mdl_core.specs.Seats.{is_unsettled_wait, is_settled_wait}
 use Rattle.mdl_system.specs.Strength.{covers, may_upgrade, may_downgrade}
@@ -60,6 +61,24 @@ placing who key None core =
 abbrev pub resolve_outcome : ℕ → KeyName → Core → Answer × Core
 resolve_outcome who key core = placing who key (index_of key core.books) core
 
+-- whether there is a wait, and it is at this place. It may be settled.
+abbrev pub is_wait_at : ℕ → Option Pending → Bool
+is_wait_at place None = false
+is_wait_at place (Some wait) = wait.place == place
+
+-- whether a session has a ticket or a wait at a place
+abbrev pub is_needed : ℕ → ℕ → Core → Bool
+is_needed who place core =
+    list_any (λ (ticket : Held). ticket.place == place) (seat_at who core).held || is_wait_at place (seat_at who core).wait
+
+-- why the end of a pin is refused, in the order in which the causes count
+abbrev pub unpin_causes : ℕ → ℕ → Core → List (Bool × SpaceError)
+unpin_causes who place core = (not (has_pin who place core), NoPlace) ∷ (is_needed who place core, InUse) ∷ []
+
+-- the outcome of giving up a pin: only the session's pins change, and no waiter is granted
+abbrev pub unpin_outcome : ℕ → ℕ → Core → Answer × Core
+unpin_outcome who place core = refused_or (first_cause (unpin_causes who place core)) core (Done, unpinning who place core)
+
 -- the outcome of asking for the key of a place
 abbrev pub key_of_outcome : ℕ → Core → Answer × Core
 key_of_outcome place core = if not (has_key place core) then (Refused NoPlace, core) else (Key_is (key_at place core), core)
@@ -73,7 +92,7 @@ tables_of_outcome schema core = (Tables (table_places schema core), core)
 -- why a request for a lock is refused, in the order in which the causes count
 abbrev pub request_causes : ℕ → ℕ → Mode → Core → List (Bool × SpaceError)
 request_causes who place mode core =
-    (not (has_key place core), NoPlace)
+    (not (has_pin who place core), NoPlace)
     ∷ (is_some (seat_at who core).wait, AlreadyWaiting)
     ∷ (not (is_mode_of (lock_kind (book_at place core)) mode), BadMode)
     ∷ (is_counted_out who core, CounterFull)
@@ -308,30 +327,6 @@ list_held_outcome who core = (Holds (seat_at who core).held, core)
 
 -- ---- all calls
 
--- whether the space has a call. The others have no method yet.
-abbrev pub has_call : Call → Bool
-has_call (Resolve _ _) = true
-has_call (Try_now _ _ _) = true
-has_call (Begin_wait _ _ _) = true
-has_call (Search _) = true
-has_call (Poll_wait _) = true
-has_call (Settle_timeout _) = true
-has_call (End_wait _) = true
-has_call (Wait_of _) = true
-has_call (Kill _ _) = true
-has_call (Release _ _) = true
-has_call (Clone_ticket _ _ _) = true
-has_call (Upgrade_now _ _ _) = true
-has_call (Merge _ _ _) = true
-has_call (Downgrade _ _ _) = true
-has_call (Read_definition _ _) = true
-has_call (Read_kept _ _) = true
-has_call (Change_definition _ _ _) = true
-has_call (Key_of _ _) = true
-has_call (Tables_of _ _) = true
-has_call (List_held _) = true
-has_call _ = false
-
 -- the outcome of a call: its answer, and the space after it
 abbrev pub outcome : Call → Core → Answer × Core
 outcome (Resolve who key) core = resolve_outcome who key core
@@ -354,7 +349,7 @@ outcome (Change_definition who id change) core = change_definition_outcome who i
 outcome (Key_of who place) core = key_of_outcome place core
 outcome (Tables_of who schema) core = tables_of_outcome schema core
 outcome (List_held who) core = list_held_outcome who core
-outcome _ core = (Refused OutOfMemory, core)
+outcome (Unpin who place) core = unpin_outcome who place core
 
 -- a call with this step made the step; or, if it takes memory, it was refused because memory ran out, and changed nothing
 abbrev pub Makes : Bool → (Core → Answer × Core) → Core → Answer → Core → Type 0

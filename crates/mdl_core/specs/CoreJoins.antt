@@ -6,7 +6,7 @@ use Rattle.mdl_defs.specs.declared.versioned_definition.VersionedDefinition.{Ver
 use Rattle.mdl_calls.specs.declared.answers.Settled.{Settled}
 use Rattle.mdl_core.specs.declared.pending.Pending.{Pending}
 use Rattle.mdl_calls.specs.Words.{Answer, Call, caller, takes_memory, SessionLocks, Numbers, HoldsAt}
-use Rattle.mdl_core.specs.CoreCalls.{has_call, outcome, Makes, wait_at}
+use Rattle.mdl_core.specs.CoreCalls.{outcome, Makes, wait_at}
 use Rattle.mdl_core.specs.Cores.{Core, seat_at, has_key, has_session, key_at, standing_at}
 use Rattle.mdl_core.specs.Seats.{locks_of_seat, numbers_of_seat}
 use Rattle.mdl_core.specs.Ties.{IsSoundCore}
@@ -41,5 +41,4 @@ HasSeen core who place version = (has_key place core ≡ true) × (version ≤ (
 
 -- the call has exactly its outcome, or is refused because memory ran out if it takes memory
 abbrev pub Joins : Core → Call → Answer → Core → Type 0
-Joins a call answer b =
-    IfSome (caller call) (SpeaksFor a) × (has_call call ≡ true) × Makes (takes_memory call) (outcome call) a answer b
+Joins a call answer b = IfSome (caller call) (SpeaksFor a) × Makes (takes_memory call) (outcome call) a answer b

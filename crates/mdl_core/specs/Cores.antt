@@ -9,7 +9,8 @@ use Rattle.mdl_book.specs.Granting.{is_grantable}
 use Rattle.mdl_book.specs.declared.book_view.BookView.{BookView}
 use Rattle.mdl_defs.specs.declared.versioned_definition.VersionedDefinition.{VersionedDefinition}
 use Rattle.mdl_calls.specs.Reads.{is_table_of}
-use Rattle.mdl_core.specs.Seats.{SeatView, empty_seat, with_pin}
+use Rattle.mdl_calls.specs.SessionLocks.{is_pinned}
+use Rattle.mdl_core.specs.Seats.{SeatView, empty_seat, locks_of_seat, with_pin, without_pin}
 
 -- the space: the books of the places that have a key, from place 1, the seats of the sessions, from session 1, and the greatest
 -- number of places
@@ -37,6 +38,10 @@ has_key place core = nat_le 1 place && nat_le place (length core.books)
 -- whether the space has a session of this number
 abbrev pub has_session : ℕ → Core → Bool
 has_session who core = nat_le 1 who && nat_le who (length core.seats)
+
+-- whether a session pins a place
+abbrev pub has_pin : ℕ → ℕ → Core → Bool
+has_pin who place core = is_pinned place (locks_of_seat (seat_at who core))
 
 -- the index of a key's book, if the key has one
 abbrev pub index_of : KeyName → List BookView → Option ℕ
@@ -89,3 +94,7 @@ seating who seat core = record core { seats = slice_set core.seats (who - 1) sea
 -- the space in which a session pins a place
 abbrev pub pinning : ℕ → ℕ → Core → Core
 pinning who place core = seating who (with_pin place (seat_at who core)) core
+
+-- the space in which a session no longer pins a place
+abbrev pub unpinning : ℕ → ℕ → Core → Core
+unpinning who place core = seating who (without_pin place (seat_at who core)) core

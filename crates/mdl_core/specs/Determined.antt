@@ -1,5 +1,5 @@
 -- The answer to each call, by the system of locks (who holds what, who waits for what, and what is defined), by the places of its
--- keys, and by the last numbers given. The data of the space of one thread occur only in the laws at the end.
+-- keys, and by each session's pins and last numbers. The data of the space of one thread occur only in the laws at the end.
 use Rattle.std.specs.Prelude.{◌≡◌, ◌≢◌, ◌⊎◌, ◌↔◌, ℕ, zero, suc, ◌+◌, ◌-◌, ◌<◌, ◌^◌, true, false, ◌||◌, List, [], ◌∷◌, ◌++◌, length, map, slice_get, Option, Some, None, MatchOption, IsSome, Contains, AllPairs}
 use Rattle.std.specs.declared.cmp.Ordering.TheVariants.{Less}
 use Rattle.mdl_key.specs.Keys.{table_key, key_cmp}
@@ -16,16 +16,16 @@ use Rattle.mdl_calls.specs.declared.answers.Settled.{Settled}
 use Rattle.mdl_calls.specs.declared.answers.Settled.TheVariants as settled_as
 use Rattle.mdl_calls.specs.declared.answers.TimedOut.TheVariants.{ByThisCall, Already}
 use Rattle.mdl_calls.specs.declared.space_error.SpaceError.{SpaceError}
-use Rattle.mdl_calls.specs.declared.space_error.SpaceError.TheVariants.{NoPlace, NotHeld, NotUpgradable, NotExclusive, AlreadyWaiting, BadMode, VersionFull, NoWait, Unsettled, CounterFull, Full, Def, WrongKind}
-use Rattle.mdl_calls.specs.Words.{Answer, Refused, Done, At_place, Granted, Would_wait, Waits, No_cycle, Victim_is, Pending, Is_settled, Timed_out, Lost, Has_wait, Has_killed, Holds, Reads, Changed, Key_is, Tables, Upgraded, finds_no_memory, Call, Resolve, Try_now, Begin_wait, Search, Poll_wait, Settle_timeout, End_wait, Wait_of, Kill, Release, Clone_ticket, Upgrade_now, Merge, Downgrade, Read_definition, Read_kept, Change_definition, Key_of, Tables_of, List_held, caller, Numbers, Draws}
+use Rattle.mdl_calls.specs.declared.space_error.SpaceError.TheVariants.{NoPlace, NotHeld, NotUpgradable, NotExclusive, AlreadyWaiting, BadMode, InUse, VersionFull, NoWait, Unsettled, CounterFull, Full, Def, WrongKind}
+use Rattle.mdl_calls.specs.Words.{Answer, Refused, Done, At_place, Granted, Would_wait, Waits, No_cycle, Victim_is, Pending, Is_settled, Timed_out, Lost, Has_wait, Has_killed, Holds, Reads, Changed, Key_is, Tables, Upgraded, finds_no_memory, Call, Resolve, Try_now, Begin_wait, Search, Poll_wait, Settle_timeout, End_wait, Wait_of, Kill, Release, Clone_ticket, Upgrade_now, Merge, Downgrade, Read_definition, Read_kept, Change_definition, Key_of, Tables_of, List_held, Unpin, caller, Numbers, Draws, with_place, without_place}
 use Rattle.mdl_core.specs.CoreJoins.{Joins, numbers_at}
-use Rattle.mdl_core.specs.Cores.{Core, has_session}
+use Rattle.mdl_core.specs.Cores.{Core, has_session, seat_at}
 use Rattle.mdl_core.specs.CoreSystems.{system_of, wait_state_of}
 use Rattle.mdl_core.specs.SessionLaws.{WaitsSomewhere}
 use Rattle.mdl_core.specs.Ties.{IsSoundCore}
 use Rattle.mdl_system.specs.Deadlocks.{IsDeadlock, IsChosenDeadlock, IsVictimOf}
 use Rattle.mdl_system.specs.Strength.{covers, may_upgrade, may_downgrade}
-use Rattle.mdl_system.specs.Systems.{Holding, System, Versioned, Held as IsHeld, HasNoWait, IsGrantable, lock_kind}
+use Rattle.mdl_system.specs.Systems.{Holding, System, Versioned, Waiter, Held as IsHeld, HasNoWait, IsGrantable, lock_kind}
 
 -- ---- which answer is right
 
@@ -60,6 +60,21 @@ key_of_place places (suc index) = slice_get places.keys index
 -- the right answers by the key of a place: a refusal if it has none
 abbrev pub AtPlace : Places → ℕ → (KeyName → Right) → Right
 AtPlace places place Then answer = MatchOption (key_of_place places place) (answer ≡ Refused NoPlace) (λ key. Then key answer)
+
+-- the right answers by the key of a place that the session pins, of these pins: a refusal if it isn't among them
+abbrev pub AtPin : Places → List ℕ → ℕ → (KeyName → Right) → Right
+AtPin places pins place Then =
+    RefusedUnless (Contains pins place) NoPlace (λ answer. (key : KeyName) × (key_of_place places place ≡ Some key) × Then key answer)
+
+-- a session has nothing on a key: it has no granted ticket, whether it holds it or has yet to end its wait for it, and no waiting one
+abbrev pub HasNothingOn : {D : Type 0} → System D → ℕ → KeyName → Type 0
+HasNothingOn system who key =
+    ((ticket : Holding) → Contains system.granted ticket → ticket.session ≡ who → ticket.key ≢ key)
+    × ((waiter : Waiter) → Contains (system.waiting key) waiter → waiter.ticket.session ≢ who)
+
+-- the right answers to giving up a pin: that it is done exactly if the place is pinned, and the session has nothing on its key
+abbrev pub ToUnpin : {D : Type 0} → System D → Places → List ℕ → ℕ → ℕ → Right
+ToUnpin system places pins who place = AtPin places pins place (λ key. RefusedUnless (HasNothingOn system who key) InUse (Only Done))
 
 -- the right answers to resolving a key: the place that it has, or otherwise the next place, as long as one is left
 abbrev pub ToResolve : Places → KeyName → Right
@@ -101,11 +116,11 @@ HasNumberLeft numbers = numbers.last_ticket < 2 ^ 60 - 1
 abbrev pub ToGrant : {D : Type 0} → System D → Numbers → KeyName → Right
 ToGrant system numbers key = RefusedUnless (LockHasRoom system key) Full (Only (Granted (numbers.last_ticket + 1)))
 
--- the right answers to a request for a lock: at a place that has a key, by a session that has no wait and has a number left, in a
+-- the right answers to a request for a lock: at a place that the session pins, by a session that has no wait and has a number left, in a
 -- mode of the key's kind. The lock is granted if the request is grantable.
-abbrev pub ToAsk : {D : Type 0} → System D → Places → Numbers → ℕ → ℕ → Mode → (KeyName → Right) → Right
-ToAsk system places numbers who place mode Otherwise =
-    AtPlace places place (λ key.
+abbrev pub ToAsk : {D : Type 0} → System D → Places → List ℕ → Numbers → ℕ → ℕ → Mode → (KeyName → Right) → Right
+ToAsk system places pins numbers who place mode Otherwise =
+    AtPin places pins place (λ key.
     RefusedUnless (HasNoWait system who) AlreadyWaiting (
     RefusedUnless (is_mode_of (lock_kind key) mode ≡ true) BadMode (
     RefusedUnless (HasNumberLeft numbers) CounterFull (
@@ -217,32 +232,32 @@ ToSearch system who =
 
 -- ---- all calls
 
--- the right answers to a call. Calls that aren't named here have no method yet, and no right answer.
-abbrev pub Determines : System Definition → Places → (ℕ → Numbers) → Call → Right
-Determines system places numbers (Resolve who key) = ToResolve places key
-Determines system places numbers (Try_now who place mode) = ToAsk system places (numbers who) who place mode (λ key. Only Would_wait)
-Determines system places numbers (Begin_wait who place mode) = ToAsk system places (numbers who) who place mode (ToWait system (numbers who))
-Determines system places numbers (Search who) = ToSearch system who
-Determines system places numbers (Poll_wait who) = OfWait system who (Only (Refused NoWait)) (λ number id settled. Only (to_poll settled))
-Determines system places numbers (Settle_timeout who) =
+-- the right answers to a call
+abbrev pub Determines : System Definition → Places → (ℕ → List ℕ) → (ℕ → Numbers) → Call → Right
+Determines system places pins numbers (Resolve who key) = ToResolve places key
+Determines system places pins numbers (Try_now who place mode) = ToAsk system places (pins who) (numbers who) who place mode (λ key. Only Would_wait)
+Determines system places pins numbers (Begin_wait who place mode) = ToAsk system places (pins who) (numbers who) who place mode (ToWait system (numbers who))
+Determines system places pins numbers (Search who) = ToSearch system who
+Determines system places pins numbers (Poll_wait who) = OfWait system who (Only (Refused NoWait)) (λ number id settled. Only (to_poll settled))
+Determines system places pins numbers (Settle_timeout who) =
     OfWait system who (Only (Refused NoWait)) (λ number id settled. Only (to_time_out settled))
-Determines system places numbers (End_wait who) = OfWait system who (Only (Refused NoWait)) (λ number id settled. Only (to_end id settled))
-Determines system places numbers (Wait_of target) =
+Determines system places pins numbers (End_wait who) = OfWait system who (Only (Refused NoWait)) (λ number id settled. Only (to_end id settled))
+Determines system places pins numbers (Wait_of target) =
     OfWait system target (Only (Has_wait None)) (λ number id settled. Only (Has_wait (Some number)))
-Determines system places numbers (Kill target number) = Where (WaitsSomewhere system target number) (Only (Has_killed true)) (Only (Has_killed false))
-Determines system places numbers (Release who id) = OfHolding system who id (λ ticket. Only Done)
-Determines system places numbers (Clone_ticket who id mode) = OfHolding system who id (ToClone system (numbers who) who mode)
-Determines system places numbers (Upgrade_now who id mode) = OfHolding system who id (ToUpgrade system who mode)
-Determines system places numbers (Merge who old new) = OfHolding system who old (λ kept. OfHolding system who new (ToMerge system who kept))
-Determines system places numbers (Downgrade who id mode) = OfHolding system who id (ToDowngrade mode)
-Determines system places numbers (Read_definition who id) = OfHolding system who id (λ ticket. ToRead (system.definitions ticket.key))
-Determines system places numbers (Read_kept who id) = OfHolding system who id (λ ticket. ToRead (system.definitions ticket.key))
-Determines system places numbers (Change_definition who id change) =
+Determines system places pins numbers (Kill target number) = Where (WaitsSomewhere system target number) (Only (Has_killed true)) (Only (Has_killed false))
+Determines system places pins numbers (Release who id) = OfHolding system who id (λ ticket. Only Done)
+Determines system places pins numbers (Clone_ticket who id mode) = OfHolding system who id (ToClone system (numbers who) who mode)
+Determines system places pins numbers (Upgrade_now who id mode) = OfHolding system who id (ToUpgrade system who mode)
+Determines system places pins numbers (Merge who old new) = OfHolding system who old (λ kept. OfHolding system who new (ToMerge system who kept))
+Determines system places pins numbers (Downgrade who id mode) = OfHolding system who id (ToDowngrade mode)
+Determines system places pins numbers (Read_definition who id) = OfHolding system who id (λ ticket. ToRead (system.definitions ticket.key))
+Determines system places pins numbers (Read_kept who id) = OfHolding system who id (λ ticket. ToRead (system.definitions ticket.key))
+Determines system places pins numbers (Change_definition who id change) =
     OfHolding system who id (λ ticket. RefusedUnless (ticket.mode ≡ X) NotExclusive (ToChange ticket.key change (system.definitions ticket.key)))
-Determines system places numbers (Key_of who place) = AtPlace places place (λ key. Only (Key_is key))
-Determines system places numbers (Tables_of who schema) = ToTellTables system places schema
-Determines system places numbers (List_held who) = ToList system places who
-Determines system places numbers _ = λ answer. ⊥
+Determines system places pins numbers (Key_of who place) = AtPlace places place (λ key. Only (Key_is key))
+Determines system places pins numbers (Tables_of who schema) = ToTellTables system places schema
+Determines system places pins numbers (List_held who) = ToList system places who
+Determines system places pins numbers (Unpin who place) = ToUnpin system places (pins who) who place
 
 -- ---- the space of one thread
 
@@ -250,12 +265,16 @@ Determines system places numbers _ = λ answer. ⊥
 abbrev pub places_of : Core → Places
 places_of core = record { keys = map (λ (book : BookView). book.key) core.books; most = core.places }
 
--- the answer to a call of the space, except that memory ran out, is the one that is determined by its system, the places of its keys
--- and the last numbers that sessions got, and they determine no other answer
+-- the places that a session pins, in rising order
+abbrev pub pins_at : Core → ℕ → List ℕ
+pins_at core who = (seat_at who core).pins
+
+-- the answer to a call of the space, except that memory ran out, is the one that is determined by its system, the places of its keys,
+-- the pins of its sessions and the last numbers that they got, and these determine no other answer
 abbrev pub AnswersAreDetermined : Type 0
 AnswersAreDetermined =
     (a b : Core) (call : Call) (answer other : Answer) → IsSoundCore a → Joins a call answer b → finds_no_memory answer ≡ false →
-    Determines (system_of a) (places_of a) (numbers_at a) call other ↔ (other ≡ answer)
+    Determines (system_of a) (places_of a) (pins_at a) (numbers_at a) call other ↔ (other ≡ answer)
 
 -- the places after a call with this answer: a key that was resolved had a place before, or has now got the next one. No other call
 -- changes the places.
@@ -265,12 +284,20 @@ PlacesAfter (Resolve who key) (At_place place) before after =
     ⊎ ((Contains before.keys key → ⊥) × (after ≡ record before { keys = before.keys ++ key ∷ [] }))
 PlacesAfter _ _ before after = after ≡ before
 
--- the places after a call, and each session's last numbers, follow from those before it, the call and its answer. For the system, see
--- `CallsAreEvents`.
+-- the pins of a call's caller after it, by those before it: a key's place that was resolved is pinned, and one that was given up isn't. No
+-- other call changes the pins.
+abbrev pub pins_after : Call → Answer → List ℕ → List ℕ
+pins_after (Resolve who key) (At_place place) pins = with_place place pins
+pins_after (Unpin who place) Done pins = without_place place pins
+pins_after _ _ pins = pins
+
+-- the places after a call, and each session's pins and last numbers, follow from those before it, the call and its answer. For the system,
+-- see `CallsAreEvents`.
 abbrev pub PlacesAndNumbersFollow : Type 0
 PlacesAndNumbersFollow =
     (a b : Core) (call : Call) (answer : Answer) → IsSoundCore a → Joins a call answer b →
     PlacesAfter call answer (places_of a) (places_of b)
     × ((who : ℕ) → has_session who a ≡ true →
-    (caller call ≡ Some who → Draws call answer (numbers_at a who) (numbers_at b who))
-    × ((caller call ≡ Some who → ⊥) → numbers_at b who ≡ numbers_at a who))
+    (caller call ≡ Some who
+    → (pins_at b who ≡ pins_after call answer (pins_at a who)) × Draws call answer (numbers_at a who) (numbers_at b who))
+    × ((caller call ≡ Some who → ⊥) → (pins_at b who ≡ pins_at a who) × (numbers_at b who ≡ numbers_at a who)))

@@ -10,12 +10,12 @@ use Rattle.mdl_defs.specs.Changes.{change_fault}
 use Rattle.mdl_defs.specs.VersionedDefinitions.{suits}
 use Rattle.mdl_calls.specs.declared.answers.Held.{Held}
 use Rattle.mdl_calls.specs.declared.space_error.SpaceError.{SpaceError}
-use Rattle.mdl_calls.specs.declared.space_error.SpaceError.TheVariants.{NoPlace, NotHeld, NotUpgradable, NotExclusive, AlreadyWaiting, BadMode, VersionFull, CounterFull, Full, Def, WrongKind}
-use Rattle.mdl_calls.specs.Words.{Refused, Done, Call, Try_now, Begin_wait, Clone_ticket, Upgrade_now, Merge, Downgrade, Change_definition, may_merge}
+use Rattle.mdl_calls.specs.declared.space_error.SpaceError.TheVariants.{NoPlace, NotHeld, NotUpgradable, NotExclusive, AlreadyWaiting, BadMode, InUse, VersionFull, CounterFull, Full, Def, WrongKind}
+use Rattle.mdl_calls.specs.Words.{Refused, Done, Call, Try_now, Begin_wait, Clone_ticket, Upgrade_now, Merge, Downgrade, Change_definition, Unpin, may_merge}
 use Rattle.mdl_core.specs.declared.pending.Pending.{Pending}
 use Rattle.mdl_core.specs.CoreCalls.{outcome, held_ticket, is_lower}
-use Rattle.mdl_core.specs.Cores.{Core, seat_at, has_key, key_at, standing_at}
-use Rattle.mdl_core.specs.SessionLaws.{HasWait, HasNoNumber, HasNoRoom, HasNoVersion}
+use Rattle.mdl_core.specs.Cores.{Core, seat_at, has_pin, key_at, standing_at, unpinning}
+use Rattle.mdl_core.specs.SessionLaws.{HasWait, Needs, HasNoNumber, HasNoRoom, HasNoVersion}
 use Rattle.mdl_system.specs.Strength.{covers, may_upgrade}
 
 -- the call is refused with this error, and nothing changes
@@ -34,16 +34,26 @@ IsIdle core who = (seat_at who core).wait ≡ None
 abbrev pub is_mode_at : ℕ → Mode → Core → Bool
 is_mode_at place mode core = is_mode_of (kind_of (key_at place core).namespace) mode
 
--- a request for a lock is refused first if its place has no key, even if the session waits; then if the session waits, whatever the
--- mode; then if the mode isn't one of the place's kind; and then if the session has used up its numbers, even if the lock is full
+-- a request for a lock is refused first if the session doesn't pin its place, even if the session waits; then if the session waits,
+-- whatever the mode; then if the mode isn't one of the place's kind; and then if the session has used up its numbers, even if the lock is
+-- full
 abbrev pub RefusesWishesInOrder : Type 0
 RefusesWishesInOrder =
     (core : Core) (who place : ℕ) (mode : Mode) (call : Call) → AsksFor who place mode call →
-    (has_key place core ≡ false → IsRefused core call NoPlace)
-    × (has_key place core ≡ true → (wait : Pending) → HasWait core who wait → IsRefused core call AlreadyWaiting)
-    × (has_key place core ≡ true → IsIdle core who → is_mode_at place mode core ≡ false → IsRefused core call BadMode)
-    × (has_key place core ≡ true → IsIdle core who → is_mode_at place mode core ≡ true → HasNoNumber core who →
+    (has_pin who place core ≡ false → IsRefused core call NoPlace)
+    × (has_pin who place core ≡ true → (wait : Pending) → HasWait core who wait → IsRefused core call AlreadyWaiting)
+    × (has_pin who place core ≡ true → IsIdle core who → is_mode_at place mode core ≡ false → IsRefused core call BadMode)
+    × (has_pin who place core ≡ true → IsIdle core who → is_mode_at place mode core ≡ true → HasNoNumber core who →
     IsRefused core call CounterFull)
+
+-- an unpin is refused first if the session doesn't pin the place, and then if it has a ticket or a wait there. Otherwise it is made: the
+-- session's pins are changed, and nothing else.
+abbrev pub RefusesUnpinsInOrder : Type 0
+RefusesUnpinsInOrder =
+    (core : Core) (who place : ℕ) → let call = Unpin who place in
+    (has_pin who place core ≡ false → IsRefused core call NoPlace)
+    × (has_pin who place core ≡ true → Needs core who place → IsRefused core call InUse)
+    × (has_pin who place core ≡ true → (Needs core who place → ⊥) → outcome call core ≡ (Done, unpinning who place core))
 
 -- whether a held ticket can be cloned in the mode
 abbrev pub serves_for : Held → Mode → Core → Bool

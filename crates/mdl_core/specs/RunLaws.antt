@@ -2,7 +2,7 @@
 use Rattle.std.specs.Prelude.{◌≡◌, ℕ, Bool, true, false}
 use Rattle.std.specs.Option.{IfSome}
 use Rattle.mdl_calls.specs.Words.{Call, caller, EachCall, IsFaithful, IsFrugal, Program, Runs, outcome_of}
-use Rattle.mdl_core.specs.CoreCalls.{has_call, outcome}
+use Rattle.mdl_core.specs.CoreCalls.{outcome}
 use Rattle.mdl_core.specs.CoreJoins.{Joins, SpeaksFor}
 use Rattle.mdl_core.specs.Cores.{Core}
 
@@ -19,12 +19,12 @@ FrugalRuns A =
     (program : Program A) (a b : Core) (reply : A) → IsFrugal program → Runs Joins a program reply b →
     outcome_of outcome program a ≡ (reply, b)
 
--- the space has this call, and its caller is the session, or it has no caller
+-- the call's caller is the session, or it has no caller
 abbrev pub IsMadeFor : ℕ → Call → Type 0
-IsMadeFor who call = (has_call call ≡ true) × IfSome (caller call) (λ maker. maker ≡ who)
+IsMadeFor who call = IfSome (caller call) (λ maker. maker ≡ who)
 
--- the outcome of a program is a run of it, if the space speaks for a session and has each call of the program, and each call's caller
--- is that session, or it has no caller. Afterwards the space still speaks for each session that it spoke for.
+-- the outcome of a program is a run of it, if the space speaks for a session, and the caller of each call of the program is that
+-- session, or it has no caller. Afterwards the space still speaks for each session that it spoke for.
 abbrev pub OutcomesAreRuns : Type 0 → Type 0
 OutcomesAreRuns A =
     (program : Program A) (a : Core) (who : ℕ) → SpeaksFor a who → EachCall (IsMadeFor who) program →

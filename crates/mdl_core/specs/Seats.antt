@@ -5,7 +5,7 @@ use Rattle.mdl_key.specs.declared.mode.Mode.{Mode}
 use Rattle.mdl_calls.specs.declared.answers.Held.{Held}
 use Rattle.mdl_calls.specs.declared.answers.Settled.{Settled}
 use Rattle.mdl_core.specs.declared.pending.Pending.{Pending}
-use Rattle.mdl_calls.specs.SessionLocks.{SessionLocks, Numbers, is_number, with_place}
+use Rattle.mdl_calls.specs.SessionLocks.{SessionLocks, Numbers, is_number, with_place, without_place}
 
 -- a seat: the held tickets in the order in which the session got them, the wait that isn't ended, the pinned places in rising order, and
 -- the last numbers that were given to its tickets and waits
@@ -35,6 +35,10 @@ numbers_of_seat seat = record { last_ticket = seat.last_ticket; last_wait = seat
 -- the seat with a pin of this place
 abbrev pub with_pin : ℕ → SeatView → SeatView
 with_pin place seat = record seat { pins = with_place place seat.pins }
+
+-- the seat without its pin of this place
+abbrev pub without_pin : ℕ → SeatView → SeatView
+without_pin place seat = record seat { pins = without_place place seat.pins }
 
 -- the seat with a new ticket
 abbrev pub holding : ℕ → Mode → SeatView → SeatView

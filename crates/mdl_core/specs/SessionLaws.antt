@@ -1,6 +1,6 @@
 -- A session has in the lock space of one thread what it has in the system of locks, and what the calls return about a session's
 -- wait and about the space's limits is true.
-use Rattle.std.specs.Prelude.{◌≡◌, ◌≢◌, ◌↔◌, ℕ, ◌+◌, ◌-◌, ◌≤◌, ◌^◌, Bool, true, false, List, length, map, Option, Some, None, Contains}
+use Rattle.std.specs.Prelude.{◌≡◌, ◌≢◌, ◌⊎◌, ◌↔◌, ℕ, ◌+◌, ◌-◌, ◌≤◌, ◌^◌, Bool, true, false, List, length, map, Option, Some, None, Contains}
 use Rattle.mdl_key.specs.Keys.{KeyName}
 use Rattle.mdl_key.specs.declared.mode.Mode.TheVariants.{X}
 use Rattle.mdl_defs.specs.declared.change.Change.{Change}
@@ -9,11 +9,11 @@ use Rattle.mdl_calls.specs.declared.answers.Held.{Held}
 use Rattle.mdl_calls.specs.declared.answers.Settled.TheVariants as settled_as
 use Rattle.mdl_core.specs.declared.pending.Pending.{Pending}
 use Rattle.mdl_calls.specs.declared.space_error.SpaceError.{SpaceError}
-use Rattle.mdl_calls.specs.declared.space_error.SpaceError.TheVariants.{NoPlace, VersionFull, CounterFull, Full}
-use Rattle.mdl_calls.specs.Words.{Answer, Refused, Has_wait, Has_killed, Reads, Changed, Call, Resolve, Try_now, Begin_wait, Wait_of, Kill, Clone_ticket, Read_definition, Change_definition, Key_of, wait_number}
+use Rattle.mdl_calls.specs.declared.space_error.SpaceError.TheVariants.{NoPlace, InUse, VersionFull, CounterFull, Full}
+use Rattle.mdl_calls.specs.Words.{Answer, Refused, Has_wait, Has_killed, Reads, Changed, Call, Resolve, Try_now, Begin_wait, Wait_of, Kill, Clone_ticket, Read_definition, Change_definition, Key_of, Unpin, HoldsAt, AwaitsAt, wait_number}
 use Rattle.mdl_core.specs.CoreCalls.{held_ticket}
 use Rattle.mdl_core.specs.CoreJoins.{Joins, locks_at}
-use Rattle.mdl_core.specs.Cores.{Core, book_at, seat_at, key_at, standing_at, has_key, has_session}
+use Rattle.mdl_core.specs.Cores.{Core, book_at, seat_at, key_at, standing_at, has_key, has_pin, has_session}
 use Rattle.mdl_core.specs.CoreSystems.{system_of, wait_state_of}
 use Rattle.mdl_system.specs.Systems.{Unsettled, Holding, Waiter, System, Held as Holds, ListsHeld, HasNoWait}
 use Rattle.mdl_core.specs.Ties.{IsSoundCore}
@@ -133,13 +133,23 @@ HasNoRoom core place = 65535 ≤ length (book_at place core).granted + length (b
 abbrev pub HasNoNumber : Core → ℕ → Type 0
 HasNoNumber core who = 2 ^ 60 - 1 ≤ (seat_at who core).last_ticket
 
--- why there is no place: all places that there can be have other keys, or this place has no key
+-- why there is no place: all places that there can be have other keys, or the session doesn't pin this place, or the place has no key
 abbrev pub LacksPlace : Core → Call → Type 0
 LacksPlace core (Resolve who key) = (core.places ≤ length core.books) × IsNowhere core key
-LacksPlace core (Try_now who place mode) = has_key place core ≡ false
-LacksPlace core (Begin_wait who place mode) = has_key place core ≡ false
+LacksPlace core (Try_now who place mode) = has_pin who place core ≡ false
+LacksPlace core (Begin_wait who place mode) = has_pin who place core ≡ false
+LacksPlace core (Unpin who place) = has_pin who place core ≡ false
 LacksPlace core (Key_of who place) = has_key place core ≡ false
 LacksPlace core _ = ⊥
+
+-- a session has a ticket or a wait at a place
+abbrev pub Needs : Core → ℕ → ℕ → Type 0
+Needs core who place = HoldsAt place (locks_at core who) ⊎ AwaitsAt place (locks_at core who)
+
+-- why a place is in use: the session that is to give up its pin has a ticket or a wait there
+abbrev pub IsUsed : Core → Call → Type 0
+IsUsed core (Unpin who place) = Needs core who place
+IsUsed core _ = ⊥
 
 -- why the lock is full
 abbrev pub LockIsFull : Core → Call → Type 0
@@ -165,14 +175,15 @@ LacksVersion core (Change_definition who id change) =
     (ticket : Held) × (held_ticket who id core ≡ Some ticket) × HasNoVersion core ticket.place
 LacksVersion core _ = ⊥
 
--- the limit that an error names is reached
+-- the limit that an error names is reached, or the place is in use if it says so
 abbrev pub MeetsLimit : Core → Call → SpaceError → Type 0
 MeetsLimit core call NoPlace = LacksPlace core call
+MeetsLimit core call InUse = IsUsed core call
 MeetsLimit core call Full = LockIsFull core call
 MeetsLimit core call CounterFull = LacksNumber core call
 MeetsLimit core call VersionFull = LacksVersion core call
 MeetsLimit core call _ = Unit {0}
 
--- no call is refused because of a limit that isn't reached
+-- no call is refused because of a limit that isn't reached, or because of a place that isn't in use
 abbrev pub RefusesForCause : Type 0
 RefusesForCause = (a b : Core) (call : Call) (refusal : SpaceError) → Joins a call (Refused refusal) b → MeetsLimit a call refusal

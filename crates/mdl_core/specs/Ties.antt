@@ -9,9 +9,9 @@ use Rattle.mdl_calls.specs.declared.answers.Held.{Held}
 use Rattle.mdl_calls.specs.declared.answers.Settled.TheVariants as settled_as
 use Rattle.mdl_core.specs.declared.pending.Pending.{Pending}
 use Rattle.mdl_defs.specs.VersionedDefinitions.{MayStand}
-use Rattle.mdl_core.specs.Cores.{Core, book_at, seat_at, key_at, standing_at, has_key, has_session}
+use Rattle.mdl_core.specs.Cores.{Core, book_at, seat_at, key_at, standing_at, has_key, has_pin, has_session}
 use Rattle.mdl_core.specs.CoreSystems.{system_of}
-use Rattle.mdl_calls.specs.SessionLocks.{IsRising, is_pinned}
+use Rattle.mdl_calls.specs.SessionLocks.{IsRising, are_rising_places}
 use Rattle.mdl_core.specs.Seats.{SeatView, locks_of_seat, ticket_of_wait}
 use Rattle.mdl_system.specs.Systems.{IsLawful, NoneForgotten}
 
@@ -51,17 +51,18 @@ pub record IsTied (core : Core) : Type 0 where
       → Contains (book_at ticket.place core).granted (in_book_of who ticket) ↔ HasGrantedTicket (seat_at who core) ticket
   pub waiting : (who : ℕ) (ticket : Held) → has_session who core ≡ true → has_key ticket.place core ≡ true
       → Contains (book_at ticket.place core).waiting (in_book_of who ticket) ↔ Awaits (seat_at who core) ticket
-  -- the sessions' tickets are at places that have keys
+  -- a session's tickets are at places that it pins
   pub placed : (who : ℕ) (ticket : Held) → has_session who core ≡ true → HasGrantedTicket (seat_at who core) ticket ⊎ Awaits (seat_at who core) ticket
-      → has_key ticket.place core ≡ true
+      → has_pin who ticket.place core ≡ true
   -- each granted ticket is in a book once, and each session waits at most once in a book
   pub granted_once : (place : ℕ) → has_key place core ≡ true
       → AllPairs (λ (one other : Ticket). ticket_id one ≢ ticket_id other) (book_at place core).granted
   pub waiting_once : (place : ℕ) → has_key place core ≡ true
       → AllPairs (λ (one other : Ticket). one.session ≢ other.session) (book_at place core).waiting
   pub numbered : (who : ℕ) → has_session who core ≡ true → HasRisingNumbers (seat_at who core)
-  -- each pinned place has a key
-  pub pinned : (who place : ℕ) → has_session who core ≡ true → is_pinned place (locks_of_seat (seat_at who core)) ≡ true → has_key place core ≡ true
+  -- each pinned place has a key, and a session's pinned places rise
+  pub pinned : (who place : ℕ) → has_session who core ≡ true → has_pin who place core ≡ true → has_key place core ≡ true
+  pub in_order : (who : ℕ) → has_session who core ≡ true → are_rising_places (seat_at who core).pins ≡ true
 
 -- the version and the definition of each place are valid for its key
 abbrev pub AllMayStand : Core → Type 0

@@ -16,13 +16,14 @@ pub fn calls_keep_sound()
     ensures { CallsKeepSound }
 {}
 
-/// Each answer, except that memory ran out, is the one that the system of locks determines, with the places of its keys and the
-/// last numbers that sessions got.
+/// Each answer, except that memory ran out, is the one that the system of locks determines, with the places of its keys, and the
+/// pins and the last numbers of sessions.
 pub fn answers_are_determined()
     ensures { AnswersAreDetermined }
 {}
 
-/// The places of the keys and the last numbers after a call follow from those before it, the call and its answer.
+/// The places of the keys, and the pins and the last numbers of sessions after a call follow from those before it, the call and its
+/// answer.
 pub fn places_and_numbers_follow()
     ensures { PlacesAndNumbersFollow }
 {}

@@ -46,5 +46,6 @@ pub use run_laws::{frugal_runs, outcomes_are_runs, sure_runs};
 pub use session_laws::{
     changes_tell_the_version, kills_just_that_wait, reads_tell_what_stands,
     refuses_changes_in_order, refuses_clones_in_order, refuses_for_cause, refuses_merges_in_order,
-    refuses_new_modes_in_order, refuses_wishes_in_order, sessions_have_what_the_system_says,
+    refuses_new_modes_in_order, refuses_unpins_in_order, refuses_wishes_in_order,
+    sessions_have_what_the_system_says,
 };

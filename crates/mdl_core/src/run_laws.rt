@@ -13,8 +13,8 @@ pub fn frugal_runs<A>()
     ensures { FrugalRuns A }
 {}
 
-/// The outcome of a program is a run of it, if the space has each of its calls, each has no caller or the same session as caller,
-/// and the space speaks for that session. The space still speaks for the same sessions afterwards.
+/// The outcome of a program is a run of it, if each of its calls has no caller or the same session as caller, and the space speaks
+/// for that session. The space still speaks for the same sessions afterwards.
 pub fn outcomes_are_runs<A>()
     ensures { OutcomesAreRuns A }
 {}

@@ -1,7 +1,7 @@
 //! Laws of what a session has in the space of one thread, and of what its calls return. Each is proved as the contract of a
 //! function that does nothing.
 ghost use Rattle.mdl_core.specs.SessionLaws.{SessionsHaveWhatTheSystemSays, KillsJustThatWait, ReadsTellWhatStands, ChangesTellTheVersion, RefusesForCause};
-ghost use Rattle.mdl_core.specs.RefusalLaws.{RefusesWishesInOrder, RefusesClonesInOrder, RefusesNewModesInOrder, RefusesMergesInOrder, RefusesChangesInOrder};
+ghost use Rattle.mdl_core.specs.RefusalLaws.{RefusesWishesInOrder, RefusesUnpinsInOrder, RefusesClonesInOrder, RefusesNewModesInOrder, RefusesMergesInOrder, RefusesChangesInOrder};
 
 /// A session's held tickets and the state of its wait are those that it has in the system of locks. A number that is no session's
 /// has nothing there.
@@ -27,16 +27,23 @@ pub fn changes_tell_the_version()
     ensures { ChangesTellTheVersion }
 {}
 
-/// A call is refused with `NoPlace` only if its place has no key, or no place is left for a new key. It is refused because no version,
-/// no room in the lock or no number is left only if that limit is reached.
+/// A call is refused with `NoPlace` only if the session doesn't pin its place, or the place has no key, or no place is left for a new
+/// key, and with `InUse` only if the session has a ticket or a wait at the place. It is refused because no version, no room in the
+/// lock or no number is left only if that limit is reached.
 pub fn refuses_for_cause()
     ensures { RefusesForCause }
 {}
 
-/// A request for a lock is refused first if its place has no key, then if the session waits, then if the mode isn't one of the
-/// place's kind, and then if the session has used up its numbers, even if the lock is full.
+/// A request for a lock is refused first if the session doesn't pin its place, then if the session waits, then if the mode isn't one
+/// of the place's kind, and then if the session has used up its numbers, even if the lock is full.
 pub fn refuses_wishes_in_order()
     ensures { RefusesWishesInOrder }
+{}
+
+/// An unpin is refused first if the session doesn't pin the place, and then if it has a ticket or a wait there. Otherwise it is made,
+/// and changes only the session's pins.
+pub fn refuses_unpins_in_order()
+    ensures { RefusesUnpinsInOrder }
 {}
 
 /// A clone is refused first if the ticket isn't held, then if the session waits, then if the ticket can't be cloned in the mode,

@@ -16,7 +16,7 @@ use Rattle.mdl_growth_trials.specs.Pairs.{AreRunners}
 pub fresh : {S : Type 0} (members : Ghosts S) (space : S) (who : ℕ) (x : ContextView) → x ≡ record { who = who; kept = []; known = []; wait = None }
     → members.speaks_for space who → HasNothing (members.own space who) → Attends members space x
 fresh members space who x new speaks nothing =
-    rw new (record { speaks = speaks; serves = record { held = nothing.0; wait = ap (option_map wish_there) nothing.1 }; known = All-nil _; places = All-nil _; wish = tt })
+    rw new (record { speaks = speaks; serves = record { held = nothing.0; wait = ap (option_map wish_there) nothing.1 }; known = All-nil _; pinned = All-nil _; places = All-nil _; wish = tt })
 
 -- the first has made a statement
 pub first_runs : (before after : Core) (first second x : ContextView) (c d y : CacheView) → AreRunners before first c second d → x.who ≡ first.who

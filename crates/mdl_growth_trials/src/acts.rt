@@ -15,6 +15,7 @@ use std::sync::Wait;
 #[derive(Clone, Copy)]
 pub(crate) enum Act {
     Resolve(&'static str),
+    Unpin(Place),
     TryNow(Place, Mode),
     BeginWait(Place, Mode),
     Search,
@@ -64,7 +65,8 @@ impl Act {
     pub(crate) fn takes_none(self) -> bool {
         matches!(
             self,
-            Act::Release(_, _)
+            Act::Unpin(_)
+                | Act::Release(_, _)
                 | Act::ReleaseFast(_)
                 | Act::Owes(_)
                 | Act::Reschedule(_)
@@ -79,6 +81,7 @@ impl Act {
 pub(crate) fn make<R: Wait>(session: &mut Session<R>, alloc: Global, act: Act) -> Reply {
     match act {
         Act::Resolve(name) => resolve(session, alloc, name),
+        Act::Unpin(place) => done(session.unpin(place)),
         Act::TryNow(place, mode) => attempted(session.try_now(place, mode)),
         Act::BeginWait(place, mode) => begun(session.begin_wait(place, mode)),
         Act::Search => searched(session.search_deadlock()),
@@ -147,9 +150,6 @@ fn redefine<R: Wait>(session: &mut Session<R>, change: Change) -> Reply {
 
 // Tries to gain `count` fast tickets, as long as they are granted. Returns the answer of the last try.
 fn try_fast<R>(session: &mut Session<R>, place: Place, mode: Mode, count: usize) -> Reply {
-    if !knows(session, place) {
-        return Reply::Refused;
-    }
     let mut reply = Reply::WouldWait;
     for _ in 0..count {
         reply = tried(session.try_fast(place, mode));
@@ -168,8 +168,8 @@ fn reschedule<R: Wait>(session: &mut Session<R>, place: Place) -> Reply {
     Reply::Done
 }
 
-/// Whether a session knows the key of a place. Tries a second time if memory runs out.
-pub(crate) fn knows<R>(session: &mut Session<R>, place: Place) -> bool
+// Whether a session knows the key of a place. Tries a second time if memory runs out.
+fn knows<R>(session: &mut Session<R>, place: Place) -> bool
     ensures { result ≡ true → is_known place (data_of session.new).known ≡ true }
 {
     match session.key_of(place) {

@@ -1,6 +1,6 @@
 //! Sessions of a space that threads share, on one thread: fast tickets, waits, a deadlock, and a key's definition. If a call runs out of memory,
 //! all is unchanged, except that fast tickets may have become slow ones, those of a place together. Then the call is made again.
-use crate::acts::{Act, Reply, knows, make};
+use crate::acts::{Act, Reply, make};
 use crate::alike::are_alike;
 use crate::passes::{closes, new_passes, pays};
 use mdl_key::Mode;
@@ -115,9 +115,6 @@ fn have_the_same(here: &[Audited], there: &[Audited], place: Place) -> bool {
 
 // Returns the word of a place, if its flag is set that closes the fast path to a session without tickets.
 fn word_at<R: Wait>(session: &mut Session<R>, place: Place) -> Option<Word> {
-    if !knows(session, place) {
-        return None;
-    }
     match session.try_fast(place, Mode::S) {
         Ok(Fast::Obtruded(word)) => Some(word),
         Ok(Fast::Granted(id)) => {
@@ -157,6 +154,10 @@ const ROWS: &[Row] = &[
     (2, Act::Resolve("b"), Reply::At(2)),
     (3, Act::Resolve("a"), Reply::At(1)),
     (3, Act::Resolve("b"), Reply::At(2)),
+    // A pin is given up, and had again.
+    (1, Act::Unpin(2), Reply::Done),
+    (1, Act::TryNow(2, Mode::SR), Reply::Refused),
+    (1, Act::Resolve("b"), Reply::At(2)),
     // A definition, under an exclusive ticket.
     (1, Act::TryNow(1, Mode::X), Reply::Granted(1)),
     (1, Act::Create, Reply::Changed(1)),

@@ -149,7 +149,7 @@ own_key mark session more made answer = own_closing (ending_of_refusal (refusal_
 
 -- a wait that another session has is killed, for nobody
 own_told : (who target : ℕ) (more : Program Pause) → IsOwn who more → (answer : Answer) → IsOwn who (playing.wait_told target answer >>= (λ _. more))
-own_told who target more made (Has_wait (Some number)) = own_ask who (Kill target number) (λ _. more) (refl, tt) (λ _. made)
+own_told who target more made (Has_wait (Some number)) = own_ask who (Kill target number) (λ _. more) tt (λ _. made)
 own_told who target more made _ = made
 
 -- ---- all that may be asked for
@@ -192,23 +192,23 @@ own_play (row.Release id rest) mark session =
 own_play (row.Keep rest) mark session = own_play rest mark (playing.all_kept session)
 own_play (row.Read id rest) mark session =
     let more = λ (standing : VersionedDefinition). play (rest standing) mark session in
-    own_ask session.context.who (Read_kept session.context.who id) (playing.read_answered mark session more) (refl, refl)
+    own_ask session.context.who (Read_kept session.context.who id) (playing.read_answered mark session more) refl
     (own_read mark session more (λ standing. own_play (rest standing) mark session))
 own_play (row.Redefine id change rest) mark session =
     let more = play rest mark session in
-    own_ask session.context.who (Change_definition session.context.who id change) (playing.change_answered mark session more) (refl, refl)
+    own_ask session.context.who (Change_definition session.context.who id change) (playing.change_answered mark session more) refl
     (own_change mark session more (own_play rest mark session))
 own_play (row.Tables_of schema rest) mark session =
     let more = λ (places : List ℕ). play (rest places) mark session in
-    own_ask session.context.who (Tables_of session.context.who schema) (playing.tables_answered mark session more) (refl, refl)
+    own_ask session.context.who (Tables_of session.context.who schema) (playing.tables_answered mark session more) refl
     (own_tables mark session more (λ places. own_play (rest places) mark session))
 own_play (row.Key_of place rest) mark session =
     let more = λ (key : KeyName). play (rest key) mark session in
-    own_ask session.context.who (Key_of session.context.who place) (playing.key_answered mark session more) (refl, refl)
+    own_ask session.context.who (Key_of session.context.who place) (playing.key_answered mark session more) refl
     (own_key mark session more (λ key. own_play (rest key) mark session))
 own_play (row.Kill target rest) mark session =
     let more = play rest mark session in
-    own_ask session.context.who (Wait_of target) (λ answer. playing.wait_told target answer >>= (λ _. more)) (refl, tt)
+    own_ask session.context.who (Wait_of target) (λ answer. playing.wait_told target answer >>= (λ _. more)) tt
     (own_told session.context.who target more (own_play rest mark session))
 
 -- ---- what is left of a statement

@@ -41,7 +41,7 @@ EachPlay P =
 abbrev pub StatementsTellOfWant : Type 0
 StatementsTellOfWant = EachPlay (λ session program. IsFaithful IsFault program)
 
--- all calls of a statement are made for its session or for no session, and are calls that the space of one thread has
+-- all calls of a statement are made for its session or for no session
 abbrev pub StatementsCallForTheirSession : Type 0
 StatementsCallForTheirSession = EachPlay (λ session program. EachCall (IsMadeFor session.context.who) program)
 

@@ -1,6 +1,6 @@
 //! Tests of the lock space that threads share.
 //!
-//! Spaces are made, and sessions open, look keys up, try for locks, with the latch and without, wait, change, clone and merge tickets, change definitions,
+//! Spaces are made, and sessions open, look keys up, give up pins, try for locks, with the latch and without, wait, change, clone and merge tickets, change definitions,
 //! release locks and close, on one thread and on several. `rows` plays the tables of calls that most modules have, `stress` lets sessions race, `steps`
 //! has tests of the steps below sessions, and `contexts` of statements over them. The tests use only what `mdl_shared` and `mdl_steps` make public, so
 //! these have no tests themselves and are proved once.
@@ -21,6 +21,7 @@ mod locks;
 mod memory;
 mod modes;
 mod passes;
+mod pins;
 mod places;
 mod players;
 mod readers;

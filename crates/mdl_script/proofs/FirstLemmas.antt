@@ -63,7 +63,7 @@ first-own who = fresh-at first_core.seats (who - 1) (subst AreFresh (sym first-s
 
 attended-first : (core : Core) (who : ℕ) → SpeaksFor core who → HasNothing (locks_at core who) → Attends core_space core (new_player who).runner.context
 attended-first core who speaks has =
-    record { speaks = speaks; serves = record { held = has.0; wait = ap (option_map wish_there) has.1 }; known = All-nil _; places = All-nil _; wish = tt }
+    record { speaks = speaks; serves = record { held = has.0; wait = ap (option_map wish_there) has.1 }; known = All-nil _; pinned = All-nil _; places = All-nil _; wish = tt }
 
 seated-first : (core : Core) (a n : ℕ) → ((who : ℕ) → a ≤ who → who < a + n → SpeaksFor core who) → ((who : ℕ) → HasNothing (locks_at core who)) → AreSeated core a (map new_player (range_with_len a n))
 seated-first core a zero speaks has = tt

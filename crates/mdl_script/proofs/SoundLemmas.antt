@@ -101,7 +101,7 @@ staffed-going who world is staffed =
 pub staffed-timed_out : (who : ℕ) (world : World) → IsScriptSession who → IsStaffed world → IsStaffed (after_timeout who world)
 staffed-timed_out who world is staffed =
     let program : Program (Unit {0}) = Ask (Settle_timeout who) (λ _. Give tt) in
-    let kept = outcomes-are_runs (Unit {0}) program world.core who (staffed.speaks who is.0 is.1) ((refl, refl), λ _. tt) in
+    let kept = outcomes-are_runs (Unit {0}) program world.core who (staffed.speaks who is.0 is.1) (refl, λ _. tt) in
     record { all = staffed.all; named = staffed.named; speaks = λ w least most. kept.1 w (staffed.speaks w least most) }
 
 staffed-waiting : (statement : Statement) (line who : ℕ) (world : World) → IsScriptSession who → IsStaffed world → IsStaffed (asked_waiting statement line who world).world
@@ -146,15 +146,15 @@ staffed-lines (suc n) (line ∷ lines) world is staffed =
 -- ---- the world at first
 
 made-under : (answer : Answer) → EachCall (IsMadeFor 1) (create_first_schema answer)
-made-under (Granted id) = ((refl, refl), λ _. ((refl, refl), λ _. tt))
+made-under (Granted id) = (refl, λ _. (refl, λ _. tt))
 made-under _ = tt
 
 made-at : (answer : Answer) → EachCall (IsMadeFor 1) (create_at answer)
-made-at (At_place place) = ((refl, refl), made-under)
+made-at (At_place place) = (refl, made-under)
 made-at _ = tt
 
 pub made-creating : (schema : KeyName) → EachCall (IsMadeFor 1) (creating schema)
-made-creating schema = ((refl, refl), made-at)
+made-creating schema = (refl, made-at)
 
 pub speak-empty : SpeakForAll (empty_core most_places most_sessions)
 speak-empty who least most = (grind (arith, nat_tests, length-replicate most_sessions empty_seat), empty-sound most_places most_sessions)

@@ -20,7 +20,7 @@ pub record IsIdleAt (table : TableId) (who : ℕ) (session : SessionView) : Type
   pub speaks : SpeaksFor (data_of session) who
   pub has_nothing : HasNothing (data_of session).own
 
--- a call takes a session from one state to the next, as far as its tickets and its wait go, and its steps show what the call read and did
+-- a call takes a session from one state to the next, as far as its tickets, its wait and its pins go, and its steps show what the call read and did
 abbrev pub JoinsSteps : SessionView → Call → Answer → SessionView → Type 0
 JoinsSteps s call answer t = Joins (data_of s) call answer (data_of t) × Shows call answer s t
 

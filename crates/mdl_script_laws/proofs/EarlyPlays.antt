@@ -187,8 +187,8 @@ answered_untouched answer mark session a b pause tidy run =
 
 -- to read changes nothing
 reads_same : (a b : Core) (who id : ℕ) (answer : Answer) → Joins a (Read_kept who id) answer b → b ≡ a
-reads_same a b who id answer (speaks, has, inl made) = made.2
-reads_same a b who id answer (speaks, has, inr made) = by (held_ticket who id a) made where
+reads_same a b who id answer (speaks, inl made) = made.2
+reads_same a b who id answer (speaks, inr made) = by (held_ticket who id a) made where
   by : (ticket : Option Held) → reading_of ticket a ≡ (answer, b) → b ≡ a
   by None e = sym (ap (λ (x : Answer × Core). x.1) e)
   by (Some ticket) e = sym (ap (λ (x : Answer × Core). x.1) e)

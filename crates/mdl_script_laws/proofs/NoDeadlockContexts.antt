@@ -60,7 +60,7 @@ calm-begun who place mode a b answer joins calm = calm-joined who a b (Begin_wai
 calm-waiting : (who place : ℕ) (mode : Mode) → LeavesCalm who (gains.waiting_at who place mode)
 calm-waiting who place mode a calm =
     let call = Begin_wait who place mode in
-    calm-begun who place mode a (outcome call a).1 (outcome call a).0 (joins-outcome who a call calm.managed.speaks (refl, refl)) calm
+    calm-begun who place mode a (outcome call a).1 (outcome call a).0 (joins-outcome who a call calm.managed.speaks refl) calm
 
 calm-tried : (who place : ℕ) (mode : Mode) (answer : Answer) → LeavesCalm who (gains.try_answered who place mode answer)
 calm-tried who place mode (Granted id) = λ a calm. calm
@@ -79,9 +79,9 @@ calm-ask who call next made quiet later a calm = later (outcome call a).0 (outco
 
 calm-gaining : (ticket : Option Held) (who place : ℕ) (mode : Mode) → LeavesCalm who (gains.gaining_from ticket who place mode)
 calm-gaining (Some ticket) who place mode =
-    calm-ask who (Clone_ticket who ticket.id mode) gains.copy_answered (refl, refl) (λ answer session. refl) (calm-copied who)
+    calm-ask who (Clone_ticket who ticket.id mode) gains.copy_answered refl (λ answer session. refl) (calm-copied who)
 calm-gaining None who place mode =
-    calm-ask who (Try_now who place mode) (gains.try_answered who place mode) (refl, refl) (λ answer session. refl) (calm-tried who place mode)
+    calm-ask who (Try_now who place mode) (gains.try_answered who place mode) refl (λ answer session. refl) (calm-tried who place mode)
 
 -- ---- wishes
 
@@ -102,7 +102,7 @@ calm-place request context _ = λ a calm. calm
 calm-finding : (place : Option ℕ) (request : Wish) (context : ContextView) → LeavesCalm context.who (requests.finding place request context)
 calm-finding (Some place) request context = calm-reusing (earliest (requests.is_reusable place request) context.kept) place request context
 calm-finding None request context =
-    calm-ask {A = Outcome Acquire} context.who (Resolve context.who request.key) (requests.place_answered request context) (refl, refl) (λ answer session. refl)
+    calm-ask {A = Outcome Acquire} context.who (Resolve context.who request.key) (requests.place_answered request context) refl (λ answer session. refl)
     (calm-place request context)
 
 -- a lock is wished for
@@ -121,9 +121,9 @@ calm-answered who _ = λ a calm. calm
 
 calm-trying_from : (ticket : Option Held) (who place : ℕ) (mode : Mode) → LeavesCalm who (gains.trying_from ticket who place mode)
 calm-trying_from (Some ticket) who place mode =
-    calm-ask who (Clone_ticket who ticket.id mode) gains.tried_answered (refl, refl) (λ answer session. refl) (calm-answered who)
+    calm-ask who (Clone_ticket who ticket.id mode) gains.tried_answered refl (λ answer session. refl) (calm-answered who)
 calm-trying_from None who place mode =
-    calm-ask who (Try_now who place mode) gains.tried_answered (refl, refl) (λ answer session. refl) (calm-answered who)
+    calm-ask who (Try_now who place mode) gains.tried_answered refl (λ answer session. refl) (calm-answered who)
 
 calm-trying_again : (ticket : Option Held) (place : ℕ) (request : Wish) (context : ContextView)
     → LeavesCalm context.who (requests.trying_again ticket place request context)
@@ -145,7 +145,7 @@ calm-trying_found : (place : Option ℕ) (request : Wish) (context : ContextView
 calm-trying_found (Some place) request context =
     calm-trying_again (earliest (requests.is_reusable place request) context.kept) place request context
 calm-trying_found None request context =
-    calm-ask {A = Outcome Tried} context.who (Resolve context.who request.key) (requests.trying_placed request context) (refl, refl) (λ answer session. refl)
+    calm-ask {A = Outcome Tried} context.who (Resolve context.who request.key) (requests.trying_placed request context) refl (λ answer session. refl)
     (calm-trying_placed request context)
 
 pub calm-trying : (request : Wish) (context : ContextView) → LeavesCalm context.who (requests.trying request context)
@@ -159,11 +159,11 @@ calm-trying request context =
 calm-merged : (who new : ℕ) (answer : Answer) → LeavesCalm who (upgrades.merge_answered who new answer)
 calm-merged who new Done = λ a calm. calm
 calm-merged who new answer =
-    calm-ask {A = Result (Unit {0}) SpaceError} who (Release who new) (λ _. Give (Err (gains.refusal_answered answer))) (refl, refl) (λ answer session. refl)
+    calm-ask {A = Result (Unit {0}) SpaceError} who (Release who new) (λ _. Give (Err (gains.refusal_answered answer))) refl (λ answer session. refl)
     (λ _ a calm. calm)
 
 calm-merging : (who id new : ℕ) → LeavesCalm who (upgrades.merging_new who id new)
-calm-merging who id new = calm-ask who (Merge who id new) (upgrades.merge_answered who new) (refl, refl) (λ answer session. refl) (calm-merged who new)
+calm-merging who id new = calm-ask who (Merge who id new) (upgrades.merge_answered who new) refl (λ answer session. refl) (calm-merged who new)
 
 calm-second : (ticket : Kept) (mode : Mode) (context : ContextView) (end : Result AskResult SpaceError)
     → LeavesCalm context.who (upgrades.second_got ticket mode context end)
@@ -192,7 +192,7 @@ calm-upgrading_ticket None mode context = λ a calm. calm
 calm-upgrading_ticket (Some ticket) mode context =
     let asks : Program (Outcome Acquire) = Ask (Upgrade_now context.who ticket.id mode) (upgrades.upgrade_answered ticket mode context) in
     calm-unless {A = Acquire} (releases.waiting_fault context) context asks
-    (calm-ask {A = Outcome Acquire} context.who (Upgrade_now context.who ticket.id mode) (upgrades.upgrade_answered ticket mode context) (refl, refl)
+    (calm-ask {A = Outcome Acquire} context.who (Upgrade_now context.who ticket.id mode) (upgrades.upgrade_answered ticket mode context) refl
     (λ answer session. refl) (calm-upgrade_answered ticket mode context))
 
 pub calm-upgrading : (id : ℕ) (mode : Mode) (context : ContextView) → LeavesCalm context.who (upgrades.upgrading id mode context)
@@ -207,7 +207,7 @@ pub calm-downgrading : (id : ℕ) (mode : Mode) (context : ContextView) → Leav
 calm-downgrading id mode context =
     let asks : Program (Outcome (Unit {0})) = Ask (Downgrade context.who id mode) (upgrades.downgrade_answered id mode context) in
     calm-unless {A = Unit {0}} (releases.release_fault id context) context asks
-    (calm-ask {A = Outcome (Unit {0})} context.who (Downgrade context.who id mode) (upgrades.downgrade_answered id mode context) (refl, refl)
+    (calm-ask {A = Outcome (Unit {0})} context.who (Downgrade context.who id mode) (upgrades.downgrade_answered id mode context) refl
     (λ answer session. refl) (calm-downgraded id mode context))
 
 -- ---- waits that go on

@@ -104,7 +104,7 @@ seeks who a managed = record {
   end = outcome_of outcome (seeking most_searches who) a
 
   run : Runs Joins a (seeking most_searches who) end.0 end.1
-  run = (outcomes-are_runs SearchEnd (seeking most_searches who) a who managed.speaks (calls_seeking (IsMadeFor who) who (refl, refl) most_searches)).0
+  run = (outcomes-are_runs SearchEnd (seeking most_searches who) a who managed.speaks (calls_seeking (IsMadeFor who) who refl most_searches)).0
 
   over : end.0 ≡ Over
   over = elim (over-or_cut most_searches who a) [

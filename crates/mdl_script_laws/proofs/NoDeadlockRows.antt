@@ -98,7 +98,7 @@ calm-key mark session more made answer = calm-closing (ending_of_refusal (refusa
 
 calm-told : (who target : ℕ) (more : Program Pause) → IsCalmFor who more → (answer : Answer) → IsCalmFor who (playing.wait_told target answer >>= (λ _. more))
 calm-told who target more made (Has_wait (Some number)) =
-    calm-ask {A = Pause} who (Kill target number) (λ _. more) (refl, tt) (λ answer session. refl) (λ _. made)
+    calm-ask {A = Pause} who (Kill target number) (λ _. more) tt (λ answer session. refl) (λ _. made)
 calm-told who target more made _ = made
 
 -- ---- all that may be asked for
@@ -140,23 +140,23 @@ calm-play (row.Release id rest) mark session =
 calm-play (row.Keep rest) mark session = calm-play rest mark (playing.all_kept session)
 calm-play (row.Read id rest) mark session =
     let more = λ (standing : VersionedDefinition). play (rest standing) mark session in
-    calm-ask {A = Pause} session.context.who (Read_kept session.context.who id) (playing.read_answered mark session more) (refl, refl)
+    calm-ask {A = Pause} session.context.who (Read_kept session.context.who id) (playing.read_answered mark session more) refl
     (λ answer session. refl) (calm-read mark session more (λ standing. calm-play (rest standing) mark session))
 calm-play (row.Redefine id change rest) mark session =
     let more = play rest mark session in
-    calm-ask {A = Pause} session.context.who (Change_definition session.context.who id change) (playing.change_answered mark session more) (refl, refl)
+    calm-ask {A = Pause} session.context.who (Change_definition session.context.who id change) (playing.change_answered mark session more) refl
     (λ answer session. refl) (calm-change mark session more (calm-play rest mark session))
 calm-play (row.Tables_of schema rest) mark session =
     let more = λ (tables : List ℕ). play (rest tables) mark session in
-    calm-ask {A = Pause} session.context.who (Tables_of session.context.who schema) (playing.tables_answered mark session more) (refl, refl)
+    calm-ask {A = Pause} session.context.who (Tables_of session.context.who schema) (playing.tables_answered mark session more) refl
     (λ answer session. refl) (calm-tables mark session more (λ tables. calm-play (rest tables) mark session))
 calm-play (row.Key_of place rest) mark session =
     let more = λ (key : KeyName). play (rest key) mark session in
-    calm-ask {A = Pause} session.context.who (Key_of session.context.who place) (playing.key_answered mark session more) (refl, refl)
+    calm-ask {A = Pause} session.context.who (Key_of session.context.who place) (playing.key_answered mark session more) refl
     (λ answer session. refl) (calm-key mark session more (λ key. calm-play (rest key) mark session))
 calm-play (row.Kill target rest) mark session =
     let more = play rest mark session in
-    calm-ask {A = Pause} session.context.who (Wait_of target) (λ answer. playing.wait_told target answer >>= (λ _. more)) (refl, tt)
+    calm-ask {A = Pause} session.context.who (Wait_of target) (λ answer. playing.wait_told target answer >>= (λ _. more)) tt
     (λ answer session. refl) (calm-told session.context.who target more (calm-play rest mark session))
 
 -- ---- what is left of a statement

@@ -62,7 +62,7 @@ keeps-calm = record {
     λ k d inside. tt,
   );
   ends = λ who world is staffed calm.
-      calm-calls who (Ask (Settle_timeout who) (λ _. Give tt)) world.core is staffed.speaks ((refl, refl), λ _. tt) (λ answer session. refl, λ _. tt) calm;
+      calm-calls who (Ask (Settle_timeout who) (λ _. Give tt)) world.core is staffed.speaks (refl, λ _. tt) (λ answer session. refl, λ _. tt) calm;
 }
 
 -- ---- the world at first

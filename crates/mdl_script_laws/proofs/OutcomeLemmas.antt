@@ -46,7 +46,7 @@ by-then May Q (Grow refused found) next later = (by-then May Q refused next late
 
 -- a call for the session or for nobody joins by its outcome
 pub joins-outcome : (who : ℕ) (core : Core) (call : Call) → SpeaksFor core who → IsMadeFor who call → Joins core call (outcome call core).0 (outcome call core).1
-joins-outcome who core call speaks made = (by (caller call) made.1, made.0, inr refl) where
+joins-outcome who core call speaks made = (by (caller call) made, inr refl) where
   by : (maker : Option ℕ) → IfSome maker (λ w. w ≡ who) → IfSome maker (SpeaksFor core)
   by None same = tt
   by (Some w) same = subst (SpeaksFor core) (sym same) speaks

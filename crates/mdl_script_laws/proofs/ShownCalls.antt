@@ -13,6 +13,7 @@ use Rattle.mdl_core.specs.CoreJoins.{Joins, Knows, SpeaksFor, locks_at}
 use Rattle.mdl_core.specs.Cores.{Core, has_key, standing_at}
 use Rattle.mdl_core.specs.RunLaws.{IsMadeFor}
 use Rattle.mdl_core.proofs.CallLaws.{core-changes, core-keeps, core-others, core-remembers}
+use Rattle.mdl_core.proofs.CoreReads.{ticket-key}
 use Rattle.mdl_core.proofs.CoreSound.{calls_keep-sound}
 use Rattle.mdl_core.proofs.ReadLaws.{core-stands}
 use Rattle.mdl_script_laws.proofs.ListLemmas.{filter-among}
@@ -20,7 +21,7 @@ use Rattle.mdl_script_laws.proofs.OutcomeLemmas.{joins-outcome}
 
 -- ---- what a session holds
 
--- a call that takes no ticket from its session but those of these numbers, and changes nothing that stands
+-- a call that takes no ticket from its session but those of these numbers, gives up no pin, and changes nothing that stands
 abbrev pub IsMild : (ℕ → Type 0) → Call → Type 0
 IsMild gone (Release who id) = gone id
 IsMild gone (Upgrade_now who id mode) = ⊥
@@ -76,7 +77,7 @@ abbrev pub none : ℕ → Type 0
 none id = ⊥
 
 pub key-held : (a : Core) (who : ℕ) (t : Held) → SpeaksFor a who → Contains (locks_at a who).held t → has_key t.place a ≡ true
-key-held a who t speaks among = speaks.1.tied.placed who t speaks.0 (inl (inl among))
+key-held a who t speaks among = ticket-key a who t speaks.1.tied speaks.0 (inl (inl among))
 
 pub spares-here : (who : ℕ) (gone : ℕ → Type 0) (a : Core) → SpeaksFor a who → Spares who gone a a
 spares-here who gone a speaks = record { speaks = speaks; held = λ t among stays. among; known = λ place key knows. knows; stands = λ t among stays. refl }
@@ -215,7 +216,7 @@ stays-outcome (Give x) a who other apart theirs speaks made = stays-here who non
 stays-outcome (Ask call next) a who other apart theirs speaks made =
     let b = (outcome call a).1 in
     let joins = joins-outcome other a call theirs made.0 in
-    let first = stays-other who a b call (outcome call a).0 speaks (not_mine who other (caller call) apart made.0.1) joins in
+    let first = stays-other who a b call (outcome call a).0 speaks (not_mine who other (caller call) apart made.0) joins in
     stays-then who none a b _ first
     (stays-outcome (next (outcome call a).0) b who other apart (core-keeps calls_keep-sound a b call (outcome call a).0 other theirs joins) first.0.speaks
     (made.1 (outcome call a).0))

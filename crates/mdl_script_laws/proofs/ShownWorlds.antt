@@ -314,7 +314,7 @@ module _ (who : ℕ) (there : IsScriptSession who) where
   }
     where
       joins : Joins world.core (Settle_timeout s) (outcome (Settle_timeout s) world.core).0 (outcome (Settle_timeout s) world.core).1
-      joins = joins-outcome s world.core (Settle_timeout s) (good.staffed.speaks s is.0 is.1) (refl, refl)
+      joins = joins-outcome s world.core (Settle_timeout s) (good.staffed.speaks s is.0 is.1) refl
 
       stays : (w : ℕ) → IsScriptSession w → Stays w none world.core (outcome (Settle_timeout s) world.core).1
       stays w session = elim (eqb_tells w s) [

@@ -1,5 +1,5 @@
 -- The space of a script has no more keys than places, so that a schema has no more tables.
-use Rattle.std.proofs.Common.{◌≡◌, ℕ, suc, ◌≤◌, Bool, true, false, List, [], ◌∷◌, length, refl, sym, ap, ◌∙◌, arith, subst}
+use Rattle.std.proofs.Common.{◌≡◌, ℕ, suc, ◌≤◌, List, [], ◌∷◌, length, refl, ap, ◌∙◌, arith}
 use Rattle.std.specs.Prelude.{filter, nat_le}
 use Rattle.std.specs.List.{range_with_len}
 use Rattle.std.proofs.lemmas.Bool.Decides.{nat_tests}
@@ -9,12 +9,12 @@ use Rattle.std.proofs.lemmas.List.Sums.{count_by-le-length, length-filter}
 use Rattle.mdl_key.specs.Keys.{KeyName}
 use Rattle.mdl_book.specs.declared.book_view.BookView.{BookView}
 use Rattle.mdl_book.specs.Books.{empty_book}
-use Rattle.mdl_calls.specs.Words.{Answer, Call, Resolve, Tables_of, Unpin, Program, Give, Ask, Grow, outcome_of}
-use Rattle.mdl_core.specs.CoreCalls.{has_call, outcome, placing}
+use Rattle.mdl_calls.specs.Words.{Answer, Call, Resolve, Tables_of, Program, Give, Ask, Grow, outcome_of}
+use Rattle.mdl_core.specs.CoreCalls.{outcome, placing}
 use Rattle.mdl_core.specs.Cores.{Core, comes_before, has_defined_table, index_of, places_in_key_order, put_in_order, table_places}
 use Rattle.mdl_core.specs.Determined.{Places, places_of}
 use Rattle.mdl_core.proofs.CallCases.{option_cases, test_cases}
-use Rattle.mdl_core.proofs.PlacesKept.{is_resolve, places-kept}
+use Rattle.mdl_core.proofs.PlacesKept.{places-kept}
 use Rattle.mdl_script_laws.specs.Turns.{AreFewTables}
 use Rattle.mdl_script_laws.proofs.OutcomeLemmas.{EachBy}
 use Rattle.mdl_script_laws.proofs.RowPauses.{Told}
@@ -44,26 +44,10 @@ few-placing who key core few =
     }))
     (λ index found. record { books = few.books; most = few.most })
 
-never : true ≡ false → ⊥
-never e = cc
-
--- a call that the space hasn't changes nothing
-left-alone : (call : Call) (core : Core) → has_call call ≡ false → (outcome call core).1 ≡ core
-left-alone (Unpin who place) core has = refl
-left-alone _ core has = absurd (never has)
-
-resolved-key : (call : Call) → is_resolve call ≡ true → (who : ℕ) × (key : KeyName) × (call ≡ Resolve who key)
-resolved-key (Resolve who key) e = (who, key, refl)
-resolved-key _ e = cc
-
+-- no other call gives a key a place
 pub few-call : (call : Call) (core : Core) → HasFewPlaces core → HasFewPlaces (outcome call core).1
-few-call call core few = by (is_resolve call) refl (has_call call) refl
-  where
-    by : (resolves : Bool) → is_resolve call ≡ resolves → (has : Bool) → has_call call ≡ has → HasFewPlaces (outcome call core).1
-    by resolves e false has = few-same core (outcome call core).1 (ap places_of (left-alone call core has)) few
-    by false e true has = few-same core (outcome call core).1 (places-kept core call e has) few
-    by true e true has =
-        let it = resolved-key call e in subst (λ (c : Call). HasFewPlaces (outcome c core).1) (sym it.2) (few-placing it.0 it.1 core few)
+few-call (Resolve who key) core few = few-placing who key core few
+few-call call core few = few-same core (outcome call core).1 (places-kept core call refl) few
 
 -- so it is after a program
 pub few-outcome : {A : Type 0} (program : Program A) (core : Core) → HasFewPlaces core → HasFewPlaces (outcome_of outcome program core).1

@@ -134,9 +134,9 @@ ended-ending : (context : ContextView) (core : Core) → SpeaksFor core context.
 ended-ending context core speaks settled =
     ended-answered context (end_wait_outcome context.who core).0 (end_wait_outcome context.who core).1 (is_some (locks_at core context.who).wait)
     (core-keeps calls_keep-sound core (end_wait_outcome context.who core).1 (End_wait context.who) (end_wait_outcome context.who core).0 context.who speaks
-    (joins-outcome context.who core (End_wait context.who) speaks (refl, refl)))
+    (joins-outcome context.who core (End_wait context.who) speaks refl))
     (ends-settled context.who core settled)
-    (call-waits context.who core (End_wait context.who) speaks (refl, refl))
+    (call-waits context.who core (End_wait context.who) speaks refl)
 
 ended-going : (searched : Option Bool) (context : ContextView) (core : Core) (how : Settled) → is_some searched ≡ true
     → poll_wait_outcome context.who core ≡ (Is_settled how, core)
@@ -283,11 +283,11 @@ seen-timed_out who world is staffed seen w session = by w session (eqb_tells w w
   by : (w : ℕ) → IsScriptSession w → ((eqb w who ≡ true) × (w ≡ who)) ⊎ ((eqb w who ≡ false) × (w ≢ who))
       → IsTied (player_at w world).session (is_some (locks_at after w).wait)
   by w there (inl same) =
-      let own : is_some (locks_at after who).wait ≡ is_some (locks_at world.core who).wait = call-waits who world.core (Settle_timeout who) speaks (refl, refl) in
+      let own : is_some (locks_at after who).wait ≡ is_some (locks_at world.core who).wait = call-waits who world.core (Settle_timeout who) speaks refl in
       subst (λ k. IsTied (player_at k world).session (is_some (locks_at after k).wait)) (sym same.1)
       (subst (λ waits. IsTied (player_at who world).session waits) (sym own) (seen who is))
   by w there (inr other) =
-      let joins = joins-outcome who world.core (Settle_timeout who) speaks (refl, refl) in
+      let joins = joins-outcome who world.core (Settle_timeout who) speaks refl in
       let own : locks_at after w ≡ locks_at world.core w =
       core-others world.core after (Settle_timeout who) (outcome (Settle_timeout who) world.core).0 w (staffed.speaks w there.0 there.1)
       (λ e. other.1 (cc)) joins in

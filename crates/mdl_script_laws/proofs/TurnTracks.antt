@@ -54,7 +54,7 @@ nobody-waits _ answer waits nobody = refl
 
 pub call-waits : (who : ℕ) (core : Core) (call : Call) → SpeaksFor core who → IsMadeFor who call
     → is_some (locks_at (outcome call core).1 who).wait ≡ wait_after call (outcome call core).0 (is_some (locks_at core who).wait)
-call-waits who core call speaks made = by (caller call) refl made.1 where
+call-waits who core call speaks made = by (caller call) refl made where
   answer : Answer
   answer = (outcome call core).0
 
@@ -111,7 +111,7 @@ others-outcome (Ask call next) core who w speaks there other made =
     let joins = joins-outcome who core call speaks made.0 in
     let keeps : (k : ℕ) → SpeaksFor core k → SpeaksFor after k = λ k spoke. core-keeps calls_keep-sound core after call answer k spoke joins in
     others-outcome (next answer) after who w (keeps who speaks) (keeps w there) other (made.1 answer)
-    ∙ core-others core after call answer w there (λ its. other (by (caller call) its made.0.1)) joins where
+    ∙ core-others core after call answer w there (λ its. other (by (caller call) its made.0)) joins where
       by : (maker : Option ℕ) → maker ≡ Some w → IfSome maker (λ k. k ≡ who) → w ≡ who
       by None its same = cc
       by (Some k) its same = cc

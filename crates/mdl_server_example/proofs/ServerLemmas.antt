@@ -98,7 +98,7 @@ fresh-at (seat ∷ seats) (suc i) fresh = fresh-at seats i fresh.1
 attended-new : (space : Core) (who : ℕ) → SpeaksFor space who → HasNothing (locks_at space who) → AttendsWith core_space space (new_session who).context (new_session who).cache
 attended-new space who speaks has =
     attends-empty core_space space (new_session who).context (new_session who).cache refl
-    (record { speaks = speaks; serves = record { held = has.0; wait = ap (option_map wish_there) has.1 }; known = All-nil _; places = All-nil _; wish = tt })
+    (record { speaks = speaks; serves = record { held = has.0; wait = ap (option_map wish_there) has.1 }; known = All-nil _; pinned = All-nil _; places = All-nil _; wish = tt })
 
 served-new : (space : Core) (a n : ℕ) → ((who : ℕ) → a ≤ who → who < a + n → SpeaksFor space who) → ((who : ℕ) → HasNothing (locks_at space who))
     → AreServed space a (map new_session (range_with_len a n))

@@ -1,7 +1,7 @@
 -- Sessions after calls, which show that such calls can be.
 use Rattle.std.proofs.Common.{◌≡◌, ℕ, ◌+◌, true, false, [], ◌∷◌, ◌++◌, is_some, Option, Some, None, MatchOption, IfSome, inl, refl, sym, ap, subst, ◌∙◌, arith}
-use Rattle.mdl_session_laws.proofs.FirstLemmas.{Change_definition, Downgrade, End_wait, Held, IsSound, KeepsAll, KeepsSettled, Kill, LearnsPlace, NotesThere, OfHeld, OutOfMemory, Poll_wait, Release, SessionData, SessionLocks, Settle_timeout, SpeaksFor, Unpin, VersionedDefinition, Victim, Wait_of, X, caller, ending, gaining, holds, nat_tests, pinning, reads-nothing, refused-joins, same_mode, standing_after, ticket_drawn, ticket_held, wait_drawn, waiting}
-use Rattle.mdl_session_laws.specs.Happenings.{KeysAreFound, LocksAreHad, WaitsAreBegun, WaitsAreLost, StandingsAreRead, StandingsAreChanged, MemoryRunsOut}
+use Rattle.mdl_session_laws.proofs.FirstLemmas.{Change_definition, Downgrade, End_wait, Held, IsSound, KeepsAll, KeepsSettled, Kill, LearnsPlace, NotesThere, OfHeld, OutOfMemory, Poll_wait, Release, SessionData, SessionLocks, Settle_timeout, SpeaksFor, Unpin, VersionedDefinition, Victim, Wait_of, X, caller, ending, gaining, holds, nat_tests, pinning, reads-nothing, refused-joins, same_mode, standing_after, ticket_drawn, ticket_held, unpinning, wait_drawn, waiting}
+use Rattle.mdl_session_laws.specs.Happenings.{KeysAreFound, PinsAreGivenUp, LocksAreHad, WaitsAreBegun, WaitsAreLost, StandingsAreRead, StandingsAreChanged, MemoryRunsOut}
 
 -- ---- the wait
 
@@ -22,7 +22,6 @@ keys-found a place key sound new free = (
     own = refl;
     numbers = refl;
     explained = tt;
-    gained = tt;
     learns = subst (λ o. LearnsPlace key place o a.known b.known) (sym new) (free, refl);
     agreed = λ state how is. cc;
     told = λ how is. cc;
@@ -35,10 +34,35 @@ keys-found a place key sound new free = (
     b : SessionData
     b = record a { own = pinning place a.own; known = a.known ++ record { key = key; place = place } ∷ [] }
 
+-- ---- pins
+
+pub pins-given_up : PinsAreGivenUp
+pins-given_up a place sound pinned no_ticket no_wait = (
+  b,
+  record {
+    mine = (refl, sound);
+    has = refl;
+    fits = refl;
+    number = refl;
+    own = refl;
+    numbers = refl;
+    explained = (pinned, no_ticket, no_wait);
+    learns = refl;
+    agreed = λ state how is. cc;
+    told = λ how is. cc;
+    settled = settled-same a b refl;
+    reads = reads-nothing a b refl refl;
+    truly = tt;
+  },
+)
+  where
+    b : SessionData
+    b = record a { own = unpinning place a.own }
+
 -- ---- locks and waits
 
 pub locks-had : LocksAreHad
-locks-had a place mode sound idle known fit = (
+locks-had a place mode sound pinned idle fit = (
   b,
   record {
     mine = (refl, sound);
@@ -47,8 +71,7 @@ locks-had a place mode sound idle known fit = (
     number = refl;
     own = refl;
     numbers = (refl, refl);
-    explained = (idle, fit);
-    gained = known;
+    explained = (pinned, idle, fit);
     learns = refl;
     agreed = λ state how is. cc;
     told = λ how is. cc;
@@ -62,7 +85,7 @@ locks-had a place mode sound idle known fit = (
     b = record a { own = gaining (a.numbers.last_ticket + 1) place mode a.own; numbers = ticket_drawn a.numbers }
 
 pub waits-begun : WaitsAreBegun
-waits-begun a place mode sound idle known fit = (
+waits-begun a place mode sound pinned idle fit = (
   b,
   record {
     mine = (refl, sound);
@@ -71,8 +94,7 @@ waits-begun a place mode sound idle known fit = (
     number = refl;
     own = refl;
     numbers = (refl, refl);
-    explained = (idle, fit);
-    gained = known;
+    explained = (pinned, idle, fit);
     learns = refl;
     agreed = λ state how is. cc;
     told = λ how is. cc;
@@ -96,7 +118,6 @@ waits-lost a sound lost = (
     own = refl;
     numbers = refl;
     explained = sound.settled (ap is_some lost);
-    gained = tt;
     learns = refl;
     agreed = λ state how is settled. sym (let e : Some (Some Victim) ≡ Some state = is in let same : Some Victim ≡ state = cc in sym settled ∙ lost ∙ same);
     told = λ how is. cc;
@@ -144,7 +165,6 @@ standings-read a id ticket standing sound its meets = (
     own = refl;
     numbers = refl;
     explained = held-is id a.own ticket its;
-    gained = tt;
     learns = refl;
     agreed = λ state how is. cc;
     told = λ how is. cc;
@@ -165,7 +185,6 @@ standings-changed a id ticket stood change sound its exclusive meets allowed = (
     own = refl;
     numbers = refl;
     explained = of-ticket id a.own ticket (λ t. same_mode t.mode X ≡ true) its exclusive;
-    gained = tt;
     learns = refl;
     agreed = λ state how is. cc;
     told = λ how is. cc;

@@ -1,9 +1,10 @@
 -- What is always so of a session is so after each call.
 use Rattle.std.proofs.Common.{◌≡◌, ℕ, Bool, true, false, is_some, Option, Some, None, IfSome, inr, refl, sym, ap, subst, ◌∙◌}
-use Rattle.mdl_session_laws.proofs.FirstLemmas.{Answer, At_place, Call, IsRising, IsSound, Joins, KeepsSettled, Knows, Resolve, SessionData, SessionLocks, Settled, Wait, all-weaker, are_below, are_pins_known, are_placed, ends_wait, first_free, is_known, is_waiting, known-is, own_after, pins-weaker}
+use Rattle.mdl_calls.proofs.PinLemmas.{HasPins, all-after, all-weaker, has_pins-after, rise-after}
+use Rattle.mdl_session_laws.proofs.FirstLemmas.{Answer, At_place, Call, IsRising, IsSound, Joins, KeepsSettled, Knows, Resolve, SessionData, SessionLocks, Settled, Wait, are_at_pins, are_below, are_pins_known, are_rising_places, effect_of, ends_wait, first_free, is_known, is_pinned, is_waiting, known-is, own_after}
 use Rattle.mdl_session_laws.proofs.KeyLaws.{session-resolves}
 use Rattle.mdl_session_laws.proofs.KnownAfter.{known-apart, knows-on, known-on}
-use Rattle.mdl_session_laws.proofs.OwnAfter.{placed-after, awaited-after, counts-after, pins-after, waits-on}
+use Rattle.mdl_session_laws.proofs.OwnAfter.{counts-after, keeps-pins, pins-by, waits-on}
 use Rattle.mdl_session_laws.proofs.ReadAfter.{HasLearnt, learnt, noted-on, newest-on, fits-on}
 use Rattle.mdl_session_laws.specs.SpaceLaws.{beginning}
 
@@ -20,26 +21,20 @@ module _ (a b : SessionData) (call : Call) (answer : Answer) (sound : IsSound a)
   known-still : (place : ℕ) → is_known place a.known ≡ true → is_known place b.known ≡ true
   known-still = known-on call answer a.known b.known joins.learns
 
-  -- tickets and waits are at them
-  placed-still : are_placed b.known (own_after call answer a.own).held ≡ true
-  placed-still =
-      all-weaker (λ t. is_known t.place a.known) (λ t. is_known t.place b.known) (λ t. known-still t.place) (own_after call answer a.own).held
-      (placed-after a.known call answer a.own sound.placed sound.awaited joins.gained)
+  -- places of tickets and of the wait are pinned
+  has_pins-still : HasPins (own_after call answer a.own)
+  has_pins-still = has_pins-after (effect_of call answer) a.own (sound.placed, sound.awaited) (keeps-pins (Knows a a.number) call answer a.own joins.explained)
 
-  awaited-still : IfSome (own_after call answer a.own).wait (λ (w : Wait). is_known w.place b.known ≡ true)
-  awaited-still = by (own_after call answer a.own).wait (awaited-after a.known call answer a.own sound.awaited joins.gained)
-    where
-      by : (o : Option Wait) → IfSome o (λ (w : Wait). is_known w.place a.known ≡ true) → IfSome o (λ (w : Wait). is_known w.place b.known ≡ true)
-      by None at = tt
-      by (Some wait) at = known-still wait.place at
-
-  -- and so are pins, also of the place that was resolved
-  pinned-still : are_pins_known b.known (own_after call answer a.own).pins ≡ true
-  pinned-still =
-      pins-after b.known call answer a.own (pins-weaker a.known b.known known-still a.own.pins sound.pinned)
-      (λ who place key is told.
-      let resolves : Joins a (Resolve who key) (At_place place) b = subst (λ x. Joins a x (At_place place) b) is (subst (λ x. Joins a call x b) told joins) in
-      known-is b.known place key (session-resolves a b who place key resolves))
+  -- and pinned places are known, also the one that was resolved
+  pinned-known : are_pins_known b.known (own_after call answer a.own).pins ≡ true
+  pinned-known =
+      all-after (λ place. is_known place b.known) (effect_of call answer) a.own
+      (λ place pins.
+      let resolved = pins-by call answer place pins in
+      let resolves : Joins a (Resolve resolved.0 resolved.1) (At_place place) b =
+      subst (λ x. Joins a x (At_place place) b) resolved.2 (subst (λ x. Joins a call x b) resolved.3 joins) in
+      known-is b.known place resolved.1 (session-resolves a b resolved.0 place resolved.1 resolves))
+      (all-weaker (λ place. is_known place a.known) (λ place. is_known place b.known) known-still a.own.pins sound.pinned)
 
   -- only a wait is settled
   settled-still : is_some b.settled ≡ true → is_waiting (own_after call answer a.own) ≡ true
@@ -67,9 +62,10 @@ module _ (a b : SessionData) (call : Call) (answer : Answer) (sound : IsSound a)
       record {
         rising = of-own IsRising counts.0;
         below = of-own (λ own. are_below (first_free (is_waiting own) b.numbers) own.held ≡ true) counts.1;
-        placed = of-own (λ own. are_placed b.known own.held ≡ true) placed-still;
-        awaited = of-own (λ own. IfSome own.wait (λ (w : Wait). is_known w.place b.known ≡ true)) awaited-still;
-        pinned = of-own (λ own. are_pins_known b.known own.pins ≡ true) pinned-still;
+        placed = of-own (λ own. are_at_pins own own.held ≡ true) has_pins-still.0;
+        awaited = of-own (λ own. IfSome own.wait (λ (w : Wait). is_pinned w.place own ≡ true)) has_pins-still.1;
+        in_order = of-own (λ own. are_rising_places own.pins ≡ true) (rise-after (effect_of call answer) a.own sound.in_order);
+        pinned = of-own (λ own. are_pins_known b.known own.pins ≡ true) pinned-known;
         apart = known-apart call answer a.known b.known joins.learns sound.apart;
         settled = λ some. of-own (λ own. is_waiting own ≡ true) (settled-still some);
         noted = noted-on a b sound lets;
@@ -87,6 +83,7 @@ learns-sound a b sound learns same =
       below = sound.below;
       placed = sound.placed;
       awaited = sound.awaited;
+      in_order = sound.in_order;
       pinned = sound.pinned;
       apart = sound.apart;
       settled = sound.settled;
@@ -102,6 +99,7 @@ begins-sound number = record {
   below = refl;
   placed = refl;
   awaited = tt;
+  in_order = refl;
   pinned = refl;
   apart = refl;
   settled = λ some. cc;

@@ -1,9 +1,10 @@
 -- The laws of a lock space, of a session: the keys that it knows, and their places.
-use Rattle.std.proofs.Common.{◌≡◌, ◌⊎◌, ℕ, ◌<◌, true, false, List, length, map, get_or, Option, Some, None, IfSome, All, AllPairs, Contains, refl, sym, ap, subst, ◌∙◌, arith}
+use Rattle.std.proofs.Common.{◌≡◌, ◌⊎◌, ℕ, ◌<◌, true, List, length, map, get_or, Option, Some, None, IfSome, All, AllPairs, Contains, inl, inr, refl, sym, ap, subst, ◌∙◌, arith}
+use Rattle.mdl_calls.proofs.PinLemmas.{all-among, at_pins-told}
 use Rattle.mdl_calls.proofs.TableLemmas.{table-of}
 use Rattle.mdl_key.specs.Keys.{global_key, key_cmp}
 use Rattle.std.proofs.lemmas.List.{get_or-map, length-map}
-use Rattle.mdl_session_laws.proofs.FirstLemmas.{Answer, AreTablesOf, At_place, AwaitsAt, Call, ComesBefore, Done, HasTableOf, Held, HoldsAt, InUse, Joins, KeyName, Key_is, Key_of, KnownKey, Knows, LearnsPlace, LearnsTables, Refused, Resolve, SessionData, SpeaksFor, Tables, Tables_of, Unpin, Wait, all-among, is-known, is_known, is_pinned, key-of_place, key_known, last-known, own_of, pinned-known, place-of_key, place_known}
+use Rattle.mdl_session_laws.proofs.FirstLemmas.{Answer, AreTablesOf, At_place, AwaitsAt, Call, ComesBefore, Done, HasTableOf, Held, HoldsAt, InUse, Joins, KeyName, Key_is, Key_of, KnownKey, Knows, LearnsPlace, LearnsTables, Refused, Resolve, SessionData, SpeaksFor, Tables, Tables_of, Unpin, Wait, are_rising_places, is-known, is_known, is_pinned, key-of_place, key_known, last-known, own_of, place-of_key, place_known}
 use Rattle.mdl_session_laws.proofs.KnownAfter.{knows-on}
 
 -- ---- keys and places
@@ -36,23 +37,6 @@ session-one_place a w place other key speaks_for one two =
 -- whoever is told the key of a place that it knows is told that key
 pub session-tells_key : (a b : SessionData) (who place : ℕ) (key other : KeyName) → Joins a (Key_of who place) (Key_is key) b → Knows a who place other → key ≡ other
 session-tells_key a b who place key other joins knows = let same = sym joins.truly ∙ knows in cc
-
--- ---- tickets and waits
-
-held-here : (a : SessionData) (w : ℕ) (ticket : Held) → SpeaksFor a w → Contains a.own.held ticket → is_known ticket.place a.known ≡ true
-held-here a w ticket speaks_for = all-among (λ (t : Held). is_known t.place a.known) a.own.held ticket speaks_for.1.placed
-
-wait-here : (a : SessionData) (w : ℕ) (wait : Wait) → SpeaksFor a w → a.own.wait ≡ Some wait → is_known wait.place a.known ≡ true
-wait-here a w wait speaks_for its = subst (λ o. IfSome o (λ (x : Wait). is_known x.place a.known ≡ true)) its speaks_for.1.awaited
-
--- whoever holds a ticket knows the key of its place
-pub session-held_places : (a : SessionData) (w : ℕ) (ticket : Held) → SpeaksFor a w → Contains (own_of a w).held ticket
-    → (key : KeyName) × Knows a w ticket.place key
-session-held_places a w ticket speaks_for holds = is-known a.known ticket.place (held-here a w ticket speaks_for holds)
-
--- whoever waits knows the key of the place that is waited for
-pub session-wait_place : (a : SessionData) (w : ℕ) (wait : Wait) → SpeaksFor a w → (own_of a w).wait ≡ Some wait → (key : KeyName) × Knows a w wait.place key
-session-wait_place a w wait speaks_for its = is-known a.known wait.place (wait-here a w wait speaks_for its)
 
 -- ---- tables
 
@@ -96,14 +80,24 @@ session-tells_tables a b who schema places joins =
 
 -- ---- pins
 
+-- pinned places rise
+pub session-pins_rise : (a : SessionData) (w : ℕ) → SpeaksFor a w → are_rising_places (own_of a w).pins ≡ true
+session-pins_rise a w speaks_for = speaks_for.1.in_order
+
 -- whoever pins a place knows its key
 pub session-pinned_known : (a : SessionData) (w place : ℕ) → SpeaksFor a w → is_pinned place (own_of a w) ≡ true → (key : KeyName) × Knows a w place key
-session-pinned_known a w place speaks_for pins = is-known a.known place (pinned-known a.known place a.own.pins speaks_for.1.pinned pins)
+session-pinned_known a w place speaks_for pins =
+    is-known a.known place (all-among (λ p. is_known p a.known) place a.own.pins speaks_for.1.pinned pins)
 
--- no pin is given up yet
-no-unpin : {A : Type 0} → false ≡ true → A
-no-unpin e = cc
+-- whoever holds a ticket pins its place
+pub session-held_pinned : (a : SessionData) (w : ℕ) (ticket : Held) → SpeaksFor a w → Contains (own_of a w).held ticket → is_pinned ticket.place (own_of a w) ≡ true
+session-held_pinned a w ticket speaks_for = at_pins-told a.own a.own.held ticket speaks_for.1.placed
 
+-- whoever waits pins the place that is waited for
+pub session-wait_pinned : (a : SessionData) (w : ℕ) (wait : Wait) → SpeaksFor a w → (own_of a w).wait ≡ Some wait → is_pinned wait.place (own_of a w) ≡ true
+session-wait_pinned a w wait speaks_for its = subst (λ o. IfSome o (λ (x : Wait). is_pinned x.place a.own ≡ true)) its speaks_for.1.awaited
+
+-- a pin isn't given up while a ticket or a wait is at the place
 pub session-unpins_in_use : {Owes : Type 0} (a b : SessionData) (who place : ℕ) → Joins a (Unpin who place) (Refused InUse) b
     → HoldsAt place (own_of a who) ⊎ AwaitsAt place (own_of a who) ⊎ Owes
-session-unpins_in_use a b who place joins = no-unpin joins.has
+session-unpins_in_use a b who place joins = elim joins.truly [ inl holds ↦ inl holds | inr awaits ↦ inr (inl awaits) ]

@@ -7,7 +7,6 @@ pub mod KeyLaws
 pub mod KeyLists
 pub mod KnownAfter
 pub mod OwnAfter
-pub mod PinLists
 pub mod ReadAfter
 pub mod ReadLaws
 pub mod ReadLists

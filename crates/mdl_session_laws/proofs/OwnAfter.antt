@@ -1,6 +1,8 @@
--- What a session has after a call: tickets of rising numbers, and they, a wait and pins at places that it knows.
-use Rattle.std.proofs.Common.{◌≡◌, ℕ, ◌+◌, Bool, true, false, not, nat_lt, List, [], ◌∷◌, ◌++◌, map, filter, is_some, Option, Some, None, MatchOption, IfSome, if◌then◌else◌, refl, sym, ap, subst, ◌∙◌, lt-ltb, arith}
-use Rattle.mdl_session_laws.proofs.FirstLemmas.{Answer, At_place, Begin_wait, Call, Clone_ticket, Done, Downgrade, Draws, DrawsTicket, DrawsWait, End_wait, Granted, Held, IsExplained, IsRising, KeyName, Knowledge, KnownKey, Lost, MayClone, Merge, Mode, Numbers, Release, Resolve, SessionLocks, Try_now, Unpin, Upgrade_now, Upgraded, Wait, Waits, all-changed, all-fewer, all-found, all-last, are_below, are_pins_known, are_placed, below-up, changing, cloning, ending, ends_wait, first_free, gained_at, gaining, giving_up, is_known, is_number, is_waiting, merging, own_after, pins-with, pins-without, rising-changed, rising-fewer, rising-last, ticket_held, upgraded, waiting, winning}
+-- What a session has after a call: tickets of rising numbers, and its tickets and wait at places that it pins.
+use Rattle.std.proofs.Common.{◌≡◌, ℕ, ◌+◌, Bool, true, false, not, nat_lt, List, [], ◌∷◌, ◌++◌, map, filter, is_some, Option, Some, None, MatchOption, if◌then◌else◌, refl, sym, ap, subst, ◌∙◌, lt-ltb, arith}
+use Rattle.mdl_calls.proofs.PinLemmas.{KeepsPins}
+use Rattle.mdl_calls.specs.Effects.{Pins}
+use Rattle.mdl_session_laws.proofs.FirstLemmas.{Answer, At_place, Begin_wait, Call, Clone_ticket, Done, Downgrade, Draws, DrawsTicket, DrawsWait, End_wait, Granted, Held, IsExplained, IsRising, KeyName, Knowledge, Lost, MayClone, Merge, Mode, Numbers, Release, Resolve, SessionLocks, Try_now, Unpin, Upgrade_now, Upgraded, Waits, all-changed, all-fewer, all-last, are_below, below-up, changing, cloning, ending, effect_of, ends_wait, first_free, gaining, giving_up, is_number, is_waiting, merging, own_after, rising-changed, rising-fewer, rising-last, ticket_held, upgraded, waiting, winning}
 
 -- ---- a ticket that gets another mode
 
@@ -8,100 +10,44 @@ use Rattle.mdl_session_laws.proofs.FirstLemmas.{Answer, At_place, Begin_wait, Ca
 abbrev in_mode : ℕ → (Mode → Mode) → Held → Held
 in_mode id change t = if is_number id t then record t { mode = change t.mode } else t
 
--- it keeps its number and its place
+-- it keeps its number
 keeps-number : (id : ℕ) (change : Mode → Mode) (t : Held) → (in_mode id change t).id ≡ t.id
 keeps-number id change t = elim (is_number id t) as (λ b. (if b then record t { mode = change t.mode } else t).id ≡ t.id) [ true ↦ refl | false ↦ refl ]
 
-keeps-place : (id : ℕ) (change : Mode → Mode) (t : Held) → (in_mode id change t).place ≡ t.place
-keeps-place id change t = elim (is_number id t) as (λ b. (if b then record t { mode = change t.mode } else t).place ≡ t.place) [ true ↦ refl | false ↦ refl ]
+-- ---- pins
 
--- ---- places
+-- what must hold for a call not to be refused lets the session pin the places of its tickets and of its wait
+pub keeps-pins : (knows : Knowledge) (call : Call) (answer : Answer) (own : SessionLocks) → IsExplained knows call answer own → KeepsPins (effect_of call answer) own
+keeps-pins knows (Try_now who place mode) (Granted id) own clear = clear.0
+keeps-pins knows (Begin_wait who place mode) (Granted id) own clear = clear.0
+keeps-pins knows (Begin_wait who place mode) (Waits number) own clear = clear.0
+keeps-pins knows (End_wait who) (Granted id) own clear = tt
+keeps-pins knows (End_wait who) (Lost how) own clear = tt
+keeps-pins knows (Release who id) Done own clear = tt
+keeps-pins knows (Clone_ticket who id mode) (Granted copy) own clear = tt
+keeps-pins knows (Upgrade_now who id mode) Upgraded own clear = tt
+keeps-pins knows (Merge who old new) Done own clear = tt
+keeps-pins knows (Downgrade who id mode) Done own clear = tt
+keeps-pins knows (Resolve who key) (At_place place) own clear = tt
+keeps-pins knows (Unpin who place) Done own clear = (clear.1, clear.2)
+keeps-pins knows _ _ own clear = tt
 
-module _ (known : List KnownKey) where
-  abbrev is_here : Held → Bool
-  is_here t = is_known t.place known
-
-  here-changed : (id : ℕ) (change : Mode → Mode) (held : List Held) → are_placed known held ≡ true → are_placed known (map (in_mode id change) held) ≡ true
-  here-changed id change = all-changed is_here (in_mode id change) (λ t. ap (λ p. is_known p known) (keeps-place id change t))
-
-  -- what was gained is at a known place
-  pub placed-after : (call : Call) (answer : Answer) (own : SessionLocks) → are_placed known own.held ≡ true → IfSome own.wait (λ (w : Wait). is_known w.place known ≡ true)
-      → IfSome (gained_at call answer) (λ place. is_known place known ≡ true) → are_placed known (own_after call answer own).held ≡ true
-  placed-after (Try_now who place mode) (Granted id) own here awaited gained = all-last is_here own.held _ here gained
-  placed-after (Begin_wait who place mode) (Granted id) own here awaited gained = all-last is_here own.held _ here gained
-  placed-after (End_wait who) (Granted id) own here awaited gained =
-      elim own.wait as (λ o. IfSome o (λ (w : Wait). is_known w.place known ≡ true) → are_placed known (winning id o own).held ≡ true) [
-        | None ↦ λ none. here
-        | Some wait ↦ λ at. all-last is_here own.held _ here at
-      ] awaited
-  placed-after (Release who id) Done own here awaited gained = all-fewer is_here (λ ticket. not (is_number id ticket)) own.held here
-  placed-after (Clone_ticket who id mode) (Granted copy) own here awaited gained =
-      by (ticket_held id own) (λ t found. all-found is_here (is_number id) own.held t here found)
-    where
-      by : (o : Option Held) → ((t : Held) → o ≡ Some t → is_known t.place known ≡ true) → are_placed known (cloning copy mode o own).held ≡ true
-      by None at = here
-      by (Some t) at = all-last is_here own.held _ here (at t refl)
-  placed-after (Upgrade_now who id mode) Upgraded own here awaited gained = here-changed id (upgraded mode) own.held here
-  placed-after (Merge who old new) Done own here awaited gained = by (ticket_held new own)
-    where
-      by : (o : Option Held) → are_placed known (merging old new o own).held ≡ true
-      by None = here
-      by (Some t) = here-changed old (λ _. t.mode) (giving_up new own).held (all-fewer is_here (λ ticket. not (is_number new ticket)) own.held here)
-  placed-after (Downgrade who id mode) Done own here awaited gained = here-changed id (λ _. mode) own.held here
-  placed-after (Resolve who key) (At_place place) own here awaited gained = here
-  placed-after (Unpin who place) Done own here awaited gained = here
-  placed-after _ _ own here awaited gained = here
-
-  -- and so is what is waited for
-  pub awaited-after : (call : Call) (answer : Answer) (own : SessionLocks) → IfSome own.wait (λ (w : Wait). is_known w.place known ≡ true)
-      → IfSome (gained_at call answer) (λ place. is_known place known ≡ true)
-      → IfSome (own_after call answer own).wait (λ (w : Wait). is_known w.place known ≡ true)
-  awaited-after (Try_now who place mode) (Granted id) own awaited gained = awaited
-  awaited-after (Begin_wait who place mode) (Granted id) own awaited gained = awaited
-  awaited-after (Begin_wait who place mode) (Waits number) own awaited gained = gained
-  awaited-after (End_wait who) (Granted id) own awaited gained =
-      elim own.wait as (λ o. o ≡ own.wait → IfSome (winning id o own).wait (λ (w : Wait). is_known w.place known ≡ true)) [
-        | None ↦ λ e. awaited
-        | Some wait ↦ λ e. tt
-      ] refl
-  awaited-after (End_wait who) (Lost how) own awaited gained = tt
-  awaited-after (Release who id) Done own awaited gained = awaited
-  awaited-after (Clone_ticket who id mode) (Granted copy) own awaited gained =
-      elim (ticket_held id own) as (λ o. IfSome (cloning copy mode o own).wait (λ (w : Wait). is_known w.place known ≡ true)) [
-        | None ↦ awaited
-        | Some t ↦ awaited
-      ]
-  awaited-after (Merge who old new) Done own awaited gained =
-      elim (ticket_held new own) as (λ o. IfSome (merging old new o own).wait (λ (w : Wait). is_known w.place known ≡ true)) [
-        | None ↦ awaited
-        | Some t ↦ awaited
-      ]
-  awaited-after (Upgrade_now who id mode) Upgraded own awaited gained = awaited
-  awaited-after (Downgrade who id mode) Done own awaited gained = awaited
-  awaited-after (Resolve who key) (At_place place) own awaited gained = awaited
-  awaited-after (Unpin who place) Done own awaited gained = awaited
-  awaited-after _ _ own awaited gained = awaited
-
-  -- and pinned places are known, also the one that was resolved
-  pub pins-after : (call : Call) (answer : Answer) (own : SessionLocks) → are_pins_known known own.pins ≡ true
-      → ((who place : ℕ) (key : KeyName) → call ≡ Resolve who key → answer ≡ At_place place → is_known place known ≡ true)
-      → are_pins_known known (own_after call answer own).pins ≡ true
-  pins-after (Resolve who key) (At_place place) own pinned resolved = pins-with known place own.pins pinned (resolved who place key refl refl)
-  pins-after (Unpin who place) Done own pinned resolved = pins-without known place own.pins pinned
-  pins-after (Try_now who place mode) (Granted id) own pinned resolved = pinned
-  pins-after (Begin_wait who place mode) (Granted id) own pinned resolved = pinned
-  pins-after (Begin_wait who place mode) (Waits number) own pinned resolved = pinned
-  pins-after (End_wait who) (Granted id) own pinned resolved =
-      elim own.wait as (λ o. are_pins_known known (winning id o own).pins ≡ true) [ None ↦ pinned | Some wait ↦ pinned ]
-  pins-after (End_wait who) (Lost how) own pinned resolved = pinned
-  pins-after (Release who id) Done own pinned resolved = pinned
-  pins-after (Clone_ticket who id mode) (Granted copy) own pinned resolved =
-      elim (ticket_held id own) as (λ o. are_pins_known known (cloning copy mode o own).pins ≡ true) [ None ↦ pinned | Some t ↦ pinned ]
-  pins-after (Merge who old new) Done own pinned resolved =
-      elim (ticket_held new own) as (λ o. are_pins_known known (merging old new o own).pins ≡ true) [ None ↦ pinned | Some t ↦ pinned ]
-  pins-after (Upgrade_now who id mode) Upgraded own pinned resolved = pinned
-  pins-after (Downgrade who id mode) Done own pinned resolved = pinned
-  pins-after _ _ own pinned resolved = pinned
+-- only a place that was resolved is pinned
+pub pins-by : (call : Call) (answer : Answer) (place : ℕ) → effect_of call answer ≡ Pins place
+    → (who : ℕ) × (key : KeyName) × (call ≡ Resolve who key) × (answer ≡ At_place place)
+pins-by (Resolve who key) (At_place at) place pins = let same : at ≡ place = cc in (who, key, refl, ap (λ p. At_place p) same)
+pins-by (Try_now who place mode) (Granted id) at pins = cc
+pins-by (Begin_wait who place mode) (Granted id) at pins = cc
+pins-by (Begin_wait who place mode) (Waits number) at pins = cc
+pins-by (End_wait who) (Granted id) at pins = cc
+pins-by (End_wait who) (Lost how) at pins = cc
+pins-by (Release who id) Done at pins = cc
+pins-by (Clone_ticket who id mode) (Granted copy) at pins = cc
+pins-by (Upgrade_now who id mode) Upgraded at pins = cc
+pins-by (Merge who old new) Done at pins = cc
+pins-by (Downgrade who id mode) Done at pins = cc
+pins-by (Unpin who place) Done at pins = cc
+pins-by _ _ at pins = cc
 
 -- ---- numbers
 
@@ -187,9 +133,9 @@ counts-waiting own number place mode before after idle counts draws = (
 -- whatever a call leaves
 pub counts-after : (knows : Knowledge) (call : Call) (answer : Answer) (own : SessionLocks) (before after : Numbers) → Counts own before
     → Draws call answer before after → IsExplained knows call answer own → Counts (own_after call answer own) after
-counts-after knows (Try_now who place mode) (Granted id) own before after counts draws clear = counts-gaining own id place mode before after clear.0 counts draws
-counts-after knows (Begin_wait who place mode) (Granted id) own before after counts draws clear = counts-gaining own id place mode before after clear.0 counts draws
-counts-after knows (Begin_wait who place mode) (Waits number) own before after counts draws clear = counts-waiting own number place mode before after clear.0 counts draws
+counts-after knows (Try_now who place mode) (Granted id) own before after counts draws clear = counts-gaining own id place mode before after clear.1 counts draws
+counts-after knows (Begin_wait who place mode) (Granted id) own before after counts draws clear = counts-gaining own id place mode before after clear.1 counts draws
+counts-after knows (Begin_wait who place mode) (Waits number) own before after counts draws clear = counts-waiting own number place mode before after clear.1 counts draws
 counts-after knows (End_wait who) (Granted id) own before after counts draws clear = counts-winning own id before after clear counts draws
 counts-after knows (End_wait who) (Lost how) own before after counts draws clear = counts-ending own before after counts draws
 counts-after knows (Release who id) Done own before after counts draws clear = counts-fewer own (λ ticket. not (is_number id ticket)) before after counts draws

@@ -1,7 +1,8 @@
 -- What a session has read after a call: what it noted is of what it read last, which is the newest and may stand there.
 use Rattle.std.proofs.Common.{◌≡◌, ◌≢◌, ◌⊎◌, ℕ, ◌+◌, true, Option, Some, None, MatchOption, option_map, Contains, inl, inr, refl, sym, ap, subst, ◌∙◌, arith}
+use Rattle.mdl_calls.proofs.PinLemmas.{all-among}
 use Rattle.mdl_defs.proofs.VersionedDefinitionLemmas.{changes-keep_standing}
-use Rattle.mdl_session_laws.proofs.FirstLemmas.{Answer, Call, Change, Change_definition, Changed, ChangesThere, FitsKey, Held, IsLast, IsNoted, IsSound, KeyName, LetsRead, MayStand, Meets, NotesThere, OfHeld, Read_definition, Read_kept, Reading, Reads, ReadsNothing, ReadsThere, Refused, SessionData, SessionLocks, VersionedDefinition, all-found, eqb_tells, is-known, is_known, is_newest, is_number, key_known, last-elsewhere, last-here, last-keeps, last-newest, last-newest_elsewhere, last-stays, last_read, newest-up, noted_at, standing_after, ticket_held, was_read}
+use Rattle.mdl_session_laws.proofs.FirstLemmas.{Answer, Call, Change, Change_definition, Changed, ChangesThere, FitsKey, Held, IsLast, IsNoted, IsSound, KeyName, LetsRead, MayStand, Meets, NotesThere, OfHeld, Read_definition, Read_kept, Reading, Reads, ReadsNothing, ReadsThere, Refused, SessionData, SessionLocks, VersionedDefinition, all-found, eqb_tells, is-known, is_known, is_newest, is_number, is_pinned, key_known, last-elsewhere, last-here, last-keeps, last-newest, last-newest_elsewhere, last-stays, last_read, newest-up, noted_at, standing_after, ticket_held, was_read}
 
 -- ---- tickets
 
@@ -20,7 +21,8 @@ held-of id own P ticket e = subst (λ o. MatchOption o ⊥ P → P ticket) (sym 
 pub held-known : (a : SessionData) (id : ℕ) (ticket : Held) → IsSound a → ticket_held id a.own ≡ Some ticket
     → (key : KeyName) × (key_known ticket.place a.known ≡ Some key)
 held-known a id ticket sound e =
-    is-known a.known ticket.place (all-found (λ (t : Held). is_known t.place a.known) (is_number id) a.own.held ticket sound.placed e)
+    let pinned = all-found (λ (t : Held). is_pinned t.place a.own) (is_number id) a.own.held ticket sound.placed e in
+    is-known a.known ticket.place (all-among (λ p. is_known p a.known) ticket.place a.own.pins sound.pinned pinned)
 
 -- ---- what was learnt
 

@@ -1,6 +1,6 @@
 -- A call that is refused joins a session to one that has, knows and has read the same: what is left to show is the cause, and what was met of the wait.
-use Rattle.std.proofs.Common.{inl, ◌≡◌, ℕ, true, false, Option, Some, IfSome, refl, sym, ap, subst, ◌∙◌}
-use Rattle.mdl_session_laws.proofs.Common.{Call, Draws, End_wait, IsCause, Joins, KeepsSettled, Knows, LearnsKeys, LetsRead, Numbers, Poll_wait, Read_definition, Read_kept, ReadsNothing, Refused, Resolve, SessionData, SessionLocks, Settled, SpaceError, SpeaksFor, TellsTruly, Try_now, caller, ends_wait, gained_at, is_answer_of, is_known, noted_at, own_after, session_has_call, told, wait_met}
+use Rattle.std.proofs.Common.{inl, ◌≡◌, true, false, Option, Some, IfSome, refl, sym, ap, subst, ◌∙◌}
+use Rattle.mdl_session_laws.proofs.Common.{Call, Draws, End_wait, IsCause, Joins, KeepsSettled, Knows, LearnsKeys, LetsRead, Numbers, Poll_wait, Read_definition, Read_kept, ReadsNothing, Refused, Resolve, SessionData, SessionLocks, Settled, SpaceError, SpeaksFor, TellsTruly, Try_now, caller, ends_wait, is_answer_of, noted_at, own_after, session_has_call, told, wait_met}
 
 -- all is the same but how the wait is settled, which may have been learnt
 pub record KeepsAll (a b : SessionData) : Type 0 where
@@ -27,10 +27,6 @@ refused-own _ why own = refl
 refused-draws : (call : Call) (why : SpaceError) (before after : Numbers) → after ≡ before → Draws call (Refused why) before after
 refused-draws (Try_now who place mode) why before after e = e
 refused-draws _ why before after e = e
-
-refused-gains : (known : ℕ → Type 0) (call : Call) (why : SpaceError) → IfSome (gained_at call (Refused why)) known
-refused-gains known (Try_now who place mode) why = tt
-refused-gains known _ why = tt
 
 refused-learns : (call : Call) (why : SpaceError) (a b : SessionData) → b.known ≡ a.known → LearnsKeys call (Refused why) a.known b.known
 refused-learns (Resolve who key) why a b e = e
@@ -61,7 +57,6 @@ refused-joins a b call why mine has fits same cause agreed truly = record {
   own = same.own ∙ sym (refused-own call why a.own);
   numbers = refused-draws call why a.numbers b.numbers same.numbers;
   explained = cause;
-  gained = refused-gains (λ place. is_known place a.known ≡ true) call why;
   learns = refused-learns call why a b same.known;
   agreed = agreed;
   told = λ how is. refused-told call why how b is;

@@ -30,11 +30,6 @@ module _ (test : Held → Bool) where
   pub all-among : (held : List Held) (t : Held) → list_all test held ≡ true → Contains held t → test t ≡ true
   all-among held t all among = subst (λ x. test x ≡ true) among.2 (AllPass-from_list_all test held all among.0 t among.1)
 
--- a test that is weaker
-pub all-weaker : (test other : Held → Bool) → ((t : Held) → test t ≡ true → other t ≡ true) → (held : List Held) → list_all test held ≡ true → list_all other held ≡ true
-all-weaker test other weaker [] all = refl
-all-weaker test other weaker (t ∷ later) all = grind (arith, weaker t, all-weaker test other weaker later)
-
 -- ---- rising numbers
 
 -- fewer tickets

@@ -32,8 +32,10 @@ module _ {S V : Type 0} {speaks_for : V → ℕ → Type 0} {own : V → ℕ →
       remembers = λ a b call answer w place key speaks kept j. laws.remembers (view a) (view b) call answer w place key speaks kept (leads _ _ _ _ j);
       one_key = λ a. laws.one_key (view a);
       one_place = λ a. laws.one_place (view a);
-      held_places = λ a. laws.held_places (view a);
-      wait_place = λ a. laws.wait_place (view a);
+      pins_rise = λ a. laws.pins_rise (view a);
+      pinned_known = λ a. laws.pinned_known (view a);
+      held_pinned = λ a. laws.held_pinned (view a);
+      wait_pinned = λ a. laws.wait_pinned (view a);
       tells = λ a b call answer who how is told j. laws.tells (view a) (view b) call answer who how is told (leads _ _ _ _ j);
       waits_settled = λ a. laws.waits_settled (view a);
       settled_once = λ a. laws.settled_once (view a);
@@ -59,7 +61,6 @@ module _ {S V : Type 0} {speaks_for : V → ℕ → Type 0} {own : V → ℕ →
       upgrades = λ a b who id mode ticket its covered j. laws.upgrades (view a) (view b) who id mode ticket its covered (leads _ _ _ _ j);
       tells_key = λ a b who place key other j. laws.tells_key (view a) (view b) who place key other (leads _ _ _ _ j);
       tells_tables = λ a b who schema places j. laws.tells_tables (view a) (view b) who schema places (leads _ _ _ _ j);
-      pinned_known = λ a. laws.pinned_known (view a);
       no_new_debts = no_more;
       unpins_in_use = λ a b who place j. or-owes (still_owes a who place) (laws.unpins_in_use (view a) (view b) who place (leads _ _ _ _ j));
     }

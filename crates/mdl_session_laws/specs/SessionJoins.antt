@@ -1,19 +1,20 @@
 -- The relation of a call to the session before it and after it, by the call's specification, and some aspects of that as functions of the call.
-use Rattle.std.specs.Prelude.{ℕ, Bool, List, Option}
+use Rattle.std.specs.Prelude.{Bool, List, Option}
 use Rattle.mdl_calls.specs.AllCalls.{spec_of}
-use Rattle.mdl_session_laws.specs.Prelude.{Answer, Call, KnownKey, SessionData, Settled, Transition, ends, place_of}
+use Rattle.mdl_calls.specs.Effects.{Effect}
+use Rattle.mdl_session_laws.specs.Prelude.{Answer, Call, KnownKey, SessionData, Settled, Transition, ends}
 
 -- a call with this answer takes the first session to the second
 abbrev pub Joins : SessionData → Call → Answer → SessionData → Type 0
 Joins a call answer b = Transition (spec_of call) answer a b
 
--- whether a session has the call: there is no way yet to give up a pin
+-- whether a session has the call
 abbrev pub session_has_call : Call → Bool
 session_has_call call = (spec_of call).has
 
--- the place that the call named, if this answer gave the caller a ticket or a wait there
-abbrev pub gained_at : Call → Answer → Option ℕ
-gained_at call answer = place_of ((spec_of call).effect answer)
+-- what a call with this answer does to what the session has
+abbrev pub effect_of : Call → Answer → Effect
+effect_of call answer = (spec_of call).effect answer
 
 -- the keys that the session knows after a call with this answer
 abbrev pub LearnsKeys : Call → Answer → List KnownKey → List KnownKey → Type 0
@@ -25,7 +26,7 @@ wait_met call answer = (spec_of call).met answer
 
 -- whether a call with this answer ended its caller's wait
 abbrev pub ends_wait : Call → Answer → Bool
-ends_wait call answer = ends ((spec_of call).effect answer)
+ends_wait call answer = ends (effect_of call answer)
 
 -- what the session reads and notes by a call with this answer
 abbrev pub LetsRead : Call → Answer → SessionData → SessionData → Type 0

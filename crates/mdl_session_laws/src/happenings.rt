@@ -1,17 +1,22 @@
 //! The relation of calls to sessions isn't empty: such calls can happen. Each law is proved as the contract of a function that does nothing.
-ghost use Rattle.mdl_session_laws.specs.Happenings.{KeysAreFound, LocksAreHad, WaitsAreBegun, WaitsAreLost, StandingsAreRead, StandingsAreChanged, MemoryRunsOut};
+ghost use Rattle.mdl_session_laws.specs.Happenings.{KeysAreFound, PinsAreGivenUp, LocksAreHad, WaitsAreBegun, WaitsAreLost, StandingsAreRead, StandingsAreChanged, MemoryRunsOut};
 
 /// A key whose place the session doesn't know can get any place of which it knows no key.
 pub fn keys_are_found()
     ensures { KeysAreFound }
 {}
 
-/// A lock can be granted, if the session has no wait, knows the place's key, and requests a mode of the key's kind.
+/// A pin can be given up, if the session has no ticket and no wait at the place.
+pub fn pins_are_given_up()
+    ensures { PinsAreGivenUp }
+{}
+
+/// A lock can be granted, if the session pins the place, has no wait, and requests a mode of the key's kind.
 pub fn locks_are_had()
     ensures { LocksAreHad }
 {}
 
-/// A wait can begin, if the session has no wait, knows the place's key, and requests a mode of the key's kind.
+/// A wait can begin, if the session pins the place, has no wait, and requests a mode of the key's kind.
 pub fn waits_are_begun()
     ensures { WaitsAreBegun }
 {}

@@ -12,8 +12,8 @@ mod sessions;
 mod waits;
 
 pub use happenings::{
-    keys_are_found, locks_are_had, memory_runs_out, standings_are_changed, standings_are_read,
-    waits_are_begun, waits_are_lost,
+    keys_are_found, locks_are_had, memory_runs_out, pins_are_given_up, standings_are_changed,
+    standings_are_read, waits_are_begun, waits_are_lost,
 };
 pub use keys::{keys_have_one_place, known_keys_stay, resolved_keys_are_known};
 pub use reads::{changes_are_of_what_was_read, what_is_read_may_stand, what_is_read_stands};

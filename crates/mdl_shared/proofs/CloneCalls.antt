@@ -34,7 +34,7 @@ module _ {s : SessionView} (is : IsMember s) (id : ℕ) (mode : Mode) where
       clone-joins {s′} {new} first done =
           gain-joins is first done (Clone_ticket s.me.0.number id mode) (speaks is) refl refl
           (ap (λ o. cloning new mode o (data_of s).own) (ticket-told id (tickets_seen s.me.0) ∙ ap (option_map as_held) its)) (λ d. d)
-          may-clone tt refl (λ state how is. cc) (λ how is. cc) refl (λ r. r) tt
+          may-clone refl (λ state how is. cc) (λ how is. cc) refl (λ r. r) tt
 
       clone-shows : {s′ : SessionView} {new : ℕ} → DoesQuietly t.place (Gain new mode ∷ []) s s′
           → IsCloned t.place mode id (Gain new mode) s s′ → KeepsRoom 1 s.room s′.room → Shows (Clone_ticket s.me.0.number id mode) (Granted new) s s′

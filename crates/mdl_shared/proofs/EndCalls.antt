@@ -108,7 +108,6 @@ module _ {s s′ : SessionView} (is : IsMember s) where
               ∙ sym (ap (λ (o : Option Ask). winning a.number (wait_by s.me.0.waits o) (data_of s).own) asks);
           numbers = (id, refl);
           explained = waits s a asks;
-          gained = tt;
           learns = refl;
           agreed = λ state how met knows. let e : Some settled_as.Granted ≡ state = cc in sym e ∙ ap Some (agreed how knows);
           told = λ how told. cc;
@@ -132,7 +131,6 @@ module _ {s s′ : SessionView} (is : IsMember s) where
       own = refl;
       numbers = refl;
       explained = waits s a asks;
-      gained = tt;
       learns = refl;
       agreed = λ state how met knows. let e : Some one ≡ state = cc in sym e ∙ ap Some (agreed how knows);
       told = λ how told. cc;

@@ -1,6 +1,6 @@
 -- Calls that try for a fast ticket and give one up: what they tell and do.
 use Rattle.std.proofs.Common.{◌≡◌, ◌⊎◌, inl, inr, ℕ, ◌<◌, ◌≤◌, Bool, true, List, [], ◌∷◌, length, is_some, Option, Some, None, Result, Err, refl, sym, ap, subst, ◌∙◌}
-use Rattle.mdl_shared.proofs.FirstLemmas.{AllMadeSlow, Ask, DoesQuietly, Each, Fast, Gain, GrantsAtLast, KeepsRoom, Lists, Lose, MakesSlow, Member, Mode, NotFast, ReleasesFast, Room, SessionTicket, SessionView, ShowsStep, StaysSame, TicketList, but_owing, fast-held, has_number, keeps-before, keeps-equal, kind_known, lists_seen, member, most_fast, numbered, own_at, view_of, wish_fault}
+use Rattle.mdl_shared.proofs.FirstLemmas.{AllMadeSlow, Ask, DoesQuietly, Each, Fast, Gain, GrantsAtLast, KeepsRoom, Lists, Lose, MakesSlow, Member, Mode, NotFast, ReleasesFast, Room, SessionTicket, SessionView, ShowsStep, StaysSame, TicketList, but_owing, fast-held, has_number, keeps-before, keeps-equal, kind_pinned, lists_seen, member, most_fast, numbered, own_at, view_of, wish_fault}
 use Rattle.mdl_shared.proofs.FastWishing.{quiet-room}
 use Rattle.mdl_shared.proofs.TicketCalls.{release-joins}
 use Rattle.mdl_shared.proofs.WishCalls.{try-granted}
@@ -19,7 +19,7 @@ fewer-seen m place (inr fewer) never =
 
 module _ (m m′ : Member) (place : ℕ) (fewer : HasFewerFast place (view_of m)) where
   -- a ticket was granted
-  pub tried-granted : (mode : Mode) (id : ℕ) → wish_fault (kind_known place m.seat.me.0.known) m.seat.me.0.asks mode m.seat.me.0.next ≡ None → id ≡ m.next
+  pub tried-granted : (mode : Mode) (id : ℕ) → wish_fault (kind_pinned place m.known.pins m.seat.me.0.known) m.seat.me.0.asks mode m.seat.me.0.next ≡ None → id ≡ m.next
       → DoesQuietly place (Gain id mode ∷ []) (view_of m) (view_of m′) → GrantsAtLast place (Gain id mode) m.seat.me m′.seat.me
       → is_some (numbered id m′.tickets.fast) ≡ true → KeepsRoom 1 m.tickets.room m′.tickets.room → HasTriedFast place mode (Granted id) (view_of m) (view_of m′)
   tried-granted mode id clear first quiet last held room = (

@@ -1,7 +1,7 @@
 -- What a session with fast tickets, or one that asks for one, gives the steps of its fast path.
 use Rattle.std.proofs.Common.{◌≡◌, ◌≢◌, ℕ, ◌<◌, ◌==◌, Bool, true, List, [], ◌∷◌, filter, map, length, is_some, Option, Some, None, refl, sym, ap, subst, ◌∙◌, arith, eq-eqb, eqb-true}
 use Rattle.mdl_book.specs.Tickets.{ticket_of}
-use Rattle.mdl_shared.proofs.FirstLemmas.{Differ, IsCounted, IsOther, Kind, KnownKey, KnowsKind, LatchRecord, Lists, MayReleaseFast, MayVisit, Member, Mode, Once, SessionTicket, SessionView, and_parts, are_counted, by_bool, counted_mode, counted_so, differ, each-filtered, fast-alone, held_at, increment_at, increment_of, is_known, is_mode_of, is_no_number, is_own, kind_known, kind_place, kind_there, lt-leb, may-visit, member, most_numbers, moved, none-struck, numbered, option_and_then, own_at, ticket_by, unwrap_or, view_of, wish_fault, without_at}
+use Rattle.mdl_shared.proofs.FirstLemmas.{Differ, IsCounted, IsOther, Kind, KnownKey, KnowsKind, LatchRecord, Lists, MayReleaseFast, MayVisit, Member, Mode, Once, SessionTicket, SessionView, and_parts, are_counted, by_bool, counted_mode, counted_so, differ, each-filtered, fast-alone, has_pin, held_at, increment_at, increment_of, is_mode_of, is_no_number, is_own, kind_known, kind_pinned, kind_place, kind_there, lt-leb, may-visit, member, most_numbers, moved, none-struck, numbered, option_and_then, own_at, pinned-kind, ticket_by, unwrap_or, view_of, wish_fault, without_at}
 
 -- ---- modes that the word counts
 
@@ -21,17 +21,17 @@ no-fault kind mode next fits some = rw fits (rw (lt-leb most_numbers next some) 
 
 -- ---- a fast ticket is asked for
 
--- the session may ask for one: it waits for nothing, the word of the place counts the mode, and its wish has no fault
+-- the session may ask for one: it waits for nothing, the word of the place counts the mode, and its wish at the place, which it pins, has no fault
 pub record MayAskFast (place : ℕ) (mode : Mode) (one : ℕ) (s : SessionView) : Type 0 where
   pub idle : s.me.0.asks ≡ None
   pub counted : increment_at place mode s.me.0.known ≡ Some one
   pub counted_so : IsCounted s.me.0 place mode one
   pub at : MayVisit place (record { table = s.table; me = s.me })
-  pub clear : wish_fault (kind_known place s.me.0.known) s.me.0.asks mode s.me.0.next ≡ None
+  pub clear : wish_fault (kind_pinned place s.pins s.me.0.known) s.me.0.asks mode s.me.0.next ≡ None
 
-pub may-ask-fast : (m : Member) (place : ℕ) (mode : Mode) (one : ℕ) → m.asks ≡ None → increment_at place mode m.known.known ≡ Some one → m.next < most_numbers
+pub may-ask-fast : (m : Member) (place : ℕ) (mode : Mode) (one : ℕ) → m.asks ≡ None → has_pin place m.known.pins ≡ true → increment_at place mode m.known.known ≡ Some one → m.next < most_numbers
     → MayAskFast place mode one (view_of m)
-may-ask-fast m place mode one none counts some =
+may-ask-fast m place mode one none pinned counts some =
     let idle : m.seat.me.0.asks ≡ None = sym (ap (λ (l : Lists). l.asks) m.lists) ∙ none in
     let counted : increment_at place mode m.seat.me.0.known ≡ Some one = ap (λ (l : Lists). increment_at place mode l.known) (sym m.lists) ∙ counts in
     let kind = kind-counted place mode m.seat.me.0.known one counted in
@@ -41,7 +41,7 @@ may-ask-fast m place mode one none counts some =
       counted = counted;
       counted_so = counted_so m.seat.me.0 place mode one counted;
       at = may-visit (member m) place (kind_place place kind.0 m.seat.me.0.known kind.1);
-      clear = (λ i. wish_fault (kind.1 i) (idle i) mode m.seat.me.0.next) ∙ no-fault kind.0 mode m.seat.me.0.next fits left;
+      clear = (λ i. wish_fault (pinned-kind place m.known.pins m.seat.me.0.known pinned kind.1 i) (idle i) mode m.seat.me.0.next) ∙ no-fault kind.0 mode m.seat.me.0.next fits left;
     }
 
 -- ---- fast tickets that it has
@@ -62,14 +62,6 @@ counted-found known id (f ∷ fs) t its all =
     by_bool (f.number == id)
     (λ hit. let found = rw hit at its in let is : f ≡ t = cc in ap (λ (u : SessionTicket). is_some (increment_at u.place u.mode known)) (sym is) ∙ parts.0)
     (λ miss. counted-found known id fs t (rw miss at its) parts.1)
-
-kind-fast : (known : List KnownKey) (place : ℕ) (fast : List SessionTicket) → 0 < length (own_at place fast) → are_counted known fast ≡ true → is_some (kind_known place known) ≡ true
-kind-fast known place [] some all = absurd (omega (arith, some))
-kind-fast known place (f ∷ fs) some all =
-    let parts = and_parts (is_some (increment_at f.place f.mode known)) (are_counted known fs) all in
-    by_bool (f.place == place)
-    (λ here. ap (λ (q : ℕ). is_some (kind_known q known)) (sym (eqb-true f.place place here)) ∙ some-kind f.place f.mode known parts.0)
-    (λ there. kind-fast known place fs (rw there at some) parts.1)
 
 -- the kind that is known
 known-kind : (o : Option Kind) → is_some o ≡ true → (kind : Kind) × (o ≡ Some kind)
@@ -144,14 +136,6 @@ by-weight place mode known weight counts weighs =
     let kind = kind-counted place mode known one is in
     is ∙ ap Some (sym (weighs kind.0 one kind.2))
 
--- a place where the session has looked up the key has a kind
-pub known-some : (place : ℕ) (known : List KnownKey) → is_known place known ≡ true → is_some (kind_known place known) ≡ true
-known-some place [] is = absurd (cc)
-known-some place (k ∷ ks) is =
-    by_bool (k.place == place)
-    (λ hit. rw hit refl)
-    (λ miss. rw miss (known-some place ks (rw miss at is)))
-
 -- the word counts each fast ticket
 pub fast-counted : (m : Member) (t : SessionTicket) → numbered t.number m.tickets.fast ≡ Some t → is_some (increment_at t.place t.mode m.known.known) ≡ true
 fast-counted m t held = counted-found m.known.known t.number m.tickets.fast t held (ap (λ (l : Lists). are_counted l.known l.fast) m.lists ∙ (member m).plain)
@@ -189,10 +173,6 @@ may-make-slow m place kind knows =
       knows = kind_there place kind m.seat.me.0.known known;
       once = listed-once m.seat.me.0.number (own_at place m.seat.me.0.fast) (differ-filtered (λ (t : SessionTicket). t.place == place) m.seat.me.0.fast (differ is));
     }
-
--- the kind of their place is known
-pub kind-of-fast : (m : Member) (place : ℕ) → 0 < length (own_at place m.tickets.fast) → is_some (kind_known place m.known.known) ≡ true
-kind-of-fast m place some = kind-fast m.known.known place m.tickets.fast some (ap (λ (l : Lists). are_counted l.known l.fast) m.lists ∙ (member m).plain)
 
 -- those of a place in its own list are those of its view
 pub some-seen : (m : Member) (place : ℕ) → 0 < length (own_at place m.tickets.fast) → own_at place m.seat.me.0.fast ≢ []

@@ -3,7 +3,7 @@ use Rattle.std.proofs.Common.{◌≡◌, ◌⊎◌, inl, inr, ℕ, Bool, true, [
 use Rattle.mdl_calls.specs.declared.answers.Attempt.TheVariants as attempt
 use Rattle.mdl_calls.specs.declared.answers.Begun.TheVariants as begin
 use Rattle.mdl_calls.specs.declared.space_error.SpaceError.TheVariants as fault
-use Rattle.mdl_shared.proofs.FirstLemmas.{AreStepsOf, Attempt, BecomesSlow, Begin_wait, BeginsToWait, Begun, DoesQuietly, FullForFast, Gain, GainsFast, GainsSlow, Granted, HasBegun, HasTried, IsClosed, IsGranted, IsMember, IsVisit, Joins, KeepsRoom, LacksMemory, LacksRoomForFast, LacksRoomForWish, MeetsBlocked, MeetsFull, MeetsFullWish, MeetsGrantable, MeetsOpening, Mine, Mode, OutOfMemory, Refused, SessionData, SessionView, Shows, ShowsStep, SlowsAll, SpaceError, StepRecord, StopsOrVisits, StopsSlowing, Try_now, Waits, attempted, begun, data_of, does_then, done-nothing, keeps-before, kind_known, obtrudes_at, same-debts, view_awaiting, wish_fault}
+use Rattle.mdl_shared.proofs.FirstLemmas.{AreStepsOf, Attempt, BecomesSlow, Begin_wait, BeginsToWait, Begun, DoesQuietly, FullForFast, Gain, GainsFast, GainsSlow, Granted, HasBegun, HasTried, IsClosed, IsGranted, IsMember, IsVisit, Joins, KeepsRoom, LacksMemory, LacksRoomForFast, LacksRoomForWish, MeetsBlocked, MeetsFull, MeetsFullWish, MeetsGrantable, MeetsOpening, Mine, Mode, OutOfMemory, Refused, SessionData, SessionView, Shows, ShowsStep, SlowsAll, SpaceError, StepRecord, StopsOrVisits, StopsSlowing, Try_now, Waits, attempted, begun, data_of, does_then, done-nothing, keeps-before, kind_pinned, obtrudes_at, same-debts, view_awaiting, wish_fault}
 use Rattle.mdl_shared.proofs.FastWishing.{by-latch, closed-more, next-slow, number-slow, same-space}
 use Rattle.mdl_shared.proofs.QuietDeeds.{quiet-shows, quiet-then}
 use Rattle.mdl_shared.proofs.WaitSteps.{still-member}
@@ -43,7 +43,7 @@ module _ {Full : StepRecord → Type 0} (place : ℕ) (mode : Mode) (may : Bool)
   full-one c slow closed once (inl memory) = inl (memory, inr (closed-more place mode SlowsAll (StopsOrVisits place may) a b c (λ tried turn. inr (b.me, turn, once)) closed))
   full-one c slow closed once (inr full) = inr (full.0, inl (by-latch slow place mode may c closed once full.1))
 
-module _ {a : SessionView} (is : IsMember a) (place : ℕ) (mode : Mode) (clear : wish_fault (kind_known place a.me.0.known) a.me.0.asks mode a.me.0.next ≡ None) where
+module _ {a : SessionView} (is : IsMember a) (place : ℕ) (mode : Mode) (clear : wish_fault (kind_pinned place a.pins a.me.0.known) a.me.0.asks mode a.me.0.next ≡ None) where
   -- ---- refused
 
   pub try-full : {at : ℕ} {b : SessionView} {why : SpaceError} → DoesQuietly at [] a b × KeepsRoom 0 a.room b.room
@@ -109,7 +109,7 @@ module _ {a : SessionView} (is : IsMember a) (place : ℕ) (mode : Mode) (clear 
     -- it waits
     waits-joins : {number : ℕ} → BeginsToWait place mode number b c → Joins (data_of a) (Begin_wait a.me.0.number place mode) (Waits number) (data_of c)
     waits-joins {number} begins =
-        let still = ap (λ (x : SessionView). wish_fault (kind_known place x.me.0.known) x.me.0.asks mode x.me.0.next) slow.quiet.done.now ∙ clear in
+        let still = ap (λ (x : SessionView). wish_fault (kind_pinned place x.pins x.me.0.known) x.me.0.asks mode x.me.0.next) slow.quiet.done.now ∙ clear in
         let now : c ≡ record b { me = (record (view_awaiting place mode b.me.0) { log = b.me.0.log ++ begins.opens.made }, b.me.1); room = c.room }
         = λ i. record { table = begins.table i; sessions = begins.sessions i; me = begins.opens.now i; room = c.room; pins = begins.pins i } in
         let joins = begun-joins (still-member slow.quiet.done is) still now begins.next in

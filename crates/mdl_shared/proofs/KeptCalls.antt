@@ -59,7 +59,6 @@ module _ (s : SessionView) (id : ℕ) (t : SessionTicket) (its : numbered id (ti
       own = joins.own;
       numbers = joins.numbers;
       explained = tt;
-      gained = tt;
       learns = joins.learns;
       agreed = joins.agreed;
       told = joins.told;

@@ -4,7 +4,7 @@ use Rattle.mdl_calls.proofs.MappedLists.{pairs-map}
 use Rattle.mdl_key.specs.declared.namespace.Namespace.TheVariants as of
 use Rattle.std.proofs.lemmas.List.Kept.{AllPairs-filter}
 use Rattle.std.specs.Str.{bytes_eq}
-use Rattle.mdl_shared.proofs.FirstLemmas.{All-cons, All-filter, All-head, All-map, All-nil, All-tail, All-weaker, AreAllTables, AreLearnt, AreWithin, Asked, AtItsTable, At_place, DidDeeds, HasAsked, IsDirectoryTable, IsLookupAnswer, IsMember, Joins, KeepsRoom, KeyName, Keys, KnownKey, LearnsAt, LearnsTables, Less, Lists, MakesSteps, Member, Mine, Namespace, NoPlace, OutOfMemory, Refused, Resolve, Room, SeatState, SessionView, Shows, Stays, StaysInOrder, StaysQuiet, StepRecord, Tables, Tables_of, TookDirectory, and_made, are_apart, asked_after, asked_places, counted_and, data_of, does_steps, does_then, get_or-map, goes_on, is_known, is_of_tables, is_of_tables_told, is_table_of, is_table_told, keeps-settled, key_cmp, key_known, keys-apart, knowing_all, knowing_key, length-map, lists_seen, nat_tests, no_record, none_then, place-of_key, place_known, reads-nothing, refused, same-debts, sees-same, session_at, speaks, stays-known, took_earlier, unknown, view_of, visited, with_place, within_and}
+use Rattle.mdl_shared.proofs.FirstLemmas.{All-cons, All-filter, All-head, All-map, All-nil, All-tail, All-weaker, AreAllTables, AreLearnt, AreWithin, Asked, AtItsTable, At_place, DidDeeds, HasAsked, IsDirectoryTable, IsLookupAnswer, IsMember, Joins, KeepsRoom, KeyName, Keys, KnownKey, LearnsAt, LearnsTables, Less, Lists, MakesSteps, Member, Mine, Namespace, NoPlace, OutOfMemory, Refused, Resolve, Room, SeatState, SessionView, Shows, Stays, StaysInOrder, StaysQuiet, StepRecord, Tables, Tables_of, TookDirectory, and_made, are_apart, asked_after, asked_places, counted_and, data_of, does_steps, does_then, get_or-map, goes_on, is_known, is_of_tables, is_of_tables_told, is_table_of, is_table_told, keeps-settled, key-of_place, key_cmp, key_known, keys-apart, kind-of_key, kind_known, kind_of, knowing_all, knowing_key, length-map, lists_seen, nat_tests, no_record, none_then, place-of_key, place_known, reads-nothing, refused, same-debts, sees-same, session_at, speaks, stays-known, took_earlier, unknown, view_of, visited, with_place, within_and}
 use Rattle.mdl_shared.proofs.KnownKeys.{all_learnt, apart_and, new_place}
 
 -- ---- a session that learns keys
@@ -66,9 +66,9 @@ lists-learnt m {more} {known} {s} learnt same =
 abbrev pub with_pin : ℕ → SessionView → SessionView
 with_pin place s = record s { pins = with_place place s.pins }
 
--- which is as much in order
-pub order-pinned : {s s′ : SessionView} (place : ℕ) → StaysInOrder s s′ → StaysInOrder s (with_pin place s′)
-order-pinned place order = record {
+-- whatever it pins, it is as much in order
+pub order-pinned : {s s′ : SessionView} (pins : List ℕ) → StaysInOrder s s′ → StaysInOrder s (record s′ { pins = pins })
+order-pinned pins order = record {
   table = order.table;
   sessions = order.sessions;
   idle = order.idle;
@@ -98,59 +98,49 @@ order-same is = record {
   owed = is.owed;
 }
 
--- a key's place is known
-pub place-is_known : (known : List KnownKey) (key : KeyName) (place : ℕ) → place_known key known ≡ Some place → is_known place known ≡ true
-place-is_known [] key place found = cc
-place-is_known (k ∷ later) key place found = grind (arith, nat_tests, place-is_known later key place)
+-- the kind of a known key's lock is known at its place
+pub key-kind : (known : List KnownKey) (key : KeyName) (place : ℕ) → are_apart known ≡ true → place_known key known ≡ Some place → kind_known place known ≡ Some (kind_of key.namespace)
+key-kind known key place apart found = kind-of_key place known key (key-of_place known place key apart found)
 
--- and so is that of the last one
-pub last-is_known : (known : List KnownKey) (k : KnownKey) → is_known k.place (known ++ k ∷ []) ≡ true
-last-is_known [] k = grind (arith, nat_tests)
-last-is_known (x ∷ later) k = grind (arith, last-is_known later k)
+-- that of the last one, where its place wasn't known
+pub last-kind : (known : List KnownKey) (k : KnownKey) → is_known k.place known ≡ false → kind_known k.place (known ++ k ∷ []) ≡ Some (kind_of k.key.namespace)
+last-kind [] k new = grind (arith, nat_tests)
+last-kind (x ∷ later) k new = grind (arith, nat_tests, last-kind later k)
 
 module _ {s : SessionView} (is : IsMember s) (key : KeyName) where
+  -- by the keys that it knows then
+  placed-joins : (place : ℕ) (known : List KnownKey) (log : List StepRecord) (room : Room) → LearnsAt key place (place_known key s.me.0.known) s.me.0.known known
+      → Joins (data_of s) (Resolve s.me.0.number key) (At_place place) (data_of (with_pin place (record s { me = (record s.me.0 { known = known; log = log }, s.me.1); room = room })))
+  placed-joins place known log room learns =
+      let x : SessionView = record s { me = (record s.me.0 { known = known; log = log }, s.me.1); room = room } in record {
+        mine = speaks is;
+        has = refl;
+        fits = refl;
+        number = refl;
+        own = refl;
+        numbers = refl;
+        explained = tt;
+        learns = learns;
+        agreed = λ state how met. cc;
+        told = λ how told. cc;
+        settled = keeps-settled s (with_pin place x) (sees-same s (with_pin place x) refl refl refl);
+        reads = reads-nothing (data_of s) (data_of (with_pin place x)) refl refl;
+        truly = tt;
+      }
+
   -- that it knows
   pub known-joins : (place : ℕ) → place_known key s.me.0.known ≡ Some place → Joins (data_of s) (Resolve s.me.0.number key) (At_place place) (data_of (with_pin place s))
-  known-joins place found = record {
-    mine = speaks is;
-    has = refl;
-    fits = refl;
-    number = refl;
-    own = refl;
-    numbers = refl;
-    explained = tt;
-    gained = tt;
-    learns = subst (λ (o : Option ℕ). LearnsAt key place o s.me.0.known s.me.0.known) (sym found) (refl, refl);
-    agreed = λ state how met. cc;
-    told = λ how told. cc;
-    settled = keeps-settled s (with_pin place s) (sees-same s (with_pin place s) refl refl refl);
-    reads = reads-nothing (data_of s) (data_of (with_pin place s)) refl refl;
-    truly = tt;
-  }
+  known-joins place found =
+      placed-joins place s.me.0.known s.me.0.log s.room (subst (λ (o : Option ℕ). LearnsAt key place o s.me.0.known s.me.0.known) (sym found) (refl, refl))
 
   module _ (none : place_known key s.me.0.known ≡ None) where
     -- that it learns
     pub resolve-joins : {s′ : SessionView} (place : ℕ) → is_known place s.me.0.known ≡ false → HasLearnt (record { key = key; place = place } ∷ []) s s′
         → Joins (data_of s) (Resolve s.me.0.number key) (At_place place) (data_of (with_pin place s′))
     resolve-joins {s′} place new learnt =
-        let one : KnownKey = record { key = key; place = place } in
-        let x : SessionView = record s { me = (record s.me.0 { known = s.me.0.known ++ one ∷ []; log = learnt.log }, s.me.1); room = learnt.room } in
-        subst (λ (t : SessionView). Joins (data_of s) (Resolve s.me.0.number key) (At_place place) (data_of (with_pin place t))) (sym learnt.now) (record {
-          mine = speaks is;
-          has = refl;
-          fits = refl;
-          number = refl;
-          own = refl;
-          numbers = refl;
-          explained = tt;
-          gained = tt;
-          learns = subst (λ (o : Option ℕ). LearnsAt key place o s.me.0.known (s.me.0.known ++ one ∷ [])) (sym none) (new, refl);
-          agreed = λ state how met. cc;
-          told = λ how told. cc;
-          settled = keeps-settled s (with_pin place x) (sees-same s (with_pin place x) refl refl refl);
-          reads = reads-nothing (data_of s) (data_of (with_pin place x)) refl refl;
-          truly = tt;
-        })
+        let more : List KnownKey = s.me.0.known ++ record { key = key; place = place } ∷ [] in
+        subst (λ (t : SessionView). Joins (data_of s) (Resolve s.me.0.number key) (At_place place) (data_of (with_pin place t))) (sym learnt.now)
+        (placed-joins place more learnt.log learnt.room (subst (λ (o : Option ℕ). LearnsAt key place o s.me.0.known more) (sym none) (new, refl)))
 
     -- that has none
     pub no_place-joins : {s′ : SessionView} → Stays s s′ → Joins (data_of s) (Resolve s.me.0.number key) (Refused NoPlace) (data_of s′)
@@ -247,7 +237,6 @@ tables-joins {s} {s′} is schema k tables places are asked learnt all apart =
       own = refl;
       numbers = refl;
       explained = tt;
-      gained = tt;
       learns = tables-learnt schema k s.me.0.known (s.me.0.known ++ more) tables more asked.asked places are asked.same asked.those refl all apart;
       agreed = λ state how met. cc;
       told = λ how told. cc;

@@ -3,6 +3,8 @@ pub mod FirstLemmas
 pub mod Lemmas
 pub mod Fitting
 pub mod Membership
+pub mod PinCalls
+pub mod PinnedPlaces
 pub mod KnownKeys
 pub mod SpaceLists
 pub mod SameSpace

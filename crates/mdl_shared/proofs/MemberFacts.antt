@@ -1,7 +1,9 @@
 -- What is always so of a session between two calls, in the words that its calls need.
-use Rattle.std.proofs.Common.{◌≡◌, ◌⊎◌, inl, inr, ℕ, ◌<◌, ◌+◌, ◌-◌, ◌==◌, Bool, true, not, ◌&&◌, nat_lt, List, [], ◌∷◌, ◌++◌, find, length, map, is_some, Option, Some, None, refl, sym, ap, subst, ◌∙◌, arith, eqb-true, lt-ltb, ltb-true}
-use Rattle.mdl_shared.proofs.Common.{Alter, Ask, Deed, Differ, Each, Gain, HasTicket, Held, IfSome, IsMember, IsPlace, IsRising, KnownKey, KnowsPlace, LatchRecord, Lose, MayVisit, Mode, NotWaited, Rising, SessionTicket, SessionView, SpeaksFor, Wait, all_numbers, and_from, and_parts, are_apart, are_below_next, are_below_told, are_placed_told, as_held, by_bool, data_of, first_free, is_ask_apart, is_ask_last, is_ask_told, is_known, is_no_number, list_all-map, not_waited, numbered, numbered-interleaved, option_map, own_at, rising-uninterleaved, tickets_seen}
-use Rattle.mdl_shared.proofs.Membership.{are_placed, has_numbered, known_within, placed_at, some_key}
+use Rattle.std.proofs.Common.{◌≡◌, ◌⊎◌, inl, inr, ℕ, ◌<◌, ◌+◌, ◌-◌, ◌==◌, Bool, true, not, nat_lt, List, [], ◌∷◌, ◌++◌, find, length, map, is_some, Option, Some, None, refl, sym, ap, subst, ◌∙◌, arith, eqb-true, lt-ltb, ltb-true}
+use Rattle.mdl_calls.proofs.PinLemmas.{all-among}
+use Rattle.mdl_shared.proofs.Common.{Alter, Ask, Deed, Differ, Each, Gain, HasTicket, Held, IfSome, IsMember, IsPlace, IsRising, KnowsPlace, LatchRecord, Lose, MayVisit, Mode, NotWaited, Rising, SessionTicket, SessionView, SpeaksFor, Wait, all_numbers, and_from, and_parts, are_apart, are_below_next, are_below_told, as_held, by_bool, data_of, first_free, has_pin, is_ask_apart, is_ask_last, is_ask_told, is_known, is_no_number, list_all-map, not_waited, numbered, numbered-interleaved, option_map, own_at, rising-uninterleaved, tickets_seen}
+use Rattle.mdl_shared.proofs.Membership.{has_numbered, known_within, some_key}
+use Rattle.mdl_shared.proofs.PinnedPlaces.{are_pinned, numbered-pinned, pinned-told, some-pinned}
 use Rattle.mdl_shared.proofs.SameSpace.{numbers_by, wait_by}
 use Rattle.mdl_shared.proofs.TicketOrder.{AllLeaveFast, DoesSlow, all-owned-slow, all-parts, apart-numbers, none-numbered, numbers-apart, rising-told}
 
@@ -30,12 +32,6 @@ next_apart next tickets all = weaker (λ n. nat_lt n next) (λ n. not (n == next
 -- numbers below one
 below-told : (number : ℕ) (tickets : List SessionTicket) → are_below_told number (map as_held tickets) ≡ are_below_next number tickets
 below-told number tickets = list_all-map (λ (h : Held). nat_lt h.id number) as_held tickets
-
--- places that are known
-placed-told : (known : List KnownKey) (tickets : List SessionTicket) → are_placed_told known (map as_held tickets) ≡ are_placed known tickets
-placed-told known [] = refl
-placed-told known (t ∷ ts) =
-    ap (λ b. is_known t.place known && b) (placed-told known ts)
 
 -- ---- look-ups in two lists
 
@@ -96,14 +92,27 @@ module _ {s : SessionView} (is : IsMember s) where
   pub unwaited : (id : ℕ) → is_some (numbered id (tickets_seen s.me.0)) ≡ true → NotWaited s.me.0 id
   unwaited id there = not_waited (record s.me.0 { slow = tickets_seen s.me.0 }) id there apart
 
-  -- they are at places that it knows
-  pub placed : are_placed s.me.0.known (tickets_seen s.me.0) ≡ true
-  placed = sym (placed-told s.me.0.known (tickets_seen s.me.0)) ∙ is.sound.placed
+  -- they are at places that it pins
+  pinned : are_pinned s.pins (tickets_seen s.me.0) ≡ true
+  pinned = sym (pinned-told (data_of s).own (tickets_seen s.me.0)) ∙ is.sound.placed
 
-  -- so is the one that it waits for
+  pub ticket-pinned : (id : ℕ) (t : SessionTicket) → numbered id (tickets_seen s.me.0) ≡ Some t → has_pin t.place s.pins ≡ true
+  ticket-pinned id t its = numbered-pinned s.pins id (tickets_seen s.me.0) t pinned its
+
+  pub fast-pinned : (place : ℕ) → 0 < length (own_at place s.me.0.fast) → has_pin place s.pins ≡ true
+  fast-pinned place some = some-pinned s.pins place s.me.0.fast (all-parts (λ (t : SessionTicket). has_pin t.place s.pins) s.me.0.slow s.me.0.fast pinned).1 some
+
+  -- whose keys it knows
+  pub pin-known : (place : ℕ) → has_pin place s.pins ≡ true → is_known place s.me.0.known ≡ true
+  pin-known place pinned = all-among (λ (p : ℕ). is_known p s.me.0.known) place s.pins is.sound.pinned pinned
+
+  pub ticket-known : (id : ℕ) (t : SessionTicket) → numbered id (tickets_seen s.me.0) ≡ Some t → is_known t.place s.me.0.known ≡ true
+  ticket-known id t its = pin-known t.place (ticket-pinned id t its)
+
+  -- and so is that of the one that it waits for
   pub awaited : (a : Ask) → s.me.0.asks ≡ Some a → is_known a.place s.me.0.known ≡ true
   awaited a asks =
-      subst (λ (o : Option Ask). IfSome (wait_by s.me.0.waits o) (λ (w : Wait). is_known w.place s.me.0.known ≡ true)) asks is.sound.awaited
+      pin-known a.place (subst (λ (o : Option Ask). IfSome (wait_by s.me.0.waits o) (λ (w : Wait). has_pin w.place s.pins ≡ true)) asks is.sound.awaited)
 
   -- ---- its places
 
@@ -137,9 +146,6 @@ module _ {s : SessionView} (is : IsMember s) where
 
   pub slow-there : (id : ℕ) (t : SessionTicket) → numbered id s.me.0.slow ≡ Some t → HasTicket t.place id s.me.0.slow
   slow-there id t its = has_numbered t.place id s.me.0.slow (ap (option_map (λ (x : SessionTicket). x.place)) its)
-
-  pub ticket-known : (id : ℕ) (t : SessionTicket) → numbered id (tickets_seen s.me.0) ≡ Some t → is_known t.place s.me.0.known ≡ true
-  ticket-known id t its = placed_at s.me.0.known (tickets_seen s.me.0) t.place id placed (ticket-there id t its)
 
   -- ---- while it has no fast ticket
 

@@ -283,8 +283,8 @@ room-kept {place} list list′ more room = (omega (arith, more.0, room.0), omega
 pub held-seen : (m : Member) (id : ℕ) (o : Option SessionTicket) → o ≡ numbered id (interleaved m.tickets.slow m.tickets.fast) → numbered id (tickets_seen m.seat.me.0) ≡ o
 held-seen m id o found = ap (λ (l : Lists). numbered id (all_tickets l)) (sym m.lists) ∙ sym found
 
--- a fault by its own lists is one of its view
+-- a fault by its pins and its own lists is one of its view
 pub fault-seen : (m : Member) (call : Call) (o : Option SpaceError)
-    → (steps_of call).fault (record { slow = m.tickets.slow; fast = m.tickets.fast; known = m.known.known; next = m.next; asks = m.asks; waits = m.waits }) ≡ o
-    → (steps_of call).fault (lists_seen m.seat.me.0) ≡ o
-fault-seen m call o fault = ap (λ (l : Lists). (steps_of call).fault l) (sym m.lists) ∙ fault
+    → (steps_of call).fault m.known.pins (record { slow = m.tickets.slow; fast = m.tickets.fast; known = m.known.known; next = m.next; asks = m.asks; waits = m.waits }) ≡ o
+    → (steps_of call).fault m.known.pins (lists_seen m.seat.me.0) ≡ o
+fault-seen m call o fault = ap (λ (l : Lists). (steps_of call).fault m.known.pins l) (sym m.lists) ∙ fault

@@ -1,6 +1,6 @@
--- A session's own lists: its tickets are of places that it knows, and these are places of the table.
-use Rattle.std.proofs.Common.{◌≡◌, ℕ, zero, suc, ◌<◌, ◌==◌, ◌&&◌, true, List, [], ◌∷◌, ◌++◌, Option, Some, None, is_some, refl, sym, ap, ◌∙◌, append_assoc, append-nil, Bool, nat_lt, eqb-true, lt-ltb, ltb-true}
-use Rattle.mdl_shared.proofs.Common.{All-head, All-tail, AreWithin, HasTicket, IsCounted, KeyName, Kind, KnownKey, Mode, SessionTicket, View, and_from, and_parts, are_counted, are_within, by_bool, get_elem?, increment_at, increment_of, is_known, key_eq, kind_known, kind_of, list_all, numbered, option_and_then, option_map, place_known, some, some-injective, some-ne-none}
+-- A session's own lists: the tickets in them, and the places that it knows, which are places of the table.
+use Rattle.std.proofs.Common.{◌≡◌, ℕ, zero, suc, ◌<◌, ◌==◌, ◌&&◌, true, List, [], ◌∷◌, ◌++◌, Option, Some, None, is_some, refl, sym, ap, ◌∙◌, append_assoc, append-nil, nat_lt, eqb-true, lt-ltb, ltb-true}
+use Rattle.mdl_shared.proofs.Common.{All-head, All-tail, AreWithin, HasTicket, IsCounted, KeyName, Kind, KnownKey, Mode, SessionTicket, View, and_from, and_parts, are_counted, are_within, by_bool, get_elem?, increment_at, increment_of, is_known, key_eq, kind_known, kind_of, numbered, option_and_then, option_map, place_known, some}
 
 -- the ticket of a number stands in the list
 pub has_numbered : (place number : ℕ) (tickets : List SessionTicket) → option_map (λ (t : SessionTicket). t.place) (numbered number tickets) ≡ Some place → HasTicket place number tickets
@@ -29,21 +29,6 @@ known_within slots place (k ∷ ks) all e =
     let here = and_parts (nat_lt 0 k.place) (nat_lt k.place slots) parts.0 in
     rw (sym is) (ltb-true 0 k.place here.0, ltb-true k.place slots here.1))
     (λ miss. known_within slots place ks parts.1 (rw miss at e))
-
--- each ticket is of a place whose key the session has looked up
-abbrev pub are_placed : List KnownKey → List SessionTicket → Bool
-are_placed known tickets = list_all (λ t. is_known t.place known) tickets
-
--- so is one that stands in the list
-pub placed_at : (known : List KnownKey) (tickets : List SessionTicket) (place number : ℕ) → are_placed known tickets ≡ true → HasTicket place number tickets → is_known place known ≡ true
-placed_at known tickets place number all has = at tickets all has.0 has.1 has.2 has.3
-  where
-    at : (ts : List SessionTicket) → are_placed known ts ≡ true → (k : ℕ) (t : SessionTicket) → get_elem? ts k ≡ some t → t.place ≡ place → is_known place known ≡ true
-    at [] all k t there here = absurd (some-ne-none t (sym there))
-    at (x ∷ xs) all zero t there here =
-        let is = some-injective x t there in
-        ap (λ place. is_known place known) (sym (ap (λ (o : SessionTicket). o.place) is ∙ here)) ∙ (and_parts (is_known x.place known) (are_placed known xs) all).0
-    at (x ∷ xs) all (suc k) t there here = at xs (and_parts (is_known x.place known) (are_placed known xs) all).1 k t there here
 
 -- a known kind is that of a key that the session has looked up
 pub kind_there : (place : ℕ) (kind : Kind) (known : List KnownKey) → kind_known place known ≡ Some kind

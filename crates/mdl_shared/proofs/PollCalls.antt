@@ -88,7 +88,7 @@ module _ {s : SessionView} (is : IsMember s) (waiting : is_some s.me.0.asks ≡ 
         → Joins (data_of s) (Poll_wait s.me.0.number) Pending (data_of s′) × Shows (Poll_wait s.me.0.number) Pending s s′
     poll-pending none = (
       joins-still s s′ (Poll_wait s.me.0.number) Pending (done-nothing polls.done) (speaks is) refl refl refl refl
-          (waits-asks s.me.0.asks s.me.0.waits ∙ waiting) tt refl
+          (waits-asks s.me.0.asks s.me.0.waits ∙ waiting) refl
           (λ state how met knows. let e : None ≡ state = cc in sym e ∙ agreed None none how knows) (λ how told. cc) refl (λ r. r) tt,
       shows polls (if-clear _ (wait_fault s.me.0.asks) (clear-wait s.me.0.asks waiting)) polls.did (ap (λ (x : SessionView). x.me.0.settles) now) tt (λ owes searches. (owes, searches))
           (polls-own 1 (unsettled-is (wait_state found) none busy ok.state)),
@@ -100,7 +100,7 @@ module _ {s : SessionView} (is : IsMember s) (waiting : is_some s.me.0.asks ≡ 
         let its = settled-is (wait_state found) one some in
         let told = told-own ReadWait session found found s.me.0.settles s s′ now mine (settled-more (wait_state found) one its) ∙ ap Some its in (
           joins-still s s′ (Poll_wait s.me.0.number) (Is_settled one) (done-nothing polls.done) (speaks is) refl refl refl refl
-              (waits-asks s.me.0.asks s.me.0.waits ∙ waiting) tt refl
+              (waits-asks s.me.0.asks s.me.0.waits ∙ waiting) refl
               (λ state how met knows. let e : Some one ≡ state = cc in sym e ∙ agreed (Some one) some how knows)
               (λ how tells. let e : one ≡ how = cc in told-settled s′.me.0.told how (told ∙ ap (λ (x : Settled). Some (settled_state x)) e)) refl (λ r. r) tt,
           shows polls (if-clear _ (wait_fault s.me.0.asks) (clear-wait s.me.0.asks waiting)) polls.did (ap (λ (x : SessionView). x.me.0.settles) now) tt (λ owes searches. (owes, searches))
@@ -126,7 +126,7 @@ module _ {s : SessionView} (is : IsMember s) (waiting : is_some s.me.0.asks ≡ 
         let told = told-own SettleWait session (wait_in wait 1) (wait_in wait 4) all s s′ now mine (omega (arith, four)) ∙ ap Some four in (
           did,
           joins-still s s′ (Settle_timeout s.me.0.number) (Timed_out ByThisCall) (done-nothing did.done) (speaks is) refl refl refl refl
-              (waits-asks s.me.0.asks s.me.0.waits ∙ waiting) tt refl
+              (waits-asks s.me.0.asks s.me.0.waits ∙ waiting) refl
               (λ state how met knows. let e : None ≡ state = cc in sym e ∙ agreed None none how knows)
               (λ how tells. let e : Timeout ≡ how = cc in told-settled s′.me.0.told how (told ∙ ap (λ (x : Settled). Some (settled_state x)) e)) refl (λ r. r) tt,
           shows did (if-clear _ (wait_fault s.me.0.asks) (clear-wait s.me.0.asks waiting)) did.did (ap (λ (x : SessionView). x.me.0.settles) now ∙ ap (λ (n : ℕ). s.me.0.settles ++ record { session = n; wait = wait; state = 4 } ∷ []) mine
@@ -148,7 +148,7 @@ module _ {s : SessionView} (is : IsMember s) (waiting : is_some s.me.0.asks ≡ 
         let told = told-own MissWait session found found s.me.0.settles s s′ now mine more ∙ ap Some its in (
           did,
           joins-still s s′ (Settle_timeout s.me.0.number) (Timed_out (Already one)) (done-nothing did.done) (speaks is) refl refl refl refl
-              (waits-asks s.me.0.asks s.me.0.waits ∙ waiting) tt refl
+              (waits-asks s.me.0.asks s.me.0.waits ∙ waiting) refl
               (λ state how met knows. let e : Some one ≡ state = cc in sym e ∙ agreed (Some one) some how knows)
               (λ how tells. let e : one ≡ how = cc in told-settled s′.me.0.told how (told ∙ ap (λ (x : Settled). Some (settled_state x)) e)) refl (λ r. r) tt,
           shows did (if-clear _ (wait_fault s.me.0.asks) (clear-wait s.me.0.asks waiting)) did.did (ap (λ (x : SessionView). x.me.0.settles) now) tt

@@ -9,7 +9,7 @@ use Rattle.std.proofs.Props.{props}
 use Rattle.std.specs.Coded.{Coded-set, coded_list}
 use mathlib.Core.HLevel.{×_prop, Unit-prop, Π_prop}
 use mathlib.Core.Logic.{∥∥₁_elim}
-use Rattle.mdl_shared.proofs.Common.{AreAlike, Ask, Definition, Each, FitsKey, HoldsNoLatch, IfSome, IsMember, IsNoted, IsOwed, IsSound, KeyName, MayStand, Member, Namespace, SessionData, SessionTicket, SessionView, VersionedDefinition, Wait, are_apart, are_below, are_counted, are_pins_known, are_placed, are_within, first_free, fits, is_ask_last, is_ask_told, is_known, is_newest, is_waiting, key_known, last_read, most_numbers, noted_at, tickets_seen, view_of, word_count}
+use Rattle.mdl_shared.proofs.Common.{AreAlike, Ask, Definition, Each, FitsKey, HoldsNoLatch, IfSome, IsMember, IsNoted, IsOwed, IsSound, KeyName, MayStand, Member, Namespace, SessionData, SessionTicket, SessionView, VersionedDefinition, Wait, are_apart, are_at_pins, are_below, are_counted, are_pins_known, are_rising_places, are_within, first_free, fits, is_ask_last, is_ask_told, is_known, is_newest, is_pinned, is_waiting, key_known, last_read, most_numbers, noted_at, tickets_seen, view_of, word_count}
 
 -- ---- what may stand
 
@@ -58,10 +58,10 @@ tickets-set = Coded-set (coded_list view.the_row.coded)
 
 -- ---- what is always so
 
-awaited-prop : (a : SessionData) → IsProp (IfSome a.own.wait (λ (w : Wait). is_known w.place a.known ≡ true))
+awaited-prop : (a : SessionData) → IsProp (IfSome a.own.wait (λ (w : Wait). is_pinned w.place a.own ≡ true))
 awaited-prop a = by a.own.wait
   where
-    by : (o : Option Wait) → IsProp (IfSome o (λ (w : Wait). is_known w.place a.known ≡ true))
+    by : (o : Option Wait) → IsProp (IfSome o (λ (w : Wait). is_pinned w.place a.own ≡ true))
     by None = Unit-prop
     by (Some w) = hlevel props
 
@@ -69,7 +69,8 @@ IsSound-prop : (a : SessionData) → IsProp (IsSound a)
 IsSound-prop a x y =
     let rising_prop : IsProp (IsRising a.own) = hlevel props in
     let below_prop : IsProp (are_below (first_free (is_waiting a.own) a.numbers) a.own.held ≡ true) = hlevel props in
-    let placed_prop : IsProp (are_placed a.known a.own.held ≡ true) = hlevel props in
+    let placed_prop : IsProp (are_at_pins a.own a.own.held ≡ true) = hlevel props in
+    let in_order_prop : IsProp (are_rising_places a.own.pins ≡ true) = hlevel props in
     let pinned_prop : IsProp (are_pins_known a.known a.own.pins ≡ true) = hlevel props in
     let apart_prop : IsProp (are_apart a.known ≡ true) = hlevel props in
     let settled_prop : IsProp (is_some a.settled ≡ true → is_waiting a.own ≡ true) = hlevel props in
@@ -82,6 +83,7 @@ IsSound-prop a x y =
       below = below_prop x.below y.below i;
       placed = placed_prop x.placed y.placed i;
       awaited = awaited-prop a x.awaited y.awaited i;
+      in_order = in_order_prop x.in_order y.in_order i;
       pinned = pinned_prop x.pinned y.pinned i;
       apart = apart_prop x.apart y.apart i;
       settled = settled_prop x.settled y.settled i;

@@ -98,13 +98,13 @@ quiet-visit done went = record {
 
 -- what a call shows by it
 pub quiet-shows : {place : ℕ} {ds : List Deed} {s s′ : SessionView} {call : StepSpec} {answer : Answer} → DoesQuietly place ds s s′ → ds ≡ call.did answer (tickets_seen s.me.0)
-    → call.fault (lists_seen s.me.0) ≡ None → (SettlesNothing s.me s′.me → call.settled answer (lists_seen s.me.0) s s′)
+    → call.fault s.pins (lists_seen s.me.0) ≡ None → (SettlesNothing s.me s′.me → call.settled answer (lists_seen s.me.0) s s′)
     → (s′.me.0.told ≡ s.me.0.told → call.told s s′) → (s′.me.0.owes ≡ s.me.0.owes → s′.me.0.searches ≡ s.me.0.searches → call.owes answer s s′)
     → call.met answer (lists_seen s.me.0) s s′ → KeepsRoom (gained_by answer) s.room s′.room → TakesSteps call answer s s′
 quiet-shows {ds = ds} {s = s} {s′ = s′} {call = call} quiet is clear settled told owes met keeps = record {
   table = ap (λ (x : SessionView). x.table) quiet.done.now;
   sessions = ap (λ (x : SessionView). x.sessions) quiet.done.now;
-  refused = if-clear _ (call.fault (lists_seen s.me.0)) clear;
+  refused = if-clear _ (call.fault s.pins (lists_seen s.me.0)) clear;
   did = subst (λ (d : List Deed). Does d s.me s′.me) is quiet.did;
   settled = settled quiet.settled;
   told = told quiet.told;
@@ -123,6 +123,7 @@ lists-made m seat′ made = m.lists ∙ sym (ap (λ (x : Mine). lists_seen x.0) 
 
 -- all but which tickets are slow is the same
 pub record HasSameLists (m m′ : Member) : Type 0 where
+  pub pins : m′.known.pins ≡ m.known.pins
   pub tickets : all_tickets (record { slow = m′.tickets.slow; fast = m′.tickets.fast; known = m′.known.known; next = m′.next; asks = m′.asks; waits = m′.waits })
       ≡ all_tickets (record { slow = m.tickets.slow; fast = m.tickets.fast; known = m.known.known; next = m.next; asks = m.asks; waits = m.waits })
   pub known : m′.known.known ≡ m.known.known
@@ -133,6 +134,7 @@ pub record HasSameLists (m m′ : Member) : Type 0 where
 pub same-lists : {place : ℕ} (m m′ : Member) → DidDeeds place [] (view_of m) (view_of m′) → HasSameLists m m′
 same-lists m m′ done =
     let lists : lists_seen m′.seat.me.0 ≡ record (lists_seen m.seat.me.0) { slow = done.slow; fast = done.fast } = ap (λ (x : SessionView). lists_seen x.me.0) done.now in record {
+      pins = ap (λ (x : SessionView). x.pins) done.now;
       tickets = ap all_tickets m′.lists ∙ ap all_tickets lists ∙ done.tickets ∙ sym (ap all_tickets m.lists);
       known = ap (λ (l : Lists). l.known) m′.lists ∙ ap (λ (l : Lists). l.known) lists ∙ sym (ap (λ (l : Lists). l.known) m.lists);
       next = ap (λ (l : Lists). l.next) m′.lists ∙ ap (λ (l : Lists). l.next) lists ∙ sym (ap (λ (l : Lists). l.next) m.lists);

@@ -112,7 +112,7 @@ module _ {s : SessionView} (is : IsMember s) (id : ℕ) (t : SessionTicket) (its
       → Joins (data_of s) (Read_definition s.me.0.number id) (Reads standing.version standing.definition) (data_of s′)
   last-joins {s′} standing noted follows last =
       joins-held s s′ (Read_definition s.me.0.number id) (Reads standing.version standing.definition) (map as_held (tickets_seen s.me.0)) (noted-rest noted) (speaks is) refl refl
-      (ap (map as_held) (noted-tickets noted) ∙ noting-told t.place standing.version (tickets_seen s.me.0)) refl (noted-drawn noted) (holds-told id (tickets_seen s.me.0) true (ap is_some its)) tt refl
+      (ap (map as_held) (noted-tickets noted) ∙ noting-told t.place standing.version (tickets_seen s.me.0)) refl (noted-drawn noted) (holds-told id (tickets_seen s.me.0) true (ap is_some its)) refl
       (λ state how met. cc) (λ how told. cc) refl
       (of-held id (tickets_seen s.me.0) t (λ (h : Held). Read_so standing (data_of s) (data_of s′) h.place) its
       (meets-there s t.place standing follows, notes-there s s′ id t.place t standing its refl (noted-tickets noted) last))
@@ -176,7 +176,7 @@ module _ {s : SessionView} (is : IsMember s) (id : ℕ) (t : SessionTicket) (its
         let newer = redefines.meets.newer in
         joins-held s s′ (Change_definition s.me.0.number id change) (Changed version) (map as_held (tickets_seen s.me.0)) (noted-rest noted) (speaks is) refl refl
         (ap (map as_held) (noted-tickets noted) ∙ noting-told t.place standing.version (tickets_seen s.me.0)) refl (noted-drawn noted)
-        (of-held id (tickets_seen s.me.0) t (λ (h : Held). same_mode h.mode X ≡ true) its exclusive) tt refl
+        (of-held id (tickets_seen s.me.0) t (λ (h : Held). same_mode h.mode X ≡ true) its exclusive) refl
         (λ state how met. cc) (λ how told. cc) refl
         (of-held id (tickets_seen s.me.0) t (λ (h : Held). ChangesThere change version (data_of s) (data_of s′) h.place) its (record {
           stood = stood;

@@ -1,7 +1,7 @@
 -- A call that leaves a session what it has, but for what it may have learnt of its wait.
 use Rattle.std.proofs.Common.{◌≡◌, ℕ, ◌-◌, Bool, true, false, List, map, is_some, Option, Some, None, IfSome, refl, sym, ap, subst, ◌∙◌, filter_map}
 use Rattle.mdl_calls.specs.declared.answers.Settled.TheVariants as settled_as
-use Rattle.mdl_shared.proofs.Common.{Answer, Ask, Call, Draws, Held, IsCause, IsExplained, Joins, KeepsAll, KeepsSettled, Knows, LearnsKeys, LetsRead, Numbers, ReadNothing, ReadsNothing, Refused, SessionLocks, SessionTicket, SessionView, Settled, SpaceError, SpeaksFor, StaysTold, TellsTruly, Wait, as_held, caller, data_of, ends_wait, gained_at, is_answer_of, is_known, note_of, option_map, own_after, reads-nothing, refused-joins, session_has_call, settled_of, settled_state, settled_told, tickets_seen, told, wait_met}
+use Rattle.mdl_shared.proofs.Common.{Answer, Ask, Call, Draws, Held, IsCause, IsExplained, Joins, KeepsAll, KeepsSettled, Knows, LearnsKeys, LetsRead, Numbers, ReadNothing, ReadsNothing, Refused, SessionLocks, SessionTicket, SessionView, Settled, SpaceError, SpeaksFor, StaysTold, TellsTruly, Wait, as_held, caller, data_of, ends_wait, is_answer_of, note_of, option_map, own_after, reads-nothing, refused-joins, session_has_call, settled_of, settled_state, settled_told, tickets_seen, told, wait_met}
 
 -- ---- what a session has
 
@@ -136,14 +136,13 @@ pub joins-still : (m m′ : SessionView) (call : Call) (answer : Answer) → Sta
     → is_answer_of call answer ≡ true → own_after call answer (data_of m).own ≡ (data_of m).own
     → Draws call answer (data_of m).numbers (data_of m).numbers
     → IsExplained (Knows (data_of m) m.me.0.number) call answer (data_of m).own
-    → IfSome (gained_at call answer) (λ place. is_known place (data_of m).known ≡ true)
     → LearnsKeys call answer (data_of m).known (data_of m).known
     → ((state : Option Settled) (how : Settled) → wait_met call answer ≡ Some state → (data_of m).settled ≡ Some how → state ≡ Some how)
     → ((how : Settled) → told call answer ≡ Some how → (data_of m′).settled ≡ Some how)
     → ends_wait call answer ≡ false
     → (ReadsNothing (data_of m) (data_of m′) → LetsRead call answer (data_of m) (data_of m′))
     → TellsTruly call answer (data_of m) (data_of m′) → Joins (data_of m) call answer (data_of m′)
-joins-still m m′ call answer stays mine has fits own draws explained gained learns agreed tells ends reads truly =
+joins-still m m′ call answer stays mine has fits own draws explained learns agreed tells ends reads truly =
     let a = data_of m in
     let b = data_of m′ in
     let same = keeps-all m m′ stays in record {
@@ -154,7 +153,6 @@ joins-still m m′ call answer stays mine has fits own draws explained gained le
       own = same.own ∙ sym own;
       numbers = subst (Draws call answer a.numbers) (sym same.numbers) draws;
       explained = explained;
-      gained = gained;
       learns = subst (LearnsKeys call answer a.known) (sym same.known) learns;
       agreed = agreed;
       told = tells;
@@ -169,13 +167,12 @@ pub joins-held : (m m′ : SessionView) (call : Call) (answer : Answer) (held : 
     → own_after call answer (data_of m).own ≡ own_of held (wait_by m.me.0.waits m.me.0.asks) m.pins
     → Draws call answer (data_of m).numbers (data_of m′).numbers
     → IsExplained (Knows (data_of m) m.me.0.number) call answer (data_of m).own
-    → IfSome (gained_at call answer) (λ place. is_known place (data_of m).known ≡ true)
     → LearnsKeys call answer (data_of m).known (data_of m).known
     → ((state : Option Settled) (how : Settled) → wait_met call answer ≡ Some state → (data_of m).settled ≡ Some how → state ≡ Some how)
     → ((how : Settled) → told call answer ≡ Some how → (data_of m′).settled ≡ Some how)
     → ends_wait call answer ≡ false → LetsRead call answer (data_of m) (data_of m′)
     → TellsTruly call answer (data_of m) (data_of m′) → Joins (data_of m) call answer (data_of m′)
-joins-held m m′ call answer held rest mine has fits its own draws explained gained learns agreed tells ends reads truly = record {
+joins-held m m′ call answer held rest mine has fits its own draws explained learns agreed tells ends reads truly = record {
   mine = mine;
   has = has;
   fits = fits;
@@ -183,7 +180,6 @@ joins-held m m′ call answer held rest mine has fits its own draws explained ga
   own = own-with held (map as_held (tickets_seen m′.me.0)) m.me.0.asks m′.me.0.asks m.me.0.waits m′.me.0.waits m.pins m′.pins its rest.wait.asks rest.wait.waits rest.pins ∙ sym own;
   numbers = draws;
   explained = explained;
-  gained = gained;
   learns = subst (LearnsKeys call answer (data_of m).known) (sym rest.known) learns;
   agreed = agreed;
   told = tells;

@@ -40,10 +40,6 @@ pub fit-known : (place : ℕ) (mode : Mode) (known : List KnownKey) (b : Bool) �
 fit-known place mode known b fits key knows =
     sym (ap (λ (o : Option Kind). option_map_or (λ kind. is_mode_of kind mode) o false) (kind-of_key place known key knows)) ∙ fits
 
--- where no kind is known, no key is
-pub no-kind : (place : ℕ) (known : List KnownKey) → kind_known place known ≡ None → (key : KeyName) → key_known place known ≡ Some key → ⊥
-no-kind place known none key knows = let e = sym none ∙ kind-of_key place known key knows in cc
-
 -- whether the mode is of a known kind
 pub of-kind : (place : ℕ) (known : List KnownKey) (kind : Kind) (mode : Mode) (b : Bool) → kind_known place known ≡ Some kind → is_mode_of kind mode ≡ b
     → (key : KeyName) → key_known place known ≡ Some key → is_mode_of (kind_of key.namespace) mode ≡ b

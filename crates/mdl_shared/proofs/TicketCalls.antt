@@ -25,14 +25,14 @@ module _ {m : SessionView} (is : IsMember m) (id : ℕ) (t : SessionTicket) (its
   release-joins {m′} done =
       joins-held m m′ (Release m.me.0.number id) Done (filter (λ (h : Held). not (is_number id h)) (map as_held (tickets_seen m.me.0))) (done-rest done) (speaks is) refl refl
       (ap (map as_held) (done-tickets done) ∙ given-up t.place id (tickets_seen m.me.0) here) refl (drawn done (done-next done))
-      (holds-told id (tickets_seen m.me.0) true (ap is_some its)) tt refl (λ state how is. cc) (λ how is. cc) refl (deed-reads is done) tt
+      (holds-told id (tickets_seen m.me.0) true (ap is_some its)) refl (λ state how is. cc) (λ how is. cc) refl (deed-reads is done) tt
 
   downgrade-joins : {m′ : SessionView} (mode : Mode) → downgrade_fault (numbered id (tickets_seen m.me.0)) mode m.me.0.known ≡ None → DidDeeds t.place (Alter id mode ∷ []) m m′
       → Joins (data_of m) (Downgrade m.me.0.number id mode) Done (data_of m′)
   downgrade-joins {m′} mode clear done =
       joins-held m m′ (Downgrade m.me.0.number id mode) Done (map (in_mode_told id (λ _. mode)) (map as_held (tickets_seen m.me.0))) (done-rest done) (speaks is) refl refl
       (ap (map as_held) (done-tickets done) ∙ in-mode t.place id mode (λ _. mode) (is_here t.place) (tickets_seen m.me.0) (λ u there. (there, refl)) here) refl
-      (drawn done (done-next done)) (downgrade-clear m id mode t its clear) tt refl
+      (drawn done (done-next done)) (downgrade-clear m id mode t its clear) refl
       (λ state how is. cc) (λ how is. cc) refl (deed-reads is done) tt
 
   -- ---- upgrades
@@ -47,7 +47,7 @@ module _ {m : SessionView} (is : IsMember m) (id : ℕ) (t : SessionTicket) (its
         joins-held m m (Upgrade_now m.me.0.number id mode) Upgraded (map (in_mode_told id (upgraded mode)) (map as_held (tickets_seen m.me.0))) (same-rest m) (speaks is) refl refl
         (same-mode id (upgraded mode) (λ u. covers u.mode mode) (tickets_seen m.me.0) (λ u h. ap (λ b. if b then u.mode else mode) h)
         (only-one id (λ u. covers u.mode mode) (tickets_seen m.me.0) t is.sound.rising its has))
-        refl refl may-rise tt refl (λ state how is. cc) (λ how is. cc) refl (nothing-read m m refl (one-note m is)) tt
+        refl refl may-rise refl (λ state how is. cc) (λ how is. cc) refl (nothing-read m m refl (one-note m is)) tt
 
     pub covered-shows : covers t.mode mode ≡ true → Shows (Upgrade_now m.me.0.number id mode) Upgraded m m
     covered-shows has =
@@ -75,13 +75,13 @@ module _ {m : SessionView} (is : IsMember m) (id : ℕ) (t : SessionTicket) (its
         (parts.0, ap (λ b. if b then u.mode else mode) (not-true (covers u.mode mode) parts.1)))
         (only-one id (λ u. is_here t.place u && not (covers u.mode mode)) (tickets_seen m.me.0) t is.sound.rising its
         (and_from _ _ (eq-eqb t.place t.place refl) (not_from_false (covers t.mode mode) short))))
-        refl (drawn done (done-next done)) may-rise tt refl (λ state how is. cc) (λ how is. cc) refl (deed-reads is done) tt
+        refl (drawn done (done-next done)) may-rise refl (λ state how is. cc) (λ how is. cc) refl (deed-reads is done) tt
 
     -- that would have to wait
     pub blocked-joins : {m′ : SessionView} → covers t.mode mode ≡ false → DidDeeds t.place [] m m′ → Joins (data_of m) (Upgrade_now m.me.0.number id mode) Would_wait (data_of m′)
     blocked-joins {m′} short done =
         joins-still m m′ (Upgrade_now m.me.0.number id mode) Would_wait (done-nothing done) (speaks is) refl refl refl refl
-        may-rise tt refl (λ state how is. cc) (λ how is. cc) refl (λ r. r)
+        may-rise refl (λ state how is. cc) (λ how is. cc) refl (λ r. r)
         (of-held id (tickets_seen m.me.0) t (λ (h : Held). covers h.mode mode ≡ false) its short)
 
   -- ---- merges, the ticket being kept
@@ -94,7 +94,7 @@ module _ {m : SessionView} (is : IsMember m) (id : ℕ) (t : SessionTicket) (its
       (ap (map as_held) (done-tickets done) ∙ merged-told t.place id new gone.mode (tickets_seen m.me.0) here
       (only-one new (is_here t.place) (tickets_seen m.me.0) gone is.sound.rising other (merge-here t gone m.me.0.asks clear)))
       (ap (λ o. merging id new o (data_of m).own) (ticket-told new (tickets_seen m.me.0) ∙ ap (option_map as_held) other)) (drawn done (done-next done))
-      (merge-clear m id new t gone its other clear) tt refl (λ state how is. cc) (λ how is. cc) refl
+      (merge-clear m id new t gone its other clear) refl (λ state how is. cc) (λ how is. cc) refl
       (nothing-read m m′ (done-reads done) (λ at.
       subst (AllNoted at (noted_under at (tickets_seen m.me.0))) (sym (done-tickets done))
       (noted-less at (noted_under at (tickets_seen m.me.0)) _ _ (noted-moded at t.place id (noted_under at (tickets_seen m.me.0)) gone.mode (tickets_seen m.me.0) (one-note m is at)))))

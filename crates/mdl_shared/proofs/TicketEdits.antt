@@ -1,6 +1,7 @@
 -- What a session's list of tickets is after an edit, and the places' counts.
-use Rattle.std.proofs.Common.{◌≡◌, ℕ, zero, suc, ◌+◌, ◌-◌, ◌<◌, ◌≤◌, Bool, true, false, cond, List, [], ◌∷◌, ◌++◌, length, get_or, set, map, Option, Some, None, refl, sym, ap, subst, ltb, ◌∙◌, append-nil, arith, not, ◌==◌, ◌&&◌, count_by, remove, if◌then◌else◌, length-set}
+use Rattle.std.proofs.Common.{◌≡◌, ℕ, zero, suc, ◌+◌, ◌-◌, ◌<◌, ◌≤◌, Bool, true, false, cond, List, [], ◌∷◌, ◌++◌, length, get_or, set, map, Option, Some, None, refl, sym, ap, subst, ltb, ◌∙◌, append-nil, arith, not, ◌==◌, ◌&&◌, count_by, remove, if◌then◌else◌, length-set, inl, inr}
 use Rattle.std.proofs.lemmas.List.Edits.{get_or-remove_above, get_or-remove_below, length-remove}
+use Rattle.std.proofs.lemmas.Option.{slice_get_cases}
 use Rattle.mdl_shared.proofs.FirstLemmas.{AreKept, Gained, HaveRisingNumbers, Mode, OfPlace, SessionTicket, StandsAt, are_below_next, as_held, by_bool, counted, counted_at, each_at, fast_counted_at, fast_of, filter, filter-append, get_or_append_left, get_or_push, in_mode_at, interleaved, is_at_place, is_fast_there, is_own, later_rise, length-map, length_push, list_all, map_push, nat_tests, noted_in, noting_version, nowhere, numbered, option_map_or, parted, slow_of, slowed_there, some_of, sum_by-append, sum_by-remove, sum_by-set, with_note, without_at}
 
 -- the first number is below one that stands later
@@ -280,6 +281,20 @@ kept_mode ps xs fast at t mode inside is kept = record {
 -- a ticket is struck
 pub count_struck : (p : Gained → Bool) (xs : List Gained) (at : ℕ) (d : Gained) → at < length xs → count_by p (remove xs at) + cond (p (get_or xs at d)) 1 0 ≡ count_by p xs
 count_struck p xs at d inside = sum_by-remove (λ (t : Gained). cond (p t) 1 0) xs at d inside
+
+-- a place where tickets are counted is one of those that are kept
+counted_inside : (ps : List OfPlace) (q : ℕ) → 0 < counted_at q ps → q < length ps
+counted_inside ps q some = elim (slice_get_cases ps q).1 [
+  | inl within ↦ within.1
+  | inr beyond ↦ absurd (let none = rw beyond.1 at some in omega (arith, none))
+]
+
+-- so is the place of a ticket of the list
+pub found_inside : (ps : List OfPlace) (xs : List Gained) (at : ℕ) (t : Gained) → at < length xs → t ≡ get_or xs at t → counted_at t.place ps ≡ count_by (is_at_place t.place) xs
+    → t.place < length ps
+found_inside ps xs at t inside is counts =
+    let there : (get_or xs at t).place ≡ t.place = ap (λ (u : Gained). u.place) (sym is) in
+    counted_inside ps t.place (grind (arith, nat_tests, count_struck (is_at_place t.place) xs at t inside, there, counts))
 
 rise_struck : (xs : List Gained) (at : ℕ) → at < length xs → HaveRisingNumbers xs → HaveRisingNumbers (remove xs at)
 rise_struck xs at inside rising i j d before within =

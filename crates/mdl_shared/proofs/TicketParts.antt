@@ -1,7 +1,8 @@
 -- The slow tickets and the fast ones of a session's own list. Both together are the list, since its numbers rise.
-use Rattle.std.proofs.Common.{◌≡◌, ℕ, suc, ◌+◌, ◌<◌, Bool, false, cond, List, [], ◌∷◌, ◌++◌, length, get_or, map, Some, None, refl, sym, ap, ◌∙◌, arith, not, ◌==◌, ◌&&◌, count_by, Option, if◌then◌else◌, eqb-true, length-append}
+use Rattle.std.proofs.Common.{◌≡◌, ℕ, suc, ◌+◌, ◌<◌, Bool, false, cond, List, [], ◌∷◌, ◌++◌, length, get_or, map, Some, None, refl, sym, ap, ◌∙◌, arith, not, ◌==◌, ◌&&◌, count_by, Option, if◌then◌else◌, eqb-true, nat_lt, length-append}
 use Rattle.mdl_shared.proofs.Common.{Each, Gained, HaveRisingNumbers, OfPlace, SessionTicket, but_at, by_bool, fast_of, filter, first_note, inserted-first, interleaved, interleaved-cons, is_at_place, is_fast_there, length-filter, length-map, nat_tests, note_at, noted_in, other, own_at, slow_of, sum_by-append, with_note}
 use Rattle.mdl_shared.proofs.TicketSearch.{no_ticket}
+use Rattle.mdl_shared.specs.OwnLists.{has_ticket_at}
 
 abbrev pub no_place : OfPlace
 no_place = record { tickets = 0; version = 0; guess = record { 0 = 0 }; fast = 0; is_noted = false; owes = false }
@@ -78,6 +79,15 @@ both_there place (x ∷ xs) =
     let fast = counted (is_fast_there place) x xs in
     let slow = counted (λ t. not t.fast && is_at_place place t) x xs in
     grind (arith, nat_tests, more, fast, slow, both_there place xs)
+
+-- whether there is one
+pub any_there : (place : ℕ) (ps : List OfPlace) (xs : List Gained) → HaveRisingNumbers xs
+    → nat_lt 0 (count_by (is_at_place place) xs) ≡ has_ticket_at place (interleaved (slow_of ps xs) (fast_of ps xs))
+any_there place ps xs rising = any xs ∙ sym (ap (has_ticket_at place) (parted ps xs rising))
+  where
+    any : (ts : List Gained) → nat_lt 0 (count_by (is_at_place place) ts) ≡ has_ticket_at place (map (with_note ps) ts)
+    any [] = refl
+    any (t ∷ ts) = let more = counted (is_at_place place) t ts in grind (arith, nat_tests, more, any ts)
 
 -- ---- notes
 

@@ -175,7 +175,6 @@ kept-joins a b who id version definition joins = record {
   own = joins.own;
   numbers = joins.numbers;
   explained = joins.explained;
-  gained = joins.gained;
   learns = joins.learns;
   agreed = joins.agreed;
   told = joins.told;

@@ -37,7 +37,7 @@ asked s waiting none = absurd (false≢true (sym (ap is_some none) ∙ waiting))
 pub still-member : {place : ℕ} {s s′ : SessionView} → DidDeeds place [] s s′ → IsMember s → IsMember s′
 still-member {s = s} {s′ = s′} done is =
     kept (Search s.me.0.number) {answer = No_cycle} is (done-order done is (inr refl))
-    (joins-still s s′ (Search s.me.0.number) No_cycle (done-nothing done) (speaks is) refl refl refl refl tt tt refl (λ state how met. cc) (λ how told. cc) refl (λ r. r) tt)
+    (joins-still s s′ (Search s.me.0.number) No_cycle (done-nothing done) (speaks is) refl refl refl refl tt refl (λ state how met. cc) (λ how told. cc) refl (λ r. r) tt)
 
 -- the word of a session's wait is one of the table's
 pub session-there : (s : SessionView) → IsMember s → (session : ℕ) → 0 < session → session ≤ s.sessions → IsSession s.table session
@@ -60,7 +60,7 @@ pub record Watches (s s′ : SessionView) : Type 0 where
   pub keeps : KeepsRoom 0 s.room s′.room
 
 -- a call shows what its steps show
-pub shows : {call : StepSpec} {answer : Answer} {s s′ : SessionView} → Watches s s′ → IfSome (call.fault (lists_seen s.me.0)) (λ why. (answer ≡ Refused why) × MakesNoStep s s′)
+pub shows : {call : StepSpec} {answer : Answer} {s s′ : SessionView} → Watches s s′ → IfSome (call.fault s.pins (lists_seen s.me.0)) (λ why. (answer ≡ Refused why) × MakesNoStep s s′)
     → Does (call.did answer (tickets_seen s.me.0)) s.me s′.me → call.settled answer (lists_seen s.me.0) s s′ → call.told s s′
     → (s′.me.0.owes ≡ s.me.0.owes → s′.me.0.searches ≡ s.me.0.searches → call.owes answer s s′) → call.met answer (lists_seen s.me.0) s s′
     → TakesSteps call answer s s′

@@ -1,6 +1,6 @@
 -- Why wishes for locks and clones are refused, in the words of a lock space.
 use Rattle.std.proofs.Common.{◌≡◌, ℕ, Bool, true, false, not, ◌&&◌, is_some, List, Option, Some, None, if◌then◌else◌, refl, sym, ap, subst, ◌∙◌, ◌<◌, nat_le, leb-false}
-use Rattle.mdl_shared.proofs.FirstLemmas.{AlreadyWaiting, Ask, BadMode, CounterFull, IsFit, IsUnfit, IsUnknown, Kind, Knowledge, KnownKey, Knows, MayClone, MayNotClone, Mode, NoPlace, NotHeld, OfHeld, SessionLocks, SessionTicket, SessionView, SpaceError, and_parts, clone_fault, covers, data_of, fit-known, holds, holds-told, is_fit, is_known, is_mode_of, is_waiting, kind_known, kind_place, most_numbers, no-asks, no-kind, numbered, of-held, of-kind, tickets_seen, waits-asks, wish_fault}
+use Rattle.mdl_shared.proofs.FirstLemmas.{AlreadyWaiting, Ask, BadMode, CounterFull, IsUnfit, Kind, Knowledge, KnownKey, Knows, MayAsk, MayClone, MayNotClone, Mode, NoPlace, NotHeld, OfHeld, SessionLocks, SessionTicket, SessionView, SpaceError, and_parts, are_pins_known, clone_fault, covers, data_of, fit-known, holds, holds-told, is_fit, is_mode_of, is_pinned, is_waiting, kind-pinned, kind_pinned, most_numbers, no-asks, no-pin, numbered, of-held, of-kind, tickets_seen, waits-asks, wish_fault}
 use Rattle.mdl_shared.proofs.TicketFaults.{other-false}
 
 -- tests that come one after another
@@ -44,31 +44,33 @@ module _ (m : SessionView) where
 
   -- ---- wishes
 
-  -- there is no fault, and so the place is known, the mode is of its kind, and there are numbers left
-  pub wish-clear : (place : ℕ) (mode : Mode) → wish_fault (kind_known place m.me.0.known) m.me.0.asks mode m.me.0.next ≡ None
-      → (is_some m.me.0.asks ≡ false) × IsFit knows place mode × (is_known place (data_of m).known ≡ true) × (m.me.0.next < most_numbers)
-  wish-clear place mode e = by (kind_known place m.me.0.known) refl e
+  -- there is no fault, and so the place is pinned, the mode is of its kind, and there are numbers left
+  pub wish-clear : (place : ℕ) (mode : Mode) → wish_fault (kind_pinned place m.pins m.me.0.known) m.me.0.asks mode m.me.0.next ≡ None
+      → MayAsk place mode knows own × (m.me.0.next < most_numbers)
+  wish-clear place mode e = by (kind_pinned place m.pins m.me.0.known) refl e
     where
-      by : (o : Option Kind) → kind_known place m.me.0.known ≡ o → wish_fault o m.me.0.asks mode m.me.0.next ≡ None
-          → (is_some m.me.0.asks ≡ false) × IsFit knows place mode × (is_known place (data_of m).known ≡ true) × (m.me.0.next < most_numbers)
+      by : (o : Option Kind) → kind_pinned place m.pins m.me.0.known ≡ o → wish_fault o m.me.0.asks mode m.me.0.next ≡ None → MayAsk place mode knows own × (m.me.0.next < most_numbers)
       by None is e = cc
       by (Some kind) is e =
+          let pinned = kind-pinned place m.pins m.me.0.known is in
           let clear = chain-clear (is_some m.me.0.asks) (is_mode_of kind mode) (nat_le most_numbers m.me.0.next) AlreadyWaiting BadMode CounterFull e in
-          (clear.0, of-kind place m.me.0.known kind mode true is clear.1, kind_place place kind m.me.0.known is, leb-false most_numbers m.me.0.next clear.2)
+          ((pinned.0, waits-not clear.0, of-kind place m.me.0.known kind mode true pinned.1 clear.1), leb-false most_numbers m.me.0.next clear.2)
 
   -- the causes of faults
-  pub wish-cause : (P : SpaceError → Type 0) (place : ℕ) (mode : Mode) (why : SpaceError) → (IsUnknown knows place → P NoPlace) → (is_waiting own ≡ true → P AlreadyWaiting)
-      → ((is_waiting own ≡ false) × IsUnfit knows place mode → P BadMode) → ((is_waiting own ≡ false) × IsFit knows place mode → P CounterFull)
-      → wish_fault (kind_known place m.me.0.known) m.me.0.asks mode m.me.0.next ≡ Some why → P why
-  wish-cause P place mode why unknown waits unfit full e = by (kind_known place m.me.0.known) refl e
+  pub wish-cause : (P : SpaceError → Type 0) (place : ℕ) (mode : Mode) (why : SpaceError) → are_pins_known m.me.0.known m.pins ≡ true
+      → (is_pinned place own ≡ false → P NoPlace) → ((is_pinned place own ≡ true) × (is_waiting own ≡ true) → P AlreadyWaiting)
+      → ((is_pinned place own ≡ true) × (is_waiting own ≡ false) × IsUnfit knows place mode → P BadMode) → (MayAsk place mode knows own → P CounterFull)
+      → wish_fault (kind_pinned place m.pins m.me.0.known) m.me.0.asks mode m.me.0.next ≡ Some why → P why
+  wish-cause P place mode why all unpinned waits unfit full e = by (kind_pinned place m.pins m.me.0.known) refl e
     where
-      by : (o : Option Kind) → kind_known place m.me.0.known ≡ o → wish_fault o m.me.0.asks mode m.me.0.next ≡ Some why → P why
-      by None is e = let same : NoPlace ≡ why = cc in subst P same (unknown (no-kind place m.me.0.known is))
+      by : (o : Option Kind) → kind_pinned place m.pins m.me.0.known ≡ o → wish_fault o m.me.0.asks mode m.me.0.next ≡ Some why → P why
+      by None is e = let same : NoPlace ≡ why = cc in subst P same (unpinned (no-pin place m.pins m.me.0.known all is))
       by (Some kind) is e =
+          let pinned = kind-pinned place m.pins m.me.0.known is in
           chain-fault P (is_some m.me.0.asks) (is_mode_of kind mode) (nat_le most_numbers m.me.0.next) AlreadyWaiting BadMode CounterFull why
-          (λ asks. waits (waits-asks m.me.0.asks m.me.0.waits ∙ asks))
-          (λ asks fits. unfit (waits-not asks, of-kind place m.me.0.known kind mode false is fits))
-          (λ asks fits. full (waits-not asks, of-kind place m.me.0.known kind mode true is fits)) e
+          (λ asks. waits (pinned.0, waits-asks m.me.0.asks m.me.0.waits ∙ asks))
+          (λ asks fits. unfit (pinned.0, waits-not asks, of-kind place m.me.0.known kind mode false pinned.1 fits))
+          (λ asks fits. full (pinned.0, waits-not asks, of-kind place m.me.0.known kind mode true pinned.1 fits)) e
 
   -- ---- clones
 

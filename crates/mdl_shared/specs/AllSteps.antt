@@ -1,5 +1,5 @@
 -- The calls of a lock space, each with the specification of its steps: a session's calls promise it, also to callers that use the trait of lock spaces.
-use Rattle.mdl_shared.specs.FirstWords.{Answer, Begin_wait, Call, Change_definition, Clone_ticket, Downgrade, End_wait, Key_of, Kill, List_held, Merge, Poll_wait, Read_definition, Read_kept, Release, Resolve, Search, SessionView, Settle_timeout, StepSpec, Tables_of, TakesSteps, Try_now, Unpin, Upgrade_now, Wait_of, no_steps}
+use Rattle.mdl_shared.specs.FirstWords.{Answer, Begin_wait, Call, Change_definition, Clone_ticket, Downgrade, End_wait, Key_of, Kill, List_held, Merge, Poll_wait, Read_definition, Read_kept, Release, Resolve, Search, SessionView, Settle_timeout, StepSpec, Tables_of, TakesSteps, Try_now, Unpin, Upgrade_now, Wait_of}
 use Rattle.mdl_shared.specs.calls.BeginWait.{begin_wait}
 use Rattle.mdl_shared.specs.calls.ChangeDefinition.{change_definition}
 use Rattle.mdl_shared.specs.calls.CloneTicket.{clone_ticket}
@@ -18,10 +18,11 @@ use Rattle.mdl_shared.specs.calls.Search.{search_deadlock}
 use Rattle.mdl_shared.specs.calls.SettleTimeout.{settle_timeout}
 use Rattle.mdl_shared.specs.calls.TablesOf.{tables_of}
 use Rattle.mdl_shared.specs.calls.TryNow.{try_now}
+use Rattle.mdl_shared.specs.calls.Unpin.{unpin}
 use Rattle.mdl_shared.specs.calls.UpgradeNow.{upgrade_now}
 use Rattle.mdl_shared.specs.calls.WaitOf.{wait_of}
 
--- a call by its steps. Sessions have no call `Unpin`
+-- a call by its steps
 abbrev pub steps_of : Call → StepSpec
 steps_of (Resolve who key) = resolve key
 steps_of (Try_now who place mode) = try_now place mode
@@ -43,7 +44,7 @@ steps_of (Change_definition who id change) = change_definition id change
 steps_of (Tables_of who schema) = tables_of schema
 steps_of (Key_of who place) = key_of place
 steps_of (List_held who) = list_held
-steps_of (Unpin who place) = no_steps
+steps_of (Unpin who place) = unpin place
 
 -- what the steps of a call with this answer show
 abbrev pub Shows : Call → Answer → SessionView → SessionView → Type 0

@@ -1,20 +1,22 @@
 -- What a session's own lists say before a call goes on under the latch of a place, and what came of it. Its fast tickets are slow by then.
-use Rattle.std.specs.Prelude.{◌≡◌, ◌⊎◌, ℕ, ◌<◌, [], ◌∷◌, Some, None}
-use Rattle.mdl_shared.specs.FirstWords.{Alter, DoesQuietly, Full, FullForFast, Gain, HasRoom, IsClosed, KeepsRoom, Kind, LacksMemory, Lose, MeetsBlocked, MeetsGrantable, MeetsTicket, Member, MergesOwn, Mode, OutOfMemory, SessionTicket, SessionView, ShowsStep, SlowsAll, SpaceError, StopsSlowing, VisitsOnce, clone_fault, increment_at, kind_known, merge_fault, most_numbers, numbered, upgrade_fault, wish_fault}
+use Rattle.std.specs.Prelude.{◌≡◌, ◌⊎◌, ℕ, ◌<◌, true, [], ◌∷◌, Some, None}
+use Rattle.mdl_shared.specs.FirstWords.{Alter, DoesQuietly, Full, FullForFast, Gain, HasRoom, IsClosed, KeepsRoom, Kind, LacksMemory, Lose, MeetsBlocked, MeetsGrantable, MeetsTicket, Member, MergesOwn, Mode, OutOfMemory, SessionTicket, SessionView, ShowsStep, SlowsAll, SpaceError, StopsSlowing, VisitsOnce, clone_fault, has_pin, increment_at, kind_pinned, merge_fault, most_numbers, numbered, upgrade_fault, wish_fault}
 use Rattle.mdl_shared.specs.FastWishes.{BecomesSlow}
 use Rattle.mdl_shared.specs.Passes.{view_of}
 
 -- ---- before the fast path is tried
 
--- the session, which knows the kind at a place, has no wait, and may get a ticket with its next number
+-- the session, which pins a place of this kind, has no wait, and may get a ticket with its next number
 pub record MayTryFastFirst (place : ℕ) (kind : Kind) (m : Member) : Type 0 where
   pub idle : m.asks ≡ None
-  pub known : kind_known place m.known.known ≡ Some kind
+  pub pinned : kind_pinned place m.known.pins m.known.known ≡ Some kind
   pub number : m.next < most_numbers
 
--- the session has no wait, a fast ticket in the mode would add this much to the word of the place, there is room for the ticket, and its number isn't used up
+-- the session has no wait, it pins the place, a fast ticket in the mode would add this much to the word of the place, there is room for the ticket, and its
+-- number isn't used up
 pub record MayGainFast (place : ℕ) (mode : Mode) (one : ℕ) (m : Member) : Type 0 where
   pub idle : m.asks ≡ None
+  pub pinned : has_pin place m.known.pins ≡ true
   pub counted : increment_at place mode m.known.known ≡ Some one
   pub number : m.next < most_numbers
   pub room : HasRoom place m.tickets.room
@@ -32,9 +34,9 @@ LacksRoomFirst place mode why a b =
 
 -- ---- before the latch is taken
 
--- the session may ask for a mode at a place of this kind: no cause refuses that, and its list has room for the ticket
+-- the session may ask for a mode at a place of this kind, which it pins: no cause refuses that, and its list has room for the ticket
 pub record MayAskByLatch (place : ℕ) (kind : Kind) (mode : Mode) (m : Member) : Type 0 where
-  pub known : kind_known place m.known.known ≡ Some kind
+  pub pinned : kind_pinned place m.known.pins m.known.known ≡ Some kind
   pub clear : wish_fault (Some kind) m.asks mode m.next ≡ None
   pub unfast : m.tickets.fast ≡ []
   pub room : HasRoom place m.tickets.room

@@ -61,8 +61,8 @@ without_at place number tickets = filter (λ t. not (is_own place number t)) tic
 abbrev pub holding_fault : ℕ → List SessionTicket → Option SpaceError
 holding_fault number tickets = if is_some (numbered number tickets) then None else Some NotHeld
 
--- why a request for a mode (a wish) isn't even tried, at a place whose key is of this kind, or isn't known, by a session with this wait, or none, whose
--- next ticket has this number
+-- why a request for a mode (a wish) isn't even tried, at a place whose lock is of this kind, or that isn't pinned, by a session with this wait, or none,
+-- whose next ticket has this number
 abbrev pub wish_fault : Option Kind → Option Ask → Mode → ℕ → Option SpaceError
 wish_fault None asks mode next = Some NoPlace
 wish_fault (Some kind) asks mode next =

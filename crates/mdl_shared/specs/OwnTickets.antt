@@ -61,6 +61,10 @@ AreAt place old new =
 abbrev pub StandsAt : ℕ → ℕ → List Gained → Type 0
 StandsAt id at tickets = (at < length tickets) × ((d : Gained) → (slice_index_or tickets at d).id ≡ id)
 
+-- this ticket is one of the list's, and has this number
+abbrev pub IsNumbered : ℕ → Gained → List Gained → Type 0
+IsNumbered id t tickets = (at : ℕ) × StandsAt id at tickets × (t ≡ slice_index_or tickets at t)
+
 -- the last ticket has this number, is at this place, and is a fast one or not
 abbrev pub IsLastGained : ℕ → ℕ → Bool → List Gained → Type 0
 IsLastGained place id fast tickets =

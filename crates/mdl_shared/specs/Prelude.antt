@@ -5,8 +5,8 @@ pub use Rattle.std.specs.List.Sorted.{IsBinarySearchResult, IsNonDecreasingBy, I
 pub use Rattle.std.specs.Option.{IfSome, IsSome, option_and_then, option_map, option_map_or, option_or, unwrap_or}
 pub use Rattle.std.specs.Prelude.{None, map, nat_lt, not}
 pub use Rattle.atomic_table.specs.Seated.{TableId}
-pub use Rattle.mdl_calls.specs.FirstWords.{ChangesThere, DrawsTicket, MeetsFault as Faulty, FitsKey, HasMet, IsLast, IsNoted, IsSound, KeepsSettled, Knows, LearnsPlace as LearnsAt, LearnsTables, Meets, Note, NotesThere, ReadsThere as Read_so, ReadsNothing, SessionData, SpeaksFor, are_below, are_below as are_below_told, are_pins_known, are_placed, are_placed as are_placed_told, cloning, first_free, gaining, is_newest, is_of_tables as is_of_tables_told, last_read, merging, noted_at, ticket_drawn, upgraded, wait_drawn, was_read, winning}
-pub use Rattle.mdl_calls.specs.Words.{Answer, AreMet, At_place, Begin_wait, Call, Change_definition, Changed, Clone_ticket, Done, Downgrade, Draws, End_wait, Granted, Has_killed, Has_wait, Holds, IsCause, IsExplained, IsFit, IsUnfit, IsUnknown, Is_settled, Key_is, Key_of, Kill, Knowledge, List_held, Lost, MayClone, MayDowngrade, MayNotClone, MayNotDowngrade, MayNotUpgrade, MayUpgrade, Merge, Mergeable, No_cycle, Numbers, OfHeld, Pending, Poll_wait, Read_definition, Read_kept, Reads, Refused, Release, Resolve, Search, SessionLocks, Settle_timeout, Tables, Tables_of, Timed_out, Try_now, Unpin, Upgrade_now, Upgraded, Victim_is, Wait, Wait_of, Waits, Would_wait, are_rising, attempted, begun, caller, cause_of, change_takes_memory, cloned, ended, holds, is_answer_of, is_number, is_table_of as is_table_told, is_waiting, may_merge as may_merge_told, own_after, read as read_as, searched, ticket_held, told, upgrade_tried, wait_number, with_place}
+pub use Rattle.mdl_calls.specs.FirstWords.{ChangesThere, DrawsTicket, MeetsFault as Faulty, FitsKey, HasMet, IsLast, IsNoted, IsSound, KeepsSettled, Knows, LearnsPlace as LearnsAt, LearnsTables, MayAsk, Meets, Note, NotesThere, ReadsThere as Read_so, ReadsNothing, SessionData, SpeaksFor, are_below, are_below as are_below_told, are_pins_known, cloning, first_free, gaining, is_newest, is_of_tables as is_of_tables_told, last_read, merging, noted_at, ticket_drawn, upgraded, wait_drawn, was_read, winning}
+pub use Rattle.mdl_calls.specs.Words.{Answer, AreMet, At_place, AwaitsAt, Begin_wait, Call, Change_definition, Changed, Clone_ticket, Done, Downgrade, Draws, End_wait, Granted, Has_killed, Has_wait, Holds, HoldsAt, IsCause, IsExplained, IsFit, IsUnfit, IsUnknown, Is_settled, Key_is, Key_of, Kill, Knowledge, List_held, Lost, MayClone, MayDowngrade, MayNotClone, MayNotDowngrade, MayNotUpgrade, MayUpgrade, Merge, Mergeable, No_cycle, Numbers, OfHeld, Pending, Poll_wait, Read_definition, Read_kept, Reads, Refused, Release, Resolve, Search, SessionLocks, Settle_timeout, Tables, Tables_of, Timed_out, Try_now, Unpin, Upgrade_now, Upgraded, Victim_is, Wait, Wait_of, Waits, Would_wait, are_at_pins, are_rising, are_rising_places, attempted, begun, caller, cause_of, change_takes_memory, cloned, done, ended, holds, is_answer_of, is_number, is_pinned, is_table_of as is_table_told, is_waiting, may_merge as may_merge_told, own_after, read as read_as, searched, ticket_held, told, upgrade_tried, wait_number, with_place, without_place}
 pub use Rattle.mdl_calls.specs.declared.answers.Ended.{Ended}
 pub use Rattle.mdl_calls.specs.declared.answers.Held.{Held}
 pub use Rattle.mdl_calls.specs.declared.answers.Search.{Search as Found}
@@ -14,7 +14,7 @@ pub use Rattle.mdl_calls.specs.declared.answers.Settled.{Settled}
 pub use Rattle.mdl_calls.specs.declared.answers.Settled.TheVariants.{Killed, Timeout, Victim}
 pub use Rattle.mdl_calls.specs.declared.answers.Upgrade.{Upgrade}
 pub use Rattle.mdl_calls.specs.declared.space_error.SpaceError.{SpaceError}
-pub use Rattle.mdl_calls.specs.declared.space_error.SpaceError.TheVariants.{AlreadyWaiting, BadMode, CounterFull, Full, NoPlace, NoWait, NotExclusive, NotHeld, NotUpgradable, OutOfMemory, Unsettled}
+pub use Rattle.mdl_calls.specs.declared.space_error.SpaceError.TheVariants.{AlreadyWaiting, BadMode, CounterFull, Full, InUse, NoPlace, NoWait, NotExclusive, NotHeld, NotUpgradable, OutOfMemory, Unsettled}
 pub use Rattle.mdl_defs.specs.declared.reading.Reading.{Reading}
 pub use Rattle.mdl_defs.specs.declared.versioned_definition.VersionedDefinition.{VersionedDefinition}
 pub use Rattle.mdl_key.specs.KeyLookups.{are_apart, are_two, is_known, key_known, kind_known, place_known}
@@ -33,6 +33,7 @@ pub use Rattle.mdl_steps.specs.declared.view.Settlement.{Settlement}
 pub use Rattle.mdl_steps.specs.declared.view.StepRecord.{StepRecord}
 pub use Rattle.mdl_steps.specs.declared.view.View.{View}
 pub use Rattle.mdl_system.specs.Strength.{covers, may_downgrade, may_upgrade}
+pub use Rattle.mdl_visits.specs.KnownLists.{has_pin, kind_pinned}
 pub use Rattle.mdl_visits.specs.Words.{AreAllTables, AreStepsOf, AreWithin, Asked, Does, DoesToOwn, EndsLost, EndsWait, FindsObtrusive, GrantsAtLast, GrantsFast, HasAsked, HasRescheduled, HasTicket, HoldsNoLatch, IsChangeRefused, IsDirectoryTable, IsLookupAnswer, IsNamed, IsRefusedAs, IsVisit, KnowsKind, KnowsVictim, Learns, MakesMoreSteps, MakesSteps, Materialises, MayVisit, MeetsBlocked, MeetsFull, MeetsFullFor, MeetsFullWish, MeetsGrantable, MeetsNumber, MeetsOpening, MeetsOther, MeetsOwn, MeetsStanding, MeetsWait, MeetsWord, MergesOwn, Misses, Opens, SeatReadsNothing as ReadNothing, Redefines, ReleasesFast, RequestsMode, Searched, SeatReadsThere, Settles, SettlesNothing, StaysOn, StaysQuiet, StaysThere, StaysTold, TookDirectory, Visits, VisitsAndReschedules, VisitsOnce, WasHeld, all_but, all_numbers, and_made, defined_places as asked_places, but_searching, exclusive_fault, gives_back, idle, is_ask_apart, is_no_number, kind_raises_flags, knowing_all, knowing_key, mine_without_wait, number_of_wait, numbered, searches_after, settled_state, view_awaiting}
 pub use Rattle.mdl_word.specs.Words.{increment_of}
 pub use Rattle.mdl_shared.specs.declared.tickets.Gained.{Gained}

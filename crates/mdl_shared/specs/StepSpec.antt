@@ -9,8 +9,8 @@ use Rattle.mdl_shared.specs.TicketLists.{KeepsRoom}
 
 -- a call, by what it promises of its steps
 pub record StepSpec : Type 1 where
-  -- why the session's own lists refuse the call, if they do: then no step is made
-  pub fault : Lists → Option SpaceError
+  -- why the places that the session pins and its own lists refuse the call, if they do: then no step is made
+  pub fault : List ℕ → Lists → Option SpaceError
   -- the deeds, by the answer: what the steps do to the session's own tickets
   pub did : Answer → List SessionTicket → List Deed
   -- which waits the steps settle, by the answer. If waits at a place are granted, `HasRescheduled` says which, and for a search `Searched`
@@ -27,7 +27,7 @@ pub record StepSpec : Type 1 where
 -- one nothing is said of refusals, and the call may still be refused, as `list_held` for lack of memory
 abbrev pub no_steps : StepSpec
 no_steps = record {
-  fault = λ l. None;
+  fault = λ pins l. None;
   did = λ answer tickets. [];
   settled = λ answer l a b. SettlesNothing a.me b.me;
   told = λ a b. b.me.0.told ≡ a.me.0.told;
@@ -41,14 +41,14 @@ gained_by (Granted id) = 1
 gained_by _ = 0
 
 -- a call with this answer takes the one session to the other by its steps. The session stays at the same table (`table`) of the same space (`sessions`).
--- If its own lists refuse the call, that is the answer, and no step is made (`refused`). The call's steps did these deeds, and no others (`did`), settled
+-- If its pins and its own lists refuse the call, that is the answer, and no step is made (`refused`). The call's steps did these deeds, and no others (`did`), settled
 -- these waits, and no others (`settled`), changed what the session knows of its own wait only if the call may do that (`told`), and met this (`met`). The
 -- room for tickets that there was is still there, except for the ticket gained (`room`). The session owes no place a reschedule that it didn't owe one
 -- before (`debts`), and what it owed it still owes, except after a call that grants waits (`owes`)
 pub record TakesSteps (call : StepSpec) (answer : Answer) (a b : SessionView) : Type 0 where
   pub table : b.table ≡ a.table
   pub sessions : b.sessions ≡ a.sessions
-  pub refused : IfSome (call.fault (lists_seen a.me.0)) (λ why. (answer ≡ Refused why) × MakesNoStep a b)
+  pub refused : IfSome (call.fault a.pins (lists_seen a.me.0)) (λ why. (answer ≡ Refused why) × MakesNoStep a b)
   pub did : Does (call.did answer (tickets_seen a.me.0)) a.me b.me
   pub settled : call.settled answer (lists_seen a.me.0) a b
   pub told : call.told a b

@@ -17,5 +17,6 @@ pub mod Search
 pub mod SettleTimeout
 pub mod TablesOf
 pub mod TryNow
+pub mod Unpin
 pub mod UpgradeNow
 pub mod WaitOf

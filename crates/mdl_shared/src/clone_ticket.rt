@@ -6,11 +6,11 @@ ghost use Rattle.mdl_calls.specs.calls.CloneTicket as call;
 ghost use Rattle.mdl_calls.specs.declared.space_error.SpaceError.TheVariants.{Full, OutOfMemory};
 ghost use Rattle.mdl_calls.specs.Words.{cloned};
 ghost use Rattle.mdl_steps.specs.Interleavings.{interleaved};
+ghost use Rattle.mdl_visits.specs.KnownLists.{kind_pinned};
 ghost use Rattle.mdl_visits.specs.Numbers.{numbered};
 ghost use Rattle.mdl_visits.specs.Visits.{MeetsFull, VisitsOnce};
 ghost use Rattle.mdl_shared.specs.DeedsDone.{DoesQuietly};
 ghost use Rattle.mdl_shared.specs.LatchCalls.{MayCloneByLatch, WasClonedByLatch};
-ghost use Rattle.mdl_key.specs.KeyLookups.{kind_known};
 ghost use Rattle.mdl_shared.specs.Modes.{clone_fault};
 ghost use Rattle.mdl_shared.specs.Passes.{view_of};
 ghost use Rattle.mdl_shared.specs.SessionViews.{data_of};
@@ -49,7 +49,7 @@ impl<R: Wait> Session<R> {
 impl Member {
     // The ticket with a number, and the kind of its lock, if a second one in a mode may be made of it.
     fn clonable(&self, id: TicketId, mode: Mode) -> Result<(SessionTicket, Kind), SpaceError>
-        ensures found { IfOk result (λ two. (numbered id (interleaved self.now.tickets.slow self.now.tickets.fast) ≡ Some two.0) × (kind_known two.0.place self.now.known.known ≡ Some two.1)) }
+        ensures found { IfOk result (λ two. (numbered id (interleaved self.now.tickets.slow self.now.tickets.fast) ≡ Some two.0) × (kind_pinned two.0.place self.now.known.pins self.now.known.known ≡ Some two.1)) }
         ensures just { RefusesJust (clone_fault (numbered id (interleaved self.now.tickets.slow self.now.tickets.fast)) self.now.asks mode self.now.known.known self.now.next) result }
     {
         let Some(held) = self.tickets.get(id) else {
@@ -58,9 +58,7 @@ impl Member {
         if self.asks.is_some() {
             return Err(SpaceError::AlreadyWaiting);
         }
-        let Some(kind) = self.known.kind_at(held.place) else {
-            return Err(SpaceError::BadMode);
-        };
+        let kind = self.known.kind_at(held.place);
         if !covers(held.mode, mode) || !kind.has_mode(mode) {
             return Err(SpaceError::BadMode);
         }

@@ -197,9 +197,7 @@ impl Member {
         ensures refused { IfErr result (λ why. LacksRoomForFast why (view_of self.old) (view_of self.new)) }
         ensures room { KeepsRoom 0 self.old.tickets.room self.new.tickets.room }
     {
-        let Some(kind) = self.known.kind_at(place) else {
-            return Ok(());
-        };
+        let kind = self.known.kind_at(place);
         if let Err(cause) = materialise(rt, &mut self.seat, place, kind, here) {
             return Err(refusal(cause));
         }

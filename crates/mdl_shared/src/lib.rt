@@ -78,6 +78,7 @@ mod tables_of;
 mod tickets;
 mod try_fast;
 mod try_now;
+mod unpin;
 mod upgrade_now;
 mod version;
 mod wait_of;

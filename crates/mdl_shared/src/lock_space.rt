@@ -49,6 +49,10 @@ impl<R: Wait> LockSpace for Session<R> {
         Session::resolve(self, key)
     }
 
+    fn unpin(&mut self, _who: u16, place: Place) -> Result<(), SpaceError> {
+        Session::unpin(self, place)
+    }
+
     fn try_now(&mut self, _who: u16, place: Place, mode: Mode) -> Result<Attempt, SpaceError> {
         Session::try_now(self, place, mode)
     }

@@ -15,14 +15,14 @@ use mdl_visits::{ResolveError, resolve};
 use std::sync::Wait;
 
 impl<R: Wait> Session<R> {
-    /// Returns the place of a key, which never changes, and pins it. A new key gets the next free place. The session looks in the directory
-    /// once in a call at most, and only for a key that it doesn't know.
+    /// Returns the place of a key, which never changes, and pins it until [`Session::unpin`]. A new key gets the next free place. The session
+    /// looks in the directory once in a call at most, and only for a key that it doesn't know.
     pub fn resolve(&mut self, key: &Key) -> Result<Place, SpaceError>
         ensures joined { Transition (call.resolve self.old.me.0.number key.now) (placed result) (data_of self.old) (data_of self.new) }
         ensures shown { TakesSteps (steps.resolve key.now) (placed result) self.old self.new }
     {
         if let Some(place) = self.member.known.place_of(key) {
-            self.member.known.pin(place);
+            self.member.known.pin(place, key.kind());
             return Ok(place as u16);
         }
         self.look_up(key)
@@ -53,7 +53,7 @@ impl<R: Wait> Session<R> {
             }
         };
         member.known.push_reserved(key_kept, place);
-        member.known.pin(place);
+        member.known.pin(place, key.kind());
         Ok(place as u16)
     }
 }

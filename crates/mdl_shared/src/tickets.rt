@@ -16,11 +16,11 @@ ghost use Rattle.mdl_visits.specs.Numbers.{numbered};
 ghost use Rattle.mdl_shared.specs.Debts.{owed_in};
 ghost use Rattle.mdl_shared.specs.Members.{without_at};
 ghost use Rattle.mdl_shared.specs.Modes.{in_mode_at};
-ghost use Rattle.mdl_shared.specs.OwnLists.{as_held};
+ghost use Rattle.mdl_shared.specs.OwnLists.{as_held, has_ticket_at};
 ghost use Rattle.mdl_shared.specs.Waitings.{are_below_next};
 ghost use Rattle.mdl_shared.specs.LastFast.{EndsInFast};
 ghost use Rattle.mdl_shared.specs.TicketLists.{AreByPlace, HasRoom, HasRoomFor, KeepsRest, KeepsRoom};
-ghost use Rattle.mdl_shared.specs.OwnTickets.{KeepsCounts, IsLastGained, StandsAt, counted_at, fast_counted_at, fast_found, flags_of, noted_in, with_note, HaveRisingNumbers, AreAt, slowed, slowed_as};
+ghost use Rattle.mdl_shared.specs.OwnTickets.{KeepsCounts, IsLastGained, IsNumbered, StandsAt, counted_at, fast_counted_at, fast_found, flags_of, noted_in, with_note, HaveRisingNumbers, AreAt, slowed, slowed_as};
 
 use mdl_calls::{Held, Place, TicketId};
 use mdl_key::Mode;
@@ -106,6 +106,15 @@ impl Tickets {
         Some(own_of(&self.places, self.gained[at]))
     }
 
+    /// Like [`Tickets::get`], for a read from a cache: the last ticket is found without its index, and the list reaches the ticket's place.
+    pub(crate) fn get_to_read(&self, id: TicketId) -> Option<SessionTicket>
+        ensures found { result ≡ numbered id (interleaved self.now.slow self.now.fast) }
+        ensures reached { IfSome result (λ held. held.place < self.now.room.reach) }
+    {
+        let ticket = ticket_of(&self.gained, id)?;
+        Some(own_of(&self.places, ticket))
+    }
+
     /// Returns the ticket with a number, and whether it is fast.
     pub(crate) fn find(&self, id: TicketId) -> Option<(SessionTicket, bool)>
         ensures found { option_map (λ t. t.0) result ≡ numbered id (interleaved self.now.slow self.now.fast) }
@@ -143,6 +152,13 @@ impl Tickets {
         ensures { result ≡ length (own_at place self.now.fast) }
     {
         fast_counted(&self.places, place)
+    }
+
+    /// Whether there is a ticket at a place, fast or slow.
+    pub(crate) fn has_at(&self, place: usize) -> bool
+        ensures { result ≡ has_ticket_at place (interleaved self.now.slow self.now.fast) }
+    {
+        counted(&self.places, place) > 0
     }
 
     /// Returns the version that is noted under the tickets at a place, fast or slow.
@@ -368,6 +384,15 @@ impl Tickets {
         note(&mut self.places, place, version);
     }
 
+    /// The same at a place that the list reaches.
+    pub(crate) fn note_reached(&mut self, place: usize, version: u64)
+        requires reached { place < self.old.room.reach }
+        ensures noted { (self.new.slow ≡ noting_version place version self.old.slow) × (self.new.fast ≡ noting_version place version self.old.fast) }
+        ensures rest { KeepsRest self.old self.new }
+    {
+        note_inside(&mut self.places, place, version);
+    }
+
     /// Returns the tickets in the form that callers get.
     pub(crate) fn held(&self) -> Result<Vec<Held>, AllocError>
         ensures { IfOk result (λ held. held.items ≡ map as_held (interleaved self.now.slow self.now.fast)) }
@@ -393,6 +418,21 @@ fn new_ticket(number: TicketId, place: usize, mode: Mode, fast: bool) -> Gained
         mode,
         fast,
     }
+}
+
+// The ticket with a number, among tickets whose numbers rise. The last one is returned where it is compared: an index of it would be tested and
+// looked up again.
+fn ticket_of(tickets: &[Gained], id: TicketId) -> Option<Gained>
+    requires { HaveRisingNumbers tickets.now }
+    ensures { MatchOption result (list_all (λ t. not (t.id == id)) tickets.now ≡ true) (λ t. IsNumbered id t tickets.now) }
+{
+    if let Some(last) = tickets.last() {
+        if last.id == id {
+            return Some(*last);
+        }
+    }
+    let at = search(tickets, id)?;
+    Some(tickets[at])
 }
 
 // The index of the ticket with a number, among tickets whose numbers rise.
@@ -549,6 +589,13 @@ fn first_elsewhere(tickets: &[SessionTicket], place: usize) -> Option<usize>
 }
 
 // ---- places
+
+// How many tickets are counted at a place.
+fn counted(places: &[OfPlace], place: usize) -> usize
+    ensures { result ≡ counted_at place places.now }
+{
+    places.get(place).map_or(0, |here| here.tickets)
+}
 
 // How many fast tickets are counted at a place.
 fn fast_counted(places: &[OfPlace], place: usize) -> usize
@@ -708,7 +755,6 @@ fn clear_fast(places: &mut Vec<OfPlace>, place: usize) -> usize
 }
 
 // Notes a version at a place, if the list has this place.
-#[tactic(auto, using(crate::proofs::OwedFlags::flags_kept))]
 fn note(places: &mut Vec<OfPlace>, place: usize, version: u64)
     ensures length { length places.new.items ≡ length places.old.items }
     ensures owes { flags_of places.new.items ≡ flags_of places.old.items }
@@ -717,10 +763,23 @@ fn note(places: &mut Vec<OfPlace>, place: usize, version: u64)
     ensures noted { (q : ℕ) → 0 < counted_at q places.old.items → noted_in q places.new.items ≡ (if q == place then Some version else noted_in q places.old.items) }
 {
     if place < places.len() {
-        let here = &mut places[place];
-        here.version = version;
-        here.is_noted = true;
+        note_inside(places, place, version);
     }
+}
+
+// Notes a version at a place that the list has.
+#[tactic(auto, using(crate::proofs::OwedFlags::flags_kept))]
+fn note_inside(places: &mut Vec<OfPlace>, place: usize, version: u64)
+    requires inside { place < length places.old.items }
+    ensures length { length places.new.items ≡ length places.old.items }
+    ensures owes { flags_of places.new.items ≡ flags_of places.old.items }
+    ensures counted { (q : ℕ) → counted_at q places.new.items ≡ counted_at q places.old.items }
+    ensures fast { (q : ℕ) → fast_counted_at q places.new.items ≡ fast_counted_at q places.old.items }
+    ensures noted { (q : ℕ) → 0 < counted_at q places.old.items → noted_in q places.new.items ≡ (if q == place then Some version else noted_in q places.old.items) }
+{
+    let here = &mut places[place];
+    here.version = version;
+    here.is_noted = true;
 }
 
 // Notes whether a place is owed a reschedule, if the list has this place.

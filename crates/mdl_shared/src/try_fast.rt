@@ -4,11 +4,11 @@
 ghost use Rattle.std.specs.Prelude.{◌≡◌, ℕ, MatchResult, None, Some, true, IfErr, IfOk};
 ghost use Rattle.mdl_visits.specs.Visits.{StaysOn};
 ghost use Rattle.mdl_shared.specs.FastCalls.{HasTriedFast, RefusesFast, fast_fault};
-ghost use Rattle.mdl_key.specs.KeyLookups.{is_known, kind_known};
+ghost use Rattle.mdl_visits.specs.KnownLists.{has_pin, kind_pinned};
 ghost use Rattle.mdl_shared.specs.LatchCalls.{MayGainFast};
 ghost use Rattle.mdl_shared.specs.Members.{increment_at, wish_fault};
 ghost use Rattle.mdl_shared.specs.Passes.{view_of};
-ghost use Rattle.mdl_shared.specs.SessionViews.{data_of, lists_seen};
+ghost use Rattle.mdl_shared.specs.SessionViews.{lists_seen};
 
 use crate::Session;
 use crate::fast_path::{NotFast, weight};
@@ -32,14 +32,13 @@ pub enum Fast {
 }
 
 impl<R> Session<R> {
-    /// Tries to get a fast ticket in an unobtrusive mode, without the latch of the place. The session must have resolved a key to the place.
-    /// If no ticket is granted, nothing changes, and [`Session::try_now`] may be called for it.
+    /// Tries to get a fast ticket in an unobtrusive mode, without the latch of the place. Fails with [`SpaceError::NoPlace`] if the session
+    /// doesn't pin the place. If no ticket is granted, nothing changes, and [`Session::try_now`] may be called for it.
     ///
     /// It takes memory only if there is no room for one more ticket. [`Session::reserve_tickets`] makes room in advance.
     pub fn try_fast(&mut self, place: Place, mode: Mode) -> Result<Fast, SpaceError>
-        requires known { is_known place (data_of self.old).known ≡ true }
         ensures tried { IfOk result (λ fast. HasTriedFast place mode fast self.old self.new) }
-        ensures fit { IfOk result (λ fast. fast_fault place mode (lists_seen self.old.me.0) ≡ None) }
+        ensures fit { IfOk result (λ fast. fast_fault place mode self.old.pins (lists_seen self.old.me.0) ≡ None) }
         ensures refused { IfErr result (λ why. RefusesFast place mode why self.old self.new) }
         ensures stays { StaysOn self.old.me self.new.me }
     {
@@ -56,16 +55,17 @@ impl<R> Session<R> {
 }
 
 impl Member {
-    // What a ticket in a mode adds to the word of a place, if the session may request it.
+    // What a ticket in a mode adds to the word of a place, if the session pins the place and may request it.
     fn fast_wished(&self, place: usize, mode: Mode) -> Result<u64, SpaceError>
-        requires known { is_known place self.now.known.known ≡ true }
         ensures { MatchResult result
-            (λ one. (increment_at place mode self.now.known.known ≡ Some one)
-            × (wish_fault (kind_known place self.now.known.known) self.now.asks mode self.now.next ≡ None)
-            × (fast_fault place mode (lists_seen self.now.seat.me.0) ≡ None))
-            (λ why. fast_fault place mode (lists_seen self.now.seat.me.0) ≡ Some why) }
+            (λ one. (has_pin place self.now.known.pins ≡ true) × (increment_at place mode self.now.known.known ≡ Some one)
+            × (wish_fault (kind_pinned place self.now.known.pins self.now.known.known) self.now.asks mode self.now.next ≡ None)
+            × (fast_fault place mode self.now.known.pins (lists_seen self.now.seat.me.0) ≡ None))
+            (λ why. fast_fault place mode self.now.known.pins (lists_seen self.now.seat.me.0) ≡ Some why) }
     {
-        let kind = self.known.kind_at(place).unwrap();
+        let Some(kind) = self.known.kind_pinned(place) else {
+            return Err(SpaceError::NoPlace);
+        };
         if self.asks.is_some() {
             return Err(SpaceError::AlreadyWaiting);
         }

@@ -7,6 +7,7 @@ ghost use Rattle.mdl_calls.specs.calls.UpgradeNow as call;
 ghost use Rattle.mdl_calls.specs.declared.answers.Upgrade.TheVariants.{Upgraded, WouldWait};
 ghost use Rattle.mdl_calls.specs.Words.{upgrade_tried};
 ghost use Rattle.mdl_steps.specs.Interleavings.{interleaved};
+ghost use Rattle.mdl_visits.specs.KnownLists.{has_pin};
 ghost use Rattle.mdl_visits.specs.Numbers.{numbered};
 ghost use Rattle.mdl_visits.specs.Visits.{IsVisit};
 ghost use Rattle.mdl_shared.specs.LatchCalls.{MayUpgradeByLatch, WasBlockedByLatch, WasUpgradedByLatch};
@@ -81,14 +82,12 @@ impl Member {
         Upgrade::Upgraded
     }
 
-    // Whether a ticket's mode covers a mode or may be upgraded to it, and the mode is one of its lock's kind.
+    // Whether the mode of a ticket at a pinned place covers a mode or may be upgraded to it, and the mode is one of its lock's kind.
     fn can_have(&self, held: SessionTicket, mode: Mode) -> bool
+        requires pinned { has_pin held.place self.now.known.pins ≡ true }
         ensures { result ≡ can_have mode held (kind_known held.place self.now.known.known) }
     {
-        match self.known.kind_at(held.place) {
-            Some(kind) => (covers(held.mode, mode) || may_upgrade(held.mode, mode))
-                && kind.has_mode(mode),
-            None => false,
-        }
+        let kind = self.known.kind_at(held.place);
+        (covers(held.mode, mode) || may_upgrade(held.mode, mode)) && kind.has_mode(mode)
     }
 }

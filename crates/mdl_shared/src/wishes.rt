@@ -2,7 +2,7 @@
 ghost use Rattle.std.specs.Prelude.{MatchResult, None, Some, ◌≡◌};
 ghost use Rattle.mdl_book.specs.declared.book_error.BookError.TheVariants as book;
 ghost use Rattle.mdl_calls.specs.declared.space_error.SpaceError.TheVariants as space;
-ghost use Rattle.mdl_key.specs.KeyLookups.{kind_known};
+ghost use Rattle.mdl_visits.specs.KnownLists.{kind_pinned};
 ghost use Rattle.mdl_shared.specs.Members.{wish_fault};
 
 use crate::holdings::MOST_NUMBERS;
@@ -12,13 +12,13 @@ use mdl_calls::SpaceError;
 use mdl_key::{Kind, Mode};
 
 impl Member {
-    /// Returns the kind of the lock at a place, if the session may request a mode there.
+    /// Returns the kind of the lock at a place, if the session pins the place and may request a mode there.
     pub(crate) fn kind_wished(&self, place: usize, mode: Mode) -> Result<Kind, SpaceError>
         ensures { MatchResult result
-            (λ kind. (kind_known place self.now.known.known ≡ Some kind) × (wish_fault (Some kind) self.now.asks mode self.now.next ≡ None))
-            (λ why. wish_fault (kind_known place self.now.known.known) self.now.asks mode self.now.next ≡ Some why) }
+            (λ kind. (kind_pinned place self.now.known.pins self.now.known.known ≡ Some kind) × (wish_fault (Some kind) self.now.asks mode self.now.next ≡ None))
+            (λ why. wish_fault (kind_pinned place self.now.known.pins self.now.known.known) self.now.asks mode self.now.next ≡ Some why) }
     {
-        let Some(kind) = self.known.kind_at(place) else {
+        let Some(kind) = self.known.kind_pinned(place) else {
             return Err(SpaceError::NoPlace);
         };
         if self.asks.is_some() {

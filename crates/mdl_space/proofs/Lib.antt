@@ -2,7 +2,6 @@ pub mod DeadlockLemmas
 pub mod DefinitionLemmas
 pub mod KnownKeyLemmas
 pub mod ModeLemmas
-pub mod PinLemmas
 pub mod SearchLemmas
 pub mod ServingLemmas
 pub mod SettledLemmas

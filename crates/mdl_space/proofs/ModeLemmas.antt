@@ -25,6 +25,7 @@ use Rattle.mdl_calls.specs.declared.answers.Held.{Held}
 use Rattle.mdl_calls.specs.SessionLocks.{are_rising, is_number}
 use Rattle.mdl_core.specs.CoreCalls.{is_lower}
 use Rattle.mdl_core.specs.Words.{Core, SpeaksFor, IsTied, altering, book_at, seat_at, has_key, in_book_of}
+use Rattle.mdl_core.proofs.CoreReads.{ticket-key}
 use Rattle.mdl_system.specs.Strength.{covers, may_downgrade}
 use Rattle.mdl_system.proofs.LawfulLemmas.{implied}
 use Rattle.mdl_space.proofs.SearchLemmas.{rises}
@@ -157,6 +158,6 @@ pub held-compatible : (core : Core) (who : ℕ) (ticket : Held) → SpeaksFor co
     → is_compatible (lock_kind (book_at ticket.place core)) (book_at ticket.place core).granted who ticket.mode ≡ true
 held-compatible core who ticket speaks held =
     let tied : IsTied core = speaks.1.tied in
-    let key : has_key ticket.place core ≡ true = tied.placed who ticket speaks.0 (inl (inl held)) in
+    let key : has_key ticket.place core ≡ true = ticket-key core who ticket tied speaks.0 (inl (inl held)) in
     let own_fits = (tied.granted_by ticket.place key (in_book_of who ticket) ((tied.granted who ticket speaks.0 key).1 (inl held))).1 in
     clone-compatible core who ticket ticket.mode speaks held (covers-itself ticket.mode) own_fits

@@ -18,6 +18,7 @@ use Rattle.mdl_core.specs.Words.{SeatView, ticket_of_wait, Core, book_at, seat_a
 use Rattle.mdl_system.specs.Words.{of_lock, covers}
 use Rattle.mdl_system.proofs.BookLemmas.{compatible-Decides}
 use Rattle.mdl_core.proofs.CoreGranted.{granted-from_place, granted-of_held}
+use Rattle.mdl_core.proofs.CoreReads.{ticket-key}
 use Rattle.mdl_system.proofs.LawfulLemmas.{compatible-from_weaker}
 use Rattle.mdl_system.proofs.StrengthLemmas.{covers-at_least}
 
@@ -50,7 +51,7 @@ module _ (core : Core) (who : ℕ) (speaks : SpeaksFor core who) where
     has_found = inl (found_among (is_number id) (seat_at who core).held ticket found)
 
     pub held-key : has_key ticket.place core ≡ true
-    held-key = speaks.1.tied.placed who ticket speaks.0 (inl has_found)
+    held-key = ticket-key core who ticket speaks.1.tied speaks.0 (inl has_found)
 
     pub held-among : Contains (book_at ticket.place core).granted (in_book_of who ticket)
     held-among = (speaks.1.tied.granted who ticket speaks.0 held-key).1 has_found
@@ -63,7 +64,7 @@ module _ (core : Core) (who : ℕ) (speaks : SpeaksFor core who) where
     waits_for = rw has ((λ won. let same : how ≡ settled_as.Granted = cc in lost same), refl)
 
     pub wait-key : has_key wait.place core ≡ true
-    wait-key = speaks.1.tied.placed who (ticket_of_wait wait) speaks.0 (inr waits_for)
+    wait-key = ticket-key core who (ticket_of_wait wait) speaks.1.tied speaks.0 (inr waits_for)
 
     pub wait-in_book : is_some (ticket_of who wait.id (book_at wait.place core).waiting) ≡ true
     wait-in_book =
@@ -96,7 +97,7 @@ pub clone-compatible : (core : Core) (who : ℕ) (ticket : Held) (mode : Mode) �
     → is_compatible (lock_kind (book_at ticket.place core)) (book_at ticket.place core).granted who mode ≡ true
 clone-compatible core who ticket mode speaks held strong fit =
     let tied : IsTied core = speaks.1.tied in
-    let key : has_key ticket.place core ≡ true = tied.placed who ticket speaks.0 (inl (inl held)) in
+    let key : has_key ticket.place core ≡ true = ticket-key core who ticket tied speaks.0 (inl (inl held)) in
     let lists : BookView = book_at ticket.place core in
     let own_fits = (tied.granted_by ticket.place key (in_book_of who ticket) ((tied.granted who ticket speaks.0 key).1 (inl held))).1 in
     let clashes_none = compatible-from_weaker (system_of core) speaks.1.lawful (holding_of who ticket core) mode (granted-of_held core who ticket tied speaks.0 held)

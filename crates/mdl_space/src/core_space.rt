@@ -122,9 +122,11 @@ impl CoreSpace {
         requires { has_session who self.old ≡ true }
         ensures { Makes true (resolve_outcome who key.now) self.old (placed result) self.new }
     {
+        // With a mark for each place of the space, and an unused one for 0, a session's later pins take no memory.
+        let marks = self.places + 1;
         let seat = &mut self.seats[usize::from(who) - 1];
         if let Some(place) = self.known.get(key) {
-            seat.pin(*place)?;
+            seat.pin(*place, marks)?;
             return Ok(*place);
         }
         if self.books.len() >= self.places {
@@ -140,7 +142,7 @@ impl CoreSpace {
         if self.known.insert(name, place).is_err() {
             return Err(SpaceError::OutOfMemory);
         }
-        if seat.pin(place).is_err() {
+        if seat.pin(place, marks).is_err() {
             self.known.remove(&key);
             return Err(SpaceError::OutOfMemory);
         }
@@ -162,14 +164,14 @@ impl CoreSpace {
         }
     }
 
-    /// Grants a lock, if it can be granted now.
+    /// Grants a lock at a place that the session pins, if it can be granted now.
     pub(crate) fn try_now(
         &mut self,
         who: u16,
         place: Place,
         mode: Mode,
     ) -> Result<Attempt, SpaceError>
-        requires { has_session who self.old ≡ true }
+        requires { SpeaksFor self.old who }
         ensures { Makes true (try_now_outcome who place mode) self.old (attempted result) self.new }
     {
         self.check_request(who, place, mode)?;
@@ -184,14 +186,14 @@ impl CoreSpace {
         }
     }
 
-    /// Grants a lock, or begins a wait for it if it can't be granted now.
+    /// Grants a lock at a place that the session pins, or begins a wait for it if it can't be granted now.
     pub(crate) fn begin_wait(
         &mut self,
         who: u16,
         place: Place,
         mode: Mode,
     ) -> Result<Begun, SpaceError>
-        requires { has_session who self.old ≡ true }
+        requires { SpeaksFor self.old who }
         ensures { Makes true (begin_wait_outcome who place mode) self.old (begun result) self.new }
     {
         self.check_request(who, place, mode)?;
@@ -426,24 +428,25 @@ impl CoreSpace {
         self.serve(ticket.place);
     }
 
-    /// Checks that a session can request a lock.
+    /// Checks that a session can request a lock. The place then has a key.
     fn check_request(&self, who: u16, place: Place, mode: Mode) -> Result<(), SpaceError>
-        requires { has_session who self.now ≡ true }
+        requires { SpeaksFor self.now who }
         ensures refused { MatchResult result
             (λ _. first_cause (request_causes who place mode self.now) ≡ None)
             (λ e. first_cause (request_causes who place mode self.now) ≡ Some e) }
+        ensures key { OnOk result (has_key place self.now ≡ true) }
         ensures numbers { OnOk result ((seat_at who self.now).last_ticket + 1 < 2 ^ 60) }
         ensures idle { OnOk result ((seat_at who self.now).wait ≡ None) }
     {
-        let place = usize::from(place);
-        if place == 0 || place > self.books.len() {
+        if !self.has_pin(who, place) {
             return Err(SpaceError::NoPlace);
         }
         let seat = &self.seats[usize::from(who) - 1];
         if seat.wait().is_some() {
             return Err(SpaceError::AlreadyWaiting);
         }
-        if !self.books[place - 1].key().kind().has_mode(mode) {
+        let kind = self.books[usize::from(place) - 1].key().kind();
+        if !kind.has_mode(mode) {
             return Err(SpaceError::BadMode);
         }
         if seat.last_ticket() >= MOST_NUMBERS {
@@ -457,6 +460,7 @@ mod calls;
 mod deadlocks;
 mod definitions;
 mod modes;
+mod pins;
 mod serving;
 mod settling;
 mod tables;

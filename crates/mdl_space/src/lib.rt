@@ -1,13 +1,14 @@
 //! The lock space: which session holds which metadata lock, which session waits for which, and the definitions of the locks'
 //! keys. Sessions are numbered.
 //!
-//! Code that uses the locks calls the trait [`LockSpace`]. A session resolves a key to its place ([`LockSpace::resolve`]), requests
-//! a lock there ([`LockSpace::try_now`], [`LockSpace::begin_wait`]), and ends its wait ([`LockSpace::end_wait`]). It changes the mode
-//! of a ticket ([`LockSpace::upgrade_now`], [`LockSpace::downgrade`], [`LockSpace::merge`]), reads and changes the key's definition
-//! under its tickets ([`LockSpace::read_definition`], [`LockSpace::read_kept`], [`LockSpace::change_definition`]), and releases
-//! them ([`LockSpace::release`]). It also gets the key of a place ([`LockSpace::key_of`]) and the tables of a schema
-//! ([`LockSpace::tables_of`]). In contracts a call is a relation of the space before it and the space after it, and what a session
-//! has is its held tickets and its wait. One call in the laws of the trait has no method yet: to give up a pin.
+//! Code that uses the locks calls the trait [`LockSpace`]. A session resolves a key to its place ([`LockSpace::resolve`]), which pins
+//! the place: the place keeps the key. It requests a lock at a pinned place ([`LockSpace::try_now`], [`LockSpace::begin_wait`]), and
+//! ends its wait ([`LockSpace::end_wait`]). It changes the mode of a ticket ([`LockSpace::upgrade_now`], [`LockSpace::downgrade`],
+//! [`LockSpace::merge`]), reads and changes the key's definition under its tickets ([`LockSpace::read_definition`],
+//! [`LockSpace::read_kept`], [`LockSpace::change_definition`]), and releases them ([`LockSpace::release`]). Once it has no ticket and no
+//! wait at the place, it can give up the pin ([`LockSpace::unpin`]). It also gets the key of a place ([`LockSpace::key_of`]) and the
+//! tables of a schema ([`LockSpace::tables_of`]). In contracts a call is a relation of the space before it and the space after it, and
+//! what a session has is its held tickets, its wait and its pins.
 //!
 //! [`CoreSpace`] is the space of one thread. Each of its calls is an event of the system of locks that is the model for readers.
 //! The system stays lawful, and no waiter is forgotten in it. The laws are in `mdl_system` and `mdl_core`, and re-exported here.
@@ -16,17 +17,21 @@
 //!
 //! ```
 //! use mdl_key::{Key, Mode};
-//! use mdl_space::{Attempt, Begun, CoreSpace, Ended, LockSpace};
+//! use mdl_space::{Attempt, Begun, CoreSpace, Ended, LockSpace, SpaceError};
 //!
 //! let orders = Key::table(rt.alloc(), "test", "orders")?;
 //! let mut space = CoreSpace::new(rt.alloc(), 256, 64)?; // places and sessions
 //! assert!(rt; space.resolve(1, &orders) == Ok(1)); // the place of the table
+//! assert!(rt; space.resolve(2, &orders) == Ok(1)); // each session that locks it pins its place
 //! // Session 1 reads the table, and session 2 waits to change it.
 //! assert!(rt; space.try_now(1, 1, Mode::SR) == Ok(Attempt::Granted(1)));
 //! assert!(rt; space.begin_wait(2, 1, Mode::X) == Ok(Begun::Waiting(1)));
 //! // The reader goes, and the change has its turn.
 //! assert!(rt; space.release(1, 1).is_ok());
 //! assert!(rt; space.end_wait(2) == Ok(Ended::Granted(1)));
+//! // The reader needs the place no longer. The other session does, as long as it has its ticket.
+//! assert!(rt; space.unpin(1, 1).is_ok());
+//! assert!(rt; space.unpin(2, 1) == Err(SpaceError::InUse));
 //! ```
 #![tactic(auto)]
 
@@ -44,9 +49,10 @@ pub use mdl_core::{
     changes_tell_the_version, grants_what_is_grantable, kills_just_that_wait,
     only_new_waits_make_deadlocks, places_and_numbers_follow, reads_tell_what_stands,
     refuses_changes_in_order, refuses_clones_in_order, refuses_for_cause, refuses_merges_in_order,
-    refuses_new_modes_in_order, refuses_wishes_in_order, searches_find_deadlocks,
-    searches_leave_no_deadlock, searches_suffice, searching_ends_deadlocks,
-    sessions_have_what_the_system_says, upgrades_what_is_grantable, waiting_leaves_no_deadlock,
+    refuses_new_modes_in_order, refuses_unpins_in_order, refuses_wishes_in_order,
+    searches_find_deadlocks, searches_leave_no_deadlock, searches_suffice,
+    searching_ends_deadlocks, sessions_have_what_the_system_says, upgrades_what_is_grantable,
+    waiting_leaves_no_deadlock,
 };
 pub use mdl_system::{
     changes_by_lists, covers_by_kind, definitions_change_exclusively, definitions_stand_still,

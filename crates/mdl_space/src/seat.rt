@@ -1,10 +1,14 @@
 //! What a lock space keeps of one session.
-ghost use Rattle.std.specs.Prelude.{◌≡◌, ℕ, ◌+◌, ◌<◌, ◌^◌, find, position, Some, None, IsTrue, OnOk, OnErr, IsOkUnless};
+ghost use Rattle.std.specs.Prelude.{◌≡◌, ℕ, ◌+◌, ◌<◌, ◌^◌, ◌||◌, ◌==◌, find, position, Some, None, IsTrue, OnOk, OnErr, IsOkUnless};
+ghost use Rattle.std.specs.List.{list_any};
 ghost use Rattle.mdl_key.specs.declared.mode.Mode.{Mode};
-ghost use Rattle.mdl_calls.specs.SessionLocks.{are_rising, is_number};
-ghost use Rattle.mdl_core.specs.Seats.{SeatView, empty_seat, holding, without_ticket, beginning_wait, is_settled_wait, is_unsettled_wait, with_settled_wait, seat_without_wait, with_pin, with_ticket_in, with_ticket_of};
+ghost use Rattle.mdl_calls.specs.SessionLocks.{are_rising, is_number, is_pinned};
+ghost use Rattle.mdl_calls.specs.declared.answers.Held.{Held};
+ghost use Rattle.mdl_core.specs.CoreCalls.{is_wait_at};
+ghost use Rattle.mdl_core.specs.Seats.{SeatView, empty_seat, holding, locks_of_seat, without_pin, without_ticket, beginning_wait, is_settled_wait, is_unsettled_wait, with_settled_wait, seat_without_wait, with_pin, with_ticket_in, with_ticket_of};
 
 use crate::{Held, Place, Settled, SpaceError, TicketId};
+use mdl_calls::Pins;
 use mdl_core::Pending;
 use mdl_key::Mode;
 use std::alloc::Global;
@@ -17,8 +21,7 @@ use std::marker::Model;
 pub(crate) struct Seat {
     held: Vec<Held>,
     wait: Option<Pending>,
-    // The pinned places, in rising order.
-    pins: Vec<Place>,
+    pins: Pins,
     last_ticket: u64,
     last_wait: u64,
 }
@@ -27,16 +30,14 @@ impl Model for Seat {
     ghost use Rattle.std.specs.Prelude.{◌<◌, ◌≤◌, length};
     ghost use Rattle.std.specs.Option.{IfSome};
     ghost use Rattle.std.specs.Vec.{vec_capacity};
-    ghost use Rattle.std.specs.List.Sorted.{IsNonDecreasing};
     ghost use Rattle.mdl_core.specs.Seats.{SeatView};
 
     ghost Value = { SeatView };
 
-    ghost view = { λ seat. record { held = seat.held.items; wait = seat.wait; pins = seat.pins.items; last_ticket = seat.last_ticket; last_wait = seat.last_wait } };
+    ghost view = { λ seat. record { held = seat.held.items; wait = seat.wait; pins = seat.pins.places; last_ticket = seat.last_ticket; last_wait = seat.last_wait } };
 
     ghost invariant = { λ seat. record {
       order : seat.last_wait ≤ seat.last_ticket;
-      pins : IsNonDecreasing seat.pins.items;
       room : IfSome seat.wait (λ _. length seat.held.items < vec_capacity seat.held);
     } };
 }
@@ -49,7 +50,7 @@ impl Seat {
         Seat {
             held: Vec::new(alloc),
             wait: None,
-            pins: Vec::new(alloc),
+            pins: Pins::new(alloc),
             last_ticket: 0,
             last_wait: 0,
         }
@@ -103,19 +104,49 @@ impl Seat {
         }
     }
 
-    /// Adds a place to the pinned ones, unless it is there already.
-    pub(crate) fn pin(&mut self, place: Place) -> Result<(), SpaceError>
+    /// Whether a place is pinned.
+    pub(crate) fn has_pin(&self, place: Place) -> bool
+        ensures { result ≡ is_pinned place (locks_of_seat self.now) }
+    {
+        self.pins.contains(usize::from(place))
+    }
+
+    /// Whether a held ticket or the wait is at a place.
+    pub(crate) fn is_needed(&self, place: Place) -> bool
+        ensures { result ≡ (list_any (λ (ticket : Held). ticket.place == place) self.now.held || is_wait_at place self.now.wait) }
+    {
+        some_at(&self.held, place) || self.waits_at(place)
+    }
+
+    // Whether the wait is at a place.
+    fn waits_at(&self, place: Place) -> bool
+        ensures { result ≡ is_wait_at place self.now.wait }
+    {
+        match self.wait {
+            Some(wait) => wait.place == place,
+            None => false,
+        }
+    }
+
+    /// Pins a place, unless it is pinned already. The first pin makes room for this many marks, one for each place from 0 on.
+    pub(crate) fn pin(&mut self, place: Place, marks: usize) -> Result<(), SpaceError>
+        requires { place < marks }
         ensures pinned { OnOk result (self.new ≡ with_pin place self.old) }
         ensures unchanged { OnErr result (self.new ≡ self.old) }
         ensures memory { IsOkUnless result SpaceError.OutOfMemory }
     {
-        let Err(at) = self.pins.binary_search(&place) else {
-            return Ok(());
-        };
-        if self.pins.insert(at, place).is_err() {
+        if self.pins.reserve(marks).is_err() {
             return Err(SpaceError::OutOfMemory);
         }
+        self.pins.insert(usize::from(place));
         Ok(())
+    }
+
+    /// Gives up the pin of a place, if it is pinned. It takes no memory.
+    pub(crate) fn unpin(&mut self, place: Place)
+        ensures { self.new ≡ without_pin place self.old }
+    {
+        self.pins.remove(usize::from(place));
     }
 
     /// Adds a new ticket at the end of the held ones.
@@ -247,6 +278,13 @@ impl Seat {
         self.give_up(gone.id);
         self.set_mode(kept, gone.mode);
     }
+}
+
+// Whether one of these tickets is at a place.
+fn some_at(held: &[Held], place: Place) -> bool
+    ensures { result ≡ list_any (λ ticket. ticket.place == place) held.now }
+{
+    held.iter().any(|ticket| ticket.place == place)
 }
 
 // The index of the ticket of a number, among tickets whose numbers rise.

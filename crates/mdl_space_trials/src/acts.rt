@@ -1,6 +1,7 @@
 //! Calls of a space with the answers that they have to give. All tests call a space by these.
 ghost use Rattle.std.specs.Prelude.{ℕ};
 
+use crate::room::{Of, new_key};
 use crate::wishes::{Shown, Wish, change_of, what_stands};
 use mdl_defs::{DefCache, VersionedDefinition};
 use mdl_key::Mode;
@@ -15,6 +16,8 @@ pub(crate) type Seen = (u64, Shown);
 /// A call of a space, and the wanted answer.
 #[derive(Clone, Copy)]
 pub(crate) enum Act {
+    Resolve(Of, Result<Place, SpaceError>),
+    Unpin(Place, Result<(), SpaceError>),
     TryNow(Place, Mode, Result<Attempt, SpaceError>),
     BeginWait(Place, Mode, Result<Begun, SpaceError>),
     Search(Result<Search, SpaceError>),
@@ -54,6 +57,8 @@ pub(crate) fn call<S: LockSpace>(space: &mut S, alloc: Global, who: u16, act: Ac
     ensures { (w : ℕ) → S.speaks_for space.old w → S.speaks_for space.new w }
 {
     match act {
+        Act::Resolve(of, wanted) => compared(resolve(space, alloc, who, of), wanted),
+        Act::Unpin(place, wanted) => compared(space.unpin(who, place), wanted),
         Act::TryNow(place, mode, wanted) => compared(space.try_now(who, place, mode), wanted),
         Act::BeginWait(place, mode, wanted) => {
             compared(space.begin_wait(who, place, mode), wanted)
@@ -73,6 +78,24 @@ pub(crate) fn call<S: LockSpace>(space: &mut S, alloc: Global, who: u16, act: Ac
         Act::ReadKept(id, wanted) => read_kept(space, alloc, who, id, wanted),
         Act::Redefine(id, wish, wanted) => compared(redefine(space, alloc, who, id, wish), wanted),
     }
+}
+
+// Looks up the place of a key, which the session pins.
+fn resolve<S: LockSpace>(
+    space: &mut S,
+    alloc: Global,
+    who: u16,
+    of: Of,
+) -> Result<Place, SpaceError>
+    requires { S.speaks_for space.old who }
+    ensures { (w : ℕ) → S.speaks_for space.old w → S.speaks_for space.new w }
+{
+    let Ok(key) = new_key(alloc, of) else {
+        return Err(SpaceError::OutOfMemory);
+    };
+    let place = space.resolve(who, &key);
+    drop(key);
+    place
 }
 
 // Reads the definition at a ticket's place with an empty cache, which has to stay empty.

@@ -1,9 +1,10 @@
-//! Random calls of contexts, compared with a very plain program.
+//! Random calls of contexts and of a space, compared with a very plain program.
 //!
 //! `plain` is a lock space with the contexts of its sessions, written as simply as possible: one list of tickets and one of sessions with their
 //! waits, read from end to end, and deadlocks found by trying every path. `chance` gives pseudo-random numbers, which are the same in each run.
-//! `contexts` makes thousands of random calls of the contexts of five sessions over one space, and compares every answer. It makes no upgrades, which
-//! have stories of their own.
+//! `contexts` makes thousands of random calls of the contexts of five sessions over one space, and compares every answer. `spaces` does so with calls of
+//! a space, among them those that pin places and give pins up. They make no upgrades, which have stories of their own.
 mod chance;
 mod contexts;
 pub(crate) mod plain;
+mod spaces;

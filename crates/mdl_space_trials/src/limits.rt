@@ -37,20 +37,18 @@ fn has_none(room: &mut Room, place: Place) -> bool {
     room.key_of(place).err() == Some(SpaceError::NoPlace)
 }
 
-const PLACES: &[(Of, Result<Place, SpaceError>)] = &[
-    (Of::Table("test", "t"), Ok(1)),
-    (Of::Global, Ok(3)),
-    (Of::Table("test", "v"), Err(SpaceError::NoPlace)),
+const PLACES: &[Row] = &[
+    (1, Act::Resolve(Of::Table("test", "t"), Ok(1))),
+    (2, Act::Resolve(Of::Global, Ok(3))),
+    (
+        1,
+        Act::Resolve(Of::Table("test", "v"), Err(SpaceError::NoPlace)),
+    ),
 ];
 
 /// Whether keys keep their places, which are numbered from 1 to 5, and a sixth key is refused.
 pub(crate) fn keeps_places(room: &mut Room) -> bool {
-    for (of, place) in PLACES {
-        if room.place_of(*of) != *place {
-            return false;
-        }
-    }
-    has_none(room, 0) && has_none(room, 6)
+    room.first_wrong(PLACES).is_none() && has_none(room, 0) && has_none(room, 6)
 }
 
 const MOST_VERSIONS: u64 = 1_000_000;

@@ -4,7 +4,7 @@ ghost use Rattle.mdl_space_trials.specs.Serving.{SpeaksForAll};
 
 use crate::acts::{Act, Row, call};
 use crate::base::rows::{self, are_told_so};
-use crate::{deadlocks, definitions, life, modes, refusals};
+use crate::{deadlocks, definitions, life, modes, pins, refusals};
 use mdl_book::Book;
 use mdl_key::{Key, KeyError};
 use mdl_space::{CoreSpace, Held, LockSpace, Place, SpaceError};
@@ -22,11 +22,12 @@ pub(crate) const COMMIT: Place = 4;
 
 pub(crate) const OTHER_TABLE: Place = 5;
 
-/// What a key names: a table of a schema, a schema, or a lock without a name.
+/// What a key names: a table of a schema, a schema, a user-level lock, or a lock without a name.
 #[derive(Clone, Copy)]
 pub(crate) enum Of {
     Table(&'static str, &'static str),
     Schema(&'static str),
+    User(&'static str),
     Commit,
     Global,
 }
@@ -53,10 +54,12 @@ impl rows::Story for Story {
     }
 }
 
-fn new_key(alloc: Global, of: Of) -> Result<Key, KeyError> {
+/// Returns the key that names this.
+pub(crate) fn new_key(alloc: Global, of: Of) -> Result<Key, KeyError> {
     match of {
         Of::Table(schema, table) => Key::table(alloc, schema, table),
         Of::Schema(schema) => Key::schema(alloc, schema),
+        Of::User(name) => Key::user_lock(alloc, name),
         Of::Commit => Ok(Key::commit(alloc)),
         Of::Global => Ok(Key::global(alloc)),
     }
@@ -82,19 +85,25 @@ impl Model for Room {
 }
 
 impl Room {
-    /// Creates a space whose places have these keys, in this order. There are no more places, and no session has anything.
+    /// Creates a space of this number of places, none of which has a key. No session has anything.
+    pub(crate) fn empty(alloc: Global, places: u16, sessions: u16) -> Option<Room> {
+        let Ok(space) = CoreSpace::new(alloc, places, sessions) else {
+            return None;
+        };
+        Some(Room {
+            alloc,
+            space,
+            sessions,
+        })
+    }
+
+    /// Creates a space whose places have these keys, in this order, and are pinned by all sessions. There are no more places, and no session has
+    /// anything else.
     pub(crate) fn of_keys(alloc: Global, keys: &[Of], sessions: u16) -> Option<Room> {
         let Ok(places) = u16::try_from(keys.len()) else {
             return None;
         };
-        let Ok(space) = CoreSpace::new(alloc, places, sessions) else {
-            return None;
-        };
-        let mut room = Room {
-            alloc,
-            space,
-            sessions,
-        };
+        let mut room = Room::empty(alloc, places, sessions)?;
         if room.has_places(keys) {
             return Some(room);
         }
@@ -107,32 +116,26 @@ impl Room {
         Room::of_keys(alloc, ORDINARY, 5)
     }
 
-    // Whether each of these keys gets a place.
+    // Whether each session finds these keys at the places from 1 on, and so pins all places.
     fn has_places(&mut self, keys: &[Of]) -> bool {
+        let mut place: Place = 0;
         for of in keys {
-            if self.place_of(*of).is_err() {
+            place = place.wrapping_add(1);
+            if !self.all_find(*of, place) {
                 return false;
             }
         }
         true
     }
 
-    /// Returns the place of a key, asked by the first session.
-    pub(crate) fn place_of(&mut self, of: Of) -> Result<Place, SpaceError> {
-        let Ok(key) = new_key(self.alloc, of) else {
-            return Err(SpaceError::OutOfMemory);
-        };
-        let place = self.resolve(&key);
-        drop(key);
-        place
-    }
-
-    // The same for a finished key.
-    fn resolve(&mut self, key: &Key) -> Result<Place, SpaceError> {
-        if self.sessions == 0 {
-            return Err(SpaceError::NoPlace);
+    // Whether each session finds a key at this place.
+    fn all_find(&mut self, of: Of, place: Place) -> bool {
+        for who in 1..=self.sessions {
+            if self.make(who, Act::Resolve(of, Ok(place))) != Some(true) {
+                return false;
+            }
         }
-        self.space.resolve(1, key)
+        true
     }
 
     /// Returns the key of a place, asked by the first session.
@@ -211,4 +214,9 @@ fn a_space_does_as_told(rt: HostRuntime) {
     for stories in STORIES {
         are_told_so(&rt, rt.alloc(), stories);
     }
+}
+
+#[test]
+fn pins_do_as_told(rt: HostRuntime) {
+    are_told_so(&rt, rt.alloc(), pins::PINS);
 }

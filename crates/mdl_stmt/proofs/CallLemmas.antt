@@ -31,7 +31,7 @@ use Rattle.mdl_rows.specs.Rows.{Row, Act, Give, room, ◌>>=◌, ◌>>◌}
 use Rattle.mdl_rows.specs.Rows as row
 use Rattle.mdl_stmt.specs.Players.{PlayerView}
 
--- a call gives no place up
+-- a call gives up no pin
 abbrev pub KeepsPlaces : Call → Type 0
 KeepsPlaces call = (w place : ℕ) → call ≡ Unpin w place → ⊥
 

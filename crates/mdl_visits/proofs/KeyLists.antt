@@ -3,10 +3,11 @@ use Rattle.std.proofs.Common.{◌≡◌, ◌≢◌, ℕ, zero, suc, ◌<◌, ◌
 use Rattle.indexmap.proofs.CallerLemmas.{insert_entry-new}
 use Rattle.indexmap.proofs.IndexTableLemmas.Probe.{pigeonhole}
 use Rattle.indexmap.specs.IndexMap.{IndexMap, insert_entry}
+use Rattle.std.proofs.lemmas.List.{map_push}
 use Rattle.std.proofs.lemmas.Option.{slice_get-get_or, slice_get_within}
 use Rattle.std.specs.Map.{lookup}
-use Rattle.mdl_visits.proofs.Common.{KeyName, Kind, KnownKey, and_parts, are_apart, are_two, by_bool, is_key_known, is_known, key-Decides, key_eq, key_known, kind_known, kind_of, list_all, list_all-append, nat_tests, option_and_then, place_known}
-use Rattle.mdl_visits.specs.OwnKeys.{AreIndexed, AreKinds, known_of}
+use Rattle.mdl_visits.proofs.Common.{KeyName, Kind, KnownKey, and_parts, are_apart, are_two, by_bool, is_key_known, is_known, key-Decides, key_eq, key_known, kind_known, list_all, list_all-append, nat_tests, option_and_then, place_known}
+use Rattle.mdl_visits.specs.OwnKeys.{AreIndexed, AreKinds, kind_in, known_of}
 
 -- ---- by the key
 
@@ -135,33 +136,52 @@ indexed_more entries indexes key place indexed new inside at e stands =
           rw (← there) (get_set indexes place (length entries) inside ∙ ap (λ (i : ℕ). Some i) (sym last.0))
     ] refl
 
--- the kind of the new key's lock is at its place
-kind_new : (entries : List (KeyName × ℕ)) (key : KeyName) (place : ℕ) → is_known place (map known_of entries) ≡ false
-    → kind_known place (map known_of (entries ++ (key, place) ∷ [])) ≡ Some (kind_of key.namespace)
-kind_new [] key place new = rw (eq-eqb place place refl) refl
-kind_new (e ∷ es) key place new =
-    by_bool (e.1 == place)
-    (λ hit. absurd (grind (arith, nat_tests)))
-    (λ miss. rw miss (kind_new es key place (grind (arith, nat_tests))))
-
--- and those at the others stay
-kind_old : (entries : List (KeyName × ℕ)) (key : KeyName) (place q : ℕ) → (place == q) ≡ false
-    → kind_known q (map known_of (entries ++ (key, place) ∷ [])) ≡ kind_known q (map known_of entries)
-kind_old [] key place q other = rw other refl
-kind_old (e ∷ es) key place q other =
-    by_bool (e.1 == q)
-    (λ hit. rw hit refl)
-    (λ miss. rw miss (kind_old es key place q other))
+-- the kinds that are known stay
+kind_still : (place : ℕ) (kind : Kind) (known more : List KnownKey) → kind_known place known ≡ Some kind → kind_known place (known ++ more) ≡ Some kind
+kind_still place kind [] more is = absurd (cc)
+kind_still place kind (k ∷ ks) more is = by_bool (k.place == place) (λ hit. rw hit (rw hit at is)) (λ miss. rw miss (kind_still place kind ks more (rw miss at is)))
 
 pub kinds_more : (entries : List (KeyName × ℕ)) (kinds : List (Option Kind)) (key : KeyName) (place : ℕ) → AreKinds entries kinds
-    → is_known place (map known_of entries) ≡ false → place < length kinds
-    → AreKinds (entries ++ (key, place) ∷ []) (set kinds place (Some (kind_of key.namespace)))
-kinds_more entries kinds key place are new inside q =
-    by_bool (place == q)
-    (λ hit. (let here = eqb-true place q hit in
-    rw (← here) (ap (option_and_then (λ (kind : Option Kind). kind)) (get_set kinds place (Some (kind_of key.namespace)) inside) ∙ sym (kind_new entries key place new))))
-    (λ miss. ap (option_and_then (λ (kind : Option Kind). kind)) (get_other kinds place q (Some (kind_of key.namespace)) (grind (arith, nat_tests)))
-    ∙ are q ∙ sym (kind_old entries key place q miss))
+    → AreKinds (entries ++ (key, place) ∷ []) kinds
+kinds_more entries kinds key place are q kind is =
+    ap (kind_known q) (map_push known_of entries (key, place)) ∙ kind_still q kind (map known_of entries) (known_of (key, place) ∷ []) (are q kind is)
+
+-- one kind more, that of the lock at a known place
+pub kinds_pinned : (entries : List (KeyName × ℕ)) (kinds : List (Option Kind)) (kind : Kind) (place : ℕ) → AreKinds entries kinds
+    → kind_known place (map known_of entries) ≡ Some kind → place < length kinds → AreKinds entries (set kinds place (Some kind))
+kinds_pinned entries kinds kind place are known inside q other is =
+    by_bool (q == place)
+    (λ hit.
+    let here = eqb-true q place hit in
+    let there : kind_in place (set kinds place (Some kind)) ≡ Some kind = ap (option_and_then (λ (k : Option Kind). k)) (get_set kinds place (Some kind) inside) in
+    let same : Some kind ≡ Some other = sym there ∙ sym (ap (λ (p : ℕ). kind_in p (set kinds place (Some kind))) here) ∙ is in
+    ap (λ (p : ℕ). kind_known p (map known_of entries)) here ∙ known ∙ same)
+    (λ miss. are q other (sym (ap (option_and_then (λ (k : Option Kind). k)) (get_other kinds place q (Some kind) miss)) ∙ is))
+
+-- one kind less
+pub kinds_unpinned : (entries : List (KeyName × ℕ)) (kinds : List (Option Kind)) (place : ℕ) → AreKinds entries kinds → place < length kinds
+    → AreKinds entries (set kinds place None)
+kinds_unpinned entries kinds place are inside q other is =
+    by_bool (q == place)
+    (λ hit.
+    let there : kind_in place (set kinds place None) ≡ None = ap (option_and_then (λ (k : Option Kind). k)) (get_set kinds place None inside) in
+    let never : None ≡ Some other = sym there ∙ sym (ap (λ (p : ℕ). kind_in p (set kinds place None)) (eqb-true q place hit)) ∙ is in
+    absurd (cc))
+    (λ miss. are q other (sym (ap (option_and_then (λ (k : Option Kind). k)) (get_other kinds place q None miss)) ∙ is))
+
+-- a place with a kind is known
+pub kind_place : (place : ℕ) (kind : Kind) (known : List KnownKey) → kind_known place known ≡ Some kind → is_known place known ≡ true
+kind_place place kind [] is = absurd (cc)
+kind_place place kind (k ∷ ks) is = by_bool (k.place == place) (λ hit. rw hit refl) (λ miss. rw miss (kind_place place kind ks (rw miss at is)))
+
+-- a place with a kind in the list is within it
+pub kind_within : (place : ℕ) (kinds : List (Option Kind)) → is_some (kind_in place kinds) ≡ true → place < length kinds
+kind_within place [] is = absurd (cc)
+kind_within zero (kind ∷ kinds) is = omega arith
+kind_within (suc place) (kind ∷ kinds) is = (let later = kind_within place kinds is in omega (arith, later))
+
+pub kind_here : (place : ℕ) (kinds : List (Option Kind)) (other : Option Kind) → is_some (kind_in place kinds) ≡ true → kind_in place kinds ≡ get_or kinds place other
+kind_here place kinds other is = ap (option_and_then (λ (k : Option Kind). k)) (slice_get-get_or kinds place other (kind_within place kinds is))
 
 -- there are fewer keys than places: each place has one index, and none the new key's
 pub fewer_keys : (entries : List (KeyName × ℕ)) (indexes : List ℕ) (key : KeyName) (place : ℕ) → AreIndexed entries indexes

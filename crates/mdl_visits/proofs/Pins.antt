@@ -1,58 +1,62 @@
--- The places that a session pins, by the marks of all places.
-use Rattle.std.proofs.Common.{◌≡◌, ℕ, zero, suc, ◌+◌, ◌<◌, ◌≤◌, Bool, true, false, List, [], ◌∷◌, ◌++◌, length, replicate, set, take, refl, sym, ap, ◌∙◌, arith}
-use Rattle.std.proofs.lemmas.List.{take_all}
-use Rattle.mdl_calls.specs.SessionLocks.{with_place}
-use Rattle.mdl_visits.proofs.Common.{nat_tests}
-use Rattle.mdl_visits.specs.OwnKeys.{marked_from}
+-- The places that a session pins, by the kinds of the locks at all places.
+use Rattle.std.proofs.Common.{◌≡◌, ℕ, zero, suc, ◌<◌, ◌≤◌, Bool, false, List, [], ◌∷◌, ◌++◌, length, get_or, replicate, set, take, None, Option, Some, is_some, refl, sym, ap, subst, ◌∙◌}
+use Rattle.std.proofs.lemmas.List.{length-map, map-set, take_all}
+use Rattle.mdl_calls.proofs.MarkLemmas.{marked-at, marked-resized, marked-set, marked-unset, marked-unset_past}
+use Rattle.mdl_calls.specs.Marks.{marked_from}
+use Rattle.mdl_calls.specs.SessionLocks.{with_place, without_place}
+use Rattle.mdl_visits.proofs.Common.{Kind, KnownKey, kind_known}
+use Rattle.mdl_visits.specs.KnownLists.{has_pin, kind_pinned}
+use Rattle.mdl_visits.specs.OwnKeys.{kind_in, marks_of}
 
--- ---- more places without a mark
+-- ---- changes
 
-unmarked : (place n : ℕ) → marked_from place (replicate n false) ≡ []
-unmarked place zero = refl
-unmarked place (suc n) = unmarked (place + 1) n
+-- as many marks as kinds
+reaches : (place : ℕ) (kinds : List (Option Kind)) → place < length kinds → place < length (marks_of kinds)
+reaches place kinds within = subst (λ n. place < n) (sym (length-map kinds is_some)) within
 
-marked_filled : (place n : ℕ) (marks : List Bool) → marked_from place (marks ++ replicate n false) ≡ marked_from place marks
-marked_filled place n [] = unmarked place n
-marked_filled place n (true ∷ marks) = ap (λ places. place ∷ places) (marked_filled (place + 1) n marks)
-marked_filled place n (false ∷ marks) = marked_filled (place + 1) n marks
+marks_filled : (n : ℕ) (kinds : List (Option Kind)) → marks_of (kinds ++ replicate n None) ≡ marks_of kinds ++ replicate n false
+marks_filled n (kind ∷ kinds) = ap (λ (marks : List Bool). is_some kind ∷ marks) (marks_filled n kinds)
+marks_filled zero [] = refl
+marks_filled (suc n) [] = ap (λ (marks : List Bool). false ∷ marks) (marks_filled n [])
 
-pub marked_resized : (marks more : List Bool) (slots n : ℕ) → length marks ≤ slots → more ≡ take slots marks ++ replicate n false
-    → marked_from 0 more ≡ marked_from 0 marks
-marked_resized marks more slots n le is =
-    ap (marked_from 0) (is ∙ ap (λ kept. kept ++ replicate n false) (take_all slots marks le)) ∙ marked_filled 0 n marks
+-- more places without a kind
+pub pins_resized : (kinds more : List (Option Kind)) (slots n : ℕ) → length kinds ≤ slots → more ≡ take slots kinds ++ replicate n None
+    → marked_from 0 (marks_of more) ≡ marked_from 0 (marks_of kinds)
+pins_resized kinds more slots n le is =
+    let few : length (marks_of kinds) ≤ slots = subst (λ n. n ≤ slots) (sym (length-map kinds is_some)) le in
+    marked-resized (marks_of kinds) (marks_of more) slots n few
+    (ap marks_of is ∙ ap (λ (kept : List (Option Kind)). marks_of (kept ++ replicate n None)) (take_all slots kinds le) ∙ marks_filled n kinds
+    ∙ ap (λ (kept : List Bool). kept ++ replicate n false) (sym (take_all slots (marks_of kinds) few)))
 
--- ---- one mark more
+-- one more, at a place
+pub pins_more : (place : ℕ) (kinds : List (Option Kind)) (kind : Kind) → place < length kinds
+    → marked_from 0 (marks_of (set kinds place (Some kind))) ≡ with_place place (marked_from 0 (marks_of kinds))
+pins_more place kinds kind within = ap (marked_from 0) (map-set is_some kinds place (Some kind)) ∙ marked-set place (marks_of kinds) (reaches place kinds within)
 
--- a place that comes before all others
-before : (place from : ℕ) (marks : List Bool) → place < from → with_place place (marked_from from marks) ≡ place ∷ marked_from from marks
-before place from [] lt = refl
-before place from (true ∷ marks) lt = grind (arith, nat_tests)
-before place from (false ∷ marks) lt = before place (from + 1) marks (omega arith)
+-- none at a place
+pub pins_less : (place : ℕ) (kinds : List (Option Kind)) → marked_from 0 (marks_of (set kinds place None)) ≡ without_place place (marked_from 0 (marks_of kinds))
+pins_less place kinds = ap (marked_from 0) (map-set is_some kinds place None) ∙ marked-unset place (marks_of kinds)
 
--- and one that comes after the first
-after : (place first : ℕ) (places : List ℕ) → first < place → with_place place (first ∷ places) ≡ first ∷ with_place place places
-after place first places lt = grind (arith, nat_tests)
+pub pins_past : (place : ℕ) (kinds : List (Option Kind)) → length kinds ≤ place → marked_from 0 (marks_of kinds) ≡ without_place place (marked_from 0 (marks_of kinds))
+pins_past place kinds past = marked-unset_past place (marks_of kinds) (subst (λ n. n ≤ place) (sym (length-map kinds is_some)) past)
 
-here : (place : ℕ) (places : List ℕ) → with_place place (place ∷ places) ≡ place ∷ places
-here place places = grind (arith, nat_tests)
+-- ---- look-ups
 
-marked_one : (from k : ℕ) (marks : List Bool) → k < length marks → marked_from from (set marks k true) ≡ with_place (from + k) (marked_from from marks)
-marked_one from k [] lt = absurd (omega arith)
-marked_one from zero (true ∷ marks) lt =
-    let same : from ≡ from + 0 = omega arith in
-    sym (here from (marked_from (from + 1) marks)) ∙ ap (λ p. with_place p (from ∷ marked_from (from + 1) marks)) same
-marked_one from zero (false ∷ marks) lt =
-    let same : from ≡ from + 0 = omega arith in
-    sym (before from (from + 1) marks (omega arith)) ∙ ap (λ p. with_place p (marked_from (from + 1) marks)) same
-marked_one from (suc k) (true ∷ marks) lt =
-    let same : from + 1 + k ≡ from + suc k = omega arith in
-    ap (λ places. from ∷ places) (marked_one (from + 1) k marks (omega arith) ∙ ap (λ p. with_place p (marked_from (from + 1) marks)) same)
-    ∙ sym (after (from + suc k) from (marked_from (from + 1) marks) (omega arith))
-marked_one from (suc k) (false ∷ marks) lt =
-    let same : from + 1 + k ≡ from + suc k = omega arith in
-    marked_one (from + 1) k marks (omega arith) ∙ ap (λ p. with_place p (marked_from (from + 1) marks)) same
+mark_at : (place : ℕ) (kinds : List (Option Kind)) → get_or (marks_of kinds) place false ≡ is_some (kind_in place kinds)
+mark_at place [] = refl
+mark_at zero (None ∷ kinds) = refl
+mark_at zero (Some kind ∷ kinds) = refl
+mark_at (suc place) (kind ∷ kinds) = mark_at place kinds
 
-pub marked_set : (place : ℕ) (marks : List Bool) → place < length marks → marked_from 0 (set marks place true) ≡ with_place place (marked_from 0 marks)
-marked_set place marks lt =
-    let same : 0 + place ≡ place = omega arith in
-    marked_one 0 place marks lt ∙ ap (λ p. with_place p (marked_from 0 marks)) same
+-- a place is pinned if the list has a kind there
+pub pin_found : (place : ℕ) (kinds : List (Option Kind)) → has_pin place (marked_from 0 (marks_of kinds)) ≡ is_some (kind_in place kinds)
+pin_found place kinds = marked-at place (marks_of kinds) ∙ mark_at place kinds
+
+-- and then the kind is that of the lock there
+pub kind_found : (place : ℕ) (kinds : List (Option Kind)) (known : List KnownKey) → ((kind : Kind) → kind_in place kinds ≡ Some kind → kind_known place known ≡ Some kind)
+    → kind_in place kinds ≡ kind_pinned place (marked_from 0 (marks_of kinds)) known
+kind_found place kinds known are = by (kind_in place kinds) refl
+  where
+    by : (o : Option Kind) → kind_in place kinds ≡ o → o ≡ kind_pinned place (marked_from 0 (marks_of kinds)) known
+    by None is = rw (pin_found place kinds ∙ ap is_some is) refl
+    by (Some kind) is = rw (pin_found place kinds ∙ ap is_some is) (sym (are kind is))

@@ -1,6 +1,6 @@
--- How a session keeps the keys that it looked up: their places in order of the look-ups, and by places the index in that list, the kind, and a mark if the
--- session pins the place.
-use Rattle.std.specs.Prelude.{◌≡◌, ℕ, ◌+◌, ◌≤◌, Bool, List, [], ◌∷◌, Option, Some, length, map, slice_get, if◌then◌else◌}
+-- How a session keeps the keys that it looked up: their places in order of the look-ups, by places the index in that list, and by places the kind of the
+-- lock, if the session pins the place.
+use Rattle.std.specs.Prelude.{◌≡◌, ℕ, ◌≤◌, Bool, List, Option, Some, is_some, length, map, slice_get}
 use Rattle.mdl_visits.specs.Prelude.{KeyName, Kind, KnownKey, kind_known, option_and_then}
 
 -- a key with its place
@@ -20,11 +20,10 @@ IsNarrow indexes = length indexes ≤ 65536
 abbrev pub kind_in : ℕ → List (Option Kind) → Option Kind
 kind_in place kinds = option_and_then (λ (kind : Option Kind). kind) (slice_get kinds place)
 
--- the list has the kind of each key's lock at the key's place, and none at other places
+-- each kind that the list has at a place is that of the lock there, by the known keys
 abbrev pub AreKinds : List (KeyName × ℕ) → List (Option Kind) → Type 0
-AreKinds entries kinds = (place : ℕ) → kind_in place kinds ≡ kind_known place (map known_of entries)
+AreKinds entries kinds = (place : ℕ) (kind : Kind) → kind_in place kinds ≡ Some kind → kind_known place (map known_of entries) ≡ Some kind
 
--- the places with a mark, in rising order, by the marks of the places from this one on
-abbrev pub marked_from : ℕ → List Bool → List ℕ
-marked_from place [] = []
-marked_from place (mark ∷ marks) = if mark then place ∷ marked_from (place + 1) marks else marked_from (place + 1) marks
+-- whether the list has kinds, from place 0 on
+abbrev pub marks_of : List (Option Kind) → List Bool
+marks_of kinds = map is_some kinds

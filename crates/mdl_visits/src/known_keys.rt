@@ -4,8 +4,10 @@ ghost use Rattle.std.specs.Option.{is_some, option_copied};
 ghost use Rattle.mdl_steps.specs.Schemas.{is_key_known, unknown};
 ghost use Rattle.mdl_visits.specs.Tables.{AreWithin};
 ghost use Rattle.mdl_key.specs.KeyLookups.{are_apart, is_known, key_known, kind_known, place_known};
-ghost use Rattle.mdl_calls.specs.SessionLocks.{with_place};
-ghost use Rattle.mdl_visits.specs.OwnKeys.{IsNarrow, kind_in, marked_from};
+ghost use Rattle.mdl_calls.specs.Marks.{marked_from};
+ghost use Rattle.mdl_calls.specs.SessionLocks.{with_place, without_place};
+ghost use Rattle.mdl_visits.specs.KnownLists.{has_pin, kind_pinned};
+ghost use Rattle.mdl_visits.specs.OwnKeys.{IsNarrow, kind_in, marks_of};
 
 use indexmap::IndexMap;
 use mdl_key::{Key, Kind, KnownKey};
@@ -14,35 +16,34 @@ use std::marker::Model;
 
 /// The keys that a session looked up, with their places, in order of the look-ups.
 ///
-/// The place of a key is found by a hash of the key, and the key of a place and its kind by arrays, so no lookup walks the keys. The key
-/// that was added last is compared first, without a hash.
+/// The place of a key is found by a hash of the key, and the key of a place by an array, so no look-up walks the keys. The key that was
+/// added last is compared first, without a hash. Another array has the kind of the lock at each pinned place, and nothing at the others: so
+/// the kind and whether the place is pinned are one byte.
 #[derive(Drop)]
 pub struct KnownKeys {
     places: IndexMap<Key, usize>,
-    // By place: the kind of the lock, if its key is known. The list is at least as long as `indexes`.
-    kinds: Vec<Option<Kind>>,
     // By place: the index of the place's key in `places`. A place that isn't known has any number. Places are numbers of 16 bits.
     indexes: Vec<u16>,
-    // By place: whether the session pins it. The list is at least as long as `indexes`.
-    pinned: Vec<bool>,
+    // By place: the kind of the lock, if the session pins the place. The list is at least as long as `indexes`.
+    pinned: Vec<Option<Kind>>,
 }
 
 impl Model for KnownKeys {
     ghost use Rattle.std.specs.Prelude.{◌≤◌, length, map};
     ghost use Rattle.indexmap.specs.IndexMap.{spare};
     ghost use Rattle.mdl_visits.specs.KnownLists.{KnownList};
-    ghost use Rattle.mdl_visits.specs.OwnKeys.{AreIndexed, AreKinds, IsNarrow, known_of, marked_from};
+    ghost use Rattle.mdl_calls.specs.Marks.{marked_from};
+    ghost use Rattle.mdl_visits.specs.OwnKeys.{AreIndexed, AreKinds, IsNarrow, known_of, marks_of};
 
     ghost Value = { KnownList };
 
-    ghost view = { λ s. record { known = map known_of s.places.entries; room = spare s.places; reach = length s.indexes.items; pins = marked_from 0 s.pinned.items } };
+    ghost view = { λ s. record { known = map known_of s.places.entries; room = spare s.places; reach = length s.indexes.items; pins = marked_from 0 (marks_of s.pinned.items) } };
 
     ghost invariant = { λ s. record {
       indexed : AreIndexed s.places.entries s.indexes.items;
       narrow : IsNarrow s.indexes.items;
-      kinds : AreKinds s.places.entries s.kinds.items;
-      enough : length s.indexes.items ≤ length s.kinds.items;
-      markable : length s.indexes.items ≤ length s.pinned.items;
+      kinds : AreKinds s.places.entries s.pinned.items;
+      enough : length s.indexes.items ≤ length s.pinned.items;
     } };
 }
 
@@ -54,7 +55,6 @@ impl KnownKeys {
     {
         KnownKeys {
             places: IndexMap::new(alloc),
-            kinds: Vec::new(alloc),
             indexes: Vec::new(alloc),
             pinned: Vec::new(alloc),
         }
@@ -84,11 +84,26 @@ impl KnownKeys {
         if *other == place { Some(key) } else { None }
     }
 
-    /// Returns the kind of the lock at a place, if its key is known.
-    pub fn kind_at(&self, place: usize) -> Option<Kind>
-        ensures { result ≡ kind_known place self.now.known }
+    /// Returns the kind of the lock at a place, if the session pins the place.
+    pub fn kind_pinned(&self, place: usize) -> Option<Kind>
+        ensures { result ≡ kind_pinned place self.now.pins self.now.known }
     {
-        kind_in(&self.kinds, place)
+        kind_in(&self.pinned, place)
+    }
+
+    /// Returns the kind of the lock at a pinned place.
+    pub fn kind_at(&self, place: usize) -> Kind
+        requires pinned { has_pin place self.now.pins ≡ true }
+        ensures { kind_known place self.now.known ≡ Some result }
+    {
+        kind_there(&self.pinned, place)
+    }
+
+    /// Whether the session pins a place.
+    pub fn is_pinned(&self, place: usize) -> bool
+        ensures { result ≡ has_pin place self.now.pins }
+    {
+        kind_in(&self.pinned, place).is_some()
     }
 
     /// Makes room for `n` more keys, at places below `slots`.
@@ -99,8 +114,7 @@ impl KnownKeys {
         ensures room { OnOk result ((n ≤ self.new.room) × (slots ≤ self.new.reach)) }
     {
         self.places.reserve(n)?;
-        reach_kinds(&mut self.kinds, slots)?;
-        reach_marks(&mut self.pinned, slots)?;
+        reach_kinds(&mut self.pinned, slots)?;
         reach(&mut self.indexes, slots)
     }
 
@@ -113,7 +127,6 @@ impl KnownKeys {
         ensures room { (self.old.room ≤ self.new.room + 1) × (self.new.reach ≡ self.old.reach) }
         ensures pins { self.new.pins ≡ self.old.pins }
     {
-        self.kinds[place] = Some(key.kind());
         self.indexes[place] = self.places.len() as u16;
         self.places.insert(key, place).unwrap();
     }
@@ -131,12 +144,21 @@ impl KnownKeys {
         }
     }
 
-    /// Pins a place whose key is known. It takes no memory.
-    pub fn pin(&mut self, place: usize)
-        requires known { is_known place self.old.known ≡ true }
+    /// Pins a place whose key is known, with the kind of its lock. It takes no memory.
+    pub fn pin(&mut self, place: usize, kind: Kind)
+        requires kind { kind_known place self.old.known ≡ Some kind }
         ensures pins { self.new ≡ record self.old { pins = with_place place self.old.pins } }
     {
-        self.pinned[place] = true;
+        self.pinned[place] = Some(kind);
+    }
+
+    /// Gives up the pin of a place, if the session pins it. The keys stay known. It takes no memory.
+    pub fn unpin(&mut self, place: usize)
+        ensures pins { self.new ≡ record self.old { pins = without_place place self.old.pins } }
+    {
+        if place < self.pinned.len() {
+            self.pinned[place] = None;
+        }
     }
 
     // Whether a key is known.
@@ -156,11 +178,19 @@ fn keep_unknown(known: &KnownKeys, tables: &mut Vec<KnownKey>)
     tables.retain(|table| !known.is_known(&table.key));
 }
 
-// The kind of the lock at a place, if its key is known.
+// The kind of the lock at a place, if the list has one.
 fn kind_in(kinds: &[Option<Kind>], place: usize) -> Option<Kind>
     ensures { result ≡ kind_in place kinds.now }
 {
     *kinds.get(place)?
+}
+
+// The same where the list has one.
+fn kind_there(kinds: &[Option<Kind>], place: usize) -> Kind
+    requires { is_some (kind_in place kinds.now) ≡ true }
+    ensures { kind_in place kinds.now ≡ Some result }
+{
+    kinds[place].unwrap()
 }
 
 // The index that is kept of a place, if the list has the place.
@@ -175,21 +205,10 @@ fn reach_kinds(kinds: &mut Vec<Option<Kind>>, slots: usize) -> Result<(), AllocE
     ensures length { length kinds.old.items ≤ length kinds.new.items }
     ensures reach { OnOk result (slots ≤ length kinds.new.items) }
     ensures same { (place : ℕ) → kind_in place kinds.new.items ≡ kind_in place kinds.old.items }
+    ensures pins { marked_from 0 (marks_of kinds.new.items) ≡ marked_from 0 (marks_of kinds.old.items) }
 {
     if kinds.len() < slots {
         kinds.resize(slots, None)?;
-    }
-    Ok(())
-}
-
-// Adds places that aren't pinned until there are at least `slots`, all at once.
-fn reach_marks(pinned: &mut Vec<bool>, slots: usize) -> Result<(), AllocError>
-    ensures length { length pinned.old.items ≤ length pinned.new.items }
-    ensures reach { OnOk result (slots ≤ length pinned.new.items) }
-    ensures same { marked_from 0 pinned.new.items ≡ marked_from 0 pinned.old.items }
-{
-    if pinned.len() < slots {
-        pinned.resize(slots, false)?;
     }
     Ok(())
 }

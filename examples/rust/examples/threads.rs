@@ -21,8 +21,19 @@ fn lock_both<'s>(
     Ok((first, second))
 }
 
+/// The places of both tables, which the session may then lock.
+fn look_up(session: &Session) -> Result<[Place; 2], Error> {
+    Ok([
+        session.table("shop", "orders")?,
+        session.table("shop", "items")?,
+    ])
+}
+
 /// What a thread does: it counts each round under both locks. Returns whether each lost wait was one to end a deadlock.
-fn count(session: &Session, tables: [Place; 2], counter: &AtomicU64) -> bool {
+fn count(session: &Session, counter: &AtomicU64) -> bool {
+    let Ok(tables) = look_up(session) else {
+        return false;
+    };
     for round in 0..ROUNDS {
         loop {
             match lock_both(session, tables, round) {
@@ -38,10 +49,6 @@ fn count(session: &Session, tables: [Place; 2], counter: &AtomicU64) -> bool {
 
 fn run() -> Result<(), Error> {
     let manager = Manager::new(256, THREADS)?;
-    let tables = [
-        manager.table("shop", "orders")?,
-        manager.table("shop", "items")?,
-    ];
     let counter = AtomicU64::new(0);
     let sessions: Vec<Session> = (0..THREADS).filter_map(|_| manager.session()).collect();
     println!("all sessions are taken: {}", manager.session().is_none());
@@ -49,7 +56,7 @@ fn run() -> Result<(), Error> {
         let counter = &counter;
         let threads: Vec<_> = sessions
             .into_iter()
-            .map(|session| scope.spawn(move || count(&session, tables, counter)))
+            .map(|session| scope.spawn(move || count(&session, counter)))
             .collect();
         threads
             .into_iter()
@@ -59,23 +66,25 @@ fn run() -> Result<(), Error> {
     println!("counted: {}", counter.into_inner());
 
     let (changer, reader) = (manager.session().unwrap(), manager.session().unwrap());
-    let change = changer.lock(tables[0], Mode::Exclusive, LONG)?;
+    let orders = changer.table("shop", "orders")?;
+    let change = changer.lock(orders, Mode::Exclusive, LONG)?;
+    let orders = reader.table("shop", "orders")?;
     println!(
         "a reader can have it now: {}",
-        reader.try_lock(tables[0], Mode::SharedRead)?.is_some()
+        reader.try_lock(orders, Mode::SharedRead)?.is_some()
     );
-    match reader.lock(tables[0], Mode::SharedRead, Duration::from_millis(10)) {
+    match reader.lock(orders, Mode::SharedRead, Duration::from_millis(10)) {
         Ok(_) => println!("it got the lock"),
         Err(error) => println!("a while later: {error}"),
     }
     drop(change);
     println!(
         "after the change: {}",
-        reader.try_lock(tables[0], Mode::SharedRead)?.is_some()
+        reader.try_lock(orders, Mode::SharedRead)?.is_some()
     );
     println!(
         "a name with a space: {}",
-        manager.table("shop", "or ders").unwrap_err()
+        reader.table("shop", "or ders").unwrap_err()
     );
     Ok(())
 }

@@ -9,8 +9,8 @@
 //!
 //! # fn main() -> Result<(), mdl_locks::Error> {
 //! let manager = Manager::new(256, 4)?;
-//! let orders = manager.table("shop", "orders")?;
 //! let session = manager.session().expect("none of the four is taken");
+//! let orders = session.table("shop", "orders")?;
 //! let guard = session.lock(orders, Mode::SharedRead, Duration::from_secs(1))?;
 //! drop(guard);
 //! # Ok(())

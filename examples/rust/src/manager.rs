@@ -4,7 +4,7 @@ use crate::raw::{self, Space};
 use crate::{Error, Session};
 use std::sync::{Condvar, Mutex, MutexGuard, PoisonError};
 
-/// The place of a key in a manager, where it stays as long as the manager exists.
+/// The place of a key in a manager, where it stays as long as the manager exists. A session can lock the places that it looked up itself.
 #[derive(Clone, Copy, Debug, PartialEq, Eq)]
 pub struct Place(pub(crate) u16);
 
@@ -45,56 +45,6 @@ impl Manager {
         let at = inside.taken.iter().position(|is_taken| !is_taken)?;
         inside.taken[at] = true;
         Some(Session::new(self, at as u16 + 1))
-    }
-
-    /// The place of a table's key.
-    pub fn table(&self, schema: &str, table: &str) -> Result<Place, Error> {
-        let mut place = 0;
-        // SAFETY: the pointers and lengths are those of two `&str`, and the mutex is held.
-        done(unsafe {
-            raw::mdl_table(
-                &mut self.inside().space,
-                1,
-                schema.as_ptr(),
-                schema.len(),
-                table.as_ptr(),
-                table.len(),
-                &mut place,
-            )
-        })?;
-        Ok(Place(place))
-    }
-
-    /// The place of a schema's key.
-    pub fn schema(&self, schema: &str) -> Result<Place, Error> {
-        let mut place = 0;
-        // SAFETY: the pointer and the length are those of a `&str`, and the mutex is held.
-        done(unsafe {
-            raw::mdl_schema(
-                &mut self.inside().space,
-                1,
-                schema.as_ptr(),
-                schema.len(),
-                &mut place,
-            )
-        })?;
-        Ok(Place(place))
-    }
-
-    /// The place of the key of the global read lock.
-    pub fn global(&self) -> Result<Place, Error> {
-        let mut place = 0;
-        // SAFETY: the mutex is held.
-        done(unsafe { raw::mdl_global(&mut self.inside().space, 1, &mut place) })?;
-        Ok(Place(place))
-    }
-
-    /// The place of the key that commits take.
-    pub fn commit(&self) -> Result<Place, Error> {
-        let mut place = 0;
-        // SAFETY: the mutex is held.
-        done(unsafe { raw::mdl_commit(&mut self.inside().space, 1, &mut place) })?;
-        Ok(Place(place))
     }
 
     // Takes the mutex. No call leaves anything half done, so it doesn't matter whether a thread panicked that had it.

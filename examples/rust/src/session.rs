@@ -31,6 +31,56 @@ impl<'m> Session<'m> {
         self.who
     }
 
+    /// The place of a table's key.
+    pub fn table(&self, schema: &str, table: &str) -> Result<Place, Error> {
+        let mut place = 0;
+        // SAFETY: the pointers and lengths are those of two `&str`, and the mutex is held.
+        done(unsafe {
+            raw::mdl_table(
+                &mut self.manager.inside().space,
+                self.who,
+                schema.as_ptr(),
+                schema.len(),
+                table.as_ptr(),
+                table.len(),
+                &mut place,
+            )
+        })?;
+        Ok(Place(place))
+    }
+
+    /// The place of a schema's key.
+    pub fn schema(&self, schema: &str) -> Result<Place, Error> {
+        let mut place = 0;
+        // SAFETY: the pointer and the length are those of a `&str`, and the mutex is held.
+        done(unsafe {
+            raw::mdl_schema(
+                &mut self.manager.inside().space,
+                self.who,
+                schema.as_ptr(),
+                schema.len(),
+                &mut place,
+            )
+        })?;
+        Ok(Place(place))
+    }
+
+    /// The place of the key of the global read lock.
+    pub fn global(&self) -> Result<Place, Error> {
+        let mut place = 0;
+        // SAFETY: the mutex is held.
+        done(unsafe { raw::mdl_global(&mut self.manager.inside().space, self.who, &mut place) })?;
+        Ok(Place(place))
+    }
+
+    /// The place of the key that commits take.
+    pub fn commit(&self) -> Result<Place, Error> {
+        let mut place = 0;
+        // SAFETY: the mutex is held.
+        done(unsafe { raw::mdl_commit(&mut self.manager.inside().space, self.who, &mut place) })?;
+        Ok(Place(place))
+    }
+
     /// The lock, if it can be had now.
     pub fn try_lock(&self, place: Place, mode: Mode) -> Result<Option<Guard<'_>>, Error> {
         let mut ticket = 0;

@@ -171,15 +171,23 @@ const SEARCH: Workload = Workload("shared", 1, "search", 500);
 
 const LONG_SEARCH: Workload = Workload("shared", 1, "search", 200);
 
+const QUEUE_SEARCH: Workload = Workload("shared", 1, "search", 20);
+
 const SEARCH_STEPS: Workload = Workload("shared", 1, "search", 1_000);
 
-// A poll of a wait, and searches for a deadlock from the first of a chain, compared with taking all latches.
+// A poll of a wait, and searches for a deadlock from the first of a chain, compared with taking all latches, and by the last of a queue.
 const WAITS: &[Figure] = &[
     Figure("poll_wait", LOOK, Crowds(Crowd::Poll)),
     Figure("poll_wait_steps", LOOK, Plays(Steps(Step::Load))),
     Figure("search_deadlock_2", SEARCH, Crowds(Crowd::Search(2))),
     Figure("search_deadlock_8", SEARCH, Crowds(Crowd::Search(8))),
     Figure("search_deadlock_63", LONG_SEARCH, Crowds(Crowd::Search(63))),
+    Figure("search_queue_63", LONG_SEARCH, Crowds(Crowd::Queue(63))),
+    Figure(
+        "search_queue_1000",
+        QUEUE_SEARCH,
+        Crowds(Crowd::Queue(1000)),
+    ),
     Figure(
         "search_deadlock_steps",
         SEARCH_STEPS,

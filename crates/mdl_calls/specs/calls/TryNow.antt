@@ -1,4 +1,4 @@
--- `try_now`: a lock, if it can be granted without waiting. It is refused if the session doesn't know the place, or waits already, if the mode isn't one of the
+-- `try_now`: a lock, if it can be granted without waiting. It is refused if the session doesn't pin the place, or waits already, if the mode isn't one of the
 -- key's kind, if there is no number or no room left for a ticket, or if memory runs out. It never begins a wait, changes no other ticket, and learns and reads
 -- nothing.
 use Rattle.mdl_calls.specs.FirstWords.{Answer, Bool, CallSpec, Effect, Gains, Granted, Keeps, MayAsk, Mode, Refused, Would_wait, false, true, unchanged, wish_cause, ℕ}

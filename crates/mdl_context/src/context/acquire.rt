@@ -3,8 +3,8 @@ ghost use Rattle.std.specs.Prelude.{◌≡◌, true, Some, None, IfOk, OnErr};
 ghost use Rattle.mdl_key.specs.Keys.{KeyName};
 ghost use Rattle.mdl_key.specs.Modes.{kind_of};
 ghost use Rattle.mdl_calls.specs.Words.{Runs};
-ghost use Rattle.mdl_context.specs.Contexts.{Attends, LeavesOthers, is_known_place, place_known};
-ghost use Rattle.mdl_context.specs.Requests.{acquiring, acquiring_at, acquiring_by_place, finding, placing, LearnsAtMost, PinsAtMost, WaitsAfter};
+ghost use Rattle.mdl_context.specs.Contexts.{Attends, LeavesOthers, is_known_place, key_at, place_known};
+ghost use Rattle.mdl_context.specs.Requests.{acquiring, acquiring_at, acquiring_by_place, finding, placing, IsNoPlace, LacksPlaceOf, LearnsAtMost, PinsAtMost, WaitsAfter};
 ghost use Rattle.mdl_context.specs.Terms.{wish_for};
 ghost use Rattle.mdl_context.specs.Wishes.{wish_of_request};
 
@@ -17,8 +17,9 @@ use mdl_space::{LockSpace, Place, SpaceError};
 impl<S: LockSpace> Context<S> {
     /// Gets a lock for the request's duration, or begins to wait for it.
     ///
-    /// The key's place is looked up once and remembered from then on, and the session pins it. To remember it takes memory, as a new ticket does. Of the
-    /// tickets there that are at least as strong as the request's mode, the earliest of the same duration is used again, though never an
+    /// The key's place is looked up once and remembered from then on, and the session pins it. If the space has no place left for the
+    /// key, and only then, the call is refused with [`SpaceError::NoPlace`]. To remember a place takes memory, as a new ticket does. Of
+    /// the tickets there that are at least as strong as the request's mode, the earliest of the same duration is used again, though never an
     /// explicit one. If there is none, the earliest of all that are strong enough is cloned, and the clone gets the request's
     /// duration. If there is none of these either, a new ticket is requested of the space.
     ///
@@ -35,7 +36,8 @@ impl<S: LockSpace> Context<S> {
         ensures others { LeavesOthers S.LockSpace self.old.who space.old space.new }
         ensures who { self.new.who ≡ self.old.who }
         ensures unchanged { OnErr result (LearnsAtMost request.entry.key.now self.old self.new) }
-        ensures own { OnErr result (PinsAtMost (S.own space.old self.old.who) (S.own space.new self.old.who)) }
+        ensures placed { LacksPlaceOf S.joins request.entry.key.now self.old space.old result space.new }
+        ensures own { OnErr result (PinsAtMost S.LockSpace self.old.who request.entry.key.now space.old space.new) }
         ensures wait { WaitsAfter result self.old.wait self.new.wait }
     {
         if self.holdings.is_waiting() {
@@ -51,7 +53,7 @@ impl<S: LockSpace> Context<S> {
     ///
     /// Works as [`Context::acquire`] does for that key, but neither hashes nor compares a key. So it suits a server that keeps
     /// the place of a table, which [`Context::place_of`] returns. A place is the same for all sessions of a space, but each
-    /// context has to know it. If no key is known there, the call is refused with [`SpaceError::NoPlace`].
+    /// context has to know it. If no key is known there, and only then, the call is refused with [`SpaceError::NoPlace`].
     pub fn acquire_at(
         &mut self,
         space: &mut S,
@@ -65,6 +67,7 @@ impl<S: LockSpace> Context<S> {
         ensures others { LeavesOthers S.LockSpace self.old.who space.old space.new }
         ensures who { self.new.who ≡ self.old.who }
         ensures unchanged { OnErr result (self.new ≡ self.old) }
+        ensures placed { IsNoPlace result → key_at place self.old.known ≡ None }
         ensures own { OnErr result (S.own space.new self.old.who ≡ S.own space.old self.old.who) }
         ensures wait { WaitsAfter result self.old.wait self.new.wait }
     {
@@ -95,7 +98,7 @@ impl<S: LockSpace> Context<S> {
         ensures who { self.new.who ≡ self.old.who }
         ensures learns { LearnsAtMost key.now self.old self.new }
         ensures unchanged { OnErr result (self.new ≡ self.old) }
-        ensures own { PinsAtMost (S.own space.old self.old.who) (S.own space.new self.old.who) }
+        ensures own { PinsAtMost S.LockSpace self.old.who key.now space.old space.new }
     {
         if let Some(place) = self.holdings.place_known(key) {
             return Ok(place);
@@ -119,7 +122,8 @@ impl<S: LockSpace> Context<S> {
         ensures attends { Attends S.LockSpace space.new self.new }
         ensures who { self.new.who ≡ self.old.who }
         ensures unchanged { OnErr result (LearnsAtMost request.entry.key.now self.old self.new) }
-        ensures own { OnErr result (PinsAtMost (S.own space.old self.old.who) (S.own space.new self.old.who)) }
+        ensures placed { LacksPlaceOf S.joins request.entry.key.now self.old space.old result space.new }
+        ensures own { OnErr result (PinsAtMost S.LockSpace self.old.who request.entry.key.now space.old space.new) }
         ensures wait { WaitsAfter result None self.new.wait }
     {
         let place = match space.resolve(self.who, request.key) {
@@ -147,6 +151,7 @@ impl<S: LockSpace> Context<S> {
         ensures attends { Attends S.LockSpace space.new self.new }
         ensures who { self.new.who ≡ self.old.who }
         ensures unchanged { OnErr result (self.new ≡ self.old) }
+        ensures placed { IsNoPlace result → ⊥ }
         ensures own { OnErr result (S.own space.new self.old.who ≡ S.own space.old self.old.who) }
         ensures wait { WaitsAfter result None self.new.wait }
     {

@@ -3,8 +3,8 @@ ghost use Rattle.std.specs.Prelude.{◌≡◌, true, None};
 ghost use Rattle.mdl_key.specs.Keys.{KeyName};
 ghost use Rattle.mdl_key.specs.Modes.{kind_of};
 ghost use Rattle.mdl_calls.specs.Words.{Runs};
-ghost use Rattle.mdl_context.specs.Contexts.{Attends, LeavesOthers, is_known_place, place_known};
-ghost use Rattle.mdl_context.specs.Requests.{trying, trying_at, trying_by_place, trying_found, LearnsAtMost, PinsAtMost, UnlessAcquired};
+ghost use Rattle.mdl_context.specs.Contexts.{Attends, LeavesOthers, is_known_place, key_at, place_known};
+ghost use Rattle.mdl_context.specs.Requests.{trying, trying_at, trying_by_place, trying_found, IsNoPlace, LacksPlaceOf, LearnsAtMost, PinsAtMost, UnlessAcquired};
 ghost use Rattle.mdl_context.specs.Terms.{wish_for};
 ghost use Rattle.mdl_context.specs.Wishes.{wish_of_request};
 
@@ -32,7 +32,8 @@ impl<S: LockSpace> Context<S> {
         ensures others { LeavesOthers S.LockSpace self.old.who space.old space.new }
         ensures who { self.new.who ≡ self.old.who }
         ensures unchanged { UnlessAcquired result (LearnsAtMost request.entry.key.now self.old self.new) }
-        ensures own { UnlessAcquired result (PinsAtMost (S.own space.old self.old.who) (S.own space.new self.old.who)) }
+        ensures placed { LacksPlaceOf S.joins request.entry.key.now self.old space.old result space.new }
+        ensures own { UnlessAcquired result (PinsAtMost S.LockSpace self.old.who request.entry.key.now space.old space.new) }
         ensures wait { self.new.wait ≡ self.old.wait }
     {
         if self.holdings.is_waiting() {
@@ -47,7 +48,7 @@ impl<S: LockSpace> Context<S> {
     /// Gets a lock of the key that the context knows at a place, if that needs no wait.
     ///
     /// Works as [`Context::try_acquire`] does for that key, but neither hashes nor compares a key, as [`Context::acquire_at`]. If
-    /// no key is known there, the call is refused with [`SpaceError::NoPlace`].
+    /// no key is known there, and only then, the call is refused with [`SpaceError::NoPlace`].
     pub fn try_acquire_at(
         &mut self,
         space: &mut S,
@@ -61,6 +62,7 @@ impl<S: LockSpace> Context<S> {
         ensures others { LeavesOthers S.LockSpace self.old.who space.old space.new }
         ensures who { self.new.who ≡ self.old.who }
         ensures unchanged { UnlessAcquired result (self.new ≡ self.old) }
+        ensures placed { IsNoPlace result → key_at place self.old.known ≡ None }
         ensures own { UnlessAcquired result (S.own space.new self.old.who ≡ S.own space.old self.old.who) }
         ensures wait { self.new.wait ≡ self.old.wait }
     {
@@ -91,7 +93,8 @@ impl<S: LockSpace> Context<S> {
         ensures attends { Attends S.LockSpace space.new self.new }
         ensures who { self.new.who ≡ self.old.who }
         ensures unchanged { UnlessAcquired result (LearnsAtMost request.entry.key.now self.old self.new) }
-        ensures own { UnlessAcquired result (PinsAtMost (S.own space.old self.old.who) (S.own space.new self.old.who)) }
+        ensures placed { LacksPlaceOf S.joins request.entry.key.now self.old space.old result space.new }
+        ensures own { UnlessAcquired result (PinsAtMost S.LockSpace self.old.who request.entry.key.now space.old space.new) }
         ensures wait { self.new.wait ≡ None }
     {
         let place = match space.resolve(self.who, request.key) {
@@ -113,6 +116,7 @@ impl<S: LockSpace> Context<S> {
         ensures attends { Attends S.LockSpace space.new self.new }
         ensures who { self.new.who ≡ self.old.who }
         ensures unchanged { UnlessAcquired result (self.new ≡ self.old) }
+        ensures placed { IsNoPlace result → ⊥ }
         ensures own { UnlessAcquired result (S.own space.new self.old.who ≡ S.own space.old self.old.who) }
         ensures wait { self.new.wait ≡ None }
     {

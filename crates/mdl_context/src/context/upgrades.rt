@@ -7,7 +7,7 @@ ghost use Rattle.mdl_context.specs.Contexts.{Attends, LeavesOthers, ticket_kept}
 ghost use Rattle.mdl_context.specs.declared.kept.Kept.{Kept};
 ghost use Rattle.mdl_context.specs.Holdings.{wanted_upgrade};
 ghost use Rattle.mdl_context.specs.Outcomes.{UpgradeComesTo};
-ghost use Rattle.mdl_context.specs.Requests.{WaitsAfter};
+ghost use Rattle.mdl_context.specs.Requests.{IsNoPlace, WaitsAfter};
 ghost use Rattle.mdl_context.specs.Releases.{release_fault};
 ghost use Rattle.mdl_context.specs.Upgrades.{with_ticket_mode, merging_new, is_merge_refusal, HasSecond, upgrading, waiting_to_upgrade, downgrading};
 
@@ -40,6 +40,7 @@ impl<S: LockSpace> Context<S> {
         ensures who { self.new.who ≡ self.old.who }
         ensures outcome { UpgradeComesTo id mode self.old (result, self.new) }
         ensures unchanged { OnErr result (self.new ≡ self.old) }
+        ensures placed { IsNoPlace result → ⊥ }
         ensures own { OnErr result (S.own space.new self.old.who ≡ S.own space.old self.old.who) }
         ensures wait { WaitsAfter result self.old.wait self.new.wait }
     {
@@ -102,6 +103,7 @@ impl<S: LockSpace> Context<S> {
         ensures attends { Attends S.LockSpace space.new self.new }
         ensures who { self.new.who ≡ self.old.who }
         ensures unchanged { OnErr result (self.new ≡ self.old) }
+        ensures placed { IsNoPlace result → ⊥ }
         ensures own { OnErr result (S.own space.new self.old.who ≡ S.own space.old self.old.who) }
         ensures wait { WaitsAfter result None self.new.wait }
     {

@@ -32,7 +32,7 @@ other_then before after context cache both speaks by = record {
 pub attends-new : (space : Core) (who : ℕ) (x : ContextView) → x ≡ record { who = who; kept = []; known = []; wait = None } → SpeaksFor space who
     → HasNothing (locks_at space who) → Attends core_space space x
 attends-new space who x new speaks nothing =
-    rw new (record { speaks = speaks; serves = record { held = nothing.0; wait = ap (option_map wish_there) nothing.1 }; known = All-nil _; places = All-nil _; wish = tt })
+    rw new (record { speaks = speaks; serves = record { held = nothing.0; wait = ap (option_map wish_there) nothing.1 }; known = All-nil _; pinned = All-nil _; places = All-nil _; wish = tt })
 
 -- neither session has anything, and nothing is cached
 pub fresh_both : (space : Core) (context : ContextView) (cache : CacheView) → context ≡ record { who = 1; kept = []; known = []; wait = None }

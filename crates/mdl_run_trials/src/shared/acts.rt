@@ -84,8 +84,9 @@ impl Edit {
 #[derive(Clone, Copy)]
 pub(crate) enum Act {
     Resolve(Lock),
+    Unpin(Place),
     Try(Place, Mode),
-    // It tries without the latch, at a place that it knows.
+    // It tries without the latch.
     TryFast(Place, Mode),
     Upgrade(TicketId, Mode),
     Downgrade(TicketId, Mode),
@@ -168,8 +169,9 @@ pub(crate) enum Reply {
 pub(crate) fn make<R: Wait>(alloc: Global, session: &mut Session<R>, act: Act) -> Reply {
     match act {
         Act::Resolve(lock) => resolve(alloc, session, lock),
+        Act::Unpin(place) => done(session.unpin(place)),
         Act::Try(place, mode) => attempted(session.try_now(place, mode)),
-        Act::TryFast(place, mode) => try_fast(session, place, mode),
+        Act::TryFast(place, mode) => tried_fast(session.try_fast(place, mode)),
         Act::Upgrade(id, mode) => upgraded(session.upgrade_now(id, mode)),
         Act::Downgrade(id, mode) => done(session.downgrade(id, mode)),
         Act::Clone(id, mode) => cloned(session.clone_ticket(id, mode)),
@@ -225,9 +227,9 @@ pub(crate) fn make_at_last<R: Wait>(
 /// The reply to an act that ran out of memory.
 pub(crate) const NO_MEMORY: Reply = Reply::Refused(SpaceError::OutOfMemory);
 
-// Whether an act may take memory. A release, fast or not, a downgrade, a change that defines a schema and a drop take none, nor do a poll, a
-// timeout, a kill, the end of a wait and the question what is owed. A merge and an upgrade take none if no ticket is fast, and an upgrade to a mode that the ticket covers never takes any.
-// An act that tries for a fast ticket or reschedules asks for the key of the place first, which takes some. The fast ticket itself takes none if
+// Whether an act may take memory. The end of a pin, a release, fast or not, a downgrade, a change that defines a schema and a drop take none, nor do a
+// poll, a timeout, a kill, the end of a wait and the question what is owed. A merge and an upgrade take none if no ticket is fast, and an upgrade to a
+// mode that the ticket covers never takes any. An act that reschedules asks for the key of the place first, which takes some. Fast tickets take none if
 // room was made before.
 fn may_take_memory(act: Act) -> bool {
     match act {
@@ -241,8 +243,6 @@ fn may_take_memory(act: Act) -> bool {
         | Act::Names(_, _)
         | Act::Audit(_)
         | Act::Begin(_, _)
-        | Act::TryFast(_, _)
-        | Act::TryFastOften(_, _, _)
         | Act::ReleaseAll
         | Act::Reschedule(_)
         | Act::Version(_)
@@ -371,20 +371,10 @@ fn version<R>(session: &mut Session<R>, place: Place) -> Reply {
     }
 }
 
-fn try_fast<R>(session: &mut Session<R>, place: Place, mode: Mode) -> Reply {
-    match session.key_of(place) {
-        Ok(key) => {
-            drop(key);
-            tried_fast(session.try_fast(place, mode))
-        }
-        Err(why) => Reply::Refused(why),
-    }
-}
-
 fn try_fast_often<R>(session: &mut Session<R>, place: Place, mode: Mode, times: u32) -> Reply {
     let mut last = Reply::Done;
     for _ in 0..times {
-        last = try_fast(session, place, mode);
+        last = tried_fast(session.try_fast(place, mode));
     }
     last
 }

@@ -39,7 +39,7 @@ const WRITERS: &[Row] = &[
     (1, Act::Release(2), Reply::Done),
 ];
 
-// A place can be used only by a session that has looked up its key. A table has no intention mode.
+// A lock can be requested only by a session that has looked up its key. A table has no intention mode.
 const REFUSED: &[Row] = &[
     (1, Act::Resolve(Lock::Sales), Reply::Place(1)),
     (
@@ -115,22 +115,28 @@ const KEYS: &[Row] = &[
     (2, Act::Names(2, Lock::Sales), Reply::Is(true)),
 ];
 
-// Nothing is defined yet, so no table is returned. But the session that asks knows the schema's tables from then on, and no other key.
+// Nothing is defined yet, so no table is returned. But the session that asks knows the schema's tables from then on, and no other key. It doesn't pin
+// their places, so it can request no lock there.
 const ASKED: &[Row] = &[
     (2, Act::Tables, Reply::Count(0)),
     (1, Act::Resolve(Lock::Shop), Reply::Place(1)),
     (1, Act::Resolve(Lock::Sales), Reply::Place(2)),
     (1, Act::Resolve(Lock::Games), Reply::Place(3)),
     (1, Act::Resolve(Lock::Goods), Reply::Place(4)),
-    (2, Act::Try(2, Mode::S), NO_PLACE),
+    (2, Act::Names(2, Lock::Sales), NO_PLACE),
     (2, Act::Tables, Reply::Count(0)),
-    (2, Act::Try(1, Mode::IX), NO_PLACE),
+    (2, Act::Names(1, Lock::Shop), NO_PLACE),
+    (2, Act::Names(2, Lock::Sales), Reply::Is(true)),
+    (2, Act::Names(3, Lock::Games), NO_PLACE),
+    (2, Act::Names(4, Lock::Goods), Reply::Is(true)),
+    (2, Act::Try(2, Mode::S), NO_PLACE),
+    (2, Act::TryFast(4, Mode::S), NO_PLACE),
+    (2, Act::Unpin(2), NO_PLACE),
+    (2, Act::Resolve(Lock::Sales), Reply::Place(2)),
     (2, Act::Try(2, Mode::S), Reply::Granted(1)),
-    (2, Act::Try(3, Mode::S), NO_PLACE),
-    (2, Act::Try(4, Mode::S), Reply::Granted(2)),
+    (2, Act::Try(4, Mode::S), NO_PLACE),
     (2, Act::Tables, Reply::Count(0)),
     (2, Act::Release(1), Reply::Done),
-    (2, Act::Release(2), Reply::Done),
 ];
 
 const BOOKS: &[Shown] = &[

@@ -164,8 +164,19 @@ const COVERED: &[Row] = &[
 const TABLES: &[Row] = &[
     (1, Act::Resolve(Lock::Sales), Reply::Place(1)),
     (2, Act::Tables, Reply::Count(0)),
+    (2, Act::Names(1, Lock::Sales), Reply::Is(true)),
+];
+
+// A key that is already known is looked up for its pin, and a pin is given up without memory.
+const PINS: &[Row] = &[
+    (1, Act::Resolve(Lock::Sales), Reply::Place(1)),
+    (2, Act::Tables, Reply::Count(0)),
+    (2, Act::Resolve(Lock::Sales), Reply::Place(1)),
+    (2, Act::Unpin(1), Reply::Done),
+    (2, Act::Resolve(Lock::Sales), Reply::Place(1)),
     (2, Act::Try(1, Mode::S), Reply::Granted(1)),
     (2, Act::Release(1), Reply::Done),
+    (2, Act::Unpin(1), Reply::Done),
 ];
 
 const CASES: &[Case] = &[
@@ -177,6 +188,7 @@ const CASES: &[Case] = &[
     ("a hundred reserved tickets take no memory", 1, ROOM),
     ("covered upgrades take no memory", 2, COVERED),
     ("tables are told at the second try", 2, TABLES),
+    ("pins outlive want of memory", 1, PINS),
     ("searches outlive want of memory", 2, A_CYCLE),
 ];
 

@@ -129,16 +129,21 @@ fn make_call<R: Wait>(session: &mut Session<R>, player: &mut Player, taken: &Ato
         Some(ticket) if held.len() >= MOST_HELD || player.chance.below(3) > 0 => {
             use_ticket(session, player, ticket, &held)
         }
-        _ => ask(session, player, taken),
+        _ => ask(session, player, taken, &held),
     }
 }
 
-// Requests a lock, reads a place's key, lists the tables, or kills a wait.
-fn ask<R: Wait>(session: &mut Session<R>, player: &mut Player, taken: &AtomicBool) -> bool {
+// Requests a lock, pins a place anew, lists the tables, or kills a wait.
+fn ask<R: Wait>(
+    session: &mut Session<R>,
+    player: &mut Player,
+    taken: &AtomicBool,
+    held: &[Held],
+) -> bool {
     let place = player.draw();
     let draws = player.choose(FEW_DRAWS, DRAWS);
     let act = match player.chance.below(draws) {
-        0 => Act::Names(place, Lock::Numbered(place)),
+        0 => return pin_anew(session, player, place, held),
         1 => Act::Tables,
         2 => return kill(session, player),
         3..=7 => {
@@ -150,6 +155,41 @@ fn ask<R: Wait>(session: &mut Session<R>, player: &mut Player, taken: &AtomicBoo
         _ => Act::Try(place, player.chance.mode()),
     };
     was_answered(make(player.alloc, session, act))
+}
+
+// Reads a place's key and gives up the pin, which is refused if the session has a ticket there. Otherwise it can request no lock there until it has
+// looked the key up again.
+fn pin_anew<R: Wait>(
+    session: &mut Session<R>,
+    player: &mut Player,
+    place: Place,
+    held: &[Held],
+) -> bool {
+    let lock = Lock::Numbered(place);
+    if make(player.alloc, session, Act::Names(place, lock)) != Reply::Is(true) {
+        return false;
+    }
+    match make(player.alloc, session, Act::Unpin(place)) {
+        Reply::Done => {
+            let mode = player.chance.mode();
+            let refused = make(player.alloc, session, Act::Try(place, mode));
+            let found = make(player.alloc, session, Act::Resolve(lock));
+            !has_ticket_at(held, place)
+                && refused == Reply::Refused(SpaceError::NoPlace)
+                && found == Reply::Place(place)
+        }
+        Reply::Refused(SpaceError::InUse) => has_ticket_at(held, place),
+        _ => false,
+    }
+}
+
+fn has_ticket_at(held: &[Held], place: Place) -> bool {
+    for ticket in held {
+        if ticket.place == place {
+            return true;
+        }
+    }
+    false
 }
 
 // Kills the wait of some session, if it has one. Sometimes it uses the number of the wait before, which mostly kills none.

@@ -42,7 +42,7 @@ pub(crate) enum Step {
     LookUp(Lock, Place),
     /// It takes a ticket to read with.
     Take(Place, TicketId),
-    /// Likewise without the latch, at a place that it knows.
+    /// Likewise without the latch.
     TakeFast(Place, TicketId),
     /// It looks in its cache for a definition that has these columns.
     Look(TicketId, Names, Found),
@@ -159,18 +159,12 @@ fn give_up<S: LockSpace>(space: &mut S, who: u16, id: TicketId, _cache: &DefCach
     space.release(who, id).is_ok()
 }
 
-// Takes a ticket to read with, without the latch, at a place that the session has looked up.
+// Takes a ticket to read with, without the latch.
 fn take_fast<R>(session: &mut Session<R>, place: Place, _cache: &DefCache) -> Option<TicketId>
     requires met { AreMet (HasMet (data_of session.old) session.old.me.0.number) _cache.now.kept }
     ensures met { AreMet (HasMet (data_of session.new) session.new.me.0.number) _cache.now.kept }
 {
-    match session.key_of(place) {
-        Ok(key) => {
-            drop(key);
-            granted(session.try_fast(place, Mode::SR))
-        }
-        Err(_) => None,
-    }
+    granted(session.try_fast(place, Mode::SR))
 }
 
 fn granted(outcome: Result<Fast, SpaceError>) -> Option<TicketId> {

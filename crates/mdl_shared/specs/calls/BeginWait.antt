@@ -1,11 +1,11 @@
 -- A lock, or otherwise a wait for it: on the fast path, or, where that is closed, in one visit to the place, once all fast tickets of the session are slow
 -- ones. If a step finds the request blocked there, the next step opens the wait.
 use Rattle.std.specs.Prelude.{◌≡◌, ◌⊎◌, ℕ, true, List, [], ◌∷◌, Option, Some}
-use Rattle.mdl_shared.specs.FirstWords.{Answer, AreStepsOf, ByLatch, Deed, Gain, Granted, IsGranted, KeepsDebts, LacksRoomForWish, Lists, MeetsBlocked, MeetsFull, MeetsOpening, Mode, OwesSame, Refused, SessionTicket, SessionView, SpaceError, StepRecord, StepSpec, Waits, kind_known, no_steps, obtrudes_at, wish_fault}
+use Rattle.mdl_shared.specs.FirstWords.{Answer, AreStepsOf, ByLatch, Deed, Gain, Granted, IsGranted, KeepsDebts, LacksRoomForWish, Lists, MeetsBlocked, MeetsFull, MeetsOpening, Mode, OwesSame, Refused, SessionTicket, SessionView, SpaceError, StepRecord, StepSpec, Waits, kind_pinned, no_steps, obtrudes_at, wish_fault}
 
--- why the session's own lists refuse it
-abbrev pub own_fault : ℕ → Mode → Lists → Option SpaceError
-own_fault place mode l = wish_fault (kind_known place l.known) l.asks mode l.next
+-- why the session's pins and own lists refuse it
+abbrev pub own_fault : ℕ → Mode → List ℕ → Lists → Option SpaceError
+own_fault place mode pins l = wish_fault (kind_pinned place pins l.known) l.asks mode l.next
 
 -- the ticket that was granted is gained
 abbrev pub did : Mode → Answer → List SessionTicket → List Deed
@@ -25,7 +25,7 @@ met place mode (Waits number) l a b =
     ByLatch place mode (obtrudes_at place mode l.known) a b (λ mid. (e f : StepRecord) × AreStepsOf mid.me b.me e f × MeetsBlocked place a.me.0.number mode e
     × MeetsOpening a.table.slots place a.me.0.number l.waits l.next mode f)
 met place mode (Refused why) l a b =
-    (own_fault place mode l ≡ Some why) ⊎ LacksRoomForWish (MeetsFull place) place mode (obtrudes_at place mode l.known) why a b
+    (own_fault place mode a.pins l ≡ Some why) ⊎ LacksRoomForWish (MeetsFull place) place mode (obtrudes_at place mode l.known) why a b
 met place mode _ l a b = ⊥
 
 -- the call

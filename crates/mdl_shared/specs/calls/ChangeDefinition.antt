@@ -18,4 +18,4 @@ met id change _ l a b = ⊥
 
 -- the call
 abbrev pub change_definition : ℕ → Change → StepSpec
-change_definition id change = record no_steps { fault = own_fault id; met = met id change }
+change_definition id change = record no_steps { fault = λ pins. own_fault id; met = met id change }

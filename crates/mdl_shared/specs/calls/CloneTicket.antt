@@ -21,4 +21,4 @@ met id mode _ l a b = ⊥
 
 -- the call
 abbrev pub clone_ticket : ℕ → Mode → StepSpec
-clone_ticket id mode = record no_steps { fault = own_fault id mode; did = did mode; met = met id mode }
+clone_ticket id mode = record no_steps { fault = λ pins. own_fault id mode; did = did mode; met = met id mode }

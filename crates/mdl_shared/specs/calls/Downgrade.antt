@@ -30,7 +30,7 @@ met id mode _ l a b = ⊥
 -- the call. If the session's own wait is at the place, it may learn that it is settled
 abbrev pub downgrade : ℕ → Mode → StepSpec
 downgrade id mode = record no_steps {
-  fault = own_fault id mode;
+  fault = λ pins. own_fault id mode;
   did = did id mode;
   told = λ a b. Unit {0};
   settled = settled;

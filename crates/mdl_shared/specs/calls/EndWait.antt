@@ -27,4 +27,4 @@ met _ l a b = ⊥
 -- the call. It does no deed: a granted wait's ticket is in the book already. The session may learn how its wait is settled, and knows nothing of it once it
 -- is ended
 abbrev pub end_wait : StepSpec
-end_wait = record no_steps { fault = λ l. wait_fault l.asks; told = λ a b. Unit {0}; settled = settled; owes = owes; met = met }
+end_wait = record no_steps { fault = λ pins l. wait_fault l.asks; told = λ a b. Unit {0}; settled = settled; owes = owes; met = met }

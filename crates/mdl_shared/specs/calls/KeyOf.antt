@@ -3,4 +3,4 @@ use Rattle.mdl_shared.specs.FirstWords.{StepSpec, naming_fault, no_steps, ℕ}
 
 -- the call
 abbrev pub key_of : ℕ → StepSpec
-key_of place = record no_steps { fault = λ l. naming_fault place l.known }
+key_of place = record no_steps { fault = λ pins l. naming_fault place l.known }

@@ -21,4 +21,4 @@ met old new _ l a b = ⊥
 
 -- the call
 abbrev pub merge : ℕ → ℕ → StepSpec
-merge old new = record no_steps { fault = own_fault old new; did = did old new; met = met old new }
+merge old new = record no_steps { fault = λ pins. own_fault old new; did = did old new; met = met old new }

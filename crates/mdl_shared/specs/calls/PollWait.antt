@@ -11,4 +11,4 @@ met _ l a b = ⊥
 
 -- the call. The session may learn that its wait is settled
 abbrev pub poll_wait : StepSpec
-poll_wait = record no_steps { fault = λ l. wait_fault l.asks; told = λ a b. Unit {0}; met = met }
+poll_wait = record no_steps { fault = λ pins l. wait_fault l.asks; told = λ a b. Unit {0}; met = met }

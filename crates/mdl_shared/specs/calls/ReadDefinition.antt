@@ -12,4 +12,4 @@ met id _ l a b = ⊥
 
 -- the call
 abbrev pub read_definition : ℕ → StepSpec
-read_definition id = record no_steps { fault = λ l. holding_fault id (all_tickets l); met = met id }
+read_definition id = record no_steps { fault = λ pins l. holding_fault id (all_tickets l); met = met id }

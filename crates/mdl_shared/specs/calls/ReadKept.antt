@@ -17,4 +17,4 @@ met id _ l a b = ⊥
 
 -- the call
 abbrev pub read_kept : ℕ → StepSpec
-read_kept id = record no_steps { fault = λ l. holding_fault id (all_tickets l); met = met id }
+read_kept id = record no_steps { fault = λ pins l. holding_fault id (all_tickets l); met = met id }

@@ -28,7 +28,7 @@ met id _ l a b = ⊥
 -- the call. If the session's own wait is at the place, it may learn that it is settled
 abbrev pub release : ℕ → StepSpec
 release id = record no_steps {
-  fault = λ l. holding_fault id (all_tickets l);
+  fault = λ pins l. holding_fault id (all_tickets l);
   did = did id;
   told = λ a b. Unit {0};
   settled = settled;

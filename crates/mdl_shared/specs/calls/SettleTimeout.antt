@@ -17,4 +17,4 @@ met _ l a b = ⊥
 
 -- the call. The session may learn that its wait is settled
 abbrev pub settle_timeout : StepSpec
-settle_timeout = record no_steps { fault = λ l. wait_fault l.asks; told = λ a b. Unit {0}; settled = settled; met = met }
+settle_timeout = record no_steps { fault = λ pins l. wait_fault l.asks; told = λ a b. Unit {0}; settled = settled; met = met }

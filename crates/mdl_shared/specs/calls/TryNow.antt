@@ -1,11 +1,11 @@
 -- A lock, if it can be granted without waiting: on the fast path, or, where that is closed, in one visit to the place, once all fast tickets of the session
 -- are slow ones.
 use Rattle.std.specs.Prelude.{◌≡◌, ◌⊎◌, ℕ, true, List, [], ◌∷◌, Option, Some}
-use Rattle.mdl_shared.specs.FirstWords.{Answer, ByLatch, Deed, Gain, Granted, IsGranted, LacksRoomForWish, Lists, MeetsBlocked, MeetsFullWish, Mode, Refused, SessionTicket, SessionView, ShowsStep, SpaceError, StepSpec, Would_wait, kind_known, no_steps, obtrudes_at, wish_fault}
+use Rattle.mdl_shared.specs.FirstWords.{Answer, ByLatch, Deed, Gain, Granted, IsGranted, LacksRoomForWish, Lists, MeetsBlocked, MeetsFullWish, Mode, Refused, SessionTicket, SessionView, ShowsStep, SpaceError, StepSpec, Would_wait, kind_pinned, no_steps, obtrudes_at, wish_fault}
 
--- why the session's own lists refuse it
-abbrev pub own_fault : ℕ → Mode → Lists → Option SpaceError
-own_fault place mode l = wish_fault (kind_known place l.known) l.asks mode l.next
+-- why the session's pins and own lists refuse it
+abbrev pub own_fault : ℕ → Mode → List ℕ → Lists → Option SpaceError
+own_fault place mode pins l = wish_fault (kind_pinned place pins l.known) l.asks mode l.next
 
 -- the ticket that was granted is gained
 abbrev pub did : Mode → Answer → List SessionTicket → List Deed
@@ -19,7 +19,7 @@ met place mode (Granted id) l a b = IsGranted place mode (Gain id mode) a b
 met place mode Would_wait l a b =
     ByLatch place mode (obtrudes_at place mode l.known) a b (λ mid. ShowsStep mid b (MeetsBlocked place a.me.0.number mode))
 met place mode (Refused why) l a b =
-    (own_fault place mode l ≡ Some why)
+    (own_fault place mode a.pins l ≡ Some why)
     ⊎ LacksRoomForWish (MeetsFullWish place a.me.0.number mode true) place mode (obtrudes_at place mode l.known) why a b
 met place mode _ l a b = ⊥
 

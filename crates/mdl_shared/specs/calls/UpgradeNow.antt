@@ -29,4 +29,4 @@ met id mode _ l a b = ⊥
 
 -- the call
 abbrev pub upgrade_now : ℕ → Mode → StepSpec
-upgrade_now id mode = record no_steps { fault = own_fault id mode; did = did id mode; met = met id mode }
+upgrade_now id mode = record no_steps { fault = λ pins. own_fault id mode; did = did id mode; met = met id mode }

@@ -39,6 +39,10 @@ impl LockSpace for CoreSpace {
         CoreSpace::resolve(self, who, key)
     }
 
+    fn unpin(&mut self, who: u16, place: Place) -> Result<(), SpaceError> {
+        CoreSpace::unpin(self, who, place)
+    }
+
     fn try_now(&mut self, who: u16, place: Place, mode: Mode) -> Result<Attempt, SpaceError> {
         CoreSpace::try_now(self, who, place, mode)
     }

@@ -56,7 +56,7 @@ served_then before after first (suc i) (y ∷ ys) x served inside who attends le
 pub fresh : (space : Core) (who : ℕ) (x : ContextView) → x ≡ record { who = who; kept = []; known = []; wait = None } → SpeaksFor space who
     → HasNothing (locks_at space who) → (x.who ≡ who) × Attends core_space space x
 fresh space who x new speaks nothing =
-    rw new (refl, record { speaks = speaks; serves = record { held = nothing.0; wait = ap (option_map wish_there) nothing.1 }; known = All-nil _; places = All-nil _; wish = tt })
+    rw new (refl, record { speaks = speaks; serves = record { held = nothing.0; wait = ap (option_map wish_there) nothing.1 }; known = All-nil _; pinned = All-nil _; places = All-nil _; wish = tt })
 
 -- so the space speaks for their sessions
 pub speaks_for_each : (space : Core) (who : ℕ) (xs : List ContextView) → AreServed space 1 xs → 1 ≤ who → who ≤ length xs → SpeaksFor space who

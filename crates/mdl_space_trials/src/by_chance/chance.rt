@@ -78,13 +78,19 @@ impl Chance {
         }
     }
 
-    /// Draws a request for a lock, mostly in one of its modes.
-    pub(crate) fn draw_acquire(&mut self) -> Act {
+    /// Draws a lock, and a mode to request it in, mostly one of its modes.
+    pub(crate) fn draw_wish(&mut self) -> (Lock, Mode) {
         let lock = self.draw_lock();
         let mode = match lock.kind() {
             Kind::Object => OBJECT_MODES[usize::from(self.draw(16))],
             Kind::Scoped => SCOPED_MODES[usize::from(self.draw(8))],
         };
+        (lock, mode)
+    }
+
+    /// Draws a request for a lock by a context.
+    pub(crate) fn draw_acquire(&mut self) -> Act {
+        let (lock, mode) = self.draw_wish();
         Act::Acquire(lock, mode, DURATIONS[usize::from(self.draw(8))])
     }
 
@@ -100,17 +106,17 @@ impl Chance {
         }
     }
 
-    /// Draws a kill of some session's wait, or at times of the wait before.
-    pub(crate) fn draw_kill(&mut self, plain: &Plain) -> Act {
+    /// Draws a session and the number of its wait, to kill it, or at times that of the wait before.
+    pub(crate) fn draw_kill(&mut self, plain: &Plain) -> (u16, u64) {
         let target = self.draw(SESSIONS) + 1;
         let number = match plain.wait(target) {
             Some(wait) => wait.number,
             None => 1,
         };
         if self.draw(3) == 0 {
-            Act::Kill(target, number.saturating_sub(1))
+            (target, number.saturating_sub(1))
         } else {
-            Act::Kill(target, number)
+            (target, number)
         }
     }
 

@@ -44,7 +44,10 @@ fn draw_act(trial: &mut Trial, who: u16) -> Act {
         59 => Act::MakeTransactional,
         60 => Act::Resume,
         61 => Act::GiveUp,
-        _ => trial.chance.draw_kill(&trial.plain),
+        _ => {
+            let (target, number) = trial.chance.draw_kill(&trial.plain);
+            Act::Kill(target, number)
+        }
     }
 }
 

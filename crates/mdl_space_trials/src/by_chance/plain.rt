@@ -4,6 +4,7 @@ mod contexts;
 mod deadlocks;
 mod granting;
 mod lists;
+pub(crate) mod spaces;
 
 use crate::contexts::acts::Lock;
 use mdl_key::{Duration, Mode};
@@ -48,14 +49,21 @@ pub(crate) struct Seen {
     pub(crate) cloned: u64,
     pub(crate) reused: u64,
     pub(crate) stale: u64,
+    pub(crate) unpinned: u64,
+    pub(crate) in_use: u64,
+    pub(crate) not_pinned: u64,
 }
 
-/// A space with a number of places. Locks get them in the order in which they are first requested.
+/// A space with a number of places. Locks get them in the order in which they are first requested, or looked up.
+///
+/// Its sessions make calls, and pin places, by contexts or without. A context never lacks a pin, so its calls don't note any.
 #[derive(Drop)]
 pub(crate) struct Plain {
     alloc: Global,
     places: usize,
     locks: Vec<Lock>,
+    // The locks whose places sessions pin by calls without contexts.
+    pinned: Vec<(u16, Lock)>,
     seats: [Seat; 5],
     tickets: Vec<Ticket>,
     pub(crate) seen: Seen,
@@ -74,6 +82,7 @@ impl Plain {
             alloc,
             places,
             locks: Vec::new(alloc),
+            pinned: Vec::new(alloc),
             seats: [
                 first,
                 Seat {
@@ -102,6 +111,9 @@ impl Plain {
                 cloned: 0,
                 reused: 0,
                 stale: 0,
+                unpinned: 0,
+                in_use: 0,
+                not_pinned: 0,
             },
         }
     }

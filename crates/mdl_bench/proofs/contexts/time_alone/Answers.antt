@@ -9,6 +9,7 @@ timed-lap-requires g c =
       speaks = c.in-Ok.ensures.speaks 1 (omega arith) (omega arith);
       serves = rw c.in-Ok.ensures.made (record { held = refl; wait = refl });
       known = All-nil _;
+      pinned = All-nil _;
       places = All-nil _;
       wish = tt;
     })

@@ -1,6 +1,7 @@
 -- The copy is gained, or a new ticket, or nothing has changed.
 use Rattle.std.proofs.Common.{refl, ap, ◌∙◌}
 use Rattle.mdl_calls.specs.SessionLocks.{cloning, gaining}
+use Rattle.mdl_context.proofs.GainLemmas.{placed-clone}
 use Rattle.mdl_context.proofs.asking.gain.Goals as goal
 
 pub returns-in-Ok-clause-own : goal.returns-in-Ok-clause-own
@@ -12,3 +13,7 @@ returns-in-Ok-clause-own g c =
 
 pub returns-in-Err-clause-own : goal.returns-in-Err-clause-own
 returns-in-Err-clause-own g c = g.met.S.LockSpace.laws.changes _ _ _ _ _ refl (rw c.in-Err.is at c.clone_ticket.ensures)
+
+pub returns-in-Err-clause-placed : goal.returns-in-Err-clause-placed
+returns-in-Err-clause-placed g c =
+    placed-clone _ c.args.who _ c.args.mode c.in-Err.refusal _ (g.met.S.LockSpace.laws.explains _ _ _ _ _ refl (rw c.in-Err.is at c.clone_ticket.ensures))

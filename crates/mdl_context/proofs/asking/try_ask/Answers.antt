@@ -1,5 +1,6 @@
 -- The ticket is gained, or nothing has changed.
 use Rattle.std.proofs.Common.{refl}
+use Rattle.mdl_context.proofs.GainLemmas.{placed-wish}
 use Rattle.mdl_context.proofs.asking.try_ask.Goals as goal
 
 pub returns-in-Ok-Granted-clause-own : goal.returns-in-Ok-Granted-clause-own
@@ -14,3 +15,7 @@ returns-in-Ok-WouldWait-clause-own g c =
 
 pub returns-in-Err-clause-own : goal.returns-in-Err-clause-own
 returns-in-Err-clause-own g c = g.met.S.LockSpace.laws.changes _ _ _ _ _ refl (rw c.in-Err.is at c.try_now.ensures)
+
+pub returns-in-Err-clause-placed : goal.returns-in-Err-clause-placed
+returns-in-Err-clause-placed g c =
+    placed-wish _ c.args.place c.args.mode c.in-Err.refusal _ (g.met.S.LockSpace.laws.explains _ _ _ _ _ refl (rw c.in-Err.is at c.try_now.ensures)) c.requires.pinned

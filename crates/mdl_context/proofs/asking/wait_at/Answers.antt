@@ -1,7 +1,7 @@
 -- The ticket is gained, or the wait begins, or nothing has changed.
 use Rattle.std.proofs.Common.{refl, ap}
 use Rattle.mdl_calls.specs.SessionLocks.{is_waiting}
-use Rattle.mdl_context.proofs.GainLemmas.{own-waited}
+use Rattle.mdl_context.proofs.GainLemmas.{own-waited, placed-want, placed-wish}
 use Rattle.mdl_context.proofs.asking.wait_at.Goals as goal
 
 pub wait_on-requires-clause-waits : goal.wait_on-requires-clause-waits
@@ -22,3 +22,10 @@ returns-in-Ok-Waiting-clause-own g c =
 
 pub returns-in-Err-clause-own : goal.returns-in-Err-clause-own
 returns-in-Err-clause-own g c = g.met.S.LockSpace.laws.changes _ _ _ _ _ refl (rw c.in-Err.is at c.begin_wait.ensures)
+
+pub returns-in-Ok-Waiting-clause-placed : goal.returns-in-Ok-Waiting-clause-placed
+returns-in-Ok-Waiting-clause-placed g c = placed-want c.wait_on.result c.wait_on.ensures.refused
+
+pub returns-in-Err-clause-placed : goal.returns-in-Err-clause-placed
+returns-in-Err-clause-placed g c =
+    placed-wish _ c.args.place c.args.mode c.in-Err.refusal _ (g.met.S.LockSpace.laws.explains _ _ _ _ _ refl (rw c.in-Err.is at c.begin_wait.ensures)) c.requires.pinned

@@ -8,3 +8,6 @@ returns-in-Ok-clause-run g c = run-waiting g.S.LockSpace.joins c.args.who c.args
 pub returns-in-Err-clause-run : goal.returns-in-Err-clause-run
 returns-in-Err-clause-run g c =
     run-refused g.S.LockSpace.joins c.args.who c.args.number c.in-Err.refusal _ _ _ (rw c.in-Err.is at c.seek.ensures.run) c.abandon.ensures.run
+
+pub returns-in-Err-clause-refused : goal.returns-in-Err-clause-refused
+returns-in-Err-clause-refused g c = rw c.in-Err.is at c.seek.ensures.refused

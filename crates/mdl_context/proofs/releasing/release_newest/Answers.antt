@@ -47,4 +47,5 @@ loop-at-preserved g c =
       known = c.remove.ensures.known ∙ known.known;
       waits = c.remove.ensures.wait ∙ known.waits;
       wait = ap (λ (own : SessionLocks). own.wait) c.release.ensures.own ∙ known.wait;
+      pins = ap (λ (own : SessionLocks). own.pins) c.release.ensures.own ∙ known.pins;
     }

@@ -20,4 +20,5 @@ invariant-loop-at g l = record {
   known : l.holdings.known ≡ l.fn.holdings.known;
   waits : l.holdings.wait ≡ l.fn.holdings.wait;
   wait : (g.S.LockSpace.own l.space l.who).wait ≡ (g.S.LockSpace.own l.fn.space l.who).wait;
+  pins : (g.S.LockSpace.own l.space l.who).pins ≡ (g.S.LockSpace.own l.fn.space l.who).pins;
 }

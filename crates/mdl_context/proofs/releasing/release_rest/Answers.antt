@@ -44,6 +44,7 @@ loop-at-preserved-then-names g c =
       held = ap (λ (own : SessionLocks). own.held) c.release.ensures.own
           ∙ held-goes p kept at more inside now (g.met.S.LockSpace.laws.rising _ _ known.speaks) known.held goes_now;
       wait = ap (λ (own : SessionLocks). own.wait) c.release.ensures.own ∙ known.wait;
+      pins = ap (λ (own : SessionLocks). own.pins) c.release.ensures.own ∙ known.pins;
     }
 
 pub loop-at-preserved : goal.loop-at-preserved
@@ -61,4 +62,5 @@ loop-at-preserved g c =
       run = λ b rest. known.run b (run-stays p kept at more inside g.S.LockSpace.joins c.args.who c.loop-at.space b stays_now rest);
       held = known.held ∙ sym (ap (map held_of) (left-stays p kept at more inside stays_now));
       wait = known.wait;
+      pins = known.pins;
     }

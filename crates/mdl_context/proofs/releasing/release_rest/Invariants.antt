@@ -17,4 +17,5 @@ invariant-loop-at g l = record {
       → Runs g.S.LockSpace.joins l.fn.space (releasing_all l.who (to_go (goes l.going) (length l.tickets) l.tickets)) tt b;
   held : (g.S.LockSpace.own l.space l.who).held ≡ map held_of (left (goes l.going) l.at l.tickets);
   wait : (g.S.LockSpace.own l.space l.who).wait ≡ (g.S.LockSpace.own l.fn.space l.who).wait;
+  pins : (g.S.LockSpace.own l.space l.who).pins ≡ (g.S.LockSpace.own l.fn.space l.who).pins;
 }

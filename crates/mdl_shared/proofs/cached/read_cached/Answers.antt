@@ -7,37 +7,40 @@ pub read_version_kept-version-requires : goal.read_version_kept-version-requires
 read_version_kept-version-requires g c =
     let m = c.session.inside.member in
     let t = c.in-Some.held in
-    let its = held-seen m c.args.id c.get.result c.get.ensures.found ∙ c.in-Some.is in
+    let its = held-seen m c.args.id c.get_to_read.result c.get_to_read.ensures.found ∙ c.in-Some.is in
     record { place = place-within (member m) t.place (ticket-known (member m) c.args.id t its) }
 
 pub overflow_cast-held : goal.overflow_cast-held
 overflow_cast-held g c =
     let m = c.session.inside.member in
     let t = c.in-Some.held in
-    let its = held-seen m c.args.id c.get.result c.get.ensures.found ∙ c.in-Some.is in
+    let its = held-seen m c.args.id c.get_to_read.result c.get_to_read.ensures.found ∙ c.in-Some.is in
     let at = place-within (member m) t.place (ticket-known (member m) c.args.id t its) in
     let narrow = (member m).narrow.1 in
     omega (arith, at.1, narrow)
+
+pub note_reached-requires : goal.note_reached-requires
+note_reached-requires g c = record { reached = c.in-Some.ensures.reached }
 
 pub invariant_of-member : goal.invariant_of-member
 invariant_of-member g c =
     let m = c.session.inside.member in
     let t = c.in-Some.held in
-    let its = held-seen m c.args.id c.get.result c.get.ensures.found ∙ c.in-Some.is in
+    let its = held-seen m c.args.id c.get_to_read.result c.get_to_read.ensures.found ∙ c.in-Some.is in
     let read = c.read_version_kept-version in
     let kept = c.args.cache.now.kept in
     let met = subst (λ (s : SessionView). AreMet (HasMet (data_of s) s.me.0.number) kept) (sym c.session.view_is) c.requires.met in
     let d = c.in-Some-look.definition.now in
     let hit = sym c.look.ensures.found ∙ ap option_copied c.in-Some-look.is in
     let made = read.ensures.noted d hit in
-    let room = c.note_all.new.self.room in
-    let keeps = c.note_all.ensures.rest.room in
+    let room = c.note_reached.new.self.room in
+    let keeps = c.note_reached.ensures.rest.room in
     let finds = seat-finds m c.args.id t its kept met read.new.self read.result d hit read.ensures.newest read.ensures.one made room keeps in
     record {
       lawful = ∣ kept-sound (Read_kept _ _) (member m) (noted-order (found-noted finds) (member m)) (seat-joins m c.args.id t its kept met read.new.self read.result d hit read.ensures.newest read.ensures.one made room keeps) ∣₁;
-      lists = lists-noted m (found-noted finds) refl c.note_all.ensures.noted;
-      room = λ ask asks. room-kept m.tickets c.note_all.new.self keeps (m.room ask asks);
-      owed = owed-both m c.note_all.ensures.rest.owes (noted-owes (found-noted finds));
+      lists = lists-noted m (found-noted finds) refl c.note_reached.ensures.noted;
+      room = λ ask asks. room-kept m.tickets c.note_reached.new.self keeps (m.room ask asks);
+      owed = owed-both m c.note_reached.ensures.rest.owes (noted-owes (found-noted finds));
     }
 
 pub invariant_of-member-in-None-look : goal.invariant_of-member-in-None-look
@@ -58,7 +61,7 @@ returns-after-look g c =
     let m = c.session.inside.member in
     let id = c.args.id in
     let t = c.in-Some.held in
-    let its = held-seen m id c.get.result c.get.ensures.found ∙ c.in-Some.is in
+    let its = held-seen m id c.get_to_read.result c.get_to_read.ensures.found ∙ c.in-Some.is in
     let read = c.read_version_kept-version in
     let kept = c.args.cache.now.kept in
     let met = subst (λ (s : SessionView). AreMet (HasMet (data_of s) s.me.0.number) kept) (sym c.session.view_is) c.requires.met in
@@ -68,8 +71,8 @@ returns-after-look g c =
           let d = w.in-Some-look.definition.now in
           let hit = sym c.look.ensures.found ∙ ap option_copied w.in-Some-look.is in
           let made = read.ensures.noted d hit in
-          let room = w.note_all.new.self.room in
-          let keeps = w.note_all.ensures.rest.room in
+          let room = w.note_reached.new.self.room in
+          let keeps = w.note_reached.ensures.rest.room in
           let finds = seat-finds m id t its kept met read.new.self read.result d hit read.ensures.newest read.ensures.one made room keeps in
           let joins = seat-joins m id t its kept met read.new.self read.result d hit read.ensures.newest read.ensures.one made room keeps in
           let still = seat-met m id t its kept met read.new.self read.result d hit read.ensures.newest read.ensures.one made room keeps in

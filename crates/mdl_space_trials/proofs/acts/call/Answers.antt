@@ -1,6 +1,9 @@
 -- Each call leaves the space speaking for the same sessions.
 use Rattle.mdl_space_trials.proofs.acts.call.Goals as goal
 
+pub returns-in-Unpin : goal.returns-in-Unpin
+returns-in-Unpin g c = λ w speaks. g.met.S.LockSpace.laws.keeps _ _ _ _ w speaks c.unpin.ensures
+
 pub returns-in-TryNow : goal.returns-in-TryNow
 returns-in-TryNow g c = λ w speaks. g.met.S.LockSpace.laws.keeps _ _ _ _ w speaks c.try_now.ensures
 

@@ -195,7 +195,7 @@ impl Plain {
     }
 
     // Returns the state of the session's wait. A settled wait is ended. If it is lost, its ticket is removed.
-    fn resume(&mut self, who: u16) -> Result<Resume, ContextError> {
+    pub(super) fn resume(&mut self, who: u16) -> Result<Resume, ContextError> {
         let Some(wait) = self.wait(who) else {
             return Err(ContextError::Space(SpaceError::NoWait));
         };
@@ -225,7 +225,7 @@ impl Plain {
     }
 
     // Kills the wait with this number. Whether there is one that wasn't settled before.
-    fn kill(&mut self, target: u16, number: u64) -> bool {
+    pub(super) fn kill(&mut self, target: u16, number: u64) -> bool {
         match self.wait(target) {
             Some(wait) if wait.number == number && wait.settled.is_none() => {
                 self.settle(target, Settled::Killed);

@@ -14,17 +14,22 @@ impl Plain {
     // Settles the waits of victims until the session is in no deadlock.
     pub(super) fn end_deadlocks(&mut self, who: u16) {
         for _search in 0..self.seats.len() {
-            let mut paths = Vec::new(self.alloc);
-            let victim = self.victim(&mut paths, who);
-            drop(paths);
-            match victim {
-                Some(victim) => {
-                    self.seen.victims = self.seen.victims.wrapping_add(1);
-                    self.settle(victim, Settled::Victim);
-                }
-                None => return,
+            if self.end_deadlock(who).is_none() {
+                return;
             }
         }
+    }
+
+    // Settles the wait of the victim of a deadlock that the session is in, and returns the victim. There is none if it is in no deadlock.
+    pub(super) fn end_deadlock(&mut self, who: u16) -> Option<u16> {
+        let mut paths = Vec::new(self.alloc);
+        let victim = self.victim(&mut paths, who);
+        drop(paths);
+        if let Some(victim) = victim {
+            self.seen.victims = self.seen.victims.wrapping_add(1);
+            self.settle(victim, Settled::Victim);
+        }
+        victim
     }
 
     // Returns the victim of the deadlock that a session is in, if there is one. All paths from the session are tried, the shorter ones first, and

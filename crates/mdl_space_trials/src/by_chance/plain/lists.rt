@@ -43,7 +43,7 @@ impl Plain {
     }
 
     // Returns the place of a lock, from 1, or 0 if it has none.
-    fn place_of(&self, lock: Lock) -> Place {
+    pub(super) fn place_of(&self, lock: Lock) -> Place {
         let mut place: Place = 1;
         for other in &self.locks {
             if *other == lock {

@@ -22,4 +22,10 @@ returns-in-None-clause-others g c =
     leaves g.S.LockSpace laws c.args.self.now.who (finding None (wish_of_request c.args.request) c.args.self.now) _ _ (c.look_up.result, c.look_up.new.self) (for_finding None (wish_of_request c.args.request) c.args.self.now) c.look_up.ensures.run
 
 pub returns-in-Some-clause-own : goal.returns-in-Some-clause-own
-returns-in-Some-clause-own g c = pins-nothing c.gain_at.result _ _ c.gain_at.ensures.own
+returns-in-Some-clause-own g c = pins-nothing _ c.gain_at.result _ _ c.gain_at.ensures.own
+
+pub returns-in-Some-clause-placed : goal.returns-in-Some-clause-placed
+returns-in-Some-clause-placed g c e = absurd (c.gain_at.ensures.placed e)
+
+pub returns-in-None-clause-placed : goal.returns-in-None-clause-placed
+returns-in-None-clause-placed g c = c.look_up.ensures.placed

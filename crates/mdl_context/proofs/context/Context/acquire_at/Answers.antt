@@ -30,3 +30,11 @@ returns-clause-others g c =
     let laws = g.met.S.LockSpace.laws in
     leaves g.S.LockSpace laws c.args.self.now.who (acquiring_at c.args.place (record { key = keyed.0; mode = c.args.mode; duration = c.args.duration }) c.args.self.now) _ _ (c.gain_at.result, c.gain_at.new.self)
     (for_reusing _ _ _ c.args.self.now) (c.gain_at.ensures.run keyed.0 keyed.2)
+
+pub returns-in_default-clause-placed : goal.returns-in_default-clause-placed
+returns-in_default-clause-placed g c e =
+    let none : kind_at c.args.place c.args.self.now.known ≡ None = search rules in
+    no-kind-key c.args.place c.args.self.now.known none
+
+pub returns-clause-placed : goal.returns-clause-placed
+returns-clause-placed g c e = absurd (c.gain_at.ensures.placed e)

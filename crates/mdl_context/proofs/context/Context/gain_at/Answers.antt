@@ -8,9 +8,9 @@ use Rattle.mdl_context.specs.declared.request.Acquire.TheVariants.{Acquired, Mus
 use Rattle.mdl_context.specs.Contexts.{ContextView, is_known_place}
 use Rattle.mdl_context.specs.Holdings.{context_of}
 use Rattle.mdl_context.specs.Terms.{wish_for}
-use Rattle.mdl_context.proofs.AttendLemmas.{attends-granted, attends-awaiting}
+use Rattle.mdl_context.proofs.AttendLemmas.{attends-pins, attends-granted, attends-awaiting}
 use Rattle.mdl_context.proofs.BeyondLemmas.{same-context}
-use Rattle.mdl_context.proofs.GainLemmas.{sufficient-held, run-reused, run-starved, run-gained}
+use Rattle.mdl_context.proofs.GainLemmas.{placed-space, sufficient-held, run-reused, run-starved, run-gained}
 use Rattle.mdl_context.proofs.PlaceLemmas.{enough-for, usable-for}
 use Rattle.mdl_context.proofs.context.Context.gain_at.Goals as goal
 
@@ -78,3 +78,11 @@ returns-then-is_err-clause-run g c key same =
     let usable = c.reusable.ensures ∙ usable-for c.args.place c.args.terms key c.self.inside.holdings.kept same in
     let after = same-context c.self.inside.who _ _ _ _ _ _ c.reserve.ensures.kept c.reserve.ensures.known (c.reserve.ensures.wait ∙ sym (rw (← c.self.view_is) at c.requires.idle)) in
     rw (← c.self.view_is) (run-starved g.S.LockSpace.joins c.args.place (wish_for key c.args.terms) before c.reusable.result usable _ _ c.in_default.is after)
+
+pub gain-requires-clause-pinned : goal.gain-requires-clause-pinned
+gain-requires-clause-pinned g c =
+    let before : ContextView = context_of c.self.inside.who c.self.inside.holdings in
+    attends-pins c.args.space.now before c.args.place (rw (← c.self.view_is) at c.requires.attends) (rw (← c.self.view_is) at c.requires.known)
+
+pub returns-in-Err-clause-placed : goal.returns-in-Err-clause-placed
+returns-in-Err-clause-placed g c = placed-space c.in-Err.refusal (rw c.in-Err.is at c.gain.ensures.placed)

@@ -2,7 +2,7 @@
 use Rattle.std.proofs.Common.{rules, ◌≡◌, [], ◌∷◌, ◌++◌, inl, inr, refl, sym, ap, ◌∙◌, subst}
 use Rattle.mdl_context.specs.Contexts.{ContextView, Attends, place_known}
 use Rattle.mdl_context.specs.Requests.{remembering}
-use Rattle.mdl_context.proofs.AttendLemmas.{attends-resolved, attends-learnt, known-last}
+use Rattle.mdl_context.proofs.AttendLemmas.{attends-resolved, attends-learnt, known-last, pinned-resolved}
 use Rattle.mdl_context.proofs.BeyondLemmas.{same-context}
 use Rattle.mdl_context.proofs.OthersLemmas.{leaves-call}
 use Rattle.mdl_context.proofs.context.Context.place_of.Goals as goal
@@ -40,7 +40,8 @@ returns-then-is_err-clause-others g c =
 pub returns-then-is_err-clause-own : goal.returns-then-is_err-clause-own
 returns-then-is_err-clause-own g c =
     let same : c.self.inside.who ≡ c.args.self.now.who = ap (λ (v : ContextView). v.who) c.self.view_is in
-    inr (c.in-Ok.place, g.met.S.LockSpace.laws.changes _ _ _ _ _ refl (rw (same, c.in-Ok.is) at c.resolve.ensures))
+    let step = rw (same, c.in-Ok.is) at c.resolve.ensures in
+    inr (c.in-Ok.place, g.met.S.LockSpace.laws.resolves _ _ _ _ _ step, g.met.S.LockSpace.laws.changes _ _ _ _ _ refl step)
 
 pub returns-clause-found : goal.returns-clause-found
 returns-clause-found g c =
@@ -55,6 +56,7 @@ returns-clause-attends g c =
     let still = attends-resolved g.S.LockSpace laws _ _ c.args.key.now _ c.args.self.now c.requires (rw (same, c.in-Ok.is) at c.resolve.ensures) in
     let learnt : c.remember.new.self.known ≡ c.self.inside.holdings.known ++ (c.args.key.now, c.in-Ok.place) ∷ [] = search rules in
     attends-learnt c.resolve.new.self c.args.key.now c.in-Ok.place c.args.self.now _ still (laws.resolves _ _ _ _ _ (rw (same, c.in-Ok.is) at c.resolve.ensures))
+    (pinned-resolved g.S.LockSpace laws _ _ _ _ _ (rw (same, c.in-Ok.is) at c.resolve.ensures))
     (same-context c.self.inside.who _ _ _ _ _ _ c.remember.ensures.kept learnt c.remember.ensures.wait ∙ ap (remembering c.args.key.now c.in-Ok.place) c.self.view_is)
 
 pub returns-clause-others : goal.returns-clause-others
@@ -70,4 +72,5 @@ returns-clause-learns g c =
 pub returns-clause-own : goal.returns-clause-own
 returns-clause-own g c =
     let same : c.self.inside.who ≡ c.args.self.now.who = ap (λ (v : ContextView). v.who) c.self.view_is in
-    inr (c.in-Ok.place, g.met.S.LockSpace.laws.changes _ _ _ _ _ refl (rw (same, c.in-Ok.is) at c.resolve.ensures))
+    let step = rw (same, c.in-Ok.is) at c.resolve.ensures in
+    inr (c.in-Ok.place, g.met.S.LockSpace.laws.resolves _ _ _ _ _ step, g.met.S.LockSpace.laws.changes _ _ _ _ _ refl step)

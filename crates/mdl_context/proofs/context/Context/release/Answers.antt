@@ -1,6 +1,7 @@
 -- What is kept is held.
 use Rattle.std.proofs.Common.{◌≡◌, true, refl, sym, ap, ◌∙◌}
 use Rattle.std.specs.Prelude.{is_some}
+use Rattle.mdl_calls.specs.Words.{SessionLocks}
 use Rattle.mdl_context.specs.Contexts.{has_number}
 use Rattle.mdl_context.proofs.AttendLemmas.{attends-left}
 use Rattle.mdl_context.proofs.BeyondLemmas.{holds-kept, serves-without}
@@ -13,6 +14,6 @@ release-requires-clause-held g c =
 
 pub returns-clause-attends : goal.returns-clause-attends
 returns-clause-attends g c =
-    attends-left _ _ _ _ _ (rw (← c.self.view_is) at c.requires) c.release.ensures.remembers c.release.ensures.speaks
+    attends-left _ _ _ _ _ (rw (← c.self.view_is) at c.requires) c.release.ensures.remembers (ap (λ (own : SessionLocks). own.pins) c.release.ensures.own) c.release.ensures.speaks
     (serves-without c.args.id _ _ _ _ (rw (← c.self.view_is) at c.requires.serves) c.release.ensures.own c.remove.ensures.kept c.remove.ensures.wait)
     refl c.remove.ensures.known c.remove.ensures.kept c.remove.ensures.wait (sym c.is_waiting.ensures ∙ c.if-is_waiting.false)

@@ -38,6 +38,6 @@ returns-in_default-clause-kept g c =
 
 pub returns-in-Some-clause-attends : goal.returns-in-Some-clause-attends
 returns-in-Some-clause-attends g c =
-    attends-left _ _ _ _ _ (rw (← c.self.view_is) at c.requires.attends) c.release_all.ensures.remembers c.release_all.ensures.speaks
+    attends-left _ _ _ _ _ (rw (← c.self.view_is) at c.requires.attends) c.release_all.ensures.remembers c.release_all.ensures.pins c.release_all.ensures.speaks
     (serves-left _ _ _ _ (rw (← c.self.view_is) at c.requires.attends.serves) c.release_all.ensures.held c.release_all.ensures.wait c.release_all.ensures.waits)
     refl c.release_all.ensures.known c.release_all.ensures.kept c.release_all.ensures.waits (ap is_some (rw (← c.self.view_is) at c.requires.idle))

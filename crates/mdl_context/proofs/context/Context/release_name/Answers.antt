@@ -39,7 +39,7 @@ returns-in_default-clause-run g c =
 
 pub returns-clause-attends : goal.returns-clause-attends
 returns-clause-attends g c =
-    attends-left _ _ _ _ _ (rw (← c.self.view_is) at c.requires) c.release_all.ensures.remembers c.release_all.ensures.speaks
+    attends-left _ _ _ _ _ (rw (← c.self.view_is) at c.requires) c.release_all.ensures.remembers c.release_all.ensures.pins c.release_all.ensures.speaks
     (serves-left _ _ _ _ (rw (← c.self.view_is) at c.requires.serves) c.release_all.ensures.held c.release_all.ensures.wait c.release_all.ensures.waits)
     refl c.release_all.ensures.known c.release_all.ensures.kept c.release_all.ensures.waits (sym c.is_waiting.ensures ∙ c.if-is_waiting.false)
 

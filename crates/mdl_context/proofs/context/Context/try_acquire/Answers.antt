@@ -23,4 +23,10 @@ returns-in-None-clause-others g c =
     (for_trying_found None (wish_of_request c.args.request) c.args.self.now) c.look_up_and_try.ensures.run
 
 pub returns-in-Some-clause-own : goal.returns-in-Some-clause-own
-returns-in-Some-clause-own g c = pins-nothing-tried c.try_at.result _ _ c.try_at.ensures.own
+returns-in-Some-clause-own g c = pins-nothing-tried _ c.try_at.result _ _ c.try_at.ensures.own
+
+pub returns-in-Some-clause-placed : goal.returns-in-Some-clause-placed
+returns-in-Some-clause-placed g c e = absurd (c.try_at.ensures.placed e)
+
+pub returns-in-None-clause-placed : goal.returns-in-None-clause-placed
+returns-in-None-clause-placed g c = c.look_up_and_try.ensures.placed

@@ -14,6 +14,7 @@ use Rattle.mdl_context.specs.Upgrades.{upgrading, waiting_to_upgrade}
 use Rattle.mdl_context.proofs.BeyondLemmas.{same-context}
 use Rattle.mdl_context.proofs.AttendLemmas.{attends-still}
 use Rattle.mdl_context.proofs.OthersLemmas.{leaves, for_upgrading}
+use Rattle.mdl_context.proofs.GainLemmas.{placed-space, placed-upgrade}
 use Rattle.mdl_context.proofs.UpgradeLemmas.{HasAsked, attends-in_mode, fault-none, fault-waiting, fault-absent, kept-number, wish-kept, wish-none, wait-fits, run-upgrading}
 use Rattle.mdl_calls.proofs.FaithfulLemmas.{each_reply}
 use Rattle.mdl_context.specs.Outcomes.{UpgradeComesTo}
@@ -126,3 +127,8 @@ returns-in-Ok-WouldWait-clause-own g c =
     let still : g.S.LockSpace.own c.upgrade_now.new.self c.args.self.now.who ≡ g.S.LockSpace.own c.args.space.now c.args.self.now.who =
     g.met.S.LockSpace.laws.changes _ _ _ _ _ refl (rw (same, c.in-Ok-WouldWait.is, c.in-Ok-WouldWait.field-0-is) at c.upgrade_now.ensures) in
     subst (λ (own : SessionLocks). OnErr c.wait_to_upgrade.result (g.S.LockSpace.own c.wait_to_upgrade.new.space c.args.self.now.who ≡ own)) still c.wait_to_upgrade.ensures.own
+
+pub returns-in-Err-clause-placed : goal.returns-in-Err-clause-placed
+returns-in-Err-clause-placed g c =
+    placed-space c.in-Err.refusal
+    (placed-upgrade _ c.self.inside.who c.args.id c.args.mode c.in-Err.refusal _ (g.met.S.LockSpace.laws.explains _ _ _ _ _ refl (rw c.in-Err.is at c.upgrade_now.ensures)))

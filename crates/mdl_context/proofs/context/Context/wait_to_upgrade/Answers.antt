@@ -7,7 +7,8 @@ use Rattle.mdl_context.specs.declared.request.Acquire.TheVariants.{Acquired, Mus
 use Rattle.mdl_context.specs.Holdings.{context_of}
 use Rattle.mdl_context.specs.Upgrades.{HasSecond, with_ticket_mode}
 use Rattle.mdl_context.proofs.BeyondLemmas.{same-context}
-use Rattle.mdl_context.proofs.UpgradeLemmas.{HasAsked, has-gained, kept-number, attends-to-upgrade, run-united, run-parted, run-awaiting, run-unasked}
+use Rattle.mdl_context.proofs.GainLemmas.{placed-merge, placed-space}
+use Rattle.mdl_context.proofs.UpgradeLemmas.{wanted-pinned, HasAsked, has-gained, kept-number, attends-to-upgrade, run-united, run-parted, run-awaiting, run-unasked}
 use Rattle.mdl_calls.specs.Words.{IsRising, giving_up}
 use Rattle.mdl_context.specs.Contexts.{ContextView}
 use Rattle.mdl_context.proofs.SeekLemmas.{gained-given_up}
@@ -83,3 +84,14 @@ returns-in-Err-merge_ticket-clause-own g c =
     subst (λ (who : ℕ). g.S.LockSpace.own c.merge_ticket.new.space who ≡ g.S.LockSpace.own c.args.space.now who) same
     (gone ∙ ap (giving_up new) gained
     ∙ gained-given_up new c.args.wanted.place c.args.wanted.mode _ (subst IsRising gained (g.met.S.LockSpace.laws.rising _ _ c.wait_at.ensures.speaks)))
+
+pub wait_at-requires-clause-pinned : goal.wait_at-requires-clause-pinned
+wait_at-requires-clause-pinned g c =
+    wanted-pinned c.args.space.now (context_of c.self.inside.who c.self.inside.holdings) c.args.id c.args.wanted (rw (← c.self.view_is) at c.requires.attends) (rw (← c.self.view_is) at c.requires.kept)
+
+pub returns-in-Err-merge_ticket-clause-placed : goal.returns-in-Err-merge_ticket-clause-placed
+returns-in-Err-merge_ticket-clause-placed g c =
+    placed-space c.in-Err-merge_ticket.refusal (placed-merge c.in-Err-merge_ticket.refusal (rw c.in-Err-merge_ticket.is at c.merge_ticket.ensures.refused))
+
+pub returns-in-Err-clause-placed : goal.returns-in-Err-clause-placed
+returns-in-Err-clause-placed g c = placed-space c.in-Err.refusal (rw c.in-Err.is at c.wait_at.ensures.placed)

@@ -7,13 +7,13 @@ use Rattle.mdl_shared.proofs.member.Member.begin_by_latch.Goals as goal
 pub overflow_add-wait : goal.overflow_add-wait
 overflow_add-wait g c =
     let m = c.args.self.now in
-    let may = may-wish m c.args.place c.args.kind c.args.mode (c.requires.may.known, c.requires.may.clear) in
+    let may = may-wish m c.args.place c.args.kind c.args.mode (c.requires.may.pinned, c.requires.may.clear) in
     omega (arith, may.below, (member m).fewer.0, ap (λ (l : Lists). l.waits) m.lists)
 
 pub begin_wait-requires : goal.begin_wait-requires
 begin_wait-requires g c =
     let m = c.args.self.now in
-    let may = may-wish m c.args.place c.args.kind c.args.mode (c.requires.may.known, c.requires.may.clear) in
+    let may = may-wish m c.args.place c.args.kind c.args.mode (c.requires.may.pinned, c.requires.may.clear) in
     let waits = ap (λ (l : Lists). l.waits) m.lists in record {
       may = record { at = may.at; wish = may.wish };
       new = record {
@@ -46,13 +46,13 @@ push_reserved-requires-clause-slow g c = none-seen c.args.self.now c.args.place 
 pub overflow_add-self : goal.overflow_add-self
 overflow_add-self g c =
     let m = c.args.self.now in
-    let may = may-wish m c.args.place c.args.kind c.args.mode (c.requires.may.known, c.requires.may.clear) in
+    let may = may-wish m c.args.place c.args.kind c.args.mode (c.requires.may.pinned, c.requires.may.clear) in
     omega (arith, may.below, ap (λ (l : Lists). l.next) m.lists)
 
 pub invariant_of-self : goal.invariant_of-self
 invariant_of-self g c =
     let m = c.args.self.now in
-    let may = may-wish m c.args.place c.args.kind c.args.mode (c.requires.may.known, c.requires.may.clear) in
+    let may = may-wish m c.args.place c.args.kind c.args.mode (c.requires.may.pinned, c.requires.may.clear) in
     let visit = (c.begin_wait.ensures.granted (c.in-Ok-Granted.is ∙ ap Ok c.in-Ok-Granted.field-0-is)).0 in
     let done = gained-by m c.begin_wait.new.seat c.args.place c.args.mode c.requires.may.unfast visit in
     record {
@@ -82,7 +82,7 @@ returns-in-Ok-Granted g c =
 pub invariant_of-self-2 : goal.invariant_of-self-2
 invariant_of-self-2 g c =
     let m = c.args.self.now in
-    let may = may-wish m c.args.place c.args.kind c.args.mode (c.requires.may.known, c.requires.may.clear) in
+    let may = may-wish m c.args.place c.args.kind c.args.mode (c.requires.may.pinned, c.requires.may.clear) in
     let now = begun m.seat c.begin_wait.new.seat m.sessions {room = m.tickets.room} {pins = m.known.pins} (c.begin_wait.ensures.waiting (c.in-Ok-Waiting.is ∙ ap Ok c.in-Ok-Waiting.field-0-is)).0 in
     record {
       lawful = ∣ kept (Begin_wait _ _ _) (member m) (begun-order (member m) may.clear now (unfast-seen m c.requires.may.unfast)) (begun-joins (member m) may.clear now refl) ∣₁;

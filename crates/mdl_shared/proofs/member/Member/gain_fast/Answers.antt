@@ -10,12 +10,12 @@ returns-then-fast_at-ge-MOST_FAST-clause-unchanged c = (quiet-none (view_of c.ar
 
 pub try_fast-tried-requires-clause-place : goal.try_fast-tried-requires-clause-place
 try_fast-tried-requires-clause-place c =
-    (may-ask-fast c.args.self.now c.args.place c.args.mode c.args.one c.requires.may.idle c.requires.may.counted c.requires.may.number).at.is_place
+    (may-ask-fast c.args.self.now c.args.place c.args.mode c.args.one c.requires.may.idle c.requires.may.pinned c.requires.may.counted c.requires.may.number).at.is_place
 
 pub try_fast-tried-requires-clause-gained : goal.try_fast-tried-requires-clause-gained
 try_fast-tried-requires-clause-gained c =
     let m = c.args.self.now in
-    let may = may-ask-fast m c.args.place c.args.mode c.args.one c.requires.may.idle c.requires.may.counted c.requires.may.number in
+    let may = may-ask-fast m c.args.place c.args.mode c.args.one c.requires.may.idle c.requires.may.pinned c.requires.may.counted c.requires.may.number in
     let count = ap (λ (l : Lists). length (own_at c.args.place l.fast)) m.lists in record {
       idle = may.idle;
       counted_so = may.counted_so;
@@ -78,7 +78,7 @@ pub invariant_of-self-2 : goal.invariant_of-self-2
 invariant_of-self-2 c =
     let m = c.args.self.now in
     let is = member m in
-    let may = may-ask-fast m c.args.place c.args.mode c.args.one c.requires.may.idle c.requires.may.counted c.requires.may.number in
+    let may = may-ask-fast m c.args.place c.args.mode c.args.one c.requires.may.idle c.requires.may.pinned c.requires.may.counted c.requires.may.number in
     let granted = c.try_fast-tried.ensures.granted c.in-Granted.is in
     let noted = c.note_of-noted.ensures ∙ ap (λ (l : Lists). first_note (own_at c.args.place l.fast ++ own_at c.args.place l.slow)) m.lists in
     let done = (fast-granted m.seat c.try_fast-tried.new.seat m.sessions is may.idle may.counted noted granted.0).done in record {
@@ -92,7 +92,7 @@ invariant_of-self-2 c =
 pub returns-clause-granted : goal.returns-clause-granted
 returns-clause-granted c =
     let m = c.args.self.now in
-    let may = may-ask-fast m c.args.place c.args.mode c.args.one c.requires.may.idle c.requires.may.counted c.requires.may.number in
+    let may = may-ask-fast m c.args.place c.args.mode c.args.one c.requires.may.idle c.requires.may.pinned c.requires.may.counted c.requires.may.number in
     let granted = c.try_fast-tried.ensures.granted c.in-Granted.is in
     let noted = c.note_of-noted.ensures ∙ ap (λ (l : Lists). first_note (own_at c.args.place l.fast ++ own_at c.args.place l.slow)) m.lists in
     let first = ap (λ (l : Lists). l.next) m.lists in

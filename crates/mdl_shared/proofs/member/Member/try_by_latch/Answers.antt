@@ -6,7 +6,7 @@ use Rattle.mdl_shared.proofs.member.Member.try_by_latch.Goals as goal
 pub try_now-requires : goal.try_now-requires
 try_now-requires g c =
     let m = c.args.self.now in
-    let may = may-wish m c.args.place c.args.kind c.args.mode (c.requires.may.known, c.requires.may.clear) in record {
+    let may = may-wish m c.args.place c.args.kind c.args.mode (c.requires.may.pinned, c.requires.may.clear) in record {
       may = record { at = may.at; wish = may.wish };
       number = ap (λ (l : Lists). l.next) m.lists;
     }
@@ -20,7 +20,7 @@ push_reserved-requires-clause-slow g c = none-seen c.args.self.now c.args.place 
 pub overflow_add-self : goal.overflow_add-self
 overflow_add-self g c =
     let m = c.args.self.now in
-    let may = may-wish m c.args.place c.args.kind c.args.mode (c.requires.may.known, c.requires.may.clear) in
+    let may = may-wish m c.args.place c.args.kind c.args.mode (c.requires.may.pinned, c.requires.may.clear) in
     omega (arith, may.below, ap (λ (l : Lists). l.next) m.lists)
 
 pub invariant_of-self : goal.invariant_of-self
@@ -64,7 +64,7 @@ invariant_of-self-in-Err-1 g c =
 pub invariant_of-self-2 : goal.invariant_of-self-2
 invariant_of-self-2 g c =
     let m = c.args.self.now in
-    let may = may-wish m c.args.place c.args.kind c.args.mode (c.requires.may.known, c.requires.may.clear) in
+    let may = may-wish m c.args.place c.args.kind c.args.mode (c.requires.may.pinned, c.requires.may.clear) in
     let visit = (c.try_now.ensures.granted (c.in-Ok-Granted.is ∙ ap Ok c.in-Ok-Granted.field-0-is)).0 in
     let done = gained-by m c.try_now.new.seat c.args.place c.args.mode c.requires.may.unfast visit in
     record {

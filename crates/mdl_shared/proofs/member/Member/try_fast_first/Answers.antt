@@ -1,13 +1,13 @@
--- The session knows the place. Where no fast ticket is granted its own become slow ones.
+-- The session pins the place. Where no fast ticket is granted its own become slow ones.
 use Rattle.std.proofs.Common.{Err, [], ap, arith, refl, rules, subst, sym, ◌∙◌, ◌≡◌}
-use Rattle.mdl_shared.proofs.Lemmas.{KeepsRoom, Lists, TicketList, keeps-before, kind_known, kind_place, lists-done, member, member-room, place-within, quiet-steps, quiet-then, room-kept, unfast-seen, view_of}
+use Rattle.mdl_shared.proofs.Lemmas.{KeepsRoom, Lists, TicketList, keeps-before, kind-pinned, kind_known, kind_place, lists-done, member, member-room, place-within, quiet-steps, quiet-then, room-kept, unfast-seen, view_of}
 use Rattle.mdl_shared.proofs.FastWishing.{fast-still, lacks-later, made-later, quiet-room}
 use Rattle.mdl_shared.proofs.member.Member.try_fast_first.Goals as goal
 
 pub reserve-requires : goal.reserve-requires
 reserve-requires g c =
     let m = c.args.self.now in
-    let known = ap (λ (l : Lists). kind_known c.args.place l.known) (sym m.lists) ∙ c.requires.may.known in
+    let known = ap (λ (l : Lists). kind_known c.args.place l.known) (sym m.lists) ∙ (kind-pinned c.args.place m.known.pins m.known.known c.requires.may.pinned).1 in
     let at = place-within (member m) c.args.place (kind_place c.args.place c.args.kind m.seat.me.0.known known) in
     omega (arith, at.1, (member m).narrow.1)
 

@@ -7,6 +7,7 @@ try_with_room-requires c =
     let may = c.requires.may.1 in record {
       may = record {
         idle = may.idle;
+        pinned = may.pinned;
         counted = by-weight c.args.place c.args.mode c.args.self.now.known.known c.weight.result (ap is_some may.counted) c.weight.ensures;
         number = may.number;
         room = may.room;

@@ -7,7 +7,7 @@ returns-in-Ok-clause-tried c =
     let m = c.args.self.now in
     let now = c.gain_fast.new.self in
     let gained = c.in-Ok.ensures.granted in
-    let clear = (may-ask-fast m c.args.place c.args.mode c.args.one c.requires.may.idle c.requires.may.counted c.requires.may.number).clear in
+    let clear = (may-ask-fast m c.args.place c.args.mode c.args.one c.requires.may.idle c.requires.may.pinned c.requires.may.counted c.requires.may.number).clear in
     let fewer = fewer-seen m c.args.place c.gain_fast.ensures.fewer (λ limit. let never = sym limit ∙ c.in-Ok.is in cc) in
     tried-granted m now c.args.place fewer c.args.mode c.in-Ok.number clear gained.0 gained.1 gained.2 gained.3 c.gain_fast.ensures.room
 

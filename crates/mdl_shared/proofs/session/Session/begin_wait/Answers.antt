@@ -1,6 +1,6 @@
 -- The session may wish so. What became of the wish is told by the fast path, or by the latch of the place.
 use Rattle.std.proofs.Common.{Err, Ok, Some, ap, rules, ◌∙◌, ◌≡◌}
-use Rattle.mdl_shared.proofs.Lemmas.{Begin_wait, begin-fast, begin-full, begin-unfit, begun-slow, fault-seen, full-fast, kind_known, may-wish, member, own-shows, same-lists, view_of, visit-seen, wish_fault}
+use Rattle.mdl_shared.proofs.Lemmas.{Begin_wait, begin-fast, begin-full, begin-unfit, begun-slow, fault-seen, full-fast, kind_pinned, may-wish, member, own-shows, same-lists, view_of, visit-seen, wish_fault}
 use Rattle.mdl_shared.proofs.session.Session.begin_wait.Goals as goal
 
 pub returns-in_err-kind : goal.returns-in_err-kind
@@ -39,7 +39,7 @@ begin_by_latch-requires g c =
     let same = same-lists m c.try_fast_first.new.self slow.0.quiet.done in
     record {
       may = record {
-        known = ap (kind_known c.args.place) same.known ∙ c.in_ok-kind.ensures.0;
+        pinned = (λ i. kind_pinned c.args.place (same.pins i) (same.known i)) ∙ c.in_ok-kind.ensures.0;
         clear = (λ i. wish_fault (Some kind) (same.asks i) c.args.mode (same.next i)) ∙ c.in_ok-kind.ensures.1;
         unfast = slow.2;
         room = slow.3;

@@ -23,7 +23,7 @@ returns-clause-joined g c =
     ap (λ (l : Lists). key_known c.args.place l.known) (sym m.lists) ∙ sym c.key_at.ensures ∙ ap option_copied c.in-Some.is in
     rw (← c.self.view_is) (elim c.match-clone.branch [
       | in-Ok w ↦ rw w.result-is (
-          joins-still s s (Key_of s.me.0.number c.args.place) (Key_is w.in-Ok.key) (same-stays s) (speaks (member m)) refl refl refl refl tt tt refl
+          joins-still s s (Key_of s.me.0.number c.args.place) (Key_is w.in-Ok.key) (same-stays s) (speaks (member m)) refl refl refl refl tt refl
           (λ state how is. cc) (λ how is. cc) refl (λ r. r) (known ∙ ap (λ k. Some k) (sym w.in-Ok.ensures.cases))
           )
       | in-Err w ↦ rw w.result-is (

@@ -1,7 +1,7 @@
 -- The place of a key by the directory.
-use Rattle.std.proofs.Common.{◌≡◌, ◌≤◌, ℕ, List, [], ◌∷◌, ◌++◌, None, inr, refl, sym, ap, subst, ◌∙◌, arith}
-use Rattle.mdl_shared.proofs.Lemmas.{At_place, IsMember, Joins, KeyName, KnownKey, Lists, NoPlace, OutOfMemory, Refused, Resolve, SpaceError, data_of, done-nothing, done-order, is_known, kept, last-is_known, learnt-order, learnt-owes, lists-learnt, lists-stepped, member, no_place-joins, order-pinned, owed-on, owed-stepped, place_known, refused, resolve-joins, resolved, same-stays, session_at, speaks, stepped, view_of}
-use Rattle.mdl_shared.proofs.FirstLemmas.{with_place}
+use Rattle.std.proofs.Common.{◌≡◌, ◌≤◌, ℕ, List, [], ◌∷◌, ◌++◌, None, Some, inr, refl, sym, ap, subst, ◌∙◌, arith}
+use Rattle.mdl_shared.proofs.Lemmas.{At_place, IsMember, Joins, KeyName, KnownKey, Lists, NoPlace, OutOfMemory, Refused, Resolve, SpaceError, data_of, done-nothing, done-order, is_known, kept, kind_known, last-kind, learnt-order, learnt-owes, lists-learnt, lists-stepped, member, no_place-joins, order-pinned, owed-on, owed-stepped, place_known, refused, resolve-joins, resolved, same-stays, session_at, speaks, stepped, view_of}
+use Rattle.mdl_shared.proofs.FirstLemmas.{kind_of, with_place}
 use Rattle.mdl_visits.specs.KnownLists.{KnownList}
 use Rattle.mdl_shared.proofs.session.Session.look_up.Goals as goal
 use Rattle.mdl_shared.proofs.session.Session.look_up.Goals.{in-NoPlace, in-OutOfMemory}
@@ -70,8 +70,16 @@ push_reserved-requires-clause-unknown g c =
 
 pub pin-requires : goal.pin-requires
 pin-requires g c =
+    let m = c.self.inside.member in
     let place = c.in-Ok-resolve.place in
-    record { known = ap (is_known place) c.push_reserved.ensures.known ∙ last-is_known c.reserve.new.self.known (record { key = c.in-Ok.key_kept; place = place }) }
+    let none : place_known c.args.key.now m.seat.me.0.known ≡ None = rw (← c.self.view_is) at c.requires.unknown in
+    let told = resolved m.seat c.resolve.new.seat m.sessions place {room = m.tickets.room} {room′ = m.tickets.room} {pins = m.known.pins} c.args.key.now none c.in-Ok-resolve.ensures.known c.in-Ok-resolve.ensures.answer in
+    let new = ap (is_known place) c.reserve.ensures.same ∙ ap (λ (l : Lists). is_known place l.known) m.lists ∙ told.2 in
+    let one : KnownKey = record { key = c.in-Ok.key_kept; place = place } in
+    record {
+      kind = ap (kind_known place) c.push_reserved.ensures.known ∙ last-kind c.reserve.new.self.known one new
+          ∙ ap (λ (k : KeyName). Some (kind_of k.namespace)) c.in-Ok.ensures.cases ∙ ap (λ k. Some k) (sym c.kind.ensures);
+    }
 
 pub invariant_of-member-2 : goal.invariant_of-member-2
 invariant_of-member-2 g c =
@@ -85,7 +93,7 @@ invariant_of-member-2 g c =
     ap (λ (k : KnownList). k.pins) c.pin.ensures.pins ∙ ap (with_place place) (c.push_reserved.ensures.pins ∙ c.reserve.ensures.pins) in
     record {
       lawful = ∣ subst (λ (ps : List ℕ). IsMember (session_at c.resolve.new.seat m.sessions m.tickets.room ps)) (sym pins)
-          (kept (Resolve _ _) is (order-pinned place (learnt-order told.0 is told.1)) (resolve-joins is key none place told.2 told.0)) ∣₁;
+          (kept (Resolve _ _) is (order-pinned (with_place place m.known.pins) (learnt-order told.0 is told.1)) (resolve-joins is key none place told.2 told.0)) ∣₁;
       lists = lists-learnt m told.0 (ap (λ (k : KnownList). k.known) c.pin.ensures.pins ∙ c.push_reserved.ensures.known
           ∙ ap (λ (k : KeyName). c.reserve.new.self.known ++ record { key = k; place = place } ∷ []) c.in-Ok.ensures.cases
           ∙ ap (λ (ks : List KnownKey). ks ++ record { key = key; place = place } ∷ []) c.reserve.ensures.same);

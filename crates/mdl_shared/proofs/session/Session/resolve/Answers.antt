@@ -1,6 +1,7 @@
 -- The place of a key, by the session's own list or by the directory.
 use Rattle.std.proofs.Common.{◌≡◌, Some, refl, sym, ap, subst, ◌∙◌, arith}
-use Rattle.mdl_shared.proofs.Lemmas.{At_place, IsMember, Joins, Lists, Resolve, data_of, does-nothing, keeps-same, kept, known-joins, member, order-pinned, order-same, place-is_known, place_known, place_within, session_at, view_of}
+use Rattle.mdl_shared.proofs.Lemmas.{At_place, IsMember, Joins, Lists, Resolve, are_apart, data_of, does-nothing, keeps-same, kept, key-kind, known-joins, member, order-pinned, order-same, place_known, place_within, session_at, view_of}
+use Rattle.mdl_shared.proofs.FirstLemmas.{with_place}
 use Rattle.mdl_shared.proofs.session.Session.resolve.Goals as goal
 use Rattle.mdl_visits.specs.KnownLists.{KnownList}
 
@@ -17,7 +18,9 @@ overflow_cast-result g c =
 
 pub pin-requires : goal.pin-requires
 pin-requires g c =
-    record { known = place-is_known c.self.inside.member.known.known c.args.key.now c.in-Some.place (sym c.place_of.ensures ∙ c.in-Some.is) }
+    let m = c.self.inside.member in
+    let apart = ap (λ (l : Lists). are_apart l.known) m.lists ∙ (member m).sound.apart in
+    record { kind = key-kind m.known.known c.args.key.now c.in-Some.place apart (sym c.place_of.ensures ∙ c.in-Some.is) ∙ ap (λ k. Some k) (sym c.kind.ensures) }
 
 pub invariant_of-self-inside : goal.invariant_of-self-inside
 invariant_of-self-inside g c =
@@ -28,7 +31,7 @@ invariant_of-self-inside g c =
     let found : place_known key m.seat.me.0.known ≡ Some place = ap (λ (l : Lists). place_known key l.known) (sym m.lists) ∙ sym c.place_of.ensures ∙ c.in-Some.is in
     record {
       lawful = ∣ subst (λ (k : KnownList). IsMember (session_at m.seat m.sessions m.tickets.room k.pins)) (sym c.pin.ensures.pins)
-          (kept (Resolve _ _) is (order-pinned place (order-same is)) (known-joins is key place found)) ∣₁;
+          (kept (Resolve _ _) is (order-pinned (with_place place m.known.pins) (order-same is)) (known-joins is key place found)) ∣₁;
       lists = ap (λ (k : KnownList). record { slow = m.tickets.slow; fast = m.tickets.fast; known = k.known; next = m.next; asks = m.asks; waits = m.waits }) c.pin.ensures.pins ∙ m.lists;
       room = m.room;
       owed = m.owed;

@@ -13,7 +13,7 @@ with_held seat held = record { held = held; wait = seat.wait; pins = seat.pins; 
 pub returns-in-Some : goal.returns-in-Some
 returns-in-Some c =
     let inside = c.self.inside in
-    let seat : SeatView = record { held = inside.held.items; wait = inside.wait; pins = inside.pins.items; last_ticket = inside.last_ticket; last_wait = inside.last_wait } in
+    let seat : SeatView = record { held = inside.held.items; wait = inside.wait; pins = inside.pins.places; last_ticket = inside.last_ticket; last_wait = inside.last_wait } in
     let place = rw c.deref.ensures.value at (sym c.in-Some.is ∙ c.index_of.ensures) in
     let rising : IsTrue (are_rising inside.held.items) = rw (← c.self.view_is) at c.requires in
     let changed = with_mode_at c.args.id c.args.mode inside.held.items c.in-Some.at c.index_mut.result.now rising place c.index_mut.ensures.value in
@@ -22,7 +22,7 @@ returns-in-Some c =
 pub returns-in_default : goal.returns-in_default
 returns-in_default c =
     let inside = c.self.inside in
-    let seat : SeatView = record { held = inside.held.items; wait = inside.wait; pins = inside.pins.items; last_ticket = inside.last_ticket; last_wait = inside.last_wait } in
+    let seat : SeatView = record { held = inside.held.items; wait = inside.wait; pins = inside.pins.places; last_ticket = inside.last_ticket; last_wait = inside.last_wait } in
     let place = rw c.deref.ensures.value at (sym c.in_default.is ∙ c.index_of.ensures) in
     let same = sym (with_mode_none c.args.id c.args.mode inside.held.items place) in
     rw (← c.self.view_is) (ap (with_held seat) same)

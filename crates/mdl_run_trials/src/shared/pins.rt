@@ -1,0 +1,143 @@
+//! Sessions request locks only at places that they pin, and give up their pins.
+use crate::shared::acts::{Act, Lock, Memory, Reply};
+use crate::shared::rows::{Case, Row, are_right};
+use mdl_calls::{Ended, SpaceError};
+use mdl_key::Mode;
+use std::test::Fail;
+
+const NO_PLACE: Reply = Reply::Refused(SpaceError::NoPlace);
+
+const IN_USE: Reply = Reply::Refused(SpaceError::InUse);
+
+const WAITS_ALREADY: Reply = Reply::Refused(SpaceError::AlreadyWaiting);
+
+const BAD_MODE: Reply = Reply::Refused(SpaceError::BadMode);
+
+// A pin that was given up is had again, at the same place. Another session's pin isn't touched, and the key stays known.
+const GIVEN_UP: &[Row] = &[
+    (1, Act::Unpin(1), NO_PLACE),
+    (1, Act::Resolve(Lock::Sales), Reply::Place(1)),
+    (2, Act::Resolve(Lock::Sales), Reply::Place(1)),
+    (1, Act::Unpin(1), Reply::Done),
+    (1, Act::Unpin(1), NO_PLACE),
+    (1, Act::Try(1, Mode::SR), NO_PLACE),
+    (1, Act::Begin(1, Mode::SR), NO_PLACE),
+    (1, Act::TryFast(1, Mode::SR), NO_PLACE),
+    (1, Act::Names(1, Lock::Sales), Reply::Is(true)),
+    (2, Act::Try(1, Mode::X), Reply::Granted(1)),
+    (1, Act::Resolve(Lock::Sales), Reply::Place(1)),
+    (1, Act::Begin(1, Mode::SR), Reply::Waiting(1)),
+    (2, Act::Release(1), Reply::Done),
+    (1, Act::End, Reply::Ended(Ended::Granted(1))),
+    (1, Act::TryFast(1, Mode::SR), Reply::Granted(2)),
+    (1, Act::ReleaseAll, Reply::Count(2)),
+];
+
+// However often a key was looked up, one call gives the pin up. A place may be unknown, or there may be none.
+const GIVEN_UP_ONCE: &[Row] = &[
+    (1, Act::Resolve(Lock::Sales), Reply::Place(1)),
+    (1, Act::Resolve(Lock::Sales), Reply::Place(1)),
+    (1, Act::Unpin(1), Reply::Done),
+    (1, Act::Unpin(1), NO_PLACE),
+    (2, Act::Unpin(1), NO_PLACE),
+    (1, Act::Resolve(Lock::Orders), Reply::Place(2)),
+    (1, Act::Unpin(0), NO_PLACE),
+    (1, Act::Unpin(1), NO_PLACE),
+    (1, Act::Unpin(3), NO_PLACE),
+    (1, Act::Unpin(u16::MAX), NO_PLACE),
+    (1, Act::Unpin(2), Reply::Done),
+];
+
+// A session keeps the pin of a place where it has a ticket, a slow or a fast one, or a wait, settled or not.
+const USED: &[Row] = &[
+    (1, Act::Resolve(Lock::Sales), Reply::Place(1)),
+    (2, Act::Resolve(Lock::Sales), Reply::Place(1)),
+    (2, Act::Resolve(Lock::Orders), Reply::Place(2)),
+    (3, Act::Resolve(Lock::Sales), Reply::Place(1)),
+    (1, Act::TryFast(1, Mode::SR), Reply::Granted(1)),
+    (1, Act::Unpin(1), IN_USE),
+    (1, Act::Materialise, Reply::Done),
+    (1, Act::Unpin(1), IN_USE),
+    (3, Act::Unpin(1), Reply::Done),
+    (2, Act::Begin(1, Mode::X), Reply::Waiting(1)),
+    (2, Act::Unpin(1), IN_USE),
+    (2, Act::Unpin(2), Reply::Done),
+    (2, Act::TimeOut, Reply::Done),
+    (2, Act::Unpin(1), IN_USE),
+    (2, Act::End, Reply::Ended(Ended::Timeout)),
+    (2, Act::Unpin(1), Reply::Done),
+    (1, Act::Clone(1, Mode::S), Reply::Granted(2)),
+    (1, Act::Release(1), Reply::Done),
+    (1, Act::Unpin(1), IN_USE),
+    (1, Act::Release(2), Reply::Done),
+    (1, Act::Unpin(1), Reply::Done),
+];
+
+// So does a session whose wait was granted, and then has the ticket.
+const AWAITED: &[Row] = &[
+    (1, Act::Resolve(Lock::Sales), Reply::Place(1)),
+    (2, Act::Resolve(Lock::Sales), Reply::Place(1)),
+    (1, Act::Try(1, Mode::X), Reply::Granted(1)),
+    (2, Act::Begin(1, Mode::SR), Reply::Waiting(1)),
+    (1, Act::Release(1), Reply::Done),
+    (2, Act::Unpin(1), IN_USE),
+    (1, Act::Unpin(1), Reply::Done),
+    (2, Act::End, Reply::Ended(Ended::Granted(1))),
+    (2, Act::Unpin(1), IN_USE),
+    (2, Act::Release(1), Reply::Done),
+    (2, Act::Unpin(1), Reply::Done),
+];
+
+// A debt keeps no pin, and is paid without one.
+const OWED: &[Row] = &[
+    (1, Act::Resolve(Lock::Sales), Reply::Place(1)),
+    (2, Act::Resolve(Lock::Sales), Reply::Place(1)),
+    (1, Act::TryFast(1, Mode::SR), Reply::Granted(1)),
+    (2, Act::Begin(1, Mode::X), Reply::Waiting(1)),
+    (1, Act::ReleaseFast(1), Reply::Owes(true)),
+    (1, Act::Unpin(1), Reply::Done),
+    (1, Act::Owes(1), Reply::Is(true)),
+    (1, Act::Reschedule(1), Reply::Done),
+    (1, Act::Owes(1), Reply::Is(false)),
+    (2, Act::End, Reply::Ended(Ended::Granted(1))),
+    (2, Act::Release(1), Reply::Done),
+];
+
+// That a place isn't pinned is found before a wait, and that before an unfit mode.
+const IN_ORDER: &[Row] = &[
+    (1, Act::Resolve(Lock::Sales), Reply::Place(1)),
+    (2, Act::Resolve(Lock::Sales), Reply::Place(1)),
+    (2, Act::Resolve(Lock::Shop), Reply::Place(2)),
+    (2, Act::Unpin(2), Reply::Done),
+    (2, Act::Try(2, Mode::SR), NO_PLACE),
+    (1, Act::Try(1, Mode::X), Reply::Granted(1)),
+    (2, Act::Begin(1, Mode::SR), Reply::Waiting(1)),
+    (2, Act::Try(2, Mode::SR), NO_PLACE),
+    (2, Act::Begin(2, Mode::SR), NO_PLACE),
+    (2, Act::TryFast(2, Mode::SR), NO_PLACE),
+    (2, Act::Resolve(Lock::Shop), Reply::Place(2)),
+    (2, Act::Try(2, Mode::SR), WAITS_ALREADY),
+    (2, Act::Begin(2, Mode::SR), WAITS_ALREADY),
+    (2, Act::TryFast(2, Mode::SR), WAITS_ALREADY),
+    (1, Act::Release(1), Reply::Done),
+    (2, Act::End, Reply::Ended(Ended::Granted(1))),
+    (2, Act::Try(2, Mode::SR), BAD_MODE),
+    (2, Act::Begin(2, Mode::SR), BAD_MODE),
+    (2, Act::TryFast(2, Mode::SR), BAD_MODE),
+    (2, Act::Try(2, Mode::IX), Reply::Granted(2)),
+    (2, Act::ReleaseAll, Reply::Count(2)),
+];
+
+const CASES: &[Case] = &[
+    ("a pin is given up and had again", 1, GIVEN_UP),
+    ("one call gives up a pin", 3, GIVEN_UP_ONCE),
+    ("a place in use stays pinned", 2, USED),
+    ("an awaited place stays pinned", 1, AWAITED),
+    ("a debt keeps no pin", 1, OWED),
+    ("a place that is not pinned is refused first", 2, IN_ORDER),
+];
+
+#[test]
+fn sessions_give_up_their_pins(rt: HostRuntime) -> Result<(), Fail> {
+    are_right(&rt, Memory::Ample, CASES)
+}

@@ -1,0 +1,45 @@
+//! Gives up a pin. It takes no step on the table, since the session's own list alone has the pins.
+ghost use Rattle.std.specs.Prelude.{◌≡◌, ◌||◌};
+ghost use Rattle.mdl_calls.specs.CallSpec.{Transition};
+ghost use Rattle.mdl_calls.specs.calls.Unpin as call;
+ghost use Rattle.mdl_calls.specs.Words.{done};
+ghost use Rattle.mdl_steps.specs.Interleavings.{interleaved};
+ghost use Rattle.mdl_shared.specs.OwnLists.{asks_at, has_ticket_at};
+ghost use Rattle.mdl_shared.specs.SessionViews.{data_of};
+ghost use Rattle.mdl_shared.specs.StepSpec.{TakesSteps};
+ghost use Rattle.mdl_shared.specs.calls.Unpin as steps;
+
+use crate::Session;
+use crate::member::Member;
+use mdl_calls::{Place, SpaceError};
+
+impl<R> Session<R> {
+    /// Gives up the session's pin of a place. However often it resolved the key, one call ends the pin. The session still knows the key, and
+    /// [`Session::resolve`] pins the place again. It takes no memory.
+    ///
+    /// Fails with [`SpaceError::NoPlace`] if the session doesn't pin the place, and with [`SpaceError::InUse`] if it has a ticket, fast or
+    /// slow, or a wait there.
+    pub fn unpin(&mut self, place: Place) -> Result<(), SpaceError>
+        ensures joined { Transition (call.unpin self.old.me.0.number place) (done result) (data_of self.old) (data_of self.new) }
+        ensures shown { TakesSteps (steps.unpin place) (done result) self.old self.new }
+    {
+        let place = place as usize;
+        if !self.member.known.is_pinned(place) {
+            return Err(SpaceError::NoPlace);
+        }
+        if self.member.is_in_use(place) {
+            return Err(SpaceError::InUse);
+        }
+        self.member.known.unpin(place);
+        Ok(())
+    }
+}
+
+impl Member {
+    // Whether the session has a ticket or a wait at a place.
+    fn is_in_use(&self, place: usize) -> bool
+        ensures { result ≡ (has_ticket_at place (interleaved self.now.tickets.slow self.now.tickets.fast) || asks_at place self.now.asks) }
+    {
+        self.tickets.has_at(place) || self.asks.map_or(false, |ask| ask.place == place)
+    }
+}

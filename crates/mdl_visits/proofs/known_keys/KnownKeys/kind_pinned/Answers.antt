@@ -1,0 +1,11 @@
+-- The list has the kind of a pinned place, and none of another.
+use Rattle.std.proofs.Common.{map, ◌∙◌}
+use Rattle.mdl_visits.specs.OwnKeys.{known_of}
+use Rattle.mdl_visits.proofs.Pins.{kind_found}
+use Rattle.mdl_visits.proofs.known_keys.KnownKeys.kind_pinned.Goals as goal
+
+pub returns : goal.returns
+returns c =
+    let inside = c.self.inside in
+    rw (← c.self.view_is) (rw c.deref.ensures.value at c.kind_in.ensures
+    ∙ kind_found c.args.place inside.pinned.items (map known_of inside.places.entries) (c.self.invariant.kinds c.args.place))
