@@ -1,22 +1,10 @@
 -- The places that a session pins, by the marks of all places.
-use Rattle.std.proofs.Common.{◌≡◌, ℕ, zero, suc, ◌+◌, ◌<◌, ◌≤◌, Bool, true, false, ◌==◌, nat_lt, List, [], ◌∷◌, ◌++◌, length, get_or, replicate, set, take, refl, sym, ap, ◌∙◌, arith}
+use Rattle.std.proofs.Common.{◌≡◌, ℕ, zero, suc, ◌+◌, ◌<◌, ◌≤◌, Bool, true, false, ◌==◌, List, [], ◌∷◌, ◌++◌, length, get_or, replicate, set, take, refl, sym, ap, ◌∙◌, arith}
 use Rattle.std.proofs.lemmas.Bool.Decides.{nat_tests}
 use Rattle.std.proofs.lemmas.List.{get_or_past, set_past, take_all}
-use Rattle.std.specs.List.{list_all, list_any}
+use Rattle.std.specs.List.{list_any}
 use Rattle.mdl_calls.specs.Marks.{marked_from}
-use Rattle.mdl_calls.specs.SessionLocks.{are_rising_places, with_place, without_place}
-
--- ---- marked places rise
-
-marked-above : (place from : ℕ) (marks : List Bool) → place < from → list_all (λ other. nat_lt place other) (marked_from from marks) ≡ true
-marked-above place from [] lt = refl
-marked-above place from (true ∷ marks) lt = grind (arith, nat_tests, marked-above place (from + 1) marks)
-marked-above place from (false ∷ marks) lt = marked-above place (from + 1) marks (omega arith)
-
-pub marked-rise : (from : ℕ) (marks : List Bool) → are_rising_places (marked_from from marks) ≡ true
-marked-rise from [] = refl
-marked-rise from (true ∷ marks) = grind (arith, marked-above from (from + 1) marks, marked-rise (from + 1) marks)
-marked-rise from (false ∷ marks) = marked-rise (from + 1) marks
+use Rattle.mdl_calls.specs.SessionLocks.{with_place, without_place}
 
 -- ---- whether a place has a mark
 

@@ -56,8 +56,6 @@ wish_cause place mode _ knows own = ⊥
 pub record CallSpec : Type 1 where
   -- the session that makes it, unless any session may
   pub caller : Option ℕ
-  -- whether sessions have this call
-  pub has : Bool
   -- whether it may need memory
   pub takes_memory : Bool
   -- whether it reads with its session's cache
@@ -68,7 +66,7 @@ pub record CallSpec : Type 1 where
   pub clear : Knowledge → SessionLocks → Type 0
   -- which errors it can be refused with, and what each says of what the caller has
   pub cause : SpaceError → Knowledge → SessionLocks → Type 0
-  -- what it does to them
+  -- what it does to what the caller has
   pub effect : Answer → Effect
   -- the state in which it met the caller's wait, if the answer says that: not settled, or settled in this way
   pub met : Answer → Option (Option Settled)
@@ -87,13 +85,12 @@ pub record CallSpec : Type 1 where
   -- what else the answer says of the session
   pub says : Answer → SessionData → SessionData → Type 0
 
--- a call of this session that sessions have, with the other aspects as most calls have them. Some promise the most that they can: it has no answer and no
--- cause of a refusal, takes no memory, reads without a cache, leaves its caller's tickets, wait and pins as they are, and changes no definition. Its caller
--- learns and reads nothing. The others say nothing: `clear`, `met`, `told`, `told_of`, `reads_under` and `says`.
+-- a call of this session, with the other aspects as most calls have them. Some promise the most that they can: it has no answer and no cause of a refusal,
+-- takes no memory, reads without a cache, leaves its caller's tickets, wait and pins as they are, and changes no definition. Its caller learns and reads
+-- nothing. The others say nothing: `clear`, `met`, `told`, `told_of`, `reads_under` and `says`.
 abbrev pub unchanged : ℕ → CallSpec
 unchanged who = record {
   caller = Some who;
-  has = true;
   takes_memory = false;
   reads_with_cache = false;
   answers = λ answer. false;
@@ -117,16 +114,15 @@ abbrev pub Explains : CallSpec → Knowledge → Answer → SessionLocks → Typ
 Explains call knows (Refused why) own = call.cause why knows own
 Explains call knows _ own = call.clear knows own
 
--- a call with this answer takes the session from the one state to the other. The caller, if there is one, is the session itself (`mine`). Sessions have such
--- a call (`has`), and it can have such an answer (`fits`). The session keeps its number (`number`), and has what the call leaves it (`own`, `numbers`). A
--- refusal has a cause; with any other answer, what must hold for the call not to be refused holds (`explained`). The session knows the keys that it learnt
--- (`learns`). If the answer says in which state the call met the caller's wait, and the session knew how its wait is settled, that is the state (`agreed`).
--- If the answer says how the wait is settled from then on, the session knows that afterwards (`told`). If the call ended the wait, the session afterwards
--- knows of no settled wait. Otherwise it still knows what it knew; what it didn't know it may have learnt, but only if it had a wait (`settled`). It has read
--- what the call lets it read (`reads`), and what else the answer says of it is true (`truly`). No clause says anything of other sessions.
+-- a call with this answer takes the session from the one state to the other. The caller, if there is one, is the session itself (`mine`). The call can have
+-- such an answer (`fits`). The session keeps its number (`number`), and has what the call leaves it (`own`, `numbers`). A refusal has a cause; with any
+-- other answer, what must hold for the call not to be refused holds (`explained`). The session knows the keys that it learnt (`learns`). If the answer says
+-- in which state the call met the caller's wait, and the session knew how its wait is settled, that is the state (`agreed`). If the answer says how the wait
+-- is settled from then on, the session knows that afterwards (`told`). If the call ended the wait, the session afterwards knows of no settled wait.
+-- Otherwise it still knows what it knew; what it didn't know it may have learnt, but only if it had a wait (`settled`). It has read what the call lets it
+-- read (`reads`), and what else the answer says of it is true (`truly`). No clause says anything of other sessions.
 pub record Transition (call : CallSpec) (answer : Answer) (a b : SessionData) : Type 0 where
   pub mine : IfSome call.caller (SpeaksFor a)
-  pub has : call.has ≡ true
   pub fits : call.answers answer ≡ true
   pub number : b.number ≡ a.number
   pub own : b.own ≡ own_by (call.effect answer) a.own

@@ -21,9 +21,9 @@ use mdl_key::{Key, Mode};
 /// same time promises less about the rest than a space of one thread.
 ///
 /// The laws (`specs/SpaceLaws`) hold in every space. What a method's text says beyond them holds for `CoreSpace` of `mdl_space`, by
-/// the laws of `mdl_core`: that a new key takes the next free place, which victim a search chooses, that a clone overtakes
-/// waiters, that a session's other tickets don't block its upgrade, that exactly the tables with a definition are returned, and
-/// that a session has no number left only once it has used the last one.
+/// the laws of `mdl_core`: which place a new key takes, which victim a search chooses, that a clone overtakes waiters, that a
+/// session's other tickets don't block its upgrade, that exactly the tables with a definition are returned, and that a session
+/// has no number left only once it has used the last one.
 ///
 /// After MySQL 5.7, `MDL_context` of `sql/mdl.h`.
 pub trait LockSpace {
@@ -61,7 +61,10 @@ pub trait LockSpace {
     ghost uses_cache: { Self → ℕ → ℕ → Answer → CacheView → CacheView → Self → Type 0 };
 
     /// Returns the place of a key, and pins it for the session: the place keeps this key at least until
-    /// [`LockSpace::unpin`]. A new key takes the next free place.
+    /// [`LockSpace::unpin`].
+    ///
+    /// A new key takes the next free place. If every place has a key, the space of one thread gives it the least place that no
+    /// session pins and whose version is 0. Fails with [`SpaceError::NoPlace`] if there is none.
     fn resolve(&mut self, who: u16, key: &Key) -> Result<Place, SpaceError>
         requires { speaks_for self.old who }
         ensures { joins self.old (Resolve who key.now) (placed result) self.new };
@@ -69,7 +72,8 @@ pub trait LockSpace {
     /// Gives up the session's pin of a place. It takes no memory.
     ///
     /// Fails with [`SpaceError::NoPlace`] if the session doesn't pin the place, and with [`SpaceError::InUse`] if it has a
-    /// ticket or a wait there. However often it resolved the key, one call ends the pin.
+    /// ticket or a wait there, or still has to reschedule the waiters there, after a release that left this for later. However
+    /// often it resolved the key, one call ends the pin.
     fn unpin(&mut self, who: u16, place: Place) -> Result<(), SpaceError>
         requires { speaks_for self.old who }
         ensures { joins self.old (Unpin who place) (done result) self.new };

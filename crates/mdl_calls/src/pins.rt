@@ -1,7 +1,7 @@
 //! The places that a session pins.
 ghost use Rattle.std.specs.List.{list_any};
-ghost use Rattle.std.specs.Prelude.{OnOk, [], true, ◌==◌, ◌<◌, ◌≡◌, ◌≤◌};
-ghost use Rattle.mdl_calls.specs.SessionLocks.{are_rising_places, with_place, without_place};
+ghost use Rattle.std.specs.Prelude.{OnOk, [], ◌==◌, ◌<◌, ◌≡◌, ◌≤◌};
+ghost use Rattle.mdl_calls.specs.SessionLocks.{with_place, without_place};
 
 use std::alloc::{AllocError, Global};
 use std::marker::Model;
@@ -37,7 +37,6 @@ impl Pins {
     /// Whether a place is pinned.
     pub fn contains(&self, place: usize) -> bool
         ensures pinned { result ≡ list_any (λ pin. pin == place) self.now.places }
-        ensures rising { are_rising_places self.now.places ≡ true }
     {
         place < self.marks.len() && self.marks[place]
     }

@@ -11,8 +11,8 @@ use thiserror::Error;
 /// may come before any. A refused call changes no held ticket, no definition, no wait and no pin.
 #[derive(Clone, Copy, Debug, PartialEq, Eq, Error)]
 pub enum SpaceError {
-    /// The session doesn't pin the place. Or the key of a place was asked for that has none, or (in the table that threads
-    /// share) whose key the session hasn't looked up. Or there is no place left for a new key.
+    /// The session doesn't pin the place. Or no place is left for a new key. Or the key of a place was asked for, and the
+    /// place has none, or (in the table that threads share) the session doesn't know it.
     #[error("no such place")]
     NoPlace,
     /// The session holds no such ticket.
@@ -57,7 +57,7 @@ pub enum SpaceError {
     /// Memory ran out.
     #[error("out of memory")]
     OutOfMemory,
-    /// The session has a ticket or a wait at the place.
+    /// The session has a ticket or a wait at the place, or (in the table that threads share) owes it a reschedule.
     #[error("the place is in use")]
     InUse,
 }

@@ -16,7 +16,6 @@ keys-found a place key sound new free = (
   b,
   record {
     mine = (refl, sound);
-    has = refl;
     fits = refl;
     number = refl;
     own = refl;
@@ -41,7 +40,6 @@ pins-given_up a place sound pinned no_ticket no_wait = (
   b,
   record {
     mine = (refl, sound);
-    has = refl;
     fits = refl;
     number = refl;
     own = refl;
@@ -66,7 +64,6 @@ locks-had a place mode sound pinned idle fit = (
   b,
   record {
     mine = (refl, sound);
-    has = refl;
     fits = refl;
     number = refl;
     own = refl;
@@ -89,7 +86,6 @@ waits-begun a place mode sound pinned idle fit = (
   b,
   record {
     mine = (refl, sound);
-    has = refl;
     fits = refl;
     number = refl;
     own = refl;
@@ -112,7 +108,6 @@ waits-lost a sound lost = (
   b,
   record {
     mine = (refl, sound);
-    has = refl;
     fits = refl;
     number = refl;
     own = refl;
@@ -159,7 +154,6 @@ standings-read a id ticket standing sound its meets = (
   noting ticket.place standing a,
   record {
     mine = (refl, sound);
-    has = refl;
     fits = refl;
     number = refl;
     own = refl;
@@ -179,7 +173,6 @@ standings-changed a id ticket stood change sound its exclusive meets allowed = (
   b,
   record {
     mine = (refl, sound);
-    has = refl;
     fits = refl;
     number = refl;
     own = refl;
@@ -216,7 +209,7 @@ keeps-all a = record { number = refl; own = refl; numbers = refl; known = refl; 
 
 pub memory-out : MemoryRunsOut
 memory-out a (Change_definition who id change) sound mine takes =
-    refused-joins a a (Change_definition who id change) OutOfMemory (caller-is a (Some who) sound mine) refl refl (keeps-all a) takes
+    refused-joins a a (Change_definition who id change) OutOfMemory (caller-is a (Some who) sound mine) refl (keeps-all a) takes
     (λ state how is. cc) (λ ticket its exclusive. inl refl)
 memory-out a (Wait_of target) sound mine takes = cc
 memory-out a (Kill target number) sound mine takes = cc
@@ -227,4 +220,4 @@ memory-out a (Settle_timeout who) sound mine takes = cc
 memory-out a (End_wait who) sound mine takes = cc
 memory-out a (Unpin who place) sound mine takes = cc
 memory-out a call sound mine takes =
-    refused-joins a a call OutOfMemory (caller-is a (caller call) sound mine) refl refl (keeps-all a) tt (λ state how is. cc) tt
+    refused-joins a a call OutOfMemory (caller-is a (caller call) sound mine) refl (keeps-all a) tt (λ state how is. cc) tt

@@ -7,4 +7,4 @@ pub use Rattle.mdl_calls.specs.SpaceLaws.{SpaceLaws}
 pub use Rattle.mdl_calls.specs.declared.space_error.SpaceError.{SpaceError}
 pub use Rattle.mdl_defs.specs.declared.reading.Reading.{Reading}
 pub use Rattle.mdl_session_laws.specs.Prelude.{Answer, Call, Draws, End_wait, Held, IsCause, IsLast, KeepsSettled, KeyName, KnownKey, Knows, Numbers, Poll_wait, Read_definition, Read_kept, ReadsNothing, Refused, Resolve, SessionData, SessionLocks, Settled, SpeaksFor, Try_now, VersionedDefinition, are_apart, are_below, are_rising, are_two, caller, is_answer_of, is_known, is_newest, key_eq, key_known, last_read, noted_at, own_after, place_known, told, was_read}
-pub use Rattle.mdl_session_laws.specs.SessionJoins.{Joins, LearnsKeys, LetsRead, TellsTruly, effect_of, ends_wait, session_has_call, wait_met}
+pub use Rattle.mdl_session_laws.specs.SessionJoins.{Joins, LearnsKeys, LetsRead, TellsTruly, effect_of, ends_wait, wait_met}

@@ -1,10 +1,10 @@
 -- The laws of a lock space, of a session: the keys that it knows, and their places.
-use Rattle.std.proofs.Common.{◌≡◌, ◌⊎◌, ℕ, ◌<◌, true, List, length, map, get_or, Option, Some, None, IfSome, All, AllPairs, Contains, inl, inr, refl, sym, ap, subst, ◌∙◌, arith}
+use Rattle.std.proofs.Common.{◌≡◌, ℕ, ◌<◌, true, List, length, map, get_or, Option, Some, None, IfSome, All, AllPairs, Contains, refl, sym, ap, subst, ◌∙◌, arith}
 use Rattle.mdl_calls.proofs.PinLemmas.{all-among, at_pins-told}
 use Rattle.mdl_calls.proofs.TableLemmas.{table-of}
 use Rattle.mdl_key.specs.Keys.{global_key, key_cmp}
 use Rattle.std.proofs.lemmas.List.{get_or-map, length-map}
-use Rattle.mdl_session_laws.proofs.FirstLemmas.{Answer, AreTablesOf, At_place, AwaitsAt, Call, ComesBefore, Done, HasTableOf, Held, HoldsAt, InUse, Joins, KeyName, Key_is, Key_of, KnownKey, Knows, LearnsPlace, LearnsTables, Refused, Resolve, SessionData, SpeaksFor, Tables, Tables_of, Unpin, Wait, are_rising_places, is-known, is_known, is_pinned, key-of_place, key_known, last-known, own_of, place-of_key, place_known}
+use Rattle.mdl_session_laws.proofs.FirstLemmas.{Answer, AreTablesOf, At_place, Call, ComesBefore, Done, HasTableOf, Held, Joins, KeyName, Key_is, Key_of, KnownKey, Knows, LearnsPlace, LearnsTables, Resolve, SessionData, SpeaksFor, Tables, Tables_of, Unpin, Wait, are_rising_places, is-known, is_known, is_pinned, key-of_place, key_known, last-known, own_of, place-of_key, place_known}
 use Rattle.mdl_session_laws.proofs.KnownAfter.{knows-on}
 
 -- ---- keys and places
@@ -96,8 +96,3 @@ session-held_pinned a w ticket speaks_for = at_pins-told a.own a.own.held ticket
 -- whoever waits pins the place that is waited for
 pub session-wait_pinned : (a : SessionData) (w : ℕ) (wait : Wait) → SpeaksFor a w → (own_of a w).wait ≡ Some wait → is_pinned wait.place (own_of a w) ≡ true
 session-wait_pinned a w wait speaks_for its = subst (λ o. IfSome o (λ (x : Wait). is_pinned x.place a.own ≡ true)) its speaks_for.1.awaited
-
--- a pin isn't given up while a ticket or a wait is at the place
-pub session-unpins_in_use : {Owes : Type 0} (a b : SessionData) (who place : ℕ) → Joins a (Unpin who place) (Refused InUse) b
-    → HoldsAt place (own_of a who) ⊎ AwaitsAt place (own_of a who) ⊎ Owes
-session-unpins_in_use a b who place joins = elim joins.truly [ inl holds ↦ inl holds | inr awaits ↦ inr (inl awaits) ]

@@ -13,5 +13,4 @@ pub mod ReadLists
 pub mod RefusedCalls
 pub mod SessionLaws
 pub mod TicketLists
-pub mod ViewLaws
 pub mod WaitLaws

@@ -1,6 +1,6 @@
 -- A call that is refused joins a session to one that has, knows and has read the same: what is left to show is the cause, and what was met of the wait.
 use Rattle.std.proofs.Common.{inl, ◌≡◌, true, false, Option, Some, IfSome, refl, sym, ap, subst, ◌∙◌}
-use Rattle.mdl_session_laws.proofs.Common.{Call, Draws, End_wait, IsCause, Joins, KeepsSettled, Knows, LearnsKeys, LetsRead, Numbers, Poll_wait, Read_definition, Read_kept, ReadsNothing, Refused, Resolve, SessionData, SessionLocks, Settled, SpaceError, SpeaksFor, TellsTruly, Try_now, caller, ends_wait, is_answer_of, noted_at, own_after, session_has_call, told, wait_met}
+use Rattle.mdl_session_laws.proofs.Common.{Call, Draws, End_wait, IsCause, Joins, KeepsSettled, Knows, LearnsKeys, LetsRead, Numbers, Poll_wait, Read_definition, Read_kept, ReadsNothing, Refused, Resolve, SessionData, SessionLocks, Settled, SpaceError, SpeaksFor, TellsTruly, Try_now, caller, ends_wait, is_answer_of, noted_at, own_after, told, wait_met}
 
 -- all is the same but how the wait is settled, which may have been learnt
 pub record KeepsAll (a b : SessionData) : Type 0 where
@@ -45,13 +45,12 @@ refused-reads (Read_definition who id) why a b nothing = nothing
 refused-reads (Read_kept who id) why a b nothing = inl nothing
 refused-reads _ why a b nothing = nothing
 
-pub refused-joins : (a b : SessionData) (call : Call) (why : SpaceError) → IfSome (caller call) (SpeaksFor a) → session_has_call call ≡ true
+pub refused-joins : (a b : SessionData) (call : Call) (why : SpaceError) → IfSome (caller call) (SpeaksFor a)
     → is_answer_of call (Refused why) ≡ true → KeepsAll a b → IsCause (Knows a a.number) call why a.own
     → ((state : Option Settled) (how : Settled) → wait_met call (Refused why) ≡ Some state → a.settled ≡ Some how → state ≡ Some how)
     → TellsTruly call (Refused why) a b → Joins a call (Refused why) b
-refused-joins a b call why mine has fits same cause agreed truly = record {
+refused-joins a b call why mine fits same cause agreed truly = record {
   mine = mine;
-  has = has;
   fits = fits;
   number = same.number;
   own = same.own ∙ sym (refused-own call why a.own);

@@ -8,10 +8,6 @@ use Rattle.mdl_session_laws.specs.Prelude.{Answer, Call, KnownKey, SessionData, 
 abbrev pub Joins : SessionData → Call → Answer → SessionData → Type 0
 Joins a call answer b = Transition (spec_of call) answer a b
 
--- whether a session has the call
-abbrev pub session_has_call : Call → Bool
-session_has_call call = (spec_of call).has
-
 -- what a call with this answer does to what the session has
 abbrev pub effect_of : Call → Answer → Effect
 effect_of call answer = (spec_of call).effect answer

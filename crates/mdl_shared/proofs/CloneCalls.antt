@@ -12,7 +12,7 @@ module _ {s : SessionView} (is : IsMember s) (id : ℕ) (mode : Mode) where
   pub clone-unfit : (why : SpaceError) → clone_fault (numbered id (tickets_seen s.me.0)) s.me.0.asks mode s.me.0.known s.me.0.next ≡ Some why
       → Joins (data_of s) (Clone_ticket s.me.0.number id mode) (Refused why) (data_of s)
   clone-unfit why fault =
-      refused s s (Clone_ticket s.me.0.number id mode) why (same-stays s) (speaks is) refl refl
+      refused s s (Clone_ticket s.me.0.number id mode) why (same-stays s) (speaks is) refl
       (clone-cause s (λ w. IsCause (Knows (data_of s) s.me.0.number) (Clone_ticket s.me.0.number id mode) w (data_of s).own) id mode why (numbered id (tickets_seen s.me.0)) refl
       (λ h. h) (λ h. h) (λ h. h) (λ h. h) fault) (λ state how is. cc) tt
 
@@ -24,7 +24,7 @@ module _ {s : SessionView} (is : IsMember s) (id : ℕ) (mode : Mode) where
     clone-refused : {s′ : SessionView} → Stays s s′ → {why : SpaceError} → (why ≡ OutOfMemory) ⊎ (why ≡ Full)
         → Joins (data_of s) (Clone_ticket s.me.0.number id mode) (Refused why) (data_of s′)
     clone-refused {s′} stays {why} causes =
-        refused s s′ (Clone_ticket s.me.0.number id mode) why stays (speaks is) refl refl
+        refused s s′ (Clone_ticket s.me.0.number id mode) why stays (speaks is) refl
         (by-cause (λ w. IsCause (Knows (data_of s) s.me.0.number) (Clone_ticket s.me.0.number id mode) w (data_of s).own) why tt may-clone causes)
         (λ state how is. cc) tt
 
@@ -32,7 +32,7 @@ module _ {s : SessionView} (is : IsMember s) (id : ℕ) (mode : Mode) where
       pub clone-joins : {s′ : SessionView} {new : ℕ} → new ≡ s.me.0.next → DidDeeds t.place (Gain new mode ∷ []) s s′
           → Joins (data_of s) (Clone_ticket s.me.0.number id mode) (Granted new) (data_of s′)
       clone-joins {s′} {new} first done =
-          gain-joins is first done (Clone_ticket s.me.0.number id mode) (speaks is) refl refl
+          gain-joins is first done (Clone_ticket s.me.0.number id mode) (speaks is) refl
           (ap (λ o. cloning new mode o (data_of s).own) (ticket-told id (tickets_seen s.me.0) ∙ ap (option_map as_held) its)) (λ d. d)
           may-clone refl (λ state how is. cc) (λ how is. cc) refl (λ r. r) tt
 

@@ -19,7 +19,7 @@ pub use Rattle.mdl_steps.specs.declared.view.LatchRecord.{LatchRecord}
 pub use Rattle.mdl_visits.proofs.Lemmas.{asked_after, does_then, each_append, each_map, goes_by, goes_on, goes_staying, has_number, key-ties, no_record, none_then, not_waited, rescheduled_after, step_after, step_before, took_earlier}
 pub use lib.ListN.{get_elem?}
 pub use Rattle.mdl_shared.specs.AllSteps.{Shows, steps_of}
-pub use Rattle.mdl_shared.specs.FirstWords.{Alter, Answer, AreAllTables, AreLearnt, AreMet, AreOwed, Ask, Begin_wait, CacheView, Call, Change_definition, Clone_ticket, Deed, Definition, Downgrade, End_wait, Gain, HasRoom, IX, IsMember, IsOwed, Joins, KeepsRoom, Kept, KeyName, Key_of, Keys, Kill, Kind, KnownKey, LearnsKeys, LetsRead, Lists, Lose, MakesNoStep, Member, Merge, Mode, OwesNoMore, Poll_wait, Read_definition, Read_kept, Refused, Release, ReleasesFast, Resolve, Room, Search, SessionTicket, SessionView, Settle_timeout, SpaceError, StepSpec, TableId, Tables_of, TakesSteps, TellsTruly, TicketList, Try_now, Unpin, Upgrade_now, VersionedDefinition, Wait_of, all_tickets, are_below_next, are_counted, are_within, as_held, but_owing, data_of, ends_wait, gained_by, in_mode_at, increment_at, is_ask_last, is_ask_told, is_fit, is_known, is_of, is_waiting, kept_first, kept_of, kind_known, list_any, lists_seen, looked_at, most_numbers, note_of, numbered, owed_in, own_at, place_known, session_at, session_has_call, settled_of, settled_state, settled_told, some, some-injective, some-ne-none, tickets_seen, unknown, wait_met, without_at, word_count}
+pub use Rattle.mdl_shared.specs.FirstWords.{Alter, Answer, AreAllTables, AreLearnt, AreMet, AreOwed, Ask, Begin_wait, CacheView, Call, Change_definition, Clone_ticket, Deed, Definition, Downgrade, End_wait, Gain, HasRoom, IX, IsMember, IsOwed, Joins, KeepsRoom, Kept, KeyName, Key_of, Keys, Kill, Kind, KnownKey, LearnsKeys, LetsRead, Lists, Lose, MakesNoStep, Member, Merge, Mode, OwesNoMore, Poll_wait, Read_definition, Read_kept, Refused, Release, ReleasesFast, Resolve, Room, Search, SessionTicket, SessionView, Settle_timeout, SpaceError, StepSpec, TableId, Tables_of, TakesSteps, TellsTruly, TicketList, Try_now, Unpin, Upgrade_now, VersionedDefinition, Wait_of, all_tickets, are_below_next, are_counted, are_within, as_held, but_owing, data_of, ends_wait, gained_by, in_mode_at, increment_at, is_ask_last, is_ask_told, is_fit, is_known, is_of, is_waiting, kept_first, kept_of, kind_known, list_any, lists_seen, looked_at, most_numbers, note_of, numbered, owed_in, own_at, place_known, session_at, settled_of, settled_state, settled_told, some, some-injective, some-ne-none, tickets_seen, unknown, wait_met, without_at, word_count}
 pub use Rattle.mdl_shared.specs.KeptReads.{MayKeep, ReadsKept, UsesKept, kept_standing}
 pub use Rattle.mdl_shared.specs.OwnTickets.{AreKept, HaveRisingNumbers, IsLastGained, StandsAt, counted_at, fast_counted_at, fast_found, fast_of, flags_of, is_at_place, is_fast_there, noted_in, slow_of, slowed, slowed_as, with_note}
 pub use Rattle.mdl_shared.specs.Passes.{ArePasses, IsPass, view_of}

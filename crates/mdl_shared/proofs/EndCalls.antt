@@ -43,7 +43,7 @@ ended-debts ends q owed = ends.owed q (subst (λ (x : SessionView). IsOwed q x.m
 -- without a wait there is nothing to end
 pub idle-joins : {s : SessionView} → IsMember s → s.me.0.asks ≡ None → Joins (data_of s) (End_wait s.me.0.number) (Refused NoWait) (data_of s)
 idle-joins {s} is idle =
-    refused s s (End_wait s.me.0.number) NoWait (same-stays s) (speaks is) refl refl (waits-asks s.me.0.asks s.me.0.waits ∙ ap is_some idle) (λ state how is. cc) tt
+    refused s s (End_wait s.me.0.number) NoWait (same-stays s) (speaks is) refl (waits-asks s.me.0.asks s.me.0.waits ∙ ap is_some idle) (λ state how is. cc) tt
 
 -- it waits where it asks
 waits : (s : SessionView) (a : Ask) → s.me.0.asks ≡ Some a → is_waiting (data_of s).own ≡ true
@@ -87,7 +87,7 @@ module _ {s s′ : SessionView} (is : IsMember s) where
     -- it isn't settled
     pub unsettled-joins : Stays s s′ → ((how : Settled) → (data_of s).settled ≡ Some how → ⊥) → Joins (data_of s) (End_wait s.me.0.number) (Refused Unsettled) (data_of s′)
     unsettled-joins stays unsettled =
-        refused s s′ (End_wait s.me.0.number) Unsettled stays (speaks is) refl refl (waits s a asks) (λ state how met knows. absurd (unsettled how knows)) tt
+        refused s s′ (End_wait s.me.0.number) Unsettled stays (speaks is) refl (waits s a asks) (λ state how met knows. absurd (unsettled how knows)) tt
 
     -- won
     pub won-order : HasEnded (owned a.place (Gain a.number a.mode) s.me.0.slow) s s′ → StaysInOrder s s′
@@ -100,7 +100,6 @@ module _ {s s′ : SessionView} (is : IsMember s) where
         let id : a.number ≡ s.me.0.next - 1 = omega arith in
         subst (λ (x : SessionView). Joins (data_of s) (End_wait s.me.0.number) (Granted a.number) (data_of x)) (sym ends.now) (record {
           mine = speaks is;
-          has = refl;
           fits = refl;
           number = refl;
           own = ap (λ (ts : List SessionTicket). own_of (map as_held ts) None s.pins) (gains is a asks)
@@ -125,7 +124,6 @@ module _ {s s′ : SessionView} (is : IsMember s) where
         → HasEnded s.me.0.slow s s′ → Joins (data_of s) (End_wait s.me.0.number) (Lost one) (data_of s′)
     lost-joins one fits agreed ends = subst (λ (x : SessionView). Joins (data_of s) (End_wait s.me.0.number) (Lost one) (data_of x)) (sym ends.now) (record {
       mine = speaks is;
-      has = refl;
       fits = fits;
       number = refl;
       own = refl;

@@ -53,7 +53,6 @@ module _ (s : SessionView) (id : ℕ) (t : SessionTicket) (its : numbered id (ti
         → Joins (data_of s) (Read_kept s.me.0.number id) (Refused OutOfMemory) (data_of s′)
     full-joins joins = record {
       mine = joins.mine;
-      has = refl;
       fits = refl;
       number = joins.number;
       own = joins.own;

@@ -98,14 +98,15 @@ order-same is = record {
   owed = is.owed;
 }
 
--- the kind of a known key's lock is known at its place
-pub key-kind : (known : List KnownKey) (key : KeyName) (place : ℕ) → are_apart known ≡ true → place_known key known ≡ Some place → kind_known place known ≡ Some (kind_of key.namespace)
-key-kind known key place apart found = kind-of_key place known key (key-of_place known place key apart found)
+-- a key that is known has a known place
+pub key-is_known : (known : List KnownKey) (key : KeyName) (place : ℕ) → place_known key known ≡ Some place → is_known place known ≡ true
+key-is_known [] key place found = absurd (cc)
+key-is_known (k ∷ later) key place found = grind (arith, nat_tests, key-is_known later key place)
 
--- that of the last one, where its place wasn't known
-pub last-kind : (known : List KnownKey) (k : KnownKey) → is_known k.place known ≡ false → kind_known k.place (known ++ k ∷ []) ≡ Some (kind_of k.key.namespace)
-last-kind [] k new = grind (arith, nat_tests)
-last-kind (x ∷ later) k new = grind (arith, nat_tests, last-kind later k)
+-- and the place that is added last is known
+pub last-is_known : (known : List KnownKey) (k : KnownKey) → is_known k.place (known ++ k ∷ []) ≡ true
+last-is_known [] k = grind (arith, nat_tests)
+last-is_known (x ∷ later) k = grind (arith, nat_tests, last-is_known later k)
 
 module _ {s : SessionView} (is : IsMember s) (key : KeyName) where
   -- by the keys that it knows then
@@ -114,7 +115,6 @@ module _ {s : SessionView} (is : IsMember s) (key : KeyName) where
   placed-joins place known log room learns =
       let x : SessionView = record s { me = (record s.me.0 { known = known; log = log }, s.me.1); room = room } in record {
         mine = speaks is;
-        has = refl;
         fits = refl;
         number = refl;
         own = refl;
@@ -145,7 +145,7 @@ module _ {s : SessionView} (is : IsMember s) (key : KeyName) where
     -- that has none
     pub no_place-joins : {s′ : SessionView} → Stays s s′ → Joins (data_of s) (Resolve s.me.0.number key) (Refused NoPlace) (data_of s′)
     no_place-joins {s′} stays =
-        refused s s′ (Resolve s.me.0.number key) NoPlace stays (speaks is) refl refl
+        refused s s′ (Resolve s.me.0.number key) NoPlace stays (speaks is) refl
         (λ place knows.
         let there = place-of_key (data_of s).known place key is.sound.apart knows in
         let e : Some place ≡ None = sym there ∙ none in cc)
@@ -231,7 +231,6 @@ tables-joins {s} {s′} is schema k tables places are asked learnt all apart =
     let x : SessionView = record s { me = (record s.me.0 { known = s.me.0.known ++ more; log = learnt.log }, s.me.1); room = learnt.room } in
     subst (λ (t : SessionView). Joins (data_of s) (Tables_of s.me.0.number schema) (Tables places) (data_of t)) (sym learnt.now) (record {
       mine = speaks is;
-      has = refl;
       fits = refl;
       number = refl;
       own = refl;
@@ -247,7 +246,7 @@ tables-joins {s} {s′} is schema k tables places are asked learnt all apart =
 
 -- refused, since memory ran out
 pub memory-joins : {s s′ : SessionView} → IsMember s → (schema : List ℕ) → Stays s s′ → Joins (data_of s) (Tables_of s.me.0.number schema) (Refused OutOfMemory) (data_of s′)
-memory-joins {s} {s′} is schema stays = refused s s′ (Tables_of s.me.0.number schema) OutOfMemory stays (speaks is) refl refl tt (λ state how met. cc) tt
+memory-joins {s} {s′} is schema stays = refused s s′ (Tables_of s.me.0.number schema) OutOfMemory stays (speaks is) refl tt (λ state how met. cc) tt
 
 steps-then : (m m′ m″ : Mine) → MakesSteps m m′ → MakesSteps m′ m″ → MakesSteps m m″
 steps-then m m′ m″ first second = (

@@ -24,12 +24,12 @@ module _ {s : SessionView} (is : IsMember s) (target : ℕ) where
   -- of a session that there isn't nothing is told
   pub nobody-waits : is_within s.sessions target ≡ false → Joins (data_of s) (Wait_of target) (Has_wait None) (data_of s)
   nobody-waits beyond =
-      joins-still s s (Wait_of target) (Has_wait None) (same-stays s) tt refl refl refl refl tt refl (λ state how is. cc) (λ how is. cc) refl (λ r. r)
+      joins-still s s (Wait_of target) (Has_wait None) (same-stays s) tt refl refl refl tt refl (λ state how is. cc) (λ how is. cc) refl (λ r. r)
       (λ mine. absurd (not-own beyond mine))
 
   pub nobody-killed : (number : ℕ) → is_within s.sessions target ≡ false → Joins (data_of s) (Kill target number) (Has_killed false) (data_of s)
   nobody-killed number beyond =
-      joins-still s s (Kill target number) (Has_killed false) (same-stays s) tt refl refl refl refl tt refl (λ state how is. cc) (λ how is. cc) refl (λ r. r)
+      joins-still s s (Kill target number) (Has_killed false) (same-stays s) tt refl refl refl tt refl (λ state how is. cc) (λ how is. cc) refl (λ r. r)
       (λ mine. absurd (not-own beyond mine))
 
 -- ---- the number of a wait
@@ -49,7 +49,7 @@ number-met {s} {s′} target found within own now =
     let did = watches ReadWait target found found s.me.0.settles s s′ now own (inl refl) refl refl in
     let met = met-word ReadWait target found found s.me.0.settles s s′ now in (
       did,
-      joins-still s s′ (Wait_of target) (Has_wait (number_of_wait found)) (done-nothing did.done) tt refl refl refl refl tt refl (λ state how is. cc) (λ how is. cc) refl (λ r. r)
+      joins-still s s′ (Wait_of target) (Has_wait (number_of_wait found)) (done-nothing did.done) tt refl refl refl tt refl (λ state how is. cc) (λ how is. cc) refl (λ r. r)
           (λ mine. own-number s found (own mine)),
       shows did tt did.did (ap (λ (x : SessionView). x.me.0.settles) now) tt (λ owes searches. (owes, searches)) (
         (λ beyond. absurd (false≢true (sym beyond ∙ within))),
@@ -84,7 +84,7 @@ module _ {s s′ : SessionView} (target number : ℕ) (within : is_within s.sess
       → (target ≡ s.me.0.number → wait_number (data_of s).own ≡ Some number → is_some (data_of s′).settled ≡ true)
       → Joins (data_of s) (Kill target number) (Has_killed false) (data_of s′) × Shows (Kill target number) (Has_killed false) s s′
   kill-missed few settles met known = (
-    joins-still s s′ (Kill target number) (Has_killed false) (done-nothing did.done) tt refl refl refl refl tt refl (λ state how is. cc) (λ how is. cc) refl (λ r. r) known,
+    joins-still s s′ (Kill target number) (Has_killed false) (done-nothing did.done) tt refl refl refl tt refl (λ state how is. cc) (λ how is. cc) refl (λ r. r) known,
     shows did tt did.did settles tt (λ owes searches. (owes, searches)) ((λ beyond. absurd (false≢true (sym beyond ∙ within))), (λ w. (met, few))),
   )
 
@@ -93,7 +93,7 @@ module _ {s s′ : SessionView} (target number : ℕ) (within : is_within s.sess
       → (target ≡ s.me.0.number → (wait_number (data_of s).own ≡ Some number) × (s′.me.0.told ≡ Some 5))
       → Joins (data_of s) (Kill target number) (Has_killed true) (data_of s′) × Shows (Kill target number) (Has_killed true) s s′
   kill-settled few settles met known = (
-    joins-still s s′ (Kill target number) (Has_killed true) (done-nothing did.done) tt refl refl refl refl tt refl (λ state how is. cc) (λ how is. cc) refl (λ r. r)
+    joins-still s s′ (Kill target number) (Has_killed true) (done-nothing did.done) tt refl refl refl tt refl (λ state how is. cc) (λ how is. cc) refl (λ r. r)
         (λ mine. let h = known mine in (h.0, told-settled s′.me.0.told Killed h.1)),
     shows did tt did.did settles tt (λ owes searches. (owes, searches)) (within, met, few),
   )

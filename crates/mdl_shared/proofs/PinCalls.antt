@@ -1,8 +1,9 @@
 -- The end of a pin, and the places that a session's own list shows to be pinned.
 use Rattle.std.proofs.Common.{◌≡◌, ℕ, ◌<◌, ◌==◌, not, ◌||◌, Bool, true, false, List, [], ◌∷◌, map, length, Contains, Option, Some, None, inl, inr, ◌⊎◌, refl, sym, ap, ◌∙◌, eq-eqb, eqb-true, arith}
 use Rattle.mdl_shared.proofs.Common.{all-among, not_from_true}
-use Rattle.mdl_shared.proofs.FirstLemmas.{Ask, AwaitsAt, Contains-here, Contains-later, Done, Held, HoldsAt, InUse, IsMember, Joins, Lists, Member, NoPlace, Refused, SessionTicket, SessionView, Shows, StaysInOrder, Unpin, as_held, asks_at, by_bool, data_of, does-nothing, false≢true, fast-pinned, has_pin, has_ticket_at, held-seen, interleaved, keeps-same, keeps-settled, list_all, member, nat_tests, numbered, own_at, reads-nothing, refused, same-stays, sees-same, speaks, ticket-pinned, tickets_seen, unpin_fault, wait_by, without_place}
+use Rattle.mdl_shared.proofs.FirstLemmas.{Ask, AwaitsAt, Contains-here, Contains-later, Done, Held, HoldsAt, InUse, IsMember, IsOwed, Joins, Lists, Member, NoPlace, Refused, SessionTicket, SessionView, Shows, SpaceError, StaysInOrder, Unpin, as_held, asks_at, by_bool, data_of, does-nothing, false≢true, fast-pinned, has_pin, has_ticket_at, held-seen, interleaved, is_used, keeps-same, keeps-settled, list_all, lists_seen, member, nat_tests, numbered, own_at, reads-nothing, refused, same-stays, sees-same, speaks, ticket-pinned, tickets_seen, wait_by, without_place}
 use Rattle.mdl_shared.proofs.KeyCalls.{order-pinned, order-same}
+use Rattle.mdl_shared.specs.calls.Unpin.{IsUsed, met}
 
 -- ---- pinned places of its own lists
 
@@ -50,41 +51,75 @@ none-awaited place waits (Some a) held pins none awaits =
 abbrev pub without_pin : ℕ → SessionView → SessionView
 without_pin place s = record s { pins = without_place place s.pins }
 
+-- whether it is, by the session's view
+abbrev pub used_at : ℕ → SessionView → Bool
+used_at place s = is_used place (tickets_seen s.me.0) s.me.0.asks s.me.0.owes
+
+-- by a ticket, by its wait or by a debt
+used-by : (s : SessionView) (place : ℕ) → used_at place s ≡ true → IsUsed place s
+used-by s place some =
+    by_bool (has_ticket_at place (tickets_seen s.me.0))
+    (λ held. inl (ticket-there place (tickets_seen s.me.0) held))
+    (λ none. by_bool (asks_at place s.me.0.asks)
+    (λ asked. inr (inl (ask-there place s.me.0.waits s.me.0.asks (map as_held (tickets_seen s.me.0)) s.pins asked)))
+    (λ idle. inr (inr (refl, rw (none, idle) at some))))
+
 module _ {s : SessionView} (is : IsMember s) (place : ℕ) where
-  abbrev in_use : Bool
-  in_use = has_ticket_at place (tickets_seen s.me.0) || asks_at place s.me.0.asks
-
-  used : in_use ≡ true → HoldsAt place (data_of s).own ⊎ AwaitsAt place (data_of s).own
-  used some =
-      by_bool (has_ticket_at place (tickets_seen s.me.0))
-      (λ held. inl (ticket-there place (tickets_seen s.me.0) held))
-      (λ none. inr (ask-there place s.me.0.waits s.me.0.asks (map as_held (tickets_seen s.me.0)) s.pins (rw none at some)))
-
-  unheld : in_use ≡ false → has_ticket_at place (tickets_seen s.me.0) ≡ false
+  unheld : used_at place s ≡ false → has_ticket_at place (tickets_seen s.me.0) ≡ false
   unheld none = by_bool (has_ticket_at place (tickets_seen s.me.0)) (λ held. (let no = rw held at none in absurd (cc))) (λ no. no)
 
-  unused : in_use ≡ false → (HoldsAt place (data_of s).own → ⊥) × (AwaitsAt place (data_of s).own → ⊥)
-  unused none =
-      let no = unheld none in (
-        (λ holds. false≢true (sym (not_from_true (holds.0.place == place) (eq-eqb holds.0.place place holds.2))
-            ∙ all-among (λ (h : Held). not (h.place == place)) (map as_held (tickets_seen s.me.0)) holds.0 (none-held place (tickets_seen s.me.0) no) holds.1)),
-        none-awaited place s.me.0.waits s.me.0.asks (map as_held (tickets_seen s.me.0)) s.pins (rw no at none),
-      )
+  unasked : used_at place s ≡ false → asks_at place s.me.0.asks ≡ false
+  unasked none = by_bool (asks_at place s.me.0.asks) (λ asked. (let no = rw (unheld none, asked) at none in absurd (cc))) (λ no. no)
+
+  unowed : used_at place s ≡ false → IsOwed place s.me.0.owes → ⊥
+  unowed none owed = (let no = rw (unheld none, unasked none, owed) at none in absurd (cc))
+
+  unused : used_at place s ≡ false → (HoldsAt place (data_of s).own → ⊥) × (AwaitsAt place (data_of s).own → ⊥)
+  unused none = (
+    (λ holds. false≢true (sym (not_from_true (holds.0.place == place) (eq-eqb holds.0.place place holds.2))
+        ∙ all-among (λ (h : Held). not (h.place == place)) (map as_held (tickets_seen s.me.0)) holds.0 (none-held place (tickets_seen s.me.0) (unheld none)) holds.1)),
+    none-awaited place s.me.0.waits s.me.0.asks (map as_held (tickets_seen s.me.0)) s.pins (unasked none),
+  )
+
+  free : used_at place s ≡ false → IsUsed place s → ⊥
+  free none (inl holds) = (unused none).0 holds
+  free none (inr (inl awaits)) = (unused none).1 awaits
+  free none (inr (inr owed)) = unowed none owed.1
 
   -- refused
   pub unpinned-joins : has_pin place s.pins ≡ false → Joins (data_of s) (Unpin s.me.0.number place) (Refused NoPlace) (data_of s)
-  unpinned-joins none = refused s s (Unpin s.me.0.number place) NoPlace (same-stays s) (speaks is) refl refl none (λ state how met. cc) tt
+  unpinned-joins none = refused s s (Unpin s.me.0.number place) NoPlace (same-stays s) (speaks is) refl none (λ state how met. cc) tt
 
-  pub used-joins : has_pin place s.pins ≡ true → in_use ≡ true → Joins (data_of s) (Unpin s.me.0.number place) (Refused InUse) (data_of s)
-  used-joins pinned some = refused s s (Unpin s.me.0.number place) InUse (same-stays s) (speaks is) refl refl pinned (λ state how met. cc) (used some)
+  pub used-joins : has_pin place s.pins ≡ true → Joins (data_of s) (Unpin s.me.0.number place) (Refused InUse) (data_of s)
+  used-joins pinned = refused s s (Unpin s.me.0.number place) InUse (same-stays s) (speaks is) refl pinned (λ state how met. cc) tt
+
+  -- what that shows
+  still-shows : (why : SpaceError) → met place (Refused why) (lists_seen s.me.0) s s → Shows (Unpin s.me.0.number place) (Refused why) s s
+  still-shows why met = record {
+    table = refl;
+    sessions = refl;
+    refused = tt;
+    did = does-nothing s.me;
+    settled = refl;
+    told = refl;
+    met = met;
+    room = keeps-same s.room;
+    debts = λ q owed. owed;
+    owes = (refl, refl);
+  }
+
+  pub unpinned-shows : has_pin place s.pins ≡ false → Shows (Unpin s.me.0.number place) (Refused NoPlace) s s
+  unpinned-shows none = still-shows NoPlace (none, refl)
+
+  pub used-shows : has_pin place s.pins ≡ true → used_at place s ≡ true → Shows (Unpin s.me.0.number place) (Refused InUse) s s
+  used-shows pinned some = still-shows InUse (pinned, used-by s place some, refl)
 
   -- done
-  module _ (pinned : has_pin place s.pins ≡ true) (none : in_use ≡ false) where
+  module _ (pinned : has_pin place s.pins ≡ true) (none : used_at place s ≡ false) where
     pub unpin-joins : Joins (data_of s) (Unpin s.me.0.number place) Done (data_of (without_pin place s))
     unpin-joins =
         let free = unused none in record {
           mine = speaks is;
-          has = refl;
           fits = refl;
           number = refl;
           own = refl;
@@ -102,11 +137,11 @@ module _ {s : SessionView} (is : IsMember s) (place : ℕ) where
     unpin-shows = record {
       table = refl;
       sessions = refl;
-      refused = rw (pinned, none) tt;
+      refused = tt;
       did = does-nothing s.me;
       settled = refl;
       told = refl;
-      met = refl;
+      met = (pinned, free none, refl);
       room = keeps-same s.room;
       debts = λ q owed. owed;
       owes = (refl, refl);
@@ -114,11 +149,3 @@ module _ {s : SessionView} (is : IsMember s) (place : ℕ) where
 
     pub unpin-order : StaysInOrder s (without_pin place s)
     unpin-order = order-pinned (without_place place s.pins) (order-same is)
-
--- its faults
-pub unpinned-fault : (place : ℕ) (pins : List ℕ) (tickets : List SessionTicket) (asks : Option Ask) → has_pin place pins ≡ false → unpin_fault place pins tickets asks ≡ Some NoPlace
-unpinned-fault place pins tickets asks none = rw none refl
-
-pub used-fault : (place : ℕ) (pins : List ℕ) (tickets : List SessionTicket) (asks : Option Ask) → has_pin place pins ≡ true
-    → (has_ticket_at place tickets || asks_at place asks) ≡ true → unpin_fault place pins tickets asks ≡ Some InUse
-used-fault place pins tickets asks pinned some = rw (pinned, some) refl

@@ -42,11 +42,11 @@ clear-wait (Some a) e = refl
 module _ {s : SessionView} (is : IsMember s) (idle : is_some s.me.0.asks ≡ false) where
   pub poll-refused : Joins (data_of s) (Poll_wait s.me.0.number) (Refused NoWait) (data_of s)
   poll-refused =
-      refused s s (Poll_wait s.me.0.number) NoWait (same-stays s) (speaks is) refl refl (waits-asks s.me.0.asks s.me.0.waits ∙ idle) (λ state how is. cc) tt
+      refused s s (Poll_wait s.me.0.number) NoWait (same-stays s) (speaks is) refl (waits-asks s.me.0.asks s.me.0.waits ∙ idle) (λ state how is. cc) tt
 
   pub timeout-refused : Joins (data_of s) (Settle_timeout s.me.0.number) (Refused NoWait) (data_of s)
   timeout-refused =
-      refused s s (Settle_timeout s.me.0.number) NoWait (same-stays s) (speaks is) refl refl (waits-asks s.me.0.asks s.me.0.waits ∙ idle) (λ state how is. cc) tt
+      refused s s (Settle_timeout s.me.0.number) NoWait (same-stays s) (speaks is) refl (waits-asks s.me.0.asks s.me.0.waits ∙ idle) (λ state how is. cc) tt
 
 module _ {s : SessionView} (is : IsMember s) (waiting : is_some s.me.0.asks ≡ true) (session found : ℕ) (mine : session ≡ s.me.0.number)
     (own : TellsOwn s.table.slots session found s.me.0) where
@@ -87,7 +87,7 @@ module _ {s : SessionView} (is : IsMember s) (waiting : is_some s.me.0.asks ≡ 
     pub poll-pending : settled_of (wait_state found) ≡ None
         → Joins (data_of s) (Poll_wait s.me.0.number) Pending (data_of s′) × Shows (Poll_wait s.me.0.number) Pending s s′
     poll-pending none = (
-      joins-still s s′ (Poll_wait s.me.0.number) Pending (done-nothing polls.done) (speaks is) refl refl refl refl
+      joins-still s s′ (Poll_wait s.me.0.number) Pending (done-nothing polls.done) (speaks is) refl refl refl
           (waits-asks s.me.0.asks s.me.0.waits ∙ waiting) refl
           (λ state how met knows. let e : None ≡ state = cc in sym e ∙ agreed None none how knows) (λ how told. cc) refl (λ r. r) tt,
       shows polls (if-clear _ (wait_fault s.me.0.asks) (clear-wait s.me.0.asks waiting)) polls.did (ap (λ (x : SessionView). x.me.0.settles) now) tt (λ owes searches. (owes, searches))
@@ -99,7 +99,7 @@ module _ {s : SessionView} (is : IsMember s) (waiting : is_some s.me.0.asks ≡ 
     poll-settled one some =
         let its = settled-is (wait_state found) one some in
         let told = told-own ReadWait session found found s.me.0.settles s s′ now mine (settled-more (wait_state found) one its) ∙ ap Some its in (
-          joins-still s s′ (Poll_wait s.me.0.number) (Is_settled one) (done-nothing polls.done) (speaks is) refl refl refl refl
+          joins-still s s′ (Poll_wait s.me.0.number) (Is_settled one) (done-nothing polls.done) (speaks is) refl refl refl
               (waits-asks s.me.0.asks s.me.0.waits ∙ waiting) refl
               (λ state how met knows. let e : Some one ≡ state = cc in sym e ∙ agreed (Some one) some how knows)
               (λ how tells. let e : one ≡ how = cc in told-settled s′.me.0.told how (told ∙ ap (λ (x : Settled). Some (settled_state x)) e)) refl (λ r. r) tt,
@@ -125,7 +125,7 @@ module _ {s : SessionView} (is : IsMember s) (waiting : is_some s.me.0.asks ≡ 
         let met = met-word SettleWait session (wait_in wait 1) (wait_in wait 4) all s s′ now in
         let told = told-own SettleWait session (wait_in wait 1) (wait_in wait 4) all s s′ now mine (omega (arith, four)) ∙ ap Some four in (
           did,
-          joins-still s s′ (Settle_timeout s.me.0.number) (Timed_out ByThisCall) (done-nothing did.done) (speaks is) refl refl refl refl
+          joins-still s s′ (Settle_timeout s.me.0.number) (Timed_out ByThisCall) (done-nothing did.done) (speaks is) refl refl refl
               (waits-asks s.me.0.asks s.me.0.waits ∙ waiting) refl
               (λ state how met knows. let e : None ≡ state = cc in sym e ∙ agreed None none how knows)
               (λ how tells. let e : Timeout ≡ how = cc in told-settled s′.me.0.told how (told ∙ ap (λ (x : Settled). Some (settled_state x)) e)) refl (λ r. r) tt,
@@ -147,7 +147,7 @@ module _ {s : SessionView} (is : IsMember s) (waiting : is_some s.me.0.asks ≡ 
         let met = met-word MissWait session found found s.me.0.settles s s′ now in
         let told = told-own MissWait session found found s.me.0.settles s s′ now mine more ∙ ap Some its in (
           did,
-          joins-still s s′ (Settle_timeout s.me.0.number) (Timed_out (Already one)) (done-nothing did.done) (speaks is) refl refl refl refl
+          joins-still s s′ (Settle_timeout s.me.0.number) (Timed_out (Already one)) (done-nothing did.done) (speaks is) refl refl refl
               (waits-asks s.me.0.asks s.me.0.waits ∙ waiting) refl
               (λ state how met knows. let e : Some one ≡ state = cc in sym e ∙ agreed (Some one) some how knows)
               (λ how tells. let e : one ≡ how = cc in told-settled s′.me.0.told how (told ∙ ap (λ (x : Settled). Some (settled_state x)) e)) refl (λ r. r) tt,

@@ -82,7 +82,7 @@ pub unfit-joins : {s : SessionView} → IsMember s → (id : ℕ) (change : Chan
     → Joins (data_of s) (Change_definition s.me.0.number id change) (Refused why) (data_of s)
 unfit-joins {s} is id change why fault =
     let told = by (numbered id (tickets_seen s.me.0)) refl fault in
-    refused s s (Change_definition s.me.0.number id change) why (same-stays s) (speaks is) refl refl told.0 (λ state how met. cc) told.1
+    refused s s (Change_definition s.me.0.number id change) why (same-stays s) (speaks is) refl told.0 (λ state how met. cc) told.1
   where
     by : (o : Option SessionTicket) → numbered id (tickets_seen s.me.0) ≡ o → exclusive_fault o ≡ Some why
         → IsCause (Knows (data_of s) s.me.0.number) (Change_definition s.me.0.number id change) why (data_of s).own
@@ -111,7 +111,7 @@ module _ {s : SessionView} (is : IsMember s) (id : ℕ) (t : SessionTicket) (its
       → IsLast t.place standing (data_of s).reads (data_of s′).reads
       → Joins (data_of s) (Read_definition s.me.0.number id) (Reads standing.version standing.definition) (data_of s′)
   last-joins {s′} standing noted follows last =
-      joins-held s s′ (Read_definition s.me.0.number id) (Reads standing.version standing.definition) (map as_held (tickets_seen s.me.0)) (noted-rest noted) (speaks is) refl refl
+      joins-held s s′ (Read_definition s.me.0.number id) (Reads standing.version standing.definition) (map as_held (tickets_seen s.me.0)) (noted-rest noted) (speaks is) refl
       (ap (map as_held) (noted-tickets noted) ∙ noting-told t.place standing.version (tickets_seen s.me.0)) refl (noted-drawn noted) (holds-told id (tickets_seen s.me.0) true (ap is_some its)) refl
       (λ state how met. cc) (λ how told. cc) refl
       (of-held id (tickets_seen s.me.0) t (λ (h : Held). Read_so standing (data_of s) (data_of s′) h.place) its
@@ -140,7 +140,7 @@ module _ {s : SessionView} (is : IsMember s) (id : ℕ) (t : SessionTicket) (its
   }
 
   pub unread-joins : {s′ : SessionView} → Stays s s′ → Joins (data_of s) (Read_definition s.me.0.number id) (Refused OutOfMemory) (data_of s′)
-  unread-joins {s′} stays = refused s s′ (Read_definition s.me.0.number id) OutOfMemory stays (speaks is) refl refl tt (λ state how met. cc) tt
+  unread-joins {s′} stays = refused s s′ (Read_definition s.me.0.number id) OutOfMemory stays (speaks is) refl tt (λ state how met. cc) tt
 
   pub unread-shows : {s′ : SessionView} → s′.table ≡ s.table → s′.sessions ≡ s.sessions → Visits t.place [] s.me s′.me → StaysQuiet s.me s′.me
       → VisitsOnce t.place s.me s′.me → KeepsRoom 0 s.room s′.room → Shows (Read_definition s.me.0.number id) (Refused OutOfMemory) s s′
@@ -174,7 +174,7 @@ module _ {s : SessionView} (is : IsMember s) (id : ℕ) (t : SessionTicket) (its
     change-joins standing version noted same redefines =
         let stood = redefines.meets.latch.book.standing in
         let newer = redefines.meets.newer in
-        joins-held s s′ (Change_definition s.me.0.number id change) (Changed version) (map as_held (tickets_seen s.me.0)) (noted-rest noted) (speaks is) refl refl
+        joins-held s s′ (Change_definition s.me.0.number id change) (Changed version) (map as_held (tickets_seen s.me.0)) (noted-rest noted) (speaks is) refl
         (ap (map as_held) (noted-tickets noted) ∙ noting-told t.place standing.version (tickets_seen s.me.0)) refl (noted-drawn noted)
         (of-held id (tickets_seen s.me.0) t (λ (h : Held). same_mode h.mode X ≡ true) its exclusive) refl
         (λ state how met. cc) (λ how told. cc) refl
@@ -239,7 +239,7 @@ module _ {s : SessionView} (is : IsMember s) (id : ℕ) (t : SessionTicket) (its
         → Joins (data_of s) (Change_definition s.me.0.number id change) (Refused (cause_of w)) (data_of s′)
     unchanged-joins stays w why =
         let told = refused-so w why in
-        refused s s′ (Change_definition s.me.0.number id change) (cause_of w) stays (speaks is) refl refl told.0 (λ state how met. cc) told.1
+        refused s s′ (Change_definition s.me.0.number id change) (cause_of w) stays (speaks is) refl told.0 (λ state how met. cc) told.1
 
     pub unchanged-shows : s′.table ≡ s.table → s′.sessions ≡ s.sessions → Visits t.place [] s.me s′.me → (w : ChangeError) → IsChangeRefused t.place s.me.0.number change w s.me s′.me
         → VisitsOnce t.place s.me s′.me → KeepsRoom 0 s.room s′.room → Shows (Change_definition s.me.0.number id change) (Refused (cause_of w)) s s′

@@ -1,6 +1,6 @@
 -- A call that is refused for what the session has of its own, before any step.
 use Rattle.std.proofs.Common.{◌≡◌, List, [], Some, IfSome, Option, inl, refl, sym, subst, append-nil}
-use Rattle.mdl_shared.proofs.Common.{Begin_wait, Call, Change_definition, Clone_ticket, Deed, Does, Downgrade, End_wait, Key_of, Kill, Lists, MakesNoStep, Merge, Mine, Poll_wait, Read_definition, Read_kept, Refused, Release, Resolve, Search, SessionTicket, SessionView, Settle_timeout, Shows, SpaceError, Tables_of, Try_now, Unpin, Upgrade_now, Wait_of, lists_seen, steps_of, tickets_seen}
+use Rattle.mdl_shared.proofs.Common.{Begin_wait, Call, Change_definition, Clone_ticket, Deed, Does, Downgrade, End_wait, Key_of, Kill, Lists, MakesNoStep, Merge, Mine, Poll_wait, Read_definition, Read_kept, Refused, Release, Resolve, Search, SessionTicket, SessionView, Settle_timeout, Shows, SpaceError, Tables_of, Try_now, Upgrade_now, Wait_of, lists_seen, steps_of, tickets_seen}
 use Rattle.mdl_shared.proofs.Rooms.{keeps-same}
 
 -- without a step nothing is done, and the session stays
@@ -50,7 +50,6 @@ own-met (Read_kept who id) why l s e = inl e
 own-met (Change_definition who id change) why l s e = inl e
 own-met (Tables_of who schema) why l s e = cc
 own-met (Key_of who place) why l s e = refl
-own-met (Unpin who place) why l s e = (e, refl)
 own-met _ why l s e = cc
 
 -- so a call that has a fault of the session's own shows just that

@@ -1,7 +1,7 @@
 -- A call that leaves a session what it has, but for what it may have learnt of its wait.
 use Rattle.std.proofs.Common.{◌≡◌, ℕ, ◌-◌, Bool, true, false, List, map, is_some, Option, Some, None, IfSome, refl, sym, ap, subst, ◌∙◌, filter_map}
 use Rattle.mdl_calls.specs.declared.answers.Settled.TheVariants as settled_as
-use Rattle.mdl_shared.proofs.Common.{Answer, Ask, Call, Draws, Held, IsCause, IsExplained, Joins, KeepsAll, KeepsSettled, Knows, LearnsKeys, LetsRead, Numbers, ReadNothing, ReadsNothing, Refused, SessionLocks, SessionTicket, SessionView, Settled, SpaceError, SpeaksFor, StaysTold, TellsTruly, Wait, as_held, caller, data_of, ends_wait, is_answer_of, note_of, option_map, own_after, reads-nothing, refused-joins, session_has_call, settled_of, settled_state, settled_told, tickets_seen, told, wait_met}
+use Rattle.mdl_shared.proofs.Common.{Answer, Ask, Call, Draws, Held, IsCause, IsExplained, Joins, KeepsAll, KeepsSettled, Knows, LearnsKeys, LetsRead, Numbers, ReadNothing, ReadsNothing, Refused, SessionLocks, SessionTicket, SessionView, Settled, SpaceError, SpeaksFor, StaysTold, TellsTruly, Wait, as_held, caller, data_of, ends_wait, is_answer_of, note_of, option_map, own_after, reads-nothing, refused-joins, settled_of, settled_state, settled_told, tickets_seen, told, wait_met}
 
 -- ---- what a session has
 
@@ -124,15 +124,15 @@ keeps-all m m′ stays = record {
 }
 
 -- a refused call joins the two
-pub refused : (m m′ : SessionView) (call : Call) (why : SpaceError) → Stays m m′ → IfSome (caller call) (SpeaksFor (data_of m)) → session_has_call call ≡ true
+pub refused : (m m′ : SessionView) (call : Call) (why : SpaceError) → Stays m m′ → IfSome (caller call) (SpeaksFor (data_of m))
     → is_answer_of call (Refused why) ≡ true → IsCause (Knows (data_of m) m.me.0.number) call why (data_of m).own
     → ((state : Option Settled) (how : Settled) → wait_met call (Refused why) ≡ Some state → (data_of m).settled ≡ Some how → state ≡ Some how)
     → TellsTruly call (Refused why) (data_of m) (data_of m′) → Joins (data_of m) call (Refused why) (data_of m′)
-refused m m′ call why stays mine has fits cause agreed truly =
-    refused-joins (data_of m) (data_of m′) call why mine has fits (keeps-all m m′ stays) cause agreed truly
+refused m m′ call why stays mine fits cause agreed truly =
+    refused-joins (data_of m) (data_of m′) call why mine fits (keeps-all m m′ stays) cause agreed truly
 
 -- and so does any that leaves its caller what it has
-pub joins-still : (m m′ : SessionView) (call : Call) (answer : Answer) → Stays m m′ → IfSome (caller call) (SpeaksFor (data_of m)) → session_has_call call ≡ true
+pub joins-still : (m m′ : SessionView) (call : Call) (answer : Answer) → Stays m m′ → IfSome (caller call) (SpeaksFor (data_of m))
     → is_answer_of call answer ≡ true → own_after call answer (data_of m).own ≡ (data_of m).own
     → Draws call answer (data_of m).numbers (data_of m).numbers
     → IsExplained (Knows (data_of m) m.me.0.number) call answer (data_of m).own
@@ -142,12 +142,11 @@ pub joins-still : (m m′ : SessionView) (call : Call) (answer : Answer) → Sta
     → ends_wait call answer ≡ false
     → (ReadsNothing (data_of m) (data_of m′) → LetsRead call answer (data_of m) (data_of m′))
     → TellsTruly call answer (data_of m) (data_of m′) → Joins (data_of m) call answer (data_of m′)
-joins-still m m′ call answer stays mine has fits own draws explained learns agreed tells ends reads truly =
+joins-still m m′ call answer stays mine fits own draws explained learns agreed tells ends reads truly =
     let a = data_of m in
     let b = data_of m′ in
     let same = keeps-all m m′ stays in record {
       mine = mine;
-      has = has;
       fits = fits;
       number = same.number;
       own = same.own ∙ sym own;
@@ -163,7 +162,7 @@ joins-still m m′ call answer stays mine has fits own draws explained learns ag
 
 -- and one that leaves it other tickets, and the wait as it is
 pub joins-held : (m m′ : SessionView) (call : Call) (answer : Answer) (held : List Held) → KeepsRest m m′ → IfSome (caller call) (SpeaksFor (data_of m))
-    → session_has_call call ≡ true → is_answer_of call answer ≡ true → map as_held (tickets_seen m′.me.0) ≡ held
+    → is_answer_of call answer ≡ true → map as_held (tickets_seen m′.me.0) ≡ held
     → own_after call answer (data_of m).own ≡ own_of held (wait_by m.me.0.waits m.me.0.asks) m.pins
     → Draws call answer (data_of m).numbers (data_of m′).numbers
     → IsExplained (Knows (data_of m) m.me.0.number) call answer (data_of m).own
@@ -172,9 +171,8 @@ pub joins-held : (m m′ : SessionView) (call : Call) (answer : Answer) (held : 
     → ((how : Settled) → told call answer ≡ Some how → (data_of m′).settled ≡ Some how)
     → ends_wait call answer ≡ false → LetsRead call answer (data_of m) (data_of m′)
     → TellsTruly call answer (data_of m) (data_of m′) → Joins (data_of m) call answer (data_of m′)
-joins-held m m′ call answer held rest mine has fits its own draws explained learns agreed tells ends reads truly = record {
+joins-held m m′ call answer held rest mine fits its own draws explained learns agreed tells ends reads truly = record {
   mine = mine;
-  has = has;
   fits = fits;
   number = rest.number;
   own = own-with held (map as_held (tickets_seen m′.me.0)) m.me.0.asks m′.me.0.asks m.me.0.waits m′.me.0.waits m.pins m′.pins its rest.wait.asks rest.wait.waits rest.pins ∙ sym own;

@@ -10,12 +10,12 @@ pub search-joins : {s s′ : SessionView} → IsMember s → Stays s s′ → (r
     → IfOk result (λ f. KnowsVictim s.me.0.number f s′.me) → IfErr result (λ why. why ≡ OutOfMemory)
     → Joins (data_of s) (Search s.me.0.number) (searched result) (data_of s′)
 search-joins {s} {s′} is stays (Ok found.NoCycle) knows memory =
-    joins-still s s′ (Search s.me.0.number) No_cycle stays (speaks is) refl refl refl refl tt refl (λ state how is. cc) (λ how is. cc) refl (λ r. r) tt
+    joins-still s s′ (Search s.me.0.number) No_cycle stays (speaks is) refl refl refl tt refl (λ state how is. cc) (λ how is. cc) refl (λ r. r) tt
 search-joins {s} {s′} is stays (Ok (found.Victim victim)) knows memory =
-    joins-still s s′ (Search s.me.0.number) (Victim_is victim) stays (speaks is) refl refl refl refl tt refl (λ state how is. cc) (λ how is. cc) refl (λ r. r)
+    joins-still s s′ (Search s.me.0.number) (Victim_is victim) stays (speaks is) refl refl refl tt refl (λ state how is. cc) (λ how is. cc) refl (λ r. r)
     (λ mine. told-settled s′.me.0.told Victim (knows mine))
 search-joins {s} {s′} is stays (Err why) knows memory =
-    refused s s′ (Search s.me.0.number) why stays (speaks is) refl refl
+    refused s s′ (Search s.me.0.number) why stays (speaks is) refl
     (subst (λ (w : SpaceError). IsCause (Knows (data_of s) s.me.0.number) (Search s.me.0.number) w (data_of s).own) (sym memory) tt) (λ state how is. cc) tt
 
 -- ---- whether the wait is settled

@@ -34,7 +34,7 @@ module _ {a : SessionView} (is : IsMember a) (id : ℕ) (t : SessionTicket) (its
   pub upgrade-refused : {b : SessionView} {why : SpaceError} → covers t.mode mode ≡ false → DoesQuietly 0 [] a b → LacksRoomForFast why a b → StopsSlowing a.me b.me → KeepsRoom 0 a.room b.room
       → Joins (data_of a) (Upgrade_now a.me.0.number id mode) (Refused why) (data_of b) × Shows (Upgrade_now a.me.0.number id mode) (Refused why) a b
   upgrade-refused {b} {why} short quiet lacks stops keeps = (
-    refused a b (Upgrade_now a.me.0.number id mode) why (done-nothing quiet.done) (speaks is) refl refl
+    refused a b (Upgrade_now a.me.0.number id mode) why (done-nothing quiet.done) (speaks is) refl
         (by-cause (λ w. IsCause (Knows (data_of a) a.me.0.number) (Upgrade_now a.me.0.number id mode) w (data_of a).own) why tt
         (may-rise is id t its mode clear) (lack-cause a b lacks))
         (λ state how is. cc) tt,
@@ -91,7 +91,7 @@ module _ {a : SessionView} (is : IsMember a) (old new : ℕ) (kept gone : Sessio
   pub merge-refused : {b : SessionView} {why : SpaceError} → DoesQuietly 0 [] a b → LacksRoomForFast why a b → StopsSlowing a.me b.me → KeepsRoom 0 a.room b.room
       → Joins (data_of a) (Merge a.me.0.number old new) (Refused why) (data_of b) × Shows (Merge a.me.0.number old new) (Refused why) a b
   merge-refused {b} {why} quiet lacks stops keeps = (
-    refused a b (Merge a.me.0.number old new) why (done-nothing quiet.done) (speaks is) refl refl
+    refused a b (Merge a.me.0.number old new) why (done-nothing quiet.done) (speaks is) refl
         (by-cause (λ w. IsCause (Knows (data_of a) a.me.0.number) (Merge a.me.0.number old new) w (data_of a).own) why tt
         (merge-clear a old new kept gone its other free) (lack-cause a b lacks))
         (λ state how is. cc) tt,

@@ -23,14 +23,14 @@ module _ {m : SessionView} (is : IsMember m) (id : ℕ) (t : SessionTicket) (its
 
   pub release-joins : {m′ : SessionView} → DidDeeds t.place (Lose id ∷ []) m m′ → Joins (data_of m) (Release m.me.0.number id) Done (data_of m′)
   release-joins {m′} done =
-      joins-held m m′ (Release m.me.0.number id) Done (filter (λ (h : Held). not (is_number id h)) (map as_held (tickets_seen m.me.0))) (done-rest done) (speaks is) refl refl
+      joins-held m m′ (Release m.me.0.number id) Done (filter (λ (h : Held). not (is_number id h)) (map as_held (tickets_seen m.me.0))) (done-rest done) (speaks is) refl
       (ap (map as_held) (done-tickets done) ∙ given-up t.place id (tickets_seen m.me.0) here) refl (drawn done (done-next done))
       (holds-told id (tickets_seen m.me.0) true (ap is_some its)) refl (λ state how is. cc) (λ how is. cc) refl (deed-reads is done) tt
 
   downgrade-joins : {m′ : SessionView} (mode : Mode) → downgrade_fault (numbered id (tickets_seen m.me.0)) mode m.me.0.known ≡ None → DidDeeds t.place (Alter id mode ∷ []) m m′
       → Joins (data_of m) (Downgrade m.me.0.number id mode) Done (data_of m′)
   downgrade-joins {m′} mode clear done =
-      joins-held m m′ (Downgrade m.me.0.number id mode) Done (map (in_mode_told id (λ _. mode)) (map as_held (tickets_seen m.me.0))) (done-rest done) (speaks is) refl refl
+      joins-held m m′ (Downgrade m.me.0.number id mode) Done (map (in_mode_told id (λ _. mode)) (map as_held (tickets_seen m.me.0))) (done-rest done) (speaks is) refl
       (ap (map as_held) (done-tickets done) ∙ in-mode t.place id mode (λ _. mode) (is_here t.place) (tickets_seen m.me.0) (λ u there. (there, refl)) here) refl
       (drawn done (done-next done)) (downgrade-clear m id mode t its clear) refl
       (λ state how is. cc) (λ how is. cc) refl (deed-reads is done) tt
@@ -44,7 +44,7 @@ module _ {m : SessionView} (is : IsMember m) (id : ℕ) (t : SessionTicket) (its
     -- to a mode that its own covers
     pub covered-joins : covers t.mode mode ≡ true → Joins (data_of m) (Upgrade_now m.me.0.number id mode) Upgraded (data_of m)
     covered-joins has =
-        joins-held m m (Upgrade_now m.me.0.number id mode) Upgraded (map (in_mode_told id (upgraded mode)) (map as_held (tickets_seen m.me.0))) (same-rest m) (speaks is) refl refl
+        joins-held m m (Upgrade_now m.me.0.number id mode) Upgraded (map (in_mode_told id (upgraded mode)) (map as_held (tickets_seen m.me.0))) (same-rest m) (speaks is) refl
         (same-mode id (upgraded mode) (λ u. covers u.mode mode) (tickets_seen m.me.0) (λ u h. ap (λ b. if b then u.mode else mode) h)
         (only-one id (λ u. covers u.mode mode) (tickets_seen m.me.0) t is.sound.rising its has))
         refl refl may-rise refl (λ state how is. cc) (λ how is. cc) refl (nothing-read m m refl (one-note m is)) tt
@@ -69,7 +69,7 @@ module _ {m : SessionView} (is : IsMember m) (id : ℕ) (t : SessionTicket) (its
     -- to another
     pub upgrade-joins : {m′ : SessionView} → covers t.mode mode ≡ false → DidDeeds t.place (Alter id mode ∷ []) m m′ → Joins (data_of m) (Upgrade_now m.me.0.number id mode) Upgraded (data_of m′)
     upgrade-joins {m′} short done =
-        joins-held m m′ (Upgrade_now m.me.0.number id mode) Upgraded (map (in_mode_told id (upgraded mode)) (map as_held (tickets_seen m.me.0))) (done-rest done) (speaks is) refl refl
+        joins-held m m′ (Upgrade_now m.me.0.number id mode) Upgraded (map (in_mode_told id (upgraded mode)) (map as_held (tickets_seen m.me.0))) (done-rest done) (speaks is) refl
         (ap (map as_held) (done-tickets done) ∙ in-mode t.place id mode (upgraded mode) (λ u. is_here t.place u && not (covers u.mode mode)) (tickets_seen m.me.0)
         (λ u h. let parts = and_parts (is_here t.place u) (not (covers u.mode mode)) h in
         (parts.0, ap (λ b. if b then u.mode else mode) (not-true (covers u.mode mode) parts.1)))
@@ -80,7 +80,7 @@ module _ {m : SessionView} (is : IsMember m) (id : ℕ) (t : SessionTicket) (its
     -- that would have to wait
     pub blocked-joins : {m′ : SessionView} → covers t.mode mode ≡ false → DidDeeds t.place [] m m′ → Joins (data_of m) (Upgrade_now m.me.0.number id mode) Would_wait (data_of m′)
     blocked-joins {m′} short done =
-        joins-still m m′ (Upgrade_now m.me.0.number id mode) Would_wait (done-nothing done) (speaks is) refl refl refl refl
+        joins-still m m′ (Upgrade_now m.me.0.number id mode) Would_wait (done-nothing done) (speaks is) refl refl refl
         may-rise refl (λ state how is. cc) (λ how is. cc) refl (λ r. r)
         (of-held id (tickets_seen m.me.0) t (λ (h : Held). covers h.mode mode ≡ false) its short)
 
@@ -90,7 +90,7 @@ module _ {m : SessionView} (is : IsMember m) (id : ℕ) (t : SessionTicket) (its
       → DidDeeds t.place (Alter id gone.mode ∷ Lose new ∷ []) m m′ → Joins (data_of m) (Merge m.me.0.number id new) Done (data_of m′)
   merge-joins {m′} new gone other clear done =
       joins-held m m′ (Merge m.me.0.number id new) Done (map (in_mode_told id (λ _. gone.mode)) (filter (λ (h : Held). not (is_number new h)) (map as_held (tickets_seen m.me.0))))
-      (done-rest done) (speaks is) refl refl
+      (done-rest done) (speaks is) refl
       (ap (map as_held) (done-tickets done) ∙ merged-told t.place id new gone.mode (tickets_seen m.me.0) here
       (only-one new (is_here t.place) (tickets_seen m.me.0) gone is.sound.rising other (merge-here t gone m.me.0.asks clear)))
       (ap (λ o. merging id new o (data_of m).own) (ticket-told new (tickets_seen m.me.0) ∙ ap (option_map as_held) other)) (drawn done (done-next done))
@@ -106,19 +106,19 @@ module _ {s : SessionView} (is : IsMember s) (why : SpaceError) where
   pub downgrade-unfit : (id : ℕ) (mode : Mode) → downgrade_fault (numbered id (tickets_seen s.me.0)) mode s.me.0.known ≡ Some why
       → Joins (data_of s) (Downgrade s.me.0.number id mode) (Refused why) (data_of s)
   downgrade-unfit id mode fault =
-      refused s s (Downgrade s.me.0.number id mode) why (same-stays s) (speaks is) refl refl
+      refused s s (Downgrade s.me.0.number id mode) why (same-stays s) (speaks is) refl
       (downgrade-cause s s.me.0.number id mode why (numbered id (tickets_seen s.me.0)) refl fault) (λ state how is. cc) tt
 
   pub upgrade-unfit : (id : ℕ) (mode : Mode) → upgrade_fault mode s.me.0.known s.me.0.asks (numbered id (tickets_seen s.me.0)) ≡ Some why
       → Joins (data_of s) (Upgrade_now s.me.0.number id mode) (Refused why) (data_of s)
   upgrade-unfit id mode fault =
-      refused s s (Upgrade_now s.me.0.number id mode) why (same-stays s) (speaks is) refl refl
+      refused s s (Upgrade_now s.me.0.number id mode) why (same-stays s) (speaks is) refl
       (upgrade-cause s s.me.0.number id mode why (numbered id (tickets_seen s.me.0)) refl fault) (λ state how is. cc) tt
 
   pub merge-unfit : (old new : ℕ) → merge_fault (numbered old (tickets_seen s.me.0)) (numbered new (tickets_seen s.me.0)) s.me.0.asks ≡ Some why
       → Joins (data_of s) (Merge s.me.0.number old new) (Refused why) (data_of s)
   merge-unfit old new fault =
-      refused s s (Merge s.me.0.number old new) why (same-stays s) (speaks is) refl refl
+      refused s s (Merge s.me.0.number old new) why (same-stays s) (speaks is) refl
       (merge-cause s s.me.0.number old new why (numbered old (tickets_seen s.me.0)) (numbered new (tickets_seen s.me.0)) refl refl fault) (λ state how is. cc) tt
 
 -- ---- what a downgrade comes to

@@ -169,7 +169,6 @@ pub kept-joins : (a b : SessionData) (who id version : ℕ) (definition : Option
     → Joins a (Read_kept who id) (Reads version definition) b
 kept-joins a b who id version definition joins = record {
   mine = joins.mine;
-  has = refl;
   fits = refl;
   number = joins.number;
   own = joins.own;

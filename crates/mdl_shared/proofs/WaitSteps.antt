@@ -37,7 +37,7 @@ asked s waiting none = absurd (false≢true (sym (ap is_some none) ∙ waiting))
 pub still-member : {place : ℕ} {s s′ : SessionView} → DidDeeds place [] s s′ → IsMember s → IsMember s′
 still-member {s = s} {s′ = s′} done is =
     kept (Search s.me.0.number) {answer = No_cycle} is (done-order done is (inr refl))
-    (joins-still s s′ (Search s.me.0.number) No_cycle (done-nothing done) (speaks is) refl refl refl refl tt refl (λ state how met. cc) (λ how told. cc) refl (λ r. r) tt)
+    (joins-still s s′ (Search s.me.0.number) No_cycle (done-nothing done) (speaks is) refl refl refl tt refl (λ state how met. cc) (λ how told. cc) refl (λ r. r) tt)
 
 -- the word of a session's wait is one of the table's
 pub session-there : (s : SessionView) → IsMember s → (session : ℕ) → 0 < session → session ≤ s.sessions → IsSession s.table session

@@ -14,9 +14,9 @@ HasNoLocks s = HasNothing (data_of s).own
 abbrev pub IsFirstOwed : ℕ → List ℕ → Type 0
 IsFirstOwed place owes = IsOwed place owes × ((q : ℕ) → q < place → list_any (λ p. p == q) owes ≡ false)
 
--- the session had nothing and owed nothing, and this is its pass
+-- the session had nothing and owed nothing, and this is its pass: it gave up its pins, and is unchanged otherwise
 abbrev pub HasClosed : Pass → SessionView → Type 0
-HasClosed pass s = HasNoLocks s × (s.me.0.owes ≡ []) × (pass_view pass ≡ s)
+HasClosed pass s = HasNoLocks s × (s.me.0.owes ≡ []) × (pass_view pass ≡ record s { pins = [] })
 
 -- why the session is still open: it has a ticket or a wait, or it has none and owes this place, whose key it knows, a reschedule, but no lesser one. It is
 -- unchanged

@@ -1,4 +1,4 @@
--- What a session's own lists say: what it returns of them, and whether it may give up a pin.
+-- What a session's own lists say: what it returns of them, and whether a place is in use.
 use Rattle.std.specs.Prelude.{ℕ, ◌==◌, Bool, false, not, ◌||◌, List, Option, Some, None, is_some, if◌then◌else◌}
 use Rattle.mdl_shared.specs.Prelude.{Ask, Held, InUse, KnownKey, NoPlace, SessionTicket, SpaceError, has_pin, key_known, list_any, option_map_or}
 
@@ -18,7 +18,6 @@ has_ticket_at place tickets = list_any (λ (t : SessionTicket). t.place == place
 abbrev pub asks_at : ℕ → Option Ask → Bool
 asks_at place asks = option_map_or (λ (a : Ask). a.place == place) asks false
 
--- why the session can't give up its pin of a place: it doesn't pin the place, or it has a ticket or a wait there
-abbrev pub unpin_fault : ℕ → List ℕ → List SessionTicket → Option Ask → Option SpaceError
-unpin_fault place pins tickets asks =
-    if not (has_pin place pins) then Some NoPlace else (if has_ticket_at place tickets || asks_at place asks then Some InUse else None)
+-- whether a place is in use, by the session's tickets, what it waits for, and the places that it owes a reschedule
+abbrev pub is_used : ℕ → List SessionTicket → Option Ask → List ℕ → Bool
+is_used place tickets asks owes = has_ticket_at place tickets || asks_at place asks || list_any (λ p. p == place) owes

@@ -24,7 +24,7 @@ pub record StepSpec : Type 1 where
   pub met : Answer → Lists → SessionView → SessionView → Type 0
 
 -- the call without steps: an aspect that a file of `calls` leaves out is as here, which is the most that it can promise. Only `fault` is different: without
--- one nothing is said of refusals, and the call may still be refused, as `list_held` for lack of memory
+-- one it says nothing of refusals, and the call may still be refused, as `list_held` for lack of memory, and `unpin` by its `met`
 abbrev pub no_steps : StepSpec
 no_steps = record {
   fault = λ pins l. None;

@@ -27,7 +27,8 @@ use std::sync::Wait;
 
 impl<R: Wait> Session<R> {
     /// Requests a lock, and begins to wait for it if it can't be granted now. The call itself waits only while another session holds the
-    /// latch of a place. It takes all memory that the session's own lists need, also for the end of the wait.
+    /// latch of a place. It takes all memory that the session's own lists need, also for the end of the wait. Fails with
+    /// [`SpaceError::NoPlace`] if the session doesn't pin the place.
     pub fn begin_wait(&mut self, place: Place, mode: Mode) -> Result<Begun, SpaceError>
         ensures joined { Transition (call.begin_wait self.old.me.0.number place mode) (begun result) (data_of self.old) (data_of self.new) }
         ensures shown { TakesSteps (steps.begin_wait place mode) (begun result) self.old self.new }

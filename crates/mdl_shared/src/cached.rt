@@ -37,7 +37,7 @@ pub fn read_cached<'a, R>(
     ensures found { IfOk result (λ found. FindsKept id cache.old.kept found session.old session.new) }
     ensures refused { IfErr result (λ why. (why ≡ NotHeld) × (numbered id (tickets_seen session.old.me.0) ≡ None) × (session.new ≡ session.old)) }
 {
-    match session.member.tickets.get_to_read(id) {
+    match session.member.tickets.get(id) {
         Some(held) => {
             let member = &mut session.member;
             let version = member.seat.read_version_kept(held.place, cache);

@@ -49,8 +49,10 @@ impl<R: Wait> Session<R> {
 impl Member {
     // The ticket with a number, and the kind of its lock, if a second one in a mode may be made of it.
     fn clonable(&self, id: TicketId, mode: Mode) -> Result<(SessionTicket, Kind), SpaceError>
-        ensures found { IfOk result (λ two. (numbered id (interleaved self.now.tickets.slow self.now.tickets.fast) ≡ Some two.0) × (kind_pinned two.0.place self.now.known.pins self.now.known.known ≡ Some two.1)) }
-        ensures just { RefusesJust (clone_fault (numbered id (interleaved self.now.tickets.slow self.now.tickets.fast)) self.now.asks mode self.now.known.known self.now.next) result }
+        ensures found { IfOk result (λ two. (numbered id (interleaved self.now.tickets.slow self.now.tickets.fast) ≡ Some two.0)
+            × (kind_pinned two.0.place self.now.known.pins self.now.known.known ≡ Some two.1)) }
+        ensures just { RefusesJust (clone_fault (numbered id (interleaved self.now.tickets.slow self.now.tickets.fast)) self.now.asks mode
+            self.now.known.known self.now.next) result }
     {
         let Some(held) = self.tickets.get(id) else {
             return Err(SpaceError::NotHeld);
@@ -78,9 +80,11 @@ impl Member {
     ) -> Result<TicketId, SpaceError>
         requires may { MayCloneByLatch held mode self.old }
         ensures cloned { IfOk result (λ new. WasClonedByLatch held mode self.old.next new (view_of self.old) (view_of self.new)) }
-        ensures unchanged { OnErr result (DoesQuietly held.place [] (view_of self.old) (view_of self.new) × KeepsRoom 0 self.old.tickets.room self.new.tickets.room) }
+        ensures unchanged { OnErr result (DoesQuietly held.place [] (view_of self.old) (view_of self.new)
+            × KeepsRoom 0 self.old.tickets.room self.new.tickets.room) }
         ensures once { VisitsOnce held.place self.old.seat.me self.new.seat.me }
-        ensures refused { IfErr result (λ why. (why ≡ OutOfMemory) ⊎ ((why ≡ Full) × ShowsStep (view_of self.old) (view_of self.new) (MeetsFull held.place))) }
+        ensures refused { IfErr result (λ why. (why ≡ OutOfMemory)
+            ⊎ ((why ≡ Full) × ShowsStep (view_of self.old) (view_of self.new) (MeetsFull held.place))) }
     {
         let number = self.next;
         if let Err(cause) = clone_ticket(rt, &mut self.seat, held, number, mode) {

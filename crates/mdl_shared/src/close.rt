@@ -15,9 +15,9 @@ pub enum CloseError<R> {
 impl<R: Drop> Session<R> {
     ghost use Rattle.mdl_shared.specs.Closings.{HasClosed, StaysOpen};
 
-    /// Closes the session, and returns its pass. Fails with [`CloseError::HoldsTickets`] while the session has a ticket or a wait, settled or
-    /// not, and otherwise with [`CloseError::Owes`] while it owes a place a [`Session::reschedule`], for the first such place. If it fails, the
-    /// session is unchanged. It takes no memory.
+    /// Closes the session, which gives up its pins, and returns its pass. Fails with [`CloseError::HoldsTickets`] while the session has a
+    /// ticket or a wait, settled or not, and otherwise with [`CloseError::Owes`] while it owes a place a [`Session::reschedule`], for the
+    /// first such place. If it fails, the session is unchanged. It takes no memory.
     pub fn close(self) -> Result<Pass, CloseError<R>>
         ensures { MatchResult result (λ pass. HasClosed pass self) (λ why. StaysOpen why self) }
     {
@@ -27,7 +27,8 @@ impl<R: Drop> Session<R> {
         if let Some(place) = self.member.tickets.first_owed() {
             return Err(CloseError::Owes(self, place as Place));
         }
-        let Session { rt: _, member } = self;
+        let Session { rt: _, mut member } = self;
+        member.known.unpin_all();
         Ok(Pass { member })
     }
 }

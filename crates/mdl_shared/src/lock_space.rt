@@ -1,9 +1,9 @@
 //! A session as a lock space. It speaks for itself only.
-ghost use Rattle.std.proofs.Common.{◌∙◌};
+ghost use Rattle.std.proofs.Common.{◌∙◌, ◌⊎◌, subst, sym};
+ghost use Rattle.mdl_calls.specs.Reads.{AwaitsAt, HoldsAt};
 ghost use Rattle.mdl_calls.specs.SessionData.{SpeaksFor, own_of, numbers_of, Knows, IsSettledAs, HasMet, HasRead, HasSeen};
 ghost use Rattle.mdl_session_laws.specs.SessionJoins.{Joins};
 ghost use Rattle.mdl_session_laws.proofs.SessionLaws.{session-laws};
-ghost use Rattle.mdl_session_laws.proofs.ViewLaws.{laws-by_view};
 ghost use Rattle.mdl_shared.specs.Debts.{Owes};
 ghost use Rattle.mdl_shared.specs.KeptReads.{UsesKept};
 ghost use Rattle.mdl_shared.specs.SessionViews.{data_of};
@@ -148,7 +148,8 @@ impl<R: Wait> LockSpace for Session<R> {
         Session::held(self)
     }
 
-    // They hold of the session's plain data, which tell of no debts. A call leaves no new debt.
-    ghost laws = { laws-by_view data_of session-laws (λ a b call answer j. j.0) (λ a w place owes. absurd owes)
-        (λ a b call answer w place speaks j owes. (owes.0 ∙ j.0.number, j.1.debts place owes.1)) };
+    // They hold of the session's plain data. Of its debts its steps tell: a call leaves no new one, and a place can be in use by one.
+    ghost laws = { session-laws data_of (λ a b call answer j. j.0)
+        (λ a b call answer w place speaks j owes. (owes.0 ∙ j.0.number, j.1.debts place owes.1))
+        (λ a b who place j. subst (λ w. HoldsAt place (data_of a).own ⊎ AwaitsAt place (data_of a).own ⊎ Owes a w place) (sym j.0.mine.0) j.1.met.1) };
 }

@@ -10,6 +10,7 @@ pub struct Pass {
     ghost empty: { (length member.tickets.slow ≡ 0) × (length member.tickets.fast ≡ 0) },
     ghost unwaited: { member.asks ≡ None },
     ghost paid: { member.seat.me.0.owes ≡ [] },
+    ghost unpinned: { member.known.pins ≡ [] },
 }
 
 impl Pass {

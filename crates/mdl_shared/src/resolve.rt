@@ -22,7 +22,7 @@ impl<R: Wait> Session<R> {
         ensures shown { TakesSteps (steps.resolve key.now) (placed result) self.old self.new }
     {
         if let Some(place) = self.member.known.place_of(key) {
-            self.member.known.pin(place, key.kind());
+            self.member.known.pin(place);
             return Ok(place as u16);
         }
         self.look_up(key)
@@ -53,7 +53,7 @@ impl<R: Wait> Session<R> {
             }
         };
         member.known.push_reserved(key_kept, place);
-        member.known.pin(place, key.kind());
+        member.known.pin(place);
         Ok(place as u16)
     }
 }

@@ -30,11 +30,12 @@ impl<R> Session<R> {
     ghost use Rattle.mdl_shared.specs.Passes.{manager_table, pass_table, pass_view};
     ghost use Rattle.mdl_shared.specs.SessionViews.{data_of};
 
-    /// Opens the session of a pass, which must be a pass of this manager. It takes no memory.
+    /// Opens the session of a pass, which must be a pass of this manager. It pins no place. It takes no memory.
     pub fn open(rt: R, manager: &Manager, pass: Pass) -> Session<R>
         requires theirs { pass_table pass ≡ manager_table manager.now }
         ensures opened { result ≡ pass_view pass }
         ensures nothing { HasNothing (data_of result).own }
+        ensures unpinned { result.pins ≡ [] }
         ensures paid { result.me.0.owes ≡ [] }
     {
         let _manager = manager;

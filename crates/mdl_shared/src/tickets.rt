@@ -98,16 +98,8 @@ impl Tickets {
         self.gained.is_empty()
     }
 
-    /// Returns the ticket with a number.
+    /// Returns the ticket with a number. The last one is found without its index.
     pub(crate) fn get(&self, id: TicketId) -> Option<SessionTicket>
-        ensures found { result ≡ numbered id (interleaved self.now.slow self.now.fast) }
-    {
-        let at = index_of(&self.gained, id)?;
-        Some(own_of(&self.places, self.gained[at]))
-    }
-
-    /// Like [`Tickets::get`], for a read from a cache: the last ticket is found without its index, and the list reaches the ticket's place.
-    pub(crate) fn get_to_read(&self, id: TicketId) -> Option<SessionTicket>
         ensures found { result ≡ numbered id (interleaved self.now.slow self.now.fast) }
         ensures reached { IfSome result (λ held. held.place < self.now.room.reach) }
     {
@@ -775,7 +767,8 @@ fn note_inside(places: &mut Vec<OfPlace>, place: usize, version: u64)
     ensures owes { flags_of places.new.items ≡ flags_of places.old.items }
     ensures counted { (q : ℕ) → counted_at q places.new.items ≡ counted_at q places.old.items }
     ensures fast { (q : ℕ) → fast_counted_at q places.new.items ≡ fast_counted_at q places.old.items }
-    ensures noted { (q : ℕ) → 0 < counted_at q places.old.items → noted_in q places.new.items ≡ (if q == place then Some version else noted_in q places.old.items) }
+    ensures noted { (q : ℕ) → 0 < counted_at q places.old.items
+        → noted_in q places.new.items ≡ (if q == place then Some version else noted_in q places.old.items) }
 {
     let here = &mut places[place];
     here.version = version;

@@ -25,7 +25,8 @@ use mdl_visits::{TryOutcome, try_now};
 use std::sync::Wait;
 
 impl<R: Wait> Session<R> {
-    /// Requests a lock, without waiting for it. The call waits only while another session holds the latch of a place.
+    /// Requests a lock, without waiting for it. The call waits only while another session holds the latch of a place. Fails with
+    /// [`SpaceError::NoPlace`] if the session doesn't pin the place, which [`Session::resolve`] does.
     pub fn try_now(&mut self, place: Place, mode: Mode) -> Result<Attempt, SpaceError>
         ensures joined { Transition (call.try_now self.old.me.0.number place mode) (attempted result) (data_of self.old) (data_of self.new) }
         ensures shown { TakesSteps (steps.try_now place mode) (attempted result) self.old self.new }

@@ -1,10 +1,10 @@
-//! Gives up a pin. It takes no step on the table, since the session's own list alone has the pins.
-ghost use Rattle.std.specs.Prelude.{◌≡◌, ◌||◌};
+//! The end of a session's pin of a place. It takes no step on the table, since only the session's own list has the pins.
+ghost use Rattle.std.specs.Prelude.{◌≡◌};
 ghost use Rattle.mdl_calls.specs.CallSpec.{Transition};
 ghost use Rattle.mdl_calls.specs.calls.Unpin as call;
 ghost use Rattle.mdl_calls.specs.Words.{done};
 ghost use Rattle.mdl_steps.specs.Interleavings.{interleaved};
-ghost use Rattle.mdl_shared.specs.OwnLists.{asks_at, has_ticket_at};
+ghost use Rattle.mdl_shared.specs.OwnLists.{is_used};
 ghost use Rattle.mdl_shared.specs.SessionViews.{data_of};
 ghost use Rattle.mdl_shared.specs.StepSpec.{TakesSteps};
 ghost use Rattle.mdl_shared.specs.calls.Unpin as steps;
@@ -18,7 +18,7 @@ impl<R> Session<R> {
     /// [`Session::resolve`] pins the place again. It takes no memory.
     ///
     /// Fails with [`SpaceError::NoPlace`] if the session doesn't pin the place, and with [`SpaceError::InUse`] if it has a ticket, fast or
-    /// slow, or a wait there.
+    /// slow, or a wait there, or owes the place a [`Session::reschedule`].
     pub fn unpin(&mut self, place: Place) -> Result<(), SpaceError>
         ensures joined { Transition (call.unpin self.old.me.0.number place) (done result) (data_of self.old) (data_of self.new) }
         ensures shown { TakesSteps (steps.unpin place) (done result) self.old self.new }
@@ -36,10 +36,12 @@ impl<R> Session<R> {
 }
 
 impl Member {
-    // Whether the session has a ticket or a wait at a place.
+    // Whether the session has a ticket or a wait at a place, or owes it a reschedule.
     fn is_in_use(&self, place: usize) -> bool
-        ensures { result ≡ (has_ticket_at place (interleaved self.now.tickets.slow self.now.tickets.fast) || asks_at place self.now.asks) }
+        ensures { result ≡ is_used place (interleaved self.now.tickets.slow self.now.tickets.fast) self.now.asks self.now.seat.me.0.owes }
     {
-        self.tickets.has_at(place) || self.asks.map_or(false, |ask| ask.place == place)
+        self.tickets.has_at(place)
+            || self.asks.map_or(false, |ask| ask.place == place)
+            || self.tickets.owes(place)
     }
 }

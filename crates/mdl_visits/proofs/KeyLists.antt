@@ -1,13 +1,14 @@
 -- The keys that a session looked up: found by the key, and by the place through an index, and the kinds of their locks.
-use Rattle.std.proofs.Common.{◌≡◌, ◌≢◌, ℕ, zero, suc, ◌<◌, ◌≤◌, true, false, List, [], ◌∷◌, ◌++◌, get_or, length, set, map, Option, Some, None, refl, sym, ap, subst, ltb, ◌∙◌, arith, ◌==◌, is_some, slice_get, length-append, length-set, eq-eqb, eqb-true}
+use Rattle.std.proofs.Common.{◌≡◌, ◌≢◌, ℕ, zero, suc, ◌<◌, ◌≤◌, true, false, List, [], ◌∷◌, ◌++◌, get_or, length, set, map, Option, Some, None, refl, sym, ap, subst, ltb, ◌∙◌, arith, ◌==◌, is_some, slice_get, replicate, length-append, length-set, eq-eqb, eqb-true}
 use Rattle.indexmap.proofs.CallerLemmas.{insert_entry-new}
 use Rattle.indexmap.proofs.IndexTableLemmas.Probe.{pigeonhole}
 use Rattle.indexmap.specs.IndexMap.{IndexMap, insert_entry}
 use Rattle.std.proofs.lemmas.List.{map_push}
 use Rattle.std.proofs.lemmas.Option.{slice_get-get_or, slice_get_within}
 use Rattle.std.specs.Map.{lookup}
-use Rattle.mdl_visits.proofs.Common.{KeyName, Kind, KnownKey, and_parts, are_apart, are_two, by_bool, is_key_known, is_known, key-Decides, key_eq, key_known, kind_known, list_all, list_all-append, nat_tests, option_and_then, place_known}
-use Rattle.mdl_visits.specs.OwnKeys.{AreIndexed, AreKinds, kind_in, known_of}
+use Rattle.mdl_visits.proofs.Common.{KeyName, Kind, KnownKey, and_parts, are_apart, are_two, by_bool, is_key_known, is_known, key-Decides, key_eq, key_known, kind_known, kind_of, list_all, list_all-append, list_any-append, nat_tests, option_map, or_right, place_known}
+use Rattle.mdl_visits.specs.OwnKeys.{AreIndexed, AreKinds, ArePinsKnown, kind_if_pinned, kind_in, kind_marked, known_of, no_mark, unpinned}
+use Rattle.mdl_visits.specs.declared.known_keys.Mark.{Mark}
 
 -- ---- by the key
 
@@ -136,52 +137,177 @@ indexed_more entries indexes key place indexed new inside at e stands =
           rw (← there) (get_set indexes place (length entries) inside ∙ ap (λ (i : ℕ). Some i) (sym last.0))
     ] refl
 
--- the kinds that are known stay
-kind_still : (place : ℕ) (kind : Kind) (known more : List KnownKey) → kind_known place known ≡ Some kind → kind_known place (known ++ more) ≡ Some kind
-kind_still place kind [] more is = absurd (cc)
-kind_still place kind (k ∷ ks) more is = by_bool (k.place == place) (λ hit. rw hit (rw hit at is)) (λ miss. rw miss (kind_still place kind ks more (rw miss at is)))
-
-pub kinds_more : (entries : List (KeyName × ℕ)) (kinds : List (Option Kind)) (key : KeyName) (place : ℕ) → AreKinds entries kinds
-    → AreKinds (entries ++ (key, place) ∷ []) kinds
-kinds_more entries kinds key place are q kind is =
-    ap (kind_known q) (map_push known_of entries (key, place)) ∙ kind_still q kind (map known_of entries) (known_of (key, place) ∷ []) (are q kind is)
-
--- one kind more, that of the lock at a known place
-pub kinds_pinned : (entries : List (KeyName × ℕ)) (kinds : List (Option Kind)) (kind : Kind) (place : ℕ) → AreKinds entries kinds
-    → kind_known place (map known_of entries) ≡ Some kind → place < length kinds → AreKinds entries (set kinds place (Some kind))
-kinds_pinned entries kinds kind place are known inside q other is =
-    by_bool (q == place)
-    (λ hit.
-    let here = eqb-true q place hit in
-    let there : kind_in place (set kinds place (Some kind)) ≡ Some kind = ap (option_and_then (λ (k : Option Kind). k)) (get_set kinds place (Some kind) inside) in
-    let same : Some kind ≡ Some other = sym there ∙ sym (ap (λ (p : ℕ). kind_in p (set kinds place (Some kind))) here) ∙ is in
-    ap (λ (p : ℕ). kind_known p (map known_of entries)) here ∙ known ∙ same)
-    (λ miss. are q other (sym (ap (option_and_then (λ (k : Option Kind). k)) (get_other kinds place q (Some kind) miss)) ∙ is))
-
--- one kind less
-pub kinds_unpinned : (entries : List (KeyName × ℕ)) (kinds : List (Option Kind)) (place : ℕ) → AreKinds entries kinds → place < length kinds
-    → AreKinds entries (set kinds place None)
-kinds_unpinned entries kinds place are inside q other is =
-    by_bool (q == place)
-    (λ hit.
-    let there : kind_in place (set kinds place None) ≡ None = ap (option_and_then (λ (k : Option Kind). k)) (get_set kinds place None inside) in
-    let never : None ≡ Some other = sym there ∙ sym (ap (λ (p : ℕ). kind_in p (set kinds place None)) (eqb-true q place hit)) ∙ is in
-    absurd (cc))
-    (λ miss. are q other (sym (ap (option_and_then (λ (k : Option Kind). k)) (get_other kinds place q None miss)) ∙ is))
+-- ---- marks
 
 -- a place with a kind is known
 pub kind_place : (place : ℕ) (kind : Kind) (known : List KnownKey) → kind_known place known ≡ Some kind → is_known place known ≡ true
 kind_place place kind [] is = absurd (cc)
 kind_place place kind (k ∷ ks) is = by_bool (k.place == place) (λ hit. rw hit refl) (λ miss. rw miss (kind_place place kind ks (rw miss at is)))
 
--- a place with a kind in the list is within it
-pub kind_within : (place : ℕ) (kinds : List (Option Kind)) → is_some (kind_in place kinds) ≡ true → place < length kinds
-kind_within place [] is = absurd (cc)
-kind_within zero (kind ∷ kinds) is = omega arith
-kind_within (suc place) (kind ∷ kinds) is = (let later = kind_within place kinds is in omega (arith, later))
+-- and a known place has a kind
+known_kind : (place : ℕ) (known : List KnownKey) → is_known place known ≡ true → (kind : Kind) × (kind_known place known ≡ Some kind)
+known_kind place [] is = absurd (cc)
+known_kind place (k ∷ ks) is =
+    by_bool (k.place == place)
+    (λ hit. (kind_of k.key.namespace, rw hit refl))
+    (λ miss. (let later = known_kind place ks (rw miss at is) in (later.0, rw miss later.1)))
 
-pub kind_here : (place : ℕ) (kinds : List (Option Kind)) (other : Option Kind) → is_some (kind_in place kinds) ≡ true → kind_in place kinds ≡ get_or kinds place other
-kind_here place kinds other is = ap (option_and_then (λ (k : Option Kind). k)) (slice_get-get_or kinds place other (kind_within place kinds is))
+-- the mark that a list has at a place, by its kind
+mark_there : (place : ℕ) (kind : Kind) (marks : List Mark) → option_map kind_marked (slice_get marks place) ≡ Some kind
+    → (mark : Mark) × (slice_get marks place ≡ Some mark) × (mark.kind ≡ kind)
+mark_there place kind marks is = by (slice_get marks place) refl
+  where
+    by : (o : Option Mark) → slice_get marks place ≡ o → (mark : Mark) × (slice_get marks place ≡ Some mark) × (mark.kind ≡ kind)
+    by None e = (let never : None ≡ Some kind = rw e at is in absurd (cc))
+    by (Some mark) e = (let same : Some mark.kind ≡ Some kind = rw e at is in (mark, e, cc))
+
+-- the kind by the mark of a pinned place is that of the lock there
+pub pinned_kind : (entries : List (KeyName × ℕ)) (marks : List Mark) → AreKinds entries marks → ArePinsKnown entries marks → (place : ℕ) (kind : Kind)
+    → kind_in place marks ≡ Some kind → kind_known place (map known_of entries) ≡ Some kind
+pinned_kind entries marks kinds pinned place kind is = by (slice_get marks place) refl
+  where
+    by : (o : Option Mark) → slice_get marks place ≡ o → kind_known place (map known_of entries) ≡ Some kind
+    by None e = (let never : None ≡ Some kind = rw e at is in absurd (cc))
+    by (Some mark) e =
+        let told : kind_if_pinned mark ≡ Some kind = rw e at is in
+        by_bool mark.pinned
+        (λ pin.
+        let known = known_kind place (map known_of entries) (pinned place mark e pin) in
+        let same : Some mark.kind ≡ Some known.0 = sym (ap (option_map kind_marked) e) ∙ kinds place known.0 known.1 in
+        let own : Some mark.kind ≡ Some kind = rw pin at told in
+        known.1 ∙ sym same ∙ own)
+        (λ no. (let never : None ≡ Some kind = rw no at told in absurd (cc)))
+
+-- a mark is the one that is there
+pub own_mark : (marks : List Mark) (i : ℕ) (d : Mark) → i < length marks → get_or marks i d ≡ get_or marks i (get_or marks i d)
+own_mark [] i d inside = absurd (omega arith)
+own_mark (m ∷ marks) zero d inside = refl
+own_mark (m ∷ marks) (suc i) d inside = own_mark marks i d (omega (arith, inside))
+
+-- the mark at a place within the list
+pub mark_within : (place : ℕ) (marks : List Mark) (mark : Mark) → place < length marks → mark ≡ get_or marks place mark → slice_get marks place ≡ Some mark
+mark_within place marks mark within is = slice_get-get_or marks place mark within ∙ ap (λ (m : Mark). Some m) (sym is)
+
+-- ---- one mark changed
+
+-- the kind of a place whose key is added
+kind_last : (place : ℕ) (known : List KnownKey) (k : KnownKey) → is_known place known ≡ false → k.place ≡ place
+    → kind_known place (known ++ k ∷ []) ≡ Some (kind_of k.key.namespace)
+kind_last place [] k new own = rw (eq-eqb k.place place own) refl
+kind_last place (x ∷ xs) k new own =
+    by_bool (x.place == place)
+    (λ hit. (let never : true ≡ false = rw hit at new in absurd (cc)))
+    (λ miss. rw miss (kind_last place xs k (rw miss at new) own))
+
+-- those of other places stay
+kind_other : (place : ℕ) (known : List KnownKey) (k : KnownKey) → (k.place == place) ≡ false → kind_known place (known ++ k ∷ []) ≡ kind_known place known
+kind_other place [] k other = rw other refl
+kind_other place (x ∷ xs) k other = by_bool (x.place == place) (λ hit. rw hit refl) (λ miss. rw miss (kind_other place xs k other))
+
+eqb_swap : (m n : ℕ) → (m == n) ≡ false → (n == m) ≡ false
+eqb_swap m n apart = grind (arith, nat_tests)
+
+-- a mark of the new key's kind at its place
+pub kinds_more : (entries : List (KeyName × ℕ)) (marks : List Mark) (key : KeyName) (place : ℕ) (mark : Mark) → AreKinds entries marks
+    → is_known place (map known_of entries) ≡ false → place < length marks → mark.kind ≡ kind_of key.namespace
+    → AreKinds (entries ++ (key, place) ∷ []) (set marks place mark)
+kinds_more entries marks key place mark are new inside own q kind is =
+    let now : kind_known q (map known_of entries ++ known_of (key, place) ∷ []) ≡ Some kind = ap (kind_known q) (sym (map_push known_of entries (key, place))) ∙ is in
+    by_bool (q == place)
+    (λ hit.
+    let here = eqb-true q place hit in
+    let last : Some (kind_of key.namespace) ≡ Some kind =
+    sym (kind_last place (map known_of entries) (known_of (key, place)) new refl)
+    ∙ ap (λ (p : ℕ). kind_known p (map known_of entries ++ known_of (key, place) ∷ [])) (sym here) ∙ now in
+    ap (λ (p : ℕ). option_map kind_marked (slice_get (set marks place mark) p)) here ∙ ap (option_map kind_marked) (get_set marks place mark inside)
+    ∙ ap (λ (k : Kind). Some k) own ∙ last)
+    (λ miss. ap (option_map kind_marked) (get_other marks place q mark miss)
+    ∙ are q kind (sym (kind_other q (map known_of entries) (known_of (key, place)) (eqb_swap q place miss)) ∙ now))
+
+-- another mark of the same kind
+pub kinds_marked : (entries : List (KeyName × ℕ)) (marks : List Mark) (place : ℕ) (old new : Mark) → AreKinds entries marks
+    → slice_get marks place ≡ Some old → new.kind ≡ old.kind → AreKinds entries (set marks place new)
+kinds_marked entries marks place old new are there same q kind is =
+    by_bool (q == place)
+    (λ hit.
+    let here = eqb-true q place hit in
+    let was : Some old.kind ≡ Some kind =
+    sym (ap (option_map kind_marked) there) ∙ ap (λ (p : ℕ). option_map kind_marked (slice_get marks p)) (sym here) ∙ are q kind is in
+    ap (λ (p : ℕ). option_map kind_marked (slice_get (set marks place new) p)) here
+    ∙ ap (option_map kind_marked) (get_set marks place new (slice_get_within marks place old there)) ∙ ap (λ (k : Kind). Some k) same ∙ was)
+    (λ miss. ap (option_map kind_marked) (get_other marks place q new miss) ∙ are q kind is)
+
+-- another mark, at a place that is known if the mark is a pin
+pub pins_marked : (entries : List (KeyName × ℕ)) (marks : List Mark) (place : ℕ) (new : Mark) → ArePinsKnown entries marks
+    → (new.pinned ≡ true → is_known place (map known_of entries) ≡ true) → ArePinsKnown entries (set marks place new)
+pins_marked entries marks place new are known q mark is pin =
+    by_bool (q == place)
+    (λ hit.
+    let here = eqb-true q place hit in
+    let there : slice_get (set marks place new) place ≡ Some mark = ap (slice_get (set marks place new)) (sym here) ∙ is in
+    let inside = slice_get_within (set marks place new) place mark there in
+    let same : Some new ≡ Some mark = sym (get_set marks place new (omega (arith, inside, length-set marks place new))) ∙ there in
+    let one : new ≡ mark = cc in
+    ap (λ (p : ℕ). is_known p (map known_of entries)) here ∙ known (ap (λ (m : Mark). m.pinned) one ∙ pin))
+    (λ miss. are q mark (sym (get_other marks place q new miss) ∙ is) pin)
+
+-- the pinned places are known with one key more, too
+pins_more_known : (entries : List (KeyName × ℕ)) (marks : List Mark) (key : KeyName) (place : ℕ) → ArePinsKnown entries marks
+    → ArePinsKnown (entries ++ (key, place) ∷ []) marks
+pins_more_known entries marks key place are q mark is pin =
+    ap (is_known q) (map_push known_of entries (key, place)) ∙ list_any-append (λ (k : KnownKey). k.place == q) (map known_of entries) (known_of (key, place) ∷ [])
+    ∙ rw (are q mark is pin) refl
+
+-- so with a mark for it that is no other pin
+pub pins_kept : (entries : List (KeyName × ℕ)) (marks : List Mark) (key : KeyName) (place : ℕ) (mark : Mark) → ArePinsKnown entries marks
+    → ArePinsKnown (entries ++ (key, place) ∷ []) (set marks place mark)
+pins_kept entries marks key place mark are =
+    pins_marked (entries ++ (key, place) ∷ []) marks place mark (pins_more_known entries marks key place are)
+    (λ pin. ap (is_known place) (map_push known_of entries (key, place)) ∙ list_any-append (λ (k : KnownKey). k.place == place) (map known_of entries) (known_of (key, place) ∷ [])
+    ∙ rw (eq-eqb place place refl) (or_right (is_known place (map known_of entries)) true refl))
+
+-- ---- more marks, and other ones at all places
+
+pub kinds_grown : (entries : List (KeyName × ℕ)) (marks : List Mark) (n : ℕ) → AreKinds entries marks → AreKinds entries (marks ++ replicate n no_mark)
+kinds_grown entries marks n are q kind is =
+    let mark = mark_there q kind marks (are q kind is) in
+    ap (option_map kind_marked) (get_left marks (replicate n no_mark) q (slice_get_within marks q mark.0 mark.1)) ∙ are q kind is
+
+-- the marks that were added are no pins
+grown_mark : (marks : List Mark) (n q : ℕ) (mark : Mark) → slice_get (marks ++ replicate n no_mark) q ≡ Some mark → mark.pinned ≡ true
+    → slice_get marks q ≡ Some mark
+grown_mark [] zero q mark is pin = absurd (cc)
+grown_mark [] (suc n) zero mark is pin = (let same : no_mark ≡ mark = cc in let never : false ≡ true = ap (λ (m : Mark). m.pinned) same ∙ pin in absurd (cc))
+grown_mark [] (suc n) (suc q) mark is pin = (let never = grown_mark [] n q mark is pin in absurd (cc))
+grown_mark (m ∷ marks) n zero mark is pin = is
+grown_mark (m ∷ marks) n (suc q) mark is pin = grown_mark marks n q mark is pin
+
+pub pins_grown : (entries : List (KeyName × ℕ)) (marks : List Mark) (n : ℕ) → ArePinsKnown entries marks
+    → ArePinsKnown entries (marks ++ replicate n no_mark)
+pins_grown entries marks n are q mark is pin = are q mark (grown_mark marks n q mark is pin) pin
+
+get_mapped : (f : Mark → Mark) (marks : List Mark) (q : ℕ) → slice_get (map f marks) q ≡ option_map f (slice_get marks q)
+get_mapped f [] q = refl
+get_mapped f (m ∷ marks) zero = refl
+get_mapped f (m ∷ marks) (suc q) = get_mapped f marks q
+
+pub kinds_unpinned : (entries : List (KeyName × ℕ)) (marks : List Mark) → AreKinds entries marks → AreKinds entries (map unpinned marks)
+kinds_unpinned entries marks are q kind is =
+    let mark = mark_there q kind marks (are q kind is) in
+    ap (option_map kind_marked) (get_mapped unpinned marks q) ∙ ap (λ (o : Option Mark). option_map kind_marked (option_map unpinned o)) mark.1
+    ∙ ap (λ (k : Kind). Some k) mark.2
+
+pub pins_unpinned : (entries : List (KeyName × ℕ)) (marks : List Mark) → ArePinsKnown entries (map unpinned marks)
+pins_unpinned entries marks q mark is pin = by (slice_get marks q) refl
+  where
+    by : (o : Option Mark) → slice_get marks q ≡ o → is_known q (map known_of entries) ≡ true
+    by None e = (let never : None ≡ Some mark = sym (get_mapped unpinned marks q ∙ ap (option_map unpinned) e) ∙ is in absurd (cc))
+    by (Some old) e =
+        let same : Some (unpinned old) ≡ Some mark = sym (get_mapped unpinned marks q ∙ ap (option_map unpinned) e) ∙ is in
+        let one : unpinned old ≡ mark = cc in
+        let never : false ≡ true = ap (λ (m : Mark). m.pinned) one ∙ pin in absurd (cc)
+
+-- ---- fewer keys than places
 
 -- there are fewer keys than places: each place has one index, and none the new key's
 pub fewer_keys : (entries : List (KeyName × ℕ)) (indexes : List ℕ) (key : KeyName) (place : ℕ) → AreIndexed entries indexes

@@ -1,62 +1,82 @@
--- The places that a session pins, by the kinds of the locks at all places.
-use Rattle.std.proofs.Common.{◌≡◌, ℕ, zero, suc, ◌<◌, ◌≤◌, Bool, false, List, [], ◌∷◌, ◌++◌, length, get_or, replicate, set, take, None, Option, Some, is_some, refl, sym, ap, subst, ◌∙◌}
+-- The places that a session pins, by the marks of all places.
+use Rattle.std.proofs.Common.{◌≡◌, ℕ, zero, suc, ◌+◌, ◌<◌, ◌≤◌, Bool, true, false, List, [], ◌∷◌, ◌++◌, length, get_or, map, replicate, set, None, Option, Some, is_some, slice_get, refl, sym, ap, subst, ◌∙◌, arith}
 use Rattle.std.proofs.lemmas.List.{length-map, map-set, take_all}
 use Rattle.mdl_calls.proofs.MarkLemmas.{marked-at, marked-resized, marked-set, marked-unset, marked-unset_past}
 use Rattle.mdl_calls.specs.Marks.{marked_from}
 use Rattle.mdl_calls.specs.SessionLocks.{with_place, without_place}
-use Rattle.mdl_visits.proofs.Common.{Kind, KnownKey, kind_known}
+use Rattle.mdl_visits.proofs.Common.{Kind, KnownKey, by_bool, kind_known}
 use Rattle.mdl_visits.specs.KnownLists.{has_pin, kind_pinned}
-use Rattle.mdl_visits.specs.OwnKeys.{kind_in, marks_of}
+use Rattle.mdl_visits.specs.OwnKeys.{kind_in, no_mark, pinned_of, unpinned}
+use Rattle.mdl_visits.specs.declared.known_keys.Mark.{Mark}
 
 -- ---- changes
 
--- as many marks as kinds
-reaches : (place : ℕ) (kinds : List (Option Kind)) → place < length kinds → place < length (marks_of kinds)
-reaches place kinds within = subst (λ n. place < n) (sym (length-map kinds is_some)) within
+-- as many flags as marks
+reaches : (place : ℕ) (marks : List Mark) → place < length marks → place < length (pinned_of marks)
+reaches place marks within = subst (λ n. place < n) (sym (length-map marks (λ (m : Mark). m.pinned))) within
 
-marks_filled : (n : ℕ) (kinds : List (Option Kind)) → marks_of (kinds ++ replicate n None) ≡ marks_of kinds ++ replicate n false
-marks_filled n (kind ∷ kinds) = ap (λ (marks : List Bool). is_some kind ∷ marks) (marks_filled n kinds)
-marks_filled zero [] = refl
-marks_filled (suc n) [] = ap (λ (marks : List Bool). false ∷ marks) (marks_filled n [])
+flags_filled : (n : ℕ) (marks : List Mark) → pinned_of (marks ++ replicate n no_mark) ≡ pinned_of marks ++ replicate n false
+flags_filled n (mark ∷ marks) = ap (λ (flags : List Bool). mark.pinned ∷ flags) (flags_filled n marks)
+flags_filled zero [] = refl
+flags_filled (suc n) [] = ap (λ (flags : List Bool). false ∷ flags) (flags_filled n [])
 
--- more places without a kind
-pub pins_resized : (kinds more : List (Option Kind)) (slots n : ℕ) → length kinds ≤ slots → more ≡ take slots kinds ++ replicate n None
-    → marked_from 0 (marks_of more) ≡ marked_from 0 (marks_of kinds)
-pins_resized kinds more slots n le is =
-    let few : length (marks_of kinds) ≤ slots = subst (λ n. n ≤ slots) (sym (length-map kinds is_some)) le in
-    marked-resized (marks_of kinds) (marks_of more) slots n few
-    (ap marks_of is ∙ ap (λ (kept : List (Option Kind)). marks_of (kept ++ replicate n None)) (take_all slots kinds le) ∙ marks_filled n kinds
-    ∙ ap (λ (kept : List Bool). kept ++ replicate n false) (sym (take_all slots (marks_of kinds) few)))
+-- more places that aren't known
+pub pins_still : (n : ℕ) (marks : List Mark) → marked_from 0 (pinned_of (marks ++ replicate n no_mark)) ≡ marked_from 0 (pinned_of marks)
+pins_still n marks =
+    marked-resized (pinned_of marks) (pinned_of (marks ++ replicate n no_mark)) (length (pinned_of marks)) n (omega arith)
+    (flags_filled n marks ∙ ap (λ (kept : List Bool). kept ++ replicate n false) (sym (take_all (length (pinned_of marks)) (pinned_of marks) (omega arith))))
 
--- one more, at a place
-pub pins_more : (place : ℕ) (kinds : List (Option Kind)) (kind : Kind) → place < length kinds
-    → marked_from 0 (marks_of (set kinds place (Some kind))) ≡ with_place place (marked_from 0 (marks_of kinds))
-pins_more place kinds kind within = ap (marked_from 0) (map-set is_some kinds place (Some kind)) ∙ marked-set place (marks_of kinds) (reaches place kinds within)
+-- a mark at a place: a pin
+pub pins_more : (place : ℕ) (marks : List Mark) (mark : Mark) → place < length marks → mark.pinned ≡ true
+    → marked_from 0 (pinned_of (set marks place mark)) ≡ with_place place (marked_from 0 (pinned_of marks))
+pins_more place marks mark within pin =
+    ap (marked_from 0) (map-set (λ (m : Mark). m.pinned) marks place mark ∙ ap (set (pinned_of marks) place) pin)
+    ∙ marked-set place (pinned_of marks) (reaches place marks within)
 
--- none at a place
-pub pins_less : (place : ℕ) (kinds : List (Option Kind)) → marked_from 0 (marks_of (set kinds place None)) ≡ without_place place (marked_from 0 (marks_of kinds))
-pins_less place kinds = ap (marked_from 0) (map-set is_some kinds place None) ∙ marked-unset place (marks_of kinds)
+-- or none
+pub pins_less : (place : ℕ) (marks : List Mark) (mark : Mark) → mark.pinned ≡ false
+    → marked_from 0 (pinned_of (set marks place mark)) ≡ without_place place (marked_from 0 (pinned_of marks))
+pins_less place marks mark none =
+    ap (marked_from 0) (map-set (λ (m : Mark). m.pinned) marks place mark ∙ ap (set (pinned_of marks) place) none)
+    ∙ marked-unset place (pinned_of marks)
 
-pub pins_past : (place : ℕ) (kinds : List (Option Kind)) → length kinds ≤ place → marked_from 0 (marks_of kinds) ≡ without_place place (marked_from 0 (marks_of kinds))
-pins_past place kinds past = marked-unset_past place (marks_of kinds) (subst (λ n. n ≤ place) (sym (length-map kinds is_some)) past)
+pub pins_past : (place : ℕ) (marks : List Mark) → length marks ≤ place → marked_from 0 (pinned_of marks) ≡ without_place place (marked_from 0 (pinned_of marks))
+pins_past place marks past = marked-unset_past place (pinned_of marks) (subst (λ n. n ≤ place) (sym (length-map marks (λ (m : Mark). m.pinned))) past)
+
+-- or as before
+pub pins_same : (place : ℕ) (marks : List Mark) (old mark : Mark) → slice_get marks place ≡ Some old → mark.pinned ≡ old.pinned
+    → pinned_of (set marks place mark) ≡ pinned_of marks
+pins_same place [] old mark there same = refl
+pins_same zero (m ∷ marks) old mark there same = (let is : m ≡ old = cc in ap (λ (flag : Bool). flag ∷ pinned_of marks) (same ∙ sym (ap (λ (x : Mark). x.pinned) is)))
+pins_same (suc place) (m ∷ marks) old mark there same = ap (λ (flags : List Bool). m.pinned ∷ flags) (pins_same place marks old mark there same)
+
+-- no pin at any place
+pub pins_none : (from : ℕ) (marks : List Mark) → marked_from from (pinned_of (map unpinned marks)) ≡ []
+pins_none from [] = refl
+pins_none from (m ∷ marks) = pins_none (from + 1) marks
 
 -- ---- look-ups
 
-mark_at : (place : ℕ) (kinds : List (Option Kind)) → get_or (marks_of kinds) place false ≡ is_some (kind_in place kinds)
-mark_at place [] = refl
-mark_at zero (None ∷ kinds) = refl
-mark_at zero (Some kind ∷ kinds) = refl
-mark_at (suc place) (kind ∷ kinds) = mark_at place kinds
+flag_at : (place : ℕ) (marks : List Mark) → get_or (pinned_of marks) place false ≡ is_some (kind_in place marks)
+flag_at place [] = refl
+flag_at zero (m ∷ marks) = by_bool m.pinned (λ pin. rw pin refl) (λ none. rw none refl)
+flag_at (suc place) (m ∷ marks) = flag_at place marks
 
--- a place is pinned if the list has a kind there
-pub pin_found : (place : ℕ) (kinds : List (Option Kind)) → has_pin place (marked_from 0 (marks_of kinds)) ≡ is_some (kind_in place kinds)
-pin_found place kinds = marked-at place (marks_of kinds) ∙ mark_at place kinds
+-- a place is pinned if its mark is a pin
+pub pin_found : (place : ℕ) (marks : List Mark) → has_pin place (marked_from 0 (pinned_of marks)) ≡ is_some (kind_in place marks)
+pin_found place marks = marked-at place (pinned_of marks) ∙ flag_at place marks
 
 -- and then the kind is that of the lock there
-pub kind_found : (place : ℕ) (kinds : List (Option Kind)) (known : List KnownKey) → ((kind : Kind) → kind_in place kinds ≡ Some kind → kind_known place known ≡ Some kind)
-    → kind_in place kinds ≡ kind_pinned place (marked_from 0 (marks_of kinds)) known
-kind_found place kinds known are = by (kind_in place kinds) refl
+pub kind_found : (place : ℕ) (marks : List Mark) (known : List KnownKey) → ((kind : Kind) → kind_in place marks ≡ Some kind → kind_known place known ≡ Some kind)
+    → kind_in place marks ≡ kind_pinned place (marked_from 0 (pinned_of marks)) known
+kind_found place marks known are = by (kind_in place marks) refl
   where
-    by : (o : Option Kind) → kind_in place kinds ≡ o → o ≡ kind_pinned place (marked_from 0 (marks_of kinds)) known
-    by None is = rw (pin_found place kinds ∙ ap is_some is) refl
-    by (Some kind) is = rw (pin_found place kinds ∙ ap is_some is) (sym (are kind is))
+    by : (o : Option Kind) → kind_in place marks ≡ o → o ≡ kind_pinned place (marked_from 0 (pinned_of marks)) known
+    by None is = rw (pin_found place marks ∙ ap is_some is) refl
+    by (Some kind) is = rw (pin_found place marks ∙ ap is_some is) (sym (are kind is))
+
+-- the mark of a pinned place
+pub mark_found : (place : ℕ) (marks : List Mark) → is_some (kind_in place marks) ≡ true → (mark : Mark) × (slice_get marks place ≡ Some mark) × (mark.pinned ≡ true)
+mark_found place [] is = absurd (cc)
+mark_found zero (m ∷ marks) is = by_bool m.pinned (λ pin. (m, refl, pin)) (λ none. (let never : false ≡ true = rw none at is in absurd (cc)))
+mark_found (suc place) (m ∷ marks) is = mark_found place marks is

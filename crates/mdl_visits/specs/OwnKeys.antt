@@ -1,7 +1,9 @@
--- How a session keeps the keys that it looked up: their places in order of the look-ups, by places the index in that list, and by places the kind of the
--- lock, if the session pins the place.
-use Rattle.std.specs.Prelude.{◌≡◌, ℕ, ◌≤◌, Bool, List, Option, Some, is_some, length, map, slice_get}
-use Rattle.mdl_visits.specs.Prelude.{KeyName, Kind, KnownKey, kind_known, option_and_then}
+-- How a session keeps the keys that it looked up: their places in order of the look-ups, by places the index in that list, and by places a mark, with the kind
+-- of the lock and whether the session pins the place.
+use Rattle.std.specs.Prelude.{◌≡◌, ℕ, ◌≤◌, Bool, true, false, List, Option, Some, None, if◌then◌else◌, length, map, slice_get}
+use Rattle.mdl_key.specs.declared.namespace.Kind.TheVariants.{Scoped}
+use Rattle.mdl_visits.specs.Prelude.{KeyName, Kind, KnownKey, is_known, kind_known, option_and_then, option_map}
+use Rattle.mdl_visits.specs.declared.known_keys.Mark.{Mark}
 
 -- a key with its place
 abbrev pub known_of : KeyName × ℕ → KnownKey
@@ -16,14 +18,37 @@ AreIndexed entries indexes =
 abbrev pub IsNarrow : List ℕ → Type 0
 IsNarrow indexes = length indexes ≤ 65536
 
--- the kind that the list has at a place, if any
-abbrev pub kind_in : ℕ → List (Option Kind) → Option Kind
-kind_in place kinds = option_and_then (λ (kind : Option Kind). kind) (slice_get kinds place)
+-- ---- marks
 
--- each kind that the list has at a place is that of the lock there, by the known keys
-abbrev pub AreKinds : List (KeyName × ℕ) → List (Option Kind) → Type 0
-AreKinds entries kinds = (place : ℕ) (kind : Kind) → kind_in place kinds ≡ Some kind → kind_known place (map known_of entries) ≡ Some kind
+-- the mark of a place that isn't known
+abbrev pub no_mark : Mark
+no_mark = record { kind = Scoped; pinned = false }
 
--- whether the list has kinds, from place 0 on
-abbrev pub marks_of : List (Option Kind) → List Bool
-marks_of kinds = map is_some kinds
+-- the mark of a place whose pin was given up
+abbrev pub unpinned : Mark → Mark
+unpinned mark = record mark { pinned = false }
+
+-- the kind of the lock by the mark of its place, if that is pinned
+abbrev pub kind_if_pinned : Mark → Option Kind
+kind_if_pinned mark = if mark.pinned then Some mark.kind else None
+
+-- the kind of the lock at a place, if the place is pinned
+abbrev pub kind_in : ℕ → List Mark → Option Kind
+kind_in place marks = option_and_then kind_if_pinned (slice_get marks place)
+
+-- the kind of the lock by the mark of its place
+abbrev pub kind_marked : Mark → Kind
+kind_marked mark = mark.kind
+
+-- the marks have the kind of the lock at each place whose key is known
+abbrev pub AreKinds : List (KeyName × ℕ) → List Mark → Type 0
+AreKinds entries marks =
+    (place : ℕ) (kind : Kind) → kind_known place (map known_of entries) ≡ Some kind → option_map kind_marked (slice_get marks place) ≡ Some kind
+
+-- the keys of the pinned places are known
+abbrev pub ArePinsKnown : List (KeyName × ℕ) → List Mark → Type 0
+ArePinsKnown entries marks = (place : ℕ) (mark : Mark) → slice_get marks place ≡ Some mark → mark.pinned ≡ true → is_known place (map known_of entries) ≡ true
+
+-- which places are pinned, from place 0 on
+abbrev pub pinned_of : List Mark → List Bool
+pinned_of marks = map (λ (m : Mark). m.pinned) marks

@@ -1,5 +1,5 @@
 //! A session's own list of the keys that it looked up, and of the places that it pins.
-ghost use Rattle.std.specs.Prelude.{None, OnOk, Some, [], false, length, slice_get, true, ℕ, ◌+◌, ◌++◌, ◌∷◌, ◌<◌, ◌≡◌, ◌≤◌};
+ghost use Rattle.std.specs.Prelude.{None, OnOk, Some, [], false, length, map, replicate, slice_get, true, ℕ, ◌+◌, ◌++◌, ◌∷◌, ◌<◌, ◌≡◌, ◌≤◌};
 ghost use Rattle.std.specs.Option.{is_some, option_copied};
 ghost use Rattle.mdl_steps.specs.Schemas.{is_key_known, unknown};
 ghost use Rattle.mdl_visits.specs.Tables.{AreWithin};
@@ -7,7 +7,7 @@ ghost use Rattle.mdl_key.specs.KeyLookups.{are_apart, is_known, key_known, kind_
 ghost use Rattle.mdl_calls.specs.Marks.{marked_from};
 ghost use Rattle.mdl_calls.specs.SessionLocks.{with_place, without_place};
 ghost use Rattle.mdl_visits.specs.KnownLists.{has_pin, kind_pinned};
-ghost use Rattle.mdl_visits.specs.OwnKeys.{IsNarrow, kind_in, marks_of};
+ghost use Rattle.mdl_visits.specs.OwnKeys.{IsNarrow, kind_in, no_mark, unpinned};
 
 use indexmap::IndexMap;
 use mdl_key::{Key, Kind, KnownKey};
@@ -17,33 +17,54 @@ use std::marker::Model;
 /// The keys that a session looked up, with their places, in order of the look-ups.
 ///
 /// The place of a key is found by a hash of the key, and the key of a place by an array, so no look-up walks the keys. The key that was
-/// added last is compared first, without a hash. Another array has the kind of the lock at each pinned place, and nothing at the others: so
-/// the kind and whether the place is pinned are one byte.
+/// added last is compared first, without a hash. A second array has the kind of the lock at each place, which is stored as the key becomes
+/// known, and whether the session pins the place.
 #[derive(Drop)]
 pub struct KnownKeys {
     places: IndexMap<Key, usize>,
     // By place: the index of the place's key in `places`. A place that isn't known has any number. Places are numbers of 16 bits.
     indexes: Vec<u16>,
-    // By place: the kind of the lock, if the session pins the place. The list is at least as long as `indexes`.
-    pinned: Vec<Option<Kind>>,
+    // By place. The list is at least as long as `indexes`.
+    marks: Vec<Mark>,
 }
+
+// What is kept of a place beside its key.
+#[derive(Clone, Copy)]
+struct Mark {
+    // The kind of the lock. A place that isn't known has any kind.
+    kind: Kind,
+    // Whether the session pins the place.
+    pinned: bool,
+}
+
+// The mark of a place that isn't known.
+const NO_MARK: Mark = Mark {
+    kind: Kind::Scoped,
+    pinned: false,
+};
 
 impl Model for KnownKeys {
     ghost use Rattle.std.specs.Prelude.{◌≤◌, length, map};
     ghost use Rattle.indexmap.specs.IndexMap.{spare};
     ghost use Rattle.mdl_visits.specs.KnownLists.{KnownList};
     ghost use Rattle.mdl_calls.specs.Marks.{marked_from};
-    ghost use Rattle.mdl_visits.specs.OwnKeys.{AreIndexed, AreKinds, IsNarrow, known_of, marks_of};
+    ghost use Rattle.mdl_visits.specs.OwnKeys.{AreIndexed, AreKinds, ArePinsKnown, IsNarrow, known_of, pinned_of};
 
     ghost Value = { KnownList };
 
-    ghost view = { λ s. record { known = map known_of s.places.entries; room = spare s.places; reach = length s.indexes.items; pins = marked_from 0 (marks_of s.pinned.items) } };
+    ghost view = { λ s. record {
+      known = map known_of s.places.entries;
+      room = spare s.places;
+      reach = length s.indexes.items;
+      pins = marked_from 0 (pinned_of s.marks.items);
+    } };
 
     ghost invariant = { λ s. record {
       indexed : AreIndexed s.places.entries s.indexes.items;
       narrow : IsNarrow s.indexes.items;
-      kinds : AreKinds s.places.entries s.pinned.items;
-      enough : length s.indexes.items ≤ length s.pinned.items;
+      kinds : AreKinds s.places.entries s.marks.items;
+      pinned : ArePinsKnown s.places.entries s.marks.items;
+      enough : length s.indexes.items ≤ length s.marks.items;
     } };
 }
 
@@ -56,7 +77,7 @@ impl KnownKeys {
         KnownKeys {
             places: IndexMap::new(alloc),
             indexes: Vec::new(alloc),
-            pinned: Vec::new(alloc),
+            marks: Vec::new(alloc),
         }
     }
 
@@ -88,7 +109,7 @@ impl KnownKeys {
     pub fn kind_pinned(&self, place: usize) -> Option<Kind>
         ensures { result ≡ kind_pinned place self.now.pins self.now.known }
     {
-        kind_in(&self.pinned, place)
+        kind_in(&self.marks, place)
     }
 
     /// Returns the kind of the lock at a pinned place.
@@ -96,14 +117,14 @@ impl KnownKeys {
         requires pinned { has_pin place self.now.pins ≡ true }
         ensures { kind_known place self.now.known ≡ Some result }
     {
-        kind_there(&self.pinned, place)
+        self.marks[place].kind
     }
 
     /// Whether the session pins a place.
     pub fn is_pinned(&self, place: usize) -> bool
         ensures { result ≡ has_pin place self.now.pins }
     {
-        kind_in(&self.pinned, place).is_some()
+        kind_in(&self.marks, place).is_some()
     }
 
     /// Makes room for `n` more keys, at places below `slots`.
@@ -114,7 +135,7 @@ impl KnownKeys {
         ensures room { OnOk result ((n ≤ self.new.room) × (slots ≤ self.new.reach)) }
     {
         self.places.reserve(n)?;
-        reach_kinds(&mut self.pinned, slots)?;
+        reach_marks(&mut self.marks, slots)?;
         reach(&mut self.indexes, slots)
     }
 
@@ -128,6 +149,7 @@ impl KnownKeys {
         ensures pins { self.new.pins ≡ self.old.pins }
     {
         self.indexes[place] = self.places.len() as u16;
+        self.marks[place].kind = key.kind();
         self.places.insert(key, place).unwrap();
     }
 
@@ -144,21 +166,28 @@ impl KnownKeys {
         }
     }
 
-    /// Pins a place whose key is known, with the kind of its lock. It takes no memory.
-    pub fn pin(&mut self, place: usize, kind: Kind)
-        requires kind { kind_known place self.old.known ≡ Some kind }
+    /// Pins a place whose key is known. It takes no memory.
+    pub fn pin(&mut self, place: usize)
+        requires known { is_known place self.old.known ≡ true }
         ensures pins { self.new ≡ record self.old { pins = with_place place self.old.pins } }
     {
-        self.pinned[place] = Some(kind);
+        self.marks[place].pinned = true;
     }
 
     /// Gives up the pin of a place, if the session pins it. The keys stay known. It takes no memory.
     pub fn unpin(&mut self, place: usize)
         ensures pins { self.new ≡ record self.old { pins = without_place place self.old.pins } }
     {
-        if place < self.pinned.len() {
-            self.pinned[place] = None;
+        if place < self.marks.len() {
+            self.marks[place].pinned = false;
         }
+    }
+
+    /// Gives up all pins. The keys stay known. It takes no memory.
+    pub fn unpin_all(&mut self)
+        ensures pins { self.new ≡ record self.old { pins = [] } }
+    {
+        unpin_each(&mut self.marks);
     }
 
     // Whether a key is known.
@@ -178,19 +207,12 @@ fn keep_unknown(known: &KnownKeys, tables: &mut Vec<KnownKey>)
     tables.retain(|table| !known.is_known(&table.key));
 }
 
-// The kind of the lock at a place, if the list has one.
-fn kind_in(kinds: &[Option<Kind>], place: usize) -> Option<Kind>
-    ensures { result ≡ kind_in place kinds.now }
+// The kind of the lock at a place, if the place is pinned.
+fn kind_in(marks: &[Mark], place: usize) -> Option<Kind>
+    ensures { result ≡ kind_in place marks.now }
 {
-    *kinds.get(place)?
-}
-
-// The same where the list has one.
-fn kind_there(kinds: &[Option<Kind>], place: usize) -> Kind
-    requires { is_some (kind_in place kinds.now) ≡ true }
-    ensures { kind_in place kinds.now ≡ Some result }
-{
-    kinds[place].unwrap()
+    let mark = marks.get(place)?;
+    if mark.pinned { Some(mark.kind) } else { None }
 }
 
 // The index that is kept of a place, if the list has the place.
@@ -200,17 +222,24 @@ fn index_under(indexes: &[u16], place: usize) -> Option<u16>
     indexes.get(place).copied()
 }
 
-// Adds places without a kind until there are at least `slots`, all at once.
-fn reach_kinds(kinds: &mut Vec<Option<Kind>>, slots: usize) -> Result<(), AllocError>
-    ensures length { length kinds.old.items ≤ length kinds.new.items }
-    ensures reach { OnOk result (slots ≤ length kinds.new.items) }
-    ensures same { (place : ℕ) → kind_in place kinds.new.items ≡ kind_in place kinds.old.items }
-    ensures pins { marked_from 0 (marks_of kinds.new.items) ≡ marked_from 0 (marks_of kinds.old.items) }
+// Adds places that aren't known until there are at least `slots`, all at once.
+fn reach_marks(marks: &mut Vec<Mark>, slots: usize) -> Result<(), AllocError>
+    ensures reach { OnOk result (slots ≤ length marks.new.items) }
+    ensures grown { (n : ℕ) × (marks.new.items ≡ marks.old.items ++ replicate n no_mark) }
 {
-    if kinds.len() < slots {
-        kinds.resize(slots, None)?;
+    if marks.len() < slots {
+        marks.resize(slots, NO_MARK)?;
     }
     Ok(())
+}
+
+// Gives up the pins of all places.
+fn unpin_each(marks: &mut [Mark])
+    ensures { marks.new ≡ map unpinned marks.old }
+{
+    for mark in marks.iter_mut() {
+        mark.pinned = false;
+    }
 }
 
 // Adds places until there are at least `slots`, all at once. The indexes of the others are unchanged.

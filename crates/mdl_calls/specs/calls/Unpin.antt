@@ -1,7 +1,7 @@
 -- `unpin`: the end of the session's pin of a place. It takes no memory, and is refused only if the session doesn't pin the place, or if the place is in use:
--- it has a ticket or a wait there, or owes it a reschedule. It changes no ticket and no wait, and learns and reads nothing.
-use Rattle.std.specs.Prelude.{◌≡◌, ◌⊎◌, ℕ, Bool, true, false}
-use Rattle.mdl_calls.specs.FirstWords.{Answer, AwaitsAt, CallSpec, Done, Effect, HoldsAt, InUse, Keeps, Knowledge, NoPlace, Refused, SessionData, SessionLocks, SpaceError, Unpins, is_pinned, unchanged}
+-- the session has a ticket or a wait there, or owes it a reschedule. It changes no ticket and no wait, and learns and reads nothing.
+use Rattle.std.specs.Prelude.{◌≡◌, ℕ, Bool, true, false}
+use Rattle.mdl_calls.specs.FirstWords.{Answer, AwaitsAt, CallSpec, Done, Effect, HoldsAt, InUse, Keeps, Knowledge, NoPlace, Refused, SessionLocks, SpaceError, Unpins, is_pinned, unchanged}
 
 -- its answers
 abbrev pub answers : Answer → Bool
@@ -9,11 +9,11 @@ answers (Refused why) = true
 answers Done = true
 answers _ = false
 
--- the session pins the place, and has no ticket and no wait there
+-- the session pins the place, and has no ticket and no wait there. Nor does it owe the place a reschedule, of which what it has tells nothing.
 abbrev pub clear : ℕ → Knowledge → SessionLocks → Type 0
 clear place knows own = (is_pinned place own ≡ true) × (HoldsAt place own → ⊥) × (AwaitsAt place own → ⊥)
 
--- why it is refused. How a pinned place was in use is a law of its own (`unpins_in_use`).
+-- why it is refused. How the place was in use is a law of its own (`unpins_in_use`), since it may have been by a debt.
 abbrev pub cause : ℕ → SpaceError → Knowledge → SessionLocks → Type 0
 cause place NoPlace knows own = is_pinned place own ≡ false
 cause place InUse knows own = is_pinned place own ≡ true
@@ -24,17 +24,6 @@ abbrev pub effect : ℕ → Answer → Effect
 effect place Done = Unpins place
 effect place _ = Keeps
 
--- where the place was in use, the session had a ticket or a wait there: a session's own data tell of no debt
-abbrev pub says : ℕ → Answer → SessionData → SessionData → Type 0
-says place (Refused InUse) a b = HoldsAt place a.own ⊎ AwaitsAt place a.own
-says place _ a b = Unit {0}
-
 -- the call
 abbrev pub unpin : ℕ → ℕ → CallSpec
-unpin who place = record (unchanged who) {
-  answers = answers;
-  clear = clear place;
-  cause = cause place;
-  effect = effect place;
-  says = says place;
-}
+unpin who place = record (unchanged who) { answers = answers; clear = clear place; cause = cause place; effect = effect place }

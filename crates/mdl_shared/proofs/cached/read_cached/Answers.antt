@@ -7,14 +7,14 @@ pub read_version_kept-version-requires : goal.read_version_kept-version-requires
 read_version_kept-version-requires g c =
     let m = c.session.inside.member in
     let t = c.in-Some.held in
-    let its = held-seen m c.args.id c.get_to_read.result c.get_to_read.ensures.found ∙ c.in-Some.is in
+    let its = held-seen m c.args.id c.get.result c.get.ensures.found ∙ c.in-Some.is in
     record { place = place-within (member m) t.place (ticket-known (member m) c.args.id t its) }
 
 pub overflow_cast-held : goal.overflow_cast-held
 overflow_cast-held g c =
     let m = c.session.inside.member in
     let t = c.in-Some.held in
-    let its = held-seen m c.args.id c.get_to_read.result c.get_to_read.ensures.found ∙ c.in-Some.is in
+    let its = held-seen m c.args.id c.get.result c.get.ensures.found ∙ c.in-Some.is in
     let at = place-within (member m) t.place (ticket-known (member m) c.args.id t its) in
     let narrow = (member m).narrow.1 in
     omega (arith, at.1, narrow)
@@ -26,7 +26,7 @@ pub invariant_of-member : goal.invariant_of-member
 invariant_of-member g c =
     let m = c.session.inside.member in
     let t = c.in-Some.held in
-    let its = held-seen m c.args.id c.get_to_read.result c.get_to_read.ensures.found ∙ c.in-Some.is in
+    let its = held-seen m c.args.id c.get.result c.get.ensures.found ∙ c.in-Some.is in
     let read = c.read_version_kept-version in
     let kept = c.args.cache.now.kept in
     let met = subst (λ (s : SessionView). AreMet (HasMet (data_of s) s.me.0.number) kept) (sym c.session.view_is) c.requires.met in
@@ -61,7 +61,7 @@ returns-after-look g c =
     let m = c.session.inside.member in
     let id = c.args.id in
     let t = c.in-Some.held in
-    let its = held-seen m id c.get_to_read.result c.get_to_read.ensures.found ∙ c.in-Some.is in
+    let its = held-seen m id c.get.result c.get.ensures.found ∙ c.in-Some.is in
     let read = c.read_version_kept-version in
     let kept = c.args.cache.now.kept in
     let met = subst (λ (s : SessionView). AreMet (HasMet (data_of s) s.me.0.number) kept) (sym c.session.view_is) c.requires.met in

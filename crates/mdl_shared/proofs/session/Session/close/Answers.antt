@@ -1,8 +1,21 @@
--- A session that is closed has no ticket, slow or fast, and owes nothing. One that isn't has one, or owes a place a reschedule.
-use Rattle.std.proofs.Common.{◌≡◌, length, refl, sym, ◌∙◌, arith, eqb-true}
-use Rattle.mdl_shared.proofs.Lemmas.{interleaved, length-interleaved, member, none-owed}
-use Rattle.mdl_shared.proofs.ClosedSessions.{has-nothing}
+-- A session that is closed has no ticket, slow or fast, owes nothing, and needs no pin. One that isn't has a ticket, or owes a place a reschedule.
+use Rattle.std.proofs.Common.{◌≡◌, length, refl, sym, ap, subst, ◌∙◌, arith, eqb-true}
+use Rattle.mdl_shared.proofs.Lemmas.{IsMember, interleaved, length-interleaved, member, none-owed, session_at}
+use Rattle.mdl_shared.proofs.ClosedSessions.{has-nothing, unpinned-member}
+use Rattle.mdl_visits.specs.KnownLists.{KnownList}
 use Rattle.mdl_shared.proofs.session.Session.close.Goals as goal
+
+pub invariant_of-member : goal.invariant_of-member
+invariant_of-member g c =
+    let m = c.self.inside.member in
+    let none : length (interleaved m.tickets.slow m.tickets.fast) ≡ 0 = eqb-true (length (interleaved m.tickets.slow m.tickets.fast)) 0 (sym c.is_empty.ensures ∙ c.if-not-is_empty.false) in
+    let nothing = has-nothing m none (sym c.is_some.ensures ∙ c.if-is_some.false) in
+    record {
+      lawful = ∣ subst (λ (k : KnownList). IsMember (session_at m.seat m.sessions m.tickets.room k.pins)) (sym c.unpin_all.ensures.pins) (unpinned-member (member m) nothing) ∣₁;
+      lists = ap (λ (k : KnownList). record { slow = m.tickets.slow; fast = m.tickets.fast; known = k.known; next = m.next; asks = m.asks; waits = m.waits }) c.unpin_all.ensures.pins ∙ m.lists;
+      room = m.room;
+      owed = m.owed;
+    }
 
 pub invariant_of-result-clause-empty : goal.invariant_of-result-clause-empty
 invariant_of-result-clause-empty g c =

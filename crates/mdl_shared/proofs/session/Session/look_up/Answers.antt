@@ -1,7 +1,7 @@
 -- The place of a key by the directory.
 use Rattle.std.proofs.Common.{◌≡◌, ◌≤◌, ℕ, List, [], ◌∷◌, ◌++◌, None, Some, inr, refl, sym, ap, subst, ◌∙◌, arith}
-use Rattle.mdl_shared.proofs.Lemmas.{At_place, IsMember, Joins, KeyName, KnownKey, Lists, NoPlace, OutOfMemory, Refused, Resolve, SpaceError, data_of, done-nothing, done-order, is_known, kept, kind_known, last-kind, learnt-order, learnt-owes, lists-learnt, lists-stepped, member, no_place-joins, order-pinned, owed-on, owed-stepped, place_known, refused, resolve-joins, resolved, same-stays, session_at, speaks, stepped, view_of}
-use Rattle.mdl_shared.proofs.FirstLemmas.{kind_of, with_place}
+use Rattle.mdl_shared.proofs.Lemmas.{At_place, IsMember, Joins, KeyName, KnownKey, Lists, NoPlace, OutOfMemory, Refused, Resolve, SpaceError, data_of, done-nothing, done-order, is_known, kept, last-is_known, learnt-order, learnt-owes, lists-learnt, lists-stepped, member, no_place-joins, order-pinned, owed-on, owed-stepped, place_known, refused, resolve-joins, resolved, same-stays, session_at, speaks, stepped, view_of}
+use Rattle.mdl_shared.proofs.FirstLemmas.{with_place}
 use Rattle.mdl_visits.specs.KnownLists.{KnownList}
 use Rattle.mdl_shared.proofs.session.Session.look_up.Goals as goal
 use Rattle.mdl_shared.proofs.session.Session.look_up.Goals.{in-NoPlace, in-OutOfMemory}
@@ -11,14 +11,14 @@ returns-then-is_err-clause-joined g c =
     let m = c.self.inside.member in
     let s = view_of m in
     rw (← c.self.view_is) (subst (λ (ps : List ℕ). Joins (data_of s) (Resolve s.me.0.number c.args.key.now) (Refused OutOfMemory) (data_of (session_at m.seat m.sessions m.tickets.room ps)))
-    (sym c.reserve.ensures.pins) (refused s s (Resolve s.me.0.number c.args.key.now) OutOfMemory (same-stays s) (speaks (member m)) refl refl tt (λ state how met. cc) tt))
+    (sym c.reserve.ensures.pins) (refused s s (Resolve s.me.0.number c.args.key.now) OutOfMemory (same-stays s) (speaks (member m)) refl tt (λ state how met. cc) tt))
 
 pub returns-in_default-clause-joined : goal.returns-in_default-clause-joined
 returns-in_default-clause-joined g c =
     let m = c.self.inside.member in
     let s = view_of m in
     rw (← c.self.view_is) (subst (λ (ps : List ℕ). Joins (data_of s) (Resolve s.me.0.number c.args.key.now) (Refused OutOfMemory) (data_of (session_at m.seat m.sessions m.tickets.room ps)))
-    (sym c.reserve.ensures.pins) (refused s s (Resolve s.me.0.number c.args.key.now) OutOfMemory (same-stays s) (speaks (member m)) refl refl tt (λ state how met. cc) tt))
+    (sym c.reserve.ensures.pins) (refused s s (Resolve s.me.0.number c.args.key.now) OutOfMemory (same-stays s) (speaks (member m)) refl tt (λ state how met. cc) tt))
 
 pub reserve-requires : goal.reserve-requires
 reserve-requires g c = record { narrow = subst (λ (n : ℕ). n ≤ 65536) (sym c.slot_count-slots.ensures) (member c.self.inside.member).narrow.1 }
@@ -33,7 +33,7 @@ invariant_of-member-in-Err-resolve g c =
     let is = member m in
     let done = stepped m.seat c.resolve.new.seat m.sessions {room = m.tickets.room} {room′ = m.tickets.room} {pins = m.known.pins} c.in-Err.ensures.answer.2.0 c.in-Err.ensures.refused in record {
       lawful = ∣ subst (λ (ps : List ℕ). IsMember (session_at c.resolve.new.seat m.sessions m.tickets.room ps)) (sym c.reserve.ensures.pins)
-          (kept (Resolve _ _) is (done-order done is (inr refl)) (refused s (session_at c.resolve.new.seat m.sessions m.tickets.room m.known.pins) (Resolve s.me.0.number c.args.key.now) OutOfMemory (done-nothing done) (speaks is) refl refl tt (λ state how met. cc) tt)) ∣₁;
+          (kept (Resolve _ _) is (done-order done is (inr refl)) (refused s (session_at c.resolve.new.seat m.sessions m.tickets.room m.known.pins) (Resolve s.me.0.number c.args.key.now) OutOfMemory (done-nothing done) (speaks is) refl tt (λ state how met. cc) tt)) ∣₁;
       lists = ap (λ (ks : List KnownKey). record { slow = m.tickets.slow; fast = m.tickets.fast; known = ks; next = m.next; asks = m.asks; waits = m.waits }) c.reserve.ensures.same ∙ m.lists ∙ sym (lists-stepped m.seat.me c.resolve.new.seat.me c.in-Err.ensures.refused);
       room = m.room;
       owed = owed-stepped m c.in-Err.ensures.refused;
@@ -51,7 +51,7 @@ returns-in-Err-clause-joined g c =
     rw (← c.self.view_is) (elim c.match-why.branch [
       | in-NoPlace w ↦ rw w.result-is (subst (joins NoPlace) (sym c.reserve.ensures.pins) (no_place-joins is key none stays))
       | in-OutOfMemory w ↦ rw w.result-is (subst (joins OutOfMemory) (sym c.reserve.ensures.pins) (
-          refused s (session_at c.resolve.new.seat m.sessions m.tickets.room m.known.pins) (Resolve s.me.0.number key) OutOfMemory stays (speaks is) refl refl tt (λ state how met. cc) tt
+          refused s (session_at c.resolve.new.seat m.sessions m.tickets.room m.known.pins) (Resolve s.me.0.number key) OutOfMemory stays (speaks is) refl tt (λ state how met. cc) tt
           ))
     ])
 
@@ -70,16 +70,8 @@ push_reserved-requires-clause-unknown g c =
 
 pub pin-requires : goal.pin-requires
 pin-requires g c =
-    let m = c.self.inside.member in
-    let place = c.in-Ok-resolve.place in
-    let none : place_known c.args.key.now m.seat.me.0.known ≡ None = rw (← c.self.view_is) at c.requires.unknown in
-    let told = resolved m.seat c.resolve.new.seat m.sessions place {room = m.tickets.room} {room′ = m.tickets.room} {pins = m.known.pins} c.args.key.now none c.in-Ok-resolve.ensures.known c.in-Ok-resolve.ensures.answer in
-    let new = ap (is_known place) c.reserve.ensures.same ∙ ap (λ (l : Lists). is_known place l.known) m.lists ∙ told.2 in
-    let one : KnownKey = record { key = c.in-Ok.key_kept; place = place } in
-    record {
-      kind = ap (kind_known place) c.push_reserved.ensures.known ∙ last-kind c.reserve.new.self.known one new
-          ∙ ap (λ (k : KeyName). Some (kind_of k.namespace)) c.in-Ok.ensures.cases ∙ ap (λ k. Some k) (sym c.kind.ensures);
-    }
+    let one : KnownKey = record { key = c.in-Ok.key_kept; place = c.in-Ok-resolve.place } in
+    record { known = ap (is_known one.place) c.push_reserved.ensures.known ∙ last-is_known c.reserve.new.self.known one }
 
 pub invariant_of-member-2 : goal.invariant_of-member-2
 invariant_of-member-2 g c =

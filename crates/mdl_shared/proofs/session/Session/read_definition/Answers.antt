@@ -10,7 +10,7 @@ returns-in_default g c =
     let call = Read_definition s.me.0.number c.args.id in
     let none = held-seen m c.args.id c.get.result c.get.ensures.found ∙ c.in_default.is in
     rw (← c.self.view_is) (record {
-      joined = refused s s call NotHeld (same-stays s) (speaks (member m)) refl refl (holds-told c.args.id (tickets_seen s.me.0) false (ap is_some none)) (λ state how is. cc) tt;
+      joined = refused s s call NotHeld (same-stays s) (speaks (member m)) refl (holds-told c.args.id (tickets_seen s.me.0) false (ap is_some none)) (λ state how is. cc) tt;
       shown = own-shows call NotHeld s (ap (λ (o : Option SessionTicket). if is_some o then None else Some NotHeld) none);
     })
 

@@ -8,7 +8,7 @@ returns-in_default-clause-joined g c =
     let m = c.self.inside.member in
     let s = view_of m in
     let none = held-seen m c.args.id c.get.result c.get.ensures.found ∙ c.in_default.is in
-    rw (← c.self.view_is) (refused s s (Read_kept s.me.0.number c.args.id) NotHeld (same-stays s) (speaks (member m)) refl refl
+    rw (← c.self.view_is) (refused s s (Read_kept s.me.0.number c.args.id) NotHeld (same-stays s) (speaks (member m)) refl
     (holds-told c.args.id (tickets_seen s.me.0) false (ap is_some none)) (λ state how is. cc) tt)
 
 pub read_version_kept-version-requires : goal.read_version_kept-version-requires

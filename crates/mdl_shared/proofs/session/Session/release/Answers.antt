@@ -31,7 +31,7 @@ returns-in_default-clause-joined g c =
     let s = view_of m in
     let none = held-seen m c.args.id None (sym (ap (option_map (λ (f : SessionTicket × Bool). f.0)) c.in_default.is) ∙ c.find.ensures.found) in
     rw (← c.self.view_is)
-    (refused s s (Release s.me.0.number c.args.id) NotHeld (same-stays s) (speaks (member m)) refl refl
+    (refused s s (Release s.me.0.number c.args.id) NotHeld (same-stays s) (speaks (member m)) refl
     (holds-told c.args.id (tickets_seen s.me.0) false (ap is_some none)) (λ state how is. cc) tt)
 
 -- ---- a slow one

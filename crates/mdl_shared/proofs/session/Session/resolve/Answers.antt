@@ -1,6 +1,6 @@
 -- The place of a key, by the session's own list or by the directory.
 use Rattle.std.proofs.Common.{◌≡◌, Some, refl, sym, ap, subst, ◌∙◌, arith}
-use Rattle.mdl_shared.proofs.Lemmas.{At_place, IsMember, Joins, Lists, Resolve, are_apart, data_of, does-nothing, keeps-same, kept, key-kind, known-joins, member, order-pinned, order-same, place_known, place_within, session_at, view_of}
+use Rattle.mdl_shared.proofs.Lemmas.{At_place, IsMember, Joins, Lists, Resolve, data_of, does-nothing, keeps-same, kept, key-is_known, known-joins, member, order-pinned, order-same, place_known, place_within, session_at, view_of}
 use Rattle.mdl_shared.proofs.FirstLemmas.{with_place}
 use Rattle.mdl_shared.proofs.session.Session.resolve.Goals as goal
 use Rattle.mdl_visits.specs.KnownLists.{KnownList}
@@ -17,10 +17,7 @@ overflow_cast-result g c =
     omega (arith, within.1, narrow.1)
 
 pub pin-requires : goal.pin-requires
-pin-requires g c =
-    let m = c.self.inside.member in
-    let apart = ap (λ (l : Lists). are_apart l.known) m.lists ∙ (member m).sound.apart in
-    record { kind = key-kind m.known.known c.args.key.now c.in-Some.place apart (sym c.place_of.ensures ∙ c.in-Some.is) ∙ ap (λ k. Some k) (sym c.kind.ensures) }
+pin-requires g c = record { known = key-is_known c.self.inside.member.known.known c.args.key.now c.in-Some.place (sym c.place_of.ensures ∙ c.in-Some.is) }
 
 pub invariant_of-self-inside : goal.invariant_of-self-inside
 invariant_of-self-inside g c =
