@@ -1,5 +1,6 @@
 -- The laws of a lock space, of the space of one thread: what its calls do to the sessions, and what they tell them.
-use Rattle.std.proofs.Common.{◌≡◌, ◌⊎◌, ℕ, ◌+◌, Bool, true, false, not, ◌&&◌, List, [], ◌∷◌, ◌++◌, length, Option, Some, None, MatchOption, IfSome, is_some, option_map, refl, sym, ap, subst, ◌∙◌, inl, inr, eq-eqb}
+use Rattle.std.proofs.Common.{◌≡◌, ◌⊎◌, ℕ, ◌+◌, ◌-◌, Bool, true, false, not, ◌&&◌, List, [], ◌∷◌, ◌++◌, length, Option, Some, None, MatchOption, IfSome, is_some, option_map, refl, sym, ap, subst, ◌∙◌, inl, inr, eq-eqb}
+use Rattle.std.specs.Prelude.{slice_set}
 use Rattle.std.proofs.lemmas.Bool.{false≢true}
 use Rattle.std.proofs.lemmas.Bool.Decides.{eqb_tells}
 use Rattle.mdl_key.specs.Keys.{KeyName}
@@ -9,6 +10,8 @@ use Rattle.mdl_calls.specs.declared.answers.Settled.{Settled}
 use Rattle.mdl_calls.specs.declared.answers.Settled.TheVariants as settled_as
 use Rattle.mdl_calls.specs.declared.answers.TimedOut.TheVariants.{ByThisCall, Already}
 use Rattle.mdl_calls.specs.declared.space_error.SpaceError.TheVariants.{InUse, OutOfMemory}
+use Rattle.mdl_calls.proofs.PinLemmas.{is_among}
+use Rattle.mdl_calls.specs.SessionLocks.{is_pinned}
 use Rattle.mdl_calls.specs.Words.{Answer, Refused, Done, At_place, Would_wait, Upgraded, Is_settled, Timed_out, Has_wait, Has_killed, Victim_is, Key_is, Tables, Holds, is_answer_of, Call, Resolve, Search, Poll_wait, Settle_timeout, End_wait, Wait_of, Kill, Release, Upgrade_now, Downgrade, Change_definition, Key_of, Tables_of, List_held, Unpin, caller, takes_memory, AreTablesOf, IsCause, IsExplained, own_after, wait_number, is_waiting, IsRising, Draws, ticket_held, told, with_place, HoldsAt, AwaitsAt, IsToldOf}
 use Rattle.mdl_core.specs.declared.pending.Pending.{Pending}
 use Rattle.mdl_core.specs.Changes.{Change, Settle, seat_after, after_change, losing}
@@ -17,7 +20,7 @@ use Rattle.mdl_core.specs.CoreJoins.{SpeaksFor, locks_at, numbers_at, Knows, IsS
 use Rattle.mdl_core.specs.CoreLaws.{CallsKeepSound, UpgradesWhatIsGrantable}
 use Rattle.mdl_book.specs.Books.{empty_book}
 use Rattle.mdl_book.specs.declared.book_view.BookView.{BookView}
-use Rattle.mdl_core.specs.Cores.{Core, seat_at, has_session, table_places}
+use Rattle.mdl_core.specs.Cores.{Core, seat_at, has_key, has_pin, has_session, is_in_use, table_places}
 use Rattle.mdl_core.specs.Seats.{locks_of_seat, numbers_of_seat}
 use Rattle.mdl_core.specs.SessionLaws.{RefusesForCause}
 use Rattle.mdl_core.specs.Ties.{IsTied}
@@ -25,11 +28,12 @@ use Rattle.mdl_system.specs.Words.{covers}
 use Rattle.mdl_core.proofs.CallCases.{test_cases}
 use Rattle.mdl_core.proofs.ChangeTies.{tied-changing}
 use Rattle.mdl_core.proofs.CoreServing.{serves}
-use Rattle.mdl_core.proofs.KnownPlaces.{spares-opening}
+use Rattle.mdl_core.proofs.KnownPlaces.{keeps-placing, known-used, spares-opening}
+use Rattle.mdl_core.proofs.PinsFollow.{pin-stays, pins-follow}
 use Rattle.mdl_core.proofs.PinnedSeats.{repinned, repinning, has_session-repinning, repinned-same, repinned-other, repinned-bare}
 use Rattle.mdl_core.proofs.MadeCalls.{number-same, refused, made}
-use Rattle.mdl_core.proofs.SparedSeats.{IsSettledWait, HasSettled, settled-seat, seat-settled, wait-of_session, Spares, spares-same, is_end, own-settling, sessions-changed, seat-changed, seat-other, keys-changed, settled-changed, spares-changing}
-use Rattle.mdl_core.proofs.Ways.{HasAtOnce, HasNotAtOnce, Way, Stay, Repin, Open, Settle_wait, Make, makes_room, served_if, space_by, seat_by, IsSo, ServesCaller, IsMade, Made, Comes}
+use Rattle.mdl_core.proofs.SparedSeats.{IsSettledWait, HasSettled, KeepsKey, settled-seat, seat-settled, wait-of_session, Spares, spares-same, is_end, keeps-key_then, key-kept, own-settling, sessions-changed, seat-changed, seat-other, keys-changed, settled-changed, spares-changing}
+use Rattle.mdl_core.proofs.Ways.{HasAtOnce, HasNotAtOnce, Way, Stay, Repin, Open, Replace, Settle_wait, Make, makes_room, served_if, space_by, seat_by, IsSo, ServesCaller, IsMade, Made, Comes}
 use Rattle.mdl_core.proofs.TableLists.{are-tables}
 
 -- ---- calls and what comes of them
@@ -72,10 +76,10 @@ joins-comes a b call answer tied (speaks, makes) = by makes
 
 -- ---- what a call leaves to the sessions
 
--- the caller has what the way leaves it, the others have what they had, and a settled wait stays until it is ended
+-- places in use keep their keys, the caller has what the way leaves it, the others have what they had, and a settled wait stays until it is ended
 record IsLeft (a : Core) (call : Call) (way : Way) (b : Core) : Type 0 where
   sessions : (w : ℕ) → has_session w b ≡ has_session w a
-  keys : (w place : ℕ) (key : KeyName) → Knows a w place key → Knows b w place key
+  keys : (place : ℕ) → has_key place a ≡ true → is_in_use place a ≡ true → KeepsKey a b place
   own : (w : ℕ) → has_session w a ≡ true → caller call ≡ Some w → (locks_at b w ≡ locks_of_seat (seat_by way w a)) × (numbers_at b w ≡ numbers_of_seat (seat_by way w a))
   others : (w : ℕ) → has_session w a ≡ true → (caller call ≡ Some w → ⊥) → (locks_at b w ≡ locks_at a w) × (numbers_at b w ≡ numbers_at a w)
   settled : (w : ℕ) (how : Settled) → has_session w a ≡ true → (call ≡ End_wait w → ⊥) → HasSettled (seat_at w a) how → HasSettled (seat_at w b) how
@@ -84,7 +88,7 @@ record IsLeft (a : Core) (call : Call) (way : Way) (b : Core) : Type 0 where
 left-spared : (a : Core) (call : Call) (way : Way) → ((w : ℕ) → seat_by way w a ≡ seat_at w a) → Spares a (space_by way a) → IsLeft a call way (space_by way a)
 left-spared a call way same spares = record {
   sessions = spares.sessions;
-  keys = spares.keys;
+  keys = λ place has used. spares.keys place has;
   own = λ w is mine. ((spares.seats w is).own ∙ ap locks_of_seat (sym (same w)), (spares.seats w is).numbers ∙ ap numbers_of_seat (sym (same w)));
   others = λ w is other. ((spares.seats w is).own, (spares.seats w is).numbers);
   settled = λ w how is apart has. (spares.seats w is).settled how has;
@@ -92,7 +96,7 @@ left-spared a call way same spares = record {
 
 -- a way by which the caller pins other places, whatever books there are then
 left-pinned : (a : Core) (call : Call) (way : Way) (who : ℕ) (pins : List ℕ) (books : List BookView) → has_session who a ≡ true → caller call ≡ Some who
-    → ((w p : ℕ) (k : KeyName) → Knows a w p k → Knows (record a { books = books }) w p k) → seat_by way who a ≡ repinned pins (seat_at who a)
+    → ((p : ℕ) → has_key p a ≡ true → is_in_use p a ≡ true → KeepsKey a (record a { books = books }) p) → seat_by way who a ≡ repinned pins (seat_at who a)
     → IsLeft a call way (repinning who pins (record a { books = books }))
 left-pinned a call way who pins books session mine keys same = record {
   sessions = has_session-repinning mid who pins;
@@ -116,9 +120,9 @@ module _ (a : Core) (call : Call) (answer : Answer) (tied : IsTied a) where
       → (is_end change ≡ true → call ≡ End_wait who) → IsLeft a call (Make who place change) (space_by (Make who place change) a)
   left-made who place change made mine ends = record {
     sessions = λ w. late.sessions w ∙ sessions-changed a who place change made.may w;
-    keys = λ w other key knows. (
-        let h = keys-changed a who place change made.may other knows.0 in
-        late.keys w other key (h.0, h.1 ∙ knows.1));
+    keys = λ other has used. (
+        let h = key-kept a who place change made.may other has in
+        keeps-key_then a mid (served_if (makes_room change) place mid) other h (late.keys other h.0));
     own = λ w is called. (
         let same : who ≡ w = (let e = sym mine ∙ called in cc) in
         let seat = subst (λ v. seat_at v mid ≡ seat_after place change (seat_at v a)) same (seat-changed a who place change made.may) in
@@ -162,10 +166,13 @@ module _ (a : Core) (call : Call) (answer : Answer) (tied : IsTied a) where
   way-left : (way : Way) → Made a call answer way → IsLeft a call way (space_by way a)
   way-left Stay made = left-spared a call Stay (λ w. refl) (spares-same a)
   way-left (Repin who pins) made =
-      left-pinned a call (Repin who pins) who pins a.books made.is_way.0.session made.is_way.0.mine (λ w p k knows. knows) refl
+      left-pinned a call (Repin who pins) who pins a.books made.is_way.0.session made.is_way.0.mine (λ p has used. (has, refl, λ some. some)) refl
   way-left (Open who key) made =
       left-pinned a call (Open who key) who (with_place (length a.books + 1) (seat_at who a).pins) (a.books ++ empty_book key ∷ [])
-      made.is_way.0.session made.is_way.0.mine (spares-opening a key).keys refl
+      made.is_way.0.session made.is_way.0.mine (λ p has used. (spares-opening a key).keys p has) refl
+  way-left (Replace who place key) made =
+      left-pinned a call (Replace who place key) who (with_place place (seat_at who a).pins) (slice_set a.books (place - 1) (empty_book key))
+      made.is_way.0.session made.is_way.0.mine (keeps-placing a place key made.is_way.2 made.is_way.3) refl
   way-left (Settle_wait who place how) made =
       left-spared a call (Settle_wait who place how) (λ w. refl)
       (spares-changing a who place (Settle how) made.is_way.may refl (own-settling how (seat_at who a)) refl)
@@ -304,7 +311,7 @@ core-resolves a b who place key joins = (called a b (Resolve who key) (At_place 
 pub core-tells_key : (a b : Core) (who place : ℕ) (key other : KeyName) → Joins a (Key_of who place) (Key_is key) b → Knows a who place other → key ≡ other
 core-tells_key a b who place key other joins knows =
     let h = called a b (Key_of who place) (Key_is key) who refl joins in
-    sym h.so.1 ∙ ((joined a b (Key_of who place) (Key_is key) h.speaks.1.tied joins).left.keys who place other knows).1
+    sym h.so.1 ∙ ((joined a b (Key_of who place) (Key_is key) h.speaks.1.tied joins).left.keys place knows.0 (known-used a who place other knows)).1 ∙ knows.1
 
 -- whoever is told the tables of a schema knows them
 pub core-tells_tables : (a b : Core) (who : ℕ) (schema places : List ℕ) → Joins a (Tables_of who schema) (Tables places) b
@@ -312,17 +319,35 @@ pub core-tells_tables : (a b : Core) (who : ℕ) (schema places : List ℕ) → 
 core-tells_tables a b who schema places joins =
     let so = (called a b (Tables_of who schema) (Tables places) who refl joins).so in
     subst (AreTablesOf (Knows b who) schema) (sym so.0)
-    (subst (λ c. AreTablesOf (Knows c who) schema (table_places schema a)) (sym so.1) (are-tables a schema joins.0.1.tied who))
+    (subst (λ c. AreTablesOf (Knows c who) schema (table_places schema a)) (sym so.1) (are-tables a schema joins.0.1.tied joins.0.1.standing who))
 
--- a place keeps its key, for all who know it, whether they pin it or not
-pub core-keeps_keys : (a b : Core) (call : Call) (answer : Answer) (w place : ℕ) (key : KeyName) → SpeaksFor a w → Joins a call answer b
-    → Knows a w place key → Knows b w place key
-core-keeps_keys a b call answer w place key speaks joins = (joined a b call answer speaks.1.tied joins).left.keys w place key
+-- a place in use keeps its key
+pub core-keeps_keys : (a b : Core) (call : Call) (answer : Answer) (place : ℕ) → IsTied a → Joins a call answer b → has_key place a ≡ true
+    → is_in_use place a ≡ true → KeepsKey a b place
+core-keeps_keys a b call answer place tied joins = (joined a b call answer tied joins).left.keys place
 
--- so it does unless its pin is given up
+-- whoever pins it pins it still, unless that pin was given up
+pins-kept : (a b : Core) (call : Call) (answer : Answer) (w place : ℕ) → SpeaksFor a w → (call ≡ Unpin w place → answer ≡ Done → ⊥)
+    → Joins a call answer b → has_pin w place a ≡ true → has_pin w place b ≡ true
+pins-kept a b call answer w place speaks stays joins pins = elim (number_told (caller call) w) [
+  | inl mine ↦ ap (λ own. is_pinned place own) (core-changes a b call answer w mine joins)
+      ∙ ap (is_among place) (pins-follow call answer (locks_at a w)) ∙ pin-stays call answer w place (locks_at a w).pins mine stays pins
+  | inr other ↦ ap (λ own. is_pinned place own) (core-others a b call answer w speaks other joins) ∙ pins
+]
+  where
+    number_told : (o : Option ℕ) (n : ℕ) → (o ≡ Some n) ⊎ (o ≡ Some n → ⊥)
+    number_told None n = inr (λ e. cc)
+    number_told (Some m) n = elim (eqb_tells m n) [ inl e ↦ inl (ap Some e.1) | inr e ↦ inr (λ same. e.1 (let f = same in cc)) ]
+
+-- whoever knows its key knows it still, unless that pin was given up
 pub core-remembers : (a b : Core) (call : Call) (answer : Answer) (w place : ℕ) (key : KeyName) → SpeaksFor a w
     → (call ≡ Unpin w place → answer ≡ Done → ⊥) → Joins a call answer b → Knows a w place key → Knows b w place key
-core-remembers a b call answer w place key speaks stays joins = core-keeps_keys a b call answer w place key speaks joins
+core-remembers a b call answer w place key speaks stays joins knows =
+    let h = core-keeps_keys a b call answer place speaks.1.tied joins knows.0 (known-used a w place key knows) in (
+      h.0,
+      h.1 ∙ knows.1,
+      elim knows.2 [ inl pins ↦ inl (pins-kept a b call answer w place speaks stays joins pins) | inr some ↦ inr (h.2 some) ],
+    )
 
 -- a pin is kept for a ticket or a wait of its session
 pub core-unpins_in_use : (a b : Core) (who place : ℕ) → Joins a (Unpin who place) (Refused InUse) b

@@ -16,7 +16,7 @@ use Rattle.mdl_core.specs.ChangeEvents.{IsChangeEvent}
 use Rattle.mdl_core.specs.Changes.{Change, Gain, Lose, Queue, Admit, Settle, Leave, Take_up, Alter, Fold, Redefine, May, after_change, opening}
 use Rattle.mdl_core.specs.CoreJoins.{Joins}
 use Rattle.mdl_core.specs.CoreLaws.{is_change, IsEventOf, CallsAreEvents, CallsKeepSound, GrantsWhatIsGrantable, GrantsInOrder, CallsLeadByEvents, Joined}
-use Rattle.mdl_core.specs.Cores.{Core, empty_core, seat_at, key_at, has_key, index_of}
+use Rattle.mdl_core.specs.Cores.{Core, empty_core, seat_at, key_at, has_key, index_of, placing_at}
 use Rattle.mdl_core.specs.CoreSystems.{applies, system_of, granted_in, unended_from}
 use Rattle.mdl_core.specs.Seats.{empty_seat}
 use Rattle.mdl_core.specs.Ties.{in_book_of, IsTied, IsSoundCore, AllMayStand}
@@ -24,11 +24,12 @@ use Rattle.mdl_core.proofs.CallLaws.{joins-comes}
 use Rattle.mdl_core.proofs.ChangesHappen.{change-happens}
 use Rattle.mdl_core.proofs.ChangeTies.{tied-changing, stands-changing}
 use Rattle.mdl_core.proofs.CoreServing.{serves}
-use Rattle.mdl_core.proofs.KnownPlaces.{new-known}
+use Rattle.mdl_core.proofs.KnownPlaces.{new-keyed, placed-keyed}
 use Rattle.mdl_core.proofs.PinnedSeats.{repinning, system-repinning, tied-repinning, may-pin}
 use Rattle.mdl_core.proofs.SparedSeats.{keys-changed}
 use Rattle.mdl_core.proofs.TiedOpening.{tied-empty, stands-empty, opened, stands-opened, system-opened}
-use Rattle.mdl_core.proofs.Ways.{Way, Stay, Repin, Open, Settle_wait, Make, makes_room, served_if, space_by, IsMade, Made}
+use Rattle.mdl_core.proofs.TiedPlacing.{placed, stands-placed, system-placed}
+use Rattle.mdl_core.proofs.Ways.{Way, Stay, Repin, Open, Replace, Settle_wait, Make, makes_room, served_if, space_by, IsMade, Made}
 use Rattle.mdl_system.proofs.ConcernLemmas.{step-forgets, granting-there}
 use Rattle.mdl_system.proofs.LawfulLemmas.{empty-lawful, step-lawful, run-lawful}
 use Rattle.mdl_system.proofs.StrengthLemmas.{covers-at_least, upgrade-raises}
@@ -172,9 +173,20 @@ module _ (a : Core) (call : Call) (answer : Answer) (sound : IsSoundCore a) wher
       let pins = with_place place (seat_at who a).pins in
       let tied = opened key a sound.tied made.is_way.1 in
       follows-calm (repinning who pins (opening key a))
-      (tied-repinning (opening key a) who pins session tied (may-pin (opening key a) who place tied session (new-known a key who).0))
+      (tied-repinning (opening key a) who pins session tied (may-pin (opening key a) who place tied session (new-keyed a key).0))
       (stands-opened key a sound.tied made.is_way.1 sound.standing)
       (opening-same a key sound.tied made.is_way.1 ∙ sym (system-repinning (opening key a) who pins session)) made.is_way.0.calm
+  follows-way (Replace who place key) made =
+      let session = made.is_way.0.session in
+      let pins = with_place place (seat_at who a).pins in
+      let has = made.is_way.2 in
+      let unused = made.is_way.3 in
+      let tied = placed a place key sound.tied has unused made.is_way.1 in
+      follows-calm (repinning who pins (placing_at place key a))
+      (tied-repinning (placing_at place key a) who pins session tied (may-pin (placing_at place key a) who place tied session (placed-keyed a place key has).0))
+      (stands-placed a place key sound.tied has unused made.is_way.1 sound.standing)
+      (system-placed a place key sound.tied has unused made.is_way.1 sound.standing ∙ sym (system-repinning (placing_at place key a) who pins session))
+      made.is_way.0.calm
   follows-way (Settle_wait who place how) made = follows-made who place (Settle how) made.is_way
   follows-way (Make who place change) made = follows-made who place change made.is_way.0
 

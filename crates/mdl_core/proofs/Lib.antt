@@ -22,6 +22,7 @@ pub mod MadeCalls
 pub mod NeededPlaces
 pub mod PairLemmas
 pub mod PinnedSeats
+pub mod PinsFollow
 pub mod PlaceAnswers
 pub mod PlacesKept
 pub mod ReadLaws
@@ -37,7 +38,9 @@ pub mod SparedSeats
 pub mod TableLists
 pub mod TicketLists
 pub mod TiedOpening
+pub mod TiedPlacing
 pub mod TiedWrites
 pub mod UnpinAnswers
+pub mod UnusedPlaces
 pub mod VictimLemmas
 pub mod Ways

@@ -22,11 +22,11 @@ use Rattle.mdl_calls.specs.Words.{Answer, Refused, Granted, Is_settled, Done, Ti
 use Rattle.mdl_calls.specs.SessionLocks.{changing as changing_own, merging as merging_own, upgraded}
 use Rattle.mdl_core.specs.declared.pending.Pending.{Pending}
 use Rattle.mdl_core.specs.ChangeEvents.{holding_of, ticket_of_wait, IsChangeEvent}
-use Rattle.mdl_core.specs.Changes.{Change, Gain, Lose, Queue, Leave, Take_up, Alter, Fold, Redefine, Allows, May, next_ticket, losing, ending_lost, altering, serving}
-use Rattle.mdl_core.specs.CoreCalls.{outcome, refused_or, first_cause, placing, unpin_causes, request_causes, clone_causes, cloning_of, upgrade_causes, upgraded_if_free, upgrading_of, is_lower, downgrading_of, merge_causes, merging_of, held_ticket, releasing_of, poll_answer, polling_of, timing_out_at, timing_out_of, ending_at, ending_of, wait_at, is_open_wait, victim_at, searching_of, reading_of, redefining_fault, redefined_unless, redefining_of}
+use Rattle.mdl_core.specs.Changes.{Change, Gain, Lose, Queue, Leave, Take_up, Alter, Fold, Redefine, Allows, May, next_ticket, losing, ending_lost, altering, opening, serving}
+use Rattle.mdl_core.specs.CoreCalls.{outcome, refused_or, first_cause, placing, replacing, unpin_causes, request_causes, clone_causes, cloning_of, upgrade_causes, upgraded_if_free, upgrading_of, is_lower, downgrading_of, merge_causes, merging_of, held_ticket, releasing_of, poll_answer, polling_of, timing_out_at, timing_out_of, ending_at, ending_of, wait_at, is_open_wait, victim_at, searching_of, reading_of, redefining_fault, redefined_unless, redefining_of}
 use Rattle.mdl_core.specs.CoreJoins.{locks_at, numbers_at, Knows}
 use Rattle.mdl_core.specs.CoreLaws.{is_weaker, is_change, IsEventOf}
-use Rattle.mdl_core.specs.Cores.{Core, book_at, seat_at, key_at, standing_at, has_key, has_pin, has_session, index_of, is_free_for, booking, unpinning}
+use Rattle.mdl_core.specs.Cores.{Core, book_at, seat_at, key_at, standing_at, has_key, has_pin, has_session, index_of, is_free_for, is_in_use, booking, placing_at, unpinning, unused_place}
 use Rattle.mdl_core.specs.CoreSystems.{system_of, system_waiter, wait_state_of}
 use Rattle.mdl_system.specs.Words.{WaitsForCause, Event, Grant, Clone, BeginWait, SettleLost, EndGrantedWait, EndLostWait, Release as Give_up, Upgrade as Raise, Merge as Unite, Downgrade as Lower, ChangeDefinition, covers, may_upgrade, may_downgrade, Unsettled, IsGrantable}
 use Rattle.mdl_core.specs.Seats.{SeatView, without_ticket, with_ticket_in, locks_of_seat, numbers_of_seat, with_settled_wait, with_ticket_of}
@@ -37,13 +37,14 @@ use Rattle.mdl_core.proofs.ChangeSeats.{merged_place}
 use Rattle.mdl_core.proofs.CoreGranted.{free-grantable}
 use Rattle.mdl_core.proofs.CoreReads.{found, seated-same, seat-kept, ticket-key}
 use Rattle.mdl_core.proofs.CoreServing.{found-first}
-use Rattle.mdl_core.proofs.KnownPlaces.{unplaced, new-known, wait_pinned}
+use Rattle.mdl_core.proofs.KnownPlaces.{unplaced, known-pinning, new-keyed, placed-keyed, wait_pinned}
 use Rattle.mdl_core.proofs.NeededPlaces.{needs-told, needs-from}
 use Rattle.mdl_core.proofs.PairLemmas.{below, map-agree, map-same, pairs-from_rising, same-number}
 use Rattle.mdl_core.proofs.PinnedSeats.{may-pin, may-unpin}
 use Rattle.mdl_core.proofs.SparedSeats.{HasSettled, settled_at, settled-once, none_settled, not_settled, as_wait, is_end}
+use Rattle.mdl_core.proofs.UnusedPlaces.{unused-none, unused-some}
 use Rattle.mdl_core.proofs.VictimLemmas.{victim-waits}
-use Rattle.mdl_core.proofs.Ways.{HasAtOnce, HasNotAtOnce, Way, Stay, Repin, Open, Settle_wait, Make, served_if, space_by, seat_by, IsSo, ServesCaller, Comes}
+use Rattle.mdl_core.proofs.Ways.{HasAtOnce, HasNotAtOnce, Way, Stay, Repin, Open, Replace, Settle_wait, Make, served_if, space_by, seat_by, IsSo, ServesCaller, Comes}
 use Rattle.mdl_system.proofs.StrengthLemmas.{covers-at_least, upgrade-raises}
 
 -- ---- tests
@@ -329,14 +330,16 @@ module _ (a : Core) where
     pub made : (call : Call) → IfSome (caller call) (λ who. has_session who a ≡ true) → F call (outcome call a)
     made (Resolve who key) is =
         option_cases (λ o. F (Resolve who key) (placing who key o a)) (index_of key a.books)
-        (λ none. tested (λ full. refused who NoPlace refl (λ place knows. unplaced a who place key none knows) (λ _ _. tt)
-        (at_least a.places (length a.books) full, λ place key_there same. unplaced a who place key none (key_there, same)))
+        (λ none. tested (λ full. option_cases (λ o. F (Resolve who key) (replacing who key o a)) (unused_place a)
+        (λ used. refused who NoPlace refl (λ place knows. unplaced a place key none (knows.0, knows.1)) (λ _ _. tt)
+        ((at_least a.places (length a.books) full, unused-none a used), λ place key_there same. unplaced a place key none (key_there, same)))
+        (λ place unused. replaces place none (unused-some a place unused)))
         (λ _. record {
           way = Open who key;
           is = record {
             fits = refl;
             is_way = (record { calm = refl; session = is; mine = refl }, none);
-            so = new-known a key who;
+            so = (let keyed = new-keyed a key in known-pinning (opening key a) who (length a.books + 1) key is keyed.0 keyed.1);
             caller = tells refl refl tt (λ _ _. tt);
           };
           leads = refl;
@@ -346,11 +349,26 @@ module _ (a : Core) where
           is = record {
             fits = refl;
             is_way = (record { calm = refl; session = is; mine = refl }, may-pin a who (index + 1) tied is (found a key index e).0);
-            so = found a key index e;
+            so = (let at = found a key index e in known-pinning a who (index + 1) key is at.0 at.1);
             caller = tells refl refl tt (λ _ _. tt);
           };
           leads = refl;
         })
+      where
+        -- a place that isn't in use gets the key
+        replaces : (place : ℕ) → index_of key a.books ≡ None
+            → (has_key place a ≡ true) × (is_in_use place a ≡ false) × ((other : ℕ) → has_key other a ≡ true → is_in_use other a ≡ false → place ≤ other)
+            → F (Resolve who key) (replacing who key (Some place) a)
+        replaces place none unused = record {
+          way = Replace who place key;
+          is = record {
+            fits = refl;
+            is_way = (record { calm = refl; session = is; mine = refl }, none, unused.0, unused.1);
+            so = (let keyed = placed-keyed a place key unused.0 in known-pinning (placing_at place key a) who place key is keyed.0 keyed.1);
+            caller = tells refl refl tt (λ _ _. tt);
+          };
+          leads = refl;
+        }
     made (Try_now who place mode) is =
         asked who place mode is (λ refusal cause limit. refused who refusal refl cause (λ _ _. tt) limit)
         (λ ask. tested (λ busy. stays refl refl (ask.busy busy) (tells refl refl ask.clear (λ _ _. tt)))

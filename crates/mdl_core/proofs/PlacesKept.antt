@@ -1,7 +1,8 @@
 -- Which keys have which places after a call, which places are pinned, and which numbers were given last.
-use Rattle.std.proofs.Common.{◌≡◌, ℕ, zero, suc, ◌+◌, ◌-◌, Bool, true, false, not, inl, inr, List, [], ◌∷◌, length, map, Option, Some, None, nat_le, refl, sym, ap, subst, ◌∙◌, if◌then◌else◌}
+use Rattle.std.proofs.Common.{◌≡◌, ℕ, zero, suc, ◌+◌, ◌-◌, Bool, true, false, not, inl, inr, List, [], ◌∷◌, length, map, Option, Some, None, nat_le, refl, sym, ap, subst, ◌∙◌, if◌then◌else◌, arith}
 use Rattle.std.specs.Prelude.{Contains, slice_set, slice_index_or}
-use Rattle.std.proofs.lemmas.List.{map-append}
+use Rattle.std.proofs.lemmas.Bool.Decides.{nat_tests}
+use Rattle.std.proofs.lemmas.List.{length-map, map-append, map-set}
 use Rattle.mdl_key.specs.Keys.{KeyName, global_key}
 use Rattle.mdl_key.specs.declared.mode.Mode.{Mode}
 use Rattle.mdl_key.specs.declared.mode.Mode.TheVariants.{X}
@@ -11,27 +12,26 @@ use Rattle.mdl_book.specs.declared.ticket.Ticket.{Ticket}
 use Rattle.mdl_book.specs.Books.{empty_book, redefining}
 use Rattle.mdl_defs.specs.declared.change.Change.{Change as Redefinition}
 use Rattle.mdl_defs.specs.declared.change_error.ChangeError.{ChangeError}
-use Rattle.mdl_calls.specs.AllCalls.{spec_of}
 use Rattle.mdl_calls.specs.declared.answers.Held.{Held}
 use Rattle.mdl_calls.specs.declared.answers.Settled.{Settled}
 use Rattle.mdl_calls.specs.declared.answers.Settled.TheVariants as settled_as
 use Rattle.mdl_calls.specs.declared.space_error.SpaceError.{SpaceError}
 use Rattle.mdl_calls.specs.declared.space_error.SpaceError.TheVariants.{OutOfMemory}
-use Rattle.mdl_calls.specs.Words.{Answer, Refused, Done, At_place, Granted, Upgraded, takes_memory, Call, Resolve, Try_now, Begin_wait, Search, Poll_wait, Settle_timeout, End_wait, Wait_of, Kill, Release, Clone_ticket, Upgrade_now, Merge, Downgrade, Read_definition, Read_kept, Change_definition, Key_of, Tables_of, List_held, Unpin, SessionLocks, own_after}
-use Rattle.mdl_calls.proofs.PinLemmas.{pins_by, pins-after}
+use Rattle.mdl_calls.specs.Words.{Answer, Refused, Done, takes_memory, Call, Resolve, Try_now, Begin_wait, Search, Poll_wait, Settle_timeout, End_wait, Wait_of, Kill, Release, Clone_ticket, Upgrade_now, Merge, Downgrade, Read_definition, Read_kept, Change_definition, Key_of, Tables_of, List_held, Unpin, SessionLocks}
 use Rattle.mdl_core.specs.declared.pending.Pending.{Pending}
 use Rattle.mdl_core.specs.Changes.{Change, Gain, Lose, Queue, Admit, Settle, Leave, Take_up, Alter, Fold, Redefine, seat_after, book_after, is_of_book, booked_if, after_change, next_ready, admitting_if, serving}
 unfoldable use Rattle.mdl_core.specs.Changes.{admitting_up_to}
-use Rattle.mdl_core.specs.CoreCalls.{outcome, Makes, placing, resolve_outcome, refused_or, first_cause, unpin_causes, is_full, granted_unless_full, queued_unless_full, cloning_of, upgrading_of, is_lower, downgrading_of, merging_of, held_ticket, releasing_of, polling_of, timing_out_at, timing_out_of, ending_at, ending_of, is_open_wait, wait_at, searching_of, victim_at, reading_of, redefining_of, redefining_fault, redefined_unless}
+use Rattle.mdl_core.specs.CoreCalls.{outcome, Makes, placing, replacing, resolve_outcome, refused_or, first_cause, unpin_causes, is_full, granted_unless_full, queued_unless_full, cloning_of, upgrading_of, is_lower, downgrading_of, merging_of, held_ticket, releasing_of, polling_of, timing_out_at, timing_out_of, ending_at, ending_of, is_open_wait, wait_at, searching_of, victim_at, reading_of, redefining_of, redefining_fault, redefined_unless}
 use Rattle.mdl_core.specs.CoreJoins.{locks_at}
-use Rattle.mdl_core.specs.Cores.{Core, book_at, seat_at, index_of, is_free_for, has_key, unpinning}
-use Rattle.mdl_core.specs.Determined.{Places, places_of, PlacesAfter, pins_after, PlacesAndNumbersFollow}
+use Rattle.mdl_core.specs.Cores.{Core, book_at, seat_at, index_of, is_free_for, has_key, unpinning, unused_place}
+use Rattle.mdl_core.specs.Determined.{Places, places_of, PlacesAfter, PlacesInUseKeepTheirKeys, PlacesPinsAndNumbersFollow}
 use Rattle.mdl_core.specs.Seats.{SeatView}
 use Rattle.mdl_core.specs.Ties.{IsTied}
 use Rattle.mdl_core.proofs.CallCases.{test_cases, option_cases}
-use Rattle.mdl_core.proofs.CallLaws.{core-changes, core-others, core-draws, core-others_draw}
+use Rattle.mdl_core.proofs.CallLaws.{core-changes, core-others, core-draws, core-others_draw, core-keeps_keys}
 use Rattle.mdl_core.proofs.CoreReads.{found}
-use Rattle.mdl_core.proofs.PlaceAnswers.{listed, unlisted}
+use Rattle.mdl_core.proofs.PinsFollow.{pins-follow}
+use Rattle.mdl_core.proofs.PlaceAnswers.{in_use-from, key_of-place, listed, unlisted, used-keyed}
 use Rattle.mdl_system.specs.Strength.{covers}
 
 -- ---- books that are written
@@ -218,10 +218,30 @@ module _ (a : Core) (who : ℕ) (key : KeyName) (tied : IsTied a) where
       known : (index : ℕ) → index_of key a.books ≡ Some index → Follows (placing who key (Some index) a)
       known index e = let at = found a key index e in inl (subst (Contains (places_of a).keys) at.1 (listed a (index + 1) at.0), refl)
 
+      counted : length (places_of a).keys ≡ length a.books
+      counted = length-map a.books (λ (b : BookView). b.key)
+
+      -- by the place that isn't in use, if there is one
+      instead : index_of key a.books ≡ None → nat_le a.places (length a.books) ≡ true → (o : Option ℕ) → Follows (replacing who key o a)
+      instead none all None = refl
+      instead none all (Some place) = inr (
+        unlisted a tied key none,
+        inr (
+          (let c = counted in grind (arith, nat_tests)),
+          λ i. record { keys = map-set (λ (b : BookView). b.key) a.books (place - 1) (empty_book key) i; most = a.places },
+        ),
+      )
+
       next : index_of key a.books ≡ None → Follows (placing who key None a)
       next none =
-          test_cases Follows (nat_le a.places (length a.books)) _ _ (λ all. refl)
-          (λ few. inr (unlisted a tied key none, λ i. record { keys = map-append (λ (b : BookView). b.key) a.books (empty_book key ∷ []) i; most = a.places }))
+          test_cases Follows (nat_le a.places (length a.books)) _ _ (λ all. instead none all (unused_place a))
+          (λ few. inr (
+            unlisted a tied key none,
+            inl (
+              (let c = counted in grind (arith, nat_tests)),
+              λ i. record { keys = map-append (λ (b : BookView). b.key) a.books (empty_book key ∷ []) i; most = a.places },
+            ),
+          ))
 
 refused-follows : (call : Call) (refusal : SpaceError) (before after : Places) → after ≡ before → PlacesAfter call (Refused refusal) before after
 refused-follows (Resolve who key) refusal before after same = same
@@ -236,28 +256,9 @@ call-follows a (Resolve who key) tied = resolve-follows a who key tied
 call-follows a call tied =
     other-follows call (outcome call a).0 (places_of a) (places_of (outcome call a).1) refl (places-kept a call refl)
 
--- ---- pins
-
--- a call's effect on pins is what its answer says of them
-effect-pins : (call : Call) (answer : Answer) (pins : List ℕ) → pins_by ((spec_of call).effect answer) pins ≡ pins_after call answer pins
-effect-pins (Resolve who key) (At_place place) pins = refl
-effect-pins (Unpin who place) Done pins = refl
-effect-pins (Try_now who place mode) (Granted id) pins = refl
-effect-pins (Begin_wait who place mode) (Granted id) pins = refl
-effect-pins (End_wait who) (Granted id) pins = refl
-effect-pins (Release who id) Done pins = refl
-effect-pins (Clone_ticket who id mode) (Granted copy) pins = refl
-effect-pins (Upgrade_now who id mode) Upgraded pins = refl
-effect-pins (Merge who old new) Done pins = refl
-effect-pins (Downgrade who id mode) Done pins = refl
-effect-pins _ _ pins = refl
-
-pins-follow : (call : Call) (answer : Answer) (own : SessionLocks) → (own_after call answer own).pins ≡ pins_after call answer own.pins
-pins-follow call answer own = pins-after ((spec_of call).effect answer) own ∙ effect-pins call answer own.pins
-
 -- ---- all that follows
 
-pub places-follow : PlacesAndNumbersFollow
+pub places-follow : PlacesPinsAndNumbersFollow
 places-follow a b call answer sound joins = (
   places joins.1,
   λ who has. (
@@ -278,3 +279,9 @@ places-follow a b call answer sound joins = (
         (refused-follows call OutOfMemory (places_of a) (places_of b) (ap places_of out.2))
     places (inr made) =
         subst (λ (r : Answer × Core). PlacesAfter call r.0 (places_of a) (places_of r.1)) made (call-follows a call sound.tied)
+
+-- a place in use keeps its key
+pub keys-stay : PlacesInUseKeepTheirKeys
+keys-stay a b call answer place sound joins used =
+    let keeps = core-keeps_keys a b call answer place sound.tied joins (used-keyed a place sound.tied used) (in_use-from a place sound.tied used) in
+    key_of-place b place keeps.0 ∙ ap (λ k. Some k) keeps.1 ∙ sym (key_of-place a place (used-keyed a place sound.tied used))

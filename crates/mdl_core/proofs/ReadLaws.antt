@@ -17,7 +17,7 @@ use Rattle.mdl_calls.specs.declared.space_error.SpaceError.TheVariants.{NotExclu
 use Rattle.mdl_calls.specs.declared.answers.TimedOut.TheVariants.{ByThisCall}
 use Rattle.mdl_calls.specs.Words.{Answer, Granted, Waits, Victim_is, Timed_out, Lost, Has_killed, Done, Refused, Reads, Changed, Upgraded, Call, Try_now, Begin_wait, Search, Settle_timeout, End_wait, Kill, Release, Clone_ticket, Upgrade_now, Merge, Downgrade, Read_definition, Read_kept, Change_definition, caller, HoldsAt, IsChangeOf, cause_of, is_number, ticket_held, read_under, redefined_place}
 use Rattle.mdl_core.specs.CoreJoins.{SpeaksFor, locks_at, Knows, HasRead, HasSeen, Joins}
-use Rattle.mdl_core.specs.Ties.{IsTied, in_book_of}
+use Rattle.mdl_core.specs.Ties.{IsSoundCore, in_book_of}
 use Rattle.mdl_core.specs.Changes.{Change, Gain, Lose, Queue, Admit, Settle, Leave, Take_up, Alter, Fold, Redefine, after_change, book_after, redefining_at, admitting_if, admitting_up_to, next_ready}
 use Rattle.mdl_core.specs.CoreCalls.{held_ticket, redefining_fault, redefined_unless, redefining_of}
 use Rattle.mdl_core.specs.Cores.{Core, book_at, seat_at, key_at, standing_at, has_key, has_session, booking}
@@ -27,7 +27,8 @@ use Rattle.mdl_core.specs.ChangeEvents.{IsChangeEvent, holding_of}
 use Rattle.mdl_core.specs.CoreLaws.{IsEventOf}
 use Rattle.mdl_core.proofs.KnownPlaces.{spares-opening}
 use Rattle.mdl_core.proofs.CallLaws.{joins-comes, core-fits}
-use Rattle.mdl_core.proofs.Ways.{Way, Stay, Repin, Open, Settle_wait, Make, Made, makes_room, served_if, space_by}
+use Rattle.mdl_core.proofs.TiedPlacing.{standing-none}
+use Rattle.mdl_core.proofs.Ways.{Way, Stay, Repin, Open, Replace, Settle_wait, Make, Made, makes_room, served_if, space_by}
 use Rattle.mdl_key.specs.Words.{Clashes}
 use Rattle.mdl_core.proofs.CoreGranted.{granted-of_held}
 use Rattle.mdl_system.specs.Words.{ChangeDefinition, Holding, lock_kind}
@@ -227,18 +228,21 @@ no_redefinition a (Change_definition who id change) (Changed version) ticket oth
 no_redefinition a call answer ticket change apart is = is
 
 -- by any way of such a call
-keeps-way : (a : Core) (call : Call) (answer : Answer) (way : Way) → Made a call answer way → changes_definition call ≡ false
+keeps-way : (a : Core) (call : Call) (answer : Answer) (way : Way) → IsSoundCore a → Made a call answer way → changes_definition call ≡ false
     → (other : ℕ) → has_key other a ≡ true → Keeps other a (space_by way a)
-keeps-way a call answer Stay made apart other has = (has, refl)
-keeps-way a call answer (Repin who pins) made apart other has = (has, refl)
-keeps-way a call answer (Open who key) made apart other has =
-    let knows = (spares-opening a key).keys 0 other (key_at other a) (has, refl) in
+keeps-way a call answer Stay sound made apart other has = (has, refl)
+keeps-way a call answer (Repin who pins) sound made apart other has = (has, refl)
+keeps-way a call answer (Open who key) sound made apart other has =
+    let keeps = (spares-opening a key).keys other has in
     let h = within other (length a.books) has in (
-      knows.0,
+      keeps.0,
       ap (λ (x : BookView). x.standing) (get_or_append_left a.books (empty_book key ∷ []) (empty_book global_key) (other - 1) (omega (arith, h.0, h.1))),
     )
-keeps-way a call answer (Settle_wait who place how) made apart other has = (has, refl)
-keeps-way a call answer (Make who place change) made apart other has =
+keeps-way a call answer (Replace who place key) sound made apart other has =
+    let none = standing-none a place key sound.tied made.is_way.2 made.is_way.3 made.is_way.1 sound.standing in
+    keeps-booking a place (empty_book key) made.is_way.2 (sym none) other has
+keeps-way a call answer (Settle_wait who place how) sound made apart other has = (has, refl)
+keeps-way a call answer (Make who place change) sound made apart other has =
     keeps-then other a (after_change who place change a) (space_by (Make who place change) a) (mid other has)
     (keeps-serving (makes_room change) place (after_change who place change a) (mid place key).0 other (mid other has).0)
   where
@@ -299,9 +303,9 @@ changed-at a b who id change version speaks is place has = elim (eqb_tells place
     key = held-place a who id is.ticket speaks.1.tied speaks.0 is.held
 
 -- so after each call the same stands at a place, or it was changed
-kept : (a b : Core) (call : Call) (answer : Answer) → IsTied a → Joins a call answer b → (place : ℕ) → has_key place a ≡ true
+kept : (a b : Core) (call : Call) (answer : Answer) → IsSoundCore a → Joins a call answer b → (place : ℕ) → has_key place a ≡ true
     → Keeps place a b ⊎ IsChanged a b call answer place
-kept a b (Change_definition who id change) answer tied joins place has = by answer joins
+kept a b (Change_definition who id change) answer sound joins place has = by answer joins
   where
     by : (r : Answer) → Joins a (Change_definition who id change) r b → Keeps place a b ⊎ IsChanged a b (Change_definition who id change) r place
     by (Changed version) (speaks, inl none) = let e = none.1 in cc
@@ -309,9 +313,9 @@ kept a b (Change_definition who id change) answer tied joins place has = by answ
         changed-at a b who id change version speaks (redefined-of (held_ticket who id a) change a b version made) place has
     by (Refused refusal) j = let same = (changes-tell a b who id change).1 refusal j in inl (subst (Keeps place a) (sym same) (has, refl))
     by r j = let e = core-fits a b (Change_definition who id change) r j in cc
-kept a b call answer tied joins place has =
-    let h = joins-comes a b call answer tied joins in
-    inl (subst (Keeps place a) h.leads (keeps-way a call answer h.way h.is refl place has))
+kept a b call answer sound joins place has =
+    let h = joins-comes a b call answer sound.tied joins in
+    inl (subst (Keeps place a) h.leads (keeps-way a call answer h.way sound h.is refl place has))
 
 -- ---- laws of what was read
 
@@ -332,7 +336,7 @@ exclusive-alone a w who one other speaks session apart mine theirs here exclusiv
 pub core-stands : (a b : Core) (call : Call) (answer : Answer) (w place : ℕ) (standing : VersionedDefinition) → SpeaksFor a w
     → (caller call ≡ Some w → redefined_place call answer (locks_at a w) ≡ Some place → ⊥) → HoldsAt place (locks_at b w) → Joins a call answer b
     → HasRead a w place standing → HasRead b w place standing
-core-stands a b call answer w place standing speaks other holds joins read = by (kept a b call answer speaks.1.tied joins place read.1)
+core-stands a b call answer w place standing speaks other holds joins read = by (kept a b call answer speaks.1 joins place read.1)
   where
     by : Keeps place a b ⊎ IsChanged a b call answer place → HasRead b w place standing
     by (inl same) = (holds, same.0, same.1 ∙ read.2)
@@ -349,7 +353,7 @@ core-sees a w place standing speaks read = let e = ap (λ (s : VersionedDefiniti
 -- what was seen was seen
 pub core-seen_stays : (a b : Core) (call : Call) (answer : Answer) (w place version : ℕ) → SpeaksFor a w → Joins a call answer b
     → HasSeen a w place version → HasSeen b w place version
-core-seen_stays a b call answer w place version speaks joins seen = by (kept a b call answer speaks.1.tied joins place seen.0)
+core-seen_stays a b call answer w place version speaks joins seen = by (kept a b call answer speaks.1 joins place seen.0)
   where
     by : Keeps place a b ⊎ IsChanged a b call answer place → HasSeen b w place version
     by (inl same) = let e = ap (λ (s : VersionedDefinition). s.version) same.1 in (same.0, omega (arith, e, seen.1))

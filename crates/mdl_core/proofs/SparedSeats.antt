@@ -1,15 +1,14 @@
 -- What a change in the space of one thread leaves to the sessions: seats, keys, and waits that were settled.
-use Rattle.std.proofs.Common.{◌≡◌, ◌≢◌, ◌⊎◌, ℕ, ◌-◌, Bool, true, false, not, ◌&&◌, nat_le, length, Option, Some, None, MatchOption, is_some, slice_index_or, slice_set, refl, sym, ap, subst, ◌∙◌, inl, inr, if◌then◌else◌}
+use Rattle.std.proofs.Common.{◌≡◌, ◌≢◌, ◌⊎◌, ℕ, ◌-◌, Bool, true, false, not, ◌&&◌, nat_le, length, Option, Some, None, MatchOption, is_some, slice_index_or, slice_set, refl, sym, ap, subst, ◌∙◌, inl, inr, if◌then◌else◌, arith}
 use Rattle.std.proofs.lemmas.Bool.Decides.{eqb_tells}
 use Rattle.mdl_book.specs.declared.book_view.BookView.{BookView}
-use Rattle.mdl_key.specs.Keys.{KeyName}
 use Rattle.mdl_calls.specs.declared.answers.Settled.{Settled}
 use Rattle.mdl_calls.specs.SessionLocks.{Wait}
 use Rattle.mdl_core.specs.declared.pending.Pending.{Pending}
 use Rattle.mdl_core.specs.Changes.{Change, Gain, Lose, Queue, Admit, Settle, Leave, Take_up, Alter, Fold, Redefine, May, seat_after, book_after, is_of_book, booked_if, after_change}
 use Rattle.mdl_core.specs.CoreCalls.{wait_at}
-use Rattle.mdl_core.specs.CoreJoins.{locks_at, numbers_at, Knows, IsSettledAs}
-use Rattle.mdl_core.specs.Cores.{Core, book_at, seat_at, key_at, has_key, has_session, booking, seating}
+use Rattle.mdl_core.specs.CoreJoins.{locks_at, numbers_at, IsSettledAs}
+use Rattle.mdl_core.specs.Cores.{Core, book_at, seat_at, key_at, standing_at, has_key, has_session, booking, seating}
 use Rattle.mdl_core.specs.Seats.{SeatView, locks_of_seat, numbers_of_seat, empty_seat, is_unsettled_wait, with_settled_wait}
 use Rattle.mdl_core.proofs.CoreReads.{has_key-booking, booked-same, booked-other, has_session-seating, seated-same, seated-other}
 
@@ -64,24 +63,32 @@ pub record IsLike (one other : SeatView) : Type 0 where
   pub numbers : numbers_of_seat other ≡ numbers_of_seat one
   pub settled : (how : Settled) → HasSettled one how → HasSettled other how
 
+-- a place has the key that it had, and if it had a version it has one
+abbrev pub KeepsKey : Core → Core → ℕ → Type 0
+KeepsKey a b place =
+    (has_key place b ≡ true) × (key_at place b ≡ key_at place a) × ((standing_at place a).version ≢ 0 → (standing_at place b).version ≢ 0)
+
 -- all sessions have what they had, and all places their keys
 pub record Spares (a b : Core) : Type 0 where
   pub sessions : (w : ℕ) → has_session w b ≡ has_session w a
-  pub keys : (w place : ℕ) (key : KeyName) → Knows a w place key → Knows b w place key
+  pub keys : (place : ℕ) → has_key place a ≡ true → KeepsKey a b place
   pub seats : (w : ℕ) → has_session w a ≡ true → IsLike (seat_at w a) (seat_at w b)
 
 -- where nothing happened, and from one space to a third
 pub spares-same : (a : Core) → Spares a a
 spares-same a = record {
   sessions = λ w. refl;
-  keys = λ w place key knows. knows;
+  keys = λ place has. (has, refl, λ some. some);
   seats = λ w is. record { own = refl; numbers = refl; settled = λ how settled. settled };
 }
+
+pub keeps-key_then : (a b c : Core) (place : ℕ) → KeepsKey a b place → KeepsKey b c place → KeepsKey a c place
+keeps-key_then a b c place early late = (late.0, late.1 ∙ early.1, λ some. late.2 (early.2 some))
 
 pub spares-then : (a b c : Core) → Spares a b → Spares b c → Spares a c
 spares-then a b c early late = record {
   sessions = λ w. late.sessions w ∙ early.sessions w;
-  keys = λ w place key knows. late.keys w place key (early.keys w place key knows);
+  keys = λ place has. (let h = early.keys place has in keeps-key_then a b c place h (late.keys place h.0));
   seats = λ w is. (
       let first = early.seats w is in
       let second = late.seats w (early.sessions w ∙ is) in
@@ -157,6 +164,37 @@ module _ (a : Core) (who place : ℕ) (change : Change) (may : May who place cha
       by true = (has_key-booking (seating who seat a) place other book ∙ has, told (elim (eqb_tells other place) [ inl e ↦ inl e.1 | inr e ↦ inr e.1 ]))
       by false = (has, refl)
 
+  -- and a version, if it has one
+  has_version : (c : Change) → (standing_at place a).version ≢ 0 → (book_after who (seat_at who a) c (book_at place a)).standing.version ≢ 0
+  has_version (Gain mode) some = some
+  has_version (Lose ticket) some = some
+  has_version (Queue mode) some = some
+  has_version (Admit ticket) some = some
+  has_version (Settle how) some = some
+  has_version (Leave wait) some = some
+  has_version (Take_up wait) some = some
+  has_version (Alter ticket mode) some = some
+  has_version (Fold old new) some = some
+  has_version (Redefine ticket change) some = λ e. absurd (omega (arith, e))
+
+  versions-changed : (other : ℕ) → has_key other a ≡ true → (standing_at other a).version ≢ 0 → (standing_at other b).version ≢ 0
+  versions-changed other has some = by (is_of_book change)
+    where
+      told : (other ≡ place) ⊎ (other ≢ place) → (standing_at other (booking place book (seating who seat a))).version ≢ 0
+      told (inl same) =
+          subst (λ p. (standing_at p (booking place book (seating who seat a))).version ≢ 0) (sym same)
+          (subst (λ (x : BookView). x.standing.version ≢ 0) (sym (booked-same (seating who seat a) place book may.key))
+          (has_version change (subst (λ p. (standing_at p a).version ≢ 0) same some)))
+      told (inr apart) =
+          subst (λ (x : BookView). x.standing.version ≢ 0) (sym (booked-other (seating who seat a) place other book may.key has apart)) some
+
+      by : (t : Bool) → (standing_at other (booked_if t place book (seating who seat a))).version ≢ 0
+      by true = told (elim (eqb_tells other place) [ inl e ↦ inl e.1 | inr e ↦ inr e.1 ])
+      by false = some
+
+  pub key-kept : (other : ℕ) → has_key other a ≡ true → KeepsKey a b other
+  key-kept other has = (let h = keys-changed other has in (h.0, h.1, versions-changed other has))
+
   -- a settled wait stays, until it is ended
   pub settled-changed : is_end change ≡ false → (how : Settled) → HasSettled (seat_at who a) how → HasSettled seat how
   settled-changed = by change may
@@ -178,7 +216,7 @@ module _ (a : Core) (who place : ℕ) (change : Change) (may : May who place cha
   pub spares-changing : is_end change ≡ false → locks_of_seat seat ≡ locks_at a who → numbers_of_seat seat ≡ numbers_at a who → Spares a b
   spares-changing stays same numbers = record {
     sessions = sessions-changed;
-    keys = λ w other key knows. (let h = keys-changed other knows.0 in (h.0, h.1 ∙ knows.1));
+    keys = key-kept;
     seats = λ w is. elim (eqb_tells w who) [
       | inl e ↦ subst (λ v. IsLike (seat_at v a) (seat_at v b)) (sym e.1) (subst (IsLike (seat_at who a)) (sym seat-changed) (record {
         own = same;

@@ -10,7 +10,7 @@ use Rattle.std.specs.declared.cmp.Ordering.TheVariants.{Less, Equal, Greater}
 use Rattle.std.proofs.lemmas.List.Elements.{All-cons, All-contains, All-contains_itself, All-filter, All-nil, Contains-get_or, filter_passes}
 use Rattle.std.proofs.lemmas.List.FromFn.{get_or-range_with_len, length-range_with_len}
 use Rattle.std.proofs.lemmas.List.Kept.{AllPairs-cons, AllPairs-filter}
-use Rattle.std.proofs.lemmas.Bool.{and_parts}
+use Rattle.std.proofs.lemmas.Bool.{and_parts, false≢true}
 use Rattle.mdl_key.specs.Keys.{KeyName, key_cmp, key_eq, table_key}
 use Rattle.mdl_book.specs.declared.book_view.BookView.{BookView}
 use Rattle.mdl_calls.proofs.TableLemmas.{of-table, table-of}
@@ -20,7 +20,7 @@ use Rattle.mdl_core.specs.CoreJoins.{Knows}
 use Rattle.mdl_core.specs.Cores.{Core, comes_before, has_defined_table, has_key, key_at, places_in_key_order, put_in_order, standing_at, table_places}
 use Rattle.mdl_core.specs.CoreSystems.{system_of}
 use Rattle.mdl_core.specs.Determined.{HasDefinedTable, PlaceComesBefore, ToTellTables, places_of}
-use Rattle.mdl_core.specs.Ties.{IsTied}
+use Rattle.mdl_core.specs.Ties.{AllMayStand, IsTied}
 use Rattle.mdl_core.proofs.CallCases.{test_cases}
 use Rattle.mdl_core.proofs.CoreGranted.{book_of-at}
 use Rattle.mdl_core.proofs.CoreReads.{of_within, within}
@@ -195,12 +195,18 @@ module _ (core : Core) (schema : List ℕ) where
         order-sorted core (filter (has_defined_table schema core) (range_with_len 1 (length core.books)))
         (AllPairs-filter (Differ core) (has_defined_table schema core) (range_with_len 1 (length core.books)) differ)
 
+    -- a place with a definition has a version
+    versioned : AllMayStand core → (place : ℕ) → has_key place core ≡ true → has_defined_table schema core place ≡ true
+        → (standing_at place core).version ≢ 0
+    versioned stand place has defined none =
+        false≢true (sym (ap is_some ((stand place has).unchanged none)) ∙ (and_parts (is_table_of schema (key_at place core)) _ defined).1)
+
     -- a session that is told them knows them
-    pub are-tables : (who : ℕ) → AreTablesOf (Knows core who) schema (table_places schema core)
-    are-tables who = (
+    pub are-tables : AllMayStand core → (who : ℕ) → AreTablesOf (Knows core who) schema (table_places schema core)
+    are-tables stand who = (
       all-from_members (Before core) (HasTableOf (Knows core who) schema) (table_places schema core) (λ place told. (
           let its = told-table place told in
-          ((key_at place core).table, (its.0, sym (table-of schema (key_at place core) (and_parts _ _ its.1).0))))),
+          ((key_at place core).table, (its.0, sym (table-of schema (key_at place core) (and_parts _ _ its.1).0), inr (versioned stand place its.0 its.1))))),
       λ i j d lt short key later one other. (λ t. key_cmp (sym one.1 t) (sym other.1 t)) ∙ sorted i j d lt short,
     )
 

@@ -14,7 +14,7 @@ use Rattle.mdl_core.specs.Changes.{Change, Lose, Settle, Leave, Alter, Fold, May
 use Rattle.mdl_core.specs.CoreCalls.{wait_at, is_open_wait, held_ticket}
 use Rattle.mdl_core.specs.CoreJoins.{locks_at, numbers_at, Knows}
 use Rattle.mdl_core.specs.CoreLaws.{is_change, IsEventOf}
-use Rattle.mdl_core.specs.Cores.{Core, seat_at, key_at, has_session, index_of, pinning, table_places}
+use Rattle.mdl_core.specs.Cores.{Core, seat_at, key_at, has_key, has_session, index_of, is_in_use, pinning, placing_at, table_places}
 use Rattle.mdl_core.specs.CoreSystems.{system_of}
 use Rattle.mdl_core.specs.Seats.{SeatView, locks_of_seat, numbers_of_seat, with_pin}
 use Rattle.mdl_core.specs.SessionLaws.{MeetsLimit}
@@ -24,12 +24,13 @@ use Rattle.mdl_core.proofs.SparedSeats.{HasSettled, is_end}
 
 -- ---- ways
 
--- nothing changes; the caller pins these places instead of those that it pinned; a key is given the next place, which the caller pins;
--- a session's wait is lost; or the caller makes a change of its own at a place
+-- nothing changes; the caller pins these places instead of those that it pinned; a key is given the next place, which the caller pins, or a place
+-- that isn't in use; a session's wait is lost; or the caller makes a change of its own at a place
 pub data Way : Type 0 where
   Stay : Way
   Repin : (who : ℕ) → List ℕ → Way
   Open : (who : ℕ) → KeyName → Way
+  Replace : (who place : ℕ) → KeyName → Way
   Settle_wait : (who place : ℕ) → Settled → Way
   Make : (who place : ℕ) → Change → Way
 
@@ -50,6 +51,7 @@ abbrev pub mid_by : Way → Core → Core
 mid_by Stay a = a
 mid_by (Repin who pins) a = repinning who pins a
 mid_by (Open who key) a = pinning who (length a.books + 1) (opening key a)
+mid_by (Replace who place key) a = pinning who place (placing_at place key a)
 mid_by (Settle_wait who place how) a = after_change who place (Settle how) a
 mid_by (Make who place change) a = after_change who place change a
 
@@ -63,6 +65,7 @@ abbrev pub seat_by : Way → ℕ → Core → SeatView
 seat_by (Make who place change) w a = seat_after place change (seat_at w a)
 seat_by (Repin who pins) w a = repinned pins (seat_at w a)
 seat_by (Open who key) w a = with_pin (length a.books + 1) (seat_at w a)
+seat_by (Replace who place key) w a = with_pin place (seat_at w a)
 seat_by way w a = seat_at w a
 
 -- ---- what is asked of a way
@@ -90,7 +93,7 @@ IsSo a (Settle_timeout who) (Timed_out (Already how)) b = HasSettled (seat_at wh
 IsSo a (Wait_of target) (Has_wait number) b = number ≡ option_map (λ (wait : Pending). wait.number) (wait_at target a)
 IsSo a (Kill target number) (Has_killed true) b = (wait_number (locks_at a target) ≡ Some number) × HasSettled (seat_at target b) settled_as.Killed
 IsSo a (Kill target number) (Has_killed false) b = (is_open_wait number (wait_at target a) ≡ false) × (b ≡ a)
-IsSo a (Key_of who place) (Key_is key) b = Knows b who place key
+IsSo a (Key_of who place) (Key_is key) b = (has_key place b ≡ true) × (key_at place b ≡ key)
 IsSo a (Tables_of who schema) (Tables places) b = (places ≡ table_places schema a) × (b ≡ a)
 IsSo a (List_held who) (Holds tickets) b = tickets ≡ (locks_at a who).held
 IsSo a call answer b = Unit {0}
@@ -120,6 +123,8 @@ abbrev pub IsWay : Core → Call → Answer → Way → Type 0
 IsWay a call answer Stay = is_change a call answer ≡ false
 IsWay a call answer (Repin who pins) = IsCalm a call answer who × MayPin a who pins
 IsWay a call answer (Open who key) = IsCalm a call answer who × (index_of key a.books ≡ None)
+IsWay a call answer (Replace who place key) =
+    IsCalm a call answer who × (index_of key a.books ≡ None) × (has_key place a ≡ true) × (is_in_use place a ≡ false)
 IsWay a call answer (Settle_wait who place how) = IsMade a call answer who place (Settle how)
 IsWay a call answer (Make who place change) =
     IsMade a call answer who place change × (caller call ≡ Some who) × (is_end change ≡ true → call ≡ End_wait who)

@@ -122,7 +122,7 @@ pub record May (who place : ℕ) (change : Change) (core : Core) : Type 0 where
 abbrev pub next_ticket : ℕ → Mode → Core → Ticket
 next_ticket who mode core = ticket_after who mode (seat_at who core)
 
--- the space with the next place given to a key
+-- the space with the next place given to a key, as one is left that has none
 abbrev pub opening : KeyName → Core → Core
 opening key core = record core { books = core.books ++ empty_book key ∷ [] }
 

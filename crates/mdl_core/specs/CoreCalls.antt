@@ -20,7 +20,7 @@ use Rattle.mdl_calls.specs.declared.answers.Settled.TheVariants as settled_as
 use Rattle.mdl_calls.specs.declared.answers.TimedOut.TheVariants.{ByThisCall, Already}
 use Rattle.mdl_core.specs.declared.pending.Pending.{Pending}
 use Rattle.mdl_calls.specs.Words.{Answer, Refused, Done, At_place, Granted, Would_wait, Waits, No_cycle, Victim_is, Pending as Is_pending, Is_settled, Timed_out, Lost, Has_wait, Has_killed, Holds, Reads, Changed, Key_is, Tables, Upgraded, Call, Resolve, Try_now, Begin_wait, Search, Poll_wait, Settle_timeout, End_wait, Wait_of, Kill, Release, Clone_ticket, Upgrade_now, Merge, Downgrade, Read_definition, Read_kept, Change_definition, Key_of, Tables_of, List_held, Unpin, is_number, may_merge, cause_of}
-use Rattle.mdl_core.specs.Cores.{Core, book_at, seat_at, key_at, standing_at, has_key, has_pin, has_session, index_of, is_free_for, pinning, table_places, unpinning}
+use Rattle.mdl_core.specs.Cores.{Core, book_at, seat_at, key_at, standing_at, has_key, has_pin, has_session, index_of, is_free_for, pinning, placing_at, table_places, unpinning, unused_place}
 use Rattle.mdl_core.specs.Changes.{opening, granting_to, queueing, losing, ending_granted, ending_lost, freeing, altering, folding, redefining_at, serving}
 use Rattle.mdl_core.specs.Seats.{is_unsettled_wait, is_settled_wait}
 use Rattle.mdl_system.specs.Strength.{covers, may_upgrade, may_downgrade}
@@ -50,14 +50,20 @@ is_full place core = nat_le 65535 (ticket_count (book_at place core))
 
 -- ---- places
 
--- the outcome for a key whose book has this index, or of giving it the next place: the session pins the place
+-- the outcome of giving a key a place that isn't in use, if there is one: the place loses its old key, and the session pins it
+abbrev pub replacing : ℕ → KeyName → Option ℕ → Core → Answer × Core
+replacing who key None core = (Refused NoPlace, core)
+replacing who key (Some place) core = (At_place place, pinning who place (placing_at place key core))
+
+-- the outcome for a key whose book has this index, or that has none. It then gets the next place, as long as places without a key are left, and
+-- after that the least one that isn't in use. The session pins the place.
 abbrev pub placing : ℕ → KeyName → Option ℕ → Core → Answer × Core
 placing who key (Some index) core = (At_place (index + 1), pinning who (index + 1) core)
 placing who key None core =
-    if nat_le core.places (length core.books) then (Refused NoPlace, core)
+    if nat_le core.places (length core.books) then replacing who key (unused_place core) core
     else (At_place (length core.books + 1), pinning who (length core.books + 1) (opening key core))
 
--- the outcome of resolving a key: the session pins the place that it has, or the next one
+-- the outcome of resolving a key: the session pins the place that it has, or gets
 abbrev pub resolve_outcome : ℕ → KeyName → Core → Answer × Core
 resolve_outcome who key core = placing who key (index_of key core.books) core
 

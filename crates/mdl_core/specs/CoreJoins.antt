@@ -1,5 +1,5 @@
 -- The relation of a call to the space of one thread before it and after it, and what a session has and knows there.
-use Rattle.std.specs.Prelude.{◌≡◌, ◌≤◌, ℕ, true, Some, MatchOption}
+use Rattle.std.specs.Prelude.{◌≡◌, ◌≢◌, ◌⊎◌, ◌≤◌, ℕ, true, Some, MatchOption}
 use Rattle.std.specs.Option.{IfSome}
 use Rattle.mdl_key.specs.Keys.{KeyName}
 use Rattle.mdl_defs.specs.declared.versioned_definition.VersionedDefinition.{VersionedDefinition}
@@ -7,7 +7,7 @@ use Rattle.mdl_calls.specs.declared.answers.Settled.{Settled}
 use Rattle.mdl_core.specs.declared.pending.Pending.{Pending}
 use Rattle.mdl_calls.specs.Words.{Answer, Call, caller, takes_memory, SessionLocks, Numbers, HoldsAt}
 use Rattle.mdl_core.specs.CoreCalls.{outcome, Makes, wait_at}
-use Rattle.mdl_core.specs.Cores.{Core, seat_at, has_key, has_session, key_at, standing_at}
+use Rattle.mdl_core.specs.Cores.{Core, seat_at, has_key, has_pin, has_session, key_at, standing_at}
 use Rattle.mdl_core.specs.Seats.{locks_of_seat, numbers_of_seat}
 use Rattle.mdl_core.specs.Ties.{IsSoundCore}
 
@@ -23,9 +23,10 @@ locks_at core who = locks_of_seat (seat_at who core)
 abbrev pub numbers_at : Core → ℕ → Numbers
 numbers_at core who = numbers_of_seat (seat_at who core)
 
--- every session knows the keys of all places
+-- a session knows the keys of the places that it pins, and of those that have or had a definition: such a place keeps its key
 abbrev pub Knows : Core → ℕ → ℕ → KeyName → Type 0
-Knows core who place key = (has_key place core ≡ true) × (key_at place core ≡ key)
+Knows core who place key =
+    (has_key place core ≡ true) × (key_at place core ≡ key) × ((has_pin who place core ≡ true) ⊎ ((standing_at place core).version ≢ 0))
 
 -- a session's wait is settled in this way
 abbrev pub IsSettledAs : Core → ℕ → Settled → Type 0

@@ -1,6 +1,6 @@
 -- The lock space of one thread, by place and by session.
-use Rattle.std.specs.Prelude.{ℕ, ◌-◌, Bool, ◌&&◌, nat_le, List, [], ◌∷◌, length, replicate, filter, position, slice_index_or, slice_set, Option, is_some, if◌then◌else◌}
-use Rattle.std.specs.List.{range_with_len}
+use Rattle.std.specs.Prelude.{ℕ, ◌-◌, Bool, not, ◌&&◌, ◌||◌, ◌==◌, nat_le, List, [], ◌∷◌, length, replicate, filter, find, position, slice_index_or, slice_set, Option, is_some, if◌then◌else◌}
+use Rattle.std.specs.List.{list_any, range_with_len}
 use Rattle.std.specs.Ordering.{is_lt}
 use Rattle.mdl_key.specs.declared.mode.Mode.{Mode}
 use Rattle.mdl_key.specs.Keys.{KeyName, key_eq, key_cmp, global_key}
@@ -55,6 +55,15 @@ key_at place core = (book_at place core).key
 abbrev pub standing_at : ℕ → Core → VersionedDefinition
 standing_at place core = (book_at place core).standing
 
+-- whether a place is in use: a session pins it, or its version isn't 0. A place that isn't can be given to another key: no session has anything there,
+-- and no session met a definition there.
+abbrev pub is_in_use : ℕ → Core → Bool
+is_in_use place core = list_any (λ seat. is_pinned place (locks_of_seat seat)) core.seats || not ((standing_at place core).version == 0)
+
+-- the least place that has a key and isn't in use, if there is one
+abbrev pub unused_place : Core → Option ℕ
+unused_place core = find (λ place. not (is_in_use place core)) (range_with_len 1 (length core.books))
+
 -- whether a session's request for a lock can be granted now
 abbrev pub is_free_for : ℕ → ℕ → Mode → Core → Bool
 is_free_for who place mode core =
@@ -86,6 +95,10 @@ table_places schema core = places_in_key_order core (filter (has_defined_table s
 -- the space with another book at a place
 abbrev pub booking : ℕ → BookView → Core → Core
 booking place book core = record core { books = slice_set core.books (place - 1) book }
+
+-- the space in which a place has another key, and nothing of what the old one had there
+abbrev pub placing_at : ℕ → KeyName → Core → Core
+placing_at place key core = booking place (empty_book key) core
 
 -- the space with another seat for a session
 abbrev pub seating : ℕ → SeatView → Core → Core

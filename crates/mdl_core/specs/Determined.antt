@@ -1,6 +1,6 @@
 -- The answer to each call, by the system of locks (who holds what, who waits for what, and what is defined), by the places of its
 -- keys, and by each session's pins and last numbers. The data of the space of one thread occur only in the laws at the end.
-use Rattle.std.specs.Prelude.{◌≡◌, ◌≢◌, ◌⊎◌, ◌↔◌, ℕ, zero, suc, ◌+◌, ◌-◌, ◌<◌, ◌^◌, true, false, ◌||◌, List, [], ◌∷◌, ◌++◌, length, map, slice_get, Option, Some, None, MatchOption, IsSome, Contains, AllPairs}
+use Rattle.std.specs.Prelude.{◌≡◌, ◌≢◌, ◌⊎◌, ◌↔◌, ℕ, zero, suc, ◌+◌, ◌-◌, ◌<◌, ◌≤◌, ◌^◌, true, false, ◌||◌, List, [], ◌∷◌, ◌++◌, length, map, slice_get, slice_set, Option, Some, None, MatchOption, IsSome, Contains, AllPairs}
 use Rattle.std.specs.declared.cmp.Ordering.TheVariants.{Less}
 use Rattle.mdl_key.specs.Keys.{table_key, key_cmp}
 use Rattle.mdl_key.specs.declared.mode.Mode.{Mode}
@@ -76,11 +76,34 @@ HasNothingOn system who key =
 abbrev pub ToUnpin : {D : Type 0} → System D → Places → List ℕ → ℕ → ℕ → Right
 ToUnpin system places pins who place = AtPin places pins place (λ key. RefusedUnless (HasNothingOn system who key) InUse (Only Done))
 
--- the right answers to resolving a key: the place that it has, or otherwise the next place, as long as one is left
-abbrev pub ToResolve : Places → KeyName → Right
-ToResolve places key answer =
+-- a place is in use: a session pins it, or the version of its key isn't 0
+abbrev pub IsInUse : {D : Type 0} → System D → Places → (ℕ → List ℕ) → ℕ → Type 0
+IsInUse system places pins place =
+    ((who : ℕ) × Contains (pins who) place)
+    ⊎ ((key : KeyName) × (key_of_place places place ≡ Some key) × ((system.definitions key).version ≢ 0))
+
+-- a place has a key, and isn't in use
+abbrev pub IsUnused : {D : Type 0} → System D → Places → (ℕ → List ℕ) → ℕ → Type 0
+IsUnused system places pins place = IsSome (key_of_place places place) × (IsInUse system places pins place → ⊥)
+
+-- the place is the least one that has a key and isn't in use
+abbrev pub IsLeastUnused : {D : Type 0} → System D → Places → (ℕ → List ℕ) → ℕ → Type 0
+IsLeastUnused system places pins place =
+    IsUnused system places pins place × ((other : ℕ) → IsUnused system places pins other → place ≤ other)
+
+-- the right answers to giving a key the place of another one: the least place that isn't in use, and a refusal exactly if all are
+abbrev pub ToReplace : {D : Type 0} → System D → Places → (ℕ → List ℕ) → Right
+ToReplace system places pins =
+    RefusedUnless ((place : ℕ) × IsUnused system places pins place) NoPlace
+    (λ answer. (place : ℕ) × IsLeastUnused system places pins place × (answer ≡ At_place place))
+
+-- the right answers to resolving a key: the place that it has. If it has none, the next place as long as one is left, and then that of
+-- another key.
+abbrev pub ToResolve : {D : Type 0} → System D → Places → (ℕ → List ℕ) → KeyName → Right
+ToResolve system places pins key answer =
     ((place : ℕ) × (key_of_place places place ≡ Some key) × (answer ≡ At_place place))
-    ⊎ ((Contains places.keys key → ⊥) × RefusedUnless (length places.keys < places.most) NoPlace (Only (At_place (length places.keys + 1))) answer)
+    ⊎ ((Contains places.keys key → ⊥)
+    × Where (length places.keys < places.most) (Only (At_place (length places.keys + 1))) (ToReplace system places pins) answer)
 
 -- the key of the place is that of a table of this schema, and has a definition
 abbrev pub HasDefinedTable : System Definition → Places → List ℕ → ℕ → Type 0
@@ -234,7 +257,7 @@ ToSearch system who =
 
 -- the right answers to a call
 abbrev pub Determines : System Definition → Places → (ℕ → List ℕ) → (ℕ → Numbers) → Call → Right
-Determines system places pins numbers (Resolve who key) = ToResolve places key
+Determines system places pins numbers (Resolve who key) = ToResolve system places pins key
 Determines system places pins numbers (Try_now who place mode) = ToAsk system places (pins who) (numbers who) who place mode (λ key. Only Would_wait)
 Determines system places pins numbers (Begin_wait who place mode) = ToAsk system places (pins who) (numbers who) who place mode (ToWait system (numbers who))
 Determines system places pins numbers (Search who) = ToSearch system who
@@ -276,12 +299,14 @@ AnswersAreDetermined =
     (a b : Core) (call : Call) (answer other : Answer) → IsSoundCore a → Joins a call answer b → finds_no_memory answer ≡ false →
     Determines (system_of a) (places_of a) (pins_at a) (numbers_at a) call other ↔ (other ≡ answer)
 
--- the places after a call with this answer: a key that was resolved had a place before, or has now got the next one. No other call
--- changes the places.
+-- the places after a call with this answer: a key that was resolved had a place before, or has now got the next one, or, as none was left, that of
+-- another key. No other call changes the places.
 abbrev pub PlacesAfter : Call → Answer → Places → Places → Type 0
 PlacesAfter (Resolve who key) (At_place place) before after =
     (Contains before.keys key × (after ≡ before))
-    ⊎ ((Contains before.keys key → ⊥) × (after ≡ record before { keys = before.keys ++ key ∷ [] }))
+    ⊎ ((Contains before.keys key → ⊥)
+    × (((length before.keys < before.most) × (after ≡ record before { keys = before.keys ++ key ∷ [] }))
+    ⊎ ((before.most ≤ length before.keys) × (after ≡ record before { keys = slice_set before.keys (place - 1) key }))))
 PlacesAfter _ _ before after = after ≡ before
 
 -- the pins of a call's caller after it, by those before it: a key's place that was resolved is pinned, and one that was given up isn't. No
@@ -293,11 +318,19 @@ pins_after _ _ pins = pins
 
 -- the places after a call, and each session's pins and last numbers, follow from those before it, the call and its answer. For the system,
 -- see `CallsAreEvents`.
-abbrev pub PlacesAndNumbersFollow : Type 0
-PlacesAndNumbersFollow =
+abbrev pub PlacesPinsAndNumbersFollow : Type 0
+PlacesPinsAndNumbersFollow =
     (a b : Core) (call : Call) (answer : Answer) → IsSoundCore a → Joins a call answer b →
     PlacesAfter call answer (places_of a) (places_of b)
     × ((who : ℕ) → has_session who a ≡ true →
     (caller call ≡ Some who
     → (pins_at b who ≡ pins_after call answer (pins_at a who)) × Draws call answer (numbers_at a who) (numbers_at b who))
     × ((caller call ≡ Some who → ⊥) → (pins_at b who ≡ pins_at a who) × (numbers_at b who ≡ numbers_at a who)))
+
+-- a place that is in use keeps its key at each call: one that a session pins, even if other sessions give up theirs, and one whose version
+-- isn't 0
+abbrev pub PlacesInUseKeepTheirKeys : Type 0
+PlacesInUseKeepTheirKeys =
+    (a b : Core) (call : Call) (answer : Answer) (place : ℕ) → IsSoundCore a → Joins a call answer b →
+    IsInUse (system_of a) (places_of a) (pins_at a) place →
+    key_of_place (places_of b) place ≡ key_of_place (places_of a) place

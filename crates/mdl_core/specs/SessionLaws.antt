@@ -13,7 +13,7 @@ use Rattle.mdl_calls.specs.declared.space_error.SpaceError.TheVariants.{NoPlace,
 use Rattle.mdl_calls.specs.Words.{Answer, Refused, Has_wait, Has_killed, Reads, Changed, Call, Resolve, Try_now, Begin_wait, Wait_of, Kill, Clone_ticket, Read_definition, Change_definition, Key_of, Unpin, HoldsAt, AwaitsAt, wait_number}
 use Rattle.mdl_core.specs.CoreCalls.{held_ticket}
 use Rattle.mdl_core.specs.CoreJoins.{Joins, locks_at}
-use Rattle.mdl_core.specs.Cores.{Core, book_at, seat_at, key_at, standing_at, has_key, has_pin, has_session}
+use Rattle.mdl_core.specs.Cores.{Core, book_at, seat_at, key_at, standing_at, has_key, has_pin, has_session, is_in_use}
 use Rattle.mdl_core.specs.CoreSystems.{system_of, wait_state_of}
 use Rattle.mdl_system.specs.Systems.{Unsettled, Holding, Waiter, System, Held as Holds, ListsHeld, HasNoWait}
 use Rattle.mdl_core.specs.Ties.{IsSoundCore}
@@ -133,9 +133,14 @@ HasNoRoom core place = 65535 ≤ length (book_at place core).granted + length (b
 abbrev pub HasNoNumber : Core → ℕ → Type 0
 HasNoNumber core who = 2 ^ 60 - 1 ≤ (seat_at who core).last_ticket
 
--- why there is no place: all places that there can be have other keys, or the session doesn't pin this place, or the place has no key
+-- all places that there can be have keys, and are in use
+abbrev pub AllAreInUse : Core → Type 0
+AllAreInUse core = (core.places ≤ length core.books) × ((place : ℕ) → has_key place core ≡ true → is_in_use place core ≡ true)
+
+-- why there is no place: all places that there can be have other keys and are in use, or the session doesn't pin this place, or the place has
+-- no key
 abbrev pub LacksPlace : Core → Call → Type 0
-LacksPlace core (Resolve who key) = (core.places ≤ length core.books) × IsNowhere core key
+LacksPlace core (Resolve who key) = AllAreInUse core × IsNowhere core key
 LacksPlace core (Try_now who place mode) = has_pin who place core ≡ false
 LacksPlace core (Begin_wait who place mode) = has_pin who place core ≡ false
 LacksPlace core (Unpin who place) = has_pin who place core ≡ false

@@ -1,7 +1,7 @@
 //! Laws of the lock space of one thread: its calls are events of the system of locks. Each is proved as the contract of a
 //! function that does nothing.
 ghost use Rattle.mdl_core.specs.CoreLaws.{CallsAreEvents, CallsKeepSound, GrantsWhatIsGrantable, UpgradesWhatIsGrantable, CallsLeadByEvents};
-ghost use Rattle.mdl_core.specs.Determined.{AnswersAreDetermined, PlacesAndNumbersFollow};
+ghost use Rattle.mdl_core.specs.Determined.{AnswersAreDetermined, PlacesInUseKeepTheirKeys, PlacesPinsAndNumbersFollow};
 ghost use Rattle.mdl_core.specs.SearchLaws.{SearchesFindDeadlocks, SearchesSuffice, SearchesLeaveNoDeadlock, OnlyNewWaitsMakeDeadlocks, SearchingEndsDeadlocks, WaitingLeavesNoDeadlock};
 
 /// A call changes nothing in the system of locks, or it is an event there. After the event waiters of its key are granted, each
@@ -24,8 +24,13 @@ pub fn answers_are_determined()
 
 /// The places of the keys, and the pins and the last numbers of sessions after a call follow from those before it, the call and its
 /// answer.
-pub fn places_and_numbers_follow()
-    ensures { PlacesAndNumbersFollow }
+pub fn places_pins_and_numbers_follow()
+    ensures { PlacesPinsAndNumbersFollow }
+{}
+
+/// No call takes its key from a place that a session pins, nor from one whose version isn't 0.
+pub fn places_in_use_keep_their_keys()
+    ensures { PlacesInUseKeepTheirKeys }
 {}
 
 /// A lock is granted at once exactly if the request for it is grantable.

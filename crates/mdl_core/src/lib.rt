@@ -36,9 +36,10 @@ mod session_laws;
 
 pub use core_laws::{
     answers_are_determined, calls_are_events, calls_keep_sound, calls_lead_by_events,
-    grants_what_is_grantable, only_new_waits_make_deadlocks, places_and_numbers_follow,
-    searches_find_deadlocks, searches_leave_no_deadlock, searches_suffice,
-    searching_ends_deadlocks, upgrades_what_is_grantable, waiting_leaves_no_deadlock,
+    grants_what_is_grantable, only_new_waits_make_deadlocks, places_in_use_keep_their_keys,
+    places_pins_and_numbers_follow, searches_find_deadlocks, searches_leave_no_deadlock,
+    searches_suffice, searching_ends_deadlocks, upgrades_what_is_grantable,
+    waiting_leaves_no_deadlock,
 };
 pub use mdl_calls::NewError;
 pub use pending::Pending;

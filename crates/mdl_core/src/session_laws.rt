@@ -27,8 +27,8 @@ pub fn changes_tell_the_version()
     ensures { ChangesTellTheVersion }
 {}
 
-/// A call is refused with `NoPlace` only if the session doesn't pin its place, or the place has no key, or no place is left for a new
-/// key, and with `InUse` only if the session has a ticket or a wait at the place. It is refused because no version, no room in the
+/// A call is refused with `NoPlace` only if the session doesn't pin its place, or the place has no key, or every place has another key
+/// and is in use, and with `InUse` only if the session has a ticket or a wait at the place. It is refused because no version, no room in the
 /// lock or no number is left only if that limit is reached.
 pub fn refuses_for_cause()
     ensures { RefusesForCause }

@@ -2,6 +2,8 @@ pub mod DeadlockLemmas
 pub mod DefinitionLemmas
 pub mod KnownKeyLemmas
 pub mod ModeLemmas
+pub mod PinCountLemmas
+pub mod PlaceLemmas
 pub mod SearchLemmas
 pub mod ServingLemmas
 pub mod SettledLemmas

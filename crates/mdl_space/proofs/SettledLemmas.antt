@@ -1,7 +1,7 @@
 -- Where no wait is settled.
-use Rattle.std.proofs.Common.{◌≡◌, ℕ, ◌-◌, ◌<◌, ◌≤◌, Bool, true, false, cond, List, length, refl, ap, arith}
+use Rattle.std.proofs.Common.{◌≡◌, ℕ, zero, suc, ◌-◌, ◌<◌, ◌≤◌, Bool, true, false, cond, List, length, replicate, refl, sym, ap, ◌∙◌, arith}
 use Rattle.std.specs.Prelude.{slice_index_or, slice_set}
-use Rattle.std.proofs.lemmas.List.Sums.{get_or-le-sum_by, sum_by-set}
+use Rattle.std.proofs.lemmas.List.Sums.{get_or-le-sum_by, sum_by-cons, sum_by-set}
 use Rattle.mdl_core.specs.CoreCalls.{has_settled}
 use Rattle.mdl_core.specs.Words.{SeatView, Core, empty_seat, seat_at, has_session, is_settled_wait}
 use Rattle.mdl_space.specs.SettledWaits.{settled_waits}
@@ -34,3 +34,11 @@ settled-kept seats index old new lt there same =
     let before : weight (slice_index_or seats index old) ≡ weight old = ap weight there in
     let after : weight new ≡ weight old = ap (λ wait. cond (is_settled_wait wait) 1 0) same in
     omega (arith, sums, before, after)
+
+-- at first none is settled
+pub settled-first : (sessions : ℕ) (seats : List SeatView) → seats ≡ replicate sessions empty_seat → 0 ≡ settled_waits seats
+settled-first sessions seats new = sym (ap settled_waits new ∙ none sessions)
+  where
+    none : (n : ℕ) → settled_waits (replicate n empty_seat) ≡ 0
+    none zero = refl
+    none (suc n) = let others = none n in let one = sum_by-cons weight empty_seat (replicate n empty_seat) in omega (arith, one, others)

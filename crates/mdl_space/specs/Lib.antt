@@ -19,5 +19,7 @@ pub use Rattle.mdl_system.specs.Strength
 pub use Rattle.mdl_system.specs.Systems
 pub mod Blocking
 pub mod CoreMembers
+pub mod GivenPlaces
 pub mod KnownKeys
+pub mod PinCounts
 pub mod SettledWaits

@@ -8,6 +8,7 @@ ghost use Rattle.mdl_system.specs.Strength.{covers};
 ghost use Rattle.mdl_core.specs.Words.{empty_core, book_at, has_key, has_session, seat_at, first_cause, request_causes, clone_causes, list_held_outcome, key_of_outcome, resolve_outcome, try_now_outcome, begin_wait_outcome, search_deadlock_outcome, poll_wait_outcome, settle_timeout_outcome, end_wait_outcome, wait_of_outcome, kill_outcome, release_outcome, granted_unless_full, clone_ticket_outcome, Makes, SpeaksFor, ending_lost, freeing, serving};
 ghost use Rattle.mdl_calls.specs.Words.{are_rising, new_fault, Has_wait, Has_killed, keyed, placed, attempted, begun, searched, polled, timed_out, ended, done, cloned, listed};
 
+use crate::core_space::pins::no_pins;
 use crate::granting::{give, is_free, queue};
 use crate::seat::Seat;
 use crate::{
@@ -34,15 +35,18 @@ pub struct CoreSpace {
     seats: Vec<Seat>,
     // How many seats have a settled wait.
     settled: usize,
+    // By place, how many seats pin it, and 0 for place 0. So the search for an unused place looks at no seat.
+    pinned: Vec<u16>,
     places: usize,
 }
 
 impl Model for CoreSpace {
-    ghost use Rattle.std.specs.Prelude.{◌≡◌, ◌≤◌, length};
+    ghost use Rattle.std.specs.Prelude.{◌≡◌, ◌+◌, ◌≤◌, length};
     ghost use Rattle.std.specs.Vec.{vec_capacity};
     ghost use Rattle.mdl_key.specs.Words.{most_places, most_sessions};
     ghost use Rattle.mdl_core.specs.Cores.{Core};
     ghost use Rattle.mdl_space.specs.KnownKeys.{TellsPlaces};
+    ghost use Rattle.mdl_space.specs.PinCounts.{CountsPins};
     ghost use Rattle.mdl_space.specs.SettledWaits.{settled_waits};
 
     ghost Value = { Core };
@@ -56,6 +60,8 @@ impl Model for CoreSpace {
       known : TellsPlaces space.known.entries space.books.items;
       sessions : length space.seats.items ≤ most_sessions;
       settled : space.settled ≡ settled_waits space.seats.items;
+      counts : length space.pinned.items ≡ space.places + 1;
+      pinned : CountsPins space.pinned.items space.seats.items;
     } };
 }
 
@@ -79,6 +85,9 @@ impl CoreSpace {
         if books.reserve(usize::from(places)).is_err() {
             return Err(NewError::OutOfMemory);
         }
+        let Ok(pinned) = no_pins(alloc, places) else {
+            return Err(NewError::OutOfMemory);
+        };
         let mut seats = Vec::new(alloc);
         for _session in 0..sessions {
             if seats.push(Seat::new(alloc)).is_err() {
@@ -91,6 +100,7 @@ impl CoreSpace {
             known: HashMap::new(alloc),
             seats,
             settled: 0,
+            pinned,
             places: usize::from(places),
         })
     }
@@ -117,36 +127,36 @@ impl CoreSpace {
         self.books.as_slice()
     }
 
-    /// Returns the place of a key, which is the next free one if the key is new. The session pins it.
+    /// Returns how many places have a key: those from 1 to this number. It takes no memory.
+    pub fn place_count(&self) -> Place
+        ensures { result ≡ length self.now.books }
+    {
+        self.books.len() as Place
+    }
+
+    /// Returns the place of a key, which the session then pins.
+    ///
+    /// A key that has no place gets the next one. Once every place has a key, it gets the least place that isn't in use, and the key that was
+    /// there has no place any more. A place is in use while a session pins it, and for good once its key had a definition. Fails with
+    /// [`SpaceError::NoPlace`] if every place is in use.
     pub(crate) fn resolve(&mut self, who: u16, key: &Key) -> Result<Place, SpaceError>
-        requires { has_session who self.old ≡ true }
+        requires { SpeaksFor self.old who }
         ensures { Makes true (resolve_outcome who key.now) self.old (placed result) self.new }
     {
-        // With a mark for each place of the space, and an unused one for 0, a session's later pins take no memory.
-        let marks = self.places + 1;
-        let seat = &mut self.seats[usize::from(who) - 1];
         if let Some(place) = self.known.get(key) {
-            seat.pin(*place, marks)?;
-            return Ok(*place);
+            let place = *place;
+            self.pin(who, place)?;
+            return Ok(place);
         }
-        if self.books.len() >= self.places {
+        if self.books.len() < self.places {
+            let place = self.place_count() + 1;
+            self.give_place(who, place, key)?;
+            return Ok(place);
+        }
+        let Some(place) = self.unused_place() else {
             return Err(SpaceError::NoPlace);
-        }
-        let Ok(name) = key.clone() else {
-            return Err(SpaceError::OutOfMemory);
         };
-        let Ok(key) = key.clone() else {
-            return Err(SpaceError::OutOfMemory);
-        };
-        let place = self.books.len() as Place + 1;
-        if self.known.insert(name, place).is_err() {
-            return Err(SpaceError::OutOfMemory);
-        }
-        if seat.pin(place, marks).is_err() {
-            self.known.remove(&key);
-            return Err(SpaceError::OutOfMemory);
-        }
-        self.books.push(Book::new(self.alloc, key)).unwrap();
+        self.give_place(who, place, key)?;
         Ok(place)
     }
 
@@ -164,7 +174,7 @@ impl CoreSpace {
         }
     }
 
-    /// Grants a lock at a place that the session pins, if it can be granted now.
+    /// Grants a session a lock, if it can be granted now. Fails with [`SpaceError::NoPlace`] unless the session pins the place.
     pub(crate) fn try_now(
         &mut self,
         who: u16,
@@ -186,7 +196,8 @@ impl CoreSpace {
         }
     }
 
-    /// Grants a lock at a place that the session pins, or begins a wait for it if it can't be granted now.
+    /// Grants a session a lock, or begins its wait for it if it can't be granted now. Fails with [`SpaceError::NoPlace`] unless the session
+    /// pins the place.
     pub(crate) fn begin_wait(
         &mut self,
         who: u16,
@@ -461,6 +472,7 @@ mod deadlocks;
 mod definitions;
 mod modes;
 mod pins;
+mod places;
 mod serving;
 mod settling;
 mod tables;

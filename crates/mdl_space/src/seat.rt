@@ -1,5 +1,5 @@
 //! What a lock space keeps of one session.
-ghost use Rattle.std.specs.Prelude.{◌≡◌, ℕ, ◌+◌, ◌<◌, ◌^◌, ◌||◌, ◌==◌, find, position, Some, None, IsTrue, OnOk, OnErr, IsOkUnless};
+ghost use Rattle.std.specs.Prelude.{◌≡◌, ℕ, ◌+◌, ◌<◌, ◌^◌, ◌||◌, ◌==◌, find, position, not, Some, None, IsTrue, IfOk, OnOk, OnErr, IsOkUnless};
 ghost use Rattle.std.specs.List.{list_any};
 ghost use Rattle.mdl_key.specs.declared.mode.Mode.{Mode};
 ghost use Rattle.mdl_calls.specs.SessionLocks.{are_rising, is_number, is_pinned};
@@ -128,18 +128,21 @@ impl Seat {
         }
     }
 
-    /// Pins a place, unless it is pinned already. The first pin makes room for this many marks, one for each place from 0 on.
-    pub(crate) fn pin(&mut self, place: Place, marks: usize) -> Result<(), SpaceError>
+    /// Pins a place, unless it is pinned already. Returns whether the pin is new. The first pin makes room for this many marks, one for
+    /// each place from 0 on.
+    pub(crate) fn pin(&mut self, place: Place, marks: usize) -> Result<bool, SpaceError>
         requires { place < marks }
         ensures pinned { OnOk result (self.new ≡ with_pin place self.old) }
+        ensures told { IfOk result (λ is_new. is_new ≡ not (is_pinned place (locks_of_seat self.old))) }
         ensures unchanged { OnErr result (self.new ≡ self.old) }
         ensures memory { IsOkUnless result SpaceError.OutOfMemory }
     {
+        let is_new = !self.pins.contains(usize::from(place));
         if self.pins.reserve(marks).is_err() {
             return Err(SpaceError::OutOfMemory);
         }
         self.pins.insert(usize::from(place));
-        Ok(())
+        Ok(is_new)
     }
 
     /// Gives up the pin of a place, if it is pinned. It takes no memory.

@@ -1,28 +1,49 @@
-//! Pinned places, and how a session gives one up.
-ghost use Rattle.std.specs.Prelude.{◌≡◌, MatchResult, None, Some, false, true};
+//! Pinned places: how a session pins one, and gives it up.
+ghost use Rattle.std.specs.Prelude.{◌≡◌, ◌+◌, ◌≤◌, IfOk, IsOkUnless, MatchResult, None, OnErr, OnOk, Some, false, replicate, true};
 ghost use Rattle.mdl_calls.specs.Words.{done};
-ghost use Rattle.mdl_core.specs.Words.{Makes, SpeaksFor, first_cause, has_key, has_pin, has_session, unpin_causes, unpin_outcome};
+ghost use Rattle.mdl_core.specs.Words.{Makes, SpeaksFor, first_cause, has_key, has_pin, has_session, pinning, unpin_causes, unpin_outcome};
 
 use crate::core_space::CoreSpace;
 use crate::{Place, SpaceError};
+use std::alloc::{AllocError, Global};
 
 impl CoreSpace {
-    /// Gives up a session's pin of a place, unless it has a ticket or a wait there. It takes no memory.
+    /// Pins a place for a session.
+    pub(crate) fn pin(&mut self, who: u16, place: Place) -> Result<(), SpaceError>
+        requires session { has_session who self.old ≡ true }
+        requires place { place ≤ self.old.places }
+        ensures pinned { OnOk result (self.new ≡ pinning who place self.old) }
+        ensures unchanged { OnErr result (self.new ≡ self.old) }
+        ensures memory { IsOkUnless result SpaceError.OutOfMemory }
+    {
+        let seat = &mut self.seats[usize::from(who) - 1];
+        if seat.pin(place, self.pinned.len())? {
+            self.pinned[usize::from(place)] += 1;
+        }
+        Ok(())
+    }
+
+    /// Gives up a session's pin of a place. It takes no memory.
+    ///
+    /// Fails with [`SpaceError::NoPlace`] if the session doesn't pin the place, and with [`SpaceError::InUse`] if it has a ticket or a wait
+    /// there. The place keeps its key until it is given to another one by [`CoreSpace::resolve`].
     pub(crate) fn unpin(&mut self, who: u16, place: Place) -> Result<(), SpaceError>
         requires { has_session who self.old ≡ true }
         ensures { Makes false (unpin_outcome who place) self.old (done result) self.new }
     {
         self.check_unpin(who, place)?;
         self.seats[usize::from(who) - 1].unpin(place);
+        self.pinned[usize::from(place)] -= 1;
         Ok(())
     }
 
     /// Checks that a session pins a place, and has no ticket and no wait there.
     fn check_unpin(&self, who: u16, place: Place) -> Result<(), SpaceError>
         requires { has_session who self.now ≡ true }
-        ensures { MatchResult result
+        ensures refused { MatchResult result
             (λ _. first_cause (unpin_causes who place self.now) ≡ None)
             (λ e. first_cause (unpin_causes who place self.now) ≡ Some e) }
+        ensures pinned { OnOk result (has_pin who place self.now ≡ true) }
     {
         let seat = &self.seats[usize::from(who) - 1];
         if !seat.has_pin(place) {
@@ -34,12 +55,19 @@ impl CoreSpace {
         Ok(())
     }
 
-    /// Whether a session pins a place, which then has a key.
-    pub(crate) fn has_pin(&self, who: u16, place: Place) -> bool
+    /// Whether a session pins a place, which then has a key. It takes no memory.
+    pub fn has_pin(&self, who: u16, place: Place) -> bool
         requires { SpeaksFor self.now who }
         ensures pinned { result ≡ has_pin who place self.now }
         ensures key { result ≡ true → has_key place self.now ≡ true }
     {
         self.seats[usize::from(who) - 1].has_pin(place)
     }
+}
+
+/// Returns the counts of a space in which no session pins a place: one for each place, and one for place 0.
+pub(crate) fn no_pins(alloc: Global, places: u16) -> Result<Vec<u16>, AllocError>
+    ensures { IfOk result (λ counts. counts.items ≡ replicate (places + 1) 0) }
+{
+    vec![in alloc; 0; usize::from(places) + 1]
 }

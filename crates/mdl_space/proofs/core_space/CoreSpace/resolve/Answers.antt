@@ -1,39 +1,45 @@
--- The key is known with its place from now on; or it is taken out again, if there is no memory for the pin. No wait is settled by a pin.
-use Rattle.std.proofs.Common.{rules, ◌≡◌, ◌+◌, ◌-◌, None, Some, cond, length}
-use Rattle.std.specs.Map.{lookup}
-use Rattle.mdl_key.specs.Keys.{KeyName, key_eq}
-use Rattle.mdl_space.proofs.KnownKeyLemmas.{none_more_known, one_more_known}
-use Rattle.mdl_space.proofs.SettledLemmas.{settled-kept}
+-- A new key gets the next place, which nobody pins, or one that isn't in use.
+use Rattle.std.proofs.Common.{rules, ◌≡◌, ◌≤◌, ◌+◌, None, Some, length, inr, ap, ◌∙◌, arith}
+use Rattle.mdl_core.specs.Cores.{Core, index_of, unused_place}
+use Rattle.mdl_space.specs.GivenPlaces.{some_session_pins}
+use Rattle.mdl_space.proofs.PlaceLemmas.{given-anew, next-unpinned, unused-told, unused-unpinned}
 use Rattle.mdl_space.proofs.core_space.CoreSpace.resolve.Goals as goal
 
-pub invariant_of-self-then-is_err-2 : goal.invariant_of-self-then-is_err-2
-invariant_of-self-then-is_err-2 c =
-    let key = c.args.key.now in
-    let before = c.self.inside.known.entries in
-    let after = c.insert.new.self.entries in
-    let back = c.remove.new.self.entries in
-    let books = c.self.inside.books.items in
-    let seats = c.self.inside.seats.items in
-    let seat = c.index_mut-seat.result.now in
-    let new : lookup (key_eq key) before ≡ None = search rules in
-    let put : (q : KeyName) → lookup (key_eq q) after ≡ cond (key_eq key q) (Some (length books + 1)) (lookup (key_eq q) before) = search rules in
-    let taken : (q : KeyName) → lookup (key_eq q) back ≡ cond (key_eq key q) None (lookup (key_eq q) after) = search rules in
-    let told = none_more_known before after back books key (length books + 1) c.self.invariant.known new put taken in
-    let same : c.pin-2.new.self.wait ≡ seat.wait = search rules in
-    let settled = settled-kept seats (c.from.result - 1) seat c.pin-2.new.self (search rules) (search rules) same in
-    search (rules, told, settled)
+pub give_place-requires-clause-unused : goal.give_place-requires-clause-unused
+give_place-requires-clause-unused c =
+    let core : Core = c.args.self.now in
+    let next : c.place_count-place.result + 1 ≡ length core.books + 1 = search rules in
+    ap (λ place. some_session_pins place core) next ∙ next-unpinned core c.requires.1.tied
 
-pub invariant_of-self-2 : goal.invariant_of-self-2
-invariant_of-self-2 c =
-    let key = c.args.key.now in
-    let before = c.self.inside.known.entries in
-    let after = c.insert.new.self.entries in
-    let books = c.self.inside.books.items in
-    let seats = c.self.inside.seats.items in
-    let seat = c.index_mut-seat.result.now in
-    let new : lookup (key_eq key) before ≡ None = search rules in
-    let put : (q : KeyName) → lookup (key_eq q) after ≡ cond (key_eq key q) (Some (length books + 1)) (lookup (key_eq q) before) = search rules in
-    let told = one_more_known before after books key c.self.invariant.known new put in
-    let same : c.pin-2.new.self.wait ≡ seat.wait = search rules in
-    let settled = settled-kept seats (c.from.result - 1) seat c.pin-2.new.self (search rules) (search rules) same in
-    search (rules, told, settled)
+pub give_place-requires-2-clause-least : goal.give_place-requires-2-clause-least
+give_place-requires-2-clause-least c =
+    let found : unused_place c.args.self.now ≡ Some c.in-Some-unused_place.place = search rules in
+    (unused-told c.args.self.now c.in-Some-unused_place.place found).0
+
+pub give_place-requires-2-clause-most : goal.give_place-requires-2-clause-most
+give_place-requires-2-clause-most c =
+    let found : unused_place c.args.self.now ≡ Some c.in-Some-unused_place.place = search rules in
+    let most = (unused-told c.args.self.now c.in-Some-unused_place.place found).1 in
+    omega (arith, most)
+
+pub give_place-requires-2-clause-places : goal.give_place-requires-2-clause-places
+give_place-requires-2-clause-places c =
+    let core : Core = c.args.self.now in
+    let found : unused_place core ≡ Some c.in-Some-unused_place.place = search rules in
+    let most = (unused-told core c.in-Some-unused_place.place found).1 in
+    let fewest : length core.books ≤ core.places = search rules in
+    omega (arith, most, fewest)
+
+pub give_place-requires-2-clause-unused : goal.give_place-requires-2-clause-unused
+give_place-requires-2-clause-unused c =
+    let core : Core = c.args.self.now in
+    let found : unused_place core ≡ Some c.in-Some-unused_place.place = search rules in
+    unused-unpinned core c.in-Some-unused_place.place (unused-told core c.in-Some-unused_place.place found).2
+
+pub returns : goal.returns
+returns c =
+    let core : Core = c.args.self.now in
+    let found : unused_place core ≡ Some c.in-Some-unused_place.place = search rules in
+    let none : index_of c.args.key.now core.books ≡ None = search rules in
+    let full : core.places ≤ length core.books = search rules in
+    inr (given-anew core c.give_place-2.new.self c.args.who c.args.key.now c.in-Some-unused_place.place none full found c.in_ok-give_place-2.ensures.given)
