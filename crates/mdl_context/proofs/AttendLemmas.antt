@@ -17,11 +17,10 @@ use Rattle.mdl_context.specs.declared.kept.Kept.{Kept}
 use Rattle.mdl_context.specs.declared.kept.Wanted.{Wanted}
 use Rattle.mdl_context.specs.Contexts.{ContextView, Attends, IsAwaited, Serves, held_of, place_known, is_known_place, wish_there}
 use Rattle.mdl_context.specs.Holdings.{with_wanted}
-use Rattle.mdl_context.specs.MemoryLaws.{unpins}
 use Rattle.mdl_context.specs.Wishes.{Wish}
 use Rattle.mdl_context.specs.Requests.{remembering, keeping_ticket, awaiting}
 use Rattle.mdl_context.specs.Waits.{without_wait}
-use Rattle.mdl_context.proofs.PinLemmas.{PinsStay, pins-rest, pins-same}
+use Rattle.mdl_context.proofs.PinLemmas.{PinsStay, pins-rest, pins-same, unpins}
 use Rattle.mdl_context.proofs.ServingLemmas.{serves-changed, serves-gaining, serves-waiting, serves-ending, serves-winning}
 
 -- to ask for the place of a key changes no ticket and no wait

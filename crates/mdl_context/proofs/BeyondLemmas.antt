@@ -6,7 +6,7 @@ use Rattle.std.proofs.lemmas.Bool.Decides.{nat_tests}
 use Rattle.mdl_key.specs.declared.mode.Duration.{Duration}
 use Rattle.mdl_key.specs.declared.mode.Duration.TheVariants.{Statement, Transaction}
 use Rattle.mdl_key.specs.Keys.{KeyName}
-use Rattle.mdl_calls.specs.Words.{Answer, Call, SessionLocks, IsRising, is_number, holds, giving_up, Program, Runs, Give}
+use Rattle.mdl_calls.specs.Words.{Answer, Done, Call, Release, SessionLocks, IsRising, is_number, holds, giving_up, Ask, Program, Runs}
 use Rattle.mdl_calls.proofs.RunLemmas.{runs_bind}
 use Rattle.mdl_context.specs.declared.context_error.ContextError.{ContextError}
 use Rattle.mdl_context.specs.declared.kept.Kept.{Kept}
@@ -18,7 +18,9 @@ use Rattle.mdl_context.specs.Contexts.{ContextView, held_of, lasts, tickets_for,
 use Rattle.mdl_context.specs.Holdings.{without_number}
 use Rattle.mdl_context.specs.Releases as releases
 use Rattle.mdl_context.specs.Requests.{Outcome}
+use Rattle.mdl_context.specs.Tidying.{tidied, tidying, unneeded, unpinning_all}
 use Rattle.mdl_context.proofs.FrontLemmas.{Above, front, left-beyond, statement-gone, without-both}
+use Rattle.mdl_context.proofs.TidyLemmas.{run-tidied}
 
 -- the numbers of what a context keeps rise
 pub rising-kept : (own : SessionLocks) (context : ContextView) → IsRising own → Serves own context → AreRising context.kept
@@ -107,6 +109,20 @@ serves-without id own then before after serves gone left still = record {
 pub no-wait : (context : ContextView) → is_some context.wait ≡ false → releases.waiting_fault context ≡ None
 no-wait context idle = rw idle
 
+-- without those of the statement and then those of the transaction, beyond a mark
+pub kept-since : (mark : Mark) (before between after : ContextView) → AreRising before.kept
+    → between ≡ record before { kept = without_tickets (beyond Statement mark.statement before.kept) before.kept }
+    → after ≡ record between { kept = without_tickets (beyond Transaction mark.transaction between.kept) between.kept }
+    → after ≡ record before { kept = without_tickets (beyond_mark mark before.kept) before.kept }
+kept-since mark before between after rising left_first left_second =
+    let gone = beyond Statement mark.statement before.kept in
+    let then_gone = beyond Transaction mark.transaction before.kept in
+    let left = without_tickets gone before.kept in
+    let same : beyond Transaction mark.transaction left ≡ then_gone = ap (drop mark.transaction) (statement-gone mark.statement before.kept rising) in
+    let end : after ≡ record before { kept = without_tickets (beyond Transaction mark.transaction left) left } = rw left_first at left_second in
+    end ∙ ap (λ (kept : List Kept). let context : ContextView = record before { kept = kept } in context)
+    (ap (λ xs. without_tickets xs left) same ∙ sym (without-both gone then_gone before.kept))
+
 -- ---- runs
 
 module _ {S : Type 0} (joins : S → Call → Answer → S → Type 0) where
@@ -116,12 +132,14 @@ module _ {S : Type 0} (joins : S → Call → Answer → S → Type 0) where
   run-both who [] ys a mid b (same, here) rest = subst (λ s. Runs joins s (releases.releasing_all who ys) tt b) (sym here) rest
   run-both who (x ∷ xs) ys a mid b (answer, after, step, run) rest = (answer, after, step, run-both who xs ys after mid b run rest)
 
-  -- and then the context keeps the others
-  pub run-given-up : (gone : List Kept) (before after : ContextView) (a b : S) → Runs joins a (releases.releasing_all before.who gone) tt b
-      → after ≡ record before { kept = without_tickets gone before.kept } → Runs joins a (releases.releasing_tickets gone before) (Ok tt, after) b
-  run-given-up gone before after a b run left =
-      runs_bind joins (releases.releasing_all before.who gone) (λ _. Give (Ok tt, record before { kept = without_tickets gone before.kept })) a b b tt (Ok tt, after) run
-      (ap (λ context. (Ok tt, context)) (sym left), refl)
+  -- and then the context keeps the others, and lets go of the places where it has nothing
+  pub run-given-up : (gone : List Kept) (before left after : ContextView) (a mid b : S) → Runs joins a (releases.releasing_all before.who gone) tt mid
+      → left ≡ record before { kept = without_tickets gone before.kept } → Runs joins mid (unpinning_all left.who (unneeded left)) tt b
+      → after ≡ tidied left → Runs joins a (releases.releasing_tickets gone before) (Ok tt, after) b
+  run-given-up gone before left after a mid b run is tidy end =
+      let then_left : ContextView = record before { kept = without_tickets gone before.kept } in
+      runs_bind {A = Unit {0}} {B = Outcome (Unit {0})} joins (releases.releasing_all before.who gone) (λ _. tidying (Ok tt, then_left)) a mid b tt (Ok tt, after) run
+      (subst (λ (context : ContextView). Runs joins mid (tidying (Ok tt, context)) (Ok tt, after) b) is (run-tidied joins (Ok tt) left after mid b tidy end))
 
   -- the same as tickets behind so many
   pub run-as : (who : ℕ) (gone going : List Kept) (a b : S) → gone ≡ going → Runs joins a (releases.releasing_all who gone) tt b → Runs joins a (releases.releasing_all who going) tt b
@@ -132,24 +150,30 @@ module _ {S : Type 0} (joins : S → Call → Answer → S → Type 0) where
   run-none who going a none = rw none (refl, refl)
 
   -- of the statement, and then of the transaction
-  pub run-since : (mark : Mark) (before between after : ContextView) (a mid b : S) → AreRising before.kept
+  pub run-since : (mark : Mark) (before between : ContextView) (a mid b : S) → AreRising before.kept
       → Runs joins a (releases.releasing_all before.who (newest_first (beyond Statement mark.statement before.kept))) tt mid
       → between ≡ record before { kept = without_tickets (beyond Statement mark.statement before.kept) before.kept }
       → Runs joins mid (releases.releasing_all between.who (newest_first (beyond Transaction mark.transaction between.kept))) tt b
-      → after ≡ record between { kept = without_tickets (beyond Transaction mark.transaction between.kept) between.kept }
-      → Runs joins a (releases.releasing_tickets (beyond_mark mark before.kept) before) (Ok tt, after) b
-  run-since mark before between after a mid b rising first left_first second left_second =
+      → Runs joins a (releases.releasing_all before.who (beyond_mark mark before.kept)) tt b
+  run-since mark before between a mid b rising first left_first second =
       let gone = beyond Statement mark.statement before.kept in
       let then_gone = beyond Transaction mark.transaction before.kept in
       let left = without_tickets gone before.kept in
       let same : beyond Transaction mark.transaction left ≡ then_gone = ap (drop mark.transaction) (statement-gone mark.statement before.kept rising) in
       let second_run : Runs joins mid (releases.releasing_all before.who (newest_first (beyond Transaction mark.transaction left))) tt b = rw left_first at second in
-      let end : after ≡ record before { kept = without_tickets (beyond Transaction mark.transaction left) left } = rw left_first at left_second in
-      run-given-up (newest_first gone ++ newest_first then_gone) before after a b
-      (run-both before.who (newest_first gone) (newest_first then_gone) a mid b first (run-as before.who _ (newest_first then_gone) mid b (ap newest_first same) second_run))
-      (end ∙ ap (λ (kept : List Kept). let context : ContextView = record before { kept = kept } in context) (ap (λ xs. without_tickets xs left) same ∙ sym (without-both gone then_gone before.kept)))
+      run-both before.who (newest_first gone) (newest_first then_gone) a mid b first (run-as before.who _ (newest_first then_gone) mid b (ap newest_first same) second_run)
 
   -- what isn't refused is done
   pub run-unless : {A : Type 0} (fault : Option ContextError) (context : ContextView) (program : Program (Outcome A)) (a b : S) (reply : Outcome A) → fault ≡ None
       → Runs joins a program reply b → Runs joins a (releases.unless fault context program) reply b
   run-unless fault context program a b reply none run = rw none run
+
+  -- a ticket is released, and then the context lets go of the places where it has nothing
+  pub run-released : (id : ℕ) (before left after : ContextView) (a mid b : S) → has_number before.kept id ≡ true → is_some before.wait ≡ false
+      → joins a (Release before.who id) Done mid → left ≡ record before { kept = without_number id before.kept }
+      → Runs joins mid (unpinning_all left.who (unneeded left)) tt b → after ≡ tidied left → Runs joins a (releases.releasing id before) (Ok tt, after) b
+  run-released id before left after a mid b held idle step is tidy end =
+      let then_left : ContextView = record before { kept = without_number id before.kept } in
+      let none : releases.release_fault id before ≡ None = rw held (no-wait before idle) in
+      run-unless {A = Unit {0}} (releases.release_fault id before) before (Ask (Release before.who id) (λ _. tidying (Ok tt, then_left))) a b (Ok tt, after) none
+      (Done, mid, step, subst (λ (context : ContextView). Runs joins mid (tidying (Ok tt, context)) (Ok tt, after) b) is (run-tidied joins (Ok tt) left after mid b tidy end))

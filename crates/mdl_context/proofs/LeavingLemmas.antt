@@ -1,16 +1,14 @@
 -- A session gives up all that it has: first what ends with the transaction, and then only explicit tickets are left.
-use Rattle.std.proofs.Common.{◌≡◌, ℕ, Bool, List, [], ◌∷◌, Ok, refl, sym, ap, ◌∙◌, arith}
+use Rattle.std.proofs.Common.{◌≡◌, Bool, List, [], ◌∷◌, ◌++◌, refl, sym, ap, ◌∙◌, subst, arith}
 use Rattle.std.specs.Prelude.{not, filter}
 use Rattle.mdl_key.specs.declared.mode.Duration.TheVariants.{Explicit}
-use Rattle.mdl_calls.specs.Words.{Answer, Call, Runs, Give, ◌>>◌}
-use Rattle.mdl_calls.proofs.RunLemmas.{runs_bind}
+use Rattle.mdl_calls.specs.Words.{Answer, Call, Runs}
 use Rattle.mdl_context.specs.declared.kept.Kept.{Kept}
 use Rattle.mdl_context.specs.declared.request.Mark.{Mark}
 use Rattle.mdl_context.specs.Contexts.{ContextView, AreRising, beyond, newest_first, tickets_for, lasts, of_transaction, without_tickets}
-use Rattle.mdl_context.specs.Releases.{releasing_all, releasing_tickets, giving_up_all}
-use Rattle.mdl_context.specs.Requests.{Outcome}
-use Rattle.mdl_context.proofs.FrontLemmas.{left-since, only-explicit, rising-filter, without-newest}
-use Rattle.mdl_context.proofs.BeyondLemmas.{others-without, run-as, run-given-up}
+use Rattle.mdl_context.specs.Releases.{releasing_all}
+use Rattle.mdl_context.proofs.FrontLemmas.{left-since, only-explicit, rising-filter, without-append, without-newest}
+use Rattle.mdl_context.proofs.BeyondLemmas.{others-without, run-as, run-both}
 
 -- ---- what stays
 
@@ -39,35 +37,39 @@ none-left kept left rising is =
     ∙ sym (others-without (lasts Explicit) (tickets_for Explicit kept) (rising-filter (lasts Explicit) kept rising))
     ∙ filter-none (lasts Explicit) kept
 
+-- what ends with the transaction went first, and then what was left
+pub kept-all : (before mid left : ContextView) → AreRising before.kept → mid ≡ record before { kept = without_tickets (of_transaction before.kept) before.kept }
+    → left ≡ record mid { kept = without_tickets (beyond Explicit 0 mid.kept) mid.kept }
+    → left ≡ record before { kept = without_tickets (of_transaction before.kept ++ newest_first (tickets_for Explicit before.kept)) before.kept }
+kept-all before mid left rising first second =
+    let gone = of_transaction before.kept in
+    let explicit = tickets_for Explicit before.kept in
+    let stays = ap (λ (c : ContextView). c.kept) first ∙ left-explicit before.kept rising in
+    let same : beyond Explicit 0 mid.kept ≡ explicit = all-explicit before.kept mid.kept stays ∙ stays in
+    second
+    ∙ ap (λ (c : ContextView). let context : ContextView = record c { kept = without_tickets (beyond Explicit 0 mid.kept) mid.kept } in context) first
+    ∙ ap (λ (kept : List Kept). let context : ContextView = record before { kept = kept } in context)
+    (ap (λ xs. without_tickets xs mid.kept) same ∙ sym (without-newest explicit mid.kept)
+    ∙ ap (λ (xs : List Kept). without_tickets (newest_first explicit) xs) (ap (λ (c : ContextView). c.kept) first) ∙ sym (without-append gone (newest_first explicit) before.kept))
+
+-- and nothing is kept then
+pub nothing-kept : (before mid left : ContextView) → AreRising before.kept → mid ≡ record before { kept = without_tickets (of_transaction before.kept) before.kept }
+    → left ≡ record mid { kept = without_tickets (beyond Explicit 0 mid.kept) mid.kept } → left.kept ≡ []
+nothing-kept before mid left rising first second =
+    let stays = ap (λ (c : ContextView). c.kept) first ∙ left-explicit before.kept rising in
+    ap (λ (c : ContextView). c.kept) second ∙ none-left before.kept mid.kept rising stays
+
 -- ---- runs
 
 module _ {S : Type 0} (joins : S → Call → Answer → S → Type 0) where
-  released-gives : {A : Type 0} (who : ℕ) (gone : List Kept) (x reply : A) (a b : S) → Runs joins a (releasing_all who gone >> Give x) reply b → x ≡ reply
-  released-gives who [] x reply a b (same, here) = same
-  released-gives who (t ∷ ts) x reply a b (answer, mid, step, run) = released-gives who ts x reply mid b run
-
-  -- a context that gave tickets up keeps the others
-  pub gave-up : (gone : List Kept) (before after : ContextView) (a b : S) → Runs joins a (releasing_tickets gone before) (Ok tt, after) b
-      → after ≡ record before { kept = without_tickets gone before.kept }
-  gave-up gone before after a b run =
-      let left : ContextView = record before { kept = without_tickets gone before.kept } in
-      sym (ap (λ (outcome : Outcome (Unit {0})). outcome.1) (released-gives before.who gone (Ok tt, left) (Ok tt, after) a b run))
-
-  -- what ends with the transaction goes first, and then all that is left
-  pub run-all : (before mid after : ContextView) (a between b : S) → AreRising before.kept → Runs joins a (releasing_tickets (of_transaction before.kept) before) (Ok tt, mid) between
-      → Runs joins between (releasing_all mid.who (newest_first (beyond Explicit 0 mid.kept))) tt b → after ≡ record mid { kept = without_tickets (beyond Explicit 0 mid.kept) mid.kept }
-      → Runs joins a (giving_up_all before) (Ok tt, after) b
-  run-all before mid after a between b rising first second left =
-      let stays = ap (λ (c : ContextView). c.kept) (gave-up (of_transaction before.kept) before mid a between first) ∙ left-explicit before.kept rising in
-      let same = all-explicit before.kept mid.kept stays in
-      runs_bind joins (releasing_tickets (of_transaction before.kept) before) (λ outcome. releasing_tickets (newest_first outcome.1.kept) outcome.1) a between b (Ok tt, mid) (Ok tt, after) first
-      (run-given-up joins (newest_first mid.kept) mid after between b (run-as joins mid.who _ (newest_first mid.kept) between b (ap newest_first same) second)
-      (left ∙ ap (λ (kept : List Kept). let context : ContextView = record mid { kept = kept } in context)
-      (ap (λ gone. without_tickets gone mid.kept) same ∙ sym (without-newest mid.kept mid.kept))))
-
-  -- and nothing is kept then
-  pub nothing-kept : (before mid after : ContextView) (a between : S) → AreRising before.kept → Runs joins a (releasing_tickets (of_transaction before.kept) before) (Ok tt, mid) between
-      → after ≡ record mid { kept = without_tickets (beyond Explicit 0 mid.kept) mid.kept } → after.kept ≡ []
-  nothing-kept before mid after a between rising first left =
-      let stays = ap (λ (c : ContextView). c.kept) (gave-up (of_transaction before.kept) before mid a between first) ∙ left-explicit before.kept rising in
-      ap (λ (c : ContextView). c.kept) left ∙ none-left before.kept mid.kept rising stays
+  -- both are released
+  pub run-all : (before mid : ContextView) (a between b : S) → AreRising before.kept → mid ≡ record before { kept = without_tickets (of_transaction before.kept) before.kept }
+      → Runs joins a (releasing_all before.who (of_transaction before.kept)) tt between
+      → Runs joins between (releasing_all mid.who (newest_first (beyond Explicit 0 mid.kept))) tt b
+      → Runs joins a (releasing_all before.who (of_transaction before.kept ++ newest_first (tickets_for Explicit before.kept))) tt b
+  run-all before mid a between b rising left first second =
+      let stays = ap (λ (c : ContextView). c.kept) left ∙ left-explicit before.kept rising in
+      let same : beyond Explicit 0 mid.kept ≡ tickets_for Explicit before.kept = all-explicit before.kept mid.kept stays ∙ stays in
+      run-both joins before.who (of_transaction before.kept) (newest_first (tickets_for Explicit before.kept)) a between b first
+      (subst (λ who. Runs joins between (releasing_all who (newest_first (tickets_for Explicit before.kept))) tt b) (ap (λ (c : ContextView). c.who) left)
+      (run-as joins mid.who _ (newest_first (tickets_for Explicit before.kept)) between b (ap newest_first same) second))

@@ -3,7 +3,7 @@ pub mod BeyondLemmas
 pub mod FrontLemmas
 pub mod GainLemmas
 pub mod IndexLemmas
-pub mod KindLemmas
+pub mod KnownLemmas
 pub mod LeavingLemmas
 pub mod MemoryLemmas
 pub mod MergeLemmas
@@ -20,6 +20,7 @@ pub mod SeekLemmas
 pub mod ServingLemmas
 pub mod SoughtLemmas
 pub mod SureLemmas
+pub mod TidyLemmas
 pub mod UpgradeLemmas
 pub mod WaitLemmas
 pub mod WhoLemmas

@@ -26,6 +26,7 @@ use Rattle.mdl_context.specs.MemoryLaws.{IsStarved}
 use Rattle.mdl_context.specs.Releases as releases
 use Rattle.mdl_context.specs.Requests as requests
 use Rattle.mdl_context.specs.Requests.{Outcome}
+use Rattle.mdl_context.specs.Tidying.{tidied, tidying, unneeded, unpinning_all}
 use Rattle.mdl_context.specs.Upgrades as upgrades
 use Rattle.mdl_context.specs.Waits as waits
 
@@ -64,10 +65,21 @@ frugal_all : (who : ℕ) (gone : List Kept) → IsFrugal (releases.releasing_all
 frugal_all who [] = tt
 frugal_all who (ticket ∷ tickets) = (refl, λ _. frugal_all who tickets)
 
+frugal_unpinning : (who : ℕ) (places : List ℕ) → IsFrugal (unpinning_all who places)
+frugal_unpinning who [] = tt
+frugal_unpinning who (place ∷ places) = (refl, λ _. frugal_unpinning who places)
+
+-- the places are let go of where the context has nothing
+pub frugal_tidying : {A : Type 0} (outcome : Outcome A) → IsFrugal (tidying outcome)
+frugal_tidying {A} (reply, context) =
+    frugal_bind {A = Unit {0}} {B = Outcome A} (unpinning_all context.who (unneeded context)) (λ _. Give (reply, tidied context))
+    (frugal_unpinning context.who (unneeded context)) (λ _. tt)
+
 pub frugal_giving_up : (gone : List Kept) (context : ContextView) → IsFrugal (releases.releasing_tickets gone context)
 frugal_giving_up gone context =
-    frugal_bind {A = Unit {0}} {B = Outcome (Unit {0})} (releases.releasing_all context.who gone)
-    (λ _. Give (Ok tt, record context { kept = without_tickets gone context.kept })) (frugal_all context.who gone) (λ _. tt)
+    let left : Outcome (Unit {0}) = (Ok tt, record context { kept = without_tickets gone context.kept }) in
+    frugal_bind {A = Unit {0}} {B = Outcome (Unit {0})} (releases.releasing_all context.who gone) (λ _. tidying left) (frugal_all context.who gone)
+    (λ _. frugal_tidying left)
 
 -- so does what may be refused first
 pub frugal_unless : {A : Type 0} (fault : Option ContextError) (context : ContextView) (program : Program (Outcome A)) → IsFrugal program → IsFrugal (releases.unless fault context program)
@@ -76,8 +88,8 @@ frugal_unless None context program made = made
 
 pub frugal_releasing : (id : ℕ) (context : ContextView) → IsFrugal (releases.releasing id context)
 frugal_releasing id context =
-    frugal_unless (releases.release_fault id context) context
-    (Ask (Release context.who id) (λ _. Give (Ok tt, record context { kept = without_number id context.kept }))) (refl, λ _. tt)
+    let left : Outcome (Unit {0}) = (Ok tt, record context { kept = without_number id context.kept }) in
+    frugal_unless (releases.release_fault id context) context (Ask (Release context.who id) (λ _. tidying left)) (refl, λ _. frugal_tidying left)
 
 frugal_downgrade : (id : ℕ) (mode : Mode) (context : ContextView) (answer : Answer) → IsFrugal (upgrades.downgrade_answered id mode context answer)
 frugal_downgrade id mode context Done = tt

@@ -17,7 +17,7 @@ use Rattle.mdl_context.specs.Requests as requests
 use Rattle.mdl_context.specs.Requests.{Outcome}
 use Rattle.mdl_context.specs.Upgrades as upgrades
 use Rattle.mdl_context.specs.Waits as waits
-use Rattle.mdl_context.proofs.OwnCallLemmas.{calls_weaker, own_reusing, own_finding, own_trying_again, own_trying_found, own_ending, own_looking, own_searching_on, own_all, own_upgrading, own_downgrading}
+use Rattle.mdl_context.proofs.OwnCallLemmas.{calls_weaker, own_reusing, own_finding, own_trying_again, own_trying_found, own_ending, own_looking, own_searching_on, own_all, own_releasing, own_giving_up, own_upgrading, own_downgrading}
 
 -- a program makes all its calls for one session
 abbrev pub IsFor : {A : Type 0} → ℕ → Program A → Type 0
@@ -98,6 +98,12 @@ for_searching_on context = for_own {A = Outcome Resume} context.who (waits.searc
 
 pub for_all : (who : ℕ) (gone : List Kept) → IsFor who (releases.releasing_all who gone)
 for_all who gone = for_own {A = Unit {0}} who (releases.releasing_all who gone) (own_all who gone)
+
+pub for_releasing : (id : ℕ) (context : ContextView) → IsFor context.who (releases.releasing id context)
+for_releasing id context = for_own {A = Outcome (Unit {0})} context.who (releases.releasing id context) (own_releasing id context)
+
+pub for_giving_up : (gone : List Kept) (context : ContextView) → IsFor context.who (releases.releasing_tickets gone context)
+for_giving_up gone context = for_own {A = Outcome (Unit {0})} context.who (releases.releasing_tickets gone context) (own_giving_up gone context)
 
 pub for_upgrading : (id : ℕ) (mode : Mode) (context : ContextView) → IsFor context.who (upgrades.upgrading id mode context)
 for_upgrading id mode context = for_own {A = Outcome Acquire} context.who (upgrades.upgrading id mode context) (own_upgrading id mode context)

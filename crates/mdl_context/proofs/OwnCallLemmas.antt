@@ -28,6 +28,7 @@ use Rattle.mdl_context.specs.MemoryLaws.{IsOwnCall}
 use Rattle.mdl_context.specs.Releases as releases
 use Rattle.mdl_context.specs.Requests as requests
 use Rattle.mdl_context.specs.Requests.{Outcome}
+use Rattle.mdl_context.specs.Tidying.{tidied, tidying, unneeded, unpinning_all}
 use Rattle.mdl_context.specs.Upgrades as upgrades
 use Rattle.mdl_context.specs.Waits as waits
 
@@ -38,16 +39,16 @@ AreOwn who program = EachCall (IsOwnCall who) program
 -- ---- a wait that is given up, and searches
 
 own_unwanted : (who : ℕ) (answer : Answer) → AreOwn who (gains.unwanted_end_answered who answer)
-own_unwanted who (Granted id) = ((refl, refl, refl), λ _. tt)
+own_unwanted who (Granted id) = ((refl, refl), λ _. tt)
 own_unwanted who _ = tt
 
 -- a wait is ended that isn't wanted any more, and then this is the reply
 own_abandoning : {A : Type 0} (who : ℕ) (reply : A) → AreOwn who (gains.abandoning who >> Give reply)
 own_abandoning who reply =
-    calls_bind {A = Unit {0}} (IsOwnCall who) (gains.abandoning who) (λ _. Give reply) ((refl, refl, refl), λ _. ((refl, refl, refl), own_unwanted who)) (λ _. tt)
+    calls_bind {A = Unit {0}} (IsOwnCall who) (gains.abandoning who) (λ _. Give reply) ((refl, refl), λ _. ((refl, refl), own_unwanted who)) (λ _. tt)
 
 own_seeking : (n who : ℕ) → AreOwn who (seeking n who)
-own_seeking n who = calls_seeking (IsOwnCall who) who (refl, refl, refl) n
+own_seeking n who = calls_seeking (IsOwnCall who) who (refl, refl) n
 
 -- ---- wishes
 
@@ -69,12 +70,12 @@ own_wish who _ = tt
 
 own_try : (who place : ℕ) (mode : Mode) (answer : Answer) → AreOwn who (gains.try_answered who place mode answer)
 own_try who place mode (Granted id) = tt
-own_try who place mode Would_wait = ((refl, refl, refl), own_wish who)
+own_try who place mode Would_wait = ((refl, refl), own_wish who)
 own_try who place mode _ = tt
 
 own_gaining : (ticket : Option Held) (who place : ℕ) (mode : Mode) → AreOwn who (gains.gaining_from ticket who place mode)
-own_gaining (Some ticket) who place mode = ((refl, refl, refl), own_copy who)
-own_gaining None who place mode = ((refl, refl, refl), own_try who place mode)
+own_gaining (Some ticket) who place mode = ((refl, refl), own_copy who)
+own_gaining None who place mode = ((refl, refl), own_try who place mode)
 
 pub own_reusing : (ticket : Option Held) (place : ℕ) (request : Wish) (context : ContextView) → AreOwn context.who (requests.reusing ticket place request context)
 own_reusing (Some ticket) place request context = tt
@@ -93,7 +94,7 @@ own_place request context _ = tt
 
 pub own_finding : (place : Option ℕ) (request : Wish) (context : ContextView) → AreOwn context.who (requests.finding place request context)
 own_finding (Some place) request context = own_reusing (earliest (requests.is_reusable place request) context.kept) place request context
-own_finding None request context = ((refl, refl, refl), own_place request context)
+own_finding None request context = ((refl, refl), own_place request context)
 
 pub own_acquiring : (request : Wish) (context : ContextView) → EachCall (IsOwnCall context.who) (requests.acquiring request context)
 own_acquiring request context =
@@ -109,8 +110,8 @@ own_tried who Would_wait = tt
 own_tried who _ = tt
 
 own_trying_from : (ticket : Option Held) (who place : ℕ) (mode : Mode) → AreOwn who (gains.trying_from ticket who place mode)
-own_trying_from (Some ticket) who place mode = ((refl, refl, refl), own_tried who)
-own_trying_from None who place mode = ((refl, refl, refl), own_tried who)
+own_trying_from (Some ticket) who place mode = ((refl, refl), own_tried who)
+own_trying_from None who place mode = ((refl, refl), own_tried who)
 
 pub own_trying_again : (ticket : Option Held) (place : ℕ) (request : Wish) (context : ContextView) → AreOwn context.who (requests.trying_again ticket place request context)
 own_trying_again (Some ticket) place request context = tt
@@ -129,7 +130,7 @@ own_trying_placed request context _ = tt
 
 pub own_trying_found : (place : Option ℕ) (request : Wish) (context : ContextView) → AreOwn context.who (requests.trying_found place request context)
 own_trying_found (Some place) request context = own_trying_again (earliest (requests.is_reusable place request) context.kept) place request context
-own_trying_found None request context = ((refl, refl, refl), own_trying_placed request context)
+own_trying_found None request context = ((refl, refl), own_trying_placed request context)
 
 pub own_trying : (request : Wish) (context : ContextView) → EachCall (IsOwnCall context.who) (requests.trying request context)
 own_trying request context =
@@ -141,10 +142,10 @@ own_trying request context =
 
 own_merge : (who new : ℕ) (answer : Answer) → AreOwn who (upgrades.merge_answered who new answer)
 own_merge who new Done = tt
-own_merge who new _ = ((refl, refl, refl), λ _. tt)
+own_merge who new _ = ((refl, refl), λ _. tt)
 
 pub own_merging : (who id new : ℕ) → AreOwn who (upgrades.merging_new who id new)
-own_merging who id new = ((refl, refl, refl), own_merge who new)
+own_merging who id new = ((refl, refl), own_merge who new)
 
 -- ---- waits
 
@@ -160,7 +161,7 @@ own_end context (Lost how) = tt
 own_end context _ = tt
 
 pub own_ending : (context : ContextView) → AreOwn context.who (waits.ending_wait context)
-own_ending context = ((refl, refl, refl), own_end context)
+own_ending context = ((refl, refl), own_end context)
 
 own_poll : (context : ContextView) (answer : Answer) → AreOwn context.who (waits.poll_answered context answer)
 own_poll context Pending = tt
@@ -168,7 +169,7 @@ own_poll context (Is_settled how) = own_ending context
 own_poll context _ = tt
 
 pub own_looking : (context : ContextView) → AreOwn context.who (waits.looking context)
-own_looking context = ((refl, refl, refl), own_poll context)
+own_looking context = ((refl, refl), own_poll context)
 
 own_wait_sought : (context : ContextView) (end : SearchEnd) → AreOwn context.who (waits.wait_sought context end)
 own_wait_sought context Over = own_looking (waits.with_searches_over context)
@@ -188,7 +189,7 @@ own_cut_off context _ = tt
 own_going_on : (searched : Option Bool) (context : ContextView) → AreOwn context.who (waits.continuing_wait searched context)
 own_going_on None context = tt
 own_going_on (Some true) context = own_looking context
-own_going_on (Some false) context = ((refl, refl, refl), own_cut_off context)
+own_going_on (Some false) context = ((refl, refl), own_cut_off context)
 
 pub own_resuming : (context : ContextView) → EachCall (IsOwnCall context.who) (waits.resuming context)
 own_resuming context = own_going_on (waits.is_searched context.wait) context
@@ -196,18 +197,29 @@ own_resuming context = own_going_on (waits.is_searched context.wait) context
 pub own_giving_up_wait : (context : ContextView) → EachCall (IsOwnCall context.who) (waits.giving_up_wait context)
 own_giving_up_wait context =
     either {A = Outcome Resume} (AreOwn context.who) (is_some context.wait) (Ask (Settle_timeout context.who) (λ _. waits.ending_wait context))
-    (Give (Err (Space NoWait), context)) ((refl, refl, refl), λ _. ((refl, refl, refl), own_end context)) tt
+    (Give (Err (Space NoWait), context)) ((refl, refl), λ _. ((refl, refl), own_end context)) tt
 
 -- ---- releases
 
 pub own_all : (who : ℕ) (gone : List Kept) → AreOwn who (releases.releasing_all who gone)
 own_all who [] = tt
-own_all who (ticket ∷ tickets) = ((refl, refl, refl), λ _. own_all who tickets)
+own_all who (ticket ∷ tickets) = ((refl, refl), λ _. own_all who tickets)
+
+own_unpinning : (who : ℕ) (places : List ℕ) → AreOwn who (unpinning_all who places)
+own_unpinning who [] = tt
+own_unpinning who (place ∷ places) = ((refl, refl), λ _. own_unpinning who places)
+
+-- the places are let go of where the context has nothing
+pub own_tidying : {A : Type 0} (outcome : Outcome A) → EachCall (IsOwnCall outcome.1.who) (tidying outcome)
+own_tidying {A} (reply, context) =
+    calls_bind {A = Unit {0}} {B = Outcome A} (IsOwnCall context.who) (unpinning_all context.who (unneeded context)) (λ _. Give (reply, tidied context))
+    (own_unpinning context.who (unneeded context)) (λ _. tt)
 
 pub own_giving_up : (gone : List Kept) (context : ContextView) → EachCall (IsOwnCall context.who) (releases.releasing_tickets gone context)
 own_giving_up gone context =
-    calls_bind {A = Unit {0}} {B = Outcome (Unit {0})} (IsOwnCall context.who) (releases.releasing_all context.who gone)
-    (λ _. Give (Ok tt, record context { kept = without_tickets gone context.kept })) (own_all context.who gone) (λ _. tt)
+    let left : Outcome (Unit {0}) = (Ok tt, record context { kept = without_tickets gone context.kept }) in
+    calls_bind {A = Unit {0}} {B = Outcome (Unit {0})} (IsOwnCall context.who) (releases.releasing_all context.who gone) (λ _. tidying left)
+    (own_all context.who gone) (λ _. own_tidying left)
 
 pub own_unless : {A : Type 0} (fault : Option ContextError) (context : ContextView) (program : Program (Outcome A)) →
     EachCall (IsOwnCall context.who) program → EachCall (IsOwnCall context.who) (releases.unless fault context program)
@@ -216,13 +228,13 @@ own_unless None context program made = made
 
 pub own_releasing : (id : ℕ) (context : ContextView) → EachCall (IsOwnCall context.who) (releases.releasing id context)
 own_releasing id context =
-    own_unless (releases.release_fault id context) context
-    (Ask (Release context.who id) (λ _. Give (Ok tt, record context { kept = without_number id context.kept }))) ((refl, refl, refl), λ _. tt)
+    let left : Outcome (Unit {0}) = (Ok tt, record context { kept = without_number id context.kept }) in
+    own_unless (releases.release_fault id context) context (Ask (Release context.who id) (λ _. tidying left)) ((refl, refl), λ _. own_tidying left)
 
 -- ---- other modes
 
 own_waiting_at : (who place : ℕ) (mode : Mode) → AreOwn who (gains.waiting_at who place mode)
-own_waiting_at who place mode = ((refl, refl, refl), own_wish who)
+own_waiting_at who place mode = ((refl, refl), own_wish who)
 
 own_second : (ticket : Kept) (mode : Mode) (context : ContextView) (end : Result AskResult SpaceError) → AreOwn context.who (upgrades.second_got ticket mode context end)
 own_second ticket mode context (Ok (got.Granted new)) =
@@ -247,7 +259,7 @@ own_upgrading_ticket : (ticket : Option Kept) (mode : Mode) (context : ContextVi
 own_upgrading_ticket None mode context = tt
 own_upgrading_ticket (Some ticket) mode context =
     own_unless {A = Acquire} (releases.waiting_fault context) context (Ask (Upgrade_now context.who ticket.id mode) (upgrades.upgrade_answered ticket mode context))
-    ((refl, refl, refl), own_upgrade ticket mode context)
+    ((refl, refl), own_upgrade ticket mode context)
 
 pub own_upgrading : (id : ℕ) (mode : Mode) (context : ContextView) → EachCall (IsOwnCall context.who) (upgrades.upgrading id mode context)
 own_upgrading id mode context = own_upgrading_ticket (ticket_kept id context.kept) mode context
@@ -259,7 +271,7 @@ own_downgrade id mode context _ = tt
 pub own_downgrading : (id : ℕ) (mode : Mode) (context : ContextView) → EachCall (IsOwnCall context.who) (upgrades.downgrading id mode context)
 own_downgrading id mode context =
     own_unless {A = Unit {0}} (releases.release_fault id context) context (Ask (Downgrade context.who id mode) (upgrades.downgrade_answered id mode context))
-    ((refl, refl, refl), own_downgrade id mode context)
+    ((refl, refl), own_downgrade id mode context)
 
 -- ---- for those who ask more, or less, of calls
 

@@ -1,6 +1,6 @@
 -- What a session pins, as calls are made for its context.
 use Rattle.std.proofs.Common.{◌≡◌, ◌⊎◌, ℕ, true, false, List, Some, None, Result, Ok, Err, inl, inr, ap, ◌∙◌}
-use Rattle.std.specs.Prelude.{◌==◌, OnErr}
+use Rattle.std.specs.Prelude.{◌==◌, Bool, OnErr}
 use Rattle.std.specs.List.{list_any}
 use Rattle.mdl_calls.specs.Words.{Answer, At_place, Begin_wait, Call, Clone_ticket, Done, Downgrade, End_wait, Granted, Lost, Merge, Release, Resolve, Try_now, Unpin, Upgrade_now, Upgraded, Waits, SessionLocks, cloning, is_pinned, own_after, pinning, ticket_held, winning}
 use Rattle.mdl_calls.specs.SessionLocks.{merging}
@@ -8,10 +8,14 @@ use Rattle.mdl_calls.proofs.PinLemmas.{pinned-still}
 use Rattle.mdl_context.specs.declared.context_error.ContextError.{ContextError}
 use Rattle.mdl_context.specs.declared.request.Tried.{Tried}
 use Rattle.mdl_context.specs.declared.request.Tried.TheVariants as try_as
-use Rattle.mdl_context.specs.MemoryLaws.{unpins}
 use Rattle.mdl_context.specs.Requests.{UnlessAcquired}
 
 -- ---- pins stay
+
+-- whether a call gives up a pin
+abbrev pub unpins : Call → Bool
+unpins (Unpin who place) = true
+unpins _ = false
 
 -- what is pinned at first is pinned afterwards
 abbrev pub PinsStay : SessionLocks → SessionLocks → Type 0

@@ -30,7 +30,7 @@ use Rattle.mdl_context.specs.declared.request.Acquire.TheVariants.{Acquired, Mus
 use Rattle.mdl_context.specs.Contexts.{ContextView, Attends, IsAwaited, IsUpgradedBy, Serves, AreRising, held_of, has_number, is_known_place, ticket_kept, wish_here, wish_there}
 use Rattle.mdl_context.specs.Gains.{waiting_at}
 use Rattle.mdl_context.specs.Holdings.{wanted_upgrade, with_kept_mode}
-use Rattle.mdl_context.specs.MemoryLaws.{unpins}
+use Rattle.mdl_context.proofs.PinLemmas.{unpins}
 use Rattle.mdl_context.specs.Requests.{Outcome}
 use Rattle.mdl_context.specs.Upgrades.{HasSecond, with_ticket_mode, with_ticket, merging_new, merged, awaiting_upgrade, waiting_to_upgrade, second_got, upgrade_answered, upgrading_ticket, upgrading}
 use Rattle.mdl_context.specs.Releases.{release_fault, waiting_fault}

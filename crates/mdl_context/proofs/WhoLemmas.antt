@@ -24,6 +24,7 @@ use Rattle.mdl_context.specs.Holdings.{awaited_upgrade, earliest, without_number
 use Rattle.mdl_context.specs.Releases as releases
 use Rattle.mdl_context.specs.Requests as requests
 use Rattle.mdl_context.specs.Requests.{Outcome}
+use Rattle.mdl_context.specs.Tidying.{tidied, tidying, unneeded, unpinning_all}
 use Rattle.mdl_context.specs.Upgrades as upgrades
 use Rattle.mdl_context.specs.Waits as waits
 use Rattle.mdl_context.specs.Wishes.{Wish}
@@ -156,10 +157,15 @@ of_giving_up_wait context =
 
 -- ---- releases
 
+pub of_tidying : {A : Type 0} (outcome : Outcome A) → StaysOf {A = A} outcome.1.who (tidying outcome)
+of_tidying {A} (reply, context) =
+    each_then {A = Unit {0}} {B = Outcome A} (IsOf context.who) (unpinning_all context.who (unneeded context)) (λ _. Give (reply, tidied context)) (λ _. refl)
+
 pub of_giving_up : (gone : List Kept) (context : ContextView) → StaysOf {A = Unit {0}} context.who (releases.releasing_tickets gone context)
 of_giving_up gone context =
-    each_then {A = Unit {0}} {B = Outcome (Unit {0})} (IsOf context.who) (releases.releasing_all context.who gone)
-    (λ _. Give (Ok tt, record context { kept = without_tickets gone context.kept })) (λ _. refl)
+    let left : Outcome (Unit {0}) = (Ok tt, record context { kept = without_tickets gone context.kept }) in
+    each_then {A = Unit {0}} {B = Outcome (Unit {0})} (IsOf context.who) (releases.releasing_all context.who gone) (λ _. tidying left)
+    (λ _. of_tidying {A = Unit {0}} left)
 
 of_unless : {A : Type 0} (fault : Option ContextError) (context : ContextView) (program : Program (Outcome A)) →
     StaysOf {A = A} context.who program → StaysOf {A = A} context.who (releases.unless fault context program)
@@ -168,8 +174,9 @@ of_unless None context program each = each
 
 pub of_releasing : (id : ℕ) (context : ContextView) → StaysOf {A = Unit {0}} context.who (releases.releasing id context)
 of_releasing id context =
-    of_unless {A = Unit {0}} (releases.release_fault id context) context
-    (Ask (Release context.who id) (λ _. Give (Ok tt, record context { kept = without_number id context.kept }))) (λ _. refl)
+    let left : Outcome (Unit {0}) = (Ok tt, record context { kept = without_number id context.kept }) in
+    of_unless {A = Unit {0}} (releases.release_fault id context) context (Ask (Release context.who id) (λ _. tidying left))
+    (λ _. of_tidying {A = Unit {0}} left)
 
 -- ---- other modes
 

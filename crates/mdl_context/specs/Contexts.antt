@@ -9,9 +9,7 @@ use Rattle.mdl_key.specs.declared.mode.Duration.{Duration}
 use Rattle.mdl_key.specs.declared.mode.Duration.TheVariants.{Statement, Transaction, Explicit}
 use Rattle.mdl_key.specs.declared.namespace.Namespace.{Namespace}
 use Rattle.mdl_key.specs.declared.namespace.Namespace.TheVariants.{UserLevelLock}
-use Rattle.mdl_key.specs.declared.namespace.Kind.{Kind}
 use Rattle.mdl_key.specs.Keys.{KeyName, key_eq}
-use Rattle.mdl_key.specs.Modes.{kind_of}
 use Rattle.mdl_defs.specs.declared.versioned_definition.VersionedDefinition.{VersionedDefinition}
 use Rattle.mdl_calls.specs.declared.answers.Held.{Held}
 use Rattle.mdl_calls.specs.declared.answers.Settled.{Settled}
@@ -88,14 +86,6 @@ without_tickets gone kept = filter (λ ticket. not (has_number gone ticket.id)) 
 -- the place of a key, if it is known
 abbrev pub place_known : KeyName → List (KeyName × ℕ) → Option ℕ
 place_known key known = lookup (key_eq key) known
-
--- the key that is known at a place, if there is one
-abbrev pub key_at : ℕ → List (KeyName × ℕ) → Option KeyName
-key_at place known = option_map (λ entry. entry.0) (find (λ entry. entry.1 == place) known)
-
--- the kind of the lock at a place, if a key is known there
-abbrev pub kind_at : ℕ → List (KeyName × ℕ) → Option Kind
-kind_at place known = option_map (λ key. kind_of key.namespace) (key_at place known)
 
 -- whether a place is that of a known key
 abbrev pub is_known_place : List (KeyName × ℕ) → ℕ → Bool

@@ -1,6 +1,6 @@
 -- A context's tickets and wait, as its own code represents them.
-use Rattle.std.specs.Prelude.{◌≡◌, ℕ, Bool, true, not, ◌&&◌, ◌==◌, List, [], ◌∷◌, ◌++◌, map, filter, find, Option, Some, None, if◌then◌else◌}
-use Rattle.std.specs.Option.{option_map}
+use Rattle.std.specs.Prelude.{◌≡◌, ℕ, Bool, true, false, not, ◌&&◌, ◌||◌, ◌==◌, List, [], ◌∷◌, ◌++◌, map, filter, find, length, Option, Some, None, if◌then◌else◌}
+use Rattle.std.specs.Option.{option_map, option_map_or}
 use Rattle.mdl_key.specs.declared.mode.Mode.{Mode}
 use Rattle.mdl_key.specs.declared.mode.Duration.{Duration}
 use Rattle.mdl_key.specs.declared.mode.Duration.TheVariants.{Transaction, Explicit}
@@ -48,6 +48,10 @@ numbers_among place kept = map (λ ticket. ticket.id) (filter (is_kept_at place)
 -- an index has exactly the tickets' numbers, at their places
 abbrev pub IsIndexOf : List Kept → Index → Type 0
 IsIndexOf kept index = (place : ℕ) → ticket_numbers place index ≡ numbers_among place kept
+
+-- whether a place has a ticket's number, or is that of the wait
+abbrev pub needs_place : Index → Option Wanted → ℕ → Bool
+needs_place index wait place = not (length (ticket_numbers place index) == 0) || option_map_or (λ wanted. wanted.place == place) wait false
 
 -- whether there is room for one more ticket at a place
 abbrev pub has_room : ℕ → HoldingsView → Bool

@@ -4,7 +4,7 @@ pub mod Gains
 pub mod Goings
 pub mod Holdings
 pub mod Indexes
-pub mod Kinds
+pub mod KnownKeys
 pub mod MemoryLaws
 pub mod NameLaws
 pub mod Outcomes
@@ -12,6 +12,8 @@ pub mod Releases
 pub mod Requests
 pub mod SearchEnds
 pub mod Terms
+pub mod Tidying
+pub mod TidyLaws
 pub mod Upgrades
 pub mod Waits
 pub mod Wishes

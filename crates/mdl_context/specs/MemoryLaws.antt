@@ -1,11 +1,11 @@
 -- What happens to the calls of a context if memory runs out. A request for a lock then reports that and nothing else, and so do an upgrade
 -- and a wait that goes on. Calls that release or weaken tickets, or give up a wait, take no memory, unless the wait is for an upgrade. So
 -- over the space of one thread each answer other than out of memory is the one that the definitions name.
-use Rattle.std.specs.Prelude.{◌≡◌, ℕ, Bool, true, false, List, Some, None, Err}
+use Rattle.std.specs.Prelude.{◌≡◌, ℕ, true, false, List, Some, None, Err}
 use Rattle.mdl_key.specs.declared.mode.Mode.{Mode}
 use Rattle.mdl_key.specs.Keys.{KeyName}
 use Rattle.mdl_calls.specs.declared.space_error.SpaceError.TheVariants.{OutOfMemory}
-use Rattle.mdl_calls.specs.Words.{Call, Unpin, caller, EachCall, IsFaithful, IsFrugal, Program, Runs, outcome_of, reads_with_cache}
+use Rattle.mdl_calls.specs.Words.{Call, caller, EachCall, IsFaithful, IsFrugal, Program, Runs, outcome_of, reads_with_cache}
 use Rattle.mdl_core.specs.CoreCalls.{outcome}
 use Rattle.mdl_core.specs.CoreJoins.{Joins}
 use Rattle.mdl_core.specs.Cores.{Core}
@@ -58,14 +58,9 @@ WaitsTellOfWant =
 abbrev pub EndingsTakeNoMemory : Type 0
 EndingsTakeNoMemory = (context : ContextView) → EachEnding (λ A program. IsFrugal program) context
 
--- whether a call gives up a pin
-abbrev pub unpins : Call → Bool
-unpins (Unpin who place) = true
-unpins _ = false
-
--- a call is made for this session, gives up no pin, and doesn't read with the session's cache
+-- a call is made for this session, and doesn't read with the session's cache
 abbrev pub IsOwnCall : ℕ → Call → Type 0
-IsOwnCall who call = (caller call ≡ Some who) × (unpins call ≡ false) × (reads_with_cache call ≡ false)
+IsOwnCall who call = (caller call ≡ Some who) × (reads_with_cache call ≡ false)
 
 -- all calls of a context are such calls, for its session
 abbrev pub ContextsCallForTheirSession : Type 0

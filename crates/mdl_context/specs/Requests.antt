@@ -1,10 +1,8 @@
 -- How a session gets its tickets, after MySQL 5.7: `MDL_context::try_acquire_lock_impl`, `find_ticket` and `acquire_lock` of
--- sql/mdl.cc. This project's own choice is that the place of a key is looked up once, that the earliest suitable ticket there is
--- taken, and that a wait is continued by separate calls.
+-- sql/mdl.cc. This project's own choice is that the place of a key is looked up once as long as the session has something there, that the
+-- earliest suitable ticket there is taken, and that a wait is continued by separate calls.
 use Rattle.std.specs.Prelude.{◌≡◌, ◌⊎◌, ℕ, Bool, not, ◌&&◌, [], ◌∷◌, ◌++◌, Option, Some, None, IsSome, is_some, Result, Ok, Err, if◌then◌else◌}
-use Rattle.mdl_key.specs.declared.mode.Duration.{Duration}
 use Rattle.mdl_key.specs.declared.mode.Duration.TheVariants.{Explicit}
-use Rattle.mdl_key.specs.declared.mode.Mode.{Mode}
 use Rattle.mdl_key.specs.Keys.{KeyName}
 use Rattle.mdl_key.specs.Modes.{kind_of, is_mode_of}
 use Rattle.mdl_calls.specs.declared.answers.Held.{Held}
@@ -24,7 +22,7 @@ use Rattle.mdl_context.specs.declared.request.Acquire.{Acquire}
 use Rattle.mdl_context.specs.declared.request.Acquire.TheVariants.{Acquired, MustWait}
 use Rattle.mdl_context.specs.declared.request.Tried.{Tried}
 use Rattle.mdl_context.specs.declared.request.Tried.TheVariants as try_as
-use Rattle.mdl_context.specs.Contexts.{ContextView, key_at, lasts, place_known}
+use Rattle.mdl_context.specs.Contexts.{ContextView, lasts, place_known}
 use Rattle.mdl_context.specs.Gains.{refusal_answered, gaining_from, trying_from}
 use Rattle.mdl_context.specs.Holdings.{is_kept_at, earliest, kept_ticket, wanted_of}
 
@@ -90,33 +88,6 @@ abbrev pub acquiring : Wish → ContextView → Program (Outcome Acquire)
 acquiring request context =
     if is_some context.wait then Give (Err Waiting, context) else finding (place_known request.key context.known) request context
 
--- ---- by place
-
--- a request for a lock of the key that is known at a place, if there is one
-abbrev pub acquiring_known : Option KeyName → ℕ → Mode → Duration → ContextView → Program (Outcome Acquire)
-acquiring_known None place mode duration context = Give (Err (Space NoPlace), context)
-acquiring_known (Some key) place mode duration context =
-    acquiring_at place (record { key = key; mode = mode; duration = duration }) context
-
--- a request for a lock by the place of its key
-abbrev pub acquiring_by_place : ℕ → Mode → Duration → ContextView → Program (Outcome Acquire)
-acquiring_by_place place mode duration context =
-    if is_some context.wait then Give (Err Waiting, context) else acquiring_known (key_at place context.known) place mode duration context
-
--- the rest of a look-up once the space has answered the key's place: the place is remembered, which takes memory
-abbrev pub look_up_answered : KeyName → ContextView → Answer → Program (Outcome ℕ)
-look_up_answered key context (At_place place) = Grow (starved context) (Give (Ok place, remembering key place context))
-look_up_answered key context answer = Give (Err (Space (refusal_answered answer)), context)
-
--- a key's place is looked up in the space, unless it is known
-abbrev pub placing_found : Option ℕ → KeyName → ContextView → Program (Outcome ℕ)
-placing_found (Some place) key context = Give (Ok place, context)
-placing_found None key context = Ask (Resolve context.who key) (look_up_answered key context)
-
--- a look-up of a key's place
-abbrev pub placing : KeyName → ContextView → Program (Outcome ℕ)
-placing key context = placing_found (place_known key context.known) key context
-
 -- ---- without a wait
 
 -- the outcome of a request that doesn't wait, from what the space answered
@@ -151,16 +122,6 @@ trying_found None request context = Ask (Resolve context.who request.key) (tryin
 abbrev pub trying : Wish → ContextView → Program (Outcome Tried)
 trying request context =
     if is_some context.wait then Give (Err Waiting, context) else trying_found (place_known request.key context.known) request context
-
--- a request that doesn't wait, for a lock of the key that is known at a place, if there is one
-abbrev pub trying_known : Option KeyName → ℕ → Mode → Duration → ContextView → Program (Outcome Tried)
-trying_known None place mode duration context = Give (Err (Space NoPlace), context)
-trying_known (Some key) place mode duration context = trying_at place (record { key = key; mode = mode; duration = duration }) context
-
--- a request for a lock by the place of its key, that doesn't wait
-abbrev pub trying_by_place : ℕ → Mode → Duration → ContextView → Program (Outcome Tried)
-trying_by_place place mode duration context =
-    if is_some context.wait then Give (Err Waiting, context) else trying_known (key_at place context.known) place mode duration context
 
 -- ---- the state afterwards
 

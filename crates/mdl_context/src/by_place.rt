@@ -1,7 +1,9 @@
 //! The numbers of a session's tickets, found by place.
 ghost use Rattle.std.specs.Prelude.{◌≡◌, ℕ, true, [], ◌∷◌, ◌++◌, ◌==◌, OnOk, IsTrue, if◌then◌else◌};
+ghost use Rattle.mdl_context.specs.Holdings.{needs_place};
 ghost use Rattle.mdl_context.specs.Indexes.{ticket_numbers, has_room_for, rises, without_last, without_one};
 
+use crate::Wanted;
 use crate::numbers::Numbers;
 use mdl_space::{Place, TicketId};
 use std::alloc::{AllocError, Global};
@@ -41,6 +43,13 @@ impl ByPlace {
             Some(list) => list.as_slice(),
             None => &[],
         }
+    }
+
+    /// Whether a place has a number, or is that of the wait.
+    pub(crate) fn needs(&self, wait: Option<Wanted>, place: Place) -> bool
+        ensures { result ≡ needs_place self.now wait place }
+    {
+        !self.numbers(place).is_empty() || wait.is_some_and(|wanted| wanted.place == place)
     }
 
     /// Whether there is room for one more number at a place.

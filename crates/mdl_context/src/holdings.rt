@@ -4,19 +4,20 @@ ghost use Rattle.std.specs.Vec.{vec_capacity};
 ghost use Rattle.std.specs.Option.{option_copied, option_map};
 ghost use Rattle.mdl_key.specs.declared.mode.Duration.TheVariants.{Explicit};
 ghost use Rattle.mdl_calls.specs.SessionLocks.{upgraded};
-ghost use Rattle.mdl_context.specs.Contexts.{AreRising, lasts, tickets_for, has_number, held_of, is_user_lock, kind_at, last_at, place_known, ticket_kept};
+ghost use Rattle.mdl_context.specs.Contexts.{AreRising, lasts, tickets_for, has_number, held_of, is_user_lock, last_at, place_known, ticket_kept};
 ghost use Rattle.mdl_context.specs.Goings.{goes};
-ghost use Rattle.mdl_context.specs.Holdings.{without_number, is_kept_at, has_ticket_number, IsIndexOf, has_room, earliest, kept_for, in_transaction, transactional, kept_ticket, wanted_of, wanted_upgrade, awaited_upgrade, with_kept_mode, with_wanted, search_over};
+ghost use Rattle.mdl_context.specs.Holdings.{context_of, without_number, is_kept_at, has_ticket_number, IsIndexOf, has_room, earliest, kept_for, in_transaction, transactional, kept_ticket, wanted_of, wanted_upgrade, awaited_upgrade, with_kept_mode, with_wanted, search_over};
 ghost use Rattle.mdl_context.specs.Indexes.{has_room_for};
 ghost use Rattle.mdl_context.specs.Waits.{is_searched};
 ghost use Rattle.mdl_context.specs.Terms.{meets, serves_again};
+ghost use Rattle.mdl_context.specs.Tidying.{is_needed, tidied};
 
 use crate::by_place::ByPlace;
 use crate::going::Going;
 use crate::known::Known;
 use crate::wishes::{Terms, covers};
 use crate::{Kept, Wanted};
-use mdl_key::{Duration, Key, Kind, Mode};
+use mdl_key::{Duration, Key, Mode};
 use mdl_space::{Held, Place, TicketId};
 use std::alloc::{AllocError, Global};
 use std::marker::Model;
@@ -126,13 +127,6 @@ impl Holdings {
         self.known.place_of(key)
     }
 
-    /// The kind of the lock at a place, if a key is known there.
-    pub(crate) fn kind_at(&self, place: Place) -> Option<Kind>
-        ensures { result ≡ kind_at place self.now.known }
-    {
-        self.known.kind_at(place)
-    }
-
     /// Whether a place is that of a user-level lock.
     pub(crate) fn is_user_lock(&self, place: Place) -> bool
         ensures { result ≡ is_user_lock self.now.known place }
@@ -149,6 +143,37 @@ impl Holdings {
         ensures wait { self.new.wait ≡ self.old.wait }
     {
         self.known.add(key, place)
+    }
+
+    /// The number of known places.
+    pub(crate) fn known_count(&self) -> usize
+        ensures { result ≡ length self.now.known }
+    {
+        self.known.len()
+    }
+
+    /// A known place by its index, in the order in which the places became known.
+    pub(crate) fn known_place(&self, index: usize) -> Place
+        requires { index < length self.now.known }
+        ensures { slice_get (map (λ entry. entry.1) self.now.known) index ≡ Some result }
+    {
+        self.known.place(index)
+    }
+
+    /// Whether a ticket is at a place, or the wait is for it.
+    pub(crate) fn is_needed(&self, place: Place) -> bool
+        ensures { (who : ℕ) → result ≡ is_needed (context_of who self.now) place }
+    {
+        self.by_place.needs(self.wait, place)
+    }
+
+    /// Forgets the known places that aren't needed. Takes no memory.
+    pub(crate) fn forget_unneeded(&mut self)
+        ensures kept { self.new.kept ≡ self.old.kept }
+        ensures known { (who : ℕ) → self.new.known ≡ (tidied (context_of who self.old)).known }
+        ensures wait { self.new.wait ≡ self.old.wait }
+    {
+        self.known.forget_unneeded(&self.by_place, self.wait);
     }
 
     /// Makes room for one more ticket at a place.

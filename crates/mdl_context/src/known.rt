@@ -1,35 +1,59 @@
 //! The keys whose places a context knows.
-ghost use Rattle.std.specs.Prelude.{◌≡◌, ℕ, ◌<◌, None, [], ◌∷◌, ◌++◌, length, OnOk, OnErr};
-ghost use Rattle.mdl_context.specs.Contexts.{is_user_lock, kind_at, place_known};
-ghost use Rattle.mdl_context.specs.Kinds.{kind_listed};
+ghost use Rattle.std.specs.Prelude.{◌≡◌, ◌⊎◌, false, None, Some, [], ◌∷◌, ◌++◌, ◌<◌, length, map, filter, slice_get, if◌then◌else◌, OnOk, OnErr, IfOk};
+ghost use Rattle.std.specs.Option.{option_map_or};
+ghost use Rattle.indexmap.specs.IndexMap.{keys};
+ghost use Rattle.mdl_key.specs.Keys.{KeyName, key_eq};
+ghost use Rattle.mdl_context.specs.Contexts.{is_of_user_locks, is_user_lock, place_known};
+ghost use Rattle.mdl_context.specs.Holdings.{needs_place};
+ghost use Rattle.mdl_context.specs.KnownKeys.{AreIndexes, KeepsKeys, is_dropped, known_keys, place_met};
 
+use crate::Wanted;
+use crate::by_place::ByPlace;
 use indexmap::IndexMap;
-use mdl_key::{Key, Kind, Namespace};
+use mdl_key::{Key, Namespace};
 use mdl_space::Place;
 use std::alloc::{AllocError, Global};
 use std::marker::Model;
 
+// How many keys the map may have when nothing is known. If it has as many, it is emptied before the next key.
+const MOST_MET: usize = 256;
+
 /// The keys whose places a context knows, in the order in which they became known.
 ///
-/// The place of a key is found by a hash of the key, and the kind of a place by an array. So a request that names a place costs
-/// no look at the key.
+/// The place of a key is found by a hash of the key. Keys that were forgotten stay in the map, without a place. So a key that
+/// comes back takes no memory, and its name isn't copied again.
 #[derive(Drop)]
 pub(crate) struct Known {
-    places: IndexMap<Key, Place>,
-    // By place: the kind of the key that became known there first. Places without a known key have none.
-    kinds: Vec<Option<Kind>>,
+    // Every key that became known since the map was emptied, with its place while that is known.
+    met: IndexMap<Key, Option<Place>>,
+    // The known keys.
+    order: Vec<KnownPlace>,
+}
+
+/// The place of a known key.
+#[derive(Drop)]
+pub(crate) struct KnownPlace {
+    /// The index of the key in the map.
+    pub(crate) key: usize,
+    /// The place.
+    pub(crate) place: Place,
 }
 
 impl Model for Known {
     ghost use Rattle.std.specs.Prelude.{ℕ, List};
+    ghost use Rattle.indexmap.specs.IndexMap.{keys};
     ghost use Rattle.mdl_key.specs.Keys.{KeyName};
-    ghost use Rattle.mdl_context.specs.Kinds.{AreKindsOf};
+    ghost use Rattle.mdl_context.specs.KnownKeys.{AreMet, AreIndexes, HasOnePlaceEach, known_keys};
 
     ghost Value = { List (KeyName × ℕ) };
 
-    ghost view = { λ known. known.places.entries };
+    ghost view = { λ known. known_keys (keys known.met) known.order.items };
 
-    ghost invariant = { λ known. AreKindsOf known.places.entries known.kinds.items };
+    ghost invariant = { λ known. record {
+      indexes : AreIndexes (keys known.met) known.order.items;
+      met : AreMet known.met.entries (known_keys (keys known.met) known.order.items);
+      once : HasOnePlaceEach (known_keys (keys known.met) known.order.items);
+    } };
 }
 
 impl Known {
@@ -38,62 +62,133 @@ impl Known {
         ensures { result ≡ [] }
     {
         Known {
-            places: IndexMap::new(alloc),
-            kinds: Vec::new(alloc),
+            met: IndexMap::new(alloc),
+            order: Vec::new(alloc),
         }
+    }
+
+    /// The number of known keys.
+    pub(crate) fn len(&self) -> usize
+        ensures { result ≡ length self.now }
+    {
+        self.order.len()
+    }
+
+    /// The place of a known key by its index, in the order in which the keys became known.
+    pub(crate) fn place(&self, index: usize) -> Place
+        requires { index < length self.now }
+        ensures { slice_get (map (λ entry. entry.1) self.now) index ≡ Some result }
+    {
+        self.order[index].place
     }
 
     /// The place of a key, if it is known.
     pub(crate) fn place_of(&self, key: &Key) -> Option<Place>
         ensures { result ≡ place_known key.now self.now }
     {
-        self.places.get(key).copied()
+        *self.met.get(key)?
     }
 
-    /// The kind of the key that is known at a place, if there is one.
-    pub(crate) fn kind_at(&self, place: Place) -> Option<Kind>
-        ensures { result ≡ kind_at place self.now }
-    {
-        kind_listed(&self.kinds, place)
-    }
-
-    /// Adds the place of a new key.
+    /// Adds the place of a new key. One that was forgotten takes no memory, unless the map was emptied since.
     pub(crate) fn add(&mut self, key: &Key, place: Place) -> Result<(), AllocError>
         requires { place_known key.now self.old ≡ None }
         ensures done { OnOk result (self.new ≡ self.old ++ (key.now, place) ∷ []) }
         ensures refused { OnErr result (self.new ≡ self.old) }
     {
-        list_up_to(&mut self.kinds, place)?;
-        self.places.insert(key.clone()?, place)?;
-        let first = kind_listed(&self.kinds, place).unwrap_or(key.kind());
-        self.kinds[usize::from(place)] = Some(first);
+        self.order.reserve(1)?;
+        empty_if_many(&mut self.met, &self.order);
+        let key = meet(&mut self.met, key, place)?;
+        self.order.push_reserved(KnownPlace { key, place });
         Ok(())
+    }
+
+    /// Forgets the keys at whose places there is neither a ticket nor the wait. Takes no memory.
+    pub(crate) fn forget_unneeded(&mut self, by_place: &ByPlace, wait: Option<Wanted>)
+        ensures { self.new ≡ filter (λ entry. needs_place by_place.now wait entry.1) self.old }
+    {
+        drop_places(&mut self.met, &self.order, by_place, wait);
+        keep_needed(&mut self.order, by_place, wait);
     }
 
     /// Whether a place is that of a user-level lock.
     pub(crate) fn is_user_lock(&self, place: Place) -> bool
         ensures { result ≡ is_user_lock self.now place }
     {
-        self.places.iter().any(|(key, at)| *at == place
-            && key.namespace() == Namespace::UserLevelLock)
+        let met = &self.met;
+        self.order.iter().any(|known| known.place == place && is_user_key(met, known.key))
     }
 }
 
-// The kind at a place, if one is listed.
-fn kind_listed(kinds: &[Option<Kind>], place: Place) -> Option<Kind>
-    ensures { result ≡ kind_listed place kinds.now }
+// Whether the key with an index is that of a user-level lock.
+fn is_user_key(met: &IndexMap<Key, Option<Place>>, index: usize) -> bool
+    ensures { result ≡ option_map_or (λ (key : KeyName). is_of_user_locks key.namespace) (slice_get (keys met.now) index) false }
 {
-    *kinds.get(usize::from(place))?
+    match met.get_index(index) {
+        Some((key, _place)) => key.namespace() == Namespace::UserLevelLock,
+        None => false,
+    }
 }
 
-// Adds places without a kind until this one is listed.
-fn list_up_to(kinds: &mut Vec<Option<Kind>>, place: Place) -> Result<(), AllocError>
-    ensures reach { OnOk result (place < length kinds.new.items) }
-    ensures same { (q : ℕ) → kind_listed q kinds.new.items ≡ kind_listed q kinds.old.items }
+// Empties the map if it has many keys and none of them is known.
+fn empty_if_many(met: &mut IndexMap<Key, Option<Place>>, order: &[KnownPlace])
+    ensures { (met.new.entries ≡ met.old.entries) ⊎ ((order.now ≡ []) × (met.new.entries ≡ [])) }
 {
-    let count = usize::from(place) + 1;
-    if kinds.len() < count {
-        kinds.resize(count, None)?;
+    if order.is_empty() && met.len() >= MOST_MET {
+        met.clear();
     }
-    Ok(())
+}
+
+// Notes the place of a key, and returns the index of the key. One that is in the map isn't copied, and takes no memory.
+fn meet(
+    met: &mut IndexMap<Key, Option<Place>>,
+    key: &Key,
+    place: Place,
+) -> Result<usize, AllocError>
+    ensures index { IfOk result (λ index. slice_get (keys met.new) index ≡ Some key.now) }
+    ensures places { OnOk result ((q : KeyName) → place_met q met.new.entries ≡ (if key_eq key.now q then Some place else place_met q met.old.entries)) }
+    ensures keys { OnOk result (KeepsKeys (keys met.old) (keys met.new)) }
+    ensures refused { OnErr result (met.new.entries ≡ met.old.entries) }
+{
+    if let Some(index) = met.get_index_of(key) {
+        met[index] = Some(place);
+        return Ok(index);
+    }
+    let index = met.len();
+    met.insert(key.clone()?, Some(place))?;
+    Ok(index)
+}
+
+// Drops the places at which there is neither a ticket nor the wait.
+fn drop_places(
+    met: &mut IndexMap<Key, Option<Place>>,
+    order: &[KnownPlace],
+    by_place: &ByPlace,
+    wait: Option<Wanted>,
+)
+    requires { AreIndexes (keys met.old) order.now }
+    ensures keys { keys met.new ≡ keys met.old }
+    ensures places { (q : KeyName) → place_met q met.new.entries ≡ (if is_dropped (needs_place by_place.now wait) q (known_keys (keys met.old) order.now) then None else place_met q met.old.entries) }
+{
+    for known in order {
+        if !by_place.needs(wait, known.place) {
+            drop_place(met, known.key);
+        }
+    }
+}
+
+// Drops the place of the key with an index.
+fn drop_place(met: &mut IndexMap<Key, Option<Place>>, index: usize)
+    ensures keys { keys met.new ≡ keys met.old }
+    ensures place { (key q : KeyName) → slice_get (keys met.old) index ≡ Some key → place_met q met.new.entries ≡ (if key_eq key q then None else place_met q met.old.entries) }
+{
+    if let Some(place) = met.get_index_mut(index) {
+        *place = None;
+    }
+}
+
+// Keeps the places at which there is a ticket or the wait.
+fn keep_needed(order: &mut Vec<KnownPlace>, by_place: &ByPlace, wait: Option<Wanted>)
+    ensures { order.new.items ≡ filter (λ known. needs_place by_place.now wait known.place) order.old.items }
+{
+    order.retain(|known| by_place.needs(wait, known.place));
 }

@@ -1,6 +1,7 @@
-//! Laws of durations and names. Each is proved as the contract of a function that does nothing.
+//! Laws of durations, names and known places. Each is proved as the contract of a function that does nothing.
 ghost use Rattle.mdl_context.specs.DurationLaws.{GoingBackKeepsFronts, GoingBackToNowKeepsAll, StatementsEndAlone, EndingLeavesExplicit};
 ghost use Rattle.mdl_context.specs.NameLaws.{NamesAreGivenUp};
+ghost use Rattle.mdl_context.specs.TidyLaws.{ReleasesLeaveTidy};
 
 use mdl_space::LockSpace;
 
@@ -28,4 +29,9 @@ pub fn ending_leaves_explicit()
 /// Once the tickets of a key are released by its name, none is left at any place that the session knows to be the key's.
 pub fn names_are_given_up<S: LockSpace>()
     ensures { NamesAreGivenUp S.LockSpace }
+{}
+
+/// After tickets were released the context has something at each place that it knows, whatever the lock space answered.
+pub fn releases_leave_tidy()
+    ensures { ReleasesLeaveTidy }
 {}

@@ -24,7 +24,7 @@ pub fn endings_take_no_memory()
     ensures { EndingsTakeNoMemory }
 {}
 
-/// All calls of a context are made for its session, give up no pin, and don't read with the session's cache.
+/// All calls of a context are made for its session, and don't read with the session's cache.
 pub fn contexts_call_for_their_session()
     ensures { ContextsCallForTheirSession }
 {}

@@ -1,3 +1,4 @@
 pub mod RowCalls
 pub mod RowMemory
 pub mod RowOutcomes
+pub mod RowTidy

@@ -1,6 +1,6 @@
--- What happens to statements if memory runs out, for which session they make calls, and their results over the space of one
--- thread. The laws hold for all rows, and so for each statement.
-use Rattle.std.specs.Prelude.{◌≡◌, ℕ}
+-- What happens to statements if memory runs out, for which session they make calls, which places the session knows once they
+-- have ended, and their results over the space of one thread. The laws hold for all rows, and so for each statement.
+use Rattle.std.specs.Prelude.{◌≡◌, ℕ, IsSome}
 use Rattle.mdl_calls.specs.Words.{Each, EachCall, IsFaithful, Program, Runs, outcome_of}
 use Rattle.mdl_core.specs.CoreCalls.{outcome}
 use Rattle.mdl_core.specs.CoreJoins.{Joins, SpeaksFor}
@@ -10,6 +10,7 @@ use Rattle.mdl_core.specs.Ties.{IsSoundCore}
 use Rattle.mdl_syntax.specs.declared.statement.Statement.{Statement}
 use Rattle.mdl_context.specs.declared.request.Mark.{Mark}
 use Rattle.mdl_context.specs.MemoryLaws.{IsSureUnless}
+use Rattle.mdl_context.specs.Tidying.{IsTidy}
 use Rattle.mdl_rows.specs.declared.reply.Reply.{Reply}
 use Rattle.mdl_rows.specs.Endings.{Pause, Ends, Begins_to_wait, Waits_on, Faults}
 use Rattle.mdl_rows.specs.Playing.{play, starting, going_on}
@@ -41,13 +42,29 @@ EachPlay P =
 abbrev pub StatementsTellOfWant : Type 0
 StatementsTellOfWant = EachPlay (λ session program. IsFaithful IsFault program)
 
--- all calls of a statement are made for its session or for no session
+-- all calls of a statement are made for its session or for no session. Those that give up a pin are its context's alone, which
+-- makes them after a release
 abbrev pub StatementsCallForTheirSession : Type 0
 StatementsCallForTheirSession = EachPlay (λ session program. EachCall (IsMadeFor session.context.who) program)
 
 -- a session keeps its number, however far its statements come
 abbrev pub SessionsKeepTheirNumber : Type 0
 SessionsKeepTheirNumber = EachPlay (λ session program. Each (λ pause. (session_of_pause pause).context.who ≡ session.context.who) program)
+
+-- once a statement has ended, its session's context knows only the places where it has something. The session has been told to
+-- give up its pins of all others that the context knew
+abbrev pub EndsTidy : Pause → Type 0
+EndsTidy (Ends reply session) = IsTidy session.context
+EndsTidy (Faults session) = IsTidy session.context
+EndsTidy _ = Unit {0}
+
+-- this holds for each row that is played, for a statement that starts, and for one that continues after its wait
+abbrev pub StatementsEndTidy : Type 0
+StatementsEndTidy =
+    (session : Session) →
+    ((row : Row Reply) (mark : Mark) → Each EndsTidy (play row mark session))
+    × ((statement : Statement) → Each EndsTidy (starting statement session))
+    × (IsSome session.left → Each EndsTidy (going_on session))
 
 -- over the space of one thread, how far a statement comes, its session and the space after it are the outcome, unless memory ran
 -- out

@@ -41,7 +41,7 @@ pub enum ErrorNumber {
     TooManyColumns,
     /// 9003: the table or the schema has used all versions that it can have.
     VersionLimit,
-    /// 9004: the lock space has no place for one more key.
+    /// 9004: the lock space has no place left for the key, since all are in use.
     NoPlace,
     /// 9005: a lock has the greatest possible number of tickets, or a session has used all its numbers.
     Full,

@@ -19,8 +19,8 @@ mod state;
 pub use ending::Ending;
 pub use error_number::ErrorNumber;
 pub use memory_laws::{
-    sessions_keep_their_number, statements_call_for_their_session, statements_keep_the_space_sound,
-    statements_tell_of_want, sure_statements,
+    sessions_keep_their_number, statements_call_for_their_session, statements_end_tidy,
+    statements_keep_the_space_sound, statements_tell_of_want, sure_statements,
 };
 pub use reply::{Reply, TableShown, TablesShown};
 pub use state::{Locked, ReadLock, Savepoint};

@@ -52,7 +52,7 @@ fresh-at [] i fresh = (refl, refl)
 fresh-at (seat ∷ seats) zero fresh = fresh.0
 fresh-at (seat ∷ seats) (suc i) fresh = fresh-at seats i fresh.1
 
-first-seats : first_core.seats ≡ record { held = []; wait = None; pins = 1 ∷ []; last_ticket = 1; last_wait = 0 } ∷ replicate (most_sessions - 1) empty_seat
+first-seats : first_core.seats ≡ record { held = []; wait = None; pins = []; last_ticket = 1; last_wait = 0 } ∷ replicate (most_sessions - 1) empty_seat
 unfolding core.admitting_up_to
 first-seats = refl
 

@@ -145,12 +145,12 @@ staffed-lines (suc n) (line ∷ lines) world is staffed =
 
 -- ---- the world at first
 
-made-under : (answer : Answer) → EachCall (IsMadeFor 1) (create_first_schema answer)
-made-under (Granted id) = (refl, λ _. (refl, λ _. tt))
-made-under _ = tt
+made-under : (place : ℕ) (answer : Answer) → EachCall (IsMadeFor 1) (create_first_schema place answer)
+made-under place (Granted id) = (refl, λ _. (refl, λ _. (refl, λ _. tt)))
+made-under place _ = tt
 
 made-at : (answer : Answer) → EachCall (IsMadeFor 1) (create_at answer)
-made-at (At_place place) = (refl, made-under)
+made-at (At_place place) = (refl, made-under place)
 made-at _ = tt
 
 pub made-creating : (schema : KeyName) → EachCall (IsMadeFor 1) (creating schema)

@@ -10,7 +10,7 @@ use Rattle.mdl_visits.specs.declared.audited.Audited.{Audited}
 use Rattle.mdl_shared.specs.declared.pass.Pass.{Pass}
 use Rattle.mdl_shared.specs.Passes.{pass_number, pass_view}
 use Rattle.mdl_shared.specs.SessionViews.{SessionView}
-use Rattle.mdl_script.specs.Answers.{AreAnswers, IsTranscript, Options}
+use Rattle.mdl_script.specs.Answers.{AreAnswers, IsClosed, IsTranscript, Options}
 use Rattle.mdl_script.specs.Books.{AreOfOneAudit}
 use Rattle.mdl_script.specs.Finals.{AreInKeyOrder, finals_text}
 use Rattle.mdl_script.specs.Runs.{ComeBack, MakesFirst, IsRunBetween, IsRunFrom}
@@ -66,12 +66,12 @@ run-among options lines given back wider longer before after text wide long run 
 
 -- the asker began as its pass had it, and its pass comes back
 pub run-asked : (options : Options) (lines : List Line) (who : ℕ) (asker closed : Pass) (others back passes : List Pass) (before after : SessionView) (text : List ℕ) →
-    before ≡ pass_view asker → pass_view closed ≡ after → who ≡ before.me.0.number → after.me.0.number ≡ who →
+    before ≡ pass_view asker → IsClosed closed after → who ≡ before.me.0.number → after.me.0.number ≡ who →
     ComeBack lines who others back → IsRunBetween options lines others back before after text → passes ≡ insert back 0 closed →
     IsRunFrom options lines (asker ∷ others) passes text
-run-asked options lines who asker closed others back passes before after text begun ended is still rest run more =
+run-asked options lines who asker closed others back passes before after text begun shut is still rest run more =
     let of_asker : who ≡ pass_number asker = is ∙ ap (λ (s : SessionView). s.me.0.number) begun in
-    let of_closed : pass_number closed ≡ pass_number asker = ap (λ (s : SessionView). s.me.0.number) ended ∙ (still ∙ of_asker) in
+    let of_closed : pass_number closed ≡ pass_number asker = ap (λ (s : SessionView). s.me.0.number) shut ∙ (still ∙ of_asker) in
     let all = asker-back lines who asker closed others back (sym of_asker) of_closed rest in
     let wider = run-among options lines others back (asker ∷ others) (closed ∷ back) before after text
     (Contains-append_right (asker ∷ []) others) (Contains-append_right (closed ∷ []) back) run in
@@ -81,8 +81,9 @@ run-asked options lines who asker closed others back passes before after text be
       closed = closed;
       is_first = refl;
       passes = subst (λ n. ComeBack lines n (asker ∷ others) (closed ∷ back)) of_asker all;
-      run = subst (λ s. IsRunBetween options lines (asker ∷ others) (closed ∷ back) s (pass_view closed) text) begun
-          (subst (λ s. IsRunBetween options lines (asker ∷ others) (closed ∷ back) before s text) (sym ended) wider);
+      ended = after;
+      is_closed = shut;
+      run = subst (λ s. IsRunBetween options lines (asker ∷ others) (closed ∷ back) s after text) begun wider;
     } in
     subst (λ xs. IsRunFrom options lines (asker ∷ others) xs text) (sym more) ran
 
@@ -96,7 +97,9 @@ run-given back bytes options lines given others first (Ok ran) is same run = rec
   closed = run.closed;
   is_first = run.is_first;
   passes = given-back lines (pass_number run.asker) given (first ∷ others) (back ran) same run.passes;
-  run = run-among options lines (first ∷ others) (back ran) given (back ran) (pass_view run.asker) (pass_view run.closed) (bytes ran)
+  ended = run.ended;
+  is_closed = run.is_closed;
+  run = run-among options lines (first ∷ others) (back ran) given (back ran) (pass_view run.asker) run.ended (bytes ran)
       (λ pass among. Contains-permutation (first ∷ others) given pass (IsPermutation-sym given (first ∷ others) same) among) (λ pass among. among) run.run;
 }
 run-given back bytes options lines given others first (Err why) is same run = tt

@@ -13,7 +13,7 @@ use Rattle.mdl_shared.specs.Passes.{pass_number, pass_table, pass_view}
 use Rattle.mdl_shared.specs.SessionViews.{SessionView, data_of}
 use Rattle.mdl_work.specs.Paces.{answers_in}
 use Rattle.mdl_work.specs.Works.{RunsFromEmpty, lines_of_session, newcomer, working_off}
-use Rattle.mdl_script.specs.Answers.{AreAnswers, CachedSteps, Options, WorksOff}
+use Rattle.mdl_script.specs.Answers.{AnswersBetween, AreAnswers, CachedSteps, IsClosed, Options, WorksOff}
 
 -- a session stays at its table
 table-stays : {A : Type 0} (program : Program A) (a b : SessionView × CacheView) (reply : A) → Runs CachedSteps a program reply b → b.0.table ≡ a.0.table
@@ -63,14 +63,14 @@ answers-are options lines who a b (Err why) speaks had has run numbers = tt
 -- ---- from pass to pass
 
 -- the session of a pass that was opened, and closed again, has the number that it had
-pub closed-number : (who : ℕ) (opened closed : Pass) (a b : SessionView) → a ≡ pass_view opened → pass_view closed ≡ b →
+pub closed-number : (who : ℕ) (opened closed : Pass) (a b : SessionView) → a ≡ pass_view opened → IsClosed closed b →
     who ≡ a.me.0.number → SpeaksFor (data_of b) who → pass_number closed ≡ pass_number opened
 closed-number who opened closed a b begun ended is speaks =
     ap (λ (s : SessionView). s.me.0.number) ended ∙ (sym speaks.0 ∙ (is ∙ ap (λ (s : SessionView). s.me.0.number) begun))
 
 -- and the table
 pub closed-there : {Z E : Type 0} (options : Options) (lines : List Line) (who : ℕ) (opened closed : Pass) (a b : SessionView) (result : Result (Vec (ℕ × Reply) Z) E) →
-    a ≡ pass_view opened → pass_view closed ≡ b → Ends options lines who a result b → pass_table closed ≡ pass_table opened
+    a ≡ pass_view opened → IsClosed closed b → Ends options lines who a result b → pass_table closed ≡ pass_table opened
 closed-there options lines who opened closed a b result begun ended run =
     let stays = table-stays (working_off options.patience (lines_of_session who lines) (newcomer who)) (a, record { kept = []; capacity = options.capacity }) (b, run.0)
     (answers_in result) run.1 in
@@ -78,11 +78,13 @@ closed-there options lines who opened closed a b result begun ended run =
 
 -- between the two it gave its answers
 pub closed-answers : {Z E : Type 0} (options : Options) (lines : List Line) (who : ℕ) (opened closed : Pass) (a b : SessionView) (result : Result (Vec (ℕ × Reply) Z) E) →
-    a ≡ pass_view opened → pass_view closed ≡ b → who ≡ a.me.0.number →
+    a ≡ pass_view opened → IsClosed closed b → who ≡ a.me.0.number →
     IfOk result (λ answers. AreAnswers options lines who a answers.items b) →
-    IfOk result (λ answers. AreAnswers options lines (pass_number opened) (pass_view opened) answers.items (pass_view closed))
-closed-answers options lines who opened closed a b result begun ended is are =
-    let number : who ≡ pass_number opened = is ∙ ap (λ (s : SessionView). s.me.0.number) begun in
-    subst (λ n. IfOk result (λ answers. AreAnswers options lines n (pass_view opened) answers.items (pass_view closed))) number
-    (subst (λ s. IfOk result (λ answers. AreAnswers options lines who s answers.items (pass_view closed))) begun
-    (subst (λ s. IfOk result (λ answers. AreAnswers options lines who a answers.items s)) (sym ended) are))
+    IfOk result (λ answers. AnswersBetween options lines (pass_number opened) opened closed answers.items)
+closed-answers options lines who opened closed a b (Ok answers) begun ended is are =
+    let number : who ≡ pass_number opened = is ∙ ap (λ (s : SessionView). s.me.0.number) begun in record {
+      worked = b;
+      answered = subst (λ n. AreAnswers options lines n (pass_view opened) answers.items b) number (subst (λ s. AreAnswers options lines who s answers.items b) begun are);
+      is_closed = ended;
+    }
+closed-answers options lines who opened closed a b (Err why) begun ended is are = tt

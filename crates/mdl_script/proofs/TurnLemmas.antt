@@ -13,9 +13,9 @@ use Rattle.std.proofs.lemmas.Grind.{flat_map-append}
 use Rattle.mdl_syntax.specs.declared.script.Line.{Line}
 use Rattle.atomic_table.specs.Seated.{TableId}
 use Rattle.mdl_shared.specs.declared.pass.Pass.{Pass}
-use Rattle.mdl_shared.specs.Passes.{pass_number, pass_table, pass_view}
+use Rattle.mdl_shared.specs.Passes.{pass_number, pass_table}
 use Rattle.mdl_rows.specs.declared.reply.Reply.{Reply}
-use Rattle.mdl_script.specs.Answers.{AreAnswers, IsTranscript, Options}
+use Rattle.mdl_script.specs.Answers.{AnswersBetween, IsTranscript, Options}
 use Rattle.mdl_script.specs.RunTexts.{answers_text, transcripts_text}
 use Rattle.mdl_script.specs.Turns.{GainsAnswers, has_pass, pass_sent, passes_sent, sent_to}
 use Rattle.mdl_script.specs.declared.turns.SessionThread.{SessionThread}
@@ -88,7 +88,7 @@ gains_own options lines mine own turn before after passes alone is grown =
 pub gains_one : (options : Options) (lines : List Line) (mine : ℕ) (own answers : List (ℕ × Reply)) (turn : SessionThread) (opened closed : Pass) (before after : List ℕ) (old new : List Pass) →
     pass_sent turn ≡ opened ∷ [] → turn.who ≢ mine → pass_number opened ≡ turn.who →
     pass_number closed ≡ pass_number opened → pass_table closed ≡ pass_table opened →
-    AreAnswers options lines (pass_number opened) (pass_view opened) answers (pass_view closed) →
+    AnswersBetween options lines (pass_number opened) opened closed answers →
     new ≡ old ++ closed ∷ [] → after ≡ before ++ answers_text turn.who answers →
     GainsAnswers options lines mine own (turn ∷ []) before after old new
 gains_one options lines mine own answers turn opened closed before after old new sent differs number numbered there are longer grown =
@@ -108,7 +108,7 @@ gains_one options lines mine own answers turn opened closed before after old new
           number = number;
           closed = closed;
           came_back = Contains-push [] closed;
-          answered = subst (λ n. AreAnswers options lines n (pass_view opened) answers (pass_view closed)) number are;
+          answered = subst (λ n. AnswersBetween options lines n opened closed answers) number are;
         },
       )) (All-nil IsOne);
       gained = grown ∙ ap (λ text. before ++ text) (sym (append-nil (answers_text turn.who answers)));
@@ -210,7 +210,7 @@ pushed_own options lines mine own pushed turn before after passes (Err why) alon
 pub pushed_one : (options : Options) (lines : List Line) (mine : ℕ) (own answers pushed : List (ℕ × Reply)) (turn : SessionThread) (opened closed : Pass) (before after : List ℕ) (old new : List Pass)
     (result : Result (Unit {0}) AllocError) → pass_sent turn ≡ opened ∷ [] → turn.who ≢ mine → pass_number opened ≡ turn.who →
     pass_number closed ≡ pass_number opened → pass_table closed ≡ pass_table opened →
-    AreAnswers options lines (pass_number opened) (pass_view opened) answers (pass_view closed) →
+    AnswersBetween options lines (pass_number opened) opened closed answers →
     new ≡ old ++ closed ∷ [] → pushed ≡ answers → OnOk result (after ≡ before ++ answers_text turn.who pushed) →
     OnOk result (GainsAnswers options lines mine own (turn ∷ []) before after old new)
 pushed_one options lines mine own answers pushed turn opened closed before after old new (Ok done) sent differs number numbered there are longer same grown =

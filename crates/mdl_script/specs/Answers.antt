@@ -1,5 +1,5 @@
 -- The answers that the sessions of a script can have given, each over a lock table that threads share.
-use Rattle.std.specs.Prelude.{◌≡◌, ◌≢◌, ◌⊎◌, ℕ, List, Contains, map, Some}
+use Rattle.std.specs.Prelude.{◌≡◌, ◌≢◌, ◌⊎◌, ℕ, List, [], Contains, map, Some}
 use Rattle.atomic_table.specs.Seated.{TableId}
 use Rattle.mdl_defs.specs.Caches.{CacheView}
 use Rattle.mdl_calls.specs.Words.{Answer, Call, HasNothing, with_cache}
@@ -51,14 +51,24 @@ pub record AreAnswers (options : Options) (lines : List Line) (who : ℕ) (befor
   pub has_nothing : HasNothing (own_of (data_of after) who)
   pub numbers : map (λ (answer : ℕ × Reply). answer.0) answers ≡ map (λ (line : Line). line.number) (lines_of_session who lines)
 
--- a session gave these answers between the state of a pass that was given (`opened`) and that of a pass that came back (`closed`)
+-- a session was closed in this state, and this is its pass: it gave up its pins, and is unchanged otherwise
+abbrev pub IsClosed : Pass → SessionView → Type 0
+IsClosed pass session = pass_view pass ≡ record session { pins = [] }
+
+-- a session gave these answers between the state of its pass and the one in which it was closed
+pub record AnswersBetween (options : Options) (lines : List Line) (who : ℕ) (opened closed : Pass) (answers : List (ℕ × Reply)) : Type 0 where
+  pub worked : SessionView
+  pub answered : AreAnswers options lines who (pass_view opened) answers worked
+  pub is_closed : IsClosed closed worked
+
+-- a session gave these answers between the state of a pass that was given (`opened`) and the one in which it was closed, whose pass came back (`closed`)
 pub record IsFromPass (options : Options) (lines : List Line) (given back : List Pass) (who : ℕ) (answers : List (ℕ × Reply)) : Type 0 where
   pub opened : Pass
   pub was_given : Contains given opened
   pub number : pass_number opened ≡ who
   pub closed : Pass
   pub came_back : Contains back closed
-  pub answered : AreAnswers options lines who (pass_view opened) answers (pass_view closed)
+  pub answered : AnswersBetween options lines who opened closed answers
 
 -- a session with its answers: the asker, session `mine`, with its own, or another one with those that it gave from pass to pass
 abbrev pub IsTranscript : Options → List Line → List Pass → List Pass → ℕ → List (ℕ × Reply) → ℕ × List (ℕ × Reply) → Type 0

@@ -11,7 +11,7 @@ use Rattle.mdl_shared.specs.declared.pass.Pass.{Pass}
 use Rattle.mdl_shared.specs.Passes.{ArePasses, pass_number, pass_view}
 use Rattle.mdl_shared.specs.SessionViews.{SessionView}
 use Rattle.mdl_visits.specs.declared.audited.Audited.{Audited}
-use Rattle.mdl_script.specs.Answers.{AreAnswers, IsTranscript, Options, WorksOff}
+use Rattle.mdl_script.specs.Answers.{AreAnswers, IsClosed, IsTranscript, Options, WorksOff}
 use Rattle.mdl_script.specs.Books.{AreOfOneAudit}
 use Rattle.mdl_script.specs.RunTexts.{IsRunText, names_session}
 
@@ -47,14 +47,17 @@ pub record IsRunBetween (options : Options) (lines : List Line) (given back : Li
   pub answered : All (IsTranscript options lines given back before.me.0.number own) transcripts
   pub told : IsRunText lines transcripts books text
 
--- the same by the passes that were given and those that came back: the asker's was the first, and is the first again
+-- the same by the passes that were given and those that came back: the asker's was the first, and is the first again, of the state in which the asker was
+-- closed (`ended`)
 pub record IsRunFrom (options : Options) (lines : List Line) (given back : List Pass) (text : List ℕ) : Type 0 where
   pub asker : Pass
   pub was_first : slice_get given 0 ≡ Some asker
   pub closed : Pass
   pub is_first : slice_get back 0 ≡ Some closed
   pub passes : ComeBack lines (pass_number asker) given back
-  pub run : IsRunBetween options lines given back (pass_view asker) (pass_view closed) text
+  pub ended : SessionView
+  pub is_closed : IsClosed closed ended
+  pub run : IsRunBetween options lines given back (pass_view asker) ended text
 
 -- the same at a new table of full size, with the passes of all its sessions, which had done nothing yet
 pub record IsRunOf (options : Options) (lines : List Line) (text : List ℕ) : Type 0 where

@@ -4,12 +4,12 @@ use Rattle.std.specs.List.{list_any}
 use Rattle.std.specs.declared.thread.PromisedHandle.{PromisedHandle}
 use Rattle.mdl_syntax.specs.declared.script.Line.{Line}
 use Rattle.mdl_shared.specs.declared.pass.Pass.{Pass}
-use Rattle.mdl_shared.specs.Passes.{pass_number, pass_table, pass_view}
+use Rattle.mdl_shared.specs.Passes.{pass_number, pass_table}
 use Rattle.mdl_rows.specs.declared.reply.Reply.{Reply}
 use Rattle.mdl_script.specs.declared.on_thread.Answered.{Answered}
 use Rattle.mdl_script.specs.declared.turns.AnswersOf.{AnswersOf}
 use Rattle.mdl_script.specs.declared.turns.SessionThread.{SessionThread}
-use Rattle.mdl_script.specs.Answers.{AreAnswers, IsTranscript, Options, options_of}
+use Rattle.mdl_script.specs.Answers.{AnswersBetween, IsTranscript, Options, options_of}
 use Rattle.mdl_script.specs.RunTexts.{transcripts_text}
 
 -- whether one of these passes has this number
@@ -21,7 +21,7 @@ has_pass passes who = list_any (λ (pass : Pass). pass_number pass == who) passe
 pub record CameBack (options : Options) (lines : List Line) (opened : Pass) (back : Answered) : Type 0 where
   pub number : pass_number back.pass ≡ pass_number opened
   pub there : pass_table back.pass ≡ pass_table opened
-  pub answered : IfOk back.answers (λ answers. AreAnswers options lines (pass_number opened) (pass_view opened) answers.items (pass_view back.pass))
+  pub answered : IfOk back.answers (λ answers. AnswersBetween options lines (pass_number opened) opened back.pass answers.items)
 
 -- the promise is about these lines, with these options
 abbrev pub IsAboutLines : Options → List Line → AnswersOf → Type 0

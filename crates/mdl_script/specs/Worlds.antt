@@ -7,7 +7,7 @@ use Rattle.mdl_key.specs.Keys.{KeyName, schema_key}
 use Rattle.mdl_key.specs.Words.{most_places, most_sessions}
 use Rattle.mdl_defs.specs.declared.change.Change.TheVariants.{Create}
 use Rattle.mdl_defs.specs.declared.definition.Definition.TheVariants.{Schema}
-use Rattle.mdl_calls.specs.Words.{Answer, At_place, Granted, Resolve, Try_now, Change_definition, Release, Settle_timeout, Program, Give, Ask, outcome_of}
+use Rattle.mdl_calls.specs.Words.{Answer, At_place, Granted, Resolve, Try_now, Change_definition, Release, Settle_timeout, Unpin, Program, Give, Ask, outcome_of}
 use Rattle.mdl_core.specs.CoreCalls.{has_settled, outcome}
 use Rattle.mdl_core.specs.Cores.{Core, empty_core}
 use Rattle.mdl_syntax.specs.declared.script.Line.{Line}
@@ -58,20 +58,22 @@ sessions = range_with_len 1 most_sessions
 abbrev pub unasked_player : ℕ → Player
 unasked_player who = record { session = record { context = record { who = who; kept = []; known = []; wait = None }; state = at_first; left = None }; line = 0 }
 
--- session 1 creates a schema under its lock, and releases the lock
-abbrev pub create_first_schema : Answer → Program (Unit {0})
-create_first_schema (Granted id) = Ask (Change_definition 1 id (Create Schema)) (λ _. Ask (Release 1 id) (λ _. Give tt))
-create_first_schema _ = Give tt
+-- session 1 creates the schema at a place under its lock, releases the lock, and gives up its pin of the place
+abbrev pub create_first_schema : ℕ → Answer → Program (Unit {0})
+create_first_schema place (Granted id) =
+    Ask (Change_definition 1 id (Create Schema)) (λ _. Ask (Release 1 id) (λ _. Ask (Unpin 1 place) (λ _. Give tt)))
+create_first_schema place _ = Give tt
 
 -- session 1 locks the schema at its place, and creates it
 abbrev pub create_at : Answer → Program (Unit {0})
-create_at (At_place place) = Ask (Try_now 1 place X) create_first_schema
+create_at (At_place place) = Ask (Try_now 1 place X) (create_first_schema place)
 create_at _ = Give tt
 
 abbrev pub creating : KeyName → Program (Unit {0})
 creating schema = Ask (Resolve 1 schema) create_at
 
--- a space with the most places and sessions that there can be, in which the schema `test` was created and nothing else was done
+-- a space with the most places and sessions that there can be, in which the schema `test` was created and nothing else was done. No session has
+-- anything there, or pins a place
 abbrev pub first_core : Core
 first_core = (outcome_of outcome (creating (schema_key (codes "test"))) (empty_core most_places most_sessions)).1
 

@@ -14,7 +14,7 @@ use std::alloc::{AllocError, Global};
 // The session that creates the first schema.
 const FIRST: u16 = 1;
 
-/// Returns a new space in which the schema `test` was created and nothing else was done.
+/// Returns a new space in which the schema `test` was created and nothing else was done. No session pins a place there.
 pub(crate) fn first_space(alloc: Global) -> Result<CoreSpace, AllocError>
     ensures made { IfOk result (λ space. space ≡ first_core) }
     ensures speaks { IfOk result (λ space. (who : ℕ) → 1 ≤ who → who ≤ most_sessions → SpeaksFor space who) }
@@ -46,6 +46,9 @@ fn create(space: &mut CoreSpace, schema: &Key) -> Result<(), AllocError>
         return Err(AllocError);
     }
     if space.release(FIRST, id).is_err() {
+        return Err(AllocError);
+    }
+    if space.unpin(FIRST, place).is_err() {
         return Err(AllocError);
     }
     Ok(())

@@ -1,10 +1,10 @@
 //! A session on a thread, from its pass to the end.
 ghost use Rattle.std.specs.Prelude.{◌≡◌, []};
 ghost use Rattle.mdl_calls.specs.Words.{HasNothing};
-ghost use Rattle.mdl_shared.specs.Passes.{manager_table, pass_table, pass_view};
+ghost use Rattle.mdl_shared.specs.Passes.{manager_table, pass_table};
 ghost use Rattle.mdl_shared.specs.SessionViews.{data_of};
 ghost use Rattle.mdl_stmt.specs.Attendance.{IsCapacity};
-ghost use Rattle.mdl_script.specs.Answers.{options_of};
+ghost use Rattle.mdl_script.specs.Answers.{IsClosed, options_of};
 ghost use Rattle.mdl_script.specs.Turns.{CameBack};
 
 use mdl_shared::{CloseError, Manager, Pass, Session};
@@ -43,11 +43,11 @@ pub(crate) fn work_pass<R: Wait, G: Gate>(
     Answered { pass, answers }
 }
 
-/// Closes a session that has no ticket and no wait, and owes no place a reschedule. Returns its pass.
+/// Closes a session that has no ticket and no wait, and owes no place a reschedule. It gives up its pins. Returns its pass.
 pub(crate) fn close<R: Drop>(session: Session<R>) -> Pass
     requires nothing { HasNothing (data_of session).own }
     requires paid { session.me.0.owes ≡ [] }
-    ensures { pass_view result ≡ session }
+    ensures { IsClosed result session }
 {
     match session.close() {
         Ok(pass) => pass,

@@ -1,5 +1,5 @@
 -- A statement that ends by an early error has changed nothing, and none that has waited ends so.
-use Rattle.std.proofs.Common.{◌≡◌, ℕ, Bool, true, false, Option, Some, None, List, [], inl, inr, refl, sym, ap, subst, ◌∙◌}
+use Rattle.std.proofs.Common.{◌≡◌, ℕ, Bool, true, false, Option, Some, None, inl, inr, refl, sym, ap, subst, ◌∙◌}
 use Rattle.std.proofs.lemmas.Bool.{false≢true}
 use Rattle.mdl_defs.specs.declared.versioned_definition.VersionedDefinition.{VersionedDefinition}
 use Rattle.mdl_calls.specs.Words.{Answer, Reads, Program, Give, ◌>>=◌, Each, Read_kept, Runs}
@@ -14,15 +14,13 @@ use Rattle.mdl_core.specs.CoreJoins.{Joins}
 use Rattle.mdl_core.specs.Cores.{Core}
 use Rattle.mdl_context.specs.declared.context_error.ContextError.{ContextError}
 use Rattle.mdl_context.specs.declared.context_error.ContextError.TheVariants.{Space}
-use Rattle.mdl_context.specs.declared.kept.Kept.{Kept}
 use Rattle.mdl_context.specs.declared.request.Mark.{Mark}
 use Rattle.mdl_context.specs.declared.request.Resume.{Resume}
-use Rattle.mdl_context.specs.Contexts.{ContextView, current_mark, without_tickets}
+use Rattle.mdl_context.specs.Contexts.{ContextView, current_mark}
 use Rattle.mdl_context.specs.Gains.{refusal_answered}
 use Rattle.mdl_context.specs.Releases.{releasing, releasing_tickets}
 use Rattle.mdl_context.specs.Requests.{Outcome}
 use Rattle.mdl_context.specs.Waits.{resuming}
-use Rattle.mdl_context.proofs.BeyondLemmas.{without-none}
 use Rattle.mdl_rows.specs.declared.ending.Ending.{Ending}
 use Rattle.mdl_rows.specs.declared.ending.Ending.TheVariants.{Answers, Misses, Falls, Starves}
 use Rattle.mdl_rows.specs.declared.reply.Reply.{Reply}
@@ -40,7 +38,7 @@ use Rattle.mdl_script_laws.specs.RefusalsFirst.{IsTidy, EarlyErrorsChangeNothing
 use Rattle.mdl_script_laws.proofs.EarlyRows.{ChecksFirst, FailsLate, IsLate, statements_check}
 use Rattle.mdl_script_laws.proofs.RowPauses.{AnyTables, Follows, Rules, Told, any-told, so-play, so-resumed}
 use Rattle.mdl_script_laws.proofs.OutcomeLemmas.{by-each}
-use Rattle.mdl_script_laws.proofs.TidyLemmas.{none-gone}
+use Rattle.mdl_script_laws.proofs.TidyLemmas.{none-gone, releasing-nothing}
 
 -- what is left of a statement never fails by an early error
 abbrev pub IsLateLeft : Option Left → Type 0
@@ -153,24 +151,26 @@ run_late : (session : Session) (program : Program Pause) (a b c : Core) (pause :
 run_late session program a b c pause so run = late_untouched session c b pause (each_reply Joins IsLatePause program a b pause so run)
 
 -- a tidy session gives nothing up
-same_session : (session : Session) (kept : List Kept) → session.left ≡ None → kept ≡ session.context.kept
-    → let after : Session = record { context = record session.context { kept = kept }; state = session.state; left = None } in after ≡ session
-same_session session kept over same = λ i. record { context = record session.context { kept = same i }; state = session.state; left = sym over i }
+same_session : (session : Session) → session.left ≡ None
+    → let after : Session = record { context = session.context; state = session.state; left = None } in after ≡ session
+same_session session over = λ i. record { context = session.context; state = session.state; left = sym over i }
 
 answered_tidy : (answer : Reply) (mark : Mark) (session : Session) (a b : Core) (pause : Pause) → IsTidy session
     → Runs Joins a (closing (Answers answer) mark session) pause b
     → (Ends answer session ≡ pause) × (b ≡ a)
 answered_tidy answer mark session a b pause tidy run =
-    (ap (Ends answer) (sym (same_session session (without_tickets [] session.context.kept) tidy.over (without-none session.context.kept))) ∙ done.0, sym done.1)
+    (ap (Ends answer) (sym (same_session session tidy.over)) ∙ done.0, sym done.1)
   where
     after : ContextView → Session
     after context = record { context = context; state = session.state; left = None }
 
-    done : (Ends answer (after (record session.context { kept = without_tickets [] session.context.kept })) ≡ pause) × (a ≡ b)
+    done : (Ends answer (after session.context) ≡ pause) × (a ≡ b)
     done =
-        subst (λ gone. Runs Joins a (releasing_tickets gone session.context >>= (λ outcome. Give (Ends answer (after outcome.1)))) pause b)
+        subst (λ program. Runs Joins a (program >>= (λ outcome. Give (Ends answer (after outcome.1)))) pause b)
+        (releasing-nothing session.context tidy.places)
+        (subst (λ gone. Runs Joins a (releasing_tickets gone session.context >>= (λ outcome. Give (Ends answer (after outcome.1)))) pause b)
         (none-gone session.state.is_open answer mark session.context.kept tidy.statement tidy.transaction)
-        (subst (λ half. Runs Joins a (without_half half (Answers answer) mark (record session { left = None })) pause b) tidy.whole run)
+        (subst (λ half. Runs Joins a (without_half half (Answers answer) mark (record session { left = None })) pause b) tidy.whole run))
 
 answered_untouched : (answer : Reply) (mark : Mark) (session : Session) (a b : Core) (pause : Pause) → IsTidy session
     → Runs Joins a (closing (Answers answer) mark session) pause b

@@ -17,7 +17,7 @@ use Rattle.mdl_core.proofs.CallDeadlocks.{only-new_waits}
 use Rattle.mdl_core.proofs.CallLaws.{core-keeps, joins-comes}
 use Rattle.mdl_core.proofs.CoreSound.{calls_keep-sound}
 use Rattle.mdl_core.proofs.PinnedSeats.{repinned}
-use Rattle.mdl_core.proofs.Ways.{Way, Stay, Repin, Open, Settle_wait, Make, makes_room, served_if, space_by}
+use Rattle.mdl_core.proofs.Ways.{Way, Stay, Repin, Open, Replace, Settle_wait, Make, makes_room, served_if, space_by}
 use Rattle.mdl_system.specs.Deadlocks.{DeadlocksGoThrough, HasNoDeadlock}
 use Rattle.mdl_script_laws.proofs.OutcomeLemmas.{joins-outcome}
 
@@ -51,6 +51,7 @@ seats-by : (a : Core) (way : Way) → length (space_by way a).seats ≡ length a
 seats-by a Stay = refl
 seats-by a (Repin who pins) = length-set a.seats (who - 1) (repinned pins (seat_at who a))
 seats-by a (Open who key) = length-set a.seats (who - 1) (with_pin (length a.books + 1) (seat_at who a))
+seats-by a (Replace who place key) = length-set a.seats (who - 1) (with_pin place (seat_at who a))
 seats-by a (Settle_wait who place how) = seats-changing a who place (Settle how)
 seats-by a (Make who place change) = seats-served (after_change who place change a) (makes_room change) place ∙ seats-changing a who place change
 

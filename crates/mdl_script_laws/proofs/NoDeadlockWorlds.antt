@@ -67,12 +67,12 @@ keeps-calm = record {
 
 -- ---- the world at first
 
-quiet-under : (answer : Answer) → EachCall IsQuiet (create_first_schema answer)
-quiet-under (Granted id) = (λ answer session. refl, λ _. (λ answer session. refl, λ _. tt))
-quiet-under _ = tt
+quiet-under : (place : ℕ) (answer : Answer) → EachCall IsQuiet (create_first_schema place answer)
+quiet-under place (Granted id) = (λ answer session. refl, λ _. (λ answer session. refl, λ _. (λ answer session. refl, λ _. tt)))
+quiet-under place _ = tt
 
 quiet-at : (answer : Answer) → EachCall IsQuiet (create_at answer)
-quiet-at (At_place place) = (λ answer session. refl, quiet-under)
+quiet-at (At_place place) = (λ answer session. refl, quiet-under place)
 quiet-at _ = tt
 
 -- nobody waits in the empty space

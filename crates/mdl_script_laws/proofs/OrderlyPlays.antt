@@ -8,6 +8,7 @@ use Rattle.mdl_context.specs.declared.request.Resume.{Resume}
 use Rattle.mdl_context.specs.Contexts.{ContextView, current_mark, without_tickets}
 use Rattle.mdl_context.specs.Releases.{releasing, releasing_all, releasing_tickets}
 use Rattle.mdl_context.specs.Requests.{Outcome}
+use Rattle.mdl_context.specs.Tidying.{tidied, tidying, unneeded, unpinning_all}
 use Rattle.mdl_context.specs.Waits.{resuming}
 use Rattle.mdl_rows.specs.declared.ending.Ending.{Ending}
 use Rattle.mdl_rows.specs.declared.ending.Ending.TheVariants.{Answers, Misses, Falls, Starves}
@@ -23,7 +24,7 @@ use Rattle.mdl_rows.specs.Statements.{row_of}
 use Rattle.mdl_script_laws.specs.RefusalsFirst.{EndsTidy, IsTidy, IsUnderway, SessionsStayTidy}
 use Rattle.mdl_script_laws.proofs.RowPauses.{AnyEnding, AnyTables, Follows, Rules, Told, any-endings, any-told, so-play, so-resumed}
 use Rattle.mdl_script_laws.proofs.OutcomeLemmas.{by-each}
-use Rattle.mdl_script_laws.proofs.TidyLemmas.{none-of_statement, none-of_transaction}
+use Rattle.mdl_script_laws.proofs.TidyLemmas.{none-of_statement, none-of_transaction, tidied-tidy}
 
 -- whatever comes of it
 abbrev AllOrderly : Program Pause → Type 0
@@ -41,14 +42,17 @@ orderly_ended (Misses number) session tidy = tidy
 orderly_ended Falls session tidy = tidy
 orderly_ended Starves session tidy = tidy
 
--- without the tickets that go
+-- without the tickets that go, and the places where nothing is left
 abbrev left_of : List Kept → ContextView → ContextView
-left_of gone context = record context { kept = without_tickets gone context.kept }
+left_of gone context = tidied (record context { kept = without_tickets gone context.kept })
 
 each_left : (gone : List Kept) (context : ContextView) → Each (λ (outcome : Outcome (Unit {0})). outcome.1 ≡ left_of gone context) (releasing_tickets gone context)
 each_left gone context =
+    let left : ContextView = record context { kept = without_tickets gone context.kept } in
     each_then {A = Unit {0}} {B = Outcome (Unit {0})} (λ outcome. outcome.1 ≡ left_of gone context) (releasing_all context.who gone)
-    (λ _. Give (Ok tt, left_of gone context)) (λ _. refl)
+    (λ _. tidying (Ok tt, left))
+    (λ _. each_then {A = Unit {0}} {B = Outcome (Unit {0})} (λ outcome. outcome.1 ≡ left_of gone context) (unpinning_all context.who (unneeded left))
+    (λ _. Give (Ok tt, tidied left)) (λ _. refl))
 
 orderly_letting_go : (ending : Ending) (mark : Mark) (session : Session) → IsAtStart mark → half_lock (state_after ending session.state) ≡ None
     → AllOrderly (letting_go ending mark session)
@@ -69,6 +73,7 @@ orderly_letting_go ending mark session start whole =
       statement = none-of_statement ending session.state.is_open mark session.context.kept start;
       transaction = none-of_transaction ending mark session.context.kept session.state;
       whole = whole;
+      places = tidied-tidy (record session.context { kept = without_tickets gone session.context.kept });
     }
 
 -- without the global read lock there is no half of it

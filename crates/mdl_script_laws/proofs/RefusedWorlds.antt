@@ -1,13 +1,15 @@
 -- Line by line, early refusals are answers of lines that changed nothing.
-use Rattle.std.proofs.Common.{◌≡◌, ◌≢◌, ℕ, zero, suc, false, List, [], ◌∷◌, drop, take, Some, None, ◌⊎◌, inl, inr, refl, sym, ap, ◌∙◌, subst}
+use Rattle.std.proofs.Common.{◌≡◌, ◌≢◌, ℕ, zero, suc, true, false, List, [], ◌∷◌, drop, take, Some, None, ◌⊎◌, inl, inr, refl, sym, ap, ◌∙◌, subst}
 use Rattle.std.specs.Prelude.{is_some, IsTrue}
 use Rattle.std.specs.List.{All}
 use Rattle.std.proofs.lemmas.Bool.{false≢true}
 use Rattle.std.proofs.lemmas.List.Elements.{All-append, All-cons, All-head, All-nil, All-tail}
+use Rattle.mdl_key.specs.Keys.{KeyName}
 use Rattle.mdl_calls.specs.Words.{Each, Program, Runs, outcome_of}
 use Rattle.mdl_core.specs.CoreCalls.{outcome}
 use Rattle.mdl_core.specs.CoreJoins.{Joins, SpeaksFor}
 use Rattle.mdl_core.specs.Cores.{Core}
+use Rattle.mdl_context.specs.Tidying.{is_needed}
 use Rattle.mdl_lines.specs.Sessions.{IsScriptSession}
 use Rattle.mdl_syntax.specs.declared.script.Line.{Line}
 use Rattle.mdl_rows.specs.declared.reply.Reply.TheVariants as reply
@@ -19,7 +21,7 @@ use Rattle.mdl_rows.proofs.RowOutcomes.{rows_keep_sound}
 use Rattle.mdl_script.specs.declared.told.News.{News}
 use Rattle.mdl_script.specs.declared.told.News.TheVariants.{Busy, Ends as Has_ended}
 use Rattle.mdl_script.specs.declared.told.Told.{Told}
-use Rattle.mdl_script.specs.Worlds.{Player, World, after_timeout, ask_session, continuing_settled, first_settled, first_world, going, line_played, lines_played, most_turns, player_at, reports_of, script_played, session_waits, started}
+use Rattle.mdl_script.specs.Worlds.{Player, World, after_timeout, ask_session, continuing_settled, first_settled, first_world, going, line_played, lines_played, most_turns, player_at, reports_of, script_played, session_waits, started, unasked_player}
 use Rattle.mdl_script.proofs.SettleLemmas.{read-sessions}
 use Rattle.mdl_script.proofs.SoundLemmas.{IsStaffed, first-session, staffed-first}
 use Rattle.mdl_script_laws.specs.IdleSessions.{IdleSessionsAreTidy}
@@ -68,7 +70,7 @@ goes-late session (inr (underway, late)) = ((stay_tidy session).1 underway, late
 goes-late session (inl tidy) =
     let resting : Session = record session { left = None } in
     subst (λ left. Each EndsTidy (going_on_with left resting) × Each IsLatePause (going_on_with left resting)) (sym tidy.over)
-    (record { over = refl; statement = tidy.statement; transaction = tidy.transaction; whole = tidy.whole }, tt)
+    (record { over = refl; statement = tidy.statement; transaction = tidy.transaction; whole = tidy.whole; places = tidy.places }, tt)
 
 told-late : (line who : ℕ) (pause : Pause) → IsLatePause pause → All IsNoRefusal (reports_of line who pause)
 told-late line who (Ends reply.Ok session) late = All-cons IsNoRefusal _ [] refl (All-nil IsNoRefusal)
@@ -224,7 +226,13 @@ told-lines (line ∷ lines) world is kept =
 
 ready-first : AreReady first_world
 ready-first who is =
-    subst (λ (p : Player). IsReady p.session) (sym (new-session who is)) (inl (record { over = refl; statement = refl; transaction = λ _. refl; whole = refl }))
+    subst (λ (p : Player). IsReady p.session) (sym (new-session who is)) (inl (record {
+      over = refl;
+      statement = refl;
+      transaction = λ _. refl;
+      whole = refl;
+      places = All-nil (λ (entry : KeyName × ℕ). is_needed (unasked_player who).session.context entry.1 ≡ true);
+    }))
 
 kept-first : IsKept AreReady first_world
 kept-first = record { staffed = staffed-first; so = ready-first }

@@ -1,9 +1,9 @@
 -- All that a context asks of the space leaves it what it kept, held.
-use Rattle.std.proofs.Common.{◌≡◌, ◌⊎◌, inl, inr, ℕ, Bool, true, false, List, [], ◌∷◌, ◌++◌, Option, Some, None, Err, Contains, is_some, option_map, find, refl, sym, ap, ◌∙◌, subst, eq-eqb}
+use Rattle.std.proofs.Common.{◌≡◌, inl, inr, ℕ, Bool, true, false, List, [], ◌∷◌, ◌++◌, Option, Some, None, Err, Contains, is_some, option_map, find, refl, sym, ap, ◌∙◌, subst, eq-eqb}
 use Rattle.std.specs.Prelude.{if◌then◌else◌}
+use Rattle.std.proofs.lemmas.List.Elements.{Contains-append_cases}
 use Rattle.mdl_key.specs.declared.mode.Mode.{Mode}
-use Rattle.mdl_key.specs.Keys.{KeyName, key_eq}
-use Rattle.mdl_system.proofs.Deciding.{key-Decides}
+use Rattle.mdl_key.specs.Keys.{KeyName}
 use Rattle.mdl_system.proofs.MemberLemmas.{Contains-none}
 use Rattle.mdl_system.proofs.OrderLemmas.{Contains-cons_cases}
 use Rattle.mdl_book.proofs.TicketLemmas.{find-passes, find-contains}
@@ -28,7 +28,8 @@ use Rattle.mdl_context.specs.Holdings.{earliest, kept_ticket, wanted_of}
 use Rattle.mdl_context.specs.Requests as requests
 use Rattle.mdl_context.specs.Requests.{Outcome}
 use Rattle.mdl_context.proofs.PlaceLemmas.{suffices-at, equal}
-use Rattle.mdl_script_laws.proofs.ShownCalls.{IsQuiet, Leads, Spares, Stays, leads-bind, leads-quiet, none, spares-call, spares-then, stays-call, stays-here}
+use Rattle.mdl_script_laws.proofs.ListLemmas.{only-one}
+use Rattle.mdl_script_laws.proofs.ShownCalls.{IsQuiet, Leads, Spares, Stays, leads-bind, leads-map, leads-quiet, none, spares-call, spares-then, stays-call, stays-here}
 use Rattle.mdl_script_laws.proofs.ShownContexts.{Fits, Followed, IsFresh, fits-more, fits-same, followed-here, followed-late, followed-same, followed-waiting, gained-fresh, gained-there}
 
 -- ---- numbers of tickets
@@ -298,40 +299,19 @@ module _ (a : Core) (context : ContextView) (place : ℕ) (request : Wish) (fits
   attempted-at : Leads Attempted (requests.trying_at place request context) a
   attempted-at = attempted-again (earliest (requests.is_reusable place request) context.kept)
 
--- the place of the key that came to be known last
-known-more : (key other : KeyName) (known : List (KeyName × ℕ)) (place p : ℕ) → place_known other (known ++ (key, place) ∷ []) ≡ Some p
-    → (place_known other known ≡ Some p) ⊎ ((other ≡ key) × (p ≡ place))
-known-more key other [] place p e = go (key_eq other key) refl e
-  where
-    go : (b : Bool) → key_eq other key ≡ b → (if b then Some place else None) ≡ Some p → (None ≡ Some p) ⊎ ((other ≡ key) × (p ≡ place))
-    go true same f = inr ((key-Decides other key).0 same, let g : place ≡ p = cc in sym g)
-    go false same f = cc
-known-more key other (x ∷ xs) place p e = go (key_eq other x.0) e (known-more key other xs place p)
-  where
-    go : (b : Bool) → (if b then Some x.1 else place_known other (xs ++ (key, place) ∷ [])) ≡ Some p
-        → (place_known other (xs ++ (key, place) ∷ []) ≡ Some p → (place_known other xs ≡ Some p) ⊎ ((other ≡ key) × (p ≡ place)))
-        → ((if b then Some x.1 else place_known other xs) ≡ Some p) ⊎ ((other ≡ key) × (p ≡ place))
-    go true f rest = inl f
-    go false f rest = rest f
-
+-- one more key is known
 fits-learnt : (a : Core) (context : ContextView) (key : KeyName) (place : ℕ) → Fits a context → Knows a context.who place key
     → Fits a (requests.remembering key place context)
 fits-learnt a context key place fits knows = record {
   speaks = fits.speaks;
   backed = fits.backed;
   alone = fits.alone;
-  known = λ other p e. elim (known-more key other context.known place p e) [
+  known = λ other p among. elim (Contains-append_cases context.known ((key, place) ∷ []) (other, p) among) [
     | inl old ↦ fits.known other p old
-    | inr new ↦ subst (λ k. Knows a context.who p k) (sym new.0) (subst (λ q. Knows a context.who q key) (sym new.1) knows)
+    | inr new ↦ subst (λ (entry : KeyName × ℕ). Knows a context.who entry.1 entry.0) (sym (only-one (key, place) (other, p) new)) knows
   ];
   wait = fits.wait;
 }
-
-pub leads-map : {A : Type 0} (P Q : A → Core → Type 0) (program : Program A) (a : Core) → ((x : A) (b : Core) → P x b → Q x b) → Leads P program a
-    → Leads Q program a
-leads-map P Q (Give x) a so leads = so x a leads
-leads-map P Q (Ask call next) a so leads = λ answer b joins. leads-map P Q (next answer) b so (leads answer b joins)
-leads-map P Q (Grow refused found) a so leads = leads-map P Q found a so leads
 
 asked-place : (a b : Core) (request : Wish) (context : ContextView) (answer : Answer) → Fits a context → context.wait ≡ None
     → Joins a (Resolve context.who request.key) answer b

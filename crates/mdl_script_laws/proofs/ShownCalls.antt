@@ -1,22 +1,25 @@
 -- What a session holds, and what stands under it, over calls: its own, and those of others.
-use Rattle.std.proofs.Common.{◌≡◌, ◌≢◌, inl, ℕ, Bool, true, false, not, Option, Some, None, IfSome, Contains, refl, sym, ap, ◌∙◌, subst, arith}
+use Rattle.std.proofs.Common.{◌≡◌, ◌≢◌, inl, ℕ, Bool, true, false, not, List, [], ◌∷◌, Option, Some, None, IfSome, Contains, refl, sym, ap, ◌∙◌, subst, arith}
 use Rattle.std.specs.Prelude.{◌==◌}
 use Rattle.std.proofs.lemmas.Bool.Decides.{nat_tests}
 use Rattle.std.proofs.lemmas.List.Elements.{Contains-append_left}
 use Rattle.mdl_key.specs.declared.mode.Mode.{Mode}
 use Rattle.mdl_key.specs.Keys.{KeyName}
+use Rattle.mdl_system.proofs.OrderLemmas.{Contains-here, Contains-later}
 use Rattle.mdl_calls.specs.declared.answers.Held.{Held}
 use Rattle.mdl_calls.specs.SessionLocks.{Wait}
-use Rattle.mdl_calls.specs.Words.{Answer, At_place, Granted, Lost, Done, Call, caller, Resolve, Try_now, Begin_wait, End_wait, Release, Clone_ticket, Upgrade_now, Merge, Downgrade, Change_definition, Unpin, SessionLocks, own_after, ticket_held, is_number, cloning, winning, redefined_place, Program, Give, Ask, Grow, ◌>>=◌, Each, EachCall, outcome_of}
+use Rattle.mdl_calls.specs.Words.{Answer, At_place, Granted, Lost, Done, Call, caller, Resolve, Try_now, Begin_wait, End_wait, Release, Clone_ticket, Upgrade_now, Merge, Downgrade, Change_definition, Unpin, HoldsAt, SessionLocks, own_after, ticket_held, is_number, cloning, winning, redefined_place, Program, Give, Ask, Grow, ◌>>=◌, Each, EachCall, outcome_of}
 use Rattle.mdl_core.specs.CoreCalls.{outcome}
 use Rattle.mdl_core.specs.CoreJoins.{Joins, Knows, SpeaksFor, locks_at}
-use Rattle.mdl_core.specs.Cores.{Core, has_key, standing_at}
+use Rattle.mdl_core.specs.Cores.{Core, has_key, key_at, standing_at}
 use Rattle.mdl_core.specs.RunLaws.{IsMadeFor}
-use Rattle.mdl_core.proofs.CallLaws.{core-changes, core-keeps, core-others, core-remembers}
+use Rattle.mdl_core.proofs.CallLaws.{core-changes, core-explains, core-keeps, core-others, core-remembers}
 use Rattle.mdl_core.proofs.CoreReads.{ticket-key}
 use Rattle.mdl_core.proofs.CoreSound.{calls_keep-sound}
+use Rattle.mdl_core.proofs.KnownPlaces.{core-held_pinned}
 use Rattle.mdl_core.proofs.ReadLaws.{core-stands}
-use Rattle.mdl_script_laws.proofs.ListLemmas.{filter-among}
+use Rattle.mdl_context.specs.Tidying.{unpinning_all}
+use Rattle.mdl_script_laws.proofs.ListLemmas.{filter-among, only-one}
 use Rattle.mdl_script_laws.proofs.OutcomeLemmas.{joins-outcome}
 
 -- ---- what a session holds
@@ -79,6 +82,10 @@ none id = ⊥
 pub key-held : (a : Core) (who : ℕ) (t : Held) → SpeaksFor a who → Contains (locks_at a who).held t → has_key t.place a ≡ true
 key-held a who t speaks among = ticket-key a who t speaks.1.tied speaks.0 (inl (inl among))
 
+-- it knows the key of the place, which it pins
+pub knows-held : (a : Core) (who : ℕ) (t : Held) → SpeaksFor a who → Contains (locks_at a who).held t → Knows a who t.place (key_at t.place a)
+knows-held a who t speaks among = (key-held a who t speaks among, refl, inl (core-held_pinned a who t speaks among))
+
 pub spares-here : (who : ℕ) (gone : ℕ → Type 0) (a : Core) → SpeaksFor a who → Spares who gone a a
 spares-here who gone a speaks = record { speaks = speaks; held = λ t among stays. among; known = λ place key knows. knows; stands = λ t among stays. refl }
 
@@ -119,6 +126,22 @@ spares-other who gone a b call answer speaks other joins = record {
   where
     held : (t : Held) → Contains (locks_at a who).held t → (gone t.id → ⊥) → Contains (locks_at b who).held t
     held t among stays = subst (λ (o : SessionLocks). Contains o.held t) (sym (core-others a b call answer who speaks other joins)) among
+
+-- from the one space to the other a session keeps its tickets, but those of these numbers, and keys and definitions under them stay. It may have
+-- given up pins of other places, whose keys it knows no more then
+pub record Leaves (who : ℕ) (gone : ℕ → Type 0) (a b : Core) : Type 0 where
+  pub speaks : SpeaksFor b who
+  pub held : (t : Held) → Contains (locks_at a who).held t → (gone t.id → ⊥) → Contains (locks_at b who).held t
+  pub keys : (t : Held) → Contains (locks_at a who).held t → (gone t.id → ⊥) → key_at t.place b ≡ key_at t.place a
+  pub stands : (t : Held) → Contains (locks_at a who).held t → (gone t.id → ⊥) → standing_at t.place b ≡ standing_at t.place a
+
+pub leaves-spared : (who : ℕ) (gone : ℕ → Type 0) (a b : Core) → SpeaksFor a who → Spares who gone a b → Leaves who gone a b
+leaves-spared who gone a b speaks spares = record {
+  speaks = spares.speaks;
+  held = spares.held;
+  keys = λ t among stays. (spares.known t.place (key_at t.place a) (knows-held a who t speaks among)).1;
+  stands = spares.stands;
+}
 
 -- ---- the wait of a session
 
@@ -182,6 +205,80 @@ stays-other who a b call answer speaks other joins = (
   λ w e. subst (λ (o : SessionLocks). o.wait ≡ Some w) (core-others a b call answer who speaks other joins) e,
 )
 
+-- ---- pins that are given up
+
+-- from the one space to the other a session gives up its pins of some of these places, where it has nothing
+pub record Unpins (who : ℕ) (places : List ℕ) (a b : Core) : Type 0 where
+  pub speaks : SpeaksFor b who
+  pub held : (locks_at b who).held ≡ (locks_at a who).held
+  pub wait : (locks_at b who).wait ≡ (locks_at a who).wait
+  pub known : (place : ℕ) (key : KeyName) → (Contains places place → ⊥) → Knows a who place key → Knows b who place key
+  pub keys : (t : Held) → Contains (locks_at a who).held t → key_at t.place b ≡ key_at t.place a
+  pub stands : (t : Held) → Contains (locks_at a who).held t → standing_at t.place b ≡ standing_at t.place a
+
+unpins-none : (who : ℕ) (a : Core) → SpeaksFor a who → Unpins who [] a a
+unpins-none who a speaks = record {
+  speaks = speaks;
+  held = refl;
+  wait = refl;
+  known = λ place key other knows. knows;
+  keys = λ t among. refl;
+  stands = λ t among. refl;
+}
+
+same-tickets : (who place : ℕ) (answer : Answer) (own : SessionLocks) → (own_after (Unpin who place) answer own).held ≡ own.held
+same-tickets who place Done own = refl
+same-tickets who place _ own = refl
+
+same-wait : (who place : ℕ) (answer : Answer) (own : SessionLocks) → (own_after (Unpin who place) answer own).wait ≡ own.wait
+same-wait who place Done own = refl
+same-wait who place _ own = refl
+
+-- no pin of a ticket's place is given up
+not_held : (a b : Core) (who place : ℕ) → Joins a (Unpin who place) Done b → HoldsAt place (locks_at a who) → ⊥
+not_held a b who place joins holds = (core-explains a b (Unpin who place) Done who refl joins).1 holds
+
+unpins-call : (who place : ℕ) (answer : Answer) (a b : Core) → SpeaksFor a who → Joins a (Unpin who place) answer b → Unpins who (place ∷ []) a b
+unpins-call who place answer a b speaks joins = record {
+  speaks = core-keeps calls_keep-sound a b (Unpin who place) answer who speaks joins;
+  held = ap (λ (o : SessionLocks). o.held) own ∙ same-tickets who place answer (locks_at a who);
+  wait = ap (λ (o : SessionLocks). o.wait) own ∙ same-wait who place answer (locks_at a who);
+  known = λ at key other knows. core-remembers a b (Unpin who place) answer who at key speaks
+      (λ same done. other (let e : place ≡ at = cc in subst (Contains (place ∷ [])) e (Contains-here place []))) joins knows;
+  keys = λ t among. (core-remembers a b (Unpin who place) answer who t.place (key_at t.place a) speaks
+      (λ same done. not_held a b who t.place (subst (λ (call : Call). Joins a call Done b) same (subst (λ said. Joins a (Unpin who place) said b) done joins))
+      (t, among, refl)) joins (knows-held a who t speaks among)).1;
+  stands = λ t among. (core-stands a b (Unpin who place) answer who t.place (standing_at t.place a) speaks (λ called there. cc)
+      (t, subst (λ held. Contains held t) (sym (ap (λ (o : SessionLocks). o.held) own ∙ same-tickets who place answer (locks_at a who))) among, refl) joins
+      ((t, among, refl), key-held a who t speaks among, refl)).2;
+}
+  where
+    own : locks_at b who ≡ own_after (Unpin who place) answer (locks_at a who)
+    own = core-changes a b (Unpin who place) answer who refl joins
+
+unpins-then : (who place : ℕ) (places : List ℕ) (a b c : Core) → Unpins who (place ∷ []) a b → Unpins who places b c → Unpins who (place ∷ places) a c
+unpins-then who place places a b c early late = record {
+  speaks = late.speaks;
+  held = late.held ∙ early.held;
+  wait = late.wait ∙ early.wait;
+  known = λ at key other knows. late.known at key (λ among. other (Contains-later place places at among))
+      (early.known at key (λ among. other (subst (Contains (place ∷ places)) (sym (only-one place at among)) (Contains-here place places))) knows);
+  keys = λ t among. late.keys t (there t among) ∙ early.keys t among;
+  stands = λ t among. late.stands t (there t among) ∙ early.stands t among;
+}
+  where
+    there : (t : Held) → Contains (locks_at a who).held t → Contains (locks_at b who).held t
+    there t among = subst (λ held. Contains held t) (sym early.held) among
+
+-- tickets that stay are as they were
+pub leaves-unpinned : (who : ℕ) (gone : ℕ → Type 0) (places : List ℕ) (a b c : Core) → Leaves who gone a b → Unpins who places b c → Leaves who gone a c
+leaves-unpinned who gone places a b c leaves unpins = record {
+  speaks = unpins.speaks;
+  held = λ t among stays. subst (λ held. Contains held t) (sym unpins.held) (leaves.held t among stays);
+  keys = λ t among stays. unpins.keys t (leaves.held t among stays) ∙ leaves.keys t among stays;
+  stands = λ t among stays. unpins.stands t (leaves.held t among stays) ∙ leaves.stands t among stays;
+}
+
 -- ---- programs
 
 -- a program comes to a reply and a space of which this is so
@@ -195,6 +292,13 @@ pub leads-bind : {A B : Type 0} (P : A → Core → Type 0) (Q : B → Core → 
 leads-bind P Q (Give x) next a leads later = later x a leads
 leads-bind P Q (Ask call more) next a leads later = λ answer b joins. leads-bind P Q (more answer) next b (leads answer b joins) later
 leads-bind P Q (Grow refused found) next a leads later = leads-bind P Q found next a leads later
+
+-- what follows from it is so
+pub leads-map : {A : Type 0} (P Q : A → Core → Type 0) (program : Program A) (a : Core) → ((x : A) (b : Core) → P x b → Q x b) → Leads P program a
+    → Leads Q program a
+leads-map P Q (Give x) a so leads = so x a leads
+leads-map P Q (Ask call next) a so leads = λ answer b joins. leads-map P Q (next answer) b so (leads answer b joins)
+leads-map P Q (Grow refused found) a so leads = leads-map P Q found a so leads
 
 pub leads-outcome : {A : Type 0} (Q : A → Core → Type 0) (program : Program A) (a : Core) (who : ℕ) → SpeaksFor a who → EachCall (IsMadeFor who) program
     → Leads Q program a → Q (outcome_of outcome program a).0 (outcome_of outcome program a).1
@@ -236,3 +340,11 @@ pub leads-each : {A : Type 0} (P : A → Type 0) (Q : A → Core → Type 0) (pr
 leads-each P Q (Give x) a each leads = (each, leads)
 leads-each P Q (Ask call next) a each leads = λ answer b joins. leads-each P Q (next answer) b (each answer) (leads answer b joins)
 leads-each P Q (Grow refused found) a each leads = leads-each P Q found a each.1 leads
+
+-- a session gives up pins
+pub leads-unpinning : (who : ℕ) (places : List ℕ) (a : Core) → SpeaksFor a who → Leads (λ x b. Unpins who places a b) (unpinning_all who places) a
+leads-unpinning who [] a speaks = unpins-none who a speaks
+leads-unpinning who (place ∷ places) a speaks = λ answer b joins.
+    let first = unpins-call who place answer a b speaks joins in
+    leads-map (λ x c. Unpins who places b c) (λ x c. Unpins who (place ∷ places) a c) (unpinning_all who places) b
+    (λ x c later. unpins-then who place places a b c first later) (leads-unpinning who places b first.speaks)

@@ -1,14 +1,15 @@
 -- What a session's context keeps is held in the space, and what it holds stays, over all that a context asks for.
-use Rattle.std.proofs.Common.{◌≡◌, ◌≢◌, ◌⊎◌, inl, inr, ℕ, ◌<◌, Bool, true, List, [], ◌∷◌, ◌++◌, Option, Some, None, Contains, filter, map, refl, sym, ap, ◌∙◌, subst, arith}
-use Rattle.std.specs.Prelude.{nat_lt, IsTrue}
+use Rattle.std.proofs.Common.{◌≡◌, ◌≢◌, ◌⊎◌, inl, inr, ℕ, ◌<◌, Bool, true, false, not, List, [], ◌∷◌, ◌++◌, Option, Some, None, Contains, filter, map, refl, sym, ap, ◌∙◌, subst, arith}
+use Rattle.std.specs.Prelude.{if◌then◌else◌, nat_lt, IsTrue}
 use Rattle.std.specs.List.{list_all}
 use Rattle.std.proofs.lemmas.Bool.Decides.{nat_tests}
 use Rattle.std.proofs.lemmas.List.Elements.{Contains-append_right, Contains-append_cases}
 use Rattle.mdl_key.specs.declared.mode.Duration.TheVariants.{Explicit}
 use Rattle.mdl_key.specs.declared.mode.Mode.{Mode}
-use Rattle.mdl_key.specs.Keys.{KeyName}
+use Rattle.mdl_key.specs.Keys.{KeyName, key_eq}
+use Rattle.mdl_system.proofs.Deciding.{key-Decides}
 use Rattle.mdl_system.proofs.MemberLemmas.{Contains-map_from, Contains-none}
-use Rattle.mdl_system.proofs.OrderLemmas.{Contains-cons_cases, Contains-here}
+use Rattle.mdl_system.proofs.OrderLemmas.{Contains-cons_cases, Contains-here, Contains-later}
 use Rattle.mdl_calls.specs.declared.answers.Held.{Held}
 use Rattle.mdl_calls.specs.SessionLocks.{Wait}
 use Rattle.mdl_calls.specs.Words.{SessionLocks, IsRising, are_rising, gaining}
@@ -18,8 +19,9 @@ use Rattle.mdl_context.specs.declared.kept.Kept.{Kept}
 use Rattle.mdl_context.specs.declared.kept.Wanted.{Wanted}
 use Rattle.mdl_context.specs.Holdings.{kept_for}
 use Rattle.mdl_context.specs.Contexts.{ContextView, place_known}
+use Rattle.mdl_context.specs.Tidying.{is_needed, tidied, unneeded}
 use Rattle.mdl_script_laws.proofs.ListLemmas.{among-filter, only-one}
-use Rattle.mdl_script_laws.proofs.ShownCalls.{Spares, Stays, none, spares-here, spares-then}
+use Rattle.mdl_script_laws.proofs.ShownCalls.{Spares, Stays, Unpins, none, spares-here, spares-then}
 
 -- ---- tickets with rising numbers
 
@@ -56,8 +58,25 @@ pub record Fits (a : Core) (context : ContextView) : Type 0 where
   pub speaks : SpeaksFor a context.who
   pub backed : (k : Kept) → Contains context.kept k → (t : Held) × Contains (locks_at a context.who).held t × (t.id ≡ k.id) × (t.place ≡ k.place)
   pub alone : (k other : Kept) → Contains context.kept k → Contains context.kept other → k.id ≡ other.id → k.duration ≡ other.duration
-  pub known : (key : KeyName) (place : ℕ) → place_known key context.known ≡ Some place → Knows a context.who place key
+  pub known : (key : KeyName) (place : ℕ) → Contains context.known (key, place) → Knows a context.who place key
   pub wait : (wanted : Wanted) (w : Wait) → context.wait ≡ Some wanted → (locks_at a context.who).wait ≡ Some w → w.place ≡ wanted.place
+
+-- the place of a key that is known is known with it
+place-among : (key : KeyName) (known : List (KeyName × ℕ)) (place : ℕ) → place_known key known ≡ Some place → Contains known (key, place)
+place-among key [] place e = cc
+place-among key (x ∷ xs) place e = go (key_eq key x.0) refl e (place-among key xs place)
+  where
+    go : (b : Bool) → key_eq key x.0 ≡ b → (if b then Some x.1 else place_known key xs) ≡ Some place
+        → (place_known key xs ≡ Some place → Contains xs (key, place)) → Contains (x ∷ xs) (key, place)
+    go true same f later =
+        let first : x.0 ≡ key = sym ((key-Decides key x.0).0 same) in
+        let second : x.1 ≡ place = cc in
+        subst (λ (y : KeyName × ℕ). Contains (x ∷ xs) y) (λ i. (first i, second i)) (Contains-here x xs)
+    go false other f later = Contains-later x xs (key, place) (later f)
+
+pub fits-known : (a : Core) (context : ContextView) (key : KeyName) (place : ℕ) → Fits a context → place_known key context.known ≡ Some place
+    → Knows a context.who place key
+fits-known a context key place fits e = fits.known key place (place-among key context.known place e)
 
 -- fewer tickets are kept
 pub fits-fewer : (a b : Core) (context : ContextView) (gone : ℕ → Type 0) (p : Kept → Bool) → ((k : Kept) → p k ≡ true → gone k.id → ⊥) → Fits a context
@@ -71,6 +90,25 @@ fits-fewer a b context gone p stay fits stays = record {
   alone = λ k other one two e. fits.alone k other (among-filter p context.kept k one).0 (among-filter p context.kept other two).0 e;
   known = λ key place e. stays.0.known place key (fits.known key place e);
   wait = λ wanted w e f. fits.wait wanted w e (stays.1 w f);
+}
+
+-- a place where the context has something isn't given up
+needed-stays : (context : ContextView) (place : ℕ) → is_needed context place ≡ true → Contains (unneeded context) place → ⊥
+needed-stays context place needs among =
+    let h = among-filter (λ p. not (is_needed context p)) (map (λ (entry : KeyName × ℕ). entry.1) context.known) place among in
+    let g = ap not needs in
+    cc
+
+-- the same are, and the pins of the known places where it has nothing are given up
+pub fits-tidied : (a b : Core) (context : ContextView) → Fits a context → Unpins context.who (unneeded context) a b → Fits b (tidied context)
+fits-tidied a b context fits unpins = record {
+  speaks = unpins.speaks;
+  backed = λ k among. (let t = fits.backed k among in (t.0, subst (λ held. Contains held t.0) (sym unpins.held) t.1, t.2, t.3));
+  alone = fits.alone;
+  known = λ key place among.
+      let h = among-filter (λ (entry : KeyName × ℕ). is_needed context entry.1) context.known (key, place) among in
+      unpins.known place key (needed-stays context place h.1) (fits.known key place h.0);
+  wait = λ wanted w e f. fits.wait wanted w e (sym unpins.wait ∙ f);
 }
 
 -- the same are, and all for as long

@@ -95,7 +95,7 @@ module _ (old : TableShown → Type 0) (live : Bool) (locks : List (ℕ × KeyNa
         unlocked = unlocked_still ending point.unlocked;
         kept = λ x is opens. (
             let h = point.kept x is (point.was (still_open ending opens)) in
-            standing-left a b (gone_at ending true mark kept_before) session.context after x h.0 point.fits (there (still_open ending opens))
+            standing-left a b (gone_at ending true mark kept_before) session.context after x h.0 (there (still_open ending opens))
             (old-stays ending x h.0 h.1 opens));
       }
 
@@ -106,7 +106,7 @@ module _ (old : TableShown → Type 0) (live : Bool) (locks : List (ℕ × KeyNa
               → TellsAt e x → IsStanding b after x
           at (Answers reply) told gave tell =
               let stands = point.stands x (told x tell) in
-              standing-left a b (of_statement kept_before) session.context after x stands point.fits gave
+              standing-left a b (of_statement kept_before) session.context after x stands gave
               (λ (k, among, e). not_firm kept_before k stands.ticket.id stands.firm (among-reverse (tickets_for Statement kept_before) k among) e)
           at (Misses number) told gave tell = absurd tell
           at Starves told gave tell = absurd tell

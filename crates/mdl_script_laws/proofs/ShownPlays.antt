@@ -46,7 +46,7 @@ use Rattle.mdl_rows.specs.States.{State}
 use Rattle.mdl_rows.specs.Statements.{is_defined}
 use Rattle.mdl_script_laws.proofs.ListLemmas.{among-filter}
 use Rattle.mdl_script_laws.proofs.ShownCalls.{Leads, leads-bind, leads-each, none, stays-call, stays-other}
-use Rattle.mdl_script_laws.proofs.ShownContexts.{Fits, Followed, fits-kept}
+use Rattle.mdl_script_laws.proofs.ShownContexts.{Fits, Followed, fits-kept, fits-known}
 use Rattle.mdl_script_laws.proofs.ShownAsking.{held-number, leads-acquiring, leads-trying}
 use Rattle.mdl_script_laws.proofs.ShownRaising.{Raised, Won, leads-downgrading, leads-upgrading, leads-winning}
 use Rattle.mdl_script_laws.proofs.ShownWaits.{GaveUp, Resumed, leads-giving_up, leads-releasing, leads-resuming}
@@ -82,7 +82,7 @@ met-lock wish a before b after id followed met lasting =
       ticket = there.0;
       there = there.1;
       number = there.2 ∙ met.4;
-      at = subst (λ p. Knows b after.who p wish.key) (sym (there.3 ∙ met.5.0)) (followed.fits.known wish.key met.0 met.2);
+      at = subst (λ p. Knows b after.who p wish.key) (sym (there.3 ∙ met.5.0)) (fits-known b after wish.key met.0 followed.fits met.2);
       firm = λ k among e. (
           let long = subst (λ d. (duration_rank d == duration_rank Transaction) ≡ true) (followed.fits.alone ticket k met.3 among (sym there.2 ∙ sym e))
           (subst (λ d. lasts d ticket ≡ true) lasting met.5.2) in
@@ -115,7 +115,7 @@ module _ (old : TableShown → Type 0) (live : Bool) (locks : List (ℕ × KeyNa
         wanted = wanted_of met.0 wish met.1;
         wait = met.3;
         gains = refl;
-        at = followed.fits.known wish.key met.0 met.2;
+        at = fits-known b context wish.key met.0 followed.fits met.2;
         point = now;
         fair = fair;
       })

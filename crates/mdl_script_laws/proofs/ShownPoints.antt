@@ -17,7 +17,7 @@ use Rattle.mdl_context.specs.Contexts.{ContextView, beyond, current_mark, durati
 use Rattle.mdl_rows.specs.declared.reply.TableShown.{TableShown}
 use Rattle.mdl_rows.specs.Statements.{is_defined, table_columns}
 use Rattle.mdl_script_laws.proofs.ListLemmas.{among-filter, only-one}
-use Rattle.mdl_script_laws.proofs.ShownCalls.{Spares, key-held, none}
+use Rattle.mdl_script_laws.proofs.ShownCalls.{Leaves, leaves-spared, none}
 use Rattle.mdl_script_laws.proofs.ShownContexts.{Fits, Followed, Grown}
 use Rattle.mdl_script_laws.proofs.ShownWaits.{GaveUp, IsAmong, IsReleased}
 
@@ -114,12 +114,10 @@ pub record IsStanding (a : Core) (context : ContextView) (x : TableShown) : Type
   pub defined : is_defined (standing_at ticket.place a) ≡ true
   pub firm : IsFirm context.kept ticket.id
 
-shown-spared : (who : ℕ) (gone : ℕ → Type 0) (a b : Core) (context : ContextView) (t : Held) → Fits a context → Spares context.who gone a b
-    → Contains (locks_at a context.who).held t → (gone t.id → ⊥) → shown_at t.place b ≡ shown_at t.place a
-shown-spared who gone a b context t fits spares there stays =
-    let key = (spares.known t.place (key_at t.place a) (key-held a context.who t fits.speaks there, refl)).1 in
-    let standing = spares.stands t there stays in
-    ap (λ k. shown_as k (standing_at t.place b)) key ∙ ap (shown_as (key_at t.place a)) standing
+shown-left : (who : ℕ) (gone : ℕ → Type 0) (a b : Core) (t : Held) → Leaves who gone a b → Contains (locks_at a who).held t → (gone t.id → ⊥)
+    → shown_at t.place b ≡ shown_at t.place a
+shown-left who gone a b t leaves there stays =
+    ap (λ k. shown_as k (standing_at t.place b)) (leaves.keys t there stays) ∙ ap (shown_as (key_at t.place a)) (leaves.stands t there stays)
 
 module _ (a b : Core) (before after : ContextView) (fits : Fits a before) (followed : Followed a before b after) where
   still-there : (t : Held) → Contains (locks_at a before.who).held t → Contains (locks_at b after.who).held t
@@ -138,7 +136,7 @@ module _ (a b : Core) (before after : ContextView) (fits : Fits a before) (follo
   standing-followed x stands = record {
     ticket = stands.ticket;
     there = still-there stands.ticket stands.there;
-    shown = shown-spared before.who none a b before stands.ticket fits followed.spares stands.there (λ g. g) ∙ stands.shown;
+    shown = shown-left before.who none a b stands.ticket (leaves-spared before.who none a b fits.speaks followed.spares) stands.there (λ g. g) ∙ stands.shown;
     defined = ap is_defined (followed.spares.stands stands.ticket stands.there (λ g. g)) ∙ stands.defined;
     firm = firm-grown a before.who before.kept after.kept stands.ticket followed.grown stands.there stands.firm;
   }
@@ -150,27 +148,27 @@ module _ (a b : Core) (before after : ContextView) (fits : Fits a before) (follo
       (standing-followed x stands, old-grown mark a before.who before.kept after.kept stands.ticket followed.grown stands.there old)
 
 -- it stands still where other tickets were given up
-pub standing-left : (a b : Core) (gone : List Kept) (before after : ContextView) (x : TableShown) (stands : IsStanding a before x) → Fits a before
+pub standing-left : (a b : Core) (gone : List Kept) (before after : ContextView) (x : TableShown) (stands : IsStanding a before x)
     → GaveUp a gone before b after → (IsAmong gone stands.ticket.id → ⊥) → IsStanding b after x
-standing-left a b gone before after x stands fits gave stays =
+standing-left a b gone before after x stands gave stays =
     subst (λ context. IsStanding b context x) (sym gave.left) (record {
       ticket = stands.ticket;
-      there = gave.spares.held stands.ticket stands.there stays;
-      shown = shown-spared before.who (IsAmong gone) a b before stands.ticket fits gave.spares stands.there stays ∙ stands.shown;
-      defined = ap is_defined (gave.spares.stands stands.ticket stands.there stays) ∙ stands.defined;
+      there = gave.leaves.held stands.ticket stands.there stays;
+      shown = shown-left before.who (IsAmong gone) a b stands.ticket gave.leaves stands.there stays ∙ stands.shown;
+      defined = ap is_defined (gave.leaves.stands stands.ticket stands.there stays) ∙ stands.defined;
       firm = firm-left gone before.kept stands.ticket.id stands.firm;
     })
 
 -- and where another ticket was released
 pub old-released : (a b : Core) (id : ℕ) (before after : ContextView) (mark : Mark) (x : TableShown) (stands : IsStanding a before x)
-    → IsOld mark before.kept stands.ticket.id → Fits a before → IsReleased a id before b after → stands.ticket.id ≢ id
+    → IsOld mark before.kept stands.ticket.id → IsReleased a id before b after → stands.ticket.id ≢ id
     → (still : IsStanding b after x) × IsOld mark after.kept still.ticket.id
-old-released a b id before after mark x stands old fits released apart = (
+old-released a b id before after mark x stands old released apart = (
   record {
     ticket = stands.ticket;
-    there = subst (λ w. Contains (locks_at b w).held stands.ticket) (sym released.who) (released.spares.held stands.ticket stands.there apart);
-    shown = shown-spared before.who (λ n. n ≡ id) a b before stands.ticket fits released.spares stands.there apart ∙ stands.shown;
-    defined = ap is_defined (released.spares.stands stands.ticket stands.there apart) ∙ stands.defined;
+    there = subst (λ w. Contains (locks_at b w).held stands.ticket) (sym released.who) (released.leaves.held stands.ticket stands.there apart);
+    shown = shown-left before.who (λ n. n ≡ id) a b stands.ticket released.leaves stands.there apart ∙ stands.shown;
+    defined = ap is_defined (released.leaves.stands stands.ticket stands.there apart) ∙ stands.defined;
     firm = λ k among e. stands.firm k (released.fewer k among) e;
   },
   λ k among e. old k (released.late mark.transaction k among) e,

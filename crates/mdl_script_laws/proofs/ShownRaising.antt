@@ -30,8 +30,8 @@ use Rattle.mdl_context.specs.Requests.{Outcome}
 use Rattle.mdl_context.specs.Upgrades as upgrades
 use Rattle.mdl_context.specs.Waits as waits
 use Rattle.mdl_script_laws.proofs.ListLemmas.{filter-among}
-use Rattle.mdl_script_laws.proofs.ShownAsking.{IsGained, gained-by, leads-abandoning, leads-map, quiet-seeking, won-by}
-use Rattle.mdl_script_laws.proofs.ShownCalls.{Leads, Spares, Stays, leads-bind, leads-quiet, none, spares-call, spares-then, stays-call, stays-here}
+use Rattle.mdl_script_laws.proofs.ShownAsking.{IsGained, gained-by, leads-abandoning, quiet-seeking, won-by}
+use Rattle.mdl_script_laws.proofs.ShownCalls.{Leads, Spares, Stays, leads-bind, leads-map, leads-quiet, none, spares-call, spares-then, stays-call, stays-here}
 use Rattle.mdl_script_laws.proofs.ShownContexts.{Fits, fits-same}
 use Rattle.mdl_script_laws.proofs.ShownWaits.{searched-fits}
 

@@ -53,7 +53,7 @@ use Rattle.mdl_rows.specs.Statements as does
 use Rattle.mdl_script_laws.proofs.ListLemmas.{among-filter, last-among}
 use Rattle.mdl_script_laws.proofs.ShownAsking.{leads-trying}
 use Rattle.mdl_script_laws.proofs.ShownCalls.{Leads, leads-bind, leads-each}
-use Rattle.mdl_script_laws.proofs.ShownContexts.{Fits, Followed}
+use Rattle.mdl_script_laws.proofs.ShownContexts.{Fits, Followed, fits-known}
 use Rattle.mdl_script_laws.proofs.ShownEndings.{leads-closing, tells_no_error}
 use Rattle.mdl_script_laws.proofs.ShownPoints.{IsStanding, old-released}
 use Rattle.mdl_script_laws.proofs.ShownStages.{Comes, Point, Rests, Tells, point-followed, point-resting}
@@ -102,7 +102,7 @@ apart-from a context name id x fits its stands same =
     same-number held (pairs-from_rising held (core-rising a context.who fits.speaks)) stands.ticket there.0 stands.there there.1
     (same ∙ sym (there.2 ∙ its.number)) in
     let place : stands.ticket.place ≡ its.place = ap (λ (t : Held). t.place) one ∙ there.3 ∙ its.at in
-    let key = fits.known (user_lock_key name) its.place its.known in
+    let key = fits-known a context (user_lock_key name) its.place fits its.known in
     never-defined (standing_at its.place a)
     (subst (λ (k : KeyName). MayStand k.namespace (standing_at its.place a)) key.1 (fits.speaks.1.standing its.place key.0))
     (subst (λ p. is_defined (standing_at p a) ≡ true) place stands.defined)
@@ -186,7 +186,7 @@ module _ (old : TableShown → Type 0) (live : Bool) (mark : Mark) (name : List 
     opens = point.opens;
     kept = λ x is lives. (
         let h = point.kept x is lives in
-        old-released a b id context after mark x h.0 h.1 point.fits released (apart-from a context name id x point.fits its h.0));
+        old-released a b id context after mark x h.0 h.1 released (apart-from a context name id x point.fits its h.0));
     locked = λ n key among. absurd (Contains-none (n, key) among);
     stands = λ x among. absurd (Contains-none x among);
   }

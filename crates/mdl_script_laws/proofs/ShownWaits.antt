@@ -1,5 +1,5 @@
 -- A context whose wait goes on, or that gives tickets up, keeps what it kept, held; but for what it gives up.
-use Rattle.std.proofs.Common.{◌≡◌, inl, inr, ℕ, Bool, true, false, not, List, [], ◌∷◌, Option, Some, None, Ok, Err, Contains, option_map, refl, sym, ap, ◌∙◌, subst, arith}
+use Rattle.std.proofs.Common.{◌≡◌, inl, inr, ℕ, Bool, true, false, not, List, [], ◌∷◌, Option, Some, None, Result, Ok, Err, Contains, option_map, refl, sym, ap, ◌∙◌, subst, arith}
 use Rattle.std.proofs.lemmas.Bool.Decides.{nat_tests}
 use Rattle.std.proofs.lemmas.List.Elements.{Contains-append_right}
 use Rattle.mdl_key.specs.declared.mode.Duration.TheVariants.{Transaction}
@@ -21,11 +21,12 @@ use Rattle.mdl_context.specs.Gains as gains
 use Rattle.mdl_context.specs.Holdings.{search_over, awaited_upgrade, without_number, has_ticket_number}
 use Rattle.mdl_context.specs.Releases as releases
 use Rattle.mdl_context.specs.Requests.{Outcome}
+use Rattle.mdl_context.specs.Tidying.{tidied, tidying, unneeded, unpinning_all}
 use Rattle.mdl_context.specs.Waits as waits
 use Rattle.mdl_script_laws.proofs.ListLemmas.{among-filter, drop-fewer}
-use Rattle.mdl_script_laws.proofs.ShownCalls.{IsQuiet, Leads, Spares, Stays, leads-bind, leads-quiet, none, spares-here, stays-call, stays-here}
-use Rattle.mdl_script_laws.proofs.ShownContexts.{Fits, Followed, fits-fewer, fits-more, fits-same, followed-here, followed-late, followed-same, followed-waiting}
-use Rattle.mdl_script_laws.proofs.ShownAsking.{leads-abandoning, leads-map, quiet-seeking, won-by}
+use Rattle.mdl_script_laws.proofs.ShownCalls.{IsQuiet, Leads, Leaves, Spares, Stays, Unpins, leads-bind, leads-map, leads-quiet, leads-unpinning, leaves-spared, leaves-unpinned, none, spares-here, stays-call, stays-here}
+use Rattle.mdl_script_laws.proofs.ShownContexts.{Fits, Followed, fits-fewer, fits-more, fits-same, fits-tidied, followed-here, followed-late, followed-same, followed-waiting}
+use Rattle.mdl_script_laws.proofs.ShownAsking.{leads-abandoning, quiet-seeking, won-by}
 
 -- ---- a wait that goes on
 
@@ -191,30 +192,47 @@ quiet-releasing who gone [] each = tt
 quiet-releasing who gone (k ∷ ks) each =
     ((refl, each k (Contains-here k ks), refl), λ _. quiet-releasing who gone ks (λ x among. each x (Contains-later k ks x among)))
 
+-- a context let go of the places where it has nothing
+abbrev HasTidied : Core → ContextView → Outcome (Unit {0}) → Core → Type 0
+HasTidied a context outcome b = (outcome.1 ≡ tidied context) × Fits b (tidied context) × Unpins context.who (unneeded context) a b
+
+leads-tidying : (reply : Result (Unit {0}) ContextError) (context : ContextView) (a : Core) → Fits a context
+    → Leads (HasTidied a context) (tidying (reply, context)) a
+leads-tidying reply context a fits =
+    leads-bind (λ x b. Unpins context.who (unneeded context) a b) (HasTidied a context) (unpinning_all context.who (unneeded context))
+    (λ _. Give (reply, tidied context)) a (leads-unpinning context.who (unneeded context) a fits.speaks)
+    (λ x b unpins. (refl, fits-tidied a b context fits unpins, unpins))
+
 -- a context gave these tickets up
 pub record GaveUp (a : Core) (gone : List Kept) (before : ContextView) (b : Core) (after : ContextView) : Type 0 where
   pub fits : Fits b after
-  pub spares : Spares before.who (IsAmong gone) a b
-  pub left : after ≡ record before { kept = without_tickets gone before.kept }
+  pub leaves : Leaves before.who (IsAmong gone) a b
+  pub left : after ≡ tidied (record before { kept = without_tickets gone before.kept })
 
 pub leads-giving_up : (a : Core) (gone : List Kept) (context : ContextView) → Fits a context
     → Leads (λ (outcome : Outcome (Unit {0})) b. GaveUp a gone context b outcome.1) (releases.releasing_tickets gone context) a
 leads-giving_up a gone context fits =
     leads-bind (λ x b. Stays context.who (IsAmong gone) a b) (λ (outcome : Outcome (Unit {0})) b. GaveUp a gone context b outcome.1)
-    (releases.releasing_all context.who gone) (λ _. Give (Ok tt, record context { kept = without_tickets gone context.kept })) a
+    (releases.releasing_all context.who gone) (λ _. tidying (Ok tt, left)) a
     (leads-quiet (releases.releasing_all context.who gone) a a context.who (IsAmong gone) (stays-here context.who (IsAmong gone) a fits.speaks)
     (quiet-releasing context.who (IsAmong gone) gone (λ k among. (k, among, refl))))
-    (λ x b stays. record {
-      fits = fits-fewer a b context (IsAmong gone) (λ ticket. not (has_number gone ticket.id))
-          (λ k stay there. (let h = has-among gone k.id there in let g = ap not h in cc)) fits stays;
-      spares = stays.0;
-      left = refl;
+    (λ x b stays.
+    leads-map (HasTidied b left) (λ (outcome : Outcome (Unit {0})) c. GaveUp a gone context c outcome.1) (tidying (Ok tt, left)) b
+    (λ outcome c tidy. record {
+      fits = subst (Fits c) (sym tidy.0) tidy.1;
+      leaves = leaves-unpinned context.who (IsAmong gone) (unneeded left) a b c (leaves-spared context.who (IsAmong gone) a b fits.speaks stays.0) tidy.2;
+      left = tidy.0;
     })
+    (leads-tidying (Ok tt) left b (fits-fewer a b context (IsAmong gone) (λ ticket. not (has_number gone ticket.id))
+    (λ k stay there. (let h = has-among gone k.id there in let g = ap not h in cc)) fits stays)))
+  where
+    left : ContextView
+    left = record context { kept = without_tickets gone context.kept }
 
 -- a context released the one of this number, or none
 pub record IsReleased (a : Core) (id : ℕ) (before : ContextView) (b : Core) (after : ContextView) : Type 0 where
   pub fits : Fits b after
-  pub spares : Spares before.who (λ n. n ≡ id) a b
+  pub leaves : Leaves before.who (λ n. n ≡ id) a b
   pub who : after.who ≡ before.who
   pub fewer : (k : Kept) → Contains after.kept k → Contains before.kept k
   pub late : (most : ℕ) (k : Kept) → Contains (beyond Transaction most after.kept) k → Contains (beyond Transaction most before.kept) k
@@ -226,24 +244,30 @@ leads-released a id context fits = go (releases.release_fault id context)
     other : (k : Kept) → not (has_ticket_number id k) ≡ true → k.id ≡ id → ⊥
     other k stay e = let h : has_ticket_number id k ≡ true = grind (arith, nat_tests) in let g = ap not h in cc
 
+    left : ContextView
+    left = record context { kept = without_number id context.kept }
+
     go : (fault : Option ContextError) → Leads (λ (outcome : Outcome (Unit {0})) b. IsReleased a id context b outcome.1)
-        (releases.unless fault context (Ask (Release context.who id) (λ _. Give (Ok tt, record context { kept = without_number id context.kept })))) a
+        (releases.unless fault context (Ask (Release context.who id) (λ _. tidying (Ok tt, left)))) a
     go (Some fault) = record {
       fits = fits;
-      spares = spares-here context.who (λ n. n ≡ id) a fits.speaks;
+      leaves = leaves-spared context.who (λ n. n ≡ id) a a fits.speaks (spares-here context.who (λ n. n ≡ id) a fits.speaks);
       who = refl;
       fewer = λ k among. among;
       late = λ most k among. among;
     }
     go None = λ answer b joins. (
         let step = stays-call context.who (λ n. n ≡ id) a b (Release context.who id) answer fits.speaks (refl, refl, refl) joins in
-        record {
-          fits = fits-fewer a b context (λ n. n ≡ id) (λ ticket. not (has_ticket_number id ticket)) other fits step;
-          spares = step.0;
+        leads-map (HasTidied b left) (λ (outcome : Outcome (Unit {0})) c. IsReleased a id context c outcome.1) (tidying (Ok tt, left)) b
+        (λ outcome c tidy. subst (IsReleased a id context c) (sym tidy.0) (record {
+          fits = tidy.1;
+          leaves = leaves-unpinned context.who (λ n. n ≡ id) (unneeded left) a b c
+              (leaves-spared context.who (λ n. n ≡ id) a b fits.speaks step.0) tidy.2;
           who = refl;
           fewer = λ k among. (among-filter (λ ticket. not (has_ticket_number id ticket)) context.kept k among).0;
           late = λ most k among. drop-fewer most (lasts Transaction) (λ ticket. not (has_ticket_number id ticket)) context.kept k among;
-        })
+        }))
+        (leads-tidying (Ok tt) left b (fits-fewer a b context (λ n. n ≡ id) (λ ticket. not (has_ticket_number id ticket)) other fits step)))
 
 pub leads-releasing : (a : Core) (id : ℕ) (context : ContextView) → Fits a context
     → Leads (λ (outcome : Outcome (Unit {0})) b. Fits b outcome.1 × (outcome.1.who ≡ context.who)) (releases.releasing id context) a

@@ -406,7 +406,7 @@ keeps-first w is = subst (λ (p : Player). Keeps Nothing first_core p.session) (
     speaks = staffed-first.speaks w is.0 is.1;
     backed = λ k among. absurd (Contains-none k among);
     alone = λ k other one two e. absurd (Contains-none k one);
-    known = λ key place e. cc;
+    known = λ key place among. absurd (Contains-none (key, place) among);
     wait = λ wanted w e f. cc;
   };
   unlocked = λ opens. refl;

@@ -25,6 +25,7 @@ use Rattle.mdl_context.specs.Holdings.{awaited_upgrade, earliest, without_number
 use Rattle.mdl_context.specs.Releases as releases
 use Rattle.mdl_context.specs.Requests as requests
 use Rattle.mdl_context.specs.Requests.{Outcome}
+use Rattle.mdl_context.specs.Tidying.{tidied, tidying, unneeded, unpinning_all}
 use Rattle.mdl_context.specs.Upgrades as upgrades
 use Rattle.mdl_context.specs.Waits as waits
 
@@ -204,14 +205,25 @@ still-giving_up_wait context =
 
 -- ---- releases
 
+still-unpinning : (who : ℕ) (places : List ℕ) → AreStill (unpinning_all who places)
+still-unpinning who [] = tt
+still-unpinning who (place ∷ places) = (tt, λ _. still-unpinning who places)
+
+-- a context lets go of places
+pub still-tidying : {A : Type 0} (outcome : Outcome A) → AreStill (tidying outcome)
+still-tidying {A} (reply, context) =
+    calls_bind {A = Unit {0}} {B = Outcome A} IsStill (unpinning_all context.who (unneeded context)) (λ _. Give (reply, tidied context))
+    (still-unpinning context.who (unneeded context)) (λ _. tt)
+
 pub still-all : (who : ℕ) (gone : List Kept) → AreStill (releases.releasing_all who gone)
 still-all who [] = tt
 still-all who (ticket ∷ tickets) = (tt, λ _. still-all who tickets)
 
 pub still-giving_up : (gone : List Kept) (context : ContextView) → EachCall IsStill (releases.releasing_tickets gone context)
 still-giving_up gone context =
-    calls_bind {A = Unit {0}} {B = Outcome (Unit {0})} IsStill (releases.releasing_all context.who gone)
-    (λ _. Give (Ok tt, record context { kept = without_tickets gone context.kept })) (still-all context.who gone) (λ _. tt)
+    let left : ContextView = record context { kept = without_tickets gone context.kept } in
+    calls_bind {A = Unit {0}} {B = Outcome (Unit {0})} IsStill (releases.releasing_all context.who gone) (λ _. tidying (Ok tt, left))
+    (still-all context.who gone) (λ _. still-tidying (Ok tt, left))
 
 pub still-unless : {A : Type 0} (fault : Option ContextError) (context : ContextView) (program : Program (Outcome A)) →
     EachCall IsStill program → EachCall IsStill (releases.unless fault context program)
@@ -220,8 +232,8 @@ still-unless None context program made = made
 
 pub still-releasing : (id : ℕ) (context : ContextView) → EachCall IsStill (releases.releasing id context)
 still-releasing id context =
-    still-unless (releases.release_fault id context) context
-    (Ask (Release context.who id) (λ _. Give (Ok tt, record context { kept = without_number id context.kept }))) (tt, λ _. tt)
+    let left : ContextView = record context { kept = without_number id context.kept } in
+    still-unless (releases.release_fault id context) context (Ask (Release context.who id) (λ _. tidying (Ok tt, left))) (tt, λ _. still-tidying (Ok tt, left))
 
 -- ---- other modes
 

@@ -1,12 +1,21 @@
--- Which tickets are left as a statement ends: none of a statement, and none of a transaction unless one is open.
-use Rattle.std.proofs.Common.{◌≡◌, Bool, true, false, cond, List, [], ◌∷◌, ◌++◌, refl, sym, ap, subst, ◌∙◌, arith}
-use Rattle.std.specs.Prelude.{filter}
+-- Which tickets are left as a statement ends: none of a statement, and none of a transaction unless one is open. And which places are known then:
+-- those alone where the session has something.
+use Rattle.std.proofs.Common.{◌≡◌, ℕ, Bool, true, false, not, cond, List, [], ◌∷◌, ◌++◌, Result, Ok, refl, sym, ap, subst, ◌∙◌, arith}
+use Rattle.std.specs.Prelude.{filter, map}
+use Rattle.std.specs.List.{All}
 use Rattle.std.proofs.lemmas.Bool.{false≢true}
 use Rattle.std.proofs.lemmas.Bool.Decides.{nat_tests}
+use Rattle.std.proofs.lemmas.List.Elements.{All-head, All-tail, filter_passes}
 use Rattle.mdl_key.specs.declared.mode.Duration.TheVariants.{Statement, Transaction}
+use Rattle.mdl_key.specs.Keys.{KeyName}
+use Rattle.mdl_calls.specs.Words.{Give, ◌>>◌}
+use Rattle.mdl_context.specs.declared.context_error.ContextError.{ContextError}
 use Rattle.mdl_context.specs.declared.kept.Kept.{Kept}
 use Rattle.mdl_context.specs.declared.request.Mark.{Mark}
-use Rattle.mdl_context.specs.Contexts.{beyond, beyond_mark, has_number, lasts, newest_first, of_transaction, tickets_for, without_tickets}
+use Rattle.mdl_context.specs.Contexts.{ContextView, beyond, beyond_mark, has_number, lasts, newest_first, of_transaction, tickets_for, without_tickets}
+use Rattle.mdl_context.specs.Releases.{releasing_tickets}
+use Rattle.mdl_context.specs.Tidying.{IsTidy as IsTidyContext, is_needed, tidied, tidying, unpinning_all}
+use Rattle.mdl_context.proofs.BeyondLemmas.{without-none}
 use Rattle.mdl_context.proofs.FrontLemmas.{has_number-newest}
 use Rattle.mdl_rows.specs.declared.ending.Ending.{Ending}
 use Rattle.mdl_rows.specs.declared.ending.Ending.TheVariants.{Answers, Misses, Falls, Starves}
@@ -107,6 +116,38 @@ pub none-of_transaction : (ending : Ending) (mark : Mark) (kept : List Kept) (st
     → tickets_for Transaction (without_tickets (gone_at ending state.is_open mark kept) kept) ≡ []
 none-of_transaction ending mark kept state shut =
     none-left (lasts Transaction) (gone_at ending state.is_open mark kept) kept (covers-closed ending state.is_open mark kept state refl shut)
+
+-- ---- known places
+
+-- once a context has let go of the places where it has nothing, it has something at each place that it knows
+pub tidied-tidy : (context : ContextView) → IsTidyContext (tidied context)
+tidied-tidy context = filter_passes (λ (entry : KeyName × ℕ). is_needed context entry.1) context.known
+
+all-kept : {X : Type 0} (p : X → Bool) (xs : List X) → All (λ x. p x ≡ true) xs → filter p xs ≡ xs
+all-kept p [] all = refl
+all-kept p (x ∷ xs) all =
+    ap (λ b. cond b (x ∷ filter p xs) (filter p xs)) (All-head (λ y. p y ≡ true) x xs all)
+    ∙ ap (λ ys. x ∷ ys) (all-kept p xs (All-tail (λ y. p y ≡ true) x xs all))
+
+none-unneeded : (needs : ℕ → Bool) (known : List (KeyName × ℕ)) → All (λ entry. needs entry.1 ≡ true) known
+    → filter (λ place. not (needs place)) (map (λ entry. entry.1) known) ≡ []
+none-unneeded needs [] all = refl
+none-unneeded needs (x ∷ xs) all =
+    let rest = filter (λ place. not (needs place)) (map (λ (entry : KeyName × ℕ). entry.1) xs) in
+    ap (λ b. cond (not b) (x.1 ∷ rest) rest) (All-head (λ (entry : KeyName × ℕ). needs entry.1 ≡ true) x xs all)
+    ∙ none-unneeded needs xs (All-tail (λ (entry : KeyName × ℕ). needs entry.1 ≡ true) x xs all)
+
+-- it then has nothing to let go, and stays as it is
+tidying-nothing : (reply : Result (Unit {0}) ContextError) (context : ContextView) → IsTidyContext context
+    → tidying (reply, context) ≡ Give (reply, context)
+tidying-nothing reply context tidy =
+    ap (λ places. unpinning_all context.who places >> Give (reply, tidied context)) (none-unneeded (is_needed context) context.known tidy)
+    ∙ ap (λ known. Give (reply, record context { known = known })) (all-kept (λ (entry : KeyName × ℕ). is_needed context entry.1) context.known tidy)
+
+-- so it does where it gives up no ticket
+pub releasing-nothing : (context : ContextView) → IsTidyContext context → releasing_tickets [] context ≡ Give (Ok tt, context)
+releasing-nothing context tidy =
+    ap (λ kept. tidying {A = Unit {0}} (Ok tt, record context { kept = kept })) (without-none context.kept) ∙ tidying-nothing (Ok tt) context tidy
 
 -- ---- a statement that was answered
 

@@ -1,17 +1,17 @@
 -- The space of a script has no more keys than places, so that a schema has no more tables.
-use Rattle.std.proofs.Common.{◌≡◌, ℕ, suc, ◌≤◌, List, [], ◌∷◌, length, refl, ap, ◌∙◌, arith}
+use Rattle.std.proofs.Common.{◌≡◌, ℕ, suc, ◌-◌, ◌≤◌, List, [], ◌∷◌, length, Option, Some, None, refl, ap, ◌∙◌, arith}
 use Rattle.std.specs.Prelude.{filter, nat_le}
 use Rattle.std.specs.List.{range_with_len}
 use Rattle.std.proofs.lemmas.Bool.Decides.{nat_tests}
-use Rattle.std.proofs.lemmas.List.{length-append, length-map}
+use Rattle.std.proofs.lemmas.List.{length-append, length-map, length-set}
 use Rattle.std.proofs.lemmas.List.FromFn.{length-range_with_len}
 use Rattle.std.proofs.lemmas.List.Sums.{count_by-le-length, length-filter}
 use Rattle.mdl_key.specs.Keys.{KeyName}
 use Rattle.mdl_book.specs.declared.book_view.BookView.{BookView}
 use Rattle.mdl_book.specs.Books.{empty_book}
 use Rattle.mdl_calls.specs.Words.{Answer, Call, Resolve, Tables_of, Program, Give, Ask, Grow, outcome_of}
-use Rattle.mdl_core.specs.CoreCalls.{outcome, placing}
-use Rattle.mdl_core.specs.Cores.{Core, comes_before, has_defined_table, index_of, places_in_key_order, put_in_order, table_places}
+use Rattle.mdl_core.specs.CoreCalls.{outcome, placing, replacing}
+use Rattle.mdl_core.specs.Cores.{Core, comes_before, has_defined_table, index_of, places_in_key_order, put_in_order, table_places, unused_place}
 use Rattle.mdl_core.specs.Determined.{Places, places_of}
 use Rattle.mdl_core.proofs.CallCases.{option_cases, test_cases}
 use Rattle.mdl_core.proofs.PlacesKept.{places-kept}
@@ -34,11 +34,20 @@ few-same a b same few =
     let least = few.most in
     record { books = omega (arith, there, here, keys, most, books); most = omega (arith, most, least) }
 
--- a key is given a place only where one is left
+-- a key that is given the place of another one makes no more of them
+few-replacing : (who : ℕ) (key : KeyName) (found : Option ℕ) (core : Core) → HasFewPlaces core → HasFewPlaces (replacing who key found core).1
+few-replacing who key None core few = few
+few-replacing who key (Some place) core few =
+    let same = length-set core.books (place - 1) (empty_book key) in
+    let least = few.books in
+    record { books = omega (arith, same, least); most = few.most }
+
+-- a key is given a new place only where one is left
 few-placing : (who : ℕ) (key : KeyName) (core : Core) → HasFewPlaces core → HasFewPlaces (placing who key (index_of key core.books) core).1
 few-placing who key core few =
     option_cases (λ found. HasFewPlaces (placing who key found core).1) (index_of key core.books)
-    (λ none. test_cases (λ (r : Answer × Core). HasFewPlaces r.1) (nat_le core.places (length core.books)) _ _ (λ full. few) (λ room. record {
+    (λ none. test_cases (λ (r : Answer × Core). HasFewPlaces r.1) (nat_le core.places (length core.books)) _ _
+    (λ full. few-replacing who key (unused_place core) core few) (λ room. record {
       books = (let longer = length-append core.books (empty_book key ∷ []) in let least = few.books in grind (arith, nat_tests));
       most = few.most;
     }))

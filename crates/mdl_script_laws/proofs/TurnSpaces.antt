@@ -306,12 +306,12 @@ keeps-seen = record {
 abbrev HasNone : {A : Type 0} → A → Bool → Type 0
 HasNone x waits = waits ≡ false
 
-none-under : (answer : Answer) → Tracks (HasNone {A = Unit {0}}) (create_first_schema answer) false
-none-under (Granted id) = λ one is other its. refl
-none-under _ = refl
+none-under : (place : ℕ) (answer : Answer) → Tracks (HasNone {A = Unit {0}}) (create_first_schema place answer) false
+none-under place (Granted id) = λ one is other its last so. refl
+none-under place _ = refl
 
 none-at : (answer : Answer) → Tracks (HasNone {A = Unit {0}}) (create_at answer) false
-none-at (At_place place) = λ answer is. none-under answer
+none-at (At_place place) = λ answer is. none-under place answer
 none-at _ = refl
 
 -- nobody has a wait in a space to which nothing was done

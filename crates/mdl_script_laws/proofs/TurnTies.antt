@@ -24,6 +24,7 @@ use Rattle.mdl_context.specs.Holdings.{earliest, without_number}
 use Rattle.mdl_context.specs.Releases as releases
 use Rattle.mdl_context.specs.Requests as requests
 use Rattle.mdl_context.specs.Requests.{Outcome}
+use Rattle.mdl_context.specs.Tidying.{tidied, tidying, unneeded, unpinning_all}
 use Rattle.mdl_context.specs.Upgrades as upgrades
 use Rattle.mdl_context.specs.Wishes.{Wish}
 use Rattle.mdl_rows.specs.declared.ending.Ending.{Ending}
@@ -58,18 +59,35 @@ stays-releasing : (who : ℕ) (gone : List Kept) (waits : Bool) → Tracks (Stay
 stays-releasing who [] waits = refl
 stays-releasing who (ticket ∷ tickets) waits = λ answer is. stays-releasing who tickets waits
 
+stays-unpinning : (who : ℕ) (places : List ℕ) (waits : Bool) → Tracks (Stays {A = Unit {0}} waits) (unpinning_all who places) waits
+stays-unpinning who [] waits = refl
+stays-unpinning who (place ∷ places) waits = λ answer is. stays-unpinning who places waits
+
+stays-tidying : (reply : Result (Unit {0}) ContextError) (context : ContextView) (waits : Bool)
+    → Tracks (Stays {A = Outcome (Unit {0})} waits) (tidying (reply, context)) waits
+stays-tidying reply context waits =
+    tracks-then {A = Unit {0}} {B = Outcome (Unit {0})} (Stays waits) (Stays waits) (unpinning_all context.who (unneeded context))
+    (λ _. Give (reply, tidied context)) waits (stays-unpinning context.who (unneeded context) waits) (λ x after same. same)
+
 stays-giving_up : (gone : List Kept) (context : ContextView) (waits : Bool)
     → Tracks (Stays {A = Outcome (Unit {0})} waits) (releases.releasing_tickets gone context) waits
 stays-giving_up gone context waits =
     tracks-then {A = Unit {0}} {B = Outcome (Unit {0})} (Stays waits) (Stays waits) (releases.releasing_all context.who gone)
-    (λ _. Give (Ok tt, record context { kept = without_tickets gone context.kept })) waits (stays-releasing context.who gone waits) (λ x after same. same)
+    (λ _. tidying (Ok tt, left)) waits (stays-releasing context.who gone waits)
+    (λ x after same. subst (λ w. Tracks (Stays {A = Outcome (Unit {0})} waits) (tidying (Ok tt, left)) w) (sym same) (stays-tidying (Ok tt) left waits))
+  where
+    left : ContextView
+    left = record context { kept = without_tickets gone context.kept }
 
 stays-released : (id : ℕ) (context : ContextView) (waits : Bool) → Tracks (Stays {A = Outcome (Unit {0})} waits) (releases.releasing id context) waits
 stays-released id context waits = by (releases.release_fault id context) where
+  left : ContextView
+  left = record context { kept = without_number id context.kept }
+
   by : (fault : Option ContextError) → Tracks (Stays {A = Outcome (Unit {0})} waits)
-      (releases.unless fault context (Ask (Release context.who id) (λ _. Give (Ok tt, record context { kept = without_number id context.kept })))) waits
+      (releases.unless fault context (Ask (Release context.who id) (λ _. tidying (Ok tt, left)))) waits
   by (Some fault) = refl
-  by None = λ answer is. refl
+  by None = λ answer is. stays-tidying (Ok tt) left waits
 
 tied-ended : (ending : Ending) (context : ContextView) (state : State) (waits : Bool) → waits ≡ false
     → PausesTied (pause_after ending (record { context = context; state = state; left = None })) waits

@@ -8,7 +8,7 @@ use Rattle.mdl_script.specs.Worlds.{player_at, script_played, session_waits}
 use Rattle.mdl_script_laws.specs.RefusalsFirst.{IsTidy}
 
 -- after any number of a script's lines, each session that doesn't wait keeps no ticket for a statement. Unless a transaction is open, it
--- keeps none for a transaction, and has both tickets of the global read lock or none
+-- keeps none for a transaction, and has both tickets of the global read lock or none. It knows no place but those where it has something
 abbrev pub IdleSessionsAreTidy : Type 0
 IdleSessionsAreTidy =
     (text : List ℕ) (lines : List Line) → parsed text ≡ Ok lines → (n who : ℕ) → IsScriptSession who →

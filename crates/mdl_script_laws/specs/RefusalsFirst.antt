@@ -7,6 +7,7 @@ use Rattle.mdl_calls.specs.Words.{Each, Runs}
 use Rattle.mdl_core.specs.CoreJoins.{Joins}
 use Rattle.mdl_core.specs.Cores.{Core}
 use Rattle.mdl_context.specs.Contexts.{tickets_for}
+use Rattle.mdl_context.specs.Tidying.{IsTidy as IsTidyContext}
 use Rattle.mdl_syntax.specs.declared.statement.Statement.{Statement}
 use Rattle.mdl_rows.specs.declared.error_number.ErrorNumber.{ErrorNumber}
 use Rattle.mdl_rows.specs.declared.error_number.ErrorNumber.TheVariants.{TableLockedForRead, TableNotLocked, ActiveLocks, ConflictingReadLock, NoSuchSavepoint}
@@ -27,12 +28,13 @@ is_early NoSuchSavepoint = true
 is_early _ = false
 
 -- a session between statements is tidy: it has nothing left to do, it keeps no ticket for a statement, and unless a transaction is open
--- it keeps none for a transaction, and has both tickets of the global read lock or none
+-- it keeps none for a transaction, and has both tickets of the global read lock or none. It knows no place but those where it has something
 pub record IsTidy (session : Session) : Type 0 where
   pub over : session.left ≡ None
   pub statement : tickets_for for.Statement session.context.kept ≡ []
   pub transaction : session.state.is_open ≡ false → tickets_for for.Transaction session.context.kept ≡ []
   pub whole : half_lock session.state ≡ None
+  pub places : IsTidyContext session.context
 
 -- a session in the middle of a statement: it has something left to do, and kept no ticket for a statement when that began
 abbrev pub IsUnderway : Session → Type 0

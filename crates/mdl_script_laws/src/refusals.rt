@@ -10,7 +10,8 @@ pub fn early_errors_change_nothing()
 {}
 
 /// Between statements a session keeps no ticket of a statement, and none of a transaction unless one is open, however its
-/// statements end. Unless one is open, it has both tickets of the global read lock, or none.
+/// statements end. Unless one is open, it has both tickets of the global read lock, or none. Its context knows only the places where the
+/// session has something.
 pub fn sessions_stay_tidy()
     ensures { SessionsStayTidy }
 {}

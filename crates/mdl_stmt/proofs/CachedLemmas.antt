@@ -11,7 +11,7 @@ use Rattle.mdl_context.specs.declared.kept.Wanted.{Wanted}
 use Rattle.mdl_context.specs.declared.request.Acquire.{Acquire}
 use Rattle.mdl_context.specs.declared.request.Resume.{Resume}
 use Rattle.mdl_context.specs.declared.request.Tried.{Tried}
-use Rattle.mdl_context.specs.Contexts.{ContextView, newest_first, of_transaction}
+use Rattle.mdl_context.specs.Contexts.{ContextView}
 use Rattle.mdl_context.specs.MemoryLaws.{IsOwnCall}
 use Rattle.mdl_context.specs.Releases.{giving_up_all, releasing, releasing_tickets}
 use Rattle.mdl_context.specs.Requests.{Outcome, acquiring, trying}
@@ -25,7 +25,7 @@ use Rattle.mdl_stmt.specs.Attendance.{cached}
 
 -- no call of a context reads with the cache
 pub reads-none : {A : Type 0} (who : ℕ) (program : Program A) → EachCall (IsOwnCall who) program → ReadsNone program
-reads-none who program own = calls_weaker (IsOwnCall who) (λ call. reads_with_cache call ≡ false) (λ call made. made.2) program own
+reads-none who program own = calls_weaker (IsOwnCall who) (λ call. reads_with_cache call ≡ false) (λ call made. made.1) program own
 
 -- a run of such calls is one with a cache, which it leaves unchanged
 pub run-own : {S A : Type 0} (members : Ghosts S) (who : ℕ) (program : Program A) → EachCall (IsOwnCall who) program → (cache : CacheView) (a b : S) (reply : A) →
@@ -44,8 +44,7 @@ none_given_up gone context = reads-none {A = Outcome (Unit {0})} context.who (re
 none_all : (context : ContextView) → ReadsNone (giving_up_all context >> Give (tt {0}))
 none_all context =
     calls_bind {A = Outcome (Unit {0})} {B = Unit {0}} IsUnread (giving_up_all context) (λ _. Give (tt {0}))
-    (calls_bind {A = Outcome (Unit {0})} {B = Outcome (Unit {0})} IsUnread (releasing_tickets (of_transaction context.kept) context) (λ outcome. releasing_tickets (newest_first outcome.1.kept) outcome.1)
-    (none_given_up (of_transaction context.kept) context) (λ outcome. none_given_up (newest_first outcome.1.kept) outcome.1)) (λ _. tt)
+    (none_given_up _ context) (λ _. tt)
 
 none_leaving_from : (wait : Option Wanted) (context : ContextView) → ReadsNone (leaving_from wait context)
 none_leaving_from None context = none_all context

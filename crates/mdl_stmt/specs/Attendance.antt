@@ -1,9 +1,9 @@
 -- What a session's calls require of its context and of its cache of definitions, and what they preserve.
-use Rattle.std.specs.Prelude.{◌≡◌, ℕ, ◌≤◌, None}
+use Rattle.std.specs.Prelude.{◌≡◌, ◌⊎◌, ℕ, ◌≤◌, true, false, None}
 use Rattle.mdl_defs.specs.Caches.{CacheView, most_kept}
-use Rattle.mdl_calls.specs.Words.{AreMet, Answer, Call, with_cache}
+use Rattle.mdl_calls.specs.Words.{AreMet, Answer, Call, is_pinned, with_cache}
 use Rattle.mdl_calls.specs.declared.lock_space.LockSpace.{Ghosts}
-use Rattle.mdl_context.specs.Contexts.{Attends, ContextView, LeavesOthers}
+use Rattle.mdl_context.specs.Contexts.{Attends, ContextView, LeavesOthers, is_known_place}
 use Rattle.mdl_stmt.specs.Players.{PlayerView}
 
 -- a valid capacity of a cache of definitions
@@ -45,3 +45,8 @@ pub record ContextGoesOn {S : Type 0} (members : Ghosts S) (before : S) (old : C
   pub who : new.who ≡ old.who
   pub others : LeavesOthers members old.who before after
   pub attends : Attends members after new
+
+-- of each place that a context knew, its session has no pin any more, unless it owed the place a reschedule
+abbrev pub LetsAllGo : {S : Type 0} → Ghosts S → S → ContextView → S → Type 0
+LetsAllGo members a before b =
+    (place : ℕ) → is_known_place before.known place ≡ true → (is_pinned place (members.own b before.who) ≡ false) ⊎ members.owes a before.who place

@@ -1,26 +1,25 @@
 //! How a session gets its tickets.
-ghost use Rattle.std.specs.Prelude.{◌≡◌, true, Some, None, IfOk, OnErr};
+ghost use Rattle.std.specs.Prelude.{◌≡◌, true, None, OnErr};
 ghost use Rattle.mdl_key.specs.Keys.{KeyName};
 ghost use Rattle.mdl_key.specs.Modes.{kind_of};
 ghost use Rattle.mdl_calls.specs.Words.{Runs};
-ghost use Rattle.mdl_context.specs.Contexts.{Attends, LeavesOthers, is_known_place, key_at, place_known};
-ghost use Rattle.mdl_context.specs.Requests.{acquiring, acquiring_at, acquiring_by_place, finding, placing, IsNoPlace, LacksPlaceOf, LearnsAtMost, PinsAtMost, WaitsAfter};
+ghost use Rattle.mdl_context.specs.Contexts.{Attends, LeavesOthers, is_known_place, place_known};
+ghost use Rattle.mdl_context.specs.Requests.{acquiring, acquiring_at, finding, IsNoPlace, LacksPlaceOf, LearnsAtMost, PinsAtMost, WaitsAfter};
 ghost use Rattle.mdl_context.specs.Terms.{wish_for};
 ghost use Rattle.mdl_context.specs.Wishes.{wish_of_request};
 
 use crate::asking::{AskResult, gain};
 use crate::wishes::Terms;
 use crate::{Acquire, Context, ContextError, Request};
-use mdl_key::{Duration, Key, Mode};
 use mdl_space::{LockSpace, Place, SpaceError};
 
 impl<S: LockSpace> Context<S> {
     /// Gets a lock for the request's duration, or begins to wait for it.
     ///
-    /// The key's place is looked up once and remembered from then on, and the session pins it. If the space has no place left for the
-    /// key, and only then, the call is refused with [`SpaceError::NoPlace`]. To remember a place takes memory, as a new ticket does. Of
-    /// the tickets there that are at least as strong as the request's mode, the earliest of the same duration is used again, though never an
-    /// explicit one. If there is none, the earliest of all that are strong enough is cloned, and the clone gets the request's
+    /// The key's place is looked up, which pins it for the session, and remembered until the context has nothing more there and releases
+    /// something. If the space has no place left for the key, and only then, the call is refused with [`SpaceError::NoPlace`]. To remember
+    /// a place takes memory, as a new ticket does. Of the tickets there that are at least as strong as the request's mode, the earliest of
+    /// the same duration is used again, though never an explicit one. If there is none, the earliest of all that are strong enough is cloned, and the clone gets the request's
     /// duration. If there is none of these either, a new ticket is requested of the space.
     ///
     /// If that can't be granted now, the session begins to wait. Then it searches for deadlocks until none is left in which it
@@ -47,70 +46,6 @@ impl<S: LockSpace> Context<S> {
             Some(place) => self.gain_at(space, place, request.terms()),
             None => self.look_up(space, request),
         }
-    }
-
-    /// Gets a lock of the key that the context knows at a place, or begins to wait for it.
-    ///
-    /// Works as [`Context::acquire`] does for that key, but neither hashes nor compares a key. So it suits a server that keeps
-    /// the place of a table, which [`Context::place_of`] returns. A place is the same for all sessions of a space, but each
-    /// context has to know it. If no key is known there, and only then, the call is refused with [`SpaceError::NoPlace`].
-    pub fn acquire_at(
-        &mut self,
-        space: &mut S,
-        place: Place,
-        mode: Mode,
-        duration: Duration,
-    ) -> Result<Acquire, ContextError>
-        requires { Attends S.LockSpace space.old self.old }
-        ensures run { Runs S.joins space.old (acquiring_by_place place mode duration self.old) (result, self.new) space.new }
-        ensures attends { Attends S.LockSpace space.new self.new }
-        ensures others { LeavesOthers S.LockSpace self.old.who space.old space.new }
-        ensures who { self.new.who ≡ self.old.who }
-        ensures unchanged { OnErr result (self.new ≡ self.old) }
-        ensures placed { IsNoPlace result → key_at place self.old.known ≡ None }
-        ensures own { OnErr result (S.own space.new self.old.who ≡ S.own space.old self.old.who) }
-        ensures wait { WaitsAfter result self.old.wait self.new.wait }
-    {
-        if self.holdings.is_waiting() {
-            return Err(ContextError::Waiting);
-        }
-        let Some(kind) = self.holdings.kind_at(place) else {
-            return Err(ContextError::Space(SpaceError::NoPlace));
-        };
-        let terms = Terms {
-            kind,
-            mode,
-            duration,
-        };
-        self.gain_at(space, place, terms)
-    }
-
-    /// The place of a key, which is looked up if the context doesn't know it.
-    ///
-    /// The context remembers the place from then on, and the session pins it. That takes memory, and so may the look-up. The session's tickets and its
-    /// wait stay as they are.
-    pub fn place_of(&mut self, space: &mut S, key: &Key) -> Result<Place, ContextError>
-        requires { Attends S.LockSpace space.old self.old }
-        ensures run { Runs S.joins space.old (placing key.now self.old) (result, self.new) space.new }
-        ensures found { IfOk result (λ place. place_known key.now self.new.known ≡ Some place) }
-        ensures attends { Attends S.LockSpace space.new self.new }
-        ensures others { LeavesOthers S.LockSpace self.old.who space.old space.new }
-        ensures who { self.new.who ≡ self.old.who }
-        ensures learns { LearnsAtMost key.now self.old self.new }
-        ensures unchanged { OnErr result (self.new ≡ self.old) }
-        ensures own { PinsAtMost S.LockSpace self.old.who key.now space.old space.new }
-    {
-        if let Some(place) = self.holdings.place_known(key) {
-            return Ok(place);
-        }
-        let place = match space.resolve(self.who, key) {
-            Ok(place) => place,
-            Err(refusal) => return Err(ContextError::Space(refusal)),
-        };
-        if self.holdings.remember(key, place).is_err() {
-            return Err(ContextError::Space(SpaceError::OutOfMemory));
-        }
-        Ok(place)
     }
 
     // Gets a lock of a key whose place isn't known yet, or begins to wait for it.

@@ -1,12 +1,15 @@
 //! How a session releases tickets.
-ghost use Rattle.std.specs.Prelude.{◌≡◌, [], None, Ok};
+ghost use Rattle.std.specs.Prelude.{◌≡◌, true, [], None, Some, Ok, OnOk, position};
 ghost use Rattle.mdl_key.specs.Refusals.{RefusesJust};
-ghost use Rattle.mdl_calls.specs.Words.{Runs};
-ghost use Rattle.mdl_context.specs.Contexts.{beyond, beyond_mark, newest_first, of_statement, of_transaction, without_tickets, Attends, LeavesOthers};
-ghost use Rattle.mdl_context.specs.Releases.{releasing_all, releasing_tickets, waiting_fault, release_fault, rollback_fault, releasing, releasing_name, rolling_back, ending_statement, ending_transaction, giving_up_all};
+ghost use Rattle.mdl_calls.specs.Words.{Done, Release, Runs};
+ghost use Rattle.mdl_context.specs.Contexts.{beyond, beyond_mark, has_number, newest_first, of_statement, of_transaction, place_known, without_tickets, Attends, LeavesOthers};
+ghost use Rattle.mdl_context.specs.Holdings.{has_ticket_number, without_number};
+ghost use Rattle.mdl_context.specs.Releases.{at_known_place, releasing_all, releasing_tickets, waiting_fault, release_fault, rollback_fault, releasing, releasing_name, rolling_back, ending_statement, ending_transaction, giving_up_all};
+ghost use Rattle.mdl_context.specs.Tidying.{IsTidy, LetsGo, tidied, unneeded, unpinning_all};
 
 use crate::going::Going;
 use crate::releasing::{release, release_all};
+use crate::tidying::unpin_unneeded;
 use crate::{Context, ContextError, Mark};
 use mdl_key::{Duration, Key};
 use mdl_space::{LockSpace, TicketId};
@@ -18,7 +21,7 @@ const START: Mark = Mark {
 };
 
 impl<S: LockSpace> Context<S> {
-    /// Releases a ticket. Takes no memory.
+    /// Releases a ticket, and gives up the session's pins of places where the context has nothing left. Takes no memory.
     ///
     /// After MySQL 5.7, `MDL_context::release_lock` of `sql/mdl.cc`.
     pub fn release(&mut self, space: &mut S, id: TicketId) -> Result<(), ContextError>
@@ -28,6 +31,8 @@ impl<S: LockSpace> Context<S> {
         ensures attends { Attends S.LockSpace space.new self.new }
         ensures others { LeavesOthers S.LockSpace self.old.who space.old space.new }
         ensures who { self.new.who ≡ self.old.who }
+        ensures tidy { OnOk result (IsTidy self.new) }
+        ensures let_go { OnOk result (LetsGo S.LockSpace space.old self.old space.new self.new) }
     {
         let Some(at) = self.holdings.position(id) else {
             return Err(ContextError::NotHeld);
@@ -35,12 +40,13 @@ impl<S: LockSpace> Context<S> {
         if self.holdings.is_waiting() {
             return Err(ContextError::Waiting);
         }
-        release(space, self.who, id);
-        self.holdings.remove(at, id);
+        self.release_at(space, at, id);
+        self.tidy(space);
         Ok(())
     }
 
-    /// Releases all tickets of a key, from the newest to the oldest. Takes no memory.
+    /// Releases all tickets of a key, from the newest to the oldest, and gives up the session's pins of places where the context has
+    /// nothing left. Takes no memory.
     ///
     /// After MySQL 5.7, `MDL_context::release_all_locks_for_name` of `sql/mdl.cc`.
     pub fn release_name(&mut self, space: &mut S, key: &Key) -> Result<(), ContextError>
@@ -50,19 +56,20 @@ impl<S: LockSpace> Context<S> {
         ensures attends { Attends S.LockSpace space.new self.new }
         ensures others { LeavesOthers S.LockSpace self.old.who space.old space.new }
         ensures who { self.new.who ≡ self.old.who }
+        ensures tidy { OnOk result (IsTidy self.new) }
+        ensures let_go { OnOk result (LetsGo S.LockSpace space.old self.old space.new self.new) }
     {
         if self.holdings.is_waiting() {
             return Err(ContextError::Waiting);
         }
-        let Some(place) = self.holdings.place_known(key) else {
-            return Ok(());
-        };
-        release_all(space, self.who, &mut self.holdings, &Going::At(place));
+        self.release_key(space, key);
+        self.tidy(space);
         Ok(())
     }
 
     /// Goes back to a mark: keeps the earliest tickets of the statement and of the transaction, as many of each as the mark
-    /// counted, and releases the others. Explicit tickets stay. Takes no memory.
+    /// counted, and releases the others. Explicit tickets stay. Gives up the session's pins of places where the context has nothing
+    /// left. Takes no memory.
     ///
     /// Only these two numbers count. A ticket that was explicit at the mark and now ends with the transaction is counted
     /// with the others, in the order in which the session got them. So if it is an early one, a later one that the mark
@@ -82,6 +89,8 @@ impl<S: LockSpace> Context<S> {
         ensures attends { Attends S.LockSpace space.new self.new }
         ensures others { LeavesOthers S.LockSpace self.old.who space.old space.new }
         ensures who { self.new.who ≡ self.old.who }
+        ensures tidy { OnOk result (IsTidy self.new) }
+        ensures let_go { OnOk result (LetsGo S.LockSpace space.old self.old space.new self.new) }
     {
         let stands = self.savepoint();
         if stands.statement < mark.statement || stands.transaction < mark.transaction {
@@ -94,7 +103,8 @@ impl<S: LockSpace> Context<S> {
         Ok(())
     }
 
-    /// Ends a statement: releases its tickets, from the newest to the oldest. Takes no memory.
+    /// Ends a statement: releases its tickets, from the newest to the oldest, and gives up the session's pins of places where the
+    /// context has nothing left. Takes no memory.
     ///
     /// After MySQL 5.7, `MDL_context::release_statement_locks` of `sql/mdl.cc`.
     pub fn end_statement(&mut self, space: &mut S) -> Result<(), ContextError>
@@ -104,6 +114,8 @@ impl<S: LockSpace> Context<S> {
         ensures attends { Attends S.LockSpace space.new self.new }
         ensures others { LeavesOthers S.LockSpace self.old.who space.old space.new }
         ensures who { self.new.who ≡ self.old.who }
+        ensures tidy { OnOk result (IsTidy self.new) }
+        ensures let_go { OnOk result (LetsGo S.LockSpace space.old self.old space.new self.new) }
     {
         if self.holdings.is_waiting() {
             return Err(ContextError::Waiting);
@@ -113,7 +125,7 @@ impl<S: LockSpace> Context<S> {
     }
 
     /// Ends a transaction: releases the tickets of the statement, and then those of the transaction, each from the newest to
-    /// the oldest. Takes no memory.
+    /// the oldest. Gives up the session's pins of places where the context has nothing left. Takes no memory.
     ///
     /// After MySQL 5.7, `MDL_context::release_transactional_locks` of `sql/mdl.cc`.
     pub fn end_transaction(&mut self, space: &mut S) -> Result<(), ContextError>
@@ -123,6 +135,8 @@ impl<S: LockSpace> Context<S> {
         ensures attends { Attends S.LockSpace space.new self.new }
         ensures others { LeavesOthers S.LockSpace self.old.who space.old space.new }
         ensures who { self.new.who ≡ self.old.who }
+        ensures tidy { OnOk result (IsTidy self.new) }
+        ensures let_go { OnOk result (LetsGo S.LockSpace space.old self.old space.new self.new) }
     {
         if self.holdings.is_waiting() {
             return Err(ContextError::Waiting);
@@ -140,10 +154,12 @@ impl<S: LockSpace> Context<S> {
         ensures attends { Attends S.LockSpace space.new self.new }
         ensures others { LeavesOthers S.LockSpace self.old.who space.old space.new }
         ensures who { self.new.who ≡ self.old.who }
+        ensures tidy { IsTidy self.new }
+        ensures let_go { LetsGo S.LockSpace space.old self.old space.new self.new }
         ensures wait { self.new.wait ≡ None }
     {
-        self.release_beyond(space, Duration::Statement, mark.statement);
-        self.release_beyond(space, Duration::Transaction, mark.transaction);
+        self.release_since(space, mark);
+        self.tidy(space);
     }
 
     /// As [`Context::end_statement`], for a session that is known to have no wait. Takes no memory.
@@ -154,9 +170,12 @@ impl<S: LockSpace> Context<S> {
         ensures attends { Attends S.LockSpace space.new self.new }
         ensures others { LeavesOthers S.LockSpace self.old.who space.old space.new }
         ensures who { self.new.who ≡ self.old.who }
+        ensures tidy { IsTidy self.new }
+        ensures let_go { LetsGo S.LockSpace space.old self.old space.new self.new }
         ensures wait { self.new.wait ≡ None }
     {
         self.release_beyond(space, Duration::Statement, 0);
+        self.tidy(space);
     }
 
     /// As [`Context::end_transaction`], for a session that is known to have no wait. Takes no memory.
@@ -167,13 +186,16 @@ impl<S: LockSpace> Context<S> {
         ensures attends { Attends S.LockSpace space.new self.new }
         ensures others { LeavesOthers S.LockSpace self.old.who space.old space.new }
         ensures who { self.new.who ≡ self.old.who }
+        ensures tidy { IsTidy self.new }
+        ensures let_go { LetsGo S.LockSpace space.old self.old space.new self.new }
         ensures wait { self.new.wait ≡ None }
     {
         self.return_to(space, START);
     }
 
     /// Releases all tickets of a session that is known to have no wait: those of the statement, those of the transaction,
-    /// and then the explicit ones, each from the newest to the oldest. Takes no memory.
+    /// and then the explicit ones, each from the newest to the oldest. Gives up the session's pins of all places that the context
+    /// knows. Takes no memory.
     ///
     /// After MySQL 5.7, `THD::cleanup` of `sql/sql_class.cc`.
     pub fn finish_all(&mut self, space: &mut S)
@@ -184,13 +206,55 @@ impl<S: LockSpace> Context<S> {
         ensures attends { Attends S.LockSpace space.new self.new }
         ensures others { LeavesOthers S.LockSpace self.old.who space.old space.new }
         ensures who { self.new.who ≡ self.old.who }
+        ensures tidy { IsTidy self.new }
+        ensures let_go { LetsGo S.LockSpace space.old self.old space.new self.new }
         ensures wait { self.new.wait ≡ None }
     {
-        self.return_to(space, START);
+        self.release_since(space, START);
         self.release_beyond(space, Duration::Explicit, 0);
+        self.tidy(space);
     }
 
-    // Releases the tickets of a duration after the first `most`, from the newest to the oldest.
+    // Releases a ticket, which is at index `at`, and keeps the others.
+    fn release_at(&mut self, space: &mut S, at: usize, id: TicketId)
+        requires attends { Attends S.LockSpace space.old self.old }
+        requires idle { self.old.wait ≡ None }
+        requires held { has_number self.old.kept id ≡ true }
+        requires here { position (has_ticket_number id) self.old.kept ≡ Some at }
+        ensures run { S.joins space.old (Release self.old.who id) Done space.new }
+        ensures kept { self.new ≡ record self.old { kept = without_number id self.old.kept } }
+        ensures attends { Attends S.LockSpace space.new self.new }
+    {
+        release(space, self.who, id);
+        self.holdings.remove(at, id);
+    }
+
+    // Releases all tickets of a key, from the newest to the oldest, and keeps the others.
+    fn release_key(&mut self, space: &mut S, key: &Key)
+        requires attends { Attends S.LockSpace space.old self.old }
+        requires idle { self.old.wait ≡ None }
+        ensures run { Runs S.joins space.old (releasing_all self.old.who (newest_first (at_known_place (place_known key.now self.old.known) self.old.kept))) tt space.new }
+        ensures kept { self.new ≡ record self.old { kept = without_tickets (at_known_place (place_known key.now self.old.known) self.old.kept) self.old.kept } }
+        ensures attends { Attends S.LockSpace space.new self.new }
+    {
+        if let Some(place) = self.holdings.place_known(key) {
+            release_all(space, self.who, &mut self.holdings, &Going::At(place));
+        }
+    }
+
+    // Releases the tickets beyond the counts of a mark, each duration's from the newest to the oldest, and keeps the others.
+    fn release_since(&mut self, space: &mut S, mark: Mark)
+        requires attends { Attends S.LockSpace space.old self.old }
+        requires idle { self.old.wait ≡ None }
+        ensures run { Runs S.joins space.old (releasing_all self.old.who (beyond_mark mark self.old.kept)) tt space.new }
+        ensures kept { self.new ≡ record self.old { kept = without_tickets (beyond_mark mark self.old.kept) self.old.kept } }
+        ensures attends { Attends S.LockSpace space.new self.new }
+    {
+        self.release_beyond(space, Duration::Statement, mark.statement);
+        self.release_beyond(space, Duration::Transaction, mark.transaction);
+    }
+
+    // Releases the tickets of a duration after the first `most`, from the newest to the oldest, and keeps the others.
     fn release_beyond(&mut self, space: &mut S, duration: Duration, most: usize)
         requires attends { Attends S.LockSpace space.old self.old }
         requires idle { self.old.wait ≡ None }
@@ -202,5 +266,17 @@ impl<S: LockSpace> Context<S> {
             let going = Going::From(duration, first);
             release_all(space, self.who, &mut self.holdings, &going);
         }
+    }
+
+    // Gives up the session's pins of the known places where the context has nothing, and forgets these places. Takes no memory.
+    fn tidy(&mut self, space: &mut S)
+        requires { Attends S.LockSpace space.old self.old }
+        ensures run { Runs S.joins space.old (unpinning_all self.old.who (unneeded self.old)) tt space.new }
+        ensures tidied { self.new ≡ tidied self.old }
+        ensures attends { Attends S.LockSpace space.new self.new }
+        ensures let_go { LetsGo S.LockSpace space.old self.old space.new self.new }
+    {
+        unpin_unneeded(space, self.who, &self.holdings);
+        self.holdings.forget_unneeded();
     }
 }

@@ -3,15 +3,14 @@ ghost use Rattle.std.specs.Prelude.{◌≡◌, true, None};
 ghost use Rattle.mdl_key.specs.Keys.{KeyName};
 ghost use Rattle.mdl_key.specs.Modes.{kind_of};
 ghost use Rattle.mdl_calls.specs.Words.{Runs};
-ghost use Rattle.mdl_context.specs.Contexts.{Attends, LeavesOthers, is_known_place, key_at, place_known};
-ghost use Rattle.mdl_context.specs.Requests.{trying, trying_at, trying_by_place, trying_found, IsNoPlace, LacksPlaceOf, LearnsAtMost, PinsAtMost, UnlessAcquired};
+ghost use Rattle.mdl_context.specs.Contexts.{Attends, LeavesOthers, is_known_place, place_known};
+ghost use Rattle.mdl_context.specs.Requests.{trying, trying_at, trying_found, IsNoPlace, LacksPlaceOf, LearnsAtMost, PinsAtMost, UnlessAcquired};
 ghost use Rattle.mdl_context.specs.Terms.{wish_for};
 ghost use Rattle.mdl_context.specs.Wishes.{wish_of_request};
 
 use crate::asking::try_gain;
 use crate::wishes::Terms;
 use crate::{Context, ContextError, Request, Tried};
-use mdl_key::{Duration, Mode};
 use mdl_space::{LockSpace, Place, SpaceError};
 
 impl<S: LockSpace> Context<S> {
@@ -43,41 +42,6 @@ impl<S: LockSpace> Context<S> {
             Some(place) => self.try_at(space, place, request.terms()),
             None => self.look_up_and_try(space, request),
         }
-    }
-
-    /// Gets a lock of the key that the context knows at a place, if that needs no wait.
-    ///
-    /// Works as [`Context::try_acquire`] does for that key, but neither hashes nor compares a key, as [`Context::acquire_at`]. If
-    /// no key is known there, and only then, the call is refused with [`SpaceError::NoPlace`].
-    pub fn try_acquire_at(
-        &mut self,
-        space: &mut S,
-        place: Place,
-        mode: Mode,
-        duration: Duration,
-    ) -> Result<Tried, ContextError>
-        requires { Attends S.LockSpace space.old self.old }
-        ensures run { Runs S.joins space.old (trying_by_place place mode duration self.old) (result, self.new) space.new }
-        ensures attends { Attends S.LockSpace space.new self.new }
-        ensures others { LeavesOthers S.LockSpace self.old.who space.old space.new }
-        ensures who { self.new.who ≡ self.old.who }
-        ensures unchanged { UnlessAcquired result (self.new ≡ self.old) }
-        ensures placed { IsNoPlace result → key_at place self.old.known ≡ None }
-        ensures own { UnlessAcquired result (S.own space.new self.old.who ≡ S.own space.old self.old.who) }
-        ensures wait { self.new.wait ≡ self.old.wait }
-    {
-        if self.holdings.is_waiting() {
-            return Err(ContextError::Waiting);
-        }
-        let Some(kind) = self.holdings.kind_at(place) else {
-            return Err(ContextError::Space(SpaceError::NoPlace));
-        };
-        let terms = Terms {
-            kind,
-            mode,
-            duration,
-        };
-        self.try_at(space, place, terms)
     }
 
     // Gets a lock of a key whose place isn't known yet, if that needs no wait.

@@ -1,17 +1,17 @@
 -- One ticket after the other goes.
-use Rattle.std.proofs.Common.{rules}
 use Rattle.std.proofs.Math.ListN.{drop_of_length-le}
 use Rattle.std.proofs.Math.Seq.{drop-cons}
 use Rattle.mdl_rows.specs.Rows.{release}
 use Rattle.mdl_stmt.proofs.AttendanceLemmas.{context-then}
 use Rattle.mdl_stmt.proofs.DropLemmas.{each-done, each-over}
+use Rattle.mdl_stmt.proofs.ReleaseLemmas.{idle-released}
 use Rattle.mdl_stmt.proofs.RunLemmas.{released}
 use Rattle.mdl_stmt.proofs.UnlockLemmas.{seat}
 use Rattle.mdl_stmt.proofs.unlocking.release_each.Goals as goal
 
 pub loop-ticket-preserved : goal.loop-ticket-preserved
 loop-ticket-preserved g c = record {
-  idle = search rules;
+  idle = idle-released g.S.LockSpace.joins _ c.loop-ticket.context c.release-released.new.self c.release-released.result _ _ c.release-released.ensures.run c.loop-ticket.invariant.idle;
   goes_on = context-then c.loop-ticket.invariant.goes_on (record { who = c.release-released.ensures.who; others = c.release-released.ensures.others; attends = c.release-released.ensures.attends });
   run = λ player.
       each-done g.S.LockSpace release c.args.tickets.now c.args.space.now (seat player c.args.context.now) c.loop-ticket.ticket-index _ c.loop-ticket.space c.release-released.new.space (seat player c.loop-ticket.context) (seat player c.release-released.new.self)

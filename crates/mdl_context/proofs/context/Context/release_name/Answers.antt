@@ -1,49 +1,44 @@
--- What goes is what is at the key's place.
-use Rattle.std.proofs.Common.{◌≡◌, List, [], refl, ap, sym, ◌∙◌}
-use Rattle.std.specs.Prelude.{filter}
-use Rattle.mdl_context.specs.Contexts.{ContextView, AreRising, newest_first, place_known, without_tickets}
+-- The tickets of the key go, and then the places where nothing is left.
+use Rattle.std.proofs.Common.{◌≡◌, List, false, sym, ap, subst, ◌∙◌}
+use Rattle.std.specs.Prelude.{is_some}
 use Rattle.mdl_context.specs.declared.kept.Kept.{Kept}
-use Rattle.mdl_context.specs.Holdings.{is_kept_at}
-use Rattle.mdl_context.specs.Releases.{releasing_tickets, at_known_place}
-use Rattle.mdl_context.proofs.BeyondLemmas.{rising-kept, others-without, run-as, run-none, without-none, same-context, no-wait, run-unless, run-given-up}
-use Rattle.mdl_context.proofs.AttendLemmas.{attends-left}
+use Rattle.mdl_context.specs.Contexts.{ContextView, newest_first, place_known}
+use Rattle.mdl_context.specs.Releases.{at_known_place, releasing_tickets}
+use Rattle.mdl_context.specs.Tidying.{IsTidy}
+use Rattle.mdl_context.proofs.BeyondLemmas.{no-wait, run-given-up, run-unless}
 use Rattle.mdl_context.proofs.FrontLemmas.{without-newest}
-use Rattle.mdl_context.proofs.ServingLemmas.{serves-left}
-use Rattle.mdl_context.proofs.OthersLemmas.{leaves, for_all}
+use Rattle.mdl_context.proofs.OthersLemmas.{leaves, for_giving_up}
+use Rattle.mdl_context.proofs.TidyLemmas.{is-tidy, let-go-after}
 use Rattle.mdl_context.proofs.context.Context.release_name.Goals as goal
 
 pub returns-clause-run : goal.returns-clause-run
 returns-clause-run g c =
     let joins = g.S.LockSpace.joins in
-    let kept = c.self.inside.holdings.kept in
-    let rising : AreRising kept = rw (← c.self.view_is) at (rising-kept _ _ (g.met.S.LockSpace.laws.rising _ _ c.requires.speaks) c.requires.serves) in
-    let before : ContextView = record { who = c.self.inside.who; kept = kept; known = c.self.inside.holdings.known; wait = c.self.inside.holdings.wait } in
-    let after : ContextView = record { who = c.self.inside.who; kept = c.release_all.new.holdings.kept; known = c.release_all.new.holdings.known; wait = c.release_all.new.holdings.wait } in
-    let gone = at_known_place (place_known c.args.key.now before.known) kept in
-    let same : filter (is_kept_at c.in-Some.place) kept ≡ gone = ap (λ place. at_known_place place kept) (sym c.in-Some.is ∙ c.place_known.ensures) in
-    let left = same-context c.self.inside.who _ _ _ _ _ _ (c.release_all.ensures.kept ∙ others-without (is_kept_at c.in-Some.place) kept rising ∙ ap (λ xs. without_tickets xs kept) same ∙ sym (without-newest gone kept)) c.release_all.ensures.known c.release_all.ensures.waits in
-    let run = run-given-up joins (newest_first gone) before after c.args.space.now c.release_all.new.space (run-as joins before.who _ (newest_first gone) _ _ (ap newest_first same) c.release_all.ensures.run) left in
-    rw (← c.self.view_is)
-    (run-unless joins _ before (releasing_tickets (newest_first gone) before) c.args.space.now c.release_all.new.space _ (no-wait before (sym c.is_waiting.ensures ∙ c.if-is_waiting.false)) run)
-
-pub returns-in_default-clause-run : goal.returns-in_default-clause-run
-returns-in_default-clause-run g c =
-    let joins = g.S.LockSpace.joins in
-    let before : ContextView = record { who = c.self.inside.who; kept = c.self.inside.holdings.kept; known = c.self.inside.holdings.known; wait = c.self.inside.holdings.wait } in
+    let before : ContextView = c.args.self.now in
     let gone = at_known_place (place_known c.args.key.now before.known) before.kept in
-    let none : gone ≡ [] = ap (λ place. at_known_place place before.kept) (sym c.place_known.ensures ∙ c.in_default.is) in
-    let run = run-given-up joins (newest_first gone) before before c.args.space.now c.args.space.now (run-none joins before.who (newest_first gone) c.args.space.now (ap newest_first none))
-    (ap (λ (kept : List Kept). let v : ContextView = record before { kept = kept } in v) (sym (ap (λ xs. without_tickets (newest_first xs) before.kept) none ∙ without-none before.kept))) in
-    rw (← c.self.view_is)
-    (run-unless joins _ before (releasing_tickets (newest_first gone) before) c.args.space.now c.args.space.now _ (no-wait before (sym c.is_waiting.ensures ∙ c.if-is_waiting.false)) run)
-
-pub returns-clause-attends : goal.returns-clause-attends
-returns-clause-attends g c =
-    attends-left _ _ _ _ _ (rw (← c.self.view_is) at c.requires) c.release_all.ensures.remembers c.release_all.ensures.pins c.release_all.ensures.speaks
-    (serves-left _ _ _ _ (rw (← c.self.view_is) at c.requires.serves) c.release_all.ensures.held c.release_all.ensures.wait c.release_all.ensures.waits)
-    refl c.release_all.ensures.known c.release_all.ensures.kept c.release_all.ensures.waits (sym c.is_waiting.ensures ∙ c.if-is_waiting.false)
+    let idle : is_some before.wait ≡ false = rw (← c.self.view_is) (sym c.is_waiting.ensures ∙ c.if-is_waiting.false) in
+    let run = run-given-up joins (newest_first gone) before c.release_key.new.self c.tidy.new.self c.args.space.now c.release_key.new.space c.tidy.new.space c.release_key.ensures.run
+    (c.release_key.ensures.kept ∙ ap (λ (kept : List Kept). let context : ContextView = record before { kept = kept } in context) (sym (without-newest gone before.kept)))
+    c.tidy.ensures.run c.tidy.ensures.tidied in
+    run-unless joins _ before (releasing_tickets (newest_first gone) before) c.args.space.now c.tidy.new.space _ (no-wait before idle) run
 
 pub returns-clause-others : goal.returns-clause-others
 returns-clause-others g c =
+    let joins = g.S.LockSpace.joins in
     let laws = g.met.S.LockSpace.laws in
-    rw (← c.self.view_is) (leaves g.S.LockSpace laws _ _ _ _ _ (for_all _ _) c.release_all.ensures.run)
+    let before : ContextView = c.args.self.now in
+    let gone = at_known_place (place_known c.args.key.now before.known) before.kept in
+    let run = run-given-up joins (newest_first gone) before c.release_key.new.self c.tidy.new.self c.args.space.now c.release_key.new.space c.tidy.new.space c.release_key.ensures.run
+    (c.release_key.ensures.kept ∙ ap (λ (kept : List Kept). let context : ContextView = record before { kept = kept } in context) (sym (without-newest gone before.kept)))
+    c.tidy.ensures.run c.tidy.ensures.tidied in
+    leaves g.S.LockSpace laws before.who (releasing_tickets (newest_first gone) before) _ _ _ (for_giving_up (newest_first gone) before) run
+
+pub returns-clause-tidy : goal.returns-clause-tidy
+returns-clause-tidy g c = subst IsTidy (sym c.tidy.ensures.tidied) (is-tidy c.release_key.new.self)
+
+pub returns-clause-let_go : goal.returns-clause-let_go
+returns-clause-let_go g c =
+    let laws = g.met.S.LockSpace.laws in
+    let left = c.release_key.ensures.kept in
+    let-go-after g.S.LockSpace laws _ c.args.space.now c.release_key.new.space c.tidy.new.space tt c.args.self.now c.release_key.new.self c.tidy.new.self
+    c.requires.speaks c.release_key.ensures.run (ap (λ (v : ContextView). v.who) left) (ap (λ (v : ContextView). v.known) left) c.tidy.ensures.let_go

@@ -1,21 +1,33 @@
--- The statement's tickets go first, and then the transaction's, which are the same as before.
-use Rattle.std.proofs.Common.{ap, subst}
-use Rattle.mdl_context.proofs.BeyondLemmas.{rising-kept, run-since}
-use Rattle.mdl_context.specs.Contexts.{ContextView, LeavesOthers}
-use Rattle.mdl_context.proofs.OthersLemmas.{leaves, for_all, both-leave}
+-- The tickets beyond the mark go, and then the places where nothing is left.
+use Rattle.std.proofs.Common.{sym, ap, subst}
+use Rattle.mdl_context.specs.Contexts.{ContextView, beyond_mark}
+use Rattle.mdl_context.specs.Releases.{releasing_tickets}
+use Rattle.mdl_context.specs.Tidying.{IsTidy}
+use Rattle.mdl_context.proofs.BeyondLemmas.{run-given-up}
+use Rattle.mdl_context.proofs.OthersLemmas.{leaves, for_giving_up}
+use Rattle.mdl_context.proofs.TidyLemmas.{is-tidy, let-go-after}
 use Rattle.mdl_context.proofs.context.Context.return_to.Goals as goal
 
 pub returns-clause-run : goal.returns-clause-run
 returns-clause-run g c =
-    let rising = rising-kept _ _ (g.met.S.LockSpace.laws.rising _ _ c.requires.attends.speaks) c.requires.attends.serves in
-    run-since g.S.LockSpace.joins c.args.mark c.args.self.now c.release_beyond.new.self c.release_beyond-2.new.self c.args.space.now c.release_beyond.new.space c.release_beyond-2.new.space rising
-    c.release_beyond.ensures.run c.release_beyond.ensures.kept c.release_beyond-2.ensures.run c.release_beyond-2.ensures.kept
+    run-given-up g.S.LockSpace.joins _ c.args.self.now c.release_since.new.self c.tidy.new.self c.args.space.now c.release_since.new.space c.tidy.new.space
+    c.release_since.ensures.run c.release_since.ensures.kept c.tidy.ensures.run c.tidy.ensures.tidied
 
 pub returns-clause-others : goal.returns-clause-others
 returns-clause-others g c =
     let laws = g.met.S.LockSpace.laws in
-    let lock = g.S.LockSpace in
-    let first = leaves g.S.LockSpace laws _ _ _ _ _ (for_all _ _) c.release_beyond.ensures.run in
-    let second = leaves g.S.LockSpace laws _ _ _ _ _ (for_all _ _) c.release_beyond-2.ensures.run in
-    both-leave lock c.args.self.now.who c.args.space.now c.release_beyond.new.space c.release_beyond-2.new.space first
-    (subst (λ who. LeavesOthers lock who c.release_beyond.new.space c.release_beyond-2.new.space) (ap (λ (v : ContextView). v.who) c.release_beyond.ensures.kept) second)
+    let before : ContextView = c.args.self.now in
+    let gone = beyond_mark c.args.mark before.kept in
+    leaves g.S.LockSpace laws before.who (releasing_tickets gone before) _ _ _ (for_giving_up gone before)
+    (run-given-up g.S.LockSpace.joins _ c.args.self.now c.release_since.new.self c.tidy.new.self c.args.space.now c.release_since.new.space c.tidy.new.space
+    c.release_since.ensures.run c.release_since.ensures.kept c.tidy.ensures.run c.tidy.ensures.tidied)
+
+pub returns-clause-tidy : goal.returns-clause-tidy
+returns-clause-tidy g c = subst IsTidy (sym c.tidy.ensures.tidied) (is-tidy c.release_since.new.self)
+
+pub returns-clause-let_go : goal.returns-clause-let_go
+returns-clause-let_go g c =
+    let laws = g.met.S.LockSpace.laws in
+    let left = c.release_since.ensures.kept in
+    let-go-after g.S.LockSpace laws _ c.args.space.now c.release_since.new.space c.tidy.new.space _ c.args.self.now c.release_since.new.self c.tidy.new.self
+    c.requires.attends.speaks c.release_since.ensures.run (ap (λ (v : ContextView). v.who) left) (ap (λ (v : ContextView). v.known) left) c.tidy.ensures.let_go

@@ -1,27 +1,51 @@
--- A key that isn't known becomes the last, and its kind is listed unless another key's is.
-use Rattle.std.proofs.Common.{◌≡◌, None, rules, ap, [], ◌∷◌, ◌++◌, ◌∙◌}
-use Rattle.std.specs.Map.{lookup}
-use Rattle.indexmap.proofs.CallerLemmas.{insert_entry-new}
-use Rattle.mdl_key.specs.Keys.{KeyName, key_eq}
-use Rattle.mdl_context.proofs.KindLemmas.{kinds-more}
+-- The new key becomes the last one.
+use Rattle.std.proofs.Common.{◌≡◌, ◌++◌, ◌∷◌, [], List, None, Option, ℕ, refl, subst, sym}
+use Rattle.indexmap.specs.IndexMap.{keys}
+use Rattle.mdl_key.specs.Keys.{KeyName}
+use Rattle.mdl_context.specs.declared.known.KnownPlace.{KnownPlace}
+use Rattle.mdl_context.specs.Contexts.{place_known}
+use Rattle.mdl_context.specs.KnownKeys.{AreMet, HasOnePlaceEach, known_keys}
+use Rattle.mdl_context.proofs.KnownLemmas.{AreKept, kept-emptied, kept-more}
 use Rattle.mdl_context.proofs.known.Known.add.Goals as goal
 
-pub returns-clause-done : goal.returns-clause-done
-returns-clause-done c =
-    let same : c.in_ok-clone.field-0 ≡ c.args.key.now = search rules in
-    let new : lookup (key_eq c.in_ok-clone.field-0) c.self.inside.places.entries ≡ None = rw same (rw (← c.self.view_is) at c.requires) in
-    let known = insert_entry-new key_eq c.self.inside.places c.in_ok-clone.field-0 c.args.place new in
-    rw (← c.self.view_is) (c.in_ok-insert.ensures.entries ∙ known ∙ ap (λ (key : KeyName). c.self.inside.places.entries ++ (key, c.args.place) ∷ []) same)
+pub invariant_of-self-in_err-key : goal.invariant_of-self-in_err-key
+invariant_of-self-in_err-key c =
+    let known = known_keys (keys c.self.inside.met) c.self.inside.order.items in
+    let order = c.reserve.new.self.items in
+    let same : order ≡ c.self.inside.order.items = c.in_ok-reserve.ensures.items in
+    let before : AreKept c.self.inside.met.entries order known =
+    subst (λ (places : List KnownPlace). AreKept c.self.inside.met.entries places known) (sym same) (refl, c.self.invariant.indexes, c.self.invariant.met, c.self.invariant.once) in
+    let emptied = kept-emptied c.self.inside.met.entries c.empty_if_many.new.met.entries order known before (rw c.deref.ensures.value at c.empty_if_many.ensures) in
+    let after : AreKept c.meet.new.met.entries order known =
+    subst (λ (entries : List (KeyName × Option ℕ)). AreKept entries order known) (sym c.in_err-key.ensures.refused) emptied in
+    record {
+      indexes = after.1;
+      met = subst (AreMet c.meet.new.met.entries) (sym after.0) after.2;
+      once = subst HasOnePlaceEach (sym after.0) after.3;
+    }
 
-pub invariant_of-self : goal.invariant_of-self
-invariant_of-self c = λ place. c.list_up_to.ensures.same place ∙ c.self.invariant place
+after-push : (c : goal.After-push_reserved)
+    → AreKept c.meet.new.met.entries c.push_reserved.new.self.items (known_keys (keys c.self.inside.met) c.self.inside.order.items ++ (c.args.key.now, c.args.place) ∷ [])
+after-push c =
+    let known = known_keys (keys c.self.inside.met) c.self.inside.order.items in
+    let order = c.reserve.new.self.items in
+    let same : order ≡ c.self.inside.order.items = c.in_ok-reserve.ensures.items in
+    let before : AreKept c.self.inside.met.entries order known =
+    subst (λ (places : List KnownPlace). AreKept c.self.inside.met.entries places known) (sym same) (refl, c.self.invariant.indexes, c.self.invariant.met, c.self.invariant.once) in
+    let emptied = kept-emptied c.self.inside.met.entries c.empty_if_many.new.met.entries order known before (rw c.deref.ensures.value at c.empty_if_many.ensures) in
+    let new : place_known c.args.key.now known ≡ None = rw (← c.self.view_is) at c.requires in
+    let more = kept-more c.empty_if_many.new.met.entries c.meet.new.met.entries order known (record { key = c.in_ok-key.key; place = c.args.place }) c.args.key.now emptied new
+    c.in_ok-key.ensures.index c.in_ok-key.ensures.keys c.in_ok-key.ensures.places in
+    subst (λ (places : List KnownPlace). AreKept c.meet.new.met.entries places (known ++ (c.args.key.now, c.args.place) ∷ [])) (sym c.push_reserved.ensures.items) more
 
 pub invariant_of-self-2 : goal.invariant_of-self-2
 invariant_of-self-2 c =
-    let entries = c.self.inside.places.entries in
-    let same : c.in_ok-clone.field-0 ≡ c.args.key.now = search rules in
-    let new : lookup (key_eq c.in_ok-clone.field-0) entries ≡ None = rw same (rw (← c.self.view_is) at c.requires) in
-    let more : c.insert.new.self.entries ≡ entries ++ (c.args.key.now, c.args.place) ∷ [] =
-    c.in_ok-insert.ensures.entries ∙ insert_entry-new key_eq c.self.inside.places c.in_ok-clone.field-0 c.args.place new ∙ ap (λ (key : KeyName). entries ++ (key, c.args.place) ∷ []) same in
-    let at : c.from.result ≡ c.args.place = search rules in
-    rw (more, at) (kinds-more entries c.self.inside.kinds.items c.list_up_to.new.kinds.items c.args.key.now c.args.place c.unwrap_or-first.result c.self.invariant c.in_ok-list_up_to.ensures.same c.in_ok-list_up_to.ensures.reach (search rules))
+    let after = after-push c in
+    record {
+      indexes = after.1;
+      met = subst (AreMet c.meet.new.met.entries) (sym after.0) after.2;
+      once = subst HasOnePlaceEach (sym after.0) after.3;
+    }
+
+pub returns-clause-done : goal.returns-clause-done
+returns-clause-done c = rw (← c.self.view_is) (after-push c).0

@@ -5,6 +5,7 @@ use Rattle.mdl_rows.specs.States.{half_lock}
 use Rattle.mdl_stmt.specs.Gets.{IsWithoutHalf}
 use Rattle.mdl_stmt.specs.Players.{ExplicitLocks, PlayerView, player_of}
 use Rattle.mdl_stmt.proofs.EndLemmas.{half-dropped}
+use Rattle.mdl_stmt.proofs.ReleaseLemmas.{idle-released}
 use Rattle.mdl_stmt.proofs.player.Player.drop_half.Goals as goal
 
 pub returns-in-Some-clause-run : goal.returns-in-Some-clause-run
@@ -15,3 +16,8 @@ returns-in-Some-clause-run g c =
     subst (λ (p : PlayerView). IsWithoutHalf g.S.LockSpace c.args.ending.now c.args.space.now p c.release-released.new.space (after c.clear_read_lock.new.self)) c.self.view_is
     (subst (λ (e : ExplicitLocks). IsWithoutHalf g.S.LockSpace c.args.ending.now c.args.space.now before c.release-released.new.space (after e)) (sym c.clear_read_lock.ensures)
     (half-dropped g.S.LockSpace c.args.ending.now c.in-Some.global before c.release-released.result c.release-released.new.self _ _ found c.release-released.ensures.run))
+
+pub returns-in-Some-clause-idle : goal.returns-in-Some-clause-idle
+returns-in-Some-clause-idle g c =
+    idle-released g.S.LockSpace.joins c.in-Some.global c.self.inside.context c.release-released.new.self c.release-released.result _ _ c.release-released.ensures.run
+    (ap (λ (p : PlayerView). p.context.wait) c.self.view_is ∙ c.requires.ready.idle)

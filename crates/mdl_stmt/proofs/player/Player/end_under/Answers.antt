@@ -1,9 +1,10 @@
 -- The transaction ends, and then its lock goes.
-use Rattle.std.proofs.Common.{subst}
+use Rattle.std.proofs.Common.{◌∙◌, ap, subst}
 use Rattle.mdl_stmt.specs.Gets.{Comes}
 use Rattle.mdl_rows.specs.Playing.{play}
 use Rattle.mdl_rows.specs.Rows as row
 use Rattle.mdl_stmt.specs.Players.{PlayerView, player_of}
+use Rattle.mdl_stmt.proofs.ReleaseLemmas.{idle-released}
 use Rattle.mdl_stmt.proofs.RunLemmas.{released, comes-then}
 use Rattle.mdl_stmt.proofs.player.Player.end_under.Goals as goal
 
@@ -15,3 +16,8 @@ returns-clause-run g c = λ rest.
     (c.end_transaction.ensures.run (λ _. row.Release c.args.lock (rest tt)))
     (subst (λ (p : PlayerView). Comes g.S.LockSpace c.end_transaction.new.space p (play (row.Release c.args.lock (rest tt))) c.release-released.new.space after (play (rest tt))) c.self.view_is
     (released g.S.LockSpace c.args.lock middle c.release-released.result c.release-released.new.self (rest tt) _ _ c.release-released.ensures.run))
+
+pub returns-clause-idle : goal.returns-clause-idle
+returns-clause-idle g c =
+    idle-released g.S.LockSpace.joins c.args.lock c.self.inside.context c.release-released.new.self c.release-released.result _ _ c.release-released.ensures.run
+    (ap (λ (p : PlayerView). p.context.wait) c.self.view_is ∙ c.end_transaction.ensures.idle)

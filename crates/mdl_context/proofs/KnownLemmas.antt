@@ -1,0 +1,404 @@
+-- The keys whose places a context knows: by their indexes, one more, and some forgotten.
+use Rattle.std.proofs.Common.{◌≡◌, ◌∙◌, ◌⊎◌, inl, inr, ℕ, zero, suc, ◌<◌, Bool, true, false, List, [], ◌∷◌, ◌++◌, ◌+◌, length, take, get_or, position, map, filter, Option, Some, None, refl, sym, ap, subst, arith, rules}
+use Rattle.std.specs.Prelude.{◌&&◌, ◌||◌, ◌==◌, not, All, slice_get, unwrap_or, if◌then◌else◌}
+use Rattle.std.specs.List.{list_any}
+use Rattle.std.specs.Map.{keys_of, lookup}
+use Rattle.std.specs.Option.{option_and_then, option_map, option_map_or}
+use Rattle.std.specs.Cmp.{IsEquivalence}
+use Rattle.std.specs.Cmp.Rules.{comparing}
+use Rattle.indexmap.proofs.CallerLemmas.{insert_entry-new, updates-with_value_at}
+use Rattle.indexmap.specs.IndexMap.{IndexMap, IsUnique, get, insert_entry, keys, with_value_at}
+use Rattle.std.proofs.lemmas.Bool.Decides.{nat_tests}
+use Rattle.std.proofs.lemmas.List.{map_push, take_more}
+use Rattle.std.proofs.lemmas.List.Elements.{All-filter, All-head, All-nil, All-push, All-tail, All-weaker, filter_map-append, filter_passes}
+use Rattle.std.proofs.lemmas.List.Quantifiers.{position-Some}
+use Rattle.std.proofs.lemmas.Option.{slice_get-get_or, slice_get-map, slice_get_within}
+use Rattle.mdl_key.specs.Keys.{KeyName, key_eq}
+use Rattle.mdl_system.proofs.Deciding.{key-Decides}
+use Rattle.mdl_context.specs.declared.known.KnownPlace.{KnownPlace}
+use Rattle.mdl_context.specs.declared.kept.Kept.{Kept}
+use Rattle.mdl_context.specs.declared.kept.Wanted.{Wanted}
+use Rattle.mdl_context.specs.Contexts.{is_of_user_locks, is_user_lock, place_known}
+use Rattle.mdl_context.specs.Holdings.{IsIndexOf, is_kept_at, needs_place, numbers_among}
+use Rattle.mdl_context.specs.Indexes.{Index}
+use Rattle.mdl_context.specs.KnownKeys.{AreIndexes, AreMet, HasOnePlaceEach, KeepsKeys, is_dropped, known_key, known_keys, place_met}
+
+abbrev Entry : Type 0
+Entry = KeyName × ℕ
+
+-- ---- by their indexes
+
+-- what a list is read as past its end
+abbrev pub no-known : KnownPlace
+no-known = record { key = 0; place = 0 }
+
+-- an element is the one that is there
+pub own-item : {X : Type 0} (xs : List X) (i : ℕ) (d : X) → i < length xs → get_or xs i (get_or xs i d) ≡ get_or xs i d
+own-item [] i d inside = absurd (omega arith)
+own-item (x ∷ xs) zero d inside = refl
+own-item (x ∷ xs) (suc i) d inside = own-item xs i d (omega (arith, inside))
+
+-- an index within a list has an element
+pub at-index : {X : Type 0} (xs : List X) (i : ℕ) → i < length xs → (x : X) × (slice_get xs i ≡ Some x)
+at-index [] i inside = absurd (omega arith)
+at-index (x ∷ xs) zero inside = (x, refl)
+at-index (x ∷ xs) (suc i) inside = at-index xs i (omega arith)
+
+module _ (keys : List KeyName) where
+  -- a known key stands in the list
+  known-here : (k : KnownPlace) → k.key < length keys → (key : KeyName) × (known_key keys k ≡ Some (key, k.place))
+  known-here k inside = let there = at-index keys k.key inside in (there.0, rw there.1 refl)
+
+  -- so the list has each known place
+  pub places-listed : (order : List KnownPlace) → AreIndexes keys order → map (λ (e : Entry). e.1) (known_keys keys order) ≡ map (λ (k : KnownPlace). k.place) order
+  places-listed [] all = refl
+  places-listed (k ∷ ks) all =
+      let here = known-here k (All-head (λ (k : KnownPlace). k.key < length keys) k ks all) in
+      rw here.1 (ap (λ places. k.place ∷ places) (places-listed ks (All-tail (λ (k : KnownPlace). k.key < length keys) k ks all)))
+
+  pub places-counted : (order : List KnownPlace) → AreIndexes keys order → length (known_keys keys order) ≡ length order
+  places-counted [] all = refl
+  places-counted (k ∷ ks) all =
+      let here = known-here k (All-head (λ (k : KnownPlace). k.key < length keys) k ks all) in
+      rw here.1 (ap suc (places-counted ks (All-tail (λ (k : KnownPlace). k.key < length keys) k ks all)))
+
+  -- whether a known key's place is this one, and the lock there a user-level lock
+  abbrev pub is_user_at : ℕ → KnownPlace → Bool
+  is_user_at place k = k.place == place && option_map_or (λ (key : KeyName). is_of_user_locks key.namespace) (slice_get keys k.key) false
+
+  pub user-listed : (place : ℕ) (order : List KnownPlace) → AreIndexes keys order → list_any (is_user_at place) order ≡ is_user_lock (known_keys keys order) place
+  user-listed place [] all = refl
+  user-listed place (k ∷ ks) all =
+      let there = at-index keys k.key (All-head (λ (k : KnownPlace). k.key < length keys) k ks all) in
+      rw there.1 (ap (λ (later : Bool). (k.place == place && is_of_user_locks there.0.namespace) || later) (user-listed place ks (All-tail (λ (k : KnownPlace). k.key < length keys) k ks all)))
+
+  -- a place by its number
+  pub place-listed : (order : List KnownPlace) (i : ℕ) (k : KnownPlace) → AreIndexes keys order → slice_get order i ≡ Some k
+      → slice_get (map (λ (e : Entry). e.1) (known_keys keys order)) i ≡ Some k.place
+  place-listed order i k all here =
+      ap (λ places. slice_get places i) (places-listed order all) ∙ slice_get-map (λ (k : KnownPlace). k.place) order i
+      ∙ ap (option_map (λ (k : KnownPlace). k.place)) here
+
+-- keys differ either way
+key-differs : (j k : KeyName) → key_eq j k ≡ false → key_eq k j ≡ false
+key-differs j k other = by (key_eq k j) refl where
+  by : (test : Bool) → key_eq k j ≡ test → key_eq k j ≡ false
+  by false is = is
+  by true is = absurd (let again = (key-Decides j k).1 (sym ((key-Decides k j).0 is)) in let never : true ≡ false = sym again ∙ other in cc)
+
+-- ---- one more
+
+-- keys that come change no key that is known
+pub keys-kept : (before after : List KeyName) (order : List KnownPlace) → AreIndexes before order → KeepsKeys before after → known_keys after order ≡ known_keys before order
+keys-kept before after [] all keeps = refl
+keys-kept before after (k ∷ ks) all keeps =
+    let there = at-index before k.key (All-head (λ (k : KnownPlace). k.key < length before) k ks all) in
+    let later = keys-kept before after ks (All-tail (λ (k : KnownPlace). k.key < length before) k ks all) keeps in
+    rw (there.1, keeps k.key there.0 there.1) (ap (λ known. (there.0, k.place) ∷ known) later)
+
+indexes-kept : (before after : List KeyName) (order : List KnownPlace) → AreIndexes before order → KeepsKeys before after → AreIndexes after order
+indexes-kept before after order all keeps = All-weaker (λ (k : KnownPlace). k.key < length before) (λ (k : KnownPlace). k.key < length after) (λ (k : KnownPlace) inside.
+    (let there = at-index before k.key inside in slice_get_within after k.key there.0 (keeps k.key there.0 there.1))) order all
+
+module _ (before after : List KeyName) (order : List KnownPlace) (k : KnownPlace) (key : KeyName) (all : AreIndexes before order) (keeps : KeepsKeys before after)
+    (here : slice_get after k.key ≡ Some key) where
+  pub known-more : known_keys after (order ++ k ∷ []) ≡ known_keys before order ++ (key, k.place) ∷ []
+  known-more =
+      let last : known_keys after (k ∷ []) ≡ (key, k.place) ∷ [] = rw here refl in
+      filter_map-append (known_key after) order (k ∷ []) ∙ ap (λ known. known ++ known_keys after (k ∷ [])) (keys-kept before after order all keeps)
+      ∙ ap (λ known. known_keys before order ++ known) last
+
+  pub indexes-more : AreIndexes after (order ++ k ∷ [])
+  indexes-more = All-push (λ (k : KnownPlace). k.key < length after) order k (indexes-kept before after order all keeps) (slice_get_within after k.key key here)
+
+-- what is known stays known as another key comes
+pub known-still : (q : KeyName) (known more : List Entry) (place : ℕ) → place_known q known ≡ Some place → place_known q (known ++ more) ≡ Some place
+known-still q [] more place is = absurd (cc)
+known-still q (e ∷ es) more place is = by (key_eq q e.0) refl (known-still q es more place) where
+  by : (test : Bool) → key_eq q e.0 ≡ test → (place_known q es ≡ Some place → place_known q (es ++ more) ≡ Some place) → place_known q ((e ∷ es) ++ more) ≡ Some place
+  by true same later = rw same (rw same at is)
+  by false other later = rw other (later (rw other at is))
+
+known-later : (q : KeyName) (known more : List Entry) → place_known q known ≡ None → place_known q (known ++ more) ≡ place_known q more
+known-later q [] more none = refl
+known-later q (e ∷ es) more none = by (key_eq q e.0) refl (known-later q es more) where
+  by : (test : Bool) → key_eq q e.0 ≡ test → (place_known q es ≡ None → place_known q (es ++ more) ≡ place_known q more) → place_known q ((e ∷ es) ++ more) ≡ place_known q more
+  by true same later = absurd (let never = rw same at none in cc)
+  by false other later = rw other (later (rw other at none))
+
+known-itself : (key : KeyName) → key_eq key key ≡ true
+known-itself key = (key-Decides key key).1 refl
+
+module _ (met : List (KeyName × Option ℕ)) (known : List Entry) (key : KeyName) (place : ℕ) (new : place_known key known ≡ None) where
+  last-known : place_known key (known ++ (key, place) ∷ []) ≡ Some place
+  last-known = known-later key known ((key, place) ∷ []) new ∙ rw (known-itself key) refl
+
+  pub met-more : AreMet met known → (more : List (KeyName × Option ℕ)) → ((q : KeyName) → place_met q more ≡ (if key_eq key q then Some place else place_met q met))
+      → AreMet more (known ++ (key, place) ∷ [])
+  met-more are more told q = by (key_eq key q) refl where
+    by : (test : Bool) → key_eq key q ≡ test → place_met q more ≡ place_known q (known ++ (key, place) ∷ [])
+    by true same =
+        let one : key ≡ q = (key-Decides key q).0 same in
+        told q ∙ rw same (rw (← one) (sym last-known))
+    by false other =
+        let differs : key_eq q key ≡ false = key-differs key q other in
+        told q ∙ rw other (are q ∙ old (place_known q known) refl differs) where
+          old : (found : Option ℕ) → place_known q known ≡ found → key_eq q key ≡ false → place_known q known ≡ place_known q (known ++ (key, place) ∷ [])
+          old (Some at) is differs = is ∙ sym (known-still q known ((key, place) ∷ []) at is)
+          old None is differs = is ∙ sym (known-later q known ((key, place) ∷ []) is ∙ rw differs refl)
+
+  pub once-more : HasOnePlaceEach known → HasOnePlaceEach (known ++ (key, place) ∷ [])
+  once-more once =
+      All-push (λ (e : Entry). place_known e.0 (known ++ (key, place) ∷ []) ≡ Some e.1) known (key, place)
+      (All-weaker (λ (e : Entry). place_known e.0 known ≡ Some e.1) (λ (e : Entry). place_known e.0 (known ++ (key, place) ∷ []) ≡ Some e.1)
+      (λ e is. known-still e.0 known ((key, place) ∷ []) e.1 is) known once)
+      last-known
+
+-- ---- the known keys as they are kept
+
+-- the map and the order have these known keys
+abbrev pub AreKept : List (KeyName × Option ℕ) → List KnownPlace → List Entry → Type 0
+AreKept met order known = (known_keys (keys_of met) order ≡ known) × AreIndexes (keys_of met) order × AreMet met known × HasOnePlaceEach known
+
+-- the map is emptied where nothing is known
+pub kept-emptied : (met new : List (KeyName × Option ℕ)) (order : List KnownPlace) (known : List Entry) → AreKept met order known
+    → (new ≡ met) ⊎ ((order ≡ []) × (new ≡ [])) → AreKept new order known
+kept-emptied met new order known are (inl same) = subst (λ (entries : List (KeyName × Option ℕ)). AreKept entries order known) (sym same) are
+kept-emptied met new order known are (inr none) =
+    let nothing : known ≡ [] = sym are.0 ∙ ap (known_keys (keys_of met)) none.0 in
+    subst (λ (entries : List (KeyName × Option ℕ)). AreKept entries order known) (sym none.1)
+    (subst (λ (places : List KnownPlace). AreKept [] places known) (sym none.0)
+    (subst (λ (left : List Entry). AreKept [] [] left) (sym nothing) (refl, All-nil (λ (k : KnownPlace). k.key < 0), λ q. refl, All-nil (λ (e : Entry). place_known e.0 [] ≡ Some e.1))))
+
+-- one more
+pub kept-more : (met more : List (KeyName × Option ℕ)) (order : List KnownPlace) (known : List Entry) (k : KnownPlace) (key : KeyName) → AreKept met order known
+    → place_known key known ≡ None → slice_get (keys_of more) k.key ≡ Some key → KeepsKeys (keys_of met) (keys_of more)
+    → ((q : KeyName) → place_met q more ≡ (if key_eq key q then Some k.place else place_met q met)) → AreKept more (order ++ k ∷ []) (known ++ (key, k.place) ∷ [])
+kept-more met more order known k key are new here keeps told = (
+  known-more (keys_of met) (keys_of more) order k key are.1 keeps here ∙ ap (λ (left : List Entry). left ++ (key, k.place) ∷ []) are.0,
+  indexes-more (keys_of met) (keys_of more) order k key are.1 keeps here,
+  met-more met known key k.place new are.2 more told,
+  once-more met known key k.place new are.3,
+)
+
+-- ---- some forgotten
+
+abbrev IsOnlyAt : KeyName → ℕ → Entry → Type 0
+IsOnlyAt q place e = key_eq q e.0 ≡ true → e.1 ≡ place
+
+module _ (test : ℕ → Bool) where
+  -- the known keys whose places pass
+  abbrev pub passing : List Entry → List Entry
+  passing known = filter (λ (e : Entry). test e.1) known
+
+  pub known-passing : (keys : List KeyName) (order : List KnownPlace) → known_keys keys (filter (λ (k : KnownPlace). test k.place) order) ≡ passing (known_keys keys order)
+  known-passing keys [] = refl
+  known-passing keys (k ∷ ks) = by (slice_get keys k.key) refl (test k.place) refl (known-passing keys ks) where
+    by : (found : Option KeyName) → slice_get keys k.key ≡ found → (stays : Bool) → test k.place ≡ stays
+        → known_keys keys (filter (λ (k : KnownPlace). test k.place) ks) ≡ passing (known_keys keys ks)
+        → known_keys keys (filter (λ (k : KnownPlace). test k.place) (k ∷ ks)) ≡ passing (known_keys keys (k ∷ ks))
+    by None none true stays later = rw (stays, none) later
+    by None none false goes later = rw (goes, none) later
+    by (Some key) here true stays later = rw (stays, here) (rw stays (ap (λ known. (key, k.place) ∷ known) later))
+    by (Some key) here false goes later = rw (goes, here) (rw goes later)
+
+  module _ (q : KeyName) (place : ℕ) where
+    -- the key is known at this place alone
+    abbrev OnlyAt : List Entry → Type 0
+    OnlyAt known = All (IsOnlyAt q place) known
+
+    none-dropped : (known : List Entry) → OnlyAt known → test place ≡ true → is_dropped test q known ≡ false
+    none-dropped [] only stays = refl
+    none-dropped (e ∷ es) only stays = by (key_eq q e.0) refl (none-dropped es (All-tail (IsOnlyAt q place) e es only) stays) where
+      by : (same : Bool) → key_eq q e.0 ≡ same → is_dropped test q es ≡ false → is_dropped test q (e ∷ es) ≡ false
+      by false other later = rw other later
+      by true same later = rw (same, All-head (IsOnlyAt q place) e es only same, stays) later
+
+    none-left : (known : List Entry) → OnlyAt known → test place ≡ false → place_known q (passing known) ≡ None
+    none-left [] only goes = refl
+    none-left (e ∷ es) only goes = by (key_eq q e.0) refl (test e.1) refl (none-left es (All-tail (IsOnlyAt q place) e es only) goes) where
+      by : (same : Bool) → key_eq q e.0 ≡ same → (stays : Bool) → test e.1 ≡ stays → place_known q (passing es) ≡ None → place_known q (passing (e ∷ es)) ≡ None
+      by same is false out later = rw out later
+      by false other true in' later = rw (in', other) later
+      by true same true in' later =
+          let at : e.1 ≡ place = All-head (IsOnlyAt q place) e es only same in
+          let never : true ≡ false = sym in' ∙ ap test at ∙ goes in
+          absurd (cc)
+
+    pub forgotten : (known : List Entry) → OnlyAt known → (if is_dropped test q known then None else place_known q known) ≡ place_known q (passing known)
+    forgotten [] only = refl
+    forgotten (e ∷ es) only = by (key_eq q e.0) refl (test e.1) refl (forgotten es rest) where
+      rest : OnlyAt es
+      rest = All-tail (IsOnlyAt q place) e es only
+
+      by : (same : Bool) → key_eq q e.0 ≡ same → (stays : Bool) → test e.1 ≡ stays
+          → (if is_dropped test q es then None else place_known q es) ≡ place_known q (passing es)
+          → (if is_dropped test q (e ∷ es) then None else place_known q (e ∷ es)) ≡ place_known q (passing (e ∷ es))
+      by false other true stays later = rw (other, stays) (rw other later)
+      by false other false goes later = rw (other, goes) later
+      by true same true stays later =
+          let at : e.1 ≡ place = All-head (IsOnlyAt q place) e es only same in
+          let none : is_dropped test q es ≡ false = none-dropped es rest (sym (ap test at) ∙ stays) in
+          rw (same, stays) (rw (same, none) refl)
+      by true same false goes later =
+          let at : e.1 ≡ place = All-head (IsOnlyAt q place) e es only same in
+          rw (same, goes) (sym (none-left es rest (sym (ap test at) ∙ goes)))
+
+only-one : (known : List Entry) → HasOnePlaceEach known → (q : KeyName) (place : ℕ) → unwrap_or (place_known q known) 0 ≡ place → (test : ℕ → Bool) → OnlyAt test q place known
+only-one known once q place is test = All-weaker (λ (e : Entry). place_known e.0 known ≡ Some e.1) (IsOnlyAt q place)
+    (λ e there same.
+    let one : q ≡ e.0 = (key-Decides q e.0).0 same in
+    let here : place_known q known ≡ Some e.1 = subst (λ (k : KeyName). place_known k known ≡ Some e.1) (sym one) there in
+    sym (ap (λ found. unwrap_or found 0) here) ∙ is)
+    known once
+
+module _ (test : ℕ → Bool) (known : List Entry) (once : HasOnePlaceEach known) where
+  pub met-fewer : (met less : List (KeyName × Option ℕ)) → AreMet met known
+      → ((q : KeyName) → place_met q less ≡ (if is_dropped test q known then None else place_met q met)) → AreMet less (passing test known)
+  met-fewer met less are told q =
+      told q ∙ ap (λ (found : Option ℕ). if is_dropped test q known then None else found) (are q)
+      ∙ forgotten test q (unwrap_or (place_known q known) 0) known (only-one known once q _ refl test)
+
+  stays-once : (e : Entry) → (place_known e.0 known ≡ Some e.1) × (test e.1 ≡ true) → place_known e.0 (passing test known) ≡ Some e.1
+  stays-once e is =
+      let only = only-one known once e.0 e.1 (ap (λ found. unwrap_or found 0) is.0) test in
+      sym (forgotten test e.0 e.1 known only) ∙ rw (none-dropped test e.0 e.1 known only is.1) is.0
+
+  pub once-fewer : HasOnePlaceEach (passing test known)
+  once-fewer = All-weaker (λ (e : Entry). (place_known e.0 known ≡ Some e.1) × (test e.1 ≡ true)) (λ (e : Entry). place_known e.0 (passing test known) ≡ Some e.1)
+      stays-once (passing test known)
+      (λ i d inside. (All-filter (λ (e : Entry). test e.1) (λ (e : Entry). place_known e.0 known ≡ Some e.1) known once i d inside, filter_passes (λ (e : Entry). test e.1) known i d inside))
+
+-- some forgotten
+pub kept-fewer : (test : ℕ → Bool) (met less : List (KeyName × Option ℕ)) (order : List KnownPlace) (known : List Entry) → AreKept met order known → keys_of less ≡ keys_of met
+    → ((q : KeyName) → place_met q less ≡ (if is_dropped test q (known_keys (keys_of met) order) then None else place_met q met))
+    → AreKept less (filter (λ (k : KnownPlace). test k.place) order) (passing test known)
+kept-fewer test met less order known are same told =
+    let fewer : List KnownPlace = filter (λ (k : KnownPlace). test k.place) order in (
+      ap (λ (keys : List KeyName). known_keys keys fewer) same ∙ known-passing test (keys_of met) order ∙ ap (passing test) are.0,
+      subst (λ (keys : List KeyName). AreIndexes keys fewer) (sym same) (All-filter (λ (k : KnownPlace). test k.place) (λ (k : KnownPlace). k.key < length (keys_of met)) order are.1),
+      met-fewer test known are.3 met less are.2
+          (λ q. told q ∙ ap (λ (left : List Entry). if is_dropped test q left then None else place_met q met) are.0),
+      once-fewer test known are.3,
+    )
+
+-- ---- some dropped from the map
+
+dropped-last : (test : ℕ → Bool) (q : KeyName) (known : List Entry) (e : Entry)
+    → is_dropped test q (known ++ e ∷ []) ≡ (is_dropped test q known || (key_eq q e.0 && not (test e.1)))
+dropped-last test q [] e = by (key_eq q e.0 && not (test e.1)) where
+  by : (goes : Bool) → (goes || false) ≡ (false || goes)
+  by true = refl
+  by false = refl
+dropped-last test q (x ∷ xs) e = by (key_eq q x.0 && not (test x.1)) (dropped-last test q xs e) where
+  by : (goes : Bool) → is_dropped test q (xs ++ e ∷ []) ≡ (is_dropped test q xs || (key_eq q e.0 && not (test e.1)))
+      → (goes || is_dropped test q (xs ++ e ∷ [])) ≡ ((goes || is_dropped test q xs) || (key_eq q e.0 && not (test e.1)))
+  by true later = refl
+  by false later = later
+
+module _ (test : ℕ → Bool) (keys : List KeyName) (order : List KnownPlace) (old : List (KeyName × Option ℕ)) where
+  -- of the first so many known keys, those at places that fail have no place in the map any more
+  abbrev pub AreDropped : ℕ → List (KeyName × Option ℕ) → Type 0
+  AreDropped n met = (q : KeyName) → place_met q met ≡ (if is_dropped test q (known_keys keys (take n order)) then None else place_met q old)
+
+  module _ (i : ℕ) (k : KnownPlace) (key : KeyName) (met : List (KeyName × Option ℕ)) (inside : i < length order) (own : get_or order i k ≡ k)
+      (here : slice_get keys k.key ≡ Some key) (so_far : AreDropped i met) where
+    one-more : (q : KeyName) → is_dropped test q (known_keys keys (take (i + 1) order)) ≡ (is_dropped test q (known_keys keys (take i order)) || (key_eq q key && not (test k.place)))
+    one-more q =
+        let front : take (i + 1) order ≡ take i order ++ k ∷ [] = take_more order i k inside ∙ ap (λ (x : KnownPlace). take i order ++ x ∷ []) own in
+        let last : known_keys keys (k ∷ []) ≡ (key, k.place) ∷ [] = rw here refl in
+        ap (λ (part : List KnownPlace). is_dropped test q (known_keys keys part)) front
+        ∙ ap (is_dropped test q) (filter_map-append (known_key keys) (take i order) (k ∷ []) ∙ ap (λ known. known_keys keys (take i order) ++ known) last)
+        ∙ dropped-last test q (known_keys keys (take i order)) (key, k.place)
+
+    pub drop-next : (less : List (KeyName × Option ℕ)) → test k.place ≡ false → ((q : KeyName) → place_met q less ≡ (if key_eq key q then None else place_met q met)) → AreDropped (i + 1) less
+    drop-next less goes told q = by (key_eq q key) refl where
+      Goal : Type 0
+      Goal = place_met q less ≡ (if is_dropped test q (known_keys keys (take (i + 1) order)) then None else place_met q old)
+
+      by : (same : Bool) → key_eq q key ≡ same → Goal
+      by true same =
+          let back : key_eq key q ≡ true = (key-Decides key q).1 (sym ((key-Decides q key).0 same)) in
+          told q ∙ rw back (rw (one-more q, same, goes) (either (is_dropped test q (known_keys keys (take i order))))) where
+            either : (before : Bool) → None ≡ (if before || true then None else place_met q old)
+            either true = refl
+            either false = refl
+      by false other =
+          told q ∙ rw (key-differs q key other) (rw (one-more q, other) (so_far q ∙ still (is_dropped test q (known_keys keys (take i order))))) where
+            still : (before : Bool) → (if before then None else place_met q old) ≡ (if before || false then None else place_met q old)
+            still true = refl
+            still false = refl
+
+    pub keep-next : test k.place ≡ true → AreDropped (i + 1) met
+    keep-next stays q = so_far q ∙ rw (one-more q, stays) (still (is_dropped test q (known_keys keys (take i order))) (key_eq q key)) where
+      still : (before same : Bool) → (if before then None else place_met q old) ≡ (if before || (same && false) then None else place_met q old)
+      still true same = refl
+      still false true = refl
+      still false false = refl
+
+-- ---- the map
+
+key-laws : IsEquivalence key_eq
+key-laws = search (comparing, rules) depth 9
+
+module _ {S : Type 0} (m n : IndexMap KeyName (Option ℕ) S) (key : KeyName) (w : Option ℕ) where
+  -- a change of one key's value
+  pub met-updated : ((q : KeyName) → get key_eq n q ≡ (if key_eq key q then Some w else get key_eq m q)) → (q : KeyName) → place_met q n.entries ≡ (if key_eq key q then w else place_met q m.entries)
+  met-updated told q = by (key_eq key q) refl where
+    by : (same : Bool) → key_eq key q ≡ same → place_met q n.entries ≡ (if key_eq key q then w else place_met q m.entries)
+    by true same = ap (option_and_then (λ (place : Option ℕ). place)) (told q) ∙ rw same refl
+    by false other = ap (option_and_then (λ (place : Option ℕ). place)) (told q) ∙ rw other refl
+
+module _ {S : Type 0} (m : IndexMap KeyName (Option ℕ) S) (i : ℕ) (key : KeyName) (v w : Option ℕ) where
+  -- a value written at an index
+  pub met-written : IsUnique key_eq m → slice_get m.entries i ≡ Some (key, v)
+      → (q : KeyName) → place_met q (with_value_at m i w).entries ≡ (if key_eq key q then w else place_met q m.entries)
+  met-written unique at = met-updated m (with_value_at m i w) key w (updates-with_value_at m i w key-laws unique key v at).0
+
+-- the key that is found at an index
+pub key-found : (keys : List KeyName) (key : KeyName) (i : ℕ) → position (key_eq key) keys ≡ Some i → slice_get keys i ≡ Some key
+key-found keys key i found =
+    let there = position-Some (key_eq key) keys i key found in
+    slice_get-get_or keys i key there.0 ∙ ap (λ (k : KeyName). Some k) (sym ((key-Decides key (get_or keys i key)).0 there.1))
+
+-- and its entry
+pub entry-found : (entries : List (KeyName × Option ℕ)) (i : ℕ) (key : KeyName) → slice_get (keys_of entries) i ≡ Some key → (v : Option ℕ) × (slice_get entries i ≡ Some (key, v))
+entry-found [] i key here = absurd (cc)
+entry-found (e ∷ es) zero key here = (e.1, (let own : e.0 ≡ key = cc in ap (λ (k : KeyName). Some (k, e.1)) own))
+entry-found (e ∷ es) (suc i) key here = entry-found es i key here
+
+-- a new key goes last
+pub keys-inserted : {S : Type 0} (m : IndexMap KeyName (Option ℕ) S) (entries : List (KeyName × Option ℕ)) (key : KeyName) (v : Option ℕ)
+    → lookup (key_eq key) m.entries ≡ None → entries ≡ insert_entry key_eq m.entries key v → keys_of entries ≡ keys m ++ key ∷ []
+keys-inserted m entries key v new is =
+    ap (λ (es : List (KeyName × Option ℕ)). keys_of es) (is ∙ insert_entry-new key_eq m key v new) ∙ map_push (λ (e : KeyName × Option ℕ). e.0) m.entries (key, v)
+
+-- and the others stay
+pub keys-grown : (keys : List KeyName) (key : KeyName) → KeepsKeys keys (keys ++ key ∷ [])
+keys-grown [] key i k here = absurd (cc)
+keys-grown (x ∷ xs) key zero k here = here
+keys-grown (x ∷ xs) key (suc i) k here = keys-grown xs key i k here
+
+pub key-last : (keys : List KeyName) (key : KeyName) → slice_get (keys ++ key ∷ []) (length keys) ≡ Some key
+key-last [] key = refl
+key-last (x ∷ xs) key = key-last xs key
+
+-- ---- what is needed
+
+eqb-suc : (n : ℕ) → (suc n == 0) ≡ false
+eqb-suc n = grind (arith, nat_tests)
+
+any-numbered : (place : ℕ) (kept : List Kept) → not (length (numbers_among place kept) == 0) ≡ list_any (is_kept_at place) kept
+any-numbered place [] = refl
+any-numbered place (t ∷ ts) = by (is_kept_at place t) refl (any-numbered place ts) where
+  by : (here : Bool) → is_kept_at place t ≡ here → not (length (numbers_among place ts) == 0) ≡ list_any (is_kept_at place) ts
+      → not (length (numbers_among place (t ∷ ts)) == 0) ≡ list_any (is_kept_at place) (t ∷ ts)
+  by true here later = rw here (rw (eqb-suc (length (numbers_among place ts))) refl)
+  by false other later = rw other later
+
+-- an index tells which places are needed
+pub needed-told : (kept : List Kept) (index : Index) (wait : Option Wanted) (place : ℕ) → IsIndexOf kept index
+    → needs_place index wait place ≡ (list_any (is_kept_at place) kept || option_map_or (λ (wanted : Wanted). wanted.place == place) wait false)
+needed-told kept index wait place is =
+    ap (λ (there : Bool). there || option_map_or (λ (wanted : Wanted). wanted.place == place) wait false)
+    (ap (λ (numbers : List ℕ). not (length numbers == 0)) (is place) ∙ any-numbered place kept)
