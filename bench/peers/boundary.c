@@ -193,24 +193,29 @@ static void mutex(unsigned thread, unsigned turn)
     pthread_mutex_unlock(&guard);
 }
 
+/* Whether a session has a context, which looks its keys up itself. */
+static bool has_context(uint16_t who)
+{
+    return who > MOST_THREADS && who <= 2 * MOST_THREADS;
+}
+
 /* The keys of the global lock and of all tables. As in mdl_bench, two sessions have SR of the first table: sessions that no thread is. */
 static void prepare(void)
 {
     done(mdl_open(&space, TABLES + 1, SESSIONS));
     for (uint16_t who = 1; who <= SESSIONS; who += 1)
-        done(mdl_global(&space, who, &global));
+        done(has_context(who) ? mdl_context_begin(&space, who) : mdl_global(&space, who, &global));
     server_make(GLOBAL_PLACE, keys[GLOBAL_PLACE], key_lengths[GLOBAL_PLACE]);
     for (unsigned i = 0; i < TABLES; i += 1) {
         name_lengths[i] = (size_t)snprintf(names[i], sizeof names[i], "t%u", i);
         for (uint16_t who = 1; who <= SESSIONS; who += 1)
-            done(mdl_table(&space, who, (const uint8_t *)"test", 4, (const uint8_t *)names[i], name_lengths[i], &places[i]));
+            if (!has_context(who))
+                done(mdl_table(&space, who, (const uint8_t *)"test", 4, (const uint8_t *)names[i], name_lengths[i], &places[i]));
         key_lengths[i + 1] = (size_t)snprintf(keys[i + 1], LONGEST_KEY, "%ctest%c%s", TABLE_KEY, 0, names[i]);
         server_make(i + 1, keys[i + 1], key_lengths[i + 1]);
     }
     for (unsigned i = 0; i < MOST_THREADS; i += 1)
         server_open(&sessions[i]);
-    for (uint16_t who = MOST_THREADS + 1; who <= 2 * MOST_THREADS; who += 1)
-        done(mdl_context_begin(&space, who));
     take(SESSIONS - 1, places[0], MDL_SR);
     take(SESSIONS, places[0], MDL_SR);
 }

@@ -6,8 +6,7 @@
  * - a_pair: a table is locked in SR and released; of _held_250 the session has SR of 250 other tables, and looks through them. a_request: the same by the
  *   table's key. b_hot: by several threads at one table. c_own: each at a table of its own; of _cpu the processor's time counts.
  * - d_transaction: GLOBAL is locked in IX and three tables in SW, and all are released; on several threads each has tables of its own. Of _context the
- *   tables are found by their keys; of _places they aren't, as in d_transaction itself; of _same all threads have the same; of _cpu the processor's time
- *   counts.
+ *   tables are found by their keys; of _same all threads have the same; of _cpu the processor's time counts.
  * - x_exclusive: a table is locked in X and released. try_now_and_release: the same, while the session has SU of it, and of _held_250 of 249 other tables.
  *   A session of the model knows all places, so _known_250 is as _known_1.
  * - acquire_and_release: a_request of a session that has SR of so many other tables. lock_and_go_back: a hundred tables are locked and released.
@@ -362,8 +361,6 @@ static const struct figure transaction_row[] = {
     ALONE("d_transaction", "pins_transaction", 5000, transactions, PINNED),
     ALONE("d_transaction_context", "lite_key_transaction", 5000, transactions, LITE_KEY),
     ALONE("d_transaction_context", "pins_key_transaction", 5000, transactions, PINNED_KEY),
-    ALONE("d_transaction_places", "lite_transaction", 5000, transactions, LITE),
-    ALONE("d_transaction_places", "pins_transaction", 5000, transactions, PINNED),
 };
 
 static const struct figure exclusive_row[] = {
@@ -450,15 +447,11 @@ static const struct figure crowd_row[] = {
     AMONG(4, "d_transaction", "pins_transaction", 20000, transactions, PINNED),
     AMONG(4, "d_transaction_context", "lite_key_transaction", 20000, transactions, LITE_KEY),
     AMONG(4, "d_transaction_context", "pins_key_transaction", 20000, transactions, PINNED_KEY),
-    AMONG(4, "d_transaction_places", "lite_transaction", 20000, transactions, LITE),
-    AMONG(4, "d_transaction_places", "pins_transaction", 20000, transactions, PINNED),
 };
 
 static const struct figure same_row[] = {
     AMONG(4, "d_transaction_same_context", "lite_key_transaction", 20000, same_transactions, LITE_KEY),
     AMONG(4, "d_transaction_same_context", "pins_key_transaction", 20000, same_transactions, PINNED_KEY),
-    AMONG(4, "d_transaction_same_places", "lite_transaction", 20000, same_transactions, LITE),
-    AMONG(4, "d_transaction_same_places", "pins_transaction", 20000, same_transactions, PINNED),
 };
 
 static const struct figure crowd_processor_row[] = {

@@ -8,7 +8,7 @@
 #define NAME(text) (const uint8_t *)(text), strlen(text)
 #define TABLE(name) MDL_TABLE, NAME("shop"), NAME(name)
 
-enum { PLACES = 256, SESSIONS = 1024, STEP = 31, RING = 64, LONGEST = 64, TICKETS = 65535, CODES = 51, TOLD = 20 };
+enum { PLACES = 256, SESSIONS = 1024, STEP = 31, RING = 64, LONGEST = 64, TICKETS = 65535, FEW = 4, TURNS = 300, CODES = 51, TOLD = 20 };
 
 static const char bytes_of_names[] = "abcdefghijklmnopqrstuvwxyz0123456789_";
 
@@ -99,7 +99,7 @@ static void name_keys(void)
     EXPECT(MDL_DONE, mdl_close(&space));
 }
 
-/* As many keys as there are places. Each keeps its place. */
+/* As many keys as there are places. Each keeps its place while a session pins it, and then another key may get it. */
 static void fill_places(void)
 {
     char name[8];
@@ -116,6 +116,10 @@ static void fill_places(void)
             CHECK(place == wanted);
         }
     EXPECT(MDL_NO_PLACE, mdl_schema(&space, 1, NAME("shop"), &place));
+    EXPECT(MDL_DONE, mdl_unpin(&space, 1, 3));
+    EXPECT(MDL_DONE, mdl_schema(&space, 1, NAME("shop"), &place));
+    CHECK(place == 3);
+    EXPECT(MDL_NO_PLACE, mdl_table(&space, 1, NAME("shop"), NAME("t3"), &place));
     EXPECT(MDL_DONE, mdl_places(&space, &count));
     CHECK(count == PLACES);
     EXPECT(MDL_NO_PLACE, mdl_try(&space, 1, 0, MDL_X, &ticket));
@@ -128,6 +132,9 @@ static void fill_places(void)
     EXPECT(MDL_DONE, mdl_context_begin(&space, 1));
     EXPECT(MDL_DONE, mdl_acquire(&space, 1, MDL_COMMIT, NAME(""), NAME(""), MDL_IX, MDL_STATEMENT, &ticket));
     EXPECT(MDL_NO_PLACE, mdl_acquire(&space, 1, MDL_USER_LEVEL_LOCK, NAME("job"), NAME(""), MDL_X, MDL_EXPLICIT, &ticket));
+    EXPECT(MDL_DONE, mdl_end_statement(&space, 1));
+    EXPECT(MDL_DONE, mdl_acquire(&space, 1, MDL_USER_LEVEL_LOCK, NAME("job"), NAME(""), MDL_X, MDL_EXPLICIT, &ticket));
+    EXPECT(MDL_NO_PLACE, mdl_acquire(&space, 1, MDL_COMMIT, NAME(""), NAME(""), MDL_IX, MDL_STATEMENT, &ticket));
     EXPECT(MDL_DONE, mdl_close(&space));
 }
 
@@ -175,6 +182,55 @@ static uint32_t acquire_own(uint16_t who, uint16_t whose, uint8_t mode)
     uint64_t number = 0;
     snprintf(name, sizeof name, "t%u", whose);
     return mdl_acquire(&space, who, TABLE(name), mode, MDL_TRANSACTION, &number);
+}
+
+/* A context locks more tables than there are places, a few at a time: it lets go of their places as it releases them. */
+static void lock_in_turn(void)
+{
+    size_t count = 0;
+    EXPECT(MDL_DONE, mdl_open(&space, FEW, 1));
+    EXPECT(MDL_DONE, mdl_context_begin(&space, 1));
+    for (uint16_t first = 1; first <= TURNS; first += FEW) {
+        for (uint16_t table = first; table < first + FEW; table += 1)
+            EXPECT(MDL_DONE, acquire_own(1, table, MDL_SW));
+        EXPECT(MDL_NO_PLACE, acquire_own(1, first + FEW, MDL_SW));
+        EXPECT(MDL_DONE, acquire_own(1, first, MDL_SR));
+        EXPECT(MDL_DONE, mdl_end_transaction(&space, 1));
+    }
+    EXPECT(MDL_DONE, mdl_places(&space, &count));
+    CHECK(count == FEW);
+    EXPECT(MDL_DONE, mdl_close(&space));
+}
+
+static uint32_t find_table(uint16_t who, uint16_t number, uint16_t *place)
+{
+    char name[8];
+    snprintf(name, sizeof name, "t%u", number);
+    return mdl_table(&space, who, NAME("shop"), NAME(name), place);
+}
+
+/* The same by direct calls, for which the program gives up the pins. The place that session 2 pins stays its key's. */
+static void unpin_in_turn(void)
+{
+    uint64_t ticket = 0;
+    uint16_t place = 0, pinned = 0;
+    EXPECT(MDL_DONE, mdl_open(&space, FEW, 2));
+    EXPECT(MDL_DONE, find_table(2, 0, &pinned));
+    CHECK(pinned == 1);
+    for (uint16_t table = 1; table <= TURNS; table += 1) {
+        EXPECT(MDL_DONE, find_table(1, table, &place));
+        CHECK(place == (table < FEW ? table + 1 : 2));
+        EXPECT(MDL_DONE, mdl_try(&space, 1, place, MDL_SW, &ticket));
+        EXPECT(MDL_IN_USE, mdl_unpin(&space, 1, place));
+        EXPECT(MDL_DONE, mdl_release(&space, 1, ticket));
+        EXPECT(MDL_DONE, mdl_unpin(&space, 1, place));
+        EXPECT(MDL_NO_PLACE, mdl_unpin(&space, 1, place));
+        EXPECT(MDL_NO_PLACE, mdl_try(&space, 1, place, MDL_SW, &ticket));
+    }
+    EXPECT(MDL_NO_PLACE, mdl_unpin(&space, 1, pinned));
+    EXPECT(MDL_DONE, find_table(1, 0, &place));
+    CHECK(place == pinned);
+    EXPECT(MDL_DONE, mdl_close(&space));
 }
 
 /* Each of these sessions has a table of its own, and waits for that of the next one. The last wait is the victim, and the others are granted in turn. */
@@ -300,6 +356,8 @@ static void end_waits(void)
     EXPECT(MDL_KILLED, mdl_time_out(&space, 2));
     EXPECT(MDL_KILLED, mdl_end(&space, 2, &first));
     EXPECT(MDL_NO_WAIT, mdl_end(&space, 2, &first));
+    EXPECT(MDL_SESSION_IN_USE, mdl_context_begin(&space, 2));
+    EXPECT(MDL_DONE, mdl_unpin(&space, 2, place));
     EXPECT(MDL_DONE, mdl_context_begin(&space, 2));
     EXPECT(MDL_NOT_KEPT, mdl_context_release(&space, 2, 1));
     EXPECT(MDL_STALE_SAVEPOINT, mdl_rollback_to(&space, 2, (struct mdl_mark){1, 0}));
@@ -332,6 +390,9 @@ int main(void)
     printf("keys at all places\n");
     acquire_all();
     printf("locks of all namespaces, in all modes, for all durations\n");
+    lock_in_turn();
+    unpin_in_turn();
+    printf("%d tables in turn, at %d places\n", TURNS, FEW);
     wait_in_a_ring();
     printf("a deadlock of %d sessions with contexts\n", RING);
     wait_for_one();

@@ -93,6 +93,7 @@ static void call_directly(void)
     EXPECT(MDL_DONE, mdl_end(&space, 3, &first));
     EXPECT(MDL_DONE, mdl_release(&space, 3, first));
     EXPECT(MDL_DONE, mdl_release(&space, 1, second));
+    EXPECT(MDL_DONE, mdl_unpin(&space, 1, items));
     EXPECT(MDL_DONE, mdl_close(&space));
 }
 

@@ -104,6 +104,7 @@ static void be_refused(void)
     tell("no such ticket is kept", mdl_context_release(&space, 1, 99));
     tell("the place of orders", mdl_table(&space, 1, NAME("shop"), NAME("orders"), &place));
     tell("a context keeps the tickets", mdl_try(&space, 1, place, MDL_SR, &ticket));
+    tell("and gives up the pins", mdl_unpin(&space, 1, place));
     tell("there is no duration 3", mdl_acquire(&space, 1, TABLE("orders"), MDL_SR, 3, &ticket));
     tell("there is no namespace 5", mdl_release_name(&space, 1, 5, NAME(""), NAME("")));
     tell("session 3 has no context", mdl_end_transaction(&space, 3));
@@ -121,6 +122,8 @@ static void end_contexts(void)
     tell("2 reads orders by its place", mdl_try(&space, 2, place, MDL_SR, &ticket));
     tell("2 can have no context", mdl_context_begin(&space, 2));
     tell("2 goes", mdl_release(&space, 2, ticket));
+    tell("2 pins the place still", mdl_context_begin(&space, 2));
+    tell("2 gives the pin up", mdl_unpin(&space, 2, place));
     tell("2 has a context again", mdl_context_begin(&space, 2));
 }
 

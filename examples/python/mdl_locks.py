@@ -50,6 +50,7 @@ PARAMETERS = {
     "mdl_open": [c_uint16, c_uint16],
     "mdl_close": [],
     "mdl_table": [c_uint16, c_char_p, c_size_t, c_char_p, c_size_t, POINTER(c_uint16)],
+    "mdl_unpin": [c_uint16, c_uint16],
     "mdl_try": [c_uint16, c_uint16, c_uint8, POINTER(c_uint64)],
     "mdl_begin": [c_uint16, c_uint16, c_uint8, POINTER(c_uint64)],
     "mdl_search": [c_uint16, POINTER(c_uint16)],
@@ -106,10 +107,14 @@ class Manager:
             self._turns[who - 1].notify()
 
     def table(self, who, schema, table):
-        """Returns the place of a table's key, at which the session may then ask for locks."""
+        """Returns the place of a table's key, which the session then pins: it may ask for locks there."""
         place, schema, table = c_uint16(), schema.encode(), table.encode()
         self._done(self._call("mdl_table", who, schema, len(schema), table, len(table), byref(place)))
         return place.value
+
+    def unpin(self, who, place):
+        """Gives up the session's pin of a place, where it has no lock. Another key may then get the place."""
+        self._done(self._call("mdl_unpin", who, place))
 
     def begin(self, who, place, mode):
         """Asks for a lock. Returns DONE and its ticket, or WAITING and the number of the wait."""

@@ -64,6 +64,11 @@ def main():
         wait_for_a_reader(manager, orders)
         wait_too_long(manager, orders)
         break_a_deadlock(manager, orders, items)
+        manager.unpin(1, items)
+        try:
+            manager.begin(1, items, Mode.SR)
+        except Refused as refused:
+            print(f"a place that isn't pinned any more: {refused}")
         try:
             manager.table(1, "shop", "or ders")
         except Refused as refused:

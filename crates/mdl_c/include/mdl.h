@@ -108,11 +108,11 @@ enum mdl_code {
     MDL_BAD_BYTE = 24,       /* before all else if a name isn't UTF-8: otherwise the schema's faults come before the table's */
     MDL_HAS_CONTEXT = 25,    /* a context keeps the session's tickets */
     MDL_NO_CONTEXT = 26,     /* none does */
-    MDL_SESSION_IN_USE = 27, /* the session holds a ticket or has a wait */
+    MDL_SESSION_IN_USE = 27, /* the session holds a ticket, has a wait or pins a place */
     MDL_NO_DURATION = 28,    /* there is no duration of this number */
     MDL_NO_NAMESPACE = 29,   /* there is no namespace of this number */
     /* refusals of the space, in the order in which they are checked */
-    MDL_NO_PLACE = 32,       /* the session doesn't pin the place, or it has no key, or there is no place for one more key */
+    MDL_NO_PLACE = 32,       /* the session doesn't pin the place, or it has no key, or all places are in use */
     MDL_NOT_HELD = 33,       /* the session holds no such ticket */
     MDL_NOT_UPGRADABLE = 34, /* the held mode can't become the other */
     MDL_NOT_EXCLUSIVE = 35,
@@ -126,21 +126,22 @@ enum mdl_code {
     MDL_BAD_DEF = 43,
     MDL_WRONG_KIND = 44,
     MDL_NO_MEMORY = 45,      /* memory ran out: the call may be made again */
-    MDL_IN_USE = 46,
+    MDL_IN_USE = 46,         /* the session has a ticket or a wait at the place */
     /* refusals of a context, before those of the space */
     MDL_STALE_SAVEPOINT = 48, /* fewer tickets are kept than the mark counted */
     MDL_NOT_KEPT = 49,       /* the context keeps no such ticket */
     MDL_HAS_WAIT = 50        /* the context has a wait that it hasn't ended */
 };
 
-/* Makes a manager of 1 to 256 places, one for each key, and 1 to 1024 sessions: DONE. */
+/* Makes a manager of 1 to 256 places, for as many keys in use at a time, and 1 to 1024 sessions: DONE. */
 uint32_t mdl_open(struct mdl_space *space, uint16_t places, uint16_t sessions);
 
 /* Frees it, with all that its sessions hold and wait for: DONE. */
 uint32_t mdl_close(struct mdl_space *space);
 
-/* The place of a key, which stays its place: DONE. A new key takes the next free one. The session pins the place: mdl_try and mdl_begin
-   are refused (NO_PLACE) at others. */
+/* The place of a key: DONE. The session pins it, and while a session pins a place, it is the key's. A key without a place takes one that never
+   had a key, or else the least that no session pins, whose old key then has none. The call is refused (NO_PLACE) only while sessions pin all
+   places. mdl_try and mdl_begin are refused (NO_PLACE) at places that the session doesn't pin. */
 uint32_t mdl_table(struct mdl_space *space, uint16_t who, const uint8_t *schema, size_t schema_length,
                    const uint8_t *table, size_t table_length, uint16_t *place);
 uint32_t mdl_schema(struct mdl_space *space, uint16_t who, const uint8_t *schema, size_t schema_length, uint16_t *place);
@@ -148,6 +149,10 @@ uint32_t mdl_global(struct mdl_space *space, uint16_t who, uint16_t *place);
 uint32_t mdl_commit(struct mdl_space *space, uint16_t who, uint16_t *place);
 
 /* ---- direct: not for sessions that have a context, except mdl_poll, mdl_time_out and mdl_kill */
+
+/* Gives up the session's pin of a place, however often the session asked for it: DONE. NO_PLACE if the session doesn't pin the place, and
+   IN_USE if it has a ticket or a wait there. It takes no memory. */
+uint32_t mdl_unpin(struct mdl_space *space, uint16_t who, uint16_t place);
 
 /* Requests a lock at a place that the session pins, without waiting: DONE and its ticket, or WOULD_WAIT. */
 uint32_t mdl_try(struct mdl_space *space, uint16_t who, uint16_t place, uint8_t mode, uint64_t *ticket);
@@ -189,17 +194,18 @@ uint32_t mdl_merge(struct mdl_space *space, uint16_t who, uint64_t kept, uint64_
 /* ---- contexts: all except mdl_context_begin return MDL_NO_CONTEXT for a session that has none. An invalid mode, duration, namespace or name is
    refused before that. */
 
-/* Begins a context, which keeps the session's tickets from now on: DONE. The session must hold no ticket and have no wait. */
+/* Begins a context, which keeps the session's tickets from now on: DONE. The session must hold no ticket, have no wait and pin no place. */
 uint32_t mdl_context_begin(struct mdl_space *space, uint16_t who);
 
-/* Ends the context, which gives up its wait and releases all its tickets: DONE. */
+/* Ends the context, which gives up its wait and releases all its tickets: DONE. The session pins nothing then. */
 uint32_t mdl_context_end(struct mdl_space *space, uint16_t who);
 
 /* Acquires a lock of a key, for this duration: DONE and its ticket, or WAITING and the wait's number, after deadlocks were searched for. A
    ticket of the key that is strong enough is used again if it has the same duration, and that isn't explicit. Otherwise it is cloned.
    Only the names that keys of the namespace have are read: MDL_GLOBAL and MDL_COMMIT have none, MDL_SCHEMA has a schema's, and the name
-   of an MDL_USER_LEVEL_LOCK is passed as the schema's. If the call is refused, the session's tickets are unchanged and it has no wait, but a
-   new key may have got its place, and if memory ran out the waits of victims that were found stay settled. */
+   of an MDL_USER_LEVEL_LOCK is passed as the schema's. The session pins the key's place as long as the context has a ticket or a wait there,
+   and lets go of it when it next releases a ticket. If the call is refused, the session's tickets are unchanged and it has no wait, but it may pin
+   the key's place, and if memory ran out the waits of victims that were found stay settled. */
 uint32_t mdl_acquire(struct mdl_space *space, uint16_t who, uint8_t namespace_, const uint8_t *schema, size_t schema_length,
                      const uint8_t *table, size_t table_length, uint8_t mode, uint8_t duration, uint64_t *number);
 

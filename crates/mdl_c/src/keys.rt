@@ -1,9 +1,9 @@
-//! The calls that return the place of a key.
+//! The calls that return the place of a key, which the session then pins, and the one that gives up the pin.
 ghost use Rattle.std.specs.Prelude.{◌≡◌};
 ghost use Rattle.std.specs.Str.{IsUtf8};
 ghost use Rattle.mdl_key.specs.Keys.{commit_key, global_key, name_fault, schema_key, table_fault, table_key};
-ghost use Rattle.mdl_calls.specs.Words.{Resolve};
-ghost use Rattle.mdl_c_calls.specs.Exports.{Number, ServesCall, Tells};
+ghost use Rattle.mdl_calls.specs.Words.{Resolve, Unpin};
+ghost use Rattle.mdl_c_calls.specs.Exports.{Nothing, Number, ServesCall, ServesDirect, Tells};
 ghost use Rattle.mdl_c_calls.specs.Names.{MakesKey};
 
 use mdl_c_calls::MdlSpace;
@@ -56,4 +56,12 @@ pub extern "C" fn mdl_commit(alloc: Global, space: &mut MdlSpace, who: u16, plac
     ensures { ServesCall who (Resolve who commit_key) space.old.handle.manager result space.new.handle.manager (Number place.old place.new) }
 {
     mdl_c_calls::mdl_commit(alloc, space, who, place)
+}
+
+/// Gives up the session's pin of a place.
+#[unsafe(no_mangle)]
+pub extern "C" fn mdl_unpin(alloc: Global, space: &mut MdlSpace, who: u16, place: u16) -> u32
+    ensures { ServesDirect who (Unpin who place) space.old.handle.manager result space.new.handle.manager Nothing }
+{
+    mdl_c_calls::mdl_unpin(alloc, space, who, place)
 }

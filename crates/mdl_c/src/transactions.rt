@@ -22,7 +22,7 @@ pub extern "C" fn mdl_context_begin(alloc: Global, space: &mut MdlSpace, who: u1
     mdl_c_calls::mdl_context_begin(alloc, space, who)
 }
 
-/// Ends a session's context, which gives up its wait and releases all its tickets.
+/// Ends a session's context, which gives up its wait and releases all its tickets. The session pins nothing then.
 #[unsafe(no_mangle)]
 pub extern "C" fn mdl_context_end(alloc: Global, space: &mut MdlSpace, who: u16) -> u32
     ensures { Ends who space.old.handle.manager result space.new.handle.manager }

@@ -1,15 +1,16 @@
 -- The sessions of a manager that have a context, and what the calls of the others leave them.
-use Rattle.std.proofs.Common.{◌≡◌, ◌≢◌, ℕ, zero, suc, ◌<◌, ◌≤◌, ◌+◌, List, [], ◌∷◌, length, get_or, set, Option, Some, None, refl, sym, ap, ◌∙◌, subst, arith, inl, inr}
+use Rattle.std.proofs.Common.{◌≡◌, ◌≢◌, ℕ, zero, suc, false, ◌<◌, ◌≤◌, ◌+◌, List, [], ◌∷◌, length, get_or, set, Option, Some, None, refl, sym, ap, ◌∙◌, subst, arith, inl, inr}
 use Rattle.std.specs.Prelude.{replicate}
+use Rattle.std.proofs.lemmas.Bool.{true≢false}
 use Rattle.std.proofs.lemmas.Bool.Decides.{eqb_tells}
 use Rattle.mdl_key.specs.Keys.{KeyName}
 use Rattle.mdl_calls.specs.Words.{Answer, Call, Resolve, caller, SessionLocks, own_after}
 use Rattle.mdl_core.specs.CoreJoins.{Joins}
 use Rattle.mdl_core.specs.Words.{Core, Knows, SpeaksFor, locks_at}
-use Rattle.mdl_core.proofs.CallLaws.{core-changes, core-keeps, core-keeps_keys, core-others}
+use Rattle.mdl_core.proofs.CallLaws.{core-changes, core-keeps, core-others, core-remembers}
 use Rattle.mdl_core.proofs.CoreSound.{calls_keep-sound}
 use Rattle.mdl_context.proofs.AttendLemmas.{attends-kept, resolved-keeps}
-use Rattle.mdl_context.proofs.PinLemmas.{PinsStay, pins-rest, pins-same}
+use Rattle.mdl_context.proofs.PinLemmas.{PinsStay, pins-rest, pins-same, unpins}
 use Rattle.mdl_c_calls.specs.Managers.{AreAttended, IsAttended}
 use Rattle.mdl_c_calls.specs.declared.seat.Seat.{Seat}
 use Rattle.mdl_c_calls.specs.declared.seat.Seat.TheVariants.{Direct, Kept}
@@ -42,15 +43,16 @@ pub spared-other : (a b : Core) (call : Call) (answer : Answer) (w : ℕ) → (c
 spared-other a b call answer w other joined speaks = (
   core-keeps calls_keep-sound a b call answer w speaks joined,
   same-still _ _ (core-others a b call answer w speaks other joined),
-  λ place key. core-keeps_keys a b call answer w place key speaks joined,
+  λ place key. core-remembers a b call answer w place key speaks (λ theirs done. other (ap caller theirs)) joined,
 )
 
 -- and its caller, too, where it leaves the tickets, the wait and the pins of that
-pub spared-still : (a b : Core) (call : Call) (answer : Answer) (w : ℕ) → ((own : SessionLocks) → HasStill own (own_after call answer own)) → Joins a call answer b → IsSpared a b w
-spared-still a b call answer w still joined speaks = (
+pub spared-still : (a b : Core) (call : Call) (answer : Answer) (w : ℕ) → unpins call ≡ false → ((own : SessionLocks) → HasStill own (own_after call answer own))
+    → Joins a call answer b → IsSpared a b w
+spared-still a b call answer w stays still joined speaks = (
   core-keeps calls_keep-sound a b call answer w speaks joined,
   same (caller call) refl,
-  λ place key. core-keeps_keys a b call answer w place key speaks joined,
+  λ place key. core-remembers a b call answer w place key speaks (λ gone done. true≢false (ap unpins (sym gone) ∙ stays)) joined,
 )
   where
     caller-still : locks_at b w ≡ own_after call answer (locks_at a w) → HasStill (locks_at a w) (locks_at b w)

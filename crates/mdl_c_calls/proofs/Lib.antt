@@ -6,5 +6,6 @@ pub mod ManagerLemmas
 pub mod NameLemmas
 pub mod SettledLemmas
 pub mod TransactionLemmas
+pub mod UnpinLemmas
 pub mod Walking
 pub mod WrittenLemmas

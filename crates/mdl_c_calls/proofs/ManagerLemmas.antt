@@ -15,6 +15,7 @@ use Rattle.mdl_core.proofs.CoreSound.{calls_keep-sound}
 use Rattle.mdl_space.specs.CoreMembers.{core_space}
 use Rattle.mdl_context.specs.Contexts.{Attends, ContextView, LeavesOthers, wish_there}
 use Rattle.mdl_context.proofs.OthersLemmas.{left-alone}
+use Rattle.mdl_context.proofs.PinLemmas.{unpins}
 use Rattle.mdl_c_calls.specs.Managers.{IsAttended, Managed, ServesAll, direct_fault, seat_of}
 use Rattle.mdl_c_calls.specs.Transactions.{begin_fault, has_nothing, new_context}
 use Rattle.mdl_c_calls.specs.declared.seat.Seat.{Seat}
@@ -51,12 +52,12 @@ direct-seat who manager direct = by (who == 0) refl where
 -- ---- serving
 
 -- a call that leaves its caller's tickets, wait and pins
-pub serves-still : (a b : Core) (call : Call) (answer : Answer) (sessions : ℕ) (seats : List Seat) → ((own : SessionLocks) → HasStill own (own_after call answer own))
-    → ServesAll a sessions seats → core_space.joins a call answer b → ServesAll b sessions seats
-serves-still a b call answer sessions seats still serves joined = record {
+pub serves-still : (a b : Core) (call : Call) (answer : Answer) (sessions : ℕ) (seats : List Seat) → unpins call ≡ false
+    → ((own : SessionLocks) → HasStill own (own_after call answer own)) → ServesAll a sessions seats → core_space.joins a call answer b → ServesAll b sessions seats
+serves-still a b call answer sessions seats stays still serves joined = record {
   seated = serves.seated;
   speaks = λ who least most. core-keeps calls_keep-sound a b call answer who (serves.speaks who least most) joined;
-  attended = all-attended a b 1 seats (λ w later. spared-still a b call answer w still joined) serves.attended;
+  attended = all-attended a b 1 seats (λ w later. spared-still a b call answer w stays still joined) serves.attended;
 }
 
 -- the space speaks for a session that makes calls by itself
@@ -98,11 +99,12 @@ serves-seated a b i sessions seats seat serves inside attended leaves = record {
 -- ---- contexts that begin
 
 -- a session that has nothing
-nothing : (held : List Held) (wait : Option Wait) → (length held == 0 && not (is_some wait)) ≡ true → (held ≡ []) × (wait ≡ None)
-nothing [] None is = (refl, refl)
-nothing [] (Some some) is = absurd (false≢true is)
-nothing (ticket ∷ tickets) wait is =
-    let some : (length (ticket ∷ tickets) == 0) ≡ false = grind (arith, nat_tests) in absurd (false≢true (ap (λ b. b && not (is_some wait)) (sym some) ∙ is))
+nothing : (held : List Held) (wait : Option Wait) (rest : Bool) → (length held == 0 && not (is_some wait) && rest) ≡ true → (held ≡ []) × (wait ≡ None)
+nothing [] None rest is = (refl, refl)
+nothing [] (Some some) rest is = absurd (false≢true is)
+nothing (ticket ∷ tickets) wait rest is =
+    let some : (length (ticket ∷ tickets) == 0) ≡ false = grind (arith, nat_tests) in
+    absurd (false≢true (ap (λ b. b && not (is_some wait) && rest) (sym some) ∙ is))
 
 -- one that can have a context makes calls by itself, and has nothing
 begun : (who : ℕ) (manager : Managed) → begin_fault who manager ≡ None → (direct_fault (seat_of who manager) ≡ None) × (has_nothing (locks_at manager.space who) ≡ true)
@@ -118,7 +120,7 @@ pub serves-begun : (space : Core) (who sessions : ℕ) (seats : List Seat) (cont
 serves-begun space who sessions seats context none new serves =
     let can = begun who (record { space = space; seats = seats }) none in
     let seat = direct-seat who (record { space = space; seats = seats }) can.0 in
-    let has = nothing (locks_at space who).held (locks_at space who).wait can.1 in
+    let has = nothing (locks_at space who).held (locks_at space who).wait (length (locks_at space who).pins == 0) can.1 in
     let attends : Attends core_space space (new_context who) =
     record {
       speaks = direct-speaks space who sessions seats can.0 serves;

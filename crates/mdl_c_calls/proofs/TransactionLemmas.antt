@@ -1,17 +1,18 @@
 -- What the call of a session's context does to a manager, from what it does to the context and the space.
-use Rattle.std.proofs.Common.{◌≡◌, ℕ, ◌<◌, ◌+◌, ◌-◌, List, [], length, get_or, set, Option, Some, None, Result, Ok, Err, OnOk, OnErr, refl, sym, ap, ap₂, ◌∙◌, subst, arith}
+use Rattle.std.proofs.Common.{◌≡◌, ℕ, ◌<◌, ◌+◌, ◌-◌, List, [], length, get_or, set, Option, Some, None, option_map, Result, Ok, Err, OnOk, OnErr, refl, sym, ap, ap₂, ◌∙◌, subst, arith}
+use Rattle.std.specs.Prelude.{map}
 use Rattle.std.proofs.lemmas.Bool.{false≢true}
 use Rattle.std.proofs.lemmas.List.{set-get_or}
 use Rattle.mdl_key.specs.Refusals.{RefusesJust}
-use Rattle.mdl_calls.specs.Words.{Give, Program, Runs}
-use Rattle.mdl_core.specs.Words.{Core}
+use Rattle.mdl_calls.specs.Words.{Give, HasNothing, Program, Runs, Wait}
+use Rattle.mdl_core.specs.Words.{Core, locks_at}
 use Rattle.mdl_space.specs.CoreMembers.{core_space}
 use Rattle.mdl_context.specs.declared.context_error.ContextError.{ContextError}
-use Rattle.mdl_context.specs.Contexts.{Attends, ContextView, LeavesOthers}
+use Rattle.mdl_context.specs.Contexts.{Attends, ContextView, LeavesOthers, held_of, wish_here, wish_there}
 use Rattle.mdl_context.specs.Releases.{unless}
 use Rattle.mdl_context.specs.Requests.{Outcome}
 use Rattle.mdl_c_calls.specs.Managers.{Asks, IsAttended, Managed, ServesAll, context_fault, seat_of}
-use Rattle.mdl_c_calls.specs.Transactions.{EndsContext, RunsFor, ending_from, with_seat}
+use Rattle.mdl_c_calls.specs.Transactions.{EndsContext, RunsFor, UnpinsAll, ending_from, with_seat}
 use Rattle.mdl_c_calls.specs.declared.seat.Seat.{Seat}
 use Rattle.mdl_c_calls.specs.declared.seat.Seat.TheVariants.{Direct, Kept}
 use Rattle.mdl_c_calls.specs.declared.unserved.Unserved.TheVariants.{NoContext}
@@ -83,10 +84,28 @@ module _ (manager : Managed) (who i : ℕ) (seat : Seat) (is : IsSeat who i mana
       (ap context_fault (has context kept), (context, next, space, has context kept, run, seated space (Kept next)))
 
   -- it ends
-  pub leaves-seat : (context next : ContextView) (space : Core) (seats : List Seat) → seats ≡ set manager.seats i Direct → seat ≡ Kept context
-      → Runs core_space.joins manager.space (ending_from context.wait context) (Ok tt, next) space → next.kept ≡ [] → next.wait ≡ None
-      → Asks (context_fault (seat_of who manager)) (λ r. EndsContext who r manager (record { space = space; seats = seats })) (Ok tt) manager (record { space = space; seats = seats })
-  leaves-seat context next space seats ended kept run gone idle = (
+  pub leaves-seat : (context next : ContextView) (space rest : Core) (seats : List Seat) → seats ≡ set manager.seats i Direct → seat ≡ Kept context
+      → Runs core_space.joins manager.space (ending_from context.wait context) (Ok tt, next) space → next.kept ≡ [] → next.wait ≡ None → UnpinsAll who space rest
+      → Asks (context_fault (seat_of who manager)) (λ r. EndsContext who r manager (record { space = rest; seats = seats })) (Ok tt) manager (record { space = rest; seats = seats })
+  leaves-seat context next space rest seats ended kept run gone idle unpinned = (
     ap context_fault (has context kept),
-    (context, next, space, has context kept, run, gone, idle, ap (λ seats. record { space = space; seats = seats }) ended ∙ seated space Direct),
+    (context, next, space, has context kept, run, gone, idle, (rest, unpinned, ap (λ seats. record { space = rest; seats = seats }) ended ∙ seated rest Direct)),
   )
+
+  -- its session is the one that the call names
+  pub same-session : (sessions : ℕ) (context next : ContextView) → ServesAll manager.space sessions manager.seats → seat ≡ Kept context → next.who ≡ context.who → next.who ≡ who
+  same-session sessions context next serves kept same =
+      same ∙ (context-served manager.space i sessions manager.seats seat context serves is.1 is.2 kept).0 ∙ sym is.0
+
+  -- a context that keeps nothing and doesn't wait serves a session that has nothing
+  pub nothing-left : (sessions : ℕ) (context next : ContextView) (space : Core) → ServesAll manager.space sessions manager.seats → seat ≡ Kept context → next.who ≡ context.who
+      → Attends core_space space next → next.kept ≡ [] → next.wait ≡ None → HasNothing (locks_at space who)
+  nothing-left sessions context next space serves kept same attends gone idle =
+      subst (λ w. HasNothing (locks_at space w)) (same-session sessions context next serves kept same) (
+        attends.serves.held ∙ ap (map held_of) gone,
+        no-wait (locks_at space next.who).wait (attends.serves.wait ∙ ap (option_map wish_here) idle),
+      )
+    where
+      no-wait : (wait : Option Wait) → option_map wish_there wait ≡ None → wait ≡ None
+      no-wait None none = refl
+      no-wait (Some w) none = cc

@@ -31,7 +31,7 @@ no_mode = 21
 abbrev pub bad_byte : ℕ
 bad_byte = 24
 
--- the session doesn't pin the place, or the place has no key, or no place is left
+-- the session doesn't pin the place, or the place has no key, or all places are in use
 abbrev pub no_place : ℕ
 no_place = 32
 

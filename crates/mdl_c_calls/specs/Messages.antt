@@ -34,14 +34,14 @@ refusal_rows =
     (24, codes "The name has a byte that is none of a-z, 0-9 and _.") ∷
     (25, codes "A context keeps the tickets of the session.") ∷
     (26, codes "The session has no context.") ∷
-    (27, codes "The session holds a ticket, or has a wait.") ∷
+    (27, codes "The session holds a ticket, has a wait, or pins a place.") ∷
     (28, codes "There is no duration of this number.") ∷
     (29, codes "There is no namespace of this number.") ∷ []
 
 -- the texts of the space's refusals
 abbrev pub cause_rows : List MessageRow
 cause_rows =
-    (32, codes "The session doesn't pin the place, or it has no key, or no place is left.") ∷
+    (32, codes "The session doesn't pin the place, or it has no key, or all places are in use.") ∷
     (33, codes "The session holds no ticket of this number.") ∷
     (34, codes "The mode of the ticket can't become the other.") ∷
     (35, codes "The key isn't locked exclusively.") ∷

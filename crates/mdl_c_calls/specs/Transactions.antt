@@ -1,6 +1,7 @@
 -- What a call from C does to the context of a session, and the code that it returns. The calls of contexts are those of `mdl_context`. That a session
 -- has a context or makes direct calls by the numbers of its tickets, and never both, is this project's own choice.
 use Rattle.std.specs.Prelude.{◌≡◌, ◌⊎◌, ℕ, ◌-◌, Bool, not, ◌&&◌, ◌==◌, List, [], length, map, slice_set, Option, Some, None, is_some, MatchOption, Result, Ok, if◌then◌else◌}
+use Rattle.std.specs.List.{range_with_len}
 use Rattle.std.specs.Option.{option_or}
 use Rattle.mdl_key.specs.declared.mode.Duration.TheVariants.{Explicit}
 use Rattle.mdl_calls.specs.Words.{SessionLocks, Program, Give, ◌>>=◌, Runs}
@@ -13,6 +14,7 @@ use Rattle.mdl_context.specs.Contexts.{ContextView, current_mark}
 use Rattle.mdl_context.specs.Holdings.{kept_for, transactional}
 use Rattle.mdl_context.specs.Releases.{giving_up_all, unless, waiting_fault}
 use Rattle.mdl_context.specs.Requests.{Outcome}
+use Rattle.mdl_context.specs.Tidying.{unpinning_all}
 use Rattle.mdl_context.specs.Waits.{giving_up_wait}
 use Rattle.mdl_context.specs.Wishes.{Wish}
 use Rattle.mdl_c_calls.specs.Codes.{closed, mode_at, no_memory, no_mode}
@@ -85,11 +87,11 @@ MakesWish namespace schema table mode duration Done Refused =
 abbrev pub new_context : ℕ → ContextView
 new_context who = record { who = who; kept = []; known = []; wait = None }
 
--- whether a session holds no ticket and has no wait
+-- whether a session holds no ticket, has no wait and pins no place
 abbrev pub has_nothing : SessionLocks → Bool
-has_nothing own = length own.held == 0 && not (is_some own.wait)
+has_nothing own = length own.held == 0 && not (is_some own.wait) && length own.pins == 0
 
--- why a context can't begin: there is no such session, it has a context, or it holds a ticket or has a wait
+-- why a context can't begin: there is no such session, it has a context, or it holds a ticket, has a wait or pins a place
 abbrev pub begin_fault : ℕ → Managed → Option Unserved
 begin_fault who manager =
     option_or (direct_fault (seat_of who manager)) (if has_nothing (locks_at manager.space who) then None else Some InUse)
@@ -107,12 +109,18 @@ abbrev pub ending_from : Option Wanted → ContextView → Program (Outcome (Uni
 ending_from None context = giving_up_all context
 ending_from (Some wanted) context = giving_up_wait context >>= (λ outcome. giving_up_all outcome.1)
 
--- a session's context gives up its wait and releases its tickets, and the session has no context any more
+-- a session gives up the pins of all places that have a key, until it pins none
+abbrev pub UnpinsAll : ℕ → Core → Core → Type 0
+UnpinsAll who before after =
+    Runs core_space.joins before (unpinning_all who (range_with_len 1 (length before.books))) tt after × ((locks_at after who).pins ≡ [])
+
+-- a session's context gives up its wait and releases its tickets, the session gives up the pins that are left, and it has no context any more
 abbrev pub EndsContext : ℕ → Unit {0} → Managed → Managed → Type 0
 EndsContext who done before after =
     (context : ContextView) × (next : ContextView) × (space : Core) × (seat_of who before ≡ Some (Kept context))
     × Runs core_space.joins before.space (ending_from context.wait context) (Ok tt, next) space
-    × (next.kept ≡ []) × (next.wait ≡ None) × (after ≡ with_seat who Direct (record before { space = space }))
+    × (next.kept ≡ []) × (next.wait ≡ None)
+    × ((rest : Core) × UnpinsAll who space rest × (after ≡ with_seat who Direct (record before { space = rest })))
 
 abbrev pub Ends : ℕ → Option Managed → ℕ → Option Managed → Type 0
 Ends who before code after = Replies context_fault who (EndsContext who) (λ _. 0) Untold before code after

@@ -1,12 +1,12 @@
-//! The calls that return the place of a key.
+//! The calls that return the place of a key, which the session then pins, and the one that gives up the pin.
 ghost use Rattle.std.specs.Prelude.{◌≡◌};
 ghost use Rattle.std.specs.Str.{IsUtf8};
 ghost use Rattle.mdl_key.specs.Keys.{commit_key, global_key, name_fault, schema_key, table_fault, table_key};
-ghost use Rattle.mdl_calls.specs.Words.{Resolve};
-ghost use Rattle.mdl_c_calls.specs.Exports.{Number, ServesCall, Tells};
+ghost use Rattle.mdl_calls.specs.Words.{Resolve, Unpin};
+ghost use Rattle.mdl_c_calls.specs.Exports.{Nothing, Number, ServesCall, ServesDirect, Tells};
 ghost use Rattle.mdl_c_calls.specs.Names.{MakesKey};
 
-use crate::codes::{CLOSED, place_code};
+use crate::codes::{CLOSED, done_code, place_code};
 use crate::handle::MdlSpace;
 use crate::names::{schema_of, table_of};
 use mdl_key::Key;
@@ -73,4 +73,16 @@ pub fn mdl_commit(alloc: Global, space: &mut MdlSpace, who: u16, place: &mut u16
     ensures { ServesCall who (Resolve who commit_key) space.old.handle.manager result space.new.handle.manager (Number place.old place.new) }
 {
     resolve(alloc, space, who, &Key::commit(alloc), place)
+}
+
+/// Gives up the session's pin of a place.
+pub fn mdl_unpin(alloc: Global, space: &mut MdlSpace, who: u16, place: u16) -> u32
+    ensures { ServesDirect who (Unpin who place) space.old.handle.manager result space.new.handle.manager Nothing }
+{
+    let Some(mut manager) = space.take(alloc) else {
+        return CLOSED;
+    };
+    let code = done_code(manager.unpin(who, place));
+    space.put(manager);
+    code
 }

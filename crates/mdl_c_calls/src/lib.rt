@@ -26,7 +26,7 @@ mod unserved;
 mod waits;
 
 pub use handle::MdlSpace;
-pub use keys::{mdl_commit, mdl_global, mdl_schema, mdl_table};
+pub use keys::{mdl_commit, mdl_global, mdl_schema, mdl_table, mdl_unpin};
 pub use listings::{mdl_held, mdl_key_of, mdl_locks, mdl_places, mdl_settled};
 pub use mark::Mark;
 pub use messages::mdl_message;

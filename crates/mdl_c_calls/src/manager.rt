@@ -2,7 +2,7 @@
 //! tickets.
 ghost use Rattle.std.specs.Prelude.{◌≡◌, ◌≤◌, ◌<◌, ◌+◌, Some, None, length, replicate, MatchOption, MatchResult, IfOk};
 ghost use Rattle.mdl_key.specs.Words.{Refuses};
-ghost use Rattle.mdl_calls.specs.Words.{Begin_wait, Clone_ticket, Downgrade, End_wait, Has_killed, Kill, Merge, Poll_wait, Release, Resolve, Search as Search_by, Settle_timeout, Try_now, Upgrade_now, attempted, begun, cloned, done, ended, new_fault, placed, polled, searched, timed_out, upgrade_tried};
+ghost use Rattle.mdl_calls.specs.Words.{Begin_wait, Clone_ticket, Downgrade, End_wait, Has_killed, Kill, Merge, Poll_wait, Release, Resolve, Search as Search_by, Settle_timeout, Try_now, Unpin, Upgrade_now, attempted, begun, cloned, done, ended, new_fault, placed, polled, searched, timed_out, upgrade_tried};
 ghost use Rattle.mdl_c_calls.specs.Managers.{direct_fault, has_member, new_manager, seat_of, Asks, IsOutside, JoinsServed, JoinsFor};
 ghost use Rattle.mdl_c_calls.specs.declared.seat.Seat.TheVariants.{Direct};
 
@@ -88,6 +88,13 @@ impl ServedSpace {
             return None;
         }
         Some(self.space.resolve(who, key))
+    }
+
+    pub fn unpin(&mut self, who: u16, place: Place) -> Result<Result<(), SpaceError>, Unserved>
+        ensures { Asks (direct_fault (seat_of who self.old)) (λ r. JoinsServed (Unpin who place) (done r) self.old self.new) result self.old self.new }
+    {
+        self.check_direct(who)?;
+        Ok(self.space.unpin(who, place))
     }
 
     pub fn try_now(

@@ -62,7 +62,7 @@ fn refusal_text(code: u32) -> &'static str
         24 => "The name has a byte that is none of a-z, 0-9 and _.",
         25 => "A context keeps the tickets of the session.",
         26 => "The session has no context.",
-        27 => "The session holds a ticket, or has a wait.",
+        27 => "The session holds a ticket, has a wait, or pins a place.",
         28 => "There is no duration of this number.",
         29 => "There is no namespace of this number.",
         _ => UNKNOWN,
@@ -73,7 +73,7 @@ fn cause_text(code: u32) -> &'static str
     ensures { result.now ≡ text_in cause_rows code }
 {
     match code {
-        32 => "The session doesn't pin the place, or it has no key, or no place is left.",
+        32 => "The session doesn't pin the place, or it has no key, or all places are in use.",
         33 => "The session holds no ticket of this number.",
         34 => "The mode of the ticket can't become the other.",
         35 => "The key isn't locked exclusively.",

@@ -33,7 +33,7 @@ pub fn mdl_context_begin(alloc: Global, space: &mut MdlSpace, who: u16) -> u32
     code
 }
 
-/// Ends a session's context, which gives up its wait and releases all its tickets.
+/// Ends a session's context, which gives up its wait and releases all its tickets. The session pins nothing then.
 pub fn mdl_context_end(alloc: Global, space: &mut MdlSpace, who: u16) -> u32
     ensures { Ends who space.old.handle.manager result space.new.handle.manager }
 {

@@ -9,7 +9,7 @@ pub enum Unserved {
     HasContext,
     /// No context keeps its tickets.
     NoContext,
-    /// It holds a ticket or has a wait.
+    /// It holds a ticket, has a wait or pins a place.
     InUse,
     /// Memory ran out.
     OutOfMemory,

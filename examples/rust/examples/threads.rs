@@ -77,10 +77,19 @@ fn run() -> Result<(), Error> {
         Ok(_) => println!("it got the lock"),
         Err(error) => println!("a while later: {error}"),
     }
+    println!(
+        "its place is in use: {}",
+        changer.unpin(orders) == Err(Error::InUse)
+    );
     drop(change);
     println!(
         "after the change: {}",
         reader.try_lock(orders, Mode::SharedRead)?.is_some()
+    );
+    reader.unpin(orders)?;
+    println!(
+        "without its place: {}",
+        reader.try_lock(orders, Mode::SharedRead).unwrap_err()
     );
     println!(
         "a name with a space: {}",

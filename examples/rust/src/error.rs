@@ -13,8 +13,10 @@ pub enum Error {
     Killed,
     /// A name has 1 to 64 bytes of `a-z`, `0-9` and `_`.
     BadName,
-    /// There is no place for one more key.
+    /// The session doesn't pin the place. Or all places are in use, and there is none for one more key.
     NoPlace,
+    /// The session has a lock at the place.
+    InUse,
     /// The key doesn't take the mode.
     BadMode,
     /// Memory ran out. The call may be made again.
@@ -34,6 +36,7 @@ impl Error {
             32 => Error::NoPlace,
             37 => Error::BadMode,
             45 => Error::OutOfMemory,
+            46 => Error::InUse,
             other => Error::Refused(other),
         }
     }
@@ -46,7 +49,8 @@ impl fmt::Display for Error {
             Error::Timeout => f.write_str("waited for too long"),
             Error::Killed => f.write_str("the wait was killed"),
             Error::BadName => f.write_str("a name has 1 to 64 bytes of a-z, 0-9 and _"),
-            Error::NoPlace => f.write_str("there is no place for one more key"),
+            Error::NoPlace => f.write_str("the place isn't pinned, or all places are in use"),
+            Error::InUse => f.write_str("the session has a lock at the place"),
             Error::BadMode => f.write_str("the key doesn't take the mode"),
             Error::OutOfMemory => f.write_str("out of memory"),
             Error::Refused(code) => write!(f, "refused by code {code}"),

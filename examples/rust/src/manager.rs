@@ -4,7 +4,8 @@ use crate::raw::{self, Space};
 use crate::{Error, Session};
 use std::sync::{Condvar, Mutex, MutexGuard, PoisonError};
 
-/// The place of a key in a manager, where it stays as long as the manager exists. A session can lock the places that it looked up itself.
+/// The place of a key in a manager, where it stays while a session pins it. A session pins and can lock the places that it looked up itself,
+/// until it unpins them or goes back to the manager.
 #[derive(Clone, Copy, Debug, PartialEq, Eq)]
 pub struct Place(pub(crate) u16);
 
@@ -22,7 +23,7 @@ pub struct Manager {
 }
 
 impl Manager {
-    /// A manager of 1 to 256 places, one for each key, and 1 to 1024 sessions.
+    /// A manager of 1 to 256 places, for as many keys at a time, and 1 to 1024 sessions.
     pub fn new(places: u16, sessions: u16) -> Result<Manager, Error> {
         let mut space = Space::new();
         // SAFETY: all bytes of the space are 0.
@@ -68,9 +69,17 @@ impl Manager {
         }
     }
 
-    // A session goes back to those that nobody has.
+    // A session goes back to those that nobody has. It pins nothing then, except where a guard was forgotten.
     pub(crate) fn give_back(&self, who: u16) {
-        self.inside().taken[usize::from(who) - 1] = false;
+        let mut inside = self.inside();
+        let mut places = 0;
+        // SAFETY: the mutex is held, here and below.
+        unsafe { raw::mdl_places(&mut inside.space, &mut places) };
+        for place in 1..=places as u16 {
+            // A place that the session doesn't pin is refused, and nothing changes.
+            unsafe { raw::mdl_unpin(&mut inside.space, who, place) };
+        }
+        inside.taken[usize::from(who) - 1] = false;
     }
 }
 

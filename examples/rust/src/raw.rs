@@ -49,6 +49,8 @@ extern "C" {
     ) -> u32;
     pub fn mdl_global(space: &mut Space, who: u16, place: &mut u16) -> u32;
     pub fn mdl_commit(space: &mut Space, who: u16, place: &mut u16) -> u32;
+    pub fn mdl_unpin(space: &mut Space, who: u16, place: u16) -> u32;
+    pub fn mdl_places(space: &mut Space, count: &mut usize) -> u32;
     pub fn mdl_try(space: &mut Space, who: u16, place: u16, mode: u8, ticket: &mut u64) -> u32;
     pub fn mdl_begin(space: &mut Space, who: u16, place: u16, mode: u8, number: &mut u64) -> u32;
     pub fn mdl_search(space: &mut Space, who: u16, victim: &mut u16) -> u32;

@@ -31,7 +31,7 @@ impl<'m> Session<'m> {
         self.who
     }
 
-    /// The place of a table's key.
+    /// The place of a table's key, which the session then pins.
     pub fn table(&self, schema: &str, table: &str) -> Result<Place, Error> {
         let mut place = 0;
         // SAFETY: the pointers and lengths are those of two `&str`, and the mutex is held.
@@ -49,7 +49,7 @@ impl<'m> Session<'m> {
         Ok(Place(place))
     }
 
-    /// The place of a schema's key.
+    /// The place of a schema's key, which the session then pins.
     pub fn schema(&self, schema: &str) -> Result<Place, Error> {
         let mut place = 0;
         // SAFETY: the pointer and the length are those of a `&str`, and the mutex is held.
@@ -79,6 +79,12 @@ impl<'m> Session<'m> {
         // SAFETY: the mutex is held.
         done(unsafe { raw::mdl_commit(&mut self.manager.inside().space, self.who, &mut place) })?;
         Ok(Place(place))
+    }
+
+    /// Gives up the session's pin of a place, which another key may then get. The session must have no lock there.
+    pub fn unpin(&self, place: Place) -> Result<(), Error> {
+        // SAFETY: the mutex is held.
+        done(unsafe { raw::mdl_unpin(&mut self.manager.inside().space, self.who, place.0) })
     }
 
     /// The lock, if it can be had now.

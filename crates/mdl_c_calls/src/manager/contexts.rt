@@ -1,14 +1,15 @@
 //! The calls of the sessions' contexts, and those that begin and end contexts.
-ghost use Rattle.std.specs.Prelude.{◌≡◌, ◌⊎◌, Some, None, Ok, [], MatchResult};
+ghost use Rattle.std.specs.Prelude.{◌≡◌, ◌⊎◌, ◌==◌, not, length, Some, None, Ok, [], MatchResult};
 ghost use Rattle.mdl_space.specs.CoreMembers.{core_space};
-ghost use Rattle.mdl_calls.specs.Words.{Runs};
+ghost use Rattle.mdl_calls.specs.Words.{HasNothing, Runs};
+ghost use Rattle.mdl_core.specs.Words.{SpeaksFor, locks_at};
 ghost use Rattle.mdl_context.specs.Contexts.{Attends, LeavesOthers};
 ghost use Rattle.mdl_context.specs.Releases.{ending_statement, ending_transaction, releasing, releasing_name, rolling_back};
 ghost use Rattle.mdl_context.specs.Requests.{acquiring};
 ghost use Rattle.mdl_context.specs.Upgrades.{downgrading, upgrading};
 ghost use Rattle.mdl_context.specs.Waits.{giving_up_wait, resuming};
 ghost use Rattle.mdl_c_calls.specs.Managers.{context_fault, direct_fault, seat_of, Asks};
-ghost use Rattle.mdl_c_calls.specs.Transactions.{begin_fault, ending_from, making_explicit, making_transactional, new_context, with_seat, EndsContext, Marks, RunsFor};
+ghost use Rattle.mdl_c_calls.specs.Transactions.{begin_fault, ending_from, making_explicit, making_transactional, new_context, with_seat, EndsContext, Marks, RunsFor, UnpinsAll};
 ghost use Rattle.mdl_c_calls.specs.declared.seat.Seat.TheVariants.{Kept};
 
 use super::ServedSpace;
@@ -31,13 +32,13 @@ impl ServedSpace {
         Ok(())
     }
 
-    // Checks that there is such a session, and that it has no context, no ticket and no wait.
+    // Checks that there is such a session, and that it has no context, no ticket, no wait and no pin.
     fn check_unused(&mut self, who: u16) -> Result<(), Unserved>
         ensures fault { MatchResult result (λ _. begin_fault who self.old ≡ None) (λ why. (begin_fault who self.old ≡ Some why) ⊎ ((direct_fault (seat_of who self.old) ≡ None) × (why ≡ Unserved.OutOfMemory))) }
         ensures same { self.new ≡ self.old }
     {
         self.check_direct(who)?;
-        if self.space.wait_of(who).is_some() {
+        if self.space.wait_of(who).is_some() || pins_any(&self.space, who) {
             return Err(Unserved::InUse);
         }
         match self.space.held(who) {
@@ -47,7 +48,7 @@ impl ServedSpace {
         }
     }
 
-    /// Ends a session's context, which gives up its wait and releases all its tickets.
+    /// Ends a session's context, which gives up its wait, releases all its tickets, and leaves no pin.
     pub fn end_context(&mut self, who: u16) -> Result<(), Unserved>
         ensures { Asks (context_fault (seat_of who self.old)) (λ done. EndsContext who done self.old self.new) result self.old self.new }
     {
@@ -56,6 +57,7 @@ impl ServedSpace {
             Seat::Direct => Err(Unserved::NoContext),
             Seat::Kept(context) => {
                 give_all_up(&mut self.space, context);
+                unpin_all(&mut self.space, who);
                 self.seats[index] = Seat::Direct;
                 Ok(())
             }
@@ -238,6 +240,33 @@ impl ServedSpace {
             return Err(Unserved::NoContext);
         };
         Ok(context.make_transactional())
+    }
+}
+
+// Whether a session pins a place.
+fn pins_any(space: &CoreSpace, who: u16) -> bool
+    requires { SpeaksFor space.now who }
+    ensures { result ≡ not (length (locks_at space.now who).pins == 0) }
+{
+    for index in 0..space.place_count() {
+        if space.has_pin(who, index + 1) {
+            return true;
+        }
+    }
+    false
+}
+
+// Gives up all pins of a session that holds no ticket and has no wait. Some may be beyond those that its context knew: of a key that the program looked
+// up itself, or of one for which the context found no memory. Takes no memory.
+fn unpin_all(space: &mut CoreSpace, who: u16)
+    requires speaks { SpeaksFor space.old who }
+    requires free { HasNothing (locks_at space.old who) }
+    ensures unpinned { UnpinsAll who space.old space.new }
+    ensures others { LeavesOthers core_space who space.old space.new }
+{
+    for index in 0..space.place_count() {
+        // Where there is no pin, the call is refused and changes nothing.
+        let _answer = space.unpin(who, index + 1);
     }
 }
 

@@ -6,4 +6,5 @@ use Rattle.mdl_c_calls.proofs.manager.ServedSpace.kill.Goals as goal
 
 pub invariant_of-self : goal.invariant_of-self
 invariant_of-self c =
-    serves-still _ c.kill.new.self (Kill c.args.target c.args.number) (Has_killed c.kill.result) c.self.inside.sessions c.self.inside.seats.items (λ own. (refl, refl, λ place pinned. pinned)) c.self.invariant c.kill.ensures
+    serves-still _ c.kill.new.self (Kill c.args.target c.args.number) (Has_killed c.kill.result) c.self.inside.sessions c.self.inside.seats.items refl
+    (λ own. (refl, refl, λ place pinned. pinned)) c.self.invariant c.kill.ensures

@@ -6,4 +6,5 @@ use Rattle.mdl_c_calls.proofs.manager.ServedSpace.poll_wait.Goals as goal
 
 pub invariant_of-self : goal.invariant_of-self
 invariant_of-self c =
-    serves-still _ c.poll_wait.new.self (Poll_wait c.args.who) (polled c.poll_wait.result) c.self.inside.sessions c.self.inside.seats.items (λ own. (refl, refl, λ place pinned. pinned)) c.self.invariant c.poll_wait.ensures
+    serves-still _ c.poll_wait.new.self (Poll_wait c.args.who) (polled c.poll_wait.result) c.self.inside.sessions c.self.inside.seats.items refl
+    (λ own. (refl, refl, λ place pinned. pinned)) c.self.invariant c.poll_wait.ensures

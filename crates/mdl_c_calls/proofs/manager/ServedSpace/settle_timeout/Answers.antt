@@ -6,4 +6,5 @@ use Rattle.mdl_c_calls.proofs.manager.ServedSpace.settle_timeout.Goals as goal
 
 pub invariant_of-self : goal.invariant_of-self
 invariant_of-self c =
-    serves-still _ c.settle_timeout.new.self (Settle_timeout c.args.who) (timed_out c.settle_timeout.result) c.self.inside.sessions c.self.inside.seats.items (λ own. (refl, refl, λ place pinned. pinned)) c.self.invariant c.settle_timeout.ensures
+    serves-still _ c.settle_timeout.new.self (Settle_timeout c.args.who) (timed_out c.settle_timeout.result) c.self.inside.sessions c.self.inside.seats.items refl
+    (λ own. (refl, refl, λ place pinned. pinned)) c.self.invariant c.settle_timeout.ensures
