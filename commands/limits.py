@@ -51,21 +51,24 @@ def savepoints():
 
 
 def places():
-    """There is room for 256 keys: that of the schema at the start, and those that were ever locked."""
-    script, answers = numbered("SELECT t", "ERR 1146", 1, 253)
-    more = ["1 CREATE TABLE t254 x", "1 SELECT t254", "1 CREATE TABLE t255 x"]
-    yield [*script, *more], [*answers, "254 1 OK", "255 1 OK test.t254@1(x)", "256 1 ERR 9004"]
-    script, answers = numbered("SELECT t", "ERR 1146", 1, 255)
-    more = ["1 SELECT t256", "1 SELECT t1", "1 INSERT t1"]
-    yield [*script, *more], [*answers, "256 1 ERR 9004", "257 1 ERR 1146", "258 1 ERR 9004"]
-    # If there is no place for the COMMIT lock, the GLOBAL lock that was granted before it is released again.
-    script, answers = numbered("SELECT t", "ERR 1146", 2, 255)
-    more = ["2 FLUSH TABLES WITH READ LOCK", "3 INSERT t2", "2 INSERT t2"]
-    yield ["1 BEGIN", *script, *more], ["1 1 OK", *answers, "256 2 ERR 9004", "257 3 ERR 1146", "258 2 ERR 1146"]
-    # A user-level lock that no session holds gets its place by RELEASE_LOCK, too, and keeps it.
-    script, answers = numbered("RELEASE_LOCK n", "OK NULL", 1, 255)
-    more = ["1 RELEASE_LOCK n256", "1 GET_LOCK n256", "1 GET_LOCK n255", "2 RELEASE_LOCK n255"]
-    yield [*script, *more], [*answers, "256 1 ERR 9004", "257 1 ERR 9004", "258 1 OK 1", "259 2 OK 0"]
+    """There is room for 256 keys at a time: those that have or had a definition, as the schema at the start, and those that are locked or awaited."""
+    script, answers = numbered("SELECT t", "ERR 1146", 2, 256)
+    more = ["1 SELECT t257", "1 SELECT t2", "2 INSERT t2", "1 COMMIT", "1 SELECT t257", "2 INSERT t2"]
+    told = ["257 1 ERR 9004", "258 1 ERR 1146", "259 2 ERR 9004", "260 1 OK", "261 1 ERR 1146", "262 2 ERR 1146"]
+    yield ["1 BEGIN", *script, *more], ["1 1 OK", *answers, *told]
+    # However many keys there are, each gets a place if it is locked alone.
+    yield numbered("SELECT t", "ERR 1146", 1, 1000)
+    yield numbered("INSERT t", "ERR 1146", 1, 1000)
+    # The schema, 254 tables and the GLOBAL lock. If there is no place for the COMMIT lock, the GLOBAL lock that was granted before it is released again.
+    script, answers = [f"1 CREATE TABLE t{it} x" for it in range(1, 255)], [f"{it} 1 OK" for it in range(1, 255)]
+    more = ["1 CREATE TABLE t255 x", "1 SELECT t255", "2 FLUSH TABLES WITH READ LOCK", "3 DROP TABLE t1", "3 CREATE TABLE t255 x", "3 CREATE TABLE t1 y"]
+    told = ["255 1 ERR 9004", "256 1 ERR 1146", "257 2 ERR 9004", "258 3 OK", "259 3 ERR 9004", "260 3 OK"]
+    yield [*script, *more, "3 SELECT t1"], [*answers, *told, "261 3 OK test.t1@3(y)"]
+    # A user-level lock that no session holds needs a place for RELEASE_LOCK, too.
+    script, answers = numbered("GET_LOCK n", "OK 1", 1, 255)
+    more = ["1 RELEASE_LOCK n256", "1 GET_LOCK n256", "2 RELEASE_LOCK n255", "1 RELEASE_LOCK n255", "2 GET_LOCK n256", "2 RELEASE_LOCK n255"]
+    told = ["256 1 ERR 9004", "257 1 ERR 9004", "258 2 OK 0", "259 1 OK 1", "260 2 OK 1", "261 2 ERR 9004"]
+    yield [*script, *more], [*answers, *told]
 
 
 def versions():

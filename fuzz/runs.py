@@ -83,7 +83,8 @@ def wrong_versions(written):
 
 
 def wrong_in_lone_run(lines, replayed, written):
-    """Returns what is wrong with what `run` wrote for the lines of one session, or None. It has to be what `replay` wrote, and a line for each definition."""
+    """Returns what is wrong with what `run` wrote for the lines of one session, or None. It has to be what `replay` wrote, and a line for each definition.
+    Only `replay` gives places anew, so nothing is checked if there were too few."""
     if len({it.session for it in lines}) != 1 or b" WAIT " in replayed or b" ERR 9004" in replayed + written:
         return None
     left = written[len(replayed) :]

@@ -164,6 +164,26 @@ def raw(chance):
     return bytes(chance.choices(b"0123456789 \t\r\n#.,_abtxyABCDEILNORSTUWX", k=count))
 
 
+# What a session does with a key of many, or without one: mostly it gets a lock and keeps it, or it ends what it has.
+HELD = ["SELECT t{key}", "GET_LOCK w{key}"]
+ENDED = ["RELEASE_LOCK w{key}", "COMMIT", "ROLLBACK", "ROLLBACK TO p", "DROP TABLE t{key}", "RELEASE_LOCK w{key}", "BEGIN"]
+OTHERS = ["SAVEPOINT p", "CREATE TABLE t{key} x", "INSERT t{key}", "LOCK TABLES t{key} WRITE", "UNLOCK TABLES", "SELECT t{key} t1", "TIMEOUT"]
+
+
+def crowded(chance):
+    """Returns a script of more keys than there are places, of which sessions hold the locks at the same time: first of one key after another, then of any."""
+    count = chance.choice([250, 256, 300, 400, 600])
+    sessions = some_sessions(chance, chance.choice([1, 2, 5, 40]))
+    lines = [f"{it} BEGIN" for it in sessions]
+    for key in range(count):
+        words = HELD if chance.random() < 0.99 else OTHERS
+        lines.append(f"{chance.choice(sessions)} {chance.choice(words)}".format(key=key))
+    for _ in range(chance.choice([0, 60, 400])):
+        words = chance.choice([HELD, HELD, ENDED, OTHERS])
+        lines.append(f"{chance.choice(sessions)} {chance.choice(words)}".format(key=chance.randrange(count)))
+    return "".join(f"{it}\n" for it in lines).encode()
+
+
 def large(chance, language):
     """Returns a script of many lines, of a very long one, or of all that there is room for."""
     kind = chance.randrange(7)
@@ -178,7 +198,7 @@ def large(chance, language):
         tables = b"".join(b"1 CREATE TABLE %c %s\n" % (it, columns) for it in b"abcdefgh")
         return tables + b"1 SELECT a b c d e f g h\n" * chance.choice([1, 30, 600])
     if kind == 4:
-        return b"".join(b"%d SELECT t%d\n" % (chance.randrange(1, MOST_SESSIONS + 1), it) for it in range(chance.choice([250, 255, 256, 300])))
+        return crowded(chance)
     if kind == 5:
         waits = b"".join(b"%d DROP TABLE t\n" % it for it in some_sessions(chance, chance.choice([64, 64, 200]))[1:])
         return b"1 CREATE TABLE t x\n1 BEGIN\n1 SELECT t\n" + waits + chance.choice([b"", b"1 COMMIT\n", b"1 INSERT t\n"])

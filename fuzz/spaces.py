@@ -1,7 +1,8 @@
 """Locks of many keys, with tickets and waits of sessions, as plainly as can be: what plays.py runs its statements on.
 
-A key is (0,) for GLOBAL, (1, schema), (2, schema, table), (3,) for COMMIT, or (4, name) for a user-level lock. A call that may wait is a generator: it
-yields when a wait begins, and continues once that is settled."""
+A key is (0,) for GLOBAL, (1, schema), (2, schema, table), (3,) for COMMIT, or (4, name) for a user-level lock. A key keeps its place while a session has a
+ticket or a wait there, and once it had a definition. At the end of each statement a session lets go of all other places, so nobody pins those. A call that
+may wait is a generator: it yields when a wait begins, and continues once that is settled."""
 
 import dataclasses
 
@@ -39,6 +40,10 @@ class Place:
         self.waiting = []
         self.version = 0
         self.found = None
+
+    def is_in_use(self):
+        """Whether the key keeps its place."""
+        return bool(self.granted or self.waiting or self.version)
 
 
 class Space:
@@ -143,10 +148,13 @@ class Space:
     # ---- tickets
 
     def place(self, key):
-        """Returns the place of a key, which has one from now on."""
+        """Returns the place of a key. A key without one gets one: if all places have keys, one that isn't in use, whose key loses it."""
         if key not in self.places:
             if len(self.places) == MOST_PLACES:
-                raise Lost(NO_PLACE)
+                unused = next((it for it, place in self.places.items() if not place.is_in_use()), None)
+                if unused is None:
+                    raise Lost(NO_PLACE)
+                del self.places[unused]
             self.places[key] = Place()
         return self.places[key]
 

@@ -7,7 +7,7 @@ use crate::failure::Failure;
 use crate::lap::{Lap, Race, Start};
 use crate::seat::close;
 use crate::table::table;
-use mdl_calls::{LockSpace, Place, TicketId};
+use mdl_calls::{LockSpace, TicketId};
 use mdl_context::{Acquire, Context, Request};
 use mdl_key::{Duration, Key, MOST_PLACES, MOST_SESSIONS, Mode};
 use mdl_shared::{Manager, Pass, Session};
@@ -23,26 +23,17 @@ const SPREAD: u16 = 250;
 // The number of tables that are locked after a savepoint.
 const LOCKED: u16 = 100;
 
-/// What is done in a turn through a context that knows the keys.
+/// What is done in a turn through a context.
 #[derive(Clone, Copy)]
 pub enum Wish {
     /// A table's lock is acquired to read, and released.
     Request,
     /// GLOBAL is acquired in IX and three tables in SW, and the transaction ends.
     Transact,
-    /// The same by the places of the keys, which are kept.
-    TransactAt,
     /// A lock that is held already is acquired again.
     AskAgain,
     /// A hundred tables are locked, and the session rolls back to the mark before them.
     GoBack,
-}
-
-// The keys of a wish, and their places.
-#[derive(Clone, Copy)]
-struct Names<'a> {
-    keys: &'a [Key],
-    places: &'a [Place],
 }
 
 /// The lock space of a session.
@@ -227,17 +218,16 @@ fn time_turns<R: Clock + CpuClock, S: LockSpace>(
 {
     let mut keys = Vec::new(alloc);
     let lap = match list_keys(alloc, wish, from, &mut keys) {
-        Ok(()) => time_listed(rt, alloc, space, context, wish, &keys, next, race),
+        Ok(()) => time_wishes(rt, space, context, wish, &keys, next, race),
         Err(why) => Err(why),
     };
     drop(keys);
     lap
 }
 
-// The same with the keys of the wish.
-fn time_listed<R: Clock + CpuClock, S: LockSpace>(
+// The same with the keys of the wish, once all threads are ready. The first turn isn't timed: the space gives the keys their places then.
+fn time_wishes<R: Clock + CpuClock, S: LockSpace>(
     rt: &R,
-    alloc: Global,
     space: &mut S,
     context: &mut Context<S>,
     wish: &Wish,
@@ -247,38 +237,11 @@ fn time_listed<R: Clock + CpuClock, S: LockSpace>(
 ) -> Result<Lap, Failure>
     requires { Attends S.LockSpace space.old context.old }
 {
-    let mut places = Vec::new(alloc);
-    let lap = match list_places(space, context, keys, &mut places) {
-        Ok(()) => {
-            let names = Names {
-                keys,
-                places: &places,
-            };
-            time_wishes(rt, space, context, wish, names, next, race)
-        }
-        Err(why) => Err(why),
-    };
-    drop(places);
-    lap
-}
-
-// The same for a session that knows the keys, once all threads are ready. The first turn isn't timed.
-fn time_wishes<R: Clock + CpuClock, S: LockSpace>(
-    rt: &R,
-    space: &mut S,
-    context: &mut Context<S>,
-    wish: &Wish,
-    names: Names<'_>,
-    next: TicketId,
-    race: &Race,
-) -> Result<Lap, Failure>
-    requires { Attends S.LockSpace space.old context.old }
-{
-    if wish_often(space, context, wish, names, next, 1) == 0 {
+    if wish_often(space, context, wish, keys, next, 1) == 0 {
         return Err(Failure::Unexpected);
     }
     let start = Start::of(rt, race)?;
-    let made = wish_often(space, context, wish, names, next, race.turns);
+    let made = wish_often(space, context, wish, keys, next, race.turns);
     start.lap(rt, race, made)
 }
 
@@ -307,7 +270,7 @@ fn stock_up<S: LockSpace>(
 fn list_keys(alloc: Global, wish: &Wish, from: u16, keys: &mut Vec<Key>) -> Result<(), Failure> {
     match wish {
         Wish::Request | Wish::AskAgain => list_tables(alloc, keys, SPREAD, 1),
-        Wish::Transact | Wish::TransactAt => {
+        Wish::Transact => {
             list(keys, Key::global(alloc))?;
             list_tables(alloc, keys, from, 3)
         }
@@ -335,40 +298,19 @@ fn list(keys: &mut Vec<Key>, key: Key) -> Result<(), Failure> {
     }
 }
 
-// Adds the places of keys.
-fn list_places<S: LockSpace>(
-    space: &mut S,
-    context: &mut Context<S>,
-    keys: &[Key],
-    places: &mut Vec<Place>,
-) -> Result<(), Failure>
-    requires { Attends S.LockSpace space.old context.old }
-    ensures { Attends S.LockSpace space.new context.new }
-{
-    for key in keys {
-        let Ok(place) = context.place_of(space, key) else {
-            return Err(Failure::Unexpected);
-        };
-        if places.push(place).is_err() {
-            return Err(Failure::Memory);
-        }
-    }
-    Ok(())
-}
-
 // Makes `turns` turns. Returns how many succeeded. The ticket of the first turn gets the number `next`.
 fn wish_often<S: LockSpace>(
     space: &mut S,
     context: &mut Context<S>,
     wish: &Wish,
-    names: Names<'_>,
+    keys: &[Key],
     next: TicketId,
     turns: u32,
 ) -> u32
     requires { Attends S.LockSpace space.old context.old }
     ensures { Attends S.LockSpace space.new context.new }
 {
-    let Some((first, others)) = names.keys.split_first() else {
+    let Some((first, others)) = keys.split_first() else {
         return 0;
     };
     let mut made = 0u32;
@@ -376,9 +318,8 @@ fn wish_often<S: LockSpace>(
         let well = match wish {
             Wish::Request => requests(space, context, first),
             Wish::Transact => transacts(space, context, first, others),
-            Wish::TransactAt => transacts_at(space, context, names.places),
             Wish::AskAgain => asks_again(space, context, first, next),
-            Wish::GoBack => goes_back(space, context, names.keys),
+            Wish::GoBack => goes_back(space, context, keys),
         };
         made = made.wrapping_add(u32::from(well));
     }
@@ -409,35 +350,6 @@ fn transacts<S: LockSpace>(
     acquire(space, context, global, Mode::IX, Duration::Transaction).is_some()
         && acquires(space, context, tables, Mode::SW)
         && context.end_transaction(space).is_ok()
-}
-
-// Acquires the lock at the first place in IX and those at the others in SW, and ends the transaction. Whether all succeeded.
-fn transacts_at<S: LockSpace>(space: &mut S, context: &mut Context<S>, places: &[Place]) -> bool
-    requires { Attends S.LockSpace space.old context.old }
-    ensures { Attends S.LockSpace space.new context.new }
-{
-    let Some((global, tables)) = places.split_first() else {
-        return false;
-    };
-    let mut all = acquires_at(space, context, *global, Mode::IX);
-    for place in tables {
-        all &= acquires_at(space, context, *place, Mode::SW);
-    }
-    all && context.end_transaction(space).is_ok()
-}
-
-// Acquires the lock at a place for the transaction. Whether that succeeded.
-fn acquires_at<S: LockSpace>(
-    space: &mut S,
-    context: &mut Context<S>,
-    place: Place,
-    mode: Mode,
-) -> bool
-    requires { Attends S.LockSpace space.old context.old }
-    ensures { Attends S.LockSpace space.new context.new }
-{
-    let acquired = context.acquire_at(space, place, mode, Duration::Transaction);
-    matches!(acquired, Ok(Acquire::Acquired(_)))
 }
 
 // Acquires a lock. Whether its ticket is `id`, which is used again once it is held.

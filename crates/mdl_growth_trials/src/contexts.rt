@@ -330,10 +330,18 @@ pub(crate) fn calls_are_answered<R: Wait>(rt: &R, alloc: Global) -> bool {
     drop(manager);
     let one = first.number();
     let two = second.number();
-    let (go_well, first, second) = sessions_outlive(alloc, first, one, second, two);
+    let (go_well, mut first, mut second) = sessions_outlive(alloc, first, one, second, two);
+    // The first session has nothing, and its context let go of both places. The second one has a ticket at each.
+    let are_let_go = unpins_neither(&mut first, SpaceError::NoPlace);
+    let are_kept = unpins_neither(&mut second, SpaceError::InUse);
     let _first = closes(rt, first);
     let _second = closes(rt, second);
-    go_well
+    go_well && are_let_go && are_kept
+}
+
+// Whether a session is refused to give up the pins of both places, and for this reason.
+fn unpins_neither<R: Wait>(session: &mut Session<R>, why: SpaceError) -> bool {
+    session.unpin(1) == Err(why) && session.unpin(2) == Err(why)
 }
 
 // Whether all rows have their answers, by two sessions of these numbers that have nothing. Returns the sessions, too.

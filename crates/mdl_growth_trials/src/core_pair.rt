@@ -100,7 +100,10 @@ fn new_space(alloc: Global, places: u16, sessions: u16) -> Option<CoreSpace>
 {
     match CoreSpace::new(alloc, places, sessions) {
         Ok(space) => Some(space),
-        Err(NewError::OutOfMemory) => CoreSpace::new(alloc, places, sessions).ok(),
+        Err(NewError::OutOfMemory) => match CoreSpace::new(alloc, places, sessions) {
+            Ok(space) => Some(space),
+            Err(_) => None,
+        },
         Err(_) => None,
     }
 }

@@ -5,6 +5,7 @@ ghost use Rattle.mdl_space_trials.specs.contexts.Halls.{AreServed};
 
 use crate::by_chance::plain::Plain;
 use crate::contexts::acts::{Act, Reply, make};
+use crate::room::Room;
 use mdl_context::Context;
 use mdl_space::{CoreSpace, LockSpace, NewError};
 use std::alloc::Global;
@@ -71,6 +72,26 @@ impl Hall {
     pub(crate) fn stands_as(&self, plain: &Plain) -> bool {
         hold_the_same(&self.space, &self.contexts, plain)
     }
+
+    /// Ends all contexts, so that the sessions make their calls without. They keep what they have.
+    pub(crate) fn into_room(self) -> Room {
+        let Hall {
+            alloc,
+            space,
+            contexts,
+        } = self;
+        let room = room_of_all(alloc, space, &contexts);
+        drop(contexts);
+        room
+    }
+}
+
+// The space with its sessions, whose contexts these are.
+fn room_of_all(alloc: Global, space: CoreSpace, contexts: &[Context<CoreSpace>]) -> Room
+    requires served { AreServed space 1 contexts.now }
+    requires all { SESSIONS ≤ length contexts.now }
+{
+    Room::over(alloc, space, SESSIONS)
 }
 
 // Performs an act of a session and returns its reply. None if memory ran out.

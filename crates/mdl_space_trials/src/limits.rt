@@ -46,7 +46,7 @@ const PLACES: &[Row] = &[
     ),
 ];
 
-/// Whether keys keep their places, which are numbered from 1 to 5, and a sixth key is refused.
+/// Whether keys keep their places, which are numbered from 1 to 5, while sessions pin them, and a sixth key is refused.
 pub(crate) fn keeps_places(room: &mut Room) -> bool {
     room.first_wrong(PLACES).is_none() && has_none(room, 0) && has_none(room, 6)
 }

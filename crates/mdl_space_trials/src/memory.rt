@@ -1,6 +1,6 @@
 //! Refused growths: if each allocation fails once in turn, the space loses nothing, and goes on.
 //!
-//! `rt try --test --fail-alloc N` refuses the allocation of that number. Then the call that needed it is made again.
+//! `rt try --test --fail-alloc N` refuses the allocation of that number. Then the call that needed it is made again. So are the calls of `anew`.
 use crate::acts::{Act, Row};
 use crate::base::rows::{Story, are_told_so};
 use crate::room::{ORDINARY, OTHER_TABLE, Room, TABLE};
@@ -11,16 +11,16 @@ use std::alloc::Global;
 
 const SESSIONS: u16 = 16;
 
-// Creates a room of many sessions. Tries again if memory runs out at first.
-fn new_room(alloc: Global) -> Option<Room> {
-    match Room::of_keys(alloc, ORDINARY, SESSIONS) {
+/// Creates a room of this number of sessions. Tries again if memory runs out at first.
+pub(crate) fn new_room(alloc: Global, sessions: u16) -> Option<Room> {
+    match Room::of_keys(alloc, ORDINARY, sessions) {
         Some(room) => Some(room),
-        None => Room::of_keys(alloc, ORDINARY, SESSIONS),
+        None => Room::of_keys(alloc, ORDINARY, sessions),
     }
 }
 
-// Makes calls one after another, and returns the index of the first that goes wrong. A call that runs out of memory is made again.
-fn first_lost(room: &mut Room, rows: &[Row]) -> Option<usize> {
+/// Makes calls one after another, and returns the index of the first that goes wrong. A call that runs out of memory is made again.
+pub(crate) fn first_lost(room: &mut Room, rows: &[Row]) -> Option<usize> {
     for (place, (who, act)) in rows.iter().enumerate() {
         let is_right = match room.make(*who, *act) {
             None => room.make(*who, *act),
@@ -165,7 +165,7 @@ impl Story for Scarce {
     }
 
     fn first_wrong(&self, alloc: Global) -> Option<usize> {
-        let Some(mut room) = new_room(alloc) else {
+        let Some(mut room) = new_room(alloc, SESSIONS) else {
             return Some(self.1.len());
         };
         let wrong = first_lost(&mut room, self.1).or(room.first_wrong(self.2));

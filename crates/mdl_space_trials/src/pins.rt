@@ -12,7 +12,7 @@ const HAS_WAIT: SpaceError = SpaceError::AlreadyWaiting;
 
 const BAD_MODE: SpaceError = SpaceError::BadMode;
 
-// The key of the first place keeps it, whoever pins it.
+// The key of the first place keeps it, as other sessions pin it.
 const FIND_TABLE: Act = Act::Resolve(Of::Table("test", "t"), Ok(TABLE));
 
 const GIVEN_UP: &[Row] = &[

@@ -85,16 +85,23 @@ impl Model for Room {
 }
 
 impl Room {
+    /// The room of a space that speaks for this number of sessions.
+    pub(crate) fn over(alloc: Global, space: CoreSpace, sessions: u16) -> Room
+        requires { SpeaksForAll SpeaksFor sessions space }
+    {
+        Room {
+            alloc,
+            space,
+            sessions,
+        }
+    }
+
     /// Creates a space of this number of places, none of which has a key. No session has anything.
     pub(crate) fn empty(alloc: Global, places: u16, sessions: u16) -> Option<Room> {
         let Ok(space) = CoreSpace::new(alloc, places, sessions) else {
             return None;
         };
-        Some(Room {
-            alloc,
-            space,
-            sessions,
-        })
+        Some(Room::over(alloc, space, sessions))
     }
 
     /// Creates a space whose places have these keys, in this order, and are pinned by all sessions. There are no more places, and no session has

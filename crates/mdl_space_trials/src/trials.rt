@@ -11,7 +11,7 @@ enum Trial {
     Books,
     // The tables of a schema are told.
     Tables,
-    // Keys keep their places.
+    // Keys keep their places while these are pinned.
     Places,
     // A definition has a last version.
     Versions,

@@ -64,7 +64,7 @@ const PAIRS: &[Figure] = &[
 
 const TRANSACTION: Workload = Workload("shared", 1, "transaction", 5_000);
 
-// The locks of a transaction that writes three tables, by fast tickets, and through a context by keys and by places that are kept.
+// The locks of a transaction that writes three tables, by fast tickets, and through a context.
 const TRANSACTIONS: &[Figure] = &[
     Figure("d_transaction", TRANSACTION, Plays(Transactions)),
     Figure(
@@ -76,11 +76,6 @@ const TRANSACTIONS: &[Figure] = &[
         "d_transaction_steps",
         TRANSACTION,
         Plays(Steps(Step::Transaction)),
-    ),
-    Figure(
-        "d_transaction_places",
-        TRANSACTION,
-        Shared(Wish::TransactAt, 0),
     ),
 ];
 

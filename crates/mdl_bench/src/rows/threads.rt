@@ -71,7 +71,7 @@ const CROWDS: &[Figure] = &[
     ),
 ];
 
-// Transactions through contexts, by keys and by places that are kept. Each thread has tables of its own, or all have the same.
+// Transactions through contexts. Each thread has tables of its own, or all have the same.
 const CONTEXTS: &[Figure] = &[
     Figure(
         "d_transaction_context",
@@ -79,19 +79,9 @@ const CONTEXTS: &[Figure] = &[
         Through(Wish::Transact, true),
     ),
     Figure(
-        "d_transaction_places",
-        TRANSACTION_OF_FOUR,
-        Through(Wish::TransactAt, true),
-    ),
-    Figure(
         "d_transaction_same_context",
         TRANSACTION_OF_FOUR,
         Through(Wish::Transact, false),
-    ),
-    Figure(
-        "d_transaction_same_places",
-        TRANSACTION_OF_FOUR,
-        Through(Wish::TransactAt, false),
     ),
 ];
 

@@ -1,8 +1,15 @@
 //! Sessions request locks only at places that they pin, and give up their pins.
-use crate::shared::acts::{Act, Lock, Memory, Reply};
+ghost use Rattle.std.specs.Prelude.{◌≡◌};
+ghost use Rattle.mdl_shared.specs.Passes.{pass_table};
+
+use crate::shared::acts::{Act, Lock, Memory, Reply, make};
 use crate::shared::rows::{Case, Row, are_right};
+use crate::shared::sessions::closed;
 use mdl_calls::{Ended, SpaceError};
-use mdl_key::Mode;
+use mdl_key::{Key, Mode};
+use mdl_shared::{Manager, Pass, Session};
+use std::process::Abort;
+use std::sync::Wait;
 use std::test::Fail;
 
 const NO_PLACE: Reply = Reply::Refused(SpaceError::NoPlace);
@@ -88,17 +95,38 @@ const AWAITED: &[Row] = &[
     (2, Act::Unpin(1), Reply::Done),
 ];
 
-// A debt keeps no pin, and is paid without one.
+// So does a session that owes the place a reschedule, until it has made it. Another session's debt is in nobody's way.
 const OWED: &[Row] = &[
     (1, Act::Resolve(Lock::Sales), Reply::Place(1)),
     (2, Act::Resolve(Lock::Sales), Reply::Place(1)),
+    (3, Act::Resolve(Lock::Sales), Reply::Place(1)),
+    (1, Act::Resolve(Lock::Orders), Reply::Place(2)),
     (1, Act::TryFast(1, Mode::SR), Reply::Granted(1)),
     (2, Act::Begin(1, Mode::X), Reply::Waiting(1)),
     (1, Act::ReleaseFast(1), Reply::Owes(true)),
-    (1, Act::Unpin(1), Reply::Done),
+    (1, Act::Unpin(1), IN_USE),
+    (1, Act::Unpin(2), Reply::Done),
+    (3, Act::Unpin(1), Reply::Done),
     (1, Act::Owes(1), Reply::Is(true)),
     (1, Act::Reschedule(1), Reply::Done),
     (1, Act::Owes(1), Reply::Is(false)),
+    (1, Act::Unpin(1), Reply::Done),
+    (1, Act::Unpin(1), NO_PLACE),
+    (2, Act::End, Reply::Ended(Ended::Granted(1))),
+    (2, Act::Release(1), Reply::Done),
+];
+
+// A release pays the debt, too.
+const PAID_BY_A_RELEASE: &[Row] = &[
+    (1, Act::Resolve(Lock::Sales), Reply::Place(1)),
+    (2, Act::Resolve(Lock::Sales), Reply::Place(1)),
+    (1, Act::TryFast(1, Mode::SR), Reply::Granted(1)),
+    (1, Act::TryFast(1, Mode::SW), Reply::Granted(2)),
+    (2, Act::Begin(1, Mode::X), Reply::Waiting(1)),
+    (1, Act::ReleaseFast(1), Reply::Owes(true)),
+    (1, Act::Unpin(1), IN_USE),
+    (1, Act::Release(2), Reply::Done),
+    (1, Act::Unpin(1), Reply::Done),
     (2, Act::End, Reply::Ended(Ended::Granted(1))),
     (2, Act::Release(1), Reply::Done),
 ];
@@ -133,11 +161,49 @@ const CASES: &[Case] = &[
     ("one call gives up a pin", 3, GIVEN_UP_ONCE),
     ("a place in use stays pinned", 2, USED),
     ("an awaited place stays pinned", 1, AWAITED),
-    ("a debt keeps no pin", 1, OWED),
+    ("a place that is owed a reschedule stays pinned", 2, OWED),
+    ("a release pays what keeps a pin", 1, PAID_BY_A_RELEASE),
     ("a place that is not pinned is refused first", 2, IN_ORDER),
 ];
 
 #[test]
 fn sessions_give_up_their_pins(rt: HostRuntime) -> Result<(), Fail> {
     are_right(&rt, Memory::Ample, CASES)
+}
+
+// Has a session look a table up, whose place it pins, and closes it.
+fn closed_with_a_pin<R: Wait + Drop>(rt: &impl Abort, session: Session<R>, table: &Key) -> Pass
+    ensures { pass_table result ≡ session.table }
+{
+    let mut session = session;
+    let found = session.resolve(table);
+    assert!(rt; found == Ok(1));
+    closed(rt, session)
+}
+
+// What a session is told that pinned the first place before it was closed: it pins nothing when it is opened again, and the key still has its place.
+const REOPENED: &[(Act, Reply)] = &[
+    (Act::Unpin(1), NO_PLACE),
+    (Act::Try(1, Mode::SR), NO_PLACE),
+    (Act::Resolve(Lock::Sales), Reply::Place(1)),
+    (Act::Unpin(1), Reply::Done),
+    (Act::Unpin(1), NO_PLACE),
+];
+
+#[test]
+fn a_session_that_is_opened_again_pins_nothing(rt: HostRuntime) -> Result<(), Fail> {
+    let alloc = rt.alloc();
+    let table = Lock::Sales.key(alloc)?;
+    let (manager, mut passes) = Manager::new(alloc, 1, 1)?;
+    let first = Session::open(&rt, &manager, passes.remove(0));
+    let pass = closed_with_a_pin(&rt, first, &table);
+    let mut again = Session::open(&rt, &manager, pass);
+    for (act, wanted) in REOPENED {
+        assert!(rt; make(alloc, &mut again, *act) == *wanted);
+    }
+    closed(&rt, again);
+    drop(passes);
+    drop(manager);
+    drop(table);
+    Ok(())
 }

@@ -8,7 +8,9 @@ use std::test::Fail;
 use std::thread;
 
 /// Closes a session that has no ticket and owes nothing, and returns its pass.
-pub(crate) fn closed<R: Drop>(rt: &impl Abort, session: Session<R>) -> Pass {
+pub(crate) fn closed<R: Drop>(rt: &impl Abort, session: Session<R>) -> Pass
+    ensures { pass_table result ≡ session.table }
+{
     match session.close() {
         Ok(pass) => pass,
         Err(CloseError::HoldsTickets(_session)) => panic!(rt; "the session holds no ticket"),

@@ -1,7 +1,9 @@
-//! Spaces without a place for one more key: 9004, at each lock of a statement that is the first of its key. The locks that the statement had before
-//! are released again, and an open transaction keeps what it had.
+//! Spaces whose places are all in use, so that there is none for one more key: 9004, at each lock of a statement whose key has no place. The locks that
+//! the statement had before are released again, and an open transaction keeps what it had. The second session pins places; others are kept by a definition.
+//! Once a place isn't in use any more, another key gets it.
 use crate::outcomes::Outcome;
-use crate::used_up::rows::Row::Says;
+use crate::used_up::room::Lock;
+use crate::used_up::rows::Row::{Pins, Says, Unpins};
 use crate::used_up::rows::{Row, Story};
 
 const DONE: Outcome = Outcome::Done;
@@ -12,8 +14,17 @@ const NO_SUCH_TABLE: Outcome = Outcome::Fails(1146);
 
 const FIRST: Outcome = Outcome::Reads(1);
 
+const PIN_A: Row = Pins(Lock::Table("a"));
+
+const PIN_B: Row = Pins(Lock::Table("b"));
+
+// The second session pins the place of the first lock of every statement that changes something.
+const PIN_GLOBAL: Row = Pins(Lock::Global);
+
 // Two tables have the places. The global lock has none; it is the first lock of every statement that changes something.
 const OF_ALL_WRITES: &[Row] = &[
+    PIN_A,
+    PIN_B,
     Says("SELECT a", NO_SUCH_TABLE, 0),
     Says("SELECT b", NO_SUCH_TABLE, 0),
     Says("INSERT a", NO_PLACE, 0),
@@ -42,10 +53,15 @@ const OF_ALL_WRITES: &[Row] = &[
     Says("TIMEOUT", DONE, 1),
     Says("COMMIT", DONE, 0),
     Says("ROLLBACK", DONE, 0),
+    Unpins(Lock::Table("b")),
+    Says("INSERT a", NO_SUCH_TABLE, 0),
+    Says("INSERT b", NO_PLACE, 0),
 ];
 
 // The global lock and a table have the places, and the schema has none.
 const OF_THE_SCHEMA: &[Row] = &[
+    PIN_GLOBAL,
+    PIN_A,
     Says("INSERT a", NO_SUCH_TABLE, 0),
     Says("CREATE TABLE a x", NO_PLACE, 0),
     Says("CREATE SCHEMA test", NO_PLACE, 0),
@@ -57,8 +73,9 @@ const OF_THE_SCHEMA: &[Row] = &[
     Says("INSERT a", NO_SUCH_TABLE, 0),
 ];
 
-// The global lock and the schema have the places, and no table has one.
+// The global lock and the schema have the places, and no table has one. That of the schema is kept by its definition, also after that is dropped.
 const OF_A_TABLE: &[Row] = &[
+    PIN_GLOBAL,
     Says("CREATE SCHEMA test", DONE, 0),
     Says("SELECT a", NO_PLACE, 0),
     Says("INSERT a", NO_PLACE, 0),
@@ -73,11 +90,18 @@ const OF_A_TABLE: &[Row] = &[
     Says("COMMIT", DONE, 0),
     Says("CREATE SCHEMA test", Outcome::Fails(1007), 0),
     Says("DROP SCHEMA test", DONE, 0),
+    Says("SELECT a", NO_PLACE, 0),
     Says("CREATE SCHEMA test", DONE, 0),
+    // Between two statements that change something, the place of the global lock is free.
+    Unpins(Lock::Global),
+    Says("SELECT a", NO_SUCH_TABLE, 0),
+    Says("INSERT a", NO_PLACE, 0),
+    Says("DROP SCHEMA test", DONE, 0),
 ];
 
 // The global lock, a schema and a table have the places. A statement that also names another table gets neither.
 const OF_ANOTHER: &[Row] = &[
+    PIN_GLOBAL,
     Says("CREATE SCHEMA test", DONE, 0),
     Says("CREATE TABLE a x", DONE, 0),
     Says("SELECT a b", NO_PLACE, 0),
@@ -106,6 +130,7 @@ const OF_ANOTHER: &[Row] = &[
 
 // The global lock, a schema and a table have the places, and the commit lock has none.
 const OF_COMMITS: &[Row] = &[
+    PIN_GLOBAL,
     Says("CREATE SCHEMA test", DONE, 0),
     Says("CREATE TABLE a x", DONE, 0),
     Says("INSERT a", NO_PLACE, 0),
@@ -137,22 +162,53 @@ const OF_COMMITS: &[Row] = &[
     Says("COMMIT", DONE, 0),
 ];
 
-// With one more place the commit lock gets it, and keeps it. The place of a dropped table isn't given to another table either.
-const OF_ALL_BUT_ONE: &[Row] = &[
+// A schema and a table keep their places by their definitions. The others are given anew from one statement to the next.
+const OF_ALL_BUT_TWO: &[Row] = &[
     Says("CREATE SCHEMA test", DONE, 0),
     Says("CREATE TABLE a x", DONE, 0),
     Says("INSERT a", DONE, 0),
-    Says("CREATE TABLE b x", NO_PLACE, 0),
-    Says("FLUSH TABLES WITH READ LOCK", DONE, 2),
-    Says("UNLOCK TABLES", DONE, 0),
-    Says("DROP TABLE a", DONE, 0),
-    Says("CREATE TABLE b x", NO_PLACE, 0),
-    Says("CREATE TABLE a x", DONE, 0),
-    Says("SELECT a", Outcome::Reads(3), 0),
+    Says("GET_LOCK b", Outcome::Says(true), 1),
+    Says("INSERT a", NO_PLACE, 1),
+    Says("RELEASE_LOCK b", Outcome::Says(true), 0),
+    Says("INSERT a", DONE, 0),
+    // The second table has the place that the commit lock had, and keeps it after it is dropped.
+    Says("CREATE TABLE b x", DONE, 0),
+    Says("INSERT a", NO_PLACE, 0),
+    Says("FLUSH TABLES WITH READ LOCK", NO_PLACE, 0),
+    Says("CREATE TABLE c x", NO_PLACE, 0),
+    Says("DROP TABLE b", DONE, 0),
+    Says("INSERT a", NO_PLACE, 0),
+    Says("CREATE TABLE c x", NO_PLACE, 0),
+    Says("CREATE TABLE b x", DONE, 0),
+    Says("SELECT b", Outcome::Reads(3), 0),
 ];
 
-// A table and a user-level lock have the places. The lock keeps its place when no session has it.
+// Two places do for any number of tables, as long as the session has no more than two locks at a time.
+const IN_TURN: &[Row] = &[
+    Says("SELECT a", NO_SUCH_TABLE, 0),
+    Says("SELECT b", NO_SUCH_TABLE, 0),
+    Says("INSERT c", NO_SUCH_TABLE, 0),
+    Says("INSERT d", NO_SUCH_TABLE, 0),
+    Says("BEGIN", DONE, 0),
+    Says("SELECT a", NO_SUCH_TABLE, 1),
+    Says("SAVEPOINT p", DONE, 1),
+    Says("SELECT b", NO_SUCH_TABLE, 2),
+    Says("SELECT c", NO_PLACE, 2),
+    Says("ROLLBACK TO p", DONE, 1),
+    Says("SELECT c", NO_SUCH_TABLE, 2),
+    Says("COMMIT", DONE, 0),
+    Says("GET_LOCK a", Outcome::Says(true), 1),
+    Says("GET_LOCK b", Outcome::Says(true), 2),
+    Says("GET_LOCK c", NO_PLACE, 2),
+    Says("RELEASE_LOCK a", Outcome::Says(true), 1),
+    Says("GET_LOCK c", Outcome::Says(true), 2),
+    Says("RELEASE_LOCK b", Outcome::Says(true), 1),
+    Says("RELEASE_LOCK c", Outcome::Says(true), 0),
+];
+
+// A table and a user-level lock have the places. That of the lock is pinned also when no session has it.
 const OF_A_USER_LOCK: &[Row] = &[
+    Pins(Lock::User("a")),
     Says("RELEASE_LOCK a", Outcome::Null, 0),
     Says("BEGIN", DONE, 0),
     Says("SELECT t", NO_SUCH_TABLE, 1),
@@ -162,12 +218,19 @@ const OF_A_USER_LOCK: &[Row] = &[
     Says("ROLLBACK TO p", DONE, 1),
     Says("GET_LOCK a", Outcome::Says(true), 2),
     Says("GET_LOCK a", Outcome::Says(true), 3),
+    Says("GET_LOCK t", NO_PLACE, 3),
     Says("COMMIT", DONE, 2),
     Says("RELEASE_LOCK a", Outcome::Says(true), 1),
     Says("UNLOCK TABLES", DONE, 1),
     Says("RELEASE_LOCK a", Outcome::Says(true), 0),
     Says("RELEASE_LOCK a", Outcome::Null, 0),
-    Says("GET_LOCK t", NO_PLACE, 0),
+    // The table's place is free by now, but not that of the lock.
+    Says("GET_LOCK t", Outcome::Says(true), 1),
+    Says("GET_LOCK b", NO_PLACE, 1),
+    Unpins(Lock::User("a")),
+    Says("GET_LOCK b", Outcome::Says(true), 2),
+    Says("RELEASE_LOCK b", Outcome::Says(true), 1),
+    Says("RELEASE_LOCK t", Outcome::Says(true), 0),
 ];
 
 /// All stories of this file.
@@ -177,6 +240,7 @@ pub(crate) const STORIES: &[Story] = &[
     ("a table has no place", 2, OF_A_TABLE),
     ("another table has no place", 3, OF_ANOTHER),
     ("the lock of commits has no place", 3, OF_COMMITS),
-    ("a place is kept", 4, OF_ALL_BUT_ONE),
+    ("a definition keeps a place", 4, OF_ALL_BUT_TWO),
+    ("places are given anew", 2, IN_TURN),
     ("a user lock has no place", 2, OF_A_USER_LOCK),
 ];

@@ -107,10 +107,15 @@ impl Room {
         tickets
     }
 
-    /// Returns the place of a lock.
+    /// Returns the place of a lock, which session 2 pins.
     pub(crate) fn place(&mut self, lock: Lock) -> Option<Place> {
         let key = lock.key(self.alloc).ok()?;
         place(&mut self.space, OTHER, &key)
+    }
+
+    /// Gives up session 2's pin of a place. Whether it succeeds.
+    pub(crate) fn unpin(&mut self, place: Place) -> bool {
+        unpin(&mut self.space, OTHER, place)
     }
 
     /// Returns a ticket of session 2 for the lock of a place, if it can be granted now.
@@ -175,6 +180,14 @@ fn place<S: LockSpace>(space: &mut S, who: u16, key: &Key) -> Option<Place>
     ensures others { LeavesOthers S.LockSpace who space.old space.new }
 {
     space.resolve(who, key).ok()
+}
+
+fn unpin<S: LockSpace>(space: &mut S, who: u16, place: Place) -> bool
+    requires { S.speaks_for space.old who }
+    ensures speaks { S.speaks_for space.new who }
+    ensures others { LeavesOthers S.LockSpace who space.old space.new }
+{
+    space.unpin(who, place).is_ok()
 }
 
 fn take<S: LockSpace>(space: &mut S, who: u16, place: Place, mode: Mode) -> Option<TicketId>

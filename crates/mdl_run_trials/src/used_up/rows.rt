@@ -17,6 +17,10 @@ pub(crate) enum Row {
     Waits(&'static str, Lock, Mode, Outcome),
     /// The second session creates and drops a schema, or a table with a column `x`, until its key has had that many versions and is defined.
     Renews(Lock, u32),
+    /// The second session looks up the place of a lock, and pins it.
+    Pins(Lock),
+    /// It gives that pin up.
+    Unpins(Lock),
     /// The second session gets that many tickets of a lock, and keeps them.
     Crowds(Lock, Mode, u32),
     /// The second session releases the ticket that it got last.
@@ -61,6 +65,8 @@ impl Play {
             }
             Row::Waits(text, lock, mode, want) => self.waits(text, lock, mode) == Some(want),
             Row::Renews(lock, count) => self.renews(lock, count) == Some(true),
+            Row::Pins(lock) => self.room.place(lock).is_some(),
+            Row::Unpins(lock) => self.unpins(lock) == Some(true),
             Row::Crowds(lock, mode, count) => self.crowds(lock, mode, count).is_some(),
             Row::Leaves => self.room.leave(self.newest),
         }
@@ -115,6 +121,12 @@ impl Play {
             }
         }
         Some(self.room.leave(ticket))
+    }
+
+    // Whether the second session gives up its pin of the place of a lock.
+    fn unpins(&mut self, lock: Lock) -> Option<bool> {
+        let place = self.room.place(lock)?;
+        Some(self.room.unpin(place))
     }
 
     // Gives the second session `count` tickets of a lock, and returns the last of them.

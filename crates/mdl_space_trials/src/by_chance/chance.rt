@@ -78,19 +78,18 @@ impl Chance {
         }
     }
 
-    /// Draws a lock, and a mode to request it in, mostly one of its modes.
-    pub(crate) fn draw_wish(&mut self) -> (Lock, Mode) {
-        let lock = self.draw_lock();
-        let mode = match lock.kind() {
+    /// Draws a mode to request a lock of this kind in, mostly one of the kind.
+    pub(crate) fn draw_mode(&mut self, kind: Kind) -> Mode {
+        match kind {
             Kind::Object => OBJECT_MODES[usize::from(self.draw(16))],
             Kind::Scoped => SCOPED_MODES[usize::from(self.draw(8))],
-        };
-        (lock, mode)
+        }
     }
 
     /// Draws a request for a lock by a context.
     pub(crate) fn draw_acquire(&mut self) -> Act {
-        let (lock, mode) = self.draw_wish();
+        let lock = self.draw_lock();
+        let mode = self.draw_mode(lock.kind());
         Act::Acquire(lock, mode, DURATIONS[usize::from(self.draw(8))])
     }
 

@@ -1,12 +1,14 @@
-//! Ten thousand random calls, after each of which the contexts keep what the plain program does.
+//! Ten thousand random calls, after each of which the contexts keep what the plain program does. At the end of each hall, their sessions pin the
+//! same places.
 use crate::by_chance::chance::Chance;
-use crate::by_chance::plain::{Plain, Seen};
+use crate::by_chance::pins::are_pinned_alike;
+use crate::by_chance::plain::{NOTHING_SEEN, Plain, Seen};
 use crate::contexts::acts::Act;
 use crate::hall::{Hall, SESSIONS};
 use std::alloc::Global;
 
-// One fewer than there are locks.
-const PLACES: u16 = 5;
+// Two fewer than there are locks, so that places are given anew.
+const PLACES: u16 = 4;
 
 // The plain program that contexts are compared with, and the source of random calls.
 #[derive(Drop)]
@@ -59,8 +61,8 @@ fn acts_alike(hall: &mut Hall, trial: &mut Trial) -> bool {
     wanted.is_some() && hall.make(who, act) == wanted && hall.stands_as(&trial.plain)
 }
 
-// Whether the calls led often enough to waits that were granted, given up, killed and lost by victims, to stale marks, and to tickets that were
-// reused and cloned.
+// Whether the calls led often enough to waits that were granted, given up, killed and lost by victims, to stale marks, to tickets that were reused and
+// cloned, to places that contexts let go, to places that were given anew, and to locks that got none.
 fn are_met(seen: Seen) -> bool {
     seen.granted >= 100
         && seen.timed_out >= 100
@@ -69,44 +71,63 @@ fn are_met(seen: Seen) -> bool {
         && seen.stale >= 20
         && seen.reused >= 100
         && seen.cloned >= 100
+        && seen.let_go >= 500
+        && seen.given_anew >= 100
+        && seen.no_place >= 100
 }
 
-const CALLS: u32 = 10_000;
+// The number of halls, one after another, and of calls in each.
+const HALLS: u64 = 20;
+
+const CALLS: u32 = 500;
 
 // Returns the index of the first call after which contexts and the plain program differ, in the answer or in what sessions hold. It is the index
-// after the last call if too little was met.
-fn first_apart(hall: &mut Hall, trial: &mut Trial) -> Option<u32> {
+// after the last call if sessions pin other places then.
+fn first_apart(hall: Hall, trial: &mut Trial) -> Option<u32> {
+    let mut hall = hall;
     for call in 0..CALLS {
-        if !acts_alike(hall, trial) {
+        if !acts_alike(&mut hall, trial) {
+            drop(hall);
             return Some(call);
         }
     }
-    if are_met(trial.plain.seen) {
-        None
-    } else {
-        Some(CALLS)
+    let mut room = hall.into_room();
+    let are_alike = are_pinned_alike(&mut room, &mut trial.plain);
+    drop(room);
+    if are_alike { None } else { Some(CALLS) }
+}
+
+// Plays in a new hall, beside a new plain program. Returns what was seen in all halls so far, unless contexts and the plain program differ.
+fn seen_in_new_hall(alloc: Global, seed: u64, seen: Seen) -> Option<Seen> {
+    let Ok(hall) = Hall::new(alloc, PLACES) else {
+        return None;
+    };
+    let mut trial = Trial {
+        plain: Plain::new(alloc, usize::from(PLACES), seen),
+        chance: Chance(seed),
+    };
+    let apart = first_apart(hall, &mut trial);
+    let seen = trial.plain.seen;
+    drop(trial);
+    match apart {
+        None => Some(seen),
+        Some(_) => None,
     }
 }
 
-// The same for new contexts and a new plain program.
-fn first_apart_of_new(alloc: Global) -> Option<u32> {
-    let mut trial = Trial {
-        plain: Plain::new(alloc, usize::from(PLACES)),
-        chance: Chance(1),
-    };
-    let apart = match Hall::new(alloc, PLACES) {
-        Ok(mut hall) => {
-            let apart = first_apart(&mut hall, &mut trial);
-            drop(hall);
-            apart
-        }
-        Err(_) => Some(0),
-    };
-    drop(trial);
-    apart
+// Returns what was seen in all halls, unless contexts and the plain program differ.
+fn seen_in_halls(alloc: Global) -> Option<Seen> {
+    let mut seen = NOTHING_SEEN;
+    for seed in 0..HALLS {
+        seen = seen_in_new_hall(alloc, seed, seen)?;
+    }
+    Some(seen)
 }
 
 #[test]
 fn contexts_stand_where_the_plain_ones_do(rt: HostRuntime) {
-    assert!(rt; first_apart_of_new(rt.alloc()).is_none());
+    let Some(seen) = seen_in_halls(rt.alloc()) else {
+        panic!(rt; "contexts and the plain ones differ");
+    };
+    assert!(rt; are_met(seen));
 }

@@ -4,6 +4,7 @@ mod contexts;
 mod deadlocks;
 mod granting;
 mod lists;
+mod places;
 pub(crate) mod spaces;
 
 use crate::contexts::acts::Lock;
@@ -52,26 +53,49 @@ pub(crate) struct Seen {
     pub(crate) unpinned: u64,
     pub(crate) in_use: u64,
     pub(crate) not_pinned: u64,
+    pub(crate) let_go: u64,
+    pub(crate) given_anew: u64,
+    pub(crate) passed_over: u64,
+    pub(crate) no_place: u64,
 }
 
-/// A space with a number of places. Locks get them in the order in which they are first requested, or looked up.
-///
-/// Its sessions make calls, and pin places, by contexts or without. A context never lacks a pin, so its calls don't note any.
+/// Nothing came yet.
+pub(crate) const NOTHING_SEEN: Seen = Seen {
+    granted: 0,
+    timed_out: 0,
+    killed: 0,
+    victims: 0,
+    cloned: 0,
+    reused: 0,
+    stale: 0,
+    unpinned: 0,
+    in_use: 0,
+    not_pinned: 0,
+    let_go: 0,
+    given_anew: 0,
+    passed_over: 0,
+    no_place: 0,
+};
+
+/// A space with a number of places. Its sessions make calls by contexts or without.
 #[derive(Drop)]
 pub(crate) struct Plain {
     alloc: Global,
     places: usize,
+    // The locks that have a place, by place.
     locks: Vec<Lock>,
-    // The locks whose places sessions pin by calls without contexts.
+    // The locks whose places sessions pin.
     pinned: Vec<(u16, Lock)>,
+    // The locks that got a definition, each time with its version.
+    versions: Vec<(Lock, u64)>,
     seats: [Seat; 5],
     tickets: Vec<Ticket>,
     pub(crate) seen: Seen,
 }
 
 impl Plain {
-    /// Creates a space in which no session has asked for anything.
-    pub(crate) fn new(alloc: Global, places: usize) -> Plain {
+    /// Creates a space in which no session has asked for anything. What comes is added to what was seen before.
+    pub(crate) fn new(alloc: Global, places: usize, seen: Seen) -> Plain {
         let first = Seat {
             session: 1,
             tickets: 0,
@@ -83,6 +107,7 @@ impl Plain {
             places,
             locks: Vec::new(alloc),
             pinned: Vec::new(alloc),
+            versions: Vec::new(alloc),
             seats: [
                 first,
                 Seat {
@@ -103,18 +128,7 @@ impl Plain {
                 },
             ],
             tickets: Vec::new(alloc),
-            seen: Seen {
-                granted: 0,
-                timed_out: 0,
-                killed: 0,
-                victims: 0,
-                cloned: 0,
-                reused: 0,
-                stale: 0,
-                unpinned: 0,
-                in_use: 0,
-                not_pinned: 0,
-            },
+            seen,
         }
     }
 }

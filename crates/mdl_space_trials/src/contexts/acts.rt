@@ -4,7 +4,7 @@ ghost use Rattle.mdl_context.specs.Contexts.{Attends, LeavesOthers};
 
 use mdl_context::{Acquire, Context, ContextError, Mark, Request, Resume, Tried};
 use mdl_key::{Duration, Key, KeyError, Kind, Mode};
-use mdl_space::{LockSpace, Place, SpaceError, TicketId};
+use mdl_space::{LockSpace, SpaceError, TicketId};
 use std::alloc::Global;
 
 /// What can be locked.
@@ -55,12 +55,6 @@ fn numbered_key(alloc: Global, number: u16) -> Result<Key, KeyError> {
 pub(crate) enum Act {
     Acquire(Lock, Mode, Duration),
     TryAcquire(Lock, Mode, Duration),
-    // Looks up the place of a key and acquires the lock by its place.
-    AcquireAtPlaceOf(Lock, Mode, Duration),
-    // Acquires the lock at a place.
-    AcquireAt(Place, Mode, Duration),
-    // The same without a wait.
-    TryAcquireAt(Place, Mode, Duration),
     Last(Lock),
     AwaitsUserLock,
     Upgrade(TicketId, Mode),
@@ -174,11 +168,6 @@ fn ask<S: LockSpace>(space: &mut S, context: &mut Context<S>, key: &Key, act: Ac
             };
             tried(context.try_acquire(space, wish))
         }
-        Act::AcquireAtPlaceOf(_, mode, duration) => match context.place_of(space, key) {
-            Ok(place) => acquired(context.acquire_at(space, place, mode, duration)),
-            Err(ContextError::Space(SpaceError::OutOfMemory)) => None,
-            Err(cause) => Some(Reply::Refused(cause)),
-        },
         _ => Some(done(context.release_name(space, key))),
     }
 }
@@ -225,10 +214,7 @@ pub(crate) fn make<S: LockSpace>(
 {
     match act {
         Act::Last(_) | Act::AwaitsUserLock | Act::Mark => look(alloc, context, act),
-        Act::Acquire(lock, _, _)
-        | Act::TryAcquire(lock, _, _)
-        | Act::AcquireAtPlaceOf(lock, _, _)
-        | Act::ReleaseName(lock) => {
+        Act::Acquire(lock, _, _) | Act::TryAcquire(lock, _, _) | Act::ReleaseName(lock) => {
             let Ok(key) = lock.key(alloc) else {
                 return None;
             };
@@ -236,12 +222,6 @@ pub(crate) fn make<S: LockSpace>(
             drop(key);
             reply
         }
-        Act::AcquireAt(place, mode, duration) => acquired(context.acquire_at(
-            space, place, mode, duration,
-        )),
-        Act::TryAcquireAt(place, mode, duration) => tried(context.try_acquire_at(
-            space, place, mode, duration,
-        )),
         Act::Upgrade(id, mode) => acquired(context.upgrade(space, id, mode)),
         Act::Resume => resumed(context.resume(space)),
         Act::GiveUp => resumed(context.give_up(space)),

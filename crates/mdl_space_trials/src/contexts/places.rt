@@ -1,140 +1,168 @@
-//! Locks that are acquired by their places.
+//! Places that contexts let go: what is released leaves its place to other keys. The space has four places.
 use crate::contexts::acts::{Act, Lock, Reply};
-use crate::contexts::rows::{BAD_MODE, NO_PLACE, Row, Story, WAITS};
+use crate::contexts::rows::{BAD_MODE, NO_PLACE, Row, Story};
 use mdl_context::Resume;
 use mdl_key::{Duration, Mode};
+use mdl_space::Settled;
 
-// Looks up table A, which gets the first place, and reads it.
-const LEARN_A: Act = Act::AcquireAtPlaceOf(Lock::A, Mode::SR, Duration::Transaction);
+const READ_A: Act = Act::Acquire(Lock::A, Mode::SR, Duration::Transaction);
 
-const READ_A: Act = Act::AcquireAt(1, Mode::SR, Duration::Transaction);
+const READ_B: Act = Act::Acquire(Lock::B, Mode::SR, Duration::Transaction);
 
-const WRITE_A: Act = Act::AcquireAt(1, Mode::X, Duration::Transaction);
+const USE_SCHEMA: Act = Act::Acquire(Lock::Schema, Mode::IX, Duration::Transaction);
 
-const TRY_READ_A: Act = Act::TryAcquireAt(1, Mode::SR, Duration::Transaction);
+const USE_GLOBAL: Act = Act::Acquire(Lock::Global, Mode::IX, Duration::Statement);
 
-const TRY_WRITE_A: Act = Act::TryAcquireAt(1, Mode::X, Duration::Transaction);
+const USE_COMMIT: Act = Act::Acquire(Lock::Commit, Mode::IX, Duration::Explicit);
 
-// What is known by its place is known by its key, and the tickets are the same.
-const BY_PLACE: &[Row] = &[
+const GET_USER: Act = Act::Acquire(Lock::User, Mode::X, Duration::Explicit);
+
+// The locks of the first session stand at all four places.
+const TAKE_A: Row = (1, READ_A, Reply::Acquired(1));
+
+const TAKE_B: Row = (1, READ_B, Reply::Acquired(2));
+
+const TAKE_SCHEMA: Row = (1, USE_SCHEMA, Reply::Acquired(3));
+
+const TAKE_GLOBAL: Row = (1, USE_GLOBAL, Reply::Acquired(4));
+
+// Each call that releases tickets lets go of the places where nothing is left.
+const LET_GO: &[Row] = &[
+    TAKE_A,
+    TAKE_B,
+    TAKE_SCHEMA,
+    TAKE_GLOBAL,
+    (2, USE_COMMIT, NO_PLACE),
+    (
+        2,
+        Act::TryAcquire(Lock::User, Mode::X, Duration::Explicit),
+        NO_PLACE,
+    ),
+    (1, Act::EndStatement, Reply::Done),
+    (2, USE_COMMIT, Reply::Acquired(1)),
+    (1, USE_GLOBAL, NO_PLACE),
+    (2, Act::Release(1), Reply::Done),
+    (1, USE_GLOBAL, Reply::Acquired(5)),
+    (1, Act::GoBack(1, 2), Reply::Done),
+    (2, USE_COMMIT, Reply::Acquired(2)),
+    (2, GET_USER, NO_PLACE),
+    (1, Act::ReleaseName(Lock::A), Reply::Done),
+    (2, GET_USER, Reply::Acquired(3)),
     (1, READ_A, NO_PLACE),
-    (1, LEARN_A, Reply::Acquired(1)),
-    (1, READ_A, Reply::Acquired(1)),
-    (
-        1,
-        Act::Acquire(Lock::A, Mode::SR, Duration::Transaction),
-        Reply::Acquired(1),
-    ),
-    (1, Act::Last(Lock::A), Reply::Last(Some(1))),
-    // A ticket that suffices for another duration is cloned.
-    (
-        1,
-        Act::AcquireAt(1, Mode::SR, Duration::Statement),
-        Reply::Acquired(2),
-    ),
-    (1, Act::Mark, Reply::Stands(1, 1)),
-    (
-        1,
-        Act::AcquireAt(1, Mode::SR, Duration::Explicit),
-        Reply::Acquired(3),
-    ),
     (1, Act::EndTransaction, Reply::Done),
-    (1, Act::Mark, Reply::Stands(0, 0)),
-    (1, Act::Release(3), Reply::Done),
+    (1, READ_A, Reply::Acquired(6)),
+    (1, READ_B, Reply::Acquired(7)),
+    (1, USE_SCHEMA, NO_PLACE),
 ];
 
-// A place is that of one key in the whole space, but each context learns it by itself.
-const LEARNT: &[Row] = &[
-    (1, LEARN_A, Reply::Acquired(1)),
-    (2, READ_A, NO_PLACE),
+// A place stays as long as a ticket is left there, or another session has something there.
+const KEPT: &[Row] = &[
+    TAKE_A,
+    TAKE_B,
+    TAKE_SCHEMA,
+    TAKE_GLOBAL,
+    (2, READ_A, Reply::Acquired(1)),
     (
-        2,
-        Act::Acquire(Lock::A, Mode::SR, Duration::Statement),
-        Reply::Acquired(1),
+        1,
+        Act::Acquire(Lock::B, Mode::SR, Duration::Explicit),
+        Reply::Acquired(5),
     ),
-    (2, READ_A, Reply::Acquired(2)),
-    (
-        2,
-        Act::AcquireAt(2, Mode::SR, Duration::Transaction),
-        NO_PLACE,
-    ),
-    (
-        2,
-        Act::AcquireAt(9, Mode::SR, Duration::Transaction),
-        NO_PLACE,
-    ),
-    // IX is no mode of a table, also where a stronger ticket is held.
-    (
-        2,
-        Act::AcquireAt(1, Mode::IX, Duration::Transaction),
-        BAD_MODE,
-    ),
+    (1, Act::Release(1), Reply::Done),
+    (1, Act::Release(2), Reply::Done),
+    (3, USE_COMMIT, NO_PLACE),
     (2, Act::EndTransaction, Reply::Done),
-    (1, WRITE_A, Reply::Acquired(2)),
-    (
-        1,
-        Act::AcquireAt(1, Mode::IX, Duration::Transaction),
-        BAD_MODE,
-    ),
-    (
-        1,
-        Act::AcquireAtPlaceOf(Lock::Schema, Mode::IX, Duration::Transaction),
-        Reply::Acquired(3),
-    ),
-    (
-        1,
-        Act::AcquireAt(2, Mode::SR, Duration::Transaction),
-        BAD_MODE,
-    ),
-    (
-        1,
-        Act::AcquireAt(2, Mode::IX, Duration::Transaction),
-        Reply::Acquired(3),
-    ),
+    (3, USE_COMMIT, Reply::Acquired(1)),
+    (3, GET_USER, NO_PLACE),
+    (1, Act::Release(5), Reply::Done),
+    (3, GET_USER, Reply::Acquired(2)),
 ];
 
-// A wait at a place. While it lasts, a place can be looked up, but no lock is acquired.
+// What became known by a refused request goes with the next release, even one of a key that has no place.
+const REFUSED: &[Row] = &[
+    TAKE_A,
+    TAKE_B,
+    TAKE_SCHEMA,
+    (
+        1,
+        Act::Acquire(Lock::Global, Mode::SR, Duration::Statement),
+        BAD_MODE,
+    ),
+    (2, USE_COMMIT, NO_PLACE),
+    (1, USE_GLOBAL, Reply::Acquired(4)),
+    (1, Act::Release(4), Reply::Done),
+    (2, USE_COMMIT, Reply::Acquired(1)),
+    (2, Act::Release(1), Reply::Done),
+    (
+        1,
+        Act::TryAcquire(Lock::User, Mode::IX, Duration::Statement),
+        BAD_MODE,
+    ),
+    (2, USE_COMMIT, NO_PLACE),
+    (1, Act::ReleaseName(Lock::Commit), Reply::Done),
+    (2, USE_COMMIT, Reply::Acquired(2)),
+];
+
+// The place of a lost wait goes with the next release, and that of a wait stays.
 const AWAITED: &[Row] = &[
-    (1, LEARN_A, Reply::Acquired(1)),
-    (2, LEARN_A, Reply::Acquired(1)),
-    (2, WRITE_A, Reply::MustWait(1)),
-    (2, READ_A, WAITS),
+    TAKE_A,
+    TAKE_B,
+    TAKE_SCHEMA,
+    (2, GET_USER, Reply::Acquired(1)),
     (
-        2,
-        Act::AcquireAtPlaceOf(Lock::B, Mode::SR, Duration::Transaction),
-        WAITS,
+        3,
+        Act::Acquire(Lock::A, Mode::X, Duration::Statement),
+        Reply::MustWait(1),
     ),
-    (2, Act::Resume, Reply::Resumed(Resume::Waiting)),
-    (1, Act::EndTransaction, Reply::Done),
-    (2, Act::Resume, Reply::Resumed(Resume::Acquired(2))),
+    (1, Act::Release(1), Reply::Done),
+    (1, USE_GLOBAL, NO_PLACE),
+    (3, Act::Resume, Reply::Resumed(Resume::Acquired(1))),
+    (3, Act::EndStatement, Reply::Done),
+    (1, USE_GLOBAL, Reply::Acquired(4)),
+    (3, GET_USER, Reply::MustWait(2)),
     (
-        2,
-        Act::AcquireAt(2, Mode::SR, Duration::Transaction),
-        Reply::Acquired(3),
+        3,
+        Act::GiveUp,
+        Reply::Resumed(Resume::Lost(Settled::Timeout)),
     ),
-    (2, Act::EndTransaction, Reply::Done),
+    (2, Act::Release(1), Reply::Done),
+    (2, READ_A, NO_PLACE),
+    (3, Act::EndTransaction, Reply::Done),
+    (2, READ_A, Reply::Acquired(2)),
 ];
 
-// Requests at a place that don't wait.
-const TRIED: &[Row] = &[
-    (1, TRY_READ_A, NO_PLACE),
-    (1, LEARN_A, Reply::Acquired(1)),
-    (1, TRY_READ_A, Reply::Acquired(1)),
-    (2, LEARN_A, Reply::Acquired(1)),
-    (2, TRY_WRITE_A, Reply::WouldWait),
-    (2, Act::Mark, Reply::Stands(0, 1)),
-    (1, Act::EndTransaction, Reply::Done),
-    (2, TRY_WRITE_A, Reply::Acquired(2)),
-    (2, Act::Mark, Reply::Stands(0, 2)),
-    (1, READ_A, Reply::MustWait(1)),
-    (1, TRY_READ_A, WAITS),
-    (2, Act::EndTransaction, Reply::Done),
-    (1, Act::Resume, Reply::Resumed(Resume::Acquired(2))),
+// A place is given to a lock of the other kind, and what the session knew of the old lock there is gone.
+const OF_OTHER_KINDS: &[Row] = &[
+    (1, GET_USER, Reply::Acquired(1)),
+    (1, READ_A, Reply::Acquired(2)),
+    (2, READ_B, Reply::Acquired(1)),
+    (2, USE_SCHEMA, Reply::Acquired(2)),
+    (1, Act::Release(1), Reply::Done),
+    (1, Act::Last(Lock::User), Reply::Last(None)),
+    (1, USE_GLOBAL, Reply::Acquired(3)),
+    (
+        1,
+        Act::Acquire(Lock::Global, Mode::SR, Duration::Statement),
+        BAD_MODE,
+    ),
+    (1, Act::Release(3), Reply::Done),
+    (
+        2,
+        Act::Acquire(Lock::Commit, Mode::X, Duration::Statement),
+        Reply::Acquired(3),
+    ),
+    (1, USE_COMMIT, Reply::MustWait(1)),
+    (1, Act::AwaitsUserLock, Reply::AwaitsUserLock(false)),
+    (2, Act::EndStatement, Reply::Done),
+    (1, Act::Resume, Reply::Resumed(Resume::Acquired(4))),
+    // It isn't a user-level lock, so it no longer outlasts the transaction.
+    (1, Act::MakeTransactional, Reply::Done),
+    (1, Act::Mark, Reply::Stands(0, 2)),
 ];
 
 pub(crate) const STORIES: &[Story] = &[
-    Story("by place", BY_PLACE),
-    Story("places are learnt", LEARNT),
-    Story("a wait at a place", AWAITED),
-    Story("tried at a place", TRIED),
+    Story("places are let go", LET_GO),
+    Story("places are kept", KEPT),
+    Story("the place of a refused request", REFUSED),
+    Story("the place of a wait", AWAITED),
+    Story("a place of another kind", OF_OTHER_KINDS),
 ];

@@ -1,4 +1,4 @@
-//! `mdl_space`: a change that waits in a lock space.
+//! `mdl_space`: a change that waits in a lock space, and three keys in a space of two places.
 use mdl_key::{Key, Mode};
 use mdl_space::{Attempt, Begun, CoreSpace, Ended, LockSpace, SpaceError};
 use std::test::Fail;
@@ -18,5 +18,23 @@ fn a_change_waits_in_a_space(rt: HostRuntime) -> Result<(), Fail> {
     // The reader needs the place no longer. The other session does, as long as it has its ticket.
     assert!(rt; space.unpin(1, 1).is_ok());
     assert!(rt; space.unpin(2, 1) == Err(SpaceError::InUse));
+    Ok(())
+}
+
+#[test]
+fn places_are_given_anew(rt: HostRuntime) -> Result<(), Fail> {
+    let first = Key::user_lock(rt.alloc(), "first")?;
+    let second = Key::user_lock(rt.alloc(), "second")?;
+    let third = Key::user_lock(rt.alloc(), "third")?;
+    let mut space = CoreSpace::new(rt.alloc(), 2, 1)?;
+    assert!(rt; space.resolve(1, &first) == Ok(1));
+    assert!(rt; space.resolve(1, &second) == Ok(2));
+    // The session pins both places.
+    assert!(rt; space.resolve(1, &third) == Err(SpaceError::NoPlace));
+    // Once it needs the first no longer, the third key gets that place.
+    assert!(rt; space.unpin(1, 1).is_ok());
+    assert!(rt; space.resolve(1, &third) == Ok(1));
+    assert!(rt; space.try_now(1, 1, Mode::X) == Ok(Attempt::Granted(1)));
+    assert!(rt; space.resolve(1, &first) == Err(SpaceError::NoPlace));
     Ok(())
 }

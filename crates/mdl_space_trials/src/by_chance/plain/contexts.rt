@@ -90,7 +90,9 @@ impl Plain {
 
     // Adds a new ticket, or begins a wait for one.
     fn ask(&mut self, wish: Ticket) -> Result<Acquire, ContextError> {
-        self.find_place(wish.lock)?;
+        if let Err(refusal) = self.find_place(wish.session, wish.lock) {
+            return Err(ContextError::Space(refusal));
+        }
         if !wish.lock.kind().has_mode(wish.mode) {
             return Err(ContextError::Space(SpaceError::BadMode));
         }
@@ -116,6 +118,7 @@ impl Plain {
             return Err(ContextError::Waiting);
         }
         self.let_go(who, id);
+        self.tidy(who);
         Ok(())
     }
 
@@ -149,14 +152,15 @@ impl Plain {
         Ok(())
     }
 
-    // Releases these tickets of a session, except the first `most` of them, from the newest to the oldest.
+    // Releases these tickets of a session, except the first `most` of them, from the newest to the oldest. Then it keeps no place where it has nothing.
     fn give_up_all(&mut self, who: u16, which: Which, most: usize) {
         for _ticket in 0..self.tickets.len() {
             match self.last_beyond(who, which, most) {
                 Some(number) => self.let_go(who, number),
-                None => return,
+                None => break,
             }
         }
+        self.tidy(who);
     }
 
     // Returns the newest ticket to release.

@@ -2,7 +2,8 @@
 use super::{Plain, Ticket, Wait};
 use crate::contexts::acts::Lock;
 use mdl_context::ContextError;
-use mdl_space::{Held, Place, Settled, SpaceError, TicketId};
+use mdl_key::Mode;
+use mdl_space::{Held, Settled, SpaceError, TicketId};
 
 const NO_MEMORY: ContextError = ContextError::Space(SpaceError::OutOfMemory);
 
@@ -42,30 +43,14 @@ impl Plain {
         last
     }
 
-    // Returns the place of a lock, from 1, or 0 if it has none.
-    pub(super) fn place_of(&self, lock: Lock) -> Place {
-        let mut place: Place = 1;
-        for other in &self.locks {
-            if *other == lock {
-                return place;
+    /// Returns the number of a ticket of a lock that a session holds in mode X.
+    pub(crate) fn exclusive(&self, who: u16, lock: Lock) -> Option<TicketId> {
+        for ticket in &self.tickets {
+            if self.is_held(ticket, who) && ticket.lock == lock && ticket.mode == Mode::X {
+                return Some(ticket.number);
             }
-            place = place.wrapping_add(1);
         }
-        0
-    }
-
-    // Gives a lock the next place, unless it has one.
-    pub(super) fn find_place(&mut self, lock: Lock) -> Result<(), ContextError> {
-        if self.place_of(lock) != 0 {
-            return Ok(());
-        }
-        if self.locks.len() >= self.places {
-            return Err(ContextError::Space(SpaceError::NoPlace));
-        }
-        match self.locks.push(lock) {
-            Ok(()) => Ok(()),
-            Err(_) => Err(NO_MEMORY),
-        }
+        None
     }
 
     /// Returns a session's wait, if it has one that isn't ended.

@@ -3,11 +3,10 @@ use super::{Plain, Ticket};
 use crate::acts::Act;
 use crate::contexts::acts::Lock;
 use crate::room::Of;
-use mdl_context::{ContextError, Resume};
+use crate::wishes::Wish;
+use mdl_context::Resume;
 use mdl_key::{Duration, Mode};
-use mdl_space::{
-    Attempt, Begun, Ended, Place, Poll, Search, Settled, SpaceError, TicketId, TimedOut,
-};
+use mdl_space::{Attempt, Begun, Ended, Poll, Search, Settled, SpaceError, TicketId, TimedOut};
 
 /// A call of a session. It names a lock where a space wants its place.
 #[derive(Clone, Copy)]
@@ -22,13 +21,15 @@ pub(crate) enum Call {
     EndWait,
     Kill(u16, u64),
     Release(TicketId),
+    // Puts a table in the place of any definition that there is.
+    Redefine(TicketId),
 }
 
 impl Plain {
     /// Makes a call of a session, and returns it with the answer that a space has to give.
     pub(crate) fn answered(&mut self, who: u16, call: Call) -> Act {
         match call {
-            Call::Resolve(lock) => Act::Resolve(of(lock), self.resolve(who, lock)),
+            Call::Resolve(lock) => Act::Resolve(of(lock), self.find_place(who, lock)),
             Call::Unpin(lock) => Act::Unpin(self.place_of(lock), self.unpin(who, lock)),
             Call::TryNow(lock, mode) => {
                 Act::TryNow(self.place_of(lock), mode, self.try_now(who, lock, mode))
@@ -44,35 +45,8 @@ impl Plain {
             Call::EndWait => Act::EndWait(self.end_wait(who)),
             Call::Kill(target, number) => Act::Kill(target, number, self.kill(target, number)),
             Call::Release(id) => Act::Release(id, self.release(who, id)),
+            Call::Redefine(id) => Act::Redefine(id, Wish::PutTable, self.redefine(who, id)),
         }
-    }
-
-    // Returns the place of a lock, which the session pins.
-    fn resolve(&mut self, who: u16, lock: Lock) -> Result<Place, SpaceError> {
-        match self.find_place(lock) {
-            Ok(()) => {}
-            Err(ContextError::Space(why)) => return Err(why),
-            Err(_) => return Err(SpaceError::NoPlace),
-        }
-        if !self.pins(who, lock) && self.pinned.push((who, lock)).is_err() {
-            return Err(SpaceError::OutOfMemory);
-        }
-        Ok(self.place_of(lock))
-    }
-
-    // Gives a session's pin up.
-    fn unpin(&mut self, who: u16, lock: Lock) -> Result<(), SpaceError> {
-        let index = self.index_of_pin(who, lock);
-        if index >= self.pinned.len() {
-            return Err(SpaceError::NoPlace);
-        }
-        if self.has_ticket_of(who, lock) {
-            self.seen.in_use = self.seen.in_use.wrapping_add(1);
-            return Err(SpaceError::InUse);
-        }
-        self.pinned.remove(index);
-        self.seen.unpinned = self.seen.unpinned.wrapping_add(1);
-        Ok(())
     }
 
     // Requests a lock without a wait.
@@ -177,36 +151,29 @@ impl Plain {
         }
     }
 
-    // Whether a session pins the place of a lock.
-    fn pins(&self, who: u16, lock: Lock) -> bool {
-        self.index_of_pin(who, lock) < self.pinned.len()
-    }
-
-    // Returns the index of a session's pin of the place of a lock. If there is none, it is the number of all pins.
-    fn index_of_pin(&self, who: u16, lock: Lock) -> usize {
-        for (index, pin) in self.pinned.iter().enumerate() {
-            if pin.0 == who && pin.1 == lock {
-                return index;
-            }
+    // Puts a table at a ticket's place. It then keeps its lock.
+    fn redefine(&mut self, who: u16, id: TicketId) -> Result<u64, SpaceError> {
+        let ticket = match self.ticket(who, id) {
+            Some(ticket) if self.is_held(&ticket, who) => ticket,
+            _ => return Err(SpaceError::NotHeld),
+        };
+        if ticket.mode != Mode::X {
+            return Err(SpaceError::NotExclusive);
         }
-        self.pinned.len()
-    }
-
-    // Whether a session has a ticket of a lock, held or waited for.
-    fn has_ticket_of(&self, who: u16, lock: Lock) -> bool {
-        for ticket in &self.tickets {
-            if ticket.session == who && ticket.lock == lock {
-                return true;
-            }
+        match ticket.lock {
+            Lock::A | Lock::B | Lock::Numbered(_) => self.define(ticket.lock),
+            Lock::Schema | Lock::Global | Lock::Commit | Lock::User => Err(SpaceError::WrongKind),
         }
-        false
     }
 }
 
-// Returns what the key of a lock names. There are two tables, and no numbered ones.
+// Returns what the key of a lock names. There are three numbered tables.
 fn of(lock: Lock) -> Of {
     match lock {
-        Lock::A | Lock::Numbered(_) => Of::Table("test", "a"),
+        Lock::Numbered(0) => Of::Table("test", "t0"),
+        Lock::Numbered(1) => Of::Table("test", "t1"),
+        Lock::Numbered(_) => Of::Table("test", "t2"),
+        Lock::A => Of::Table("test", "a"),
         Lock::B => Of::Table("test", "b"),
         Lock::Schema => Of::Schema("test"),
         Lock::Global => Of::Global,
