@@ -24,9 +24,9 @@ file_of() {
     grep -l -x "//! \`$1\`: .*" crates/*_trials/src/examples/*.rt crates/*_example/src/*.rt
 }
 
-# The section of the example in the comments at the head of a file. It is the last section there.
+# The section of the example in the comments at the head of a file, to the end of its first block. It is the last section there.
 section() {
-    awk '!/^\/\/!/ { exit } $0 == "//! # Example" { on = 1 } on' "$1"
+    awk '!/^\/\/!/ { exit } $0 == "//! # Example" { on = 1 } on { print } on && $0 == "//! ```" && ++fences == 2 { exit }' "$1"
 }
 
 # Prints a file with the section from standard input at the end of its head comments.

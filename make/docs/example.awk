@@ -1,4 +1,5 @@
 # Prints the section at the head of a library crate that shows its example: the lines of the example's file, without what makes them a test if they are one.
+# Of several tests the first is the example.
 # Usage: awk -f example.awk crates/mdl_space_trials/src/examples/NAME.rt
 BEGIN {
     print "//! # Example"
@@ -14,8 +15,7 @@ $0 == "#[test]" {
     next
 }
 body && $0 == "}" {
-    body = 0
-    next
+    exit
 }
 {
     if (body) {

@@ -1,6 +1,0 @@
--- By its lemma.
-use Rattle.mdl_core.proofs.PlacesKept.{places-follow}
-use Rattle.mdl_core.proofs.core_laws.places_and_numbers_follow.Goals as goal
-
-pub returns : goal.returns
-returns c = places-follow
