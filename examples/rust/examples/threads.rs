@@ -87,10 +87,9 @@ fn run() -> Result<(), Error> {
         reader.try_lock(orders, Mode::SharedRead)?.is_some()
     );
     reader.unpin(orders)?;
-    println!(
-        "without its place: {}",
-        reader.try_lock(orders, Mode::SharedRead).unwrap_err()
-    );
+    if let Err(error) = reader.try_lock(orders, Mode::SharedRead) {
+        println!("without its place: {error}");
+    }
     println!(
         "a name with a space: {}",
         reader.table("shop", "or ders").unwrap_err()
