@@ -12,10 +12,7 @@ use crate::work::Work::{Crowds, Ends, Keys, Plays, Shared, Versions};
 /// The rows of the table that threads share, on one thread.
 pub const ONE_THREAD: &[Row] = &[
     Row(PAIRS, &[Goal(0, 2, 170), Goal(1, 2, 170), Goal(3, 0, 280)]),
-    Row(
-        TRANSACTIONS,
-        &[Goal(0, 2, 170), Goal(1, 2, 500), Goal(3, 2, 380)],
-    ),
+    Row(TRANSACTIONS, &[Goal(0, 2, 170), Goal(1, 2, 500)]),
     Row(EXCLUSIVE, &[Goal(0, 1, 250)]),
     Row(GRANTS, &[Goal(1, 2, 300), Goal(1, 0, 900)]),
     Row(PASSES, &[]),
