@@ -8,7 +8,7 @@ use Rattle.mdl_key.specs.declared.mode.Duration.{Duration}
 use Rattle.mdl_key.specs.declared.mode.Duration.TheVariants.{Statement, Transaction, Explicit}
 use Rattle.mdl_context.specs.declared.kept.Kept.{Kept}
 use Rattle.mdl_context.specs.declared.request.Mark.{Mark}
-use Rattle.mdl_context.specs.Contexts.{lasts, duration_rank, tickets_for, beyond_mark, newest_first, of_statement, has_number, without_tickets, held_of, AreRising}
+use Rattle.mdl_context.specs.Contexts.{lasts, duration_rank, tickets_for, beyond_mark, newest_first, has_number, without_tickets, held_of, AreRising}
 
 -- all tickets have greater numbers
 abbrev pub Above : ℕ → List Kept → Type 0
@@ -157,16 +157,16 @@ since-explicit mark kept rising =
     ∙ transaction_apart Explicit (λ e. cc) mark.transaction (front (lasts Statement) mark.statement kept)
     ∙ statement_apart Explicit (λ e. cc) mark.statement kept
 
--- what stays where a statement ends
-left_ended : (kept : List Kept) → AreRising kept → without_tickets (of_statement kept) kept ≡ front (lasts Statement) 0 kept
-left_ended kept rising = without-newest (tickets_for Statement kept) kept ∙ left-beyond (lasts Statement) 0 kept rising
+-- what stays where the tickets of a duration end
+left_ended : (d : Duration) (kept : List Kept) → AreRising kept → without_tickets (newest_first (tickets_for d kept)) kept ≡ front (lasts d) 0 kept
+left_ended d kept rising = without-newest (tickets_for d kept) kept ∙ left-beyond (lasts d) 0 kept rising
 
-pub ending-same : (kept : List Kept) → AreRising kept → tickets_for Statement (without_tickets (of_statement kept) kept) ≡ []
-ending-same kept rising = ap (tickets_for Statement) (left_ended kept rising) ∙ front-same (lasts Statement) 0 kept
+pub ending-same : (d : Duration) (kept : List Kept) → AreRising kept → tickets_for d (without_tickets (newest_first (tickets_for d kept)) kept) ≡ []
+ending-same d kept rising = ap (tickets_for d) (left_ended d kept rising) ∙ front-same (lasts d) 0 kept
 
-pub ending-other : (e : Duration) (different : (duration_rank Statement ≡ duration_rank e) → ⊥) (kept : List Kept) → AreRising kept
-    → tickets_for e (without_tickets (of_statement kept) kept) ≡ tickets_for e kept
-ending-other e different kept rising = ap (tickets_for e) (left_ended kept rising) ∙ statement_apart e different 0 kept
+pub ending-other : (d e : Duration) (different : (duration_rank d ≡ duration_rank e) → ⊥) (kept : List Kept) → AreRising kept
+    → tickets_for e (without_tickets (newest_first (tickets_for d kept)) kept) ≡ tickets_for e kept
+ending-other d e different kept rising = ap (tickets_for e) (left_ended d kept rising) ∙ front-other (lasts d) (lasts e) (apart d e different) 0 kept
 
 lasting : (d : Duration) (t : Kept) (ts us : List Kept) → us ≡ ts →
     (if duration_rank d == 0 then us else (if duration_rank d == 1 then us else t ∷ us)) ≡ (if duration_rank d == 2 then t ∷ ts else ts)

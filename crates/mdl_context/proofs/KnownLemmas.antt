@@ -1,5 +1,5 @@
 -- The keys whose places a context knows: by their indexes, one more, and some forgotten.
-use Rattle.std.proofs.Common.{◌≡◌, ◌∙◌, ◌⊎◌, inl, inr, ℕ, zero, suc, ◌<◌, Bool, true, false, List, [], ◌∷◌, ◌++◌, ◌+◌, length, take, get_or, position, map, filter, Option, Some, None, refl, sym, ap, subst, arith, rules}
+use Rattle.std.proofs.Common.{◌≡◌, ◌∙◌, ◌⊎◌, inl, inr, ℕ, zero, suc, ◌<◌, Bool, true, false, List, [], ◌∷◌, ◌++◌, ◌+◌, length, take, get_or, position, map, filter, find, Option, Some, None, refl, sym, ap, subst, arith, rules}
 use Rattle.std.specs.Prelude.{◌&&◌, ◌||◌, ◌==◌, not, All, slice_get, unwrap_or, if◌then◌else◌}
 use Rattle.std.specs.List.{list_any}
 use Rattle.std.specs.Map.{keys_of, lookup}
@@ -10,7 +10,7 @@ use Rattle.indexmap.proofs.CallerLemmas.{insert_entry-new, updates-with_value_at
 use Rattle.indexmap.specs.IndexMap.{IndexMap, IsUnique, get, insert_entry, keys, with_value_at}
 use Rattle.std.proofs.lemmas.Bool.Decides.{nat_tests}
 use Rattle.std.proofs.lemmas.List.{map_push, take_more}
-use Rattle.std.proofs.lemmas.List.Elements.{All-filter, All-head, All-nil, All-push, All-tail, All-weaker, filter_map-append, filter_passes}
+use Rattle.std.proofs.lemmas.List.Elements.{All-cons, All-filter, All-head, All-nil, All-push, All-tail, All-weaker, filter_map-append}
 use Rattle.std.proofs.lemmas.List.Quantifiers.{position-Some}
 use Rattle.std.proofs.lemmas.Option.{slice_get-get_or, slice_get-map, slice_get_within}
 use Rattle.mdl_key.specs.Keys.{KeyName, key_eq}
@@ -21,10 +21,17 @@ use Rattle.mdl_context.specs.declared.kept.Wanted.{Wanted}
 use Rattle.mdl_context.specs.Contexts.{is_of_user_locks, is_user_lock, place_known}
 use Rattle.mdl_context.specs.Holdings.{IsIndexOf, is_kept_at, needs_place, numbers_among}
 use Rattle.mdl_context.specs.Indexes.{Index}
-use Rattle.mdl_context.specs.KnownKeys.{AreIndexes, AreMet, HasOnePlaceEach, KeepsKeys, is_dropped, known_key, known_keys, place_met}
+use Rattle.mdl_context.specs.KnownKeys.{AreIndexes, AreKnownOnce, AreMet, KeepsKeys, is_dropped, known_key, known_keys, place_met}
 
 abbrev Entry : Type 0
 Entry = KeyName × ℕ
+
+-- what is so of all is so of the first and of the others
+pub all-parts : {X : Type 0} (P : X → Type 0) (xs ys : List X) → All P (xs ++ ys) → All P xs × All P ys
+all-parts P [] ys all = (All-nil P, all)
+all-parts P (x ∷ xs) ys all =
+    let rest = all-parts P xs ys (All-tail P x (xs ++ ys) all) in
+    (All-cons P x xs (All-head P x (xs ++ ys) all) rest.0, rest.1)
 
 -- ---- by their indexes
 
@@ -71,6 +78,23 @@ module _ (keys : List KeyName) where
   user-listed place (k ∷ ks) all =
       let there = at-index keys k.key (All-head (λ (k : KnownPlace). k.key < length keys) k ks all) in
       rw there.1 (ap (λ (later : Bool). (k.place == place && is_of_user_locks there.0.namespace) || later) (user-listed place ks (All-tail (λ (k : KnownPlace). k.key < length keys) k ks all)))
+
+  -- whether a known key is this one
+  abbrev pub is_key_at : KeyName → KnownPlace → Bool
+  is_key_at key k = option_map_or (key_eq key) (slice_get keys k.key) false
+
+  -- the first that is this one has the key's place
+  pub place-found : (key : KeyName) (order : List KnownPlace) → option_map (λ (k : KnownPlace). k.place) (find (is_key_at key) order) ≡ place_known key (known_keys keys order)
+  place-found key [] = refl
+  place-found key (k ∷ ks) = by (slice_get keys k.key) refl (place-found key ks) where
+    by : (found : Option KeyName) → slice_get keys k.key ≡ found → option_map (λ (k : KnownPlace). k.place) (find (is_key_at key) ks) ≡ place_known key (known_keys keys ks)
+        → option_map (λ (k : KnownPlace). k.place) (find (is_key_at key) (k ∷ ks)) ≡ place_known key (known_keys keys (k ∷ ks))
+    by None none later = rw none later
+    by (Some other) here later = rw here (either (key_eq key other) refl) where
+      either : (same : Bool) → key_eq key other ≡ same
+          → option_map (λ (k : KnownPlace). k.place) (if key_eq key other then Some k else find (is_key_at key) ks) ≡ (if key_eq key other then Some k.place else place_known key (known_keys keys ks))
+      either true same = rw same refl
+      either false differs = rw differs later
 
   -- a place by its number
   pub place-listed : (order : List KnownPlace) (i : ℕ) (k : KnownPlace) → AreIndexes keys order → slice_get order i ≡ Some k
@@ -147,18 +171,74 @@ module _ (met : List (KeyName × Option ℕ)) (known : List Entry) (key : KeyNam
           old (Some at) is differs = is ∙ sym (known-still q known ((key, place) ∷ []) at is)
           old None is differs = is ∙ sym (known-later q known ((key, place) ∷ []) is ∙ rw differs refl)
 
-  pub once-more : HasOnePlaceEach known → HasOnePlaceEach (known ++ (key, place) ∷ [])
-  once-more once =
-      All-push (λ (e : Entry). place_known e.0 (known ++ (key, place) ∷ []) ≡ Some e.1) known (key, place)
-      (All-weaker (λ (e : Entry). place_known e.0 known ≡ Some e.1) (λ (e : Entry). place_known e.0 (known ++ (key, place) ∷ []) ≡ Some e.1)
-      (λ e is. known-still e.0 known ((key, place) ∷ []) e.1 is) known once)
-      last-known
+-- ---- keys that are known once
+
+-- a key that isn't known differs from each that is
+key-apart : (key : KeyName) (e : Entry) (known : List Entry) → place_known key (e ∷ known) ≡ None → (key_eq key e.0 ≡ false) × (place_known key known ≡ None)
+key-apart key e known none = by (key_eq key e.0) refl where
+  by : (test : Bool) → key_eq key e.0 ≡ test → (key_eq key e.0 ≡ false) × (place_known key known ≡ None)
+  by true same = absurd (let never = rw same at none in cc)
+  by false other = (other, rw other at none)
+
+-- one more
+once-more : (known : List Entry) (key : KeyName) (place : ℕ) → place_known key known ≡ None → AreKnownOnce known → AreKnownOnce (known ++ (key, place) ∷ [])
+once-more [] key place new once = (refl, tt)
+once-more (e ∷ es) key place new once =
+    let apart = key-apart key e es new in (
+      known-later e.0 es ((key, place) ∷ []) once.0 ∙ rw (key-differs key e.0 apart.0) refl,
+      once-more es key place apart.1 once.1,
+    )
+
+-- the last one
+known-front : (q : KeyName) (known more : List Entry) → place_known q (known ++ more) ≡ None → place_known q known ≡ None
+known-front q known more none = by (place_known q known) refl where
+  by : (found : Option ℕ) → place_known q known ≡ found → found ≡ None
+  by None is = refl
+  by (Some place) is = let never = sym (known-still q known more place is) ∙ none in cc
+
+once-front : (known : List Entry) (last : Entry) → AreKnownOnce (known ++ last ∷ []) → AreKnownOnce known × (place_known last.0 known ≡ None)
+once-front [] last once = (tt, refl)
+once-front (e ∷ es) last once =
+    let none = known-front e.0 es (last ∷ []) once.0 in
+    let rest = once-front es last once.1 in
+    let apart = key-apart e.0 last [] (sym (known-later e.0 es (last ∷ []) none) ∙ once.0) in
+    ((none, rest.0), rw (key-differs e.0 last.0 apart.0) rest.1)
+
+-- the map without the last one
+met-front : (met less : List (KeyName × Option ℕ)) (known : List Entry) (key : KeyName) (place : ℕ) → place_known key known ≡ None
+    → AreMet met (known ++ (key, place) ∷ []) → ((q : KeyName) → place_met q less ≡ (if key_eq key q then None else place_met q met)) → AreMet less known
+met-front met less known key place new are told q = by (key_eq key q) refl where
+  by : (test : Bool) → key_eq key q ≡ test → place_met q less ≡ place_known q known
+  by true same = told q ∙ rw same (sym new ∙ ap (λ (k : KeyName). place_known k known) ((key-Decides key q).0 same))
+  by false other = told q ∙ rw other (are q ∙ old (place_known q known) refl) where
+    old : (found : Option ℕ) → place_known q known ≡ found → place_known q (known ++ (key, place) ∷ []) ≡ found
+    old (Some at) is = known-still q known ((key, place) ∷ []) at is
+    old None is = known-later q known ((key, place) ∷ []) is ∙ rw (key-differs key q other) refl
+
+-- so each has one place
+abbrev HasOnePlaceEach : List Entry → Type 0
+HasOnePlaceEach known = All (λ entry. place_known entry.0 known ≡ Some entry.1) known
+
+one-place-each : (known : List Entry) → AreKnownOnce known → HasOnePlaceEach known
+one-place-each [] once = All-nil (λ (e : Entry). place_known e.0 [] ≡ Some e.1)
+one-place-each (e ∷ es) once =
+    All-cons (λ (x : Entry). place_known x.0 (e ∷ es) ≡ Some x.1) e es (rw (known-itself e.0) refl)
+    (All-weaker (λ (x : Entry). place_known x.0 es ≡ Some x.1) (λ (x : Entry). place_known x.0 (e ∷ es) ≡ Some x.1) later es (one-place-each es once.1))
+  where
+    later : (x : Entry) → place_known x.0 es ≡ Some x.1 → place_known x.0 (e ∷ es) ≡ Some x.1
+    later x there = by (key_eq x.0 e.0) refl where
+      by : (test : Bool) → key_eq x.0 e.0 ≡ test → place_known x.0 (e ∷ es) ≡ Some x.1
+      by true same =
+          let one : x.0 ≡ e.0 = (key-Decides x.0 e.0).0 same in
+          let never : None ≡ Some x.1 = sym once.0 ∙ sym (ap (λ (k : KeyName). place_known k es) one) ∙ there in
+          absurd (cc)
+      by false other = rw other there
 
 -- ---- the known keys as they are kept
 
 -- the map and the order have these known keys
 abbrev pub AreKept : List (KeyName × Option ℕ) → List KnownPlace → List Entry → Type 0
-AreKept met order known = (known_keys (keys_of met) order ≡ known) × AreIndexes (keys_of met) order × AreMet met known × HasOnePlaceEach known
+AreKept met order known = (known_keys (keys_of met) order ≡ known) × AreIndexes (keys_of met) order × AreMet met known × AreKnownOnce known
 
 -- the map is emptied where nothing is known
 pub kept-emptied : (met new : List (KeyName × Option ℕ)) (order : List KnownPlace) (known : List Entry) → AreKept met order known
@@ -168,7 +248,7 @@ kept-emptied met new order known are (inr none) =
     let nothing : known ≡ [] = sym are.0 ∙ ap (known_keys (keys_of met)) none.0 in
     subst (λ (entries : List (KeyName × Option ℕ)). AreKept entries order known) (sym none.1)
     (subst (λ (places : List KnownPlace). AreKept [] places known) (sym none.0)
-    (subst (λ (left : List Entry). AreKept [] [] left) (sym nothing) (refl, All-nil (λ (k : KnownPlace). k.key < 0), λ q. refl, All-nil (λ (e : Entry). place_known e.0 [] ≡ Some e.1))))
+    (subst (λ (left : List Entry). AreKept [] [] left) (sym nothing) (refl, All-nil (λ (k : KnownPlace). k.key < 0), λ q. refl, tt)))
 
 -- one more
 pub kept-more : (met more : List (KeyName × Option ℕ)) (order : List KnownPlace) (known : List Entry) (k : KnownPlace) (key : KeyName) → AreKept met order known
@@ -178,7 +258,7 @@ kept-more met more order known k key are new here keeps told = (
   known-more (keys_of met) (keys_of more) order k key are.1 keeps here ∙ ap (λ (left : List Entry). left ++ (key, k.place) ∷ []) are.0,
   indexes-more (keys_of met) (keys_of more) order k key are.1 keeps here,
   met-more met known key k.place new are.2 more told,
-  once-more met known key k.place new are.3,
+  once-more known key k.place new are.3,
 )
 
 -- ---- some forgotten
@@ -252,22 +332,26 @@ only-one known once q place is test = All-weaker (λ (e : Entry). place_known e.
     sym (ap (λ found. unwrap_or found 0) here) ∙ is)
     known once
 
-module _ (test : ℕ → Bool) (known : List Entry) (once : HasOnePlaceEach known) where
+module _ (test : ℕ → Bool) (known : List Entry) (once : AreKnownOnce known) where
   pub met-fewer : (met less : List (KeyName × Option ℕ)) → AreMet met known
       → ((q : KeyName) → place_met q less ≡ (if is_dropped test q known then None else place_met q met)) → AreMet less (passing test known)
   met-fewer met less are told q =
       told q ∙ ap (λ (found : Option ℕ). if is_dropped test q known then None else found) (are q)
-      ∙ forgotten test q (unwrap_or (place_known q known) 0) known (only-one known once q _ refl test)
+      ∙ forgotten test q (unwrap_or (place_known q known) 0) known (only-one known (one-place-each known once) q _ refl test)
 
-  stays-once : (e : Entry) → (place_known e.0 known ≡ Some e.1) × (test e.1 ≡ true) → place_known e.0 (passing test known) ≡ Some e.1
-  stays-once e is =
-      let only = only-one known once e.0 e.1 (ap (λ found. unwrap_or found 0) is.0) test in
-      sym (forgotten test e.0 e.1 known only) ∙ rw (none-dropped test e.0 e.1 known only is.1) is.0
+none-passing : (test : ℕ → Bool) (q : KeyName) (known : List Entry) → place_known q known ≡ None → place_known q (passing test known) ≡ None
+none-passing test q [] none = refl
+none-passing test q (e ∷ es) none = let apart = key-apart q e es none in by apart.0 (test e.1) refl (none-passing test q es apart.1) where
+  by : key_eq q e.0 ≡ false → (stays : Bool) → test e.1 ≡ stays → place_known q (passing test es) ≡ None → place_known q (passing test (e ∷ es)) ≡ None
+  by other true stays later = rw stays (rw other later)
+  by other false goes later = rw goes later
 
-  pub once-fewer : HasOnePlaceEach (passing test known)
-  once-fewer = All-weaker (λ (e : Entry). (place_known e.0 known ≡ Some e.1) × (test e.1 ≡ true)) (λ (e : Entry). place_known e.0 (passing test known) ≡ Some e.1)
-      stays-once (passing test known)
-      (λ i d inside. (All-filter (λ (e : Entry). test e.1) (λ (e : Entry). place_known e.0 known ≡ Some e.1) known once i d inside, filter_passes (λ (e : Entry). test e.1) known i d inside))
+once-fewer : (test : ℕ → Bool) (known : List Entry) → AreKnownOnce known → AreKnownOnce (passing test known)
+once-fewer test [] once = tt
+once-fewer test (e ∷ es) once = by (test e.1) refl (once-fewer test es once.1) where
+  by : (stays : Bool) → test e.1 ≡ stays → AreKnownOnce (passing test es) → AreKnownOnce (passing test (e ∷ es))
+  by true stays later = rw stays (none-passing test e.0 es once.0, later)
+  by false goes later = rw goes later
 
 -- some forgotten
 pub kept-fewer : (test : ℕ → Bool) (met less : List (KeyName × Option ℕ)) (order : List KnownPlace) (known : List Entry) → AreKept met order known → keys_of less ≡ keys_of met
@@ -281,6 +365,43 @@ kept-fewer test met less order known are same told =
           (λ q. told q ∙ ap (λ (left : List Entry). if is_dropped test q left then None else place_met q met) are.0),
       once-fewer test known are.3,
     )
+
+-- the last one forgotten
+pub kept-front : (met less : List (KeyName × Option ℕ)) (order : List KnownPlace) (last : KnownPlace) (known : List Entry) → AreKept met (order ++ last ∷ []) known
+    → keys_of less ≡ keys_of met
+    → ((key q : KeyName) → slice_get (keys_of met) last.key ≡ Some key → place_met q less ≡ (if key_eq key q then None else place_met q met))
+    → (front : List Entry) × (e : Entry) × (known ≡ front ++ e ∷ []) × AreKept less order front
+kept-front met less order last known are same told =
+    let keys = keys_of met in
+    let parts = all-parts (λ (k : KnownPlace). k.key < length keys) order (last ∷ []) are.1 in
+    let here = at-index keys last.key (All-head (λ (k : KnownPlace). k.key < length keys) last [] parts.1) in
+    let front : List Entry = known_keys keys order in
+    let one : known_keys keys (last ∷ []) ≡ (here.0, last.place) ∷ [] = rw here.1 refl in
+    let is : known ≡ front ++ (here.0, last.place) ∷ [] =
+    sym are.0 ∙ filter_map-append (known_key keys) order (last ∷ []) ∙ ap (λ (left : List Entry). front ++ left) one in
+    let once = once-front front (here.0, last.place) (subst AreKnownOnce is are.3) in (
+      front,
+      (here.0, last.place),
+      is,
+      (
+        ap (λ (ks : List KeyName). known_keys ks order) same,
+        subst (λ (ks : List KeyName). AreIndexes ks order) (sym same) parts.0,
+        met-front met less front here.0 last.place once.1 (subst (AreMet met) is are.2) (λ q. told here.0 q here.1),
+        once.0,
+      ),
+    )
+
+none-pass : {X : Type 0} (xs : List X) → filter (λ _. false) xs ≡ []
+none-pass [] = refl
+none-pass (x ∷ xs) = none-pass xs
+
+-- all forgotten
+pub kept-none : (met less : List (KeyName × Option ℕ)) (order : List KnownPlace) (known : List Entry) → AreKept met order known → keys_of less ≡ keys_of met
+    → ((q : KeyName) → place_met q less ≡ (if is_dropped (λ _. false) q (known_keys (keys_of met) order) then None else place_met q met)) → AreKept less [] []
+kept-none met less order known are same told =
+    let fewer = kept-fewer (λ _. false) met less order known are same told in
+    subst (λ (places : List KnownPlace). AreKept less places []) (none-pass order)
+    (subst (λ (left : List Entry). AreKept less (filter (λ (k : KnownPlace). false) order) left) (none-pass known) fewer)
 
 -- ---- some dropped from the map
 

@@ -3,8 +3,12 @@ pub mod BeyondLemmas
 pub mod FrontLemmas
 pub mod GainLemmas
 pub mod IndexLemmas
+pub mod JustLemmas
 pub mod KnownLemmas
 pub mod LeavingLemmas
+pub mod LeftPinLemmas
+pub mod LetGoLemmas
+pub mod LookUpLemmas
 pub mod MemoryLemmas
 pub mod MergeLemmas
 pub mod ModeLemmas
@@ -19,6 +23,7 @@ pub mod SearchLemmas
 pub mod SeekLemmas
 pub mod ServingLemmas
 pub mod SoughtLemmas
+pub mod StayTidyLemmas
 pub mod SureLemmas
 pub mod TidyLemmas
 pub mod UpgradeLemmas

@@ -5,7 +5,7 @@ use Rattle.mdl_key.specs.declared.mode.Mode.{Mode}
 use Rattle.mdl_calls.specs.declared.answers.Held.{Held}
 use Rattle.mdl_calls.specs.declared.space_error.SpaceError.{SpaceError}
 use Rattle.mdl_calls.specs.declared.space_error.SpaceError.TheVariants.{OutOfMemory, NoWait}
-use Rattle.mdl_calls.specs.Words.{Answer, At_place, Done, Granted, Upgraded, Would_wait, Waits, Pending, Is_settled, Lost, Settle_timeout, Release, Upgrade_now, Downgrade, Program, Give, Ask, ◌>>◌, Each, IsFaithful, IsFrugal, SearchEnd, Over, Cut_off, Failed, IsStarvedSearch, seeking, most_searches}
+use Rattle.mdl_calls.specs.Words.{Answer, At_place, Done, Granted, Upgraded, Would_wait, Waits, Pending, Is_settled, Lost, Settle_timeout, Release, Upgrade_now, Downgrade, Program, Give, Ask, Grow, ◌>>◌, Each, IsFaithful, IsFrugal, SearchEnd, Over, Cut_off, Failed, IsStarvedSearch, seeking, most_searches}
 use Rattle.mdl_calls.proofs.FaithfulLemmas.{either, each_then, faithful_bind, frugal_bind, frugal_faithful}
 use Rattle.mdl_calls.proofs.SeekingLemmas.{faithful_seeking}
 use Rattle.mdl_context.specs.declared.asking.AskResult.{AskResult}
@@ -29,6 +29,8 @@ use Rattle.mdl_context.specs.Requests.{Outcome}
 use Rattle.mdl_context.specs.Tidying.{tidied, tidying, unneeded, unpinning_all}
 use Rattle.mdl_context.specs.Upgrades as upgrades
 use Rattle.mdl_context.specs.Waits as waits
+use Rattle.mdl_context.proofs.LookUpLemmas.{faithful_looked_up}
+use Rattle.mdl_context.proofs.TidyLemmas.{each_tidying}
 
 -- ---- what takes no memory
 
@@ -36,15 +38,28 @@ frugal_unwanted : (who : ℕ) (answer : Answer) → IsFrugal (gains.unwanted_end
 frugal_unwanted who (Granted id) = (refl, λ _. tt)
 frugal_unwanted who _ = tt
 
--- a wait is ended that isn't wanted any more, and then this is the reply
+-- a wait is ended that isn't wanted any more
+frugal_given_up : (who : ℕ) → IsFrugal (gains.abandoning who)
+frugal_given_up who = (refl, λ _. (refl, frugal_unwanted who))
+
+-- and then this is the reply
 frugal_abandoning : {A : Type 0} (who : ℕ) (reply : A) → IsFrugal (gains.abandoning who >> Give reply)
-frugal_abandoning who reply =
-    frugal_bind {A = Unit {0}} (gains.abandoning who) (λ _. Give reply) (refl, λ _. (refl, frugal_unwanted who)) (λ _. tt)
+frugal_abandoning who reply = frugal_bind {A = Unit {0}} (gains.abandoning who) (λ _. Give reply) (frugal_given_up who) (λ _. tt)
+
+frugal_unpinning : (who : ℕ) (places : List ℕ) → IsFrugal (unpinning_all who places)
+frugal_unpinning who [] = tt
+frugal_unpinning who (place ∷ places) = (refl, λ _. frugal_unpinning who places)
+
+-- the places are let go of where the context has nothing
+pub frugal_tidying : {A : Type 0} (outcome : Outcome A) → IsFrugal (tidying outcome)
+frugal_tidying {A} (reply, context) =
+    frugal_bind {A = Unit {0}} {B = Outcome A} (unpinning_all context.who (unneeded context)) (λ _. Give (reply, tidied context))
+    (frugal_unpinning context.who (unneeded context)) (λ _. tt)
 
 -- the end of a wait that upgrades no ticket
 frugal_end : (context : ContextView) → awaited_upgrade context.wait ≡ None → (answer : Answer) → IsFrugal (waits.end_answered context answer)
 frugal_end context none (Granted id) = subst (λ upgrade. IsFrugal (waits.wait_won upgrade id context)) (sym none) tt
-frugal_end context none (Lost how) = tt
+frugal_end context none (Lost how) = frugal_tidying {A = Resume} (Ok (resume_as.Lost how), waits.without_wait context)
 frugal_end context none _ = tt
 
 frugal_poll : (context : ContextView) → awaited_upgrade context.wait ≡ None → (answer : Answer) → IsFrugal (waits.poll_answered context answer)
@@ -64,16 +79,6 @@ frugal_giving_up_wait context none =
 frugal_all : (who : ℕ) (gone : List Kept) → IsFrugal (releases.releasing_all who gone)
 frugal_all who [] = tt
 frugal_all who (ticket ∷ tickets) = (refl, λ _. frugal_all who tickets)
-
-frugal_unpinning : (who : ℕ) (places : List ℕ) → IsFrugal (unpinning_all who places)
-frugal_unpinning who [] = tt
-frugal_unpinning who (place ∷ places) = (refl, λ _. frugal_unpinning who places)
-
--- the places are let go of where the context has nothing
-pub frugal_tidying : {A : Type 0} (outcome : Outcome A) → IsFrugal (tidying outcome)
-frugal_tidying {A} (reply, context) =
-    frugal_bind {A = Unit {0}} {B = Outcome A} (unpinning_all context.who (unneeded context)) (λ _. Give (reply, tidied context))
-    (frugal_unpinning context.who (unneeded context)) (λ _. tt)
 
 pub frugal_giving_up : (gone : List Kept) (context : ContextView) → IsFrugal (releases.releasing_tickets gone context)
 frugal_giving_up gone context =
@@ -151,6 +156,7 @@ faithful_reusing None place request context =
 faithful_place : (request : Wish) (context : ContextView) (answer : Answer) → IsFaithful IsStarved (requests.place_answered request context answer)
 faithful_place request context (At_place place) =
     let after = requests.remembering request.key place context in
+    faithful_looked_up {A = Acquire} requests.got_lock place context (Grow (requests.starved context) (requests.acquiring_at place request after))
     (refl, faithful_reusing (earliest (requests.is_reusable place request) after.kept) place request after)
 faithful_place request context _ = tt
 
@@ -192,6 +198,7 @@ faithful_trying_again None place request context =
 faithful_trying_placed : (request : Wish) (context : ContextView) (answer : Answer) → IsFaithful IsStarved (requests.trying_placed request context answer)
 faithful_trying_placed request context (At_place place) =
     let after = requests.remembering request.key place context in
+    faithful_looked_up {A = Tried} requests.got_at_once place context (Grow (requests.starved context) (requests.trying_at place request after))
     (refl, faithful_trying_again (earliest (requests.is_reusable place request) after.kept) place request after)
 faithful_trying_placed request context _ = tt
 
@@ -229,7 +236,9 @@ faithful_won (Some (id, mode)) new context =
 
 faithful_end : (context : ContextView) (answer : Answer) → IsFaithful IsStarved (waits.end_answered context answer)
 faithful_end context (Granted id) = faithful_won (awaited_upgrade context.wait) id context
-faithful_end context (Lost how) = tt
+faithful_end context (Lost how) =
+    let reply : Outcome Resume = (Ok (resume_as.Lost how), waits.without_wait context) in
+    frugal_faithful {A = Outcome Resume} IsStarved (tidying reply) (frugal_tidying {A = Resume} reply)
 faithful_end context _ = tt
 
 faithful_ending : (context : ContextView) → IsFaithful IsStarved (waits.ending_wait context)
@@ -248,14 +257,17 @@ faithful_wait_sought context Over = faithful_looking (waits.with_searches_over c
 faithful_wait_sought context Cut_off = faithful_looking context
 faithful_wait_sought context (Failed refusal) =
     let reply : Outcome Resume = (Err (Space refusal), waits.without_wait context) in
-    frugal_faithful {A = Outcome Resume} IsStarved (gains.abandoning context.who >> Give reply) (frugal_abandoning context.who reply)
+    frugal_faithful {A = Outcome Resume} IsStarved (gains.abandoning context.who >> tidying reply)
+    (frugal_bind {A = Unit {0}} {B = Outcome Resume} (gains.abandoning context.who) (λ _. tidying reply) (frugal_given_up context.who)
+    (λ _. frugal_tidying {A = Resume} reply))
 
 -- a search that found no memory, and so the wait
 each_wait_sought : (context : ContextView) (end : SearchEnd) → IsStarvedSearch end → Each IsStarved (waits.wait_sought context end)
 each_wait_sought context end e =
     subst (λ x. Each IsStarved (waits.wait_sought context x)) (sym e)
     (each_then {A = Unit {0}} {B = Outcome Resume} IsStarved (gains.abandoning context.who)
-    (λ _. Give (Err (Space OutOfMemory), waits.without_wait context)) (λ _. refl))
+    (λ _. tidying (Err (Space OutOfMemory), waits.without_wait context))
+    (λ _. each_tidying {A = Resume} IsStarved (Err (Space OutOfMemory)) (waits.without_wait context) refl))
 
 faithful_cut_off : (context : ContextView) (answer : Answer) → IsFaithful IsStarved (waits.cut_off_answered context answer)
 faithful_cut_off context Pending =

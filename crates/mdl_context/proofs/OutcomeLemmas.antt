@@ -1,5 +1,5 @@
 -- What an upgrade and a wait come to, by the cases of their programs.
-use Rattle.std.proofs.Common.{◌≡◌, ℕ, Bool, true, false, List, Option, Some, None, Result, Ok, Err, refl, sym, ap, subst}
+use Rattle.std.proofs.Common.{◌≡◌, ℕ, Bool, true, false, List, Option, Some, None, Result, Ok, Err, inl, inr, refl, sym, ap, subst}
 use Rattle.std.specs.Prelude.{◌==◌, is_some, if◌then◌else◌}
 use Rattle.std.specs.Option.{option_map}
 use Rattle.std.proofs.lemmas.Bool.{eqb-true}
@@ -27,8 +27,10 @@ use Rattle.mdl_context.specs.Holdings.{awaited_upgrade, search_over, with_wanted
 use Rattle.mdl_context.specs.Outcomes.{IsRaised, UpgradeComesTo, IsWon, WaitComesTo}
 use Rattle.mdl_context.specs.Releases.{unless, waiting_fault}
 use Rattle.mdl_context.specs.Requests.{Outcome}
+use Rattle.mdl_context.specs.Tidying.{tidied, tidying}
 use Rattle.mdl_context.specs.Upgrades.{with_ticket_mode, merging_new, merged, waiting_to_upgrade, second_got, upgrade_answered, upgrading_ticket, upgrading}
 use Rattle.mdl_context.specs.Waits.{without_wait, taking_up, with_searches_over, wait_won, end_answered, ending_wait, poll_answered, looking, wait_sought, searching_on, cut_off_answered, continuing_wait, is_searched, resuming, giving_up_wait}
+use Rattle.mdl_context.proofs.TidyLemmas.{each_tidying}
 use Rattle.mdl_context.proofs.WishLemmas.{covers-itself}
 
 -- ---- upgrades
@@ -94,7 +96,7 @@ module _ (before context : ContextView) (same : without_wait context ≡ without
   won_merged told mode e (Ok done) =
       subst (λ (w : Option (ℕ × Mode)). IsWon w told before (with_ticket_mode told (λ _. mode) (without_wait context))) (sym e)
       (refl, ap (with_ticket_mode told (λ _. mode)) same)
-  won_merged told mode e (Err refusal) = same
+  won_merged told mode e (Err refusal) = inl same
 
   won : (wanted : Option (ℕ × Mode)) → awaited_upgrade before.wait ≡ wanted → (id : ℕ) → Each (WaitComesTo before) (wait_won wanted id context)
   won None e id = subst (λ (w : Option (ℕ × Mode)). IsWon w id before (taking_up id context)) (sym e) (taken id)
@@ -104,8 +106,8 @@ module _ (before context : ContextView) (same : without_wait context ≡ without
 
   ended : (answer : Answer) → Each (WaitComesTo before) (end_answered context answer)
   ended (Granted id) = won (awaited_upgrade context.wait) (sym wish) id
-  ended (Lost how) = same
-  ended _ = same
+  ended (Lost how) = each_tidying (WaitComesTo before) (Ok (resume_as.Lost how)) (without_wait context) (ap tidied same)
+  ended _ = inl same
 
   pub comes_ending : Each (WaitComesTo before) (ending_wait context)
   comes_ending = ended
@@ -113,7 +115,7 @@ module _ (before context : ContextView) (same : without_wait context ≡ without
   polled : (answer : Answer) → Each (WaitComesTo before) (poll_answered context answer)
   polled Pending = same
   polled (Is_settled how) = comes_ending
-  polled _ = same
+  polled _ = inl same
 
   pub comes_looking : Each (WaitComesTo before) (looking context)
   comes_looking = polled
@@ -140,8 +142,8 @@ module _ (context : ContextView) where
       (λ id. ap (λ (kept : List Kept). record context { kept = kept; wait = None }) (same_ticket id context.wait context.kept))
   sought Cut_off = looks
   sought (Failed refusal) =
-      each_then {A = Unit {0}} {B = Outcome Resume} (WaitComesTo context) (abandoning context.who) (λ _. Give (Err (Space refusal), without_wait context))
-      (λ _. refl)
+      each_then {A = Unit {0}} {B = Outcome Resume} (WaitComesTo context) (abandoning context.who) (λ _. tidying (Err (Space refusal), without_wait context))
+      (λ _. each_tidying (WaitComesTo context) (Err (Space refusal)) (without_wait context) (inr refl))
 
   pub searches : Each (WaitComesTo context) (searching_on context)
   searches = each_then {A = SearchEnd} {B = Outcome Resume} (WaitComesTo context) (seeking most_searches context.who) (wait_sought context) sought
@@ -149,10 +151,10 @@ module _ (context : ContextView) where
   cut_off : (answer : Answer) → Each (WaitComesTo context) (cut_off_answered context answer)
   cut_off Pending = searches
   cut_off (Is_settled how) = ends
-  cut_off _ = refl
+  cut_off _ = inl refl
 
   goes_on : (state : Option Bool) → Each (WaitComesTo context) (continuing_wait state context)
-  goes_on None = refl
+  goes_on None = inl refl
   goes_on (Some true) = looks
   goes_on (Some false) = cut_off
 
@@ -162,4 +164,4 @@ module _ (context : ContextView) where
   pub gives_up : Each (WaitComesTo context) (giving_up_wait context)
   gives_up =
       either {A = Outcome Resume} (Each (WaitComesTo context)) (is_some context.wait) (Ask (Settle_timeout context.who) (λ _. ending_wait context))
-      (Give (Err (Space NoWait), context)) (λ _. ends) refl
+      (Give (Err (Space NoWait), context)) (λ _. ends) (inl refl)

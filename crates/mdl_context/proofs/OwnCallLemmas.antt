@@ -31,6 +31,7 @@ use Rattle.mdl_context.specs.Requests.{Outcome}
 use Rattle.mdl_context.specs.Tidying.{tidied, tidying, unneeded, unpinning_all}
 use Rattle.mdl_context.specs.Upgrades as upgrades
 use Rattle.mdl_context.specs.Waits as waits
+use Rattle.mdl_context.proofs.LookUpLemmas.{calls_looked_up}
 
 -- all calls of a program are made for a session
 abbrev pub AreOwn : {A : Type 0} → ℕ → Program A → Type 0
@@ -42,10 +43,13 @@ own_unwanted : (who : ℕ) (answer : Answer) → AreOwn who (gains.unwanted_end_
 own_unwanted who (Granted id) = ((refl, refl), λ _. tt)
 own_unwanted who _ = tt
 
--- a wait is ended that isn't wanted any more, and then this is the reply
+-- a wait is ended that isn't wanted any more
+own_given_up : (who : ℕ) → AreOwn who (gains.abandoning who)
+own_given_up who = ((refl, refl), λ _. ((refl, refl), own_unwanted who))
+
+-- and then this is the reply
 own_abandoning : {A : Type 0} (who : ℕ) (reply : A) → AreOwn who (gains.abandoning who >> Give reply)
-own_abandoning who reply =
-    calls_bind {A = Unit {0}} (IsOwnCall who) (gains.abandoning who) (λ _. Give reply) ((refl, refl), λ _. ((refl, refl), own_unwanted who)) (λ _. tt)
+own_abandoning who reply = calls_bind {A = Unit {0}} (IsOwnCall who) (gains.abandoning who) (λ _. Give reply) (own_given_up who) (λ _. tt)
 
 own_seeking : (n who : ℕ) → AreOwn who (seeking n who)
 own_seeking n who = calls_seeking (IsOwnCall who) who (refl, refl) n
@@ -89,7 +93,8 @@ own_reusing None place request context =
 own_place : (request : Wish) (context : ContextView) (answer : Answer) → AreOwn context.who (requests.place_answered request context answer)
 own_place request context (At_place place) =
     let after = requests.remembering request.key place context in
-    (tt, own_reusing (earliest (requests.is_reusable place request) after.kept) place request after)
+    calls_looked_up {A = Acquire} requests.got_lock place context (Grow (requests.starved context) (requests.acquiring_at place request after))
+    (IsOwnCall context.who) (refl, refl) (tt, own_reusing (earliest (requests.is_reusable place request) after.kept) place request after)
 own_place request context _ = tt
 
 pub own_finding : (place : Option ℕ) (request : Wish) (context : ContextView) → AreOwn context.who (requests.finding place request context)
@@ -125,7 +130,8 @@ own_trying_again None place request context =
 own_trying_placed : (request : Wish) (context : ContextView) (answer : Answer) → AreOwn context.who (requests.trying_placed request context answer)
 own_trying_placed request context (At_place place) =
     let after = requests.remembering request.key place context in
-    (tt, own_trying_again (earliest (requests.is_reusable place request) after.kept) place request after)
+    calls_looked_up {A = Tried} requests.got_at_once place context (Grow (requests.starved context) (requests.trying_at place request after))
+    (IsOwnCall context.who) (refl, refl) (tt, own_trying_again (earliest (requests.is_reusable place request) after.kept) place request after)
 own_trying_placed request context _ = tt
 
 pub own_trying_found : (place : Option ℕ) (request : Wish) (context : ContextView) → AreOwn context.who (requests.trying_found place request context)
@@ -147,6 +153,18 @@ own_merge who new _ = ((refl, refl), λ _. tt)
 pub own_merging : (who id new : ℕ) → AreOwn who (upgrades.merging_new who id new)
 own_merging who id new = ((refl, refl), own_merge who new)
 
+-- ---- places that are let go of
+
+own_unpinning : (who : ℕ) (places : List ℕ) → AreOwn who (unpinning_all who places)
+own_unpinning who [] = tt
+own_unpinning who (place ∷ places) = ((refl, refl), λ _. own_unpinning who places)
+
+-- the places are let go of where the context has nothing
+pub own_tidying : {A : Type 0} (outcome : Outcome A) → EachCall (IsOwnCall outcome.1.who) (tidying outcome)
+own_tidying {A} (reply, context) =
+    calls_bind {A = Unit {0}} {B = Outcome A} (IsOwnCall context.who) (unpinning_all context.who (unneeded context)) (λ _. Give (reply, tidied context))
+    (own_unpinning context.who (unneeded context)) (λ _. tt)
+
 -- ---- waits
 
 pub own_won : (upgrade : Option (ℕ × Mode)) (new : ℕ) (context : ContextView) → AreOwn context.who (waits.wait_won upgrade new context)
@@ -157,7 +175,7 @@ own_won (Some (id, mode)) new context =
 
 own_end : (context : ContextView) (answer : Answer) → AreOwn context.who (waits.end_answered context answer)
 own_end context (Granted id) = own_won (awaited_upgrade context.wait) id context
-own_end context (Lost how) = tt
+own_end context (Lost how) = own_tidying {A = Resume} (Ok (resume_as.Lost how), waits.without_wait context)
 own_end context _ = tt
 
 pub own_ending : (context : ContextView) → AreOwn context.who (waits.ending_wait context)
@@ -174,7 +192,10 @@ own_looking context = ((refl, refl), own_poll context)
 own_wait_sought : (context : ContextView) (end : SearchEnd) → AreOwn context.who (waits.wait_sought context end)
 own_wait_sought context Over = own_looking (waits.with_searches_over context)
 own_wait_sought context Cut_off = own_looking context
-own_wait_sought context (Failed refusal) = own_abandoning {A = Outcome Resume} context.who (Err (Space refusal), waits.without_wait context)
+own_wait_sought context (Failed refusal) =
+    let reply : Outcome Resume = (Err (Space refusal), waits.without_wait context) in
+    calls_bind {A = Unit {0}} {B = Outcome Resume} (IsOwnCall context.who) (gains.abandoning context.who) (λ _. tidying reply) (own_given_up context.who)
+    (λ _. own_tidying {A = Resume} reply)
 
 pub own_searching_on : (context : ContextView) → AreOwn context.who (waits.searching_on context)
 own_searching_on context =
@@ -204,16 +225,6 @@ own_giving_up_wait context =
 pub own_all : (who : ℕ) (gone : List Kept) → AreOwn who (releases.releasing_all who gone)
 own_all who [] = tt
 own_all who (ticket ∷ tickets) = ((refl, refl), λ _. own_all who tickets)
-
-own_unpinning : (who : ℕ) (places : List ℕ) → AreOwn who (unpinning_all who places)
-own_unpinning who [] = tt
-own_unpinning who (place ∷ places) = ((refl, refl), λ _. own_unpinning who places)
-
--- the places are let go of where the context has nothing
-pub own_tidying : {A : Type 0} (outcome : Outcome A) → EachCall (IsOwnCall outcome.1.who) (tidying outcome)
-own_tidying {A} (reply, context) =
-    calls_bind {A = Unit {0}} {B = Outcome A} (IsOwnCall context.who) (unpinning_all context.who (unneeded context)) (λ _. Give (reply, tidied context))
-    (own_unpinning context.who (unneeded context)) (λ _. tt)
 
 pub own_giving_up : (gone : List Kept) (context : ContextView) → EachCall (IsOwnCall context.who) (releases.releasing_tickets gone context)
 own_giving_up gone context =

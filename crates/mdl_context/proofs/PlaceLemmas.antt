@@ -7,6 +7,7 @@ use Rattle.std.proofs.lemmas.Bool.Decides.{nat_tests}
 use Rattle.std.proofs.lemmas.List.{drop_all, drop_more, get_or-map, length-map, length-take-le}
 use Rattle.std.proofs.lemmas.List.Folds.{find_at}
 use Rattle.std.proofs.lemmas.Option.{slice_get-get_or}
+use Rattle.mdl_key.specs.declared.mode.Duration.{Duration}
 use Rattle.mdl_key.specs.declared.mode.Duration.TheVariants.{Explicit}
 use Rattle.mdl_key.specs.declared.namespace.Kind.{Kind}
 use Rattle.mdl_key.specs.Keys.{KeyName}
@@ -20,7 +21,7 @@ use Rattle.mdl_context.specs.Contexts.{AreRising, held_of, is_user_lock, lasts}
 use Rattle.mdl_context.specs.Requests.{suffices, is_reusable}
 use Rattle.mdl_context.specs.declared.wishes.Terms.{Terms}
 use Rattle.mdl_context.specs.Terms.{meets, serves_again, terms_of, wish_for}
-use Rattle.mdl_context.specs.Holdings.{is_kept_at, has_ticket_number, without_number, numbers_among, IsIndexOf, earliest, kept_for, in_transaction, transactional}
+use Rattle.mdl_context.specs.Holdings.{is_kept_at, has_ticket_number, without_number, numbers_among, IsIndexOf, earliest, kept_for, lasting, in_transaction, transactional}
 use Rattle.mdl_context.specs.Indexes.{Index, ticket_numbers, has_room_for, rises, without_last, without_one}
 use Rattle.mdl_context.proofs.FrontLemmas.{Above, above-filter, rising-filter}
 use Rattle.mdl_context.proofs.IndexLemmas.{AllAbove, last-dropped}
@@ -42,6 +43,13 @@ numbers-changed f ids places place (x ∷ xs) = grind (arith, numbers-changed f 
 pub held-transactional : (known : List (KeyName × ℕ)) (t : Kept) → held_of (transactional known t) ≡ held_of t
 held-transactional known t = go (is_user_lock known t.place) where
   go : (b : Bool) → held_of (if b then t else kept_for (in_transaction t.duration) t) ≡ held_of t
+  go true = refl
+  go false = refl
+
+-- the same of a ticket that is kept for another duration, or not
+pub held-lasting : (id : ℕ) (duration : Duration) (t : Kept) → held_of (lasting id duration t) ≡ held_of t
+held-lasting id duration t = go (has_ticket_number id t) where
+  go : (b : Bool) → held_of (if b then kept_for duration t else t) ≡ held_of t
   go true = refl
   go false = refl
 

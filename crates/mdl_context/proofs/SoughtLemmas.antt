@@ -1,5 +1,5 @@
 -- What follows on searches for deadlocks: the session waits on, or its wait is given up.
-use Rattle.std.proofs.Common.{◌≡◌, ℕ, Bool, true, false, Ok, Err, Result, refl, sym, ap, subst}
+use Rattle.std.proofs.Common.{◌≡◌, ℕ, Bool, true, false, Ok, Err, Result, refl, subst}
 use Rattle.mdl_calls.specs.declared.space_error.SpaceError.{SpaceError}
 use Rattle.mdl_calls.specs.Words.{Answer, Call, Runs, Give, ◌>>◌, Over, Cut_off, Failed, seeking, most_searches}
 use Rattle.mdl_calls.proofs.RunLemmas.{runs_bind}
@@ -10,8 +10,10 @@ use Rattle.mdl_context.specs.declared.request.Resume.{Resume}
 use Rattle.mdl_context.specs.Contexts.{ContextView}
 use Rattle.mdl_context.specs.Gains.{abandoning, wish_sought, waiting_on}
 use Rattle.mdl_context.specs.Requests.{Outcome}
+use Rattle.mdl_context.specs.Tidying.{tidied, tidying, unneeded, unpinning_all}
 use Rattle.mdl_context.specs.Waits.{without_wait, with_searches_over, looking, wait_sought, searching_on}
 use Rattle.mdl_context.specs.SearchEnds.{sought}
+use Rattle.mdl_context.proofs.TidyLemmas.{run-tidied}
 
 module _ {S : Type 0} (joins : S → Call → Answer → S → Type 0) where
   -- the session waits for the wanted ticket
@@ -40,9 +42,13 @@ module _ {S : Type 0} (joins : S → Call → Answer → S → Type 0) where
       → Runs joins mid (looking before) reply b → Runs joins a (searching_on before) reply b
   run-cut_off before reply a mid b cut looked = runs_bind joins (seeking most_searches before.who) (wait_sought before) a mid b Cut_off reply cut looked
 
-  -- the wait is given up
-  pub run-failed : (refusal : SpaceError) (before after : ContextView) (a mid b : S) → Runs joins a (seeking most_searches before.who) (Failed refusal) mid
-      → Runs joins mid (abandoning before.who) tt b → after ≡ without_wait before → Runs joins a (searching_on before) (Err (Space refusal), after) b
-  run-failed refusal before after a mid b failed abandoned same =
+  -- the wait is given up, and then the context lets go of the places where it has nothing
+  pub run-failed : (refusal : SpaceError) (before left after : ContextView) (a mid then b : S) → Runs joins a (seeking most_searches before.who) (Failed refusal) mid
+      → Runs joins mid (abandoning before.who) tt then → left ≡ without_wait before → Runs joins then (unpinning_all left.who (unneeded left)) tt b
+      → after ≡ tidied left → Runs joins a (searching_on before) (Err (Space refusal), after) b
+  run-failed refusal before left after a mid then b failed abandoned same let_go is =
+      let end : Outcome Resume = (Err (Space refusal), without_wait before) in
       runs_bind joins (seeking most_searches before.who) (wait_sought before) a mid b (Failed refusal) _ failed
-      (run-abandoned {A = Outcome Resume} before.who _ _ mid b abandoned (ap (λ context. (Err (Space refusal), context)) (sym same)))
+      (runs_bind {A = Unit {0}} {B = Outcome Resume} joins (abandoning before.who) (λ _. tidying end) mid then b tt _ abandoned
+      (subst (λ (context : ContextView). Runs joins then (tidying {A = Resume} (Err (Space refusal), context)) (Err (Space refusal), after) b) same
+      (run-tidied joins {A = Resume} (Err (Space refusal)) left after then b let_go is)))

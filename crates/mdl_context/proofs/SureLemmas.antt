@@ -1,6 +1,7 @@
 -- What is so of all that a context gives up by, and what of it follows over the space of one thread.
 use Rattle.std.proofs.Common.{◌≡◌, ℕ, Option, None, List}
 use Rattle.mdl_key.specs.declared.mode.Mode.{Mode}
+use Rattle.mdl_key.specs.declared.mode.Duration.TheVariants.{Explicit}
 use Rattle.mdl_calls.specs.Words.{EachCall, IsFrugal, Program}
 use Rattle.mdl_core.proofs.RunOutcomes.{sure-run, frugal-runs}
 use Rattle.mdl_context.specs.declared.context_error.ContextError.{ContextError}
@@ -8,7 +9,7 @@ use Rattle.mdl_context.specs.declared.kept.Kept.{Kept}
 use Rattle.mdl_context.specs.declared.request.Acquire.{Acquire}
 use Rattle.mdl_context.specs.declared.request.Resume.{Resume}
 use Rattle.mdl_context.specs.declared.request.Tried.{Tried}
-use Rattle.mdl_context.specs.Contexts.{ContextView, beyond_mark, newest_first, of_statement, of_transaction, place_known}
+use Rattle.mdl_context.specs.Contexts.{ContextView, beyond_mark, newest_first, of_statement, of_transaction, place_known, tickets_for}
 use Rattle.mdl_context.specs.MemoryLaws.{IsStarved, IsOwnCall, EachEnding, EndingsTakeNoMemory, ContextsCallForTheirSession, IsSure, SureWishes, SureUpgrades, SureWaits, SureEndings}
 use Rattle.mdl_context.specs.Releases.{at_known_place, releasing_tickets, releasing, unless, waiting_fault, rollback_fault}
 use Rattle.mdl_context.specs.Requests.{Outcome, acquiring, trying}
@@ -33,6 +34,7 @@ each_ending P context waits one all weaker refused =
       λ mark. refused (rollback_fault mark context) (releasing_tickets (beyond_mark mark context.kept) context) (all (beyond_mark mark context.kept)),
       may_wait (of_statement context.kept),
       may_wait (of_transaction context.kept),
+      may_wait (newest_first (tickets_for Explicit context.kept)),
       all,
       weaker,
     )
@@ -71,8 +73,8 @@ sure-waits context = (
 -- what is so of one kind of programs is so of the other, where the one is the other
 each_weaker : (P Q : (A : Type 0) → Program A → Type 0) → ((A : Type 0) (program : Program A) → P A program → Q A program) →
     (context : ContextView) → EachEnding P context → EachEnding Q context
-each_weaker P Q so context (waits, one, key, mark, statement, transaction, all, weaker) =
-    (λ none. so _ _ (waits none), λ id. so _ _ (one id), λ k. so _ _ (key k), λ m. so _ _ (mark m), so _ _ statement, so _ _ transaction, λ gone. so _ _ (all gone), λ id mode. so _ _ (weaker id mode))
+each_weaker P Q so context (waits, one, key, mark, statement, transaction, explicit, all, weaker) =
+    (λ none. so _ _ (waits none), λ id. so _ _ (one id), λ k. so _ _ (key k), λ m. so _ _ (mark m), so _ _ statement, so _ _ transaction, so _ _ explicit, λ gone. so _ _ (all gone), λ id mode. so _ _ (weaker id mode))
 
 pub sure-endings : SureEndings
 sure-endings context =

@@ -109,7 +109,7 @@ stays-apart q place (p ∷ ps) passes = go (p == place) refl (stays-apart q plac
   go false same rest = grind (arith, rest, same)
 
 -- a known place where the test fails is among them
-goes-among : (q : ℕ → Bool) (place : ℕ) (known : List (KeyName × ℕ)) → is_known_place known place ≡ true → q place ≡ false
+pub goes-among : (q : ℕ → Bool) (place : ℕ) (known : List (KeyName × ℕ)) → is_known_place known place ≡ true → q place ≡ false
     → is_among place (filter (λ p. not (q p)) (map (λ entry. entry.1) known)) ≡ true
 goes-among q place [] there fails = cc
 goes-among q place (e ∷ es) there fails = go (e.1 == place) refl (λ later. goes-among q place es later fails) where
@@ -137,6 +137,26 @@ known-no-more q place known there gone = by (q place) refl where
   by false fails = refl
 
 -- ---- a context that is tidied
+
+-- which knows the same if each known place was needed
+all-needed : (q : ℕ → Bool) (known : List (KeyName × ℕ)) → filter (λ p. not (q p)) (map (λ entry. entry.1) known) ≡ [] → filter (λ entry. q entry.1) known ≡ known
+all-needed q [] none = refl
+all-needed q (e ∷ es) none = go (q e.1) refl (λ later. all-needed q es later) where
+  go : (b : Bool) → q e.1 ≡ b → (filter (λ p. not (q p)) (map (λ entry. entry.1) es) ≡ [] → filter (λ entry. q entry.1) es ≡ es)
+      → filter (λ entry. q entry.1) (e ∷ es) ≡ e ∷ es
+  go true needed more = rw needed (ap (λ known. e ∷ known) (more (rw needed at none)))
+  go false spare more = absurd (let no = rw spare at none in cc)
+
+pub tidied-same : (context : ContextView) → unneeded context ≡ [] → tidied context ≡ context
+tidied-same context none = ap (λ (known : List (KeyName × ℕ)). record context { known = known }) (all-needed (is_needed context) context.known none)
+
+-- and nothing if it has no ticket and no wait
+none-pass : (q : ℕ → Bool) (known : List (KeyName × ℕ)) → ((place : ℕ) → q place ≡ false) → filter (λ entry. q entry.1) known ≡ []
+none-pass q [] fails = refl
+none-pass q (e ∷ es) fails = rw (fails e.1) (none-pass q es fails)
+
+pub nothing-known : (context : ContextView) → context.kept ≡ [] → context.wait ≡ None → (tidied context).known ≡ []
+nothing-known context no-ticket no-wait = none-pass (is_needed context) context.known (λ place. rw (no-ticket, no-wait) refl)
 
 -- what the tidied context knows is needed
 pub is-tidy : (context : ContextView) → IsTidy (tidied context)
@@ -182,6 +202,10 @@ module _ {S : Type 0} (joins : S → Call → Answer → S → Type 0) (context 
       → filter (λ p. not (is_needed context p)) (place ∷ places) ≡ filter (λ p. not (is_needed context p)) places
   stays place places needed = grind (arith, needed)
 
+  pub left-same : (place : ℕ) → slice_get (map (λ entry. entry.1) context.known) at ≡ Some place → is_needed context place ≡ true
+      → unneeded_from at context ≡ unneeded_from (at + 1) context
+  left-same place there needed = parted place there ∙ stays place (drop (at + 1) (map (λ entry. entry.1) context.known)) needed
+
   -- the pin of the next place is given up
   pub run-unpinned : (place : ℕ) (a mid b : S) → slice_get (map (λ entry. entry.1) context.known) at ≡ Some place → is_needed context place ≡ false
       → Runs joins a (unpinning_all context.who (place ∷ [])) tt mid → Runs joins mid (unpinning_all context.who (unneeded_from (at + 1) context)) tt b
@@ -194,14 +218,14 @@ module _ {S : Type 0} (joins : S → Call → Answer → S → Type 0) (context 
   pub run-spared : (place : ℕ) (a b : S) → slice_get (map (λ entry. entry.1) context.known) at ≡ Some place → is_needed context place ≡ true
       → Runs joins a (unpinning_all context.who (unneeded_from (at + 1) context)) tt b → Runs joins a (unpinning_all context.who (unneeded_from at context)) tt b
   run-spared place a b there needed run =
-      subst (λ places. Runs joins a (unpinning_all context.who places) tt b)
-      (sym (parted place there ∙ stays place (drop (at + 1) (map (λ entry. entry.1) context.known)) needed)) run
+      subst (λ places. Runs joins a (unpinning_all context.who places) tt b) (sym (left-same place there needed)) run
 
   -- and in the end none is left
+  pub none-left : length context.known ≤ at → unneeded_from at context ≡ []
+  none-left over = ap (filter (λ p. not (is_needed context p))) (drop-over context.known at over)
+
   pub run-over : (a : S) → length context.known ≤ at → Runs joins a (unpinning_all context.who (unneeded_from at context)) tt a
-  run-over a over =
-      subst (λ places. Runs joins a (unpinning_all context.who places) tt a)
-      (sym (ap (filter (λ p. not (is_needed context p))) (drop-over context.known at over))) (refl, refl)
+  run-over a over = subst (λ places. Runs joins a (unpinning_all context.who places) tt a) (sym (none-left over)) (refl, refl)
 
 -- ---- over a space
 
@@ -237,10 +261,10 @@ module _ {S : Type 0} (members : Ghosts S) (laws : LawsOf members) where
       by (Refused _) made fits told now = absurd told
       by _ made fits told now = cc
 
-  holds-back : (place : ℕ) (before after : SessionLocks) → after.held ≡ before.held → HoldsAt place after → HoldsAt place before
+  pub holds-back : (place : ℕ) (before after : SessionLocks) → after.held ≡ before.held → HoldsAt place after → HoldsAt place before
   holds-back place before after same (ticket, among, at) = (ticket, subst (λ hs. Contains hs ticket) same among, at)
 
-  awaits-back : (place : ℕ) (before after : SessionLocks) → after.wait ≡ before.wait → AwaitsAt place after → AwaitsAt place before
+  pub awaits-back : (place : ℕ) (before after : SessionLocks) → after.wait ≡ before.wait → AwaitsAt place after → AwaitsAt place before
   awaits-back place before after same (wait, waits, at) = (wait, sym same ∙ waits, at)
 
   apart : (place p : ℕ) (ps : List ℕ) → is_among place (p ∷ ps) ≡ false → (place ≢ p) × (is_among place ps ≡ false)
@@ -351,16 +375,19 @@ module _ {S : Type 0} (members : Ghosts S) (laws : LawsOf members) where
 
 -- ---- what is replied
 
+-- what is so of the reply with the tidied context, is so of the outcome
+pub each_tidying : {A : Type 0} (P : Outcome A → Type 0) (reply : Result A ContextError) (context : ContextView) → P (reply, tidied context)
+    → Each P (tidying (reply, context))
+each_tidying {A} P reply context holds =
+    each_then {A = Unit {0}} {B = Outcome A} P (unpinning_all context.who (unneeded context)) (λ _. Give (reply, tidied context)) (λ _. holds)
+
 -- the reply stays, and the context is tidied
 pub gives_tidied : {A : Type 0} (outcome : Outcome A) → Each (λ (o : Outcome A). (o.0 ≡ outcome.0) × (o.1 ≡ tidied outcome.1)) (tidying outcome)
-gives_tidied {A} (reply, context) =
-    each_then {A = Unit {0}} {B = Outcome A} (λ (o : Outcome A). (o.0 ≡ reply) × (o.1 ≡ tidied context)) (unpinning_all context.who (unneeded context))
-    (λ _. Give (reply, tidied context)) (λ _. (refl, refl))
+gives_tidied {A} (reply, context) = each_tidying (λ (o : Outcome A). (o.0 ≡ reply) × (o.1 ≡ tidied context)) reply context (refl, refl)
 
 -- after releases nothing is known that isn't needed
 pub releases-leave_tidy : ReleasesLeaveTidy
 releases-leave_tidy gone context =
     let left : ContextView = record context { kept = without_tickets gone context.kept } in
     each_then {A = Unit {0}} {B = Outcome (Unit {0})} (λ (o : Outcome (Unit {0})). IsTidy o.1) (releasing_all context.who gone) (λ _. tidying (Ok tt, left))
-    (λ _. each_then {A = Unit {0}} {B = Outcome (Unit {0})} (λ (o : Outcome (Unit {0})). IsTidy o.1) (unpinning_all left.who (unneeded left))
-    (λ _. Give (Ok tt, tidied left)) (λ _. is-tidy left))
+    (λ _. each_tidying (λ (o : Outcome (Unit {0})). IsTidy o.1) (Ok tt) left (is-tidy left))

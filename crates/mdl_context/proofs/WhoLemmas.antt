@@ -5,7 +5,7 @@ use Rattle.mdl_key.specs.declared.mode.Mode.{Mode}
 use Rattle.mdl_calls.specs.declared.answers.Held.{Held}
 use Rattle.mdl_calls.specs.declared.space_error.SpaceError.{SpaceError}
 use Rattle.mdl_calls.specs.declared.space_error.SpaceError.TheVariants.{NoWait}
-use Rattle.mdl_calls.specs.Words.{Answer, At_place, Done, Granted, Upgraded, Would_wait, Pending, Is_settled, Lost, Release, Upgrade_now, Downgrade, Settle_timeout, Program, Give, Ask, Each, SearchEnd, Over, Cut_off, Failed, seeking, most_searches}
+use Rattle.mdl_calls.specs.Words.{Answer, At_place, Done, Granted, Upgraded, Would_wait, Pending, Is_settled, Lost, Release, Upgrade_now, Downgrade, Settle_timeout, Program, Give, Ask, Grow, Each, SearchEnd, Over, Cut_off, Failed, seeking, most_searches}
 use Rattle.mdl_calls.proofs.FaithfulLemmas.{either, each_then}
 use Rattle.mdl_context.specs.declared.asking.AskResult.{AskResult}
 use Rattle.mdl_context.specs.declared.asking.AskResult.TheVariants as got
@@ -24,10 +24,12 @@ use Rattle.mdl_context.specs.Holdings.{awaited_upgrade, earliest, without_number
 use Rattle.mdl_context.specs.Releases as releases
 use Rattle.mdl_context.specs.Requests as requests
 use Rattle.mdl_context.specs.Requests.{Outcome}
-use Rattle.mdl_context.specs.Tidying.{tidied, tidying, unneeded, unpinning_all}
+use Rattle.mdl_context.specs.Tidying.{tidying}
 use Rattle.mdl_context.specs.Upgrades as upgrades
 use Rattle.mdl_context.specs.Waits as waits
 use Rattle.mdl_context.specs.Wishes.{Wish}
+use Rattle.mdl_context.proofs.LookUpLemmas.{each_looked_up}
+use Rattle.mdl_context.proofs.TidyLemmas.{each_tidying}
 
 -- a call of a context leaves it this session's
 abbrev pub IsOf : {A : Type 0} → ℕ → Outcome A → Type 0
@@ -57,7 +59,8 @@ of_reusing None place request context =
 of_place : (request : Wish) (context : ContextView) (answer : Answer) → StaysOf {A = Acquire} context.who (requests.place_answered request context answer)
 of_place request context (At_place place) =
     let after = requests.remembering request.key place context in
-    (refl, of_reusing (earliest (requests.is_reusable place request) after.kept) place request after)
+    each_looked_up {A = Acquire} requests.got_lock place context (Grow (requests.starved context) (requests.acquiring_at place request after))
+    (IsOf context.who) (λ reply after got is. refl) (refl, of_reusing (earliest (requests.is_reusable place request) after.kept) place request after)
 of_place request context _ = refl
 
 of_finding : (place : Option ℕ) (request : Wish) (context : ContextView) → StaysOf {A = Acquire} context.who (requests.finding place request context)
@@ -90,7 +93,8 @@ of_trying_again None place request context =
 of_trying_placed : (request : Wish) (context : ContextView) (answer : Answer) → StaysOf {A = Tried} context.who (requests.trying_placed request context answer)
 of_trying_placed request context (At_place place) =
     let after = requests.remembering request.key place context in
-    (refl, of_trying_again (earliest (requests.is_reusable place request) after.kept) place request after)
+    each_looked_up {A = Tried} requests.got_at_once place context (Grow (requests.starved context) (requests.trying_at place request after))
+    (IsOf context.who) (λ reply after got is. refl) (refl, of_trying_again (earliest (requests.is_reusable place request) after.kept) place request after)
 of_trying_placed request context _ = refl
 
 of_trying_found : (place : Option ℕ) (request : Wish) (context : ContextView) → StaysOf {A = Tried} context.who (requests.trying_found place request context)
@@ -110,6 +114,11 @@ of_merged : {A : Type 0} (answer : A) (id : ℕ) (mode : Mode) (context : Contex
 of_merged answer id mode context (Ok x) = refl
 of_merged answer id mode context (Err refusal) = refl
 
+-- ---- places that are let go of
+
+pub of_tidying : {A : Type 0} (outcome : Outcome A) → StaysOf {A = A} outcome.1.who (tidying outcome)
+of_tidying {A} (reply, context) = each_tidying {A = A} (IsOf context.who) reply context refl
+
 -- ---- waits
 
 of_won : (upgrade : Option (ℕ × Mode)) (new : ℕ) (context : ContextView) → StaysOf {A = Resume} context.who (waits.wait_won upgrade new context)
@@ -121,7 +130,7 @@ of_won (Some (id, mode)) new context =
 
 of_end : (context : ContextView) (answer : Answer) → StaysOf {A = Resume} context.who (waits.end_answered context answer)
 of_end context (Granted id) = of_won (awaited_upgrade context.wait) id context
-of_end context (Lost how) = refl
+of_end context (Lost how) = of_tidying {A = Resume} (Ok (resume_as.Lost how), waits.without_wait context)
 of_end context _ = refl
 
 of_poll : (context : ContextView) (answer : Answer) → StaysOf {A = Resume} context.who (waits.poll_answered context answer)
@@ -133,8 +142,8 @@ of_sought : (context : ContextView) (end : SearchEnd) → StaysOf {A = Resume} c
 of_sought context Over = of_poll (waits.with_searches_over context)
 of_sought context Cut_off = of_poll context
 of_sought context (Failed refusal) =
-    each_then {A = Unit {0}} {B = Outcome Resume} (IsOf context.who) (gains.abandoning context.who)
-    (λ _. Give (Err (Space refusal), waits.without_wait context)) (λ _. refl)
+    let reply : Outcome Resume = (Err (Space refusal), waits.without_wait context) in
+    each_then {A = Unit {0}} {B = Outcome Resume} (IsOf context.who) (gains.abandoning context.who) (λ _. tidying reply) (λ _. of_tidying {A = Resume} reply)
 
 of_cut_off : (context : ContextView) (answer : Answer) → StaysOf {A = Resume} context.who (waits.cut_off_answered context answer)
 of_cut_off context Pending =
@@ -156,10 +165,6 @@ of_giving_up_wait context =
     (Give (Err (Space NoWait), context)) (λ _. of_end context) refl
 
 -- ---- releases
-
-pub of_tidying : {A : Type 0} (outcome : Outcome A) → StaysOf {A = A} outcome.1.who (tidying outcome)
-of_tidying {A} (reply, context) =
-    each_then {A = Unit {0}} {B = Outcome A} (IsOf context.who) (unpinning_all context.who (unneeded context)) (λ _. Give (reply, tidied context)) (λ _. refl)
 
 pub of_giving_up : (gone : List Kept) (context : ContextView) → StaysOf {A = Unit {0}} context.who (releases.releasing_tickets gone context)
 of_giving_up gone context =

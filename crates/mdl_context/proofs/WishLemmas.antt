@@ -1,5 +1,5 @@
 -- What a wish comes to, by the cases of its program.
-use Rattle.std.proofs.Common.{◌≡◌, ℕ, true, [], ◌∷◌, ◌++◌, Option, Some, None, Result, Ok, Err, refl, sym, ap, subst, ◌∙◌, arith}
+use Rattle.std.proofs.Common.{◌≡◌, ℕ, true, false, [], ◌∷◌, ◌++◌, Option, Some, None, Result, Ok, Err, refl, sym, ap, subst, ◌∙◌, arith}
 use Rattle.std.specs.Prelude.{is_some, ◌&&◌, not, find, if◌then◌else◌}
 use Rattle.std.specs.Option.{option_map}
 use Rattle.std.proofs.lemmas.Bool.{and_parts, eqb-true, eq-eqb, not-true, false≢true}
@@ -11,11 +11,12 @@ use Rattle.mdl_key.proofs.MatrixLemmas.{each_mode}
 use Rattle.mdl_book.proofs.TicketLemmas.{find-passes, find-contains}
 use Rattle.mdl_calls.specs.declared.answers.Held.{Held}
 use Rattle.mdl_calls.specs.declared.space_error.SpaceError.{SpaceError}
-use Rattle.mdl_calls.specs.Words.{Answer, At_place, Give, Each}
+use Rattle.mdl_calls.specs.Words.{Answer, At_place, Give, Grow, Each}
 use Rattle.mdl_calls.proofs.FaithfulLemmas.{either, each_then}
 use Rattle.mdl_system.specs.Strength.{covers}
 use Rattle.mdl_context.specs.declared.asking.AskResult.{AskResult}
 use Rattle.mdl_context.specs.declared.asking.AskResult.TheVariants as got
+use Rattle.mdl_context.specs.declared.context_error.ContextError.{ContextError}
 use Rattle.mdl_context.specs.declared.context_error.ContextError.TheVariants.{Waiting}
 use Rattle.mdl_context.specs.declared.kept.Kept.{Kept}
 use Rattle.mdl_context.specs.declared.kept.Wanted.{Wanted}
@@ -27,10 +28,11 @@ use Rattle.mdl_context.specs.Wishes.{Wish}
 use Rattle.mdl_context.specs.Contexts.{ContextView, lasts, place_known, held_of}
 use Rattle.mdl_context.specs.Gains.{gaining_from, trying_from}
 use Rattle.mdl_context.specs.Holdings.{earliest, is_kept_at, kept_ticket}
-use Rattle.mdl_context.specs.Requests.{Outcome, acquiring_at, finding, is_reusable, outcome_got, outcome_tried, place_answered, remembering, reusing, suffices, trying_again, trying_at, trying_found, trying_placed}
+use Rattle.mdl_context.specs.Requests.{Outcome, acquiring_at, finding, got_at_once, got_lock, is_reusable, outcome_got, outcome_tried, place_answered, remembering, reusing, starved, suffices, trying_again, trying_at, trying_found, trying_placed}
 use Rattle.mdl_context.specs.Requests as requests
 use Rattle.mdl_context.specs.WishLaws.{IsAsWished, IsMet, IsMetAtOnce, GainsATicket, GainsAtOnce}
 use Rattle.mdl_context.proofs.AttendLemmas.{known-last}
+use Rattle.mdl_context.proofs.LookUpLemmas.{each_looked_up}
 
 pub covers-itself : (mode : Mode) → covers mode mode ≡ true
 covers-itself mode = each_mode (λ m. covers m m) refl mode
@@ -108,10 +110,15 @@ module _ (request : Wish) (before context : ContextView) (place : ℕ) (known : 
 
 met_place : (request : Wish) (context : ContextView) → place_known request.key context.known ≡ None → (answer : Answer)
     → Each (IsMet request context) (place_answered request context answer)
-met_place request context new (At_place place) = (
-  (refl, refl),
-  met_at request context (remembering request.key place context) place (known-last request.key context.known place new) refl refl,
-)
+met_place request context new (At_place place) =
+    let looked_up = remembering request.key place context in
+    each_looked_up {A = Acquire} got_lock place context (Grow (starved context) (acquiring_at place request looked_up)) (IsMet request context) unmet
+    ((refl, refl), met_at request context looked_up place (known-last request.key context.known place new) refl refl)
+  where
+    unmet : (reply : Result Acquire ContextError) (after : ContextView) → got_lock reply ≡ false → IsMet request context (reply, after)
+        → IsMet request context (reply, context)
+    unmet (Ok got) after none met = cc
+    unmet (Err why) after none met = (refl, refl)
 met_place request context new _ = (refl, refl)
 
 met_finding : (request : Wish) (context : ContextView) (found : Option ℕ) → place_known request.key context.known ≡ found
@@ -127,10 +134,16 @@ met_acquiring request context =
 
 tried_place : (request : Wish) (context : ContextView) → place_known request.key context.known ≡ None → (answer : Answer)
     → Each (IsMetAtOnce request context) (trying_placed request context answer)
-tried_place request context new (At_place place) = (
-  (refl, refl),
-  tried_at request context (remembering request.key place context) place (known-last request.key context.known place new) refl refl,
-)
+tried_place request context new (At_place place) =
+    let looked_up = remembering request.key place context in
+    each_looked_up {A = Tried} got_at_once place context (Grow (starved context) (trying_at place request looked_up)) (IsMetAtOnce request context) unmet
+    ((refl, refl), tried_at request context looked_up place (known-last request.key context.known place new) refl refl)
+  where
+    unmet : (reply : Result Tried ContextError) (after : ContextView) → got_at_once reply ≡ false → IsMetAtOnce request context (reply, after)
+        → IsMetAtOnce request context (reply, context)
+    unmet (Ok (try_as.Acquired id)) after none met = cc
+    unmet (Ok try_as.WouldWait) after none met = (refl, refl)
+    unmet (Err why) after none met = (refl, refl)
 tried_place request context new _ = (refl, refl)
 
 tried_found : (request : Wish) (context : ContextView) (found : Option ℕ) → place_known request.key context.known ≡ found
@@ -196,7 +209,14 @@ module _ (request : Wish) (before context : ContextView) (place : ℕ) (explicit
 gains_place : (request : Wish) (context : ContextView) → request.duration ≡ Explicit → (answer : Answer)
     → Each (GainsATicket request context) (place_answered request context answer)
 gains_place request context explicit (At_place place) =
-    (tt, gains_at request context (remembering request.key place context) place explicit refl)
+    let looked_up = remembering request.key place context in
+    each_looked_up {A = Acquire} got_lock place context (Grow (starved context) (acquiring_at place request looked_up)) (GainsATicket request context) none
+    (tt, gains_at request context looked_up place explicit refl)
+  where
+    none : (reply : Result Acquire ContextError) (after : ContextView) → got_lock reply ≡ false → GainsATicket request context (reply, after)
+        → GainsATicket request context (reply, context)
+    none (Ok got) after unmet gained = cc
+    none (Err why) after unmet gained = tt
 gains_place request context explicit _ = tt
 
 gains_finding : (request : Wish) (context : ContextView) → request.duration ≡ Explicit → (found : Option ℕ)
@@ -214,7 +234,15 @@ gains_acquiring request context explicit =
 gains_trying_placed : (request : Wish) (context : ContextView) → request.duration ≡ Explicit → (answer : Answer)
     → Each (GainsAtOnce request context) (trying_placed request context answer)
 gains_trying_placed request context explicit (At_place place) =
-    (tt, gains_at_once request context (remembering request.key place context) place explicit refl)
+    let looked_up = remembering request.key place context in
+    each_looked_up {A = Tried} got_at_once place context (Grow (starved context) (trying_at place request looked_up)) (GainsAtOnce request context) none
+    (tt, gains_at_once request context looked_up place explicit refl)
+  where
+    none : (reply : Result Tried ContextError) (after : ContextView) → got_at_once reply ≡ false → GainsAtOnce request context (reply, after)
+        → GainsAtOnce request context (reply, context)
+    none (Ok (try_as.Acquired id)) after unmet gained = cc
+    none (Ok try_as.WouldWait) after unmet gained = tt
+    none (Err why) after unmet gained = tt
 gains_trying_placed request context explicit _ = tt
 
 gains_trying_found : (request : Wish) (context : ContextView) → request.duration ≡ Explicit → (found : Option ℕ)

@@ -10,6 +10,7 @@ use Rattle.mdl_key.specs.declared.mode.Duration.TheVariants.{Statement, Transact
 use Rattle.mdl_key.specs.declared.namespace.Namespace.{Namespace}
 use Rattle.mdl_key.specs.declared.namespace.Namespace.TheVariants.{UserLevelLock}
 use Rattle.mdl_key.specs.Keys.{KeyName, key_eq}
+use Rattle.mdl_key.specs.Modes.{kind_of, is_mode_of}
 use Rattle.mdl_defs.specs.declared.versioned_definition.VersionedDefinition.{VersionedDefinition}
 use Rattle.mdl_calls.specs.declared.answers.Held.{Held}
 use Rattle.mdl_calls.specs.declared.answers.Settled.{Settled}
@@ -111,6 +112,16 @@ last_at place kept = last_or None (map (λ ticket. ticket.id) (filter (λ ticket
 -- the number of the ticket of a key that was gained last
 abbrev pub last_ticket : KeyName → ContextView → Option ℕ
 last_ticket key context = option_and_then (λ place. last_at place context.kept) (place_known key context.known)
+
+-- whether a ticket is at this place, in a mode at least as strong as this one
+abbrev pub covers_at : ℕ → Mode → Kept → Bool
+covers_at place mode ticket = ticket.place == place && covers ticket.mode mode
+
+-- whether the session has a ticket of a key in a mode at least as strong as this one, which is a mode of the key's kind
+abbrev pub holds_as_strong : KeyName → Mode → ContextView → Bool
+holds_as_strong key mode context =
+    is_mode_of (kind_of key.namespace) mode
+    && option_map_or (λ place. list_any (covers_at place mode) context.kept) (place_known key context.known) false
 
 -- a kept ticket as the lock space shows it, without its duration
 abbrev pub held_of : Kept → Held

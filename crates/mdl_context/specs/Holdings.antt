@@ -65,6 +65,14 @@ earliest test kept = option_map held_of (find test kept)
 abbrev pub kept_for : Duration → Kept → Kept
 kept_for duration ticket = record ticket { duration = duration }
 
+-- a ticket, kept for this duration if it has this number
+abbrev pub lasting : ℕ → Duration → Kept → Kept
+lasting id duration ticket = if has_ticket_number id ticket then kept_for duration ticket else ticket
+
+-- the tickets, with the duration of the one with this number replaced
+abbrev pub with_duration : ℕ → Duration → List Kept → List Kept
+with_duration id duration kept = map (lasting id duration) kept
+
 -- the duration of a ticket once it may last no longer than the transaction
 abbrev pub in_transaction : Duration → Duration
 in_transaction Explicit = Transaction

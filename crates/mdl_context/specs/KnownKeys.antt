@@ -1,5 +1,5 @@
 -- The keys whose places a context knows, as its code represents them.
-use Rattle.std.specs.Prelude.{◌≡◌, ℕ, ◌<◌, Bool, not, ◌&&◌, List, All, Option, Some, filter_map, length, slice_get}
+use Rattle.std.specs.Prelude.{◌≡◌, ℕ, ◌<◌, Bool, not, ◌&&◌, List, [], ◌∷◌, All, Option, Some, None, filter_map, length, slice_get}
 use Rattle.std.specs.List.{list_any}
 use Rattle.std.specs.Map.{lookup}
 use Rattle.std.specs.Option.{option_and_then, option_map}
@@ -31,9 +31,10 @@ AreMet met known = (key : KeyName) → place_met key met ≡ place_known key kno
 abbrev pub KeepsKeys : List KeyName → List KeyName → Type 0
 KeepsKeys before after = (index : ℕ) (key : KeyName) → slice_get before index ≡ Some key → slice_get after index ≡ Some key
 
--- each known key has one place
-abbrev pub HasOnePlaceEach : List (KeyName × ℕ) → Type 0
-HasOnePlaceEach known = All (λ entry. place_known entry.0 known ≡ Some entry.1) known
+-- each known key is listed once
+abbrev pub AreKnownOnce : List (KeyName × ℕ) → Type 0
+AreKnownOnce [] = Unit {0}
+AreKnownOnce (entry ∷ known) = (place_known entry.0 known ≡ None) × AreKnownOnce known
 
 -- whether a key is known at a place that fails a test
 abbrev pub is_dropped : (ℕ → Bool) → KeyName → List (KeyName × ℕ) → Bool

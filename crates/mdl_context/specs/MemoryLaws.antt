@@ -15,7 +15,7 @@ use Rattle.mdl_context.specs.declared.request.Mark.{Mark}
 use Rattle.mdl_context.specs.Wishes.{Wish}
 use Rattle.mdl_context.specs.Contexts.{ContextView}
 use Rattle.mdl_context.specs.Holdings.{awaited_upgrade}
-use Rattle.mdl_context.specs.Releases.{releasing_tickets, releasing, releasing_name, rolling_back, ending_statement, ending_transaction}
+use Rattle.mdl_context.specs.Releases.{releasing_tickets, releasing, releasing_name, rolling_back, ending_statement, ending_transaction, ending_explicit}
 use Rattle.mdl_context.specs.Requests.{Outcome, acquiring, trying}
 use Rattle.mdl_context.specs.Upgrades.{upgrading, downgrading}
 use Rattle.mdl_context.specs.Waits.{is_searched, resuming, giving_up_wait}
@@ -34,6 +34,7 @@ EachEnding P context =
     × ((mark : Mark) → P _ (rolling_back mark context))
     × P _ (ending_statement context)
     × P _ (ending_transaction context)
+    × P _ (ending_explicit context)
     × ((gone : List Kept) → P _ (releasing_tickets gone context))
     × ((id : ℕ) (mode : Mode) → P _ (downgrading id mode context))
 

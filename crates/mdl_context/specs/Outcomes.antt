@@ -13,7 +13,8 @@ use Rattle.mdl_context.specs.Contexts.{ContextView, ticket_kept}
 use Rattle.mdl_context.specs.Holdings.{awaited_upgrade}
 use Rattle.mdl_context.specs.Requests.{Outcome}
 use Rattle.mdl_context.specs.Upgrades.{with_ticket_mode, awaiting_upgrade, upgrading}
-use Rattle.mdl_context.specs.Waits.{without_wait, taking_up, resuming, giving_up_wait}
+use Rattle.mdl_context.specs.Tidying.{tidied}
+use Rattle.mdl_context.specs.Waits.{HasLostWait, without_wait, taking_up, resuming, giving_up_wait}
 
 -- one ticket has a mode at least as strong as this one, and nothing else changed: it keeps its number and its duration
 abbrev pub IsRaised : ℕ → Mode → ContextView → ContextView → Type 0
@@ -34,13 +35,13 @@ abbrev pub IsWon : Option (ℕ × Mode) → ℕ → ContextView → ContextView 
 IsWon None told before after = after ≡ taking_up told before
 IsWon (Some (id, mode)) told before after = (told ≡ id) × (after ≡ with_ticket_mode id (λ _. mode) (without_wait before))
 
--- the result of a wait: while it isn't settled, and if it is lost or fails, all tickets and their durations are unchanged. If it is
--- granted, `IsWon` says what changed
+-- the result of a wait: while it isn't settled, and if it is lost or fails, all tickets and their durations are unchanged. A context that lost
+-- its wait lets go of the places where it has nothing. If the wait is granted, `IsWon` says what changed
 abbrev pub WaitComesTo : ContextView → Outcome Resume → Type 0
 WaitComesTo before (Ok resume_as.Waiting, after) = without_wait after ≡ without_wait before
 WaitComesTo before (Ok (resume_as.Acquired told), after) = IsWon (awaited_upgrade before.wait) told before after
-WaitComesTo before (Ok (resume_as.Lost how), after) = after ≡ without_wait before
-WaitComesTo before (Err error, after) = without_wait after ≡ without_wait before
+WaitComesTo before (Ok (resume_as.Lost how), after) = after ≡ tidied (without_wait before)
+WaitComesTo before (Err error, after) = HasLostWait before (without_wait after)
 
 -- each upgrade has such a result
 abbrev pub UpgradesAreMet : Type 0

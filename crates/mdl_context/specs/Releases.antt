@@ -1,6 +1,6 @@
 -- How a session releases tickets, after MySQL 5.7: `MDL_context::release_lock`, `release_all_locks_for_name`,
--- `rollback_to_savepoint`, `release_statement_locks` and `release_transactional_locks` of sql/mdl.cc. As there, the tickets
--- of each duration are released from the newest to the oldest. Two things are this project's own choice. The tickets of a
+-- `rollback_to_savepoint`, `release_statement_locks`, `release_transactional_locks` and `release_explicit_locks` of sql/mdl.cc. As there,
+-- the tickets of each duration are released from the newest to the oldest. Two things are this project's own choice. The tickets of a
 -- key are released whatever their duration. All refusals are its own.
 use Rattle.std.specs.Prelude.{ℕ, List, [], ◌∷◌, ◌++◌, filter, not, Option, Some, None, is_some, Ok, Err, if◌then◌else◌}
 use Rattle.mdl_key.specs.declared.mode.Duration.TheVariants.{Explicit}
@@ -68,6 +68,11 @@ ending_statement context = unless (waiting_fault context) context (releasing_tic
 -- the program that ends a transaction
 abbrev pub ending_transaction : ContextView → Program (Outcome (Unit {0}))
 ending_transaction context = unless (waiting_fault context) context (releasing_tickets (of_transaction context.kept) context)
+
+-- the program that releases the explicit tickets, the newest first
+abbrev pub ending_explicit : ContextView → Program (Outcome (Unit {0}))
+ending_explicit context =
+    unless (waiting_fault context) context (releasing_tickets (newest_first (tickets_for Explicit context.kept)) context)
 
 -- the program that releases all tickets: those that end with the transaction first, and then the explicit ones, the newest first
 abbrev pub giving_up_all : ContextView → Program (Outcome (Unit {0}))

@@ -1,7 +1,8 @@
 -- How a session gets its tickets, after MySQL 5.7: `MDL_context::try_acquire_lock_impl`, `find_ticket` and `acquire_lock` of
 -- sql/mdl.cc. This project's own choice is that the place of a key is looked up once as long as the session has something there, that the
--- earliest suitable ticket there is taken, and that a wait is continued by separate calls.
-use Rattle.std.specs.Prelude.{◌≡◌, ◌⊎◌, ℕ, Bool, not, ◌&&◌, [], ◌∷◌, ◌++◌, Option, Some, None, IsSome, is_some, Result, Ok, Err, if◌then◌else◌}
+-- pin is given up again if the request gets nothing there, that the earliest suitable ticket there is taken, and that a wait is continued by
+-- separate calls.
+use Rattle.std.specs.Prelude.{◌≡◌, ◌⊎◌, ℕ, Bool, not, ◌&&◌, [], ◌∷◌, ◌++◌, Option, Some, None, IsSome, is_some, Result, Ok, Err, true, false, if◌then◌else◌}
 use Rattle.mdl_key.specs.declared.mode.Duration.TheVariants.{Explicit}
 use Rattle.mdl_key.specs.Keys.{KeyName}
 use Rattle.mdl_key.specs.Modes.{kind_of, is_mode_of}
@@ -9,7 +10,7 @@ use Rattle.mdl_calls.specs.declared.answers.Held.{Held}
 use Rattle.mdl_calls.specs.declared.space_error.SpaceError.{SpaceError}
 use Rattle.mdl_calls.specs.declared.space_error.SpaceError.TheVariants.{NoPlace, OutOfMemory}
 use Rattle.mdl_calls.specs.declared.lock_space.LockSpace.{Ghosts}
-use Rattle.mdl_calls.specs.Words.{Answer, At_place, Call, Refused, Resolve, pinning, Program, Give, Ask, Grow, ◌>>=◌}
+use Rattle.mdl_calls.specs.Words.{Answer, At_place, Call, Refused, Resolve, Unpin, is_pinned, Program, Give, Ask, Grow, ◌>>=◌}
 use Rattle.mdl_system.specs.Strength.{covers}
 use Rattle.mdl_context.specs.declared.asking.AskResult.{AskResult}
 use Rattle.mdl_context.specs.declared.asking.AskResult.TheVariants as got
@@ -73,9 +74,22 @@ reusing None place request context =
 abbrev pub acquiring_at : ℕ → Wish → ContextView → Program (Outcome Acquire)
 acquiring_at place request context = reusing (earliest (is_reusable place request) context.kept) place request context
 
--- the rest of a request once the space has answered the key's place: the place is remembered, which takes memory
+-- whether a request got what it asked for: the lock, or a wait for it
+abbrev pub got_lock : Result Acquire ContextError → Bool
+got_lock (Ok _) = true
+got_lock (Err _) = false
+
+-- the end of a request at a place that was looked up for it: if the request got nothing there, the session gives up its pin of the place, and
+-- the context is as it was before
+abbrev pub letting_go : {A : Type 0} → (Result A ContextError → Bool) → ℕ → ContextView → Outcome A → Program (Outcome A)
+letting_go has_got place before (reply, after) =
+    if has_got reply then Give (reply, after) else Ask (Unpin before.who place) (λ _. Give (reply, before))
+
+-- the rest of a request once the space has answered the key's place: the place is remembered, which takes memory, as long as the request gets
+-- something there
 abbrev pub place_answered : Wish → ContextView → Answer → Program (Outcome Acquire)
-place_answered request context (At_place place) = Grow (starved context) (acquiring_at place request (remembering request.key place context))
+place_answered request context (At_place place) =
+    Grow (starved context) (acquiring_at place request (remembering request.key place context)) >>= letting_go got_lock place context
 place_answered request context answer = Give (Err (Space (refusal_answered answer)), context)
 
 -- a request whose key's place is known, or else looked up in the space
@@ -108,9 +122,15 @@ trying_again None place request context =
 abbrev pub trying_at : ℕ → Wish → ContextView → Program (Outcome Tried)
 trying_at place request context = trying_again (earliest (is_reusable place request) context.kept) place request context
 
--- the rest of a request that doesn't wait, once the space has answered the key's place, which is remembered
+-- whether a request that doesn't wait got the lock
+abbrev pub got_at_once : Result Tried ContextError → Bool
+got_at_once (Ok (try_as.Acquired id)) = true
+got_at_once _ = false
+
+-- the rest of a request that doesn't wait, once the space has answered the key's place, which is remembered if the lock is got
 abbrev pub trying_placed : Wish → ContextView → Answer → Program (Outcome Tried)
-trying_placed request context (At_place place) = Grow (starved context) (trying_at place request (remembering request.key place context))
+trying_placed request context (At_place place) =
+    Grow (starved context) (trying_at place request (remembering request.key place context)) >>= letting_go got_at_once place context
 trying_placed request context answer = Give (Err (Space (refusal_answered answer)), context)
 
 -- a request whose key's place is known, or else looked up in the space
@@ -135,22 +155,20 @@ abbrev pub LacksPlaceOf : {S A : Type 0} → (S → Call → Answer → S → Ty
 LacksPlaceOf joins key context before result after =
     IsNoPlace result → (place_known key context.known ≡ None) × joins before (Resolve context.who key) (Refused NoPlace) after
 
--- a context is unchanged, or has learnt the place of a key that it didn't know
-abbrev pub LearnsAtMost : KeyName → ContextView → ContextView → Type 0
-LearnsAtMost key before after =
-    (after ≡ before) ⊎ ((place : ℕ) × (place_known key before.known ≡ None) × (after ≡ remembering key place before))
-
 -- the wait after a request: there is one only if the session has to wait, and a refusal leaves it unchanged
 abbrev pub WaitsAfter : Result Acquire ContextError → Option Wanted → Option Wanted → Type 0
 WaitsAfter (Ok (Acquired id)) before after = after ≡ None
 WaitsAfter (Ok (MustWait number)) before after = IsSome after
 WaitsAfter (Err error) before after = after ≡ before
 
--- a session has what it had, and pins at most one more place, that of a key
-abbrev pub PinsAtMost : {S : Type 0} → Ghosts S → ℕ → KeyName → S → S → Type 0
-PinsAtMost members who key before after =
-    (members.own after who ≡ members.own before who)
-    ⊎ ((place : ℕ) × members.knows after who place key × (members.own after who ≡ pinning place (members.own before who)))
+-- a session has what it had, pins no more, and has lost at most its pin of this key's place. It still pins that place besides if it owes it a
+-- reschedule
+pub record HasWhatItHad {S : Type 0} (members : Ghosts S) (who : ℕ) (key : KeyName) (before after : S) : Type 0 where
+  pub locks : ((members.own after who).held ≡ (members.own before who).held) × ((members.own after who).wait ≡ (members.own before who).wait)
+  pub pins : (place : ℕ) → is_pinned place (members.own after who) ≡ true
+      → (is_pinned place (members.own before who) ≡ true) ⊎ members.owes before who place
+  pub keeps : (place : ℕ) → is_pinned place (members.own before who) ≡ true
+      → (is_pinned place (members.own after who) ≡ true) ⊎ members.knows before who place key
 
 -- a property holds, unless a ticket was acquired
 abbrev pub UnlessAcquired : Result Tried ContextError → Type 0 → Type 0

@@ -35,6 +35,17 @@ tidying (reply, context) = unpinning_all context.who (unneeded context) >> Give 
 abbrev pub IsTidy : ContextView → Type 0
 IsTidy context = All (λ entry. is_needed context entry.1 ≡ true) context.known
 
+-- the session pins only places where the context has something, and owes no reschedule
+abbrev pub PinsJustNeeded : {S : Type 0} → Ghosts S → S → ContextView → Type 0
+PinsJustNeeded members space context =
+    ((place : ℕ) → is_pinned place (members.own space context.who) ≡ true → is_needed context place ≡ true)
+    × ((place : ℕ) → members.owes space context.who place → ⊥)
+
+-- a call leaves no pin behind: if the session pinned only places where the context had something, it does so after the call. The same holds of the
+-- places that the context knows, whatever the session pins besides
+abbrev pub StaysTidy : {S : Type 0} → Ghosts S → S → ContextView → S → ContextView → Type 0
+StaysTidy members a before b after = (IsTidy before → IsTidy after) × (PinsJustNeeded members a before → PinsJustNeeded members b after)
+
 -- of a place that the context knew and knows no longer, the session has no pin any more, unless it owed the place a reschedule
 abbrev pub LetsGo : {S : Type 0} → Ghosts S → S → ContextView → S → ContextView → Type 0
 LetsGo members a before b after =

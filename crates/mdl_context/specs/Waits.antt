@@ -1,6 +1,6 @@
 -- How a session's wait goes on and ends, after MySQL 5.7: `MDL_context::acquire_lock` of sql/mdl.cc, from its wait on. That a wait
 -- is continued by separate calls is this project's own choice.
-use Rattle.std.specs.Prelude.{◌≡◌, ℕ, Bool, true, false, Option, Some, None, IsSome, is_some, Result, Ok, Err, if◌then◌else◌}
+use Rattle.std.specs.Prelude.{◌≡◌, ◌⊎◌, ℕ, Bool, true, false, Option, Some, None, IsSome, is_some, Result, Ok, Err, if◌then◌else◌}
 use Rattle.std.specs.Option.{option_map}
 use Rattle.mdl_key.specs.declared.mode.Mode.{Mode}
 use Rattle.mdl_calls.specs.declared.space_error.SpaceError.TheVariants.{NoWait}
@@ -14,6 +14,7 @@ use Rattle.mdl_context.specs.Contexts.{ContextView}
 use Rattle.mdl_context.specs.Gains.{refusal_answered, abandoning}
 use Rattle.mdl_context.specs.Holdings.{with_wanted, search_over, awaited_upgrade}
 use Rattle.mdl_context.specs.Requests.{Outcome}
+use Rattle.mdl_context.specs.Tidying.{tidied, tidying}
 use Rattle.mdl_context.specs.Upgrades.{merging_new, merged}
 
 -- the context without a wait
@@ -30,10 +31,10 @@ wait_won None new context = Give (Ok (resume_as.Acquired new), taking_up new con
 wait_won (Some (id, mode)) new context =
     merging_new context.who id new >>= (λ end. Give (merged (resume_as.Acquired id) id mode (without_wait context) end))
 
--- the outcome of ending a wait, from what the space answered
+-- the outcome of ending a wait, from what the space answered. If the wait was lost, the context lets go of the places where it has nothing
 abbrev pub end_answered : ContextView → Answer → Program (Outcome Resume)
 end_answered context (Granted id) = wait_won (awaited_upgrade context.wait) id context
-end_answered context (Lost how) = Give (Ok (resume_as.Lost how), without_wait context)
+end_answered context (Lost how) = tidying (Ok (resume_as.Lost how), without_wait context)
 end_answered context answer = Give (Err (Space (refusal_answered answer)), context)
 
 -- the program that ends the session's wait
@@ -54,11 +55,12 @@ looking context = Ask (Poll_wait context.who) (poll_answered context)
 abbrev pub with_searches_over : ContextView → ContextView
 with_searches_over context = record context { wait = option_map search_over context.wait }
 
--- the rest of a wait after its searches for deadlocks: a look at it. If a search was refused, the wait is given up instead
+-- the rest of a wait after its searches for deadlocks: a look at it. If a search was refused, the wait is given up instead, and the context
+-- lets go of the places where it has nothing
 abbrev pub wait_sought : ContextView → SearchEnd → Program (Outcome Resume)
 wait_sought context Over = looking (with_searches_over context)
 wait_sought context Cut_off = looking context
-wait_sought context (Failed refusal) = abandoning context.who >> Give (Err (Space refusal), without_wait context)
+wait_sought context (Failed refusal) = abandoning context.who >> tidying (Err (Space refusal), without_wait context)
 
 -- the program that continues the searches for deadlocks
 abbrev pub searching_on : ContextView → Program (Outcome Resume)
@@ -87,6 +89,10 @@ resuming context = continuing_wait (is_searched context.wait) context
 abbrev pub giving_up_wait : ContextView → Program (Outcome Resume)
 giving_up_wait context =
     if is_some context.wait then Ask (Settle_timeout context.who) (λ _. ending_wait context) else Give (Err (Space NoWait), context)
+
+-- a wait ended without a ticket: nothing else changed, but that the context may have let go of the places where it has nothing then
+abbrev pub HasLostWait : ContextView → ContextView → Type 0
+HasLostWait before after = (after ≡ without_wait before) ⊎ (after ≡ tidied (without_wait before))
 
 -- why a call about a wait is refused: there is none
 abbrev pub no_wait_fault : ContextView → Option ContextError

@@ -2,13 +2,14 @@
 ghost use Rattle.std.specs.Prelude.{◌≡◌, None, [], map, OnOk, OnErr};
 ghost use Rattle.mdl_key.specs.declared.mode.Duration.TheVariants.{Explicit};
 ghost use Rattle.mdl_key.specs.Refusals.{RefusesJust};
-ghost use Rattle.mdl_context.specs.Contexts.{current_mark, waits_for_user_lock, last_ticket, Attends};
-ghost use Rattle.mdl_context.specs.Holdings.{kept_for, transactional};
-ghost use Rattle.mdl_context.specs.Releases.{waiting_fault};
+ghost use Rattle.mdl_context.specs.Contexts.{current_mark, waits_for_user_lock, last_ticket, holds_as_strong, Attends};
+ghost use Rattle.mdl_context.specs.Holdings.{kept_for, with_duration, transactional};
+ghost use Rattle.mdl_context.specs.Releases.{release_fault, waiting_fault};
+ghost use Rattle.mdl_context.specs.Tidying.{StaysTidy};
 
 use crate::holdings::Holdings;
 use crate::{ContextError, Kept, Mark, Wanted};
-use mdl_key::{Duration, Key};
+use mdl_key::{Duration, Key, Mode};
 use mdl_space::{LockSpace, TicketId};
 use std::alloc::Global;
 use std::marker::{Model, PhantomData};
@@ -92,6 +93,23 @@ impl<S: LockSpace> Context<S> {
         self.holdings.last_at(place)
     }
 
+    /// Whether the session has a ticket of a key in a mode at least as strong. For a mode that isn't of the key's kind it has none.
+    ///
+    /// Takes no memory, and makes no call of the space.
+    ///
+    /// After MySQL 5.7, `MDL_context::owns_equal_or_stronger_lock` of `sql/mdl.cc`.
+    pub fn holds(&self, key: &Key, mode: Mode) -> bool
+        ensures { result ≡ holds_as_strong key.now mode self.now }
+    {
+        if !key.kind().has_mode(mode) {
+            return false;
+        }
+        match self.holdings.place_known(key) {
+            Some(place) => self.holdings.has_covering(place, mode),
+            None => false,
+        }
+    }
+
     /// The session's current mark: how many tickets it keeps for the statement, and how many for the transaction.
     ///
     /// The mark names no ticket, and holds nothing. It is valid as long as the session keeps at least that many of both.
@@ -107,6 +125,27 @@ impl<S: LockSpace> Context<S> {
         }
     }
 
+    /// Keeps a ticket for this duration from now on, whatever its duration was. Takes no memory, and makes no call of the space.
+    ///
+    /// After MySQL 5.7, `MDL_context::set_lock_duration` of `sql/mdl.cc`.
+    pub fn set_duration(&mut self, id: TicketId, duration: Duration) -> Result<(), ContextError>
+        ensures refused { RefusesJust (release_fault id self.old) result }
+        ensures done { OnOk result (self.new ≡ record self.old { kept = with_duration id duration self.old.kept }) }
+        ensures unchanged { OnErr result (self.new ≡ self.old) }
+        ensures who { self.new.who ≡ self.old.who }
+        ensures attends { (space : S) → Attends S.LockSpace space self.old → Attends S.LockSpace space self.new }
+        ensures tidy { (space : S) → StaysTidy S.LockSpace space self.old space self.new }
+    {
+        if !self.holdings.has(id) {
+            return Err(ContextError::NotHeld);
+        }
+        if self.holdings.is_waiting() {
+            return Err(ContextError::Waiting);
+        }
+        self.holdings.set_duration(id, duration);
+        Ok(())
+    }
+
     /// Makes all tickets explicit: they are kept until they are released.
     ///
     /// After MySQL 5.7, `MDL_context::set_explicit_duration_for_all_locks` of `sql/mdl.cc`.
@@ -116,6 +155,7 @@ impl<S: LockSpace> Context<S> {
         ensures unchanged { OnErr result (self.new ≡ self.old) }
         ensures who { self.new.who ≡ self.old.who }
         ensures attends { (space : S) → Attends S.LockSpace space self.old → Attends S.LockSpace space self.new }
+        ensures tidy { (space : S) → StaysTidy S.LockSpace space self.old space self.new }
     {
         if self.holdings.is_waiting() {
             return Err(ContextError::Waiting);
@@ -133,6 +173,7 @@ impl<S: LockSpace> Context<S> {
         ensures unchanged { OnErr result (self.new ≡ self.old) }
         ensures who { self.new.who ≡ self.old.who }
         ensures attends { (space : S) → Attends S.LockSpace space self.old → Attends S.LockSpace space self.new }
+        ensures tidy { (space : S) → StaysTidy S.LockSpace space self.old space self.new }
     {
         if self.holdings.is_waiting() {
             return Err(ContextError::Waiting);

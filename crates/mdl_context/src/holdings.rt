@@ -1,12 +1,14 @@
 //! The tickets that a context keeps, the places that it knows, and its wait.
-ghost use Rattle.std.specs.Prelude.{◌≡◌, ℕ, true, false, Some, None, [], ◌∷◌, ◌++◌, map, filter, find, length, is_some, OnOk, OnErr, slice_get, position, take, not, ◌-◌, ◌<◌, ◌≤◌};
+ghost use Rattle.std.specs.Prelude.{◌≡◌, ℕ, List, true, false, Some, None, [], ◌∷◌, ◌++◌, map, filter, find, length, is_some, OnOk, OnErr, slice_get, position, take, not, ◌-◌, ◌<◌, ◌≤◌};
 ghost use Rattle.std.specs.Vec.{vec_capacity};
 ghost use Rattle.std.specs.Option.{option_copied, option_map};
+ghost use Rattle.std.specs.List.{list_any};
 ghost use Rattle.mdl_key.specs.declared.mode.Duration.TheVariants.{Explicit};
+ghost use Rattle.mdl_key.specs.Keys.{KeyName};
 ghost use Rattle.mdl_calls.specs.SessionLocks.{upgraded};
-ghost use Rattle.mdl_context.specs.Contexts.{AreRising, lasts, tickets_for, has_number, held_of, is_user_lock, last_at, place_known, ticket_kept};
+ghost use Rattle.mdl_context.specs.Contexts.{AreRising, covers_at, lasts, tickets_for, has_number, held_of, is_user_lock, last_at, place_known, ticket_kept};
 ghost use Rattle.mdl_context.specs.Goings.{goes};
-ghost use Rattle.mdl_context.specs.Holdings.{context_of, without_number, is_kept_at, has_ticket_number, IsIndexOf, has_room, earliest, kept_for, in_transaction, transactional, kept_ticket, wanted_of, wanted_upgrade, awaited_upgrade, with_kept_mode, with_wanted, search_over};
+ghost use Rattle.mdl_context.specs.Holdings.{context_of, without_number, is_kept_at, has_ticket_number, IsIndexOf, has_room, earliest, kept_for, lasting, with_duration, in_transaction, transactional, kept_ticket, wanted_of, wanted_upgrade, awaited_upgrade, with_kept_mode, with_wanted, search_over};
 ghost use Rattle.mdl_context.specs.Indexes.{has_room_for};
 ghost use Rattle.mdl_context.specs.Waits.{is_searched};
 ghost use Rattle.mdl_context.specs.Terms.{meets, serves_again};
@@ -145,6 +147,15 @@ impl Holdings {
         self.known.add(key, place)
     }
 
+    /// Forgets the place that became known last. Takes no memory.
+    pub(crate) fn forget_last(&mut self)
+        ensures kept { self.new.kept ≡ self.old.kept }
+        ensures known { (before : List (KeyName × ℕ)) (last : KeyName × ℕ) → self.old.known ≡ before ++ last ∷ [] → self.new.known ≡ before }
+        ensures wait { self.new.wait ≡ self.old.wait }
+    {
+        self.known.forget_last();
+    }
+
     /// The number of known places.
     pub(crate) fn known_count(&self) -> usize
         ensures { result ≡ length self.now.known }
@@ -173,6 +184,9 @@ impl Holdings {
         ensures known { (who : ℕ) → self.new.known ≡ (tidied (context_of who self.old)).known }
         ensures wait { self.new.wait ≡ self.old.wait }
     {
+        if self.tickets.is_empty() && self.wait.is_none() {
+            return self.known.forget_all();
+        }
         self.known.forget_unneeded(&self.by_place, self.wait);
     }
 
@@ -381,6 +395,29 @@ impl Holdings {
         keep_others(&mut self.tickets, going);
     }
 
+    /// Whether one of the tickets has this number.
+    pub(crate) fn has(&self, id: TicketId) -> bool
+        ensures { result ≡ has_number self.now.kept id }
+    {
+        self.tickets.iter().any(|ticket| ticket.id == id)
+    }
+
+    /// Whether one of the tickets at a place has a mode at least as strong as this one.
+    pub(crate) fn has_covering(&self, place: Place, mode: Mode) -> bool
+        ensures { result ≡ list_any (covers_at place mode) self.now.kept }
+    {
+        self.tickets.iter().any(|ticket| ticket.place == place && covers(ticket.mode, mode))
+    }
+
+    /// Keeps the ticket of a number for this duration.
+    pub(crate) fn set_duration(&mut self, id: TicketId, duration: Duration)
+        ensures kept { self.new.kept ≡ with_duration id duration self.old.kept }
+        ensures known { self.new.known ≡ self.old.known }
+        ensures wait { self.new.wait ≡ self.old.wait }
+    {
+        keep_one_for(&mut self.tickets, id, duration);
+    }
+
     /// Makes all tickets explicit.
     pub(crate) fn make_explicit(&mut self)
         ensures kept { self.new.kept ≡ map (kept_for Explicit) self.old.kept }
@@ -495,6 +532,24 @@ fn numbered(tickets: &[Kept], id: TicketId) -> Option<&Kept>
 {
     let at = index_of(tickets, id)?;
     Some(&tickets[at])
+}
+
+// Keeps the ticket of a number for this duration.
+fn keep_one_for(tickets: &mut [Kept], id: TicketId, duration: Duration)
+    ensures { tickets.new ≡ with_duration id duration tickets.old }
+{
+    for ticket in tickets.iter_mut() {
+        keep_if_numbered(ticket, id, duration);
+    }
+}
+
+// Keeps a ticket for this duration, if it has this number.
+fn keep_if_numbered(ticket: &mut Kept, id: TicketId, duration: Duration)
+    ensures { ticket.new ≡ lasting id duration ticket.old }
+{
+    if ticket.id == id {
+        ticket.duration = duration;
+    }
 }
 
 // Makes tickets explicit.

@@ -1,7 +1,7 @@
 //! The keys whose places a context knows.
-ghost use Rattle.std.specs.Prelude.{◌≡◌, ◌⊎◌, false, None, Some, [], ◌∷◌, ◌++◌, ◌<◌, length, map, filter, slice_get, if◌then◌else◌, OnOk, OnErr, IfOk};
+ghost use Rattle.std.specs.Prelude.{◌≡◌, ◌⊎◌, ℕ, List, false, None, Some, [], ◌∷◌, ◌++◌, ◌<◌, length, map, filter, slice_get, if◌then◌else◌, OnOk, OnErr, IfOk, IfSome, IfNone};
 ghost use Rattle.std.specs.Option.{option_map_or};
-ghost use Rattle.indexmap.specs.IndexMap.{keys};
+ghost use Rattle.indexmap.specs.IndexMap.{get, keys};
 ghost use Rattle.mdl_key.specs.Keys.{KeyName, key_eq};
 ghost use Rattle.mdl_context.specs.Contexts.{is_of_user_locks, is_user_lock, place_known};
 ghost use Rattle.mdl_context.specs.Holdings.{needs_place};
@@ -18,16 +18,21 @@ use std::marker::Model;
 // How many keys the map may have when nothing is known. If it has as many, it is emptied before the next key.
 const MOST_MET: usize = 256;
 
+// How many known keys are compared with one that is looked up. If more are known, the key is found by its hash.
+const FEW: usize = 4;
+
 /// The keys whose places a context knows, in the order in which they became known.
 ///
-/// The place of a key is found by a hash of the key. Keys that were forgotten stay in the map, without a place. So a key that
-/// comes back takes no memory, and its name isn't copied again.
+/// The place of a key is found by a hash of the key, unless only a few are known. Keys that were forgotten stay in the map, without a
+/// place. So a key that comes back takes no memory, and its name isn't copied again.
 #[derive(Drop)]
 pub(crate) struct Known {
     // Every key that became known since the map was emptied, with its place while that is known.
     met: IndexMap<Key, Option<Place>>,
     // The known keys.
     order: Vec<KnownPlace>,
+    // For each place, the index of the key that became known there last, where it was noted. No promise rests on these.
+    hints: Vec<usize>,
 }
 
 /// The place of a known key.
@@ -43,7 +48,7 @@ impl Model for Known {
     ghost use Rattle.std.specs.Prelude.{ℕ, List};
     ghost use Rattle.indexmap.specs.IndexMap.{keys};
     ghost use Rattle.mdl_key.specs.Keys.{KeyName};
-    ghost use Rattle.mdl_context.specs.KnownKeys.{AreMet, AreIndexes, HasOnePlaceEach, known_keys};
+    ghost use Rattle.mdl_context.specs.KnownKeys.{AreIndexes, AreKnownOnce, AreMet, known_keys};
 
     ghost Value = { List (KeyName × ℕ) };
 
@@ -52,7 +57,7 @@ impl Model for Known {
     ghost invariant = { λ known. record {
       indexes : AreIndexes (keys known.met) known.order.items;
       met : AreMet known.met.entries (known_keys (keys known.met) known.order.items);
-      once : HasOnePlaceEach (known_keys (keys known.met) known.order.items);
+      once : AreKnownOnce (known_keys (keys known.met) known.order.items);
     } };
 }
 
@@ -64,6 +69,7 @@ impl Known {
         Known {
             met: IndexMap::new(alloc),
             order: Vec::new(alloc),
+            hints: Vec::new(alloc),
         }
     }
 
@@ -86,7 +92,10 @@ impl Known {
     pub(crate) fn place_of(&self, key: &Key) -> Option<Place>
         ensures { result ≡ place_known key.now self.now }
     {
-        *self.met.get(key)?
+        if self.order.len() > FEW {
+            return *self.met.get(key)?;
+        }
+        place_among(&self.met, &self.order, key)
     }
 
     /// Adds the place of a new key. One that was forgotten takes no memory, unless the map was emptied since.
@@ -97,9 +106,19 @@ impl Known {
     {
         self.order.reserve(1)?;
         empty_if_many(&mut self.met, &self.order);
-        let key = meet(&mut self.met, key, place)?;
+        let key = meet(&mut self.met, hint(&self.hints, place), key, place)?;
+        note(&mut self.hints, place, key);
         self.order.push_reserved(KnownPlace { key, place });
         Ok(())
+    }
+
+    /// Forgets the key that became known last. Takes no memory.
+    pub(crate) fn forget_last(&mut self)
+        ensures { (before : List (KeyName × ℕ)) (last : KeyName × ℕ) → self.old ≡ before ++ last ∷ [] → self.new ≡ before }
+    {
+        if let Some(last) = self.order.pop() {
+            drop_place(&mut self.met, last.key);
+        }
     }
 
     /// Forgets the keys at whose places there is neither a ticket nor the wait. Takes no memory.
@@ -110,12 +129,40 @@ impl Known {
         keep_needed(&mut self.order, by_place, wait);
     }
 
+    /// Forgets all keys. Takes no memory.
+    pub(crate) fn forget_all(&mut self)
+        ensures { self.new ≡ [] }
+    {
+        drop_all(&mut self.met, &self.order);
+        self.order.clear();
+    }
+
     /// Whether a place is that of a user-level lock.
     pub(crate) fn is_user_lock(&self, place: Place) -> bool
         ensures { result ≡ is_user_lock self.now place }
     {
         let met = &self.met;
         self.order.iter().any(|known| known.place == place && is_user_key(met, known.key))
+    }
+}
+
+// The place of a key, if it is known. The known keys are compared with it, one after the other.
+fn place_among(met: &IndexMap<Key, Option<Place>>, order: &[KnownPlace], key: &Key) -> Option<Place>
+    ensures { result ≡ place_known key.now (known_keys (keys met.now) order.now) }
+{
+    order
+        .iter()
+        .find(|known| is_key(met, known.key, key))
+        .map(|known| known.place)
+}
+
+// Whether the key with an index is this one.
+fn is_key(met: &IndexMap<Key, Option<Place>>, index: usize, key: &Key) -> bool
+    ensures { result ≡ option_map_or (key_eq key.now) (slice_get (keys met.now) index) false }
+{
+    match met.get_index(index) {
+        Some((known, _place)) => *key == *known,
+        None => false,
     }
 }
 
@@ -138,9 +185,32 @@ fn empty_if_many(met: &mut IndexMap<Key, Option<Place>>, order: &[KnownPlace])
     }
 }
 
-// Notes the place of a key, and returns the index of the key. One that is in the map isn't copied, and takes no memory.
+// The index that was noted for a place.
+fn hint(hints: &[usize], place: Place) -> usize {
+    match hints.get(usize::from(place)) {
+        Some(index) => *index,
+        None => 0,
+    }
+}
+
+// Notes an index for a place. If there is no memory for that, it isn't noted.
+fn note(hints: &mut Vec<usize>, place: Place, index: usize) {
+    let at = usize::from(place);
+    for _hint in hints.len()..at + 1 {
+        if hints.push(0).is_err() {
+            return;
+        }
+    }
+    if let Some(hint) = hints.get_mut(at) {
+        *hint = index;
+    }
+}
+
+// Notes the place of a key, and returns the index of the key, which is compared with that at the hint first. One that is in the map
+// isn't copied, and takes no memory.
 fn meet(
     met: &mut IndexMap<Key, Option<Place>>,
+    hint: usize,
     key: &Key,
     place: Place,
 ) -> Result<usize, AllocError>
@@ -149,13 +219,24 @@ fn meet(
     ensures keys { OnOk result (KeepsKeys (keys met.old) (keys met.new)) }
     ensures refused { OnErr result (met.new.entries ≡ met.old.entries) }
 {
-    if let Some(index) = met.get_index_of(key) {
-        met[index] = Some(place);
+    if let Some(index) = index_met(met, hint, key) {
+        set_place(met, index, Some(place));
         return Ok(index);
     }
     let index = met.len();
     met.insert(key.clone()?, Some(place))?;
     Ok(index)
+}
+
+// The index of a key that is in the map. It is compared with that at the hint first, which takes no hash.
+fn index_met(met: &IndexMap<Key, Option<Place>>, hint: usize, key: &Key) -> Option<usize>
+    ensures found { IfSome result (λ index. slice_get (keys met.now) index ≡ Some key.now) }
+    ensures new { IfNone result (get key_eq met.now key.now ≡ None) }
+{
+    if is_key(met, hint, key) {
+        return Some(hint);
+    }
+    met.get_index_of(key)
 }
 
 // Drops the places at which there is neither a ticket nor the wait.
@@ -176,13 +257,32 @@ fn drop_places(
     }
 }
 
+// Drops the places of all known keys.
+fn drop_all(met: &mut IndexMap<Key, Option<Place>>, order: &[KnownPlace])
+    requires { AreIndexes (keys met.old) order.now }
+    ensures keys { keys met.new ≡ keys met.old }
+    ensures places { (q : KeyName) → place_met q met.new.entries ≡ (if is_dropped (λ _. false) q (known_keys (keys met.old) order.now) then None else place_met q met.old.entries) }
+{
+    for gone in order {
+        drop_place(met, gone.key);
+    }
+}
+
 // Drops the place of the key with an index.
 fn drop_place(met: &mut IndexMap<Key, Option<Place>>, index: usize)
     ensures keys { keys met.new ≡ keys met.old }
     ensures place { (key q : KeyName) → slice_get (keys met.old) index ≡ Some key → place_met q met.new.entries ≡ (if key_eq key q then None else place_met q met.old.entries) }
 {
-    if let Some(place) = met.get_index_mut(index) {
-        *place = None;
+    set_place(met, index, None);
+}
+
+// Sets what is noted as the place of the key with an index.
+fn set_place(met: &mut IndexMap<Key, Option<Place>>, index: usize, place: Option<Place>)
+    ensures keys { keys met.new ≡ keys met.old }
+    ensures place { (key q : KeyName) → slice_get (keys met.old) index ≡ Some key → place_met q met.new.entries ≡ (if key_eq key q then place else place_met q met.old.entries) }
+{
+    if let Some(noted) = met.get_index_mut(index) {
+        *noted = place;
     }
 }
 

@@ -1,7 +1,7 @@
 //! Laws of durations, names and known places. Each is proved as the contract of a function that does nothing.
-ghost use Rattle.mdl_context.specs.DurationLaws.{GoingBackKeepsFronts, GoingBackToNowKeepsAll, StatementsEndAlone, EndingLeavesExplicit};
+ghost use Rattle.mdl_context.specs.DurationLaws.{GoingBackKeepsFronts, GoingBackToNowKeepsAll, StatementsEndAlone, ExplicitTicketsEndAlone, EndingLeavesExplicit};
 ghost use Rattle.mdl_context.specs.NameLaws.{NamesAreGivenUp};
-ghost use Rattle.mdl_context.specs.TidyLaws.{ReleasesLeaveTidy};
+ghost use Rattle.mdl_context.specs.TidyLaws.{CallsStayTidy, ReleasesLeaveTidy};
 
 use mdl_space::LockSpace;
 
@@ -21,6 +21,11 @@ pub fn statements_end_alone()
     ensures { StatementsEndAlone }
 {}
 
+/// The release of the explicit tickets releases no others.
+pub fn explicit_tickets_end_alone()
+    ensures { ExplicitTicketsEndAlone }
+{}
+
 /// The end of a transaction leaves only the explicit tickets.
 pub fn ending_leaves_explicit()
     ensures { EndingLeavesExplicit }
@@ -34,4 +39,10 @@ pub fn names_are_given_up<S: LockSpace>()
 /// After tickets were released the context has something at each place that it knows, whatever the lock space answered.
 pub fn releases_leave_tidy()
     ensures { ReleasesLeaveTidy }
+{}
+
+/// A context that has something at each place that it knows still does after a request for a lock, after an upgrade, a downgrade or a release
+/// of a ticket, and after a wait went on or was given up, whatever the lock space answered.
+pub fn calls_stay_tidy()
+    ensures { CallsStayTidy }
 {}

@@ -48,8 +48,8 @@ pub use context::Context;
 pub use context_error::ContextError;
 pub use kept::{Kept, Wanted};
 pub use laws::{
-    ending_leaves_explicit, going_back_keeps_fronts, going_back_to_now_keeps_all,
-    names_are_given_up, releases_leave_tidy, statements_end_alone,
+    calls_stay_tidy, ending_leaves_explicit, explicit_tickets_end_alone, going_back_keeps_fronts,
+    going_back_to_now_keeps_all, names_are_given_up, releases_leave_tidy, statements_end_alone,
 };
 pub use memory_laws::{
     contexts_call_for_their_session, endings_take_no_memory, sure_endings, sure_upgrades,

@@ -2,10 +2,10 @@
 ghost use Rattle.std.specs.Prelude.{◌≡◌, true, [], None, Some, Ok, OnOk, position};
 ghost use Rattle.mdl_key.specs.Refusals.{RefusesJust};
 ghost use Rattle.mdl_calls.specs.Words.{Done, Release, Runs};
-ghost use Rattle.mdl_context.specs.Contexts.{beyond, beyond_mark, has_number, newest_first, of_statement, of_transaction, place_known, without_tickets, Attends, LeavesOthers};
+ghost use Rattle.mdl_context.specs.Contexts.{beyond, beyond_mark, has_number, newest_first, of_statement, of_transaction, place_known, tickets_for, without_tickets, Attends, LeavesOthers};
 ghost use Rattle.mdl_context.specs.Holdings.{has_ticket_number, without_number};
-ghost use Rattle.mdl_context.specs.Releases.{at_known_place, releasing_all, releasing_tickets, waiting_fault, release_fault, rollback_fault, releasing, releasing_name, rolling_back, ending_statement, ending_transaction, giving_up_all};
-ghost use Rattle.mdl_context.specs.Tidying.{IsTidy, LetsGo, tidied, unneeded, unpinning_all};
+ghost use Rattle.mdl_context.specs.Releases.{at_known_place, releasing_all, releasing_tickets, waiting_fault, release_fault, rollback_fault, releasing, releasing_name, rolling_back, ending_statement, ending_transaction, ending_explicit, giving_up_all};
+ghost use Rattle.mdl_context.specs.Tidying.{IsTidy, LetsGo, PinsJustNeeded, tidied, unneeded, unpinning_all};
 
 use crate::going::Going;
 use crate::releasing::{release, release_all};
@@ -33,6 +33,7 @@ impl<S: LockSpace> Context<S> {
         ensures who { self.new.who ≡ self.old.who }
         ensures tidy { OnOk result (IsTidy self.new) }
         ensures let_go { OnOk result (LetsGo S.LockSpace space.old self.old space.new self.new) }
+        ensures just { PinsJustNeeded S.LockSpace space.old self.old → PinsJustNeeded S.LockSpace space.new self.new }
     {
         let Some(at) = self.holdings.position(id) else {
             return Err(ContextError::NotHeld);
@@ -58,6 +59,7 @@ impl<S: LockSpace> Context<S> {
         ensures who { self.new.who ≡ self.old.who }
         ensures tidy { OnOk result (IsTidy self.new) }
         ensures let_go { OnOk result (LetsGo S.LockSpace space.old self.old space.new self.new) }
+        ensures just { PinsJustNeeded S.LockSpace space.old self.old → PinsJustNeeded S.LockSpace space.new self.new }
     {
         if self.holdings.is_waiting() {
             return Err(ContextError::Waiting);
@@ -91,6 +93,7 @@ impl<S: LockSpace> Context<S> {
         ensures who { self.new.who ≡ self.old.who }
         ensures tidy { OnOk result (IsTidy self.new) }
         ensures let_go { OnOk result (LetsGo S.LockSpace space.old self.old space.new self.new) }
+        ensures just { PinsJustNeeded S.LockSpace space.old self.old → PinsJustNeeded S.LockSpace space.new self.new }
     {
         let stands = self.savepoint();
         if stands.statement < mark.statement || stands.transaction < mark.transaction {
@@ -116,6 +119,7 @@ impl<S: LockSpace> Context<S> {
         ensures who { self.new.who ≡ self.old.who }
         ensures tidy { OnOk result (IsTidy self.new) }
         ensures let_go { OnOk result (LetsGo S.LockSpace space.old self.old space.new self.new) }
+        ensures just { PinsJustNeeded S.LockSpace space.old self.old → PinsJustNeeded S.LockSpace space.new self.new }
     {
         if self.holdings.is_waiting() {
             return Err(ContextError::Waiting);
@@ -137,11 +141,34 @@ impl<S: LockSpace> Context<S> {
         ensures who { self.new.who ≡ self.old.who }
         ensures tidy { OnOk result (IsTidy self.new) }
         ensures let_go { OnOk result (LetsGo S.LockSpace space.old self.old space.new self.new) }
+        ensures just { PinsJustNeeded S.LockSpace space.old self.old → PinsJustNeeded S.LockSpace space.new self.new }
     {
         if self.holdings.is_waiting() {
             return Err(ContextError::Waiting);
         }
         self.finish_transaction(space);
+        Ok(())
+    }
+
+    /// Releases the explicit tickets, from the newest to the oldest, keeps the others, and gives up the session's pins of places where
+    /// the context has nothing left. Takes no memory.
+    ///
+    /// After MySQL 5.7, `MDL_context::release_explicit_locks` of `sql/mdl.cc`.
+    pub fn release_explicit(&mut self, space: &mut S) -> Result<(), ContextError>
+        requires { Attends S.LockSpace space.old self.old }
+        ensures refused { RefusesJust (waiting_fault self.old) result }
+        ensures run { Runs S.joins space.old (ending_explicit self.old) (result, self.new) space.new }
+        ensures attends { Attends S.LockSpace space.new self.new }
+        ensures others { LeavesOthers S.LockSpace self.old.who space.old space.new }
+        ensures who { self.new.who ≡ self.old.who }
+        ensures tidy { OnOk result (IsTidy self.new) }
+        ensures let_go { OnOk result (LetsGo S.LockSpace space.old self.old space.new self.new) }
+        ensures just { PinsJustNeeded S.LockSpace space.old self.old → PinsJustNeeded S.LockSpace space.new self.new }
+    {
+        if self.holdings.is_waiting() {
+            return Err(ContextError::Waiting);
+        }
+        self.finish_duration(space, Duration::Explicit);
         Ok(())
     }
 
@@ -156,6 +183,7 @@ impl<S: LockSpace> Context<S> {
         ensures who { self.new.who ≡ self.old.who }
         ensures tidy { IsTidy self.new }
         ensures let_go { LetsGo S.LockSpace space.old self.old space.new self.new }
+        ensures just { PinsJustNeeded S.LockSpace space.old self.old → PinsJustNeeded S.LockSpace space.new self.new }
         ensures wait { self.new.wait ≡ None }
     {
         self.release_since(space, mark);
@@ -172,10 +200,10 @@ impl<S: LockSpace> Context<S> {
         ensures who { self.new.who ≡ self.old.who }
         ensures tidy { IsTidy self.new }
         ensures let_go { LetsGo S.LockSpace space.old self.old space.new self.new }
+        ensures just { PinsJustNeeded S.LockSpace space.old self.old → PinsJustNeeded S.LockSpace space.new self.new }
         ensures wait { self.new.wait ≡ None }
     {
-        self.release_beyond(space, Duration::Statement, 0);
-        self.tidy(space);
+        self.finish_duration(space, Duration::Statement);
     }
 
     /// As [`Context::end_transaction`], for a session that is known to have no wait. Takes no memory.
@@ -188,6 +216,7 @@ impl<S: LockSpace> Context<S> {
         ensures who { self.new.who ≡ self.old.who }
         ensures tidy { IsTidy self.new }
         ensures let_go { LetsGo S.LockSpace space.old self.old space.new self.new }
+        ensures just { PinsJustNeeded S.LockSpace space.old self.old → PinsJustNeeded S.LockSpace space.new self.new }
         ensures wait { self.new.wait ≡ None }
     {
         self.return_to(space, START);
@@ -208,10 +237,29 @@ impl<S: LockSpace> Context<S> {
         ensures who { self.new.who ≡ self.old.who }
         ensures tidy { IsTidy self.new }
         ensures let_go { LetsGo S.LockSpace space.old self.old space.new self.new }
+        ensures just { PinsJustNeeded S.LockSpace space.old self.old → PinsJustNeeded S.LockSpace space.new self.new }
         ensures wait { self.new.wait ≡ None }
     {
         self.release_since(space, START);
         self.release_beyond(space, Duration::Explicit, 0);
+        self.tidy(space);
+    }
+
+    // Releases the tickets of a duration, from the newest to the oldest, and gives up the session's pins of places where the context has
+    // nothing left.
+    fn finish_duration(&mut self, space: &mut S, duration: Duration)
+        requires attends { Attends S.LockSpace space.old self.old }
+        requires idle { self.old.wait ≡ None }
+        ensures run { Runs S.joins space.old (releasing_tickets (newest_first (tickets_for duration self.old.kept)) self.old) (Ok tt, self.new) space.new }
+        ensures attends { Attends S.LockSpace space.new self.new }
+        ensures others { LeavesOthers S.LockSpace self.old.who space.old space.new }
+        ensures who { self.new.who ≡ self.old.who }
+        ensures tidy { IsTidy self.new }
+        ensures let_go { LetsGo S.LockSpace space.old self.old space.new self.new }
+        ensures just { PinsJustNeeded S.LockSpace space.old self.old → PinsJustNeeded S.LockSpace space.new self.new }
+        ensures wait { self.new.wait ≡ None }
+    {
+        self.release_beyond(space, duration, 0);
         self.tidy(space);
     }
 
@@ -268,15 +316,16 @@ impl<S: LockSpace> Context<S> {
         }
     }
 
-    // Gives up the session's pins of the known places where the context has nothing, and forgets these places. Takes no memory.
-    fn tidy(&mut self, space: &mut S)
+    /// Gives up the session's pins of the known places where the context has nothing, and forgets these places. Takes no memory.
+    pub(crate) fn tidy(&mut self, space: &mut S)
         requires { Attends S.LockSpace space.old self.old }
         ensures run { Runs S.joins space.old (unpinning_all self.old.who (unneeded self.old)) tt space.new }
         ensures tidied { self.new ≡ tidied self.old }
         ensures attends { Attends S.LockSpace space.new self.new }
         ensures let_go { LetsGo S.LockSpace space.old self.old space.new self.new }
     {
-        unpin_unneeded(space, self.who, &self.holdings);
-        self.holdings.forget_unneeded();
+        if unpin_unneeded(space, self.who, &self.holdings) {
+            self.holdings.forget_unneeded();
+        }
     }
 }

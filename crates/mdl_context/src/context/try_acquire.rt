@@ -4,11 +4,13 @@ ghost use Rattle.mdl_key.specs.Keys.{KeyName};
 ghost use Rattle.mdl_key.specs.Modes.{kind_of};
 ghost use Rattle.mdl_calls.specs.Words.{Runs};
 ghost use Rattle.mdl_context.specs.Contexts.{Attends, LeavesOthers, is_known_place, place_known};
-ghost use Rattle.mdl_context.specs.Requests.{trying, trying_at, trying_found, IsNoPlace, LacksPlaceOf, LearnsAtMost, PinsAtMost, UnlessAcquired};
+ghost use Rattle.mdl_context.specs.Requests.{trying, trying_at, trying_found, got_at_once, HasWhatItHad, IsNoPlace, LacksPlaceOf, UnlessAcquired};
 ghost use Rattle.mdl_context.specs.Terms.{wish_for};
+ghost use Rattle.mdl_context.specs.Tidying.{StaysTidy};
 ghost use Rattle.mdl_context.specs.Wishes.{wish_of_request};
 
 use crate::asking::try_gain;
+use crate::tidying::unpin;
 use crate::wishes::Terms;
 use crate::{Context, ContextError, Request, Tried};
 use mdl_space::{LockSpace, Place, SpaceError};
@@ -17,7 +19,7 @@ impl<S: LockSpace> Context<S> {
     /// Gets a lock for the request's duration, if that needs no wait.
     ///
     /// Works as [`Context::acquire`] does, but if the lock can't be granted now, the session doesn't begin to wait, makes no
-    /// search for deadlocks, and has what it had before. Takes memory as `acquire` does, except for searches.
+    /// search for deadlocks, and has what it had before, also of pins. Takes memory as `acquire` does, except for searches.
     ///
     /// After MySQL 5.7, `MDL_context::try_acquire_lock` of `sql/mdl.cc`.
     pub fn try_acquire(
@@ -30,9 +32,10 @@ impl<S: LockSpace> Context<S> {
         ensures attends { Attends S.LockSpace space.new self.new }
         ensures others { LeavesOthers S.LockSpace self.old.who space.old space.new }
         ensures who { self.new.who ≡ self.old.who }
-        ensures unchanged { UnlessAcquired result (LearnsAtMost request.entry.key.now self.old self.new) }
+        ensures unchanged { UnlessAcquired result (self.new ≡ self.old) }
         ensures placed { LacksPlaceOf S.joins request.entry.key.now self.old space.old result space.new }
-        ensures own { UnlessAcquired result (PinsAtMost S.LockSpace self.old.who request.entry.key.now space.old space.new) }
+        ensures own { UnlessAcquired result (HasWhatItHad S.LockSpace self.old.who request.entry.key.now space.old space.new) }
+        ensures tidy { StaysTidy S.LockSpace space.old self.old space.new self.new }
         ensures wait { self.new.wait ≡ self.old.wait }
     {
         if self.holdings.is_waiting() {
@@ -56,9 +59,10 @@ impl<S: LockSpace> Context<S> {
         ensures run { Runs S.joins space.old (trying_found None (wish_of_request request.entry) self.old) (result, self.new) space.new }
         ensures attends { Attends S.LockSpace space.new self.new }
         ensures who { self.new.who ≡ self.old.who }
-        ensures unchanged { UnlessAcquired result (LearnsAtMost request.entry.key.now self.old self.new) }
+        ensures unchanged { UnlessAcquired result (self.new ≡ self.old) }
         ensures placed { LacksPlaceOf S.joins request.entry.key.now self.old space.old result space.new }
-        ensures own { UnlessAcquired result (PinsAtMost S.LockSpace self.old.who request.entry.key.now space.old space.new) }
+        ensures own { UnlessAcquired result (HasWhatItHad S.LockSpace self.old.who request.entry.key.now space.old space.new) }
+        ensures tidy { StaysTidy S.LockSpace space.old self.old space.new self.new }
         ensures wait { self.new.wait ≡ None }
     {
         let place = match space.resolve(self.who, request.key) {
@@ -66,9 +70,14 @@ impl<S: LockSpace> Context<S> {
             Err(refusal) => return Err(ContextError::Space(refusal)),
         };
         if self.holdings.remember(request.key, place).is_err() {
+            unpin(space, self.who, place);
             return Err(ContextError::Space(SpaceError::OutOfMemory));
         }
-        self.try_at(space, place, request.terms())
+        let result = self.try_at(space, place, request.terms());
+        if !has_acquired(&result) {
+            self.let_go(space, place);
+        }
+        result
     }
 
     // Gets a lock on these terms at the place of a known key, if that needs no wait.
@@ -82,6 +91,8 @@ impl<S: LockSpace> Context<S> {
         ensures unchanged { UnlessAcquired result (self.new ≡ self.old) }
         ensures placed { IsNoPlace result → ⊥ }
         ensures own { UnlessAcquired result (S.own space.new self.old.who ≡ S.own space.old self.old.who) }
+        ensures known { self.new.known ≡ self.old.known }
+        ensures pins { (S.own space.new self.old.who).pins ≡ (S.own space.old self.old.who).pins }
         ensures wait { self.new.wait ≡ None }
     {
         let sufficient = self.holdings.sufficient(place, &terms);
@@ -100,4 +111,11 @@ impl<S: LockSpace> Context<S> {
             Err(refusal) => Err(ContextError::Space(refusal)),
         }
     }
+}
+
+// Whether the lock is held.
+fn has_acquired(tried: &Result<Tried, ContextError>) -> bool
+    ensures { result ≡ got_at_once tried.now }
+{
+    matches!(tried, Ok(Tried::Acquired(_)))
 }

@@ -9,6 +9,7 @@ ghost use Rattle.mdl_context.specs.Holdings.{wanted_upgrade};
 ghost use Rattle.mdl_context.specs.Outcomes.{UpgradeComesTo};
 ghost use Rattle.mdl_context.specs.Requests.{IsNoPlace, WaitsAfter};
 ghost use Rattle.mdl_context.specs.Releases.{release_fault};
+ghost use Rattle.mdl_context.specs.Tidying.{StaysTidy};
 ghost use Rattle.mdl_context.specs.Upgrades.{with_ticket_mode, merging_new, is_merge_refusal, HasSecond, upgrading, waiting_to_upgrade, downgrading};
 
 use crate::asking::{AskResult, wait_at};
@@ -42,6 +43,7 @@ impl<S: LockSpace> Context<S> {
         ensures unchanged { OnErr result (self.new ≡ self.old) }
         ensures placed { IsNoPlace result → ⊥ }
         ensures own { OnErr result (S.own space.new self.old.who ≡ S.own space.old self.old.who) }
+        ensures tidy { StaysTidy S.LockSpace space.old self.old space.new self.new }
         ensures wait { WaitsAfter result self.old.wait self.new.wait }
     {
         let Some(wanted) = self.holdings.upgrade_wish(id, mode) else {
@@ -73,6 +75,7 @@ impl<S: LockSpace> Context<S> {
         ensures done { OnOk result (self.new ≡ with_ticket_mode id (λ _. mode) self.old) }
         ensures unchanged { OnErr result (self.new ≡ self.old) }
         ensures own { OnErr result (S.own space.new self.old.who ≡ S.own space.old self.old.who) }
+        ensures tidy { StaysTidy S.LockSpace space.old self.old space.new self.new }
     {
         if self.holdings.position(id).is_none() {
             return Err(ContextError::NotHeld);

@@ -1,12 +1,13 @@
 //! Waits of a session.
-ghost use Rattle.std.specs.Prelude.{◌≡◌, true, Some, None, is_some, Err, OnErr};
+ghost use Rattle.std.specs.Prelude.{◌≡◌, true, Some, None, is_some, Ok, Err, OnErr};
 ghost use Rattle.std.specs.Option.{IfSome};
 ghost use Rattle.mdl_calls.specs.Words.{Runs};
 ghost use Rattle.mdl_context.specs.Contexts.{Attends, HasSettledWait, IsAwaited, LeavesOthers};
 ghost use Rattle.mdl_context.specs.Holdings.{awaited_upgrade};
 ghost use Rattle.mdl_context.specs.Outcomes.{WaitComesTo};
+ghost use Rattle.mdl_context.specs.Tidying.{StaysTidy, tidied, tidying};
 ghost use Rattle.mdl_context.specs.Upgrades.{FailsByMerge, FailsByMergeOrWant};
-ghost use Rattle.mdl_context.specs.Waits.{without_wait, taking_up, wait_won, searching_on, is_searched, resuming, giving_up_wait, looking, ending_wait, no_wait_fault, WaitsOn};
+ghost use Rattle.mdl_context.specs.Waits.{without_wait, taking_up, wait_won, searching_on, is_searched, resuming, giving_up_wait, looking, ending_wait, no_wait_fault, HasLostWait, WaitsOn};
 
 use crate::searches::{abandon, seek};
 use crate::{Context, ContextError, Resume};
@@ -18,7 +19,8 @@ impl<S: LockSpace> Context<S> {
     /// While the wait isn't settled and its searches for deadlocks were cut off, this call continues them, as [`Context::acquire`]
     /// makes them, and gives up the wait if a search runs out of memory. If the wait was for an upgrade and is granted, the new
     /// ticket is merged into the upgraded one, whose number is returned. If the merge is refused, the new ticket is released and
-    /// the first is unchanged. Otherwise the call takes no memory. A lost wait leaves all tickets unchanged.
+    /// the first is unchanged. Otherwise the call takes no memory. A lost wait leaves all tickets unchanged, and the session gives up its
+    /// pins of places where the context has nothing then.
     ///
     /// After MySQL 5.7, `MDL_context::acquire_lock` of `sql/mdl.cc`, from its wait on.
     pub fn resume(&mut self, space: &mut S) -> Result<Resume, ContextError>
@@ -31,7 +33,8 @@ impl<S: LockSpace> Context<S> {
         ensures others { LeavesOthers S.LockSpace self.old.who space.old space.new }
         ensures who { self.new.who ≡ self.old.who }
         ensures outcome { WaitComesTo self.old (result, self.new) }
-        ensures failed { OnErr result (self.new ≡ without_wait self.old) }
+        ensures failed { OnErr result (HasLostWait self.old self.new) }
+        ensures tidy { StaysTidy S.LockSpace space.old self.old space.new self.new }
         ensures wait { WaitsOn result self.new.wait }
     {
         match self.holdings.is_searched() {
@@ -44,8 +47,9 @@ impl<S: LockSpace> Context<S> {
         }
     }
 
-    /// Gives up the wait, unless it is settled already, and ends it. Takes no memory, unless the wait was for an upgrade and is
-    /// granted already. Then the tickets are merged as by [`Context::resume`].
+    /// Gives up the wait, unless it is settled already, and ends it. The session gives up its pins of places where the context has nothing
+    /// then. Takes no memory, unless the wait was for an upgrade and is granted already. Then the tickets are merged as by
+    /// [`Context::resume`].
     pub fn give_up(&mut self, space: &mut S) -> Result<Resume, ContextError>
         requires { Attends S.LockSpace space.old self.old }
         ensures refused { IfSome (no_wait_fault self.old) (λ fault. result ≡ Err fault) }
@@ -57,6 +61,7 @@ impl<S: LockSpace> Context<S> {
         ensures ended { self.new.wait ≡ None }
         ensures outcome { WaitComesTo self.old (result, self.new) }
         ensures failed { OnErr result (self.new ≡ without_wait self.old) }
+        ensures tidy { StaysTidy S.LockSpace space.old self.old space.new self.new }
     {
         if !self.holdings.is_waiting() {
             return Err(ContextError::Space(SpaceError::NoWait));
@@ -73,7 +78,7 @@ impl<S: LockSpace> Context<S> {
         ensures run { Runs S.joins space.old (searching_on self.old) (result, self.new) space.new }
         ensures attends { Attends S.LockSpace space.new self.new }
         ensures who { self.new.who ≡ self.old.who }
-        ensures failed { OnErr result (self.new ≡ without_wait self.old) }
+        ensures failed { OnErr result (HasLostWait self.old self.new) }
         ensures wait { WaitsOn result self.new.wait }
     {
         match seek(space, self.who) {
@@ -85,6 +90,7 @@ impl<S: LockSpace> Context<S> {
             Err(refusal) => {
                 abandon(space, self.who);
                 self.holdings.drop_wait();
+                self.tidy(space);
                 Err(ContextError::Space(refusal))
             }
         }
@@ -121,9 +127,9 @@ impl<S: LockSpace> Context<S> {
     {
         match space.end_wait(self.who).unwrap() {
             Ended::Granted(id) => self.win(space, id),
-            Ended::Victim => Ok(self.lose(Settled::Victim)),
-            Ended::Timeout => Ok(self.lose(Settled::Timeout)),
-            Ended::Killed => Ok(self.lose(Settled::Killed)),
+            Ended::Victim => Ok(self.lose(space, Settled::Victim)),
+            Ended::Timeout => Ok(self.lose(space, Settled::Timeout)),
+            Ended::Killed => Ok(self.lose(space, Settled::Killed)),
         }
     }
 
@@ -150,12 +156,16 @@ impl<S: LockSpace> Context<S> {
         }
     }
 
-    // Ends a lost wait.
-    fn lose(&mut self, how: Settled) -> Resume
+    // Ends a lost wait, and gives up the session's pins of places where the context has nothing left.
+    fn lose(&mut self, space: &mut S, how: Settled) -> Resume
+        requires { Attends S.LockSpace space.old (without_wait self.old) }
         ensures result { result ≡ Resume.Lost how }
-        ensures lost { self.new ≡ without_wait self.old }
+        ensures run { Runs S.joins space.old (tidying (Ok (Resume.Lost how), without_wait self.old)) (Ok result, self.new) space.new }
+        ensures attends { Attends S.LockSpace space.new self.new }
+        ensures lost { self.new ≡ tidied (without_wait self.old) }
     {
         self.holdings.drop_wait();
+        self.tidy(space);
         Resume::Lost(how)
     }
 }

@@ -1,28 +1,20 @@
 -- A key that is in the map stays where it is, and a new one goes last.
-use Rattle.std.proofs.Common.{◌≡◌, ◌∙◌, List, ℕ, Option, None, Some, length, position, slice_get, ap, sym, rules}
+use Rattle.std.proofs.Common.{◌≡◌, ◌∙◌, List, ℕ, Option, None, Some, length, slice_get, ap, sym, rules}
 use Rattle.std.specs.Map.{lookup}
 use Rattle.std.proofs.lemmas.List.{length-map}
-use Rattle.indexmap.proofs.CallerLemmas.{keys-with_value_at}
 use Rattle.indexmap.specs.IndexMap.{keys}
 use Rattle.mdl_key.specs.Keys.{KeyName, key_eq}
-use Rattle.mdl_context.proofs.KnownLemmas.{entry-found, key-found, key-last, keys-grown, keys-inserted, met-written}
+use Rattle.mdl_context.proofs.KnownLemmas.{key-last, keys-grown, keys-inserted}
 use Rattle.mdl_context.proofs.known.meet.Goals as goal
 
 pub returns-in-Some-clause-index : goal.returns-in-Some-clause-index
-returns-in-Some-clause-index c =
-    let found : position (key_eq c.args.key.now) (keys c.args.met.now) ≡ Some c.in-Some.index = search rules in
-    ap (λ (ks : List KeyName). slice_get ks c.in-Some.index) (keys-with_value_at c.args.met.now c.in-Some.index (Some c.args.place))
-    ∙ key-found (keys c.args.met.now) c.args.key.now c.in-Some.index found
+returns-in-Some-clause-index c = ap (λ (ks : List KeyName). slice_get ks c.in-Some.index) c.set_place.ensures.keys ∙ c.in-Some.ensures.found
 
 pub returns-in-Some-clause-places : goal.returns-in-Some-clause-places
-returns-in-Some-clause-places c =
-    let found : position (key_eq c.args.key.now) (keys c.args.met.now) ≡ Some c.in-Some.index = search rules in
-    let entry = entry-found c.args.met.now.entries c.in-Some.index c.args.key.now (key-found (keys c.args.met.now) c.args.key.now c.in-Some.index found) in
-    met-written c.args.met.now c.in-Some.index c.args.key.now entry.0 (Some c.args.place) c.in-Some.ensures.unique entry.1
+returns-in-Some-clause-places c = λ q. c.set_place.ensures.place c.args.key.now q c.in-Some.ensures.found
 
 pub returns-in-Some-clause-keys : goal.returns-in-Some-clause-keys
-returns-in-Some-clause-keys c = λ i key here.
-    ap (λ (ks : List KeyName). slice_get ks i) (keys-with_value_at c.args.met.now c.in-Some.index (Some c.args.place)) ∙ here
+returns-in-Some-clause-keys c = λ i key here. ap (λ (ks : List KeyName). slice_get ks i) c.set_place.ensures.keys ∙ here
 
 pub returns-clause-index : goal.returns-clause-index
 returns-clause-index c =

@@ -1,7 +1,7 @@
 -- A settled wait ends, with its ticket or without.
 use Rattle.std.proofs.Common.{◌≡◌, ap, refl}
 use Rattle.mdl_context.specs.Contexts.{ContextView}
-use Rattle.mdl_context.specs.Waits.{taking_up}
+use Rattle.mdl_context.specs.Waits.{taking_up, without_wait}
 use Rattle.mdl_context.proofs.AttendLemmas.{attends-won, attends-lost}
 use Rattle.mdl_context.proofs.WaitLemmas.{is_ok-ended}
 use Rattle.mdl_context.proofs.context.Context.end_wait.Goals as goal
@@ -18,23 +18,23 @@ win-requires-clause-attends g c =
     let step = rw (same, c.unwrap.ensures, c.in-Granted.is) at c.end_wait.ensures in
     attends-won g.S.LockSpace laws _ _ c.in-Granted.id c.args.self.now (taking_up c.in-Granted.id c.args.self.now) c.requires.attends step refl refl refl refl
 
-pub returns-in-Victim-clause-attends : goal.returns-in-Victim-clause-attends
-returns-in-Victim-clause-attends g c =
+pub lose-requires : goal.lose-requires
+lose-requires g c =
     let same : c.self.inside.who ≡ c.args.self.now.who = ap (λ (v : ContextView). v.who) c.self.view_is in
     let laws = g.met.S.LockSpace.laws in
     let step = rw (same, c.unwrap.ensures, c.in-Victim.is) at c.end_wait.ensures in
-    attends-lost g.S.LockSpace laws _ _ _ _ _ c.requires.attends step c.lose.ensures.lost
+    attends-lost g.S.LockSpace laws _ _ _ c.args.self.now (without_wait c.args.self.now) c.requires.attends step refl
 
-pub returns-in-Timeout-clause-attends : goal.returns-in-Timeout-clause-attends
-returns-in-Timeout-clause-attends g c =
+pub lose-requires-in-Timeout : goal.lose-requires-in-Timeout
+lose-requires-in-Timeout g c =
     let same : c.self.inside.who ≡ c.args.self.now.who = ap (λ (v : ContextView). v.who) c.self.view_is in
     let laws = g.met.S.LockSpace.laws in
     let step = rw (same, c.unwrap.ensures, c.in-Timeout.is) at c.end_wait.ensures in
-    attends-lost g.S.LockSpace laws _ _ _ _ _ c.requires.attends step c.lose-in-Timeout.ensures.lost
+    attends-lost g.S.LockSpace laws _ _ _ c.args.self.now (without_wait c.args.self.now) c.requires.attends step refl
 
-pub returns-in-Killed-clause-attends : goal.returns-in-Killed-clause-attends
-returns-in-Killed-clause-attends g c =
+pub lose-requires-in-Killed : goal.lose-requires-in-Killed
+lose-requires-in-Killed g c =
     let same : c.self.inside.who ≡ c.args.self.now.who = ap (λ (v : ContextView). v.who) c.self.view_is in
     let laws = g.met.S.LockSpace.laws in
     let step = rw (same, c.unwrap.ensures, c.in-Killed.is) at c.end_wait.ensures in
-    attends-lost g.S.LockSpace laws _ _ _ _ _ c.requires.attends step c.lose-in-Killed.ensures.lost
+    attends-lost g.S.LockSpace laws _ _ _ c.args.self.now (without_wait c.args.self.now) c.requires.attends step refl

@@ -1,5 +1,5 @@
 -- The ticket goes, and then the places where nothing is left.
-use Rattle.std.proofs.Common.{◌≡◌, true, false, refl, sym, ap, subst, ◌∙◌}
+use Rattle.std.proofs.Common.{◌≡◌, Ok, true, false, refl, sym, ap, subst, ◌∙◌}
 use Rattle.std.specs.Prelude.{is_some}
 use Rattle.mdl_calls.specs.Words.{Done, Release, Ask, Give, Program, Runs}
 use Rattle.mdl_context.specs.Contexts.{ContextView, has_number}
@@ -8,6 +8,8 @@ use Rattle.mdl_context.specs.Tidying.{IsTidy}
 use Rattle.mdl_context.proofs.BeyondLemmas.{run-released}
 use Rattle.mdl_context.proofs.OthersLemmas.{leaves, for_releasing}
 use Rattle.mdl_context.proofs.TidyLemmas.{is-tidy, let-go-after}
+use Rattle.mdl_context.proofs.JustLemmas.{leaves-none}
+use Rattle.mdl_context.proofs.LeftPinLemmas.{none-releasing}
 use Rattle.mdl_context.proofs.context.Context.release.Goals as goal
 
 pub release_at-requires-clause-held : goal.release_at-requires-clause-held
@@ -37,3 +39,10 @@ returns-clause-let_go g c =
     let run : Runs g.S.LockSpace.joins c.args.space.now call tt c.release_at.new.space = (Done, c.release_at.new.space, c.release_at.ensures.run, (refl, refl)) in
     let-go-after g.S.LockSpace laws call c.args.space.now c.release_at.new.space c.tidy.new.space tt c.args.self.now c.release_at.new.self c.tidy.new.self
     c.requires.speaks run (ap (λ (v : ContextView). v.who) left) (ap (λ (v : ContextView). v.known) left) c.tidy.ensures.let_go
+
+pub returns-clause-just : goal.returns-clause-just
+returns-clause-just g c =
+    let laws = g.met.S.LockSpace.laws in
+    let before = c.args.self.now in
+    (leaves-none g.S.LockSpace laws c.args.space.now before c.requires (releasing c.args.id before) c.tidy.new.space (Ok tt, c.tidy.new.self)
+    (none-releasing g.S.LockSpace laws c.args.space.now before c.requires c.args.id) (returns-clause-run g c) c.tidy.ensures.attends).1

@@ -1,11 +1,13 @@
 -- The tickets beyond the mark go, and then the places where nothing is left.
-use Rattle.std.proofs.Common.{sym, ap, subst}
+use Rattle.std.proofs.Common.{Ok, sym, ap, subst}
 use Rattle.mdl_context.specs.Contexts.{ContextView, beyond_mark}
 use Rattle.mdl_context.specs.Releases.{releasing_tickets}
 use Rattle.mdl_context.specs.Tidying.{IsTidy}
 use Rattle.mdl_context.proofs.BeyondLemmas.{run-given-up}
 use Rattle.mdl_context.proofs.OthersLemmas.{leaves, for_giving_up}
 use Rattle.mdl_context.proofs.TidyLemmas.{is-tidy, let-go-after}
+use Rattle.mdl_context.proofs.JustLemmas.{leaves-none}
+use Rattle.mdl_context.proofs.LeftPinLemmas.{none-giving_up}
 use Rattle.mdl_context.proofs.context.Context.return_to.Goals as goal
 
 pub returns-clause-run : goal.returns-clause-run
@@ -31,3 +33,10 @@ returns-clause-let_go g c =
     let left = c.release_since.ensures.kept in
     let-go-after g.S.LockSpace laws _ c.args.space.now c.release_since.new.space c.tidy.new.space _ c.args.self.now c.release_since.new.self c.tidy.new.self
     c.requires.attends.speaks c.release_since.ensures.run (ap (λ (v : ContextView). v.who) left) (ap (λ (v : ContextView). v.known) left) c.tidy.ensures.let_go
+
+pub returns-clause-just : goal.returns-clause-just
+returns-clause-just g c =
+    let laws = g.met.S.LockSpace.laws in
+    let before = c.args.self.now in
+    (leaves-none g.S.LockSpace laws c.args.space.now before c.requires.attends (releasing_tickets (beyond_mark c.args.mark before.kept) before) c.tidy.new.space (Ok tt, c.tidy.new.self)
+    (none-giving_up g.S.LockSpace laws c.args.space.now before c.requires.attends (beyond_mark c.args.mark before.kept)) (returns-clause-run g c) c.tidy.ensures.attends).1

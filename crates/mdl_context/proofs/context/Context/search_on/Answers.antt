@@ -1,6 +1,7 @@
 -- The searches run as said, and then the wait is looked after, or given up.
 use Rattle.std.proofs.Common.{◌≡◌, ap}
 use Rattle.mdl_context.specs.Contexts.{ContextView}
+use Rattle.mdl_context.specs.Holdings.{context_of}
 use Rattle.mdl_context.proofs.BeyondLemmas.{same-context}
 use Rattle.mdl_context.proofs.SoughtLemmas.{run-over, run-cut_off, run-failed}
 use Rattle.mdl_context.proofs.context.Context.search_on.Goals as goal
@@ -17,5 +18,6 @@ returns-in-Ok-false-clause-run g c =
 
 pub returns-in-Err-clause-run : goal.returns-in-Err-clause-run
 returns-in-Err-clause-run g c =
-    rw (← c.self.view_is) (run-failed g.S.LockSpace.joins c.in-Err.refusal _ _ _ _ _ (rw c.in-Err.is at c.seek.ensures.run) c.abandon.ensures.run
-    (same-context c.self.inside.who _ _ _ _ _ _ c.drop_wait.ensures.kept c.drop_wait.ensures.known c.drop_wait.ensures.wait))
+    let dropped : ContextView = context_of c.self.inside.who c.drop_wait.new.self in
+    rw (← c.self.view_is) (run-failed g.S.LockSpace.joins c.in-Err.refusal _ dropped _ _ _ _ _ (rw c.in-Err.is at c.seek.ensures.run) c.abandon.ensures.run
+    (same-context c.self.inside.who _ _ _ _ _ _ c.drop_wait.ensures.kept c.drop_wait.ensures.known c.drop_wait.ensures.wait) c.tidy.ensures.run c.tidy.ensures.tidied)

@@ -1,10 +1,16 @@
 -- All calls are made for the session, and the terms are those of the request.
-use Rattle.std.proofs.Common.{None, refl, rules}
-use Rattle.mdl_context.specs.Requests.{trying_at, trying_found}
+use Rattle.std.proofs.Common.{None, Some, refl, rules}
+use Rattle.mdl_calls.proofs.FaithfulLemmas.{each_reply}
+use Rattle.mdl_context.specs.declared.request.Tried.{Tried}
+use Rattle.mdl_context.specs.Requests.{Outcome, trying_at, trying_found}
+use Rattle.mdl_context.specs.Tidying.{IsTidy}
 use Rattle.mdl_context.specs.Wishes.{wish_of_request}
 use Rattle.mdl_context.proofs.AttendLemmas.{known-place}
+use Rattle.mdl_context.proofs.LetGoLemmas.{had-same, tidy-same}
+use Rattle.mdl_context.proofs.LookUpLemmas.{unless-weaker}
 use Rattle.mdl_context.proofs.OthersLemmas.{leaves, for_trying_again, for_trying_found}
-use Rattle.mdl_context.proofs.PinLemmas.{pins-nothing-tried}
+use Rattle.mdl_context.proofs.StayTidyLemmas.{tidy-trying_found}
+use Rattle.mdl_context.proofs.TidyLemmas.{debts-run}
 use Rattle.mdl_context.proofs.context.Context.try_acquire.Goals as goal
 
 pub try_at-requires-clause-known : goal.try_at-requires-clause-known
@@ -13,17 +19,34 @@ try_at-requires-clause-known g c = known-place c.args.request.key.now c.args.sel
 pub returns-in-Some-clause-others : goal.returns-in-Some-clause-others
 returns-in-Some-clause-others g c =
     let laws = g.met.S.LockSpace.laws in
-    leaves g.S.LockSpace laws c.args.self.now.who (trying_at c.in-Some.place (wish_of_request c.args.request) c.args.self.now) _ _ (c.try_at.result, c.try_at.new.self)
-    (for_trying_again _ _ _ c.args.self.now) ((rw c.terms.ensures at c.try_at.ensures.run) c.args.request.key.now refl)
+    leaves g.S.LockSpace laws c.args.self.now.who (trying_at c.in-Some.place (wish_of_request c.args.request) c.args.self.now) _ _ (c.try_at.result, c.try_at.new.self) (for_trying_again _ _ _ c.args.self.now)
+    ((rw c.terms.ensures at c.try_at.ensures.run) c.args.request.key.now refl)
 
 pub returns-in-None-clause-others : goal.returns-in-None-clause-others
 returns-in-None-clause-others g c =
     let laws = g.met.S.LockSpace.laws in
-    leaves g.S.LockSpace laws c.args.self.now.who (trying_found None (wish_of_request c.args.request) c.args.self.now) _ _ (c.look_up_and_try.result, c.look_up_and_try.new.self)
-    (for_trying_found None (wish_of_request c.args.request) c.args.self.now) c.look_up_and_try.ensures.run
+    leaves g.S.LockSpace laws c.args.self.now.who (trying_found None (wish_of_request c.args.request) c.args.self.now) _ _ (c.look_up_and_try.result, c.look_up_and_try.new.self) (for_trying_found None (wish_of_request c.args.request) c.args.self.now) c.look_up_and_try.ensures.run
 
 pub returns-in-Some-clause-own : goal.returns-in-Some-clause-own
-returns-in-Some-clause-own g c = pins-nothing-tried _ c.try_at.result _ _ c.try_at.ensures.own
+returns-in-Some-clause-own g c =
+    unless-weaker c.try_at.result (had-same g.S.LockSpace g.met.S.LockSpace.laws c.args.space.now c.try_at.new.space c.args.self.now.who c.args.request.key.now) c.try_at.ensures.own
+
+pub returns-in-Some-clause-tidy : goal.returns-in-Some-clause-tidy
+returns-in-Some-clause-tidy g c =
+    let laws = g.met.S.LockSpace.laws in
+    let before = c.args.self.now in
+    let request = wish_of_request c.args.request in
+    let run = (rw c.terms.ensures at c.try_at.ensures.run) c.args.request.key.now refl in
+    let end : Outcome Tried = (c.try_at.result, c.try_at.new.self) in
+    tidy-same g.S.LockSpace laws c.args.space.now c.try_at.new.space before c.try_at.new.self
+    (debts-run g.S.LockSpace laws (trying_at c.in-Some.place request before) c.args.space.now c.try_at.new.space end before.who c.requires.speaks run)
+    c.requires c.try_at.ensures.who
+    (λ tidy. each_reply g.S.LockSpace.joins (λ outcome. IsTidy outcome.1) (trying_found (Some c.in-Some.place) request before) c.args.space.now c.try_at.new.space end
+    (tidy-trying_found (Some c.in-Some.place) request before tidy) run) c.try_at.ensures.known c.try_at.ensures.pins
+
+pub returns-then-is_waiting-clause-own : goal.returns-then-is_waiting-clause-own
+returns-then-is_waiting-clause-own g c =
+    had-same g.S.LockSpace g.met.S.LockSpace.laws c.args.space.now c.args.space.now c.args.self.now.who c.args.request.key.now refl
 
 pub returns-in-Some-clause-placed : goal.returns-in-Some-clause-placed
 returns-in-Some-clause-placed g c e = absurd (c.try_at.ensures.placed e)

@@ -20,6 +20,8 @@ use Rattle.mdl_calls.proofs.FaithfulLemmas.{each_reply}
 use Rattle.mdl_context.specs.Outcomes.{UpgradeComesTo}
 use Rattle.mdl_context.proofs.OutcomeLemmas.{raised_upgrading}
 use Rattle.std.specs.Prelude.{OnErr}
+use Rattle.mdl_context.proofs.JustLemmas.{leaves-none}
+use Rattle.mdl_context.proofs.LeftPinLemmas.{none-upgrading}
 use Rattle.mdl_context.proofs.context.Context.upgrade.Goals as goal
 
 pub returns-in_default-clause-refused : goal.returns-in_default-clause-refused
@@ -132,3 +134,21 @@ pub returns-in-Err-clause-placed : goal.returns-in-Err-clause-placed
 returns-in-Err-clause-placed g c =
     placed-space c.in-Err.refusal
     (placed-upgrade _ c.self.inside.who c.args.id c.args.mode c.in-Err.refusal _ (g.met.S.LockSpace.laws.explains _ _ _ _ _ refl (rw c.in-Err.is at c.upgrade_now.ensures)))
+
+pub returns-in-Ok-Upgraded-clause-tidy : goal.returns-in-Ok-Upgraded-clause-tidy
+returns-in-Ok-Upgraded-clause-tidy g c =
+    let laws = g.met.S.LockSpace.laws in
+    leaves-none g.S.LockSpace laws c.args.space.now c.args.self.now c.requires (upgrading c.args.id c.args.mode c.args.self.now) c.upgrade_now.new.self (Ok (Acquired c.args.id), context_of c.self.inside.who c.strengthen.new.self)
+    (none-upgrading g.S.LockSpace laws c.args.space.now c.args.self.now c.requires c.args.id c.args.mode) (returns-in-Ok-Upgraded-clause-run g c) (returns-in-Ok-Upgraded-clause-attends g c)
+
+pub returns-in-Ok-WouldWait-clause-tidy : goal.returns-in-Ok-WouldWait-clause-tidy
+returns-in-Ok-WouldWait-clause-tidy g c =
+    let laws = g.met.S.LockSpace.laws in
+    leaves-none g.S.LockSpace laws c.args.space.now c.args.self.now c.requires (upgrading c.args.id c.args.mode c.args.self.now) c.wait_to_upgrade.new.space (c.wait_to_upgrade.result, c.wait_to_upgrade.new.self)
+    (none-upgrading g.S.LockSpace laws c.args.space.now c.args.self.now c.requires c.args.id c.args.mode) (returns-in-Ok-WouldWait-clause-run g c) c.wait_to_upgrade.ensures.attends
+
+pub returns-in-Err-clause-tidy : goal.returns-in-Err-clause-tidy
+returns-in-Err-clause-tidy g c =
+    let laws = g.met.S.LockSpace.laws in
+    leaves-none g.S.LockSpace laws c.args.space.now c.args.self.now c.requires (upgrading c.args.id c.args.mode c.args.self.now) c.upgrade_now.new.self (Err (Space c.in-Err.refusal), c.args.self.now)
+    (none-upgrading g.S.LockSpace laws c.args.space.now c.args.self.now c.requires c.args.id c.args.mode) (returns-in-Err-clause-run g c) (returns-in-Err-clause-attends g c)

@@ -4,7 +4,7 @@ use Rattle.indexmap.specs.IndexMap.{keys}
 use Rattle.mdl_key.specs.Keys.{KeyName}
 use Rattle.mdl_context.specs.declared.known.KnownPlace.{KnownPlace}
 use Rattle.mdl_context.specs.Contexts.{place_known}
-use Rattle.mdl_context.specs.KnownKeys.{AreMet, HasOnePlaceEach, known_keys}
+use Rattle.mdl_context.specs.KnownKeys.{AreKnownOnce, AreMet, known_keys}
 use Rattle.mdl_context.proofs.KnownLemmas.{AreKept, kept-emptied, kept-more}
 use Rattle.mdl_context.proofs.known.Known.add.Goals as goal
 
@@ -21,7 +21,7 @@ invariant_of-self-in_err-key c =
     record {
       indexes = after.1;
       met = subst (AreMet c.meet.new.met.entries) (sym after.0) after.2;
-      once = subst HasOnePlaceEach (sym after.0) after.3;
+      once = subst AreKnownOnce (sym after.0) after.3;
     }
 
 after-push : (c : goal.After-push_reserved)
@@ -44,7 +44,7 @@ invariant_of-self-2 c =
     record {
       indexes = after.1;
       met = subst (AreMet c.meet.new.met.entries) (sym after.0) after.2;
-      once = subst HasOnePlaceEach (sym after.0) after.3;
+      once = subst AreKnownOnce (sym after.0) after.3;
     }
 
 pub returns-clause-done : goal.returns-clause-done

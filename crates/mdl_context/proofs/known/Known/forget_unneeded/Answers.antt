@@ -3,7 +3,7 @@ use Rattle.std.proofs.Common.{List, refl, subst, sym}
 use Rattle.indexmap.specs.IndexMap.{keys}
 use Rattle.mdl_context.specs.declared.known.KnownPlace.{KnownPlace}
 use Rattle.mdl_context.specs.Holdings.{needs_place}
-use Rattle.mdl_context.specs.KnownKeys.{AreMet, HasOnePlaceEach, known_keys}
+use Rattle.mdl_context.specs.KnownKeys.{AreKnownOnce, AreMet, known_keys}
 use Rattle.mdl_context.proofs.KnownLemmas.{AreKept, kept-fewer, passing}
 use Rattle.mdl_context.proofs.known.Known.forget_unneeded.Goals as goal
 
@@ -18,7 +18,7 @@ invariant_of-self c =
     record {
       indexes = after.1;
       met = subst (AreMet c.drop_places.new.met.entries) (sym after.0) after.2;
-      once = subst HasOnePlaceEach (sym after.0) after.3;
+      once = subst AreKnownOnce (sym after.0) after.3;
     }
 
 pub returns : goal.returns
