@@ -1,6 +1,7 @@
--- What happens to statements if memory runs out, for which session they make calls, which places the session knows once they
--- have ended, and their results over the space of one thread. The laws hold for all rows, and so for each statement.
+-- What happens to statements if memory runs out, for which session they make calls, which places the session knows after
+-- them, and their results over the space of one thread. The laws hold for all rows, and so for each statement.
 use Rattle.std.specs.Prelude.{◌≡◌, ℕ, IsSome}
+use Rattle.std.specs.Option.{IfSome}
 use Rattle.mdl_calls.specs.Words.{Each, EachCall, IsFaithful, Program, Runs, outcome_of}
 use Rattle.mdl_core.specs.CoreCalls.{outcome}
 use Rattle.mdl_core.specs.CoreJoins.{Joins, SpeaksFor}
@@ -9,6 +10,7 @@ use Rattle.mdl_core.specs.RunLaws.{IsMadeFor}
 use Rattle.mdl_core.specs.Ties.{IsSoundCore}
 use Rattle.mdl_syntax.specs.declared.statement.Statement.{Statement}
 use Rattle.mdl_context.specs.declared.request.Mark.{Mark}
+use Rattle.mdl_context.specs.Contexts.{ContextView, IsAwaited}
 use Rattle.mdl_context.specs.MemoryLaws.{IsSureUnless}
 use Rattle.mdl_context.specs.Tidying.{IsTidy}
 use Rattle.mdl_rows.specs.declared.reply.Reply.{Reply}
@@ -42,8 +44,7 @@ EachPlay P =
 abbrev pub StatementsTellOfWant : Type 0
 StatementsTellOfWant = EachPlay (λ session program. IsFaithful IsFault program)
 
--- all calls of a statement are made for its session or for no session. Those that give up a pin are its context's alone, which
--- makes them after a release
+-- all calls of a statement are made for its session or for no session. Those that give up a pin are its context's alone
 abbrev pub StatementsCallForTheirSession : Type 0
 StatementsCallForTheirSession = EachPlay (λ session program. EachCall (IsMadeFor session.context.who) program)
 
@@ -51,20 +52,26 @@ StatementsCallForTheirSession = EachPlay (λ session program. EachCall (IsMadeFo
 abbrev pub SessionsKeepTheirNumber : Type 0
 SessionsKeepTheirNumber = EachPlay (λ session program. Each (λ pause. (session_of_pause pause).context.who ≡ session.context.who) program)
 
--- once a statement has ended, its session's context knows only the places where it has something. The session has been told to
--- give up its pins of all others that the context knew
-abbrev pub EndsTidy : Pause → Type 0
-EndsTidy (Ends reply session) = IsTidy session.context
-EndsTidy (Faults session) = IsTidy session.context
-EndsTidy _ = Unit {0}
+-- a context is in order: it has something at each place that it knows, and if it waits to upgrade a ticket, it keeps that
+abbrev pub IsInOrder : ContextView → Type 0
+IsInOrder context = IsTidy context × IfSome context.wait (IsAwaited context.known context.kept)
 
--- this holds for each row that is played, for a statement that starts, and for one that continues after its wait
+-- once a statement has ended, its session's context knows only the places where it has something. The session has been told to
+-- give up its pins of all others that the context knew. A statement that waits leaves it so if the context was in order before
+abbrev pub LeavesTidy : Session → Pause → Type 0
+LeavesTidy before (Ends reply session) = IsTidy session.context
+LeavesTidy before (Faults session) = IsTidy session.context
+LeavesTidy before (Begins_to_wait key mode session) = IsInOrder before.context → IsTidy session.context
+LeavesTidy before (Waits_on session) = IsInOrder before.context → IsTidy session.context
+
+-- this holds for each row that is played, for a statement that starts, and for one that continues after its wait, whatever they request and
+-- whatever is refused
 abbrev pub StatementsEndTidy : Type 0
 StatementsEndTidy =
     (session : Session) →
-    ((row : Row Reply) (mark : Mark) → Each EndsTidy (play row mark session))
-    × ((statement : Statement) → Each EndsTidy (starting statement session))
-    × (IsSome session.left → Each EndsTidy (going_on session))
+    ((row : Row Reply) (mark : Mark) → Each (LeavesTidy session) (play row mark session))
+    × ((statement : Statement) → Each (LeavesTidy session) (starting statement session))
+    × (IsSome session.left → Each (LeavesTidy session) (going_on session))
 
 -- over the space of one thread, how far a statement comes, its session and the space after it are the outcome, unless memory ran
 -- out

@@ -1,6 +1,6 @@
 //! Laws of statements that run out of memory, of the calls that statements make and the places that sessions know after them,
-//! and what follows from them over the space of one thread. They hold for each statement, whatever it requests. Each is proved as the contract of a function that does
-//! nothing.
+//! and what follows from them over the space of one thread. They hold for each statement, whatever it requests. Each is proved as the
+//! contract of a function that does nothing.
 ghost use Rattle.mdl_rows.specs.MemoryLaws.{StatementsTellOfWant, StatementsCallForTheirSession, SessionsKeepTheirNumber, StatementsEndTidy, SureStatements, StatementsKeepSpaceSound};
 
 /// A statement that runs out of memory ends and reports that, and nothing else.
@@ -18,7 +18,8 @@ pub fn sessions_keep_their_number()
     ensures { SessionsKeepTheirNumber }
 {}
 
-/// Once a statement has ended, its session's context knows only the places where the session has a ticket or a wait.
+/// Once a statement has ended, its session's context knows only the places where the session has a ticket or a wait. While the statement
+/// waits, that holds if it held before.
 pub fn statements_end_tidy()
     ensures { StatementsEndTidy }
 {}

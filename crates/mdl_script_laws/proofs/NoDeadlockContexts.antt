@@ -4,7 +4,7 @@ use Rattle.std.specs.Prelude.{Bool, is_some}
 use Rattle.mdl_key.specs.declared.mode.Mode.{Mode}
 use Rattle.mdl_calls.specs.declared.answers.Held.{Held}
 use Rattle.mdl_calls.specs.declared.space_error.SpaceError.{SpaceError}
-use Rattle.mdl_calls.specs.Words.{Answer, At_place, Done, Granted, Upgraded, Would_wait, Waits, Pending, Is_settled, Lost, Begin_wait, Call, Clone_ticket, Downgrade, Merge, Release, Upgrade_now, Resolve, Try_now, Program, Give, Ask, ◌>>◌, EachCall, SearchEnd, Over, Cut_off, Failed, outcome_of, seeking, most_searches}
+use Rattle.mdl_calls.specs.Words.{Answer, At_place, Done, Granted, Upgraded, Would_wait, Waits, Pending, Is_settled, Lost, Begin_wait, Call, Clone_ticket, Downgrade, Merge, Release, Upgrade_now, Resolve, Try_now, Unpin, Program, Give, Ask, ◌>>◌, EachCall, SearchEnd, Over, Cut_off, Failed, outcome_of, seeking, most_searches}
 use Rattle.mdl_calls.proofs.FaithfulLemmas.{either, calls_bind}
 use Rattle.mdl_calls.proofs.SeekingLemmas.{calls_seeking}
 use Rattle.mdl_core.specs.CoreCalls.{outcome}
@@ -28,13 +28,14 @@ use Rattle.mdl_context.specs.Holdings.{awaited_upgrade, earliest}
 use Rattle.mdl_context.specs.Releases as releases
 use Rattle.mdl_context.specs.Requests as requests
 use Rattle.mdl_context.specs.Requests.{Outcome}
+use Rattle.mdl_context.specs.Tidying.{tidying}
 use Rattle.mdl_context.specs.Upgrades as upgrades
 use Rattle.mdl_context.specs.Waits as waits
 use Rattle.mdl_context.specs.Wishes.{Wish}
-use Rattle.mdl_context.proofs.MemoryLemmas.{frugal_giving_up, frugal_releasing}
+use Rattle.mdl_context.proofs.MemoryLemmas.{frugal_giving_up, frugal_releasing, frugal_tidying}
 use Rattle.mdl_context.proofs.OwnCallLemmas.{own_giving_up, own_releasing, own_resuming}
 use Rattle.mdl_script_laws.proofs.NoDeadlockCalls.{IsCalm, IsQuiet, calm-call, calm-joined, still-managed}
-use Rattle.mdl_script_laws.proofs.NoDeadlockPrograms.{LeavesCalm, calm-bind, calm-frugal, calm-own, seeks}
+use Rattle.mdl_script_laws.proofs.NoDeadlockPrograms.{LeavesCalm, calm-bind, calm-frugal, calm-own, frugal-calls, seeks}
 use Rattle.mdl_script_laws.proofs.OutcomeLemmas.{joins-outcome, outcome-then}
 
 -- ---- a lock at a place
@@ -93,10 +94,21 @@ calm-reusing None place request context =
     calm-bind context.who (gains.gaining_from serving context.who place request.mode)
     (λ end. Give (requests.outcome_got place request context end)) (calm-gaining serving context.who place request.mode) (λ end a calm. calm)
 
+-- a place where a request got nothing is let go
+calm-letting_go : {A : Type 0} (has_got : Result A ContextError → Bool) (place : ℕ) (context : ContextView) (outcome : Outcome A)
+    → LeavesCalm context.who (requests.letting_go has_got place context outcome)
+calm-letting_go {A} has_got place context (reply, after) =
+    either {A = Outcome A} (LeavesCalm context.who) (has_got reply) (Give (reply, after)) (Ask (Unpin context.who place) (λ _. Give (reply, context)))
+    (λ a calm. calm)
+    (calm-ask {A = Outcome A} context.who (Unpin context.who place) (λ _. Give (reply, context)) refl (λ answer session. refl) (λ _ a calm. calm))
+
 calm-place : (request : Wish) (context : ContextView) (answer : Answer) → LeavesCalm context.who (requests.place_answered request context answer)
 calm-place request context (At_place place) =
     let after = requests.remembering request.key place context in
-    calm-reusing (earliest (requests.is_reusable place request) after.kept) place request after
+    calm-bind {A = Outcome Acquire} {B = Outcome Acquire} context.who (requests.acquiring_at place request after)
+    (requests.letting_go requests.got_lock place context)
+    (calm-reusing (earliest (requests.is_reusable place request) after.kept) place request after)
+    (calm-letting_go {A = Acquire} requests.got_lock place context)
 calm-place request context _ = λ a calm. calm
 
 calm-finding : (place : Option ℕ) (request : Wish) (context : ContextView) → LeavesCalm context.who (requests.finding place request context)
@@ -137,7 +149,10 @@ calm-trying_placed : (request : Wish) (context : ContextView) (answer : Answer)
     → LeavesCalm context.who (requests.trying_placed request context answer)
 calm-trying_placed request context (At_place place) =
     let after = requests.remembering request.key place context in
-    calm-trying_again (earliest (requests.is_reusable place request) after.kept) place request after
+    calm-bind {A = Outcome Tried} {B = Outcome Tried} context.who (requests.trying_at place request after)
+    (requests.letting_go requests.got_at_once place context)
+    (calm-trying_again (earliest (requests.is_reusable place request) after.kept) place request after)
+    (calm-letting_go {A = Tried} requests.got_at_once place context)
 calm-trying_placed request context _ = λ a calm. calm
 
 calm-trying_found : (place : Option ℕ) (request : Wish) (context : ContextView)
@@ -220,10 +235,14 @@ quiet-unwanted : (who : ℕ) (answer : Answer) → AreQuiet (gains.unwanted_end_
 quiet-unwanted who (Granted id) = (λ answer session. refl, λ _. tt)
 quiet-unwanted who _ = tt
 
-quiet-abandoning : (context : ContextView) (reply : Outcome Resume) → AreQuiet (gains.abandoning context.who >> Give reply)
-quiet-abandoning context reply =
-    calls_bind {A = Unit {0}} {B = Outcome Resume} IsQuiet (gains.abandoning context.who) (λ _. Give reply)
-    (λ answer session. refl, λ _. (λ answer session. refl, quiet-unwanted context.who)) (λ _. tt)
+-- places are let go
+quiet-tidying : (outcome : Outcome Resume) → AreQuiet (tidying outcome)
+quiet-tidying outcome = frugal-calls {A = Outcome Resume} (tidying outcome) (frugal_tidying {A = Resume} outcome)
+
+quiet-abandoning : (context : ContextView) (outcome : Outcome Resume) → AreQuiet (gains.abandoning context.who >> tidying outcome)
+quiet-abandoning context outcome =
+    calls_bind {A = Unit {0}} {B = Outcome Resume} IsQuiet (gains.abandoning context.who) (λ _. tidying outcome)
+    (λ answer session. refl, λ _. (λ answer session. refl, quiet-unwanted context.who)) (λ _. quiet-tidying outcome)
 
 quiet-merge : (who new : ℕ) (answer : Answer) → AreQuiet (upgrades.merge_answered who new answer)
 quiet-merge who new Done = tt
@@ -238,7 +257,7 @@ quiet-won (Some (id, mode)) new context =
 
 quiet-end : (context : ContextView) (answer : Answer) → AreQuiet (waits.end_answered context answer)
 quiet-end context (Granted id) = quiet-won (awaited_upgrade context.wait) id context
-quiet-end context (Lost how) = tt
+quiet-end context (Lost how) = quiet-tidying (Ok (resume.Lost how), waits.without_wait context)
 quiet-end context _ = tt
 
 quiet-poll : (context : ContextView) (answer : Answer) → AreQuiet (waits.poll_answered context answer)

@@ -15,7 +15,7 @@ use Rattle.mdl_rows.specs.declared.ending.Ending.TheVariants.{Answers, Misses, F
 use Rattle.mdl_rows.specs.declared.reply.Reply.{Reply}
 use Rattle.mdl_rows.specs.Endings.{Pause, closing, gone_at, letting_go, pause_after, state_after, without_half}
 use Rattle.mdl_rows.specs.Playing as playing
-use Rattle.mdl_rows.specs.Playing.{play, with_context}
+use Rattle.mdl_rows.specs.Playing.{play}
 use Rattle.mdl_rows.specs.Rows.{Row}
 use Rattle.mdl_rows.specs.Rows as row
 use Rattle.mdl_rows.specs.Sessions.{Session}
@@ -135,9 +135,9 @@ orderly_going_on session (left, is, start) =
 
 pub stay_tidy : SessionsStayTidy
 stay_tidy session = (
-  λ statement tidy.
+  λ statement none.
       let mark = current_mark session.context.kept in
       by-each (Told AnyTables) EndsTidy (play (row_of statement) mark session) any-told
-      (so-play AnyTables EndsTidy mark AnyEnding AnyRow (rules_orderly mark (ap length tidy.statement)) (row_of statement) session tt),
+      (so-play AnyTables EndsTidy mark AnyEnding AnyRow (rules_orderly mark (ap length none)) (row_of statement) session tt),
   orderly_going_on session,
 )

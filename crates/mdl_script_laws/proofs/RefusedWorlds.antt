@@ -158,7 +158,7 @@ ready-started line world is rests staffed ready = (
       ((rows_keep_sound session).1 line.statement world.core speaks).0
 
   orderly : EndsTidy end.0
-  orderly = each-outcome EndsTidy outcome program world.core ((stay_tidy session).0 line.statement tidy)
+  orderly = each-outcome EndsTidy outcome program world.core ((stay_tidy session).0 line.statement tidy.statement)
 
   untouched : IsUntouched session world.core end.0 end.1
   untouched = statements_untouched line.statement session world.core end.1 end.0 tidy run

@@ -1,5 +1,5 @@
 -- All that a context asks of the space leaves it what it kept, held.
-use Rattle.std.proofs.Common.{◌≡◌, inl, inr, ℕ, Bool, true, false, List, [], ◌∷◌, ◌++◌, Option, Some, None, Err, Contains, is_some, option_map, find, refl, sym, ap, ◌∙◌, subst, eq-eqb}
+use Rattle.std.proofs.Common.{◌≡◌, inl, inr, ℕ, Bool, true, false, List, [], ◌∷◌, ◌++◌, Option, Some, None, Result, Err, Contains, is_some, option_map, find, refl, sym, ap, ◌∙◌, subst, eq-eqb}
 use Rattle.std.specs.Prelude.{if◌then◌else◌}
 use Rattle.std.proofs.lemmas.List.Elements.{Contains-append_cases}
 use Rattle.mdl_key.specs.declared.mode.Mode.{Mode}
@@ -9,13 +9,14 @@ use Rattle.mdl_system.proofs.OrderLemmas.{Contains-cons_cases}
 use Rattle.mdl_book.proofs.TicketLemmas.{find-passes, find-contains}
 use Rattle.mdl_calls.specs.declared.answers.Held.{Held}
 use Rattle.mdl_calls.specs.SessionLocks.{Wait}
-use Rattle.mdl_calls.specs.Words.{Answer, At_place, Granted, Would_wait, Waits, Resolve, Try_now, Begin_wait, Settle_timeout, End_wait, Release, Clone_ticket, SessionLocks, IsRising, is_waiting, ticket_held, is_number, gaining, cloning, winning, Program, Give, Ask, Grow, EachCall, SearchEnd, Over, Cut_off, Failed, seeking, most_searches}
+use Rattle.mdl_calls.specs.Words.{Answer, At_place, Granted, Would_wait, Waits, Resolve, Try_now, Begin_wait, Settle_timeout, End_wait, Release, Clone_ticket, Unpin, SessionLocks, IsRising, is_waiting, ticket_held, is_number, gaining, cloning, winning, Program, Give, Ask, Grow, EachCall, SearchEnd, Over, Cut_off, Failed, seeking, most_searches}
 use Rattle.mdl_calls.proofs.SeekingLemmas.{calls_seeking}
 use Rattle.mdl_core.specs.CoreJoins.{Joins, Knows, SpeaksFor, locks_at}
 use Rattle.mdl_core.specs.Cores.{Core}
 use Rattle.mdl_core.proofs.CallLaws.{core-changes, core-explains, core-resolves, core-rising}
 use Rattle.mdl_core.proofs.CoreServing.{found-first}
 use Rattle.mdl_core.proofs.PairLemmas.{pairs-from_rising, same-number}
+use Rattle.mdl_context.specs.declared.context_error.ContextError.{ContextError}
 use Rattle.mdl_context.specs.declared.context_error.ContextError.TheVariants.{Waiting}
 use Rattle.mdl_context.specs.declared.kept.Kept.{Kept}
 use Rattle.mdl_context.specs.declared.kept.Wanted.{Wanted}
@@ -29,8 +30,8 @@ use Rattle.mdl_context.specs.Requests as requests
 use Rattle.mdl_context.specs.Requests.{Outcome}
 use Rattle.mdl_context.proofs.PlaceLemmas.{suffices-at, equal}
 use Rattle.mdl_script_laws.proofs.ListLemmas.{only-one}
-use Rattle.mdl_script_laws.proofs.ShownCalls.{IsQuiet, Leads, Spares, Stays, leads-bind, leads-map, leads-quiet, none, spares-call, spares-then, stays-call, stays-here}
-use Rattle.mdl_script_laws.proofs.ShownContexts.{Fits, Followed, IsFresh, fits-more, fits-same, followed-here, followed-late, followed-same, followed-waiting, gained-fresh, gained-there}
+use Rattle.mdl_script_laws.proofs.ShownCalls.{IsQuiet, Leads, Spares, Stays, leads-bind, leads-map, leads-quiet, none, spares-call, spares-then, stays-call, stays-here, unpins-call}
+use Rattle.mdl_script_laws.proofs.ShownContexts.{Fits, Followed, IsFresh, Spared, fits-more, fits-same, followed-forgotten, followed-here, followed-same, followed-spared, gained-fresh, gained-there, spared-here, spared-late, spared-waiting}
 
 -- ---- numbers of tickets
 
@@ -153,10 +154,10 @@ quiet-seeking who n = calls_seeking (IsQuiet who none) who (refl, tt, refl) n
 module _ (a : Core) (context : ContextView) (place : ℕ) (request : Wish) (fits : Fits a context) (idle : context.wait ≡ None) where
   -- the end of asking for it
   abbrev Asked : Outcome Acquire → Core → Type 0
-  Asked outcome b = Followed a context b outcome.1
+  Asked outcome b = Spared a context b outcome.1
 
   -- a ticket was had
-  asked-gained : (b : Core) (id : ℕ) → IsGained a context.who id place b → Followed a context b (requests.keeping_ticket id place request context)
+  asked-gained : (b : Core) (id : ℕ) → IsGained a context.who id place b → Spared a context b (requests.keeping_ticket id place request context)
   asked-gained b id gained = record {
     fits = subst (λ wait. Fits b (record { who = context.who; kept = context.kept ++ kept_ticket id place request ∷ []; known = context.known; wait = wait })) (sym idle)
         (fits-more a b context (kept_ticket id place request) gained.ticket fits gained.spares gained.fresh gained.there gained.number gained.at);
@@ -167,14 +168,14 @@ module _ (a : Core) (context : ContextView) (place : ℕ) (request : Wish) (fits
 
   -- a wait has begun
   asked-waits : (b : Core) (searched : Bool) → Spares context.who none a b → ((w : Wait) → (locks_at b context.who).wait ≡ Some w → w.place ≡ place)
-      → Followed a context b (requests.awaiting place request searched context)
+      → Spared a context b (requests.awaiting place request searched context)
   asked-waits b searched spares at =
-      followed-waiting a b context (Some (wanted_of place request searched)) fits spares
+      spared-waiting a b context (Some (wanted_of place request searched)) fits spares
       (λ wanted w e f. (let g : wanted_of place request searched ≡ wanted = cc in at w f ∙ ap (λ (x : Wanted). x.place) g))
 
   -- there is none
-  asked-refused : (b : Core) → Spares context.who none a b → Followed a context b context
-  asked-refused b spares = followed-waiting a b context context.wait fits spares (λ wanted w e f. cc)
+  asked-refused : (b : Core) → Spares context.who none a b → Spared a context b context
+  asked-refused b spares = spared-waiting a b context context.wait fits spares (λ wanted w e f. cc)
 
   asked-sought : (b : Core) (number : ℕ) (end : SearchEnd) → Spares context.who none a b → ((w : Wait) → (locks_at b context.who).wait ≡ Some w → w.place ≡ place)
       → Leads (λ got c. Asked (requests.outcome_got place request context got) c) (gains.wish_sought context.who number end) b
@@ -223,7 +224,7 @@ module _ (a : Core) (context : ContextView) (place : ℕ) (request : Wish) (fits
 
   -- a clone of it was had
   asked-cloned : (ticket : Held) (b : Core) (copy : ℕ) → IsBacked ticket → Joins a (Clone_ticket context.who ticket.id request.mode) (Granted copy) b
-      → Followed a context b (requests.keeping_ticket copy place request context)
+      → Spared a context b (requests.keeping_ticket copy place request context)
   asked-cloned ticket b copy backed joins =
       let step = spares-call context.who none a b (Clone_ticket context.who ticket.id request.mode) (Granted copy) fits.speaks refl tt joins in
       let held = held-number (locks_at a context.who) backed.0 ticket.id (core-rising a context.who fits.speaks) backed.1 backed.2 in
@@ -250,7 +251,7 @@ module _ (a : Core) (context : ContextView) (place : ℕ) (request : Wish) (fits
   asked-gaining (Some k) e = λ answer b joins. asked-copy (held_of k) b answer (asked-backed k e) joins
 
   asked-reusing : (ticket : Option Held) → Leads Asked (requests.reusing ticket place request context) a
-  asked-reusing (Some ticket) = followed-here a context fits
+  asked-reusing (Some ticket) = spared-here a context fits
   asked-reusing None =
       leads-bind (λ got c. Asked (requests.outcome_got place request context got) c) Asked
       (gains.gaining_from (earliest (requests.suffices place request) context.kept) context.who place request.mode)
@@ -262,7 +263,7 @@ module _ (a : Core) (context : ContextView) (place : ℕ) (request : Wish) (fits
 
   -- the end of trying for it
   abbrev Attempted : Outcome Tried → Core → Type 0
-  Attempted outcome b = Followed a context b outcome.1
+  Attempted outcome b = Spared a context b outcome.1
 
   attempted-try : (b : Core) (answer : Answer) → Joins a (Try_now context.who place request.mode) answer b
       → Leads (λ got c. Attempted (requests.outcome_tried place request context got) c) (gains.tried_answered answer) b
@@ -289,7 +290,7 @@ module _ (a : Core) (context : ContextView) (place : ℕ) (request : Wish) (fits
   attempted-gaining (Some k) e = λ answer b joins. attempted-copy (held_of k) b answer (asked-backed k e) joins
 
   attempted-again : (ticket : Option Held) → Leads Attempted (requests.trying_again ticket place request context) a
-  attempted-again (Some ticket) = followed-here a context fits
+  attempted-again (Some ticket) = spared-here a context fits
   attempted-again None =
       leads-bind (λ got c. Attempted (requests.outcome_tried place request context got) c) Attempted
       (gains.trying_from (earliest (requests.suffices place request) context.kept) context.who place request.mode)
@@ -313,24 +314,44 @@ fits-learnt a context key place fits knows = record {
   wait = fits.wait;
 }
 
+-- a place that was looked up: if the request got nothing there, it is let go
+followed-let_go : {A : Type 0} (has_got : Result A ContextError → Bool) (a b c : Core) (key : KeyName) (place : ℕ) (context : ContextView) (outcome : Outcome A)
+    → Fits a context → context.wait ≡ None → place_known key context.known ≡ None → Spares context.who none a b → Knows b context.who place key
+    → Spared b (requests.remembering key place context) c outcome.1
+    → Leads (λ (end : Outcome A) d. Followed a context d end.1) (requests.letting_go has_got place context outcome) c
+followed-let_go {A} has_got a b c key place context (reply, after) fits idle new spares knows spared = by (has_got reply)
+  where
+    by : (got : Bool) → Leads (λ (end : Outcome A) d. Followed a context d end.1)
+        (if got then Give (reply, after) else Ask (Unpin context.who place) (λ _. Give (reply, context))) c
+    by true =
+        followed-spared a c context after fits
+        (spared-late a b c context.who context.kept context.known (requests.remembering key place context).known context.wait context.wait after spares spared)
+    by false = λ answer d joins.
+        followed-forgotten a c d context key place fits idle new (spares-then context.who none a b c spares spared.spares) (spared.spares.known place key knows)
+        (unpins-call context.who place answer c d spared.spares.speaks joins)
+
 asked-place : (a b : Core) (request : Wish) (context : ContextView) (answer : Answer) → Fits a context → context.wait ≡ None
-    → Joins a (Resolve context.who request.key) answer b
+    → place_known request.key context.known ≡ None → Joins a (Resolve context.who request.key) answer b
     → Leads (λ (outcome : Outcome Acquire) c. Followed a context c outcome.1) (requests.place_answered request context answer) b
-asked-place a b request context (At_place place) fits idle joins =
+asked-place a b request context (At_place place) fits idle new joins =
     let stays = stays-call context.who none a b (Resolve context.who request.key) (At_place place) fits.speaks (refl, tt, refl) joins in
     let now = requests.remembering request.key place context in
-    leads-map (λ (outcome : Outcome Acquire) c. Followed b now c outcome.1) (λ (outcome : Outcome Acquire) c. Followed a context c outcome.1)
-    (requests.acquiring_at place request now) b
-    (λ outcome c followed. followed-late a b c context.who context.kept context.known now.known context.wait context.wait outcome.1 stays.0 followed)
-    (asked-at b now place request (fits-learnt b context request.key place (fits-same a b context fits stays)
-    (core-resolves a b context.who place request.key joins)) idle)
-asked-place a b request context answer fits idle joins =
+    let knows = core-resolves a b context.who place request.key joins in
+    leads-bind (λ (outcome : Outcome Acquire) c. Spared b now c outcome.1) (λ (outcome : Outcome Acquire) c. Followed a context c outcome.1)
+    (requests.acquiring_at place request now) (requests.letting_go requests.got_lock place context) b
+    (asked-at b now place request (fits-learnt b context request.key place (fits-same a b context fits stays) knows) idle)
+    (λ outcome c spared. followed-let_go {A = Acquire} requests.got_lock a b c request.key place context outcome fits idle new stays.0 knows spared)
+asked-place a b request context answer fits idle new joins =
     followed-same a b context fits (stays-call context.who none a b (Resolve context.who request.key) answer fits.speaks (refl, tt, refl) joins)
 
 asked-finding : (a : Core) (request : Wish) (context : ContextView) (place : Option ℕ) → Fits a context → context.wait ≡ None
+    → place_known request.key context.known ≡ place
     → Leads (λ (outcome : Outcome Acquire) b. Followed a context b outcome.1) (requests.finding place request context) a
-asked-finding a request context (Some place) fits idle = asked-at a context place request fits idle
-asked-finding a request context None fits idle = λ answer b joins. asked-place a b request context answer fits idle joins
+asked-finding a request context (Some place) fits idle found =
+    leads-map (λ (outcome : Outcome Acquire) b. Spared a context b outcome.1) (λ (outcome : Outcome Acquire) b. Followed a context b outcome.1)
+    (requests.acquiring_at place request context) a (λ outcome b spared. followed-spared a b context outcome.1 fits spared)
+    (asked-at a context place request fits idle)
+asked-finding a request context None fits idle found = λ answer b joins. asked-place a b request context answer fits idle found joins
 
 -- a lock is wished for
 pub leads-acquiring : (a : Core) (request : Wish) (context : ContextView) → Fits a context
@@ -340,29 +361,33 @@ leads-acquiring a request context fits = go context.wait refl
     go : (o : Option Wanted) → context.wait ≡ o
         → Leads (λ (outcome : Outcome Acquire) b. Followed a context b outcome.1)
         (if is_some o then Give (Err Waiting, context) else requests.finding (place_known request.key context.known) request context) a
-    go None e = asked-finding a request context (place_known request.key context.known) fits e
+    go None e = asked-finding a request context (place_known request.key context.known) fits e refl
     go (Some wanted) e = followed-here a context fits
 
 -- ---- and not waited for
 
 attempted-place : (a b : Core) (request : Wish) (context : ContextView) (answer : Answer) → Fits a context → context.wait ≡ None
-    → Joins a (Resolve context.who request.key) answer b
+    → place_known request.key context.known ≡ None → Joins a (Resolve context.who request.key) answer b
     → Leads (λ (outcome : Outcome Tried) c. Followed a context c outcome.1) (requests.trying_placed request context answer) b
-attempted-place a b request context (At_place place) fits idle joins =
+attempted-place a b request context (At_place place) fits idle new joins =
     let stays = stays-call context.who none a b (Resolve context.who request.key) (At_place place) fits.speaks (refl, tt, refl) joins in
     let now = requests.remembering request.key place context in
-    leads-map (λ (outcome : Outcome Tried) c. Followed b now c outcome.1) (λ (outcome : Outcome Tried) c. Followed a context c outcome.1)
-    (requests.trying_at place request now) b
-    (λ outcome c followed. followed-late a b c context.who context.kept context.known now.known context.wait context.wait outcome.1 stays.0 followed)
-    (attempted-at b now place request (fits-learnt b context request.key place (fits-same a b context fits stays)
-    (core-resolves a b context.who place request.key joins)) idle)
-attempted-place a b request context answer fits idle joins =
+    let knows = core-resolves a b context.who place request.key joins in
+    leads-bind (λ (outcome : Outcome Tried) c. Spared b now c outcome.1) (λ (outcome : Outcome Tried) c. Followed a context c outcome.1)
+    (requests.trying_at place request now) (requests.letting_go requests.got_at_once place context) b
+    (attempted-at b now place request (fits-learnt b context request.key place (fits-same a b context fits stays) knows) idle)
+    (λ outcome c spared. followed-let_go {A = Tried} requests.got_at_once a b c request.key place context outcome fits idle new stays.0 knows spared)
+attempted-place a b request context answer fits idle new joins =
     followed-same a b context fits (stays-call context.who none a b (Resolve context.who request.key) answer fits.speaks (refl, tt, refl) joins)
 
 attempted-finding : (a : Core) (request : Wish) (context : ContextView) (place : Option ℕ) → Fits a context → context.wait ≡ None
+    → place_known request.key context.known ≡ place
     → Leads (λ (outcome : Outcome Tried) b. Followed a context b outcome.1) (requests.trying_found place request context) a
-attempted-finding a request context (Some place) fits idle = attempted-at a context place request fits idle
-attempted-finding a request context None fits idle = λ answer b joins. attempted-place a b request context answer fits idle joins
+attempted-finding a request context (Some place) fits idle found =
+    leads-map (λ (outcome : Outcome Tried) b. Spared a context b outcome.1) (λ (outcome : Outcome Tried) b. Followed a context b outcome.1)
+    (requests.trying_at place request context) a (λ outcome b spared. followed-spared a b context outcome.1 fits spared)
+    (attempted-at a context place request fits idle)
+attempted-finding a request context None fits idle found = λ answer b joins. attempted-place a b request context answer fits idle found joins
 
 -- a lock is wished for that isn't waited for
 pub leads-trying : (a : Core) (request : Wish) (context : ContextView) → Fits a context
@@ -372,5 +397,5 @@ leads-trying a request context fits = go context.wait refl
     go : (o : Option Wanted) → context.wait ≡ o
         → Leads (λ (outcome : Outcome Tried) b. Followed a context b outcome.1)
         (if is_some o then Give (Err Waiting, context) else requests.trying_found (place_known request.key context.known) request context) a
-    go None e = attempted-finding a request context (place_known request.key context.known) fits e
+    go None e = attempted-finding a request context (place_known request.key context.known) fits e refl
     go (Some wanted) e = followed-here a context fits

@@ -143,6 +143,14 @@ leaves-spared who gone a b speaks spares = record {
   stands = spares.stands;
 }
 
+pub leaves-then : (who : ℕ) (gone : ℕ → Type 0) (a b c : Core) → Leaves who gone a b → Leaves who gone b c → Leaves who gone a c
+leaves-then who gone a b c early late = record {
+  speaks = late.speaks;
+  held = λ t among stays. late.held t (early.held t among stays) stays;
+  keys = λ t among stays. late.keys t (early.held t among stays) stays ∙ early.keys t among stays;
+  stands = λ t among stays. late.stands t (early.held t among stays) stays ∙ early.stands t among stays;
+}
+
 -- ---- the wait of a session
 
 abbrev pub begins_wait : Call → Bool
@@ -238,7 +246,7 @@ same-wait who place _ own = refl
 not_held : (a b : Core) (who place : ℕ) → Joins a (Unpin who place) Done b → HoldsAt place (locks_at a who) → ⊥
 not_held a b who place joins holds = (core-explains a b (Unpin who place) Done who refl joins).1 holds
 
-unpins-call : (who place : ℕ) (answer : Answer) (a b : Core) → SpeaksFor a who → Joins a (Unpin who place) answer b → Unpins who (place ∷ []) a b
+pub unpins-call : (who place : ℕ) (answer : Answer) (a b : Core) → SpeaksFor a who → Joins a (Unpin who place) answer b → Unpins who (place ∷ []) a b
 unpins-call who place answer a b speaks joins = record {
   speaks = core-keeps calls_keep-sound a b (Unpin who place) answer who speaks joins;
   held = ap (λ (o : SessionLocks). o.held) own ∙ same-tickets who place answer (locks_at a who);

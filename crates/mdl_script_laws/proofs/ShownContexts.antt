@@ -2,6 +2,7 @@
 use Rattle.std.proofs.Common.{◌≡◌, ◌≢◌, ◌⊎◌, inl, inr, ℕ, ◌<◌, Bool, true, false, not, List, [], ◌∷◌, ◌++◌, Option, Some, None, Contains, filter, map, refl, sym, ap, ◌∙◌, subst, arith}
 use Rattle.std.specs.Prelude.{if◌then◌else◌, nat_lt, IsTrue}
 use Rattle.std.specs.List.{list_all}
+use Rattle.std.proofs.lemmas.Bool.{false≢true}
 use Rattle.std.proofs.lemmas.Bool.Decides.{nat_tests}
 use Rattle.std.proofs.lemmas.List.Elements.{Contains-append_right, Contains-append_cases}
 use Rattle.mdl_key.specs.declared.mode.Duration.TheVariants.{Explicit}
@@ -14,14 +15,14 @@ use Rattle.mdl_calls.specs.declared.answers.Held.{Held}
 use Rattle.mdl_calls.specs.SessionLocks.{Wait}
 use Rattle.mdl_calls.specs.Words.{SessionLocks, IsRising, are_rising, gaining}
 use Rattle.mdl_core.specs.CoreJoins.{Knows, SpeaksFor, locks_at}
-use Rattle.mdl_core.specs.Cores.{Core}
+use Rattle.mdl_core.specs.Cores.{Core, key_at}
 use Rattle.mdl_context.specs.declared.kept.Kept.{Kept}
 use Rattle.mdl_context.specs.declared.kept.Wanted.{Wanted}
 use Rattle.mdl_context.specs.Holdings.{kept_for}
 use Rattle.mdl_context.specs.Contexts.{ContextView, place_known}
 use Rattle.mdl_context.specs.Tidying.{is_needed, tidied, unneeded}
 use Rattle.mdl_script_laws.proofs.ListLemmas.{among-filter, only-one}
-use Rattle.mdl_script_laws.proofs.ShownCalls.{Spares, Stays, Unpins, none, spares-here, spares-then}
+use Rattle.mdl_script_laws.proofs.ShownCalls.{Leaves, Spares, Stays, Unpins, leaves-spared, leaves-then, leaves-unpinned, none, spares-here, spares-then}
 
 -- ---- tickets with rising numbers
 
@@ -174,36 +175,112 @@ fits-more a b context new t fits spares fresh there number place = record {
 abbrev pub Grown : Core → ℕ → List Kept → List Kept → Type 0
 Grown a who before after = (after ≡ before) ⊎ ((new : Kept) × IsFresh a who new.id × (after ≡ before ++ new ∷ []))
 
--- a context asked for something: it fits still, its session keeps its tickets, and it keeps what it kept
-pub record Followed (a : Core) (before : ContextView) (b : Core) (after : ContextView) : Type 0 where
+-- it kept so before something else was done
+grown-late : (a b : Core) (who : ℕ) (before after : List Kept) → Spares who none a b → Grown b who before after → Grown a who before after
+grown-late a b who before after spares (inl same) = inl same
+grown-late a b who before after spares (inr (new, fresh, more)) = inr (new, λ t among. fresh t (spares.held t among (λ g. g)), more)
+
+-- ---- a context that asks
+
+-- a context asked for something: it fits still, its session keeps its tickets and pins, and it keeps what it kept
+pub record Spared (a : Core) (before : ContextView) (b : Core) (after : ContextView) : Type 0 where
   pub fits : Fits b after
   pub spares : Spares before.who none a b
   pub who : after.who ≡ before.who
   pub grown : Grown a before.who before.kept after.kept
 
-pub followed-here : (a : Core) (context : ContextView) → Fits a context → Followed a context a context
-followed-here a context fits = record { fits = fits; spares = spares-here context.who none a fits.speaks; who = refl; grown = inl refl }
+pub spared-here : (a : Core) (context : ContextView) → Fits a context → Spared a context a context
+spared-here a context fits = record { fits = fits; spares = spares-here context.who none a fits.speaks; who = refl; grown = inl refl }
 
-pub followed-waiting : (a b : Core) (context : ContextView) (wait : Option Wanted) → Fits a context → Spares context.who none a b
+pub spared-waiting : (a b : Core) (context : ContextView) (wait : Option Wanted) → Fits a context → Spares context.who none a b
     → ((wanted : Wanted) (w : Wait) → wait ≡ Some wanted → (locks_at b context.who).wait ≡ Some w → w.place ≡ wanted.place)
-    → Followed a context b (record context { wait = wait })
-followed-waiting a b context wait fits spares at =
+    → Spared a context b (record context { wait = wait })
+spared-waiting a b context wait fits spares at =
     record { fits = fits-waiting a b context wait fits spares at; spares = spares; who = refl; grown = inl refl }
 
-pub followed-same : (a b : Core) (context : ContextView) → Fits a context → Stays context.who none a b → Followed a context b context
-followed-same a b context fits stays = record { fits = fits-same a b context fits stays; spares = stays.0; who = refl; grown = inl refl }
+pub spared-same : (a b : Core) (context : ContextView) → Fits a context → Stays context.who none a b → Spared a context b context
+spared-same a b context fits stays = record { fits = fits-same a b context fits stays; spares = stays.0; who = refl; grown = inl refl }
 
 -- something was done before
-pub followed-late : (a b c : Core) (who : ℕ) (kept : List Kept) (known knew : List (KeyName × ℕ)) (wait still : Option Wanted) (after : ContextView)
+pub spared-late : (a b c : Core) (who : ℕ) (kept : List Kept) (known knew : List (KeyName × ℕ)) (wait still : Option Wanted) (after : ContextView)
     → Spares who none a b
+    → Spared b (record { who = who; kept = kept; known = knew; wait = still }) c after
+    → Spared a (record { who = who; kept = kept; known = known; wait = wait }) c after
+spared-late a b c who kept known knew wait still after spares spared = record {
+  fits = spared.fits;
+  spares = spares-then who none a b c spares spared.spares;
+  who = spared.who;
+  grown = grown-late a b who kept after.kept spares spared.grown;
+}
+
+-- the same where it may have let go of places
+pub record Followed (a : Core) (before : ContextView) (b : Core) (after : ContextView) : Type 0 where
+  pub fits : Fits b after
+  pub leaves : Leaves before.who none a b
+  pub who : after.who ≡ before.who
+  pub grown : Grown a before.who before.kept after.kept
+
+pub followed-spared : (a b : Core) (before after : ContextView) → Fits a before → Spared a before b after → Followed a before b after
+followed-spared a b before after fits spared = record {
+  fits = spared.fits;
+  leaves = leaves-spared before.who none a b fits.speaks spared.spares;
+  who = spared.who;
+  grown = spared.grown;
+}
+
+pub followed-here : (a : Core) (context : ContextView) → Fits a context → Followed a context a context
+followed-here a context fits = followed-spared a a context context fits (spared-here a context fits)
+
+pub followed-same : (a b : Core) (context : ContextView) → Fits a context → Stays context.who none a b → Followed a context b context
+followed-same a b context fits stays = followed-spared a b context context fits (spared-same a b context fits stays)
+
+pub followed-late : (a b c : Core) (who : ℕ) (kept : List Kept) (known knew : List (KeyName × ℕ)) (wait still : Option Wanted) (after : ContextView)
+    → SpeaksFor a who → Spares who none a b
     → Followed b (record { who = who; kept = kept; known = knew; wait = still }) c after
     → Followed a (record { who = who; kept = kept; known = known; wait = wait }) c after
-followed-late a b c who kept known knew wait still after spares followed = record {
+followed-late a b c who kept known knew wait still after speaks spares followed = record {
   fits = followed.fits;
-  spares = spares-then who none a b c spares followed.spares;
+  leaves = leaves-then who none a b c (leaves-spared who none a b speaks spares) followed.leaves;
   who = followed.who;
-  grown = elim followed.grown [
-    | inl same ↦ inl same
-    | inr more ↦ inr (more.0, λ t among. more.1 t (spares.held t among (λ g. g)), more.2)
-  ];
+  grown = grown-late a b who kept after.kept spares followed.grown;
 }
+
+-- a place of a key that isn't known
+none-known : (key : KeyName) (known : List (KeyName × ℕ)) (place : ℕ) → place_known key known ≡ None → Contains known (key, place) → ⊥
+none-known key [] place e among = Contains-none (key, place) among
+none-known key (x ∷ xs) place e among = go (key_eq key x.0) refl e (none-known key xs place)
+  where
+    go : (b : Bool) → key_eq key x.0 ≡ b → (if b then Some x.1 else place_known key xs) ≡ None → (place_known key xs ≡ None → Contains xs (key, place) → ⊥) → ⊥
+    go true same f later = cc
+    go false other f later = elim (Contains-cons_cases x xs (key, place) among) [
+      | inl there ↦ later f there
+      | inr first ↦ false≢true (sym other ∙ (key-Decides key x.0).1 (ap (λ (y : KeyName × ℕ). y.0) first))
+    ]
+
+-- the pin of a place that was looked up is given up again, and the context is as it was
+pub followed-forgotten : (a b c : Core) (context : ContextView) (key : KeyName) (place : ℕ) → Fits a context → context.wait ≡ None
+    → place_known key context.known ≡ None → Spares context.who none a b → Knows b context.who place key → Unpins context.who (place ∷ []) b c
+    → Followed a context c context
+followed-forgotten a b c context key place fits idle new spares knows unpins = record {
+  fits = record {
+    speaks = unpins.speaks;
+    backed = λ k among.
+        let t = fits.backed k among in
+        (t.0, subst (λ held. Contains held t.0) (sym unpins.held) (spares.held t.0 t.1 (λ g. g)), t.2, t.3);
+    alone = fits.alone;
+    known = λ other p among. unpins.known p other (apart other p among) (known other p among);
+    wait = λ wanted w e f. (let g = sym idle ∙ e in cc);
+  };
+  leaves = leaves-unpinned context.who none (place ∷ []) a b c (leaves-spared context.who none a b fits.speaks spares) unpins;
+  who = refl;
+  grown = inl refl;
+}
+  where
+    known : (other : KeyName) (p : ℕ) → Contains context.known (other, p) → Knows b context.who p other
+    known other p among = spares.known p other (fits.known other p among)
+
+    apart : (other : KeyName) (p : ℕ) → Contains context.known (other, p) → Contains (place ∷ []) p → ⊥
+    apart other p among there =
+        let same : p ≡ place = only-one place p there in
+        let its : other ≡ key = sym (known other p among).1 ∙ ap (λ q. key_at q b) same ∙ knows.1 in
+        none-known key context.known p new (subst (λ k. Contains context.known (k, p)) its among)

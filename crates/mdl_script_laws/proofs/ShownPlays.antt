@@ -46,7 +46,7 @@ use Rattle.mdl_rows.specs.States.{State}
 use Rattle.mdl_rows.specs.Statements.{is_defined}
 use Rattle.mdl_script_laws.proofs.ListLemmas.{among-filter}
 use Rattle.mdl_script_laws.proofs.ShownCalls.{Leads, leads-bind, leads-each, none, stays-call, stays-other}
-use Rattle.mdl_script_laws.proofs.ShownContexts.{Fits, Followed, fits-kept, fits-known}
+use Rattle.mdl_script_laws.proofs.ShownContexts.{Fits, Followed, fits-kept, fits-known, followed-spared}
 use Rattle.mdl_script_laws.proofs.ShownAsking.{held-number, leads-acquiring, leads-trying}
 use Rattle.mdl_script_laws.proofs.ShownRaising.{Raised, Won, leads-downgrading, leads-upgrading, leads-winning}
 use Rattle.mdl_script_laws.proofs.ShownWaits.{GaveUp, Resumed, leads-giving_up, leads-releasing, leads-resuming}
@@ -374,7 +374,8 @@ leads-resumed : (old : TableShown → Type 0) (a b : Core) (session : Session) (
     → Resumed a session.context outcome b → Leads (Comes old) (playing.resumed waiting.rest (record session { left = None }) outcome) b
 leads-resumed old a b session waiting (Ok resume.Waiting, context) resumed =
     let still = resumed.1 waiting.wanted waiting.wait in
-    let now = point-followed old waiting.live waiting.locks waiting.seen waiting.rest.mark a session.context session.state waiting.point b context resumed.0 in
+    let now = point-followed old waiting.live waiting.locks waiting.seen waiting.rest.mark a session.context session.state waiting.point b context
+    (followed-spared a b session.context context waiting.point.fits resumed.0) in
     inl (record {
       rest = waiting.rest;
       left = refl;
@@ -392,7 +393,8 @@ leads-resumed old a b session waiting (Ok resume.Waiting, context) resumed =
           (waiting.fair id);
     })
 leads-resumed old a b session waiting (Ok (resume.Acquired id), context) resumed =
-    let now = point-followed old waiting.live waiting.locks waiting.seen waiting.rest.mark a session.context session.state waiting.point b context resumed.0 in
+    let now = point-followed old waiting.live waiting.locks waiting.seen waiting.rest.mark a session.context session.state waiting.point b context
+    (followed-spared a b session.context context waiting.point.fits resumed.0) in
     let had = resumed.1 waiting.wanted waiting.wait in
     leads-play old waiting.live (with_lock waiting.wanted.duration id waiting.key waiting.locks) waiting.seen (waiting.rest.rest id) waiting.rest.mark b
     (record { context = context; state = session.state; left = None }) (waiting.fair id)
@@ -410,12 +412,12 @@ leads-resumed old a b session waiting (Ok (resume.Acquired id), context) resumed
     }))
 leads-resumed old a b session waiting (Ok (resume.Lost how), context) resumed =
     leads-closing old waiting.live waiting.locks waiting.seen waiting.rest.mark b (record { context = context; state = session.state; left = None })
-    (point-followed old waiting.live waiting.locks waiting.seen waiting.rest.mark a session.context session.state waiting.point b context resumed.0)
+    (point-followed old waiting.live waiting.locks waiting.seen waiting.rest.mark a session.context session.state waiting.point b context resumed)
     (ending_of_loss (waits_for_user_lock session.context) how)
     (λ lives x tell. absurd (tells_no_loss (waits_for_user_lock session.context) how x tell))
 leads-resumed old a b session waiting (Err error, context) resumed =
     leads-closing old waiting.live waiting.locks waiting.seen waiting.rest.mark b (record { context = context; state = session.state; left = None })
-    (point-followed old waiting.live waiting.locks waiting.seen waiting.rest.mark a session.context session.state waiting.point b context resumed.0)
+    (point-followed old waiting.live waiting.locks waiting.seen waiting.rest.mark a session.context session.state waiting.point b context resumed)
     (ending_of_error error) (λ lives x tell. absurd (tells_no_error error x tell))
 
 -- the same of one that waits to make a lock stronger

@@ -17,8 +17,8 @@ use Rattle.mdl_context.specs.Contexts.{ContextView, beyond, current_mark, durati
 use Rattle.mdl_rows.specs.declared.reply.TableShown.{TableShown}
 use Rattle.mdl_rows.specs.Statements.{is_defined, table_columns}
 use Rattle.mdl_script_laws.proofs.ListLemmas.{among-filter, only-one}
-use Rattle.mdl_script_laws.proofs.ShownCalls.{Leaves, leaves-spared, none}
-use Rattle.mdl_script_laws.proofs.ShownContexts.{Fits, Followed, Grown}
+use Rattle.mdl_script_laws.proofs.ShownCalls.{Leaves, knows-held, none}
+use Rattle.mdl_script_laws.proofs.ShownContexts.{Followed, Grown}
 use Rattle.mdl_script_laws.proofs.ShownWaits.{GaveUp, IsAmong, IsReleased}
 
 -- ---- lists
@@ -119,16 +119,22 @@ shown-left : (who : ℕ) (gone : ℕ → Type 0) (a b : Core) (t : Held) → Lea
 shown-left who gone a b t leaves there stays =
     ap (λ k. shown_as k (standing_at t.place b)) (leaves.keys t there stays) ∙ ap (shown_as (key_at t.place a)) (leaves.stands t there stays)
 
-module _ (a b : Core) (before after : ContextView) (fits : Fits a before) (followed : Followed a before b after) where
+module _ (a b : Core) (before after : ContextView) (followed : Followed a before b after) where
   still-there : (t : Held) → Contains (locks_at a before.who).held t → Contains (locks_at b after.who).held t
-  still-there t there = subst (λ w. Contains (locks_at b w).held t) (sym followed.who) (followed.spares.held t there (λ g. g))
+  still-there t there = subst (λ w. Contains (locks_at b w).held t) (sym followed.who) (followed.leaves.held t there (λ g. g))
+
+  -- the session knows the key under it
+  still-known : (t : Held) (key : KeyName) → Contains (locks_at a before.who).held t → Knows a before.who t.place key → Knows b before.who t.place key
+  still-known t key there knows =
+      subst (Knows b before.who t.place) (followed.leaves.keys t there (λ g. g) ∙ knows.1)
+      (knows-held b before.who t followed.leaves.speaks (followed.leaves.held t there (λ g. g)))
 
   pub locked-followed : (id : ℕ) (key : KeyName) → IsLocked a before id key → IsLocked b after id key
   locked-followed id key locked = record {
     ticket = locked.ticket;
     there = still-there locked.ticket locked.there;
     number = locked.number;
-    at = subst (λ w. Knows b w locked.ticket.place key) (sym followed.who) (followed.spares.known locked.ticket.place key locked.at);
+    at = subst (λ w. Knows b w locked.ticket.place key) (sym followed.who) (still-known locked.ticket key locked.there locked.at);
     firm = firm-grown a before.who before.kept after.kept locked.ticket followed.grown locked.there locked.firm;
   }
 
@@ -136,8 +142,8 @@ module _ (a b : Core) (before after : ContextView) (fits : Fits a before) (follo
   standing-followed x stands = record {
     ticket = stands.ticket;
     there = still-there stands.ticket stands.there;
-    shown = shown-left before.who none a b stands.ticket (leaves-spared before.who none a b fits.speaks followed.spares) stands.there (λ g. g) ∙ stands.shown;
-    defined = ap is_defined (followed.spares.stands stands.ticket stands.there (λ g. g)) ∙ stands.defined;
+    shown = shown-left before.who none a b stands.ticket followed.leaves stands.there (λ g. g) ∙ stands.shown;
+    defined = ap is_defined (followed.leaves.stands stands.ticket stands.there (λ g. g)) ∙ stands.defined;
     firm = firm-grown a before.who before.kept after.kept stands.ticket followed.grown stands.there stands.firm;
   }
 

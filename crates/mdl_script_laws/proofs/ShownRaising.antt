@@ -15,6 +15,7 @@ use Rattle.mdl_core.proofs.CallLaws.{core-changes, core-keeps, core-remembers}
 use Rattle.mdl_core.proofs.CoreSound.{calls_keep-sound}
 use Rattle.mdl_context.specs.declared.asking.AskResult.{AskResult}
 use Rattle.mdl_context.specs.declared.asking.AskResult.TheVariants as got
+use Rattle.mdl_context.specs.declared.context_error.ContextError.{ContextError}
 use Rattle.mdl_context.specs.declared.context_error.ContextError.TheVariants.{NotHeld, Space, Waiting}
 use Rattle.mdl_context.specs.declared.kept.Kept.{Kept}
 use Rattle.mdl_context.specs.declared.kept.Wanted.{Wanted}
@@ -27,12 +28,13 @@ use Rattle.mdl_context.specs.Gains as gains
 use Rattle.mdl_context.specs.Holdings.{awaited_upgrade, has_ticket_number, search_over, wanted_upgrade}
 use Rattle.mdl_context.specs.Releases as releases
 use Rattle.mdl_context.specs.Requests.{Outcome}
+use Rattle.mdl_context.specs.Tidying.{tidied, tidying, unneeded, unpinning_all}
 use Rattle.mdl_context.specs.Upgrades as upgrades
 use Rattle.mdl_context.specs.Waits as waits
 use Rattle.mdl_script_laws.proofs.ListLemmas.{filter-among}
 use Rattle.mdl_script_laws.proofs.ShownAsking.{IsGained, gained-by, leads-abandoning, quiet-seeking, won-by}
-use Rattle.mdl_script_laws.proofs.ShownCalls.{Leads, Spares, Stays, leads-bind, leads-map, leads-quiet, none, spares-call, spares-then, stays-call, stays-here}
-use Rattle.mdl_script_laws.proofs.ShownContexts.{Fits, fits-same}
+use Rattle.mdl_script_laws.proofs.ShownCalls.{Leads, Spares, Stays, Unpins, leads-bind, leads-map, leads-quiet, leads-unpinning, none, spares-call, spares-then, stays-call, stays-here}
+use Rattle.mdl_script_laws.proofs.ShownContexts.{Fits, fits-same, fits-tidied}
 use Rattle.mdl_script_laws.proofs.ShownWaits.{searched-fits}
 
 -- ---- what stays at its place
@@ -340,6 +342,15 @@ won-merged : (b : Core) (context : ContextView) (id : ℕ) (mode : Mode) (end : 
 won-merged b context id mode (Ok done) fits = (fits-mode id (λ _. mode) b (waits.without_wait context) fits, refl)
 won-merged b context id mode (Err refusal) fits = (fits, refl)
 
+-- and so it does once it let go of places
+won-tidied : (b : Core) (context : ContextView) (reply : Result Resume ContextError)
+    → ((after : ContextView) (c : Core) → Fits c after → after.who ≡ context.who → Won context (reply, after) c) → Fits b (waits.without_wait context)
+    → Leads (Won context) (tidying (reply, waits.without_wait context)) b
+won-tidied b context reply so fits =
+    let over = waits.without_wait context in
+    leads-bind (λ x c. Unpins context.who (unneeded over) b c) (Won context) (unpinning_all context.who (unneeded over)) (λ _. Give (reply, tidied over)) b
+    (leads-unpinning context.who (unneeded over) b fits.speaks) (λ x c unpins. so (tidied over) c (fits-tidied b c over fits unpins) refl)
+
 won-ended : (a b : Core) (context : ContextView) (answer : Answer) → IsUpgrading context → Fits a context → Joins a (End_wait context.who) answer b
     → Leads (Won context) (waits.end_answered context answer) b
 won-ended a b context (Granted new) (wanted, (id, mode), waiting, target) fits joins =
@@ -351,7 +362,8 @@ won-ended a b context (Granted new) (wanted, (id, mode), waiting, target) fits j
     (λ end. Give (upgrades.merged (resume.Acquired id) id mode over end)) b (leads-merging b over id new refl beside)
     (λ end c fit. won-merged c context id mode end fit))
 won-ended a b context (Lost how) upgrading fits joins =
-    (fits-over a b context fits (stays-call context.who none a b (End_wait context.who) (Lost how) fits.speaks (refl, tt, refl) joins).0, refl)
+    won-tidied b context (Ok (resume.Lost how)) (λ after c fit who. (fit, who))
+    (fits-over a b context fits (stays-call context.who none a b (End_wait context.who) (Lost how) fits.speaks (refl, tt, refl) joins).0)
 won-ended a b context answer upgrading fits joins =
     (fits-same a b context fits (stays-call context.who none a b (End_wait context.who) answer fits.speaks (refl, tt, refl) joins), refl)
 
@@ -382,8 +394,10 @@ won-sought a b context Over upgrading fits stays =
     (won-looking b (waits.with_searches_over context) (upgrading-searched context upgrading) (searched-fits b context (fits-same a b context fits stays)))
 won-sought a b context Cut_off upgrading fits stays = won-looking b context upgrading (fits-same a b context fits stays)
 won-sought a b context (Failed refusal) upgrading fits stays =
-    leads-bind (λ x c. Spares context.who none a c) (Won context) (gains.abandoning context.who) (λ _. Give (Err (Space refusal), waits.without_wait context)) b
-    (leads-abandoning a b context.who stays.0) (λ x c spares. (fits-over a c context fits spares, refl))
+    leads-bind (λ x c. Spares context.who none a c) (Won context) (gains.abandoning context.who)
+    (λ _. tidying (Err (Space refusal), waits.without_wait context)) b
+    (leads-abandoning a b context.who stays.0)
+    (λ x c spares. won-tidied c context (Err (Space refusal)) (λ after d fit who. (fit, who)) (fits-over a c context fits spares))
 
 won-cut_off : (a b : Core) (context : ContextView) (answer : Answer) → IsUpgrading context → Fits a context → Stays context.who none a b
     → Leads (Won context) (waits.cut_off_answered context answer) b

@@ -17,8 +17,8 @@ use Rattle.mdl_system.proofs.OrderLemmas.{Contains-here}
 use Rattle.mdl_book.proofs.TicketLemmas.{find-contains, find-passes}
 use Rattle.mdl_calls.specs.declared.answers.Held.{Held}
 use Rattle.mdl_calls.specs.declared.space_error.SpaceError.{SpaceError}
-use Rattle.mdl_calls.specs.Words.{Answer, At_place, Give, Each}
-use Rattle.mdl_calls.proofs.FaithfulLemmas.{each_then, either}
+use Rattle.mdl_calls.specs.Words.{Answer, At_place, Give, Grow, Each}
+use Rattle.mdl_calls.proofs.FaithfulLemmas.{each_bind, each_then, either}
 use Rattle.mdl_core.specs.CoreJoins.{locks_at}
 use Rattle.mdl_core.specs.Cores.{Core, standing_at}
 use Rattle.mdl_core.proofs.CallLaws.{core-rising}
@@ -156,10 +156,20 @@ module _ (request : Wish) (context : ContextView) (place : ℕ) (known : place_k
   tried-at : Each (IsTried request.key) (requests.trying_at place request context)
   tried-at = tried-found (find (requests.is_reusable place request) context.kept) refl
 
+-- a place where it wasn't had is let go
+tried-let_go : (key : KeyName) (place : ℕ) (context : ContextView) (outcome : Outcome Tried) → IsTried key outcome
+    → Each (IsTried key) (requests.letting_go requests.got_at_once place context outcome)
+tried-let_go key place context (Ok (try_as.Acquired id), after) its = its
+tried-let_go key place context (Ok try_as.WouldWait, after) its = λ answer. tt
+tried-let_go key place context (Err error, after) its = λ answer. tt
+
 tried-place : (request : Wish) (context : ContextView) → place_known request.key context.known ≡ None → (answer : Answer)
     → Each (IsTried request.key) (requests.trying_placed request context answer)
 tried-place request context new (At_place place) =
-    (tt, tried-at request (requests.remembering request.key place context) place (known-last request.key context.known place new))
+    let now = requests.remembering request.key place context in
+    each_bind {A = Outcome Tried} {B = Outcome Tried} (IsTried request.key) (IsTried request.key)
+    (Grow (requests.starved context) (requests.trying_at place request now)) (requests.letting_go requests.got_at_once place context)
+    (tt, tried-at request now place (known-last request.key context.known place new)) (tried-let_go request.key place context)
 tried-place request context new _ = tt
 
 tried-finding : (request : Wish) (context : ContextView) (found : Option ℕ) → place_known request.key context.known ≡ found

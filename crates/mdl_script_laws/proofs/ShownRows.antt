@@ -18,7 +18,7 @@ use Rattle.mdl_rows.specs.declared.state.Locked.{Locked}
 use Rattle.mdl_rows.specs.declared.reply.Reply.{Reply}
 use Rattle.mdl_rows.specs.declared.reply.Reply.TheVariants as reply
 use Rattle.mdl_rows.specs.declared.reply.TableShown.{TableShown}
-use Rattle.mdl_rows.specs.Rows.{Row, Act, nothing, set, check, acquire_all, for_each, ◌>>=◌, ◌>>◌}
+use Rattle.mdl_rows.specs.Rows.{Row, nothing, set, check, ◌>>=◌, ◌>>◌}
 use Rattle.mdl_rows.specs.Rows as row
 use Rattle.mdl_rows.specs.States.{State, after_write, has_locked, savepoint_mark}
 use Rattle.mdl_rows.specs.Statements as does

@@ -160,9 +160,9 @@ module _ (old : TableShown → Type 0) (live : Bool) (locks : List (ℕ × KeyNa
     unlocked = point.unlocked;
     was = point.was;
     opens = point.opens;
-    kept = λ x is lives. (let h = point.kept x is lives in old-followed a b context after point.fits followed mark x h.0 h.1);
-    locked = λ id key among. locked-followed a b context after point.fits followed id key (point.locked id key among);
-    stands = λ x among. standing-followed a b context after point.fits followed x (point.stands x among);
+    kept = λ x is lives. (let h = point.kept x is lives in old-followed a b context after followed mark x h.0 h.1);
+    locked = λ id key among. locked-followed a b context after followed id key (point.locked id key among);
+    stands = λ x among. standing-followed a b context after followed x (point.stands x among);
   }
 
   pub point-same : (b : Core) → Stays context.who none a b → Point old live locks seen mark b context state

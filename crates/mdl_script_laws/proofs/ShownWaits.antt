@@ -8,7 +8,7 @@ use Rattle.mdl_system.proofs.OrderLemmas.{Contains-cons_cases, Contains-here, Co
 use Rattle.mdl_calls.specs.declared.answers.Held.{Held}
 use Rattle.mdl_calls.specs.SessionLocks.{Wait}
 use Rattle.mdl_calls.specs.Words.{Answer, Granted, Pending, Is_settled, Lost, Poll_wait, End_wait, Release, Program, Give, Ask, EachCall, SearchEnd, Over, Cut_off, Failed, seeking, most_searches}
-use Rattle.mdl_core.specs.CoreJoins.{Joins, locks_at}
+use Rattle.mdl_core.specs.CoreJoins.{Joins, SpeaksFor, locks_at}
 use Rattle.mdl_core.specs.Cores.{Core}
 use Rattle.mdl_context.specs.declared.context_error.ContextError.{ContextError}
 use Rattle.mdl_context.specs.declared.context_error.ContextError.TheVariants.{Space}
@@ -25,33 +25,37 @@ use Rattle.mdl_context.specs.Tidying.{tidied, tidying, unneeded, unpinning_all}
 use Rattle.mdl_context.specs.Waits as waits
 use Rattle.mdl_script_laws.proofs.ListLemmas.{among-filter, drop-fewer}
 use Rattle.mdl_script_laws.proofs.ShownCalls.{IsQuiet, Leads, Leaves, Spares, Stays, Unpins, leads-bind, leads-map, leads-quiet, leads-unpinning, leaves-spared, leaves-unpinned, none, spares-here, stays-call, stays-here}
-use Rattle.mdl_script_laws.proofs.ShownContexts.{Fits, Followed, fits-fewer, fits-more, fits-same, fits-tidied, followed-here, followed-late, followed-same, followed-waiting}
+use Rattle.mdl_script_laws.proofs.ShownContexts.{Fits, Followed, Spared, fits-fewer, fits-more, fits-same, fits-tidied, fits-waiting, followed-here, followed-late, followed-same, spared-late, spared-same, spared-waiting}
 use Rattle.mdl_script_laws.proofs.ShownAsking.{leads-abandoning, quiet-seeking, won-by}
 
 -- ---- a wait that goes on
 
--- what comes of a wait: it is the same still; or its ticket is held at its place, and kept for as long as was wished; or it is lost
-abbrev pub ComesTo : ContextView → Outcome Resume → Core → Type 0
-ComesTo before (Ok resume.Waiting, after) b =
+-- the wait is the same still
+abbrev pub StillWaits : ContextView → ContextView → Type 0
+StillWaits before after =
     (wanted : Wanted) → before.wait ≡ Some wanted
     → (still : Wanted) × (after.wait ≡ Some still) × (still.place ≡ wanted.place) × (still.duration ≡ wanted.duration)
     × (awaited_upgrade (Some still) ≡ awaited_upgrade (Some wanted))
-ComesTo before (Ok (resume.Acquired id), after) b =
+
+-- its ticket is held at its place, and kept for as long as was wished
+abbrev pub HasWon : ContextView → ℕ → ContextView → Core → Type 0
+HasWon before id after b =
     (wanted : Wanted) → before.wait ≡ Some wanted → (t : Held) × Contains (locks_at b before.who).held t × (t.id ≡ id) × (t.place ≡ wanted.place)
     × ((new : Kept) × Contains after.kept new × (new.id ≡ id) × (new.duration ≡ wanted.duration))
-ComesTo before outcome b = Unit {0}
 
--- a context asked after its wait
+-- a context asked after its wait: it waits still, or has its ticket. If the wait is lost, the context may have let go of places
 abbrev pub Resumed : Core → ContextView → Outcome Resume → Core → Type 0
-Resumed a before outcome b = Followed a before b outcome.1 × ComesTo before outcome b
+Resumed a before (Ok resume.Waiting, after) b = Spared a before b after × StillWaits before after
+Resumed a before (Ok (resume.Acquired id), after) b = Spared a before b after × HasWon before id after b
+Resumed a before (Ok (resume.Lost how), after) b = Followed a before b after
+Resumed a before (Err error, after) b = Followed a before b after
 
 -- the wait is ended
 taken-up : (a b : Core) (context : ContextView) (id : ℕ) (o : Option Wanted) → context.wait ≡ o → Fits a context → Joins a (End_wait context.who) (Granted id) b
-    → Followed a context b (waits.taking_up id (record context { wait = o }))
-    × ComesTo context (Ok (resume.Acquired id), waits.taking_up id (record context { wait = o })) b
+    → Spared a context b (waits.taking_up id (record context { wait = o })) × HasWon context id (waits.taking_up id (record context { wait = o })) b
 taken-up a b context id None e fits joins =
     let stays = stays-call context.who none a b (End_wait context.who) (Granted id) fits.speaks (refl, tt, refl) joins in
-    (followed-waiting a b context None fits stays.0 (λ wanted w f g. cc), λ wanted f. cc)
+    (spared-waiting a b context None fits stays.0 (λ wanted w f g. cc), λ wanted f. cc)
 taken-up a b context id (Some wanted) e fits joins =
     let won = won-by a b context.who id fits.speaks joins in
     let place : won.0.place ≡ wanted.place = fits.wait wanted won.0 e won.1 in
@@ -74,39 +78,63 @@ taken-up a b context id (Some wanted) e fits joins =
           ),
     )
 
--- the context has no wait any more
-lost-so : (a b : Core) (context : ContextView) → Fits a context → Spares context.who none a b → Followed a context b (waits.without_wait context)
-lost-so a b context fits spares = followed-waiting a b context None fits spares (λ wanted w f g. cc)
+-- the context has no wait any more, and lets go of the places where it has nothing then
+followed-lost : (a b c : Core) (context : ContextView) → Fits a context → Spares context.who none a b
+    → Unpins context.who (unneeded (waits.without_wait context)) b c → Followed a context c (tidied (waits.without_wait context))
+followed-lost a b c context fits spares unpins =
+    let over = waits.without_wait context in
+    record {
+      fits = fits-tidied b c over (fits-waiting a b context None fits spares (λ wanted w f g. cc)) unpins;
+      leaves = leaves-unpinned context.who none (unneeded over) a b c (leaves-spared context.who none a b fits.speaks spares) unpins;
+      who = refl;
+      grown = inl refl;
+    }
+
+leads-lost : (a b : Core) (context : ContextView) (reply : Result Resume ContextError)
+    → ((after : ContextView) (c : Core) → Followed a context c after → Resumed a context (reply, after) c) → Fits a context → Spares context.who none a b
+    → Leads (Resumed a context) (tidying (reply, waits.without_wait context)) b
+leads-lost a b context reply so fits spares =
+    let over = waits.without_wait context in
+    leads-bind (λ x c. Unpins context.who (unneeded over) b c) (Resumed a context) (unpinning_all context.who (unneeded over))
+    (λ _. Give (reply, tidied over)) b (leads-unpinning context.who (unneeded over) b spares.speaks)
+    (λ x c unpins. so (tidied over) c (followed-lost a b c context fits spares unpins))
 
 ended-so : (a b : Core) (context : ContextView) (answer : Answer) → awaited_upgrade context.wait ≡ None → Fits a context → Joins a (End_wait context.who) answer b
     → Leads (Resumed a context) (waits.end_answered context answer) b
 ended-so a b context (Granted id) plain fits joins =
     subst (λ upgrade. Leads (Resumed a context) (waits.wait_won upgrade id context) b) (sym plain) (taken-up a b context id context.wait refl fits joins)
 ended-so a b context (Lost how) plain fits joins =
-    let stays = stays-call context.who none a b (End_wait context.who) (Lost how) fits.speaks (refl, tt, refl) joins in
-    (lost-so a b context fits stays.0, tt)
+    leads-lost a b context (Ok (resume.Lost how)) (λ after c followed. followed) fits
+    (stays-call context.who none a b (End_wait context.who) (Lost how) fits.speaks (refl, tt, refl) joins).0
 ended-so a b context answer plain fits joins =
-    (followed-same a b context fits (stays-call context.who none a b (End_wait context.who) answer fits.speaks (refl, tt, refl) joins), tt)
+    followed-same a b context fits (stays-call context.who none a b (End_wait context.who) answer fits.speaks (refl, tt, refl) joins)
 
 -- after calls that change nothing of it
-resumed-late : (a b : Core) (context : ContextView) (program : Program (Outcome Resume)) → Spares context.who none a b
+resumed-after : (a b c : Core) (context : ContextView) (outcome : Outcome Resume) → SpeaksFor a context.who → Spares context.who none a b
+    → Resumed b context outcome c → Resumed a context outcome c
+resumed-after a b c context (Ok resume.Waiting, after) speaks spares resumed =
+    (spared-late a b c context.who context.kept context.known context.known context.wait context.wait after spares resumed.0, resumed.1)
+resumed-after a b c context (Ok (resume.Acquired id), after) speaks spares resumed =
+    (spared-late a b c context.who context.kept context.known context.known context.wait context.wait after spares resumed.0, resumed.1)
+resumed-after a b c context (Ok (resume.Lost how), after) speaks spares resumed =
+    followed-late a b c context.who context.kept context.known context.known context.wait context.wait after speaks spares resumed
+resumed-after a b c context (Err error, after) speaks spares resumed =
+    followed-late a b c context.who context.kept context.known context.known context.wait context.wait after speaks spares resumed
+
+resumed-late : (a b : Core) (context : ContextView) (program : Program (Outcome Resume)) → SpeaksFor a context.who → Spares context.who none a b
     → Leads (Resumed b context) program b → Leads (Resumed a context) program b
-resumed-late a b context program spares leads =
-    leads-map (Resumed b context) (Resumed a context) program b
-    (λ outcome c resumed. (
-      followed-late a b c context.who context.kept context.known context.known context.wait context.wait outcome.1 spares
-          resumed.0,
-      resumed.1,
-    )) leads
+resumed-late a b context program speaks spares leads =
+    leads-map (Resumed b context) (Resumed a context) program b (λ outcome c resumed. resumed-after a b c context outcome speaks spares resumed) leads
 
 ending-so : (a : Core) (context : ContextView) → awaited_upgrade context.wait ≡ None → Fits a context → Leads (Resumed a context) (waits.ending_wait context) a
 ending-so a context plain fits = λ answer b joins. ended-so a b context answer plain fits joins
 
 polled-so : (a b : Core) (context : ContextView) (answer : Answer) → awaited_upgrade context.wait ≡ None → Fits a context → Stays context.who none a b
     → Leads (Resumed a context) (waits.poll_answered context answer) b
-polled-so a b context Pending plain fits stays = (followed-same a b context fits stays, λ wanted e. (wanted, e, refl, refl, refl))
-polled-so a b context (Is_settled how) plain fits stays = resumed-late a b context (waits.ending_wait context) stays.0 (ending-so b context plain (fits-same a b context fits stays))
-polled-so a b context answer plain fits stays = (followed-same a b context fits stays, tt)
+polled-so a b context Pending plain fits stays = (spared-same a b context fits stays, λ wanted e. (wanted, e, refl, refl, refl))
+polled-so a b context (Is_settled how) plain fits stays =
+    resumed-late a b context (waits.ending_wait context) fits.speaks stays.0 (ending-so b context plain (fits-same a b context fits stays))
+polled-so a b context answer plain fits stays = followed-same a b context fits stays
 
 looking-so : (a : Core) (context : ContextView) → awaited_upgrade context.wait ≡ None → Fits a context → Leads (Resumed a context) (waits.looking context) a
 looking-so a context plain fits = λ answer b joins.
@@ -132,27 +160,34 @@ pub searched-upgrades : (wait : Option Wanted) → awaited_upgrade (option_map s
 searched-upgrades None = refl
 searched-upgrades (Some wanted) = refl
 
-searched-comes : (context : ContextView) (outcome : Outcome Resume) (b : Core) → ComesTo (waits.with_searches_over context) outcome b
-    → ComesTo context outcome b
-searched-comes context (Ok resume.Waiting, after) b comes = λ wanted e. comes (search_over wanted) (ap (option_map search_over) e)
-searched-comes context (Ok (resume.Acquired id), after) b comes = λ wanted e. comes (search_over wanted) (ap (option_map search_over) e)
-searched-comes context (Ok (resume.Lost how), after) b comes = tt
-searched-comes context (Err error, after) b comes = tt
+searched-resumed : (a b c : Core) (context : ContextView) (outcome : Outcome Resume) → SpeaksFor a context.who → Spares context.who none a b
+    → Resumed b (waits.with_searches_over context) outcome c → Resumed a context outcome c
+searched-resumed a b c context (Ok resume.Waiting, after) speaks spares resumed = (
+  spared-late a b c context.who context.kept context.known context.known context.wait (option_map search_over context.wait) after spares resumed.0,
+  λ wanted e. resumed.1 (search_over wanted) (ap (option_map search_over) e),
+)
+searched-resumed a b c context (Ok (resume.Acquired id), after) speaks spares resumed = (
+  spared-late a b c context.who context.kept context.known context.known context.wait (option_map search_over context.wait) after spares resumed.0,
+  λ wanted e. resumed.1 (search_over wanted) (ap (option_map search_over) e),
+)
+searched-resumed a b c context (Ok (resume.Lost how), after) speaks spares resumed =
+    followed-late a b c context.who context.kept context.known context.known context.wait (option_map search_over context.wait) after speaks spares resumed
+searched-resumed a b c context (Err error, after) speaks spares resumed =
+    followed-late a b c context.who context.kept context.known context.known context.wait (option_map search_over context.wait) after speaks spares resumed
 
 sought-so : (a b : Core) (context : ContextView) (end : SearchEnd) → awaited_upgrade context.wait ≡ None → Fits a context → Stays context.who none a b
     → Leads (Resumed a context) (waits.wait_sought context end) b
 sought-so a b context Over plain fits stays =
     leads-map (Resumed b (waits.with_searches_over context)) (Resumed a context) (waits.looking (waits.with_searches_over context)) b
-    (λ outcome c resumed. (
-      followed-late a b c context.who context.kept context.known context.known context.wait (option_map search_over context.wait) outcome.1 stays.0 resumed.0,
-      searched-comes context outcome c resumed.1,
-    ))
+    (λ outcome c resumed. searched-resumed a b c context outcome fits.speaks stays.0 resumed)
     (looking-so b (waits.with_searches_over context) (searched-upgrades context.wait ∙ plain) (searched-fits b context (fits-same a b context fits stays)))
-sought-so a b context Cut_off plain fits stays = resumed-late a b context (waits.looking context) stays.0 (looking-so b context plain (fits-same a b context fits stays))
+sought-so a b context Cut_off plain fits stays =
+    resumed-late a b context (waits.looking context) fits.speaks stays.0 (looking-so b context plain (fits-same a b context fits stays))
 sought-so a b context (Failed refusal) plain fits stays =
     leads-bind (λ x c. Spares context.who none a c) (Resumed a context) (gains.abandoning context.who)
-    (λ _. Give (Err (Space refusal), waits.without_wait context)) b
-    (leads-abandoning a b context.who stays.0) (λ x c spares. (lost-so a c context fits spares, tt))
+    (λ _. tidying (Err (Space refusal), waits.without_wait context)) b
+    (leads-abandoning a b context.who stays.0)
+    (λ x c spares. leads-lost a c context (Err (Space refusal)) (λ after d followed. followed) fits spares)
 
 cut_off-so : (a b : Core) (context : ContextView) (answer : Answer) → awaited_upgrade context.wait ≡ None → Fits a context → Stays context.who none a b
     → Leads (Resumed a context) (waits.cut_off_answered context answer) b
@@ -161,10 +196,10 @@ cut_off-so a b context Pending plain fits stays =
     (leads-quiet (seeking most_searches context.who) a b context.who none stays (quiet-seeking context.who most_searches))
     (λ end c later. sought-so a c context end plain fits later)
 cut_off-so a b context (Is_settled how) plain fits stays = polled-so a b context (Is_settled how) plain fits stays
-cut_off-so a b context answer plain fits stays = (followed-same a b context fits stays, tt)
+cut_off-so a b context answer plain fits stays = followed-same a b context fits stays
 
 going_on-so : (a : Core) (context : ContextView) (searched : Option Bool) → awaited_upgrade context.wait ≡ None → Fits a context → Leads (Resumed a context) (waits.continuing_wait searched context) a
-going_on-so a context None plain fits = (followed-here a context fits, tt)
+going_on-so a context None plain fits = followed-here a context fits
 going_on-so a context (Some true) plain fits = looking-so a context plain fits
 going_on-so a context (Some false) plain fits = λ answer b joins.
     cut_off-so a b context answer plain fits (stays-call context.who none a b (Poll_wait context.who) answer fits.speaks (refl, tt, refl) joins)

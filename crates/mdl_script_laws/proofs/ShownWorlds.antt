@@ -85,7 +85,7 @@ keeps-stays old a b session stays (inl rests) = inl (record {
   left = rests.left;
   fits = fits-same a b session.context rests.fits stays;
   unlocked = rests.unlocked;
-  kept = λ x is opens. standing-followed a b session.context session.context rests.fits (followed-same a b session.context rests.fits stays) x
+  kept = λ x is opens. standing-followed a b session.context session.context (followed-same a b session.context rests.fits stays) x
       (rests.kept x is opens);
 })
 keeps-stays old a b session stays (inr (inl waiting)) = inr (inl (record {

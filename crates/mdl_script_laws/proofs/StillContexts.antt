@@ -5,7 +5,7 @@ use Rattle.mdl_key.specs.declared.mode.Mode.{Mode}
 use Rattle.mdl_calls.specs.declared.answers.Held.{Held}
 use Rattle.mdl_calls.specs.declared.space_error.SpaceError.{SpaceError}
 use Rattle.mdl_calls.specs.declared.space_error.SpaceError.TheVariants.{NoWait}
-use Rattle.mdl_calls.specs.Words.{Answer, At_place, Done, Granted, Upgraded, Would_wait, Waits, Pending, Is_settled, Lost, Call, Change_definition, Release, Upgrade_now, Downgrade, Settle_timeout, Program, Give, Ask, ◌>>◌, EachCall, SearchEnd, Over, Cut_off, Failed, seeking, most_searches}
+use Rattle.mdl_calls.specs.Words.{Answer, At_place, Done, Granted, Upgraded, Would_wait, Waits, Pending, Is_settled, Lost, Call, Change_definition, Release, Upgrade_now, Downgrade, Settle_timeout, Unpin, Program, Give, Ask, Grow, ◌>>◌, EachCall, SearchEnd, Over, Cut_off, Failed, seeking, most_searches}
 use Rattle.mdl_calls.proofs.FaithfulLemmas.{either, calls_bind}
 use Rattle.mdl_calls.proofs.SeekingLemmas.{calls_seeking}
 use Rattle.mdl_context.specs.declared.asking.AskResult.{AskResult}
@@ -44,13 +44,31 @@ still-unwanted : (who : ℕ) (answer : Answer) → AreStill (gains.unwanted_end_
 still-unwanted who (Granted id) = (tt, λ _. tt)
 still-unwanted who _ = tt
 
--- a wait is ended that isn't wanted any more, and then this is the reply
-still-abandoning : {A : Type 0} (who : ℕ) (reply : A) → AreStill (gains.abandoning who >> Give reply)
-still-abandoning who reply =
-    calls_bind {A = Unit {0}} IsStill (gains.abandoning who) (λ _. Give reply) (tt, λ _. (tt, still-unwanted who)) (λ _. tt)
+-- a wait is ended that isn't wanted any more, and then this is done
+still-abandoning : {A : Type 0} (who : ℕ) (later : Program A) → AreStill later → AreStill (gains.abandoning who >> later)
+still-abandoning {A} who later made =
+    calls_bind {A = Unit {0}} {B = A} IsStill (gains.abandoning who) (λ _. later) (tt, λ _. (tt, still-unwanted who)) (λ _. made)
 
 still-seeking : (n who : ℕ) → AreStill (seeking n who)
 still-seeking n who = calls_seeking IsStill who tt n
+
+-- ---- places that are let go
+
+still-unpinning : (who : ℕ) (places : List ℕ) → AreStill (unpinning_all who places)
+still-unpinning who [] = tt
+still-unpinning who (place ∷ places) = (tt, λ _. still-unpinning who places)
+
+-- those where the context has nothing
+pub still-tidying : {A : Type 0} (outcome : Outcome A) → AreStill (tidying outcome)
+still-tidying {A} (reply, context) =
+    calls_bind {A = Unit {0}} {B = Outcome A} IsStill (unpinning_all context.who (unneeded context)) (λ _. Give (reply, tidied context))
+    (still-unpinning context.who (unneeded context)) (λ _. tt)
+
+-- the one where a request got nothing
+still-letting_go : {A : Type 0} (has_got : Result A ContextError → Bool) (place : ℕ) (context : ContextView) (outcome : Outcome A)
+    → AreStill (requests.letting_go has_got place context outcome)
+still-letting_go {A} has_got place context (reply, after) =
+    either {A = Outcome A} AreStill (has_got reply) (Give (reply, after)) (Ask (Unpin context.who place) (λ _. Give (reply, context))) tt (tt, λ _. tt)
 
 -- ---- wishes
 
@@ -61,7 +79,7 @@ still-copy who _ = tt
 still-wish_sought : (who number : ℕ) (end : SearchEnd) → AreStill (gains.wish_sought who number end)
 still-wish_sought who number Over = tt
 still-wish_sought who number Cut_off = tt
-still-wish_sought who number (Failed refusal) = still-abandoning {A = Result AskResult SpaceError} who (Err refusal)
+still-wish_sought who number (Failed refusal) = still-abandoning {A = Result AskResult SpaceError} who (Give (Err refusal)) tt
 
 still-wish : (who : ℕ) (answer : Answer) → AreStill (gains.wish_answered who answer)
 still-wish who (Granted id) = tt
@@ -91,7 +109,10 @@ still-reusing None place request context =
 still-place : (request : Wish) (context : ContextView) (answer : Answer) → AreStill (requests.place_answered request context answer)
 still-place request context (At_place place) =
     let after = requests.remembering request.key place context in
+    calls_bind {A = Outcome Acquire} {B = Outcome Acquire} IsStill (Grow (requests.starved context) (requests.acquiring_at place request after))
+    (requests.letting_go requests.got_lock place context)
     (tt, still-reusing (earliest (requests.is_reusable place request) after.kept) place request after)
+    (still-letting_go {A = Acquire} requests.got_lock place context)
 still-place request context _ = tt
 
 pub still-finding : (place : Option ℕ) (request : Wish) (context : ContextView) → AreStill (requests.finding place request context)
@@ -128,7 +149,10 @@ still-trying_again None place request context =
 still-trying_placed : (request : Wish) (context : ContextView) (answer : Answer) → AreStill (requests.trying_placed request context answer)
 still-trying_placed request context (At_place place) =
     let after = requests.remembering request.key place context in
+    calls_bind {A = Outcome Tried} {B = Outcome Tried} IsStill (Grow (requests.starved context) (requests.trying_at place request after))
+    (requests.letting_go requests.got_at_once place context)
     (tt, still-trying_again (earliest (requests.is_reusable place request) after.kept) place request after)
+    (still-letting_go {A = Tried} requests.got_at_once place context)
 still-trying_placed request context _ = tt
 
 still-trying_found : (place : Option ℕ) (request : Wish) (context : ContextView) → AreStill (requests.trying_found place request context)
@@ -161,7 +185,7 @@ still-won (Some (id, mode)) new context =
 
 still-end : (context : ContextView) (answer : Answer) → AreStill (waits.end_answered context answer)
 still-end context (Granted id) = still-won (awaited_upgrade context.wait) id context
-still-end context (Lost how) = tt
+still-end context (Lost how) = still-tidying {A = Resume} (Ok (resume_as.Lost how), waits.without_wait context)
 still-end context _ = tt
 
 pub still-ending : (context : ContextView) → AreStill (waits.ending_wait context)
@@ -178,7 +202,9 @@ still-looking context = (tt, still-poll context)
 still-wait_sought : (context : ContextView) (end : SearchEnd) → AreStill (waits.wait_sought context end)
 still-wait_sought context Over = still-looking (waits.with_searches_over context)
 still-wait_sought context Cut_off = still-looking context
-still-wait_sought context (Failed refusal) = still-abandoning {A = Outcome Resume} context.who (Err (Space refusal), waits.without_wait context)
+still-wait_sought context (Failed refusal) =
+    let over : Outcome Resume = (Err (Space refusal), waits.without_wait context) in
+    still-abandoning {A = Outcome Resume} context.who (tidying over) (still-tidying {A = Resume} over)
 
 pub still-searching_on : (context : ContextView) → AreStill (waits.searching_on context)
 still-searching_on context =
@@ -204,16 +230,6 @@ still-giving_up_wait context =
     (Give (Err (Space NoWait), context)) (tt, λ _. (tt, still-end context)) tt
 
 -- ---- releases
-
-still-unpinning : (who : ℕ) (places : List ℕ) → AreStill (unpinning_all who places)
-still-unpinning who [] = tt
-still-unpinning who (place ∷ places) = (tt, λ _. still-unpinning who places)
-
--- a context lets go of places
-pub still-tidying : {A : Type 0} (outcome : Outcome A) → AreStill (tidying outcome)
-still-tidying {A} (reply, context) =
-    calls_bind {A = Unit {0}} {B = Outcome A} IsStill (unpinning_all context.who (unneeded context)) (λ _. Give (reply, tidied context))
-    (still-unpinning context.who (unneeded context)) (λ _. tt)
 
 pub still-all : (who : ℕ) (gone : List Kept) → AreStill (releases.releasing_all who gone)
 still-all who [] = tt

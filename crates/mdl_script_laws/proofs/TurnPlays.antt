@@ -18,9 +18,10 @@ use Rattle.mdl_context.specs.Contexts.{ContextView, waits_for_user_lock}
 use Rattle.mdl_context.specs.Holdings.{awaited_upgrade}
 use Rattle.mdl_context.specs.Releases.{releasing, releasing_tickets}
 use Rattle.mdl_context.specs.Requests.{Outcome}
+use Rattle.mdl_context.specs.Tidying.{tidied, tidying, unneeded, unpinning_all}
 use Rattle.mdl_context.specs.Upgrades as upgrades
 use Rattle.mdl_context.specs.Waits as waits
-use Rattle.mdl_context.specs.Waits.{giving_up_wait, resuming}
+use Rattle.mdl_context.specs.Waits.{resuming}
 use Rattle.mdl_rows.specs.declared.ending.Ending.{Ending}
 use Rattle.mdl_rows.specs.declared.ending.Ending.TheVariants.{Answers, Misses, Falls, Starves}
 use Rattle.mdl_rows.specs.declared.reply.Reply.{Reply}
@@ -159,10 +160,17 @@ over-won (Some (id, mode)) new context =
     each_then {A = Result (Unit {0}) SpaceError} {B = Outcome Resume} IsOver (upgrades.merging_new context.who id new)
     (λ end. Give (upgrades.merged (resume.Acquired id) id mode (waits.without_wait context) end)) (over-merged id mode (waits.without_wait context))
 
+-- nor is it one that a context lets go of places
+over-lost : (how : Settled) (context : ContextView) → Each IsOver (tidying (Ok (resume.Lost how), context))
+over-lost how context =
+    each_then {A = Unit {0}} {B = Outcome Resume} IsOver (unpinning_all context.who (unneeded context))
+    (λ _. Give (Ok (resume.Lost how), tidied context)) (λ _. tt)
+
 over-ended : (context : ContextView) (answer : Answer) (core : Core) → IsOver (outcome_of outcome (waits.end_answered context answer) core).0
 over-ended context (Granted id) core =
     each-outcome IsOver outcome (waits.wait_won (awaited_upgrade context.wait) id context) core (over-won (awaited_upgrade context.wait) id context)
-over-ended context (Lost how) core = tt
+over-ended context (Lost how) core =
+    let over = waits.without_wait context in each-outcome IsOver outcome (tidying (Ok (resume.Lost how), over)) core (over-lost how over)
 over-ended context answer core = tt
 
 over-polled : (context : ContextView) (core : Core) (how : Settled) → IsOver (outcome_of outcome (waits.poll_answered context (Is_settled how)) core).0

@@ -32,10 +32,11 @@ use Rattle.mdl_context.specs.Contexts.{ContextView, current_mark, waits_for_user
 use Rattle.mdl_context.specs.Requests.{Outcome}
 use Rattle.mdl_context.specs.Holdings.{awaited_upgrade}
 use Rattle.mdl_context.specs.MemoryLaws.{IsOwnCall}
+use Rattle.mdl_context.specs.Tidying.{tidied, tidying, unneeded, unpinning_all}
 use Rattle.mdl_context.specs.Upgrades as upgrades
 use Rattle.mdl_context.specs.Waits as waits
 use Rattle.mdl_context.specs.Waits.{resuming}
-use Rattle.mdl_context.proofs.OwnCallLemmas.{calls_weaker, own_made, own_won}
+use Rattle.mdl_context.proofs.OwnCallLemmas.{calls_weaker, own_made, own_tidying, own_won}
 use Rattle.mdl_rows.specs.Endings.{Pause, closing, ending_of_error, ending_of_loss}
 use Rattle.mdl_rows.specs.MemoryLaws.{session_of_pause}
 use Rattle.mdl_rows.specs.Playing as playing
@@ -52,7 +53,7 @@ use Rattle.mdl_script_laws.proofs.OutcomeLemmas.{joins-outcome, outcome-then}
 use Rattle.mdl_script_laws.proofs.ScriptLemmas.{Anything, IsKept, Keeps, kept-lines, new-session, plays-each}
 use Rattle.mdl_script_laws.proofs.TurnLemmas.{found-settled, found-waits, nobody-left}
 use Rattle.mdl_script_laws.proofs.TurnPlays.{polls-settled, settled-wait}
-use Rattle.mdl_script_laws.proofs.TurnTies.{IsTied, PausesTied, tied-closing, tied-play}
+use Rattle.mdl_script_laws.proofs.TurnTies.{IsTied, PausesTied, stays-unpinning, tied-closing, tied-play}
 use Rattle.mdl_script_laws.proofs.TurnTracks.{Tracks, call-waits, others-outcome, tracks-outcome, tracks-then, wait_after}
 
 -- ---- one program after another
@@ -114,6 +115,12 @@ tracks-won (Some (id, mode)) new context =
     (λ end. Give (upgrades.merged (resume.Acquired id) id mode (waits.without_wait context) end)) false (λ answer is. tracks-merge context.who new answer)
     (ended-merged id mode (waits.without_wait context))
 
+-- nor does it begin one that a context lets go of places
+tracks-lost : (how : Settled) (context : ContextView) → Tracks IsEnded (tidying (Ok (resume.Lost how), context)) false
+tracks-lost how context =
+    tracks-then {A = Unit {0}} {B = Outcome Resume} (λ end waits. waits ≡ false) IsEnded (unpinning_all context.who (unneeded context))
+    (λ _. Give (Ok (resume.Lost how), tidied context)) false (stays-unpinning context.who (unneeded context) false) (λ end waits none. none)
+
 -- what is left then, by the answer
 ended-answered : (context : ContextView) (answer : Answer) (core : Core) (before : Bool) → SpeaksFor core context.who → IsEndAnswer answer
     → is_some (locks_at core context.who).wait ≡ wait_after (End_wait context.who) answer before
@@ -123,7 +130,11 @@ ended-answered context (Granted id) core before speaks is e =
     tracks-outcome IsEnded program core context.who speaks
     (calls_weaker {A = Outcome Resume} (IsOwnCall context.who) (IsMadeFor context.who) (own_made context.who) program (own_won (awaited_upgrade context.wait) id context))
     (subst (Tracks IsEnded program) (sym e) (tracks-won (awaited_upgrade context.wait) id context))
-ended-answered context (Lost how) core before speaks is e = e
+ended-answered context (Lost how) core before speaks is e =
+    let over : Outcome Resume = (Ok (resume.Lost how), waits.without_wait context) in
+    tracks-outcome IsEnded (tidying over) core context.who speaks
+    (calls_weaker {A = Outcome Resume} (IsOwnCall context.who) (IsMadeFor context.who) (own_made context.who) (tidying over) (own_tidying {A = Resume} over))
+    (subst (Tracks IsEnded (tidying over)) (sym e) (tracks-lost how (waits.without_wait context)))
 ended-answered context _ core before speaks is e = absurd is
 
 -- what a program comes to is so, with whether the session has a wait then

@@ -50,7 +50,7 @@ abbrev pub PausesTied : Pause → Bool → Type 0
 PausesTied pause waits = IsTied (session_of_pause pause) waits
 
 -- nothing that a session does here changes whether it has a wait
-abbrev Stays : {A : Type 0} → Bool → A → Bool → Type 0
+abbrev pub Stays : {A : Type 0} → Bool → A → Bool → Type 0
 Stays before x after = after ≡ before
 
 -- ---- ends
@@ -59,7 +59,7 @@ stays-releasing : (who : ℕ) (gone : List Kept) (waits : Bool) → Tracks (Stay
 stays-releasing who [] waits = refl
 stays-releasing who (ticket ∷ tickets) waits = λ answer is. stays-releasing who tickets waits
 
-stays-unpinning : (who : ℕ) (places : List ℕ) (waits : Bool) → Tracks (Stays {A = Unit {0}} waits) (unpinning_all who places) waits
+pub stays-unpinning : (who : ℕ) (places : List ℕ) (waits : Bool) → Tracks (Stays {A = Unit {0}} waits) (unpinning_all who places) waits
 stays-unpinning who [] waits = refl
 stays-unpinning who (place ∷ places) waits = λ answer is. stays-unpinning who places waits
 
@@ -181,9 +181,19 @@ tied-reusing None place wish context =
     tracks-then {B = Outcome Acquire} (ComesTied (requests.outcome_got place wish context)) IsAskedTied (gains.gaining_from serving context.who place wish.mode)
     (λ end. Give (requests.outcome_got place wish context end)) false (tied-gaining serving place wish context) (λ end waits is. is)
 
+-- where a request got nothing there is no wait, and its place is let go
+tied-let_go : (place : ℕ) (context : ContextView) (outcome : Outcome Acquire) (waits : Bool) → IsAskedTied outcome waits
+    → Tracks IsAskedTied (requests.letting_go requests.got_lock place context outcome) waits
+tied-let_go place context (Ok (acquire.Acquired id), after) waits tied = tied
+tied-let_go place context (Ok (acquire.MustWait number), after) waits tied = tied
+tied-let_go place context (Err error, after) waits none = λ answer is. none
+
 tied-placed : (wish : Wish) (context : ContextView) (answer : Answer) → Tracks IsAskedTied (requests.place_answered wish context answer) false
 tied-placed wish context (At_place place) =
-    let after = requests.remembering wish.key place context in tied-reusing (earliest (requests.is_reusable place wish) after.kept) place wish after
+    let after = requests.remembering wish.key place context in
+    tracks-then {A = Outcome Acquire} {B = Outcome Acquire} IsAskedTied IsAskedTied (requests.acquiring_at place wish after)
+    (requests.letting_go requests.got_lock place context) false
+    (tied-reusing (earliest (requests.is_reusable place wish) after.kept) place wish after) (tied-let_go place context)
 tied-placed wish context _ = refl
 
 tied-finding : (place : Option ℕ) (wish : Wish) (context : ContextView) → Tracks IsAskedTied (requests.finding place wish context) false
@@ -219,11 +229,20 @@ stays-trying_again None place wish context waits =
     (λ end. Give (requests.outcome_tried place wish context end)) waits (stays-trying_from serving context.who place wish.mode waits)
     (λ end after same. same)
 
+stays-let_go : (place : ℕ) (context : ContextView) (outcome : Outcome Tried) (waits : Bool)
+    → Tracks (Stays {A = Outcome Tried} waits) (requests.letting_go requests.got_at_once place context outcome) waits
+stays-let_go place context (Ok (try_as.Acquired id), after) waits = refl
+stays-let_go place context (Ok try_as.WouldWait, after) waits = λ answer is. refl
+stays-let_go place context (Err error, after) waits = λ answer is. refl
+
 stays-trying_placed : (wish : Wish) (context : ContextView) (answer : Answer) (waits : Bool)
     → Tracks (Stays {A = Outcome Tried} waits) (requests.trying_placed wish context answer) waits
 stays-trying_placed wish context (At_place place) waits =
     let after = requests.remembering wish.key place context in
-    stays-trying_again (earliest (requests.is_reusable place wish) after.kept) place wish after waits
+    let ends : Outcome Tried → Program (Outcome Tried) = requests.letting_go requests.got_at_once place context in
+    tracks-then {A = Outcome Tried} {B = Outcome Tried} (Stays waits) (Stays waits) (requests.trying_at place wish after) ends waits
+    (stays-trying_again (earliest (requests.is_reusable place wish) after.kept) place wish after waits)
+    (λ outcome then_ same. subst (λ w. Tracks (Stays {A = Outcome Tried} waits) (ends outcome) w) (sym same) (stays-let_go place context outcome waits))
 stays-trying_placed wish context _ waits = refl
 
 stays-trying_found : (place : Option ℕ) (wish : Wish) (context : ContextView) (waits : Bool)

@@ -54,9 +54,10 @@ EarlyErrorsChangeNothing =
     (statement : Statement) (session after : Session) (a b : Core) (number : ErrorNumber) → IsTidy session → IsTrue (is_early number) →
     Runs Joins a (starting statement session) (Ends (reply.Error number) after) b → (after ≡ session) × (b ≡ a)
 
--- sessions are tidy between statements: a statement that starts in a tidy session leaves it tidy when it ends, however often it waits
+-- sessions are tidy between statements: a statement that starts in a session that keeps no ticket for a statement leaves it tidy when it ends,
+-- however often it waits
 abbrev pub SessionsStayTidy : Type 0
 SessionsStayTidy =
     (session : Session) →
-    ((statement : Statement) → IsTidy session → Each EndsTidy (starting statement session))
+    ((statement : Statement) → tickets_for for.Statement session.context.kept ≡ [] → Each EndsTidy (starting statement session))
     × (IsUnderway session → Each EndsTidy (going_on session))

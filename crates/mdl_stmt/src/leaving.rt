@@ -2,7 +2,7 @@
 ghost use Rattle.std.specs.Prelude.{◌≡◌, None, []};
 ghost use Rattle.mdl_calls.specs.Words.{Runs};
 ghost use Rattle.mdl_context.specs.Contexts.{Attends};
-ghost use Rattle.mdl_stmt.specs.Attendance.{ContextGoesOn, LetsAllGo};
+ghost use Rattle.mdl_stmt.specs.Attendance.{ContextGoesOn, LeavesNoPin, LetsAllGo};
 ghost use Rattle.mdl_rows.specs.Leavings.{leaving_from};
 
 use mdl_context::Context;
@@ -15,6 +15,7 @@ pub(crate) fn give_all_up<S: LockSpace>(context: &mut Context<S>, space: &mut S)
     ensures kept { context.new.kept ≡ [] }
     ensures wait { context.new.wait ≡ None }
     ensures let_go { LetsAllGo S.LockSpace space.old context.old space.new }
+    ensures pins { LeavesNoPin S.LockSpace space.old context.old space.new }
     ensures goes_on { ContextGoesOn S.LockSpace space.old context.old space.new context.new }
 {
     if context.wish().is_some() {

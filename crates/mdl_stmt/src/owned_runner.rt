@@ -2,7 +2,7 @@
 ghost use Rattle.std.specs.Prelude.{◌≡◌, None, IfOk, IsSome, is_some, []};
 ghost use Rattle.mdl_calls.specs.Words.{HasNothing, Runs};
 ghost use Rattle.mdl_context.specs.Contexts.{Attends, LeavesOthers};
-ghost use Rattle.mdl_stmt.specs.Attendance.{AttendsWith, IsCapacity, LetsAllGo, cached};
+ghost use Rattle.mdl_stmt.specs.Attendance.{AttendsWith, IsCapacity, LeavesNoPin, LetsAllGo, cached};
 ghost use Rattle.mdl_stmt.specs.Gets.{ran};
 ghost use Rattle.mdl_rows.specs.Keepings.{going_on_kept, starting_kept};
 ghost use Rattle.mdl_stmt.specs.KeptStages.{session_kept};
@@ -103,6 +103,7 @@ impl<S: LockSpace> OwnedRunner<S> {
         ensures run { Runs S.joins space.old (leaving (session_kept self)) tt space.new }
         ensures nothing { HasNothing (S.own space.new self.context.who) }
         ensures let_go { LetsAllGo S.LockSpace space.old self.context space.new }
+        ensures pins { LeavesNoPin S.LockSpace space.old self.context space.new }
         ensures speaks { S.speaks_for space.new self.context.who }
         ensures others { LeavesOthers S.LockSpace self.context.who space.old space.new }
     {

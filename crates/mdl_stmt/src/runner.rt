@@ -2,7 +2,7 @@
 ghost use Rattle.std.specs.Prelude.{◌≡◌, None, IfOk, IsSome, IfSome, is_some, []};
 ghost use Rattle.mdl_calls.specs.Words.{HasNothing, Runs};
 ghost use Rattle.mdl_context.specs.Contexts.{Attends, LeavesOthers};
-ghost use Rattle.mdl_stmt.specs.Attendance.{AttendsWith, GoesOn, IsCapacity, IsReady, LetsAllGo, cached};
+ghost use Rattle.mdl_stmt.specs.Attendance.{AttendsWith, GoesOn, IsCapacity, IsReady, LeavesNoPin, LetsAllGo, cached};
 ghost use Rattle.mdl_rows.specs.Endings.{closing};
 ghost use Rattle.mdl_stmt.specs.Gets.{ran};
 ghost use Rattle.mdl_rows.specs.Leavings.{leaving};
@@ -121,6 +121,7 @@ impl<'s, S: LockSpace> Runner<'s, S> {
         ensures run { Runs S.joins space.old (leaving (session_of self.entry)) tt space.new }
         ensures nothing { HasNothing (S.own space.new self.entry.context.who) }
         ensures let_go { LetsAllGo S.LockSpace space.old self.entry.context space.new }
+        ensures pins { LeavesNoPin S.LockSpace space.old self.entry.context space.new }
         ensures speaks { S.speaks_for space.new self.entry.context.who }
         ensures others { LeavesOthers S.LockSpace self.entry.context.who space.old space.new }
     {

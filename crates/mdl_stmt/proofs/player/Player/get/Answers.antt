@@ -1,10 +1,11 @@
 -- A lock that is asked for is had, waited for, or missed.
-use Rattle.std.proofs.Common.{subst}
+use Rattle.std.proofs.Common.{refl, subst}
 use Rattle.mdl_context.specs.Contexts.{ContextView}
 use Rattle.mdl_context.specs.Wishes.{wish_of_request}
 use Rattle.mdl_stmt.specs.declared.got.LockResult.TheVariants.{Had, Ends}
 use Rattle.mdl_stmt.specs.Gets.{IsGot}
 use Rattle.mdl_stmt.specs.Players.{PlayerView, player_of}
+use Rattle.mdl_stmt.proofs.AttendanceLemmas.{cache-still, goes_on-with}
 use Rattle.mdl_stmt.proofs.RunLemmas.{got-had, got-error, got-told}
 use Rattle.mdl_stmt.proofs.player.Player.get.Goals as goal
 
@@ -25,3 +26,22 @@ returns-in-Err-clause-run g c =
     let seat : ContextView → PlayerView = λ context. player_of c.self.inside.cache c.self.inside.explicit context c.self.inside.is_open c.self.inside.has_written c.self.inside.savepoints in
     subst (λ (before : PlayerView). IsGot g.S.LockSpace (wish_of_request c.args.request) c.args.space.now before (Ends c.ending_of_error.result) c.acquire.new.space (seat c.acquire.new.self)) c.self.view_is
     (rw c.ending_of_error.ensures (got-error g.S.LockSpace (wish_of_request c.args.request) (seat c.self.inside.context) c.in-Err.error c.acquire.new.self _ _ (rw c.in-Err.is at c.acquire.ensures.run)))
+
+pub tell_wait-requires : goal.tell_wait-requires
+tell_wait-requires g c =
+    let ready = rw (← c.self.view_is) at c.requires.ready in
+    let made = c.acquire.ensures in
+    record {
+      attends = record {
+        attends = made.attends;
+        met = cache-still g.S.LockSpace c.args.space.now c.acquire.new.space c.self.inside.cache c.self.inside.context.who c.acquire.new.self.who made.who
+            ready.attends.speaks ready.met made.others;
+      };
+    }
+
+pub returns-in-Err-clause-goes_on : goal.returns-in-Err-clause-goes_on
+returns-in-Err-clause-goes_on g c =
+    let ready = c.requires.ready in
+    let made = c.acquire.ensures in
+    goes_on-with g.S.LockSpace c.args.space.now c.acquire.new.space _ _ _ c.self.view_is ready.attends.speaks ready.met refl
+    (record { who = made.who; others = made.others; attends = made.attends })
