@@ -1,5 +1,5 @@
 -- The last element of a list.
-use Rattle.std.proofs.Common.{◌≡◌, ℕ, zero, suc, ◌+◌, ◌-◌, ◌<◌, List, [], ◌∷◌, length, get_or, set, refl, ap, arith, Result, Ok, Err, OnOk}
+use Rattle.std.proofs.Common.{◌≡◌, ℕ, zero, suc, ◌+◌, ◌-◌, List, [], ◌∷◌, length, get_or, set, refl, ap, arith, Result, Ok, Err, OnOk}
 use Rattle.mdl_client_table.specs.Tables.{RowText, changed_last}
 use Rattle.mdl_client_table.specs.Vertical.{last_count}
 

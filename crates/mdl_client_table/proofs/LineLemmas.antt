@@ -1,5 +1,5 @@
 -- Reading a text line by line.
-use Rattle.std.proofs.Common.{◌≡◌, ◌∙◌, ℕ, suc, ◌+◌, ◌<◌, List, [], length, get_or, drop, refl, sym, ap, arith, add-one, drop-cons, ◌∷◌}
+use Rattle.std.proofs.Common.{◌≡◌, ◌∙◌, ℕ, ◌+◌, ◌<◌, List, [], length, get_or, drop, sym, ap, arith, add-one, drop-cons, ◌∷◌}
 use Rattle.std.specs.Str.Lines.{strip_carriage_return}
 use Rattle.std.proofs.lemmas.List.{get_or-map, length-map, drop_all}
 use Rattle.mdl_lines.specs.Words.{lines_of}

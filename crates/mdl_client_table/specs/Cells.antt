@@ -1,6 +1,6 @@
 -- Rows that may have several lines, and their cells: of boxes, and of fields between commas. The bytes that separate lines and cells may also be
 -- within a value. So lines are gathered to rows first, and then the parts of a row to cells.
-use Rattle.std.specs.Prelude.{ℕ, Bool, true, false, not, ◌&&◌, ◌||◌, ◌==◌, List, [], ◌∷◌, ◌++◌, length, map, fold, if◌then◌else◌}
+use Rattle.std.specs.Prelude.{ℕ, Bool, true, false, not, ◌||◌, ◌==◌, List, [], ◌∷◌, ◌++◌, length, map, fold, if◌then◌else◌}
 use Rattle.std.specs.List.{slice_split}
 use Rattle.mdl_client_table.specs.declared.form.Form.{Form}
 use Rattle.mdl_client_table.specs.declared.form.Form.TheVariants.{Boxes}

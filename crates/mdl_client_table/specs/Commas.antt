@@ -1,6 +1,6 @@
 -- A table with commas between its fields (CSV), after RFC 4180: a field may be in quotes, and has commas, line feeds and doubled quotes there. A
 -- field without quotes is NULL if it is empty, `NULL`, or `\N`.
-use Rattle.std.specs.Prelude.{ℕ, ◌-◌, Bool, true, false, not, ◌&&◌, ◌||◌, ◌==◌, List, [], ◌∷◌, drop, take, length, fold, find, Option, codes, nat_le, if◌then◌else◌}
+use Rattle.std.specs.Prelude.{ℕ, ◌-◌, Bool, false, not, ◌&&◌, ◌||◌, ◌==◌, List, [], ◌∷◌, drop, take, length, fold, find, Option, codes, nat_le, if◌then◌else◌}
 use Rattle.std.specs.Option.{option_map_or}
 use Rattle.mdl_lines.specs.Words.{same_text}
 

@@ -1,5 +1,5 @@
 -- Which waiters can be granted once a ticket is gone, and which after one of them was granted.
-use Rattle.std.proofs.Common.{◌≡◌, ℕ, zero, suc, ◌+◌, ◌-◌, ◌^◌, ◌<◌, ◌≤◌, ◌==◌, ◌&&◌, ◌||◌, Bool, true, false, not, bit_and, min, nat_lt, List, [], ◌∷◌, ◌++◌, get_or, Option, Some, None, Result, Ok, refl, sym, ◌∙◌, ap, subst, arith, rules, ltb-true}
+use Rattle.std.proofs.Common.{◌≡◌, ℕ, zero, suc, ◌+◌, ◌-◌, ◌^◌, ◌<◌, ◌≤◌, ◌==◌, ◌&&◌, ◌||◌, Bool, true, false, not, bit_and, min, nat_lt, List, [], ◌∷◌, ◌++◌, get_or, Option, Some, None, Ok, refl, sym, ◌∙◌, ap, arith, rules, ltb-true}
 use Rattle.std.specs.Prelude.{slice_get}
 use Rattle.std.specs.List.{find, All, list_all, count_by, before_first, after_first}
 use Rattle.std.specs.Option.{ok_or, option_to_list}

@@ -10,7 +10,6 @@ use Rattle.mdl_view.specs.declared.ticket.Ticket.{Ticket}
 use Rattle.mdl_lock_rows.specs.declared.row.OtherRow.{OtherRow}
 use Rattle.mdl_lock_rows.specs.declared.row.Row.{Row}
 use Rattle.mdl_lock_rows.specs.declared.row.Status.{Status}
-use Rattle.mdl_lock_rows.specs.declared.row_class.LeftOut.{LeftOut}
 use Rattle.mdl_lock_rows.specs.Classes.{ClassName, same_class}
 use Rattle.mdl_lock_rows.specs.Keys.{KeyNames, same_key}
 use Rattle.mdl_lock_rows.specs.Numbering.{counted_among, is_of_class, keys_of, left_out_of, owners_of, thread_of_row, threads_of, waits_in_class}

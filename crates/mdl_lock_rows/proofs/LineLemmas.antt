@@ -1,19 +1,15 @@
 -- What a row says, step by step.
-use Rattle.std.proofs.Common.{◌≡◌, ◌∙◌, Bool, Ok, Err, refl, ap}
-use Rattle.std.specs.Prelude.{Result, Option, Some, None}
+use Rattle.std.proofs.Common.{◌≡◌, Ok, Err, ap}
 use Rattle.mdl_client_table.specs.Words.{RowText}
 use Rattle.mdl_lock_rows.specs.declared.columns.Columns.{Columns}
 use Rattle.mdl_lock_rows.specs.declared.lines.Facts.{Facts}
-use Rattle.mdl_lock_rows.specs.declared.no_row.NoRow.{NoRow}
-use Rattle.mdl_lock_rows.specs.declared.row.Line.{Line}
 use Rattle.mdl_lock_rows.specs.declared.row.Line.TheVariants.{LeftOut}
 use Rattle.mdl_lock_rows.specs.declared.row.Request.{Request}
 use Rattle.mdl_lock_rows.specs.declared.row.Status.{Status}
 use Rattle.mdl_lock_rows.specs.declared.row_error.RowError.{RowError}
 use Rattle.mdl_lock_rows.specs.Classes.{class_of}
 use Rattle.mdl_lock_rows.specs.Columns.{and_then, field_at}
-use Rattle.mdl_lock_rows.specs.Lines.{count_fault, facts_of, left_out, row_of, row_or_left_out, row_says, row_with, unless_fault}
-use Rattle.mdl_lock_rows.specs.Reading.{ReadsAs}
+use Rattle.mdl_lock_rows.specs.Lines.{facts_of, left_out, row_of, row_with}
 use Rattle.mdl_lock_rows.specs.ServerNames.{is_waiting, status_of}
 
 module _ (columns : Columns) (row : RowText) (request : Request) where

@@ -1,7 +1,5 @@
 -- Reading rows one by one.
-use Rattle.std.proofs.Common.{◌≡◌, ◌∙◌, ℕ, ◌+◌, ◌<◌, List, [], ◌∷◌, ◌++◌, length, get_or, drop, Result, Ok, Err, refl, sym, ap, append_assoc, append-nil}
-use Rattle.std.specs.Prelude.{Option}
-use Rattle.std.proofs.lemmas.List.{drop_all}
+use Rattle.std.proofs.Common.{◌≡◌, ◌∙◌, ℕ, ◌+◌, ◌<◌, List, [], ◌∷◌, ◌++◌, length, get_or, drop, Result, Ok, Err, refl, sym, ap, append_assoc}
 use Rattle.mdl_client_table.specs.Words.{RowText}
 use Rattle.mdl_lock_rows.specs.declared.columns.Columns.{Columns}
 use Rattle.mdl_lock_rows.specs.declared.no_row.NoRow.{NoRow}

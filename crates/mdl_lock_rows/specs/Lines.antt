@@ -1,5 +1,5 @@
 -- What a row of the table says. Which row is refused, and for what, is this project's own choice.
-use Rattle.std.specs.Prelude.{ℕ, ◌+◌, ◌^◌, Bool, not, ◌&&◌, ◌==◌, nat_lt, List, length, Option, Some, None, Result, Ok, Err, ok_or, if◌then◌else◌}
+use Rattle.std.specs.Prelude.{ℕ, ◌+◌, ◌^◌, not, ◌&&◌, ◌==◌, nat_lt, List, length, Option, Some, None, Result, Ok, Err, ok_or, if◌then◌else◌}
 use Rattle.std.specs.List.{list_all}
 use Rattle.mdl_key.specs.declared.mode.Duration.{Duration}
 use Rattle.mdl_lines.specs.Words.{decimal_value, is_digit}

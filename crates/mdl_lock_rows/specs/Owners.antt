@@ -1,5 +1,5 @@
 -- The threads that hold locks or wait for them, and what rows say of their sessions.
-use Rattle.std.specs.Prelude.{ℕ, Bool, true, false, not, ◌&&◌, ◌||◌, ◌==◌, List, [], ◌∷◌, length, Option, Some, None, is_some, if◌then◌else◌}
+use Rattle.std.specs.Prelude.{ℕ, Bool, not, ◌&&◌, ◌||◌, ◌==◌, List, [], ◌∷◌, length, Option, None, is_some, if◌then◌else◌}
 
 -- a thread, and what a row says of its session: the number of its connection, and texts as they are in the row. A text is empty if the row has
 -- NULL or no such column

@@ -1,7 +1,6 @@
 -- No row is lost.
-use Rattle.std.specs.Prelude.{ℕ, Bool, ◌&&◌, ◌||◌, not, ◌==◌, nat_lt, List, ◌++◌, IsTrue}
+use Rattle.std.specs.Prelude.{Bool, ◌&&◌, ◌||◌, not, ◌==◌, nat_lt, List, ◌++◌, IsTrue}
 use Rattle.std.specs.List.{list_all, list_any}
-use Rattle.mdl_view.specs.declared.ticket.Ticket.{Ticket}
 use Rattle.mdl_view.specs.Locks.{LockView}
 use Rattle.mdl_lock_rows.specs.declared.row.OtherRow.{OtherRow}
 use Rattle.mdl_lock_rows.specs.declared.row.Row.{Row}

@@ -1,13 +1,12 @@
 -- The locks of rows, after MySQL 5.7: `MDL_lock` and `MDL_ticket` of sql/mdl.cc.
-use Rattle.std.specs.Prelude.{ℕ, zero, suc, Bool, true, false, not, ◌&&◌, ◌||◌, nat_eq, ◌==◌, List, [], ◌∷◌, ◌++◌, map, filter, length, codes, Option, None, Some, Result, if◌then◌else◌}
+use Rattle.std.specs.Prelude.{ℕ, zero, suc, Bool, true, false, not, ◌&&◌, ◌||◌, nat_eq, ◌==◌, List, [], ◌∷◌, ◌++◌, map, filter, length, codes, Option, None, Some, Result}
 use Rattle.std.specs.List.{list_any}
 use Rattle.mdl_key.specs.declared.mode.Duration.{Duration}
 use Rattle.mdl_key.specs.declared.mode.Duration.TheVariants.{Statement, Transaction, Explicit}
-use Rattle.mdl_key.specs.declared.mode.Mode.{Mode}
 use Rattle.mdl_key.specs.declared.mode.Mode.TheVariants.{SU, SNW, SNRW, X}
 use Rattle.mdl_lines.specs.Words.{same_text}
 use Rattle.mdl_view.specs.declared.lock_mode.LockMode.{LockMode}
-use Rattle.mdl_view.specs.declared.lock_mode.LockMode.TheVariants.{Backup, Mdl}
+use Rattle.mdl_view.specs.declared.lock_mode.LockMode.TheVariants.{Mdl}
 use Rattle.mdl_view.specs.declared.ticket.Ticket.{Ticket}
 use Rattle.mdl_view.specs.Locks.{LockView}
 use Rattle.mdl_lock_rows.specs.declared.object_type.ObjectType.{ObjectType}

@@ -1,6 +1,6 @@
 -- The passes of a space: which is the first, and that a new space has one for each session.
-use Rattle.std.proofs.Common.{◌≡◌, ◌≢◌, slice_index_or, ◌≤◌, ◌<◌, ◌+◌, ◌-◌, ◌∙◌, ap, sym, subst, ℕ, zero, suc, List, [], ◌∷◌, Bool, true, false, All, filter, cond, length, get_or, refl, arith}
-use Rattle.std.specs.Prelude.{◌==◌, Option, Some, None, slice_get}
+use Rattle.std.proofs.Common.{◌≡◌, ◌≢◌, slice_index_or, ◌≤◌, ◌<◌, ◌+◌, ◌-◌, ◌∙◌, ap, sym, ℕ, zero, suc, List, [], ◌∷◌, Bool, true, false, All, filter, cond, length, get_or, refl, arith}
+use Rattle.std.specs.Prelude.{◌==◌, Some, slice_get}
 use Rattle.std.specs.List.{range_with_len}
 use Rattle.std.specs.List.Sorted.{IsPermutation}
 use Rattle.std.proofs.lemmas.Bool.Decides.{Decides-eqb}
@@ -10,7 +10,7 @@ use Rattle.atomic_table.specs.Seated.{TableId}
 use Rattle.mdl_key.specs.Words.{most_sessions}
 use Rattle.mdl_syntax.specs.declared.script.Line.{Line}
 use Rattle.mdl_shared.specs.declared.pass.Pass.{Pass}
-use Rattle.mdl_shared.specs.Passes.{ArePasses, IsPass, pass_number, pass_table}
+use Rattle.mdl_shared.specs.Passes.{ArePasses, pass_number, pass_table}
 use Rattle.mdl_script.specs.RunTexts.{named_sessions, names_session}
 use Rattle.mdl_script.specs.Turns.{has_pass}
 use Rattle.mdl_script.proofs.TurnLemmas.{passes_left, theirs_left}

@@ -1,5 +1,5 @@
 -- Texts that gain what sessions were answered, and lists that gain the passes that come back.
-use Rattle.std.proofs.Common.{◌≡◌, ◌∙◌, ap, ap₂, map, sym, refl, ℕ, List, ◌++◌, [], ◌∷◌, ◌≢◌, ◌==◌, false, true, inl, inr, Some, None, position, get_or, subst, All, length, Vec, Result, Ok, Err, IfOk, OnOk, rules}
+use Rattle.std.proofs.Common.{◌≡◌, ◌∙◌, ap, ap₂, map, sym, refl, ℕ, List, ◌++◌, [], ◌∷◌, ◌≢◌, ◌==◌, false, true, inl, inr, Some, None, position, get_or, subst, All, length, Result, Ok, Err, OnOk, rules}
 use Rattle.std.specs.Prelude.{Contains}
 use Rattle.std.proofs.lemmas.List.{append-nil, append_assoc, map-append, nil_from_length}
 use Rattle.std.proofs.lemmas.List.Elements.{All-append, All-cons, All-head, All-nil, All-tail, All-weaker, Contains-append_left, Contains-append_right, Contains-push}

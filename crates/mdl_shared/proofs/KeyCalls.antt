@@ -4,7 +4,7 @@ use Rattle.mdl_calls.proofs.MappedLists.{pairs-map}
 use Rattle.mdl_key.specs.declared.namespace.Namespace.TheVariants as of
 use Rattle.std.proofs.lemmas.List.Kept.{AllPairs-filter}
 use Rattle.std.specs.Str.{bytes_eq}
-use Rattle.mdl_shared.proofs.FirstLemmas.{All-cons, All-filter, All-head, All-map, All-nil, All-tail, All-weaker, AreAllTables, AreLearnt, AreWithin, Asked, AtItsTable, At_place, DidDeeds, HasAsked, IsDirectoryTable, IsLookupAnswer, IsMember, Joins, KeepsRoom, KeyName, Keys, KnownKey, LearnsAt, LearnsTables, Less, Lists, MakesSteps, Member, Mine, Namespace, NoPlace, OutOfMemory, Refused, Resolve, Room, SeatState, SessionView, Shows, Stays, StaysInOrder, StaysQuiet, StepRecord, Tables, Tables_of, TookDirectory, and_made, are_apart, asked_after, asked_places, counted_and, data_of, does_steps, does_then, get_or-map, goes_on, is_known, is_of_tables, is_of_tables_told, is_table_of, is_table_told, keeps-settled, key-of_place, key_cmp, key_known, keys-apart, kind-of_key, kind_known, kind_of, knowing_all, knowing_key, length-map, lists_seen, nat_tests, no_record, none_then, place-of_key, place_known, reads-nothing, refused, same-debts, sees-same, session_at, speaks, stays-known, took_earlier, unknown, view_of, visited, with_place, within_and}
+use Rattle.mdl_shared.proofs.FirstLemmas.{All-cons, All-filter, All-head, All-map, All-nil, All-tail, All-weaker, AreAllTables, AreLearnt, AreWithin, Asked, AtItsTable, At_place, DidDeeds, HasAsked, IsDirectoryTable, IsLookupAnswer, IsMember, Joins, KeepsRoom, KeyName, Keys, KnownKey, LearnsAt, LearnsTables, Less, Lists, MakesSteps, Member, Mine, Namespace, NoPlace, OutOfMemory, Refused, Resolve, Room, SeatState, SessionView, Shows, Stays, StaysInOrder, StaysQuiet, StepRecord, Tables, Tables_of, TookDirectory, and_made, are_apart, asked_after, asked_places, counted_and, data_of, does_steps, does_then, get_or-map, goes_on, is_known, is_of_tables, is_of_tables_told, is_table_of, is_table_told, keeps-settled, key_cmp, key_known, keys-apart, knowing_all, knowing_key, length-map, lists_seen, nat_tests, no_record, none_then, place-of_key, place_known, reads-nothing, refused, same-debts, sees-same, session_at, speaks, stays-known, took_earlier, unknown, view_of, visited, with_place, within_and}
 use Rattle.mdl_shared.proofs.KnownKeys.{all_learnt, apart_and, new_place}
 
 -- ---- a session that learns keys

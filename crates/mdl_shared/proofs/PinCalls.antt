@@ -1,5 +1,5 @@
 -- The end of a pin, and the places that a session's own list shows to be pinned.
-use Rattle.std.proofs.Common.{◌≡◌, ℕ, ◌<◌, ◌==◌, not, ◌||◌, Bool, true, false, List, [], ◌∷◌, map, length, Contains, Option, Some, None, inl, inr, ◌⊎◌, refl, sym, ap, ◌∙◌, eq-eqb, eqb-true, arith}
+use Rattle.std.proofs.Common.{◌≡◌, ℕ, ◌<◌, ◌==◌, not, Bool, true, false, List, [], ◌∷◌, map, length, Contains, Option, Some, None, inl, inr, refl, sym, ap, ◌∙◌, eq-eqb, eqb-true, arith}
 use Rattle.mdl_shared.proofs.Common.{all-among, not_from_true}
 use Rattle.mdl_shared.proofs.FirstLemmas.{Ask, AwaitsAt, Contains-here, Contains-later, Done, Held, HoldsAt, InUse, IsMember, IsOwed, Joins, Lists, Member, NoPlace, Refused, SessionTicket, SessionView, Shows, SpaceError, StaysInOrder, Unpin, as_held, asks_at, by_bool, data_of, does-nothing, false≢true, fast-pinned, has_pin, has_ticket_at, held-seen, interleaved, is_used, keeps-same, keeps-settled, list_all, lists_seen, member, nat_tests, numbered, own_at, reads-nothing, refused, same-stays, sees-same, speaks, ticket-pinned, tickets_seen, wait_by, without_place}
 use Rattle.mdl_shared.proofs.KeyCalls.{order-pinned, order-same}

@@ -1,6 +1,6 @@
 -- What a session's own lists say: what it returns of them, and whether a place is in use.
-use Rattle.std.specs.Prelude.{ℕ, ◌==◌, Bool, false, not, ◌||◌, List, Option, Some, None, is_some, if◌then◌else◌}
-use Rattle.mdl_shared.specs.Prelude.{Ask, Held, InUse, KnownKey, NoPlace, SessionTicket, SpaceError, has_pin, key_known, list_any, option_map_or}
+use Rattle.std.specs.Prelude.{ℕ, ◌==◌, Bool, false, ◌||◌, List, Option, Some, None, is_some, if◌then◌else◌}
+use Rattle.mdl_shared.specs.Prelude.{Ask, Held, KnownKey, NoPlace, SessionTicket, SpaceError, key_known, list_any, option_map_or}
 
 -- a session's ticket in the form that callers get
 abbrev pub as_held : SessionTicket → Held

@@ -1,5 +1,5 @@
 -- The place of a step has a key where its session knows one there, or where the book there is in use.
-use Rattle.std.proofs.Common.{◌≡◌, ℕ, suc, ◌-◌, ◌<◌, List, [], Some, None, refl, sym, ap, ◌∙◌, subst, arith, Contains, Option, slice_get}
+use Rattle.std.proofs.Common.{◌≡◌, ℕ, suc, ◌-◌, ◌<◌, List, Some, None, refl, sym, ap, ◌∙◌, subst, arith, Contains, Option, slice_get}
 use Rattle.mdl_steps_laws.proofs.FirstLemmas.{Contains-none, HasPlace, IsUnused, KeyName, KnownKey, KnowsPlace, LatchRecord, Rule, Slot, State, Ticket, View, at_map, each_at, get_elem?, held_at, holder_at, key_at, some, ticket_of}
 use Rattle.mdl_steps_laws.proofs.WaitAsks.{at_from_get}
 

@@ -3,14 +3,14 @@ use Rattle.std.proofs.Common.{◌≡◌, ◌⊎◌, inl, inr, ◌∙◌, ◌+◌
 use Rattle.std.proofs.lemmas.List.{map-append}
 use Rattle.mdl_book.specs.declared.book_view.BookView.{BookView}
 use Rattle.mdl_core.specs.Cores.{Core}
-use Rattle.mdl_calls.specs.Words.{Program, outcome_of}
+use Rattle.mdl_calls.specs.Words.{outcome_of}
 use Rattle.mdl_core.specs.CoreCalls.{outcome}
 use Rattle.mdl_picture.specs.Moments.{EventView, MomentView}
 use Rattle.mdl_rows.specs.Endings.{Pause}
 use Rattle.mdl_rows.specs.Endings as pause
 use Rattle.mdl_rows.specs.Playing.{going_on, starting}
 use Rattle.mdl_script.specs.declared.told.Told.{Told}
-use Rattle.mdl_script.specs.Worlds.{Scene, World, ask_session, asked_waiting, came, continuing_settled, first_settled, first_world, going, going_first, line_played, lines_played, most_turns, played, player_at, reports_of, session_waits, started, turn_of, ◌and_then◌}
+use Rattle.mdl_script.specs.Worlds.{Scene, World, ask_session, asked_waiting, came, continuing_settled, first_settled, first_world, going, going_first, line_played, lines_played, most_turns, player_at, reports_of, session_waits, started, turn_of}
 use Rattle.mdl_syntax.specs.declared.script.Line.{Line}
 use Rattle.mdl_syntax.specs.declared.statement.Statement.{Statement}
 use Rattle.mdl_syntax.specs.declared.statement.Statement.TheVariants.{Timeout}

@@ -1,8 +1,7 @@
 -- What an event shows of the world right after its turn: who is waited for, and which locks are held.
-use Rattle.std.proofs.Common.{◌≡◌, ◌≢◌, ◌↔◌, ◌∙◌, ◌&&◌, ◌||◌, ◌-◌, ◌<◌, ◌≤◌, ◌+◌, inl, inr, ℕ, Bool, true, false, cond, List, [], ◌∷◌, ◌++◌, filter, flat_map, get_or, length, map, ap, sym, subst, refl, arith}
-use Rattle.std.specs.List.{All, Contains}
+use Rattle.std.proofs.Common.{◌≡◌, ◌≢◌, ◌↔◌, ◌∙◌, ◌-◌, ◌<◌, inl, inr, ℕ, Bool, true, false, cond, List, [], ◌∷◌, filter, get_or, ap, sym, subst, refl, arith}
+use Rattle.std.specs.List.{Contains}
 use Rattle.std.specs.Prelude.{slice_index_or}
-use Rattle.std.specs.Bool.{IsTrue}
 use Rattle.std.proofs.lemmas.List.Elements.{All-contains, All-contains_itself, All-filter, Contains-get_or, filter_passes}
 use Rattle.std.specs.List.{range_with_len}
 use Rattle.std.proofs.lemmas.List.FromFn.{get_or-range_with_len, length-range_with_len}
@@ -10,12 +9,10 @@ use Rattle.mdl_book.specs.declared.book_view.BookView.{BookView}
 use Rattle.mdl_book.specs.declared.ticket.Ticket.{Ticket}
 use Rattle.mdl_book.specs.Books.{empty_book}
 use Rattle.mdl_key.specs.declared.namespace.Namespace.TheVariants.{Global}
-use Rattle.mdl_graph.specs.WaitsFor.{waits_at, waits_for}
+use Rattle.mdl_graph.specs.WaitsFor.{waits_for}
 use Rattle.mdl_key.specs.Words.{most_sessions}
 use Rattle.mdl_lines.specs.Words.{IsScriptSession}
 use Rattle.mdl_picture.specs.declared.moment.Fate.TheVariants as fate
-use Rattle.mdl_picture.specs.Moments.{HeldView}
-use Rattle.mdl_rows.specs.declared.reply.Reply.{Reply}
 use Rattle.mdl_rows.specs.declared.reply.Reply.TheVariants as reply
 use Rattle.mdl_script.specs.declared.told.News.{News}
 use Rattle.mdl_script.specs.declared.told.News.TheVariants as news

@@ -1,5 +1,5 @@
 -- Turn by turn, the events so far and those of the turns that are left make up the whole.
-use Rattle.std.proofs.Common.{◌≡◌, ◌∙◌, ℕ, zero, suc, List, [], ◌∷◌, ◌++◌, Option, Some, None, flat_map, ap, sym, refl, subst, append_assoc, append-nil}
+use Rattle.std.proofs.Common.{◌≡◌, ◌∙◌, ℕ, zero, suc, List, [], ◌∷◌, ◌++◌, Some, None, flat_map, ap, sym, refl, subst, append_assoc, append-nil}
 use Rattle.mdl_picture.specs.Moments.{EventView}
 use Rattle.mdl_script.specs.Worlds.{Scene, World, continuing_settled, first_settled, going, turn_of}
 use Rattle.mdl_script.proofs.SettleLemmas.{settling-none, settling-some}

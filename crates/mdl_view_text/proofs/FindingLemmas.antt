@@ -1,5 +1,5 @@
 -- What is found of ways and of waits.
-use Rattle.std.proofs.Common.{◌≡◌, ℕ, List, length, map, take}
+use Rattle.std.proofs.Common.{◌≡◌, List, length, map, take}
 use Rattle.mdl_view.specs.declared.at_lock.AtLock.{AtLock}
 use Rattle.mdl_view.specs.Locks.{LockView}
 use Rattle.mdl_view.specs.Ways.{blockers_of}

@@ -1,6 +1,6 @@
 -- What the answer to `why` says, before it is put into words: the ways out, the waits that no single way ends, those in deadlocks, and those that
 -- the tickets don't explain.
-use Rattle.std.specs.Prelude.{◌≡◌, ℕ, Bool, true, false, not, ◌&&◌, ◌==◌, ◌+◌, ◌-◌, List, [], ◌∷◌, ◌++◌, filter, get_or, if◌then◌else◌, length, map, take}
+use Rattle.std.specs.Prelude.{◌≡◌, ℕ, Bool, not, ◌&&◌, ◌==◌, ◌+◌, ◌-◌, List, [], ◌∷◌, filter, get_or, if◌then◌else◌, length, map, take}
 use Rattle.std.specs.List.{All, list_any}
 use Rattle.mdl_view.specs.declared.act.Act.{Act}
 use Rattle.mdl_view.specs.declared.act.Act.TheVariants.{Kill, KillQuery}

@@ -5,7 +5,6 @@ use Rattle.std.proofs.lemmas.Str.{encode_ascii}
 use Rattle.std.specs.List.{list_all}
 use Rattle.std.specs.Str.{is_utf8}
 use Rattle.json.specs.Run.{is_plain}
-use lib.Utf8.{encode}
 use Rattle.json.specs.Text.{content, plain, prepend, short_escape, is_high_surrogate, is_low_surrogate}
 use Rattle.json.specs.Token.{string}
 use Rattle.json.specs.Word.{is_operator, is_space}

@@ -4,7 +4,6 @@ use Rattle.std.proofs.lemmas.Result.{IfOk-weaker}
 use Rattle.std.proofs.lemmas.Str.{IsUtf8-from_is_utf8, is_utf8-from_IsUtf8}
 use Rattle.std.specs.Str.{is_utf8}
 use Rattle.json.specs.Lex.{tokens}
-use Rattle.mdl_client_table.specs.declared.json_cell.Cell.{Cell}
 use Rattle.mdl_client_table.specs.declared.json_cell.Cell.TheVariants.{Wrong}
 use Rattle.mdl_client_table.specs.Json.{cell_in}
 use Rattle.mdl_client_table.proofs.json_cell.cell_of.Goals as goal

@@ -1,4 +1,4 @@
-use Rattle.std.proofs.Common.{◌≡◌, ◌∙◌, ◌==◌, Bor, ℕ, List, map, sym, ap}
+use Rattle.std.proofs.Common.{◌∙◌, Bor, ℕ, List, map, ap}
 use Rattle.std.proofs.lemmas.Result.{IfOk-weaker}
 use Rattle.mdl_client_table.specs.Escapes.{name_of}
 use Rattle.mdl_client_table.proofs.PartLemmas.{read-parts}

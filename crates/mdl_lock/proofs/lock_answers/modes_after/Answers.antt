@@ -1,6 +1,6 @@
 -- The row of the mode has all modes that clash with it.
 use Rattle.mdl_book.specs.Books.{lock_kind}
-use Rattle.mdl_lock.specs.Locks.{lock_of, AreInModes}
+use Rattle.mdl_lock.specs.Locks.{lock_of}
 use Rattle.mdl_lock.proofs.WaiterLemmas.{in_row}
 use Rattle.mdl_lock.proofs.lock_answers.modes_after.Goals as goal
 

@@ -1,6 +1,4 @@
 -- One more row says something of its thread.
-use Rattle.std.proofs.Common.{◌≡◌, ◌∙◌, length, ap}
-use Rattle.std.proofs.lemmas.List.{length-map}
 use Rattle.mdl_lock_rows.proofs.TableLemmas.{owners-more}
 use Rattle.mdl_lock_rows.proofs.numbering.owners_among.Goals as goal
 

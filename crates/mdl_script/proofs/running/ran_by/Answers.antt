@@ -1,5 +1,5 @@
 -- What the session that asks did, call by call, and what became of the others' passes.
-use Rattle.std.proofs.Common.{◌≡◌, ◌∙◌, ◌∷◌, [], subst, sym, All, ◌++◌}
+use Rattle.std.proofs.Common.{◌≡◌, ◌∙◌, ◌∷◌, [], subst, sym, All}
 use Rattle.std.specs.String.{string_bytes}
 use Rattle.mdl_shared.specs.declared.pass.Pass.{Pass}
 use Rattle.mdl_shared.specs.Passes.{manager_table, pass_table}

@@ -1,5 +1,5 @@
 -- The session that asks is opened as its pass had it, and closed at the end.
-use Rattle.std.proofs.Common.{◌≡◌, ◌∙◌, ◌∷◌, All, ap, rules}
+use Rattle.std.proofs.Common.{◌≡◌, ◌∙◌, ◌∷◌, ap, rules}
 use Rattle.std.specs.String.{string_bytes}
 use Rattle.std.proofs.lemmas.List.Elements.{All-cons, All-same}
 use Rattle.mdl_shared.specs.declared.pass.Pass.{Pass}

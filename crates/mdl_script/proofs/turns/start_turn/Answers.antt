@@ -1,5 +1,5 @@
 -- The pass that is taken is one of the manager's, and so are those that are left. A thread gets it.
-use Rattle.std.proofs.Common.{◌∙◌, ◌++◌, ◌∷◌, [], ap, refl, subst, sym}
+use Rattle.std.proofs.Common.{◌∙◌, ◌∷◌, ap, subst, sym}
 use Rattle.std.specs.List.Sorted.{IsPermutation}
 use Rattle.std.proofs.lemmas.List.Sorted.{IsPermutation-refl}
 use Rattle.mdl_shared.specs.declared.pass.Pass.{Pass}

@@ -1,5 +1,5 @@
 -- The place of a key by the directory.
-use Rattle.std.proofs.Common.{◌≡◌, ◌≤◌, ℕ, List, [], ◌∷◌, ◌++◌, None, Some, inr, refl, sym, ap, subst, ◌∙◌, arith}
+use Rattle.std.proofs.Common.{◌≡◌, ◌≤◌, ℕ, List, [], ◌∷◌, ◌++◌, None, inr, refl, sym, ap, subst, ◌∙◌, arith}
 use Rattle.mdl_shared.proofs.Lemmas.{At_place, IsMember, Joins, KeyName, KnownKey, Lists, NoPlace, OutOfMemory, Refused, Resolve, SpaceError, data_of, done-nothing, done-order, is_known, kept, last-is_known, learnt-order, learnt-owes, lists-learnt, lists-stepped, member, no_place-joins, order-pinned, owed-on, owed-stepped, place_known, refused, resolve-joins, resolved, same-stays, session_at, speaks, stepped, view_of}
 use Rattle.mdl_shared.proofs.FirstLemmas.{with_place}
 use Rattle.mdl_visits.specs.KnownLists.{KnownList}
