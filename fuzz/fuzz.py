@@ -5,11 +5,15 @@ status is 0 nothing is printed on standard output. A refused script is reported 
 have to be those of plain programs, and `replay` has to print the same twice. `run` answers each line once, and a lone session as `replay`
 does; its last lines have to follow from the changes that were made. With too little memory a run reports only that.
 
+Most scripts have few sessions and few names, so that these conflict. One in fifty of statements has many: 250 to 600 keys, of which the locks are held at the
+same time, by up to 1,024 sessions. So there is no place left, and places that aren't in use any more are given to other keys. With `--many-keys` all
+scripts are so.
+
 The same seed gives the same scripts. A script that fails is kept in fuzz/out/, named by the seed and its number; `--only NUMBER` runs it again.
 With `--scripts COUNT` it plays that number of scripts, however long that takes, and two with 100,000 lines of eight sessions on threads. Each kind of
-answer has to be among those of `replay`. The gate does that.
+answer has to be among those of `replay`, and places have to be given to other keys. The gate does that.
 
-Usage, at the top of the repository: python3 fuzz/fuzz.py [--seconds 60 | --scripts COUNT] [--seed N] [--only NUMBER] [PROGRAM]
+Usage, at the top of the repository: python3 fuzz/fuzz.py [--seconds 60 | --scripts COUNT] [--many-keys] [--seed N] [--only NUMBER] [PROGRAM]
 The program is the one that was built last, MDLSIM, or the one that is named.
 """
 
@@ -39,6 +43,9 @@ SUBCOMMANDS = {"lock": "object", "lock --scoped": "scoped", "replay": "statement
 ENDINGS = {"lock": "lock", "lock --scoped": "scoped.lock", "replay": "replay", "run": "run"}
 
 MEGABYTE = 2**20
+
+# The subcommands of scripts of statements, the first more often.
+OF_STATEMENTS = ["replay", "replay", "replay", "run"]
 
 # The numbers of the two scripts of many lines begin here.
 CROWDS = 10**9
@@ -115,8 +122,8 @@ def wrong_end(case, seen):
     return None
 
 
-def wrong_answers(runner, case, lines, seen, matrices):
-    """Returns what is wrong with the answers to a script that isn't refused, or None."""
+def wrong_answers(runner, case, lines, seen, matrices, tally):
+    """Returns what is wrong with the answers to a script that isn't refused, or None. Counts the scripts that have places given to other keys."""
     if case.subcommand.startswith("lock"):
         wanted = locks.answers_to(lines, SUBCOMMANDS[case.subcommand], matrices)
         return None if seen.written == wanted else "the lock is answered otherwise"
@@ -124,7 +131,9 @@ def wrong_answers(runner, case, lines, seen, matrices):
         again = play(runner, dataclasses.replace(case, memory=None))
         if again != dataclasses.replace(seen, memory=again.memory):
             return "the second run is another one"
-        return None if seen.written == plays.answers_to(lines, matrices) else "a statement is answered otherwise"
+        wanted, space = plays.played(lines, matrices)
+        tally.given_anew += space.given_anew > 0
+        return None if seen.written == wanted else "a statement is answered otherwise"
     wrong = runs.wrong_in_run(lines, seen.written) or runs.wrong_at_the_end(lines, seen.written) or runs.wrong_versions(seen.written)
     if wrong or len({it.session for it in lines}) != 1:
         return wrong
@@ -132,8 +141,8 @@ def wrong_answers(runner, case, lines, seen, matrices):
     return runs.wrong_in_lone_run(lines, replayed.written, seen.written)
 
 
-def wrong(runner, case, matrices, answers):
-    """Runs a case, and returns what is wrong with it, or None. Adds to `answers` the kinds of answers that `replay` gave."""
+def wrong(runner, case, matrices, tally):
+    """Runs a case, and returns what is wrong with it, or None. Notes the kinds of answers that `replay` gave."""
     seen = play(runner, case)
     found = wrong_end(case, seen)
     if found or seen.status == 3:
@@ -144,8 +153,8 @@ def wrong(runner, case, matrices, answers):
     if refusal:
         return None
     if case.subcommand == "replay":
-        answers.update(it for it in ANSWERS if it in seen.written)
-    return wrong_answers(runner, case, lines, seen, matrices)
+        tally.seen.update(it for it in ANSWERS if it in seen.written)
+    return wrong_answers(runner, case, lines, seen, matrices, tally)
 
 
 # ---- cases by chance
@@ -161,13 +170,13 @@ def has_cache(runner):
     return b"--cache " in runner.run(["help", "run"], b"", 20).told
 
 
-def case_of(seed, number, found, least, is_cached):
-    """Returns the case of a number."""
+def case_of(seed, number, found, least, is_cached, is_crowded):
+    """Returns the case of a number, mostly with few keys, or with many."""
     chance = random.Random(f"{seed} {number}")
-    subcommand = chance.choice([*SUBCOMMANDS, "replay", "replay"])
+    subcommand = chance.choice(OF_STATEMENTS if is_crowded else [*SUBCOMMANDS, "replay", "replay"])
     patience = chance.choice([0, 1, 7, 1_000, 20_000])
     options = ("--cache", chance.choice(["1", "2", "64", "4096"])) if is_cached else ()
-    script = scripts.script_of(chance, SUBCOMMANDS[subcommand], found)
+    script = scripts.crowded(chance) if is_crowded else scripts.script_of(chance, SUBCOMMANDS[subcommand], found)
     most = 40 * len(script) + (64 * MEGABYTE if subcommand == "run" else 1)
     memory = least + chance.randrange(most) if least and chance.random() < 0.08 else None
     return Case(subcommand, script, patience, options, memory)
@@ -192,15 +201,16 @@ def keep(seed, number, case):
 
 @dataclasses.dataclass
 class Tally:
-    """How many scripts were played, how many of them failed, and which answers of `replay` were seen."""
+    """How many scripts were played, how many of them failed, how many had places given to other keys by `replay`, and which answers of `replay` were seen."""
 
     count: int = 0
     failures: int = 0
+    given_anew: int = 0
     seen: set = dataclasses.field(default_factory=set)
 
     def missing(self):
-        """Returns the answers that no script was given."""
-        return [it.decode().strip() for it in ANSWERS if it not in self.seen]
+        """Returns the answers that no script was given, and whether no place was given to another key."""
+        return [it.decode().strip() for it in ANSWERS if it not in self.seen] + ([] if self.given_anew else ["a place given to another key"])
 
 
 def report_skipped(least, is_cached):
@@ -212,8 +222,8 @@ def report_skipped(least, is_cached):
         subprocess.run(["sh", skipped, "random scripts with small caches", "the program has no option for that"], check=True)
 
 
-def look_at(runner, seed, numbers, most_seconds):
-    """Runs cases until the time is over. Keeps and reports those that are wrong."""
+def look_at(runner, seed, numbers, most_seconds, is_crowded):
+    """Runs cases, mostly with few keys or all with many, until the time is over. Keeps and reports those that are wrong."""
     until = time.monotonic() + most_seconds
     found, least, is_cached, matrices = scripts.seeds(), least_memory(runner), has_cache(runner), locks.matrices_of(runner.program)
     report_skipped(least, is_cached)
@@ -221,8 +231,8 @@ def look_at(runner, seed, numbers, most_seconds):
     for number in numbers:
         if time.monotonic() > until:
             break
-        case = crowd(seed, number) if number >= CROWDS else case_of(seed, number, found, least, is_cached)
-        told = wrong(runner, case, matrices, tally.seen)
+        case = crowd(seed, number) if number >= CROWDS else case_of(seed, number, found, least, is_cached, is_crowded)
+        told = wrong(runner, case, matrices, tally)
         tally.count += 1
         if told:
             tally.failures += 1
@@ -233,12 +243,14 @@ def look_at(runner, seed, numbers, most_seconds):
 
 def read_words():
     """Returns what the command line asks for."""
-    parser = argparse.ArgumentParser()
-    parser.add_argument("--seconds", type=float, default=60)
-    parser.add_argument("--scripts", type=int)
-    parser.add_argument("--seed", type=int, default=random.randrange(10**6))
-    parser.add_argument("--only", type=int)
-    parser.add_argument("program", nargs="?", default=os.environ.get("MDLSIM") or "crates/mdlsim/out/mdlsim")
+    usage, kind = "python3 fuzz/fuzz.py [OPTION ..] [PROGRAM]", argparse.RawDescriptionHelpFormatter
+    parser = argparse.ArgumentParser(usage=usage, description=__doc__, formatter_class=kind)
+    parser.add_argument("--seconds", type=float, default=60, help="how long it plays scripts: 60 seconds, unless this is given")
+    parser.add_argument("--scripts", type=int, help="how many scripts it plays, however long that takes")
+    parser.add_argument("--many-keys", action="store_true", help="all scripts have 250 to 600 keys, and up to 1,024 sessions")
+    parser.add_argument("--seed", type=int, default=random.randrange(10**6), help="which scripts these are; any number, unless this is given")
+    parser.add_argument("--only", type=int, help="the number of the only script that it plays")
+    parser.add_argument("program", nargs="?", default=os.environ.get("MDLSIM") or "crates/mdlsim/out/mdlsim", help="the program that plays them")
     return parser.parse_args()
 
 
@@ -246,7 +258,9 @@ def numbers_of(asked):
     """Returns the numbers of the cases that are asked for."""
     if asked.only is not None:
         return [asked.only]
-    return [*range(asked.scripts), CROWDS, CROWDS + 1] if asked.scripts else range(CROWDS)
+    if not asked.scripts:
+        return range(CROWDS)
+    return range(asked.scripts) if asked.many_keys else [*range(asked.scripts), CROWDS, CROWDS + 1]
 
 
 def main():
@@ -257,9 +271,9 @@ def main():
         return 1
     print(f"seed {asked.seed}", flush=True)
     with Runner(os.path.abspath(asked.program)) as runner:
-        tally = look_at(runner, asked.seed, numbers_of(asked), math.inf if asked.scripts else asked.seconds)
-    print(f"{tally.count} scripts were played, and {tally.failures} of them failed")
-    missing = tally.missing() if asked.scripts else []
+        tally = look_at(runner, asked.seed, numbers_of(asked), math.inf if asked.scripts else asked.seconds, asked.many_keys)
+    print(f"{tally.count} scripts were played, and {tally.failures} of them failed; {tally.given_anew} had places given to other keys")
+    missing = tally.missing() if asked.scripts and not asked.many_keys else []
     if missing:
         print(f"no script was answered {missing}", file=sys.stderr)
     return 1 if tally.failures or missing or not tally.count else 0

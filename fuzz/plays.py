@@ -407,8 +407,8 @@ def go_on(session):
         return head + done.value
 
 
-def answers_to(lines, matrices):
-    """Returns all answers to the lines of a script."""
+def played(lines, matrices):
+    """Returns all answers to the lines of a script, and the space as they leave it."""
     space = Space(matrices, {it.session for it in lines})
     space.place(schema(b"test"))
     space.change(schema(b"test"), "schema")
@@ -426,4 +426,4 @@ def answers_to(lines, matrices):
             answers.append(b"%d %d BUSY" % (line.number, session.who))
         while space.settled:
             answers.append(go_on(sessions[min(space.settled)]))
-    return b"".join(it + b"\n" for it in [*answers, *(b"END %d WAIT" % it for it in sorted(space.waits))])
+    return b"".join(it + b"\n" for it in [*answers, *(b"END %d WAIT" % it for it in sorted(space.waits))]), space

@@ -164,29 +164,37 @@ def raw(chance):
     return bytes(chance.choices(b"0123456789 \t\r\n#.,_abtxyABCDEILNORSTUWX", k=count))
 
 
-# What a session does with a key of many, or without one: mostly it gets a lock and keeps it, or it ends what it has.
-HELD = ["SELECT t{key}", "GET_LOCK w{key}"]
-ENDED = ["RELEASE_LOCK w{key}", "COMMIT", "ROLLBACK", "ROLLBACK TO p", "DROP TABLE t{key}", "RELEASE_LOCK w{key}", "BEGIN"]
-OTHERS = ["SAVEPOINT p", "CREATE TABLE t{key} x", "INSERT t{key}", "LOCK TABLES t{key} WRITE", "UNLOCK TABLES", "SELECT t{key} t1", "TIMEOUT"]
+# What sessions do with keys of many: they get locks and keep them, end what they have, or do something else.
+HELD = ["SELECT t{a}", "GET_LOCK w{a}", "SELECT t{a}", "GET_LOCK w{a}", "SELECT s{a}.t", "INSERT t{a}", "SELECT d{d} t{a}"]
+ENDED = ["COMMIT", "ROLLBACK", "ROLLBACK TO p", "RELEASE_LOCK w{a}", "RELEASE_LOCK w{a}", "UNLOCK TABLES", "TIMEOUT", "KILL QUERY {k}", "BEGIN", "BEGIN"]
+OTHERS = [
+    *("SAVEPOINT p", "CREATE TABLE t{a} x", "CREATE SCHEMA s{a}", "LOCK TABLES t{a} WRITE", "DROP TABLE t{a} t{b}", "RENAME TABLE t{a} TO t{b}"),
+    *("ALTER TABLE d{d} ADD y COPY", "FLUSH TABLES WITH READ LOCK", "LOCK TABLES d{d} READ t{b} READ", "SELECT t{a} t{b}", "INSERT d{d}", "DROP TABLE d{d}"),
+]
+
+# How many tables are created before at most, so that they keep their places.
+MOST_KEPT = 60
 
 
 def crowded(chance):
-    """Returns a script of more keys than there are places, of which sessions hold the locks at the same time: first of one key after another, then of any."""
-    count = chance.choice([250, 256, 300, 400, 600])
-    sessions = some_sessions(chance, chance.choice([1, 2, 5, 40]))
-    lines = [f"{it} BEGIN" for it in sessions]
-    for key in range(count):
-        words = HELD if chance.random() < 0.99 else OTHERS
-        lines.append(f"{chance.choice(sessions)} {chance.choice(words)}".format(key=key))
-    for _ in range(chance.choice([0, 60, 400])):
-        words = chance.choice([HELD, HELD, ENDED, OTHERS])
-        lines.append(f"{chance.choice(sessions)} {chance.choice(words)}".format(key=chance.randrange(count)))
+    """Returns a script of 250 to 600 keys, mostly more than there are places, by one session or by up to all that there are. First sessions get locks of one
+    key after another and keep them, until the places are in use. Then they get, try and end locks of any of the keys, so that places are given to
+    others, or there is none."""
+    count, kept = chance.randrange(250, 601), chance.choice([0, 1, 20, MOST_KEPT])
+    sessions = some_sessions(chance, chance.choice([1, 2, 5, 40, 300, MOST_SESSIONS]))
+    end = chance.choice([0.1, 0.3, 0.5])
+    first = chance.choices([HELD, OTHERS], [99, 1], k=count)
+    then = chance.choices([HELD, ENDED, OTHERS], [0.9 - end, end, 0.1], k=chance.choice([0, 60, 400]))
+    lines = [*(f"1 CREATE TABLE d{it} x" for it in range(kept)), *(f"{it} BEGIN" for it in sessions if chance.random() < 0.95)]
+    for a, words in [*enumerate(first), *((chance.randrange(count), it) for it in then)]:
+        names = {"a": a, "b": (a + chance.randrange(1, count)) % count, "d": chance.randrange(MOST_KEPT), "k": chance.choice(sessions)}
+        lines.append(f"{chance.choice(sessions)} {chance.choice(words)}".format(**names))
     return "".join(f"{it}\n" for it in lines).encode()
 
 
 def large(chance, language):
     """Returns a script of many lines, of a very long one, or of all that there is room for."""
-    kind = chance.randrange(7)
+    kind = chance.randrange(6)
     if kind == 0:
         return by_chance(chance, language, chance.choice([5_000, 30_000]))
     if kind == 1:
@@ -198,8 +206,6 @@ def large(chance, language):
         tables = b"".join(b"1 CREATE TABLE %c %s\n" % (it, columns) for it in b"abcdefgh")
         return tables + b"1 SELECT a b c d e f g h\n" * chance.choice([1, 30, 600])
     if kind == 4:
-        return crowded(chance)
-    if kind == 5:
         waits = b"".join(b"%d DROP TABLE t\n" % it for it in some_sessions(chance, chance.choice([64, 64, 200]))[1:])
         return b"1 CREATE TABLE t x\n1 BEGIN\n1 SELECT t\n" + waits + chance.choice([b"", b"1 COMMIT\n", b"1 INSERT t\n"])
     return chance.choice([b"1 SELECT a b c d e f g h\n", b"1 BEGIN\n", b"1 SR\n", b"1 IX\n1 RELEASE\n"]) * chance.choice([1_000, 40_000])
@@ -212,6 +218,8 @@ def script_of(chance, language, scripts):
         return raw(chance)
     if way < 0.08:
         return large(chance, language)
+    if way < 0.10 and language not in MODES:
+        return crowded(chance)
     if way < 0.55:
         return by_chance(chance, language)
     if way < 0.60:

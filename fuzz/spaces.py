@@ -1,8 +1,8 @@
 """Locks of many keys, with tickets and waits of sessions, as plainly as can be: what plays.py runs its statements on.
 
-A key is (0,) for GLOBAL, (1, schema), (2, schema, table), (3,) for COMMIT, or (4, name) for a user-level lock. A key keeps its place while a session has a
-ticket or a wait there, and once it had a definition. At the end of each statement a session lets go of all other places, so nobody pins those. A call that
-may wait is a generator: it yields when a wait begins, and continues once that is settled."""
+A key is (0,) for GLOBAL, (1, schema), (2, schema, table), (3,) for COMMIT, or (4, name) for a user-level lock. A session pins just the places where it has a
+ticket or its wait, also after a request that got nothing and after a lost wait. So a key keeps its place while a session has something there, and once it
+had a definition. A call that may wait is a generator: it yields when a wait begins, and continues once that is settled."""
 
 import dataclasses
 
@@ -47,7 +47,8 @@ class Place:
 
 
 class Space:
-    """All places, the tickets of each session in the order in which it got them, and its wait, with how that is settled."""
+    """All places, the tickets of each session in the order in which it got them, and its wait, with how that is settled. And how often a place was given to
+    another key."""
 
     def __init__(self, matrices, sessions):
         self.matrices = matrices
@@ -55,6 +56,7 @@ class Space:
         self.held = {it: [] for it in sessions}
         self.waits = {}
         self.settled = {}
+        self.given_anew = 0
 
     # ---- which modes go together
 
@@ -155,6 +157,7 @@ class Space:
                 if unused is None:
                     raise Lost(NO_PLACE)
                 del self.places[unused]
+                self.given_anew += 1
             self.places[key] = Place()
         return self.places[key]
 

@@ -1,65 +1,20 @@
-//! The contexts of two sessions of a space that threads share, on one thread: tickets by duration, waits, a deadlock and stronger modes. If a
+//! The contexts of sessions of a space that threads share, on one thread: tickets by duration, waits, a deadlock and stronger modes. If a
 //! call runs out of memory, the session holds what it held and waits for nothing, and the call is made again. Calls that release or give up take
-//! no memory.
+//! no memory. Requests for a key that was looked up pin its place just if they get something there.
 ghost use Rattle.mdl_calls.specs.Words.{HasNothing};
 ghost use Rattle.mdl_context.specs.Contexts.{Attends};
+ghost use Rattle.mdl_shared.specs.SessionViews.{data_of};
 
+use crate::context_acts::{Act, EXPLICIT, Reply, STATEMENT, TRANSACTION, keeps, make, stands};
 use crate::passes::{closes, new_passes};
-use mdl_context::{Acquire, Context, ContextError, Kept, Mark, Request, Resume};
-use mdl_key::{Duration, Key, Mode};
+use mdl_context::{Context, Mark};
+use mdl_key::Mode;
 use mdl_shared::Session;
-use mdl_space::{Held, LockSpace, Settled, SpaceError, TicketId};
+use mdl_space::{LockSpace, Settled, SpaceError};
 use std::alloc::Global;
 use std::marker::Model;
 use std::mem::drop;
 use std::sync::Wait;
-
-// A call of a session.
-#[derive(Clone, Copy)]
-enum Act {
-    Acquire(&'static str, Mode, Duration),
-    // Of the ticket that it gained last.
-    Upgrade(Mode),
-    Downgrade(Mode),
-    // To a mark with these numbers of tickets of the statement and of the transaction.
-    GoBack(usize, usize),
-    EndStatement,
-    EndTransaction,
-    Resume,
-    // The wait for a stronger mode is over, and the ticket gets that mode.
-    Raise(Mode),
-    GiveUp,
-}
-
-// The answer of a call.
-#[derive(Clone, Copy, PartialEq, Eq)]
-enum Reply {
-    Acquired,
-    MustWait,
-    Waits,
-    Lost(Settled),
-    Done,
-    NoMemory,
-    Refused,
-}
-
-impl Act {
-    // Whether it may take memory.
-    fn takes_memory(self) -> bool {
-        matches!(
-            self,
-            Act::Acquire(_, _, _) | Act::Upgrade(_) | Act::Raise(_)
-        )
-    }
-
-    // Returns the call to make after this one ran out of memory. A wait that it was to end is over then.
-    fn again(self) -> Act {
-        match self {
-            Act::Raise(mode) => Act::Upgrade(mode),
-            act => act,
-        }
-    }
-}
 
 // A session that is a lock space for itself, and the context that keeps its tickets.
 struct Seat<S: LockSpace> {
@@ -96,29 +51,12 @@ impl<S: LockSpace> Seat<S> {
 
     // Whether the context keeps the tickets that the session holds, and there are `count` of them.
     fn keeps(&self, count: usize) -> bool {
-        let context = &self.context;
-        let held = match self.session.held(context.who()) {
-            Err(SpaceError::OutOfMemory) => self.session.held(context.who()),
-            outcome => outcome,
-        };
-        match held {
-            Ok(held) => {
-                let is_so = held.len() == count && are_kept(context.kept(), &held);
-                drop(held);
-                is_so
-            }
-            Err(_) => false,
-        }
+        keeps(&self.session, &self.context, count)
     }
 
     // Returns how many tickets there are of the statement, of the transaction and in all, and whether the session waits.
     fn stands(&self) -> (Mark, usize, bool) {
-        let context = &self.context;
-        (
-            context.savepoint(),
-            context.kept().len(),
-            context.wish().is_some(),
-        )
+        stands(&self.context)
     }
 
     // Returns the session, with what it has, and drops its context.
@@ -129,114 +67,8 @@ impl<S: LockSpace> Seat<S> {
     }
 }
 
-// Whether the kept tickets are those that are held.
-fn are_kept(kept: &[Kept], held: &[Held]) -> bool {
-    for (ticket, other) in kept.iter().zip(held) {
-        if ticket.id != other.id || ticket.place != other.place || ticket.mode != other.mode {
-            return false;
-        }
-    }
-    kept.len() == held.len()
-}
-
-// Makes a call.
-fn make<S: LockSpace>(alloc: Global, space: &mut S, context: &mut Context<S>, act: Act) -> Reply
-    requires { Attends S.LockSpace space.old context.old }
-    ensures { Attends S.LockSpace space.new context.new }
-{
-    match act {
-        Act::Acquire(name, mode, duration) => acquire(alloc, space, context, name, mode, duration),
-        Act::Upgrade(mode) => acquired(context.upgrade(space, last_ticket(context), mode)),
-        Act::Downgrade(mode) => done(context.downgrade(space, last_ticket(context), mode)),
-        Act::GoBack(statement, transaction) => {
-            let mark = Mark {
-                statement,
-                transaction,
-            };
-            done(context.rollback_to(space, mark))
-        }
-        Act::EndStatement => done(context.end_statement(space)),
-        Act::EndTransaction => done(context.end_transaction(space)),
-        Act::Resume | Act::Raise(_) => resumed(context.resume(space)),
-        Act::GiveUp => resumed(context.give_up(space)),
-    }
-}
-
-// Requests a ticket of a table.
-fn acquire<S: LockSpace>(
-    alloc: Global,
-    space: &mut S,
-    context: &mut Context<S>,
-    name: &str,
-    mode: Mode,
-    duration: Duration,
-) -> Reply
-    requires { Attends S.LockSpace space.old context.old }
-    ensures { Attends S.LockSpace space.new context.new }
-{
-    match Key::table(alloc, "test", name) {
-        Ok(key) => {
-            let request = Request {
-                key: &key,
-                mode,
-                duration,
-            };
-            let outcome = context.acquire(space, request);
-            drop(key);
-            acquired(outcome)
-        }
-        Err(_) => Reply::NoMemory,
-    }
-}
-
-// Returns the number of the ticket that a session gained last, or 0 if it has none.
-fn last_ticket<S: LockSpace>(context: &Context<S>) -> TicketId {
-    match context.kept().last() {
-        Some(ticket) => ticket.id,
-        None => 0,
-    }
-}
-
-fn acquired(outcome: Result<Acquire, ContextError>) -> Reply {
-    match outcome {
-        Ok(Acquire::Acquired(_)) => Reply::Acquired,
-        Ok(Acquire::MustWait(_)) => Reply::MustWait,
-        Err(error) => refused(error),
-    }
-}
-
-fn resumed(outcome: Result<Resume, ContextError>) -> Reply {
-    match outcome {
-        Ok(Resume::Waiting) => Reply::Waits,
-        Ok(Resume::Acquired(_)) => Reply::Acquired,
-        Ok(Resume::Lost(how)) => Reply::Lost(how),
-        Err(error) => refused(error),
-    }
-}
-
-fn done(outcome: Result<(), ContextError>) -> Reply {
-    match outcome {
-        Ok(()) => Reply::Done,
-        Err(error) => refused(error),
-    }
-}
-
-fn refused(error: ContextError) -> Reply {
-    if matches!(error, ContextError::Space(SpaceError::OutOfMemory)) {
-        Reply::NoMemory
-    } else {
-        Reply::Refused
-    }
-}
-
 // A session, its call, the right answer, and the number of tickets that the session has then.
 type Row = (u16, Act, Reply, usize);
-
-const STATEMENT: Duration = Duration::Statement;
-
-const TRANSACTION: Duration = Duration::Transaction;
-
-const EXPLICIT: Duration = Duration::Explicit;
 
 const ROWS: &[Row] = &[
     (
@@ -390,4 +222,43 @@ fn outlives<S: LockSpace>(alloc: Global, seat: &mut Seat<S>, row: Row) -> bool {
         reply = seat.make(alloc, act.again());
     }
     reply == want && seat.keeps(count)
+}
+
+// The answers to a request that gets a ticket at the first place, to one that waits there, and to one that would have to wait there.
+const ANSWERS: [Reply; 3] = [Reply::Acquired, Reply::MustWait, Reply::WouldWait];
+
+/// Whether each request of a session for a key that it has to look up pins the key's place just if it gets something there.
+pub(crate) fn pins_are_right<R: Wait>(rt: &R, alloc: Global) -> bool {
+    let Ok((manager, mut passes)) = new_passes(alloc, 1) else {
+        return false;
+    };
+    let third = Session::open(rt, &manager, passes.remove(2));
+    let second = Session::open(rt, &manager, passes.remove(1));
+    let first = Session::open(rt, &manager, passes.remove(0));
+    drop(passes);
+    drop(manager);
+    let (one, first) = pin_after(alloc, first, Act::Acquire("a", Mode::X, TRANSACTION));
+    let (two, second) = pin_after(alloc, second, Act::Acquire("a", Mode::SR, TRANSACTION));
+    let (three, third) = pin_after(alloc, third, Act::Try("a", Mode::SR, STATEMENT));
+    let _third = closes(rt, third);
+    let _second = closes(rt, second);
+    let _first = closes(rt, first);
+    let replies = [one.0, two.0, three.0];
+    (replies == ANSWERS || replies.contains(&Reply::NoMemory)) && one.1 && two.1 && three.1
+}
+
+// Has a session that has nothing make a request for the key of the first place. Returns the answer, and whether it pins the place as it should.
+fn pin_after<R: Wait>(alloc: Global, session: Session<R>, act: Act) -> ((Reply, bool), Session<R>)
+    requires { HasNothing (data_of session).own }
+{
+    let who = session.number();
+    let mut seat = Seat::new(alloc, session, who);
+    let reply = seat.make(alloc, act);
+    let mut session = seat.into_session();
+    let why = match reply {
+        Reply::Acquired | Reply::MustWait => SpaceError::InUse,
+        _ => SpaceError::NoPlace,
+    };
+    let is_right = session.unpin(1) == Err(why);
+    ((reply, is_right), session)
 }

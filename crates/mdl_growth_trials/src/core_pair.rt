@@ -93,8 +93,8 @@ impl<'s> Sessions<'s> for CorePair<'s> {
     }
 }
 
-// Returns a space of `places` places and `sessions` sessions. Tries a second time if memory runs out.
-fn new_space(alloc: Global, places: u16, sessions: u16) -> Option<CoreSpace>
+/// Returns a space of `places` places and `sessions` sessions. Tries a second time if memory runs out.
+pub(crate) fn new_space(alloc: Global, places: u16, sessions: u16) -> Option<CoreSpace>
     ensures made { IfSome result (λ space. space ≡ empty_core places sessions) }
     ensures speaks { IfSome result (λ space. (who : ℕ) → 1 ≤ who → who ≤ sessions → SpeaksFor space who) }
 {

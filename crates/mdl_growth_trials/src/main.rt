@@ -8,10 +8,12 @@
 
 mod acts;
 mod alike;
+mod context_acts;
 mod contexts;
 mod core_pair;
 mod outcomes;
 mod passes;
+mod places;
 mod scenes;
 mod scripts;
 mod server_rows;
@@ -80,6 +82,12 @@ fn first_wrong<R: Wait>(rt: &R, alloc: Global) -> Option<&'static str> {
     }
     if !contexts::calls_are_answered(rt, alloc) {
         return Some("two contexts");
+    }
+    if !contexts::pins_are_right(rt, alloc) {
+        return Some("three requests");
+    }
+    if !places::places_are_given_anew(alloc) {
+        return Some("places that are given anew");
     }
     if !server_rows::rows_are_read(alloc) {
         return Some("the rows of a server");

@@ -1,8 +1,10 @@
 -- Two sessions over one lock space, of which one makes calls.
-use Rattle.std.proofs.Common.{◌≡◌, ◌≢◌, ℕ, [], Some, None, refl, ap, ◌∙◌, option_map, arith}
+use Rattle.std.proofs.Common.{◌≡◌, ℕ, [], None, Some, refl, ap, sym, ◌∙◌, option_map, arith}
 use Rattle.std.proofs.lemmas.List.Elements.{All-nil}
 use Rattle.mdl_defs.specs.Caches.{CacheView}
-use Rattle.mdl_calls.specs.Words.{HasNothing}
+use Rattle.mdl_calls.specs.Words.{Answer, Call, HasNothing, caller}
+use Rattle.mdl_calls.specs.declared.lock_space.LockSpace.{Ghosts}
+use Rattle.mdl_calls.specs.MemberLaws.{LawsOf}
 use Rattle.mdl_core.specs.Words.{Core, SpeaksFor, locks_at}
 use Rattle.mdl_space.specs.CoreMembers.{core_space}
 use Rattle.mdl_context.specs.Contexts.{ContextView, Attends, LeavesOthers, wish_there}
@@ -42,3 +44,17 @@ fresh_both space context cache new empty speaks speaks_other nothing = record {
   served = attends-empty core_space space context cache empty (attends-new space 1 context new speaks nothing);
   speaks = speaks_other;
 }
+
+-- a call that is no session's own leaves each as it was
+pub leaves-nobody : {S : Type 0} (members : Ghosts S) → LawsOf members → (a b : S) (call : Call) (answer : Answer) (who : ℕ) → caller call ≡ None
+    → members.joins a call answer b → LeavesOthers members who a b
+leaves-nobody members laws a b call answer who made step = (
+  λ w other speaks. (
+    laws.keeps a b call answer w speaks step,
+    laws.others a b call answer w speaks (not-own w) step,
+    λ place key known. laws.remembers a b call answer w place key speaks (λ e _. not-own w (ap caller e)) step known,
+  ),
+  λ w speaks. (laws.keeps a b call answer w speaks step, λ place standing met. laws.met_stays a b call answer w place standing speaks step met),
+) where
+  not-own : (w : ℕ) → caller call ≡ Some w → ⊥
+  not-own w e = let none : Some w ≡ None = sym e ∙ made in cc

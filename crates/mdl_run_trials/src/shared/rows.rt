@@ -21,7 +21,7 @@ pub(crate) type Case = (&'static str, u16, &'static [Row]);
 pub(crate) struct Three<R> {
     pub(crate) one: Session<R>,
     pub(crate) two: Session<R>,
-    three: Session<R>,
+    pub(crate) three: Session<R>,
 }
 
 impl<R> Three<R> {

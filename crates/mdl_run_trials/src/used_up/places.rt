@@ -3,14 +3,17 @@
 //! Once a place isn't in use any more, another key gets it.
 use crate::outcomes::Outcome;
 use crate::used_up::room::Lock;
-use crate::used_up::rows::Row::{Pins, Says, Unpins};
+use crate::used_up::rows::Row::{Crowds, Leaves, Loses, Pins, Says, Unpins};
 use crate::used_up::rows::{Row, Story};
+use mdl_key::Mode;
 
 const DONE: Outcome = Outcome::Done;
 
 const NO_PLACE: Outcome = Outcome::Fails(9004);
 
 const NO_SUCH_TABLE: Outcome = Outcome::Fails(1146);
+
+const KILLED: Outcome = Outcome::Fails(1317);
 
 const FIRST: Outcome = Outcome::Reads(1);
 
@@ -233,6 +236,35 @@ const OF_A_USER_LOCK: &[Row] = &[
     Says("RELEASE_LOCK t", Outcome::Says(true), 0),
 ];
 
+// The global lock, a schema and a table have three places. The fourth is the only one for the others, and a session that lost its wait there, or that is
+// told that another one has the lock, leaves it to them, though its transaction goes on.
+const OF_LOST_WAITS: &[Row] = &[
+    PIN_GLOBAL,
+    Says("CREATE SCHEMA test", DONE, 0),
+    Says("CREATE TABLE a x", DONE, 0),
+    Says("BEGIN", DONE, 0),
+    Says("INSERT a", DONE, 1),
+    Loses("COMMIT", Lock::Commit, Mode::S, KILLED),
+    Pins(Lock::User("b")),
+    Says("COMMIT", NO_PLACE, 1),
+    Unpins(Lock::User("b")),
+    Loses("BEGIN", Lock::Commit, Mode::S, KILLED),
+    PIN_B,
+    Unpins(Lock::Table("b")),
+    Loses("SELECT b", Lock::Table("b"), Mode::X, KILLED),
+    Loses("GET_LOCK c", Lock::User("c"), Mode::X, KILLED),
+    Pins(Lock::Commit),
+    Says("GET_LOCK c", NO_PLACE, 1),
+    Unpins(Lock::Commit),
+    Crowds(Lock::User("c"), Mode::X, 1),
+    Says("RELEASE_LOCK c", Outcome::Says(false), 1),
+    Leaves,
+    Unpins(Lock::User("c")),
+    PIN_B,
+    Says("INSERT a", DONE, 1),
+    Says("ROLLBACK", DONE, 0),
+];
+
 /// All stories of this file.
 pub(crate) const STORIES: &[Story] = &[
     ("the lock of all writes has no place", 2, OF_ALL_WRITES),
@@ -243,4 +275,5 @@ pub(crate) const STORIES: &[Story] = &[
     ("a definition keeps a place", 4, OF_ALL_BUT_TWO),
     ("places are given anew", 2, IN_TURN),
     ("a user lock has no place", 2, OF_A_USER_LOCK),
+    ("a lost wait leaves its place", 4, OF_LOST_WAITS),
 ];

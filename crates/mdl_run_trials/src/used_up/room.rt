@@ -133,6 +133,11 @@ impl Room {
         changed(&mut self.space, OTHER, ticket, change)
     }
 
+    /// Kills the wait of session 1. Whether it has one that isn't settled.
+    pub(crate) fn kill(&mut self) -> bool {
+        kill(&mut self.space, OTHER, 1)
+    }
+
     /// Releases a ticket of session 2. Whether it succeeds.
     pub(crate) fn leave(&mut self, ticket: TicketId) -> bool {
         leave(&mut self.space, OTHER, ticket)
@@ -219,6 +224,17 @@ fn changed<S: LockSpace>(space: &mut S, who: u16, id: TicketId, change: &Change)
     ensures others { LeavesOthers S.LockSpace who space.old space.new }
 {
     space.change_definition(who, id, change).ok()
+}
+
+fn kill<S: LockSpace>(space: &mut S, who: u16, target: u16) -> bool
+    requires { S.speaks_for space.old who }
+    ensures speaks { S.speaks_for space.new who }
+    ensures others { LeavesOthers S.LockSpace who space.old space.new }
+{
+    match space.wait_of(target) {
+        Some(number) => space.kill(target, number),
+        None => false,
+    }
 }
 
 fn leave<S: LockSpace>(space: &mut S, who: u16, id: TicketId) -> bool

@@ -15,6 +15,8 @@ pub(crate) enum Row {
     Says(&'static str, Outcome, usize),
     /// The second session has a lock, for which a statement waits until it is released, and then the outcome of the statement.
     Waits(&'static str, Lock, Mode, Outcome),
+    /// The same, but the second session kills the wait, and then gives up the lock with its pin.
+    Loses(&'static str, Lock, Mode, Outcome),
     /// The second session creates and drops a schema, or a table with a column `x`, until its key has had that many versions and is defined.
     Renews(Lock, u32),
     /// The second session looks up the place of a lock, and pins it.
@@ -64,6 +66,7 @@ impl Play {
                 self.says(text) == Some(want) && self.room.held() == Some(held)
             }
             Row::Waits(text, lock, mode, want) => self.waits(text, lock, mode) == Some(want),
+            Row::Loses(text, lock, mode, want) => self.loses(text, lock, mode) == Some(want),
             Row::Renews(lock, count) => self.renews(lock, count) == Some(true),
             Row::Pins(lock) => self.room.place(lock).is_some(),
             Row::Unpins(lock) => self.unpins(lock) == Some(true),
@@ -94,6 +97,18 @@ impl Play {
             && self.room.leave(ticket);
         let outcome = self.room.go_on();
         if waits && self.room.go_on().is_none() {
+            outcome
+        } else {
+            None
+        }
+    }
+
+    // Returns the outcome of a statement whose wait for a lock of the second session is killed.
+    fn loses(&mut self, text: &str, lock: Lock, mode: Mode) -> Option<Outcome> {
+        let ticket = self.crowds(lock, mode, 1)?;
+        let is_killed = self.says(text) == Some(Outcome::Waits) && self.room.kill();
+        let outcome = self.room.go_on();
+        if is_killed && self.room.leave(ticket) && self.unpins(lock) == Some(true) {
             outcome
         } else {
             None

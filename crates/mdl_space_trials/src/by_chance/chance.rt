@@ -66,8 +66,8 @@ impl Chance {
         ((self.0 >> 33) % u64::from(below)) as u16
     }
 
-    /// Draws a lock.
-    pub(crate) fn draw_lock(&mut self) -> Lock {
+    // Draws one of six locks.
+    fn draw_lock(&mut self) -> Lock {
         match self.draw(10) {
             0..=3 => Lock::A,
             4 | 5 => Lock::B,
@@ -75,6 +75,14 @@ impl Chance {
             7 => Lock::Global,
             8 => Lock::Commit,
             _ => Lock::User,
+        }
+    }
+
+    /// Draws one of these locks, or of three more.
+    pub(crate) fn draw_any_lock(&mut self) -> Lock {
+        match self.draw(4) {
+            0 => Lock::Numbered(self.draw(3)),
+            _ => self.draw_lock(),
         }
     }
 
@@ -86,11 +94,16 @@ impl Chance {
         }
     }
 
-    /// Draws a request for a lock by a context.
+    /// Draws a request for a lock by a context, which waits if need be in most cases.
     pub(crate) fn draw_acquire(&mut self) -> Act {
-        let lock = self.draw_lock();
+        let lock = self.draw_any_lock();
         let mode = self.draw_mode(lock.kind());
-        Act::Acquire(lock, mode, DURATIONS[usize::from(self.draw(8))])
+        let duration = DURATIONS[usize::from(self.draw(8))];
+        if self.draw(4) == 0 {
+            Act::TryAcquire(lock, mode, duration)
+        } else {
+            Act::Acquire(lock, mode, duration)
+        }
     }
 
     /// Draws the number of a ticket that the session holds, or at times any number.

@@ -7,8 +7,10 @@ use crate::contexts::acts::Act;
 use crate::hall::{Hall, SESSIONS};
 use std::alloc::Global;
 
-// Two fewer than there are locks, so that places are given anew.
-const PLACES: u16 = 4;
+// Fewer than the nine locks that there are, so that places are given anew. A context finds few known keys in another way than many.
+const FEW_PLACES: u16 = 4;
+
+const MANY_PLACES: u16 = 7;
 
 // The plain program that contexts are compared with, and the source of random calls.
 #[derive(Drop)]
@@ -26,7 +28,7 @@ fn draw_call(trial: &mut Trial, who: u16) -> u16 {
             _ => {}
         }
     }
-    trial.chance.draw(63)
+    trial.chance.draw(64)
 }
 
 // Draws a call.
@@ -34,7 +36,7 @@ fn draw_act(trial: &mut Trial, who: u16) -> Act {
     match draw_call(trial, who) {
         0..=33 => trial.chance.draw_acquire(),
         34..=42 => Act::Release(trial.chance.draw_id(&trial.plain, who)),
-        43..=45 => Act::ReleaseName(trial.chance.draw_lock()),
+        43..=45 => Act::ReleaseName(trial.chance.draw_any_lock()),
         46..=49 => {
             let stands = trial.plain.mark_of(who);
             let statement = trial.chance.draw_up_to(stands.statement);
@@ -62,7 +64,7 @@ fn acts_alike(hall: &mut Hall, trial: &mut Trial) -> bool {
 }
 
 // Whether the calls led often enough to waits that were granted, given up, killed and lost by victims, to stale marks, to tickets that were reused and
-// cloned, to places that contexts let go, to places that were given anew, and to locks that got none.
+// cloned, to places that contexts let go after each kind of call, to sessions that pinned many, to places that were given anew, and to locks that got none.
 fn are_met(seen: Seen) -> bool {
     seen.granted >= 100
         && seen.timed_out >= 100
@@ -72,6 +74,10 @@ fn are_met(seen: Seen) -> bool {
         && seen.reused >= 100
         && seen.cloned >= 100
         && seen.let_go >= 500
+        && seen.let_go_refused >= 100
+        && seen.let_go_untaken >= 100
+        && seen.let_go_lost >= 100
+        && seen.pinned_many >= 100
         && seen.given_anew >= 100
         && seen.no_place >= 100
 }
@@ -99,11 +105,16 @@ fn first_apart(hall: Hall, trial: &mut Trial) -> Option<u32> {
 
 // Plays in a new hall, beside a new plain program. Returns what was seen in all halls so far, unless contexts and the plain program differ.
 fn seen_in_new_hall(alloc: Global, seed: u64, seen: Seen) -> Option<Seen> {
-    let Ok(hall) = Hall::new(alloc, PLACES) else {
+    let places = if seed % 3 == 0 {
+        MANY_PLACES
+    } else {
+        FEW_PLACES
+    };
+    let Ok(hall) = Hall::new(alloc, places) else {
         return None;
     };
     let mut trial = Trial {
-        plain: Plain::new(alloc, usize::from(PLACES), seen),
+        plain: Plain::new(alloc, usize::from(places), seen),
         chance: Chance(seed),
     };
     let apart = first_apart(hall, &mut trial);

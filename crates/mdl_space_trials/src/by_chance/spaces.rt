@@ -12,22 +12,24 @@ use std::alloc::Global;
 // Fewer than there are locks, so that places are given anew.
 const PLACES: u16 = 4;
 
-// Draws a lock.
-fn draw_lock(chance: &mut Chance) -> Lock {
-    match chance.draw(4) {
-        0 => Lock::Numbered(chance.draw(3)),
-        _ => chance.draw_lock(),
+// Draws a lock whose place the session looks up. One that had a definition is drawn less often, so that there are times when nobody pins its place.
+fn draw_sought(chance: &mut Chance, plain: &Plain) -> Lock {
+    let lock = chance.draw_any_lock();
+    if plain.is_kept(lock) {
+        chance.draw_any_lock()
+    } else {
+        lock
     }
 }
 
 // Draws a lock whose place the session pins, or at times another one.
 fn draw_pinned(chance: &mut Chance, plain: &Plain, who: u16) -> Lock {
-    let mut lock = draw_lock(chance);
+    let mut lock = chance.draw_any_lock();
     for _more in 0..5 {
         if plain.pins(who, lock) {
             return lock;
         }
-        lock = draw_lock(chance);
+        lock = chance.draw_any_lock();
     }
     lock
 }
@@ -56,7 +58,7 @@ fn draw_call(chance: &mut Chance, plain: &Plain, who: u16) -> Call {
         chance.draw(64)
     };
     match drawn {
-        0..=8 => Call::Resolve(draw_lock(chance)),
+        0..=8 => Call::Resolve(draw_sought(chance, plain)),
         9..=19 => Call::Unpin(draw_pinned(chance, plain, who)),
         20..=22 => {
             let lock = draw_pinned(chance, plain, who);
@@ -113,7 +115,7 @@ fn are_met(seen: Seen) -> bool {
         && seen.killed >= 20
         && seen.victims >= 20
         && seen.given_anew >= 100
-        && seen.passed_over >= 10
+        && seen.passed_over >= 100
         && seen.no_place >= 500
 }
 

@@ -56,6 +56,7 @@ pub(crate) enum Act {
     Acquire(Lock, Mode, Duration),
     TryAcquire(Lock, Mode, Duration),
     Last(Lock),
+    Holds(Lock, Mode),
     AwaitsUserLock,
     Upgrade(TicketId, Mode),
     Downgrade(TicketId, Mode),
@@ -66,6 +67,8 @@ pub(crate) enum Act {
     GoBack(usize, usize),
     EndStatement,
     EndTransaction,
+    ReleaseExplicit,
+    SetDuration(TicketId, Duration),
     MakeExplicit,
     MakeTransactional,
     Resume,
@@ -80,6 +83,7 @@ pub(crate) enum Reply {
     MustWait(u64),
     WouldWait,
     Last(Option<TicketId>),
+    Holds(bool),
     AwaitsUserLock(bool),
     Resumed(Resume),
     Stands(usize, usize),
@@ -106,8 +110,8 @@ pub(crate) fn acquired(answer: Result<Acquire, ContextError>) -> Option<Reply> {
     }
 }
 
-// Returns the reply for the answer to a request that doesn't wait. None if memory ran out.
-fn tried(answer: Result<Tried, ContextError>) -> Option<Reply> {
+/// Returns the reply for the answer to a request that doesn't wait. None if memory ran out.
+pub(crate) fn tried(answer: Result<Tried, ContextError>) -> Option<Reply> {
     match answer {
         Ok(Tried::Acquired(id)) => Some(Reply::Acquired(id)),
         Ok(Tried::WouldWait) => Some(Reply::WouldWait),
@@ -125,14 +129,22 @@ pub(crate) fn resumed(answer: Result<Resume, ContextError>) -> Option<Reply> {
     }
 }
 
+// Returns what the session reads in its context of a lock.
+fn look_up<S: LockSpace>(context: &Context<S>, key: &Key, act: Act) -> Reply {
+    match act {
+        Act::Holds(_, mode) => Reply::Holds(context.holds(key, mode)),
+        _ => Reply::Last(context.last_ticket(key)),
+    }
+}
+
 // Returns what the session reads in its context. None if memory ran out.
 fn look<S: LockSpace>(alloc: Global, context: &Context<S>, act: Act) -> Option<Reply> {
     match act {
-        Act::Last(lock) => match lock.key(alloc) {
+        Act::Last(lock) | Act::Holds(lock, _) => match lock.key(alloc) {
             Ok(key) => {
-                let last = context.last_ticket(&key);
+                let reply = look_up(context, &key, act);
                 drop(key);
-                Some(Reply::Last(last))
+                Some(reply)
             }
             Err(_) => None,
         },
@@ -195,6 +207,8 @@ fn give_up<S: LockSpace>(
         }
         Act::EndStatement => context.end_statement(space),
         Act::EndTransaction => context.end_transaction(space),
+        Act::ReleaseExplicit => context.release_explicit(space),
+        Act::SetDuration(id, duration) => context.set_duration(id, duration),
         Act::MakeExplicit => context.make_explicit(),
         _ => context.make_transactional(),
     }
@@ -213,7 +227,9 @@ pub(crate) fn make<S: LockSpace>(
     ensures others { LeavesOthers S.LockSpace context.old.who space.old space.new }
 {
     match act {
-        Act::Last(_) | Act::AwaitsUserLock | Act::Mark => look(alloc, context, act),
+        Act::Last(_) | Act::Holds(..) | Act::AwaitsUserLock | Act::Mark => look(
+            alloc, context, act,
+        ),
         Act::Acquire(lock, _, _) | Act::TryAcquire(lock, _, _) | Act::ReleaseName(lock) => {
             let Ok(key) = lock.key(alloc) else {
                 return None;

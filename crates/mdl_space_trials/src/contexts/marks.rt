@@ -88,6 +88,111 @@ const CHANGED: &[Row] = &[
     (1, Act::Mark, Reply::Stands(1, 0)),
 ];
 
+// One ticket's duration is changed, and the others keep theirs.
+const CHANGED_ALONE: &[Row] = &[
+    (
+        1,
+        Act::Acquire(Lock::A, Mode::SR, Duration::Statement),
+        Reply::Acquired(1),
+    ),
+    (
+        1,
+        Act::Acquire(Lock::B, Mode::SR, Duration::Statement),
+        Reply::Acquired(2),
+    ),
+    (1, Act::SetDuration(1, Duration::Transaction), Reply::Done),
+    (1, Act::Mark, Reply::Stands(1, 1)),
+    (1, Act::EndStatement, Reply::Done),
+    (1, Act::SetDuration(2, Duration::Explicit), NOT_HELD),
+    (1, Act::SetDuration(1, Duration::Explicit), Reply::Done),
+    (1, Act::EndTransaction, Reply::Done),
+    (
+        2,
+        Act::TryAcquire(Lock::A, Mode::X, Duration::Transaction),
+        Reply::WouldWait,
+    ),
+    // A ticket that was explicit ends with the statement, if that is its duration now.
+    (1, Act::SetDuration(1, Duration::Statement), Reply::Done),
+    (1, Act::EndStatement, Reply::Done),
+    (
+        2,
+        Act::TryAcquire(Lock::A, Mode::X, Duration::Transaction),
+        Reply::Acquired(1),
+    ),
+];
+
+// The explicit tickets end alone, those of user-level locks, too.
+const EXPLICIT_ALONE: &[Row] = &[
+    (
+        1,
+        Act::Acquire(Lock::A, Mode::SR, Duration::Explicit),
+        Reply::Acquired(1),
+    ),
+    (
+        1,
+        Act::Acquire(Lock::B, Mode::SR, Duration::Transaction),
+        Reply::Acquired(2),
+    ),
+    (
+        1,
+        Act::Acquire(Lock::User, Mode::X, Duration::Explicit),
+        Reply::Acquired(3),
+    ),
+    (
+        1,
+        Act::Acquire(Lock::A, Mode::SR, Duration::Statement),
+        Reply::Acquired(4),
+    ),
+    (1, Act::ReleaseExplicit, Reply::Done),
+    (1, Act::Mark, Reply::Stands(1, 1)),
+    (1, Act::Release(1), NOT_HELD),
+    (1, Act::Release(3), NOT_HELD),
+    (
+        2,
+        Act::TryAcquire(Lock::User, Mode::X, Duration::Explicit),
+        Reply::Acquired(1),
+    ),
+    // Without explicit tickets nothing is released.
+    (1, Act::ReleaseExplicit, Reply::Done),
+    (1, Act::Release(4), Reply::Done),
+    (1, Act::Release(2), Reply::Done),
+];
+
+// A ticket counts for its own mode and for weaker ones, for its own key and session.
+const HELD: &[Row] = &[
+    (1, Act::Holds(Lock::A, Mode::SH), Reply::Holds(false)),
+    (
+        1,
+        Act::Acquire(Lock::A, Mode::SW, Duration::Transaction),
+        Reply::Acquired(1),
+    ),
+    (1, Act::Holds(Lock::A, Mode::SW), Reply::Holds(true)),
+    (1, Act::Holds(Lock::A, Mode::SR), Reply::Holds(true)),
+    (1, Act::Holds(Lock::A, Mode::X), Reply::Holds(false)),
+    (1, Act::Holds(Lock::B, Mode::SR), Reply::Holds(false)),
+    (2, Act::Holds(Lock::A, Mode::SR), Reply::Holds(false)),
+    // What is only waited for isn't held.
+    (
+        2,
+        Act::Acquire(Lock::A, Mode::X, Duration::Transaction),
+        Reply::MustWait(1),
+    ),
+    (2, Act::Holds(Lock::A, Mode::SR), Reply::Holds(false)),
+    (1, Act::Release(1), Reply::Done),
+    (1, Act::Holds(Lock::A, Mode::SR), Reply::Holds(false)),
+    (2, Act::Resume, Reply::Resumed(Resume::Acquired(1))),
+    (2, Act::Holds(Lock::A, Mode::SNW), Reply::Holds(true)),
+    // IX is no mode of a table, and SR none of the global lock.
+    (2, Act::Holds(Lock::A, Mode::IX), Reply::Holds(false)),
+    (
+        2,
+        Act::Acquire(Lock::Global, Mode::X, Duration::Statement),
+        Reply::Acquired(2),
+    ),
+    (2, Act::Holds(Lock::Global, Mode::IX), Reply::Holds(true)),
+    (2, Act::Holds(Lock::Global, Mode::SR), Reply::Holds(false)),
+];
+
 const TWO_NUMBERS: &[Row] = &[
     (
         1,
@@ -196,6 +301,9 @@ const FREE_AGAIN: &[Row] = &[
 pub(super) const STORIES: &[Story] = &[
     Story("tickets last as long as they are wanted", WANTED),
     Story("durations change", CHANGED),
+    Story("the duration of one ticket changes", CHANGED_ALONE),
+    Story("explicit tickets end alone", EXPLICIT_ALONE),
+    Story("a held key is known by its modes", HELD),
     Story("marks are two numbers", TWO_NUMBERS),
     Story("marks are too great", TOO_GREAT),
     Story("explicit tickets slip in front of a mark", IN_FRONT),

@@ -158,6 +158,16 @@ const EXPLICIT_NAME: &[Row] = &[
     SH_IS_GRANTED,
 ];
 
+const EXPLICIT: &[Row] = &[
+    S_IS_EXPLICIT,
+    X_IS_EXPLICIT,
+    WAIT_FOR_X,
+    WAIT_FOR_SH,
+    (1, Act::ReleaseExplicit, Reply::Done),
+    X_WAITS,
+    SH_IS_GRANTED,
+];
+
 // The same for tickets of one name, whatever their durations are.
 const OF_A_NAME: &[Row] = &[
     (
@@ -215,5 +225,6 @@ pub(super) const STORIES: &[Story] = &[
         "the newest explicit one of a name goes first",
         EXPLICIT_NAME,
     ),
+    Story("the newest explicit one goes first", EXPLICIT),
     Story("the newest of a name goes first", OF_A_NAME),
 ];

@@ -46,12 +46,15 @@ const MEANWHILE: &[Row] = &[
     (1, Act::GoBack(1, 0), WAITS),
     (1, Act::EndStatement, WAITS),
     (1, Act::EndTransaction, WAITS),
+    (1, Act::ReleaseExplicit, WAITS),
+    (1, Act::SetDuration(1, Duration::Explicit), WAITS),
     (1, Act::MakeExplicit, WAITS),
     (1, Act::MakeTransactional, WAITS),
     // These refusals are checked first. The ticket of the wait isn't held, and isn't counted.
     (1, Act::GoBack(2, 0), STALE),
     (1, Act::GoBack(0, 1), STALE),
     (1, Act::Release(2), NOT_HELD),
+    (1, Act::SetDuration(2, Duration::Explicit), NOT_HELD),
     (1, Act::Mark, Reply::Stands(1, 0)),
     // None of these calls has changed anything.
     (1, Act::Resume, STILL_WAITING),
@@ -293,7 +296,6 @@ const REFUSED_BY_THE_SPACE: &[Row] = &[
         Act::Acquire(Lock::Global, Mode::SR, Duration::Statement),
         BAD_MODE,
     ),
-    // There are four places, so the fifth lock is refused, in whatever mode.
     (
         1,
         Act::Acquire(Lock::Schema, Mode::SNW, Duration::Statement),
@@ -301,9 +303,15 @@ const REFUSED_BY_THE_SPACE: &[Row] = &[
     ),
     (
         1,
-        Act::Acquire(Lock::B, Mode::SU, Duration::Statement),
+        Act::Acquire(Lock::Schema, Mode::IX, Duration::Statement),
         Reply::Acquired(3),
     ),
+    (
+        1,
+        Act::Acquire(Lock::B, Mode::SU, Duration::Statement),
+        Reply::Acquired(4),
+    ),
+    // There are four places, so the fifth lock is refused, in whatever mode.
     (
         1,
         Act::Acquire(Lock::Commit, Mode::IX, Duration::Statement),
@@ -314,9 +322,9 @@ const REFUSED_BY_THE_SPACE: &[Row] = &[
         Act::Acquire(Lock::Commit, Mode::SR, Duration::Statement),
         NO_PLACE,
     ),
-    (1, Act::Mark, Reply::Stands(2, 1)),
+    (1, Act::Mark, Reply::Stands(3, 1)),
     (1, Act::Release(0), NOT_HELD),
-    (1, Act::Release(4), NOT_HELD),
+    (1, Act::Release(5), NOT_HELD),
     (2, Act::Release(1), NOT_HELD),
     (2, Act::ReleaseName(Lock::A), Reply::Done),
     (1, Act::ReleaseName(Lock::Commit), Reply::Done),

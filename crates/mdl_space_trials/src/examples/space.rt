@@ -21,6 +21,7 @@ fn a_change_waits_in_a_space(rt: HostRuntime) -> Result<(), Fail> {
     Ok(())
 }
 
+// Three keys in a space of two places.
 #[test]
 fn places_are_given_anew(rt: HostRuntime) -> Result<(), Fail> {
     let first = Key::user_lock(rt.alloc(), "first")?;

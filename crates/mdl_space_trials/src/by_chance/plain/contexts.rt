@@ -1,7 +1,7 @@
 //! The contexts of the plain program. Each call gives the number of its session.
-use super::{Plain, Ticket};
-use crate::contexts::acts::{Act, Lock, Reply, acquired, done, resumed};
-use mdl_context::{Acquire, ContextError, Mark, Resume};
+use super::{Plain, Seen, Ticket};
+use crate::contexts::acts::{Act, Lock, Reply, acquired, done, resumed, tried};
+use mdl_context::{Acquire, ContextError, Mark, Resume, Tried};
 use mdl_key::{Duration, Mode, at_least};
 use mdl_space::{Settled, SpaceError, TicketId};
 
@@ -13,10 +13,27 @@ enum Which {
 }
 
 impl Plain {
-    /// Performs an act of a session and returns its reply. None if memory ran out. It supports the acts that are drawn.
+    /// Performs an act of a session and returns its reply. After it the session pins just the places of its tickets and of its wait. None if
+    /// memory ran out. It supports the acts that are drawn.
     pub(crate) fn make(&mut self, who: u16, act: Act) -> Option<Reply> {
+        let reply = self.perform(who, act);
+        let let_go = self.tidy(who);
+        self.seen.add_let_go(reply, let_go);
+        if self.number_of_pins(who) > 4 {
+            self.seen.pinned_many = self.seen.pinned_many.wrapping_add(1);
+        }
+        reply
+    }
+
+    // The same, but its session may pin other places after it.
+    fn perform(&mut self, who: u16, act: Act) -> Option<Reply> {
         match act {
-            Act::Acquire(lock, mode, duration) => acquired(self.acquire(who, lock, mode, duration)),
+            Act::Acquire(lock, mode, duration) => acquired(self.acquire(wished(
+                who, lock, mode, duration,
+            ))),
+            Act::TryAcquire(lock, mode, duration) => tried(self.try_acquire(wished(
+                who, lock, mode, duration,
+            ))),
             Act::Resume => resumed(self.resume(who)),
             Act::GiveUp => resumed(self.give_up(who)),
             Act::Kill(target, number) => Some(Reply::Killed(self.kill(target, number))),
@@ -40,34 +57,39 @@ impl Plain {
         }
     }
 
-    // Requests a lock: the answer is a reused ticket, a clone, a new ticket, or a wait.
-    fn acquire(
-        &mut self,
-        who: u16,
-        lock: Lock,
-        mode: Mode,
-        duration: Duration,
-    ) -> Result<Acquire, ContextError> {
-        if self.wait(who).is_some() {
+    // Requests a lock: the answer is a ticket or a wait.
+    fn acquire(&mut self, wish: Ticket) -> Result<Acquire, ContextError> {
+        if let Some(number) = self.ticket_at_once(wish)? {
+            return Ok(Acquire::Acquired(number));
+        }
+        let ticket = self.add(wish, false)?;
+        let number = self.add_wait(wish.session, ticket);
+        self.end_deadlocks(wish.session);
+        Ok(Acquire::MustWait(number))
+    }
+
+    // Requests a lock that is had without a wait, or not at all.
+    fn try_acquire(&mut self, wish: Ticket) -> Result<Tried, ContextError> {
+        match self.ticket_at_once(wish)? {
+            Some(number) => Ok(Tried::Acquired(number)),
+            None => Ok(Tried::WouldWait),
+        }
+    }
+
+    // Returns the ticket that a request gets without a wait: a reused one, a clone or a new one.
+    fn ticket_at_once(&mut self, wish: Ticket) -> Result<Option<TicketId>, ContextError> {
+        if self.wait(wish.session).is_some() {
             return Err(ContextError::Waiting);
         }
-        let wish = Ticket {
-            session: who,
-            number: 0,
-            lock,
-            mode,
-            duration,
-            is_granted: false,
-        };
         if let Some(number) = self.first_that_serves(&wish, true) {
             self.seen.reused = self.seen.reused.wrapping_add(1);
-            return Ok(Acquire::Acquired(number));
+            return Ok(Some(number));
         }
         if self.first_that_serves(&wish, false).is_some() {
             self.seen.cloned = self.seen.cloned.wrapping_add(1);
-            return Ok(Acquire::Acquired(self.add(wish, true)?));
+            return Ok(Some(self.add(wish, true)?));
         }
-        self.ask(wish)
+        self.new_ticket(wish)
     }
 
     // Returns the first held ticket that is strong enough for a request. To be reused it must also have the same duration, and not be explicit.
@@ -88,8 +110,8 @@ impl Plain {
         None
     }
 
-    // Adds a new ticket, or begins a wait for one.
-    fn ask(&mut self, wish: Ticket) -> Result<Acquire, ContextError> {
+    // Adds a new ticket, if it can be granted now.
+    fn new_ticket(&mut self, wish: Ticket) -> Result<Option<TicketId>, ContextError> {
         if let Err(refusal) = self.find_place(wish.session, wish.lock) {
             return Err(ContextError::Space(refusal));
         }
@@ -97,12 +119,9 @@ impl Plain {
             return Err(ContextError::Space(SpaceError::BadMode));
         }
         if self.is_grantable(&wish) {
-            return Ok(Acquire::Acquired(self.add(wish, true)?));
+            return Ok(Some(self.add(wish, true)?));
         }
-        let ticket = self.add(wish, false)?;
-        let number = self.add_wait(wish.session, ticket);
-        self.end_deadlocks(wish.session);
-        Ok(Acquire::MustWait(number))
+        Ok(None)
     }
 
     // Releases a ticket.
@@ -118,7 +137,6 @@ impl Plain {
             return Err(ContextError::Waiting);
         }
         self.let_go(who, id);
-        self.tidy(who);
         Ok(())
     }
 
@@ -152,15 +170,14 @@ impl Plain {
         Ok(())
     }
 
-    // Releases these tickets of a session, except the first `most` of them, from the newest to the oldest. Then it keeps no place where it has nothing.
+    // Releases these tickets of a session, except the first `most` of them, from the newest to the oldest.
     fn give_up_all(&mut self, who: u16, which: Which, most: usize) {
         for _ticket in 0..self.tickets.len() {
             match self.last_beyond(who, which, most) {
                 Some(number) => self.let_go(who, number),
-                None => break,
+                None => return,
             }
         }
-        self.tidy(who);
     }
 
     // Returns the newest ticket to release.
@@ -255,5 +272,31 @@ impl Plain {
             }
         }
         mark
+    }
+}
+
+// Returns a request, which has no number yet.
+fn wished(who: u16, lock: Lock, mode: Mode, duration: Duration) -> Ticket {
+    Ticket {
+        session: who,
+        number: 0,
+        lock,
+        mode,
+        duration,
+        is_granted: false,
+    }
+}
+
+impl Seen {
+    // Counts the pins that a session gave up after an act with this reply.
+    fn add_let_go(&mut self, reply: Option<Reply>, count: u64) {
+        match reply {
+            Some(Reply::Refused(_)) => self.let_go_refused = self
+                .let_go_refused
+                .wrapping_add(count),
+            Some(Reply::WouldWait) => self.let_go_untaken = self.let_go_untaken.wrapping_add(count),
+            Some(Reply::Resumed(_)) => self.let_go_lost = self.let_go_lost.wrapping_add(count),
+            _ => self.let_go = self.let_go.wrapping_add(count),
+        }
     }
 }

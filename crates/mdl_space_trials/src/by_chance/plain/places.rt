@@ -51,7 +51,7 @@ impl Plain {
     // Whether there is a place that nobody pins, and that its lock keeps because it had a definition.
     fn is_one_kept(&self) -> bool {
         for lock in &self.locks {
-            if !self.is_pinned(*lock) && self.version_of(*lock) > 0 {
+            if !self.is_pinned(*lock) && self.is_kept(*lock) {
                 return true;
             }
         }
@@ -62,7 +62,7 @@ impl Plain {
     // place.
     fn index_of_unused(&self) -> usize {
         for (index, lock) in self.locks.iter().enumerate() {
-            if !self.is_pinned(*lock) && self.version_of(*lock) == 0 {
+            if !self.is_pinned(*lock) && !self.is_kept(*lock) {
                 return index;
             }
         }
@@ -82,6 +82,17 @@ impl Plain {
     /// Whether a session pins the place of a lock.
     pub(crate) fn pins(&self, who: u16, lock: Lock) -> bool {
         self.index_of_pin(who, lock) < self.pinned.len()
+    }
+
+    // Returns how many places a session pins.
+    pub(super) fn number_of_pins(&self, who: u16) -> usize {
+        let mut count: usize = 0;
+        for pin in &self.pinned {
+            if pin.0 == who {
+                count = count.wrapping_add(1);
+            }
+        }
+        count
     }
 
     // Returns the index of a session's pin of the place of a lock. If there is none, it is the number of all pins.
@@ -119,16 +130,18 @@ impl Plain {
         self.unpin(who, lock)
     }
 
-    // Gives up a session's pins of the places where it has nothing.
-    pub(super) fn tidy(&mut self, who: u16) {
+    // Gives up a session's pins of the places where it has nothing, and returns how many these were.
+    pub(super) fn tidy(&mut self, who: u16) -> u64 {
+        let mut let_go: u64 = 0;
         for _pin in 0..self.pinned.len() {
             let index = self.index_of_unneeded(who);
             if index >= self.pinned.len() {
-                return;
+                return let_go;
             }
             self.pinned.remove(index);
-            self.seen.let_go = self.seen.let_go.wrapping_add(1);
+            let_go = let_go.wrapping_add(1);
         }
+        let_go
     }
 
     // Returns the index of a session's first pin of a place where it has nothing. If there is none, it is the number of all pins.
@@ -151,8 +164,13 @@ impl Plain {
         false
     }
 
+    /// Whether a lock keeps its place because it had a definition.
+    pub(crate) fn is_kept(&self, lock: Lock) -> bool {
+        self.version_of(lock) > 0
+    }
+
     // Returns the last version of a lock's definition, or 0 if it never had one.
-    pub(super) fn version_of(&self, lock: Lock) -> u64 {
+    fn version_of(&self, lock: Lock) -> u64 {
         let mut last = 0;
         for (defined, version) in &self.versions {
             if *defined == lock {
