@@ -29,24 +29,46 @@ compare() {
 # The compiler options that find the libraries: from pkg-config, or, if that is missing, those that it would print.
 words_for_c() {
     if command -v pkg-config > /dev/null; then
-        PKG_CONFIG_PATH=$made/lib/pkgconfig pkg-config --cflags --libs mdl mdl_text
+        PKG_CONFIG_PATH=$made/lib/pkgconfig pkg-config --cflags --libs gaz_one gaz_text
     else
         sh make/skipped.sh 'the files for pkg-config' 'pkg-config is missing'
-        echo "-I$made/include -L$made/lib -lmdl_c -lmdl_text -lmdl_malloc"
+        echo "-I$made/include -L$made/lib -lgaz_one -lgaz_text -lgaz_malloc"
     fi
 }
 
-# Checks that the headers are valid C++, too, if there is a compiler for that.
-read_as_cpp() {
+# A file that includes our headers and the server's, the server's first or last, and uses names of both: ORDER
+both_headers() {
+    ours='#include "gaz_one.h"
+#include "gaz_text.h"'
+    if [ "$1" = first ]; then
+        printf '#include "mdl.h"\n%s\n' "$ours"
+    else
+        printf '%s\n#include "mdl.h"\n' "$ours"
+    fi
+    echo 'struct uses { struct gaz_one_space space; struct gaz_lock lock; struct MDL_lock theirs; struct MDL_ticket ticket; };'
+    echo 'int uses(void); int uses(void) { return GAZ_STATEMENT + MDL_STATEMENT + GAZ_GRANTED + GAZ_TEXT_DONE + (int)sizeof(struct uses); }'
+}
+
+# Checks that a compiler takes our headers beside the server's: ORDER COMPILER WORD..
+read_beside() {
+    order=$1
+    shift
+    both_headers "$order" | "$@" -Wall -Wextra -Werror -fsyntax-only -I "$made/include" -I make/server_names - \
+        || { echo "$1: our headers and the server's, the server's $order, aren't taken" >&2; return 1; }
+}
+
+# Checks that a C program may include our headers and the server's, and a C++ program, too, if there is a compiler for that.
+read_headers() {
+    read_beside first gcc -x c -std=c11 && read_beside last gcc -x c -std=c11 || return 1
     if ! command -v g++ > /dev/null; then
         sh make/skipped.sh 'the headers for C as C++' 'g++ is missing'
         return
     fi
-    printf '#include "mdl.h"\n#include "mdl_text.h"\n' | g++ -x c++ -Wall -Wextra -Werror -fsyntax-only -I "$made/include" -
+    read_beside first g++ -x c++ && read_beside last g++ -x c++
 }
 
 try_c() {
-    words=$(words_for_c) && read_as_cpp || return 1
+    words=$(words_for_c) && read_headers || return 1
     for program in examples/c/*.c; do
         name=$(basename "$program" .c)
         gcc -std=c11 -D_POSIX_C_SOURCE=200809L -Wall -Wextra -Werror -O2 -pthread "$program" $words -o "$made/$name" \
@@ -59,13 +81,13 @@ try_rust() {
         sh make/skipped.sh 'the program of examples/rust' 'cargo is missing'
         return
     fi
-    compare examples/rust/threads.answers env MDL_LIB="$made/lib" CARGO_TARGET_DIR="$made/cargo" \
+    compare examples/rust/threads.answers env GAZ_LIB="$made/lib" CARGO_TARGET_DIR="$made/cargo" \
         cargo run --offline --locked --quiet --release --manifest-path examples/rust/Cargo.toml --example threads
 }
 
 try_python() {
-    gcc -shared -o "$made/libmdl_c.so" -Wl,--whole-archive "$made/lib/libmdl_c.a" -Wl,--no-whole-archive "$made/lib/libmdl_malloc.a" \
-        && compare examples/python/waits.answers env PYTHONDONTWRITEBYTECODE=1 python3 examples/python/waits.py "$made/libmdl_c.so"
+    gcc -shared -o "$made/libgaz_one.so" -Wl,--whole-archive "$made/lib/libgaz_one.a" -Wl,--no-whole-archive "$made/lib/libgaz_malloc.a" \
+        && compare examples/python/waits.answers env PYTHONDONTWRITEBYTECODE=1 python3 examples/python/waits.py "$made/libgaz_one.so"
 }
 
 python3 make/archive.py && sh make/lay_out_c.sh "$made" && try_c && try_rust && try_python || exit 1

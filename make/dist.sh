@@ -103,7 +103,8 @@ put_pages() {
     mkdir -p "$top/examples" "$top/docs" && cp docs/LANGUAGE.md docs/MYSQL.md docs/EMBEDDING.md "$top/docs" \
         && cp make/dist/check.sh CHANGELOG.md "$top" \
         && cp examples/*.lock examples/*.replay examples/*.run examples/*.answers examples/*.svg examples/README.md "$top/examples" \
-        && cp -r examples/c examples/rust examples/python "$top/examples" && rm -rf "$top/examples/python/__pycache__" "$top/examples/rust/target"
+        && cp -r examples/c examples/rust examples/python "$top/examples" && cp -r editors "$top" \
+        && rm -rf "$top/examples/python/__pycache__" "$top/examples/rust/target"
 }
 
 # The time that all files get: that of the commit, or without git the day of the newest version in CHANGELOG.md.

@@ -1,4 +1,4 @@
-/* What calls cost through the boundary of C, over libmdl_c.a: pairs, each a lock that is taken and given up, and transactions of four locks. Beside
+/* What calls cost through the boundary of C, over libgaz_one.a: pairs, each a lock that is taken and given up, and transactions of four locks. Beside
  * them the same at a model of the server's own design, and a mutex that is locked and unlocked.
  *
  * - a_pair, mdl_c_sr: SR of the next of 255 tables, as `try_now_and_release_1` of mdl_bench does in Rattle; of mdl_c_locked_sr a mutex is held round each
@@ -10,7 +10,7 @@
  *
  * For each number of threads it prints the least and the median of ten rounds, a line each: the workload, peers, the threads, what it is, and the
  * nanoseconds that a turn takes a thread. */
-#include "mdl.h"
+#include "gaz_one.h"
 #include "rounds.h"
 #include "server_model.h"
 
@@ -21,7 +21,7 @@
 
 enum { TABLES = 255, SESSIONS = 64, LOCKS = 4 };
 
-static struct mdl_space space = MDL_SPACE_INIT;
+static struct gaz_one_space space = GAZ_ONE_SPACE_INIT;
 static pthread_mutex_t guard = PTHREAD_MUTEX_INITIALIZER; /* held round each call, where there are threads */
 
 /* The places of the tables and of the global lock at the manager, and their keys at the model, where the global lock has the first place. */
@@ -36,7 +36,7 @@ static struct server_session sessions[MOST_THREADS];
 /* A call that has to go well. */
 static void done(uint32_t code)
 {
-    if (code != MDL_DONE)
+    if (code != GAZ_DONE)
         fail("a call didn't go well");
 }
 
@@ -54,13 +54,13 @@ static unsigned own_table(unsigned thread, unsigned which)
 static uint64_t take(unsigned who, uint16_t place, uint8_t mode)
 {
     uint64_t ticket = 0;
-    done(mdl_try(&space, (uint16_t)who, place, mode, &ticket));
+    done(gaz_one_try(&space, (uint16_t)who, place, mode, &ticket));
     return ticket;
 }
 
 static void give_up(unsigned who, uint64_t ticket)
 {
-    done(mdl_release(&space, (uint16_t)who, ticket));
+    done(gaz_one_release(&space, (uint16_t)who, ticket));
 }
 
 static uint64_t locked_take(unsigned who, uint16_t place, uint8_t mode)
@@ -80,32 +80,32 @@ static void locked_give_up(unsigned who, uint64_t ticket)
 
 static void mdl_c_sr(unsigned thread, unsigned turn)
 {
-    give_up(thread, take(thread, places[table_of(thread, turn)], MDL_SR));
+    give_up(thread, take(thread, places[table_of(thread, turn)], GAZ_SR));
 }
 
 static void mdl_c_locked_sr(unsigned thread, unsigned turn)
 {
-    locked_give_up(thread, locked_take(thread, places[table_of(thread, turn)], MDL_SR));
+    locked_give_up(thread, locked_take(thread, places[table_of(thread, turn)], GAZ_SR));
 }
 
 static void mdl_c_x(unsigned thread, unsigned turn)
 {
     (void)turn;
-    give_up(thread, take(thread, places[own_table(thread, 0)], MDL_X));
+    give_up(thread, take(thread, places[own_table(thread, 0)], GAZ_X));
 }
 
 static void mdl_c_locked_x(unsigned thread, unsigned turn)
 {
     (void)turn;
-    locked_give_up(thread, locked_take(thread, places[own_table(thread, 0)], MDL_X));
+    locked_give_up(thread, locked_take(thread, places[own_table(thread, 0)], GAZ_X));
 }
 
 static void mdl_c_transaction(unsigned thread, unsigned turn)
 {
-    uint64_t tickets[LOCKS] = {take(thread, global, MDL_IX)};
+    uint64_t tickets[LOCKS] = {take(thread, global, GAZ_IX)};
     (void)turn;
     for (unsigned i = 1; i < LOCKS; i += 1)
-        tickets[i] = take(thread, places[own_table(thread, i - 1)], MDL_SW);
+        tickets[i] = take(thread, places[own_table(thread, i - 1)], GAZ_SW);
     for (unsigned i = 0; i < LOCKS; i += 1)
         give_up(thread, tickets[i]);
 }
@@ -116,9 +116,9 @@ static void mdl_c_locked_transaction(unsigned thread, unsigned turn)
     uint64_t tickets[LOCKS];
     (void)turn;
     pthread_mutex_lock(&guard);
-    tickets[0] = take(thread, global, MDL_IX);
+    tickets[0] = take(thread, global, GAZ_IX);
     for (unsigned i = 1; i < LOCKS; i += 1)
-        tickets[i] = take(thread, places[own_table(thread, i - 1)], MDL_SW);
+        tickets[i] = take(thread, places[own_table(thread, i - 1)], GAZ_SW);
     pthread_mutex_unlock(&guard);
     pthread_mutex_lock(&guard);
     for (unsigned i = 0; i < LOCKS; i += 1)
@@ -130,22 +130,22 @@ static void mdl_c_locked_transaction(unsigned thread, unsigned turn)
 static void acquire(uint16_t who, uint8_t kind, unsigned table, uint8_t mode)
 {
     uint64_t ticket = 0;
-    done(mdl_acquire(&space, who, kind, (const uint8_t *)"test", 4, (const uint8_t *)names[table], name_lengths[table], mode, MDL_TRANSACTION, &ticket));
+    done(gaz_one_acquire(&space, who, kind, (const uint8_t *)"test", 4, (const uint8_t *)names[table], name_lengths[table], mode, GAZ_TRANSACTION, &ticket));
 }
 
 static void context_transaction(unsigned thread)
 {
     uint16_t who = (uint16_t)(MOST_THREADS + thread);
-    acquire(who, MDL_GLOBAL, 0, MDL_IX);
+    acquire(who, GAZ_GLOBAL, 0, GAZ_IX);
     for (unsigned i = 1; i < LOCKS; i += 1)
-        acquire(who, MDL_TABLE, own_table(thread, i - 1), MDL_SW);
+        acquire(who, GAZ_TABLE, own_table(thread, i - 1), GAZ_SW);
 }
 
 static void mdl_c_context(unsigned thread, unsigned turn)
 {
     (void)turn;
     context_transaction(thread);
-    done(mdl_end_transaction(&space, (uint16_t)(MOST_THREADS + thread)));
+    done(gaz_one_end_transaction(&space, (uint16_t)(MOST_THREADS + thread)));
 }
 
 static void mdl_c_locked_context(unsigned thread, unsigned turn)
@@ -155,7 +155,7 @@ static void mdl_c_locked_context(unsigned thread, unsigned turn)
     context_transaction(thread);
     pthread_mutex_unlock(&guard);
     pthread_mutex_lock(&guard);
-    done(mdl_end_transaction(&space, (uint16_t)(MOST_THREADS + thread)));
+    done(gaz_one_end_transaction(&space, (uint16_t)(MOST_THREADS + thread)));
     pthread_mutex_unlock(&guard);
 }
 
@@ -202,22 +202,22 @@ static bool has_context(uint16_t who)
 /* The keys of the global lock and of all tables. As in mdl_bench, two sessions have SR of the first table: sessions that no thread is. */
 static void prepare(void)
 {
-    done(mdl_open(&space, TABLES + 1, SESSIONS));
+    done(gaz_one_open(&space, TABLES + 1, SESSIONS));
     for (uint16_t who = 1; who <= SESSIONS; who += 1)
-        done(has_context(who) ? mdl_context_begin(&space, who) : mdl_global(&space, who, &global));
+        done(has_context(who) ? gaz_one_context_begin(&space, who) : gaz_one_global(&space, who, &global));
     server_make(GLOBAL_PLACE, keys[GLOBAL_PLACE], key_lengths[GLOBAL_PLACE]);
     for (unsigned i = 0; i < TABLES; i += 1) {
         name_lengths[i] = (size_t)snprintf(names[i], sizeof names[i], "t%u", i);
         for (uint16_t who = 1; who <= SESSIONS; who += 1)
             if (!has_context(who))
-                done(mdl_table(&space, who, (const uint8_t *)"test", 4, (const uint8_t *)names[i], name_lengths[i], &places[i]));
+                done(gaz_one_table(&space, who, (const uint8_t *)"test", 4, (const uint8_t *)names[i], name_lengths[i], &places[i]));
         key_lengths[i + 1] = (size_t)snprintf(keys[i + 1], LONGEST_KEY, "%ctest%c%s", TABLE_KEY, 0, names[i]);
         server_make(i + 1, keys[i + 1], key_lengths[i + 1]);
     }
     for (unsigned i = 0; i < MOST_THREADS; i += 1)
         server_open(&sessions[i]);
-    take(SESSIONS - 1, places[0], MDL_SR);
-    take(SESSIONS, places[0], MDL_SR);
+    take(SESSIONS - 1, places[0], GAZ_SR);
+    take(SESSIONS, places[0], GAZ_SR);
 }
 
 int main(void)
@@ -236,6 +236,6 @@ int main(void)
     for (size_t i = 0; i < sizeof shared / sizeof shared[0]; i += 1)
         for (unsigned threads = 1; threads <= MOST_THREADS; threads *= 2)
             tell(&shared[i], threads);
-    done(mdl_close(&space));
+    done(gaz_one_close(&space));
     return 0;
 }

@@ -1,14 +1,14 @@
 /* A program that brings the three functions of the heap itself. It refuses each allocation of two short lives in turn, of three sessions whose
-   direct calls it makes, and of two with contexts: the call that is refused for that is made again, and nothing is lost. In the end each block is
-   freed: those of a context as soon as it ends, and those of a manager when it is closed. */
-#include "mdl.h"
+   direct calls it makes, and of two with contexts: the call that is refused for that is made again, and nothing is lost. (A context can do without the
+   first note of where a key was.) In the end each block is freed: those of a context as soon as it ends, and those of a manager when it is closed. */
+#include "gaz_one.h"
 
 #include <stdio.h>
 #include <stdlib.h>
 #include <string.h>
 
 #define NAME(text) (const uint8_t *)(text), strlen(text)
-#define TABLE(name) MDL_TABLE, NAME("shop"), NAME(name)
+#define TABLE(name) GAZ_TABLE, NAME("shop"), NAME(name)
 
 struct tried {
     bool ok;
@@ -59,7 +59,7 @@ void rattle_dealloc(void *p)
 #define EXPECT(wanted, call)            \
     do {                                \
         uint32_t code = (call);         \
-        if (code == MDL_NO_MEMORY) {    \
+        if (code == GAZ_NO_MEMORY) {    \
             told += 1;                  \
             code = (call);              \
         }                               \
@@ -68,104 +68,111 @@ void rattle_dealloc(void *p)
 
 static void call_directly(void)
 {
-    struct mdl_space space = MDL_SPACE_INIT;
-    struct mdl_ticket tickets[4] = {{0}};
+    struct gaz_one_space space = GAZ_ONE_SPACE_INIT;
+    struct gaz_ticket tickets[4] = {{0}};
     uint16_t orders = 0, items = 0, victim = 0;
     uint64_t first = 0, second = 0, number = 0;
     size_t count = 0;
-    EXPECT(MDL_DONE, mdl_open(&space, 16, 3));
-    EXPECT(MDL_DONE, mdl_table(&space, 1, NAME("shop"), NAME("orders"), &orders));
-    EXPECT(MDL_DONE, mdl_table(&space, 1, NAME("shop"), NAME("items"), &items));
-    EXPECT(MDL_DONE, mdl_table(&space, 2, NAME("shop"), NAME("orders"), &orders));
-    EXPECT(MDL_DONE, mdl_table(&space, 3, NAME("shop"), NAME("orders"), &orders));
-    EXPECT(MDL_DONE, mdl_try(&space, 1, orders, MDL_SR, &first));
-    EXPECT(MDL_DONE, mdl_try(&space, 1, items, MDL_X, &second));
-    EXPECT(MDL_DONE, mdl_held(&space, 1, tickets, 4, &count));
+    EXPECT(GAZ_DONE, gaz_one_open(&space, 16, 3));
+    EXPECT(GAZ_DONE, gaz_one_table(&space, 1, NAME("shop"), NAME("orders"), &orders));
+    EXPECT(GAZ_DONE, gaz_one_table(&space, 1, NAME("shop"), NAME("items"), &items));
+    EXPECT(GAZ_DONE, gaz_one_table(&space, 2, NAME("shop"), NAME("orders"), &orders));
+    EXPECT(GAZ_DONE, gaz_one_table(&space, 3, NAME("shop"), NAME("orders"), &orders));
+    EXPECT(GAZ_DONE, gaz_one_try(&space, 1, orders, GAZ_SR, &first));
+    EXPECT(GAZ_DONE, gaz_one_try(&space, 1, items, GAZ_X, &second));
+    EXPECT(GAZ_DONE, gaz_one_held(&space, 1, tickets, 4, &count));
     wrong += count != 2;
-    EXPECT(MDL_WAITING, mdl_begin(&space, 2, orders, MDL_X, &number));
-    EXPECT(MDL_WAITING, mdl_begin(&space, 3, orders, MDL_SR, &number));
-    EXPECT(MDL_DONE, mdl_search(&space, 3, &victim));
-    EXPECT(MDL_DONE, mdl_release(&space, 1, first));
-    EXPECT(MDL_DONE, mdl_end(&space, 2, &first));
-    EXPECT(MDL_DONE, mdl_clone(&space, 2, first, MDL_SR, &number));
-    EXPECT(MDL_DONE, mdl_release(&space, 2, number));
-    EXPECT(MDL_DONE, mdl_release(&space, 2, first));
-    EXPECT(MDL_DONE, mdl_end(&space, 3, &first));
-    EXPECT(MDL_DONE, mdl_release(&space, 3, first));
-    EXPECT(MDL_DONE, mdl_release(&space, 1, second));
-    EXPECT(MDL_DONE, mdl_unpin(&space, 1, items));
-    EXPECT(MDL_DONE, mdl_close(&space));
+    EXPECT(GAZ_WAITING, gaz_one_begin(&space, 2, orders, GAZ_X, &number));
+    EXPECT(GAZ_WAITING, gaz_one_begin(&space, 3, orders, GAZ_SR, &number));
+    EXPECT(GAZ_DONE, gaz_one_search(&space, 3, &victim));
+    EXPECT(GAZ_DONE, gaz_one_release(&space, 1, first));
+    EXPECT(GAZ_DONE, gaz_one_end(&space, 2, &first));
+    EXPECT(GAZ_DONE, gaz_one_clone(&space, 2, first, GAZ_SR, &number));
+    EXPECT(GAZ_DONE, gaz_one_release(&space, 2, number));
+    EXPECT(GAZ_DONE, gaz_one_release(&space, 2, first));
+    EXPECT(GAZ_DONE, gaz_one_end(&space, 3, &first));
+    EXPECT(GAZ_DONE, gaz_one_release(&space, 3, first));
+    EXPECT(GAZ_DONE, gaz_one_release(&space, 1, second));
+    EXPECT(GAZ_DONE, gaz_one_unpin(&space, 1, items));
+    EXPECT(GAZ_DONE, gaz_one_user_lock(&space, 1, NAME("job"), &items));
+    EXPECT(GAZ_DONE, gaz_one_close(&space));
 }
 
 /* The same for a call of a session that has a context: if memory ran out, the context keeps what it kept, and has no wait. */
 #define EXPECT_KEPT(who, wanted, call)                                                                          \
     do {                                                                                                        \
-        struct mdl_mark before = {0}, after = {0};                                                              \
-        wrong += mdl_savepoint(&space, who, &before) != MDL_DONE;                                               \
+        struct gaz_mark before = {0}, after = {0};                                                              \
+        wrong += gaz_one_savepoint(&space, who, &before) != GAZ_DONE;                                               \
         uint32_t code = (call);                                                                                 \
-        if (code == MDL_NO_MEMORY) {                                                                            \
+        if (code == GAZ_NO_MEMORY) {                                                                            \
             told += 1;                                                                                          \
-            wrong += mdl_savepoint(&space, who, &after) != MDL_DONE || memcmp(&before, &after, sizeof before);  \
-            wrong += mdl_poll(&space, who) != MDL_NO_WAIT;                                                      \
+            wrong += gaz_one_savepoint(&space, who, &after) != GAZ_DONE || memcmp(&before, &after, sizeof before);  \
+            wrong += gaz_one_poll(&space, who) != GAZ_NO_WAIT;                                                      \
             code = (call);                                                                                      \
         }                                                                                                       \
         wrong += code != (wanted);                                                                              \
     } while (0)
 
 /* The wait for a stronger mode is over. If memory ran out for it, the ticket is upgraded without a wait. */
-static uint32_t raise_ticket(struct mdl_space *space, uint16_t who, uint64_t ticket, uint8_t mode)
+static uint32_t raise_ticket(struct gaz_one_space *space, uint16_t who, uint64_t ticket, uint8_t mode)
 {
     uint64_t number = 0;
-    uint32_t code = mdl_resume(space, who, &number);
-    if (code != MDL_NO_MEMORY)
+    uint32_t code = gaz_one_resume(space, who, &number);
+    if (code != GAZ_NO_MEMORY)
         return code;
     told += 1;
-    return mdl_context_upgrade(space, who, ticket, mode, &number);
+    return gaz_one_context_upgrade(space, who, ticket, mode, &number);
 }
 
 /* A context begins and ends between other calls: it leaves no block. */
-static void come_and_go(struct mdl_space *space, uint16_t who)
+static void come_and_go(struct gaz_one_space *space, uint16_t who)
 {
     uint64_t ticket = 0;
     long before = blocks;
-    EXPECT(MDL_DONE, mdl_context_begin(space, who));
-    EXPECT(MDL_DONE, mdl_acquire(space, who, TABLE("orders"), MDL_SR, MDL_TRANSACTION, &ticket));
-    EXPECT(MDL_DONE, mdl_context_end(space, who));
+    EXPECT(GAZ_DONE, gaz_one_context_begin(space, who));
+    EXPECT(GAZ_DONE, gaz_one_acquire(space, who, TABLE("orders"), GAZ_SR, GAZ_TRANSACTION, &ticket));
+    EXPECT(GAZ_DONE, gaz_one_context_end(space, who));
     left += blocks != before;
 }
 
 static void call_in_contexts(void)
 {
-    struct mdl_space space = MDL_SPACE_INIT;
-    struct mdl_mark mark = {0, 0};
-    uint64_t writer = 0, ticket = 0;
-    EXPECT(MDL_DONE, mdl_open(&space, 16, 2));
-    EXPECT(MDL_DONE, mdl_context_begin(&space, 1));
-    EXPECT(MDL_DONE, mdl_context_begin(&space, 2));
-    EXPECT_KEPT(1, MDL_DONE, mdl_acquire(&space, 1, TABLE("orders"), MDL_SU, MDL_TRANSACTION, &writer));
-    EXPECT_KEPT(1, MDL_DONE, mdl_savepoint(&space, 1, &mark));
-    EXPECT_KEPT(1, MDL_DONE, mdl_acquire(&space, 1, TABLE("items"), MDL_SW, MDL_TRANSACTION, &ticket));
-    EXPECT_KEPT(1, MDL_DONE, mdl_acquire(&space, 1, TABLE("items"), MDL_SW, MDL_STATEMENT, &ticket));
-    EXPECT_KEPT(2, MDL_DONE, mdl_acquire(&space, 2, TABLE("orders"), MDL_SR, MDL_TRANSACTION, &ticket));
+    struct gaz_one_space space = GAZ_ONE_SPACE_INIT;
+    struct gaz_mark mark = {0, 0};
+    uint64_t writer = 0, ticket = 0, number = 0;
+    EXPECT(GAZ_DONE, gaz_one_open(&space, 16, 2));
+    EXPECT(GAZ_DONE, gaz_one_context_begin(&space, 1));
+    EXPECT(GAZ_DONE, gaz_one_context_begin(&space, 2));
+    EXPECT_KEPT(1, GAZ_DONE, gaz_one_acquire(&space, 1, TABLE("orders"), GAZ_SU, GAZ_TRANSACTION, &writer));
+    EXPECT_KEPT(1, GAZ_DONE, gaz_one_savepoint(&space, 1, &mark));
+    EXPECT_KEPT(1, GAZ_DONE, gaz_one_acquire(&space, 1, TABLE("items"), GAZ_SW, GAZ_TRANSACTION, &ticket));
+    EXPECT_KEPT(1, GAZ_DONE, gaz_one_acquire(&space, 1, TABLE("items"), GAZ_SW, GAZ_STATEMENT, &ticket));
+    EXPECT_KEPT(2, GAZ_DONE, gaz_one_try_acquire(&space, 2, TABLE("orders"), GAZ_SR, GAZ_TRANSACTION, &ticket));
+    EXPECT_KEPT(2, GAZ_WOULD_WAIT, gaz_one_try_acquire(&space, 2, TABLE("orders"), GAZ_SU, GAZ_TRANSACTION, &ticket));
+    EXPECT_KEPT(2, GAZ_DONE, gaz_one_holds(&space, 2, TABLE("orders"), GAZ_SR));
     /* The first session waits for a stronger mode. So the second one, which waits for it, is the victim of a deadlock. */
-    EXPECT_KEPT(1, MDL_WAITING, mdl_context_upgrade(&space, 1, writer, MDL_X, &ticket));
-    EXPECT_KEPT(2, MDL_WAITING, mdl_acquire(&space, 2, TABLE("items"), MDL_X, MDL_TRANSACTION, &ticket));
-    EXPECT_KEPT(2, MDL_VICTIM, mdl_resume(&space, 2, &ticket));
-    EXPECT_KEPT(2, MDL_DONE, mdl_end_transaction(&space, 2));
-    EXPECT_KEPT(1, MDL_DONE, raise_ticket(&space, 1, writer, MDL_X));
-    EXPECT_KEPT(1, MDL_DONE, mdl_rollback_to(&space, 1, mark));
-    EXPECT_KEPT(1, MDL_DONE, mdl_end_statement(&space, 1));
-    EXPECT_KEPT(2, MDL_WAITING, mdl_acquire(&space, 2, TABLE("orders"), MDL_SR, MDL_EXPLICIT, &ticket));
-    EXPECT_KEPT(2, MDL_TIMEOUT, mdl_give_up(&space, 2, &ticket));
-    EXPECT_KEPT(2, MDL_WAITING, mdl_acquire(&space, 2, TABLE("orders"), MDL_SR, MDL_EXPLICIT, &ticket));
-    EXPECT_KEPT(1, MDL_DONE, mdl_context_downgrade(&space, 1, writer, MDL_SU));
-    EXPECT_KEPT(2, MDL_DONE, mdl_resume(&space, 2, &ticket));
-    EXPECT_KEPT(1, MDL_WAITING, mdl_context_upgrade(&space, 1, writer, MDL_X, &ticket));
+    EXPECT_KEPT(1, GAZ_WAITING, gaz_one_context_upgrade(&space, 1, writer, GAZ_X, &ticket));
+    EXPECT_KEPT(2, GAZ_WAITING, gaz_one_acquire(&space, 2, TABLE("items"), GAZ_X, GAZ_TRANSACTION, &ticket));
+    EXPECT_KEPT(2, GAZ_VICTIM, gaz_one_resume(&space, 2, &ticket));
+    EXPECT_KEPT(2, GAZ_DONE, gaz_one_end_transaction(&space, 2));
+    EXPECT_KEPT(1, GAZ_DONE, raise_ticket(&space, 1, writer, GAZ_X));
+    EXPECT_KEPT(1, GAZ_DONE, gaz_one_rollback_to(&space, 1, mark));
+    EXPECT_KEPT(1, GAZ_DONE, gaz_one_end_statement(&space, 1));
+    EXPECT_KEPT(2, GAZ_WAITING, gaz_one_acquire(&space, 2, TABLE("orders"), GAZ_SR, GAZ_EXPLICIT, &ticket));
+    EXPECT_KEPT(2, GAZ_TIMEOUT, gaz_one_give_up(&space, 2, &ticket));
+    EXPECT_KEPT(2, GAZ_WAITING, gaz_one_acquire(&space, 2, TABLE("orders"), GAZ_SR, GAZ_EXPLICIT, &ticket));
+    EXPECT_KEPT(1, GAZ_DONE, gaz_one_context_downgrade(&space, 1, writer, GAZ_SU));
+    EXPECT_KEPT(2, GAZ_DONE, gaz_one_resume(&space, 2, &ticket));
+    EXPECT_KEPT(2, GAZ_DONE, gaz_one_acquire(&space, 2, TABLE("items"), GAZ_SR, GAZ_TRANSACTION, &number));
+    EXPECT(GAZ_DONE, gaz_one_set_duration(&space, 2, number, GAZ_EXPLICIT));
+    EXPECT(GAZ_DONE, gaz_one_context_release(&space, 2, number));
+    EXPECT_KEPT(1, GAZ_WAITING, gaz_one_context_upgrade(&space, 1, writer, GAZ_X, &ticket));
     /* Both contexts end with a ticket, and the first one with a wait. */
-    EXPECT(MDL_DONE, mdl_context_end(&space, 1));
-    EXPECT(MDL_DONE, mdl_context_end(&space, 2));
+    EXPECT(GAZ_DONE, gaz_one_context_end(&space, 1));
+    EXPECT(GAZ_DONE, gaz_one_release_explicit(&space, 2));
+    EXPECT(GAZ_DONE, gaz_one_context_end(&space, 2));
     come_and_go(&space, 1);
-    EXPECT(MDL_DONE, mdl_close(&space));
+    EXPECT(GAZ_DONE, gaz_one_close(&space));
 }
 
 /* Leads a life, and then once more for each allocation that it takes, which is refused then. */
@@ -180,7 +187,7 @@ static void refuse_each(const char *what, void (*live)(void))
         live();
     }
     printf("%s take memory: %s\n", what, whole > 0 ? "yes" : "no");
-    printf("each refused allocation was told: %s\n", told - before == whole ? "yes" : "no");
+    printf("refused allocations that weren't told, and could be done without: %u\n", whole - (told - before));
 }
 
 int main(void)

@@ -1,6 +1,6 @@
 /* Memory of the program's own, by the three functions that it brings. Each allocation of a script's run is refused in turn: the call says so, is done
-   when it is made again, and no memory is lost. */
-#include "mdl_text.h"
+   when it is made again, and no memory is lost. (A context can do without the notes by which it finds known keys faster.) */
+#include "gaz_text.h"
 
 #include <stdbool.h>
 #include <stdio.h>
@@ -53,7 +53,7 @@ static int play(void)
     const char *script = "1 CREATE TABLE t x\n1 BEGIN\n1 SELECT t\n2 DROP TABLE t\n1 COMMIT\n";
     const char *answers = "1 1 OK\n2 1 OK\n3 1 OK test.t@1(x)\n4 2 WAIT TABLE test.t X\n5 1 OK\n4 2 OK\n";
     int told = 0;
-    while (mdl_text_replay(BYTES(script), room, sizeof room, &length, &line) == MDL_TEXT_NO_MEMORY && told < 10)
+    while (gaz_text_replay(BYTES(script), room, sizeof room, &length, &line) == GAZ_TEXT_NO_MEMORY && told < 10)
         told += 1;
     return length == strlen(answers) && memcmp(room, answers, length) == 0 && alive == 0 ? told : -1;
 }
@@ -64,13 +64,17 @@ int main(void)
         return 1;
     unsigned all = asked;
     printf("playing the script takes memory: %s\n", all > 0 ? "yes" : "no");
+    unsigned untold = 0;
     for (refused = 1; refused <= all; refused += 1) {
         asked = 0;
-        if (play() != 1) {
-            printf("allocation %u of %u, refused: the call doesn't say so once, has other answers then, or loses memory\n", refused, all);
+        int times = play();
+        if (times != 0 && times != 1) {
+            printf("allocation %u of %u, refused: the call says so more than once, has other answers then, or loses memory\n", refused, all);
             return 1;
         }
+        untold += times == 0;
     }
-    printf("each allocation was refused once, and the call was done when it was made again\n");
+    printf("each allocation was refused once, and the call was done when it was made again, or could do without it\n");
+    printf("refused allocations that weren't told, and could be done without: %u\n", untold);
     return 0;
 }

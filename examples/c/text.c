@@ -1,6 +1,6 @@
 /* Scripts, bytes in and bytes out: one of statements, from a file, scripts of one lock, some that are refused, and long ones. Run it at the top of the
    repository, or name a script of statements. */
-#include "mdl_text.h"
+#include "gaz_text.h"
 
 #include <stdio.h>
 #include <stdlib.h>
@@ -22,12 +22,12 @@ static int play(const char *name)
         return 0;
     size_t length = fread(script, 1, sizeof script, file);
     fclose(file);
-    uint32_t code = mdl_text_replay(script, length, &none, 0, &taken, &line);
+    uint32_t code = gaz_text_replay(script, length, &none, 0, &taken, &line);
     printf("without room: %u, the answers take %zu bytes\n", code, taken);
-    uint8_t *answers = code == MDL_TEXT_NO_ROOM ? malloc(taken) : NULL;
+    uint8_t *answers = code == GAZ_TEXT_NO_ROOM ? malloc(taken) : NULL;
     if (answers == NULL)
         return 0;
-    printf("with room: %u\n", mdl_text_replay(script, length, answers, taken, &taken, &line));
+    printf("with room: %u\n", gaz_text_replay(script, length, answers, taken, &taken, &line));
     fwrite(answers, 1, taken, stdout);
     free(answers);
     return 1;
@@ -39,7 +39,7 @@ static void drive(const char *what, uint8_t kind, const char *text)
     uint8_t room[200];
     size_t length = 0;
     uint64_t line = 0;
-    printf("%s: %u\n", what, mdl_text_lock(kind, BYTES(text), room, sizeof room, &length, &line));
+    printf("%s: %u\n", what, gaz_text_lock(kind, BYTES(text), room, sizeof room, &length, &line));
     if (line != 0)
         printf("line %u is refused\n", (unsigned)line);
     fwrite(room, 1, length, stdout);
@@ -50,7 +50,7 @@ static void refuse(const char *what, const char *text)
 {
     size_t length = 0;
     uint64_t line = 0;
-    uint32_t code = mdl_text_replay(BYTES(text), script, sizeof script, &length, &line);
+    uint32_t code = gaz_text_replay(BYTES(text), script, sizeof script, &length, &line);
     printf("%s: %u, line %u\n", what, code, (unsigned)line);
 }
 
@@ -74,12 +74,12 @@ static void play_long(size_t least)
     size_t length = repeat("1 SELECT t\n", least, text);
     for (unsigned line = 1; line <= length / strlen("1 SELECT t\n"); line += 1)
         wanted += (size_t)sprintf(answers + wanted, "%u 1 ERR 1146\n", line);
-    uint32_t code = mdl_text_replay((const uint8_t *)text, length, (uint8_t *)found, room, &taken, &refused);
+    uint32_t code = gaz_text_replay((const uint8_t *)text, length, (uint8_t *)found, room, &taken, &refused);
     printf("%zu bytes of statements: %u, %s\n", length, code, taken == wanted && memcmp(found, answers, wanted) == 0 ? "answered" : "not answered");
     length = repeat("1 X\n1 RELEASE\n", least, text);
     wanted = length / strlen("1 X\n1 RELEASE\n") * strlen("1 GRANTED X\n1 RELEASED X\n");
     repeat("1 GRANTED X\n1 RELEASED X\n", wanted, answers);
-    code = mdl_text_lock(MDL_TEXT_OBJECT, (const uint8_t *)text, length, (uint8_t *)found, room, &taken, &refused);
+    code = gaz_text_lock(GAZ_TEXT_OBJECT, (const uint8_t *)text, length, (uint8_t *)found, room, &taken, &refused);
     printf("%zu bytes of commands: %u, %s\n", length, code, taken == wanted && memcmp(found, answers, wanted) == 0 ? "answered" : "not answered");
     free(text);
     free(answers);
@@ -90,10 +90,10 @@ int main(int count, char **words)
 {
     if (!play(count > 1 ? words[1] : "examples/alter_stops_a_table.replay"))
         return 1;
-    drive("the lock of a table", MDL_TEXT_OBJECT, "1 SR\n2 X\n1 RELEASE\n");
-    drive("that of a schema", MDL_TEXT_SCOPED, "1 IX\n2 S\n");
-    drive("there is no session 0", MDL_TEXT_OBJECT, "1 SR\n0 X\n");
-    drive("a schema has no SR", MDL_TEXT_SCOPED, "1 SR\n");
+    drive("the lock of a table", GAZ_TEXT_OBJECT, "1 SR\n2 X\n1 RELEASE\n");
+    drive("that of a schema", GAZ_TEXT_SCOPED, "1 IX\n2 S\n");
+    drive("there is no session 0", GAZ_TEXT_OBJECT, "1 SR\n0 X\n");
+    drive("a schema has no SR", GAZ_TEXT_SCOPED, "1 SR\n");
     drive("there is no third kind", 2, "");
     refuse("no table", "1 BEGIN\n1 SELECT\n");
     refuse("no name", "1 SELECT T\n");

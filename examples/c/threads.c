@@ -1,6 +1,6 @@
 /* The locks of four threads, a session each, behind one mutex of the program's own. Each session waits for a condition variable of its own, and for
    so long as it has patience. */
-#include "mdl.h"
+#include "gaz_one.h"
 
 #include <errno.h>
 #include <pthread.h>
@@ -13,7 +13,7 @@
 
 enum { THREADS = 4, ROUNDS = 2000, LONG = 60000, SHORT = 10 }; /* the last two are milliseconds */
 
-static struct mdl_space space = MDL_SPACE_INIT;
+static struct gaz_one_space space = GAZ_ONE_SPACE_INIT;
 static pthread_mutex_t guard = PTHREAD_MUTEX_INITIALIZER; /* held round each call */
 static pthread_cond_t turns[THREADS];                     /* the session's wait is settled */
 static uint16_t places[2];
@@ -38,7 +38,7 @@ static void wake(void)
 {
     uint16_t sessions[THREADS] = {0};
     size_t count = 0;
-    mdl_settled(&space, sessions, THREADS, &count);
+    gaz_one_settled(&space, sessions, THREADS, &count);
     for (size_t at = 0; at < count; at += 1)
         pthread_cond_signal(&turns[sessions[at] - 1]);
 }
@@ -48,22 +48,25 @@ static uint32_t finish(uint16_t who, long patience, uint64_t *ticket)
 {
     struct timespec until = in(patience);
     uint16_t victim = 0;
-    while (mdl_search(&space, who, &victim) == MDL_VICTIM && victim != who)
+    uint32_t found;
+    while ((found = gaz_one_search(&space, who, &victim)) == GAZ_VICTIM && victim != who)
         ;
+    if (found == GAZ_NO_MEMORY)
+        gaz_one_time_out(&space, who); /* a deadlock may be left: the wait is given up */
     wake(); /* a victim has to learn of it */
-    while (mdl_poll(&space, who) == MDL_WAITING)
+    while (gaz_one_poll(&space, who) == GAZ_WAITING)
         if (pthread_cond_timedwait(&turns[who - 1], &guard, &until) == ETIMEDOUT)
-            mdl_time_out(&space, who);
-    uint32_t code = mdl_end(&space, who, ticket);
+            gaz_one_time_out(&space, who);
+    uint32_t code = gaz_one_end(&space, who, ticket);
     wake(); /* the end of a lost wait makes way */
-    return code;
+    return code == GAZ_TIMEOUT && found == GAZ_NO_MEMORY ? found : code;
 }
 
 static uint32_t lock(uint16_t who, uint16_t place, uint8_t mode, long patience, uint64_t *ticket)
 {
     pthread_mutex_lock(&guard);
-    uint32_t code = mdl_begin(&space, who, place, mode, ticket);
-    if (code == MDL_WAITING)
+    uint32_t code = gaz_one_begin(&space, who, place, mode, ticket);
+    if (code == GAZ_WAITING)
         code = finish(who, patience, ticket);
     pthread_mutex_unlock(&guard);
     return code;
@@ -72,7 +75,7 @@ static uint32_t lock(uint16_t who, uint16_t place, uint8_t mode, long patience, 
 static void unlock(uint16_t who, uint64_t ticket)
 {
     pthread_mutex_lock(&guard);
-    mdl_release(&space, who, ticket);
+    gaz_one_release(&space, who, ticket);
     wake();
     pthread_mutex_unlock(&guard);
 }
@@ -91,11 +94,11 @@ static void *work(void *argument)
     for (unsigned round = 0; round < ROUNDS; round += 1) {
         unsigned turn = (who + round) % 2;
         uint64_t first = 0, second = 0;
-        if (lock(who, places[turn], MDL_SNRW, LONG, &first) != MDL_DONE) {
+        if (lock(who, places[turn], GAZ_SNRW, LONG, &first) != GAZ_DONE) {
             count(&victims);
             continue;
         }
-        if (lock(who, places[1 - turn], MDL_X, LONG, &second) == MDL_DONE) {
+        if (lock(who, places[1 - turn], GAZ_X, LONG, &second) == GAZ_DONE) {
             inside += 1;
             overlaps += inside != 1;
             inside -= 1;
@@ -117,11 +120,11 @@ static int open_all(void)
     for (unsigned at = 0; at < THREADS; at += 1)
         if (pthread_cond_init(&turns[at], &by_clock) != 0)
             return 0;
-    if (mdl_open(&space, 256, THREADS) != MDL_DONE)
+    if (gaz_one_open(&space, 256, THREADS) != GAZ_DONE)
         return 0;
     for (uint16_t who = 1; who <= THREADS; who += 1)
-        if (mdl_table(&space, who, NAME("shop"), NAME("orders"), &places[0]) != MDL_DONE
-            || mdl_table(&space, who, NAME("shop"), NAME("items"), &places[1]) != MDL_DONE)
+        if (gaz_one_table(&space, who, NAME("shop"), NAME("orders"), &places[0]) != GAZ_DONE
+            || gaz_one_table(&space, who, NAME("shop"), NAME("items"), &places[1]) != GAZ_DONE)
             return 0;
     return 1;
 }
@@ -139,10 +142,10 @@ int main(void)
         pthread_join(threads[at], NULL);
     printf("%u rounds are over\n", done + victims);
     printf("%u of them met another inside\n", overlaps);
-    printf("1 changes orders: %u\n", lock(1, places[0], MDL_X, LONG, &held));
-    printf("2 waits for it for a while: %u\n", lock(2, places[0], MDL_SR, SHORT, &wished));
+    printf("1 changes orders: %u\n", lock(1, places[0], GAZ_X, LONG, &held));
+    printf("2 waits for it for a while: %u\n", lock(2, places[0], GAZ_SR, SHORT, &wished));
     unlock(1, held);
-    printf("2 reads it: %u\n", lock(2, places[0], MDL_SR, SHORT, &wished));
-    printf("the manager goes: %u\n", mdl_close(&space));
+    printf("2 reads it: %u\n", lock(2, places[0], GAZ_SR, SHORT, &wished));
+    printf("the manager goes: %u\n", gaz_one_close(&space));
     return 0;
 }

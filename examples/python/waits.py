@@ -1,13 +1,13 @@
 """A thread waits for another's lock, a wait is too long, and a deadlock is found.
 
-Usage: python3 waits.py libmdl_c.so
+Usage: python3 waits.py libgaz_one.so
 """
 
 import sys
 import threading
 import time
 
-from mdl_locks import Manager, Mode, Refused
+from gaz_locks import Manager, Mode, Refused
 
 
 def wait_for_a_reader(manager, orders):

@@ -1,19 +1,19 @@
 //! The calls that return the place of a key, which the session then pins, and the one that gives up the pin.
 ghost use Rattle.std.specs.Prelude.{◌≡◌};
 ghost use Rattle.std.specs.Str.{IsUtf8};
-ghost use Rattle.mdl_key.specs.Keys.{commit_key, global_key, name_fault, schema_key, table_fault, table_key};
+ghost use Rattle.mdl_key.specs.Keys.{commit_key, global_key, name_fault, schema_key, table_fault, table_key, user_lock_key};
 ghost use Rattle.mdl_calls.specs.Words.{Resolve, Unpin};
 ghost use Rattle.mdl_c_calls.specs.Exports.{Nothing, Number, ServesCall, ServesDirect, Tells};
 ghost use Rattle.mdl_c_calls.specs.Names.{MakesKey};
 
-use mdl_c_calls::MdlSpace;
+use mdl_c_calls::OneSpace;
 use std::alloc::Global;
 
 /// Writes the place of a table's key, which the session then pins.
 #[unsafe(no_mangle)]
-pub extern "C" fn mdl_table(
+pub extern "C" fn gaz_one_table(
     alloc: Global,
-    space: &mut MdlSpace,
+    space: &mut OneSpace,
     who: u16,
     schema: &[u8],
     table: &[u8],
@@ -23,14 +23,14 @@ pub extern "C" fn mdl_table(
         (ServesCall who (Resolve who (table_key schema.now table.now)) space.old.handle.manager result space.new.handle.manager (Number place.old place.new))
         (λ wrong. Tells wrong space.old.handle.manager result space.new.handle.manager × (place.new ≡ place.old)) }
 {
-    mdl_c_calls::mdl_table(alloc, space, who, schema, table, place)
+    mdl_c_calls::gaz_one_table(alloc, space, who, schema, table, place)
 }
 
 /// Writes the place of a schema's key, which the session then pins.
 #[unsafe(no_mangle)]
-pub extern "C" fn mdl_schema(
+pub extern "C" fn gaz_one_schema(
     alloc: Global,
-    space: &mut MdlSpace,
+    space: &mut OneSpace,
     who: u16,
     schema: &[u8],
     place: &mut u16,
@@ -39,29 +39,55 @@ pub extern "C" fn mdl_schema(
         (ServesCall who (Resolve who (schema_key schema.now)) space.old.handle.manager result space.new.handle.manager (Number place.old place.new))
         (λ wrong. Tells wrong space.old.handle.manager result space.new.handle.manager × (place.new ≡ place.old)) }
 {
-    mdl_c_calls::mdl_schema(alloc, space, who, schema, place)
+    mdl_c_calls::gaz_one_schema(alloc, space, who, schema, place)
+}
+
+/// Writes the place of the key of a user-level lock, which the session then pins.
+#[unsafe(no_mangle)]
+pub extern "C" fn gaz_one_user_lock(
+    alloc: Global,
+    space: &mut OneSpace,
+    who: u16,
+    name: &[u8],
+    place: &mut u16,
+) -> u32
+    ensures { MakesKey (IsUtf8 name.now) (name_fault name.now)
+        (ServesCall who (Resolve who (user_lock_key name.now)) space.old.handle.manager result space.new.handle.manager (Number place.old place.new))
+        (λ wrong. Tells wrong space.old.handle.manager result space.new.handle.manager × (place.new ≡ place.old)) }
+{
+    mdl_c_calls::gaz_one_user_lock(alloc, space, who, name, place)
 }
 
 /// Writes the place of the key of the global read lock, which the session then pins.
 #[unsafe(no_mangle)]
-pub extern "C" fn mdl_global(alloc: Global, space: &mut MdlSpace, who: u16, place: &mut u16) -> u32
+pub extern "C" fn gaz_one_global(
+    alloc: Global,
+    space: &mut OneSpace,
+    who: u16,
+    place: &mut u16,
+) -> u32
     ensures { ServesCall who (Resolve who global_key) space.old.handle.manager result space.new.handle.manager (Number place.old place.new) }
 {
-    mdl_c_calls::mdl_global(alloc, space, who, place)
+    mdl_c_calls::gaz_one_global(alloc, space, who, place)
 }
 
 /// Writes the place of the key that commits take, which the session then pins.
 #[unsafe(no_mangle)]
-pub extern "C" fn mdl_commit(alloc: Global, space: &mut MdlSpace, who: u16, place: &mut u16) -> u32
+pub extern "C" fn gaz_one_commit(
+    alloc: Global,
+    space: &mut OneSpace,
+    who: u16,
+    place: &mut u16,
+) -> u32
     ensures { ServesCall who (Resolve who commit_key) space.old.handle.manager result space.new.handle.manager (Number place.old place.new) }
 {
-    mdl_c_calls::mdl_commit(alloc, space, who, place)
+    mdl_c_calls::gaz_one_commit(alloc, space, who, place)
 }
 
 /// Gives up the session's pin of a place.
 #[unsafe(no_mangle)]
-pub extern "C" fn mdl_unpin(alloc: Global, space: &mut MdlSpace, who: u16, place: u16) -> u32
+pub extern "C" fn gaz_one_unpin(alloc: Global, space: &mut OneSpace, who: u16, place: u16) -> u32
     ensures { ServesDirect who (Unpin who place) space.old.handle.manager result space.new.handle.manager Nothing }
 {
-    mdl_c_calls::mdl_unpin(alloc, space, who, place)
+    mdl_c_calls::gaz_one_unpin(alloc, space, who, place)
 }

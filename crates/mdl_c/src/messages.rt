@@ -5,10 +5,10 @@ ghost use Rattle.mdl_c_calls.specs.Messages.{message_of};
 
 /// Writes the text of a code. A number that is no code has a text, too.
 #[unsafe(no_mangle)]
-pub extern "C" fn mdl_message(code: u32, room: &mut [u8], count: &mut usize) -> u32
+pub extern "C" fn gaz_one_message(code: u32, room: &mut [u8], count: &mut usize) -> u32
     ensures code { result ≡ 0 }
     ensures told { IsListWritten (message_of code) room.old room.new count.new }
     ensures short { count.new ≤ 80 }
 {
-    mdl_c_calls::mdl_message(code, room, count)
+    mdl_c_calls::gaz_one_message(code, room, count)
 }

@@ -12,11 +12,13 @@ use Rattle.mdl_calls.specs.Words.{Answer, Call, caller, SessionLocks, Wait, own_
 use Rattle.mdl_core.specs.Words.{Core, SpeaksFor, locks_at}
 use Rattle.mdl_core.proofs.CallLaws.{core-keeps}
 use Rattle.mdl_core.proofs.CoreSound.{calls_keep-sound}
+use Rattle.mdl_core.proofs.SpaceLaws.{core-laws}
 use Rattle.mdl_space.specs.CoreMembers.{core_space}
 use Rattle.mdl_context.specs.Contexts.{Attends, ContextView, LeavesOthers, wish_there}
+use Rattle.mdl_context.proofs.BeyondLemmas.{rising-kept}
 use Rattle.mdl_context.proofs.OthersLemmas.{left-alone}
 use Rattle.mdl_context.proofs.PinLemmas.{unpins}
-use Rattle.mdl_c_calls.specs.Managers.{IsAttended, Managed, ServesAll, direct_fault, seat_of}
+use Rattle.mdl_c_calls.specs.Managers.{AreRisingAt, IsAttended, Managed, ServesAll, direct_fault, seat_of}
 use Rattle.mdl_c_calls.specs.Transactions.{begin_fault, has_nothing, new_context}
 use Rattle.mdl_c_calls.specs.declared.seat.Seat.{Seat}
 use Rattle.mdl_c_calls.specs.declared.seat.Seat.TheVariants.{Direct, Kept}
@@ -86,6 +88,13 @@ serves-direct a b call answer who sessions seats mine direct serves joined =
 pub context-served : (a : Core) (i sessions : ℕ) (seats : List Seat) (seat : Seat) (context : ContextView) → ServesAll a sessions seats → i < length seats → seat ≡ get_or seats i seat
     → seat ≡ Kept context → (context.who ≡ 1 + i) × Attends core_space a context
 context-served a i sessions seats seat context serves inside here is = subst (IsAttended a (1 + i)) is (attended-at a 1 i seats seat serves.attended inside here)
+
+-- the numbers of the tickets at a seat rise
+pub rising-seat : (a : Core) (i sessions : ℕ) (seats : List Seat) (seat : Seat) → ServesAll a sessions seats → i < length seats → seat ≡ get_or seats i seat → AreRisingAt seat
+rising-seat a i sessions seats seat serves inside here = by seat (attended-at a 1 i seats seat serves.attended inside here) where
+  by : (seat : Seat) → IsAttended a (1 + i) seat → AreRisingAt seat
+  by Direct attended = tt
+  by (Kept context) attended = rising-kept (locks_at a context.who) context (core-laws.rising a context.who attended.1.speaks) attended.1.serves
 
 -- it has made calls, and its session has this seat then
 pub serves-seated : (a b : Core) (i sessions : ℕ) (seats : List Seat) (seat : Seat) → ServesAll a sessions seats → i < length seats → IsAttended b (1 + i) seat

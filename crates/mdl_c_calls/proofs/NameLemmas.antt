@@ -1,5 +1,5 @@
 -- Keys of names, and why none is made.
-use Rattle.std.proofs.Common.{◌≡◌, ℕ, List, refl, sym, ap, subst, inl, inr}
+use Rattle.std.proofs.Common.{◌≡◌, ℕ, List, sym, ap, subst, inl, inr}
 use Rattle.std.specs.Prelude.{Option, Some, None, Result, Ok, Err}
 use Rattle.mdl_key.specs.declared.key_error.KeyError.{KeyError}
 use Rattle.mdl_key.specs.declared.key_error.KeyError.TheVariants.{OutOfMemory}
@@ -58,6 +58,11 @@ named-refused (Some Commit) schema table code Done Refused never refused = absur
 named-refused (Some UserLevelLock) schema table code Done Refused named refused = unnamed-so _ Refused named refused
 
 -- ---- wishes of locks
+
+-- a number names what is wished
+pub given-done : {W : Type 0} (wrong : ℕ) (named : Option W) (wish : W) (Done : W → Type 0) (Refused : ℕ → Type 0) → named ≡ Some wish → Done wish
+    → Given wrong named Done Refused
+given-done wrong named wish Done Refused is done = subst (λ o. Given wrong o Done Refused) (sym is) done
 
 wish-given : (namespace : ℕ) (schema table : List ℕ) (number length : ℕ) (mode : Mode) (duration : Duration) (Done : Wish → Type 0) (Refused : ℕ → Type 0)
     → mode_at number ≡ Some mode → duration_at length ≡ Some duration

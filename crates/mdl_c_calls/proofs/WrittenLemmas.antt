@@ -1,5 +1,6 @@
 -- Lists that are written into the room there is, from its start on.
-use Rattle.std.proofs.Common.{◌≡◌, ◌∙◌, ℕ, zero, suc, ◌+◌, ◌-◌, ◌<◌, min, List, [], ◌∷◌, ◌++◌, length, map, take, drop, get_or, refl, sym, ap, append_assoc, arith}
+use Rattle.std.proofs.Common.{◌≡◌, ◌∙◌, ℕ, zero, suc, ◌+◌, ◌-◌, ◌<◌, ◌≤◌, min, None, List, [], ◌∷◌, ◌++◌, length, map, take, drop, get_or, refl, sym, ap, append_assoc, arith}
+use Rattle.std.specs.Prelude.{slice_get}
 use Rattle.std.proofs.Math.ListN.{set}
 use Rattle.std.proofs.lemmas.List.{append-nil, drop_all, drop_min, drop_more, length-drop, length-map, length-take-le, map-append, set_at, take-map, take_all, take_min, take_more, take_rest}
 use Rattle.mdl_c_calls.specs.Listings.{room_written}
@@ -37,6 +38,19 @@ written-all f all items room n fits cut =
     ∙ ap (λ (k : ℕ). map f (take n all) ++ drop k room) long
     ∙ ap (λ (xs : List _). xs ++ drop n room) (sym (take-map f n all))
     ∙ written-fits (map f all) room n (sym same)
+
+-- the same, where that many are taken of all
+pub written-to : {A B : Type 0} (f : A → B) (all : List A) (room : List B) (n : ℕ) → n ≡ min (length all) (length room)
+    → map f (take n all) ++ drop n room ≡ room_written (map f all) room
+written-to f all room n fits =
+    let same : n ≡ min (length (map f all)) (length room) = fits ∙ ap (λ (k : ℕ). min k (length room)) (sym (length-map all f)) in
+    ap (λ (xs : List _). xs ++ drop n room) (sym (take-map f n all)) ∙ written-fits (map f all) room n same
+
+-- there is no item at an index
+pub no-more : {T : Type 0} (items : List T) (at : ℕ) → slice_get items at ≡ None → length items ≤ at
+no-more [] at none = omega arith
+no-more (x ∷ items) zero none = cc
+no-more (x ∷ items) (suc at) none = omega (arith, no-more items at none)
 
 -- no items
 pub written-none : {T : Type 0} (room : List T) → room_written [] room ≡ room

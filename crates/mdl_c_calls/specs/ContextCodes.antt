@@ -1,6 +1,6 @@
 -- The codes of the calls that are refused if a session has a context, and of the calls of contexts. Those from 48 on are the refusals of a context,
 -- which come before those of its space.
-use Rattle.std.specs.Prelude.{ℕ, ◌==◌, Option, Some, None, Result, Ok, Err, if◌then◌else◌}
+use Rattle.std.specs.Prelude.{ℕ, Bool, ◌==◌, Option, Some, None, Result, Ok, Err, if◌then◌else◌}
 use Rattle.mdl_key.specs.declared.mode.Duration.{Duration}
 use Rattle.mdl_key.specs.declared.mode.Duration.TheVariants.{Statement, Transaction, Explicit}
 use Rattle.mdl_key.specs.declared.namespace.Namespace.{Namespace}
@@ -13,7 +13,9 @@ use Rattle.mdl_context.specs.declared.request.Acquire.{Acquire}
 use Rattle.mdl_context.specs.declared.request.Acquire.TheVariants as acquire
 use Rattle.mdl_context.specs.declared.request.Resume.{Resume}
 use Rattle.mdl_context.specs.declared.request.Resume.TheVariants as resume
-use Rattle.mdl_c_calls.specs.Codes.{cause_code, no_memory, no_session, settled_code}
+use Rattle.mdl_context.specs.declared.request.Tried.{Tried}
+use Rattle.mdl_context.specs.declared.request.Tried.TheVariants as tried
+use Rattle.mdl_c_calls.specs.Codes.{cause_code, no_memory, no_session, settled_code, would_wait}
 use Rattle.mdl_c_calls.specs.declared.mark.Mark.{Mark}
 use Rattle.mdl_c_calls.specs.declared.unserved.Unserved.{Unserved}
 use Rattle.mdl_c_calls.specs.declared.unserved.Unserved.TheVariants as unserved
@@ -24,6 +26,10 @@ no_duration = 28
 
 abbrev pub no_namespace : ℕ
 no_namespace = 29
+
+-- the context keeps no such ticket
+abbrev pub not_kept : ℕ
+not_kept = 49
 
 -- the duration of a number, in the order of MySQL 5.7
 abbrev pub duration_at : ℕ → Option Duration
@@ -62,7 +68,7 @@ served_code code (Err why) = unserved_code why
 -- the code of why a context refuses a call
 abbrev pub fault_code : ContextError → ℕ
 fault_code StaleSavepoint = 48
-fault_code NotHeld = 49
+fault_code NotHeld = not_kept
 fault_code Waiting = 50
 fault_code (Space cause) = cause_code cause
 
@@ -77,6 +83,16 @@ acquire_code (Ok (acquire.Acquired id)) = 0
 acquire_code (Ok (acquire.MustWait number)) = 2
 acquire_code (Err fault) = fault_code fault
 
+-- the code of a request that doesn't wait: the lock is held, can't be had now, or is refused
+abbrev pub tried_code : Result Tried ContextError → ℕ
+tried_code (Ok (tried.Acquired id)) = 0
+tried_code (Ok tried.WouldWait) = would_wait
+tried_code (Err fault) = fault_code fault
+
+-- the code that says whether the context keeps a ticket
+abbrev pub kept_code : Bool → ℕ
+kept_code is_kept = if is_kept then 0 else not_kept
+
 -- the code of a context's wait: it goes on, has ended, or the call is refused
 abbrev pub resume_code : Result Resume ContextError → ℕ
 resume_code (Ok resume.Waiting) = 2
@@ -89,6 +105,11 @@ abbrev pub acquire_told : Option (Result Acquire ContextError) → ℕ → ℕ
 acquire_told (Some (Ok (acquire.Acquired id))) old = id
 acquire_told (Some (Ok (acquire.MustWait number))) old = number
 acquire_told _ old = old
+
+-- the number that is written: of the ticket. If there is none, the old number stays.
+abbrev pub tried_told : Option (Result Tried ContextError) → ℕ → ℕ
+tried_told (Some (Ok (tried.Acquired id))) old = id
+tried_told _ old = old
 
 -- the number that is written: of the ticket that was waited for. If there is none, the old number stays.
 abbrev pub resume_told : Option (Result Resume ContextError) → ℕ → ℕ

@@ -1,9 +1,9 @@
 -- What a call from C does to the manager behind its handle, and what the call returns and writes.
-use Rattle.std.specs.Prelude.{◌≡◌, ◌⊎◌, ℕ, false, Option, Some, None, MatchOption, Result}
+use Rattle.std.specs.Prelude.{◌≡◌, ◌⊎◌, ℕ, ◌==◌, true, false, Option, Some, None, MatchOption, Result}
 use Rattle.std.specs.Result.{result_ok}
 use Rattle.mdl_calls.specs.declared.new_error.NewError.{NewError}
 use Rattle.mdl_calls.specs.Words.{Answer, Call, new_fault}
-use Rattle.mdl_c_calls.specs.Codes.{closed, code_of, is_open_already, new_code, no_memory, no_session, told_at}
+use Rattle.mdl_c_calls.specs.Codes.{closed, code_of, is_open_already, library_version, new_code, no_memory, no_session, other_version, told_at}
 use Rattle.mdl_c_calls.specs.ContextCodes.{served_code}
 use Rattle.mdl_c_calls.specs.Managers.{Asks, Managed, JoinsServed, JoinsFor, direct_fault, has_member, new_manager, seat_of}
 use Rattle.mdl_c_calls.specs.declared.seat.Seat.{Seat}
@@ -67,6 +67,12 @@ OpensSpace places sessions None code after =
     MatchOption (new_fault places sessions)
     (((code ≡ 0) × (after ≡ Some (new_manager places sessions))) ⊎ Tells no_memory None code after)
     (λ (fault : NewError). Tells (new_code fault) None code after)
+
+-- a manager is made, if there is none and the program has the headers of this version
+abbrev pub OpensVersion : ℕ → ℕ → ℕ → Option Managed → ℕ → Option Managed → Type 0
+OpensVersion version places sessions before code after =
+    ((version == library_version ≡ true) × OpensSpace places sessions before code after)
+    ⊎ ((version == library_version ≡ false) × Tells other_version before code after)
 
 -- the manager is freed
 abbrev pub Closes : Option Managed → ℕ → Option Managed → Type 0

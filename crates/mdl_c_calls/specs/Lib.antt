@@ -1,3 +1,4 @@
+pub mod Clashes
 pub mod Codes
 pub mod ContextCodes
 pub mod Exports

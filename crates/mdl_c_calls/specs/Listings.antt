@@ -1,19 +1,29 @@
 -- What C can read of the locks: which waits are settled, what a session holds, which keys there are, and who holds and waits for each lock. That is
 -- what the table metadata_locks of MySQL 5.7's Performance Schema shows. The form is this project's own. Reading changes nothing.
-use Rattle.std.specs.Prelude.{◌≡◌, ℕ, Bool, ◌&&◌, List, ◌++◌, filter, length, map, take, drop, Option, Some, None, MatchOption, if◌then◌else◌}
+use Rattle.std.specs.Prelude.{◌≡◌, ℕ, Bool, ◌&&◌, List, [], ◌++◌, filter, length, map, take, drop, Option, Some, None, MatchOption, if◌then◌else◌}
 use Rattle.std.specs.List.{range_with_len}
+use Rattle.std.specs.Option.{option_and_then, option_map, option_map_or, option_or}
+use Rattle.mdl_key.specs.declared.mode.Duration.{Duration}
 use Rattle.mdl_key.specs.Words.{mode_rank}
 use Rattle.mdl_book.specs.declared.book_view.BookView.{BookView}
 use Rattle.mdl_book.specs.declared.ticket.Ticket.{Ticket}
 use Rattle.mdl_calls.specs.declared.answers.Held.{Held}
+use Rattle.mdl_calls.specs.declared.answers.Settled.{Settled}
+use Rattle.mdl_calls.specs.declared.answers.Settled.TheVariants as settled
 use Rattle.mdl_calls.specs.Words.{Holds}
+use Rattle.mdl_context.specs.declared.kept.Kept.{Kept}
+use Rattle.mdl_context.specs.declared.kept.Wanted.{Wanted}
+use Rattle.mdl_context.specs.Contexts.{ContextView, duration_rank, ticket_kept}
+use Rattle.mdl_core.specs.declared.pending.Pending.{Pending}
 use Rattle.mdl_core.specs.CoreCalls.{has_settled}
-use Rattle.mdl_core.specs.Words.{Core, book_at, has_key}
+use Rattle.mdl_core.specs.Words.{Core, book_at, has_key, seat_at}
 use Rattle.mdl_c_calls.specs.declared.rows.HeldRow.{HeldRow}
 use Rattle.mdl_c_calls.specs.declared.rows.LockRow.{LockRow}
 use Rattle.mdl_c_calls.specs.Codes.{closed, no_place}
 use Rattle.mdl_c_calls.specs.Exports.{Beside, Tells}
-use Rattle.mdl_c_calls.specs.Managers.{Managed, has_member, session_count_of}
+use Rattle.mdl_c_calls.specs.Managers.{Managed, has_member, seat_of, session_count_of}
+use Rattle.mdl_c_calls.specs.declared.seat.Seat.{Seat}
+use Rattle.mdl_c_calls.specs.declared.seat.Seat.TheVariants as seat
 
 -- ---- lists in the caller's memory
 
@@ -41,10 +51,10 @@ abbrev pub keyed_book : ℕ → Core → Option BookView
 keyed_book place space = if has_key place space then Some (book_at place space) else None
 
 -- a call shows the lock of a place. If the place has no key, it returns the code for that and writes nothing
-abbrev pub ShowsLock : ℕ → Option Managed → ℕ → Option Managed → Type 0 → (BookView → Type 0) → Type 0
+abbrev pub ShowsLock : ℕ → Option Managed → ℕ → Option Managed → Type 0 → (Managed → BookView → Type 0) → Type 0
 ShowsLock place before code after Kept Shown =
     ShowsSpace before code after Kept (λ manager.
-    MatchOption (keyed_book place manager.space) ((code ≡ no_place) × Kept) (λ book. (code ≡ 0) × Shown book))
+    MatchOption (keyed_book place manager.space) ((code ≡ no_place) × Kept) (λ book. (code ≡ 0) × Shown manager book))
 
 -- ---- settled waits
 
@@ -67,17 +77,74 @@ abbrev pub HeldTold : List HeldRow → List HeldRow → ℕ → ℕ → Beside
 HeldTold before after old_count count (Some (Holds tickets)) = IsListWritten (map held_row tickets) before after count
 HeldTold before after old_count count _ = IsKept before after old_count count
 
--- the status of a ticket in a book: granted, or waiting, which the Performance Schema calls pending
+-- the status of a ticket in a book: it is granted, or waiting, which the Performance Schema calls pending, or its wait is lost and not ended
 abbrev pub granted_status : ℕ
 granted_status = 0
 
 abbrev pub pending_status : ℕ
 pending_status = 1
 
--- the row of a ticket with this status. The mode is a number
-abbrev pub lock_row : ℕ → Ticket → LockRow
-lock_row status ticket = record { ticket = ticket.number; session = ticket.session; mode = mode_rank ticket.mode; status = status }
+abbrev pub lost_as_victim_status : ℕ
+lost_as_victim_status = 2
+
+abbrev pub lost_by_timeout_status : ℕ
+lost_by_timeout_status = 3
+
+abbrev pub lost_by_kill_status : ℕ
+lost_by_kill_status = 4
+
+-- the status of a waiting ticket whose wait is settled in this way, if it is settled
+abbrev pub waiting_status : Option Settled → ℕ
+waiting_status (Some settled.Victim) = lost_as_victim_status
+waiting_status (Some settled.Timeout) = lost_by_timeout_status
+waiting_status (Some settled.Killed) = lost_by_kill_status
+waiting_status _ = pending_status
+
+-- how the wait of a session is settled, if the manager has that session and it has a settled wait
+abbrev pub how_settled : ℕ → Managed → Option Settled
+how_settled who manager =
+    if has_member who manager then option_and_then (λ (wait : Pending). wait.settled) (seat_at who manager.space).wait else None
+
+-- the duration of a ticket that no context keeps
+abbrev pub unkept_duration : ℕ
+unkept_duration = 3
+
+-- how long a context keeps the ticket of a number: the one that it has, or else the one that it waits for
+abbrev pub duration_in : ℕ → ContextView → Option Duration
+duration_in id context =
+    option_or (option_map (λ (ticket : Kept). ticket.duration) (ticket_kept id context.kept)) (option_map (λ (wanted : Wanted). wanted.duration) context.wait)
+
+-- how long the ticket of a number is kept at a session's seat, as a number
+abbrev pub duration_at_seat : ℕ → Option Seat → ℕ
+duration_at_seat id (Some (seat.Kept context)) = option_map_or duration_rank (duration_in id context) unkept_duration
+duration_at_seat id _ = unkept_duration
+
+-- how long a ticket is kept, as a number
+abbrev pub duration_told : Managed → Ticket → ℕ
+duration_told manager ticket = duration_at_seat ticket.number (seat_of ticket.session manager)
+
+-- the row of a ticket with this status and this duration. The mode is a number
+abbrev pub lock_row : ℕ → ℕ → Ticket → LockRow
+lock_row status duration ticket =
+    record { ticket = ticket.number; session = ticket.session; mode = mode_rank ticket.mode; status = status; duration = duration }
+
+-- the rows of a granted and of a waiting ticket
+abbrev pub granted_row : Managed → Ticket → LockRow
+granted_row manager ticket = lock_row granted_status (duration_told manager ticket) ticket
+
+abbrev pub waiting_row : Managed → Ticket → LockRow
+waiting_row manager ticket = lock_row (waiting_status (how_settled ticket.session manager)) (duration_told manager ticket) ticket
 
 -- the tickets of a lock: the granted ones, in the order in which they were granted, and then the waiting ones, in the order of arrival
-abbrev pub lock_rows : BookView → List LockRow
-lock_rows book = map (lock_row granted_status) book.granted ++ map (lock_row pending_status) book.waiting
+abbrev pub lock_rows : Managed → BookView → List LockRow
+lock_rows manager book = map (granted_row manager) book.granted ++ map (waiting_row manager) book.waiting
+
+-- the waiting tickets of a place
+abbrev pub waiting_at : ℕ → Core → List Ticket
+waiting_at place space = option_map_or (λ (book : BookView). book.waiting) (keyed_book place space) []
+
+-- the rows of a lock are written, and their number is told, if there is such a lock
+abbrev pub LockTold : Managed → Option BookView → List LockRow → List LockRow → Option ℕ → Type 0
+LockTold manager None before after count = (after ≡ before) × (count ≡ None)
+LockTold manager (Some book) before after count =
+    (after ≡ room_written (lock_rows manager book) before) × (count ≡ Some (length (lock_rows manager book)))

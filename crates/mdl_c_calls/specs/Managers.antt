@@ -3,7 +3,7 @@ use Rattle.std.specs.Prelude.{◌≡◌, ◌≤◌, ℕ, ◌+◌, ◌-◌, Bool,
 use Rattle.mdl_calls.specs.Words.{Answer, Call, is_within}
 use Rattle.mdl_core.specs.Words.{Core, SpeaksFor, empty_core}
 use Rattle.mdl_space.specs.CoreMembers.{core_space}
-use Rattle.mdl_context.specs.Contexts.{Attends}
+use Rattle.mdl_context.specs.Contexts.{AreRising, Attends}
 use Rattle.mdl_c_calls.specs.declared.seat.Seat.{Seat}
 use Rattle.mdl_c_calls.specs.declared.seat.Seat.TheVariants.{Direct, Kept}
 use Rattle.mdl_c_calls.specs.declared.unserved.Unserved.{Unserved}
@@ -69,6 +69,11 @@ IsOutside who before after = (has_member who before ≡ false) × (after ≡ bef
 abbrev pub IsAttended : Core → ℕ → Seat → Type 0
 IsAttended space who Direct = Unit {0}
 IsAttended space who (Kept context) = (context.who ≡ who) × Attends core_space space context
+
+-- the numbers of the tickets that a context keeps at a seat rise
+abbrev pub AreRisingAt : Seat → Type 0
+AreRisingAt Direct = Unit {0}
+AreRisingAt (Kept context) = AreRising context.kept
 
 -- these are the seats of the sessions from this one on, and their contexts agree with the space
 abbrev pub AreAttended : Core → ℕ → List Seat → Type 0

@@ -36,7 +36,8 @@ refusal_rows =
     (26, codes "The session has no context.") ∷
     (27, codes "The session holds a ticket, has a wait, or pins a place.") ∷
     (28, codes "There is no duration of this number.") ∷
-    (29, codes "There is no namespace of this number.") ∷ []
+    (29, codes "There is no namespace of this number.") ∷
+    (30, codes "The program was built with the headers of another version.") ∷ []
 
 -- the texts of the space's refusals
 abbrev pub cause_rows : List MessageRow

@@ -3,16 +3,19 @@
 use Rattle.std.specs.Prelude.{◌≡◌, ◌⊎◌, ℕ, ◌-◌, Bool, not, ◌&&◌, ◌==◌, List, [], length, map, slice_set, Option, Some, None, is_some, MatchOption, Result, Ok, if◌then◌else◌}
 use Rattle.std.specs.List.{range_with_len}
 use Rattle.std.specs.Option.{option_or}
+use Rattle.mdl_key.specs.declared.mode.Duration.{Duration}
 use Rattle.mdl_key.specs.declared.mode.Duration.TheVariants.{Explicit}
+use Rattle.mdl_key.specs.declared.mode.Mode.{Mode}
+use Rattle.mdl_key.specs.Keys.{KeyName}
 use Rattle.mdl_calls.specs.Words.{SessionLocks, Program, Give, ◌>>=◌, Runs}
 use Rattle.mdl_core.specs.Words.{Core, locks_at}
 use Rattle.mdl_space.specs.CoreMembers.{core_space}
 use Rattle.mdl_context.specs.declared.context_error.ContextError.{ContextError}
 use Rattle.mdl_context.specs.declared.kept.Wanted.{Wanted}
 use Rattle.mdl_context.specs.declared.request.Mark.{Mark}
-use Rattle.mdl_context.specs.Contexts.{ContextView, current_mark}
-use Rattle.mdl_context.specs.Holdings.{kept_for, transactional}
-use Rattle.mdl_context.specs.Releases.{giving_up_all, unless, waiting_fault}
+use Rattle.mdl_context.specs.Contexts.{ContextView, current_mark, holds_as_strong}
+use Rattle.mdl_context.specs.Holdings.{kept_for, transactional, with_duration}
+use Rattle.mdl_context.specs.Releases.{giving_up_all, release_fault, unless, waiting_fault}
 use Rattle.mdl_context.specs.Requests.{Outcome}
 use Rattle.mdl_context.specs.Tidying.{unpinning_all}
 use Rattle.mdl_context.specs.Waits.{giving_up_wait}
@@ -32,6 +35,11 @@ abbrev pub with_seat : ℕ → Seat → Managed → Managed
 with_seat who seat manager = record manager { seats = slice_set manager.seats (who - 1) seat }
 
 -- ---- calls of contexts that make no call of the space
+
+-- the ticket of a number is kept for this duration from now on
+abbrev pub changing_duration : ℕ → Duration → ContextView → Program (Outcome (Unit {0}))
+changing_duration id duration context =
+    unless (release_fault id context) context (Give (Ok tt, record context { kept = with_duration id duration context.kept }))
 
 -- all tickets become explicit: they are kept until they are released
 abbrev pub making_explicit : ContextView → Program (Outcome (Unit {0}))
@@ -54,6 +62,11 @@ RunsFor who program result before after =
 -- the context returns a mark of its tickets, and nothing changes
 abbrev pub Marks : ℕ → Mark → Managed → Managed → Type 0
 Marks who mark before after = (context : ContextView) × (seat_of who before ≡ Some (Kept context)) × (mark ≡ current_mark context.kept) × (after ≡ before)
+
+-- the context tells whether it keeps a ticket of a key in a mode at least as strong, and nothing changes
+abbrev pub TellsKept : ℕ → KeyName → Mode → Bool → Managed → Managed → Type 0
+TellsKept who key mode is_kept before after =
+    (context : ContextView) × (seat_of who before ≡ Some (Kept context)) × (is_kept ≡ holds_as_strong key mode context) × (after ≡ before)
 
 -- a call of a session's context, or its refusal if the session has none
 abbrev pub ServesContext : {A : Type 0} → ℕ → (ContextView → Program (Outcome A)) → (Result A ContextError → ℕ) → Option Managed → ℕ → Option Managed

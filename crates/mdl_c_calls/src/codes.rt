@@ -2,7 +2,7 @@
 ghost use Rattle.std.specs.Prelude.{◌≡◌, Option};
 ghost use Rattle.std.specs.Option.{option_map};
 ghost use Rattle.std.specs.Result.{result_ok};
-ghost use Rattle.mdl_calls.specs.Words.{Has_killed, attempted, begun, cloned, done, ended, placed, polled, searched, timed_out, upgrade_tried};
+ghost use Rattle.mdl_calls.specs.Words.{Has_killed, Has_wait, attempted, begun, cloned, done, ended, placed, polled, searched, timed_out, upgrade_tried};
 ghost use Rattle.mdl_c_calls.specs.Codes.{cause_code, code_at, code_of, mode_at, name_code, new_code, settled_code, told_at};
 ghost use Rattle.mdl_c_calls.specs.ContextCodes.{answered, served_code};
 
@@ -13,6 +13,9 @@ use mdl_space::{
     Attempt, Begun, Ended, NewError, Place, Poll, Search, Settled, SpaceError, TicketId, TimedOut,
     Upgrade,
 };
+
+/// The version of the library, and of its headers: 600 is 0.6.0.
+pub const VERSION: u32 = 600;
 
 pub const DONE: u32 = 0;
 
@@ -38,7 +41,13 @@ pub const NO_MODE: u32 = 21;
 
 pub const BAD_BYTE: u32 = 24;
 
+pub const OTHER_VERSION: u32 = 30;
+
 pub const NO_PLACE: u32 = 32;
+
+pub const BAD_MODE: u32 = 37;
+
+pub const NO_WAIT: u32 = 39;
 
 pub const NO_MEMORY: u32 = 45;
 
@@ -95,9 +104,9 @@ pub fn cause_code(cause: SpaceError) -> u32
         SpaceError::NotUpgradable => 34,
         SpaceError::NotExclusive => 35,
         SpaceError::AlreadyWaiting => 36,
-        SpaceError::BadMode => 37,
+        SpaceError::BadMode => BAD_MODE,
         SpaceError::VersionFull => 38,
-        SpaceError::NoWait => 39,
+        SpaceError::NoWait => NO_WAIT,
         SpaceError::Unsettled => 40,
         SpaceError::CounterFull => 41,
         SpaceError::Full => 42,
@@ -225,6 +234,21 @@ pub fn end_code(answer: Result<Result<Ended, SpaceError>, Unserved>, ticket: &mu
         Ok(Ok(Ended::Killed)) => KILLED,
         Ok(Err(cause)) => cause_code(cause),
         Err(why) => unserved_code(why),
+    }
+}
+
+/// Writes the number of a session's wait, if it has one, and returns the code.
+pub fn wait_code(answer: Option<Option<u64>>, number: &mut u64) -> u32
+    ensures code { result ≡ code_at (option_map Has_wait answer) }
+    ensures told { number.new ≡ told_at (option_map Has_wait answer) number.old }
+{
+    match answer {
+        Some(Some(wait)) => {
+            *number = wait;
+            DONE
+        }
+        Some(None) => NO_WAIT,
+        None => NO_SESSION,
     }
 }
 

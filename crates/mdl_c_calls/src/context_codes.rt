@@ -1,17 +1,19 @@
 //! The codes of the calls that are refused if a session has a context, and of the calls of contexts.
 ghost use Rattle.std.specs.Prelude.{◌≡◌};
 ghost use Rattle.std.specs.Result.{result_ok};
-ghost use Rattle.mdl_c_calls.specs.ContextCodes.{acquire_code, acquire_told, done_code, duration_at, fault_code, mark_told, namespace_at, resume_code, resume_told, served_code, unserved_code};
+ghost use Rattle.mdl_c_calls.specs.ContextCodes.{acquire_code, acquire_told, done_code, duration_at, fault_code, kept_code, mark_told, namespace_at, resume_code, resume_told, served_code, tried_code, tried_told, unserved_code};
 
-use crate::codes::{DONE, NO_MEMORY, NO_SESSION, WAITING, cause_code, settled_code};
+use crate::codes::{DONE, NO_MEMORY, NO_SESSION, WAITING, WOULD_WAIT, cause_code, settled_code};
 use crate::mark::Mark;
 use crate::unserved::Unserved;
-use mdl_context::{Acquire, ContextError, Resume};
+use mdl_context::{Acquire, ContextError, Resume, Tried};
 use mdl_key::{Duration, Namespace};
 
 pub const NO_DURATION: u32 = 28;
 
 pub const NO_NAMESPACE: u32 = 29;
+
+const NOT_KEPT: u32 = 49;
 
 /// Returns the duration of a number, if there is one.
 pub fn duration_of(number: u8) -> Option<Duration>
@@ -58,7 +60,7 @@ pub fn fault_code(fault: ContextError) -> u32
 {
     match fault {
         ContextError::StaleSavepoint => 48,
-        ContextError::NotHeld => 49,
+        ContextError::NotHeld => NOT_KEPT,
         ContextError::Waiting => 50,
         ContextError::Space(cause) => cause_code(cause),
     }
@@ -82,6 +84,33 @@ pub fn acquire_code(
             WAITING
         }
         Ok(Err(fault)) => fault_code(fault),
+        Err(why) => unserved_code(why),
+    }
+}
+
+/// Writes the number of the ticket, if there is one, and returns the code.
+pub fn tried_code(answer: Result<Result<Tried, ContextError>, Unserved>, ticket: &mut u64) -> u32
+    ensures code { result ≡ served_code tried_code answer }
+    ensures told { ticket.new ≡ tried_told (result_ok answer) ticket.old }
+{
+    match answer {
+        Ok(Ok(Tried::Acquired(granted))) => {
+            *ticket = granted;
+            DONE
+        }
+        Ok(Ok(Tried::WouldWait)) => WOULD_WAIT,
+        Ok(Err(fault)) => fault_code(fault),
+        Err(why) => unserved_code(why),
+    }
+}
+
+/// Returns the code that says whether a context keeps a ticket.
+pub fn kept_code(answer: Result<bool, Unserved>) -> u32
+    ensures { result ≡ served_code kept_code answer }
+{
+    match answer {
+        Ok(true) => DONE,
+        Ok(false) => NOT_KEPT,
         Err(why) => unserved_code(why),
     }
 }

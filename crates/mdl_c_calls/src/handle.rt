@@ -57,17 +57,17 @@ impl Handle {
 
 unsafe impl Send for Handle {}
 
-/// The handle of a `ServedSpace`, or the room for one, in memory of the C program: `struct mdl_space` of `mdl.h`. All of its bytes are 0 if there is no
+/// The handle of a `ServedSpace`, or the room for one, in memory of the C program: `struct gaz_one_space` of `gaz_one.h`. All of its bytes are 0 if there is no
 /// `ServedSpace`.
 #[derive(Drop)]
 #[repr(C)]
-pub struct MdlSpace {
+pub struct OneSpace {
     pub handle: Handle,
     is_open: bool,
     ghost tells: { is_some handle.manager ≡ is_open },
 }
 
-impl MdlSpace {
+impl OneSpace {
     /// Whether there is a `ServedSpace`.
     pub(crate) fn is_open(&self) -> bool
         ensures { result ≡ is_some self.now.handle.manager }
@@ -82,7 +82,7 @@ impl MdlSpace {
     {
         let was = mem::replace(
             self,
-            MdlSpace {
+            OneSpace {
                 handle: Handle::none(alloc),
                 is_open: false,
             },
@@ -90,7 +90,7 @@ impl MdlSpace {
         if !was.is_open {
             return None;
         }
-        let MdlSpace { handle, is_open: _ } = was;
+        let OneSpace { handle, is_open: _ } = was;
         Some(handle.into_parts().into_box())
     }
 
@@ -99,7 +99,7 @@ impl MdlSpace {
         requires empty { self.old.handle.manager ≡ None }
         ensures { self.new.handle.manager ≡ Some manager.value }
     {
-        *self = MdlSpace {
+        *self = OneSpace {
             handle: Handle::of_parts(Parts::of(manager)),
             is_open: true,
         };
@@ -110,5 +110,5 @@ fn crosses<T: Send>() {}
 
 /// A handle may be sent from one thread of the C program to another: a law, proved as the contract of a function that does nothing.
 pub fn spaces_cross() {
-    crosses::<MdlSpace>();
+    crosses::<OneSpace>();
 }

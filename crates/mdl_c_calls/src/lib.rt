@@ -15,6 +15,7 @@ mod listings;
 mod manager;
 mod mark;
 mod messages;
+mod modes;
 mod names;
 mod parts;
 mod rows;
@@ -25,17 +26,27 @@ mod transactions;
 mod unserved;
 mod waits;
 
-pub use handle::MdlSpace;
-pub use keys::{mdl_commit, mdl_global, mdl_schema, mdl_table, mdl_unpin};
-pub use listings::{mdl_held, mdl_key_of, mdl_locks, mdl_places, mdl_settled};
-pub use mark::Mark;
-pub use messages::mdl_message;
-pub use rows::{HeldRow, LockRow};
-pub use spaces::{mdl_close, mdl_open};
-pub use tickets::{mdl_clone, mdl_downgrade, mdl_merge, mdl_release, mdl_try, mdl_upgrade};
-pub use transactions::{
-    mdl_acquire, mdl_context_begin, mdl_context_downgrade, mdl_context_end, mdl_context_release,
-    mdl_context_upgrade, mdl_end_statement, mdl_end_transaction, mdl_give_up, mdl_make_explicit,
-    mdl_make_transactional, mdl_release_name, mdl_resume, mdl_rollback_to, mdl_savepoint,
+pub use handle::OneSpace;
+pub use keys::{
+    gaz_one_commit, gaz_one_global, gaz_one_schema, gaz_one_table, gaz_one_unpin, gaz_one_user_lock,
 };
-pub use waits::{mdl_begin, mdl_end, mdl_kill, mdl_poll, mdl_search, mdl_time_out};
+pub use listings::{gaz_one_held, gaz_one_key_of, gaz_one_locks, gaz_one_places, gaz_one_settled};
+pub use mark::Mark;
+pub use messages::gaz_one_message;
+pub use modes::gaz_one_clashes;
+pub use rows::{HeldRow, LockRow};
+pub use spaces::{gaz_one_close, gaz_one_open_version, gaz_one_version};
+pub use tickets::{
+    gaz_one_clone, gaz_one_downgrade, gaz_one_merge, gaz_one_release, gaz_one_try, gaz_one_upgrade,
+};
+pub use transactions::{
+    gaz_one_acquire, gaz_one_context_begin, gaz_one_context_downgrade, gaz_one_context_end,
+    gaz_one_context_release, gaz_one_context_upgrade, gaz_one_end_statement,
+    gaz_one_end_transaction, gaz_one_give_up, gaz_one_holds, gaz_one_make_explicit,
+    gaz_one_make_transactional, gaz_one_release_explicit, gaz_one_release_name, gaz_one_resume,
+    gaz_one_rollback_to, gaz_one_savepoint, gaz_one_set_duration, gaz_one_try_acquire,
+};
+pub use waits::{
+    gaz_one_begin, gaz_one_end, gaz_one_kill, gaz_one_poll, gaz_one_search, gaz_one_time_out,
+    gaz_one_wait_of,
+};

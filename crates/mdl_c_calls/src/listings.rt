@@ -8,14 +8,19 @@ ghost use Rattle.mdl_c_calls.specs.Exports.{ServesCall};
 ghost use Rattle.mdl_c_calls.specs.Listings.{HeldTold, IsKept, IsListWritten, ShowsLock, ShowsSpace, lock_rows, settled_sessions};
 
 use crate::codes::{CLOSED, DONE, NO_PLACE, NO_SESSION, cause_code};
-use crate::handle::MdlSpace;
-use crate::rows::{HeldRow, LockRow, tell_held, tell_lock, tell_text};
+use crate::handle::OneSpace;
+use crate::rows::{HeldRow, LockRow, tell_held, tell_text};
 use mdl_book::Book;
 use mdl_space::{Held, SpaceError};
 use std::alloc::Global;
 
 /// Writes the sessions whose waits are settled and not ended, in rising order.
-pub fn mdl_settled(alloc: Global, space: &mut MdlSpace, room: &mut [u16], count: &mut usize) -> u32
+pub fn gaz_one_settled(
+    alloc: Global,
+    space: &mut OneSpace,
+    room: &mut [u16],
+    count: &mut usize,
+) -> u32
     ensures { ShowsSpace space.old.handle.manager result space.new.handle.manager
         (IsKept room.old room.new count.old count.new) (λ m. (result ≡ 0) × IsListWritten (settled_sessions m) room.old room.new count.new) }
 {
@@ -28,9 +33,9 @@ pub fn mdl_settled(alloc: Global, space: &mut MdlSpace, room: &mut [u16], count:
 }
 
 /// Writes the tickets that a session holds, in the order in which it got them.
-pub fn mdl_held(
+pub fn gaz_one_held(
     alloc: Global,
-    space: &mut MdlSpace,
+    space: &mut OneSpace,
     who: u16,
     room: &mut [HeldRow],
     count: &mut usize,
@@ -46,7 +51,7 @@ pub fn mdl_held(
 }
 
 /// Writes how many places have keys. They are those from 1 to this number.
-pub fn mdl_places(alloc: Global, space: &mut MdlSpace, count: &mut usize) -> u32
+pub fn gaz_one_places(alloc: Global, space: &mut OneSpace, count: &mut usize) -> u32
     ensures { ShowsSpace space.old.handle.manager result space.new.handle.manager (count.new ≡ count.old) (λ m. (result ≡ 0) × (count.new ≡ length m.space.books)) }
 {
     let Some(manager) = space.take(alloc) else {
@@ -58,9 +63,9 @@ pub fn mdl_places(alloc: Global, space: &mut MdlSpace, count: &mut usize) -> u32
 }
 
 /// Writes the key of a place: the number of its namespace, and the names of its schema and its table if it has them.
-pub fn mdl_key_of(
+pub fn gaz_one_key_of(
     alloc: Global,
-    space: &mut MdlSpace,
+    space: &mut OneSpace,
     place: u16,
     namespace: &mut u8,
     schema: &mut [u8],
@@ -70,7 +75,7 @@ pub fn mdl_key_of(
 ) -> u32
     ensures { ShowsLock place space.old.handle.manager result space.new.handle.manager
         ((namespace.new ≡ namespace.old) × IsKept schema.old schema.new schema_count.old schema_count.new × IsKept table.old table.new table_count.old table_count.new)
-        (λ book. (namespace.new ≡ namespace_rank book.key.namespace)
+        (λ manager book. (namespace.new ≡ namespace_rank book.key.namespace)
         × IsListWritten book.key.schema schema.old schema.new schema_count.new × IsListWritten book.key.table table.old table.new table_count.new) }
 {
     let Some(manager) = space.take(alloc) else {
@@ -83,20 +88,20 @@ pub fn mdl_key_of(
 }
 
 /// Writes the tickets of a place's lock: first the granted ones, in the order in which they were granted, then the waiting ones, in order of arrival.
-pub fn mdl_locks(
+pub fn gaz_one_locks(
     alloc: Global,
-    space: &mut MdlSpace,
+    space: &mut OneSpace,
     place: u16,
     room: &mut [LockRow],
     count: &mut usize,
 ) -> u32
     ensures { ShowsLock place space.old.handle.manager result space.new.handle.manager
-        (IsKept room.old room.new count.old count.new) (λ book. IsListWritten (lock_rows book) room.old room.new count.new) }
+        (IsKept room.old room.new count.old count.new) (λ manager book. IsListWritten (lock_rows manager book) room.old room.new count.new) }
 {
-    let Some(manager) = space.take(alloc) else {
+    let Some(mut manager) = space.take(alloc) else {
         return CLOSED;
     };
-    let code = lock_code(manager.book(place), room, count);
+    let code = lock_code(manager.tell_lock(place, room), count);
     space.put(manager);
     code
 }
@@ -144,15 +149,13 @@ fn key_code(
     DONE
 }
 
-// Writes the tickets of a lock, if there is one, and returns the code.
-fn lock_code(book: Option<&Book>, room: &mut [LockRow], count: &mut usize) -> u32
-    ensures { MatchOption (option_copied book.entry)
-        ((result ≡ no_place) × IsKept room.old room.new count.old count.new)
-        (λ b. (result ≡ 0) × IsListWritten (lock_rows b) room.old room.new count.new) }
+// Writes the number of a lock's tickets, if there is such a lock, and returns the code.
+fn lock_code(found: Option<usize>, count: &mut usize) -> u32
+    ensures { MatchOption found ((result ≡ no_place) × (count.new ≡ count.old)) (λ all. (result ≡ 0) × (count.new ≡ all)) }
 {
-    let Some(book) = book else {
+    let Some(all) = found else {
         return NO_PLACE;
     };
-    tell_lock(book, room, count);
+    *count = all;
     DONE
 }

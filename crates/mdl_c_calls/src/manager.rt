@@ -2,7 +2,7 @@
 //! tickets.
 ghost use Rattle.std.specs.Prelude.{◌≡◌, ◌≤◌, ◌<◌, ◌+◌, Some, None, length, replicate, MatchOption, MatchResult, IfOk};
 ghost use Rattle.mdl_key.specs.Words.{Refuses};
-ghost use Rattle.mdl_calls.specs.Words.{Begin_wait, Clone_ticket, Downgrade, End_wait, Has_killed, Kill, Merge, Poll_wait, Release, Resolve, Search as Search_by, Settle_timeout, Try_now, Unpin, Upgrade_now, attempted, begun, cloned, done, ended, new_fault, placed, polled, searched, timed_out, upgrade_tried};
+ghost use Rattle.mdl_calls.specs.Words.{Begin_wait, Clone_ticket, Downgrade, End_wait, Has_killed, Has_wait, Kill, Merge, Poll_wait, Release, Resolve, Search as Search_by, Settle_timeout, Try_now, Unpin, Upgrade_now, Wait_of, attempted, begun, cloned, done, ended, new_fault, placed, polled, searched, timed_out, upgrade_tried};
 ghost use Rattle.mdl_c_calls.specs.Managers.{direct_fault, has_member, new_manager, seat_of, Asks, IsOutside, JoinsServed, JoinsFor};
 ghost use Rattle.mdl_c_calls.specs.declared.seat.Seat.TheVariants.{Direct};
 
@@ -144,6 +144,16 @@ impl ServedSpace {
             return None;
         }
         Some(self.space.settle_timeout(who))
+    }
+
+    /// Returns the number of a session's wait, if it has one.
+    pub fn wait_of(&mut self, who: u16) -> Option<Option<u64>>
+        ensures { MatchOption result (IsOutside who self.old self.new) (λ number. JoinsFor who (Wait_of who) (Has_wait number) self.old self.new) }
+    {
+        if !self.has(who) {
+            return None;
+        }
+        Some(self.space.wait_of(who))
     }
 
     pub fn end_wait(&mut self, who: u16) -> Result<Result<Ended, SpaceError>, Unserved>

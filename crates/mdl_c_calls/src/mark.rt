@@ -2,7 +2,7 @@
 ghost use Rattle.std.specs.Prelude.{◌≡◌};
 ghost use Rattle.mdl_c_calls.specs.ContextCodes.{mark_in_c, mark_in_context};
 
-/// A point in a session's work: `struct mdl_mark` of `mdl.h`.
+/// A point in a session's work: `struct gaz_mark` of `gaz_codes.h`.
 #[derive(Clone, Copy)]
 #[repr(C)]
 pub struct Mark {

@@ -9,7 +9,7 @@ use crate::rows::tell_text;
 const UNKNOWN: &str = "There is no such code.";
 
 /// Writes the text of a code. A number that is no code has a text, too.
-pub fn mdl_message(code: u32, room: &mut [u8], count: &mut usize) -> u32
+pub fn gaz_one_message(code: u32, room: &mut [u8], count: &mut usize) -> u32
     ensures code { result ≡ 0 }
     ensures told { IsListWritten (message_of code) room.old room.new count.new }
     ensures short { count.new ≤ 80 }
@@ -65,6 +65,7 @@ fn refusal_text(code: u32) -> &'static str
         27 => "The session holds a ticket, has a wait, or pins a place.",
         28 => "There is no duration of this number.",
         29 => "There is no namespace of this number.",
+        30 => "The program was built with the headers of another version.",
         _ => UNKNOWN,
     }
 }

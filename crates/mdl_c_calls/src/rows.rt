@@ -3,17 +3,26 @@ ghost use Rattle.std.specs.Prelude.{◌≡◌, Some, map};
 ghost use Rattle.mdl_key.specs.declared.mode.Mode.{Mode};
 ghost use Rattle.mdl_key.specs.Words.{mode_rank};
 ghost use Rattle.mdl_c_calls.specs.Codes.{mode_at};
-ghost use Rattle.mdl_c_calls.specs.Listings.{IsListWritten, held_row, lock_row, lock_rows, room_written};
+ghost use Rattle.mdl_c_calls.specs.Listings.{IsListWritten, held_row, lock_row};
 
-use mdl_book::{Book, Ticket};
+use mdl_book::Ticket;
 use mdl_key::Mode;
 use mdl_space::Held;
 
-const GRANTED: u8 = 0;
+pub const GRANTED: u8 = 0;
 
-const PENDING: u8 = 1;
+pub const PENDING: u8 = 1;
 
-/// A ticket that a session holds: `struct mdl_ticket` of `mdl.h`.
+pub const LOST_AS_VICTIM: u8 = 2;
+
+pub const LOST_BY_TIMEOUT: u8 = 3;
+
+pub const LOST_BY_KILL: u8 = 4;
+
+/// The duration of a ticket that no context keeps.
+pub const UNKEPT: u8 = 3;
+
+/// A ticket that a session holds: `struct gaz_ticket` of `gaz_codes.h`.
 #[derive(Clone, Copy)]
 #[repr(C)]
 pub struct HeldRow {
@@ -34,7 +43,7 @@ impl HeldRow {
     }
 }
 
-/// A ticket in the book of a lock, granted or waiting: `struct mdl_lock` of `mdl.h`.
+/// A ticket in the book of a lock, granted or waiting: `struct gaz_lock` of `gaz_codes.h`.
 #[derive(Clone, Copy)]
 #[repr(C)]
 pub struct LockRow {
@@ -42,17 +51,19 @@ pub struct LockRow {
     pub session: u16,
     pub mode: u8,
     pub status: u8,
+    pub duration: u8,
 }
 
 impl LockRow {
-    fn of(ticket: Ticket, status: u8) -> LockRow
-        ensures { result ≡ lock_row status ticket }
+    pub(crate) fn of(ticket: Ticket, status: u8, duration: u8) -> LockRow
+        ensures { result ≡ lock_row status duration ticket }
     {
         LockRow {
             ticket: ticket.number,
             session: ticket.session,
             mode: number_of(ticket.mode),
             status,
+            duration,
         }
     }
 }
@@ -87,26 +98,4 @@ pub fn tell_held(tickets: &[Held], room: &mut [HeldRow], count: &mut usize)
         room[at] = HeldRow::of(*ticket);
     }
     *count = tickets.len();
-}
-
-/// Writes as many tickets of a lock as there is room for, the granted ones first. `count` gets the number of all.
-pub fn tell_lock(book: &Book, room: &mut [LockRow], count: &mut usize)
-    ensures { IsListWritten (lock_rows book.now) room.old room.new count.new }
-{
-    let granted = book.granted();
-    let waiting = book.waiting();
-    let front = granted.len().min(room.len());
-    write_tickets(granted, GRANTED, room);
-    write_tickets(waiting, PENDING, &mut room[front..]);
-    *count = granted.len() + waiting.len();
-}
-
-// Writes as many of these tickets as there is room for, with this status.
-fn write_tickets(tickets: &[Ticket], status: u8, room: &mut [LockRow])
-    ensures { room.new ≡ room_written (map (lock_row status) tickets.now) room.old }
-{
-    let fitting = &tickets[..tickets.len().min(room.len())];
-    for (at, ticket) in fitting.iter().enumerate() {
-        room[at] = LockRow::of(*ticket, status);
-    }
 }

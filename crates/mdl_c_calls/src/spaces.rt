@@ -1,14 +1,38 @@
-//! The calls that make a space and free it.
+//! The calls that make a space and free it, and the one that tells the library's version.
 ghost use Rattle.std.specs.Prelude.{◌≡◌};
-ghost use Rattle.mdl_c_calls.specs.Exports.{Closes, OpensSpace};
+ghost use Rattle.mdl_c_calls.specs.Codes.{library_version};
+ghost use Rattle.mdl_c_calls.specs.Exports.{Closes, OpensSpace, OpensVersion};
 
-use crate::codes::{CLOSED, DONE, IS_OPEN, NO_MEMORY, new_code};
-use crate::handle::MdlSpace;
+use crate::codes::{CLOSED, DONE, IS_OPEN, NO_MEMORY, OTHER_VERSION, VERSION, new_code};
+use crate::handle::OneSpace;
 use crate::manager::ServedSpace;
 use std::alloc::Global;
 
-/// Makes a space with this number of places and sessions, if the handle has none yet.
-pub fn mdl_open(alloc: Global, space: &mut MdlSpace, places: u16, sessions: u16) -> u32
+/// Returns the version of the library.
+pub fn gaz_one_version() -> u32
+    ensures { result ≡ library_version }
+{
+    VERSION
+}
+
+/// Makes a space with this number of places and sessions, if the handle has none yet, for a program that has the headers of this version.
+pub fn gaz_one_open_version(
+    alloc: Global,
+    space: &mut OneSpace,
+    version: u32,
+    places: u16,
+    sessions: u16,
+) -> u32
+    ensures { OpensVersion version places sessions space.old.handle.manager result space.new.handle.manager }
+{
+    if version != VERSION {
+        return OTHER_VERSION;
+    }
+    open(alloc, space, places, sessions)
+}
+
+// Makes a space, if the handle has none yet.
+fn open(alloc: Global, space: &mut OneSpace, places: u16, sessions: u16) -> u32
     ensures { OpensSpace places sessions space.old.handle.manager result space.new.handle.manager }
 {
     if space.is_open() {
@@ -28,7 +52,7 @@ pub fn mdl_open(alloc: Global, space: &mut MdlSpace, places: u16, sessions: u16)
 }
 
 /// Frees the handle's space, with all that its sessions hold and wait for.
-pub fn mdl_close(alloc: Global, space: &mut MdlSpace) -> u32
+pub fn gaz_one_close(alloc: Global, space: &mut OneSpace) -> u32
     ensures { Closes space.old.handle.manager result space.new.handle.manager }
 {
     match space.take(alloc) {

@@ -5,13 +5,13 @@ ghost use Rattle.mdl_c_calls.specs.Codes.{mode_at, no_mode};
 ghost use Rattle.mdl_c_calls.specs.Exports.{Nothing, Number, ServesDirect, ServesDirectWish};
 
 use crate::codes::{CLOSED, NO_MODE, attempt_code, clone_code, done_code, mode_of, upgrade_code};
-use crate::handle::MdlSpace;
+use crate::handle::OneSpace;
 use std::alloc::Global;
 
 /// Requests a lock at a place that the session pins, without waiting.
-pub fn mdl_try(
+pub fn gaz_one_try(
     alloc: Global,
-    space: &mut MdlSpace,
+    space: &mut OneSpace,
     who: u16,
     place: u16,
     mode: u8,
@@ -31,7 +31,7 @@ pub fn mdl_try(
 }
 
 /// Releases a ticket.
-pub fn mdl_release(alloc: Global, space: &mut MdlSpace, who: u16, ticket: u64) -> u32
+pub fn gaz_one_release(alloc: Global, space: &mut OneSpace, who: u16, ticket: u64) -> u32
     ensures { ServesDirect who (Release who ticket) space.old.handle.manager result space.new.handle.manager Nothing }
 {
     let Some(mut manager) = space.take(alloc) else {
@@ -43,7 +43,7 @@ pub fn mdl_release(alloc: Global, space: &mut MdlSpace, who: u16, ticket: u64) -
 }
 
 /// Upgrades a held ticket to a stronger mode, without waiting.
-pub fn mdl_upgrade(alloc: Global, space: &mut MdlSpace, who: u16, ticket: u64, mode: u8) -> u32
+pub fn gaz_one_upgrade(alloc: Global, space: &mut OneSpace, who: u16, ticket: u64, mode: u8) -> u32
     ensures { ServesDirectWish no_mode (mode_at mode) (Upgrade_now who ticket) who space.old.handle.manager result space.new.handle.manager Nothing }
 {
     let Some(mode) = mode_of(mode) else {
@@ -58,7 +58,13 @@ pub fn mdl_upgrade(alloc: Global, space: &mut MdlSpace, who: u16, ticket: u64, m
 }
 
 /// Downgrades a held ticket to a weaker mode.
-pub fn mdl_downgrade(alloc: Global, space: &mut MdlSpace, who: u16, ticket: u64, mode: u8) -> u32
+pub fn gaz_one_downgrade(
+    alloc: Global,
+    space: &mut OneSpace,
+    who: u16,
+    ticket: u64,
+    mode: u8,
+) -> u32
     ensures { ServesDirectWish no_mode (mode_at mode) (Downgrade who ticket) who space.old.handle.manager result space.new.handle.manager Nothing }
 {
     let Some(mode) = mode_of(mode) else {
@@ -73,9 +79,9 @@ pub fn mdl_downgrade(alloc: Global, space: &mut MdlSpace, who: u16, ticket: u64,
 }
 
 /// Clones a held ticket: grants a second ticket of its place.
-pub fn mdl_clone(
+pub fn gaz_one_clone(
     alloc: Global,
-    space: &mut MdlSpace,
+    space: &mut OneSpace,
     who: u16,
     ticket: u64,
     mode: u8,
@@ -95,7 +101,7 @@ pub fn mdl_clone(
 }
 
 /// Gives a held ticket the mode of another one of its place, and releases the other.
-pub fn mdl_merge(alloc: Global, space: &mut MdlSpace, who: u16, kept: u64, gone: u64) -> u32
+pub fn gaz_one_merge(alloc: Global, space: &mut OneSpace, who: u16, kept: u64, gone: u64) -> u32
     ensures { ServesDirect who (Merge who kept gone) space.old.handle.manager result space.new.handle.manager Nothing }
 {
     let Some(mut manager) = space.take(alloc) else {

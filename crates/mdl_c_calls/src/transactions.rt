@@ -1,28 +1,29 @@
 //! The calls of contexts, for transactions: a context keeps a session's tickets by their durations.
 ghost use Rattle.std.specs.Prelude.{◌≡◌};
-ghost use Rattle.mdl_context.specs.Releases.{ending_statement, ending_transaction, releasing, releasing_name, rolling_back};
-ghost use Rattle.mdl_context.specs.Requests.{acquiring};
+ghost use Rattle.mdl_context.specs.Releases.{ending_explicit, ending_statement, ending_transaction, releasing, releasing_name, rolling_back};
+ghost use Rattle.mdl_context.specs.Requests.{acquiring, trying};
 ghost use Rattle.mdl_context.specs.Upgrades.{downgrading, upgrading};
 ghost use Rattle.mdl_context.specs.Waits.{giving_up_wait, resuming};
 ghost use Rattle.mdl_c_calls.specs.Codes.{mode_at, no_mode};
-ghost use Rattle.mdl_c_calls.specs.ContextCodes.{acquire_code, acquire_told, done_code, mark_in_context, mark_told, namespace_at, resume_code, resume_told};
+ghost use Rattle.mdl_c_calls.specs.ContextCodes.{acquire_code, acquire_told, done_code, duration_at, kept_code, mark_in_context, mark_told, namespace_at, no_duration, resume_code, resume_told, tried_code, tried_told};
 ghost use Rattle.mdl_c_calls.specs.Exports.{Replies, Tells};
 ghost use Rattle.mdl_c_calls.specs.Managers.{context_fault};
 ghost use Rattle.mdl_c_calls.specs.Names.{NamedIn};
-ghost use Rattle.mdl_c_calls.specs.Transactions.{making_explicit, making_transactional, Begins, Ends, Given, Marks, ServesContext, Reports, Untold, MakesWish};
+ghost use Rattle.mdl_c_calls.specs.Transactions.{changing_duration, making_explicit, making_transactional, Begins, Ends, Given, Marks, ServesContext, Reports, TellsKept, Untold, MakesWish};
 
 use crate::codes::{CLOSED, NO_MODE, mode_of};
 use crate::context_codes::{
-    NO_DURATION, acquire_code, duration_of, finish_code, mark_code, resume_code, served_code,
+    NO_DURATION, acquire_code, duration_of, finish_code, kept_code, mark_code, resume_code,
+    served_code, tried_code,
 };
-use crate::handle::MdlSpace;
+use crate::handle::OneSpace;
 use crate::mark::Mark;
 use crate::names::key_of;
 use mdl_key::{Duration, Key, Mode};
 use std::alloc::Global;
 
 /// Begins a context, which keeps the session's tickets from now on.
-pub fn mdl_context_begin(alloc: Global, space: &mut MdlSpace, who: u16) -> u32
+pub fn gaz_one_context_begin(alloc: Global, space: &mut OneSpace, who: u16) -> u32
     ensures { Begins who space.old.handle.manager result space.new.handle.manager }
 {
     let Some(mut manager) = space.take(alloc) else {
@@ -34,7 +35,7 @@ pub fn mdl_context_begin(alloc: Global, space: &mut MdlSpace, who: u16) -> u32
 }
 
 /// Ends a session's context, which gives up its wait and releases all its tickets. The session pins nothing then.
-pub fn mdl_context_end(alloc: Global, space: &mut MdlSpace, who: u16) -> u32
+pub fn gaz_one_context_end(alloc: Global, space: &mut OneSpace, who: u16) -> u32
     ensures { Ends who space.old.handle.manager result space.new.handle.manager }
 {
     let Some(mut manager) = space.take(alloc) else {
@@ -48,7 +49,7 @@ pub fn mdl_context_end(alloc: Global, space: &mut MdlSpace, who: u16) -> u32
 // Acquires a lock of a key, or begins to wait for it.
 fn acquire(
     alloc: Global,
-    space: &mut MdlSpace,
+    space: &mut OneSpace,
     who: u16,
     key: &Key,
     mode: Mode,
@@ -66,9 +67,9 @@ fn acquire(
 }
 
 /// Acquires a lock for this duration, or begins to wait for it.
-pub fn mdl_acquire(
+pub fn gaz_one_acquire(
     alloc: Global,
-    space: &mut MdlSpace,
+    space: &mut OneSpace,
     who: u16,
     namespace: u8,
     schema: &[u8],
@@ -93,8 +94,93 @@ pub fn mdl_acquire(
     }
 }
 
+// Acquires a lock of a key, if that needs no wait.
+fn try_acquire(
+    alloc: Global,
+    space: &mut OneSpace,
+    who: u16,
+    key: &Key,
+    mode: Mode,
+    duration: Duration,
+    ticket: &mut u64,
+) -> u32
+    ensures { ServesContext who (trying (record { key = key.now; mode = mode; duration = duration })) tried_code space.old.handle.manager result space.new.handle.manager (Reports tried_told ticket.old ticket.new) }
+{
+    let Some(mut manager) = space.take(alloc) else {
+        return CLOSED;
+    };
+    let code = tried_code(manager.try_acquire(who, key, mode, duration), ticket);
+    space.put(manager);
+    code
+}
+
+/// Acquires a lock for this duration, if that needs no wait.
+pub fn gaz_one_try_acquire(
+    alloc: Global,
+    space: &mut OneSpace,
+    who: u16,
+    namespace: u8,
+    schema: &[u8],
+    table: &[u8],
+    mode: u8,
+    duration: u8,
+    ticket: &mut u64,
+) -> u32
+    ensures { MakesWish namespace schema.now table.now mode duration
+        (λ wish. ServesContext who (trying wish) tried_code space.old.handle.manager result space.new.handle.manager (Reports tried_told ticket.old ticket.new))
+        (λ wrong. Tells wrong space.old.handle.manager result space.new.handle.manager × (ticket.new ≡ ticket.old)) }
+{
+    let Some(mode) = mode_of(mode) else {
+        return NO_MODE;
+    };
+    let Some(duration) = duration_of(duration) else {
+        return NO_DURATION;
+    };
+    match key_of(alloc, namespace, schema, table) {
+        Ok(key) => try_acquire(alloc, space, who, &key, mode, duration, ticket),
+        Err(code) => code,
+    }
+}
+
+// Returns whether the session's context keeps a ticket of a key in a mode at least as strong.
+fn holds(alloc: Global, space: &mut OneSpace, who: u16, key: &Key, mode: Mode) -> u32
+    ensures { Replies context_fault who (TellsKept who key.now mode) kept_code Untold space.old.handle.manager result space.new.handle.manager }
+{
+    let Some(mut manager) = space.take(alloc) else {
+        return CLOSED;
+    };
+    let code = kept_code(manager.holds(who, key, mode));
+    space.put(manager);
+    code
+}
+
+/// Returns whether the session's context keeps a ticket of a key in a mode at least as strong.
+pub fn gaz_one_holds(
+    alloc: Global,
+    space: &mut OneSpace,
+    who: u16,
+    namespace: u8,
+    schema: &[u8],
+    table: &[u8],
+    mode: u8,
+) -> u32
+    ensures { Given no_mode (mode_at mode)
+        (λ mode. NamedIn (namespace_at namespace) schema.now table.now
+        (λ key. Replies context_fault who (TellsKept who key mode) kept_code Untold space.old.handle.manager result space.new.handle.manager)
+        (λ wrong. Tells wrong space.old.handle.manager result space.new.handle.manager))
+        (λ wrong. Tells wrong space.old.handle.manager result space.new.handle.manager) }
+{
+    let Some(mode) = mode_of(mode) else {
+        return NO_MODE;
+    };
+    match key_of(alloc, namespace, schema, table) {
+        Ok(key) => holds(alloc, space, who, &key, mode),
+        Err(code) => code,
+    }
+}
+
 /// Returns the state of the wait of a session's context, and ends the wait if it is settled.
-pub fn mdl_resume(alloc: Global, space: &mut MdlSpace, who: u16, ticket: &mut u64) -> u32
+pub fn gaz_one_resume(alloc: Global, space: &mut OneSpace, who: u16, ticket: &mut u64) -> u32
     ensures { ServesContext who resuming resume_code space.old.handle.manager result space.new.handle.manager (Reports resume_told ticket.old ticket.new) }
 {
     let Some(mut manager) = space.take(alloc) else {
@@ -106,7 +192,7 @@ pub fn mdl_resume(alloc: Global, space: &mut MdlSpace, who: u16, ticket: &mut u6
 }
 
 /// Gives up the wait of a session's context, unless it is settled already, and ends it.
-pub fn mdl_give_up(alloc: Global, space: &mut MdlSpace, who: u16, ticket: &mut u64) -> u32
+pub fn gaz_one_give_up(alloc: Global, space: &mut OneSpace, who: u16, ticket: &mut u64) -> u32
     ensures { ServesContext who giving_up_wait resume_code space.old.handle.manager result space.new.handle.manager (Reports resume_told ticket.old ticket.new) }
 {
     let Some(mut manager) = space.take(alloc) else {
@@ -118,9 +204,9 @@ pub fn mdl_give_up(alloc: Global, space: &mut MdlSpace, who: u16, ticket: &mut u
 }
 
 /// Upgrades a kept ticket to a stronger mode, or begins to wait for that.
-pub fn mdl_context_upgrade(
+pub fn gaz_one_context_upgrade(
     alloc: Global,
-    space: &mut MdlSpace,
+    space: &mut OneSpace,
     who: u16,
     ticket: u64,
     mode: u8,
@@ -142,9 +228,9 @@ pub fn mdl_context_upgrade(
 }
 
 /// Downgrades a kept ticket to a weaker mode.
-pub fn mdl_context_downgrade(
+pub fn gaz_one_context_downgrade(
     alloc: Global,
-    space: &mut MdlSpace,
+    space: &mut OneSpace,
     who: u16,
     ticket: u64,
     mode: u8,
@@ -165,7 +251,7 @@ pub fn mdl_context_downgrade(
 }
 
 /// Releases a kept ticket.
-pub fn mdl_context_release(alloc: Global, space: &mut MdlSpace, who: u16, ticket: u64) -> u32
+pub fn gaz_one_context_release(alloc: Global, space: &mut OneSpace, who: u16, ticket: u64) -> u32
     ensures { ServesContext who (releasing ticket) done_code space.old.handle.manager result space.new.handle.manager Untold }
 {
     let Some(mut manager) = space.take(alloc) else {
@@ -177,7 +263,7 @@ pub fn mdl_context_release(alloc: Global, space: &mut MdlSpace, who: u16, ticket
 }
 
 // Releases all tickets of a key that the session's context keeps.
-fn release_name(alloc: Global, space: &mut MdlSpace, who: u16, key: &Key) -> u32
+fn release_name(alloc: Global, space: &mut OneSpace, who: u16, key: &Key) -> u32
     ensures { ServesContext who (releasing_name key.now) done_code space.old.handle.manager result space.new.handle.manager Untold }
 {
     let Some(mut manager) = space.take(alloc) else {
@@ -189,9 +275,9 @@ fn release_name(alloc: Global, space: &mut MdlSpace, who: u16, key: &Key) -> u32
 }
 
 /// Releases all tickets of a key that the session's context keeps.
-pub fn mdl_release_name(
+pub fn gaz_one_release_name(
     alloc: Global,
-    space: &mut MdlSpace,
+    space: &mut OneSpace,
     who: u16,
     namespace: u8,
     schema: &[u8],
@@ -208,7 +294,7 @@ pub fn mdl_release_name(
 }
 
 /// Writes a session's current mark: how many tickets its context keeps for the statement, and how many for the transaction.
-pub fn mdl_savepoint(alloc: Global, space: &mut MdlSpace, who: u16, mark: &mut Mark) -> u32
+pub fn gaz_one_savepoint(alloc: Global, space: &mut OneSpace, who: u16, mark: &mut Mark) -> u32
     ensures { Replies context_fault who (Marks who) (λ _. 0) (Reports mark_told mark.old mark.new) space.old.handle.manager result space.new.handle.manager }
 {
     let Some(mut manager) = space.take(alloc) else {
@@ -220,7 +306,7 @@ pub fn mdl_savepoint(alloc: Global, space: &mut MdlSpace, who: u16, mark: &mut M
 }
 
 /// Rolls back to a mark: of the statement's and of the transaction's tickets, keeps the earliest, as many as the mark counted, and releases the rest.
-pub fn mdl_rollback_to(alloc: Global, space: &mut MdlSpace, who: u16, mark: Mark) -> u32
+pub fn gaz_one_rollback_to(alloc: Global, space: &mut OneSpace, who: u16, mark: Mark) -> u32
     ensures { ServesContext who (rolling_back (mark_in_context mark)) done_code space.old.handle.manager result space.new.handle.manager Untold }
 {
     let Some(mut manager) = space.take(alloc) else {
@@ -232,7 +318,7 @@ pub fn mdl_rollback_to(alloc: Global, space: &mut MdlSpace, who: u16, mark: Mark
 }
 
 /// Ends a statement: releases its tickets.
-pub fn mdl_end_statement(alloc: Global, space: &mut MdlSpace, who: u16) -> u32
+pub fn gaz_one_end_statement(alloc: Global, space: &mut OneSpace, who: u16) -> u32
     ensures { ServesContext who ending_statement done_code space.old.handle.manager result space.new.handle.manager Untold }
 {
     let Some(mut manager) = space.take(alloc) else {
@@ -244,7 +330,7 @@ pub fn mdl_end_statement(alloc: Global, space: &mut MdlSpace, who: u16) -> u32
 }
 
 /// Ends a transaction: releases the tickets of the statement and of the transaction.
-pub fn mdl_end_transaction(alloc: Global, space: &mut MdlSpace, who: u16) -> u32
+pub fn gaz_one_end_transaction(alloc: Global, space: &mut OneSpace, who: u16) -> u32
     ensures { ServesContext who ending_transaction done_code space.old.handle.manager result space.new.handle.manager Untold }
 {
     let Some(mut manager) = space.take(alloc) else {
@@ -255,8 +341,43 @@ pub fn mdl_end_transaction(alloc: Global, space: &mut MdlSpace, who: u16) -> u32
     code
 }
 
+/// Releases the explicit tickets.
+pub fn gaz_one_release_explicit(alloc: Global, space: &mut OneSpace, who: u16) -> u32
+    ensures { ServesContext who ending_explicit done_code space.old.handle.manager result space.new.handle.manager Untold }
+{
+    let Some(mut manager) = space.take(alloc) else {
+        return CLOSED;
+    };
+    let code = finish_code(manager.release_explicit(who));
+    space.put(manager);
+    code
+}
+
+/// Keeps a ticket for this duration from now on.
+pub fn gaz_one_set_duration(
+    alloc: Global,
+    space: &mut OneSpace,
+    who: u16,
+    ticket: u64,
+    duration: u8,
+) -> u32
+    ensures { Given no_duration (duration_at duration)
+        (λ duration. ServesContext who (changing_duration ticket duration) done_code space.old.handle.manager result space.new.handle.manager Untold)
+        (λ wrong. Tells wrong space.old.handle.manager result space.new.handle.manager) }
+{
+    let Some(duration) = duration_of(duration) else {
+        return NO_DURATION;
+    };
+    let Some(mut manager) = space.take(alloc) else {
+        return CLOSED;
+    };
+    let code = finish_code(manager.set_duration(who, ticket, duration));
+    space.put(manager);
+    code
+}
+
 /// Makes all tickets explicit: the context keeps them until they are released.
-pub fn mdl_make_explicit(alloc: Global, space: &mut MdlSpace, who: u16) -> u32
+pub fn gaz_one_make_explicit(alloc: Global, space: &mut OneSpace, who: u16) -> u32
     ensures { ServesContext who making_explicit done_code space.old.handle.manager result space.new.handle.manager Untold }
 {
     let Some(mut manager) = space.take(alloc) else {
@@ -268,7 +389,7 @@ pub fn mdl_make_explicit(alloc: Global, space: &mut MdlSpace, who: u16) -> u32
 }
 
 /// Makes the explicit tickets, except those of user-level locks, last until the transaction ends.
-pub fn mdl_make_transactional(alloc: Global, space: &mut MdlSpace, who: u16) -> u32
+pub fn gaz_one_make_transactional(alloc: Global, space: &mut OneSpace, who: u16) -> u32
     ensures { ServesContext who making_transactional done_code space.old.handle.manager result space.new.handle.manager Untold }
 {
     let Some(mut manager) = space.take(alloc) else {

@@ -16,7 +16,7 @@ use std::alloc::Global;
 /// Plays a script of statements in one thread, as `mdlsim replay` does.
 #[tactic(auto, using(crate::proofs::PlayingLemmas::plays))]
 #[unsafe(no_mangle)]
-pub extern "C" fn mdl_text_replay(
+pub extern "C" fn gaz_text_replay(
     alloc: Global,
     script: &[u8],
     room: &mut [u8],
@@ -36,7 +36,7 @@ pub extern "C" fn mdl_text_replay(
 /// Executes a script of commands over one lock, as `mdlsim lock` does: kind 0 is that of a table, kind 1 a scoped one.
 #[tactic(auto, using(crate::proofs::PlayingLemmas::plays))]
 #[unsafe(no_mangle)]
-pub extern "C" fn mdl_text_lock(
+pub extern "C" fn gaz_text_lock(
     alloc: Global,
     kind: u8,
     script: &[u8],

@@ -1,6 +1,6 @@
 //! Threads lock two tables in either order. A deadlock ends one of them, which begins again.
 
-use mdl_locks::{Error, Guard, Manager, Mode, Place, Session};
+use gaz_locks::{Error, Guard, Manager, Mode, Place, Session};
 use std::sync::atomic::{AtomicU64, Ordering::Relaxed};
 use std::thread;
 use std::time::Duration;

@@ -21,12 +21,12 @@ pub enum Error {
     BadMode,
     /// Memory ran out. The call may be made again.
     OutOfMemory,
-    /// Any other code of `mdl.h`.
+    /// Any other code of `gaz_one.h`.
     Refused(u32),
 }
 
 impl Error {
-    /// What a code says that isn't `MDL_DONE`.
+    /// What a code says that isn't `GAZ_DONE`.
     pub(crate) fn of(code: u32) -> Error {
         match code {
             3 => Error::Deadlock,

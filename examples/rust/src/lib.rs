@@ -1,13 +1,13 @@
-//! The metadata locks of MySQL 5.7 for Rust programs, over `libmdl_c.a`.
+//! The metadata locks of MySQL 5.7 for Rust programs, over `libgaz_one.a`.
 //!
 //! A [`Manager`] has the locks, behind a mutex; threads share it. A [`Session`] asks for them, and waits by sleeping. What it gets is a [`Guard`],
 //! which gives the lock up when it is dropped.
 //!
 //! ```no_run
-//! use mdl_locks::{Manager, Mode};
+//! use gaz_locks::{Manager, Mode};
 //! use std::time::Duration;
 //!
-//! # fn main() -> Result<(), mdl_locks::Error> {
+//! # fn main() -> Result<(), gaz_locks::Error> {
 //! let manager = Manager::new(256, 4)?;
 //! let session = manager.session().expect("none of the four is taken");
 //! let orders = session.table("shop", "orders")?;

@@ -27,7 +27,7 @@ impl Manager {
     pub fn new(places: u16, sessions: u16) -> Result<Manager, Error> {
         let mut space = Space::new();
         // SAFETY: all bytes of the space are 0.
-        done(unsafe { raw::mdl_open(&mut space, places, sessions) })?;
+        done(unsafe { raw::gaz_one_open_version(&mut space, raw::VERSION, places, sessions) })?;
         let taken = vec![false; usize::from(sessions)];
         let turns = taken.iter().map(|_| Condvar::new()).collect();
         Ok(Manager {
@@ -63,7 +63,7 @@ impl Manager {
         let Inside { space, settled, .. } = inside;
         let mut count = 0;
         // SAFETY: the pointer and the length are those of the room, and the mutex is held, by whoever has what is inside.
-        unsafe { raw::mdl_settled(space, settled.as_mut_ptr(), settled.len(), &mut count) };
+        unsafe { raw::gaz_one_settled(space, settled.as_mut_ptr(), settled.len(), &mut count) };
         for who in &settled[..count] {
             self.turn_of(*who).notify_one();
         }
@@ -74,10 +74,10 @@ impl Manager {
         let mut inside = self.inside();
         let mut places = 0;
         // SAFETY: the mutex is held, here and below.
-        unsafe { raw::mdl_places(&mut inside.space, &mut places) };
+        unsafe { raw::gaz_one_places(&mut inside.space, &mut places) };
         for place in 1..=places as u16 {
             // A place that the session doesn't pin is refused, and nothing changes.
-            unsafe { raw::mdl_unpin(&mut inside.space, who, place) };
+            unsafe { raw::gaz_one_unpin(&mut inside.space, who, place) };
         }
         inside.taken[usize::from(who) - 1] = false;
     }
@@ -85,12 +85,12 @@ impl Manager {
 
 impl Drop for Manager {
     fn drop(&mut self) {
-        // SAFETY: there is no session any more, and nobody else makes calls. What the call answers is MDL_DONE.
-        unsafe { raw::mdl_close(&mut self.inside().space) };
+        // SAFETY: there is no session any more, and nobody else makes calls. What the call answers is GAZ_DONE.
+        unsafe { raw::gaz_one_close(&mut self.inside().space) };
     }
 }
 
-/// Whether a code is `MDL_DONE`.
+/// Whether a code is `GAZ_DONE`.
 pub(crate) fn done(code: u32) -> Result<(), Error> {
     if code == raw::DONE {
         Ok(())

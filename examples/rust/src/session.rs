@@ -36,7 +36,7 @@ impl<'m> Session<'m> {
         let mut place = 0;
         // SAFETY: the pointers and lengths are those of two `&str`, and the mutex is held.
         done(unsafe {
-            raw::mdl_table(
+            raw::gaz_one_table(
                 &mut self.manager.inside().space,
                 self.who,
                 schema.as_ptr(),
@@ -54,7 +54,7 @@ impl<'m> Session<'m> {
         let mut place = 0;
         // SAFETY: the pointer and the length are those of a `&str`, and the mutex is held.
         done(unsafe {
-            raw::mdl_schema(
+            raw::gaz_one_schema(
                 &mut self.manager.inside().space,
                 self.who,
                 schema.as_ptr(),
@@ -69,7 +69,9 @@ impl<'m> Session<'m> {
     pub fn global(&self) -> Result<Place, Error> {
         let mut place = 0;
         // SAFETY: the mutex is held.
-        done(unsafe { raw::mdl_global(&mut self.manager.inside().space, self.who, &mut place) })?;
+        done(unsafe {
+            raw::gaz_one_global(&mut self.manager.inside().space, self.who, &mut place)
+        })?;
         Ok(Place(place))
     }
 
@@ -77,14 +79,16 @@ impl<'m> Session<'m> {
     pub fn commit(&self) -> Result<Place, Error> {
         let mut place = 0;
         // SAFETY: the mutex is held.
-        done(unsafe { raw::mdl_commit(&mut self.manager.inside().space, self.who, &mut place) })?;
+        done(unsafe {
+            raw::gaz_one_commit(&mut self.manager.inside().space, self.who, &mut place)
+        })?;
         Ok(Place(place))
     }
 
     /// Gives up the session's pin of a place, which another key may then get. The session must have no lock there.
     pub fn unpin(&self, place: Place) -> Result<(), Error> {
         // SAFETY: the mutex is held.
-        done(unsafe { raw::mdl_unpin(&mut self.manager.inside().space, self.who, place.0) })
+        done(unsafe { raw::gaz_one_unpin(&mut self.manager.inside().space, self.who, place.0) })
     }
 
     /// The lock, if it can be had now.
@@ -92,7 +96,7 @@ impl<'m> Session<'m> {
         let mut ticket = 0;
         // SAFETY: the mutex is held.
         match unsafe {
-            raw::mdl_try(
+            raw::gaz_one_try(
                 &mut self.manager.inside().space,
                 self.who,
                 place.0,
@@ -111,7 +115,7 @@ impl<'m> Session<'m> {
         let mut ticket = 0;
         // SAFETY: the mutex is held.
         match unsafe {
-            raw::mdl_begin(
+            raw::gaz_one_begin(
                 &mut inside.space,
                 self.who,
                 place.0,
@@ -131,12 +135,12 @@ impl<'m> Session<'m> {
         patience: Duration,
     ) -> Result<Guard<'s>, Error> {
         let begun = Instant::now();
-        self.end_deadlocks(&mut inside);
+        let searched = self.end_deadlocks(&mut inside);
         // SAFETY: the mutex is held, here and below.
-        while unsafe { raw::mdl_poll(&mut inside.space, self.who) } == raw::WAITING {
+        while unsafe { raw::gaz_one_poll(&mut inside.space, self.who) } == raw::WAITING {
             let left = patience.saturating_sub(begun.elapsed());
             if left.is_zero() {
-                unsafe { raw::mdl_time_out(&mut inside.space, self.who) };
+                unsafe { raw::gaz_one_time_out(&mut inside.space, self.who) };
             } else {
                 let turn = self.manager.turn_of(self.who);
                 inside = turn
@@ -146,19 +150,31 @@ impl<'m> Session<'m> {
             }
         }
         let mut ticket = 0;
-        let code = unsafe { raw::mdl_end(&mut inside.space, self.who, &mut ticket) };
+        let code = unsafe { raw::gaz_one_end(&mut inside.space, self.who, &mut ticket) };
         self.manager.wake(&mut inside); // the end of a lost wait makes way
-        done(code).map(|()| self.guard(ticket))
+        match (searched, code) {
+            (Err(error), raw::TIMEOUT) => Err(error),
+            _ => done(code).map(|()| self.guard(ticket)),
+        }
     }
 
-    // Searches until there is no deadlock, or the session itself is a victim. The victims have to learn of it.
-    fn end_deadlocks(&self, inside: &mut Inside) {
+    // Searches until there is no deadlock, or the session itself is a victim. The victims have to learn of it. If memory runs out, a deadlock may be
+    // left: the wait is given up.
+    fn end_deadlocks(&self, inside: &mut Inside) -> Result<(), Error> {
         let mut victim = 0;
-        // SAFETY: the mutex is held.
-        while unsafe { raw::mdl_search(&mut inside.space, self.who, &mut victim) } == raw::VICTIM
-            && victim != self.who
-        {}
+        let searched = loop {
+            // SAFETY: the mutex is held, here and below.
+            match unsafe { raw::gaz_one_search(&mut inside.space, self.who, &mut victim) } {
+                raw::VICTIM if victim != self.who => {}
+                raw::VICTIM => break Ok(()),
+                code => break done(code),
+            }
+        };
+        if searched.is_err() {
+            unsafe { raw::gaz_one_time_out(&mut inside.space, self.who) };
+        }
         self.manager.wake(inside);
+        searched
     }
 
     fn guard(&self, ticket: u64) -> Guard<'_> {
@@ -188,7 +204,7 @@ impl Guard<'_> {
         let Session { manager, who, .. } = *self.session;
         let mut inside = manager.inside();
         // SAFETY: the mutex is held.
-        match unsafe { raw::mdl_upgrade(&mut inside.space, who, self.ticket, mode as u8) } {
+        match unsafe { raw::gaz_one_upgrade(&mut inside.space, who, self.ticket, mode as u8) } {
             raw::WOULD_WAIT => Ok(false),
             code => done(code).map(|()| true),
         }
@@ -199,7 +215,8 @@ impl Guard<'_> {
         let Session { manager, who, .. } = *self.session;
         let mut inside = manager.inside();
         // SAFETY: the mutex is held.
-        let code = unsafe { raw::mdl_downgrade(&mut inside.space, who, self.ticket, mode as u8) };
+        let code =
+            unsafe { raw::gaz_one_downgrade(&mut inside.space, who, self.ticket, mode as u8) };
         manager.wake(&mut inside);
         done(code)
     }
@@ -209,8 +226,8 @@ impl Drop for Guard<'_> {
     fn drop(&mut self) {
         let Session { manager, who, .. } = *self.session;
         let mut inside = manager.inside();
-        // SAFETY: the mutex is held. What the call answers is MDL_DONE, since the session has the ticket.
-        unsafe { raw::mdl_release(&mut inside.space, who, self.ticket) };
+        // SAFETY: the mutex is held. What the call answers is GAZ_DONE, since the session has the ticket.
+        unsafe { raw::gaz_one_release(&mut inside.space, who, self.ticket) };
         manager.wake(&mut inside);
     }
 }

@@ -4,18 +4,18 @@ ghost use Rattle.mdl_space.specs.CoreMembers.{core_space};
 ghost use Rattle.mdl_calls.specs.Words.{HasNothing, Runs};
 ghost use Rattle.mdl_core.specs.Words.{SpeaksFor, locks_at};
 ghost use Rattle.mdl_context.specs.Contexts.{Attends, LeavesOthers};
-ghost use Rattle.mdl_context.specs.Releases.{ending_statement, ending_transaction, releasing, releasing_name, rolling_back};
-ghost use Rattle.mdl_context.specs.Requests.{acquiring};
+ghost use Rattle.mdl_context.specs.Releases.{ending_explicit, ending_statement, ending_transaction, releasing, releasing_name, rolling_back};
+ghost use Rattle.mdl_context.specs.Requests.{acquiring, trying};
 ghost use Rattle.mdl_context.specs.Upgrades.{downgrading, upgrading};
 ghost use Rattle.mdl_context.specs.Waits.{giving_up_wait, resuming};
 ghost use Rattle.mdl_c_calls.specs.Managers.{context_fault, direct_fault, seat_of, Asks};
-ghost use Rattle.mdl_c_calls.specs.Transactions.{begin_fault, ending_from, making_explicit, making_transactional, new_context, with_seat, EndsContext, Marks, RunsFor, UnpinsAll};
+ghost use Rattle.mdl_c_calls.specs.Transactions.{begin_fault, changing_duration, ending_from, making_explicit, making_transactional, new_context, with_seat, EndsContext, Marks, RunsFor, TellsKept, UnpinsAll};
 ghost use Rattle.mdl_c_calls.specs.declared.seat.Seat.TheVariants.{Kept};
 
 use super::ServedSpace;
 use crate::seat::Seat;
 use crate::unserved::Unserved;
-use mdl_context::{Acquire, Context, ContextError, Mark, Request, Resume};
+use mdl_context::{Acquire, Context, ContextError, Mark, Request, Resume, Tried};
 use mdl_key::{Duration, Key, Mode};
 use mdl_space::{CoreSpace, LockSpace, TicketId};
 use std::alloc::Global;
@@ -86,6 +86,41 @@ impl ServedSpace {
                 duration,
             },
         ))
+    }
+
+    /// Acquires a lock for this duration, if that needs no wait.
+    pub fn try_acquire(
+        &mut self,
+        who: u16,
+        key: &Key,
+        mode: Mode,
+        duration: Duration,
+    ) -> Result<Result<Tried, ContextError>, Unserved>
+        ensures { Asks (context_fault (seat_of who self.old)) (λ r. RunsFor who (trying (record { key = key.now; mode = mode; duration = duration })) r self.old self.new) result self.old self.new }
+    {
+        let index = self.index_of(who)?;
+        let Seat::Kept(context) = &mut self.seats[index] else {
+            return Err(Unserved::NoContext);
+        };
+        Ok(context.try_acquire(
+            &mut self.space,
+            Request {
+                key,
+                mode,
+                duration,
+            },
+        ))
+    }
+
+    /// Returns whether the session's context keeps a ticket of a key in a mode at least as strong.
+    pub fn holds(&mut self, who: u16, key: &Key, mode: Mode) -> Result<bool, Unserved>
+        ensures { Asks (context_fault (seat_of who self.old)) (λ is_kept. TellsKept who key.now mode is_kept self.old self.new) result self.old self.new }
+    {
+        let index = self.index_of(who)?;
+        match &self.seats[index] {
+            Seat::Direct => Err(Unserved::NoContext),
+            Seat::Kept(context) => Ok(context.holds(key, mode)),
+        }
     }
 
     /// Returns the state of the wait, and ends the wait if it is settled.
@@ -218,6 +253,33 @@ impl ServedSpace {
             return Err(Unserved::NoContext);
         };
         Ok(context.end_transaction(&mut self.space))
+    }
+
+    /// Releases the explicit tickets.
+    pub fn release_explicit(&mut self, who: u16) -> Result<Result<(), ContextError>, Unserved>
+        ensures { Asks (context_fault (seat_of who self.old)) (λ r. RunsFor who ending_explicit r self.old self.new) result self.old self.new }
+    {
+        let index = self.index_of(who)?;
+        let Seat::Kept(context) = &mut self.seats[index] else {
+            return Err(Unserved::NoContext);
+        };
+        Ok(context.release_explicit(&mut self.space))
+    }
+
+    /// Keeps a ticket for this duration from now on.
+    pub fn set_duration(
+        &mut self,
+        who: u16,
+        ticket: TicketId,
+        duration: Duration,
+    ) -> Result<Result<(), ContextError>, Unserved>
+        ensures { Asks (context_fault (seat_of who self.old)) (λ r. RunsFor who (changing_duration ticket duration) r self.old self.new) result self.old self.new }
+    {
+        let index = self.index_of(who)?;
+        let Seat::Kept(context) = &mut self.seats[index] else {
+            return Err(Unserved::NoContext);
+        };
+        Ok(context.set_duration(ticket, duration))
     }
 
     /// Makes all tickets explicit: the context keeps them until they are released.

@@ -1,16 +1,19 @@
 //! What a manager shows of the locks. It changes nothing.
-ghost use Rattle.std.specs.Prelude.{◌≡◌, MatchOption, slice_set};
-ghost use Rattle.std.specs.Option.{option_copied};
+ghost use Rattle.std.specs.Prelude.{◌≡◌, MatchOption, map, slice_get, slice_set};
+ghost use Rattle.std.specs.Option.{option_and_then, option_copied};
 ghost use Rattle.mdl_calls.specs.Words.{List_held, listed};
-ghost use Rattle.mdl_core.specs.CoreCalls.{has_settled};
-ghost use Rattle.mdl_core.specs.Words.{SpeaksFor};
-ghost use Rattle.mdl_c_calls.specs.Listings.{IsListWritten, has_settled_wait, keyed_book, settled_sessions};
+ghost use Rattle.mdl_core.specs.Words.{SpeaksFor, seat_at};
+ghost use Rattle.mdl_core.specs.declared.pending.Pending.{Pending};
+ghost use Rattle.mdl_c_calls.specs.Listings.{IsListWritten, LockTold, duration_told, granted_row, has_settled_wait, how_settled, keyed_book, room_written, settled_sessions, waiting_at, waiting_row, waiting_status};
 ghost use Rattle.mdl_c_calls.specs.Managers.{IsOutside, JoinsFor, session_count_of};
 ghost use Rattle.mdl_space.specs.SettledWaits.{settled_waits};
 
 use super::ServedSpace;
-use mdl_book::Book;
-use mdl_space::{CoreSpace, Held, LockSpace, Place, Poll, SpaceError};
+use crate::rows::{
+    GRANTED, LOST_AS_VICTIM, LOST_BY_KILL, LOST_BY_TIMEOUT, LockRow, PENDING, UNKEPT,
+};
+use mdl_book::{Book, Ticket};
+use mdl_space::{CoreSpace, Held, LockSpace, Place, Poll, Settled, SpaceError};
 
 impl ServedSpace {
     /// Writes the sessions whose waits are settled and not ended, in rising order: as many as there is room for. Returns how many there are.
@@ -49,10 +52,7 @@ impl ServedSpace {
         ensures told { result ≡ has_settled_wait self.old who }
         ensures unchanged { self.new ≡ self.old }
     {
-        if !self.has(who) {
-            return false;
-        }
-        is_settled(&mut self.space, who)
+        self.how_settled(who).is_some()
     }
 
     /// Returns the tickets that a session holds, in the order in which it got them.
@@ -81,6 +81,91 @@ impl ServedSpace {
         }
         self.books().get(usize::from(place) - 1)
     }
+
+    /// Writes as many tickets of a place's lock as there is room for, the granted ones first. Returns the number of all, if the place has a key.
+    pub fn tell_lock(&mut self, place: Place, room: &mut [LockRow]) -> Option<usize>
+        ensures told { LockTold self.old (keyed_book place self.old.space) room.old room.new result }
+        ensures unchanged { self.new ≡ self.old }
+    {
+        let book = self.book(place)?;
+        let granted = book.granted();
+        let count = granted.len() + book.waiting().len();
+        let front = granted.len().min(room.len());
+        self.write_granted(granted, room);
+        self.write_waiting(place, &mut room[front..]);
+        Some(count)
+    }
+
+    // Writes as many granted tickets as there is room for.
+    fn write_granted(&self, tickets: &[Ticket], room: &mut [LockRow])
+        ensures { room.new ≡ room_written (map (granted_row self.now) tickets.now) room.old }
+    {
+        let fitting = &tickets[..tickets.len().min(room.len())];
+        for (at, ticket) in fitting.iter().enumerate() {
+            room[at] = LockRow::of(*ticket, GRANTED, self.duration_of(*ticket));
+        }
+    }
+
+    // Writes as many waiting tickets of a place as there is room for.
+    fn write_waiting(&mut self, place: Place, room: &mut [LockRow])
+        ensures written { room.new ≡ room_written (map (waiting_row self.old) (waiting_at place self.old.space)) room.old }
+        ensures unchanged { self.new ≡ self.old }
+    {
+        for at in 0..room.len() {
+            let Some(ticket) = self.waiting_at(place, at) else {
+                return;
+            };
+            room[at] = self.waiting_row(ticket);
+        }
+    }
+
+    // The waiting ticket of a place at an index, if there is one.
+    fn waiting_at(&self, place: Place, at: usize) -> Option<Ticket>
+        ensures { result ≡ slice_get (waiting_at place self.now.space) at }
+    {
+        self.book(place)?.waiting().get(at).copied()
+    }
+
+    fn waiting_row(&mut self, ticket: Ticket) -> LockRow
+        ensures told { result ≡ waiting_row self.old ticket }
+        ensures unchanged { self.new ≡ self.old }
+    {
+        let status = waiting_status(self.how_settled(ticket.session));
+        LockRow::of(ticket, status, self.duration_of(ticket))
+    }
+
+    // How a session's wait is settled, if it has one that is.
+    fn how_settled(&mut self, who: u16) -> Option<Settled>
+        ensures told { result ≡ how_settled who self.old }
+        ensures unchanged { self.new ≡ self.old }
+    {
+        if !self.has(who) {
+            return None;
+        }
+        how_settled(&mut self.space, who)
+    }
+
+    // How long a context keeps a ticket, as a number.
+    fn duration_of(&self, ticket: Ticket) -> u8
+        ensures { result ≡ duration_told self.now ticket }
+    {
+        match self.index_of(ticket.session) {
+            Ok(index) => self.seats[index].duration_of(ticket.number),
+            Err(_) => UNKEPT,
+        }
+    }
+}
+
+// The status of a waiting ticket whose wait is settled in this way, if it is settled.
+fn waiting_status(how: Option<Settled>) -> u8
+    ensures { result ≡ waiting_status how }
+{
+    match how {
+        Some(Settled::Victim) => LOST_AS_VICTIM,
+        Some(Settled::Timeout) => LOST_BY_TIMEOUT,
+        Some(Settled::Killed) => LOST_BY_KILL,
+        Some(Settled::Granted) | None => PENDING,
+    }
 }
 
 // Writes a session at an index of the room, if there is one.
@@ -93,14 +178,14 @@ fn write_at(room: &mut [u16], index: usize, who: u16)
     }
 }
 
-// Whether a session's wait is settled. It changes nothing: only the type of `poll_wait` requires `&mut`.
-fn is_settled(space: &mut CoreSpace, who: u16) -> bool
+// How a session's wait is settled, if it has one that is. It changes nothing: only the type of `poll_wait` requires `&mut`.
+fn how_settled(space: &mut CoreSpace, who: u16) -> Option<Settled>
     requires { SpeaksFor space.old who }
-    ensures told { result ≡ has_settled space.old who }
+    ensures told { result ≡ option_and_then (λ (wait : Pending). wait.settled) (seat_at who space.old).wait }
     ensures unchanged { space.new ≡ space.old }
 {
     match space.poll_wait(who) {
-        Ok(Poll::Settled(_)) => true,
-        Ok(Poll::Pending) | Err(_) => false,
+        Ok(Poll::Settled(how)) => Some(how),
+        Ok(Poll::Pending) | Err(_) => None,
     }
 }

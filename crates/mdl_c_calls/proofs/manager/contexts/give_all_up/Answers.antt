@@ -31,3 +31,10 @@ returns-clause-others c =
           (subst (λ who. LeavesOthers core_space who c.if-is_some.space c.finish_all.new.space) (ap (λ context. context.who) w.context-is ∙ w.give_up-end.ensures.who) c.finish_all.ensures.others)
       | else-is_some w ↦ rw (w.context-is, w.space-is) at c.finish_all.ensures.others
     ]
+
+pub returns-clause-who : goal.returns-clause-who
+returns-clause-who c =
+    elim c.if-is_some.branch [
+      | then-is_some w ↦ c.finish_all.ensures.who ∙ ap (λ context. context.who) w.context-is ∙ w.give_up-end.ensures.who
+      | else-is_some w ↦ c.finish_all.ensures.who ∙ ap (λ context. context.who) w.context-is
+    ]

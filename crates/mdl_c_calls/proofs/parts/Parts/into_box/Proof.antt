@@ -9,8 +9,7 @@ use denote.RawPtr.{block_ptr}
 use denote.Triple.Call.{calls_at_last}
 use denote.Triple.Spec.{triple_of}
 use denote.Triple.Table.{framed}
-use Rattle.std.proofs.alloc.Calls.{token, Goes-blank}
-use Rattle.std_alloc.specs.Box.Ownership.{box_owns}
+use Rattle.std.proofs.alloc.Calls.{Goes-blank}
 use Rattle.std_alloc.specs.contracts.boxed.Box.from_raw as from_raw
 use Rattle.std_alloc.proofs.boxed.Box.from_raw.Met as from_raw_met
 use Rattle.std_alloc.proofs.BoxSteps.Form.{R, P, args, box_ty}

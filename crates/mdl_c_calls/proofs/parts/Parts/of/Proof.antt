@@ -3,7 +3,7 @@ use contract.BorrowLft.{◌⊑◌}
 use mir.MapTy.{inst_fn}
 use mir.Raw.{raw as bare}
 use mir.Syntax.{Args, Dict, Fn, a_type, dcons, dnil}
-use mir.Val.{Val, vstruct, of_list}
+use mir.Val.{vstruct, of_list}
 use base.Logic.{never, fst∗}
 use denote.Exit.{no}
 use denote.Param.{bounded}
@@ -21,7 +21,7 @@ use Rattle.mdl_c_calls.specs.contracts.parts.Parts as Parts
 use Rattle.mdl_c_calls.specs.contracts.parts.Parts.of as f
 use Rattle.mdl_c_calls.proofs.parts.Parts.of.Statement.{statement}
 use Rattle.mdl_c_calls.proofs.parts.Parts.of.Code as code
-use Rattle.mdl_c_calls.proofs.Walking.{◌≡◌, refl, ap, ◌∙◌, List, [], ◌∷◌, ◌++◌, id⊢, ftrue, fsep, flft, WpFn, tables, sem, fact, Item, ‵, raw, prop, ◌⊛◌, some, later, ◌$◌, ◌∵◌, !, qed, move, drop, use1, join, split, split3, pick, await, rewrite, regoal, fsplit, fjoin, fpick, feq_l, suffices, done, whole, sub, agg, stop, fld, no_more, and_then, of_opd, returns, enter, alloc_all, pass_all, free_all, look_at, get, get_in, sets, lands_as, RattleType, Slot, plain, heard, nothing, only, says, Stays, stay_dropped, walk_of, ends_at, proved_at, Bx, D, B, word, box_typed, box_out, box_in}
+use Rattle.mdl_c_calls.proofs.Walking.{◌≡◌, refl, ap, ◌∙◌, [], ◌∷◌, ◌++◌, id⊢, ftrue, fsep, flft, WpFn, tables, sem, fact, Item, ‵, raw, prop, ◌⊛◌, some, later, ◌$◌, ◌∵◌, !, qed, move, drop, use1, join, split, split3, pick, await, rewrite, regoal, fsplit, fjoin, fpick, feq_l, suffices, done, whole, sub, agg, stop, fld, no_more, and_then, of_opd, returns, enter, alloc_all, pass_all, free_all, look_at, get, get_in, sets, lands_as, RattleType, Slot, plain, heard, nothing, only, says, Stays, stay_dropped, walk_of, ends_at, proved_at, Bx, D, B, word, box_typed, box_out, box_in}
 
 module _ (E : Bx) (glue : Dict) where
   abbrev chosen : Args
