@@ -32,9 +32,13 @@ STATEMENTS = [
     *((it, "BadName") for it in (b"1 SELECT T", b"1 SELECT a.b.c", b"1 SELECT t test.t", b"1 RENAME TABLE a TO a")),
     *((it, "BadName") for it in (b"1 SELECT t\x00", b"1 SELECT t\r\r")),
     (b"1 SAVEPOINT " + b"p" * 65, "BadName"),
+    # As SQL has it.
+    *((it, "BadWord") for it in (b"1 COMMIT;", b"1 SHOW CREATE TABLE t")),
+    *((it, "BadName") for it in (b"1 LOCK TABLES t READ LOCAL", b"1 SELECT 'orders'", b"1 SELECT a, b", b"1 INSERT INTO t", b"1 CREATE TABLE t (id INT)")),
+    *((it, "BadName") for it in (b"1 ALTER TABLE t ADD COLUMN c COPY", b"1 DROP TABLE IF EXISTS t", b"1 ROLLBACK TO SAVEPOINT p")),
 ]
 # Lines that are refused in scripts of one lock.
-LOCKS = [(it, "BadWord") for it in (b"1 BEGIN", b"1 X X", b"1 x", b"1 RELEASED", b"1 X\r\r", b"1 X\x00", b"1 IX S")]
+LOCKS = [(it, "BadWord") for it in (b"1 BEGIN", b"1 X X", b"1 x", b"1 RELEASED", b"1 X\r\r", b"1 X\x00", b"1 IX S", b"1 SR # read")]
 SUBCOMMANDS = {"lock": LOCKS, "lock --scoped": LOCKS, "replay": STATEMENTS, "run": STATEMENTS}
 
 # What such a line may end with, and what may follow it: the line is refused all the same.
