@@ -31,23 +31,28 @@ FIRST_RUN = crates/mdlsim/out/first_run
     dist-libraries-check clean kit
 
 help:
+	@echo 'All need the Rattle kit, except fuzz, dist-check and clean.'
+	@echo
 	@echo 'make run [SCRIPT=FILE]     proves and builds mdlsim, and prints its answers to NAME.replay, NAME.run, NAME.lock or NAME.scoped.lock'
-	@echo 'make try [SCRIPT=FILE]     prints the answers without the proof, in two to three minutes; up to 1 MB of them, and 60 seconds of play'
+	@echo 'make try [SCRIPT=FILE]     prints the answers without the proof, in one to four minutes; up to 1 MB of them, and 60 seconds of play'
 	@echo 'make try SUBCOMMAND=matrix prints which modes clash and who waits behind whom, without the proof'
+	@echo 'make build                 proves and builds mdlsim'
+	@echo 'make view                  proves and builds mdlview'
+	@echo 'make install [PREFIX=DIR]  builds the programs and the libraries for C, proved, and installs them, the programs with their commit'
+	@echo
 	@echo 'make test                  the gate: proves everything from nothing, and runs all tests'
-	@echo 'make layout                says which files the formatter would change, and which wrong bodies fit no file'
-	@echo 'make docs                  says what is stale in the docs'
+	@echo 'make layout                reports files that the formatter would change, and mutants that fit no file'
+	@echo 'make docs                  reports what is stale in the pages'
 	@echo 'make examples              compares the answers to each example with those that lie beside it'
 	@echo 'make commands              checks what the proved programs do by their command lines'
 	@echo 'make c                     builds programs of C, Rust and Python over the libraries for C, proved, and compares what they print'
 	@echo 'make fuzz [SECONDS=60]     gives random scripts, rows and noise to the programs that were built last, and checks each run'
 	@echo 'make growths               refuses each growth of some short lives in turn'
 	@echo 'make race                  lets threads race until a million waits are settled'
-	@echo 'make wrong [CRATE=NAME]    has the prover refuse the wrong bodies, of all crates or of one'
+	@echo 'make wrong [CRATE=NAME]    has the prover refuse the mutants, of all crates or of one'
 	@echo 'make bench                 times scripts and calls'
-	@echo 'make view                  proves and builds mdlview'
-	@echo 'make install [PREFIX=DIR]  builds the programs and the libraries for C, proved, and installs them, the programs with their commit'
-	@echo 'make dist                  packs the programs and the libraries for C that were built last, for machines without the kit'
+	@echo
+	@echo 'make dist                  packs the programs and the libraries for C that were built last, for machines without the kit, into dist/'
 	@echo 'make dist-check            unpacks that into an empty folder, and tries it there without the kit'
 	@echo 'make dist-libraries        packs the libraries that were proved last, for checkouts that are to trust them, into dist/'
 	@echo 'make dist-libraries-check  unpacks those in a new clone, and builds mdlsim there'
@@ -70,17 +75,17 @@ script:
 	*) echo "$(SCRIPT): a script ends with .lock, .replay or .run" >&2; exit 1 ;; esac
 
 # The gate checks that the files are laid out as they should be and that the docs agree with the tree, proves and tests everything from nothing, and has
-# the prover refuse the wrong bodies (except some of those that `make wrong` tries). Then it checks the answers to the examples, the programs' command
+# the prover refuse the mutants (except some of those that `make wrong` tries). Then it checks the answers to the examples, the programs' command
 # lines, random scripts, the programs of C, and that refused growths lose nothing (every thirty-seventh; `make growths` refuses each). At the end it
 # says what this machine can't check, as without gcc. With GATE_STRICT=1 it fails then.
 test: layout docs
 	@sh make/gate.sh
 
-# Reports at once what the gate would refuse of the files' layout and of the wrong bodies.
+# Reports at once what the gate would refuse of the files' layout and of the mutants.
 layout: kit
 	@sh make/check_layout.sh
 
-# Checks that the docs name only what exists, and all that they have to name (`sh make/check_docs.sh update` updates the line counts of docs/GATE.md),
+# Checks that the docs name only what exists, and all that they have to name (`sh make/check_docs.sh update` makes what is made from the tree),
 # that each library crate shows its example (`sh make/check_examples.sh update` puts it there), and that the version is the same in all places.
 docs: kit
 	@sh make/check_docs.sh
@@ -124,7 +129,7 @@ growths: kit
 race: kit
 	@sh make/race.sh
 
-# Has the prover refuse the wrong bodies: all, or with CRATE=NAME those of one crate. It uses the libraries below the crate as they were built last.
+# Has the prover refuse the mutants: all, or with CRATE=NAME those of one crate. It uses the libraries below the crate as they were built last.
 wrong: kit
 	@python3 make/wrong_bodies.py $(CRATE)
 

@@ -1,7 +1,8 @@
 #!/bin/sh
 # Prints which library crates show an example at the head of src/lib.rt that differs from the file of examples that names them, one line for each, or
 # that there is none. Such a file is in src/examples of a crate of trials, or in src of a program that is an example. Also prints which code of
-# docs/EMBEDDING.md isn't in the program that it is from, which `make c` builds and runs.
+# docs/EMBEDDING.md isn't in the program that it is from, which `make c` builds and runs, and which answer of README.md isn't the one in its file, which
+# `make commands` compares.
 # Usage: sh make/check_examples.sh           checks the examples
 #        sh make/check_examples.sh update    puts the examples there
 cd "$(dirname "$0")/.." || exit 1
@@ -24,9 +25,9 @@ file_of() {
     grep -l -x "//! \`$1\`: .*" crates/*_trials/src/examples/*.rt crates/*_example/src/*.rt
 }
 
-# The section of the example in the comments at the head of a file, to the end of its first block. It is the last section there.
+# The section of the example in the comments at the head of a file, with all its blocks. It is the last section there.
 section() {
-    awk '!/^\/\/!/ { exit } $0 == "//! # Example" { on = 1 } on { print } on && $0 == "//! ```" && ++fences == 2 { exit }' "$1"
+    awk '!/^\/\/!/ { exit } $0 == "//! # Example" { on = 1 } on { print }' "$1"
 }
 
 # Prints a file with the section from standard input at the end of its head comments.
@@ -65,7 +66,7 @@ look() {
     for crate in $(libraries); do
         look_at "$crate"
     done
-    python3 make/docs/shown.py docs/EMBEDDING.md
+    python3 make/docs/shown.py README.md docs/EMBEDDING.md
 }
 
 update() {
@@ -86,4 +87,4 @@ if [ -s "$made/stale" ]; then
     cat "$made/stale" >&2
     exit 1
 fi
-echo 'each library crate shows its example, and docs/EMBEDDING.md those of its programs'
+echo 'each library crate shows its example, and docs/EMBEDDING.md and README.md what their files have'

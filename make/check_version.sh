@@ -49,6 +49,9 @@ wrong_page() {
     has "docs/$1.1" "This page describes $1 $version."
 }
 
+# The version as a number, as the library for C tells it.
+number=$(echo "${version%-dev}" | awk -F . '{ print $1 * 10000 + $2 * 100 + $3 }')
+
 {
     wrong_version
     for program in mdlsim mdlview; do
@@ -56,6 +59,10 @@ wrong_page() {
         has "crates/$program/src/program.rt" "b\"$program $version\\n\""
         has "crates/$program/specs/CommandLine.antt" "codes \"$program $version\""
     done
+    has crates/mdl_c/include/gaz_codes.h "#define GAZ_VERSION $number"
+    has examples/rust/src/raw.rs "const VERSION: u32 = $number;"
+    has examples/python/gaz_locks.py "VERSION = $number"
+    has CITATION.cff "version: $version"
     for file in Cargo.toml Cargo.lock; do
         has "examples/rust/$file" "version = \"$version\""
     done
@@ -64,4 +71,4 @@ if [ -s "$stale" ]; then
     cat "$stale" >&2
     exit 1
 fi
-echo "CHANGELOG.md, the manual pages, the crate of Rust, mdlsim and mdlview have the version $version"
+echo "CHANGELOG.md, the manual pages, the library for C, the crate of Rust, mdlsim and mdlview have the version $version"

@@ -446,7 +446,7 @@ def functions_of(crate, text, imports):
 def read_head(line, lines):
     """Returns the signature of a function, which begins at this line, and its clauses, which may have several lines."""
     signature, clauses = line, []
-    while not line.rstrip().endswith(("{", ";")) or balance(signature) > 1 or CLAUSE.match(line):
+    while not line.rstrip().endswith(("{", ";", "{}")) or balance(signature) > 1 or CLAUSE.match(line):
         line = next(lines, "{")
         if CLAUSE.match(line):
             while balance(line) > 0:

@@ -42,6 +42,7 @@ builds() {
     alone gcc -std=c11 -o "$folder/$1" "examples/c/$1.c" $words && alone "$folder/$1" > "$folder/written" && cmp -s "$folder/written" "examples/c/$1.answers"
 }
 
+[ -e "dist/$name.tar.gz" ] || fail "dist/$name.tar.gz isn't there: make dist"
 (cd dist && sha256sum -c --quiet "$name.tar.gz.sha256") || fail 'the checksum beside it is another one'
 tar -C "$folder" -xzf "dist/$name.tar.gz" && cd "$folder/$name" || fail "it can't be unpacked"
 alone sh check.sh || exit 1
@@ -51,6 +52,6 @@ for program in "$@"; do
 done
 refuses_a_script || fail 'a script with a session 0 is not refused as it ought to be'
 completes || fail "bash doesn't complete mdlsim run --p"
-builds one_thread mdl || fail 'examples/c/one_thread.c has other answers'
-builds text mdl_text || fail 'examples/c/text.c has other answers'
+builds one_thread gaz_one || fail 'examples/c/one_thread.c has other answers'
+builds text gaz_text || fail 'examples/c/text.c has other answers'
 echo "$name: it works where it is unpacked"

@@ -103,6 +103,7 @@ program() {
 # Builds programs in a clone with the packed libraries. Only the programs themselves may be proved there.
 check() {
     packed=$PWD/dist/$name.tar.gz
+    [ -e "$packed" ] || { echo "dist/$name.tar.gz isn't there: make dist-libraries" >&2; return 1; }
     clone && tar -xzf "$packed" && are_of_these_sources "$@" || return 1
     for program in "$@"; do
         build "$program" || return 1

@@ -121,10 +121,11 @@ def rows_of(text):
 
 
 def sentences_of(text):
-    """Returns the sentences of a page, in plain text. Headings, tables and indented text have none."""
+    """Returns the sentences of a page, in plain text. Headings, tables, pictures, code and indented text have none."""
+    text = re.sub(r"^```.*?^```$", "", text, flags=re.MULTILINE | re.DOTALL)
     paragraphs, begins = [], True
     for line in text.splitlines():
-        if re.match(r"$|#|\||    ", line):
+        if re.match(r"$|#|\||!\[|    ", line):
             begins = True
             continue
         item = re.match(r"- |[0-9]+\. ", line)

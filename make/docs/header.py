@@ -1,7 +1,7 @@
-"""Prints where a header for C differs from the definitions and the code of its library, one line for each thing.
+"""Prints where the headers for C differ from the definitions and the code of their library, one line for each thing.
 
-Each number of an enumeration of the header has to be the one that the definitions give to what its name says, and each number of the definitions has to
-have a name. Each code of mdl.h has a text, and each text has a code. The fields of a structure, and the parameters of a function, have to be those of the
+Each number of an enumeration of a header has to be the one that the definitions give to what its name says, and each number of the definitions has to
+have a name. The version of the headers is that of the library. Each code of gaz_codes.h has a text, and each text has a code. The fields of a structure, and the parameters of a function, have to be those of the
 code, in their order and of their types. (`static_assert`s in examples/c/layout.c say what sizes and offsets that gives.)
 
 Usage, at the top of the repository: python3 make/docs/header.py
@@ -24,18 +24,21 @@ OTHER_NAMES = {
     "code_of VICTIM_IS": "VICTIM",
     "code_of TIMED_OUT_BY_THIS_CALL": "TIMEOUT",
     "code_of HAS_KILLED_FALSE": "NOT_KILLED",
+    "code_of HAS_WAIT_NONE": "NO_WAIT",
     "code_of _": "DONE",
     "done_code OK": "DONE",
     "acquire_code ACQUIRED": "DONE",
     "acquire_code MUST_WAIT": "WAITING",
+    "tried_code ACQUIRED": "DONE",
     "resume_code ACQUIRED": "DONE",
 }
 
-# A definition by cases, one that is a number, one that gives a number to each of a few values, and a row of texts.
+# A definition by cases, one that is a number, one that gives a number to each of a few values, the version of a header, and a row of texts.
 CASE = re.compile(r"^(\w+_code|code_of) (.+) = (\w+)$", re.MULTILINE)
 NUMBER = re.compile(r"^(\w+) = (\d+)$", re.MULTILINE)
 VALUES = re.compile(r"^(\w+)_at number =$((?:\n .*)*)", re.MULTILINE)
 VALUE = re.compile(r"number == (\d+) then Some (\w+)")
+VERSION = re.compile(r"^#define (\w+_VERSION) (\d+)$", re.MULTILINE)
 TEXT = re.compile(r"^ +\((\d+), codes \"", re.MULTILINE)
 
 # An enumeration, a structure and a function of a header; and a structure and a function of the code.
@@ -54,15 +57,16 @@ def capitals(name):
     return re.sub(r"(?<=[a-z0-9])(?=[A-Z])", "_", name).upper()
 
 
-class Header:
-    """A header, with the folders of its crates, the beginning of its names, and which enumeration has the numbers of which definition."""
+class Headers:
+    """The headers of a library, with the folders of its crates, the beginning of its names, and which enumeration has the numbers of which definition."""
 
     def __init__(self, crates, prefix, enums):
         folders = [pathlib.Path("crates", it) for it in crates]
-        self.path = next(folders[0].glob("include/*.h"))
+        self.folder = folders[0] / "include"
         self.prefix = prefix
         self.enums = enums
-        self.text = re.sub(r"/\*.*?\*/", "", self.path.read_text(), flags=re.DOTALL)
+        texts = [it.read_text() for it in sorted(self.folder.glob("*.h"))]
+        self.text = re.sub(r"/\*.*?\*/", "", "\n".join(texts), flags=re.DOTALL)
         self.specs = "\n".join(re.sub(r"--.*", "", it.read_text()) for folder in folders for it in sorted(folder.glob("specs/*.antt")))
         self.code = "\n".join(it.read_text() for folder in folders for it in sorted(folder.glob("src/**/*.rt")))
 
@@ -82,8 +86,12 @@ class Header:
         """Returns the names and numbers that the definitions have, by the enumeration to which they belong, each with where it is."""
         constants = dict(NUMBER.findall(self.specs))
         for name, number in constants.items():
-            enum = self.enums.get("status" if name.endswith("_status") else "code")
-            yield enum, self.name_of("", name.removesuffix("_status")), int(number), name
+            stem, _, kind = name.rpartition("_")
+            if name == "library_version":
+                continue
+            # (`no_mode` and `bad_mode` are codes)
+            is_kind = kind in self.enums and stem not in ("no", "bad")
+            yield self.enums[kind if is_kind else "code"], self.name_of("", stem if is_kind else name), int(number), name
         for definition, case, value in CASE.findall(self.specs):
             number = constants.get(value, value)
             if number.isdigit():
@@ -107,6 +115,9 @@ class Header:
             twice = [name for name, number in named.items() if list(named.values()).count(number) > 1]
             if twice:
                 yield f"enum {enum} has the same number for {' and '.join(twice)}"
+        for name, number in VERSION.findall(self.text):
+            if dict(NUMBER.findall(self.specs)).get("library_version") != number:
+                yield f"{name} is {number}, and by library_version it isn't"
         texts, codes = [int(it) for it in TEXT.findall(self.specs)], numbers[self.enums["code"]].values()
         if texts:
             yield from (f"the code {it} has no text" for it in sorted(set(codes) - set(texts)))
@@ -118,7 +129,7 @@ class Header:
         """Returns the names and fields of the code's structures, by the names that their comments say the header has for them."""
         found = {name: (comment, inside) for comment, name, inside in OWN_STRUCT.findall(self.code)}
         for name, (comment, inside) in found.items():
-            names = re.findall(r"`struct (\w+)` of `mdl\.h`", comment)
+            names = re.findall(r"`struct (\w+)` of `gaz_\w+\.h`", comment)
             yield name, names[0] if names else None, list(self.own_fields(inside, found))
 
     def own_fields(self, inside, structs):
@@ -148,7 +159,7 @@ class Header:
                 own[c_name], names[name] = fields, c_name
         structs = {name: [" ".join(it.split()) for it in inside.split(";") if it.strip()] for name, inside in STRUCT.findall(self.text)}
         yield from differing("struct", structs, own)
-        functions = {name: [type_of(it) for it in inside.split(",")] for name, inside in FUNCTION.findall(self.text)}
+        functions = {name: [type_of(it) for it in inside.split(",") if it != "void"] for name, inside in FUNCTION.findall(self.text)}
         yield from differing("function", functions, {name: list(self.own_parameters(it, names)) for name, it in OWN_FUNCTION.findall(self.code)})
 
 
@@ -181,11 +192,11 @@ def differing(what, declared, own):
 
 
 HEADERS = [
-    Header(["mdl_c", "mdl_c_calls"], "MDL_", {it: f"mdl_{it}" for it in ("mode", "duration", "namespace", "status", "code")}),
-    Header(["mdl_text"], "MDL_TEXT_", {it: f"mdl_text_{it}" for it in ("kind", "code")}),
+    Headers(["mdl_c", "mdl_c_calls"], "GAZ_", {it: f"gaz_{it}" for it in ("mode", "duration", "namespace", "status", "code")}),
+    Headers(["mdl_text"], "GAZ_TEXT_", {it: f"gaz_text_{it}" for it in ("kind", "code")}),
 ]
 
 if __name__ == "__main__":
-    for header in HEADERS:
-        for wrong in [*header.wrong_numbers(), *header.wrong_types()]:
-            print(f"{header.path}: {wrong}")
+    for headers in HEADERS:
+        for wrong in [*headers.wrong_numbers(), *headers.wrong_types()]:
+            print(f"{headers.folder}: {wrong}")

@@ -1,50 +1,55 @@
-"""Prints what is wrong in docs/LIBRARY.md's table of the calls that may take memory, one line for each thing.
+"""Prints which public calls may lack memory although they mustn't, or say that they don't, one line for each.
 
-A call for which the table says `none` has to exist, and can't be refused because memory runs out. Either it returns no `Result`, or its error has no
-such case; or, for a call of `LockSpace`, no cause of a refusal is that; or the row names a clause of its contract by which all refusals are others; or
-the row names a law about what the call does. Each public call whose text says `It takes no memory.` has to have such a row. For a session's call, a row
-for the call of `LockSpace` will do. (The pages of the inner crates say for all their calls at once which take memory.)
+A call may lack memory if its error has a case for that, unless its contract rules it out: by the causes of a call of `LockSpace`, by a clause that decides
+all refusals, none of which is that, or by a law about what the call does (`LAWS`). A call of a session is ruled by the call of `LockSpace` as well. The
+calls of `FRUGAL` take no memory by the rules of the lock table, whatever their texts say: their contracts have to rule it out. Of the crates in
+`FRUGAL_CRATES` only some calls may take memory. Each call whose text says `It takes no memory.` has to be such a call. docs/LIBRARY.md says in which cases
+the calls of `FRUGAL_IN_PART` take none. (The pages of the inner crates say for all their calls at once which take memory.)
 
-The calls of `FRUGAL` below take no memory by the rules of the lock table, whatever their texts and the page say: each has to have such a row. Those of
-`FRUGAL_IN_PART` take none in one case, and the page has to say so. Of the crates in `FRUGAL_CRATES` only some calls may take memory.
-
-Usage, at the top of the repository: python3 make/docs/memory.py < CALLS    (the public calls, a line each: CRATE FILE CALL)
+Usage, at the top of the repository: python3 make/docs/memory.py
 """
 
-import dataclasses
 import pathlib
 import re
-import sys
+
+import made
 
 PAGE = pathlib.Path("docs/LIBRARY.md")
 CALLS = pathlib.Path("crates/mdl_calls/specs/calls")
 SHARED_CAUSES = pathlib.Path("crates/mdl_calls/specs/CallSpec.antt")
-HEAD = "| call | memory |"
 INNER_CRATES = {"mdl_steps", "mdl_visits"}
 
 # What takes no memory. Whoever holds a lock can give it back, also if memory has run out: by a release, a downgrade, a step back to a savepoint, or the
 # end of a statement or transaction. What a later grant needs was taken when its wait began. So a wait can end, be settled, and be asked for, and a
 # session can open and close. Looking at a word of the shared table, or at what a cache has, needs nothing either.
 FRUGAL = """
-    Book::admit Book::cancel Book::remove Book::set_mode Book::can_grant Book::next_grantable Book::needs
+    Book::admit Book::admit_at Book::cancel Book::remove Book::set_mode Book::can_grant Book::next_grantable Book::next_grantable_at Book::needs
     victim DefCache::look
-    LockSpace::release LockSpace::downgrade LockSpace::end_wait LockSpace::poll_wait LockSpace::settle_timeout LockSpace::kill LockSpace::wait_of
-    Session::open Session::close Session::release_fast Session::reschedule Session::version
-    Context::savepoint Context::release Context::release_name Context::rollback_to Context::end_statement Context::end_transaction
+    LockSpace::unpin LockSpace::release LockSpace::downgrade LockSpace::end_wait LockSpace::poll_wait LockSpace::settle_timeout LockSpace::kill
+    LockSpace::wait_of
+    Session::open Session::close Session::release_fast Session::reschedule Session::version Session::owes
+    Context::savepoint Context::downgrade Context::release Context::release_name Context::rollback_to Context::end_statement Context::end_transaction
+    Context::make_explicit Context::make_transactional
 """.split()
 
 # What takes none in one case, and the words by which the page says so.
 FRUGAL_IN_PART = {
-    "LockSpace::change_definition": "but dropping a definition takes none",
-    "Context::give_up": "may, if the wait was for an upgrade and is granted already",
+    "LockSpace::change_definition": "nor does dropping a definition",
+    "Context::give_up": "`give_up` only if the wait was for an upgrade and is granted already",
     "Session::try_fast": "After `reserve_tickets` they take no memory.",
 }
 
 # The crates whose calls take none, with those of their calls that do: they make a key, which has names.
 FRUGAL_CRATES = {"mdl_key": {"Key::schema", "Key::table", "Key::user_lock"}, "mdl_word": set()}
 
+# The laws by which what a call does takes no memory.
+LAWS = {"Context::downgrade": "endings_take_no_memory"}
+
 # The sentence in the text of a call that says that it takes no memory.
 SAYS_NONE = re.compile(r"\b(?:It|This) takes no memory\.")
+
+# The case of an error that says that memory ran out.
+CASE = re.compile(r"OutOfMemory|\bMemory\b")
 
 # The error of a `Result`.
 ERROR = re.compile(r"-> Result<[^;{]*?, (\w+)(?:<\w+>)?>(?:\s|$)")
@@ -52,40 +57,6 @@ ERROR = re.compile(r"-> Result<[^;{]*?, (\w+)(?:<\w+>)?>(?:\s|$)")
 # A clause, and the beginning of one that says exactly when a call is refused, and why.
 CLAUSE = re.compile(r"ensures (?:(\w+) )?\{ (.*?) \}$", re.MULTILINE)
 DECIDES = re.compile(r"RefusesJust |result ≡ |IfErr result \(λ (\w+)\. \(\1 ≡ \w+\)")
-
-
-@dataclasses.dataclass(frozen=True)
-class Call:
-    """The head of a call: its text, and its signature with the contract. Each clause is a line."""
-
-    text: str
-    head: str
-
-    def program(self):
-        """Returns the name of what the call does, which its clause `run` cites."""
-        found = re.search(r"ensures run \{ Runs \S+ \S+ \((\w+) ", self.head)
-        return found and found[1]
-
-
-def call_of(file, name):
-    """Returns a call, by its file and its name without the type."""
-    lines = pathlib.Path(file).read_text().splitlines()
-    at = next(at for at, it in enumerate(lines) if re.match(rf" *(?:pub )?fn {name}\b", it))
-    start = at
-    while re.match(r" *(?:///|#\[)", lines[start - 1]):
-        start -= 1
-    end = next(end for end in range(at, len(lines)) if lines[end].endswith((";", " {")) or lines[end].strip() in ("{", "{}"))
-    text = " ".join(it.strip().removeprefix("///").strip() for it in lines[start:at] if "///" in it)
-    head = "\n".join(lines[at : end + 1]).removesuffix("{").rstrip()
-    return Call(text, re.sub(r"\n\s*(?!\s|ensures|requires)", " ", head))
-
-
-def rows():
-    """Returns the calls of the table, each with what the table says of its memory, and what carries that claim."""
-    table = PAGE.read_text().partition(HEAD)[2].partition("\n\n")[0].splitlines()[2:]
-    for cells in (it.split("|") for it in table):
-        for name in re.findall(r"`([^`]+)`", cells[1]):
-            yield name, cells[2].strip(), cells[4].strip()
 
 
 def definitions():
@@ -104,16 +75,12 @@ def errors():
     return {it[1]: it[0] for it in re.finditer(r"^pub (?:enum|struct) (\w+).*?(?:;|^\})$", text, re.MULTILINE | re.DOTALL)}
 
 
-def may_be_for_memory(error, known):
-    """Whether an error may say that memory ran out, itself or by an error that it holds. One from outside this repository may."""
-    text = known.get(error, "OutOfMemory")
-    held = set(re.findall(r"\((\w+Error)\b", text)) - {error}
-    return "OutOfMemory" in text or any(may_be_for_memory(it, known) for it in held)
-
-
 def is_ruled_out_by_causes(name):
     """Whether the call of `LockSpace` with this name is never refused because memory runs out: its causes have equations, none of which allows that."""
-    spec = (CALLS / f"{name.title().replace('_', '')}.antt").read_text()
+    path = CALLS / f"{name.title().replace('_', '')}.antt"
+    if not path.exists():
+        return False
+    spec = path.read_text()
     cause = re.search(r"\bcause = (\w+)", spec)
     if not cause:
         return True  # by default a call has no cause
@@ -121,85 +88,73 @@ def is_ruled_out_by_causes(name):
     return bool(equations) and all(cause == "⊥" for error, cause in equations if "OutOfMemory" in error or "_" in error.split())
 
 
-def with_faults(clause, defined):
-    """Returns the text of a clause, and of the definitions of faults that it uses, directly or not."""
-    texts, named = clause, set()
-    while more := set(re.findall(r"\b\w+_fault\b", texts)) - named:
-        named |= more
-        texts += "".join(defined.get(it, "OutOfMemory") for it in more)
-    return texts
+class Rules:
+    """What the definitions and errors of a checkout say of memory."""
+
+    def __init__(self):
+        self.defined, self.known = definitions(), errors()
+
+    def may_be_for_memory(self, error):
+        """Whether an error may say that memory ran out, itself or by an error that it holds. One from outside this repository may."""
+        text = self.known.get(error, "OutOfMemory")
+        held = set(re.findall(r"\((\w+Error)\b", text)) - {error}
+        return bool(CASE.search(text)) or any(map(self.may_be_for_memory, held))
+
+    def with_faults(self, clause):
+        """Returns the text of a clause, and of the definitions of faults that it uses, directly or not."""
+        texts, named = clause, set()
+        while more := set(re.findall(r"\b\w+_fault\b", texts)) - named:
+            named |= more
+            texts += "".join(self.defined.get(it, "OutOfMemory") for it in more)
+        return texts
+
+    def rules_out(self, clause):
+        """Whether a clause decides all refusals, and none of them says that memory ran out."""
+        return DECIDES.match(clause) and not CASE.search(self.with_faults(clause))
+
+    def is_ruled_out_by_law(self, name, clauses):
+        """Whether a law of `LAWS` is about what the call does, itself or by a definition that it cites."""
+        promised = self.defined.get("".join(it.title() for it in LAWS.get(name, "").split("_")), "")
+        cited = "".join(self.defined.get(it, "") for it in set(re.findall(r"\b[A-Z]\w+", promised)))
+        program = re.search(r"Runs \S+ \S+ \((\w+) ", clauses.get("run", ""))
+        return bool(program) and re.search(rf"\b{program[1]}\b", promised + cited) is not None
+
+    def may_lack(self, name, head):
+        """Whether a call may be refused because memory runs out, by its name and its head with the contract."""
+        head = re.sub(r"\n\s*(?!\s|ensures|requires)", " ", head.removesuffix("{").rstrip())
+        error = ERROR.search(head)
+        if not error or not self.may_be_for_memory(error[1]):
+            return False
+        owner, _, own = name.rpartition("::")
+        if owner in ("LockSpace", "Session") and is_ruled_out_by_causes(own):
+            return False
+        clauses = dict(CLAUSE.findall(head))
+        return not any(map(self.rules_out, clauses.values())) and not self.is_ruled_out_by_law(name, clauses)
 
 
-def is_ruled_out_by_clause(call, carried_by, defined):
-    """Whether a clause that the row names decides all refusals, and none of them says that memory ran out."""
-    return any(f"`{name}`" in carried_by and rules_out(clause, defined) for name, clause in CLAUSE.findall(call.head))
-
-
-def rules_out(clause, defined):
-    """Whether a clause decides all refusals, and none of them says that memory ran out."""
-    return DECIDES.match(clause) and "OutOfMemory" not in with_faults(clause, defined)
-
-
-def is_ruled_out_by_law(call, carried_by, defined):
-    """Whether the row names a law about what the call does, itself or by a definition that it cites."""
-    for law in re.findall(r"the law `(\w+)`", carried_by):
-        promised = defined.get("".join(it.title() for it in law.split("_")), "")
-        cited = "".join(defined.get(it, "") for it in set(re.findall(r"\b[A-Z]\w+", promised)))
-        if call.program() and re.search(rf"\b{call.program()}\b", promised + cited):
-            return True
-    return False
-
-
-def wrong_row(name, carried_by, call, defined, known):
-    """Returns what is wrong with a call that takes no memory according to the table, or None."""
-    if call is None:
-        return "there is no such call"
-    error = ERROR.search(call.head)
-    if not error or not may_be_for_memory(error[1], known):
-        return None
-    owner, _, own = name.rpartition("::")
-    if owner == "LockSpace":
-        return None if is_ruled_out_by_causes(own) else f"in {CALLS} it has the cause OutOfMemory"
-    if is_ruled_out_by_clause(call, carried_by, defined) or is_ruled_out_by_law(call, carried_by, defined):
-        return None
-    return "by its contract it may be refused for want of memory, or its row doesn't name the clause or the law by which it may not"
-
-
-def wrong_by_the_rules(public, calls, said, known, defined):
-    """Returns each call that takes no memory by the rules, of which the page or the contract says something else, with that."""
-    page = PAGE.read_text()
+def wrong(public, rules):
+    """Returns what is wrong, a text for each thing."""
+    may_lack = {call.name: rules.may_lack(call.name, call.head) for call in public}
     for name in FRUGAL:
-        if name not in calls:
-            yield name, "by the rules it takes no memory, and there is no such public call"
-        elif said.get(name) != "none":
-            yield name, f"by the rules it takes no memory, and the table says: {said.get(name, 'nothing')}"
-    for name, words in FRUGAL_IN_PART.items():
-        if words not in said.get(name, page):
-            yield name, f"by the rules it takes no memory in one case, and the page doesn't say: {words}"
-    for crate, _, name in public:
-        error = ERROR.search(calls[name].head)
-        if crate in FRUGAL_CRATES and name not in FRUGAL_CRATES[crate] and error and may_be_for_memory(error[1], known):
-            if not any(rules_out(clause, defined) for _, clause in CLAUSE.findall(calls[name].head)):
-                yield name, "by the rules it takes no memory, and by its contract it may be refused for want of it"
+        if may_lack.get(name, True):
+            yield f"{name}: by the rules it takes no memory, and there is no such call, or its contract allows a refusal for want of it"
+    for name, said in FRUGAL_IN_PART.items():
+        if said not in " ".join(PAGE.read_text().split()):
+            yield f"{PAGE}: by the rules {name} takes no memory in one case, and the page doesn't say: {said}"
+    for call in public:
+        if not may_lack[call.name]:
+            continue
+        if call.crate in FRUGAL_CRATES and call.name not in FRUGAL_CRATES[call.crate]:
+            yield f"{call.name}: by the rules it takes no memory, and by its contract it may be refused for want of it"
+        if call.crate not in INNER_CRATES and SAYS_NONE.search(" ".join(call.text.split())):
+            yield f"{call.name}: by its text it takes no memory, and by its contract it may be refused for want of it"
 
 
 def main():
-    """Checks the table, and prints what is wrong."""
-    public = [it.split() for it in sys.stdin]
-    calls = {name: call_of(file, name.rpartition("::")[2]) for _, file, name in public}
-    frugal = {name: carried_by for name, memory, carried_by in rows() if memory == "none"}
-    said = {name: memory for name, memory, _ in rows()}
-    defined, known = definitions(), errors()
-    for name, wrong in wrong_by_the_rules(public, calls, said, known, defined):
-        print(f"{PAGE}, table of memory, {name}: {wrong}")
-    for name, carried_by in frugal.items():
-        wrong = wrong_row(name, carried_by, calls.get(name), defined, known)
-        if wrong:
-            print(f"{PAGE}, table of memory, {name}: {wrong}")
-    for crate, _, name in public:
-        names = {name, name.replace("Session::", "LockSpace::")}
-        if crate not in INNER_CRATES and SAYS_NONE.search(calls[name].text) and not names & frugal.keys():
-            print(f"{PAGE}, table of memory: by its text {name} takes no memory, and no row says `none` of it")
+    """Prints what is wrong."""
+    public = [call for crate in made.libraries() for call in made.calls(crate)]
+    for line in wrong(public, Rules()):
+        print(line)
 
 
 if __name__ == "__main__":
