@@ -70,9 +70,13 @@ def main():
         except Refused as refused:
             print(f"a place that isn't pinned any more: {refused}")
         try:
-            manager.table(1, "shop", "or ders")
+            manager.table(1, "shop", "")
         except Refused as refused:
-            print(f"a name with a space: {refused}")
+            print(f"a table without a name: {refused}")
+        try:
+            manager.begin(0x10001, orders, Mode.SR)
+        except ValueError as cut_off:
+            print(cut_off)
 
 
 if __name__ == "__main__":
