@@ -1,25 +1,36 @@
 //! Tables, as a client of a MySQL server prints them.
 //!
 //! [`read_table`] reads what `mysql` prints with `-B`, `-t` or `-E`, or CSV, or JSON, and returns a [`Table`]: the names of the columns, and the [`Row`]s,
-//! each with the number of its line. The [`Form`] is that which the text begins with. Only text in JSON may be refused, with a [`TableError`].
+//! each with the number of its line. Lines above the table may be the client's own, as its prompt is: they are passed over. [`Form::begun_by`] says where
+//! a table begins, and in which form. Only text in JSON may be refused, with a [`TableError`].
 //!
 //! # Example
 //!
 //! ```
-//! use mdl_client_table::read_table;
+//! use mdl_client_table::{Form, read_table};
 //!
 //! let alloc = rt.alloc();
-//! let text = b"+------+------+
+//! let text = b"mysql> SELECT ID, USER FROM information_schema.PROCESSLIST;
+//! +------+------+
 //! | ID   | USER |
 //! +------+------+
 //! |    8 | app  |
 //! +------+------+
+//! 1 row in set (0.00 sec)
 //! ";
 //! let table = read_table(alloc, text)?;
 //! for row in table.rows() {
-//!     assert_eq!(rt; row.line(), 4);
+//!     assert_eq!(rt; row.line(), 5);
 //!     assert_eq!(rt; row.field(1), b"app".as_slice());
 //! }
+//! ```
+//!
+//! ```
+//! use mdl_client_table::Form;
+//!
+//! assert_eq!(rt; Form::begun_by(b"mysql> SELECT a, b;"), None);
+//! assert_eq!(rt; Form::begun_by(b"a,b\tc"), Some(Form::Commas));
+//! assert_eq!(rt; Form::begun_by(b"  +---+"), Some(Form::Boxes));
 //! ```
 #![tactic(auto)]
 
@@ -35,6 +46,7 @@ mod laws;
 mod lines;
 mod objects;
 mod pieces;
+mod remarks;
 mod row;
 mod table;
 mod vertical;
