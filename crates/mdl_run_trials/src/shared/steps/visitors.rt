@@ -319,6 +319,7 @@ impl Visitor {
     /// come so far.
     pub(crate) fn makes_slow<R: Wait>(self, rt: &R, modes: [Mode; 3]) -> Option<(Word, Word)> {
         if self.asks.is_some() || self.slow.is_some() || self.fast.is_some() {
+            drop(self);
             return None;
         }
         let Visitor {
@@ -329,18 +330,36 @@ impl Visitor {
             ..
         } = self;
         if next > MOST_NUMBERS {
+            drop(seat);
             return None;
         }
-        let [first, second, third] = modes;
-        let one = gain(&mut seat, place, kind, next, &[], first)?;
-        let two = gain(&mut seat, place, kind, next, &[first], second)?;
-        let three = gain(&mut seat, place, kind, next, &[first, second], third)?;
-        let before = seat.read_word_unlatched(place);
-        if materialise(rt, &mut seat, place, kind, &[one, two, three]).is_err() {
-            return None;
-        }
-        Some((before, seat.read_word_unlatched(place)))
+        let words = made_slow(rt, &mut seat, place, kind, next, modes);
+        drop(seat);
+        words
     }
+}
+
+// Gains three fast tickets in these modes, numbered from `next` on, and makes them slow. Returns the words before and after that.
+fn made_slow<R: Wait>(
+    rt: &R,
+    seat: &mut TableSeat,
+    place: usize,
+    kind: Kind,
+    next: u64,
+    modes: [Mode; 3],
+) -> Option<(Word, Word)>
+    requires alone { HasFastAlone place kind next [] seat.old }
+    requires rest { next < 2 ^ 60 }
+{
+    let [first, second, third] = modes;
+    let one = gain(seat, place, kind, next, &[], first)?;
+    let two = gain(seat, place, kind, next, &[first], second)?;
+    let three = gain(seat, place, kind, next, &[first, second], third)?;
+    let before = seat.read_word_unlatched(place);
+    if materialise(rt, seat, place, kind, &[one, two, three]).is_err() {
+        return None;
+    }
+    Some((before, seat.read_word_unlatched(place)))
 }
 
 // Gains one more fast ticket, beside those in the modes `beside`, whose numbers begin with `next`.
