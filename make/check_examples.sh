@@ -1,8 +1,8 @@
 #!/bin/sh
 # Prints which library crates show an example at the head of src/lib.rt that differs from the file of examples that names them, one line for each, or
 # that there is none. Such a file is in src/examples of a crate of trials, or in src of a program that is an example. Also prints which code of
-# docs/EMBEDDING.md isn't in the program that it is from, which `make c` builds and runs, and which answer of README.md isn't the one in its file, which
-# `make commands` compares.
+# docs/EMBEDDING.md isn't in the program that it is from, which `make c` builds and runs, and which answer of README.md, or of the README that `make dist`
+# packs, isn't the one in its file, which `make commands` compares.
 # Usage: sh make/check_examples.sh           checks the examples
 #        sh make/check_examples.sh update    puts the examples there
 cd "$(dirname "$0")/.." || exit 1
@@ -12,12 +12,12 @@ export LC_ALL
 made=$(mktemp -d)
 trap 'rm -rf "$made"' EXIT
 
-# The library crates that show an example: those with a src/lib.rt that are no tests. mdl_steps_laws, mdl_session_laws, mdl_visits_laws
-# and mdl_view_text_laws have nothing to call: their functions only state laws. mdl_c and mdl_text are called from C, as in examples/c,
+# The library crates that show an example: those with a src/lib.rt that are no tests. mdl_steps_laws, mdl_session_laws, mdl_visits_laws,
+# mdl_view_text_laws and mdl_work_laws have nothing to call: their functions only state laws. mdl_c and mdl_text are called from C, as in examples/c,
 # and with mdl_c the functions of mdl_c_calls.
 libraries() {
     ls crates/*/src/lib.rt | cut -d/ -f2 | grep -v -x -e '.*trials' -e 'mdl_steps_laws' -e 'mdl_session_laws' -e 'mdl_visits_laws' \
-        -e 'mdl_view_text_laws' -e 'mdl_c' -e 'mdl_c_calls' -e 'mdl_text'
+        -e 'mdl_view_text_laws' -e 'mdl_work_laws' -e 'mdl_c' -e 'mdl_c_calls' -e 'mdl_text'
 }
 
 # The file of examples that names a crate in its first line.
@@ -66,7 +66,7 @@ look() {
     for crate in $(libraries); do
         look_at "$crate"
     done
-    python3 make/docs/shown.py README.md docs/EMBEDDING.md
+    python3 make/docs/shown.py README.md docs/EMBEDDING.md make/dist/README.md
 }
 
 update() {

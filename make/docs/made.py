@@ -5,6 +5,7 @@ Such a part is between the lines `<!-- made: NAME -->` and `<!-- end -->`. Its n
     crates        each crate: what its page's heading calls it, and the crates that it stands on, without those that these stand on
     contracts     each public function: the first sentence of its comment, the names of its clauses, and whether it may lack memory
     definitions   each file of definitions, and the comment at its head
+    figures_NAME  a table of docs/PERFORMANCE.md, from bench/figures.tsv
     lines         the lines of each crate, and its mutants
     reading       how many definitions stand behind some statements, and how long they are
 
@@ -15,14 +16,16 @@ Usage, at the top of the repository:
 """
 
 import dataclasses
+import functools
 import pathlib
 import re
 import sys
 
-sys.path.insert(0, "make")
+sys.path[:0] = ["make", "bench"]
 
 import count_specs
 import memory
+from figures import KEPT, LAYOUTS, Stale, read, table_of
 
 PAGES = ["README.md", "CONTRIBUTING.md", "CHANGELOG.md", "docs/*.md", "crates/*/README.md", "examples/*.md"]
 PLACE = re.compile(r"(?<= )[\w./]+:[0-9]+,?(?= )")
@@ -34,11 +37,12 @@ NO_LIBRARY = re.compile(r".*(?:trials|examples?|_bench)$")
 # The statements whose reading is measured, each with its function.
 STATEMENTS = {
     "the matrices of modes are the printed ones": "mdl_key::conflicts_granted",
-    "`mdlsim lock` prints the defined answers": "mdl_lock::lock_run",
-    "`mdlsim replay` prints the defined answers": "mdl_script::replay",
+    "`mdlsim lock` prints the defined answers; no two sessions hold clashing locks": "mdl_lock::lock_run",
+    "`mdlsim replay` prints the defined answers; no two sessions hold clashing locks": "mdl_script::replay",
     "a transaction sees one definition of a table": "mdl_script_laws::transactions_see_one_definition",
     "no line of a script leaves a deadlock": "mdl_script_laws::no_deadlock_stands",
     "who blocks whom, by a server's rows": "mdl_view::blockings",
+    "no two sessions hold clashing locks, on threads": "mdl_steps_laws::running_tables_are_lawful",
     "what is read under a lock stays defined, on threads": "mdl_steps_laws::definitions_stay",
     "no waiter is forgotten, on threads": "mdl_steps_laws::nobody_is_forgotten",
     "a lock is granted on threads (`Session::try_now`)": "mdl_shared::try_now",
@@ -309,6 +313,16 @@ def made_reading():
     yield f"All together: {code:,} lines of code, {tests:,} of tests, {specs:,} of definitions and {proofs:,} of proofs; {mutants:,} mutants."
 
 
+# ---- figures
+
+
+def made_figures(table):
+    """Yields the lines of a table of figures."""
+    yield "```text"
+    yield from table_of(read(KEPT), table)
+    yield "```"
+
+
 MAKERS = {
     "examples": made_examples,
     "crates": made_crates,
@@ -316,6 +330,7 @@ MAKERS = {
     "definitions": made_definitions,
     "lines": made_lines,
     "reading": made_reading,
+    **{f"figures_{table}": functools.partial(made_figures, table) for table in LAYOUTS},
 }
 
 
@@ -357,7 +372,11 @@ def main(asked):
     """Does what the word asks for, and returns the exit status."""
     match asked:
         case ["check"] | ["update"]:
-            update(asked == ["check"])
+            try:
+                update(asked == ["check"])
+            except Stale as why:
+                print(f"{KEPT}: {why}", file=sys.stderr)
+                return 1
         case ["words"]:
             words()
         case _:
