@@ -1,5 +1,5 @@
 -- The names of locks, after MySQL 5.7: `MDL_key` of sql/mdl.h. Which bytes a name can have is this project's own choice.
-use Rattle.std.specs.Prelude.{ℕ, Bool, not, ◌&&◌, ◌||◌, List, [], ◌++◌, length, codes, ◌==◌, nat_lt, nat_le, if◌then◌else◌, Option, Some, position}
+use Rattle.std.specs.Prelude.{ℕ, Bool, not, ◌&&◌, ◌||◌, List, [], ◌++◌, length, codes, ◌==◌, nat_lt, nat_le, if◌then◌else◌, Option, Some, None, position}
 use Rattle.std.specs.Option.{option_map, option_or}
 use Rattle.std.specs.Ordering.{nat_cmp, on, then_cmp, eq_of_both}
 use lib.Pointwise.{pointwise}
@@ -9,7 +9,9 @@ use Rattle.mdl_key.specs.declared.namespace.Namespace.{Namespace}
 use Rattle.mdl_key.specs.declared.namespace.Namespace.TheVariants.{Global, Schema, Table, Commit, UserLevelLock}
 use Rattle.mdl_key.specs.declared.key_error.KeyError.{KeyError}
 use Rattle.mdl_key.specs.declared.key_error.KeyError.TheVariants.{EmptyName, LongName, BadByte}
-use Rattle.mdl_key.specs.Limits.{longest_name}
+use Rattle.mdl_key.specs.declared.key_error.Utf8NameError.{Utf8NameError}
+use Rattle.mdl_key.specs.declared.key_error.Utf8NameError.TheVariants as utf8
+use Rattle.mdl_key.specs.Limits.{longest_name, longest_utf8_name}
 
 -- whether a byte can be part of a name: a letter from a to z, a digit, or an underscore
 abbrev pub is_name_byte : ℕ → Bool
@@ -20,6 +22,12 @@ abbrev pub name_fault : List ℕ → Option KeyError
 name_fault text =
     if length text == 0 then Some EmptyName
     else (if nat_lt longest_name (length text) then Some LongName else option_map (λ at. BadByte at) (position (λ b. not (is_name_byte b)) text))
+
+-- why a text isn't a name where a name may be any text, if it isn't: it has at least one byte and at most `longest_utf8_name`
+abbrev pub utf8_name_fault : List ℕ → Option Utf8NameError
+utf8_name_fault text =
+    if length text == 0 then Some utf8.EmptyName
+    else (if nat_lt longest_utf8_name (length text) then Some utf8.LongName else None)
 
 -- the value of a key: its namespace, and the names of its schema and its table if it has them
 pub record KeyName : Type 0 where
@@ -50,6 +58,10 @@ user_lock_key name = record { namespace = UserLevelLock; schema = name; table = 
 -- the fault of a table's two names: the schema's name is checked first
 abbrev pub table_fault : List ℕ → List ℕ → Option KeyError
 table_fault schema table = option_or (name_fault schema) (name_fault table)
+
+-- the fault of a table's two names that may be any texts: the schema's name is checked first
+abbrev pub utf8_table_fault : List ℕ → List ℕ → Option Utf8NameError
+utf8_table_fault schema table = option_or (utf8_name_fault schema) (utf8_name_fault table)
 
 -- the place of a namespace in the order of keys
 abbrev pub namespace_rank : Namespace → ℕ

@@ -12,3 +12,7 @@ most_places = 256
 -- the most bytes that a name can have
 abbrev pub longest_name : ℕ
 longest_name = 64
+
+-- the most bytes that a name can have where it may be any text
+abbrev pub longest_utf8_name : ℕ
+longest_utf8_name = 255

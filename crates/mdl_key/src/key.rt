@@ -1,17 +1,18 @@
 //! Keys: the names of locks.
-ghost use Rattle.std.specs.Prelude.{◌≡◌, ◌≤◌, ℕ, Some, [], ◌∷◌, ◌++◌, IfOk, IsOkUnless, length, not, position};
+ghost use Rattle.std.specs.Prelude.{◌≡◌, ◌≤◌, ◌==◌, ℕ, Some, [], ◌∷◌, ◌++◌, IfOk, IsOkUnless, length, not, position};
 ghost use Rattle.std.specs.String.{string_bytes};
 ghost use Rattle.std.proofs.Common.{rules};
 ghost use Rattle.std.specs.Ordering.{as_partial_cmp};
 ghost use Rattle.std.specs.Cmp.{partial_order_from_own_ties};
+ghost use Rattle.std.specs.Cmp.Lexicographic.{pointwise};
 ghost use Rattle.std.specs.Cmp.Rules.{comparing, hashing};
 ghost use Rattle.std.specs.Hash as fed;
 ghost use Rattle.mdl_key.specs.Modes.{kind_of};
-ghost use Rattle.mdl_key.specs.Keys.{global_key, commit_key, schema_key, table_key, user_lock_key, name_fault, table_fault, is_name_byte, key_eq, key_cmp, key_text};
-ghost use Rattle.mdl_key.specs.Limits.{longest_name};
+ghost use Rattle.mdl_key.specs.Keys.{global_key, commit_key, schema_key, table_key, user_lock_key, name_fault, table_fault, utf8_name_fault, utf8_table_fault, is_name_byte, key_eq, key_cmp, key_text};
+ghost use Rattle.mdl_key.specs.Limits.{longest_utf8_name};
 ghost use Rattle.mdl_key.specs.Refusals.{Refuses, RefusesJust};
 
-use crate::{KeyError, Kind, LONGEST_NAME, Namespace};
+use crate::{KeyError, Kind, LONGEST_NAME, LONGEST_UTF8_NAME, Namespace, Utf8NameError};
 use std::alloc::{AllocError, Global};
 use std::cmp::Ordering;
 use std::fmt;
@@ -20,7 +21,8 @@ use std::marker::Model;
 
 /// The name of a lock: a namespace, and within it a schema, a table or a user-level lock.
 ///
-/// A name has 1 to [`LONGEST_NAME`] bytes of `a-z 0-9 _`. Keys are ordered by namespace, then by the bytes of the schema's name, then
+/// A name has 1 to [`LONGEST_NAME`] bytes of `a-z 0-9 _`; the constructors that end in `_utf8` take any text of 1 to [`LONGEST_UTF8_NAME`]
+/// bytes instead. Keys are ordered by namespace, then by the bytes of the schema's name, then
 /// by those of the table's. After MySQL 5.7, `MDL_key` of `sql/mdl.h`.
 #[derive(Drop)]
 pub struct Key {
@@ -87,6 +89,34 @@ impl Key {
         Key::named(alloc, Namespace::UserLevelLock, name, "")
     }
 
+    /// The key of a schema whose name may be any text of 1 to [`LONGEST_UTF8_NAME`] bytes.
+    pub fn schema_utf8(alloc: Global, schema: &str) -> Result<Key, Utf8NameError>
+        ensures made { IfOk result (λ key. key ≡ schema_key schema.now) }
+        ensures refused { Refuses (utf8_name_fault schema.now) Utf8NameError.OutOfMemory result }
+    {
+        check_utf8_name(schema)?;
+        Key::named_utf8(alloc, Namespace::Schema, schema, "")
+    }
+
+    /// The key of a table whose names may be any texts of 1 to [`LONGEST_UTF8_NAME`] bytes. The schema's name is checked first.
+    pub fn table_utf8(alloc: Global, schema: &str, table: &str) -> Result<Key, Utf8NameError>
+        ensures made { IfOk result (λ key. key ≡ table_key schema.now table.now) }
+        ensures refused { Refuses (utf8_table_fault schema.now table.now) Utf8NameError.OutOfMemory result }
+    {
+        check_utf8_name(schema)?;
+        check_utf8_name(table)?;
+        Key::named_utf8(alloc, Namespace::Table, schema, table)
+    }
+
+    /// The key of a user-level lock whose name may be any text of 1 to [`LONGEST_UTF8_NAME`] bytes.
+    pub fn user_lock_utf8(alloc: Global, name: &str) -> Result<Key, Utf8NameError>
+        ensures made { IfOk result (λ key. key ≡ user_lock_key name.now) }
+        ensures refused { Refuses (utf8_name_fault name.now) Utf8NameError.OutOfMemory result }
+    {
+        check_utf8_name(name)?;
+        Key::named_utf8(alloc, Namespace::UserLevelLock, name, "")
+    }
+
     fn unnamed(alloc: Global, namespace: Namespace) -> Key
         ensures { result ≡ record { namespace = namespace; schema = []; table = [] } }
     {
@@ -103,7 +133,7 @@ impl Key {
         schema: &str,
         table: &str,
     ) -> Result<Key, KeyError>
-        requires { length schema.now ≤ longest_name }
+        requires { length schema.now ≤ longest_utf8_name }
         ensures made { IfOk result (λ key. key ≡ record { namespace = namespace; schema = schema.now; table = table.now }) }
         ensures memory { IsOkUnless result KeyError.OutOfMemory }
     {
@@ -112,6 +142,22 @@ impl Key {
             names: joined(alloc, schema, table)?,
             cut: schema.len() as u8,
         })
+    }
+
+    fn named_utf8(
+        alloc: Global,
+        namespace: Namespace,
+        schema: &str,
+        table: &str,
+    ) -> Result<Key, Utf8NameError>
+        requires { length schema.now ≤ longest_utf8_name }
+        ensures made { IfOk result (λ key. key ≡ record { namespace = namespace; schema = schema.now; table = table.now }) }
+        ensures memory { IsOkUnless result Utf8NameError.OutOfMemory }
+    {
+        match Key::named(alloc, namespace, schema, table) {
+            Ok(key) => Ok(key),
+            Err(_) => Err(Utf8NameError::OutOfMemory),
+        }
     }
 
     /// Returns the key's namespace.
@@ -170,7 +216,10 @@ impl PartialEq for Key {
     fn eq(&self, other: &Key) -> bool {
         self.namespace == other.namespace
             && self.cut == other.cut
-            && self.names.as_str() == other.names.as_str()
+            && is_same_text(
+                self.names.as_str().as_bytes(),
+                other.names.as_str().as_bytes(),
+            )
     }
 }
 
@@ -249,6 +298,19 @@ pub fn check_name(name: &str) -> Result<(), KeyError>
     }
 }
 
+/// Checks whether a text is a name for the constructors that end in `_utf8`: it has 1 to [`LONGEST_UTF8_NAME`] bytes, whichever they are.
+pub fn check_utf8_name(name: &str) -> Result<(), Utf8NameError>
+    ensures { RefusesJust (utf8_name_fault name.now) result }
+{
+    if name.is_empty() {
+        return Err(Utf8NameError::EmptyName);
+    }
+    if name.len() > LONGEST_UTF8_NAME {
+        return Err(Utf8NameError::LongName);
+    }
+    Ok(())
+}
+
 // Returns the index of the first byte that no name can have.
 fn first_bad_byte(name: &[u8]) -> Option<usize>
     ensures { result ≡ position (λ b. not (is_name_byte b)) name.now }
@@ -274,4 +336,19 @@ fn joined(alloc: Global, schema: &str, table: &str) -> Result<String, KeyError>
         return Err(KeyError::OutOfMemory);
     }
     Ok(names)
+}
+
+// Whether two texts are the same. Most names differ in their last byte, so the last bytes are compared first.
+fn is_same_text(text: &[u8], other: &[u8]) -> bool
+    ensures { result ≡ pointwise ◌==◌ text.now other.now }
+{
+    if text.len() != other.len() {
+        return false;
+    }
+    for at in (0..text.len()).rev() {
+        if text[at] != other[at] {
+            return false;
+        }
+    }
+    true
 }

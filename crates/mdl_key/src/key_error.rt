@@ -17,3 +17,17 @@ pub enum KeyError {
     #[error("out of memory")]
     OutOfMemory,
 }
+
+/// Why a key can't be made from names that may be any texts.
+#[derive(Clone, Copy, Debug, PartialEq, Eq, Error)]
+pub enum Utf8NameError {
+    /// A name is empty.
+    #[error("empty name")]
+    EmptyName,
+    /// A name has more than [`LONGEST_UTF8_NAME`](crate::LONGEST_UTF8_NAME) bytes.
+    #[error("name of more than 255 bytes")]
+    LongName,
+    /// Memory ran out.
+    #[error("out of memory")]
+    OutOfMemory,
+}

@@ -32,11 +32,11 @@ mod mode;
 mod namespace;
 mod strength;
 
-pub use key::{Key, check_name};
-pub use key_error::KeyError;
+pub use key::{Key, check_name, check_utf8_name};
+pub use key_error::{KeyError, Utf8NameError};
 pub use known_key::KnownKey;
 pub use laws::{clashing_is_symmetric, strength_is_a_preorder, waits_only_where_it_clashes};
-pub use limits::{LONGEST_NAME, MOST_PLACES, MOST_SESSIONS};
+pub use limits::{LONGEST_NAME, LONGEST_UTF8_NAME, MOST_PLACES, MOST_SESSIONS};
 pub use matrix::{conflicts_granted, conflicts_waiting, granted_row, waiting_row};
 pub use mode::{Duration, Mode, ModeError};
 pub use namespace::{Kind, Namespace};

@@ -8,3 +8,6 @@ pub const MOST_PLACES: u16 = 256;
 
 /// The most bytes that a name can have.
 pub const LONGEST_NAME: usize = 64;
+
+/// The most bytes that a name can have for the constructors that take any text.
+pub const LONGEST_UTF8_NAME: usize = 255;
