@@ -50,7 +50,7 @@ help:
 	@echo 'make growths               refuses each growth of some short lives in turn'
 	@echo 'make race                  lets threads race until a million waits are settled'
 	@echo 'make wrong [CRATE=NAME]    has the prover refuse the mutants, of all crates or of one'
-	@echo 'make bench                 times scripts and calls'
+	@echo 'make bench                 times scripts and calls, and draws charts of the figures'
 	@echo
 	@echo 'make dist                  packs the programs and the libraries for C that were built last, for machines without the kit, into dist/'
 	@echo 'make dist-check            unpacks that into an empty folder, and tries it there without the kit'
@@ -93,7 +93,8 @@ docs: kit
 	@sh make/check_version.sh
 
 # Measures the lines per second and peak memory of scripts of three sizes, of one lock and of statements; the cost of calls, on one thread and on four,
-# each beside what it is compared with; the instructions of a pair of calls; and the cost of the locks of C and Rust.
+# each beside what it is compared with; the instructions of a pair of calls; and the cost of the locks of C and Rust. mdlview is timed if it is built.
+# Puts the figures and charts of the run into bench/peers/out.
 bench: build
 	@sh make/build.sh mdl_bench quick
 	@sh bench/peers.sh $(PROGRAM)
