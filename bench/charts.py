@@ -31,9 +31,11 @@ STYLE = """\
 text{font:12px Arial,Helvetica,"Liberation Sans",sans-serif;fill:#1f2328}
 .ground{fill:#fff;stroke:#d0d7de}.head{font-size:15px;font-weight:700}.soft{fill:#59636e}.late{fill:#b42318;font-weight:700}
 .value{stroke:#fff;stroke-width:3px;paint-order:stroke}.mid{text-anchor:middle}.grid{stroke:#d8dee4}.base{stroke:#8c959f}
-.a{fill:#0969da}.b{fill:#8c959f}.c{fill:#54aeff}.d{fill:#bf8700}.e{fill:#1a7f37}.more{fill-opacity:.4}.goal{stroke:#cf222e;stroke-width:2}.same{stroke:#59636e;stroke-dasharray:4 3}
+.a{fill:#0969da}.b{fill:#8c959f}.c{fill:#54aeff}.d{fill:#bf8700}.e{fill:#1a7f37}.more{fill-opacity:.4}
+.goal{stroke:#cf222e;stroke-width:2}.same{stroke:#59636e;stroke-dasharray:4 3}
 @media(prefers-color-scheme:dark){text{fill:#e6edf3}.value{stroke:#0d1117}.ground{fill:#0d1117;stroke:#30363d}.soft{fill:#9198a1}.late{fill:#ff7b72}
-.grid{stroke:#262c34}.base{stroke:#6e7681}.a{fill:#4493f8}.b{fill:#7d8590}.c{fill:#1f5fb8}.d{fill:#d29922}.e{fill:#3fb950}.goal{stroke:#ff7b72}.same{stroke:#9198a1}}
+.grid{stroke:#262c34}.base{stroke:#6e7681}.a{fill:#4493f8}.b{fill:#7d8590}.c{fill:#1f5fb8}.d{fill:#d29922}.e{fill:#3fb950}
+.goal{stroke:#ff7b72}.same{stroke:#9198a1}}
 """
 
 
@@ -179,6 +181,8 @@ class Scale:
 
     def at(self, number):
         """Returns where a number is."""
+        if number <= self.steps[0]:
+            return self.left
         first, last, it = (math.log10(it) if self.is_log else it for it in (self.steps[0], self.most, number))
         return self.left + (self.right - self.left) * (it - first) / (last - first)
 
@@ -207,7 +211,7 @@ def numbers_of(rows, panel):
 
 def scale_of(rows, panel, left, right):
     """Returns a panel's scale, with room for the words at the ends of its bars."""
-    numbers = numbers_of(rows, panel)
+    numbers = [it for it in numbers_of(rows, panel) if it > 0] or [1]
     steps = tenfold_steps(min(numbers), max(numbers)) if panel.is_log else even_steps(max(numbers))
     ends = [(label_at_bar(row, bar.figure), misses(row, bar.figure)) for row in rows.values() for bar in panel.bars if bar.figure in row]
     room = max(width_of(text + (" missed" if late else "")) for text, late in ends) + 8
@@ -278,15 +282,19 @@ def key_drawn(marks, y):
     return drawn
 
 
+def goals_named(rows):
+    """Returns what the marks of goals mean in these rows, or nothing if there are none."""
+    goals = {it.unit == "lines/s" for row in rows.values() for name, it in row.items() if name.startswith(GOAL)}
+    if len(goals) == 2:
+        return "goal: at least this many lines, at most this much of all else"
+    return "goal: at least" if True in goals else "goal: at most" if goals else ""
+
+
 def marks_of(chart, rows):
     """Returns what the legend of a chart has to explain: colours and marks, with their words."""
-    marks = [(bar.colour, bar.name) for panel in chart.panels for bar in panel.bars if bar.name]
-    names = {name for row in rows.values() for name in row}
-    if any(GOAL + bar.figure in names for panel in chart.panels for bar in panel.bars):
-        least = GOAL + "lines a second" in names
-        others = any(it.startswith(GOAL) and it != GOAL + "lines a second" for it in names)
-        marks.append(("goal", "goal: at least this many lines, at most this much of all else" if least and others else "goal: at least" if least else "goal: at most"))
-    return marks + [("same", "as long as the model") for panel in chart.panels if panel.has_one]
+    bars = [(bar.colour, bar.name) for panel in chart.panels for bar in panel.bars]
+    lines = [("goal", goals_named(rows)), *(("same", "as long as the model") for panel in chart.panels if panel.has_one)]
+    return [it for it in bars + lines if it[1]]
 
 
 def group_named(group, others):
@@ -354,7 +362,7 @@ def parts_drawn(rows, top):
     left, right, y = room_of_labels(rows), WIDTH - BORDER - 150, top + 2 * LINE
     drawn = key_drawn([("b", "all other instructions of ours"), ("goal", "as many as the model takes")], top + LINE)
     for label, row in rows.items():
-        all_of_it, x = row["ours"].number(), left
+        all_of_it, x = row["ours"].number() or 1, left
         drawn += labels_drawn([label], rows, [y], BAR + 1) + [box("b", left, y, right - left, BAR + 4)]
         below = left
         for colour, (found, what) in zip("adec", parts_of(row)):
@@ -380,8 +388,9 @@ def drawn_of(figures, table):
     drawn, end = bars_drawn(chart, rows, top) if chart.panels else parts_drawn(rows, top)
     foot = footer_of([it for it in figures if it.table == table])
     high = end + 8 + LINE * len(foot) + 6
+    size, named = f'width="{WIDTH}" height="{high:.0f}" viewBox="0 0 {WIDTH} {high:.0f}"', f'aria-labelledby="{table}-title {table}-text"'
     lines = [
-        f'<svg xmlns="http://www.w3.org/2000/svg" width="{WIDTH}" height="{high:.0f}" viewBox="0 0 {WIDTH} {high:.0f}" role="img" aria-labelledby="{table}-title {table}-text">',
+        f'<svg xmlns="http://www.w3.org/2000/svg" {size} role="img" {named}>',
         f'<title id="{table}-title">{escaped(chart.title)}</title>',
         f'<desc id="{table}-text">{escaped(". ".join([chart.text, *described(rows, chart)]))}.</desc>',
         f"<style>{STYLE}</style>",

@@ -185,11 +185,11 @@ def table_of(figures, table):
 # ---- runs
 
 
-def rounded(number, unit):
+def rounded(number, figure):
     """Returns the value of a figure that was measured."""
-    if unit == "lines/s":
-        return str(round(number, -3 if number >= 1000 else 0)).removesuffix(".0")
-    return f"{number:.2f}" if unit == "times" and number < 10 else f"{number:.1f}" if number < 100 else f"{number:.0f}"
+    if figure.unit == "lines/s":
+        return f"{round(number, -3 if number >= 1000 else 0):.0f}"
+    return f"{number:.2f}" if " / " in figure.measured and number < 10 else f"{number:.1f}" if number < 100 else f"{number:.0f}"
 
 
 def measured(figure, rows):
@@ -222,7 +222,7 @@ def of_run(kept, text, machine, date, version):
             numbers = numbers_of(row, rows)
             for name, it in row.items():
                 if name in numbers:
-                    value = rounded(numbers[name], it.unit)
+                    value = rounded(numbers[name], it)
                 elif name.startswith(GOAL) and name.removeprefix(GOAL) in numbers:
                     value = it.value
                 else:
