@@ -28,7 +28,7 @@ SECONDS = 60
 FIRST_RUN = crates/mdlsim/out/first_run
 
 .PHONY: help run try script test layout docs bench examples commands c fuzz growths race wrong build view install dist dist-check dist-libraries \
-    dist-libraries-check clean kit
+    dist-libraries-check clean kit timers
 
 help:
 	@echo 'All need the Rattle kit, except fuzz, dist-check and clean.'
@@ -53,7 +53,7 @@ help:
 	@echo 'make bench                 times scripts and calls, and draws charts of the figures'
 	@echo
 	@echo 'make dist                  packs the programs and the libraries for C that were built last, for machines without the kit, into dist/'
-	@echo 'make dist-check            unpacks that into an empty folder, and tries it there without the kit'
+	@echo 'make dist-check            unpacks that into an empty folder, and tries it there without the kit; with the kit it packs again, and compares'
 	@echo 'make dist-libraries        packs the libraries that were proved last, for checkouts that are to trust them, into dist/'
 	@echo 'make dist-libraries-check  unpacks those in a new clone, and builds mdlsim there'
 	@echo 'make clean                 removes what was built or packed, and what the prover keeps for its next check'
@@ -95,7 +95,7 @@ docs: kit
 # Measures the lines per second and peak memory of scripts of three sizes, of one lock and of statements; the cost of calls, on one thread and on four,
 # each beside what it is compared with; the instructions of a pair of calls; and the cost of the locks of C and Rust. mdlview is timed if it is built.
 # Puts the figures and charts of the run into bench/peers/out.
-bench: build
+bench: timers build
 	@sh make/build.sh mdl_bench quick
 	@sh bench/peers.sh $(PROGRAM)
 
@@ -147,8 +147,10 @@ install: build view
 	@sh make/lay_out.sh "$(PREFIX)" $(PROGRAMS)
 	@sh make/lay_out_c.sh "$(PREFIX)"
 
-# Packs what was built last, and builds only what is missing. After `make test` it packs the programs and the libraries that the gate proved.
+# Packs what was built last, and builds only what is missing. After `make test` it packs the programs and the libraries that the gate proved. Packing twice
+# gives the same bytes. SOURCE_DATE_EPOCH sets the time of all files, which is otherwise the commit's.
 dist: kit
+	@sh make/needs.sh awk cmp tar gzip sha256sum readelf
 	@test -x $(PROGRAM) || sh make/build.sh mdlsim lock
 	@test -x $(VIEW) || sh make/build.sh mdlview why --script
 	@for archive in $(ARCHIVES); do test -e "$$archive" || python3 make/archive.py || exit 1; done
@@ -169,3 +171,7 @@ clean:
 
 kit:
 	@sh make/needs.sh rt python3
+
+# What `make bench` needs beside the kit.
+timers: kit
+	@sh make/needs.sh awk /usr/bin/time

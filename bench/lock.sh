@@ -7,11 +7,7 @@ folder=$(dirname "$0")
 scripts=$(mktemp -d)
 trap 'rm -rf "$scripts"' EXIT
 
-sh "$folder/../make/needs.sh" awk || exit 1
-if [ ! -x /usr/bin/time ]; then
-    echo "GNU time is missing: install the package time" >&2
-    exit 1
-fi
+sh "$folder/../make/needs.sh" awk /usr/bin/time || exit 1
 
 # Runs a script a number of times, and prints the time of one run and the peak memory, and then for a program to read the nanoseconds per line, the
 # kibibytes, and how many times the script these are: ROW, the workload, the threads, the figure's name and the figure. Its arguments: LIFE LINES TURNS

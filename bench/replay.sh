@@ -8,11 +8,7 @@ folder=$(dirname "$0")
 scripts=$(mktemp -d)
 trap 'rm -rf "$scripts"' EXIT
 
-sh "$folder/../make/needs.sh" awk || exit 1
-if [ ! -x /usr/bin/time ]; then
-    echo "GNU time is missing: install the package time" >&2
-    exit 1
-fi
+sh "$folder/../make/needs.sh" awk /usr/bin/time || exit 1
 
 # A script of sessions that behave as sessions do, at most OPEN of them in a transaction at a time: OPEN LINES
 lives() {
