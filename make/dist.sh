@@ -92,7 +92,7 @@ put_licences() {
     fi
 }
 
-# Writes the README. Its lines `@NEEDS@` and `@RELINK@` are replaced by what is known only here.
+# Writes the README. Its lines `@NEEDS@` and `@RELINK@` are replaced by what is known only here. It doesn't say which file of the repository its code is from.
 put_readme() {
     for program in "$@"; do
         needs_of "$program"
@@ -101,7 +101,7 @@ put_readme() {
     if [ -d "$top/relink" ]; then
         cp make/dist/relink.md "$made/relink"
     fi
-    sed -e "s/@VERSION@/$version/; s/@COMMIT@/${commit:-unknown}/; s/@KIT@/$(rt version)/" -e "/^@NEEDS@\$/{
+    sed -e "s/@VERSION@/$version/; s/@COMMIT@/${commit:-unknown}/; s/@KIT@/$(rt version)/; s/^\`\`\`text .*/\`\`\`text/" -e "/^@NEEDS@\$/{
 r $made/needs
 d
 }" -e "/^@RELINK@\$/{
