@@ -25,7 +25,7 @@ sys.path[:0] = ["make", "bench"]
 
 import count_specs
 import memory
-from figures import KEPT, LAYOUTS, read, table_of
+from figures import KEPT, LAYOUTS, Stale, read, table_of
 
 PAGES = ["README.md", "CONTRIBUTING.md", "CHANGELOG.md", "docs/*.md", "crates/*/README.md", "examples/*.md"]
 PLACE = re.compile(r"(?<= )[\w./]+:[0-9]+,?(?= )")
@@ -371,7 +371,11 @@ def main(asked):
     """Does what the word asks for, and returns the exit status."""
     match asked:
         case ["check"] | ["update"]:
-            update(asked == ["check"])
+            try:
+                update(asked == ["check"])
+            except Stale as why:
+                print(f"{KEPT}: {why}", file=sys.stderr)
+                return 1
         case ["words"]:
             words()
         case _:
