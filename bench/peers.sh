@@ -17,6 +17,7 @@
 #     python3 bench/goals.py FILE
 #     python3 bench/figures.py run FILE > FIGURES
 #     python3 bench/charts.py draw FIGURES FOLDER
+# To put the figures of a run on the page: python3 bench/figures.py take FIGURES
 program=${1:+$(readlink -f "$1")}
 cd "$(dirname "$0")/peers" && mkdir -p out || exit 1
 rows=out/rows.txt
