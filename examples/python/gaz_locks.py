@@ -319,19 +319,15 @@ class Context:
     def __init__(self, manager, who):
         self._manager = manager
         self.who = who
-        self._made("begin")
+        self._do("gaz_one_context_begin")
 
     def __enter__(self):
         return self
 
     def __exit__(self, *_):
-        self._made("end")
+        self._do("gaz_one_context_end")
 
-    def _made(self, name, *words):
-        """Makes a call of contexts."""
-        self._make(f"gaz_one_context_{name}", *words)
-
-    def _make(self, name, *words):
+    def _do(self, name, *words):
         """Makes a call, and wakes the sessions whose waits it settled."""
         with self._manager._mutex:
             code = self._manager._call(name, self.who, *words)
@@ -377,46 +373,46 @@ class Context:
 
     def downgrade(self, ticket, mode):
         """Gives a lock a weaker mode."""
-        self._made("downgrade", ticket, mode)
+        self._do("gaz_one_context_downgrade", ticket, mode)
 
     def release(self, ticket):
         """Releases a lock."""
-        self._made("release", ticket)
+        self._do("gaz_one_context_release", ticket)
 
     def release_key(self, key):
         """Releases all locks of a key."""
-        self._make("gaz_one_release_name", *key.words())
+        self._do("gaz_one_release_name", *key.words())
 
     def savepoint(self):
         """Returns a mark of how many locks it has now."""
         mark = Mark()
-        self._make("gaz_one_savepoint", byref(mark))
+        self._do("gaz_one_savepoint", byref(mark))
         return mark
 
     def rollback_to(self, mark):
         """Releases what was gained since a mark. Explicit locks stay."""
-        self._make("gaz_one_rollback_to", mark)
+        self._do("gaz_one_rollback_to", mark)
 
     def end_statement(self):
         """Releases the locks of the statement."""
-        self._make("gaz_one_end_statement")
+        self._do("gaz_one_end_statement")
 
     def end_transaction(self):
         """Releases the locks of the statement and of the transaction."""
-        self._make("gaz_one_end_transaction")
+        self._do("gaz_one_end_transaction")
 
     def release_explicit(self):
         """Releases the explicit locks."""
-        self._make("gaz_one_release_explicit")
+        self._do("gaz_one_release_explicit")
 
     def set_duration(self, ticket, duration):
         """Keeps a lock for this duration from now on."""
-        self._make("gaz_one_set_duration", ticket, duration)
+        self._do("gaz_one_set_duration", ticket, duration)
 
     def make_explicit(self):
         """Makes all locks explicit."""
-        self._make("gaz_one_make_explicit")
+        self._do("gaz_one_make_explicit")
 
     def make_transactional(self):
         """Keeps the explicit locks, except user-level ones, until the transaction ends."""
-        self._make("gaz_one_make_transactional")
+        self._do("gaz_one_make_transactional")
