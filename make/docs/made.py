@@ -37,12 +37,12 @@ NO_LIBRARY = re.compile(r".*(?:trials|examples?|_bench)$")
 # The statements whose reading is measured, each with its function.
 STATEMENTS = {
     "the matrices of modes are the printed ones": "mdl_key::conflicts_granted",
-    "`mdlsim lock` prints the defined answers, and no locks held clash": "mdl_lock::lock_run",
-    "`mdlsim replay` prints the defined answers, and no locks held clash": "mdl_script::replay",
+    "`mdlsim lock` prints the defined answers; no two sessions hold clashing locks": "mdl_lock::lock_run",
+    "`mdlsim replay` prints the defined answers; no two sessions hold clashing locks": "mdl_script::replay",
     "a transaction sees one definition of a table": "mdl_script_laws::transactions_see_one_definition",
     "no line of a script leaves a deadlock": "mdl_script_laws::no_deadlock_stands",
     "who blocks whom, by a server's rows": "mdl_view::blockings",
-    "no locks held clash, on threads": "mdl_steps_laws::running_tables_are_lawful",
+    "no two sessions hold clashing locks, on threads": "mdl_steps_laws::running_tables_are_lawful",
     "what is read under a lock stays defined, on threads": "mdl_steps_laws::definitions_stay",
     "no waiter is forgotten, on threads": "mdl_steps_laws::nobody_is_forgotten",
     "a lock is granted on threads (`Session::try_now`)": "mdl_shared::try_now",
