@@ -18,6 +18,9 @@ parameter or a `λ` binds is no definition's there, nor is the label of a field.
 Usage, at the top of the repository:
     python3 make/count_specs.py                 prints the figures
     python3 make/count_specs.py --call NAME     prints the definitions behind a call of `Session`, or behind another public function: CRATE::NAME
+    python3 make/count_specs.py --read CRATE::NAME [CLAUSE]
+                                                prints these definitions themselves, with their comments, in the order in which one names another, from the
+                                                contract on; or those of one clause
     python3 make/count_specs.py --names         prints the shared names, and where they are
     python3 make/count_specs.py --limits        prints the figures, and exits with 1 if one is above its bar
 """
@@ -642,6 +645,43 @@ def print_call(figures, name):
     return 0
 
 
+def in_order(library, starts):
+    """Returns the definitions behind these, nearest first."""
+    found = sorted(starts)
+    for definition in found:
+        found += sorted(library.uses(definition) - set(found))
+    return found
+
+
+def text_of(definition):
+    """Returns a definition as it stands in its file, with the comment above it. A type of the code only has a place."""
+    if definition.is_declared:
+        return ""
+    lines = (CRATES / definition.crate / f"{definition.file}.antt").read_text().split("\n")
+    at = next(i for i, line in enumerate(lines) if (head := HEAD.match(line.strip())) and head[2] == definition.name)
+    first = at
+    while first > 0 and lines[first - 1].lstrip().startswith("--"):
+        first -= 1
+    last = next((i for i, line in enumerate(lines[at:], at) if not line.strip()), len(lines))
+    return "\n".join(lines[first:last]) + "\n"
+
+
+def print_read(figures, name, clause=None):
+    """Prints the definitions behind a function's contract, or behind one of its clauses, and returns the exit status."""
+    crate, _, short = name.rpartition("::")
+    function = next((f for f in figures.library.code.functions if f.crate == crate and f.name == short and f.is_public), None)
+    clauses = [it for it in function.clauses if clause in (None, *it.split()[1:2])] if function else []
+    if not clauses:
+        print(f"there is no {name}{clause and f', or it has no clause {clause}' or ''}", file=sys.stderr)
+        return 1
+    definitions = in_order(figures.library, dataclasses.replace(function, clauses=tuple(clauses)).named(figures.library))
+    print(*clauses, "", sep="\n")
+    for definition in definitions:
+        print(f"==== crates/{definition}\n{text_of(definition)}")
+    print("{} definitions, {} of them types of the code, in {} files of {} crates".format(*size(definitions)))
+    return 0
+
+
 def print_names(figures):
     """Prints the names that definitions of two or more files have."""
     for name, definitions in sorted(figures.shared_names.items()):
@@ -654,6 +694,8 @@ def main(words):
     match words:
         case ["--call", name]:
             return print_call(figures, name)
+        case ["--read", name, *clause] if len(clause) < 2:
+            return print_read(figures, name, *clause)
         case ["--names"]:
             print_names(figures)
         case [] | ["--limits"]:
