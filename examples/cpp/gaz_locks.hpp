@@ -7,8 +7,10 @@
 
 #include "gaz_one.h"
 
+#include <algorithm>
 #include <chrono>
 #include <condition_variable>
+#include <cstddef>
 #include <cstdint>
 #include <mutex>
 #include <optional>
@@ -214,7 +216,8 @@ public:
     // From 1 on.
     std::uint16_t number() const { return who_; }
 
-    // Gets a lock for a duration, and waits for so long. Whoever begins to wait looks for the deadlocks that this makes. A lost wait leaves the other locks.
+    // Gets a lock for a duration, and waits for so long, a year at most. Whoever begins to wait looks for the deadlocks that this makes. A lost wait leaves
+    // the other locks.
     Ticket acquire(const Key &key, gaz_mode mode, gaz_duration duration, std::chrono::milliseconds patience)
     {
         std::unique_lock held(manager_.mutex_);
@@ -296,6 +299,9 @@ public:
     void make_transactional() { call(gaz_one_make_transactional); }
 
 private:
+    // The clock can tell the time after that.
+    static constexpr std::chrono::hours longest_wait{24 * 365};
+
     static const std::uint8_t *bytes(const std::string &name) { return reinterpret_cast<const std::uint8_t *>(name.data()); }
 
     // Makes a call under the mutex, and wakes the sessions whose waits it settled.
@@ -311,7 +317,7 @@ private:
     // refused.
     Ticket finish(std::unique_lock<std::mutex> &held, std::uint32_t code, std::uint64_t number, std::chrono::milliseconds patience)
     {
-        auto until = std::chrono::steady_clock::now() + patience;
+        auto until = std::chrono::steady_clock::now() + std::clamp<std::chrono::milliseconds>(patience, std::chrono::milliseconds(0), longest_wait);
         manager_.wake();
         if (code == GAZ_WAITING) {
             while (gaz_one_poll(&manager_.space_, who_) == GAZ_WAITING)

@@ -73,7 +73,7 @@ void end_a_deadlock(gaz::Manager &manager, gaz::Session &first, gaz::Session &se
     first.acquire(orders, GAZ_X, GAZ_TRANSACTION, 60s);
     second.acquire(items, GAZ_X, GAZ_TRANSACTION, 60s);
     std::string of_first;
-    std::thread waiting([&] { of_first = thrown([&] { first.acquire(items, GAZ_SR, GAZ_TRANSACTION, 60s); }); });
+    std::thread waiting([&] { of_first = thrown([&] { first.acquire(items, GAZ_SR, GAZ_TRANSACTION, std::chrono::milliseconds::max()); }); });
     await_wait(manager, first);
     std::string of_second = thrown([&] { second.acquire(orders, GAZ_SR, GAZ_TRANSACTION, 60s); });
     second.end_transaction();

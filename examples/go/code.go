@@ -6,7 +6,7 @@ import "C"
 // A Code says why a call is refused, or a wait is lost. Each number of gaz_codes.h is one; those below have names.
 type Code uint32
 
-// The codes that a program looks for. A wait that its context.Context ends returns the error of that.
+// The codes that a program looks for. A wait that ends with its context.Context returns the error of that.
 const (
 	Deadlock       Code = C.GAZ_VICTIM // the session was chosen to end a deadlock: it rolls back its transaction, and may begin it again
 	Killed         Code = C.GAZ_KILLED // another goroutine ended the wait

@@ -31,7 +31,7 @@ const (
 	Explicit    Duration = C.GAZ_EXPLICIT
 )
 
-// A Key is what a lock is on. Keys can be compared.
+// A Key is what a lock is on. Keys can be compared. The zero Key is Global.
 type Key struct {
 	namespace     C.uint8_t
 	schema, table string

@@ -187,8 +187,8 @@ func (s *Session) finish(ctx context.Context) (Ticket, error) {
 	var ticket C.uint64_t
 	code := C.gaz_one_give_up(m.space, s.who, &ticket) // or ends a wait that is settled
 	m.wake()                                           // the end of a lost wait makes way
-	if code == C.GAZ_TIMEOUT {
-		return 0, ctx.Err()
+	if err := ctx.Err(); err != nil && code == C.GAZ_TIMEOUT {
+		return 0, err
 	}
 	return Ticket(ticket), told(code)
 }

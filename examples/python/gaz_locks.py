@@ -128,7 +128,7 @@ PARAMETERS = {
     "gaz_one_acquire": [c_uint16, *KEY, c_uint8, c_uint8, POINTER(c_uint64)],
     "gaz_one_try_acquire": [c_uint16, *KEY, c_uint8, c_uint8, POINTER(c_uint64)],
     "gaz_one_holds": [c_uint16, *KEY, c_uint8],
-    "gaz_one_resume": [c_uint16, POINTER(c_uint64)],
+    "gaz_one_give_up": [c_uint16, POINTER(c_uint64)],
     "gaz_one_context_upgrade": [c_uint16, c_uint64, c_uint8, POINTER(c_uint64)],
     "gaz_one_context_downgrade": [c_uint16, c_uint64, c_uint8],
     "gaz_one_context_release": [c_uint16, c_uint64],
@@ -170,9 +170,16 @@ class Manager:
         return self
 
     def __exit__(self, *_):
-        self._call("gaz_one_close")
+        with self._mutex:
+            self._call("gaz_one_close")
+            for turn in self._turns:
+                turn.notify()
 
     def _call(self, name, *words):
+        """Makes a call, and returns its code. A number that C would cut off is an error."""
+        for kind, word in zip(PARAMETERS[name], words):
+            if isinstance(word, int) and kind(word).value != word:
+                raise ValueError(f"{name}: {word} isn't a number of {ctypes.sizeof(kind)} bytes")
         with self._mutex:
             return getattr(self._library, name)(byref(self._space), *words)
 
@@ -197,7 +204,9 @@ class Manager:
         until = time.monotonic() + patience
         while self.is_waiting(who):
             left = until - time.monotonic()
-            if left <= 0 or not self._turns[who - 1].wait(left):
+            if left > 0:
+                self._turns[who - 1].wait(min(left, threading.TIMEOUT_MAX))
+            else:
                 self._call("gaz_one_time_out", who)
 
     def table(self, who, schema, table):
@@ -228,16 +237,20 @@ class Manager:
         return None
 
     def _end_deadlocks(self, who):
-        """Searches until there is no deadlock, or the session itself is a victim. If memory runs out, its wait is given up."""
+        """Searches until there is no deadlock, or the session itself is a victim. If memory runs out, a deadlock may be left, and this is raised."""
         try:
             while self.search(who) not in (None, who):
                 pass
-        except Refused:
-            self._call("gaz_one_time_out", who)
-            self._call("gaz_one_end", who, byref(c_uint64()))
-            raise
         finally:
             self._wake()
+
+    def _abandon(self, who):
+        """Gives the session's wait up, and its lock if that was granted meanwhile."""
+        ticket = c_uint64()
+        self._call("gaz_one_time_out", who)
+        if self._call("gaz_one_end", who, byref(ticket)) == Code.DONE:
+            self._call("gaz_one_release", who, ticket.value)
+        self._wake()
 
     def is_waiting(self, who):
         """Returns whether the session has a wait that isn't settled."""
@@ -264,8 +277,12 @@ class Manager:
             code, ticket = self.begin(who, place, mode)
             if code == Code.DONE:
                 return ticket
-            self._end_deadlocks(who)
-            self._sleep(who, patience)
+            try:
+                self._end_deadlocks(who)
+                self._sleep(who, patience)
+            except BaseException:  # want of memory, or an interrupt
+                self._abandon(who)
+                raise
             return self.end(who)
 
     @contextlib.contextmanager
@@ -341,9 +358,11 @@ class Context:
             code = manager._call(name, self.who, *words, byref(number))
             manager._wake()
             if code == Code.WAITING:
-                manager._sleep(self.who, patience)
-                code = manager._call("gaz_one_resume", self.who, byref(number))
-                manager._wake()
+                try:
+                    manager._sleep(self.who, patience)
+                finally:  # it is settled, or there was an interrupt
+                    code = manager._call("gaz_one_give_up", self.who, byref(number))
+                    manager._wake()
         manager._done(code)
         return number.value
 

@@ -3,6 +3,7 @@
 Usage: python3 transactions.py libgaz_one.so
 """
 
+import math
 import sys
 import threading
 import time
@@ -33,7 +34,7 @@ class Waiting(threading.Thread):
         self.number = number
 
     def run(self):
-        self.told = outcome(self.context.acquire, self.key, Mode.SR, Duration.TRANSACTION, patience=60)
+        self.told = outcome(self.context.acquire, self.key, Mode.SR, Duration.TRANSACTION, patience=math.inf)
 
 
 def end_a_deadlock(manager, first, second):

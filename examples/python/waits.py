@@ -73,6 +73,10 @@ def main():
             manager.table(1, "shop", "")
         except Refused as refused:
             print(f"a table without a name: {refused}")
+        try:
+            manager.begin(0x10001, orders, Mode.SR)
+        except ValueError as cut_off:
+            print(cut_off)
 
 
 if __name__ == "__main__":

@@ -1,5 +1,6 @@
 """Prints what docs/EMBEDDING.md lacks, one line for each thing: codes of gaz_codes.h without what a program does about them, and parts of the kit that
-are compiled into the libraries for C without the terms that the kit's files give.
+are compiled into the libraries for C without the terms that the kit's files give. Also prints the numbers of examples/rust and examples/python that
+gaz_codes.h doesn't have.
 
 A row of the table of codes has numbers, their names, and what to do. A row of the table of licences has parts and their terms. Those without a licence
 beside them in the kit are in the row whose terms are `open`.
@@ -20,7 +21,15 @@ import wrong_bodies
 PAGE = pathlib.Path("docs/EMBEDDING.md")
 HEADER = pathlib.Path("crates/mdl_c/include/gaz_codes.h")
 
+RUST = pathlib.Path("examples/rust/src/raw.rs")
+PYTHON = pathlib.Path("examples/python/gaz_locks.py")
+
 CODE = re.compile(r"^    (GAZ_\w+) = (\d+)", re.MULTILINE)
+ENUM = re.compile(r"^enum gaz_(\w+) \{\n    (GAZ_\w+(?:, GAZ_\w+)*)\n\};", re.MULTILINE)
+RUST_CODE = re.compile(r"^pub const (\w+): u32 = (\d+);", re.MULTILINE)
+PYTHON_CODE = re.compile(r"^    ([A-Z_]+) = (\d+)$", re.MULTILINE)
+PYTHON_ENUM = re.compile(r'^(\w+) = enum.IntEnum\("\w+", "([A-Z_ ]+)", start=0\)$', re.MULTILINE)
+VERSION = re.compile(r"^#define (GAZ_VERSION) (\d+)", re.MULTILINE)
 CODE_ROW = re.compile(r"^\| ([\d, ]+) \| (`GAZ_[^|]+) \| [^|]+ \|$", re.MULTILINE)
 NEVER_RETURNED = re.compile(r"^([\d, and]+) \(([^)]+)\) are of calls that C doesn't have", re.MULTILINE)
 LICENCE_ROW = re.compile(r"^\| (\w+(?:, \w+)*) \| ([^|]+) \|$", re.MULTILINE)
@@ -60,9 +69,21 @@ def parts_told():
     return {(part, terms.startswith("open")) for names, terms in rows for part in names.split(", ")}
 
 
+def numbers_of_others():
+    """Returns the names and numbers in Rust and Python, each with its file. In gaz_codes.h the names begin with `GAZ_`."""
+    for file, pattern in ((RUST, RUST_CODE), (PYTHON, PYTHON_CODE)):
+        yield from ((file, f"GAZ_{name}", number) for name, number in pattern.findall(file.read_text()))
+    for _, names in PYTHON_ENUM.findall(PYTHON.read_text()):
+        yield from ((PYTHON, f"GAZ_{name}", str(at)) for at, name in enumerate(names.split()))
+
+
 def main():
     """Prints what is stale."""
     right = set(CODE.findall(HEADER.read_text()))
+    listed = {(name, str(at)) for _, names in ENUM.findall(HEADER.read_text()) for at, name in enumerate(names.split(", "))}
+    for file, name, number in numbers_of_others():
+        if (name, number) not in right | listed | set(VERSION.findall(HEADER.read_text())):
+            print(f"{file}: {number}, {name}: gaz_codes.h has no such number")
     for name, number in sorted(codes_told() ^ right):
         print(f"{PAGE}: {number}, {name}: " + ("it isn't said what to do about it" if (name, number) in right else "gaz_codes.h has no such code"))
     has_none = {part: not any((wrong_bodies.KIT / "rattle" / part).glob("LICENSE*")) for part in parts()}

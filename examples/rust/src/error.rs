@@ -1,5 +1,6 @@
 //! Why a call is refused, or a wait lost.
 
+use crate::raw;
 use std::fmt;
 
 /// Why there is no lock.
@@ -35,17 +36,17 @@ impl Error {
     /// What a code says that isn't `GAZ_DONE`.
     pub(crate) fn of(code: u32) -> Error {
         match code {
-            3 => Error::Deadlock,
-            4 => Error::Timeout,
-            5 => Error::Killed,
-            22..=24 => Error::BadName,
-            32 => Error::NoPlace,
-            34 => Error::NotUpgradable,
-            37 => Error::BadMode,
-            45 => Error::OutOfMemory,
-            46 => Error::InUse,
-            48 => Error::StaleSavepoint,
-            49 => Error::NotKept,
+            raw::VICTIM => Error::Deadlock,
+            raw::TIMEOUT => Error::Timeout,
+            raw::KILLED => Error::Killed,
+            raw::EMPTY_NAME | raw::LONG_NAME | raw::BAD_BYTE => Error::BadName,
+            raw::NO_PLACE => Error::NoPlace,
+            raw::NOT_UPGRADABLE => Error::NotUpgradable,
+            raw::BAD_MODE => Error::BadMode,
+            raw::NO_MEMORY => Error::OutOfMemory,
+            raw::IN_USE => Error::InUse,
+            raw::STALE_SAVEPOINT => Error::StaleSavepoint,
+            raw::NOT_KEPT => Error::NotKept,
             other => Error::Refused(other),
         }
     }

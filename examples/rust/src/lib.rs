@@ -32,8 +32,8 @@ pub use listing::{Lock, Status, Wait};
 pub use manager::{Manager, Place};
 pub use session::{Guard, Session};
 
-/// How a lock is held. Tables have all modes but `IntentionExclusive`; schemas, the global lock and that of commits have `IntentionExclusive`,
-/// `Shared` and `Exclusive`.
+/// How a lock is held. Tables and user-level locks have all modes but `IntentionExclusive`; schemas, the global lock and that of commits have
+/// `IntentionExclusive`, `Shared` and `Exclusive`.
 #[derive(Clone, Copy, Debug, PartialEq, Eq)]
 #[repr(u8)]
 pub enum Mode {

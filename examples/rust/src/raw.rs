@@ -11,6 +11,16 @@ pub const WOULD_WAIT: u32 = 1;
 pub const WAITING: u32 = 2;
 pub const VICTIM: u32 = 3;
 pub const TIMEOUT: u32 = 4;
+pub const KILLED: u32 = 5;
+pub const EMPTY_NAME: u32 = 22;
+pub const LONG_NAME: u32 = 23;
+pub const BAD_BYTE: u32 = 24;
+pub const NO_PLACE: u32 = 32;
+pub const NOT_UPGRADABLE: u32 = 34;
+pub const BAD_MODE: u32 = 37;
+pub const NO_MEMORY: u32 = 45;
+pub const IN_USE: u32 = 46;
+pub const STALE_SAVEPOINT: u32 = 48;
 pub const NOT_KEPT: u32 = 49;
 
 /// `struct gaz_one_space`. It moves, but is never copied.
