@@ -12,6 +12,7 @@ use crate::base::rows::are_told_so;
 #[test]
 fn answers_step_by_step(rt: HostRuntime) {
     are_told_so(&rt, rt.alloc(), granting::LIVES);
+    are_told_so(&rt, rt.alloc(), granting::LIVES_OF_WAITERS);
     are_told_so(&rt, rt.alloc(), numbers::LIVES);
     are_told_so(&rt, rt.alloc(), wishes::LIVES);
     are_told_so(&rt, rt.alloc(), fast_tickets::LIVES);
