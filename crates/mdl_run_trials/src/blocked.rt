@@ -105,7 +105,7 @@ fn played_beside<R: Threads + Wait + Sync>(
 /// Closes a session, which must have no ticket and no wait, and owe no place a reschedule.
 pub(crate) fn close<R: Drop>(rt: &impl Abort, session: Session<R>) {
     match session.close() {
-        Ok(_pass) => {}
+        Ok(pass) => drop(pass),
         Err(CloseError::HoldsTickets(_session)) => panic!(rt; "the session has a ticket or a wait"),
         Err(CloseError::Owes(_session, place)) => panic!(rt; "place {place} is owed a reschedule"),
     }

@@ -80,7 +80,10 @@ const TEXT: &str =
 #[test]
 fn sessions_read_at_the_same_time(rt: HostRuntime) -> Result<(), Fail> {
     let gate = ReadTogether::new();
-    must_be_played_so(&rt, rt.alloc(), SCRIPT, TEXT, &gate)?;
-    assert!(rt; !gate.missed.is_raised(), "the sessions did not meet");
+    let played = must_be_played_so(&rt, rt.alloc(), SCRIPT, TEXT, &gate);
+    let is_missed = gate.missed.is_raised();
+    drop(gate);
+    played?;
+    assert!(rt; !is_missed, "the sessions did not meet");
     Ok(())
 }

@@ -39,7 +39,22 @@ fn play_line<'s>(
     play.settle(told)
 }
 
-// Plays all lines, each in two steps.
+// Plays the lines of a script, each in two steps.
+fn play_each<'s>(
+    play: &mut Play<'s>,
+    script: &'s Script,
+    told: &mut Vec<Told>,
+) -> Result<(), AllocError>
+    requires manned { IsManned play.old }
+    ensures manned { OnOk result (IsManned play.new) }
+{
+    for line in script.lines() {
+        play_line(play, line, told)?;
+    }
+    Ok(())
+}
+
+// The same by new sessions. Returns the play after them.
 fn play_lines<'s>(
     alloc: Global,
     script: &'s Script,
@@ -48,10 +63,13 @@ fn play_lines<'s>(
     ensures manned { IfOk result IsManned }
 {
     let mut play = Play::new(alloc)?;
-    for line in script.lines() {
-        play_line(&mut play, line, told)?;
+    match play_each(&mut play, script, told) {
+        Ok(()) => Ok(play),
+        Err(lack) => {
+            drop(play);
+            Err(lack)
+        }
     }
-    Ok(play)
 }
 
 // Asks the session of a line, and returns the sessions that continue in the next three turns.
@@ -100,16 +118,33 @@ fn play_unheard<'s>(alloc: Global, play: &mut Play<'s>, line: &'s Line) -> Resul
     played
 }
 
+// Plays lines in one step each. Their answers are dropped.
+fn play_all_unheard<'s>(
+    alloc: Global,
+    play: &mut Play<'s>,
+    lines: &'s [Line],
+) -> Result<(), AllocError>
+    requires manned { IsManned play.old }
+    ensures manned { OnOk result (IsManned play.new) }
+{
+    for line in lines {
+        play_unheard(alloc, play, line)?;
+    }
+    Ok(())
+}
+
 // Plays all lines of a script but the last in one step each, and returns the turns that follow the last one.
 fn last_turns(alloc: Global, script: &Script) -> Result<[Option<u16>; 3], AllocError> {
     let [first @ .., last] = script.lines() else {
         return Ok([None, None, None]);
     };
     let mut play = Play::new(alloc)?;
-    for line in first {
-        play_unheard(alloc, &mut play, line)?;
-    }
-    three_turns(alloc, &mut play, last)
+    let turns = match play_all_unheard(alloc, &mut play, first) {
+        Ok(()) => three_turns(alloc, &mut play, last),
+        Err(lack) => Err(lack),
+    };
+    drop(play);
+    turns
 }
 
 // Returns what is printed for a script that is played line by line, and for each session that still waits.

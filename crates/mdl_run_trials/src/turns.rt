@@ -62,8 +62,11 @@ fn is_played_so<R: Threads + Wait + Sync + Abort + AllocGlobal>(
     text: &str,
 ) -> Result<(), Fail> {
     let gate = InOrder::new();
-    must_be_played_so(rt, rt.alloc(), script, text, &gate)?;
-    assert!(rt; !gate.missed.is_raised(), "a line was held too long");
+    let played = must_be_played_so(rt, rt.alloc(), script, text, &gate);
+    let is_missed = gate.missed.is_raised();
+    drop(gate);
+    played?;
+    assert!(rt; !is_missed, "a line was held too long");
     Ok(())
 }
 

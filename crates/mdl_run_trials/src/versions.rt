@@ -159,14 +159,17 @@ fn played_alone<R: Threads + Wait + Sync + Abort>(
     let script = script(alloc)?;
     let (manager, mut passes) = Manager::new(alloc, MOST_PLACES, 10)?;
     let Some(last) = passes.pop() else {
-        return Err(Fail::from("there is no session"));
+        panic!(rt; "there is no session");
     };
     let text = script.as_str();
     let played = played_on(rt, alloc, &manager, passes, text, u32::MAX, 1, &OpenGate);
     let mut watcher = Session::open(rt, &manager, last);
     let are_free = finds_all_free(&mut watcher);
     close(rt, watcher);
-    let Ran { text, passes: _ } = played?;
+    drop(manager);
+    drop(script);
+    let Ran { text, passes } = played?;
+    drop(passes);
     Ok((text, are_free))
 }
 

@@ -6,6 +6,7 @@ use mdl_view::{
     blocked_waits, blockers, blockings, held_by, unexplained_waits,
 };
 use std::alloc::{AllocError, Global};
+use std::process::Abort;
 
 // A session with a mode. What a session holds in these tables isn't of its statement.
 type Of = (usize, LockMode);
@@ -56,7 +57,7 @@ const DDL: LockMode = LockMode::Backup(BackupMode::Ddl);
 
 const COMMIT: LockMode = LockMode::Backup(BackupMode::Commit);
 
-const CASES: &[Case] = &[
+const READERS_AND_CHANGES: &[Case] = &[
     Case {
         name: "nobody waits",
         locks: &[Row {
@@ -124,6 +125,9 @@ const CASES: &[Case] = &[
         gets: &[],
         holds: 1,
     },
+];
+
+const HOLDERS: &[Case] = &[
     // What a session holds stays if its statement is killed, and its own ticket doesn't block its requests.
     Case {
         name: "the statement of a holder",
@@ -173,6 +177,9 @@ const CASES: &[Case] = &[
         gets: &[],
         holds: 0,
     },
+];
+
+const GLOBAL_LOCKS: &[Case] = &[
     Case {
         name: "the global read lock behind a write, and a write behind that",
         locks: &[
@@ -362,11 +369,17 @@ fn holds(alloc: Global, case: &Case) -> bool {
     right
 }
 
+fn all_hold(rt: &impl Abort, alloc: Global, cases: &[Case]) {
+    for case in cases {
+        is_right(rt, case.name, holds(alloc, case));
+    }
+}
+
 #[test]
 fn tables_by_hand(rt: HostRuntime) {
-    for case in CASES {
-        is_right(&rt, case.name, holds(rt.alloc(), case));
-    }
+    all_hold(&rt, rt.alloc(), READERS_AND_CHANGES);
+    all_hold(&rt, rt.alloc(), HOLDERS);
+    all_hold(&rt, rt.alloc(), GLOBAL_LOCKS);
 }
 
 // Session 7 holds the lock in two modes, and session 6 waits for it before session 1.

@@ -6,6 +6,7 @@ use mdl_view::{
     stuck_waits, upgrades, ways,
 };
 use std::alloc::{AllocError, Global};
+use std::process::Abort;
 
 // A session with a mode.
 type Of = (usize, Mode);
@@ -33,7 +34,7 @@ const OBJECT: LockKind = LockKind::Object;
 
 const SCOPE: LockKind = LockKind::Scoped;
 
-const CASES: &[Case] = &[
+const QUEUES: &[Case] = &[
     Case {
         name: "nobody waits",
         locks: &[(OBJECT, &[(1, Mode::SR), (2, Mode::SW)], &[])],
@@ -99,6 +100,9 @@ const CASES: &[Case] = &[
         granted: &[9],
         ending: &[9, 1024],
     },
+];
+
+const CIRCLES: &[Case] = &[
     // To give up a request doesn't help: what the session holds blocks the other one.
     Case {
         name: "each of two readers wants to change the table of the other",
@@ -132,6 +136,9 @@ const CASES: &[Case] = &[
         granted: &[7],
         ending: &[3, 7, 9],
     },
+];
+
+const NOT_ENOUGH: &[Case] = &[
     Case {
         name: "a change behind two readers, one of whom waits for a third table",
         locks: &[
@@ -170,6 +177,9 @@ const CASES: &[Case] = &[
         granted: &[],
         ending: &[],
     },
+];
+
+const OTHERS: &[Case] = &[
     // To end session 2 lets both others go on at once, and to end session 1 lets session 3 go on only after session 2. To end the statement of
     // session 2 lets session 3 go on, but session 1 still waits for what session 2 holds.
     Case {
@@ -303,11 +313,18 @@ fn holds(alloc: Global, case: &Case) -> bool {
     right
 }
 
+fn all_hold(rt: &impl Abort, alloc: Global, cases: &[Case]) {
+    for case in cases {
+        is_right(rt, case.name, holds(alloc, case));
+    }
+}
+
 #[test]
 fn ways_out_by_hand(rt: HostRuntime) {
-    for case in CASES {
-        is_right(&rt, case.name, holds(rt.alloc(), case));
-    }
+    all_hold(&rt, rt.alloc(), QUEUES);
+    all_hold(&rt, rt.alloc(), CIRCLES);
+    all_hold(&rt, rt.alloc(), NOT_ENOUGH);
+    all_hold(&rt, rt.alloc(), OTHERS);
 }
 
 // Adds a table that session 1 holds in a mode, by its statement or not, and a request of session 2 that waits for it.

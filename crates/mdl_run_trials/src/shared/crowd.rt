@@ -4,7 +4,7 @@ ghost use Rattle.mdl_shared.specs.Passes.{ArePasses, manager_table};
 
 use crate::checks::is_right;
 use crate::shared::acts::{Act, Lock, Reply, make};
-use crate::shared::sessions::{closed, take_last};
+use crate::shared::sessions::{close, take_last};
 use mdl_calls::Ended;
 use mdl_key::{MOST_SESSIONS, Mode};
 use mdl_shared::{Manager, Pass, Session};
@@ -53,7 +53,7 @@ fn open_all<R: AllocGlobal>(rt: &R) -> Option<Vec<Session<&R>>> {
 // Closes sessions that have no ticket and owe nothing.
 fn close_all<R: Drop>(rt: &impl Abort, mut sessions: Vec<Session<R>>) {
     while let Some(session) = sessions.pop() {
-        closed(rt, session);
+        close(rt, session);
     }
     sessions.destroy_empty();
 }

@@ -361,6 +361,9 @@ const CASES: &[Case] = &[
     ("fast tickets elsewhere become slow", 2, ELSEWHERE),
     ("a fast release owes a reschedule", 1, OWED),
     ("a killed wait opens the fast path", 1, KILLED),
+];
+
+const CASES_BESIDE_OTHERS: &[Case] = &[
     (
         "an obtrusive ticket closes the fast path",
         1,
@@ -373,5 +376,6 @@ const CASES: &[Case] = &[
 
 #[test]
 fn fast_tickets_come_and_go(rt: HostRuntime) -> Result<(), Fail> {
-    are_right(&rt, Memory::Ample, CASES)
+    are_right(&rt, Memory::Ample, CASES)?;
+    are_right(&rt, Memory::Ample, CASES_BESIDE_OTHERS)
 }

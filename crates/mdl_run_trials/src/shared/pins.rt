@@ -4,7 +4,7 @@ ghost use Rattle.mdl_shared.specs.Passes.{pass_table};
 
 use crate::shared::acts::{Act, Lock, Memory, Reply, make};
 use crate::shared::rows::{Case, Row, are_right};
-use crate::shared::sessions::closed;
+use crate::shared::sessions::{close, closed};
 use mdl_calls::{Ended, SpaceError};
 use mdl_key::{Key, Mode};
 use mdl_shared::{Manager, Pass, Session};
@@ -201,7 +201,7 @@ fn a_session_that_is_opened_again_pins_nothing(rt: HostRuntime) -> Result<(), Fa
     for (act, wanted) in REOPENED {
         assert!(rt; make(alloc, &mut again, *act) == *wanted);
     }
-    closed(&rt, again);
+    close(&rt, again);
     drop(passes);
     drop(manager);
     drop(table);

@@ -3,7 +3,7 @@ ghost use Rattle.std.specs.Prelude.{◌≡◌, length, IfOk};
 ghost use Rattle.mdl_shared.specs.Passes.{ArePasses, manager_table};
 
 use crate::shared::acts::{Act, Memory, Reply, make_at_last};
-use crate::shared::sessions::closed;
+use crate::shared::sessions::close;
 use mdl_calls::Place;
 use mdl_shared::{CloseError, Manager, NewError, Pass, Session};
 use std::alloc::Global;
@@ -79,9 +79,9 @@ impl<R: Drop> Three<R> {
     /// Closes the sessions, none of which has a ticket or owes anything.
     pub(crate) fn close(self, rt: &impl Abort) {
         let Three { one, two, three } = self;
-        closed(rt, one);
-        closed(rt, two);
-        closed(rt, three);
+        close(rt, one);
+        close(rt, two);
+        close(rt, three);
     }
 }
 

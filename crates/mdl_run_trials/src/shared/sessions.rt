@@ -3,6 +3,7 @@ ghost use Rattle.std.specs.Prelude.{◌≡◌, ◌+◌, ◌<◌, length};
 ghost use Rattle.mdl_shared.specs.Passes.{ArePasses, manager_table, pass_table, pass_view};
 
 use mdl_shared::{CloseError, Manager, Pass, Session};
+use std::mem::drop;
 use std::process::Abort;
 use std::test::Fail;
 use std::thread;
@@ -16,6 +17,11 @@ pub(crate) fn closed<R: Drop>(rt: &impl Abort, session: Session<R>) -> Pass
         Err(CloseError::HoldsTickets(_session)) => panic!(rt; "the session holds no ticket"),
         Err(CloseError::Owes(_session, place)) => panic!(rt; "place {place} is owed nothing"),
     }
+}
+
+/// Closes a session that has no ticket and owes nothing.
+pub(crate) fn close<R: Drop>(rt: &impl Abort, session: Session<R>) {
+    drop(closed(rt, session));
 }
 
 /// Removes and returns the pass of the last session.
@@ -49,7 +55,9 @@ fn reopened(manager: &Manager, mut pass: Pass, times: u32) -> u16
     for _ in 0..times {
         pass = reopen(manager, pass);
     }
-    pass.number()
+    let number = pass.number();
+    drop(pass);
+    number
 }
 
 #[test]

@@ -8,7 +8,7 @@ use crate::checks::is_right;
 use crate::shared::acts::{Act, Reply, make};
 use crate::shared::fast_counts::are_counted;
 use crate::shared::players::{Player, leave, look_all_up, play, was_answered, watch};
-use crate::shared::sessions::{closed, take_last};
+use crate::shared::sessions::{close, take_last};
 use mdl_calls::{Held, Place, Settled};
 use mdl_key::Mode;
 use mdl_shared::{Audited, Manager, Pass, Session};
@@ -105,7 +105,7 @@ fn close_all<R: Drop>(rt: &impl Abort, mut parts: Vec<Part<R>>) {
             well: _,
         } = part;
         drop(player);
-        closed(rt, session);
+        close(rt, session);
     }
     parts.destroy_empty();
 }

@@ -8,19 +8,12 @@ mod steps;
 mod wishes;
 
 use crate::base::rows::are_told_so;
-use steps::Life;
-
-const LIVES: &[&[Life]] = &[
-    granting::LIVES,
-    numbers::LIVES,
-    wishes::LIVES,
-    fast_tickets::LIVES,
-];
-
 // Each call of each story gives the wanted answer.
 #[test]
 fn answers_step_by_step(rt: HostRuntime) {
-    for lives in LIVES {
-        are_told_so(&rt, rt.alloc(), lives);
-    }
+    are_told_so(&rt, rt.alloc(), granting::LIVES);
+    are_told_so(&rt, rt.alloc(), granting::LIVES_OF_WAITERS);
+    are_told_so(&rt, rt.alloc(), numbers::LIVES);
+    are_told_so(&rt, rt.alloc(), wishes::LIVES);
+    are_told_so(&rt, rt.alloc(), fast_tickets::LIVES);
 }

@@ -6,6 +6,7 @@ use crate::hall::Hall;
 use mdl_context::{ContextError, Resume};
 use mdl_space::SpaceError;
 use std::alloc::Global;
+use std::process::Abort;
 
 // One fewer than there are locks.
 const PLACES: u16 = 4;
@@ -79,36 +80,29 @@ fn first_wrong(alloc: Global, rows: &[Row], lacks_memory: bool) -> Option<usize>
     wrong
 }
 
-const STORIES: &[&[Story]] = &[
-    deadlocks::STORIES,
-    marks::STORIES,
-    order::STORIES,
-    places::STORIES,
-    upgrades::STORIES,
-    user_locks::STORIES,
-    waits::STORIES,
-];
-
 #[test]
 fn contexts_do_as_told(rt: HostRuntime) {
-    for stories in STORIES {
-        are_told_so(&rt, rt.alloc(), stories);
+    are_told_so(&rt, rt.alloc(), deadlocks::STORIES);
+    are_told_so(&rt, rt.alloc(), marks::STORIES);
+    are_told_so(&rt, rt.alloc(), order::STORIES);
+    are_told_so(&rt, rt.alloc(), places::STORIES);
+    are_told_so(&rt, rt.alloc(), upgrades::STORIES);
+    are_told_so(&rt, rt.alloc(), user_locks::STORIES);
+    are_told_so(&rt, rt.alloc(), waits::STORIES);
+}
+
+// Ends the test if a row of a story is wrong when memory may be refused once.
+fn are_outlived(rt: &impl Abort, alloc: Global, stories: &[Story]) {
+    for Story(what, rows) in stories {
+        none_is_wrong(rt, what, first_wrong(alloc, rows, true));
     }
 }
 
 // `rt try --test --fail-alloc N` refuses the allocation of that number to one of them.
-const OUTLIVING: &[&[Story]] = &[
-    deadlocks::STORIES_OF_TWO,
-    upgrades::STORIES_OF_TWO,
-    memory::STORIES,
-    places::STORIES,
-];
-
 #[test]
 fn contexts_outlive_want_of_memory(rt: HostRuntime) {
-    for stories in OUTLIVING {
-        for Story(what, rows) in *stories {
-            none_is_wrong(&rt, what, first_wrong(rt.alloc(), rows, true));
-        }
-    }
+    are_outlived(&rt, rt.alloc(), deadlocks::STORIES_OF_TWO);
+    are_outlived(&rt, rt.alloc(), upgrades::STORIES_OF_TWO);
+    are_outlived(&rt, rt.alloc(), memory::STORIES);
+    are_outlived(&rt, rt.alloc(), places::STORIES);
 }

@@ -10,6 +10,7 @@ use mdl_context::{Acquire, Context, ContextError, Request, Resume, Tried};
 use mdl_key::{Duration, Key, Mode};
 use mdl_shared::{CloseError, Session};
 use std::alloc::Global;
+use std::mem::drop;
 use std::process::Abort;
 use std::sync::Wait;
 use std::test::Fail;
@@ -83,6 +84,7 @@ fn gets_nothing<S: LockSpace>(
         Wish::AtOnce => would_wait(&mut session, &mut context, key),
         Wish::InTime => loses_its_wait(&mut session, &mut context, key),
     };
+    drop(context);
     (gets_nothing, session)
 }
 

@@ -3,7 +3,7 @@ ghost use Rattle.std.specs.Prelude.{◌≡◌};
 ghost use Rattle.mdl_shared.specs.Passes.{manager_table, pass_table};
 
 use crate::shared::contexts::statements::{CACHE, Outcome, go_on, say};
-use crate::shared::sessions::closed;
+use crate::shared::sessions::close;
 use mdl_shared::{Manager, Pass, Session};
 use mdl_stmt::{OutOfMemory, Runner, Statement};
 use std::alloc::Global;
@@ -66,6 +66,6 @@ impl<'s, R: Wait + Drop> Desk<'s, R> {
             runner,
         } = self;
         runner.leave(&mut session);
-        closed(rt, session);
+        close(rt, session);
     }
 }

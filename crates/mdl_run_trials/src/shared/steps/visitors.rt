@@ -318,7 +318,9 @@ impl Visitor {
     /// Gains three fast tickets in these modes and makes them slow. Returns the words of the lock before and after that, or `None` if it doesn't
     /// come so far.
     pub(crate) fn makes_slow<R: Wait>(self, rt: &R, modes: [Mode; 3]) -> Option<(Word, Word)> {
-        if self.asks.is_some() || self.slow.is_some() || self.fast.is_some() {
+        let may_gain = self.asks.is_none() && self.slow.is_none() && self.fast.is_none();
+        if !may_gain || self.next > MOST_NUMBERS {
+            drop(self);
             return None;
         }
         let Visitor {
@@ -328,19 +330,33 @@ impl Visitor {
             next,
             ..
         } = self;
-        if next > MOST_NUMBERS {
-            return None;
-        }
-        let [first, second, third] = modes;
-        let one = gain(&mut seat, place, kind, next, &[], first)?;
-        let two = gain(&mut seat, place, kind, next, &[first], second)?;
-        let three = gain(&mut seat, place, kind, next, &[first, second], third)?;
-        let before = seat.read_word_unlatched(place);
-        if materialise(rt, &mut seat, place, kind, &[one, two, three]).is_err() {
-            return None;
-        }
-        Some((before, seat.read_word_unlatched(place)))
+        let words = made_slow(rt, &mut seat, place, kind, next, modes);
+        drop(seat);
+        words
     }
+}
+
+// Gains three fast tickets in these modes, numbered from `next` on, and makes them slow. Returns the words before and after that.
+fn made_slow<R: Wait>(
+    rt: &R,
+    seat: &mut TableSeat,
+    place: usize,
+    kind: Kind,
+    next: u64,
+    modes: [Mode; 3],
+) -> Option<(Word, Word)>
+    requires alone { HasFastAlone place kind next [] seat.old }
+    requires rest { next < 2 ^ 60 }
+{
+    let [first, second, third] = modes;
+    let one = gain(seat, place, kind, next, &[], first)?;
+    let two = gain(seat, place, kind, next, &[first], second)?;
+    let three = gain(seat, place, kind, next, &[first, second], third)?;
+    let before = seat.read_word_unlatched(place);
+    if materialise(rt, seat, place, kind, &[one, two, three]).is_err() {
+        return None;
+    }
+    Some((before, seat.read_word_unlatched(place)))
 }
 
 // Gains one more fast ticket, beside those in the modes `beside`, whose numbers begin with `next`.

@@ -132,6 +132,9 @@ pub(super) const LIVES: &[Life] = &[
         Kind::Object,
         BESIDE_OTHERS,
     ),
+];
+
+pub(super) const LIVES_OF_WAITERS: &[Life] = &[
     Life("a clone overtakes", Kind::Object, OVERTAKEN),
     Life(
         "later and settled waiters count",

@@ -15,7 +15,7 @@ impl Row for Read {
     }
 }
 
-const READ: &[Read] = &[
+const STATEMENTS: &[Read] = &[
     Read(
         "1 BEGIN\n2 START TRANSACTION\n3 COMMIT\n64 ROLLBACK\n999 BEGIN\n1000 COMMIT\n1024 BEGIN",
         "1 1 begin / 2 2 begin / 3 3 commit / 4 64 roll back / 5 999 begin / 6 1000 commit / 7 1024 begin",
@@ -73,6 +73,9 @@ const READ: &[Read] = &[
         "1 ALTER TABLE t DROP c COPY\n1 ALTER TABLE add DROP drop INPLACE",
         "1 1 alter TABLE test.t drop c by copying / 2 1 alter TABLE test.add drop drop in place",
     ),
+];
+
+const LISTS: &[Read] = &[
     Read(
         "1 LOCK TABLES t READ\n1 LOCK TABLES s.t WRITE t READ read WRITE",
         "1 1 lock TABLE test.t to read / 2 1 lock TABLE s.t to write TABLE test.t to read TABLE test.read to write",
@@ -106,6 +109,9 @@ const READ: &[Read] = &[
         "1 SELECT a.t b.t test.t",
         "1 1 read TABLE a.t TABLE b.t TABLE test.t",
     ),
+];
+
+const LINES: &[Read] = &[
     Read(
         "# 1 SELECT T\n\n1 BEGIN\n#2 X\n\t\n\t 2 \t  COMMIT \t",
         "3 1 begin / 6 2 commit",
@@ -128,7 +134,9 @@ const READ: &[Read] = &[
 
 #[test]
 fn scripts_are_read(rt: HostRuntime) {
-    are_right(&rt, rt.alloc(), READ);
+    are_right(&rt, rt.alloc(), STATEMENTS);
+    are_right(&rt, rt.alloc(), LISTS);
+    are_right(&rt, rt.alloc(), LINES);
 }
 
 // Lines with a bad name, or with one that is repeated.

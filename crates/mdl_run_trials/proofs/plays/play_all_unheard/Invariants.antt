@@ -1,6 +1,6 @@
 -- All sessions are there after each line.
 use Rattle.mdl_script.specs.Plays.{IsManned}
-use Rattle.mdl_run_trials.proofs.plays.last_turns.Given as goal
+use Rattle.mdl_run_trials.proofs.plays.play_all_unheard.Given as goal
 
 abbrev pub invariant-loop-line : goal.invariant-loop-line
 invariant-loop-line l = IsManned l.play
