@@ -82,9 +82,6 @@ module _ (own : SessionLocks) (context : ContextView) (second : Kept) (rising : 
   pub second-held : ticket_held second.id own ≡ Some (held_of second)
   second-held = ap (find (is_number second.id)) serves.held ∙ last-found context.kept second kept-rising
 
-  pub second-holds : holds second.id own ≡ true
-  second-holds = ap is_some second-held
-
   left-held : filter (λ h. not (is_number second.id h)) own.held ≡ map held_of context.kept
   left-held =
       ap (filter (λ h. not (is_number second.id h))) serves.held ∙ held-without second.id (context.kept ++ second ∷ [])

@@ -96,9 +96,6 @@ for_looking context = for_own {A = Outcome Resume} context.who (waits.looking co
 pub for_searching_on : (context : ContextView) → IsFor context.who (waits.searching_on context)
 for_searching_on context = for_own {A = Outcome Resume} context.who (waits.searching_on context) (own_searching_on context)
 
-pub for_all : (who : ℕ) (gone : List Kept) → IsFor who (releases.releasing_all who gone)
-for_all who gone = for_own {A = Unit {0}} who (releases.releasing_all who gone) (own_all who gone)
-
 pub for_releasing : (id : ℕ) (context : ContextView) → IsFor context.who (releases.releasing id context)
 for_releasing id context = for_own {A = Outcome (Unit {0})} context.who (releases.releasing id context) (own_releasing id context)
 
@@ -107,6 +104,3 @@ for_giving_up gone context = for_own {A = Outcome (Unit {0})} context.who (relea
 
 pub for_upgrading : (id : ℕ) (mode : Mode) (context : ContextView) → IsFor context.who (upgrades.upgrading id mode context)
 for_upgrading id mode context = for_own {A = Outcome Acquire} context.who (upgrades.upgrading id mode context) (own_upgrading id mode context)
-
-pub for_downgrading : (id : ℕ) (mode : Mode) (context : ContextView) → IsFor context.who (upgrades.downgrading id mode context)
-for_downgrading id mode context = for_own {A = Outcome (Unit {0})} context.who (upgrades.downgrading id mode context) (own_downgrading id mode context)

@@ -381,10 +381,6 @@ pub each_tidying : {A : Type 0} (P : Outcome A → Type 0) (reply : Result A Con
 each_tidying {A} P reply context holds =
     each_then {A = Unit {0}} {B = Outcome A} P (unpinning_all context.who (unneeded context)) (λ _. Give (reply, tidied context)) (λ _. holds)
 
--- the reply stays, and the context is tidied
-pub gives_tidied : {A : Type 0} (outcome : Outcome A) → Each (λ (o : Outcome A). (o.0 ≡ outcome.0) × (o.1 ≡ tidied outcome.1)) (tidying outcome)
-gives_tidied {A} (reply, context) = each_tidying (λ (o : Outcome A). (o.0 ≡ reply) × (o.1 ≡ tidied context)) reply context (refl, refl)
-
 -- after releases nothing is known that isn't needed
 pub releases-leave_tidy : ReleasesLeaveTidy
 releases-leave_tidy gone context =
