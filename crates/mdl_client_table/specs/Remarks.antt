@@ -16,7 +16,7 @@ is_prompt text = begins_with (codes "mysql>") text || (begins_with (codes "Maria
 -- whether a text is what the client says before it sends a statement
 abbrev pub is_notice : List ℕ → Bool
 is_notice text =
-    begins_with (codes "mysql: ") text || (begins_with (codes "mariadb: ") text || (begins_with (codes "Warning") text || (begins_with (codes "WARNING") text
+    begins_with (codes "mysql: ") text || (begins_with (codes "mariadb: ") text || (begins_with (codes "Warning: ") text || (begins_with (codes "WARNING: ") text
     || (begins_with (codes "Enter password:") text || (begins_with (codes "Server version: ") text || begins_with (codes "Copyright ") text)))))
 
 -- whether a text is what stands behind the number of rows, as in `2 rows in set (0.00 sec)`

@@ -51,8 +51,8 @@ fn is_notice(text: &[u8]) -> bool
 {
     text.starts_with(b"mysql: ".as_slice())
         || text.starts_with(b"mariadb: ".as_slice())
-        || text.starts_with(b"Warning".as_slice())
-        || text.starts_with(b"WARNING".as_slice())
+        || text.starts_with(b"Warning: ".as_slice())
+        || text.starts_with(b"WARNING: ".as_slice())
         || text.starts_with(b"Enter password:".as_slice())
         || text.starts_with(b"Server version: ".as_slice())
         || text.starts_with(b"Copyright ".as_slice())
