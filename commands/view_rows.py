@@ -21,7 +21,8 @@ NO_ROWS = ["", "\n", HEADER, HEADER + "\n", "\ufeff" + HEADER + "\n"]
 NO_ROWS_TOLD = """no rows. Either no session holds a lock, or the server keeps no rows. MySQL 5.7 keeps none until this is run:
   UPDATE performance_schema.setup_instruments SET ENABLED='YES', TIMED='YES' WHERE NAME='wait/lock/metadata/sql/mdl';
 Locks that were taken before have no rows. MariaDB also needs performance_schema=ON in my.cnf, and a restart.
-Until then: SHOW FULL PROCESSLIST, and KILL QUERY of the ALTER or DROP that waits.
+Until then, SHOW FULL PROCESSLIST has who waits for a metadata lock. KILL QUERY of the first ALTER or DROP
+among them lets those behind it go on.
 """
 
 # Forms in which clients print rows: with tabs, in boxes, a line for each field, and with commas (NULL as nothing, or as a word).
@@ -33,6 +34,8 @@ ABOVE = (
     "\n  \t\n",
     "mysql> SELECT OBJECT_TYPE, OBJECT_NAME\n    -> FROM performance_schema.metadata_locks;\n",
     "MariaDB [(none)]> SELECT a, b FROM t\\G\n",
+    "mysql> SELECT 'a\n    '> b, c' FROM t\n    -> WHERE `a,\n    `> b` = \"a,\n    \"> b\";\n",
+    "No connection. Trying to reconnect...\nConnection id:    14\nCurrent database: *** NONE ***\n\n",
     "mysql: [Warning] Using a password on the command line interface can be insecure.\n",
     "mariadb: Deprecated program name, it will be removed.\n",
     "WARNING: option --ssl-verify-server-cert is disabled, because of an insecure passwordless login.\n",

@@ -9,15 +9,18 @@ use Rattle.mdl_client_table.specs.Boxes.{trimmed}
 abbrev pub begins_with : List ℕ → List ℕ → Bool
 begins_with word text = same_text word (take (length word) text)
 
--- whether a text begins with the client's prompt, behind which a statement stands
+-- whether a text begins with the client's prompt, behind which a statement stands, or more of one
 abbrev pub is_prompt : List ℕ → Bool
-is_prompt text = begins_with (codes "mysql>") text || (begins_with (codes "MariaDB [") text || begins_with (codes "->") text)
+is_prompt text =
+    begins_with (codes "mysql>") text || (begins_with (codes "MariaDB [") text || (begins_with (codes "->") text
+    || (begins_with (codes "'>") text || (begins_with (codes "\">") text || begins_with (codes "`>") text))))
 
 -- whether a text is what the client says before it sends a statement
 abbrev pub is_notice : List ℕ → Bool
 is_notice text =
     begins_with (codes "mysql: ") text || (begins_with (codes "mariadb: ") text || (begins_with (codes "Warning: ") text || (begins_with (codes "WARNING: ") text
-    || (begins_with (codes "Enter password:") text || (begins_with (codes "Server version: ") text || begins_with (codes "Copyright ") text)))))
+    || (begins_with (codes "Enter password:") text || (begins_with (codes "Server version: ") text || (begins_with (codes "Copyright ") text
+    || (begins_with (codes "Connection id: ") text || begins_with (codes "Current database: ") text)))))))
 
 -- whether a text is what stands behind the number of rows, as in `2 rows in set (0.00 sec)`
 abbrev pub counts_rows : List ℕ → Bool

@@ -1,7 +1,7 @@
 -- A table with a line for each field, as `mysql -E` and `\G` print it, after MySQL 5.7: `print_table_data_vertically` of client/mysql.cc. A row
 -- begins with a line of stars. In each other line there is a column's name, with as many spaces before it as make all names equally wide, a colon,
 -- a space, and the value. Values aren't escaped: a line that can't be that of the next column continues the value before it. Below the rows is their
--- number. Lines behind it aren't of the table, up to the next line of stars.
+-- number. Lines behind it aren't of the table, up to the next line of stars. So a line of a value that looks like either of these two is taken for it.
 use Rattle.std.specs.Prelude.{ℕ, ◌-◌, Bool, true, false, not, ◌&&◌, ◌==◌, List, [], ◌∷◌, ◌++◌, drop, take, length, codes, slice_get, if◌then◌else◌}
 use Rattle.std.specs.List.{after_first, before_first, list_any}
 use Rattle.std.specs.Option.{option_map_or}

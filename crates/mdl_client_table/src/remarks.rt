@@ -36,13 +36,16 @@ fn counts_rows(text: &[u8]) -> bool
     text.starts_with(b" row in set".as_slice()) || text.starts_with(b" rows in set".as_slice())
 }
 
-// Whether a text begins with the client's prompt.
+// Whether a text begins with the client's prompt, behind which a statement stands, or more of one.
 fn is_prompt(text: &[u8]) -> bool
     ensures { result ≡ is_prompt text.now }
 {
     text.starts_with(b"mysql>".as_slice())
         || text.starts_with(b"MariaDB [".as_slice())
         || text.starts_with(b"->".as_slice())
+        || text.starts_with(b"'>".as_slice())
+        || text.starts_with(b"\">".as_slice())
+        || text.starts_with(b"`>".as_slice())
 }
 
 // Whether a text is what the client says before it sends a statement.
@@ -56,6 +59,8 @@ fn is_notice(text: &[u8]) -> bool
         || text.starts_with(b"Enter password:".as_slice())
         || text.starts_with(b"Server version: ".as_slice())
         || text.starts_with(b"Copyright ".as_slice())
+        || text.starts_with(b"Connection id: ".as_slice())
+        || text.starts_with(b"Current database: ".as_slice())
 }
 
 // Whether a text is how a statement ended.

@@ -58,9 +58,9 @@ is_called name other = str_eq_ignore_ascii_case (trimmed other) name
 abbrev pub has_name : List (List ℕ) → List ℕ → Bool
 has_name names name = list_any (is_called name) names
 
--- whether a header has a column that is the process list's, of two with which its ID comes
+-- whether a header has the columns of a process list from which its ID can be told from the number of a row
 abbrev pub has_process : List (List ℕ) → Bool
-has_process names = has_name names (codes "COMMAND") || has_name names (codes "USER")
+has_process names = has_name names (codes "COMMAND") && has_name names (codes "USER")
 
 -- the index of the connection: that of PROCESSLIST_ID, or else that of the ID of a process list
 abbrev pub connection_place : List (List ℕ) → Option ℕ
@@ -74,7 +74,7 @@ abbrev pub other_table : List (List ℕ) → Option OtherTable
 other_table names =
     if has_name names (codes "waiting_thread_id") then Some SchemaTableLockWaits
     else (if has_name names (codes "trx_state") then Some InnodbTrx
-    else (if has_name names (codes "LOCK_MODE") && has_name names (codes "THREAD_ID") then Some MetadataLockInfo
+    else (if has_name names (codes "LOCK_MODE") && has_name names (codes "TABLE_SCHEMA") then Some MetadataLockInfo
     else (if has_name names (codes "Id") && has_name names (codes "Command") then Some Processlist else None)))
 
 -- the result of a second step after a first one that may be refused

@@ -76,11 +76,11 @@ fn connection_place(names: &[Field]) -> Option<usize>
     }
 }
 
-// Whether a header has a column that is the process list's, of two with which its ID comes.
+// Whether a header has the columns of a process list from which its ID can be told from the number of a row.
 fn has_process(names: &[Field]) -> bool
     ensures { result ≡ has_process names.now }
 {
-    has_name(names, b"COMMAND") || has_name(names, b"USER")
+    has_name(names, b"COMMAND") && has_name(names, b"USER")
 }
 
 // Returns the index of the first column that is called so.

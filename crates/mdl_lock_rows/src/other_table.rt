@@ -31,7 +31,7 @@ pub(crate) fn other_table(names: &[Field]) -> Option<OtherTable>
         Some(OtherTable::SchemaTableLockWaits)
     } else if has_name(names, b"trx_state") {
         Some(OtherTable::InnodbTrx)
-    } else if has_name(names, b"LOCK_MODE") && has_name(names, b"THREAD_ID") {
+    } else if has_name(names, b"LOCK_MODE") && has_name(names, b"TABLE_SCHEMA") {
         Some(OtherTable::MetadataLockInfo)
     } else if has_name(names, b"Id") && has_name(names, b"Command") {
         Some(OtherTable::Processlist)
