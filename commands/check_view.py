@@ -124,7 +124,7 @@ ROWS_OF_WORDS = [
     ("", HEADER, 1, "", NO_ROWS_TOLD),
     ("", "", 1, "", NO_ROWS_TOLD),
     ("", SERVER + "TABLE\tshop\n", 1, "", "line 5, field 3: missing, since the row has fewer fields than the header\n"),
-    ("", WAITS, 1, "", 'no column OBJECT_TYPE. Give what this prints: mysql -B -e "$(mdlview query)"\n'),
+    ("", WAITS, 1, "", 'no table with a column OBJECT_TYPE. Give what this prints: mysql -B -e "$(mdlview query)"\n'),
     ("locks", HEADER + USER_LOCK, 0, LOCKS_HEAD + "USER job\\.1\tthread 5\tX\tGRANTED\n", ""),
     ("", HEADER + LEFT_OUT, 0, NOBODY + "1 row left out: FOREIGN KEY SHARED 1\n", ""),
     ("waits", HEADER + 2 * LEFT_OUT, 0, WAITS_HEAD + "2 rows left out: FOREIGN KEY SHARED 2\n", ""),

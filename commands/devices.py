@@ -44,7 +44,7 @@ class Case:
 
     def refuses(self, found):
         """Whether a run refused its input, with a reason."""
-        return found[0] == 1 and (found[1] == self.refusal if self.refusal else found[1].startswith((b"line ", b"no column ")))
+        return found[0] == 1 and (found[1] == self.refusal if self.refusal else found[1].startswith((b"line ", b"no table ")))
 
     def wanted_after(self, count):
         """Returns the status, standard error, and first answers for an input of so many bytes: those to its lines, unless the last one is cut short."""
@@ -262,7 +262,7 @@ def wrong_noise(program, cases, size, seed):
             for most in (LITTLE, MUCH):
                 with file_of(noise) as stdin:
                     found = run_on(program, case.words, stdin, before=lambda most=most: limit_memory(most))
-                if found[2] or not (found[:2] == MEMORY or (found[0] == 1 and found[1].startswith((b"line ", b"no column ", b"no rows")) and len(found[1]) < 10_000)):
+                if found[2] or not (found[:2] == MEMORY or (found[0] == 1 and found[1].startswith((b"line ", b"no table ", b"no rows")) and len(found[1]) < 10_000)):
                     yield f"{case.words}, {size} bytes of {name} (seed {seed}), {most} bytes of memory", (*found[:1], found[1][:200], found[2][:200])
 
 

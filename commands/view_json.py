@@ -26,7 +26,10 @@ OTHERS = [
     ("Id User Host db Command Time State Info", "rows of a process list"),
     ("ID USER HOST DB COMMAND TIME STATE INFO", "rows of a process list"),
     ("trx_id trx_state trx_started trx_mysql_thread_id", "rows of INNODB_TRX"),
-    ("id command_line", "no column OBJECT_TYPE"),
+    ("THREAD_ID LOCK_MODE LOCK_DURATION LOCK_TIME_MS LOCK_TYPE TABLE_CATALOG TABLE_SCHEMA TABLE_NAME", "rows of METADATA_LOCK_INFO"),
+    ("THREAD_ID LOCK_MODE LOCK_TYPE TABLE_SCHEMA TABLE_NAME ID USER HOST DB COMMAND TIME STATE INFO", "rows of METADATA_LOCK_INFO"),
+    ("ENGINE ENGINE_LOCK_ID THREAD_ID OBJECT_SCHEMA OBJECT_NAME LOCK_TYPE LOCK_MODE LOCK_STATUS LOCK_DATA", "no table with a column OBJECT_TYPE"),
+    ("id command_line", "no table with a column OBJECT_TYPE"),
 ]
 
 

@@ -1,5 +1,6 @@
 """Rows of a server's metadata locks that mdlview has to read or to refuse: the groups of the files `view/rows` and `view/headers`, with each kind of
-line end; the rows of `view/forms`, in each form in which clients print them; and many threads, locks, types of other rows and bytes of a name."""
+line end; the rows of `view/forms`, in each form in which clients print them, also as they are pasted from a terminal; and many threads, locks, types of
+other rows and bytes of a name."""
 
 import json
 import pathlib
@@ -20,10 +21,43 @@ NO_ROWS = ["", "\n", HEADER, HEADER + "\n", "\ufeff" + HEADER + "\n"]
 NO_ROWS_TOLD = """no rows. Either no session holds a lock, or the server keeps no rows. MySQL 5.7 keeps none until this is run:
   UPDATE performance_schema.setup_instruments SET ENABLED='YES', TIMED='YES' WHERE NAME='wait/lock/metadata/sql/mdl';
 Locks that were taken before have no rows. MariaDB also needs performance_schema=ON in my.cnf, and a restart.
+Until then, SHOW FULL PROCESSLIST has who waits for a metadata lock. KILL QUERY of the first ALTER or DROP
+among them lets those behind it go on.
 """
 
 # Forms in which clients print rows: with tabs, in boxes, a line for each field, and with commas (NULL as nothing, or as a word).
 FORMS = ("table", "vertical", "csv", "csv_null")
+
+# What may stand above the rows on a screen, and below them.
+ABOVE = (
+    "",
+    "\n  \t\n",
+    "mysql> SELECT OBJECT_TYPE, OBJECT_NAME\n    -> FROM performance_schema.metadata_locks;\n",
+    "MariaDB [(none)]> SELECT a, b FROM t\\G\n",
+    "mysql> SELECT 'a\n    '> b, c' FROM t\n    -> WHERE `a,\n    `> b` = \"a,\n    \"> b\";\n",
+    "No connection. Trying to reconnect...\nConnection id:    14\nCurrent database: *** NONE ***\n\n",
+    "mysql: [Warning] Using a password on the command line interface can be insecure.\n",
+    "mariadb: Deprecated program name, it will be removed.\n",
+    "WARNING: option --ssl-verify-server-cert is disabled, because of an insecure passwordless login.\n",
+    "Warning: Using a password on the command line interface can be insecure.\n",
+    "[root@db1 ~]# mysql -t -p < query.sql\nEnter password: \n",
+    "app@db1:~$ mysql -t\nReading table information for completion of table and column names\n",
+    "Server version: 5.7.44-log MySQL Community Server (GPL)\n\nCopyright (c) 2000, 2023, Oracle and/or its affiliates.\n",
+    "mysql> UPDATE t SET a = 1, b = 2;\nQuery OK, 1 row affected (0.00 sec)\nRows matched: 1  Changed: 1  Warnings: 0\n\nmysql> SELECT a, b;\n",
+    "mysql> SELECT 1, 2 FROM t;\nEmpty set, 1 warning (0.00 sec)\n\n12 rows in set, 1 warning (0.00 sec)\n1 row in set, 1 warning (0.00 sec)\n",
+)
+BELOW = ("", "1 row in set (0.00 sec)\n", "12 rows in set (0.00 sec)\n\nmysql> SELECT 1;\n", "  3 rows in set, 1 warning (0.01 sec)\n\n  MariaDB [(none)]>: \n")
+
+# Texts without rows that a client prints, and texts of other things, each of which begins with a line that is no header of locks.
+EMPTY = ("Empty set (0.00 sec)\n", "mysql> SELECT a, b FROM t;\nEmpty set (0.00 sec)\n\nmysql> \n", "mysql: [Warning] a, b\n", "\n \n")
+OTHER = (
+    "ERROR 1142 (42000): SELECT command denied to user 'a'@'b'\n",
+    "ERROR 1227 (42000) at line 1: Access denied; you need (at least one of) the PROCESS privilege(s) for this operation\n",
+    "bash: mysql: command not found\n",
+    "nothing\n",
+    "MYSQL> SELECT a, b\n",
+)
+NO_TABLE = "1 no table with a column OBJECT_TYPE. Give what this prints: mysql -B -e \"$(mdlview query)\"\n"
 
 # More than any number of 16 bits.
 MANY = 65_540
@@ -108,6 +142,41 @@ def wrong_forms(program):
                 yield f"view/forms/{name}.{form}", read
 
 
+def wrong_pastes(program):
+    """Returns the pasted rows that are read in another way than what `mysql -B` prints, the parts of rows that are read though a part above them is missing,
+    and the texts that are refused for something else than what they are."""
+    for name in ("plain", "odd"):
+        wanted = found(program, (FOLDER / f"forms/{name}.batch").read_text(encoding="utf-8"))
+        texts = {form: (FOLDER / f"forms/{name}.{form}").read_bytes().decode() for form in ("batch", *FORMS)}
+        for above in ABOVE:
+            for form, text in texts.items():
+                if (read := found(program, above + text)) != wanted:
+                    yield f"{above!r} above view/forms/{name}.{form}", read
+            for form in ("table", "vertical"):
+                for below in BELOW:
+                    if (read := found(program, above + texts[form] + below)) != wanted:
+                        yield f"{above!r} above and {below!r} below view/forms/{name}.{form}", read
+    text = (FOLDER / "forms/plain.table").read_text(encoding="utf-8")
+    lines, wanted = text.splitlines(), found(program, text)
+    shapes = {
+        "indented": [f"    {line}  " for line in lines],
+        "no edges": [line for line in lines if line[0] == "|"],
+        "edges of bars": ["|-" + line[2:] if line[0] == "+" else line for line in lines[1:-1]],
+    }
+    for shape, given in shapes.items():
+        if (read := found(program, text_of(given, ENDS[0]))) != wanted:
+            yield shape, read
+    stars = (FOLDER / "forms/plain.vertical").read_text(encoding="utf-8").splitlines()
+    if (read := found(program, text_of([f"  {line}" for line in stars], ENDS[0]))) != wanted:
+        yield "indented rows of fields", read
+    for text in (text_of(lines[3:], ENDS[0]), text_of(stars[1:], ENDS[0]), *OTHER):
+        if (read := found(program, text)) != [NO_TABLE]:
+            yield f"{text[:60]!r}", read
+    for text in EMPTY:
+        if (read := found(program, text)) != ["1 no rows\n"]:
+            yield repr(text), read
+
+
 def wrong_limits(program):
     """Returns the rows with many of something that are read wrongly."""
     many = found(program, text_of(readers(MANY, MANY), ENDS[0]))
@@ -129,4 +198,4 @@ def wrong_limits(program):
 
 def wrong_rows(program):
     """Returns what is read wrongly, with what was found."""
-    return [*wrong_groups(program), *wrong_forms(program), *wrong_limits(program)]
+    return [*wrong_groups(program), *wrong_forms(program), *wrong_pastes(program), *wrong_limits(program)]

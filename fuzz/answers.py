@@ -64,7 +64,7 @@ def name(text):
 def name_of(key):
     """Returns what a lock is called."""
     kind, schema, thing = key
-    if kind in ("GLOBAL", "COMMIT", "BACKUP"):
+    if kind in ("GLOBAL", "COMMIT", "BACKUP", "BACKUP LOCK"):
         return kind
     if kind in ("SCHEMA", "TABLESPACE", "USER LEVEL LOCK"):
         return f"{kind.split(' ')[0]} {name(schema if kind == 'SCHEMA' else thing)}"

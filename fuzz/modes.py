@@ -19,7 +19,7 @@ OF_MODE = {"scoped": SCOPED_MODES, "object": OBJECT_MODES, "backup": BACKUP_MODE
 
 # The kinds of locks, by OBJECT_TYPE.
 KINDS = {
-    **dict.fromkeys(("GLOBAL", "SCHEMA", "COMMIT", "TABLESPACE"), "scoped"),
+    **dict.fromkeys(("GLOBAL", "SCHEMA", "COMMIT", "TABLESPACE", "BACKUP LOCK"), "scoped"),
     **dict.fromkeys(("TABLE", "USER LEVEL LOCK", "FUNCTION", "PROCEDURE", "TRIGGER", "EVENT", "LOCKING SERVICE", "PACKAGE BODY"), "object"),
     "BACKUP": "backup",
 }

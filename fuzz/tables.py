@@ -11,14 +11,21 @@ LONGER = {"USER", "HOST", "COMMAND", "TIME", "INFO"}
 ESCAPES = {"\\": "\\\\", "\t": "\\t", "\n": "\\n", "\0": "\\0"}
 
 DEFINITIONS = ["TABLE", "TABLE", "TABLE", "FUNCTION", "PROCEDURE", "TRIGGER", "EVENT", "LOCKING SERVICE", "PACKAGE BODY"]
-SINGLE = ["GLOBAL", "COMMIT", "BACKUP"]
+SINGLE = ["GLOBAL", "COMMIT", "BACKUP", "BACKUP LOCK"]
 UNKNOWN = [
-    ("ACL CACHE", "SHARED"), ("RESOURCE_GROUPS", "INTENTION_EXCLUSIVE"), ("BACKUP LOCK", "SHARED"), ("TABLE", "INTENTION_EXCLUSIVE"),
+    ("ACL CACHE", "SHARED"), ("RESOURCE_GROUPS", "INTENTION_EXCLUSIVE"), ("CHECK CONSTRAINT", "SHARED"), ("TABLE", "INTENTION_EXCLUSIVE"),
     ("GLOBAL", "SHARED_READ"), ("", "EXCLUSIVE"), ("FOREIGN\x01KEY.x", "EXCLUSIVE"), ("BACKUP", "BACKUP_UNHEARD_OF"), ("TABLE", "shared"),
 ]
 STATUSES = ["VICTIM", "TIMEOUT", "KILLED", "PRE_ACQUIRE_NOTIFY", "POST_RELEASE_NOTIFY"]
 NAMES = ["orders", "t", "Orders-2", "a.b", "caf\xc3\xa9", "caf\xe9", 'q"uote', "\xe2\x82\xac" * 40, "n" * 64, "x y"]
 ODD_NAMES = ["tab\there", "back\\slash", "line\nend", "bell\x07", "del\x7f", "comma,s", "nul\0"]
+# What may stand above the rows on a screen, and below those in boxes or with a line for each field.
+ABOVE = [
+    "mysql> SELECT OBJECT_TYPE, OBJECT_NAME FROM performance_schema.metadata_locks;\n", "MariaDB [shop]> SELECT a, b\n    -> FROM t\\G\n", " \n",
+    "mysql: [Warning] Using a password on the command line interface can be insecure.\n", "Enter password: \n", "Database changed\n",
+    "[root@db1 ~]# mysql -t < query.sql\n", "Query OK, 0 rows affected (0.00 sec)\n\n", "Empty set, 1 warning (0.00 sec)\n",
+]
+BELOW = ["7 rows in set (0.00 sec)\n", "1 row in set, 1 warning (0.01 sec)\n\nmysql> \n"]
 STATEMENTS = [
     "SELECT 1", "ALTER TABLE t ADD c INT, ALGORITHM=COPY", "INSERT INTO t VALUES ('\xc3\xbc', \"b\")", "SELECT '" + "long " * 30 + "'", "DROP TABLE t",
 ]
@@ -287,6 +294,16 @@ class Rows:
         return columns
 
 
+def pasted(text, form, dice):
+    """Returns rows as they are copied from a screen at times: with other lines above them and below them, and with blanks before each line."""
+    if dice.random() < 0.7:
+        return text
+    if form == "boxes" and dice.random() < 0.3:
+        text = "".join(f"   {line}\n" for line in text.removesuffix("\n").split("\n"))
+    below = dice.choice(BELOW) if form in ("boxes", "vertical") and dice.random() < 0.7 else ""
+    return "".join(dice.choice(ABOVE) for _ in range(dice.randrange(4))) + text + below
+
+
 def random_table(dice):
     """Returns the text of random rows, the columns that are read, and the rows."""
     made = Rows(dice)
@@ -297,4 +314,4 @@ def random_table(dice):
     known = [column for column in columns if column != "OWNER_EVENT_ID"]
     rows = [{column: row[column] for column in known} for row in made.rows]
     shown = [{printed[column]: row.get(column, "1") for column in columns} for row in rows]
-    return FORMS[made.form](list(printed.values()), shown, dice), known, rows
+    return pasted(FORMS[made.form](list(printed.values()), shown, dice), made.form, dice), known, rows

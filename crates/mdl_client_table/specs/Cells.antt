@@ -1,6 +1,6 @@
 -- Rows that may have several lines, and their cells: of boxes, and of fields between commas. The bytes that separate lines and cells may also be
 -- within a value. So lines are gathered to rows first, and then the parts of a row to cells.
-use Rattle.std.specs.Prelude.{ℕ, Bool, true, false, not, ◌||◌, ◌==◌, List, [], ◌∷◌, ◌++◌, length, map, fold, if◌then◌else◌}
+use Rattle.std.specs.Prelude.{ℕ, Bool, true, false, not, ◌||◌, ◌==◌, List, [], ◌∷◌, ◌++◌, length, map, fold, Option, if◌then◌else◌}
 use Rattle.std.specs.List.{slice_split}
 use Rattle.mdl_client_table.specs.declared.form.Form.{Form}
 use Rattle.mdl_client_table.specs.declared.form.Form.TheVariants.{Boxes}
@@ -9,8 +9,9 @@ use Rattle.mdl_client_table.specs.Commas.{comma_value, is_quote_open}
 use Rattle.mdl_client_table.specs.Json.{JsonText}
 use Rattle.mdl_client_table.specs.Tables.{RowText, TableText, changed_last, continued_table, first_field, no_table, with_fields, with_row}
 
--- a table while it is read: whether its last row goes on in the next line, and what was read of JSON
+-- a table while it is read: its form, if a line began one, whether its last row may go on in the next line, and what was read of JSON
 pub record ReadingText : Type 0 where
+  pub form : Option Form
   pub table : TableText
   pub is_open : Bool
   pub json : JsonText

@@ -1,7 +1,6 @@
 -- A table with commas between its fields (CSV), after RFC 4180: a field may be in quotes, and has commas, line feeds and doubled quotes there. A
 -- field without quotes is NULL if it is empty, `NULL`, or `\N`.
 use Rattle.std.specs.Prelude.{ℕ, ◌-◌, Bool, false, not, ◌&&◌, ◌||◌, ◌==◌, List, [], ◌∷◌, drop, take, length, fold, find, Option, codes, nat_le, if◌then◌else◌}
-use Rattle.std.specs.Option.{option_map_or}
 use Rattle.mdl_lines.specs.Words.{same_text}
 
 -- whether a quote is open behind a text, given whether one was open before it: each quote opens one or closes it
@@ -29,10 +28,6 @@ plain_value cell = if same_text cell (codes "NULL") || same_text cell (codes "\\
 abbrev pub comma_value : List ℕ → List ℕ
 comma_value cell = if is_quoted cell then in_quotes cell else plain_value cell
 
--- the first byte of a text that is a tab, a line feed or a comma
+-- the first byte of a line that is a tab or a comma
 abbrev pub first_mark : List ℕ → Option ℕ
-first_mark text = find (λ byte. (byte == 9) || ((byte == 10) || (byte == 44))) text
-
--- whether there is a comma in the first line of a text, and no tab before it
-abbrev pub has_commas : List ℕ → Bool
-has_commas text = option_map_or (λ byte. byte == 44) (first_mark text) false
+first_mark line = find (λ byte. (byte == 9) || (byte == 44)) line

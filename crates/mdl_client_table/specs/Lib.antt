@@ -5,6 +5,7 @@ pub mod Escapes
 pub mod Forms
 pub mod Json
 pub mod Objects
+pub mod Remarks
 pub mod Tables
 pub mod Tabs
 pub mod Vertical

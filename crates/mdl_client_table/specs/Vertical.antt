@@ -1,15 +1,19 @@
 -- A table with a line for each field, as `mysql -E` and `\G` print it, after MySQL 5.7: `print_table_data_vertically` of client/mysql.cc. A row
 -- begins with a line of stars. In each other line there is a column's name, with as many spaces before it as make all names equally wide, a colon,
--- a space, and the value. Values aren't escaped: a line that can't be that of the next column continues the value before it.
-use Rattle.std.specs.Prelude.{ℕ, Bool, true, false, ◌&&◌, ◌==◌, List, [], ◌∷◌, ◌++◌, drop, take, length, codes, slice_get, if◌then◌else◌}
+-- a space, and the value. Values aren't escaped: a line that can't be that of the next column continues the value before it. Below the rows is their
+-- number. Lines behind it aren't of the table, up to the next line of stars. So a line of a value that looks like either of these two is taken for it.
+use Rattle.std.specs.Prelude.{ℕ, ◌-◌, Bool, true, false, not, ◌&&◌, ◌==◌, List, [], ◌∷◌, ◌++◌, drop, take, length, codes, slice_get, if◌then◌else◌}
 use Rattle.std.specs.List.{after_first, before_first, list_any}
 use Rattle.std.specs.Option.{option_map_or}
 use Rattle.mdl_lines.specs.Words.{same_text}
+use Rattle.mdl_client_table.specs.Boxes.{trimmed}
+use Rattle.mdl_client_table.specs.Cells.{ReadingText}
+use Rattle.mdl_client_table.specs.Remarks.{begins_with, is_footer}
 use Rattle.mdl_client_table.specs.Tables.{RowText, TableText, changed_last, continued_row, value_of, with_row}
 
--- whether a line begins a row
+-- whether a line begins a row: stars are at both of its ends, but for blanks
 abbrev pub begins_row : List ℕ → Bool
-begins_row line = same_text (take 3 line) (codes "***")
+begins_row line = begins_with (codes "***") (trimmed line) && same_text (drop (length (trimmed line) - 3) (trimmed line)) (codes "***")
 
 -- whether a line may have a field: it has a colon
 abbrev pub has_colon : List ℕ → Bool
@@ -69,7 +73,8 @@ abbrev pub with_value_line : List ℕ → TableText → TableText
 with_value_line line table = record { names = names_with line table; rows = changed_last (with_value (has_next_field line table) line) table.rows }
 
 -- a table with one more line. Empty lines don't count
-abbrev pub with_vertical_line : ℕ → List ℕ → TableText → TableText
-with_vertical_line number line table =
-    if length line == 0 then table
-    else (if begins_row line then with_row number [] table else with_value_line line table)
+abbrev pub with_vertical_line : ℕ → List ℕ → ReadingText → ReadingText
+with_vertical_line number line reading =
+    if begins_row line then record reading { table = with_row number [] reading.table; is_open = true }
+    else (if is_footer (trimmed line) then record reading { is_open = false }
+    else (if reading.is_open && not (length line == 0) then record reading { table = with_value_line line reading.table } else reading))

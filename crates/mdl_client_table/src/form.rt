@@ -1,9 +1,11 @@
 //! The forms of printed tables.
 ghost use Rattle.std.specs.Prelude.{◌≡◌};
-ghost use Rattle.mdl_client_table.specs.Commas.{first_mark, has_commas};
-ghost use Rattle.mdl_client_table.specs.Forms.{begins_json, form_of};
+ghost use Rattle.mdl_client_table.specs.Commas.{first_mark};
+ghost use Rattle.mdl_client_table.specs.Forms.{begins_json, form_begun, form_separated};
 
 use crate::pieces::trimmed;
+use crate::remarks::is_remark;
+use crate::vertical::{begins_row, may_be_field};
 
 /// How a client prints a table.
 #[derive(Clone, Copy, Debug, PartialEq, Eq)]
@@ -21,43 +23,54 @@ pub enum Form {
 }
 
 impl Form {
-    /// Returns the form of a text: one that begins with `[` or `{`, behind blanks, is in JSON, one that begins with `*` is vertical, one that begins
-    /// with `+` has boxes, and another one has commas if there is one in its first line, and no tab before it.
-    pub fn of(text: &[u8]) -> Form
-        ensures { result ≡ form_of text.now }
+    /// Returns the form of a table that begins with a line, unless none does: the line is the client's own, or has no separator of any form. Behind
+    /// blanks, JSON begins with `[` or `{`, a vertical table with a line of stars, and boxes with `+-` or `|`. A header has tabs or commas.
+    pub fn begun_by(line: &[u8]) -> Option<Form>
+        ensures { result ≡ form_begun line.now }
     {
-        match text {
-            _ if begins_json(text) => Form::Json,
-            [b'*', ..] => Form::Vertical,
-            [b'+', ..] => Form::Boxes,
-            _ if has_commas(text) => Form::Commas,
-            _ => Form::Tabs,
+        if is_remark(line) {
+            return None;
+        }
+        let text = trimmed(line);
+        if begins_json(text) {
+            Some(Form::Json)
+        } else if begins_row(line) {
+            Some(Form::Vertical)
+        } else if text.starts_with(b"+-".as_slice()) || text.starts_with(b"|".as_slice()) {
+            Some(Form::Boxes)
+        } else {
+            Form::separated(line)
+        }
+    }
+
+    // Returns the form of a table whose fields are separated by tabs or commas. A line of a vertical table is taken for its header.
+    fn separated(line: &[u8]) -> Option<Form>
+        ensures { result ≡ form_separated line.now }
+    {
+        match first_mark(line) {
+            Some(b'\t') => Some(Form::Tabs),
+            Some(_) => Some(Form::Commas),
+            None => may_be_field(line).then_some(Form::Tabs),
         }
     }
 }
 
-// Whether a text begins with an array or an object of JSON, behind blanks.
+// Whether a text begins with an array or an object of JSON, and not with a shell's prompt.
 fn begins_json(text: &[u8]) -> bool
     ensures { result ≡ begins_json text.now }
 {
-    matches!(trimmed(text), [b'[' | b'{', ..])
-}
-
-// Whether there is a comma in the first line of a text, and no tab before it.
-fn has_commas(text: &[u8]) -> bool
-    ensures { result ≡ has_commas text.now }
-{
-    match first_mark(text) {
-        Some(byte) => byte == b',',
-        None => false,
+    match text {
+        [b'{', ..] | [b'['] => true,
+        [b'[', next, ..] => !next.is_ascii_alphabetic(),
+        _ => false,
     }
 }
 
-// Returns the first byte that is a tab, a line feed or a comma.
-fn first_mark(text: &[u8]) -> Option<u8>
-    ensures { result ≡ first_mark text.now }
+// Returns the first byte of a line that is a tab or a comma.
+fn first_mark(line: &[u8]) -> Option<u8>
+    ensures { result ≡ first_mark line.now }
 {
-    text.iter()
+    line.iter()
         .copied()
-        .find(|byte| *byte == b'\t' || *byte == b'\n' || *byte == b',')
+        .find(|byte| *byte == b'\t' || *byte == b',')
 }

@@ -3,12 +3,12 @@ ghost use Rattle.std.specs.Prelude.{◌≡◌, OnOk};
 ghost use Rattle.mdl_client_table.specs.Objects.{with_object};
 ghost use Rattle.mdl_client_table.specs.Tables.{changed_last, continued_row, continued_table, no_table, with_fields, with_row};
 ghost use Rattle.mdl_client_table.specs.Tabs.{with_tab_line};
-ghost use Rattle.mdl_client_table.specs.Vertical.{last_count, with_value, with_value_line, with_vertical_line};
+ghost use Rattle.mdl_client_table.specs.Vertical.{last_count, with_value, with_value_line};
 
 use crate::field::{Field, values_under};
 use crate::pieces::tab_fields;
 use crate::row::Row;
-use crate::vertical::{begins_row, is_field_line, label_of};
+use crate::vertical::{is_field_line, label_of};
 use std::alloc::{AllocError, Global};
 use std::marker::Model;
 
@@ -105,24 +105,6 @@ impl Table {
         self.add_row(line, fields)
     }
 
-    /// Adds a line of a vertical table.
-    pub(crate) fn add_vertical_line(
-        &mut self,
-        alloc: Global,
-        number: u64,
-        line: &[u8],
-    ) -> Result<(), AllocError>
-        ensures { OnOk result (self.new ≡ with_vertical_line number line.now self.old) }
-    {
-        if line.is_empty() {
-            Ok(())
-        } else if begins_row(line) {
-            self.add_row(number, Vec::new(alloc))
-        } else {
-            self.add_value_line(alloc, line)
-        }
-    }
-
     /// Adds a line to the last field of the last row.
     pub(crate) fn continue_line(&mut self, line: &[u8]) -> Result<(), AllocError>
         ensures { OnOk result (self.new ≡ continued_table line.now self.old) }
@@ -130,8 +112,8 @@ impl Table {
         continue_row(&mut self.rows, line)
     }
 
-    // Adds a line to the last row of a vertical table.
-    fn add_value_line(&mut self, alloc: Global, line: &[u8]) -> Result<(), AllocError>
+    /// Adds a line to the last row of a vertical table.
+    pub(crate) fn add_value_line(&mut self, alloc: Global, line: &[u8]) -> Result<(), AllocError>
         ensures { OnOk result (self.new ≡ with_value_line line.now self.old) }
     {
         let count = self.rows.len();

@@ -1,15 +1,28 @@
 //! Lines of vertical tables.
 ghost use Rattle.std.specs.Prelude.{◌≡◌, ◌==◌, position};
 ghost use Rattle.std.specs.List.{after_first, before_first};
+ghost use Rattle.mdl_client_table.specs.Forms.{may_be_field};
 ghost use Rattle.mdl_client_table.specs.Vertical.{begins_row, is_as_wide, is_field_line, is_name_at, label_of, value_text, without_space};
 
 use crate::field::Field;
+use crate::pieces::trimmed;
 
 /// Whether a line begins a row.
 pub(crate) fn begins_row(line: &[u8]) -> bool
     ensures { result ≡ begins_row line.now }
 {
-    matches!(line, [b'*', b'*', b'*', ..])
+    let text = trimmed(line);
+    text.starts_with(b"***".as_slice()) && text.ends_with(b"***".as_slice())
+}
+
+/// Whether a line may be of a vertical table: its first colon has a space behind it.
+pub(crate) fn may_be_field(line: &[u8]) -> bool
+    ensures { result ≡ may_be_field line.now }
+{
+    match colon_in(line) {
+        Some(place) => matches!(&line[place + 1..], [b' ', ..]),
+        None => false,
+    }
 }
 
 /// Whether a line has the next field of the row of this number, which has `count` fields so far.

@@ -10,7 +10,7 @@ use Rattle.mdl_lock_rows.specs.declared.column.Column.{Column}
 use Rattle.mdl_lock_rows.specs.declared.column.Column.TheVariants.{ObjectType, ObjectSchema, ObjectName, LockType, LockDuration, LockStatus, OwnerThreadId, ProcesslistId, User, Host, Command, Time, Info, TrxStarted}
 use Rattle.mdl_lock_rows.specs.declared.columns.Columns.{Columns}
 use Rattle.mdl_lock_rows.specs.declared.other_table.OtherTable.{OtherTable}
-use Rattle.mdl_lock_rows.specs.declared.other_table.OtherTable.TheVariants.{InnodbTrx, Processlist, SchemaTableLockWaits}
+use Rattle.mdl_lock_rows.specs.declared.other_table.OtherTable.TheVariants.{InnodbTrx, MetadataLockInfo, Processlist, SchemaTableLockWaits}
 
 -- a column's name
 abbrev pub column_name : Column → List ℕ
@@ -58,12 +58,24 @@ is_called name other = str_eq_ignore_ascii_case (trimmed other) name
 abbrev pub has_name : List (List ℕ) → List ℕ → Bool
 has_name names name = list_any (is_called name) names
 
+-- whether a header has the columns of a process list from which its ID can be told from the number of a row
+abbrev pub has_process : List (List ℕ) → Bool
+has_process names = has_name names (codes "COMMAND") && has_name names (codes "USER")
+
+-- the index of the connection: that of PROCESSLIST_ID, or else that of the ID of a process list
+abbrev pub connection_place : List (List ℕ) → Option ℕ
+connection_place names = by (place_of names ProcesslistId) where
+  by : Option ℕ → Option ℕ
+  by (Some place) = Some place
+  by None = if has_process names then position (is_called (codes "ID")) names else None
+
 -- the table with these columns that may be taken for that of the metadata locks: by what no other table of the server has, or few have together
 abbrev pub other_table : List (List ℕ) → Option OtherTable
 other_table names =
     if has_name names (codes "waiting_thread_id") then Some SchemaTableLockWaits
     else (if has_name names (codes "trx_state") then Some InnodbTrx
-    else (if has_name names (codes "Id") && has_name names (codes "Command") then Some Processlist else None))
+    else (if has_name names (codes "LOCK_MODE") && has_name names (codes "TABLE_SCHEMA") then Some MetadataLockInfo
+    else (if has_name names (codes "Id") && has_name names (codes "Command") then Some Processlist else None)))
 
 -- the result of a second step after a first one that may be refused
 abbrev pub and_then : {A B E : Type 0} → Result A E → (A → Result B E) → Result B E
@@ -88,7 +100,7 @@ columns_of names =
       lock_status = lock_status;
       owner_thread_id = owner_thread_id;
       lock_duration = place_of names LockDuration;
-      processlist_id = place_of names ProcesslistId;
+      processlist_id = connection_place names;
       user = place_of names User;
       host = place_of names Host;
       command = place_of names Command;

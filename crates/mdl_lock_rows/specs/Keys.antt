@@ -6,7 +6,7 @@ use lib.Pointwise.{pointwise}
 use Rattle.mdl_view.specs.declared.lock_mode.LockKind.{LockKind}
 use Rattle.mdl_view.specs.declared.lock_mode.LockKind.TheVariants as kind
 use Rattle.mdl_lock_rows.specs.declared.object_type.ObjectType.{ObjectType}
-use Rattle.mdl_lock_rows.specs.declared.object_type.ObjectType.TheVariants.{Global, Schema, Table, Commit, UserLevelLock, Function, Procedure, Trigger, Event, Tablespace, LockingService, PackageBody, Backup}
+use Rattle.mdl_lock_rows.specs.declared.object_type.ObjectType.TheVariants.{Global, Schema, Table, Commit, UserLevelLock, Function, Procedure, Trigger, Event, Tablespace, LockingService, PackageBody, Backup, BackupLock}
 
 -- a key. A name is empty if there is none
 pub record KeyNames : Type 0 where
@@ -14,12 +14,14 @@ pub record KeyNames : Type 0 where
   pub schema : List ℕ
   pub name : List ℕ
 
--- the kind of the locks of an object type: `MDL_lock::MDL_lock_strategy` of sql/mdl.cc, of MySQL 5.7 and of MariaDB 10.5 (Backup, PackageBody)
+-- the kind of the locks of an object type: `MDL_lock::MDL_lock_strategy` of sql/mdl.cc, of MySQL 5.7, of MariaDB 10.5 (Backup, PackageBody)
+-- and of MySQL 8.0 (BackupLock)
 abbrev pub kind_of_type : ObjectType → LockKind
 kind_of_type Global = kind.Scoped
 kind_of_type Schema = kind.Scoped
 kind_of_type Commit = kind.Scoped
 kind_of_type Tablespace = kind.Scoped
+kind_of_type BackupLock = kind.Scoped
 kind_of_type Backup = kind.Backup
 kind_of_type _ = kind.Object
 
@@ -38,6 +40,7 @@ object_type_rank Tablespace = 9
 object_type_rank LockingService = 10
 object_type_rank PackageBody = 11
 object_type_rank Backup = 12
+object_type_rank BackupLock = 13
 
 -- whether two keys are the same
 abbrev pub same_key : KeyNames → KeyNames → Bool

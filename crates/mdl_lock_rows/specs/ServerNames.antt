@@ -1,6 +1,6 @@
 -- The server's names, after MySQL 5.7: storage/perfschema/table_helper.cc (object types) and table_md_locks.cc (lock types, durations and
--- statuses), and after the same files of MariaDB 10.5 (`BACKUP`, `PACKAGE BODY`, and the lock types of `BACKUP`). MariaDB has no text for the
--- lock type SHARED_READ_ONLY, and prints an empty one. That a lock type may begin with `MDL_`, as MariaDB's METADATA_LOCK_INFO writes it, and
+-- statuses), and after the same files of MariaDB 10.5 (`BACKUP`, `PACKAGE BODY`, and the lock types of `BACKUP`) and MySQL 8.0 (`BACKUP LOCK`). MariaDB
+-- has no text for the lock type SHARED_READ_ONLY, and prints an empty one. That a lock type may begin with `MDL_`, as MariaDB's METADATA_LOCK_INFO writes it, and
 -- which rows are left out is this project's own choice.
 use Rattle.std.specs.Prelude.{ℕ, Bool, true, false, ◌==◌, List, [], ◌∷◌, drop, take, length, codes, Option, Some, Result, find, ok_or, option_and_then, if◌then◌else◌}
 use Rattle.std.specs.Bool.{then_some}
@@ -43,12 +43,13 @@ object_type_name object.Tablespace = codes "TABLESPACE"
 object_type_name object.LockingService = codes "LOCKING SERVICE"
 object_type_name object.PackageBody = codes "PACKAGE BODY"
 object_type_name object.Backup = codes "BACKUP"
+object_type_name object.BackupLock = codes "BACKUP LOCK"
 
 -- all object types
 abbrev pub all_object_types : List ObjectType
 all_object_types =
     object.Global ∷ object.Schema ∷ object.Table ∷ object.Commit ∷ object.UserLevelLock ∷ object.Function ∷ object.Procedure ∷ object.Trigger ∷ object.Event
-    ∷ object.Tablespace ∷ object.LockingService ∷ object.PackageBody ∷ object.Backup ∷ []
+    ∷ object.Tablespace ∷ object.LockingService ∷ object.PackageBody ∷ object.Backup ∷ object.BackupLock ∷ []
 
 -- the LOCK_TYPE of a mode
 abbrev pub lock_type_name : Mode → List ℕ

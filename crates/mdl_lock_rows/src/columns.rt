@@ -1,8 +1,9 @@
 //! The indices of the columns in a header.
-ghost use Rattle.std.specs.Prelude.{◌≡◌};
-ghost use Rattle.mdl_lock_rows.specs.Columns.{columns_of, field_at, field_in, needed, place_of};
+ghost use Rattle.std.specs.Prelude.{◌≡◌, position};
+ghost use Rattle.mdl_lock_rows.specs.Columns.{columns_of, connection_place, field_at, field_in, has_process, is_called, needed, place_of};
 
 use crate::column::Column;
+use crate::other_table::has_name;
 use mdl_client_table::{Field, Row};
 
 /// The number of names in the header, and the index of each column among them, counted from 0.
@@ -38,7 +39,7 @@ pub(crate) fn columns_of(names: &[Field]) -> Result<Columns, Column>
         lock_status: needed(names, Column::LockStatus)?,
         owner_thread_id: needed(names, Column::OwnerThreadId)?,
         lock_duration: place_of(names, Column::LockDuration),
-        processlist_id: place_of(names, Column::ProcesslistId),
+        processlist_id: connection_place(names),
         user: place_of(names, Column::User),
         host: place_of(names, Column::Host),
         command: place_of(names, Column::Command),
@@ -62,6 +63,33 @@ fn place_of(names: &[Field], column: Column) -> Option<usize>
     names
         .iter()
         .position(|name| column.has_name(name.trimmed()))
+}
+
+// Returns the index of the connection: that of PROCESSLIST_ID, or else that of the ID of a process list.
+fn connection_place(names: &[Field]) -> Option<usize>
+    ensures { result ≡ connection_place names.now }
+{
+    match place_of(names, Column::ProcesslistId) {
+        Some(place) => Some(place),
+        None if has_process(names) => place_called(names, b"ID"),
+        None => None,
+    }
+}
+
+// Whether a header has the columns of a process list from which its ID can be told from the number of a row.
+fn has_process(names: &[Field]) -> bool
+    ensures { result ≡ has_process names.now }
+{
+    has_name(names, b"COMMAND") && has_name(names, b"USER")
+}
+
+// Returns the index of the first column that is called so.
+fn place_called(names: &[Field], name: &[u8]) -> Option<usize>
+    ensures { result ≡ position (is_called name.now) names.now }
+{
+    names
+        .iter()
+        .position(|other| other.trimmed().eq_ignore_ascii_case(name))
 }
 
 /// Returns the field of a column that may be missing: it is empty then.

@@ -8,7 +8,7 @@ use std::fmt;
 
 /// What kind of thing is locked: the OBJECT_TYPE of a row.
 ///
-/// After MySQL 5.7, `enum_mdl_namespace` of `sql/mdl.h`. `PackageBody` and `Backup` are MariaDB's.
+/// After MySQL 5.7, `enum_mdl_namespace` of `sql/mdl.h`. `PackageBody` and `Backup` are MariaDB's, and `BackupLock` is of MySQL 8.0.
 #[derive(Clone, Copy, Debug, PartialEq, Eq)]
 pub enum ObjectType {
     /// All of the server.
@@ -37,6 +37,8 @@ pub enum ObjectType {
     PackageBody,
     /// MariaDB's lock of backups, which all statements take that change something.
     Backup,
+    /// The lock of `LOCK INSTANCE FOR BACKUP`, which statements take that change a definition.
+    BackupLock,
 }
 
 impl ObjectType {
@@ -58,6 +60,7 @@ impl ObjectType {
             ObjectType::LockingService => "LOCKING SERVICE",
             ObjectType::PackageBody => "PACKAGE BODY",
             ObjectType::Backup => "BACKUP",
+            ObjectType::BackupLock => "BACKUP LOCK",
         }
     }
 
@@ -66,8 +69,11 @@ impl ObjectType {
         ensures { result ≡ kind_of_type self }
     {
         match self {
-            ObjectType::Global | ObjectType::Schema | ObjectType::Commit | ObjectType::Tablespace =>
-                LockKind::Scoped,
+            ObjectType::Global
+            | ObjectType::Schema
+            | ObjectType::Commit
+            | ObjectType::Tablespace
+            | ObjectType::BackupLock => LockKind::Scoped,
             ObjectType::Backup => LockKind::Backup,
             _ => LockKind::Object,
         }

@@ -15,6 +15,9 @@ pub enum OtherTable {
     /// `information_schema.INNODB_TRX`.
     #[error("rows of INNODB_TRX: it has no metadata locks")]
     InnodbTrx,
+    /// `information_schema.METADATA_LOCK_INFO` of MariaDB, alone or with a process list.
+    #[error("rows of METADATA_LOCK_INFO: it has the locks that are held, and not who waits")]
+    MetadataLockInfo,
     /// `SHOW PROCESSLIST`, or a table with its columns.
     #[error("rows of a process list: it has no locks")]
     Processlist,
@@ -28,6 +31,8 @@ pub(crate) fn other_table(names: &[Field]) -> Option<OtherTable>
         Some(OtherTable::SchemaTableLockWaits)
     } else if has_name(names, b"trx_state") {
         Some(OtherTable::InnodbTrx)
+    } else if has_name(names, b"LOCK_MODE") && has_name(names, b"TABLE_SCHEMA") {
+        Some(OtherTable::MetadataLockInfo)
     } else if has_name(names, b"Id") && has_name(names, b"Command") {
         Some(OtherTable::Processlist)
     } else {
@@ -35,8 +40,8 @@ pub(crate) fn other_table(names: &[Field]) -> Option<OtherTable>
     }
 }
 
-// Whether a column is called so.
-fn has_name(names: &[Field], name: &[u8]) -> bool
+/// Whether a column is called so.
+pub(crate) fn has_name(names: &[Field], name: &[u8]) -> bool
     ensures { result ≡ has_name names.now name.now }
 {
     names

@@ -34,10 +34,10 @@ pub enum RowError {
 #[derive(Clone, Copy, Debug, PartialEq, Eq, Error)]
 pub enum LockRowsError {
     /// There are no rows.
-    #[error("no rows. Either no session holds a lock, or the server keeps no rows. MySQL 5.7 keeps none until this is run:\n  UPDATE performance_schema.setup_instruments SET ENABLED='YES', TIMED='YES' WHERE NAME='wait/lock/metadata/sql/mdl';\nLocks that were taken before have no rows. MariaDB also needs performance_schema=ON in my.cnf, and a restart.")]
+    #[error("no rows. Either no session holds a lock, or the server keeps no rows. MySQL 5.7 keeps none until this is run:\n  UPDATE performance_schema.setup_instruments SET ENABLED='YES', TIMED='YES' WHERE NAME='wait/lock/metadata/sql/mdl';\nLocks that were taken before have no rows. MariaDB also needs performance_schema=ON in my.cnf, and a restart.\nUntil then, SHOW FULL PROCESSLIST has who waits for a metadata lock. KILL QUERY of the first ALTER or DROP\namong them lets those behind it go on.")]
     NoRows,
     /// The header lacks this column.
-    #[error("no column {0}. Give what this prints: mysql -B -e \"$(mdlview query)\"")]
+    #[error("no table with a column {0}. Give what this prints: mysql -B -e \"$(mdlview query)\"")]
     NoColumn(Column),
     /// The columns are those of another table.
     #[error("{0}. Give what this prints: mysql -B -e \"$(mdlview query)\"")]

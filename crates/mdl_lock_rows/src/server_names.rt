@@ -11,7 +11,7 @@ use crate::row_error::RowError;
 use mdl_key::{Duration, Kind, Mode};
 use mdl_view::{BackupMode, LockKind, LockMode};
 
-const OBJECT_TYPES: [ObjectType; 13] = [
+const OBJECT_TYPES: [ObjectType; 14] = [
     ObjectType::Global,
     ObjectType::Schema,
     ObjectType::Table,
@@ -25,6 +25,7 @@ const OBJECT_TYPES: [ObjectType; 13] = [
     ObjectType::LockingService,
     ObjectType::PackageBody,
     ObjectType::Backup,
+    ObjectType::BackupLock,
 ];
 
 const BACKUP_MODES: [BackupMode; 14] = [

@@ -6,7 +6,7 @@ use Rattle.mdl_key.specs.declared.namespace.Namespace.{Namespace}
 use Rattle.mdl_key.specs.declared.namespace.Namespace.TheVariants as space
 use Rattle.mdl_book.specs.declared.book_view.BookView.{BookView}
 use Rattle.mdl_lock_rows.specs.declared.object_type.ObjectType.{ObjectType}
-use Rattle.mdl_lock_rows.specs.declared.object_type.ObjectType.TheVariants.{Global, Schema, Table, Commit, UserLevelLock, Function, Procedure, Trigger, Event, Tablespace, LockingService, PackageBody, Backup}
+use Rattle.mdl_lock_rows.specs.declared.object_type.ObjectType.TheVariants.{Global, Schema, Table, Commit, UserLevelLock, Function, Procedure, Trigger, Event, Tablespace, LockingService, PackageBody, Backup, BackupLock}
 use Rattle.mdl_lock_rows.specs.Owners.{OwnerView}
 
 -- the names of locks, by their indices from 0 on, and what a server's rows say of the sessions 1, 2, .. Of a script's sessions no row says anything
@@ -86,6 +86,7 @@ abbrev pub key_text : ObjectType → List ℕ → List ℕ → List ℕ
 key_text Global schema name = codes "GLOBAL"
 key_text Commit schema name = codes "COMMIT"
 key_text Backup schema name = codes "BACKUP"
+key_text BackupLock schema name = codes "BACKUP LOCK"
 key_text Schema schema name = named_text (codes "SCHEMA ") schema
 key_text Tablespace schema name = named_text (codes "TABLESPACE ") name
 key_text UserLevelLock schema name = named_text (codes "USER ") name

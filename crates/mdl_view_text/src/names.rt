@@ -105,6 +105,7 @@ pub fn key_text(
         ObjectType::Global => word(alloc, b"GLOBAL"),
         ObjectType::Commit => word(alloc, b"COMMIT"),
         ObjectType::Backup => word(alloc, b"BACKUP"),
+        ObjectType::BackupLock => word(alloc, b"BACKUP LOCK"),
         ObjectType::Schema => named_text(alloc, b"SCHEMA ", schema),
         ObjectType::Tablespace => named_text(alloc, b"TABLESPACE ", name),
         ObjectType::UserLevelLock => named_text(alloc, b"USER ", name),

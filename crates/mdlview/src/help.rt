@@ -45,10 +45,11 @@ const QUERY_EXAMPLES: &str = "Examples:
 pub fn about_text(subcommand: Subcommand) -> &'static str {
     match subcommand {
         Subcommand::Why => {
-            "Prints the deadlocks, who is at the root of the waits, and what would follow if it ended; this is done without a command, too"
+            "Prints how many requests wait, whom to end so that they go on, and the deadlocks; this is done without a command, too"
         }
-        Subcommand::Locks => "Prints a row for each ticket that is held or waited for",
-        Subcommand::Waits => "Prints a row for each ticket that waits, and each ticket in its way",
+        Subcommand::Locks => "Prints a row for each lock that is held or waited for",
+        Subcommand::Waits =>
+            "Prints a row for each request that waits, and each session in its way",
         Subcommand::Graph => "Prints the waits as a graph, in the DOT language of Graphviz",
         Subcommand::Timeline => {
             "Prints a picture of a script, as SVG: who waits for whom, and from which line to which"

@@ -23,12 +23,12 @@ loop-line-preserved c =
     record {
       counted = grind (arith, common_steps);
       read =
-          ap (with_lines c.args.form (number + 1 + 1) left) (c.in_ok-add_line.ensures ∙ ap (λ line. with_line c.args.form (number + 1) line c.loop-line.reading) c.strip_carriage_return.ensures)
-          ∙ sym (one-more c.args.form c.args.text.now c.in-Some.line.now number _ c.loop-line.reading so.counted at) ∙ so.read;
+          ap (with_lines (number + 1 + 1) left) (c.in_ok-add_line.ensures ∙ ap (λ line. with_line (number + 1) line c.loop-line.reading) c.strip_carriage_return.ensures)
+          ∙ sym (one-more c.args.text.now c.in-Some.line.now number _ c.loop-line.reading so.counted at) ∙ so.read;
     }
 
 pub returns : goal.returns
 returns c =
     let end = all_came c.loop-line.yielded _ c.loop-line.yielded_by c.next.result c.next.new.self c.in-None.is c.next.ensures.steps (pieces c.args.text.now) (YieldsList-at c.into_iter-line-iterator.ensures.into_iter_gives (YieldsList-from_slice_split _ (λ byte. byte == 10) c.args.text.now c.split-line-items.ensures.rest c.split-line-items.ensures.done c.split-line-items.ensures.closure (λ x b q k. search (rules, tests)))) in
     let so = c.loop-line.invariant in
-    sym (all-read c.args.form c.args.text.now c.loop-line.number _ c.loop-line.reading so.counted end) ∙ so.read
+    sym (all-read c.args.text.now c.loop-line.number _ c.loop-line.reading so.counted end) ∙ so.read

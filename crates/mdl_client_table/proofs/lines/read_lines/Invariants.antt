@@ -7,5 +7,5 @@ use Rattle.mdl_client_table.proofs.lines.read_lines.Given as goal
 abbrev pub invariant-loop-line : goal.invariant-loop-line
 invariant-loop-line l = record {
   counted : l.number ≡ length l.yielded;
-  read : with_lines l.form (l.number + 1) (drop l.number (lines_of l.text)) l.reading ≡ with_lines l.form 1 (lines_of l.text) nothing_read;
+  read : with_lines (l.number + 1) (drop l.number (lines_of l.text)) l.reading ≡ with_lines 1 (lines_of l.text) nothing_read;
 }
