@@ -32,8 +32,9 @@ const GRAPH_EXAMPLES: &str = "Examples:
 
 Rows don't show in which order sessions began to wait: waits are taken in the order of the rows.";
 
-const TIMELINE_EXAMPLES: &str = "Example:
+const TIMELINE_EXAMPLES: &str = "Examples:
   mdlview timeline --script < examples/alter_stops_a_table.replay > timeline.svg
+  mdlview timeline --script --html < examples/alter_stops_a_table.replay > timeline.html
 
 Lines go from left to right, and each session has a row. A server's rows show one moment only, so there is no timeline of them.";
 
