@@ -6,7 +6,7 @@ pub const BEFORE_STYLE: &[u8] = b"<!DOCTYPE html>
 <head>
 <meta charset='utf-8'>
 <meta name='viewport' content='width=device-width, initial-scale=1'>
-<meta http-equiv='Content-Security-Policy' content=\"default-src 'none'; style-src 'unsafe-inline'; script-src 'sha256-HASH'\">
+<meta http-equiv='Content-Security-Policy' content=\"default-src 'none'; style-src 'unsafe-inline'; script-src 'sha256-6IColpRiFKxOE7Fi0vnqHZPqE7hXiXiVcd9SP1tCq+0='\">
 <title>Timeline of a script</title>
 <style>
 ";
@@ -33,8 +33,7 @@ pub const BEFORE_DATA: &[u8] = b"</div>
 /// What stands between the data and the script.
 pub const BEFORE_SCRIPT: &[u8] = b"
 </script>
-<script>
-";
+<script>";
 
 /// What stands behind the script.
 pub const END: &[u8] = b"</script>

@@ -25,10 +25,11 @@ const marked = (kind, element) => {
 const list = texts => make('ul', texts.map(text => make('li', text)));
 const table = (heads, rows) => make('table', [
   make('thead', [make('tr', heads.map(head => make('th', head)))]),
-  make('tbody', rows.map(row => make('tr', row.map(cell => typeof cell === 'string' ? make('td', cell) : cell)))),
+  make('tbody', rows.map(row => make('tr', row.map(it => typeof it === 'string' ? make('td', it) : it)))),
 ]);
 const section = (head, parts) => make('section', [make('h3', head), ...parts]);
 const none = text => marked('none', make('p', text));
+const cell = (kind, text) => marked(kind, make('td', text));
 
 // Words.
 const named = session => 'session ' + session;
@@ -41,8 +42,8 @@ const more = (count, text) => count === 0 ? [] : [text + count];
 const locks = found => {
   const rows = found.locks.filter(lock => lock.granted.length + lock.waiting.length + lock.settled.length !== 0).map(lock => [
     lock.lock,
-    marked('holds', make('td', lock.granted.map(ticket).join(', '))),
-    marked('waits', make('td', [...lock.waiting.map(ticket), ...lock.settled.map(it => ticket(it) + ' (over)')].join(', '))),
+    cell('holds', lock.granted.map(ticket).join(', ')),
+    cell('waits', [...lock.waiting.map(ticket), ...lock.settled.map(it => ticket(it) + ' (over)')].join(', ')),
   ]);
   return section('Locks', [rows.length === 0 ? none('Nobody holds a lock.') : table(['lock', 'is held by', 'is awaited by'], rows)]);
 };
@@ -50,8 +51,8 @@ const locks = found => {
 // Who waits for whom.
 const reason = it => it.reason === 'holds' ? 'holds ' + it.blocking_mode : 'waits before it for ' + it.blocking_mode;
 const waits = found => {
-  const rows = found.waits.map(it => [named(it.session), it.mode + ' of ' + it.lock, named(it.blocking) + ' ' + reason(it)]);
-  const open = found.unexplained.map(it => [named(it.session), it.mode + ' of ' + it.lock, 'nothing that the locks show']);
+  const rows = found.waits.map(it => [cell('who', named(it.session)), it.mode + ' of ' + it.lock, named(it.blocking) + ' ' + reason(it)]);
+  const open = found.unexplained.map(it => [cell('who', named(it.session)), it.mode + ' of ' + it.lock, 'nothing that the locks show']);
   const all = [...rows, ...open];
   return section('Who waits for whom', [all.length === 0 ? none('No session waits.') : table(['who', 'waits for', 'because'], all)]);
 };

@@ -22,15 +22,16 @@ kbd{padding:0 4px;border:1px solid var(--edge);border-radius:4px;font:12px Menlo
 #timeline svg{display:block}
 .chosen{fill:var(--mark);fill-opacity:.13;pointer-events:none}
 .now rect{stroke-width:3}
-main{flex:1 1 45%;min-height:35%;overflow:auto;padding:12px 16px;display:grid;grid-template-columns:repeat(auto-fit,minmax(min(100%,340px),1fr));gap:12px 16px;align-content:start;align-items:start}
-section{min-width:0;padding:8px 12px;background:var(--card);border:1px solid var(--edge);border-radius:6px;overflow-wrap:anywhere}
+main{flex:1 1 45%;min-height:35%;overflow:auto;padding:12px 16px;display:grid;grid-template-columns:repeat(auto-fit,minmax(min(100%,420px),1fr));gap:12px 16px;align-content:start;align-items:start}
+section{min-width:0;padding:8px 12px;background:var(--card);border:1px solid var(--edge);border-radius:6px;overflow-wrap:break-word}
 .said{grid-column:1/-1}
 main ul{padding-left:20px}
 .said ul{padding-left:0;list-style:none}
 table{width:100%;border-collapse:collapse}
-th,td{padding:3px 8px 3px 0;text-align:left;vertical-align:top;border-top:1px solid var(--edge)}
+th,td{padding:3px 12px 3px 0;text-align:left;vertical-align:top;border-top:1px solid var(--edge)}
 th{color:var(--dim);font-size:12px;font-weight:600;border-top:0}
-td,.said li,main li{font:12px/1.6 Menlo,Consolas,monospace}
+td,main li{font:12px/1.6 Menlo,Consolas,monospace}
+.who{white-space:nowrap}
 .waits{color:var(--wait)}
 .holds{color:var(--hold)}
 .none{color:var(--dim)}
