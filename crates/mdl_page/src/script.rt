@@ -51,10 +51,15 @@ const locks = found => {
 // Who waits for whom.
 const reason = it => it.reason === 'holds' ? 'holds ' + it.blocking_mode : 'waits before it for ' + it.blocking_mode;
 const waits = found => {
-  const rows = found.waits.map(it => [cell('who', named(it.session)), it.mode + ' of ' + it.lock, named(it.blocking) + ' ' + reason(it)]);
-  const open = found.unexplained.map(it => [cell('who', named(it.session)), it.mode + ' of ' + it.lock, 'nothing that the locks show']);
-  const all = [...rows, ...open];
-  return section('Who waits for whom', [all.length === 0 ? none('No session waits.') : table(['who', 'waits for', 'because'], all)]);
+  const reasons = new Map();
+  for (const it of found.waits) {
+    const place = JSON.stringify([it.session, it.mode, it.lock]);
+    reasons.set(place, [...(reasons.get(place) || []), named(it.blocking) + ' ' + reason(it)]);
+  }
+  const all = [...reasons].map(([place, texts]) => [...JSON.parse(place), texts.join(', ')]);
+  const open = found.unexplained.map(it => [it.session, it.mode, it.lock, 'nothing that the locks show']);
+  const rows = [...all, ...open].map(([session, mode, lock, because]) => [cell('who', named(session)), mode + ' of ' + lock, because]);
+  return section('Who waits for whom', [rows.length === 0 ? none('No session waits.') : table(['who', 'waits for', 'because'], rows)]);
 };
 
 // What would follow if a session ended.

@@ -40,7 +40,8 @@ html,body{height:auto}
 body{display:block}
 #keys{display:none}
 #timeline,main{overflow:visible;border:0}
-#timeline svg{max-width:100%;height:auto}
+#timeline:focus-visible{outline:none}
+#timeline svg{width:auto;height:auto;max-width:100%;max-height:80vh}
 section{break-inside:avoid}
 }
 ";

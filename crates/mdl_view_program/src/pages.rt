@@ -1,5 +1,5 @@
 //! The page of a script.
-ghost use Rattle.std.specs.Prelude.{◌≡◌, All, IfErr, IfOk, IfSome, IsOk, OnOk};
+ghost use Rattle.std.specs.Prelude.{◌≡◌, All, IfErr, IfOk, IfSome, IsOk, List, OnOk};
 ghost use Rattle.mdl_lines.specs.Words.{IsFaultOf, IsScriptSession, MayEnd};
 ghost use Rattle.mdl_page.specs.Pages.{FactsView, page_text};
 ghost use Rattle.mdl_script.specs.Worlds.{first_world};
