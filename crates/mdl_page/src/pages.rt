@@ -12,11 +12,7 @@ use std::alloc::{AllocError, Global};
 
 /// Returns a page of HTML with a picture of a timeline, as SVG, and the facts of each of its lines. The page is whole in itself: it asks for
 /// nothing else, and its policy allows no script but its own.
-pub fn page(
-    alloc: Global,
-    picture: &[u8],
-    lines: &[LineFacts],
-) -> Result<Vec<u8>, AllocError>
+pub fn page(alloc: Global, picture: &[u8], lines: &[LineFacts]) -> Result<Vec<u8>, AllocError>
     ensures { IfOk result (λ text. text.items ≡ page_text picture.now lines.now) }
 {
     let mut out = Vec::new(alloc);

@@ -94,7 +94,8 @@ abbrev pub is_option : List ℕ → Bool
 is_option [] = false
 is_option (first ∷ []) = false
 is_option (first ∷ next ∷ []) = (first == 45) && (next == 45)
-is_option (first ∷ next ∷ third ∷ rest) = (first == 45) && ((next == 45) && not (third == 104))
+is_option (first ∷ next ∷ third ∷ []) = (first == 45) && (next == 45)
+is_option (first ∷ next ∷ third ∷ fourth ∷ rest) = (first == 45) && ((next == 45) && not ((third == 104) && (fourth == 101)))
 
 -- the words have no subcommand
 abbrev pub begins_with_option : List (List ℕ) → Bool

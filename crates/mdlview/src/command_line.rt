@@ -44,7 +44,7 @@ fn is_option(word: &str) -> bool
     ensures { result ≡ is_option word.now }
 {
     match word.as_bytes() {
-        [b'-', b'-', b'h', ..] => false,
+        [b'-', b'-', b'h', b'e', ..] => false,
         [b'-', b'-', ..] => true,
         _ => false,
     }

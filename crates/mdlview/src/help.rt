@@ -52,7 +52,7 @@ pub fn about_text(subcommand: Subcommand) -> &'static str {
         Subcommand::Waits => "Prints a row for each ticket that waits, and each ticket in its way",
         Subcommand::Graph => "Prints the waits as a graph, in the DOT language of Graphviz",
         Subcommand::Timeline => {
-            "Prints a picture of a script, as SVG: who waits for whom, and from which line to which"
+            "Prints a picture of a script, as SVG or in a page: who waits for whom, and from which line to which"
         }
         Subcommand::Query =>
             "Prints the query for the rows of a server, which the other commands read",
