@@ -6,7 +6,7 @@ pub const BEFORE_STYLE: &[u8] = b"<!DOCTYPE html>
 <head>
 <meta charset='utf-8'>
 <meta name='viewport' content='width=device-width, initial-scale=1'>
-<meta http-equiv='Content-Security-Policy' content=\"default-src 'none'; style-src 'unsafe-inline'; script-src 'sha256-ba0Y5wbc0ltaaN/XZ5cseQuxR7N4pttxkuZXAdYGnA4='\">
+<meta http-equiv='Content-Security-Policy' content=\"default-src 'none'; style-src 'unsafe-inline'; script-src 'sha256-/hMH2VajiAl9j5V/sbWYHwahVljSe19mwKXRzJ6FaJs='\">
 <title>Timeline of a script</title>
 <style>
 ";

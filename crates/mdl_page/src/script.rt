@@ -161,7 +161,7 @@ const press = event => {
   if (!(event.key in steps)) return;
   event.preventDefault();
   choose(Math.min(Math.max(chosen + steps[event.key], 0), data.length - 1));
-  boxes[chosen][0].scrollIntoView({block: 'nearest', inline: 'nearest'});
+  boxes[chosen][0].querySelector('rect').scrollIntoView({block: 'nearest', inline: 'nearest'});
 };
 
 if (data.length === 0) {
