@@ -1,5 +1,5 @@
 -- No line is left.
-use Rattle.std.proofs.Common.{◌≡◌, List, [], ◌++◌, append-nil, drop, refl, subst, sym, arith}
+use Rattle.std.proofs.Common.{◌≡◌, List, [], append-nil, drop, refl, subst, sym, arith}
 use Rattle.std.proofs.lemmas.List.{drop_all}
 use Rattle.mdl_script.specs.Plays.{world_of}
 use Rattle.mdl_script.specs.Worlds.{first_world}
