@@ -88,17 +88,16 @@ const why = found => {
   return section('If a session ended', [rows.length === 0 ? none('No wait would end.') : make('ul', rows)]);
 };
 
-// The boxes of each line: first that of its own statement, and behind it those of statements that went on.
+// The boxes of each line: first that of its own statement, and behind it those of statements that went on. The title of a box begins with the line
+// of its statement.
 const guides = [...picture.querySelectorAll('line.guide')].map(it => Number(it.getAttribute('x1')));
+const titled = box => box.querySelector('title').textContent;
 const boxes = data.map(() => []);
 const lines = new Map();
 let at = -1;
 for (const box of picture.querySelectorAll('g')) {
-  const rect = box.querySelector('rect.done,rect.waiting,rect.failed,rect.refused');
-  if (rect === null || at + 1 > data.length) continue;
-  const text = box.querySelector('title').textContent;
-  if (at + 1 !== data.length && text.startsWith('line ' + data[at + 1].line + ',')) at += 1;
-  if (at === -1 || !text.startsWith('line ')) continue;
+  if (box.querySelector('rect.done,rect.waiting,rect.failed,rect.refused') === null) continue;
+  if (at + 1 !== data.length && titled(box).startsWith('line ' + data[at + 1].line + ',')) at += 1;
   boxes[at].push(box);
   lines.set(box, at);
 }
@@ -122,7 +121,7 @@ const choose = place => {
 };
 const show = () => {
   const it = data[chosen];
-  const said = boxes[chosen].map(box => box.querySelector('title').textContent);
+  const said = boxes[chosen].map(titled);
   facts.replaceChildren(
     make('h2', 'Line ' + it.line + (kept ? ' (kept)' : '')),
     marked('said', make('section', [list(said)])),
@@ -168,6 +167,7 @@ if (data.length === 0) {
   facts.replaceChildren(none('The script has no lines.'));
   return;
 }
+timeline.setAttribute('role', 'slider');
 timeline.setAttribute('aria-valuemin', data[0].line);
 timeline.setAttribute('aria-valuemax', data[data.length - 1].line);
 picture.append(mark);
