@@ -4,7 +4,7 @@ use Rattle.std.specs.Fmt.{decimal, digit_glyph, digits, digits_onto}
 use Rattle.std.specs.List.{list_all, flat_map}
 use Rattle.std.proofs.lemmas.Bool.Decides.{nat_tests}
 use Rattle.std.proofs.lemmas.List.Folds.{list_all-append}
-use Rattle.mdl_page.specs.Pages.{FactsView, behind_comma, data_text, facts_text, in_script, lines_text, script_byte}
+use Rattle.mdl_page.specs.Pages.{FactsView, behind_comma, facts_text, in_script, lines_text, script_byte}
 use Rattle.mdl_page.specs.PageLaws.{DataHasNoMarkup, begins_no_markup}
 
 -- a text in which no byte begins markup
