@@ -260,6 +260,7 @@ REFUSED = [
     ("timeline --html", "--script"),
     ("timeline --script --html --html", "--html"),
     ("timeline --script --html=x", "--html"),
+    *((words, words) for words in ("--h", "--ht", "--helpx")),
     *((words, "'--html' goes with 'timeline'") for words in ("--html", "--script --html", "why --html --script", "locks --html", "graph --script --html", "query --html")),
     ("--script --at 0", "--at"),
     ("--script --at x", "--at"),

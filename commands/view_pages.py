@@ -33,7 +33,7 @@ def policy_of(head):
 def wrong_frame(page):
     """Returns what is wrong with the parts of a page that are the same in all."""
     own = base64.b64encode(hashlib.sha256(page["script"].encode()).digest()).decode()
-    wanted = f"default-src 'none'; style-src 'unsafe-inline'; script-src 'sha256-{own}'"
+    wanted = f"default-src 'none'; base-uri 'none'; form-action 'none'; style-src 'unsafe-inline'; script-src 'sha256-{own}'"
     if policy_of(page["head"]) != wanted:
         yield f"the policy isn't {wanted}"
     if set(re.findall(r"https?://[^\"' ]*", page.string)) != {NAMESPACE}:

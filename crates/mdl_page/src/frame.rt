@@ -6,7 +6,7 @@ pub const BEFORE_STYLE: &[u8] = b"<!DOCTYPE html>
 <head>
 <meta charset='utf-8'>
 <meta name='viewport' content='width=device-width, initial-scale=1'>
-<meta http-equiv='Content-Security-Policy' content=\"default-src 'none'; style-src 'unsafe-inline'; script-src 'sha256-Cd6qY4E7+Zaam5HUI/hGRgfIiGYqxwuZzfA5r9QvJ0Y='\">
+<meta http-equiv='Content-Security-Policy' content=\"default-src 'none'; base-uri 'none'; form-action 'none'; style-src 'unsafe-inline'; script-src 'sha256-3mX+CrriCUk6xReNMuHCs7XXeEsgfWh859a8VrXVtdE='\">
 <title>Timeline of a script</title>
 <style>
 ";
@@ -17,7 +17,7 @@ pub const BEFORE_PICTURE: &[u8] = b"</style>
 <body>
 <header>
 <h1>Timeline of a script</h1>
-<p id='keys'>Point at a line of the script, or choose one with <kbd>\xe2\x86\x90</kbd> <kbd>\xe2\x86\x92</kbd> <kbd>Home</kbd> <kbd>End</kbd>. A click keeps it.</p>
+<p id='keys'>Point at a line of the script, or choose one with <kbd>\xe2\x86\x90</kbd> <kbd>\xe2\x86\x92</kbd> <kbd>Home</kbd> <kbd>End</kbd>. A click or <kbd>Enter</kbd> keeps it.</p>
 </header>
 <div id='timeline' tabindex='0' autofocus aria-label='Line of the script' aria-describedby='keys'>
 ";

@@ -12,6 +12,8 @@ use std::alloc::{AllocError, Global};
 
 /// Returns a page of HTML with a picture of a timeline, as SVG, and the facts of each of its lines. The page is whole in itself: it asks for
 /// nothing else, and its policy allows no script but its own.
+///
+/// The picture is put there as it is: its texts must be escaped, as those of `mdl_picture` are. The facts may have any bytes, but only JSON is shown.
 pub fn page(alloc: Global, picture: &[u8], lines: &[LineFacts]) -> Result<Vec<u8>, AllocError>
     ensures { IfOk result (λ text. text.items ≡ page_text picture.now lines.now) }
 {

@@ -54,7 +54,8 @@ const waits = found => {
   const reasons = new Map();
   for (const it of found.waits) {
     const place = JSON.stringify([it.session, it.mode, it.lock]);
-    reasons.set(place, [...(reasons.get(place) || []), named(it.blocking) + ' ' + reason(it)]);
+    if (!reasons.has(place)) reasons.set(place, []);
+    reasons.get(place).push(named(it.blocking) + ' ' + reason(it));
   }
   const all = [...reasons].map(([place, texts]) => [...JSON.parse(place), texts.join(', ')]);
   const open = found.unexplained.map(it => [it.session, it.mode, it.lock, 'nothing that the locks show']);
@@ -98,6 +99,7 @@ let at = -1;
 for (const box of picture.querySelectorAll('g')) {
   if (box.querySelector('rect.done,rect.waiting,rect.failed,rect.refused') === null) continue;
   if (at + 1 !== data.length && titled(box).startsWith('line ' + data[at + 1].line + ',')) at += 1;
+  if (at === -1) continue;
   boxes[at].push(box);
   lines.set(box, at);
 }
@@ -157,10 +159,14 @@ const press = event => {
     kept = false;
     return show();
   }
-  if (!(event.key in steps)) return;
+  if (!(event.key in steps) && event.key !== 'Enter') return;
   event.preventDefault();
+  if (event.key === 'Enter') {
+    kept = !kept;
+    return show();
+  }
   choose(Math.min(Math.max(chosen + steps[event.key], 0), data.length - 1));
-  boxes[chosen][0].querySelector('rect').scrollIntoView({block: 'nearest', inline: 'nearest'});
+  boxes[chosen][0]?.querySelector('rect').scrollIntoView({block: 'nearest', inline: 'nearest'});
 };
 
 if (data.length === 0) {

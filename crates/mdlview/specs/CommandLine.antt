@@ -89,7 +89,7 @@ pub data Given : Type 0 where
 abbrev pub WritesLine : List ℕ → ℕ → Type 0
 WritesLine text line = IsUnsignedIn 1 last_line text × (digits_value 10 (without_leading_plus text) ≡ line)
 
--- the word begins as an option does, and not as `--help`, which asks for the program's help
+-- the word begins as an option does, and not with `--he`, as `--help` does, which asks for the program's help
 abbrev pub is_option : List ℕ → Bool
 is_option [] = false
 is_option (first ∷ []) = false
