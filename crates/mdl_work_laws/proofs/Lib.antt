@@ -1,0 +1,3 @@
+pub mod OwnRuns
+pub mod RequestRuns
+pub mod RunParts

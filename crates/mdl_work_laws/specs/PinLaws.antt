@@ -1,0 +1,3 @@
+-- x
+abbrev pub Nothing : Type 0
+Nothing = Unit {0}
