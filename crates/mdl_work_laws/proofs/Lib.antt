@@ -1,3 +1,4 @@
 pub mod OwnRuns
 pub mod RequestRuns
 pub mod RunParts
+pub mod TicketRuns

@@ -88,7 +88,7 @@ module _ {S : Type 0} (members : Ghosts S) (laws : LawsOf members) (who : ℕ) w
   }
 
   -- a ticket is released
-  has-release : (a mid b : S) (id : ℕ) (answer : Answer) (locks : SessionLocks) → Has a mid locks → members.joins mid (Release who id) answer b
+  pub has-release : (a mid b : S) (id : ℕ) (answer : Answer) (locks : SessionLocks) → Has a mid locks → members.joins mid (Release who id) answer b
       → Has a b (giving_up id locks)
   has-release a mid b id answer locks has step =
       subst (Has a b)
