@@ -1,4 +1,6 @@
+pub mod IdleCalls
 pub mod OwnRuns
 pub mod RequestRuns
 pub mod RunParts
 pub mod TicketRuns
+pub mod WaitRuns
