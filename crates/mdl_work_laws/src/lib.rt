@@ -1,8 +1,6 @@
-//! x
+//! Laws of what sessions pin: once a statement has run, a session has left, or it has worked off its lines, over any lock space.
 #![tactic(auto)]
-ghost use Rattle.mdl_work_laws.specs.PinLaws.{Nothing};
 
-/// x
-pub fn nothing()
-    ensures { Nothing }
-{}
+mod pins;
+
+pub use pins::{leavers_pin_nothing, statements_leave_no_pin, work_leaves_no_pin};
