@@ -5,3 +5,4 @@ pub mod RowPins
 pub mod RunParts
 pub mod TicketRuns
 pub mod WaitRuns
+pub mod WorkPins
