@@ -4,8 +4,7 @@ use Rattle.std.specs.Prelude.{is_some}
 use Rattle.mdl_key.specs.declared.mode.Mode.{Mode}
 use Rattle.mdl_calls.specs.declared.answers.Held.{Held}
 use Rattle.mdl_calls.specs.declared.space_error.SpaceError.{SpaceError}
-use Rattle.mdl_calls.specs.SessionLocks.{upgraded}
-use Rattle.mdl_calls.specs.Words.{Answer, At_place, Done, Downgrade, Release, Upgrade_now, Upgraded, Would_wait, Each, Program, Give, Ask, Grow, ◌>>=◌}
+use Rattle.mdl_calls.specs.Words.{Answer, At_place, Done, Downgrade, Release, Upgrade_now, Upgraded, Would_wait, Each, Program, Give, Ask, Grow}
 use Rattle.mdl_calls.proofs.FaithfulLemmas.{each_then, either}
 use Rattle.mdl_context.specs.declared.asking.AskResult.{AskResult}
 use Rattle.mdl_context.specs.declared.asking.AskResult.TheVariants as got
@@ -22,7 +21,7 @@ use Rattle.mdl_context.specs.Holdings.{earliest, without_number}
 use Rattle.mdl_context.specs.Releases.{release_fault, releasing, releasing_all, releasing_tickets, unless, waiting_fault}
 use Rattle.mdl_context.specs.Requests.{Outcome, acquiring, acquiring_at, finding, got_at_once, got_lock, is_reusable, outcome_got, outcome_tried, place_answered, remembering, reusing, starved, suffices, trying, trying_again, trying_at, trying_found, trying_placed}
 use Rattle.mdl_context.specs.Tidying.{tidied, tidying, unneeded, unpinning_all}
-use Rattle.mdl_context.specs.Upgrades.{awaiting_upgrade, downgrade_answered, downgrading, merged, merging_new, second_got, upgrade_answered, upgrading, upgrading_ticket, waiting_to_upgrade, with_ticket_mode}
+use Rattle.mdl_context.specs.Upgrades.{downgrade_answered, downgrading, merged, merging_new, second_got, upgrade_answered, upgrading, upgrading_ticket}
 use Rattle.mdl_context.specs.Wishes.{Wish}
 use Rattle.mdl_context.proofs.LookUpLemmas.{each_looked_up}
 

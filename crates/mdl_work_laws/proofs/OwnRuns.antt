@@ -28,7 +28,7 @@ use Rattle.mdl_context.proofs.AttendLemmas.{known-still}
 use Rattle.mdl_context.proofs.GainLemmas.{began-and-ended}
 use Rattle.mdl_work_laws.proofs.RunParts.{parted}
 use Rattle.mdl_context.proofs.PinLemmas.{unpins}
-use Rattle.mdl_context.proofs.SeekLemmas.{holds-won, won-given_up}
+use Rattle.mdl_context.proofs.SeekLemmas.{won-given_up}
 
 -- ---- answers
 

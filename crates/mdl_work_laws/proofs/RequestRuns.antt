@@ -1,5 +1,5 @@
 -- A context that asks for a lock goes on to attend to its session, and leaves no pin behind, whatever the lock space answers.
-use Rattle.std.proofs.Common.{◌≡◌, ◌⊎◌, ℕ, Bool, true, false, List, [], ◌∷◌, ◌++◌, Option, Some, None, Result, Ok, Err, inl, inr, refl, sym, ap, ◌∙◌, subst, arith}
+use Rattle.std.proofs.Common.{◌≡◌, ℕ, Bool, true, false, List, [], ◌∷◌, ◌++◌, Option, Some, None, Result, Ok, Err, inl, inr, refl, sym, ap, ◌∙◌, subst, arith}
 use Rattle.std.specs.Prelude.{is_some, if◌then◌else◌}
 use Rattle.std.specs.Option.{IfSome}
 use Rattle.mdl_key.specs.Keys.{KeyName}
@@ -35,7 +35,7 @@ use Rattle.mdl_context.proofs.PlaceLemmas.{equal, suffices-at}
 use Rattle.mdl_context.proofs.ServingLemmas.{earliest-held}
 use Rattle.mdl_context.proofs.StayTidyLemmas.{tidy-finding, tidy-trying_found}
 use Rattle.mdl_context.proofs.TidyLemmas.{debts-run}
-use Rattle.mdl_work_laws.proofs.OwnRuns.{Has, IsThere, got-gaining, has-first, tries-gaining}
+use Rattle.mdl_work_laws.proofs.OwnRuns.{Has, got-gaining, has-first, tries-gaining}
 use Rattle.mdl_work_laws.proofs.RunParts.{parted}
 
 -- a context goes on to attend to its session, and leaves no pin behind
@@ -43,10 +43,6 @@ pub record Stays {S : Type 0} (members : Ghosts S) (a : S) (before : ContextView
   pub who : after.who ≡ before.who
   pub attends : Attends members b after
   pub tidy : StaysTidy members a before b after
-
--- one that was there is still there where nothing happens
-pub stays-still : {S : Type 0} (members : Ghosts S) (a : S) (context : ContextView) → Attends members a context → Stays members a context a context
-stays-still members a context attends = record { who = refl; attends = attends; tidy = (λ tidy. tidy, λ just. just) }
 
 -- what follows a run that ended so
 pub stays-given : {S A : Type 0} (members : Ghosts S) (a mid b : S) (before : ContextView) (given reply : Outcome A) → Stays members a before mid given.1
@@ -214,6 +210,13 @@ module _ {S : Type 0} (members : Ghosts S) (laws : LawsOf members) where
         (λ tidy. tidy) refl (ap (λ (o : SessionLocks). o.pins) same);
   }
 
+  -- a place that was looked up is known once it is remembered
+  learns : (a looked_up : S) (context : ContextView) (key : KeyName) (place : ℕ) → Attends members a context
+      → members.joins a (Resolve context.who key) (At_place place) looked_up → Attends members looked_up (remembering key place context)
+  learns a looked_up context key place attends step =
+      attends-learnt looked_up key place context (remembering key place context) (attends-resolved members laws a looked_up key (At_place place) context attends step)
+      (laws.resolves a looked_up context.who place key step) (pinned-resolved members laws a looked_up context.who place key step) refl
+
   -- ---- at a place that was looked up
 
   module _ {A : Type 0} (has_got : Result A ContextError → Bool) (starves : has_got (Err (Space OutOfMemory)) ≡ false) (key : KeyName) (place : ℕ)
@@ -228,11 +231,6 @@ module _ {S : Type 0} (members : Ghosts S) (laws : LawsOf members) where
 
     attended : Attends members looked_up context
     attended = attends-resolved members laws a looked_up key (At_place place) context attends step
-
-    learnt : Attends members looked_up (remembering key place context)
-    learnt =
-        attends-learnt looked_up key place context (remembering key place context) attended (laws.resolves a looked_up who place key step)
-        (pinned-resolved members laws a looked_up who place key step) refl
 
     -- the request got nothing, and the pin is given up
     let-go : (mid b : S) → Attends members mid (remembering key place context) → members.own mid who ≡ members.own looked_up who
@@ -255,13 +253,13 @@ module _ {S : Type 0} (members : Ghosts S) (laws : LawsOf members) where
       who = found.who;
       attends = found.attends;
       tidy = tidy-known members laws a b context reply.1 owed attends found.who tidy (λ so p pinned.
-      let held : is_pinned p (members.own looked_up who) ≡ true =
-      sym (pinned-same (members.own looked_up who) (members.own b who) p found.pins) ∙ pinned in
-      ap (λ known. is_known_place known p) found.known
-      ∙ elim (pinned-told p place (members.own a who) (ap (is_pinned p) (sym (laws.changes a looked_up (Resolve who key) (At_place place) who refl step)) ∙ held)) [
-        | inl here ↦ rw here (known-place key (context.known ++ (key, place) ∷ []) place (known-last key context.known place new))
-        | inr was ↦ still-known-place context.known (key, place) p (so p was)
-      ]);
+          let held : is_pinned p (members.own looked_up who) ≡ true =
+          sym (pinned-same (members.own looked_up who) (members.own b who) p found.pins) ∙ pinned in
+          ap (λ known. is_known_place known p) found.known
+          ∙ elim (pinned-told p place (members.own a who) (ap (is_pinned p) (sym (laws.changes a looked_up (Resolve who key) (At_place place) who refl step)) ∙ held)) [
+            | inl here ↦ rw here (known-place key (context.known ++ (key, place) ∷ []) place (known-last key context.known place new))
+            | inr was ↦ still-known-place context.known (key, place) p (so p was)
+          ]);
     }
 
     -- how the request ends
@@ -283,7 +281,7 @@ module _ {S : Type 0} (members : Ghosts S) (laws : LawsOf members) where
       starve : Runs members.joins looked_up (letting_go has_got place context (Err (Space OutOfMemory), context)) reply b → Stays members a context b reply.1
       starve = subst (λ t. Runs members.joins looked_up (if t then Give (Err (Space OutOfMemory), context) else Ask (Unpin who place) (λ _. Give (Err (Space OutOfMemory), context))) reply b
           → Stays members a context b reply.1) (sym starves) (λ run. stays-given {A = A} members a run.1 b context (Err (Space OutOfMemory), context) reply
-          (let-go looked_up run.1 learnt refl (λ p owes. owes) (run.0, run.1, run.2, (refl, refl))) run.3.0 run.3.1)
+          (let-go looked_up run.1 (learns a looked_up context key place attends step) refl (λ p owes. owes) (run.0, run.1, run.2, (refl, refl))) run.3.0 run.3.1)
     stays-looked_up b reply all tidy (inr run) =
         let parts = parted {A = Outcome A} {B = Outcome A} members.joins request (letting_go has_got place context) looked_up b reply run in
         ends parts.1 b parts.0.0 parts.0.1 reply (gets parts.1 parts.0 parts.2) (debts-run members laws request looked_up parts.1 parts.0 who speaks parts.2) all tidy parts.3
@@ -295,12 +293,10 @@ module _ {S : Type 0} (members : Ghosts S) (laws : LawsOf members) where
     place-there : (place : ℕ) → place_known request.key context.known ≡ None → is_known_place (remembering request.key place context).known place ≡ true
     place-there place new = known-place request.key (context.known ++ (request.key, place) ∷ []) place (known-last request.key context.known place new)
 
-    module _ (looked_up : S) (place : ℕ) (new : place_known request.key context.known ≡ None) (step : members.joins a (Resolve context.who request.key) (At_place place) looked_up) where
+    module _ (looked_up : S) (place : ℕ) (new : place_known request.key context.known ≡ None)
+        (step : members.joins a (Resolve context.who request.key) (At_place place) looked_up) where
       attends-there : Attends members looked_up (remembering request.key place context)
-      attends-there =
-          attends-learnt looked_up request.key place context (remembering request.key place context)
-          (attends-resolved members laws a looked_up request.key (At_place place) context attends step) (laws.resolves a looked_up context.who place request.key step)
-          (pinned-resolved members laws a looked_up context.who place request.key step) refl
+      attends-there = learns a looked_up context request.key place attends step
 
       stays-placed : (reply : Outcome Acquire) → ((p : ℕ) → members.owes b context.who p → members.owes a context.who p) → (IsTidy context → IsTidy reply.1)
           → Runs members.joins looked_up (place_answered request context (At_place place)) reply b → Stays members a context b reply.1

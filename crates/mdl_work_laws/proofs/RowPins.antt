@@ -1,5 +1,5 @@
 -- No statement leaves a pin behind that its session's context doesn't need: each call of the context leaves none, and all other calls leave what the session has.
-use Rattle.std.proofs.Common.{◌≡◌, ℕ, Bool, true, false, List, Option, Some, None, IsSome, Result, Ok, Err, inl, inr, refl, ap, ◌∙◌, subst, rules}
+use Rattle.std.proofs.Common.{◌≡◌, ℕ, false, List, Option, Some, None, IsSome, Ok, Err, inl, inr, refl, ap, ◌∙◌, subst, rules}
 use Rattle.std.specs.Prelude.{is_some, map}
 use Rattle.mdl_key.specs.declared.mode.Mode.{Mode}
 use Rattle.mdl_key.specs.declared.mode.Duration.TheVariants.{Explicit}
@@ -10,7 +10,6 @@ use Rattle.mdl_calls.specs.MemberLaws.{LawsOf}
 use Rattle.mdl_calls.specs.Words as call
 use Rattle.mdl_calls.specs.Words.{Answer, Call, Changed, Has_wait, Key_is, Reads, Tables, Unpin, SessionLocks, caller, own_after, Each, Program, Runs, Give, Ask, Grow, ◌>>=◌}
 use Rattle.mdl_calls.proofs.FaithfulLemmas.{each_reply}
-use Rattle.mdl_context.specs.declared.context_error.ContextError.{ContextError}
 use Rattle.mdl_context.specs.declared.kept.Kept.{Kept}
 use Rattle.mdl_context.specs.declared.request.Acquire.{Acquire}
 use Rattle.mdl_context.specs.declared.request.Acquire.TheVariants as acquire
@@ -19,12 +18,11 @@ use Rattle.mdl_context.specs.declared.request.Resume.{Resume}
 use Rattle.mdl_context.specs.declared.request.Resume.TheVariants as resume
 use Rattle.mdl_context.specs.declared.request.Tried.{Tried}
 use Rattle.mdl_context.specs.declared.request.Tried.TheVariants as try_as
-use Rattle.mdl_context.specs.Contexts.{Attends, ContextView, current_mark, held_of, last_ticket, waits_for_user_lock}
+use Rattle.mdl_context.specs.Contexts.{Attends, ContextView, current_mark, last_ticket, waits_for_user_lock}
 use Rattle.mdl_context.specs.Gains.{refusal_answered}
 use Rattle.mdl_context.specs.Holdings.{kept_for}
 use Rattle.mdl_context.specs.Releases.{releasing, releasing_tickets}
 use Rattle.mdl_context.specs.Requests.{Outcome, acquiring, trying}
-use Rattle.mdl_context.specs.Tidying.{PinsJustNeeded}
 use Rattle.mdl_context.specs.Upgrades.{upgrading, downgrading}
 use Rattle.mdl_context.specs.Waits.{giving_up_wait, resuming}
 use Rattle.mdl_context.specs.Wishes.{Wish}
@@ -141,17 +139,24 @@ module _ {S : Type 0} (members : Ghosts S) (laws : LawsOf members) (number : ℕ
 
     acquires : (wish : Wish) (mid : S) (outcome : Outcome Acquire) → Runs members.joins a (acquiring wish context) outcome mid
         → Stays members a context mid outcome.1 × IsIdleOrWaits outcome
-    acquires wish mid outcome run =
-        (stays-acquiring members laws wish a mid context attends idle outcome run, each_reply members.joins IsIdleOrWaits (acquiring wish context) a mid outcome (idle-acquiring wish context idle) run)
+    acquires wish mid outcome run = (
+      stays-acquiring members laws wish a mid context attends idle outcome run,
+      each_reply members.joins IsIdleOrWaits (acquiring wish context) a mid outcome (idle-acquiring wish context idle) run,
+    )
 
-    tries : (wish : Wish) (mid : S) (outcome : Outcome Tried) → Runs members.joins a (trying wish context) outcome mid → Stays members a context mid outcome.1 × IsIdle {A = Tried} outcome
-    tries wish mid outcome run =
-        (stays-trying members laws wish a mid context attends idle outcome run, each_reply members.joins (IsIdle {A = Tried}) (trying wish context) a mid outcome (idle-trying wish context idle) run)
+    tries : (wish : Wish) (mid : S) (outcome : Outcome Tried) → Runs members.joins a (trying wish context) outcome mid
+        → Stays members a context mid outcome.1 × IsIdle {A = Tried} outcome
+    tries wish mid outcome run = (
+      stays-trying members laws wish a mid context attends idle outcome run,
+      each_reply members.joins (IsIdle {A = Tried}) (trying wish context) a mid outcome (idle-trying wish context idle) run,
+    )
 
     upgrades : (id : ℕ) (mode : Mode) (mid : S) (outcome : Outcome Acquire) → Runs members.joins a (upgrading id mode context) outcome mid
         → Stays members a context mid outcome.1 × IsIdleOrWaits outcome
-    upgrades id mode mid outcome run =
-        (stays-upgrading members laws a context attends idle id mode mid outcome run, each_reply members.joins IsIdleOrWaits (upgrading id mode context) a mid outcome (idle-upgrading context idle id mode) run)
+    upgrades id mode mid outcome run = (
+      stays-upgrading members laws a context attends idle id mode mid outcome run,
+      each_reply members.joins IsIdleOrWaits (upgrading id mode context) a mid outcome (idle-upgrading context idle id mode) run,
+    )
 
     downgrades : (id : ℕ) (mode : Mode) (mid : S) (outcome : Outcome (Unit {0})) → Runs members.joins a (downgrading id mode context) outcome mid
         → Stays members a context mid outcome.1 × IsIdle {A = Unit {0}} outcome
@@ -269,7 +274,8 @@ module _ {S : Type 0} (members : Ghosts S) (laws : LawsOf members) (number : ℕ
 
   -- ---- kills
 
-  holds_told : (context : ContextView) (target : ℕ) (a b : S) (answer : Answer) (x : Unit {0}) → Holds a context → Runs members.joins a (playing.wait_told target answer) x b → Holds b context
+  holds_told : (context : ContextView) (target : ℕ) (a b : S) (answer : Answer) (x : Unit {0}) → Holds a context
+      → Runs members.joins a (playing.wait_told target answer) x b → Holds b context
   holds_told context target a b (Has_wait (Some wait)) x holds (answer, mid, step, (same, here)) =
       subst (λ s. Holds s context) here (holds-nobodys a mid (call.Kill target wait) answer context holds refl refl step)
   holds_told context target a b (Has_wait None) x holds run = subst (λ s. Holds s context) run.1 holds

@@ -1,6 +1,6 @@
 -- A context that upgrades, weakens or releases tickets goes on to attend to its session, and leaves no pin behind, whatever the lock space answers.
-use Rattle.std.proofs.Common.{◌≡◌, ◌⊎◌, ℕ, Bool, true, false, List, [], ◌∷◌, Option, Some, None, Result, Ok, Err, inl, inr, refl, sym, ap, ◌∙◌, subst, arith}
-use Rattle.std.specs.Prelude.{◌||◌, ◌==◌, MatchOption, filter, is_some, map, not, if◌then◌else◌}
+use Rattle.std.proofs.Common.{◌≡◌, ℕ, Bool, true, false, List, [], ◌∷◌, Option, Some, None, Result, Ok, Err, inl, inr, refl, sym, ap, ◌∙◌, subst, arith}
+use Rattle.std.specs.Prelude.{◌==◌, MatchOption, filter, is_some, map, not}
 use Rattle.std.proofs.lemmas.Bool.Decides.{nat_tests}
 use Rattle.mdl_key.specs.declared.mode.Mode.{Mode}
 use Rattle.mdl_system.specs.Strength.{covers}
@@ -9,25 +9,25 @@ use Rattle.mdl_calls.specs.declared.space_error.SpaceError.{SpaceError}
 use Rattle.mdl_calls.specs.declared.space_error.SpaceError.TheVariants.{OutOfMemory}
 use Rattle.mdl_calls.specs.MemberLaws.{LawsOf}
 use Rattle.mdl_calls.specs.SessionLocks.{upgraded}
-use Rattle.mdl_calls.specs.Words.{Answer, Done, Downgrade, Release, Upgrade_now, Upgraded, Would_wait, SessionLocks, giving_up, is_number, ticket_held, Program, Runs, Give, Ask, Grow, ◌>>=◌}
+use Rattle.mdl_calls.specs.Words.{Answer, Done, Downgrade, Release, Upgrade_now, Upgraded, Would_wait, SessionLocks, giving_up, is_number, Program, Runs, Give, Ask, ◌>>=◌}
 use Rattle.mdl_calls.proofs.FaithfulLemmas.{each_reply}
 use Rattle.mdl_context.specs.declared.asking.AskResult.{AskResult}
 use Rattle.mdl_context.specs.declared.asking.AskResult.TheVariants as got
 use Rattle.mdl_context.specs.declared.context_error.ContextError.{ContextError}
-use Rattle.mdl_context.specs.declared.context_error.ContextError.TheVariants.{NotHeld, Waiting, Space}
+use Rattle.mdl_context.specs.declared.context_error.ContextError.TheVariants.{NotHeld, Space}
 use Rattle.mdl_context.specs.declared.kept.Kept.{Kept}
 use Rattle.mdl_context.specs.declared.kept.Wanted.{Wanted}
 use Rattle.mdl_context.specs.declared.request.Acquire.{Acquire}
 use Rattle.mdl_context.specs.declared.request.Acquire.TheVariants.{Acquired, MustWait}
-use Rattle.mdl_context.specs.Contexts.{Attends, ContextView, Serves, has_number, held_of, ticket_kept, wish_there, without_tickets}
+use Rattle.mdl_context.specs.Contexts.{Attends, ContextView, has_number, held_of, ticket_kept, without_tickets}
 use Rattle.mdl_context.specs.Gains.{own_got, refusal_answered, waiting_at}
 use Rattle.mdl_context.specs.Holdings.{has_ticket_number, wanted_upgrade, without_number}
 use Rattle.mdl_context.specs.Releases.{release_fault, releasing, releasing_all, releasing_tickets, unless, waiting_fault}
-use Rattle.mdl_context.specs.Requests.{Outcome, starved}
-use Rattle.mdl_context.specs.Tidying.{StaysTidy, tidied, tidying, unneeded, unpinning_all}
+use Rattle.mdl_context.specs.Requests.{Outcome}
+use Rattle.mdl_context.specs.Tidying.{tidied, tidying, unneeded, unpinning_all}
 use Rattle.mdl_context.specs.Upgrades.{HasSecond, awaiting_upgrade, downgrade_answered, downgrading, merged, merging_new, own_merged, second_got, upgrade_answered, upgrading, upgrading_ticket, waiting_to_upgrade, with_ticket_mode}
 use Rattle.mdl_context.proofs.AttendLemmas.{attends-left, attends-same, attends-still}
-use Rattle.mdl_context.proofs.BeyondLemmas.{held-without, serves-without, without-none}
+use Rattle.mdl_context.proofs.BeyondLemmas.{held-without, without-none}
 use Rattle.mdl_context.proofs.GainLemmas.{idle-there}
 use Rattle.mdl_context.proofs.JustLemmas.{leaves-none}
 use Rattle.mdl_context.proofs.LeftPinLemmas.{none-downgrading, none-giving_up, none-releasing, none-upgrading}
@@ -35,7 +35,7 @@ use Rattle.mdl_context.proofs.ServingLemmas.{serves-left}
 use Rattle.mdl_context.proofs.TidyLemmas.{attends-tidied}
 use Rattle.mdl_context.proofs.UpgradeLemmas.{attends-in_mode, attends-parted, attends-to-upgrade, attends-united, has-gained, kept-number, may-rise}
 use Rattle.mdl_context.proofs.WhoLemmas.{of_downgrading, of_giving_up, of_releasing, of_upgrading}
-use Rattle.mdl_work_laws.proofs.OwnRuns.{Has, got-waiting_at, has-call, has-first, has-merging, has-release, has-releasing_all, released}
+use Rattle.mdl_work_laws.proofs.OwnRuns.{Has, got-waiting_at, has-first, has-merging, has-release, has-releasing_all, released}
 use Rattle.mdl_work_laws.proofs.RequestRuns.{Stays}
 use Rattle.mdl_work_laws.proofs.RunParts.{parted}
 

@@ -1,5 +1,5 @@
 -- A context whose wait goes on or is given up goes on to attend to its session, and leaves no pin behind. It has no wait then, unless that isn't settled.
-use Rattle.std.proofs.Common.{◌≡◌, ◌⊎◌, ℕ, Bool, true, false, List, [], ◌∷◌, ◌++◌, Option, Some, None, option_map, Result, Ok, Err, inl, inr, refl, sym, ap, ◌∙◌, subst}
+use Rattle.std.proofs.Common.{◌≡◌, ◌⊎◌, ℕ, Bool, true, false, Option, Some, None, option_map, Result, Ok, Err, inl, inr, refl, sym, ap, ◌∙◌, subst}
 use Rattle.std.specs.Prelude.{MatchOption, is_some, if◌then◌else◌}
 use Rattle.std.specs.Option.{IfSome}
 use Rattle.mdl_key.specs.declared.mode.Mode.{Mode}
@@ -9,7 +9,7 @@ use Rattle.mdl_calls.specs.declared.lock_space.LockSpace.{Ghosts}
 use Rattle.mdl_calls.specs.declared.space_error.SpaceError.{SpaceError}
 use Rattle.mdl_calls.specs.declared.space_error.SpaceError.TheVariants.{NoWait}
 use Rattle.mdl_calls.specs.MemberLaws.{LawsOf}
-use Rattle.mdl_calls.specs.Words.{Answer, End_wait, Granted, IsExplained, Is_settled, Knowledge, Lost, Pending, Poll_wait, Refused, SessionLocks, Settle_timeout, ending, is_answer_of, is_waiting, Each, Program, Runs, Give, Ask, ◌>>=◌, SearchEnd, Over, Cut_off, Failed, most_searches, seeking}
+use Rattle.mdl_calls.specs.Words.{Answer, End_wait, Granted, IsExplained, Is_settled, Knowledge, Lost, Pending, Poll_wait, Refused, SessionLocks, Settle_timeout, is_answer_of, is_waiting, Each, Runs, Give, Ask, SearchEnd, Over, Cut_off, Failed, most_searches, seeking}
 use Rattle.mdl_calls.proofs.FaithfulLemmas.{each_reply, each_then}
 use Rattle.mdl_context.specs.declared.context_error.ContextError.{ContextError}
 use Rattle.mdl_context.specs.declared.context_error.ContextError.TheVariants.{Space}
@@ -21,7 +21,7 @@ use Rattle.mdl_context.specs.Contexts.{Attends, ContextView, IsAwaited, IsUpgrad
 use Rattle.mdl_context.specs.Gains.{abandoning}
 use Rattle.mdl_context.specs.Holdings.{awaited_upgrade, search_over, with_wanted}
 use Rattle.mdl_context.specs.Requests.{Outcome}
-use Rattle.mdl_context.specs.Tidying.{StaysTidy, tidied, tidying, unneeded, unpinning_all}
+use Rattle.mdl_context.specs.Tidying.{tidied, tidying, unneeded, unpinning_all}
 use Rattle.mdl_context.specs.Upgrades.{HasSecond, merged, merging_new, with_ticket}
 use Rattle.mdl_context.specs.Waits.{continuing_wait, cut_off_answered, end_answered, ending_wait, giving_up_wait, is_searched, looking, poll_answered, resuming, searching_on, taking_up, wait_sought, wait_won, with_searches_over, without_wait}
 use Rattle.mdl_context.proofs.AttendLemmas.{attends-lost, attends-over, attends-same, attends-still, attends-won}
@@ -31,7 +31,7 @@ use Rattle.mdl_context.proofs.PinLemmas.{pins-same}
 use Rattle.mdl_context.proofs.ServingLemmas.{searched-waits, serves-ending, waits-there}
 use Rattle.mdl_context.proofs.StayTidyLemmas.{awaited-searched}
 use Rattle.mdl_context.proofs.WhoLemmas.{of_giving_up_wait, of_resuming}
-use Rattle.mdl_work_laws.proofs.OwnRuns.{Has, ends-so, has-abandoning, has-first, has-seeking, times-out}
+use Rattle.mdl_work_laws.proofs.OwnRuns.{ends-so, has-abandoning, has-first, has-seeking, times-out}
 use Rattle.mdl_work_laws.proofs.RequestRuns.{Stays}
 use Rattle.mdl_work_laws.proofs.RunParts.{parted}
 use Rattle.mdl_work_laws.proofs.TicketRuns.{attends-given, attends-merged, attends-tidying}

@@ -1,5 +1,5 @@
 -- A session that leaves, or has worked off its lines, pins nothing: its statements leave no pin that its context doesn't need, and in the end that has nothing.
-use Rattle.std.proofs.Common.{◌≡◌, ℕ, zero, suc, Bool, true, false, List, [], ◌∷◌, ◌++◌, Option, Some, None, Result, Ok, Err, inl, inr, refl, sym, ap, ◌∙◌, subst}
+use Rattle.std.proofs.Common.{◌≡◌, ℕ, zero, suc, true, false, List, [], ◌∷◌, ◌++◌, Option, Some, None, Ok, inl, inr, refl, sym, ap, ◌∙◌, subst}
 use Rattle.std.specs.Prelude.{IsSome, map}
 use Rattle.std.specs.Option.{option_map}
 use Rattle.std.proofs.lemmas.List.Elements.{All-nil}
@@ -7,17 +7,17 @@ use Rattle.mdl_key.specs.declared.mode.Duration.TheVariants.{Explicit}
 use Rattle.mdl_key.specs.Keys.{KeyName}
 use Rattle.mdl_calls.specs.declared.lock_space.LockSpace.{Ghosts}
 use Rattle.mdl_calls.specs.MemberLaws.{LawsOf}
-use Rattle.mdl_calls.specs.Words.{Answer, HasNothing, Pending, Poll_wait, Settle_timeout, SessionLocks, is_pinned, Each, Program, Runs, Give, Ask, Grow, ◌>>=◌}
+use Rattle.mdl_calls.specs.Words.{Answer, HasNothing, Pending, Poll_wait, Settle_timeout, is_pinned, Each, Program, Runs, Give, ◌>>=◌}
 use Rattle.mdl_calls.proofs.FaithfulLemmas.{each_reply, each_then}
 use Rattle.mdl_syntax.specs.declared.script.Line.{Line}
 use Rattle.mdl_syntax.specs.declared.statement.Statement.{Statement}
 use Rattle.mdl_context.specs.declared.kept.Kept.{Kept}
 use Rattle.mdl_context.specs.declared.kept.Wanted.{Wanted}
 use Rattle.mdl_context.specs.declared.request.Resume.{Resume}
-use Rattle.mdl_context.specs.Contexts.{AreRising, Attends, ContextView, beyond, held_of, is_known_place, newest_first, of_transaction, tickets_for, wish_there, without_tickets}
-use Rattle.mdl_context.specs.Releases.{giving_up_all, releasing_all, releasing_tickets}
+use Rattle.mdl_context.specs.Contexts.{AreRising, ContextView, beyond, held_of, is_known_place, newest_first, of_transaction, tickets_for, wish_there, without_tickets}
+use Rattle.mdl_context.specs.Releases.{giving_up_all, releasing_all}
 use Rattle.mdl_context.specs.Requests.{Outcome}
-use Rattle.mdl_context.specs.Tidying.{PinsJustNeeded, is_needed, tidied, tidying, unneeded, unpinning_all}
+use Rattle.mdl_context.specs.Tidying.{is_needed, tidied, tidying, unneeded, unpinning_all}
 use Rattle.mdl_context.specs.Waits.{giving_up_wait}
 use Rattle.mdl_context.proofs.BeyondLemmas.{rising-kept}
 use Rattle.mdl_context.proofs.GainLemmas.{idle-there}
@@ -31,7 +31,7 @@ use Rattle.mdl_rows.specs.Playing.{going_on, starting}
 use Rattle.mdl_rows.specs.Sessions.{Session}
 use Rattle.mdl_stmt.specs.Attendance.{PinsNothing}
 use Rattle.mdl_work.specs.Works.{Worked, behind, cut_off, finishing, finishing_from, going_further, making, most_waits, newcomer, noted, stopped_for_memory, waiting_out, while_pending, working, working_off}
-use Rattle.mdl_work_laws.specs.PinLaws.{HasNoSparePin, LeaversPinNothing, WorkLeavesNoPin}
+use Rattle.mdl_work_laws.specs.PinLaws.{LeaversPinNothing, WorkLeavesNoPin}
 use Rattle.mdl_work_laws.proofs.RowPins.{AllRest, Holds, Rests, gives-up, holds-after, holds-own, rests_going_on, rests_starting}
 use Rattle.mdl_work_laws.proofs.RunParts.{parted}
 use Rattle.mdl_work_laws.proofs.WaitRuns.{stays-giving_up_wait}
@@ -145,7 +145,8 @@ module _ {S : Type 0} (members : Ghosts S) (laws : LawsOf members) (number : ℕ
   stops-cut_off a b (Faults session) end rests same here = stops-given a b (Faults session) end (rests.0, tt) same here
 
   -- a statement that waits goes on
-  rests-further : (patience : ℕ) (session : Session) (a : S) → IsSome session.left → Holds members laws number a session.context → AllRest members laws number a (going_further patience session)
+  rests-further : (patience : ℕ) (session : Session) (a : S) → IsSome session.left → Holds members laws number a session.context
+      → AllRest members laws number a (going_further patience session)
   rests-further patience session a some holds b pause run =
       let parts = parted {A = Unit {0}} {B = Pause} members.joins (waiting_out session.context.who patience) (λ _. going_on session) a b pause run in
       rests_going_on members laws number session parts.1 some (holds-waiting_out patience a parts.1 session.context parts.0 holds parts.2) b pause parts.3
@@ -183,7 +184,8 @@ module _ {S : Type 0} (members : Ghosts S) (laws : LawsOf members) (number : ℕ
   has-given a b given worked has same here = subst (λ s. Has s worked) here (subst (Has a) same has)
 
   has-noted : (line : ℕ) (more : Session → Program Worked) (a b : S) (pause : Pause) (worked : Worked) → Stops a pause
-      → ((session : Session) (end : Worked) (last : S) → Holds members laws number a session.context → session.context.wait ≡ None → Runs members.joins a (more session) end last → Has last end)
+      → ((session : Session) (end : Worked) (last : S) → Holds members laws number a session.context → session.context.wait ≡ None
+      → Runs members.joins a (more session) end last → Has last end)
       → Runs members.joins a (noted line more pause) worked b → Has b worked
   has-noted line more a b (Ends reply session) worked stops later (inl run) = has-given a b (stopped_for_memory session) worked stops.0 run.0 run.1
   has-noted line more a b (Ends reply session) worked stops later (inr run) =
