@@ -1,5 +1,5 @@
--- What a session pins once it has run a statement, or all its lines, over any lock space. A pin is a session's claim that a place keeps its key, and keeps the
--- space from giving the place to another key. So a pin that nothing needs takes room from all sessions.
+-- What a session pins once it has run a statement, has left, or has worked off its lines, over any lock space. A pin is a session's claim that a place keeps its
+-- key. In a space that gives places anew, a pin that nothing needs takes room from all sessions.
 use Rattle.std.specs.Prelude.{◌≡◌, ℕ, List, Option, None, IsSome}
 use Rattle.mdl_calls.specs.declared.lock_space.LockSpace.{Ghosts}
 use Rattle.mdl_calls.specs.Words.{HasNothing, Program, Runs}
