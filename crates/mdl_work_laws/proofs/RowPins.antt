@@ -45,7 +45,7 @@ use Rattle.mdl_rows.specs.Rows as row
 use Rattle.mdl_rows.specs.Sessions.{Left, Session}
 use Rattle.mdl_rows.specs.States.{half_lock, without_read_lock}
 use Rattle.mdl_rows.specs.Statements.{row_of}
-use Rattle.mdl_work_laws.specs.PinLaws.{HasNoSparePin, IsReadyForMore, LeavesNoSparePin, StatementsLeaveNoPin}
+use Rattle.mdl_work_laws.specs.StatementPins.{HasNoSparePin, IsReadyForMore, LeavesNoSparePin, StatementsLeaveNoPin}
 use Rattle.mdl_work_laws.proofs.IdleCalls.{IsIdle, IsIdleOrWaits, idle-acquiring, idle-downgrading, idle-giving_up, idle-releasing, idle-trying, idle-upgrading}
 use Rattle.mdl_work_laws.proofs.RequestRuns.{Stays, stays-acquiring, stays-trying}
 use Rattle.mdl_work_laws.proofs.RunParts.{parted}

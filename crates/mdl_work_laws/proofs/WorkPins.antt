@@ -31,7 +31,7 @@ use Rattle.mdl_rows.specs.Playing.{going_on, starting}
 use Rattle.mdl_rows.specs.Sessions.{Session}
 use Rattle.mdl_stmt.specs.Attendance.{PinsNothing}
 use Rattle.mdl_work.specs.Works.{Worked, behind, cut_off, finishing, finishing_from, going_further, making, most_waits, newcomer, noted, stopped_for_memory, waiting_out, while_pending, working, working_off}
-use Rattle.mdl_work_laws.specs.PinLaws.{LeaversPinNothing, WorkLeavesNoPin}
+use Rattle.mdl_work_laws.specs.SessionPins.{LeaversPinNothing, WorkLeavesNoPin}
 use Rattle.mdl_work_laws.proofs.RowPins.{AllRest, Holds, Rests, gives-up, holds-after, holds-own, rests_going_on, rests_starting}
 use Rattle.mdl_work_laws.proofs.RunParts.{parted}
 use Rattle.mdl_work_laws.proofs.WaitRuns.{stays-giving_up_wait}

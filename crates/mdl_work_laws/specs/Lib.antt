@@ -1,1 +1,2 @@
-pub mod PinLaws
+pub mod SessionPins
+pub mod StatementPins

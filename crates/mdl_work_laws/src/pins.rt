@@ -1,6 +1,7 @@
 //! What a session pins once it has run a statement, has left, or has worked off its lines, over any lock space. Each law is proved as the
 //! contract of a function that does nothing.
-ghost use Rattle.mdl_work_laws.specs.PinLaws.{LeaversPinNothing, StatementsLeaveNoPin, WorkLeavesNoPin};
+ghost use Rattle.mdl_work_laws.specs.SessionPins.{LeaversPinNothing, WorkLeavesNoPin};
+ghost use Rattle.mdl_work_laws.specs.StatementPins.{StatementsLeaveNoPin};
 
 use mdl_calls::LockSpace;
 

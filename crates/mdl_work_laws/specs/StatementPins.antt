@@ -1,9 +1,8 @@
--- What a session pins once it has run a statement, has left, or has worked off its lines, over any lock space. A pin is a session's claim that a place keeps its
--- key. In a space that gives places anew, a pin that nothing needs takes room from all sessions.
-use Rattle.std.specs.Prelude.{◌≡◌, ℕ, List, Option, None, IsSome}
+-- What a session pins once it has run a statement, over any lock space: no more than its context needs. A pin is a session's claim that a place keeps its key.
+-- In a space that gives places anew, a pin that nothing needs takes room from all sessions.
+use Rattle.std.specs.Prelude.{◌≡◌, None, IsSome}
 use Rattle.mdl_calls.specs.declared.lock_space.LockSpace.{Ghosts}
-use Rattle.mdl_calls.specs.Words.{HasNothing, Program, Runs}
-use Rattle.mdl_syntax.specs.declared.script.Line.{Line}
+use Rattle.mdl_calls.specs.Words.{Program, Runs}
 use Rattle.mdl_syntax.specs.declared.statement.Statement.{Statement}
 use Rattle.mdl_context.specs.declared.request.Mark.{Mark}
 use Rattle.mdl_context.specs.Contexts.{Attends, ContextView}
@@ -11,15 +10,10 @@ use Rattle.mdl_context.specs.Tidying.{PinsJustNeeded}
 use Rattle.mdl_rows.specs.declared.reply.Reply.{Reply}
 use Rattle.mdl_rows.specs.Endings.{Pause, Ends, Begins_to_wait, Waits_on, Faults}
 use Rattle.mdl_rows.specs.Keepings.{going_on_kept, play_kept, starting_kept}
-use Rattle.mdl_rows.specs.Leavings.{leaving}
 use Rattle.mdl_rows.specs.MemoryLaws.{session_of_pause}
 use Rattle.mdl_rows.specs.Playing.{going_on, play, starting}
 use Rattle.mdl_rows.specs.Rows.{Row}
 use Rattle.mdl_rows.specs.Sessions.{Session}
-use Rattle.mdl_stmt.specs.Attendance.{PinsNothing}
-use Rattle.mdl_work.specs.Works.{newcomer, working_off}
-
--- ---- statements
 
 -- a context attends to its session, which pins only places where the context has something, and owes no reschedule. So nothing else of the same session, such
 -- as another context, may have left a pin
@@ -50,20 +44,3 @@ StatementsLeaveNoPin members =
     ((row : Row Reply) (mark : Mark) → LeavesNoSparePin members session (play row mark session) × LeavesNoSparePin members session (play_kept row mark session))
     × ((statement : Statement) → LeavesNoSparePin members session (starting statement session) × LeavesNoSparePin members session (starting_kept statement session)))
     × (IsSome session.left → LeavesNoSparePin members session (going_on session) × LeavesNoSparePin members session (going_on_kept session))
-
--- ---- sessions
-
--- a session that leaves has no ticket and no wait afterwards, pins no place and owes no reschedule, if it pinned only what its context needed, also if it leaves
--- while a statement waits
-abbrev pub LeaversPinNothing : {S : Type 0} → Ghosts S → Type 0
-LeaversPinNothing {S} members =
-    (session : Session) (a b : S) → HasNoSparePin members a session.context → Runs members.joins a (leaving session) tt b
-    → HasNothing (members.own b session.context.who) × PinsNothing members b session.context.who
-
--- a session that has nothing, pins no place and owes no reschedule, is so again after it has worked off its lines, with any patience, whatever the lock space
--- answered, and also if memory ran out
-abbrev pub WorkLeavesNoPin : {S : Type 0} → Ghosts S → Type 0
-WorkLeavesNoPin {S} members =
-    (who patience : ℕ) (lines : List Line) (answers : Option (List (ℕ × Reply))) (a b : S) → members.speaks_for a who → HasNothing (members.own a who)
-    → PinsNothing members a who → Runs members.joins a (working_off patience lines (newcomer who)) answers b
-    → HasNothing (members.own b who) × PinsNothing members b who
