@@ -42,7 +42,7 @@ settled-by knows who (Refused _) own fits explained waits = absurd explained
 settled-by knows who _ own fits explained waits = cc
 
 -- a settled wait ends with its ticket or without
-pub ended-by : (how : Settled) (answer : Answer) → IsEndOf how answer → ((id : ℕ) × (answer ≡ Granted id)) ⊎ ((lost : Settled) × (answer ≡ Lost lost))
+ended-by : (how : Settled) (answer : Answer) → IsEndOf how answer → ((id : ℕ) × (answer ≡ Granted id)) ⊎ ((lost : Settled) × (answer ≡ Lost lost))
 ended-by settled_as.Granted answer end = inl end
 ended-by settled_as.Victim answer end = inr (settled_as.Victim, end)
 ended-by settled_as.Timeout answer end = inr (settled_as.Timeout, end)
