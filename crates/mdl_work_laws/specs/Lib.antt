@@ -1,0 +1,2 @@
+pub mod SessionPins
+pub mod StatementPins
