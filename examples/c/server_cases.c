@@ -22,7 +22,7 @@
 #define COMMIT GAZ_COMMIT, NAME(""), NAME("")
 #define USER(name) GAZ_USER_LEVEL_LOCK, NAME(name), NAME("")
 
-enum { PLACES = 16, SESSIONS = 4, ROOM = 8 };
+enum { PLACES = 16, SESSIONS = 4, ROOM = 8, LONGEST = 255 };
 
 static struct gaz_one_space space = GAZ_ONE_SPACE_INIT;
 static unsigned cases, wrong;
@@ -584,8 +584,10 @@ static void find_lock_owner(void)
 /* A name that is too long is refused. (The server cuts it off.) */
 static void truncate_too_long_name(void)
 {
-    static const char name[] = "a2345678901234567890123456789012345678901234567890123456789012345";
+    char name[LONGEST + 2];
     uint64_t ticket = 0;
+    memset(name, 'a', LONGEST + 1);
+    name[LONGEST + 1] = 0;
     EXPECT(GAZ_LONG_NAME, acquire(1, name, GAZ_S, &ticket));
     EXPECT(GAZ_DONE, acquire(1, name + 1, GAZ_S, &ticket));
 }
