@@ -70,9 +70,9 @@ def main():
         except Refused as refused:
             print(f"a place that isn't pinned any more: {refused}")
         try:
-            manager.table(1, "shop", 256 * "a")
+            manager.table(1, "shop", "or ders")
         except Refused as refused:
-            print(f"a name of 256 bytes: {refused}")
+            print(f"a name with a space: {refused}")
 
 
 if __name__ == "__main__":

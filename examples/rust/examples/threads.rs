@@ -91,8 +91,8 @@ fn run() -> Result<(), Error> {
         println!("without its place: {error}");
     }
     println!(
-        "a name of 256 bytes: {}",
-        reader.table("shop", &"a".repeat(256)).unwrap_err()
+        "a name with a space: {}",
+        reader.table("shop", "or ders").unwrap_err()
     );
     Ok(())
 }

@@ -11,7 +11,7 @@ pub enum Error {
     Timeout,
     /// Another session has ended the wait.
     Killed,
-    /// A name has 1 to 255 bytes.
+    /// A name has 1 to 64 bytes of `a-z`, `0-9` and `_`.
     BadName,
     /// The session doesn't pin the place. Or all places are in use, and there is none for one more key.
     NoPlace,
@@ -48,7 +48,7 @@ impl fmt::Display for Error {
             Error::Deadlock => f.write_str("chosen to end a deadlock"),
             Error::Timeout => f.write_str("waited for too long"),
             Error::Killed => f.write_str("the wait was killed"),
-            Error::BadName => f.write_str("a name has 1 to 255 bytes"),
+            Error::BadName => f.write_str("a name has 1 to 64 bytes of a-z, 0-9 and _"),
             Error::NoPlace => f.write_str("the place isn't pinned, or all places are in use"),
             Error::InUse => f.write_str("the session has a lock at the place"),
             Error::BadMode => f.write_str("the key doesn't take the mode"),
