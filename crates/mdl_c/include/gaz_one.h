@@ -8,10 +8,10 @@
        void rattle_dealloc(void *p);
 
    A program whose threads share a space holds one mutex of its own round each call. The program itself does the waiting: if gaz_one_begin returns
-   GAZ_WAITING, call gaz_one_search, then wait for a condition variable until gaz_one_poll returns something else, and then call gaz_one_end. These calls
-   may settle another session's wait: gaz_one_release, gaz_one_search, gaz_one_end, gaz_one_kill, gaz_one_time_out, gaz_one_downgrade and gaz_one_merge.
-   After them wake the sessions that gaz_one_settled lists. The table that threads share can't be called from C: its calls wait for latches, and no
-   function that C calls may wait.
+   GAZ_WAITING, call gaz_one_search, then wait for a condition variable until gaz_one_poll returns something else, and then call gaz_one_end. If the
+   search returns GAZ_NO_MEMORY, a deadlock may be left: give the wait up by gaz_one_time_out. These calls may settle another session's wait:
+   gaz_one_release, gaz_one_search, gaz_one_end, gaz_one_kill, gaz_one_time_out, gaz_one_downgrade and gaz_one_merge. After them wake the sessions that
+   gaz_one_settled lists. The table that threads share can't be called from C: its calls wait for latches, and no function that C calls may wait.
 
    The program keeps a session's tickets by their numbers, or a context keeps them, from gaz_one_context_begin until gaz_one_context_end: by their
    durations, as a server's transactions need. Then the session requests its locks by gaz_one_acquire and the other calls of contexts below, and those
