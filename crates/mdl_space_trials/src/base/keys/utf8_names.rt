@@ -1,5 +1,5 @@
 //! Keys whose names may be any texts: how they are made, refused and compared.
-use crate::base::keys::names::{Name, is_copied_so};
+use crate::base::keys::names::{self, Name, is_copied_so};
 use crate::base::rows::{Row, are_right};
 use mdl_key::{Key, Kind, LONGEST_UTF8_NAME, Namespace, Utf8NameError, check_utf8_name};
 use std::alloc::Global;
@@ -58,14 +58,14 @@ fn names_locks_by_any_texts(rt: HostRuntime) {
 
 // Whether a name is refused for this reason, or accepted if there is none, wherever a key has it.
 fn is_refused(alloc: Global, name: &'static str, want: Option<Utf8NameError>) -> bool {
-    let names = [
+    let keys = [
         (Namespace::Schema, name, ""),
         (Namespace::Table, name, "t"),
         (Namespace::Table, "s", name),
         (Namespace::UserLevelLock, name, ""),
     ];
-    for name in &names {
-        if key_of(alloc, *name).err() != want {
+    for key in &keys {
+        if key_of(alloc, *key).err() != want {
             return false;
         }
     }
@@ -195,7 +195,7 @@ fn compares_each_byte(rt: HostRuntime) {
 
 // Whether a name has the same key by both constructors.
 fn is_the_same_key(alloc: Global, name: Name) -> bool {
-    let Ok(key) = crate::base::keys::names::key_of(alloc, name) else {
+    let Ok(key) = names::key_of(alloc, name) else {
         return false;
     };
     let is_so = is_equal_to(alloc, &key, name, true);
