@@ -139,7 +139,7 @@ impl Row for Compared {
     }
 }
 
-// Most of the names that differ have one length, and the same last two bytes.
+// Most of the names that differ have the same length and the same last byte.
 const COMPARED: &[Compared] = &[
     Compared(
         (Namespace::Table, "Läden", "表"),
