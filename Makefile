@@ -24,14 +24,17 @@ ARCHIVES = crates/mdl_c/out/libmdl_c.a crates/mdl_text/out/libmdl_text.a
 # programs to test.
 SECONDS = 60
 
+# Where `make pages` puts the example scripts as pages.
+PAGES = dist/pages
+
 # This file exists once `make run` has printed answers.
 FIRST_RUN = crates/mdlsim/out/first_run
 
-.PHONY: help run try script test layout docs bench examples commands c fuzz growths race wrong build view install dist dist-check dist-libraries \
-    dist-libraries-check clean kit
+.PHONY: help run try script test layout docs bench examples commands c fuzz pages growths race wrong build view install dist dist-check dist-libraries \
+    dist-libraries-check clean kit timers
 
 help:
-	@echo 'All need the Rattle kit, except fuzz, dist-check and clean.'
+	@echo 'All need the Rattle kit, except fuzz, pages, dist-check and clean.'
 	@echo
 	@echo 'make run [SCRIPT=FILE]     proves and builds mdlsim, and prints its answers to NAME.replay, NAME.run, NAME.lock or NAME.scoped.lock'
 	@echo 'make try [SCRIPT=FILE]     prints the answers without the proof, in one to four minutes; up to 1 MB of them, and 60 seconds of play'
@@ -47,13 +50,14 @@ help:
 	@echo 'make commands              checks what the proved programs do by their command lines'
 	@echo 'make c                     builds programs of C, Rust and Python over the libraries for C, proved, and compares what they print'
 	@echo 'make fuzz [SECONDS=60]     gives random scripts, rows and noise to the programs that were built last, and checks each run'
+	@echo 'make pages [MDLVIEW=PATH]  prints the example scripts as pages for a browser, into dist/pages/'
 	@echo 'make growths               refuses each growth of some short lives in turn'
 	@echo 'make race                  lets threads race until a million waits are settled'
 	@echo 'make wrong [CRATE=NAME]    has the prover refuse the mutants, of all crates or of one'
-	@echo 'make bench                 times scripts and calls'
+	@echo 'make bench                 times scripts and calls, and draws charts of the figures'
 	@echo
 	@echo 'make dist                  packs the programs and the libraries for C that were built last, for machines without the kit, into dist/'
-	@echo 'make dist-check            unpacks that into an empty folder, and tries it there without the kit'
+	@echo 'make dist-check            unpacks that into an empty folder, and tries it there without the kit; with the kit it packs again, and compares'
 	@echo 'make dist-libraries        packs the libraries that were proved last, for checkouts that are to trust them, into dist/'
 	@echo 'make dist-libraries-check  unpacks those in a new clone, and builds mdlsim there'
 	@echo 'make clean                 removes what was built or packed, and what the prover keeps for its next check'
@@ -93,8 +97,9 @@ docs: kit
 	@sh make/check_version.sh
 
 # Measures the lines per second and peak memory of scripts of three sizes, of one lock and of statements; the cost of calls, on one thread and on four,
-# each beside what it is compared with; the instructions of a pair of calls; and the cost of the locks of C and Rust.
-bench: build
+# each beside what it is compared with; the instructions of a pair of calls; and the cost of the locks of C and Rust. mdlview is timed if it is built.
+# Puts the figures and charts of the run into bench/peers/out.
+bench: timers build
 	@sh make/build.sh mdl_bench quick
 	@sh bench/peers.sh $(PROGRAM)
 
@@ -121,6 +126,10 @@ fuzz:
 	@python3 fuzz/timelines.py --seconds $(SECONDS) $(if $(SEED),--seed $(SEED)) --mdlsim $(or $(MDLSIM),$(PROGRAM)) $(or $(MDLVIEW),$(VIEW))
 	@python3 fuzz/noise.py --seconds $(SECONDS) $(if $(SEED),--seed $(SEED)) --mdlsim $(or $(MDLSIM),$(PROGRAM)) $(or $(MDLVIEW),$(VIEW))
 
+# Prints the scripts of examples/ as pages, with an index of them, by the mdlview that was built last, or that MDLVIEW names.
+pages:
+	@sh make/pages.sh "$(or $(MDLVIEW),$(VIEW))" "$(PAGES)"
+
 # Refuses each allocation of some short sequences of calls in turn: they have to succeed all the same. Runs on threads have to report a refused one.
 growths: kit
 	@sh growths/check.sh
@@ -146,8 +155,10 @@ install: build view
 	@sh make/lay_out.sh "$(PREFIX)" $(PROGRAMS)
 	@sh make/lay_out_c.sh "$(PREFIX)"
 
-# Packs what was built last, and builds only what is missing. After `make test` it packs the programs and the libraries that the gate proved.
+# Packs what was built last, and builds only what is missing. After `make test` it packs the programs and the libraries that the gate proved. Packing twice
+# gives the same bytes. SOURCE_DATE_EPOCH sets the time of all files, which is otherwise the commit's.
 dist: kit
+	@sh make/needs.sh awk cmp tar gzip sha256sum readelf
 	@test -x $(PROGRAM) || sh make/build.sh mdlsim lock
 	@test -x $(VIEW) || sh make/build.sh mdlview why --script
 	@for archive in $(ARCHIVES); do test -e "$$archive" || python3 make/archive.py || exit 1; done
@@ -168,3 +179,7 @@ clean:
 
 kit:
 	@sh make/needs.sh rt python3
+
+# What `make bench` needs beside the kit.
+timers: kit
+	@sh make/needs.sh awk /usr/bin/time

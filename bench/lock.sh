@@ -7,14 +7,10 @@ folder=$(dirname "$0")
 scripts=$(mktemp -d)
 trap 'rm -rf "$scripts"' EXIT
 
-sh "$folder/../make/needs.sh" awk || exit 1
-if [ ! -x /usr/bin/time ]; then
-    echo "GNU time is missing: install the package time" >&2
-    exit 1
-fi
+sh "$folder/../make/needs.sh" awk /usr/bin/time || exit 1
 
-# Runs a script a number of times, and prints the time of one run and the peak memory, and then the nanoseconds per line for a program to read:
-# ROW, the workload, the threads, the figure's name and the figure. Its arguments: LIFE LINES TURNS
+# Runs a script a number of times, and prints the time of one run and the peak memory, and then for a program to read the nanoseconds per line, the
+# kibibytes, and how many times the script these are: ROW, the workload, the threads, the figure's name and the figure. Its arguments: LIFE LINES TURNS
 measure() {
     life=$1
     lines=$2
@@ -40,6 +36,8 @@ measure() {
         printf "%-8s %9d lines  %9d bytes  %8.4f s  %9.0f lines/s  %6d KiB, %.1f times the script\n",
             life, lines, bytes, seconds, lines / seconds, memory, memory * 1024 / bytes
         printf "ROW lock_%s 1 mdlsim_line_of_%d_mean %.1f\n", life, lines, seconds / lines * 1e9
+        printf "ROW lock_%s 1 mdlsim_memory_of_%d_count %d\n", life, lines, memory
+        printf "ROW lock_%s 1 mdlsim_memory_by_size_of_%d_count %.1f\n", life, lines, memory * 1024 / bytes
     }'
 }
 

@@ -2,7 +2,8 @@
 
 Usage, at the top of the repository: python3 bench/mdlview.py [PROGRAM]     crates/mdlview/out/mdlview, or another program
 
-It needs GNU time (the Debian package time). Each time is the least of five runs. The status is 1 if `why` takes longer than it may: of 1,000 rows
+It needs GNU time (the Debian package time). Each time is the least of five runs. Behind each line are rows for a program to read, as bench/peers.sh
+keeps them: nanoseconds, kibibytes of memory, and the rows and bytes that were read. The status is 1 if `why` takes longer than it may: of 1,000 rows
 of one lock a tenth of a second, and of 20,000 rows two seconds.
   one        half of the rows are readers of one table, and the others wait to change it
   alter      a reader of a table, a session that waits to change it, and readers behind that one
@@ -153,6 +154,10 @@ def main(words):
             late |= bool(most) and seconds * 1000 > most
             print(f"{shape.__name__:10} {rows:6} {path.stat().st_size / 1024:12.0f} {seconds * 1000:9.1f} {most or '-':>9} {kilobytes / 1024:7.1f}"
                   f" {printed / 1024:12.1f} {beside * 1000:12.1f}", flush=True)
+            figures = [("why", "least", seconds * 1e9), ("grep", "least", beside * 1e9), ("why_memory", "count", kilobytes), ("rows", "count", rows),
+                       ("rows_bytes", "count", path.stat().st_size)]
+            for name, kind, figure in figures:
+                print(f"ROW mdlview_{shape.__name__} 1 {name}_of_{rows}_{kind} {figure:.1f}", flush=True)
     return 1 if late else 0
 
 

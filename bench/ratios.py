@@ -6,7 +6,7 @@ Usage, at the top of the repository: python3 bench/ratios.py [FILE]     bench/pe
 A row is ROW, the workload, the threads, the name, and the nanoseconds. A name is who was timed, what a turn is, and `least` or `median`. On one thread the
 least of all rounds is compared, and on several the median. There is a line for each row of ours and each model that played it. A row of ours that no
 model played is listed, as is one of a model that isn't among ours. The bare steps and probes of mdl_bench aren't calls, and are left out. So are rows whose
-name ends with `mean` or `count`: those of scripts, which are timed at once, and of instructions, where the figure is their number.
+name ends with `mean` or `count`: those of scripts, which are timed at once, and of instructions or memory, where the figure is their number.
 The status is 1 if a line isn't a row, or a row is there twice: then the file isn't of one run."""
 
 import pathlib

@@ -8,11 +8,7 @@ folder=$(dirname "$0")
 scripts=$(mktemp -d)
 trap 'rm -rf "$scripts"' EXIT
 
-sh "$folder/../make/needs.sh" awk || exit 1
-if [ ! -x /usr/bin/time ]; then
-    echo "GNU time is missing: install the package time" >&2
-    exit 1
-fi
+sh "$folder/../make/needs.sh" awk /usr/bin/time || exit 1
 
 # A script of sessions that behave as sessions do, at most OPEN of them in a transaction at a time: OPEN LINES
 lives() {
@@ -35,8 +31,9 @@ forms() {
     awk -v LINES="$1" -v SEED=7 -f "$folder/all_forms.awk"
 }
 
-# Runs the script a number of times, and prints the time of one run, the peak memory and how many of its statements wait, and then the nanoseconds
-# per line for a program to read: ROW, the workload, the threads, the figure's name and the figure. Its arguments: WORKLOAD SIZE TURNS
+# Runs the script a number of times, and prints the time of one run, the peak memory and how many of its statements wait, and then for a program to
+# read the nanoseconds per line, the kibibytes, and how many times the script these are: ROW, the workload, the threads, the figure's name and the
+# figure. Its arguments: WORKLOAD SIZE TURNS
 measure() {
     workload=$1
     size=$2
@@ -59,6 +56,8 @@ measure() {
         printf "%-9s %9d lines  %9d bytes  %8.4f s  %9.0f lines/s  %6d KiB, %.1f times the script, %4.1f waits of 100 lines\n",
             workload, lines, bytes, seconds, lines / seconds, memory, memory * 1024 / bytes, waits / lines * 100
         printf "ROW replay_%s 1 mdlsim_line_of_%d_mean %.1f\n", workload, size, seconds / lines * 1e9
+        printf "ROW replay_%s 1 mdlsim_memory_of_%d_count %d\n", workload, size, memory
+        printf "ROW replay_%s 1 mdlsim_memory_by_size_of_%d_count %.1f\n", workload, size, memory * 1024 / bytes
     }' "$scripts/seconds"
 }
 

@@ -1,7 +1,8 @@
 #!/bin/sh
 # Prints what is stale in the docs, one line for each thing, or that nothing is.
 # Usage: sh make/check_docs.sh                checks the docs
-#        sh make/check_docs.sh update         makes the parts of pages that are made from the tree, and puts the right line numbers into docs/CLAIMS.md
+#        sh make/check_docs.sh update         makes the parts of pages that are made from the tree, and the charts, and puts the right line numbers into
+#                                             docs/CLAIMS.md
 #        sh make/check_docs.sh words          prints how many words each page has, without those parts
 cd "$(dirname "$0")/.." || exit 1
 sh make/needs.sh rt python3 awk comm || exit 1
@@ -124,6 +125,13 @@ words() {
     python3 make/docs/made.py words
 }
 
+# The charts are those of bench/figures.tsv, byte for byte, and docs/PERFORMANCE.md shows all. Its tables are parts that are made from the tree.
+stale_charts() {
+    python3 bench/figures.py --check
+    python3 bench/charts.py --check
+    python3 bench/charts.py check
+}
+
 # The syntax files for editors have the words of scripts.
 stale_editors() {
     python3 make/docs/editors.py
@@ -154,6 +162,7 @@ stale() {
     stale_headers
     stale_parts
     stale_words
+    stale_charts
     stale_editors
     stale_readme
     stale_claims
@@ -161,6 +170,7 @@ stale() {
 
 update() {
     python3 make/docs/claims.py update > "$made/claims" # the lines of docs/CLAIMS.md
+    python3 bench/charts.py update
     python3 make/docs/made.py update
 }
 

@@ -1,8 +1,8 @@
 #!/bin/sh
 # Prints which library crates show an example at the head of src/lib.rt that differs from the file of examples that names them, one line for each, or
 # that there is none. Such a file is in src/examples of a crate of trials, or in src of a program that is an example. Also prints which code of
-# docs/EMBEDDING.md isn't in the program that it is from, which `make c` builds and runs, and which answer of README.md isn't the one in its file, which
-# `make commands` compares.
+# docs/EMBEDDING.md isn't in the program that it is from, which `make c` builds and runs, and which answer of README.md, or of the README that `make dist`
+# packs, isn't the one in its file, which `make commands` compares.
 # Usage: sh make/check_examples.sh           checks the examples
 #        sh make/check_examples.sh update    puts the examples there
 cd "$(dirname "$0")/.." || exit 1
@@ -66,7 +66,7 @@ look() {
     for crate in $(libraries); do
         look_at "$crate"
     done
-    python3 make/docs/shown.py README.md docs/EMBEDDING.md
+    python3 make/docs/shown.py README.md docs/EMBEDDING.md make/dist/README.md
 }
 
 update() {

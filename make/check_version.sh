@@ -1,16 +1,20 @@
 #!/bin/sh
 # Prints each place where the version differs from the file VERSION, one line for each, or that there is none.
 # The tree of a release has its version: the newest one of CHANGELOG.md, which has its date, as the manual pages do. A tree after it, whose CHANGELOG.md
-# has a section [Unreleased], has a later version that ends with -dev. So to release, name that section by the version and the date, take the -dev away
-# in all places, and tag what passes the gate. The next change begins a section [Unreleased], and gives VERSION the next version with -dev.
+# has a section [Unreleased], has a later version that ends with -dev. A tag vVERSION is of a tree with that version. make/set_version.sh goes from one to
+# the other.
 # Usage: sh make/check_version.sh
 cd "$(dirname "$0")/.." || exit 1
 version=$(cat VERSION)
 stale=$(mktemp)
-trap 'rm -f "$stale"' EXIT
+ordered=$(mktemp)
+trap 'rm -f "$stale" "$ordered"' EXIT
 
-# The newest release of the change log, as VERSION DATE.
-newest=$(sed -n 's/^## \[\([0-9.]*\)\] - \([0-9-]*\)$/\1 \2/p' CHANGELOG.md | head -n 1)
+# The releases of the change log, each as VERSION DATE, and the newest one.
+releases() {
+    sed -n 's/^## \[\([0-9.]*\)\] - \([0-9-]*\)$/\1 \2/p' CHANGELOG.md
+}
+newest=$(releases | head -n 1)
 released=${newest% *}
 
 # Reports a file that has no line with these words: FILE WORDS
@@ -35,6 +39,13 @@ wrong_version() {
     fi
 }
 
+# The releases of the change log are the newest first, by version and by date.
+wrong_order() {
+    releases | sort -t . -k 1,1nr -k 2,2nr -k 3,3nr > "$ordered"
+    releases | cmp -s - "$ordered" || echo "CHANGELOG.md: the versions aren't the newest first"
+    releases | cut -d ' ' -f 2 | sort -r -c 2> /dev/null || echo "CHANGELOG.md: a later version has an earlier date"
+}
+
 # A manual page has the version, and its date: that of the release, or, after it, any later one: PROGRAM
 wrong_page() {
     name=$(echo "$1" | tr 'a-z' 'A-Z')
@@ -49,11 +60,22 @@ wrong_page() {
     has "docs/$1.1" "This page describes $1 $version."
 }
 
+# The tags of versions: each is of a tree with that version, and CHANGELOG.md has it.
+wrong_tags() {
+    for tag in $(git tag --list 'v[0-9]*' 2> /dev/null); do
+        tagged=$(git show "$tag:VERSION" 2> /dev/null)
+        [ "$tagged" = "${tag#v}" ] || echo "the tag $tag is of a tree with VERSION $tagged"
+        has CHANGELOG.md "## [${tag#v}] - "
+    done
+}
+
 # The version as a number, as the library for C tells it.
 number=$(echo "${version%-dev}" | awk -F . '{ print $1 * 10000 + $2 * 100 + $3 }')
 
 {
     wrong_version
+    wrong_order
+    wrong_tags
     for program in mdlsim mdlview; do
         wrong_page "$program"
         has "crates/$program/src/program.rt" "b\"$program $version\\n\""

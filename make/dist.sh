@@ -1,6 +1,7 @@
 #!/bin/sh
 # Packs programs and the libraries for C, as they were built last, for machines without the kit: dist/gazmirov-VERSION-x86_64-linux.tar.gz, and its
-# checksum beside it.
+# checksum beside it. DIST names another folder for both. What is packed has the same bytes each time: the names are in order, nobody owns the files, and
+# all have the time of the commit, or SOURCE_DATE_EPOCH.
 # With git, each program is built once more with the commit in what `--version` prints: make/program_of.sh. The object file of the proved build is
 # linked again without shared libraries. If that can't be done, the program is packed as it is, and the README of the tarball says which C
 # library it needs.
@@ -9,9 +10,11 @@ cd "$(dirname "$0")/.." || exit 1
 sh make/needs.sh rt awk cmp tar gzip sha256sum readelf || exit 1
 LC_ALL=C
 export LC_ALL
+unset TAR_OPTIONS GZIP
 version=$(cat VERSION)
 commit=$(sh make/commit.sh)
 name=gazmirov-$version-x86_64-linux
+dist=${DIST:-dist}
 kit=$(dirname "$(readlink -f "$(command -v rt)")")/..
 made=$(mktemp -d)
 trap 'rm -rf "$made"' EXIT
@@ -49,6 +52,14 @@ link_static() {
     (cd "$top/relink" && ${CC:-cc} -static -s -o ../bin/"$1" "$1.o" libos_c.a liblibc_c.a) 2> "$made/linking"
 }
 
+# Packs a program as it was built, with shared libraries.
+put_as_built() {
+    echo "$1 can't be linked without shared libraries, and is packed as it was built" >&2
+    cat "$made/linking" >&2 2> /dev/null
+    rm -f "$top/relink/$1.o"
+    cp "$(sh make/program_of.sh "$1")/$1" "$top/bin/$1"
+}
+
 # What a program needs of the machine.
 needs_of() {
     if [ -n "$(readelf -d "$top/bin/$1" | grep NEEDED)" ]; then
@@ -81,7 +92,7 @@ put_licences() {
     fi
 }
 
-# Writes the README. Its lines `@NEEDS@` and `@RELINK@` are replaced by what is known only here.
+# Writes the README. Its lines `@NEEDS@` and `@RELINK@` are replaced by what is known only here. It doesn't say which file of the repository its code is from.
 put_readme() {
     for program in "$@"; do
         needs_of "$program"
@@ -90,7 +101,7 @@ put_readme() {
     if [ -d "$top/relink" ]; then
         cp make/dist/relink.md "$made/relink"
     fi
-    sed -e "s/@VERSION@/$version/; s/@COMMIT@/${commit:-unknown}/; s/@KIT@/$(rt version)/" -e "/^@NEEDS@\$/{
+    sed -e "s/@VERSION@/$version/; s/@COMMIT@/${commit:-unknown}/; s/@KIT@/$(rt version)/; s/^\`\`\`text .*/\`\`\`text/" -e "/^@NEEDS@\$/{
 r $made/needs
 d
 }" -e "/^@RELINK@\$/{
@@ -103,13 +114,13 @@ put_pages() {
     mkdir -p "$top/examples" "$top/docs" && cp docs/LANGUAGE.md docs/MYSQL.md docs/EMBEDDING.md "$top/docs" \
         && cp make/dist/check.sh CHANGELOG.md "$top" \
         && cp examples/*.lock examples/*.replay examples/*.run examples/*.answers examples/*.svg examples/README.md "$top/examples" \
-        && cp -r examples/c examples/rust examples/python "$top/examples" && cp -r editors "$top" \
+        && cp -r examples/c examples/rust examples/python "$top/examples" && cp -r tools/server_locks/answers "$top/examples/rows" && cp -r editors "$top" \
         && rm -rf "$top/examples/python/__pycache__" "$top/examples/rust/target"
 }
 
-# The time that all files get: that of the commit, or without git the day of the newest version in CHANGELOG.md.
+# The time that all files get: the one that the environment sets, or that of the commit, or without git the day of the newest version in CHANGELOG.md.
 time_of_all() {
-    git log -1 --format=%ct 2> /dev/null || date -u -d "$(sed -n 's/^## \[[0-9.]*\] - //p' CHANGELOG.md | head -n 1)" +%s
+    [ -n "$SOURCE_DATE_EPOCH" ] && echo "$SOURCE_DATE_EPOCH" || git log -1 --format=%ct 2> /dev/null || date -u -d "$(sed -n 's/^## \[[0-9.]*\] - //p' CHANGELOG.md | head -n 1)" +%s
 }
 
 for program in "$@"; do
@@ -120,16 +131,14 @@ for library in $libraries; do
 done
 sh make/lay_out.sh "$top" "$@" && sh make/lay_out_c.sh "$top" '${pcfiledir}/../..' || exit 1
 for program in "$@"; do
-    if ! link_static "$program"; then
-        echo "$program can't be linked without shared libraries, and is packed as it was built" >&2
-        cat "$made/linking" >&2 2> /dev/null
-        rm -rf "$top/relink/$program.o"
-        cp "$(sh make/program_of.sh "$program")/$program" "$top/bin/$program" || exit 1
-    fi
+    link_static "$program" || put_as_built "$program" || exit 1
 done
+if [ -z "$(find "$top/relink" -name 'mdl*.o' 2> /dev/null)" ]; then
+    rm -rf "$top/relink"
+fi
 put_pages && put_licences "$@" $libraries && put_readme "$@" || exit 1
 (cd "$top" && find . -type f ! -name SHA256SUMS | sort | xargs sha256sum > SHA256SUMS) || exit 1
-mkdir -p dist || exit 1
-tar -C "$made" --sort=name --mtime="@$(time_of_all)" --owner=0 --group=0 --numeric-owner --mode=u+rw,go+r-w,a+X -cf "$made/tar" "$name" \
-    && gzip -9 -n < "$made/tar" > "dist/$name.tar.gz" && (cd dist && sha256sum "$name.tar.gz" > "$name.tar.gz.sha256") || exit 1
-echo "dist/$name.tar.gz"
+mkdir -p "$dist" || exit 1
+tar -C "$made" --format=ustar --sort=name --mtime="@$(time_of_all)" --owner=0 --group=0 --numeric-owner --mode=u+rw,go+r-w,a+X -cf "$made/tar" "$name" \
+    && gzip -9 -n < "$made/tar" > "$dist/$name.tar.gz" && (cd "$dist" && sha256sum "$name.tar.gz" > "$name.tar.gz.sha256") || exit 1
+echo "$dist/$name.tar.gz"

@@ -5,6 +5,7 @@ Such a part is between the lines `<!-- made: NAME -->` and `<!-- end -->`. Its n
     crates        each crate: what its page's heading calls it, and the crates that it stands on, without those that these stand on
     contracts     each public function: the first sentence of its comment, the names of its clauses, and whether it may lack memory
     definitions   each file of definitions, and the comment at its head
+    figures_NAME  a table of docs/PERFORMANCE.md, from bench/figures.tsv
     lines         the lines of each crate, and its mutants
     reading       how many definitions stand behind some statements, and how long they are
 
@@ -15,14 +16,16 @@ Usage, at the top of the repository:
 """
 
 import dataclasses
+import functools
 import pathlib
 import re
 import sys
 
-sys.path.insert(0, "make")
+sys.path[:0] = ["make", "bench"]
 
 import count_specs
 import memory
+from figures import KEPT, LAYOUTS, Stale, read, table_of
 
 PAGES = ["README.md", "CONTRIBUTING.md", "CHANGELOG.md", "docs/*.md", "crates/*/README.md", "examples/*.md"]
 PLACE = re.compile(r"(?<= )[\w./]+:[0-9]+,?(?= )")
@@ -309,6 +312,16 @@ def made_reading():
     yield f"All together: {code:,} lines of code, {tests:,} of tests, {specs:,} of definitions and {proofs:,} of proofs; {mutants:,} mutants."
 
 
+# ---- figures
+
+
+def made_figures(table):
+    """Yields the lines of a table of figures."""
+    yield "```text"
+    yield from table_of(read(KEPT), table)
+    yield "```"
+
+
 MAKERS = {
     "examples": made_examples,
     "crates": made_crates,
@@ -316,6 +329,7 @@ MAKERS = {
     "definitions": made_definitions,
     "lines": made_lines,
     "reading": made_reading,
+    **{f"figures_{table}": functools.partial(made_figures, table) for table in LAYOUTS},
 }
 
 
@@ -357,7 +371,11 @@ def main(asked):
     """Does what the word asks for, and returns the exit status."""
     match asked:
         case ["check"] | ["update"]:
-            update(asked == ["check"])
+            try:
+                update(asked == ["check"])
+            except Stale as why:
+                print(f"{KEPT}: {why}", file=sys.stderr)
+                return 1
         case ["words"]:
             words()
         case _:

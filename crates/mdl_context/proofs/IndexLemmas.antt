@@ -1,11 +1,12 @@
 -- Numbers by place: one taken out of numbers that rise, and lists without numbers.
-use Rattle.std.proofs.Common.{◌≡◌, ◌≢◌, ℕ, zero, suc, ◌<◌, ◌≤◌, List, [], ◌∷◌, ◌++◌, ◌-◌, length, get_or, Result, Ok, Err, refl, arith, length-append}
-use Rattle.std.specs.Prelude.{nat_lt, IsTrue}
+use Rattle.std.proofs.Common.{◌≡◌, ◌≢◌, ◌∙◌, ℕ, zero, suc, ◌<◌, ◌≤◌, List, [], ◌∷◌, ◌++◌, ◌-◌, length, get_or, Result, Ok, Err, Some, refl, sym, ap, drop, take, arith, length-append}
+use Rattle.std.specs.Prelude.{nat_lt, slice_get, IsTrue}
 use Rattle.std.specs.List.{list_all, remove}
 use Rattle.std.specs.List.Sorted.{IsBinarySearchResult}
 use Rattle.std.specs.Ordering.{nat_cmp}
 use Rattle.std.proofs.lemmas.Bool.Decides.{nat_tests}
-use Rattle.std.proofs.lemmas.List.{take_at}
+use Rattle.std.proofs.lemmas.List.{append-nil, drop_all, take_at}
+use Rattle.std.proofs.lemmas.Option.{slice_get-get_or}
 use Rattle.std.proofs.lemmas.List.Sorted.{searched}
 use Rattle.mdl_context.specs.Indexes.{Index, NumberList, rises, ticket_numbers, without_last, without_one}
 
@@ -43,6 +44,17 @@ not_among id (x ∷ ns) others =
     let later = not_among id ns (λ k below. others (suc k) (omega (arith, below))) in
     let first = others 0 (omega arith) in
     grind (arith, nat_tests)
+
+-- the last of numbers that rise is taken out at the end
+pub last_taken : (id : ℕ) (ns : List ℕ) → IsTrue (rises ns) → slice_get ns (length ns - 1) ≡ Some id → without_last ns ≡ without_one id ns
+last_taken id [] rising last = absurd (grind (arith, last))
+last_taken id (x ∷ ns) rising last =
+    let all = x ∷ ns in
+    let at = length all - 1 in
+    let inside : at < length all = omega arith in
+    let here : get_or all at 0 ≡ id = grind (arith, last, slice_get-get_or all at 0 inside) in
+    let none : drop (suc at) all ≡ [] = drop_all (suc at) all (omega arith) in
+    sym (append-nil (take at all)) ∙ ap (λ (rest : List ℕ). take at all ++ rest) (sym none) ∙ removed id all at rising inside here
 
 -- the number that a search by halves finds is taken out at its place
 pub found_taken : (ns : List ℕ) (id at : ℕ) (r : Result ℕ ℕ) → IsTrue (rises ns) → IsBinarySearchResult (λ n. nat_cmp n id) ns r → r ≡ Ok at → remove ns at ≡ without_one id ns

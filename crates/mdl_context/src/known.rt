@@ -19,7 +19,7 @@ use std::marker::Model;
 const MOST_MET: usize = 256;
 
 // How many known keys are compared with one that is looked up. If more are known, the key is found by its hash.
-const FEW: usize = 4;
+const FEW: usize = 8;
 
 /// The keys whose places a context knows, in the order in which they became known.
 ///
@@ -157,6 +157,7 @@ fn place_among(met: &IndexMap<Key, Option<Place>>, order: &[KnownPlace], key: &K
 }
 
 // Whether the key with an index is this one.
+#[inline(always)]
 fn is_key(met: &IndexMap<Key, Option<Place>>, index: usize, key: &Key) -> bool
     ensures { result ≡ option_map_or (key_eq key.now) (slice_get (keys met.now) index) false }
 {

@@ -67,6 +67,20 @@ impl Numbers {
         ensures numbers { self.new.items ≡ without_one id self.old.items }
         ensures room { has_space self.old ≡ true → has_space self.new ≡ true }
     {
+        if let Some(last) = self.list.last() {
+            if *last == id {
+                return self.remove_last();
+            }
+        }
+        self.search_and_remove(id);
+    }
+
+    // The same by binary search.
+    fn search_and_remove(&mut self, id: TicketId)
+        requires { IsTrue (rises self.old.items) }
+        ensures numbers { self.new.items ≡ without_one id self.old.items }
+        ensures room { has_space self.old ≡ true → has_space self.new ≡ true }
+    {
         let Ok(at) = self.list.binary_search(&id) else {
             return;
         };

@@ -1,14 +1,14 @@
--- The number is taken out where the search by halves ends.
-use Rattle.std.proofs.Common.{sym, ◌∙◌}
-use Rattle.mdl_context.proofs.IndexLemmas.{found_taken, missed_stays}
+-- A number that is the last one is taken from the end.
+use Rattle.std.proofs.Common.{◌≡◌, ◌∙◌, ◌-◌, ℕ, Bor, Option, Some, ap, length, slice_get, sym}
+use Rattle.std.specs.Option.{option_copied}
+use Rattle.mdl_context.proofs.IndexLemmas.{last_taken}
 use Rattle.mdl_context.proofs.numbers.Numbers.remove.Goals as goal
 
-pub returns-clause-numbers : goal.returns-clause-numbers
-returns-clause-numbers c =
+pub returns-then-last-id-clause-numbers : goal.returns-then-last-id-clause-numbers
+returns-then-last-id-clause-numbers c =
+    let items = c.self.inside.list.items in
+    let found : option_copied c.last.result ≡ slice_get items (length items - 1) = rw c.deref.ensures.value at c.last.ensures.value in
+    let last : slice_get items (length items - 1) ≡ Some c.args.id =
+    sym found ∙ ap (λ (number : Option (Bor ℕ)). option_copied number) c.in-Some.is ∙ ap (λ (number : ℕ). Some number) c.if-last-id.true in
     rw (← c.self.view_is)
-    (c.remove.ensures.items ∙ found_taken c.self.inside.list.items c.args.id c.in-Ok.at _ (rw (← c.self.view_is) at c.requires) (rw c.deref.ensures.value at c.binary_search.ensures.position) c.in-Ok.is)
-
-pub returns-in_default-clause-numbers : goal.returns-in_default-clause-numbers
-returns-in_default-clause-numbers c =
-    rw (← c.self.view_is)
-    (sym (missed_stays c.self.inside.list.items c.args.id _ (rw (← c.self.view_is) at c.requires) (rw c.deref.ensures.value at c.binary_search.ensures.position) c.in_default.not-Ok))
+    ((rw (← c.self.view_is) at c.remove_last.ensures.numbers) ∙ last_taken c.args.id items (rw (← c.self.view_is) at c.requires) last)
